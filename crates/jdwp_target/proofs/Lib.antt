@@ -1,0 +1,4 @@
+pub mod CountLemmas
+pub mod QueueLemmas
+pub mod RunLemmas
+pub mod KeptLemmas

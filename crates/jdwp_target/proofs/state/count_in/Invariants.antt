@@ -1,0 +1,6 @@
+use Rattle.std.proofs.Common.{◌≡◌, drop}
+use Rattle.jdwp_target.specs.State.{count_in}
+use Rattle.jdwp_target.proofs.state.count_in.Given as goal
+
+abbrev pub invariant-loop-entry : goal.invariant-loop-entry
+invariant-loop-entry l = count_in (drop l.entry-index l.threads) l.thread ≡ count_in l.threads l.thread

@@ -1,0 +1,11 @@
+pub mod Machine
+pub mod Options
+pub mod State
+pub mod Counts
+pub mod Commands
+pub mod Replies
+pub mod Reactions
+pub mod Sessions
+pub mod Endpoint
+pub mod Runs
+pub mod Kept

@@ -1,0 +1,108 @@
+//! What the target does at each message.
+ghost use Rattle.std.specs.Prelude.{◌≡◌, ◌≤◌, ◌+◌, ◌++◌, true, length};
+ghost use Rattle.jdwp_wire.specs.Streams.{Message, Handshake, message_bytes, stream};
+ghost use Rattle.jdwp_target.specs.Machine.{fixed_sizes};
+ghost use Rattle.jdwp_target.specs.Reactions.{at_packet, reaction};
+ghost use Rattle.jdwp_target.specs.Replies as replies;
+ghost use Rattle.jdwp_target.specs.Replies.{vm_start};
+
+use crate::command::{Answer, Command};
+use crate::state::State;
+use crate::target::Turn;
+use byte_queue::ByteQueue;
+use byteorder::{BigEndian, ByteOrder};
+use jdwp_wire::{HANDSHAKE, Header, IdSizes, PacketKind, PacketRef};
+
+/// What a packet did to the session.
+#[derive(Clone, Copy)]
+pub struct Handled {
+    pub tells: Turn,
+    pub closes: bool,
+}
+
+/// Handles the handshake: it is answered, and the first of the target's life is followed by VM_START.
+pub fn handle_handshake(state: &mut State, start_all: bool, out: &mut ByteQueue)
+    requires { length out.old.bytes + 43 ≤ out.old.capacity }
+    ensures state { state.new ≡ (reaction fixed_sizes start_all state.old Handshake).state }
+    ensures out { out.new ≡ record out.old { bytes = out.old.bytes ++ stream (reaction fixed_sizes start_all state.old Handshake).sends } }
+{
+    out.append(&HANDSHAKE);
+    if !state.is_handshaken() {
+        enqueue_start(state.next_id(), start_all, state.least_thread(), out);
+        state.start(start_all);
+    }
+}
+
+/// Enqueues VM_START.
+fn enqueue_start(id: u32, start_all: bool, thread: u64, out: &mut ByteQueue)
+    requires { length out.old.bytes + 29 ≤ out.old.capacity }
+    ensures { out.new ≡ record out.old { bytes = out.old.bytes ++ message_bytes (vm_start fixed_sizes id start_all thread) } }
+{
+    let header = Header {
+        length: 29,
+        id,
+        kind: PacketKind::Command {
+            set: 64,
+            number: 100,
+        },
+    };
+    // The policy, one event, its kind and its request id.
+    let event = [start_policy(start_all), 0, 0, 0, 1, 90, 0, 0, 0, 0];
+    let mut id = [0; 8];
+    BigEndian::write_u64(&mut id, thread);
+    out.append(&header.to_bytes());
+    out.append(&event);
+    out.append(&id);
+}
+
+/// The suspend policy of VM_START: ALL or NONE.
+fn start_policy(start_all: bool) -> u8
+    ensures { result ≡ replies.start_policy start_all }
+{
+    if start_all { 2 } else { 0 }
+}
+
+/// Handles a packet: a command is carried out and answered, a reply is ignored.
+pub fn handle_packet(
+    state: &mut State,
+    sizes: &IdSizes,
+    packet: &PacketRef<'_>,
+    out: &mut ByteQueue,
+) -> Handled
+    requires handshaken { state.old.handshaken ≡ true }
+    requires room { length out.old.bytes + 31 ≤ out.old.capacity }
+    ensures state { state.new ≡ (at_packet sizes.now state.old packet.now.header.id packet.now.header.kind packet.now.body.now).state }
+    ensures out { out.new ≡ record out.old { bytes = out.old.bytes ++ stream (at_packet sizes.now state.old packet.now.header.id packet.now.header.kind packet.now.body.now).sends } }
+    ensures tells { result.tells ≡ (at_packet sizes.now state.old packet.now.header.id packet.now.header.kind packet.now.body.now).tells }
+    ensures closes { result.closes ≡ (at_packet sizes.now state.old packet.now.header.id packet.now.header.kind packet.now.body.now).closes }
+{
+    let id = packet.header.id;
+    match packet.header.kind {
+        PacketKind::Reply { .. } => Handled {
+            tells: Turn::Ignored,
+            closes: false,
+        },
+        PacketKind::Command { set, number } => match Command::read(
+            sizes,
+            set,
+            number,
+            packet.body,
+        ) {
+            Ok(command) => {
+                let answer = state.carry_out(sizes, command);
+                answer.enqueue(id, out);
+                Handled {
+                    tells: Turn::Replied(id, answer.error()),
+                    closes: command == Command::Dispose,
+                }
+            }
+            Err(error) => {
+                Answer::Refused(error).enqueue(id, out);
+                Handled {
+                    tells: Turn::Replied(id, error),
+                    closes: false,
+                }
+            }
+        },
+    }
+}

@@ -1,0 +1,23 @@
+//! The debuggee's end of a Java Debug Wire Protocol session: bytes in, bytes out, no IO.
+//!
+//! `feed` takes what came, `turn` handles one message, `take` gives what is to be sent.
+#![tactic(auto)]
+
+mod command;
+mod fixed;
+mod handling;
+mod options;
+mod session;
+mod state;
+mod target;
+
+pub use command::{Answer, Command};
+pub use fixed::Fixed;
+pub use options::TargetOptions;
+pub use state::ThreadEntry;
+pub use target::{
+    HIGH_WATER_MARK, INCOMING_LIMIT, OUTGOING_LIMIT, Phase, Target, TargetFault, Turn,
+};
+
+#[cfg(test)]
+mod tests;

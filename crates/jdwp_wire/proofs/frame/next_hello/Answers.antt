@@ -1,0 +1,10 @@
+use Rattle.std.proofs.Common.{◌∙◌, sym, subst}
+use Rattle.jdwp_wire.specs.Handshake.{HandshakeFrontOf, handshake_front}
+use Rattle.jdwp_wire.specs.HandshakeLaws.{handshake_front_is, handshake_front_only}
+use Rattle.jdwp_wire.proofs.frame.next_hello.Goals as goal
+
+pub returns-clause-front : goal.returns-clause-front
+returns-clause-front c = rw c.compare_handshake.ensures (handshake_front_is c.args.bytes.now)
+
+pub returns-clause-only : goal.returns-clause-only
+returns-clause-only c = λ f h. c.compare_handshake.ensures ∙ handshake_front_only c.args.bytes.now f h

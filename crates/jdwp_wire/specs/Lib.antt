@@ -1,0 +1,9 @@
+pub mod Widths
+pub mod Bytes
+pub mod BigEndian
+pub mod Handshake
+pub mod HandshakeLaws
+pub mod FaultNumbers
+pub mod Frames
+pub mod FrameLaws
+pub mod Streams

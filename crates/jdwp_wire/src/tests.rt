@@ -1,0 +1,108 @@
+//! Worked examples of frames.
+use crate::{
+    FrameFault, HANDSHAKE, Header, IdSizes, Next, NextHello, PacketKind, next_hello, next_packet,
+};
+
+#[test]
+fn the_handshake(rt: HostRuntime) {
+    let faulty = *b"JDWP-HandshakE";
+    assert_eq!(rt; next_hello(&[]), NextHello::More);
+    for count in 0..14usize {
+        assert_eq!(rt; next_hello(&HANDSHAKE[..count]), NextHello::More);
+    }
+    assert_eq!(rt; next_hello(&HANDSHAKE), NextHello::Whole);
+    assert_eq!(rt; next_hello(b"JDWP-Handshake and more"), NextHello::Whole);
+    assert_eq!(rt;
+        next_hello(&faulty),
+        NextHello::Fault(FrameFault::BadHandshake(13))
+    );
+    assert_eq!(rt;
+        next_hello(b"GET / HTTP/1.1"),
+        NextHello::Fault(FrameFault::BadHandshake(0))
+    );
+}
+
+#[test]
+fn faults_as_soon_as_they_show(rt: HostRuntime) {
+    let rows: [(&[u8], FrameFault, u16); 6] = [
+        (&[0, 0, 0, 10], FrameFault::ShortLength, 1),
+        (&[0, 0, 0, 0], FrameFault::ShortLength, 1),
+        (&[0, 1, 0, 1], FrameFault::TooLong, 2),
+        (&[0xff, 0xff, 0xff, 0xff], FrameFault::TooLong, 2),
+        (&[0, 0, 0, 11, 0, 0, 0, 1, 1], FrameFault::BadFlags, 3),
+        (&[0, 1, 0, 0, 0, 0, 0, 1, 0x7f], FrameFault::BadFlags, 3),
+    ];
+    for (bytes, wanted, number) in rows {
+        match next_packet(bytes) {
+            Next::Fault(fault) => assert_eq!(rt; fault, wanted),
+            _ => assert!(rt; false, "no fault"),
+        }
+        assert_eq!(rt; wanted.number(), number);
+        if bytes.len() > 0 {
+            match next_packet(&bytes[..bytes.len() - 1]) {
+                Next::More => {}
+                _ => assert!(rt; false, "not more"),
+            }
+        }
+    }
+}
+
+#[test]
+fn packets_and_their_headers(rt: HostRuntime) {
+    let command = [0, 0, 0, 13, 0, 0, 0, 7, 0, 1, 8, 0xaa, 0xbb, 0xcc];
+    match next_packet(&command) {
+        Next::Whole(packet, used) => {
+            let header = Header {
+                length: 13,
+                id: 7,
+                kind: PacketKind::Command { set: 1, number: 8 },
+            };
+            assert_eq!(rt; used, 13);
+            assert_eq!(rt; packet.header, header);
+            assert!(rt; packet.body == [0xaa, 0xbb].as_slice());
+            assert!(rt; header.to_bytes().as_slice() == &command[..11]);
+        }
+        _ => assert!(rt; false, "no packet"),
+    }
+    let reply = [0, 0, 0, 11, 0, 0, 0, 3, 0x80, 0, 113];
+    match next_packet(&reply) {
+        Next::Whole(packet, used) => {
+            assert_eq!(rt; used, 11);
+            assert_eq!(rt;
+                packet.header.kind,
+                PacketKind::Reply {
+                    error: crate::ErrorCode::INTERNAL
+                }
+            );
+            assert!(rt; packet.body.is_empty());
+            assert!(rt; packet.header.to_bytes().as_slice() == reply.as_slice());
+        }
+        _ => assert!(rt; false, "no packet"),
+    }
+}
+
+#[test]
+fn widths_of_ids(rt: HostRuntime) {
+    match IdSizes::new(1, 2, 3, 4, 8) {
+        Ok(sizes) => {
+            let widths = [
+                sizes.field(),
+                sizes.method(),
+                sizes.object(),
+                sizes.reference(),
+                sizes.frame(),
+            ];
+            assert!(rt; widths == [1, 2, 3, 4, 8]);
+        }
+        Err(_) => assert!(rt; false, "refused"),
+    }
+    for place in 0..5usize {
+        for width in [0, 9, 4_294_967_295] {
+            let mut widths = [8; 5];
+            widths[place] = width;
+            assert!(rt;
+                IdSizes::new(widths[0], widths[1], widths[2], widths[3], widths[4]).is_err()
+            );
+        }
+    }
+}
