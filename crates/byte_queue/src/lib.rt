@@ -1,8 +1,9 @@
 //! A queue of bytes with room that is made once, in which nothing moves when bytes are taken off the front.
 #![tactic(auto)]
 
-ghost use Rattle.std.specs.Prelude.{◌≡◌, ◌+◌, ◌-◌, ◌*◌, ◌^◌, ◌<◌, ◌≤◌, ◌++◌, ◌==◌, [], length, drop, IfOk};
+ghost use Rattle.std.specs.Prelude.{None, ◌≡◌, ◌+◌, ◌-◌, ◌*◌, ◌^◌, ◌<◌, ◌≤◌, ◌++◌, ◌==◌, [], length, drop, IfOk};
 
+use jdwp_wire::{IdSizes, Wire};
 use std::alloc::{AllocError, Global};
 use std::marker::Model;
 
@@ -83,6 +84,21 @@ impl ByteQueue {
             self.start = 0; // what was taken off is gone
         }
         self.bytes.extend_from_slice(more).unwrap();
+    }
+
+    /// Adds a value at the end. It takes no memory.
+    pub fn put<T: Wire>(&mut self, value: &T, sizes: &IdSizes)
+        requires writable { T.refusal sizes.now (T.meaning value.now) ≡ None }
+        requires room { length self.old.bytes + length (T.canonical sizes.now (T.meaning value.now)) ≤ self.old.capacity }
+        ensures { self.new ≡ record self.old { bytes = self.old.bytes ++ T.canonical sizes.now (T.meaning value.now) } }
+    {
+        let room = (self.capacity * 2).saturating_sub(self.bytes.len());
+        let size = value.size(sizes).unwrap();
+        if size > room {
+            self.bytes.drain(..self.start);
+            self.start = 0; // it begins anew
+        }
+        value.put(sizes, &mut self.bytes).unwrap();
     }
 
     /// Takes bytes off the front.

@@ -1,15 +1,15 @@
 //! The commands that this target carries out, and what it answers.
 ghost use Rattle.std.specs.Prelude.{◌≡◌, ◌≤◌, ◌+◌, ◌++◌, length};
+ghost use Rattle.jdwp_wire.specs.Frames.{header_bytes};
 ghost use Rattle.jdwp_wire.specs.Streams.{message_bytes};
 ghost use Rattle.jdwp_target.specs.Commands.{command_read};
 ghost use Rattle.jdwp_target.specs.Commands as commands;
-ghost use Rattle.jdwp_target.specs.Replies as replies;
-ghost use Rattle.jdwp_target.specs.Replies.{answer_error, reply_to, packet_with};
+ghost use Rattle.jdwp_target.specs.Replies.{answer_error, int_bytes, reply_to};
 
 use byte_queue::ByteQueue;
-use byteorder::{BigEndian, ByteOrder};
 use jdwp_value::ObjectId;
-use jdwp_wire::{ErrorCode, Header, IdSizes, PacketKind};
+use jdwp_wire::{ErrorCode, Header, IdSizes, PacketKind, Wire};
+use std::alloc::Global;
 
 /// A command with its data.
 #[derive(Clone, Copy, Debug, PartialEq, Eq)]
@@ -45,7 +45,13 @@ impl Command {
     /// # Errors
     /// `NOT_IMPLEMENTED` where this target doesn't carry the command out, whatever its data. `ILLEGAL_ARGUMENT` where it does and
     /// the data do not read.
-    pub fn read(sizes: &IdSizes, set: u8, number: u8, body: &[u8]) -> Result<Command, ErrorCode>
+    pub fn read(
+        alloc: Global,
+        sizes: &IdSizes,
+        set: u8,
+        number: u8,
+        body: &[u8],
+    ) -> Result<Command, ErrorCode>
         ensures { result ≡ command_read sizes.now set number body.now }
     {
         match (set, number) {
@@ -53,7 +59,7 @@ impl Command {
             (1, 7) => bare(Command::AskSizes, body),
             (1, 8) => bare(Command::Suspend, body),
             (1, 9) => bare(Command::Resume, body),
-            (11, 12) => match object(sizes, body) {
+            (11, 12) => match object(alloc, sizes, body) {
                 Ok(thread) => Ok(Command::SuspendCount(thread)),
                 Err(error) => Err(error),
             },
@@ -74,14 +80,13 @@ fn bare(command: Command, body: &[u8]) -> Result<Command, ErrorCode>
 }
 
 /// Data that are one object id.
-fn object(sizes: &IdSizes, body: &[u8]) -> Result<ObjectId, ErrorCode>
+fn object(alloc: Global, sizes: &IdSizes, body: &[u8]) -> Result<ObjectId, ErrorCode>
     ensures { result ≡ commands.object_read sizes.now.object body.now }
 {
-    let width = sizes.object() as usize;
-    if body.len() != width {
-        return Err(ErrorCode::ILLEGAL_ARGUMENT);
+    match ObjectId::take(alloc, body, sizes) {
+        Ok((id, used)) if used == body.len() => Ok(id),
+        Ok(_) | Err(_) => Err(ErrorCode::ILLEGAL_ARGUMENT),
     }
-    Ok(ObjectId(BigEndian::read_uint(body, width)))
 }
 
 impl Answer {
@@ -96,47 +101,47 @@ impl Answer {
     }
 
     /// Enqueues the reply to the command of this id.
-    pub fn enqueue(&self, id: u32, out: &mut ByteQueue)
+    pub fn enqueue(&self, id: u32, sizes: &IdSizes, out: &mut ByteQueue)
         requires { length out.old.bytes + 31 ≤ out.old.capacity }
         ensures { out.new ≡ record out.old { bytes = out.old.bytes ++ message_bytes (reply_to id self.now) } }
     {
         match self {
-            Answer::Sizes(sizes) => enqueue_reply(id, ErrorCode::NONE, &sizes_bytes(sizes), out),
-            Answer::Count(count) => {
-                let mut bytes = [0; 4];
-                BigEndian::write_u32(&mut bytes, *count);
-                enqueue_reply(id, ErrorCode::NONE, &bytes, out);
+            Answer::Sizes(widths) => {
+                enqueue_header(id, ErrorCode::NONE, 20, out);
+                enqueue_int(u32::from(widths.field()), sizes, out);
+                enqueue_int(u32::from(widths.method()), sizes, out);
+                enqueue_int(u32::from(widths.object()), sizes, out);
+                enqueue_int(u32::from(widths.reference()), sizes, out);
+                enqueue_int(u32::from(widths.frame()), sizes, out);
             }
-            Answer::Done => enqueue_reply(id, ErrorCode::NONE, &[], out),
-            Answer::Refused(error) => enqueue_reply(id, *error, &[], out),
+            Answer::Count(count) => {
+                enqueue_header(id, ErrorCode::NONE, 4, out);
+                enqueue_int(*count, sizes, out);
+            }
+            Answer::Done => enqueue_header(id, ErrorCode::NONE, 0, out),
+            Answer::Refused(error) => enqueue_header(id, *error, 0, out),
         }
     }
 }
 
-/// The five widths as ints.
-fn sizes_bytes(sizes: &IdSizes) -> [u8; 20]
-    ensures { result ≡ replies.sizes_bytes sizes.now }
-{
-    let mut bytes = [0; 20];
-    BigEndian::write_u32(&mut bytes, u32::from(sizes.field()));
-    BigEndian::write_u32(&mut bytes[4..], u32::from(sizes.method()));
-    BigEndian::write_u32(&mut bytes[8..], u32::from(sizes.object()));
-    BigEndian::write_u32(&mut bytes[12..], u32::from(sizes.reference()));
-    BigEndian::write_u32(&mut bytes[16..], u32::from(sizes.frame()));
-    bytes
-}
-
-/// Enqueues a reply with this data.
-fn enqueue_reply(id: u32, error: ErrorCode, body: &[u8], out: &mut ByteQueue)
-    requires room { length out.old.bytes + 11 + length body.now ≤ out.old.capacity }
-    requires small { length body.now ≤ 20 }
-    ensures { out.new ≡ record out.old { bytes = out.old.bytes ++ message_bytes (packet_with id (PacketKind.Reply error) body.now) } }
+/// Enqueues the header of a reply with so many bytes of data.
+fn enqueue_header(id: u32, error: ErrorCode, size: u32, out: &mut ByteQueue)
+    requires room { length out.old.bytes + 11 ≤ out.old.capacity }
+    requires small { size ≤ 20 }
+    ensures { out.new ≡ record out.old { bytes = out.old.bytes ++ header_bytes (record { length = 11 + size; id = id; kind = PacketKind.Reply error }) } }
 {
     let header = Header {
-        length: 11 + body.len() as u32,
+        length: 11 + size,
         id,
         kind: PacketKind::Reply { error },
     };
     out.append(&header.to_bytes());
-    out.append(body);
+}
+
+/// Enqueues a number as an int.
+pub fn enqueue_int(number: u32, sizes: &IdSizes, out: &mut ByteQueue)
+    requires { length out.old.bytes + 4 ≤ out.old.capacity }
+    ensures { out.new ≡ record out.old { bytes = out.old.bytes ++ int_bytes number } }
+{
+    out.put(&number.cast_signed(), sizes);
 }

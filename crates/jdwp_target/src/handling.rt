@@ -6,12 +6,16 @@ ghost use Rattle.jdwp_target.specs.Reactions.{at_packet, reaction};
 ghost use Rattle.jdwp_target.specs.Replies as replies;
 ghost use Rattle.jdwp_target.specs.Replies.{vm_start};
 
-use crate::command::{Answer, Command};
+use crate::command::{Answer, Command, enqueue_int};
 use crate::state::State;
 use crate::target::Turn;
 use byte_queue::ByteQueue;
-use byteorder::{BigEndian, ByteOrder};
+use jdwp_value::ObjectId;
 use jdwp_wire::{HANDSHAKE, Header, IdSizes, PacketKind, PacketRef};
+use std::alloc::Global;
+
+/// The event kind of VM_START.
+const VM_START: u8 = 90;
 
 /// What a packet did to the session.
 #[derive(Clone, Copy)]
@@ -21,22 +25,24 @@ pub struct Handled {
 }
 
 /// Handles the handshake: it is answered, and the first of the target's life is followed by VM_START.
-pub fn handle_handshake(state: &mut State, start_all: bool, out: &mut ByteQueue)
-    requires { length out.old.bytes + 43 ≤ out.old.capacity }
+pub fn handle_handshake(state: &mut State, sizes: &IdSizes, start_all: bool, out: &mut ByteQueue)
+    requires room { length out.old.bytes + 43 ≤ out.old.capacity }
+    requires sizes { sizes.now ≡ fixed_sizes }
     ensures state { state.new ≡ (reaction fixed_sizes start_all state.old Handshake).state }
     ensures out { out.new ≡ record out.old { bytes = out.old.bytes ++ stream (reaction fixed_sizes start_all state.old Handshake).sends } }
 {
     out.append(&HANDSHAKE);
     if !state.is_handshaken() {
-        enqueue_start(state.next_id(), start_all, state.least_thread(), out);
+        enqueue_start(state.next_id(), start_all, state.least_thread(), sizes, out);
         state.start(start_all);
     }
 }
 
 /// Enqueues VM_START.
-fn enqueue_start(id: u32, start_all: bool, thread: u64, out: &mut ByteQueue)
-    requires { length out.old.bytes + 29 ≤ out.old.capacity }
-    ensures { out.new ≡ record out.old { bytes = out.old.bytes ++ message_bytes (vm_start fixed_sizes id start_all thread) } }
+fn enqueue_start(id: u32, start_all: bool, thread: ObjectId, sizes: &IdSizes, out: &mut ByteQueue)
+    requires room { length out.old.bytes + 29 ≤ out.old.capacity }
+    requires sizes { sizes.now ≡ fixed_sizes }
+    ensures { out.new ≡ record out.old { bytes = out.old.bytes ++ message_bytes (vm_start fixed_sizes id start_all thread.0) } }
 {
     let header = Header {
         length: 29,
@@ -46,13 +52,12 @@ fn enqueue_start(id: u32, start_all: bool, thread: u64, out: &mut ByteQueue)
             number: 100,
         },
     };
-    // The policy, one event, its kind and its request id.
-    let event = [start_policy(start_all), 0, 0, 0, 1, 90, 0, 0, 0, 0];
-    let mut id = [0; 8];
-    BigEndian::write_u64(&mut id, thread);
     out.append(&header.to_bytes());
-    out.append(&event);
-    out.append(&id);
+    out.put(&start_policy(start_all), sizes);
+    enqueue_int(1, sizes, out);
+    out.put(&VM_START, sizes);
+    enqueue_int(0, sizes, out);
+    out.put(&thread, sizes);
 }
 
 /// The suspend policy of VM_START: ALL or NONE.
@@ -64,6 +69,7 @@ fn start_policy(start_all: bool) -> u8
 
 /// Handles a packet: a command is carried out and answered, a reply is ignored.
 pub fn handle_packet(
+    alloc: Global,
     state: &mut State,
     sizes: &IdSizes,
     packet: &PacketRef<'_>,
@@ -83,6 +89,7 @@ pub fn handle_packet(
             closes: false,
         },
         PacketKind::Command { set, number } => match Command::read(
+            alloc,
             sizes,
             set,
             number,
@@ -90,14 +97,14 @@ pub fn handle_packet(
         ) {
             Ok(command) => {
                 let answer = state.carry_out(sizes, command);
-                answer.enqueue(id, out);
+                answer.enqueue(id, sizes, out);
                 Handled {
                     tells: Turn::Replied(id, answer.error()),
                     closes: command == Command::Dispose,
                 }
             }
             Err(error) => {
-                Answer::Refused(error).enqueue(id, out);
+                Answer::Refused(error).enqueue(id, sizes, out);
                 Handled {
                     tells: Turn::Replied(id, error),
                     closes: false,

@@ -166,12 +166,12 @@ impl State {
     }
 
     /// The live thread of least id.
-    pub fn least_thread(&self) -> u64
-        ensures { result ≡ spec.least_thread self.now.threads }
+    pub fn least_thread(&self) -> ObjectId
+        ensures { result.0 ≡ spec.least_thread self.now.threads }
     {
         match self.threads.as_slice() {
-            [] => 0,
-            [first, others @ ..] => least_from(first.id.0, others),
+            [] => ObjectId(0),
+            [first, others @ ..] => ObjectId(least_from(first.id.0, others)),
         }
     }
 

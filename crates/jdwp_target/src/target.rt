@@ -67,6 +67,7 @@ pub enum TargetFault {
 /// A target: its machine's state, and its end of a session.
 #[derive(Drop)]
 pub struct Target {
+    alloc: Global,
     machine: Fixed,
     options: TargetOptions,
     state: State,
@@ -100,6 +101,7 @@ impl Target {
         let state = State::new(alloc, &live, options.count_limit())?;
         let session = Session::new(&state);
         Ok(Target {
+            alloc,
             machine,
             options,
             phase: Phase::Closed,
@@ -232,6 +234,7 @@ impl Target {
                 let before = self.outgoing.len();
                 handle_handshake(
                     &mut self.state,
+                    &self.machine.sizes(),
                     self.options.start_all(),
                     &mut self.outgoing,
                 );
@@ -258,7 +261,13 @@ impl Target {
             Next::Whole(packet, used) => {
                 let before = self.outgoing.len();
                 let sizes = self.machine.sizes();
-                let handled = handle_packet(&mut self.state, &sizes, &packet, &mut self.outgoing);
+                let handled = handle_packet(
+                    self.alloc,
+                    &mut self.state,
+                    &sizes,
+                    &packet,
+                    &mut self.outgoing,
+                );
                 self.session.handle(
                     &self.incoming.as_slice()[..used],
                     &self.outgoing.as_slice()[before..],

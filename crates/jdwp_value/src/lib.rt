@@ -1,6 +1,17 @@
-//! Values of the Java Debug Wire Protocol.
+//! Ids, tags, values, locations and array regions of the Java Debug Wire Protocol.
 #![tactic(auto)]
 
 mod id;
+mod location;
+mod region;
+mod tag;
+mod value;
 
-pub use id::ObjectId;
+pub use id::{FieldId, FrameId, MethodId, ObjectId, ReferenceTypeId};
+pub use location::{Location, TypeTag};
+pub use region::ArrayRegion;
+pub use tag::{ObjectTag, Tag};
+pub use value::{TaggedId, Value, put_untagged, take_untagged, untagged_size};
+
+#[cfg(test)]
+mod tests;

@@ -1,8 +1,6 @@
 -- The handshake, byte by byte.
-use Rattle.std.proofs.Common.{◌≡◌, ◌≤◌, ◌<◌, ℕ, suc, ◌+◌, List, [], ◌∷◌, length, get_or, drop, Bool, true, false, cond, eqb, refl, sym, ap, ◌∙◌, arith, rules}
+use Rattle.std.proofs.Common.{◌≡◌, ◌≤◌, ◌<◌, ℕ, ◌+◌, List, length, get_or, drop, cond, eqb, refl, ap, arith}
 use Rattle.std.proofs.lemmas.List.{drop_more, drop_all}
-use Rattle.std.proofs.lemmas.Grind.{common_steps}
-use Rattle.jdwp_wire.specs.declared.frame.NextHello.{NextHello}
 use Rattle.jdwp_wire.specs.declared.frame.NextHello.TheVariants as hello
 use Rattle.jdwp_wire.specs.declared.frame.FrameFault.TheVariants.{BadHandshake}
 use Rattle.jdwp_wire.specs.Handshake.{handshake_from}

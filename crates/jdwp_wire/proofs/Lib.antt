@@ -1,1 +1,5 @@
 pub mod HandshakeSteps
+pub mod Texts
+pub mod Takes
+pub mod Loop
+pub mod Puts

@@ -1,5 +1,5 @@
 -- Lists of bytes.
-use Rattle.std.specs.Prelude.{ℕ, ◌<◌, ◌^◌, List, slice_index}
+use Rattle.std.specs.Prelude.{ℕ, ◌<◌, List, slice_index}
 
 -- every element is a byte
 abbrev pub IsBytes : List ℕ → Type 0

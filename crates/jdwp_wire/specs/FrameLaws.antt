@@ -1,11 +1,10 @@
 -- The function and the relation agree on the packet at the front.
-use Rattle.std.specs.Prelude.{◌≡◌, ◌≢◌, ℕ, zero, suc, ◌+◌, ◌-◌, ◌^◌, ◌≤◌, ◌<◌, List, [], ◌∷◌, ◌++◌, length, take, drop, get_or, slice_index, ◌==◌, ◌||◌, Bool, true, false, cond, refl, ◌⊎◌}
-use Rattle.std.proofs.Common.{ap, sym, ◌∙◌, arith, subst, ltb, eqb, inl, inr, append_assoc}
-use Rattle.std.proofs.lemmas.Bool.{ltb-false, ltb-true, lt-ltb, le-ltb, eqb-true, eq-eqb, cases_Bool, cases_lt}
+use Rattle.std.specs.Prelude.{◌≡◌, ◌≢◌, ℕ, ◌+◌, ◌-◌, ◌^◌, ◌≤◌, ◌<◌, List, [], ◌∷◌, ◌++◌, length, take, drop, get_or, slice_index, ◌||◌, Bool, true, false, cond, refl, ◌⊎◌}
+use Rattle.std.proofs.Common.{ap, sym, ◌∙◌, arith, ltb, eqb, inl, inr, append_assoc}
+use Rattle.std.proofs.lemmas.Bool.{ltb-false, lt-ltb, le-ltb, eqb-true, eq-eqb, cases_Bool, cases_lt}
 use Rattle.std.proofs.lemmas.List.{take_at, take-append-drop, drop-drop, drop_more, get_or-drop, length-append, length-take, length-drop}
 use Rattle.byteorder.specs.Endian.{big_number, big_bytes}
 use Rattle.byteorder.specs.Numbers.{big_number-reads_back, big_from-lt}
-use Rattle.jdwp_wire.specs.declared.error_code.ErrorCode.{ErrorCode}
 use Rattle.jdwp_wire.specs.declared.frame.FrameFault.{FrameFault}
 use Rattle.jdwp_wire.specs.declared.frame.FrameFault.TheVariants.{ShortLength, TooLong, BadFlags, BadHandshake}
 use Rattle.jdwp_wire.specs.declared.packet.Header.{Header}

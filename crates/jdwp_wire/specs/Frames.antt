@@ -1,8 +1,7 @@
 -- Packets and what stands at the front of a byte stream (JDWP specification, "Packets").
 -- Command packet: length (4), id (4), flags (1), command set (1), command (1), data. Reply packet: length, id, flags, error code (2), data.
-use Rattle.std.specs.Prelude.{◌≡◌, ◌≢◌, ℕ, ◌+◌, ◌-◌, ◌^◌, ◌≤◌, ◌<◌, ◌⊎◌, List, [], ◌∷◌, ◌++◌, length, take, drop, slice_index, nat_lt, ◌==◌, ◌||◌, Bool, if◌then◌else◌}
+use Rattle.std.specs.Prelude.{◌≡◌, ◌≢◌, ℕ, ◌+◌, ◌-◌, ◌^◌, ◌≤◌, ◌<◌, ◌⊎◌, List, [], ◌∷◌, ◌++◌, length, take, drop, slice_index, nat_lt, ◌==◌, ◌||◌, if◌then◌else◌}
 use Rattle.byteorder.specs.Endian.{big_number, big_bytes}
-use Rattle.jdwp_wire.specs.declared.error_code.ErrorCode.{ErrorCode}
 use Rattle.jdwp_wire.specs.declared.frame.FrameFault.{FrameFault}
 use Rattle.jdwp_wire.specs.declared.frame.FrameFault.TheVariants.{ShortLength, TooLong, BadFlags, BadHandshake}
 use Rattle.jdwp_wire.specs.declared.frame.Next.{Next}

@@ -1,6 +1,6 @@
 -- The handshake at the front of a byte stream (JDWP specification, "JDWP overview": 14 bytes before any packet).
 use Rattle.std.specs.Prelude.{◌≡◌, ◌≢◌, ℕ, suc, ◌<◌, List, [], ◌∷◌, ◌++◌, length, take, slice_index, ◌==◌, if◌then◌else◌}
-use Rattle.jdwp_wire.specs.declared.frame.FrameFault.TheVariants.{ShortLength, TooLong, BadFlags, BadHandshake}
+use Rattle.jdwp_wire.specs.declared.frame.FrameFault.TheVariants.{BadHandshake}
 use Rattle.jdwp_wire.specs.declared.frame.NextHello.{NextHello}
 use Rattle.jdwp_wire.specs.declared.frame.NextHello.TheVariants.{Whole, More, Fault}
 use Rattle.jdwp_wire.specs.declared.frame.TheConstants.{HANDSHAKE}

@@ -7,3 +7,17 @@ pub mod FaultNumbers
 pub mod Frames
 pub mod FrameLaws
 pub mod Streams
+pub mod DataFaultNumbers
+pub mod Reading
+pub mod Sequence
+pub mod Each
+pub mod Numbers
+pub mod Basic
+pub mod Text
+pub mod Listed
+pub mod Codes
+pub mod NumberLaws
+pub mod BasicLaws
+pub mod TextLaws
+pub mod EachLaws
+pub mod ListedLaws

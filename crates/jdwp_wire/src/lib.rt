@@ -1,17 +1,32 @@
-//! The bytes of the Java Debug Wire Protocol: the handshake, packets and the sizes of ids.
+//! The bytes of the Java Debug Wire Protocol: the handshake, packets, the sizes of ids, and the trait of all data.
 #![tactic(auto)]
 
+mod basic;
+mod data_fault;
 mod error_code;
 mod frame;
 mod id_sizes;
+mod laws;
+mod list;
 mod no_memory;
+pub mod number;
 mod packet;
+mod wire;
 
+pub use data_fault::DataFault;
 pub use error_code::ErrorCode;
 pub use frame::{FrameFault, HANDSHAKE, Next, NextHello, PACKET_LIMIT, next_hello, next_packet};
 pub use id_sizes::{BadSize, IdSizes};
+pub use laws::{
+    answers_first_fault, begins_with_one_fault, begins_with_one_value, reads_only_encoded,
+    reads_what_is_encoded,
+};
+pub use list::{put_each, take_times};
 pub use no_memory::NoMemory;
 pub use packet::{Header, PacketKind, PacketRef};
+pub use wire::Wire;
 
+#[cfg(test)]
+mod data_tests;
 #[cfg(test)]
 mod tests;

@@ -10,6 +10,6 @@ pub returns-then-not-is_handshaken-clause-out : goal.returns-then-not-is_handsha
 returns-then-not-is_handshaken-clause-out c =
     let off : c.args.state.now.handshaken ≡ false = sym c.is_handshaken.ensures ∙ c.if-not-is_handshaken.true in
     let start =
-    ap (λ (n : ℕ). message_bytes (vm_start fixed_sizes n c.args.start_all c.least_thread.result)) c.next_id.ensures
+    ap (λ (n : ℕ). message_bytes (vm_start fixed_sizes n c.args.start_all c.least_thread.result.0)) c.next_id.ensures
     ∙ ap (λ (t : ℕ). message_bytes (vm_start fixed_sizes c.args.state.now.next_id c.args.start_all t)) c.least_thread.ensures in
     rw off (two_appends _ _ _ _ _ HANDSHAKE _ refl start c.append.ensures c.enqueue_start.ensures)

@@ -1,8 +1,7 @@
-use Rattle.std.proofs.Common.{rules, ◌≡◌, ◌∙◌, sym, ap, arith, Bool, cond, false, true, eqb, get_or}
+use Rattle.std.proofs.Common.{◌≡◌, ◌∙◌, sym, arith, false, true, eqb, get_or}
 use Rattle.std.proofs.lemmas.Bool.Decides.{nat_tests}
-use Rattle.std.proofs.lemmas.Grind.{common_steps}
 use Rattle.jdwp_wire.specs.declared.frame.TheConstants.{HANDSHAKE}
-use Rattle.jdwp_wire.proofs.HandshakeSteps.{step_on, runs_out, all_compared}
+use Rattle.jdwp_wire.proofs.HandshakeSteps.{step_on, runs_out}
 use Rattle.jdwp_wire.proofs.frame.compare_handshake.Goals as goal
 
 pub returns-then-place-bytes : goal.returns-then-place-bytes

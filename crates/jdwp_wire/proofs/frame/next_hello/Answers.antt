@@ -1,5 +1,4 @@
-use Rattle.std.proofs.Common.{◌∙◌, sym, subst}
-use Rattle.jdwp_wire.specs.Handshake.{HandshakeFrontOf, handshake_front}
+use Rattle.std.proofs.Common.{◌∙◌}
 use Rattle.jdwp_wire.specs.HandshakeLaws.{handshake_front_is, handshake_front_only}
 use Rattle.jdwp_wire.proofs.frame.next_hello.Goals as goal
 

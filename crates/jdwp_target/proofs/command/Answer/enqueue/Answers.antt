@@ -1,14 +1,20 @@
-use Rattle.std.proofs.Common.{◌≡◌, ◌∙◌, ap, sym, List, ℕ}
-use Rattle.byte_queue.specs.Queue.{Queue}
-use Rattle.jdwp_wire.specs.declared.packet.PacketKind.TheVariants as kind
+use Rattle.std.proofs.Common.{◌≡◌, ◌∙◌, ap, sym, refl, ℕ}
 use Rattle.jdwp_wire.specs.Streams.{message_bytes}
 use Rattle.jdwp_target.specs.declared.command.Answer.{Answer}
-use Rattle.jdwp_target.specs.Replies.{packet_with, reply_to}
-use Rattle.jdwp_target.proofs.QueueLemmas.{more}
+use Rattle.jdwp_target.specs.Replies.{int_bytes, reply_to}
+use Rattle.jdwp_target.proofs.QueueLemmas.{more, two_appends}
 use Rattle.jdwp_target.proofs.command.Answer.enqueue.Goals as goal
 
 pub returns-in-Sizes : goal.returns-in-Sizes
 returns-in-Sizes c =
-    c.enqueue_reply.ensures
-    ∙ ap (λ (x : List ℕ). more c.args.out.now (message_bytes (packet_with c.args.id (kind.Reply (record { 0 = 0 })) x))) c.sizes_bytes.ensures
+    let field = ap int_bytes (c.from.ensures ∙ c.field.ensures.value) in
+    let method = ap int_bytes (c.from-in-Sizes.ensures ∙ c.method.ensures.value) in
+    let object = ap int_bytes (c.from-in-Sizes-2.ensures ∙ c.object.ensures.value) in
+    let reference = ap int_bytes (c.from-in-Sizes-3.ensures ∙ c.reference.ensures.value) in
+    let frame = ap int_bytes (c.from-in-Sizes-4.ensures ∙ c.frame.ensures.value) in
+    two_appends _ _ _ _ _ _ _ refl refl c.enqueue_header.ensures
+    (two_appends _ _ _ _ _ _ _ field refl c.enqueue_int.ensures
+    (two_appends _ _ _ _ _ _ _ method refl c.enqueue_int-in-Sizes.ensures
+    (two_appends _ _ _ _ _ _ _ object refl c.enqueue_int-in-Sizes-2.ensures
+    (two_appends _ _ _ _ _ _ _ reference frame c.enqueue_int-in-Sizes-3.ensures c.enqueue_int-in-Sizes-4.ensures))))
     ∙ ap (λ (a : Answer). more c.args.out.now (message_bytes (reply_to c.args.id a))) (sym c.in-Sizes.is)

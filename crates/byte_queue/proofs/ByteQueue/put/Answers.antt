@@ -1,0 +1,12 @@
+use Rattle.std.proofs.Common.{◌≡◌, ◌<◌, ◌≤◌, ◌+◌, ◌^◌, ℕ, length, ap, sym, subst, arith, refl}
+use Rattle.std.proofs.lemmas.Bool.{lt-ltb}
+use Rattle.byte_queue.specs.Queue.{Queue}
+use Rattle.byte_queue.proofs.ByteQueue.put.Goals as goal
+
+pub unwrap-size-requires : goal.unwrap-size-requires
+unwrap-size-requires g c =
+    let n : ℕ = length (g.T.Wire.canonical c.args.sizes.now (g.T.Wire.meaning c.args.value.now)) in
+    let fits : n ≤ c.self.inside.capacity = subst (λ (q : Queue). n ≤ q.capacity) (sym c.self.view_is) (let room = c.requires.room in omega arith) in
+    let small = c.self.invariant.small in
+    let lt : n < 2 ^ 64 = omega arith in
+    rw (c.size.ensures, lt-ltb n (2 ^ 64) lt) refl

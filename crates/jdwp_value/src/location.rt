@@ -1,0 +1,149 @@
+//! Locations (JDWP specification, "Data Types": location).
+ghost use Rattle.std.specs.Prelude.{◌≡◌, ◌≤◌, ◌+◌, length, take, OnOk, IfErr, vec_len, vec_capacity};
+ghost use Rattle.std.specs.Result.{IsErrOf};
+ghost use Rattle.jdwp_wire.specs.declared.data_fault.DataFault.TheVariants.{NoMemory};
+ghost use Rattle.jdwp_wire.specs.Reading.{Written, Refused};
+ghost use Rattle.jdwp_value.specs.declared.location.Location.{Location};
+ghost use Rattle.jdwp_value.specs.Locations.{EncodesLocation, location_canonical, location_refusal, LocationFault, location_at};
+ghost use Rattle.jdwp_value.specs.LocationLaws.{location_codes, location_unrefused};
+
+use crate::id::{MethodId, ReferenceTypeId};
+use jdwp_wire::number::{put_number, take_number};
+use jdwp_wire::{DataFault, IdSizes, Wire};
+use std::alloc::Global;
+
+/// What declares a method (JDWP specification, "TypeTag Constants").
+#[derive(Clone, Copy, Debug, PartialEq, Eq)]
+pub enum TypeTag {
+    /// 1
+    Class,
+    /// 2
+    Interface,
+    /// 3
+    Array,
+}
+
+/// A place in a method, or none.
+#[derive(Clone, Copy, Debug, PartialEq, Eq)]
+pub enum Location {
+    /// No place: all bytes are zero.
+    Null,
+    At {
+        tag: TypeTag,
+        class: ReferenceTypeId,
+        method: MethodId,
+        /// The code index.
+        index: u64,
+    },
+}
+
+/// A type tag, the ids of a class and a method, and an unsigned index of 8 bytes.
+///
+/// A tag above 3 is `BadTag` once its byte is there. Tag 0 is the null location alone: other bytes that are not
+/// zero are `BadTag` once all are there.
+impl Wire for Location {
+    ghost Meaning = { Location };
+
+    ghost meaning = { λ location. location };
+
+    ghost encodes = { EncodesLocation };
+
+    ghost canonical = { location_canonical };
+
+    ghost refusal = { location_refusal };
+
+    ghost faults = { LocationFault };
+
+    ghost decoded = { location_at };
+
+    ghost takes_memory = { ⊥ };
+
+    fn size(&self, sizes: &IdSizes) -> Option<usize> {
+        Some(9 + sizes.reference() as usize + sizes.method() as usize)
+    }
+
+    fn put(&self, sizes: &IdSizes, output: &mut Vec<u8>) -> Result<(), DataFault> {
+        let before = output.len();
+        let done = put_parts(self, sizes, output);
+        if done.is_err() {
+            output.truncate(before);
+        }
+        done
+    }
+
+    fn take_front<'a>(
+        alloc: Global,
+        rest: &'a [u8],
+        whole: usize,
+        sizes: &IdSizes,
+    ) -> Result<(Location, &'a [u8]), DataFault> {
+        let (tag, rest) = u8::take_front(alloc, rest, whole, sizes)?;
+        if tag > 3 {
+            return Err(DataFault::BadTag);
+        }
+        let (class, rest) = ReferenceTypeId::take_front(alloc, rest, whole, sizes)?;
+        let (method, rest) = MethodId::take_front(alloc, rest, whole, sizes)?;
+        let (index, rest) = take_number(rest, whole, 8)?;
+        let tag = match tag {
+            0 => {
+                if class.0 == 0 && (method.0 == 0 && index == 0) {
+                    return Ok((Location::Null, rest));
+                }
+                return Err(DataFault::BadTag);
+            }
+            1 => TypeTag::Class,
+            2 => TypeTag::Interface,
+            _ => TypeTag::Array,
+        };
+        Ok((
+            Location::At {
+                tag,
+                class,
+                method,
+                index,
+            },
+            rest,
+        ))
+    }
+
+    ghost found = { λ w whole. (location_codes w whole).found };
+
+    ghost again = { λ w whole. (location_codes w whole).again };
+
+    ghost blamed = { λ w whole. (location_codes w whole).blamed };
+
+    ghost judged = { λ w whole. (location_codes w whole).judged };
+
+    ghost unrefused = { location_unrefused };
+}
+
+/// Appends the parts, and may stop on the way.
+fn put_parts(location: &Location, sizes: &IdSizes, output: &mut Vec<u8>) -> Result<(), DataFault>
+    ensures ok { OnOk result (Written (EncodesLocation sizes.now location.now) (location_canonical sizes.now location.now) output.old.items output.new.items) }
+    ensures err { IfErr result (λ e. (take (length output.old.items) output.new.items ≡ output.old.items) × Refused e (location_refusal sizes.now location.now)) }
+    ensures room { vec_len output.old + length (location_canonical sizes.now location.now) ≤ vec_capacity output.old → IsErrOf result NoMemory → ⊥ }
+    ensures capacity { vec_capacity output.old ≤ vec_capacity output.new }
+{
+    let (tag, class, method, index) = match *location {
+        Location::Null => (0, ReferenceTypeId(0), MethodId(0), 0),
+        Location::At {
+            tag,
+            class,
+            method,
+            index,
+        } => (
+            match tag {
+                TypeTag::Class => 1,
+                TypeTag::Interface => 2,
+                TypeTag::Array => 3,
+            },
+            class,
+            method,
+            index,
+        ),
+    };
+    output.push(tag)?;
+    class.put(sizes, output)?;
+    method.put(sizes, output)?;
+    put_number(index, 8, output)
+}

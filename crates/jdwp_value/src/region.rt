@@ -1,0 +1,260 @@
+//! Array regions (JDWP specification, "Data Types": arrayregion).
+ghost use Rattle.std.specs.Prelude.{◌≡◌, ◌≤◌, ◌+◌, ◌<◌, ◌^◌, ◌↔◌, IsTrue, IsSome, IfSome, true, length, take, List, IfOk, OnOk, IfErr, vec_len, vec_capacity};
+ghost use Rattle.std.specs.List.{list_all, flat_map};
+ghost use Rattle.std.specs.Result.{IsErrOf};
+ghost use Rattle.jdwp_wire.specs.declared.data_fault.DataFault.TheVariants.{NoMemory};
+ghost use Rattle.jdwp_wire.specs.Reading.{Gives, Written, Refused};
+ghost use Rattle.jdwp_wire.specs.Each.{times_at, EncodesAll};
+ghost use Rattle.jdwp_wire.specs.Listed.{first_refusal};
+ghost use Rattle.jdwp_value.specs.Values.{value_refusal};
+ghost use Rattle.jdwp_value.specs.Regions.{Region, region_of, may_stand, is_region, EncodesElement, element_canonical, element_width, element_at, EncodesRegion, region_canonical, region_refusal, RegionFault, region_at};
+ghost use Rattle.jdwp_value.specs.RegionLaws.{region_codes, region_unrefused};
+
+use crate::tag::Tag;
+use crate::value::{TaggedId, Value, put_untagged, take_untagged, untagged_size};
+use jdwp_wire::number::{put_number, take_count};
+use jdwp_wire::{DataFault, IdSizes, Wire};
+use std::alloc::Global;
+use std::marker::Model;
+
+/// Elements of an array, and their tag. A region has another tag than `V`. Where its tag is an object's, its
+/// elements are objects of any kind; else they have its very tag.
+#[derive(Drop)]
+pub struct ArrayRegion {
+    tag: Tag,
+    elements: Vec<Value>,
+}
+
+impl Model for ArrayRegion {
+    ghost Value = { Region };
+
+    ghost view = { λ r. region_of r.tag r.elements.items };
+
+    ghost invariant = { λ r. is_region r.tag r.elements.items ≡ true };
+}
+
+impl ArrayRegion {
+    /// A region of this tag and these elements; None where the tag is `V` or an element doesn't fit it.
+    pub fn new(tag: Tag, elements: Vec<Value>) -> Option<ArrayRegion>
+        ensures some { IsSome result ↔ IsTrue (is_region tag elements.items) }
+        ensures same { IfSome result (λ r. r ≡ region_of tag elements.items) }
+    {
+        if tag.is_void() || !all_may_stand(tag, &elements) {
+            return None;
+        }
+        Some(ArrayRegion { tag, elements })
+    }
+
+    /// The tag of the region.
+    pub fn tag(&self) -> Tag
+        ensures { result ≡ self.now.tag }
+    {
+        self.tag
+    }
+
+    /// The elements, in order.
+    pub fn elements(&self) -> &[Value]
+        ensures { result.now ≡ self.now.elements }
+    {
+        &self.elements
+    }
+}
+
+/// A tag, a count and so many elements: those of an object's tag with tags of their own, the others without.
+///
+/// Tag `V` is `BadTag`. Elements are read one by one, and nothing is reserved by the count.
+impl Wire for ArrayRegion {
+    ghost Meaning = { Region };
+
+    ghost meaning = { λ region. region };
+
+    ghost encodes = { EncodesRegion };
+
+    ghost canonical = { region_canonical };
+
+    ghost refusal = { region_refusal };
+
+    ghost faults = { RegionFault };
+
+    ghost decoded = { region_at };
+
+    ghost takes_memory = { Unit {0} };
+
+    fn size(&self, sizes: &IdSizes) -> Option<usize> {
+        let each = element_size(self.tag, sizes);
+        self.elements.len().checked_mul(each)?.checked_add(5)
+    }
+
+    fn put(&self, sizes: &IdSizes, output: &mut Vec<u8>) -> Result<(), DataFault> {
+        if self.elements.len() > 0x7fff_ffff {
+            return Err(DataFault::BadSize);
+        }
+        let before = output.len();
+        let done = put_parts(self.tag, &self.elements, sizes, output);
+        if done.is_err() {
+            output.truncate(before);
+        }
+        done
+    }
+
+    fn take_front<'a>(
+        alloc: Global,
+        rest: &'a [u8],
+        whole: usize,
+        sizes: &IdSizes,
+    ) -> Result<(ArrayRegion, &'a [u8]), DataFault> {
+        let (tag, rest) = Tag::take_front(alloc, rest, whole, sizes)?;
+        if tag.is_void() {
+            return Err(DataFault::BadTag);
+        }
+        let (count, rest) = take_count(rest, whole)?;
+        let (elements, rest) = take_elements(alloc, tag, count, rest, whole, sizes)?;
+        Ok((ArrayRegion { tag, elements }, rest))
+    }
+
+    ghost found = { λ w whole. (region_codes w whole).found };
+
+    ghost again = { λ w whole. (region_codes w whole).again };
+
+    ghost blamed = { λ w whole. (region_codes w whole).blamed };
+
+    ghost judged = { λ w whole. (region_codes w whole).judged };
+
+    ghost unrefused = { region_unrefused };
+}
+
+/// Whether each value may stand in a region of this tag.
+fn all_may_stand(tag: Tag, values: &[Value]) -> bool
+    ensures { result ≡ list_all (may_stand tag) values.now }
+{
+    for value in values {
+        if !value_may_stand(tag, value) {
+            return false;
+        }
+    }
+    true
+}
+
+/// Whether a value may stand in a region of this tag.
+fn value_may_stand(tag: Tag, value: &Value) -> bool
+    ensures { result ≡ may_stand tag value.now }
+{
+    if tag.is_object() {
+        value.tag().is_object()
+    } else {
+        value.tag().byte() == tag.byte()
+    }
+}
+
+/// How many bytes an element has in a region of this tag, 0 to 9.
+fn element_size(tag: Tag, sizes: &IdSizes) -> usize
+    ensures size { result ≡ element_width sizes.now tag }
+    ensures small { result ≤ 9 }
+{
+    if tag.is_object() {
+        1 + untagged_size(tag, sizes)
+    } else {
+        untagged_size(tag, sizes)
+    }
+}
+
+/// The element at the front of the rest of a slice of `whole` bytes, and what follows it.
+fn take_element<'a>(
+    alloc: Global,
+    tag: Tag,
+    rest: &'a [u8],
+    whole: usize,
+    sizes: &IdSizes,
+) -> Result<(Value, &'a [u8]), DataFault>
+    ensures value { Gives (λ x. (x.0, x.1.now)) result (element_at sizes.now whole tag rest.now) }
+    ensures fits { IfOk result (λ x. may_stand tag x.0 ≡ true) }
+    ensures shorter { IfOk result (λ x. length x.1.now ≤ length rest.now) }
+{
+    if tag.is_object() {
+        let (tagged, rest) = TaggedId::take_front(alloc, rest, whole, sizes)?;
+        Ok((Value::Object(tagged), rest))
+    } else {
+        take_untagged(alloc, tag, rest, whole, sizes)
+    }
+}
+
+/// `count` elements at the front of the rest of a slice of `whole` bytes, and what follows them.
+fn take_elements<'a>(
+    alloc: Global,
+    tag: Tag,
+    count: usize,
+    bytes: &'a [u8],
+    whole: usize,
+    sizes: &IdSizes,
+) -> Result<(Vec<Value>, &'a [u8]), DataFault>
+    ensures value { Gives (λ x. (x.0.items, x.1.now)) result (times_at (element_at sizes.now whole tag) count bytes.now) }
+    ensures fits { IfOk result (λ x. list_all (may_stand tag) x.0.items ≡ true) }
+    ensures shorter { IfOk result (λ x. length x.1.now ≤ length bytes.now) }
+{
+    let mut values = Vec::new(alloc);
+    let mut rest = bytes;
+    for _ in 0..count {
+        let (value, after) = take_element(alloc, tag, rest, whole, sizes)?;
+        values.push(value)?;
+        rest = after;
+    }
+    Ok((values, rest))
+}
+
+/// Appends an element.
+fn put_element(
+    tag: Tag,
+    value: &Value,
+    sizes: &IdSizes,
+    output: &mut Vec<u8>,
+) -> Result<(), DataFault>
+    requires { may_stand tag value.now ≡ true }
+    ensures ok { OnOk result (Written (EncodesElement sizes.now tag value.now) (element_canonical sizes.now tag value.now) output.old.items output.new.items) }
+    ensures err { IfErr result (λ e. (output.new.items ≡ output.old.items) × Refused e (value_refusal sizes.now value.now)) }
+    ensures room { vec_len output.old + length (element_canonical sizes.now tag value.now) ≤ vec_capacity output.old → IsErrOf result NoMemory → ⊥ }
+    ensures capacity { vec_capacity output.old ≤ vec_capacity output.new }
+{
+    if tag.is_object() {
+        value.put(sizes, output)
+    } else {
+        put_untagged(value, sizes, output)
+    }
+}
+
+/// Appends each element, and may stop on the way.
+fn put_elements(
+    tag: Tag,
+    values: &[Value],
+    sizes: &IdSizes,
+    output: &mut Vec<u8>,
+) -> Result<(), DataFault>
+    requires { list_all (may_stand tag) values.now ≡ true }
+    ensures ok { OnOk result (Written (EncodesAll (EncodesElement sizes.now tag) values.now) (flat_map (element_canonical sizes.now tag) values.now) output.old.items output.new.items) }
+    ensures err { IfErr result (λ e. (take (length output.old.items) output.new.items ≡ output.old.items) × Refused e (first_refusal (value_refusal sizes.now) values.now)) }
+    ensures room { vec_len output.old + length (flat_map (element_canonical sizes.now tag) values.now) ≤ vec_capacity output.old → IsErrOf result NoMemory → ⊥ }
+    ensures capacity { vec_capacity output.old ≤ vec_capacity output.new }
+{
+    for value in values {
+        put_element(tag, value, sizes, output)?;
+    }
+    Ok(())
+}
+
+/// Appends the tag, the count and the elements, and may stop on the way.
+fn put_parts(
+    tag: Tag,
+    values: &[Value],
+    sizes: &IdSizes,
+    output: &mut Vec<u8>,
+) -> Result<(), DataFault>
+    requires region { is_region tag values.now ≡ true }
+    requires count { length values.now < 2 ^ 31 }
+    ensures ok { OnOk result (Written (EncodesRegion sizes.now (region_of tag values.now)) (region_canonical sizes.now (region_of tag values.now)) output.old.items output.new.items) }
+    ensures err { IfErr result (λ e. (take (length output.old.items) output.new.items ≡ output.old.items) × Refused e (region_refusal sizes.now (region_of tag values.now))) }
+    ensures room { vec_len output.old + length (region_canonical sizes.now (region_of tag values.now)) ≤ vec_capacity output.old → IsErrOf result NoMemory → ⊥ }
+    ensures capacity { vec_capacity output.old ≤ vec_capacity output.new }
+{
+    output.push(tag.byte())?;
+    put_number(values.len() as u64, 4, output)?;
+    put_elements(tag, values, sizes, output)
+}

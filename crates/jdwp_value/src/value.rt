@@ -1,0 +1,266 @@
+//! Values and tagged ids (JDWP specification, "Data Types": value, untagged-value, tagged-objectID).
+ghost use Rattle.std.specs.Prelude.{◌≡◌, ◌≤◌, ◌+◌, ℕ, length, take, IfOk, OnOk, IfErr, vec_len, vec_capacity};
+ghost use Rattle.std.specs.Result.{IsErrOf};
+ghost use Rattle.jdwp_wire.specs.declared.data_fault.DataFault.TheVariants.{NoMemory};
+ghost use Rattle.jdwp_wire.specs.Reading.{Gives, Written, Refused};
+ghost use Rattle.jdwp_wire.specs.Numbers.{id_refusal};
+ghost use Rattle.jdwp_value.specs.declared.value.TaggedId.{TaggedId};
+ghost use Rattle.jdwp_value.specs.declared.value.Value.{Value};
+ghost use Rattle.jdwp_value.specs.Values.{EncodesTaggedId, tagged_id_canonical, TaggedIdFault, tagged_id_at, tag_of, width_of, EncodesUntagged, untagged_canonical, EncodesValue, value_canonical, value_refusal, ValueFault, untagged_at, value_at};
+ghost use Rattle.jdwp_value.specs.ValueLaws.{tagged_id_codes, tagged_id_unrefused, value_codes, value_unrefused};
+
+use crate::id::ObjectId;
+use crate::tag::{ObjectTag, Tag};
+use jdwp_wire::number::{put_number, take_number};
+use jdwp_wire::{DataFault, IdSizes, Wire};
+use std::alloc::Global;
+
+/// An object id, and what kind of object it names.
+#[derive(Clone, Copy, Debug, PartialEq, Eq)]
+pub struct TaggedId {
+    pub tag: ObjectTag,
+    pub id: ObjectId,
+}
+
+/// A value of a field, a variable or an array element. Numbers are their bits, unsigned, those of floats and
+/// doubles too.
+#[derive(Clone, Copy, Debug, PartialEq, Eq)]
+pub enum Value {
+    Byte(u8),
+    Char(u16),
+    Double(u64),
+    Float(u32),
+    Int(u32),
+    Long(u64),
+    Short(u16),
+    Void,
+    Boolean(bool),
+    Object(TaggedId),
+}
+
+impl Value {
+    /// The value's tag.
+    pub fn tag(&self) -> Tag
+        ensures { result ≡ tag_of self.now }
+    {
+        match *self {
+            Value::Byte(_) => Tag::Byte,
+            Value::Char(_) => Tag::Char,
+            Value::Double(_) => Tag::Double,
+            Value::Float(_) => Tag::Float,
+            Value::Int(_) => Tag::Int,
+            Value::Long(_) => Tag::Long,
+            Value::Short(_) => Tag::Short,
+            Value::Void => Tag::Void,
+            Value::Boolean(_) => Tag::Boolean,
+            Value::Object(object) => Tag::Object(object.tag),
+        }
+    }
+}
+
+/// An object tag and an object id. Another tag than an object's is `BadTag`.
+impl Wire for TaggedId {
+    ghost Meaning = { TaggedId };
+
+    ghost meaning = { λ tagged. tagged };
+
+    ghost encodes = { EncodesTaggedId };
+
+    ghost canonical = { tagged_id_canonical };
+
+    ghost refusal = { λ w tagged. id_refusal w.object tagged.id.0 };
+
+    ghost faults = { TaggedIdFault };
+
+    ghost decoded = { tagged_id_at };
+
+    ghost takes_memory = { ⊥ };
+
+    fn size(&self, sizes: &IdSizes) -> Option<usize> {
+        Some(1 + sizes.object() as usize)
+    }
+
+    fn put(&self, sizes: &IdSizes, output: &mut Vec<u8>) -> Result<(), DataFault> {
+        let before = output.len();
+        output.push(self.tag.byte())?;
+        let done = self.id.put(sizes, output);
+        if done.is_err() {
+            output.truncate(before);
+        }
+        done
+    }
+
+    fn take_front<'a>(
+        alloc: Global,
+        rest: &'a [u8],
+        whole: usize,
+        sizes: &IdSizes,
+    ) -> Result<(TaggedId, &'a [u8]), DataFault> {
+        let (tag, rest) = Tag::take_front(alloc, rest, whole, sizes)?;
+        match tag {
+            Tag::Object(tag) => {
+                let (id, rest) = ObjectId::take_front(alloc, rest, whole, sizes)?;
+                Ok((TaggedId { tag, id }, rest))
+            }
+            _ => Err(DataFault::BadTag),
+        }
+    }
+
+    ghost found = { λ w whole. (tagged_id_codes w whole).found };
+
+    ghost again = { λ w whole. (tagged_id_codes w whole).again };
+
+    ghost blamed = { λ w whole. (tagged_id_codes w whole).blamed };
+
+    ghost judged = { λ w whole. (tagged_id_codes w whole).judged };
+
+    ghost unrefused = { tagged_id_unrefused };
+}
+
+/// A tag, and the value without it: as many bytes as the tag calls for.
+impl Wire for Value {
+    ghost Meaning = { Value };
+
+    ghost meaning = { λ value. value };
+
+    ghost encodes = { EncodesValue };
+
+    ghost canonical = { value_canonical };
+
+    ghost refusal = { value_refusal };
+
+    ghost faults = { ValueFault };
+
+    ghost decoded = { value_at };
+
+    ghost takes_memory = { ⊥ };
+
+    fn size(&self, sizes: &IdSizes) -> Option<usize> {
+        Some(1 + untagged_size(self.tag(), sizes))
+    }
+
+    fn put(&self, sizes: &IdSizes, output: &mut Vec<u8>) -> Result<(), DataFault> {
+        let before = output.len();
+        output.push(self.tag().byte())?;
+        let done = put_untagged(self, sizes, output);
+        if done.is_err() {
+            output.truncate(before);
+        }
+        done
+    }
+
+    fn take_front<'a>(
+        alloc: Global,
+        rest: &'a [u8],
+        whole: usize,
+        sizes: &IdSizes,
+    ) -> Result<(Value, &'a [u8]), DataFault> {
+        let (tag, rest) = Tag::take_front(alloc, rest, whole, sizes)?;
+        take_untagged(alloc, tag, rest, whole, sizes)
+    }
+
+    ghost found = { λ w whole. (value_codes w whole).found };
+
+    ghost again = { λ w whole. (value_codes w whole).again };
+
+    ghost blamed = { λ w whole. (value_codes w whole).blamed };
+
+    ghost judged = { λ w whole. (value_codes w whole).judged };
+
+    ghost unrefused = { value_unrefused };
+}
+
+/// How many bytes a value of this tag has without its tag, 0 to 8.
+pub fn untagged_size(tag: Tag, sizes: &IdSizes) -> usize
+    ensures size { result ≡ width_of sizes.now tag }
+    ensures small { result ≤ 8 }
+{
+    match tag {
+        Tag::Byte | Tag::Boolean => 1,
+        Tag::Char | Tag::Short => 2,
+        Tag::Int | Tag::Float => 4,
+        Tag::Long | Tag::Double => 8,
+        Tag::Void => 0,
+        Tag::Object(_) => sizes.object() as usize,
+    }
+}
+
+/// Appends the value without its tag.
+///
+/// # Errors
+/// `IdTooWide` where an object id is above its width, and `NoMemory`; the vector is then as it was.
+pub fn put_untagged(value: &Value, sizes: &IdSizes, output: &mut Vec<u8>) -> Result<(), DataFault>
+    ensures ok { OnOk result (Written (EncodesUntagged sizes.now value.now) (untagged_canonical sizes.now value.now) output.old.items output.new.items) }
+    ensures err { IfErr result (λ e. (output.new.items ≡ output.old.items) × Refused e (value_refusal sizes.now value.now)) }
+    ensures room { vec_len output.old + length (untagged_canonical sizes.now value.now) ≤ vec_capacity output.old → IsErrOf result NoMemory → ⊥ }
+    ensures capacity { vec_capacity output.old ≤ vec_capacity output.new }
+{
+    match *value {
+        Value::Byte(bits) => put_number(bits as u64, 1, output),
+        Value::Char(bits) => put_number(bits as u64, 2, output),
+        Value::Double(bits) => put_number(bits, 8, output),
+        Value::Float(bits) => put_number(bits as u64, 4, output),
+        Value::Int(bits) => put_number(bits as u64, 4, output),
+        Value::Long(bits) => put_number(bits, 8, output),
+        Value::Short(bits) => put_number(bits as u64, 2, output),
+        Value::Void => Ok(()),
+        Value::Boolean(truth) => truth.put(sizes, output),
+        Value::Object(object) => object.id.put(sizes, output),
+    }
+}
+
+/// The value of this tag at the front of the rest of a slice of `whole` bytes, without its tag, and what follows it.
+///
+/// # Errors
+/// `Short(whole)` where fewer bytes are left than the tag calls for.
+pub fn take_untagged<'a>(
+    alloc: Global,
+    tag: Tag,
+    rest: &'a [u8],
+    whole: usize,
+    sizes: &IdSizes,
+) -> Result<(Value, &'a [u8]), DataFault>
+    ensures value { Gives (λ x. (x.0, x.1.now)) result (untagged_at sizes.now whole tag rest.now) }
+    ensures shorter { IfOk result (λ x. length x.1.now ≤ length rest.now) }
+    ensures memory { IsErrOf result NoMemory → ⊥ }
+{
+    match tag {
+        Tag::Byte => {
+            let (bits, rest) = take_number(rest, whole, 1)?;
+            Ok((Value::Byte(bits as u8), rest))
+        }
+        Tag::Char => {
+            let (bits, rest) = take_number(rest, whole, 2)?;
+            Ok((Value::Char(bits as u16), rest))
+        }
+        Tag::Double => {
+            let (bits, rest) = take_number(rest, whole, 8)?;
+            Ok((Value::Double(bits), rest))
+        }
+        Tag::Float => {
+            let (bits, rest) = take_number(rest, whole, 4)?;
+            Ok((Value::Float(bits as u32), rest))
+        }
+        Tag::Int => {
+            let (bits, rest) = take_number(rest, whole, 4)?;
+            Ok((Value::Int(bits as u32), rest))
+        }
+        Tag::Long => {
+            let (bits, rest) = take_number(rest, whole, 8)?;
+            Ok((Value::Long(bits), rest))
+        }
+        Tag::Short => {
+            let (bits, rest) = take_number(rest, whole, 2)?;
+            Ok((Value::Short(bits as u16), rest))
+        }
+        Tag::Void => Ok((Value::Void, rest)),
+        Tag::Boolean => {
+            let (truth, rest) = bool::take_front(alloc, rest, whole, sizes)?;
+            Ok((Value::Boolean(truth), rest))
+        }
+        Tag::Object(tag) => {
+            let (id, rest) = ObjectId::take_front(alloc, rest, whole, sizes)?;
+            Ok((Value::Object(TaggedId { tag, id }), rest))
+        }
+    }
+}

@@ -1,0 +1,36 @@
+-- Unsigned numbers of a given width in bytes, the highest byte first (JDWP specification, "Data Types": all are big-endian).
+use Rattle.std.specs.Prelude.{◌≡◌, ℕ, ◌≤◌, ◌<◌, ◌^◌, length, drop, nat_lt, if◌then◌else◌, Option, Some, None, Ok, Err, ◌⊎◌}
+use Rattle.byteorder.specs.Endian.{big_number, big_bytes}
+use Rattle.jdwp_wire.specs.declared.data_fault.DataFault.{DataFault}
+use Rattle.jdwp_wire.specs.declared.data_fault.DataFault.TheVariants.{Short, NegativeCount, IdTooWide}
+use Rattle.jdwp_wire.specs.Reading.{Reader, Encoding, Faults, ◌>>=◌}
+
+-- ---- a number of this width
+
+abbrev pub EncodesNumber : ℕ → Encoding ℕ
+EncodesNumber width n code = (n < 256 ^ width) × (code ≡ big_bytes width n)
+
+-- Too few bytes are left. `whole` is the length of the slice that was given, of which the rest is left here.
+abbrev pub NumberFault : ℕ → ℕ → Faults
+NumberFault width whole bytes f = (f ≡ Short whole) × (length bytes < width)
+
+abbrev pub number_at : ℕ → ℕ → Reader ℕ
+number_at width whole bytes = if nat_lt (length bytes) width then Err (Short whole) else Ok (big_number width bytes, drop width bytes)
+
+-- ---- a count or a length: an int that is not negative
+
+abbrev pub EncodesCount : Encoding ℕ
+EncodesCount n code = (n < 2 ^ 31) × (code ≡ big_bytes 4 n)
+
+abbrev pub CountFault : ℕ → Faults
+CountFault whole bytes f =
+    ((f ≡ Short whole) × (length bytes < 4)) ⊎ ((f ≡ NegativeCount) × (4 ≤ length bytes) × (2 ^ 31 ≤ big_number 4 bytes))
+
+abbrev pub count_at : ℕ → Reader ℕ
+count_at whole bytes = number_at 4 whole bytes >>= λ n. if nat_lt n.0 (2 ^ 31) then Ok n else Err NegativeCount
+
+-- ---- an id
+
+-- why an id of this width can't be written
+abbrev pub id_refusal : ℕ → ℕ → Option DataFault
+id_refusal width n = if nat_lt n (256 ^ width) then None else Some IdTooWide

@@ -1,0 +1,34 @@
+-- A string: its length in bytes, and so many bytes of UTF-8 (JDWP specification, "Data Types").
+use Rattle.std.specs.Prelude.{◌≡◌, ℕ, ◌≤◌, ◌<◌, ◌^◌, List, ◌++◌, length, take, drop, nat_lt, if◌then◌else◌, Option, Some, None, Ok, Err, ◌⊎◌}
+use Rattle.std.specs.Str.{IsUtf8, is_utf8}
+use Rattle.byteorder.specs.Endian.{big_bytes}
+use Rattle.jdwp_wire.specs.declared.data_fault.DataFault.{DataFault}
+use Rattle.jdwp_wire.specs.declared.data_fault.DataFault.TheVariants.{Short, NotUtf8, BadSize}
+use Rattle.jdwp_wire.specs.Reading.{Reader, Encoding, Faults}
+use Rattle.jdwp_wire.specs.Sequence.{seq, FirstFault}
+use Rattle.jdwp_wire.specs.Numbers.{EncodesCount, CountFault, count_at}
+
+abbrev pub text_canonical : List ℕ → List ℕ
+text_canonical s = big_bytes 4 (length s) ++ s
+
+abbrev pub EncodesText : Encoding (List ℕ)
+EncodesText s code = IsUtf8 s × (length s < 2 ^ 31) × (code ≡ text_canonical s)
+
+-- why n bytes of text don't stand here
+abbrev pub CharactersFault : ℕ → ℕ → Faults
+CharactersFault whole n bytes f =
+    ((f ≡ Short whole) × (length bytes < n)) ⊎ ((f ≡ NotUtf8) × (n ≤ length bytes) × (IsUtf8 (take n bytes) → ⊥))
+
+-- the length is at fault, or it stands in front and its bytes are at fault
+abbrev pub TextFault : ℕ → Faults
+TextFault whole = FirstFault EncodesCount (CountFault whole) (CharactersFault whole)
+
+abbrev pub text_refusal : List ℕ → Option DataFault
+text_refusal s = if nat_lt (length s) (2 ^ 31) then None else Some BadSize
+
+abbrev pub characters_at : ℕ → ℕ → Reader (List ℕ)
+characters_at whole n bytes = if nat_lt (length bytes) n then Err (Short whole) else
+    (if is_utf8 (take n bytes) then Ok (take n bytes, drop n bytes) else Err NotUtf8)
+
+abbrev pub text_at : ℕ → Reader (List ℕ)
+text_at whole = seq (count_at whole) (characters_at whole)

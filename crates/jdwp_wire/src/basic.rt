@@ -1,0 +1,287 @@
+//! Bytes, booleans, ints, longs and strings (JDWP specification, "Data Types").
+ghost use Rattle.std.specs.Prelude.{ℕ, ℤ, Bool, List, [], ◌∷◌, None, length, refl};
+ghost use Rattle.std.specs.String.{string_bytes};
+ghost use Rattle.jdwp_wire.specs.Numbers.{NumberFault};
+ghost use Rattle.jdwp_wire.specs.Basic.{EncodesByte, ByteFault, byte_at, EncodesBool, bool_canonical, bool_at, EncodesInt, int_canonical, int_at, EncodesLong, long_canonical, long_at};
+ghost use Rattle.jdwp_wire.specs.BasicLaws.{byte_codes, bool_codes, int_codes, long_codes};
+ghost use Rattle.jdwp_wire.specs.Text.{EncodesText, TextFault, text_canonical, text_at, text_refusal};
+ghost use Rattle.jdwp_wire.specs.TextLaws.{text_codes, text_unrefused};
+
+use crate::data_fault::DataFault;
+use crate::id_sizes::IdSizes;
+use crate::number::{put_number, take_count};
+use crate::wire::Wire;
+use byteorder::{BigEndian, ByteOrder};
+use std::alloc::Global;
+
+/// A byte.
+impl Wire for u8 {
+    ghost Meaning = { ℕ };
+
+    ghost meaning = { λ n. n };
+
+    ghost encodes = { λ _. EncodesByte };
+
+    ghost canonical = { λ _ n. n ∷ [] };
+
+    ghost refusal = { λ _ _. None };
+
+    ghost faults = { λ _. ByteFault };
+
+    ghost decoded = { λ _. byte_at };
+
+    ghost takes_memory = { ⊥ };
+
+    fn size(&self, _sizes: &IdSizes) -> Option<usize> {
+        Some(1)
+    }
+
+    fn put(&self, _sizes: &IdSizes, output: &mut Vec<u8>) -> Result<(), DataFault> {
+        output.push(*self)?;
+        Ok(())
+    }
+
+    fn take_front<'a>(
+        _alloc: Global,
+        rest: &'a [u8],
+        whole: usize,
+        _sizes: &IdSizes,
+    ) -> Result<(u8, &'a [u8]), DataFault> {
+        match rest {
+            [] => Err(DataFault::Short(whole)),
+            [byte, after @ ..] => Ok((*byte, after)),
+        }
+    }
+
+    ghost found = { λ _ whole. (byte_codes whole).found };
+
+    ghost again = { λ _ whole. (byte_codes whole).again };
+
+    ghost blamed = { λ _ whole. (byte_codes whole).blamed };
+
+    ghost judged = { λ _ whole. (byte_codes whole).judged };
+
+    ghost unrefused = { λ _ _ _ _. refl };
+}
+
+/// A boolean: one byte, 0 for false, any other for true. True is written as 1.
+impl Wire for bool {
+    ghost Meaning = { Bool };
+
+    ghost meaning = { λ b. b };
+
+    ghost encodes = { λ _. EncodesBool };
+
+    ghost canonical = { λ _. bool_canonical };
+
+    ghost refusal = { λ _ _. None };
+
+    ghost faults = { λ _. ByteFault };
+
+    ghost decoded = { λ _. bool_at };
+
+    ghost takes_memory = { ⊥ };
+
+    fn size(&self, _sizes: &IdSizes) -> Option<usize> {
+        Some(1)
+    }
+
+    fn put(&self, _sizes: &IdSizes, output: &mut Vec<u8>) -> Result<(), DataFault> {
+        output.push(if *self { 1 } else { 0 })?;
+        Ok(())
+    }
+
+    fn take_front<'a>(
+        _alloc: Global,
+        rest: &'a [u8],
+        whole: usize,
+        _sizes: &IdSizes,
+    ) -> Result<(bool, &'a [u8]), DataFault> {
+        match rest {
+            [] => Err(DataFault::Short(whole)),
+            [0, after @ ..] => Ok((false, after)),
+            [_, after @ ..] => Ok((true, after)),
+        }
+    }
+
+    ghost found = { λ _ whole. (bool_codes whole).found };
+
+    ghost again = { λ _ whole. (bool_codes whole).again };
+
+    ghost blamed = { λ _ whole. (bool_codes whole).blamed };
+
+    ghost judged = { λ _ whole. (bool_codes whole).judged };
+
+    ghost unrefused = { λ _ _ _ _. refl };
+}
+
+/// An int: 4 bytes, signed.
+impl Wire for i32 {
+    ghost Meaning = { ℤ };
+
+    ghost meaning = { λ z. z };
+
+    ghost encodes = { λ _. EncodesInt };
+
+    ghost canonical = { λ _. int_canonical };
+
+    ghost refusal = { λ _ _. None };
+
+    ghost faults = { λ _. NumberFault 4 };
+
+    ghost decoded = { λ _. int_at };
+
+    ghost takes_memory = { ⊥ };
+
+    fn size(&self, _sizes: &IdSizes) -> Option<usize> {
+        Some(4)
+    }
+
+    fn put(&self, _sizes: &IdSizes, output: &mut Vec<u8>) -> Result<(), DataFault> {
+        let mut bytes = [0; 4];
+        BigEndian::write_i32(&mut bytes, *self);
+        output.extend_from_slice(&bytes)?;
+        Ok(())
+    }
+
+    fn take_front<'a>(
+        _alloc: Global,
+        rest: &'a [u8],
+        whole: usize,
+        _sizes: &IdSizes,
+    ) -> Result<(i32, &'a [u8]), DataFault> {
+        if rest.len() < 4 {
+            return Err(DataFault::Short(whole));
+        }
+        let number = BigEndian::read_i32(rest);
+        Ok((number, &rest[4..]))
+    }
+
+    ghost found = { λ _ whole. (int_codes whole).found };
+
+    ghost again = { λ _ whole. (int_codes whole).again };
+
+    ghost blamed = { λ _ whole. (int_codes whole).blamed };
+
+    ghost judged = { λ _ whole. (int_codes whole).judged };
+
+    ghost unrefused = { λ _ _ _ _. refl };
+}
+
+/// A long: 8 bytes, signed.
+impl Wire for i64 {
+    ghost Meaning = { ℤ };
+
+    ghost meaning = { λ z. z };
+
+    ghost encodes = { λ _. EncodesLong };
+
+    ghost canonical = { λ _. long_canonical };
+
+    ghost refusal = { λ _ _. None };
+
+    ghost faults = { λ _. NumberFault 8 };
+
+    ghost decoded = { λ _. long_at };
+
+    ghost takes_memory = { ⊥ };
+
+    fn size(&self, _sizes: &IdSizes) -> Option<usize> {
+        Some(8)
+    }
+
+    fn put(&self, _sizes: &IdSizes, output: &mut Vec<u8>) -> Result<(), DataFault> {
+        let mut bytes = [0; 8];
+        BigEndian::write_i64(&mut bytes, *self);
+        output.extend_from_slice(&bytes)?;
+        Ok(())
+    }
+
+    fn take_front<'a>(
+        _alloc: Global,
+        rest: &'a [u8],
+        whole: usize,
+        _sizes: &IdSizes,
+    ) -> Result<(i64, &'a [u8]), DataFault> {
+        if rest.len() < 8 {
+            return Err(DataFault::Short(whole));
+        }
+        let number = BigEndian::read_i64(rest);
+        Ok((number, &rest[8..]))
+    }
+
+    ghost found = { λ _ whole. (long_codes whole).found };
+
+    ghost again = { λ _ whole. (long_codes whole).again };
+
+    ghost blamed = { λ _ whole. (long_codes whole).blamed };
+
+    ghost judged = { λ _ whole. (long_codes whole).judged };
+
+    ghost unrefused = { λ _ _ _ _. refl };
+}
+
+/// A string: its length in bytes as an int, and its UTF-8.
+impl Wire for String {
+    ghost Meaning = { List ℕ };
+
+    ghost meaning = { λ s. string_bytes s };
+
+    ghost encodes = { λ _. EncodesText };
+
+    ghost canonical = { λ _. text_canonical };
+
+    ghost refusal = { λ _. text_refusal };
+
+    ghost faults = { λ _. TextFault };
+
+    ghost decoded = { λ _. text_at };
+
+    ghost takes_memory = { Unit {0} };
+
+    fn size(&self, _sizes: &IdSizes) -> Option<usize> {
+        self.len().checked_add(4)
+    }
+
+    fn put(&self, _sizes: &IdSizes, output: &mut Vec<u8>) -> Result<(), DataFault> {
+        if self.len() > 0x7fff_ffff {
+            return Err(DataFault::BadSize);
+        }
+        let before = output.len();
+        put_number(self.len() as u64, 4, output)?;
+        match output.extend_from_slice(self.as_bytes()) {
+            Ok(()) => Ok(()),
+            Err(_) => {
+                output.truncate(before);
+                Err(DataFault::NoMemory)
+            }
+        }
+    }
+
+    fn take_front<'a>(
+        alloc: Global,
+        rest: &'a [u8],
+        whole: usize,
+        _sizes: &IdSizes,
+    ) -> Result<(String, &'a [u8]), DataFault> {
+        let (length, rest) = take_count(rest, whole)?;
+        if rest.len() < length {
+            return Err(DataFault::Short(whole));
+        }
+        let (text, after) = rest.split_at(length);
+        match str::from_utf8(text) {
+            Ok(text) => Ok((String::from_str(alloc, text)?, after)),
+            Err(_) => Err(DataFault::NotUtf8),
+        }
+    }
+
+    ghost found = { λ _ whole. (text_codes whole).found };
+
+    ghost again = { λ _ whole. (text_codes whole).again };
+
+    ghost blamed = { λ _ whole. (text_codes whole).blamed };
+
+    ghost judged = { λ _ whole. (text_codes whole).judged };
+
+    ghost unrefused = { λ _. text_unrefused };
+}
