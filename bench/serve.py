@@ -1,0 +1,106 @@
+#!/usr/bin/env python3
+"""How fast the program serves a long session from a file.
+
+Makes a session of the handshake, a million SuspendCount commands of thread 1 and Dispose, runs the program on it, checks the answer and
+prints messages a second (on a file, the best of three runs) and the peak of memory (on a pipe, before Dispose). To reach: 5 million messages a second, and memory that doesn't grow with the session.
+
+    bench/serve.py [PROGRAM] [COMMANDS]
+
+PROGRAM is crates/jdwp/out/jdwp where none is given; `rt run` in crates/jdwp builds it.
+"""
+
+import os
+import struct
+import subprocess
+import sys
+import tempfile
+import time
+
+ROOT = os.path.dirname(os.path.dirname(os.path.abspath(__file__)))
+HANDSHAKE = b"JDWP-Handshake"
+VM_START = bytes.fromhex("0000001d 00000001 00 40 64 00 00000001 5a 00000000 0000000000000001")
+
+
+def session(commands):
+    parts = [HANDSHAKE]
+    for i in range(1, commands + 1):
+        parts.append(struct.pack(">IIBBBQ", 19, i, 0, 11, 12, 1))
+    parts.append(struct.pack(">IIBBB", 11, commands + 1, 0, 1, 6))
+    return b"".join(parts)
+
+
+def answers(commands):
+    parts = [HANDSHAKE, VM_START]
+    for i in range(1, commands + 1):
+        parts.append(struct.pack(">IIBHI", 15, i, 0x80, 0, 0))
+    parts.append(struct.pack(">IIBH", 11, commands + 1, 0x80, 0))
+    return b"".join(parts)
+
+
+def words_of(program, folder, given, commands):
+    # A round for each message and for each read; a pipe may give less than 4,096 bytes a read.
+    turns = 20 * commands + 100
+    machine, made = os.path.join(folder, "machine"), os.path.join(folder, "to")
+    with open(machine, "w") as file:
+        file.write("{}")
+    return [program, "serve-script", machine, "--start", "none", "--from", given, "--to", made, "--turns", str(turns)], made
+
+
+def check(made, commands):
+    with open(made, "rb") as file:
+        if file.read() != answers(commands):
+            sys.exit("the answer is wrong")
+
+
+def seconds_of(program, folder, commands):
+    """The seconds of the best of three runs on a file."""
+    given = os.path.join(folder, "from")
+    with open(given, "wb") as file:
+        file.write(session(commands))
+    words, made = words_of(program, folder, given, commands)
+    times = []
+    for _ in range(3):
+        start = time.perf_counter()
+        status = subprocess.run(words).returncode
+        times.append(time.perf_counter() - start)
+        if status != 0:
+            sys.exit(f"status {status}")
+        check(made, commands)
+    return min(times)
+
+
+def peak_of(program, folder, commands):
+    """The peak of memory in KiB once all commands but Dispose were answered."""
+    given = os.path.join(folder, "pipe")
+    os.mkfifo(given)
+    words, made = words_of(program, folder, given, commands)
+    process = subprocess.Popen(words)
+    whole = session(commands)
+    want = len(answers(commands)) - 11
+    with open(given, "wb", buffering=0) as pipe:
+        pipe.write(whole[:-11])
+        while os.path.getsize(made) < want:
+            time.sleep(0.01)
+        with open(f"/proc/{process.pid}/status") as file:
+            peak = next(int(line.split()[1]) for line in file if line.startswith("VmHWM:"))
+        pipe.write(whole[-11:])
+    if process.wait() != 0:
+        sys.exit(f"status {process.returncode}")
+    check(made, commands)
+    os.remove(given)
+    return peak
+
+
+def main():
+    program = sys.argv[1] if len(sys.argv) > 1 else os.path.join(ROOT, "crates", "jdwp", "out", "jdwp")
+    program = os.path.abspath(program)
+    commands = int(sys.argv[2]) if len(sys.argv) > 2 else 1_000_000
+    with tempfile.TemporaryDirectory() as folder:
+        for count in (1_000, commands):
+            seconds, peak = seconds_of(program, folder, count), peak_of(program, folder, count)
+            messages = count + 2
+            print(f"{messages} messages in {seconds:.3f} s: {messages / seconds / 1e6:.2f} million a second; peak of memory {peak} KiB")
+
+
+if __name__ == "__main__":
+    main()

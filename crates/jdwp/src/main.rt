@@ -1,0 +1,29 @@
+//! Ends of the Java Debug Wire Protocol, run on files.
+#![tactic(auto)]
+
+mod fault;
+mod run;
+#[cfg(test)]
+mod tests;
+mod words;
+
+use fault::Fault;
+use std::env;
+use std::io::ErrorKind;
+use std::process::ExitCode;
+
+fn main(rt: HostRuntime) -> ExitCode {
+    let mut out = rt.stdout();
+    let mut err = rt.stderr();
+    let arguments = match env::args(&rt) {
+        Ok(arguments) => arguments,
+        Err(error) if error.kind() == ErrorKind::OutOfMemory => {
+            return ExitCode::from(run::report_fault(Fault::NoMemory, &mut err));
+        }
+        Err(_) => return ExitCode::from(run::report_fault(Fault::Words, &mut err)),
+    };
+    let Ok(words) = arguments.collect::<Vec<String>>(rt.alloc()) else {
+        return ExitCode::from(run::report_fault(Fault::NoMemory, &mut err));
+    };
+    ExitCode::from(run::run(&rt, words.as_slice(), &mut out, &mut err))
+}

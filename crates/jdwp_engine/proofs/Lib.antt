@@ -1,0 +1,4 @@
+pub mod Dispose
+pub mod Fronts
+pub mod Runs
+pub mod Turns

@@ -1,0 +1,9 @@
+use Rattle.std.proofs.Common.{◌+◌, ◌≤◌}
+use Rattle.jdwp_engine.specs.Run.{IsGoing, effort}
+use Rattle.jdwp_engine.proofs.serving.run_rounds.Given as goal
+
+abbrev pub invariant-loop-done : goal.invariant-loop-done
+invariant-loop-done g l = record {
+  going : IsGoing l.fn.target (g.P.Pipe.story l.fn.pipe) (g.P.Pipe.story l.pipe) l.target;
+  effort : l._done + (g.P.Pipe.story l.fn.pipe).rooms ≤ effort (g.P.Pipe.story l.pipe) l.target;
+}

@@ -1,0 +1,5 @@
+pub mod Next
+pub mod Outcome
+pub mod Run
+pub mod Story
+pub mod Streams

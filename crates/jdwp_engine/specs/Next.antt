@@ -1,0 +1,9 @@
+-- What an engine does after a round.
+use Rattle.jdwp_engine.specs.declared.ended.Ended.{Ended}
+use Rattle.jdwp_engine.specs.declared.serving.Next.{Next}
+use Rattle.jdwp_engine.specs.declared.serving.Next.TheVariants.{Goes, Ends}
+
+-- a fact about how it ended, where it did
+abbrev pub IfEnds : Next → (Ended → Type 0) → Type 0
+IfEnds Goes P = Unit {0}
+IfEnds (Ends ended) P = P ended

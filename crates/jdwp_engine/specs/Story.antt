@@ -1,0 +1,44 @@
+-- What went through a pipe, and how often its calls failed.
+use Rattle.std.specs.Prelude.{ℕ, ◌+◌, ◌*◌, List, [], ◌∷◌, zero, suc, ◌++◌, take, Ok, Err}
+use Rattle.std.specs.Prelude.{Result}
+
+-- read: the bytes that were read; written: those that were written; rooms: the reads with room for a byte;
+-- ends: those of them that gave 0; failed_reads; failed_writes: one that takes 0 of some bytes counts as failed
+pub record Story : Type 0 where
+  pub read : List ℕ
+  pub written : List ℕ
+  pub rooms : ℕ
+  pub ends : ℕ
+  pub failed_reads : ℕ
+  pub failed_writes : ℕ
+
+-- 1 where there is a byte, else 0
+abbrev pub some_of : List ℕ → ℕ
+some_of [] = 0
+some_of (x ∷ xs) = 1
+
+-- 1 at 0, else 0
+abbrev pub zero_of : ℕ → ℕ
+zero_of zero = 1
+zero_of (suc n) = 0
+
+-- a read into this buffer gave this
+abbrev pub after_read : {E : Type 0} → Story → Result ℕ E → List ℕ → Story
+after_read s (Ok n) buffer = record s {
+  read = s.read ++ take n buffer;
+  rooms = s.rooms + some_of buffer;
+  ends = s.ends + some_of buffer * zero_of n;
+}
+after_read s (Err e) buffer = record s { rooms = s.rooms + some_of buffer; failed_reads = s.failed_reads + 1 }
+
+-- a write of these bytes gave this
+abbrev pub after_write : {E : Type 0} → Story → Result ℕ E → List ℕ → Story
+after_write s (Ok n) bytes = record s {
+  written = s.written ++ take n bytes;
+  failed_writes = s.failed_writes + some_of bytes * zero_of n;
+}
+after_write s (Err e) bytes = record s { failed_writes = s.failed_writes + 1 }
+
+-- nothing went through
+abbrev pub empty_story : Story
+empty_story = record { read = []; written = []; rooms = 0; ends = 0; failed_reads = 0; failed_writes = 0 }

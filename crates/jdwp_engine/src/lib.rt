@@ -1,0 +1,16 @@
+//! The cores of the Java Debug Wire Protocol, run on any reader and writer.
+//!
+//! A `Pipe` tells contracts what went through it; `Streams` is one of any reader and writer. `serve` runs a target on a pipe.
+#![tactic(auto)]
+
+mod ended;
+mod pipe;
+mod serving;
+mod streams;
+#[cfg(test)]
+mod tests;
+
+pub use ended::Ended;
+pub use pipe::Pipe;
+pub use serving::serve;
+pub use streams::Streams;

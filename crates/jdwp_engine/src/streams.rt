@@ -1,0 +1,161 @@
+//! A pipe of any reader and any writer.
+ghost use Rattle.std.specs.Prelude.{◌≡◌, ◌≤◌, length, IfOk};
+
+use crate::Pipe;
+use std::io;
+use std::io::{ErrorKind, Read, Write};
+use trace::{History, Trace};
+
+/// A reader and a writer as a pipe.
+///
+/// Before each read the writer is flushed, so that no peer waits for bytes that stand in a buffer. A flush that fails
+/// counts as a read that failed. A call that was interrupted is made again.
+#[derive(Drop)]
+pub struct Streams<R, W> {
+    reader: R,
+    writer: W,
+    read: History,
+    written: History,
+    rooms: Trace<()>,
+    ends: Trace<()>,
+    failed_reads: Trace<()>,
+    failed_writes: Trace<()>,
+}
+
+impl<R, W> Streams<R, W> {
+    ghost use Rattle.jdwp_engine.specs.Streams.{story_of, reader_of, writer_of};
+    ghost use Rattle.jdwp_engine.specs.Story.{empty_story};
+
+    /// A pipe that reads from the reader and writes to the writer, with an empty story.
+    pub fn new(reader: R, writer: W) -> Streams<R, W>
+        ensures story { story_of result ≡ empty_story }
+        ensures reader { reader_of result ≡ reader }
+        ensures writer { writer_of result ≡ writer }
+    {
+        Streams {
+            reader,
+            writer,
+            read: History::new(),
+            written: History::new(),
+            rooms: Trace::new(),
+            ends: Trace::new(),
+            failed_reads: Trace::new(),
+            failed_writes: Trace::new(),
+        }
+    }
+
+    /// The reader and the writer. What stands in the writer's own buffer stays there.
+    pub fn into_parts(self) -> (R, W)
+        ensures reader { result.0 ≡ reader_of self }
+        ensures writer { result.1 ≡ writer_of self }
+    {
+        let Streams { reader, writer, .. } = self;
+        (reader, writer)
+    }
+}
+
+impl<R, W: Write> Streams<R, W> {
+    ghost use Rattle.jdwp_engine.specs.Streams.{story_of, reader_of};
+
+    /// Flushes the writer, which may keep bytes in a buffer of its own. The story has no word of it.
+    ///
+    /// # Errors
+    /// The writer's.
+    pub fn flush(&mut self) -> io::Result<()>
+        ensures story { story_of self.new ≡ story_of self.old }
+        ensures reader { reader_of self.new ≡ reader_of self.old }
+    {
+        flush_uninterrupted(&mut self.writer)
+    }
+}
+
+impl<R: Read, W: Write> Pipe for Streams<R, W> {
+    ghost use Rattle.jdwp_engine.specs.Streams.{story_of};
+
+    ghost story = { story_of };
+
+    fn read(&mut self, buffer: &mut [u8]) -> io::Result<usize> {
+        let has_room = !buffer.is_empty();
+        if has_room {
+            self.rooms.push(&());
+        }
+        match flush_and_read(&mut self.reader, &mut self.writer, buffer) {
+            Ok(count) => {
+                self.read.extend(&buffer[..count]);
+                if has_room && count == 0 {
+                    self.ends.push(&());
+                }
+                Ok(count)
+            }
+            Err(error) => {
+                self.failed_reads.push(&());
+                Err(error)
+            }
+        }
+    }
+
+    fn write(&mut self, bytes: &[u8]) -> io::Result<usize> {
+        match write_uninterrupted(&mut self.writer, bytes) {
+            Ok(count) => {
+                self.written.extend(&bytes[..count]);
+                if count == 0 && !bytes.is_empty() {
+                    self.failed_writes.push(&());
+                }
+                Ok(count)
+            }
+            Err(error) => {
+                self.failed_writes.push(&());
+                Err(error)
+            }
+        }
+    }
+}
+
+/// How often a call that was interrupted is made again at most. No program lives that long.
+const TRIES: u64 = u64::MAX;
+
+/// Flushes the writer, and then reads once.
+fn flush_and_read<R: Read, W: Write>(
+    reader: &mut R,
+    writer: &mut W,
+    buffer: &mut [u8],
+) -> io::Result<usize>
+    ensures { IfOk result (λ n. n ≤ length buffer.new) }
+{
+    flush_uninterrupted(writer)?;
+    read_uninterrupted(reader, buffer)
+}
+
+fn flush_uninterrupted<W: Write>(writer: &mut W) -> io::Result<()> {
+    for _ in 0..TRIES {
+        match writer.flush() {
+            Err(error) if error.kind() == ErrorKind::Interrupted => {}
+            result => return result,
+        }
+    }
+    Err(io::Error::from(ErrorKind::Interrupted))
+}
+
+fn read_uninterrupted<R: Read>(reader: &mut R, buffer: &mut [u8]) -> io::Result<usize>
+    ensures { IfOk result (λ n. n ≤ length buffer.new) }
+{
+    for _ in 0..TRIES {
+        match reader.read(buffer) {
+            Err(error) if error.kind() == ErrorKind::Interrupted => {}
+            result => return result,
+        }
+    }
+    Err(io::Error::from(ErrorKind::Interrupted))
+}
+
+fn write_uninterrupted<W: Write>(writer: &mut W, bytes: &[u8]) -> io::Result<usize>
+    ensures { IfOk result (λ n. n ≤ length bytes.now) }
+{
+    for _ in 0..TRIES {
+        match writer.write(bytes) {
+            Err(error) if error.kind() == ErrorKind::Interrupted => {}
+            result => return result,
+        }
+    }
+    Err(io::Error::from(ErrorKind::Interrupted))
+}

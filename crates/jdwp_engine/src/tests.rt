@@ -1,0 +1,515 @@
+//! Sessions of a target on readers and writers.
+ghost use Rattle.std.specs.Prelude.{◌≡◌, ◌≤◌, IfOk, IfSome, true};
+ghost use Rattle.jdwp_target.specs.Endpoint.{is_closed};
+
+use crate::{Ended, Streams, serve};
+use jdwp_target::{Fixed, Target, TargetOptions};
+use jdwp_value::ObjectId;
+use std::alloc::Global;
+use std::io;
+use std::io::{BufWriter, ErrorKind, Read, Write};
+use std::test::Fail;
+
+/// What a stream does at one of its calls.
+#[derive(Clone, Copy, Debug, PartialEq, Eq)]
+enum Event {
+    /// The call fails.
+    Fails,
+    /// The call is interrupted.
+    Interrupted,
+    /// The call moves no byte.
+    Stops,
+}
+
+/// An event at a call, counted from 1.
+#[derive(Clone, Copy, Debug)]
+struct Plan {
+    call: u32,
+    event: Event,
+}
+
+/// No call is disturbed.
+const UNDISTURBED: Plan = Plan {
+    call: 0,
+    event: Event::Fails,
+};
+
+impl Plan {
+    /// What the call of this number answers, if it is disturbed.
+    fn at(self, call: u32) -> Option<io::Result<usize>>
+        ensures { IfSome result (λ r. IfOk r (λ n. n ≡ 0)) }
+    {
+        if call != self.call {
+            return None;
+        }
+        Some(match self.event {
+            Event::Fails => Err(io::Error::from(ErrorKind::ConnectionReset)),
+            Event::Interrupted => Err(io::Error::from(ErrorKind::Interrupted)),
+            Event::Stops => Ok(0),
+        })
+    }
+}
+
+/// Gives so many bytes a call at most.
+#[derive(Drop)]
+struct Reader<'a> {
+    bytes: &'a [u8],
+    most: usize,
+    calls: u32,
+    plan: Plan,
+}
+
+impl<'a> Read for Reader<'a> {
+    fn read(&mut self, buffer: &mut [u8]) -> io::Result<usize> {
+        self.calls = self.calls.saturating_add(1);
+        if let Some(result) = self.plan.at(self.calls) {
+            return result;
+        }
+        let count = self.most.min(buffer.len()).min(self.bytes.len());
+        buffer[..count].copy_from_slice(&self.bytes[..count]);
+        self.bytes = &self.bytes[count..];
+        Ok(count)
+    }
+}
+
+/// Takes so many bytes a call at most.
+#[derive(Drop)]
+struct Writer {
+    bytes: Vec<u8>,
+    most: usize,
+    calls: u32,
+    plan: Plan,
+    flush_fails: bool,
+}
+
+impl Write for Writer {
+    fn write(&mut self, bytes: &[u8]) -> io::Result<usize> {
+        self.calls = self.calls.saturating_add(1);
+        if let Some(result) = self.plan.at(self.calls) {
+            return result;
+        }
+        let count = self.most.min(bytes.len());
+        self.bytes.extend_from_slice(&bytes[..count])?;
+        Ok(count)
+    }
+
+    fn flush(&mut self) -> io::Result<()> {
+        if self.flush_fails {
+            return Err(io::Error::from(ErrorKind::BrokenPipe));
+        }
+        Ok(())
+    }
+}
+
+fn reading(bytes: &[u8], most: usize, plan: Plan) -> Reader<'_> {
+    Reader {
+        bytes,
+        most,
+        calls: 0,
+        plan,
+    }
+}
+
+fn writing(alloc: Global, most: usize, plan: Plan) -> Writer {
+    Writer {
+        bytes: Vec::new(alloc),
+        most,
+        calls: 0,
+        plan,
+        flush_fails: false,
+    }
+}
+
+fn closed_target(alloc: Global, start_all: bool) -> Result<Target, Fail>
+    ensures { IfOk result (λ t. is_closed t.phase ≡ true) }
+{
+    let Some(options) = TargetOptions::new(start_all, 65535) else {
+        return Err(Fail::from("the count limit is in range"));
+    };
+    let Ok(target) = Target::new(alloc, Fixed, options) else {
+        return Err(Fail::from("memory is ample"));
+    };
+    Ok(target)
+}
+
+/// Serves one session, and answers how it ended and what was written.
+fn served(
+    alloc: Global,
+    start_all: bool,
+    reader: Reader<'_>,
+    writer: Writer,
+    rounds: u64,
+) -> Result<(Ended, Vec<u8>), Fail> {
+    let mut target = closed_target(alloc, start_all)?;
+    let mut pipe = Streams::new(reader, writer);
+    let ended = serve(&mut target, &mut pipe, rounds);
+    let (_, writer) = pipe.into_parts();
+    Ok((ended, writer.bytes))
+}
+
+const ROUNDS: u64 = 1000;
+
+/// The handshake, IDSizes with id 1, Suspend with id 2, SuspendCount of thread 1 with id 3, Dispose with id 4.
+const SESSION: [u8; 66] = [
+    0x4a, 0x44, 0x57, 0x50, 0x2d, 0x48, 0x61, 0x6e, 0x64, 0x73, 0x68, 0x61, 0x6b, 0x65, //
+    0x00, 0x00, 0x00, 0x0b, 0x00, 0x00, 0x00, 0x01, 0x00, 0x01, 0x07, //
+    0x00, 0x00, 0x00, 0x0b, 0x00, 0x00, 0x00, 0x02, 0x00, 0x01, 0x08, //
+    0x00, 0x00, 0x00, 0x13, 0x00, 0x00, 0x00, 0x03, 0x00, 0x0b, 0x0c, 0x00, 0x00, 0x00, 0x00, 0x00,
+    0x00, 0x00, 0x01, //
+    0x00, 0x00, 0x00, 0x0b, 0x00, 0x00, 0x00, 0x04, 0x00, 0x01, 0x06, //
+];
+
+/// What a target that starts no thread suspended answers to it.
+const ANSWERS: [u8; 111] = [
+    0x4a, 0x44, 0x57, 0x50, 0x2d, 0x48, 0x61, 0x6e, 0x64, 0x73, 0x68, 0x61, 0x6b, 0x65, //
+    0x00, 0x00, 0x00, 0x1d, 0x00, 0x00, 0x00, 0x01, 0x00, 0x40, 0x64, 0x00, 0x00, 0x00, 0x00, 0x01,
+    0x5a, 0x00, 0x00, 0x00, 0x00, 0x00, 0x00, 0x00, 0x00, 0x00, 0x00, 0x00, 0x01, //
+    0x00, 0x00, 0x00, 0x1f, 0x00, 0x00, 0x00, 0x01, 0x80, 0x00, 0x00, 0x00, 0x00, 0x00, 0x08, 0x00,
+    0x00, 0x00, 0x08, 0x00, 0x00, 0x00, 0x08, 0x00, 0x00, 0x00, 0x08, 0x00, 0x00, 0x00, 0x08, //
+    0x00, 0x00, 0x00, 0x0b, 0x00, 0x00, 0x00, 0x02, 0x80, 0x00, 0x00, //
+    0x00, 0x00, 0x00, 0x0f, 0x00, 0x00, 0x00, 0x03, 0x80, 0x00, 0x00, 0x00, 0x00, 0x00, 0x01, //
+    0x00, 0x00, 0x00, 0x0b, 0x00, 0x00, 0x00, 0x04, 0x80, 0x00, 0x00, //
+];
+
+/// What a target that starts every thread suspended answers to it.
+const ANSWERS_SUSPENDED: [u8; 111] = [
+    0x4a, 0x44, 0x57, 0x50, 0x2d, 0x48, 0x61, 0x6e, 0x64, 0x73, 0x68, 0x61, 0x6b, 0x65, //
+    0x00, 0x00, 0x00, 0x1d, 0x00, 0x00, 0x00, 0x01, 0x00, 0x40, 0x64, 0x02, 0x00, 0x00, 0x00, 0x01,
+    0x5a, 0x00, 0x00, 0x00, 0x00, 0x00, 0x00, 0x00, 0x00, 0x00, 0x00, 0x00, 0x01, //
+    0x00, 0x00, 0x00, 0x1f, 0x00, 0x00, 0x00, 0x01, 0x80, 0x00, 0x00, 0x00, 0x00, 0x00, 0x08, 0x00,
+    0x00, 0x00, 0x08, 0x00, 0x00, 0x00, 0x08, 0x00, 0x00, 0x00, 0x08, 0x00, 0x00, 0x00, 0x08, //
+    0x00, 0x00, 0x00, 0x0b, 0x00, 0x00, 0x00, 0x02, 0x80, 0x00, 0x00, //
+    0x00, 0x00, 0x00, 0x0f, 0x00, 0x00, 0x00, 0x03, 0x80, 0x00, 0x00, 0x00, 0x00, 0x00, 0x02, //
+    0x00, 0x00, 0x00, 0x0b, 0x00, 0x00, 0x00, 0x04, 0x80, 0x00, 0x00, //
+];
+
+#[test]
+fn a_session_is_answered(rt: HostRuntime) -> Result<(), Fail> {
+    for most in [1, 2, 13, 66, 5000] {
+        let alloc = rt.alloc();
+        let (ended, bytes) = served(
+            alloc,
+            false,
+            reading(&SESSION, most, UNDISTURBED),
+            writing(alloc, most, UNDISTURBED),
+            ROUNDS,
+        )?;
+        assert_eq!(rt; ended, Ended::Done, "by {most}");
+        assert_eq!(rt; bytes.as_slice(), ANSWERS.as_slice(), "by {most}");
+        let (ended, bytes) = served(
+            alloc,
+            true,
+            reading(&SESSION, most, UNDISTURBED),
+            writing(alloc, most, UNDISTURBED),
+            ROUNDS,
+        )?;
+        assert_eq!(rt; ended, Ended::Done, "by {most}");
+        assert_eq!(rt; bytes.as_slice(), ANSWERS_SUSPENDED.as_slice(), "by {most}");
+    }
+    Ok(())
+}
+
+/// How many bytes are written once so many of the session's were read.
+fn written_after(read: usize) -> usize
+    ensures { result ≤ 111 }
+{
+    if read < 14 {
+        0
+    } else if read < 25 {
+        43
+    } else if read < 36 {
+        74
+    } else if read < 55 {
+        85
+    } else if read < 66 {
+        100
+    } else {
+        111
+    }
+}
+
+#[test]
+fn each_read_may_fail(rt: HostRuntime) -> Result<(), Fail> {
+    for call in 1u32..68 {
+        for event in [Event::Fails, Event::Stops] {
+            let alloc = rt.alloc();
+            let plan = Plan { call, event };
+            let (ended, bytes) = served(
+                alloc,
+                true,
+                reading(&SESSION, 1, plan),
+                writing(alloc, 5000, UNDISTURBED),
+                ROUNDS,
+            )?;
+            let want = if call < 67 {
+                Ended::LostByRead
+            } else {
+                Ended::Done
+            };
+            assert_eq!(rt; ended, want, "{event:?} at {call}");
+            let written = written_after(usize::try_from(call)?.saturating_sub(1));
+            assert_eq!(rt;
+                bytes.as_slice(),
+                &ANSWERS_SUSPENDED[..written],
+                "{event:?} at {call}"
+            );
+        }
+    }
+    Ok(())
+}
+
+#[test]
+fn each_write_may_fail(rt: HostRuntime) -> Result<(), Fail> {
+    for (call, written) in [
+        (1u32, 0usize),
+        (2, 43),
+        (3, 74),
+        (4, 85),
+        (5, 100),
+        (6, 111),
+    ] {
+        for event in [Event::Fails, Event::Stops] {
+            let alloc = rt.alloc();
+            let plan = Plan { call, event };
+            let (ended, bytes) = served(
+                alloc,
+                false,
+                reading(&SESSION, 1, UNDISTURBED),
+                writing(alloc, 5000, plan),
+                ROUNDS,
+            )?;
+            let want = if call < 6 {
+                Ended::LostByWrite
+            } else {
+                Ended::Done
+            };
+            assert_eq!(rt; ended, want, "{event:?} at {call}");
+            assert_eq!(rt;
+                bytes.as_slice(),
+                &ANSWERS[..written],
+                "{event:?} at {call}"
+            );
+        }
+    }
+    Ok(())
+}
+
+#[test]
+fn each_write_of_a_byte_may_fail(rt: HostRuntime) -> Result<(), Fail> {
+    for call in 1u32..113 {
+        let alloc = rt.alloc();
+        let plan = Plan {
+            call,
+            event: Event::Fails,
+        };
+        let (ended, bytes) = served(
+            alloc,
+            false,
+            reading(&SESSION, 66, UNDISTURBED),
+            writing(alloc, 1, plan),
+            ROUNDS,
+        )?;
+        let want = if call < 112 {
+            Ended::LostByWrite
+        } else {
+            Ended::Done
+        };
+        assert_eq!(rt; ended, want, "at {call}");
+        let written = usize::try_from(call)?.saturating_sub(1).min(111);
+        assert_eq!(rt; bytes.as_slice(), &ANSWERS[..written], "at {call}");
+    }
+    Ok(())
+}
+
+#[test]
+fn an_interrupted_call_is_repeated(rt: HostRuntime) -> Result<(), Fail> {
+    for call in [1u32, 2, 5] {
+        let alloc = rt.alloc();
+        let plan = Plan {
+            call,
+            event: Event::Interrupted,
+        };
+        let (ended, bytes) = served(
+            alloc,
+            false,
+            reading(&SESSION, 20, plan),
+            writing(alloc, 5000, plan),
+            ROUNDS,
+        )?;
+        assert_eq!(rt; ended, Ended::Done, "at {call}");
+        assert_eq!(rt; bytes.as_slice(), ANSWERS.as_slice(), "at {call}");
+    }
+    Ok(())
+}
+
+#[test]
+fn a_failed_flush_is_a_failed_read(rt: HostRuntime) -> Result<(), Fail> {
+    let alloc = rt.alloc();
+    let mut writer = writing(alloc, 5000, UNDISTURBED);
+    writer.flush_fails = true;
+    let (ended, bytes) = served(
+        alloc,
+        false,
+        reading(&SESSION, 66, UNDISTURBED),
+        writer,
+        ROUNDS,
+    )?;
+    assert_eq!(rt; ended, Ended::LostByRead);
+    assert!(rt; bytes.is_empty());
+    Ok(())
+}
+
+/// Nothing waits in the writer's own buffer while the reader is asked for more.
+#[test]
+fn answers_leave_before_a_read(rt: HostRuntime) -> Result<(), Fail> {
+    for call in 1u32..67 {
+        let alloc = rt.alloc();
+        let plan = Plan {
+            call,
+            event: Event::Fails,
+        };
+        let mut target = closed_target(alloc, true)?;
+        let writer = BufWriter::new(alloc, writing(alloc, 5000, UNDISTURBED))?;
+        let mut pipe = Streams::new(reading(&SESSION, 1, plan), writer);
+        let ended = serve(&mut target, &mut pipe, ROUNDS);
+        assert_eq!(rt; ended, Ended::LostByRead, "at {call}");
+        let (_, writer) = pipe.into_parts();
+        let written = written_after(usize::try_from(call)?.saturating_sub(1));
+        assert_eq!(rt;
+            writer.get_ref().bytes.as_slice(),
+            &ANSWERS_SUSPENDED[..written],
+            "at {call}"
+        );
+    }
+    Ok(())
+}
+
+#[test]
+fn bytes_that_begin_no_message_are_refused(rt: HostRuntime) -> Result<(), Fail> {
+    let sessions: [(&[u8], u16, usize); 4] = [
+        (b"JDWP-HandshakE", 4, 0),
+        (b"JDWP-Handshake\x00\x00\x00\x0a", 1, 43),
+        (b"JDWP-Handshake\x00\x01\x00\x01", 2, 43),
+        (b"JDWP-Handshake\x00\x00\x00\x0b\x00\x00\x00\x01\x01", 3, 43),
+    ];
+    for (input, number, written) in sessions {
+        let alloc = rt.alloc();
+        let (ended, bytes) = served(
+            alloc,
+            false,
+            reading(input, 5000, UNDISTURBED),
+            writing(alloc, 5000, UNDISTURBED),
+            ROUNDS,
+        )?;
+        assert_eq!(rt; ended, Ended::Refused(number));
+        assert_eq!(rt; bytes.as_slice(), &ANSWERS[..written], "fault {number}");
+    }
+    Ok(())
+}
+
+#[test]
+fn unknown_commands_are_answered(rt: HostRuntime) -> Result<(), Fail> {
+    let input =
+        b"JDWP-Handshake\x00\x00\x00\x0b\x00\x00\x00\x05\x00\x40\x64\x00\x00\x00\x0b\x00\x00\x00\x06\x00\x01\x63";
+    let alloc = rt.alloc();
+    let (ended, bytes) = served(
+        alloc,
+        false,
+        reading(input, 5000, UNDISTURBED),
+        writing(alloc, 5000, UNDISTURBED),
+        ROUNDS,
+    )?;
+    assert_eq!(rt; ended, Ended::LostByRead);
+    assert!(rt; bytes.as_slice().starts_with(&ANSWERS[..43]));
+    let replies =
+        b"\x00\x00\x00\x0b\x00\x00\x00\x05\x80\x00\x63\x00\x00\x00\x0b\x00\x00\x00\x06\x80\x00\x63";
+    assert!(rt; bytes.as_slice().ends_with(replies));
+    assert_eq!(rt; bytes.len(), 65);
+    Ok(())
+}
+
+#[test]
+fn an_empty_input_is_lost(rt: HostRuntime) -> Result<(), Fail> {
+    let alloc = rt.alloc();
+    let (ended, bytes) = served(
+        alloc,
+        false,
+        reading(b"", 5000, UNDISTURBED),
+        writing(alloc, 5000, UNDISTURBED),
+        ROUNDS,
+    )?;
+    assert_eq!(rt; ended, Ended::LostByRead);
+    assert!(rt; bytes.is_empty());
+    Ok(())
+}
+
+/// One read and five turns take six rounds.
+#[test]
+fn rounds_are_counted(rt: HostRuntime) -> Result<(), Fail> {
+    for (rounds, written) in [
+        (0u64, 0usize),
+        (1, 0),
+        (2, 43),
+        (3, 74),
+        (4, 85),
+        (5, 100),
+        (6, 111),
+    ] {
+        let alloc = rt.alloc();
+        let (ended, bytes) = served(
+            alloc,
+            false,
+            reading(&SESSION, 66, UNDISTURBED),
+            writing(alloc, 5000, UNDISTURBED),
+            rounds,
+        )?;
+        let want = if rounds < 6 {
+            Ended::TurnLimit
+        } else {
+            Ended::Done
+        };
+        assert_eq!(rt; ended, want, "{rounds} rounds");
+        assert_eq!(rt; bytes.as_slice(), &ANSWERS[..written], "{rounds} rounds");
+    }
+    Ok(())
+}
+
+#[test]
+fn a_loss_lowers_the_counts(rt: HostRuntime) -> Result<(), Fail> {
+    let alloc = rt.alloc();
+    let mut target = closed_target(alloc, true)?;
+    let mut pipe = Streams::new(
+        reading(&SESSION[..36], 66, UNDISTURBED),
+        writing(alloc, 5000, UNDISTURBED),
+    );
+    let ended = serve(&mut target, &mut pipe, ROUNDS);
+    assert_eq!(rt; ended, Ended::LostByRead);
+    assert!(rt; !target.is_open());
+    assert_eq!(rt; target.count(ObjectId(1)), Some(0));
+    Ok(())
+}
+
+/// A second session has no VM_START.
+#[test]
+fn a_target_serves_again(rt: HostRuntime) -> Result<(), Fail> {
+    let alloc = rt.alloc();
+    let mut target = closed_target(alloc, true)?;
+    let mut pipe = Streams::new(
+        reading(&SESSION, 66, UNDISTURBED),
+        writing(alloc, 5000, UNDISTURBED),
+    );
+    assert_eq!(rt; serve(&mut target, &mut pipe, ROUNDS), Ended::Done);
+    if target.is_open() {
+        return Err(Fail::from("a disposed session is closed"));
+    }
+    let mut pipe = Streams::new(
+        reading(&SESSION, 66, UNDISTURBED),
+        writing(alloc, 5000, UNDISTURBED),
+    );
+    assert_eq!(rt; serve(&mut target, &mut pipe, ROUNDS), Ended::Done);
+    let (_, writer) = pipe.into_parts();
+    assert!(rt; writer.bytes.as_slice().starts_with(&ANSWERS[..14]));
+    assert!(rt; writer.bytes.as_slice().ends_with(&ANSWERS[43..]));
+    assert_eq!(rt; writer.bytes.len(), 82);
+    Ok(())
+}

@@ -1,0 +1,3 @@
+pub mod GrammarLaws
+pub mod Progress
+pub mod Passed

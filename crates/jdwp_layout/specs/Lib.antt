@@ -1,0 +1,9 @@
+pub mod ModifiersAndEvents
+pub mod Shapes
+pub mod Rows
+pub mod CommandTable
+pub mod Meanings
+pub mod Grammar
+pub mod Reads
+pub mod Writes
+pub mod Skips

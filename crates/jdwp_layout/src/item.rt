@@ -1,0 +1,189 @@
+//! Layouts: what stands in the data of a packet, in which order.
+ghost use Rattle.std.specs.Prelude.{◌≡◌};
+ghost use Rattle.jdwp_layout.specs.ModifiersAndEvents.{modifier_fields, event_fields};
+ghost use Rattle.jdwp_layout.specs.Shapes.{found_fields};
+
+/// One value (JDWP specification, "Data Types").
+#[derive(Clone, Copy, Debug, PartialEq, Eq)]
+pub enum Field {
+    /// One unsigned byte.
+    Byte,
+    /// One byte: 0 is false, and any other is true.
+    Boolean,
+    /// 4 bytes, signed.
+    Int,
+    /// 8 bytes, signed.
+    Long,
+    /// A length in 4 bytes, and so many bytes of UTF-8.
+    String,
+    /// The id of an object, and so of a thread, thread group, string, class loader, class object or module.
+    ObjectId,
+    /// The id of a class, an interface or an array type.
+    ReferenceTypeId,
+    /// The id of a method of a reference type.
+    MethodId,
+    /// The id of a field of a reference type.
+    FieldId,
+    /// The id of a frame of a thread.
+    FrameId,
+    /// A place in a method, or none.
+    Location,
+    /// A tag, and what the tag calls for.
+    Value,
+    /// An object tag and an object id.
+    TaggedId,
+}
+
+/// What is repeated in a list.
+#[derive(Clone, Copy, Debug, PartialEq, Eq)]
+pub enum Entry {
+    /// These fields, one after another.
+    Fields(&'static [Field]),
+    /// A modifier of an event request: a kind byte, and the fields of that kind.
+    Modifier,
+    /// An event of a composite: a kind byte, the id of the request, and the fields of that kind.
+    Event,
+}
+
+/// An item of a layout.
+#[derive(Clone, Copy, Debug, PartialEq, Eq)]
+pub enum Item {
+    /// One field.
+    One(Field),
+    /// An int count, and so many entries.
+    Many(Entry),
+    /// An array region: a tag, an int count, and so many elements.
+    Region,
+}
+
+/// Items, one after another.
+#[derive(Clone, Copy, Debug, PartialEq, Eq)]
+pub struct Layout {
+    pub items: &'static [Item],
+}
+
+static COUNT: [Field; 1] = [Field::Int];
+
+static THREAD: [Field; 1] = [Field::ObjectId];
+
+static CLASS: [Field; 1] = [Field::ReferenceTypeId];
+
+static PATTERN: [Field; 1] = [Field::String];
+
+static PLACE: [Field; 1] = [Field::Location];
+
+static EXCEPTION_ONLY: [Field; 3] = [Field::ReferenceTypeId, Field::Boolean, Field::Boolean];
+
+static FIELD_ONLY: [Field; 2] = [Field::ReferenceTypeId, Field::FieldId];
+
+static STEP: [Field; 3] = [Field::ObjectId, Field::Int, Field::Int];
+
+/// The fields after the kind byte of a modifier; None where no modifier has this kind.
+pub fn fields_of_modifier(kind: u8) -> Option<&'static [Field]>
+    ensures { found_fields result ≡ modifier_fields kind }
+{
+    match kind {
+        1 | 2 => Some(&COUNT),
+        3 | 11 => Some(&THREAD),
+        4 => Some(&CLASS),
+        5 | 6 | 12 => Some(&PATTERN),
+        7 => Some(&PLACE),
+        8 => Some(&EXCEPTION_ONLY),
+        9 => Some(&FIELD_ONLY),
+        10 => Some(&STEP),
+        _ => None,
+    }
+}
+
+static DEATH: [Field; 1] = [Field::Int];
+
+static OF_THREAD: [Field; 2] = [Field::Int, Field::ObjectId];
+
+static AT_PLACE: [Field; 3] = [Field::Int, Field::ObjectId, Field::Location];
+
+static RETURN: [Field; 4] = [Field::Int, Field::ObjectId, Field::Location, Field::Value];
+
+static EXCEPTION: [Field; 5] = [
+    Field::Int,
+    Field::ObjectId,
+    Field::Location,
+    Field::TaggedId,
+    Field::Location,
+];
+
+static PREPARE: [Field; 6] = [
+    Field::Int,
+    Field::ObjectId,
+    Field::Byte,
+    Field::ReferenceTypeId,
+    Field::String,
+    Field::Int,
+];
+
+static UNLOAD: [Field; 2] = [Field::Int, Field::String];
+
+static ACCESS: [Field; 7] = [
+    Field::Int,
+    Field::ObjectId,
+    Field::Location,
+    Field::Byte,
+    Field::ReferenceTypeId,
+    Field::FieldId,
+    Field::TaggedId,
+];
+
+static MODIFICATION: [Field; 8] = [
+    Field::Int,
+    Field::ObjectId,
+    Field::Location,
+    Field::Byte,
+    Field::ReferenceTypeId,
+    Field::FieldId,
+    Field::TaggedId,
+    Field::Value,
+];
+
+static CONTENDED: [Field; 4] = [
+    Field::Int,
+    Field::ObjectId,
+    Field::TaggedId,
+    Field::Location,
+];
+
+static WAIT: [Field; 5] = [
+    Field::Int,
+    Field::ObjectId,
+    Field::TaggedId,
+    Field::Location,
+    Field::Long,
+];
+
+static WAITED: [Field; 5] = [
+    Field::Int,
+    Field::ObjectId,
+    Field::TaggedId,
+    Field::Location,
+    Field::Boolean,
+];
+
+/// The fields after the kind byte of an event, of which the first is the id of the request; None where no event
+/// has this kind.
+pub fn fields_of_event(kind: u8) -> Option<&'static [Field]>
+    ensures { found_fields result ≡ event_fields kind }
+{
+    match kind {
+        1 | 2 | 40 | 41 => Some(&AT_PLACE),
+        4 => Some(&EXCEPTION),
+        6 | 7 | 90 => Some(&OF_THREAD),
+        8 => Some(&PREPARE),
+        9 => Some(&UNLOAD),
+        20 => Some(&ACCESS),
+        21 => Some(&MODIFICATION),
+        42 => Some(&RETURN),
+        43 | 44 => Some(&CONTENDED),
+        45 => Some(&WAIT),
+        46 => Some(&WAITED),
+        99 => Some(&DEATH),
+        _ => None,
+    }
+}

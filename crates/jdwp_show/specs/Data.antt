@@ -1,0 +1,75 @@
+-- Which data do not read (JDWP specification, "Protocol Details": the layouts of the commands and their replies).
+use Rattle.std.specs.Prelude.{ℕ, ◌==◌, ◌&&◌, nat_lt, nat_le, List, length, drop, Bool, Option, Some, None, Result, Ok, Err, if◌then◌else◌}
+use Rattle.byteorder.specs.Endian.{big_number}
+use Rattle.jdwp_wire.specs.declared.data_fault.DataFault.{DataFault}
+use Rattle.jdwp_wire.specs.declared.data_fault.DataFault.TheVariants.{Short, Extra, BadSize}
+use Rattle.jdwp_wire.specs.Widths.{Widths}
+use Rattle.jdwp_layout.specs.Shapes.{ItemShape}
+use Rattle.jdwp_layout.specs.Rows.{Row, RowShapes}
+use Rattle.jdwp_layout.specs.CommandTable.{row_at}
+use Rattle.jdwp_layout.specs.Reads.{data_at}
+use Rattle.jdwp_show.specs.declared.pending.Command.{Command}
+
+-- ---- by the layout of the command
+
+-- the layouts of the command; None where the table has no such command, or does not read its data
+abbrev pub shapes_in : Option Row → Option RowShapes
+shapes_in None = None
+shapes_in (Some row) = row.shapes
+
+abbrev pub shapes_of : Command → Option RowShapes
+shapes_of command = shapes_in (row_at command.set command.number)
+
+abbrev pub fault_in : {A : Type 0} → Result A DataFault → Option DataFault
+fault_in (Ok x) = None
+fault_in (Err fault) = Some fault
+
+-- the first fault of data under a layout, where the widths of ids are known
+abbrev pub layout_fault : Option Widths → List ItemShape → List ℕ → Option DataFault
+layout_fault None layout body = None
+layout_fault (Some widths) layout body = fault_in (data_at widths layout body)
+
+abbrev pub request_by : Option Widths → Option RowShapes → List ℕ → Option DataFault
+request_by widths None body = None
+request_by widths (Some shapes) body = layout_fault widths shapes.request body
+
+abbrev pub reply_by : Option Widths → Option RowShapes → List ℕ → Option DataFault
+reply_by widths None body = None
+reply_by widths (Some shapes) body = layout_fault widths shapes.reply body
+
+-- the data of a command
+abbrev pub request_fault : Option Widths → Command → List ℕ → Option DataFault
+request_fault widths command body = request_by widths (shapes_of command) body
+
+-- ---- VirtualMachine.IDSizes: the reply has five ints, the widths of ids, each 1 to 8
+
+abbrev pub is_id_sizes : Command → Bool
+is_id_sizes command = (command.set == 1) && (command.number == 7)
+
+abbrev pub is_width : ℕ → Bool
+is_width n = nat_le 1 n && nat_le n 8
+
+abbrev pub are_widths : Widths → Bool
+are_widths w = is_width w.field && (is_width w.method && (is_width w.object && (is_width w.reference && is_width w.frame)))
+
+abbrev pub checked_widths : Widths → Result Widths DataFault
+checked_widths widths = if are_widths widths then Ok widths else Err BadSize
+
+-- the widths in such data, or the first fault: too few bytes, too many, or another width
+abbrev pub widths_in : List ℕ → Result Widths DataFault
+widths_in body =
+    if nat_lt (length body) 20 then Err (Short (length body)) else (
+    if nat_lt 20 (length body) then Err (Extra 20) else
+    checked_widths (record {
+      field = big_number 4 body;
+      method = big_number 4 (drop 4 body);
+      object = big_number 4 (drop 8 body);
+      reference = big_number 4 (drop 12 body);
+      frame = big_number 4 (drop 16 body);
+    }))
+
+-- the data of a reply without an error to this command
+abbrev pub reply_fault : Option Widths → Option Command → List ℕ → Option DataFault
+reply_fault widths None body = None
+reply_fault widths (Some command) body =
+    if is_id_sizes command then fault_in (widths_in body) else reply_by widths (shapes_of command) body

@@ -1,0 +1,29 @@
+-- What stands in the bytes of one end: its messages, and a frame fault where what follows them shows one.
+use Rattle.std.specs.Prelude.{◌≡◌, ℕ, zero, suc, List, [], ◌∷◌, length, drop, Bool, true, false}
+use Rattle.jdwp_wire.specs.declared.frame.FrameFault.{FrameFault}
+use Rattle.jdwp_wire.specs.declared.frame.TheConstants.{PACKET_LIMIT}
+use Rattle.jdwp_wire.specs.Streams.{Message, NextMessage, Whole, More, Fault, next_message}
+
+-- a message of the end, or a frame fault
+pub data Found : Type 0 where
+  Sent : Message → Found
+  Faulty : FrameFault → Found
+
+-- what stands in front, and then what `rest` finds in the bytes behind it; nothing follows a fault
+abbrev pub found_at : NextMessage → List ℕ → (List ℕ → List Found) → List Found
+found_at (Whole message used) bytes rest = Sent message ∷ rest (drop used bytes)
+found_at More bytes rest = []
+found_at (Fault fault) bytes rest = Faulty fault ∷ []
+
+-- the first so many; before the handshake was found it is looked for, and packets after it
+unfoldable pub found_within : ℕ → Bool → List ℕ → List Found
+found_within zero handshaken bytes = []
+found_within (suc n) handshaken bytes = found_at (next_message PACKET_LIMIT handshaken bytes) bytes (found_within n true)
+
+-- all of them: no message is empty, so there are no more than bytes
+unfoldable pub found_after : Bool → List ℕ → List Found
+found_after handshaken bytes = found_within (length bytes) handshaken bytes
+
+-- what stands in all that an end sent
+abbrev pub found : List ℕ → List Found
+found bytes = found_after false bytes

@@ -1,0 +1,25 @@
+-- The items of a capture: the messages and frame faults of both ends, in the order of the lines that complete them.
+use Rattle.std.specs.Prelude.{ℕ, ◌+◌, List, [], ◌∷◌, ◌++◌, length, drop, map}
+use Rattle.jdwp_show.specs.declared.capture_line.Sender.{Sender}
+use Rattle.jdwp_show.specs.Lines.{Line, sent_by}
+use Rattle.jdwp_show.specs.Found.{Found, found}
+
+-- the number, from 1, of the line in which the last byte stands, the end that sent it, and what it is
+pub record Item : Type 0 where
+  pub line : ℕ
+  pub sender : Sender
+  pub found : Found
+
+abbrev pub item_at : ℕ → Sender → Found → Item
+item_at line sender thing = record { line = line; sender = sender; found = thing }
+
+-- What a line completes, after the lines before it: what stands in the bytes that its end sent up to it, without what stood there before.
+abbrev pub completed : List Line → Line → List Found
+completed before line = drop (length (found (sent_by line.sender before))) (found (sent_by line.sender (before ++ line ∷ [])))
+
+unfoldable pub items_after : List Line → List Line → List Item
+items_after before [] = []
+items_after before (line ∷ lines) = map (item_at (length before + 1) line.sender) (completed before line) ++ items_after (before ++ line ∷ []) lines
+
+abbrev pub items_of : List Line → List Item
+items_of capture = items_after [] capture

@@ -1,0 +1,10 @@
+pub mod FaultNumbers
+pub mod Lines
+pub mod Captures
+pub mod Found
+pub mod Items
+pub mod Streams
+pub mod Data
+pub mod Rules
+pub mod Sessions
+pub mod Pending

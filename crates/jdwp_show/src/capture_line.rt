@@ -1,0 +1,102 @@
+//! The lines of a capture, read into what each end sent.
+ghost use Rattle.std.specs.Prelude.{◌≡◌, IfOk};
+ghost use Rattle.jdwp_show.specs.Lines.{capture_of, bad_line};
+ghost use Rattle.jdwp_show.specs.Captures.{IsCapture, IsRead, IsDecoded};
+
+use jdwp_wire::NoMemory;
+use std::alloc::Global;
+
+/// Which end sent the bytes of a line.
+#[derive(Clone, Copy, Debug, PartialEq, Eq)]
+pub(crate) enum Sender {
+    Debugger,
+    Target,
+}
+
+/// Which end sent a line, and how many bytes.
+#[derive(Clone, Copy, Debug)]
+pub(crate) struct LineLength {
+    pub(crate) sender: Sender,
+    pub(crate) length: usize,
+}
+
+/// What the lines before the first bad one say.
+#[derive(Drop)]
+pub(crate) struct Capture {
+    pub(crate) lines: Vec<LineLength>,
+    /// All that the debugger sent.
+    pub(crate) debugger: Vec<u8>,
+    /// All that the target sent.
+    pub(crate) target: Vec<u8>,
+    /// The number, from 1, of the first line that does not read.
+    pub(crate) bad_line: Option<usize>,
+}
+
+/// Reads the lines of the text, up to the first that does not read.
+pub(crate) fn read_capture(alloc: Global, text: &str) -> Result<Capture, NoMemory>
+    ensures capture { IfOk result (λ c. IsCapture c (capture_of text.now)) }
+    ensures bad_line { IfOk result (λ c. c.bad_line ≡ bad_line text.now) }
+{
+    let mut capture = Capture {
+        lines: Vec::new(alloc),
+        debugger: Vec::new(alloc),
+        target: Vec::new(alloc),
+        bad_line: None,
+    };
+    for line in text.lines() {
+        if !read_line(line.as_bytes(), &mut capture)? {
+            capture.bad_line = Some(capture.lines.len() + 1);
+            return Ok(capture);
+        }
+    }
+    Ok(capture)
+}
+
+/// Appends what the line says; false where it does not read, and then nothing has changed.
+fn read_line(line: &[u8], capture: &mut Capture) -> Result<bool, NoMemory>
+    ensures { IfOk result (λ reads. IsRead line.now reads capture.old capture.new) }
+{
+    if line.len() < 2 || line[1] != b' ' {
+        return Ok(false);
+    }
+    let digits = &line[2..];
+    match line[0] {
+        b'>' => match decode_onto(digits, &mut capture.debugger)? {
+            None => Ok(false),
+            Some(length) => {
+                let sender = Sender::Debugger;
+                capture.lines.push(LineLength { sender, length })?;
+                Ok(true)
+            }
+        },
+        b'<' => match decode_onto(digits, &mut capture.target)? {
+            None => Ok(false),
+            Some(length) => {
+                let sender = Sender::Target;
+                capture.lines.push(LineLength { sender, length })?;
+                Ok(true)
+            }
+        },
+        _ => Ok(false),
+    }
+}
+
+/// Appends the bytes of hex digits and answers how many; None where they are not the digits of at least one byte, and
+/// then nothing has changed.
+fn decode_onto(digits: &[u8], bytes: &mut Vec<u8>) -> Result<Option<usize>, NoMemory>
+    ensures { IfOk result (λ count. IsDecoded digits.now count bytes.old.items bytes.new.items) }
+{
+    let before = bytes.len();
+    let count = digits.len() / 2;
+    if count == 0 {
+        return Ok(None);
+    }
+    bytes.resize(before + count, 0)?;
+    match hex::decode_to_slice(digits, &mut bytes[before..]) {
+        Ok(()) => Ok(Some(count)),
+        Err(_) => {
+            bytes.truncate(before);
+            Ok(None)
+        }
+    }
+}

@@ -1,0 +1,109 @@
+//! What stands in the bytes of an end, and in which line it ends.
+ghost use Rattle.std.specs.Prelude.{◌≡◌, ◌≤◌, ◌+◌, length, OnOk};
+
+use crate::capture_line::Sender;
+use jdwp_wire::{
+    FrameFault, HANDSHAKE, Next, NextHello, NoMemory, PacketRef, next_hello, next_packet,
+};
+
+/// A message of an end, or the frame fault behind its messages.
+#[derive(Clone, Copy, Debug)]
+pub(crate) enum Found<'a> {
+    Handshake,
+    Packet(PacketRef<'a>),
+    Fault(FrameFault),
+}
+
+/// What was found, and where.
+#[derive(Clone, Copy, Debug)]
+pub(crate) struct Item<'a> {
+    /// The number, from 1, of the line in which its last byte stands.
+    pub(crate) line: usize,
+    pub(crate) sender: Sender,
+    pub(crate) found: Found<'a>,
+}
+
+/// What an end sent, of which some bytes have come and those before `taken` belong to what was found.
+#[derive(Drop)]
+pub(crate) struct Stream<'a> {
+    bytes: &'a [u8],
+    come: usize,
+    taken: usize,
+    handshaken: bool,
+    faulty: bool,
+    ghost in_order: { taken ≤ come },
+    ghost there: { come ≤ length bytes.now },
+}
+
+impl<'a> Stream<'a> {
+    ghost use Rattle.jdwp_show.specs.Streams.{IsFresh, IsNext, IsCompleted};
+
+    pub(crate) fn new(bytes: &'a [u8]) -> Stream<'a>
+        ensures { IsFresh bytes.now result }
+    {
+        Stream {
+            bytes,
+            come: 0,
+            taken: 0,
+            handshaken: false,
+            faulty: false,
+        }
+    }
+
+    /// What stands next, if it is whole or shows a fault.
+    fn next_found(&mut self) -> Option<Found<'a>>
+        ensures { IsNext self.old result self.new }
+    {
+        if self.faulty {
+            return None;
+        }
+        let waiting = &self.bytes[self.taken..self.come];
+        if !self.handshaken {
+            return match next_hello(waiting) {
+                NextHello::More => None,
+                NextHello::Fault(fault) => {
+                    self.faulty = true;
+                    Some(Found::Fault(fault))
+                }
+                NextHello::Whole => {
+                    self.handshaken = true;
+                    self.taken += HANDSHAKE.len();
+                    Some(Found::Handshake)
+                }
+            };
+        }
+        match next_packet(waiting) {
+            Next::More => None,
+            Next::Fault(fault) => {
+                self.faulty = true;
+                Some(Found::Fault(fault))
+            }
+            Next::Whole(packet, used) => {
+                self.taken += used;
+                Some(Found::Packet(packet))
+            }
+        }
+    }
+
+    /// So many bytes more have come in this line: adds the items that they complete.
+    pub(crate) fn complete(
+        &mut self,
+        count: usize,
+        line: usize,
+        sender: Sender,
+        items: &mut Vec<Item<'a>>,
+    ) -> Result<(), NoMemory>
+        requires { self.old.come + count ≤ length self.old.bytes.now }
+        ensures { OnOk result (IsCompleted self.old count line sender items.old.items self.new items.new.items) }
+    {
+        self.come += count;
+        while let Some(found) = self.next_found() {
+            items.push(Item {
+                line,
+                sender,
+                found,
+            })?;
+        }
+        Ok(())
+    }
+}

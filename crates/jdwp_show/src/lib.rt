@@ -1,0 +1,22 @@
+//! Captures of sessions of the Java Debug Wire Protocol: judged by `check`, and shown in words by `show`.
+#![tactic(auto)]
+
+mod capture_fault;
+mod capture_line;
+mod checking;
+mod data_text;
+mod found;
+mod items;
+mod judging;
+mod pending;
+mod rules;
+mod showing;
+
+pub use capture_fault::CaptureFault;
+pub use checking::{Verdict, check};
+pub use showing::{Shown, show};
+
+#[cfg(test)]
+mod check_tests;
+#[cfg(test)]
+mod show_tests;

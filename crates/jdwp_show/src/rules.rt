@@ -1,0 +1,188 @@
+//! The rules of a session, and which of them an item breaks.
+ghost use Rattle.std.specs.Prelude.{◌≡◌};
+ghost use Rattle.jdwp_layout.specs.Shapes.{shape};
+ghost use Rattle.jdwp_show.specs.Data as laws;
+ghost use Rattle.jdwp_show.specs.Rules as rules;
+ghost use Rattle.jdwp_show.specs.Sessions as sessions;
+ghost use Rattle.jdwp_show.specs.Pending.{waiting_in};
+ghost use Rattle.jdwp_show.specs.Streams.{thing};
+
+use crate::capture_fault::CaptureFault;
+use crate::capture_line::Sender;
+use crate::found::{Found, Item};
+use crate::pending::{Command, Pending};
+use byteorder::{BigEndian, ByteOrder};
+use jdwp_layout::{Layout, layout_of, validate};
+use jdwp_wire::{DataFault, ErrorCode, IdSizes, PacketKind};
+
+/// The rule of frames, ends or ids that the item breaks.
+pub(crate) fn order_fault(pending: &Pending, item: &Item) -> Option<CaptureFault>
+    ensures { result ≡ rules.order_fault pending.now.begun (waiting_in pending.now) item.now.sender (thing item.now.found) }
+{
+    match item.found {
+        Found::Fault(fault) => Some(CaptureFault::Frame(fault)),
+        Found::Handshake => match item.sender {
+            Sender::Debugger => None,
+            Sender::Target if pending.begun() => None,
+            Sender::Target => Some(CaptureFault::WrongWay),
+        },
+        Found::Packet(packet) => {
+            let waits = pending.waiting(packet.header.id);
+            match item.sender {
+                Sender::Debugger => command_fault(waits, packet.header.kind),
+                Sender::Target => target_fault(waits, packet.header.kind),
+            }
+        }
+    }
+}
+
+fn command_fault(waits: Option<Command>, kind: PacketKind) -> Option<CaptureFault>
+    ensures { result ≡ rules.command_fault waits kind }
+{
+    match kind {
+        PacketKind::Reply { error: _ } => Some(CaptureFault::WrongWay),
+        PacketKind::Command { set, number: _ } => {
+            if set > 63 {
+                Some(CaptureFault::WrongWay)
+            } else if waits.is_some() {
+                Some(CaptureFault::IdInUse)
+            } else {
+                None
+            }
+        }
+    }
+}
+
+fn target_fault(waits: Option<Command>, kind: PacketKind) -> Option<CaptureFault>
+    ensures { result ≡ rules.target_fault waits kind }
+{
+    match kind {
+        PacketKind::Command { set, number } => {
+            if set == 64 && number == 100 {
+                None
+            } else {
+                Some(CaptureFault::WrongWay)
+            }
+        }
+        PacketKind::Reply { error: _ } => {
+            if waits.is_some() {
+                None
+            } else {
+                Some(CaptureFault::UnknownReply)
+            }
+        }
+    }
+}
+
+/// The rule of data that the item breaks, under these widths of ids.
+pub(crate) fn data_fault(
+    sizes: Option<IdSizes>,
+    pending: &Pending,
+    item: &Item,
+) -> Option<CaptureFault>
+    ensures { result ≡ rules.data_fault sizes (waiting_in pending.now) item.now.sender (thing item.now.found) }
+{
+    let Found::Packet(packet) = item.found else {
+        return None;
+    };
+    match packet.header.kind {
+        PacketKind::Command { set, number } => {
+            request_fault(sizes, Command { set, number }, packet.body).map(CaptureFault::BadData)
+        }
+        PacketKind::Reply { error } => match item.sender {
+            Sender::Debugger => None,
+            Sender::Target if error == ErrorCode::NONE => {
+                let waits = pending.waiting(packet.header.id);
+                reply_fault(sizes, waits, packet.body).map(CaptureFault::BadData)
+            }
+            Sender::Target if packet.body.is_empty() => None,
+            Sender::Target => Some(CaptureFault::ErrorWithData),
+        },
+    }
+}
+
+fn request_fault(sizes: Option<IdSizes>, command: Command, body: &[u8]) -> Option<DataFault>
+    ensures { result ≡ laws.request_fault sizes command body.now }
+{
+    let row = layout_of(command.set, command.number)?;
+    match row.layouts {
+        None => None,
+        Some(layouts) => layout_fault(sizes, &layouts.request, body),
+    }
+}
+
+fn reply_fault(sizes: Option<IdSizes>, waits: Option<Command>, body: &[u8]) -> Option<DataFault>
+    ensures { result ≡ laws.reply_fault sizes waits body.now }
+{
+    let command = waits?;
+    if is_id_sizes(command) {
+        return widths_in(body).err();
+    }
+    let row = layout_of(command.set, command.number)?;
+    match row.layouts {
+        None => None,
+        Some(layouts) => layout_fault(sizes, &layouts.reply, body),
+    }
+}
+
+/// The first fault of data under a layout; None where the widths are not known.
+fn layout_fault(sizes: Option<IdSizes>, layout: &Layout, body: &[u8]) -> Option<DataFault>
+    ensures { result ≡ laws.layout_fault sizes (shape layout.now) body.now }
+{
+    let sizes = sizes?;
+    match validate(layout, &sizes, body) {
+        Ok(()) => None,
+        Err(fault) => Some(fault),
+    }
+}
+
+fn is_id_sizes(command: Command) -> bool
+    ensures { result ≡ laws.is_id_sizes command }
+{
+    command.set == 1 && command.number == 7
+}
+
+/// The widths of ids that the item tells, if it is a reply without an error to VirtualMachine.IDSizes whose data read.
+pub(crate) fn told(pending: &Pending, item: &Item) -> Option<IdSizes>
+    ensures { result ≡ sessions.told (waiting_in pending.now) item.now.sender (thing item.now.found) }
+{
+    let Found::Packet(packet) = item.found else {
+        return None;
+    };
+    let PacketKind::Reply { error } = packet.header.kind else {
+        return None;
+    };
+    match item.sender {
+        Sender::Debugger => None,
+        Sender::Target => {
+            if error != ErrorCode::NONE {
+                return None;
+            }
+            match pending.waiting(packet.header.id) {
+                Some(command) if is_id_sizes(command) => widths_in(packet.body).ok(),
+                _ => None,
+            }
+        }
+    }
+}
+
+/// The widths in the data of a reply to VirtualMachine.IDSizes: five ints.
+fn widths_in(body: &[u8]) -> Result<IdSizes, DataFault>
+    ensures { result ≡ laws.widths_in body.now }
+{
+    if body.len() < 20 {
+        return Err(DataFault::Short(body.len()));
+    }
+    if body.len() > 20 {
+        return Err(DataFault::Extra(20));
+    }
+    let field = BigEndian::read_u32(body);
+    let method = BigEndian::read_u32(&body[4..]);
+    let object = BigEndian::read_u32(&body[8..]);
+    let reference = BigEndian::read_u32(&body[12..]);
+    let frame = BigEndian::read_u32(&body[16..]);
+    match IdSizes::new(field, method, object, reference, frame) {
+        Ok(sizes) => Ok(sizes),
+        Err(_) => Err(DataFault::BadSize),
+    }
+}
