@@ -1,6 +1,6 @@
 -- What is read under a layout is what bytes encode, and the fault that is answered is the first.
-use Rattle.std.proofs.Common.{◌≡◌, ℕ, ℤ, ◌<◌, ◌-◌, ◌+◌, ◌≤◌, Bool, true, false, cond, eqb, List, [], ◌∷◌, ◌++◌, length, Option, Some, None, Result, Ok, Err, refl, sym, ap, subst, ◌∙◌, append_assoc, arith, inl, inr}
-use Rattle.std.specs.Prelude.{◌⊎◌, ◌↔◌, IsOk, IfOk, IfErr}
+use Rattle.std.proofs.Common.{◌≡◌, ℕ, ◌-◌, ◌+◌, ◌≤◌, true, false, cond, eqb, List, [], ◌∷◌, ◌++◌, length, Option, Some, None, Result, Ok, Err, refl, sym, ap, subst, ◌∙◌, arith, inl, inr}
+use Rattle.std.specs.Prelude.{◌↔◌, IsOk, IfOk, IfErr}
 use Rattle.std.proofs.lemmas.Bool.{eqb-true}
 use Rattle.std.proofs.lemmas.Bool.Decides.{eqb_tells}
 use Rattle.std.proofs.lemmas.List.{append-nil, nil_from_length, length-append}
@@ -9,27 +9,24 @@ use Rattle.jdwp_wire.specs.declared.data_fault.DataFault.{DataFault}
 use Rattle.jdwp_wire.specs.declared.data_fault.DataFault.TheVariants.{Short, BadTag, NegativeCount, NotUtf8, BadSize, IdTooWide, NoMemory, Extra}
 use Rattle.jdwp_wire.specs.Widths.{Widths}
 use Rattle.jdwp_wire.specs.Bytes.{IsBytes}
-use Rattle.jdwp_wire.specs.Reading.{◌>>=◌, Reader, Encoding, Faults, Gives, Fails, Blames}
-use Rattle.jdwp_wire.specs.Sequence.{Made, Then, Always}
-use Rattle.jdwp_wire.specs.Basic.{EncodesByte, ByteFault, EncodesBool, EncodesInt, EncodesLong}
+use Rattle.jdwp_wire.specs.Reading.{Encoding, Gives, Fails, Blames}
+use Rattle.jdwp_wire.specs.Sequence.{Made}
+use Rattle.jdwp_wire.specs.Basic.{EncodesByte, EncodesBool, EncodesInt, EncodesLong}
 use Rattle.jdwp_wire.specs.BasicLaws.{byte_codes, bool_codes, int_codes, long_codes}
-use Rattle.jdwp_wire.specs.Numbers.{EncodesNumber, NumberFault}
+use Rattle.jdwp_wire.specs.Numbers.{EncodesNumber}
 use Rattle.jdwp_wire.specs.NumberLaws.{number_codes, id_unrefused}
-use Rattle.jdwp_wire.specs.Text.{EncodesText, TextFault}
+use Rattle.jdwp_wire.specs.Text.{EncodesText}
 use Rattle.jdwp_wire.specs.TextLaws.{text_codes, text_unrefused}
-use Rattle.jdwp_wire.specs.Each.{EncodesEach, EachFault}
+use Rattle.jdwp_wire.specs.Each.{EncodesEach}
 use Rattle.jdwp_wire.specs.EachLaws.{each_codes}
-use Rattle.jdwp_wire.specs.Listed.{EncodesList, ListFault}
+use Rattle.jdwp_wire.specs.Listed.{EncodesList}
 use Rattle.jdwp_wire.specs.ListedLaws.{list_codes, list_unrefused}
 use Rattle.jdwp_wire.specs.Codes.{Codes, seq_codes, mapped_codes, refuse_codes, codes_as, bind_ok, bind_err, must_ok, ok_is, err_is}
-use Rattle.jdwp_value.specs.declared.location.Location.{Location}
-use Rattle.jdwp_value.specs.declared.value.TaggedId.{TaggedId}
-use Rattle.jdwp_value.specs.declared.value.Value.{Value}
 use Rattle.jdwp_value.specs.Locations.{EncodesLocation}
 use Rattle.jdwp_value.specs.LocationLaws.{location_codes, location_unrefused}
 use Rattle.jdwp_value.specs.Values.{EncodesTaggedId, EncodesValue}
 use Rattle.jdwp_value.specs.ValueLaws.{tagged_id_codes, tagged_id_unrefused, value_codes, value_unrefused}
-use Rattle.jdwp_value.specs.Regions.{Region, EncodesRegion}
+use Rattle.jdwp_value.specs.Regions.{EncodesRegion}
 use Rattle.jdwp_value.specs.RegionLaws.{region_codes, region_unrefused}
 use Rattle.jdwp_layout.specs.declared.item.Field.{Field}
 use Rattle.jdwp_layout.specs.declared.item.Field.TheVariants as field
@@ -37,10 +34,10 @@ use Rattle.jdwp_layout.specs.declared.datum.Datum.{Datum}
 use Rattle.jdwp_layout.specs.ModifiersAndEvents.{modifier_fields, event_fields}
 use Rattle.jdwp_layout.specs.Shapes.{EntryShape, Fields, Modifiers, Events, ItemShape, OneOf, ListOf, RegionOf}
 use Rattle.jdwp_layout.specs.Meanings.{ScalarMeaning, Byte, Boolean, Int, Long, Text, Object, ReferenceType, Method, OfField, Frame, Located, Valued, Tagged, DatumMeaning, One, Many, Elements, meanings}
-use Rattle.jdwp_layout.specs.Grammar.{kind_of, EncodesScalar, EncodesField, FieldFault, EncodesFields, FieldsFault, EncodesFieldsOf, EncodesKind, FieldsOfFault, KindFault, EncodesEntry, EntryFault, EncodesItem, ItemFault, EncodesData, ItemsFault, LeftOver, DataFaults}
+use Rattle.jdwp_layout.specs.Grammar.{kind_of, EncodesScalar, EncodesField, FieldFault, EncodesFields, FieldsFault, EncodesKind, FieldsOfFault, KindFault, EncodesEntry, EntryFault, EncodesItem, ItemFault, EncodesData, ItemsFault, DataFaults}
 use Rattle.jdwp_layout.specs.Reads.{field_at, fields_at, fields_of_at, kind_at, entry_at, item_at, items_at, data_at}
 use Rattle.jdwp_layout.specs.Skips.{Judges}
-use Rattle.jdwp_layout.specs.Writes.{each_refusal, field_refusal, fields_refusal, fields_of_refusal, kind_refusal, entry_refusal, item_refusal, data_refusal}
+use Rattle.jdwp_layout.specs.Writes.{each_refusal, field_refusal, kind_refusal, entry_refusal, item_refusal, data_refusal}
 
 -- ---- fields
 

@@ -1,59 +1,15 @@
 -- Reading that keeps nothing: what follows a value is what follows its bytes.
-use Rattle.std.proofs.Common.{◌≡◌, ℕ, zero, suc, ◌+◌, ◌-◌, ◌≤◌, ◌<◌, Bool, true, false, cond, ltb, List, [], ◌∷◌, ◌++◌, length, get_or, drop, Option, Some, None, Result, Ok, Err, refl, sym, ap, subst, ◌∙◌, arith}
-use Rattle.std.specs.Prelude.{IfErr, IsOk, ◌↔◌}
-use Rattle.std.proofs.lemmas.Bool.{le-ltb}
-use Rattle.std.proofs.lemmas.List.{drop_more, drop_all, get_or_default}
+use Rattle.std.proofs.Common.{◌≡◌, ℕ, suc, ◌+◌, ◌-◌, ◌<◌, List, ◌∷◌, length, get_or, drop, Result, Ok, Err, refl, sym, ap, ◌∙◌, arith}
+use Rattle.std.proofs.lemmas.List.{drop_more, get_or_default}
 use Rattle.jdwp_wire.specs.declared.data_fault.DataFault.{DataFault}
-use Rattle.jdwp_wire.specs.declared.data_fault.DataFault.TheVariants.{Short, Extra, BadTag, NegativeCount, NotUtf8, BadSize, IdTooWide, NoMemory}
-use Rattle.jdwp_wire.specs.Widths.{Widths}
 use Rattle.jdwp_wire.specs.Reading.{◌>>=◌, Reader, Fails}
-use Rattle.jdwp_wire.specs.Sequence.{mapped}
-use Rattle.jdwp_wire.specs.Basic.{byte_at, bool_at}
-use Rattle.jdwp_wire.specs.Numbers.{number_at}
 use Rattle.jdwp_wire.specs.Each.{each_at, times_at}
 use Rattle.jdwp_wire.proofs.Loop.{fails_along}
-use Rattle.jdwp_value.specs.declared.tag.Tag.{Tag}
-use Rattle.jdwp_value.specs.declared.tag.Tag.TheVariants as tag
-use Rattle.jdwp_value.specs.declared.value.Value.TheVariants as value
-use Rattle.jdwp_value.specs.Values.{width_of, untagged_at, tagged_id_at}
-use Rattle.jdwp_layout.specs.Skips.{passed, skipped}
+use Rattle.jdwp_layout.specs.Skips.{passed}
 
 pub passed_mapped : {A B : Type 0} (make : A → B) (decoded : Result (A × List ℕ) DataFault) → passed (decoded >>= λ x. Ok (make x.0, x.1)) ≡ passed decoded
 passed_mapped make (Ok x) = refl
 passed_mapped make (Err e) = refl
-
-passed_test : (b : Bool) (d : DataFault) (x : ℕ × List ℕ) → passed (cond b (Err d) (Ok x)) ≡ cond b (Err d) (Ok x.1)
-passed_test true d x = refl
-passed_test false d x = refl
-
-pub passed_number : (width whole : ℕ) (bytes : List ℕ) → passed (number_at width whole bytes) ≡ skipped width whole bytes
-passed_number width whole bytes = passed_test (ltb (length bytes) width) (Short whole) _
-
-pub passed_byte : (whole : ℕ) (bytes : List ℕ) → passed (byte_at whole bytes) ≡ skipped 1 whole bytes
-passed_byte whole [] = refl
-passed_byte whole (b ∷ bytes) = let long : ltb (length (b ∷ bytes)) 1 ≡ false = le-ltb (length (b ∷ bytes)) 1 (omega arith) in rw long refl
-
-pub passed_bool : (whole : ℕ) (bytes : List ℕ) → passed (bool_at whole bytes) ≡ skipped 1 whole bytes
-passed_bool whole [] = refl
-passed_bool whole (zero ∷ bytes) = let long : ltb (length (0 ∷ bytes)) 1 ≡ false = le-ltb (length (0 ∷ bytes)) 1 (omega arith) in rw long refl
-passed_bool whole (suc b ∷ bytes) = let long : ltb (length (suc b ∷ bytes)) 1 ≡ false = le-ltb (length (suc b ∷ bytes)) 1 (omega arith) in rw long refl
-
--- a value without its tag has the bytes that its tag calls for
-pub passed_untagged : (w : Widths) (whole : ℕ) (t : Tag) (bytes : List ℕ) → passed (untagged_at w whole t bytes) ≡ skipped (width_of w t) whole bytes
-passed_untagged w whole tag.Byte bytes = passed_mapped _ (number_at 1 whole bytes) ∙ passed_number 1 whole bytes
-passed_untagged w whole tag.Char bytes = passed_mapped _ (number_at 2 whole bytes) ∙ passed_number 2 whole bytes
-passed_untagged w whole tag.Double bytes = passed_mapped _ (number_at 8 whole bytes) ∙ passed_number 8 whole bytes
-passed_untagged w whole tag.Float bytes = passed_mapped _ (number_at 4 whole bytes) ∙ passed_number 4 whole bytes
-passed_untagged w whole tag.Int bytes = passed_mapped _ (number_at 4 whole bytes) ∙ passed_number 4 whole bytes
-passed_untagged w whole tag.Long bytes = passed_mapped _ (number_at 8 whole bytes) ∙ passed_number 8 whole bytes
-passed_untagged w whole tag.Short bytes = passed_mapped _ (number_at 2 whole bytes) ∙ passed_number 2 whole bytes
-passed_untagged w whole tag.Void bytes = let long : ltb (length bytes) 0 ≡ false = le-ltb (length bytes) 0 (omega arith) in rw long refl
-passed_untagged w whole tag.Boolean bytes = passed_mapped _ (bool_at whole bytes) ∙ passed_bool whole bytes
-passed_untagged w whole (tag.Object kind) bytes = passed_mapped _ (number_at w.object whole bytes) ∙ passed_number w.object whole bytes
-
--- an element of a region of objects is a tagged id, and one of another region a value without its tag
-pub passed_object : (w : Widths) (whole : ℕ) (bytes : List ℕ) → passed (mapped (λ x. value.Object x) (tagged_id_at w whole) bytes) ≡ passed (tagged_id_at w whole bytes)
-passed_object w whole bytes = passed_mapped (λ x. value.Object x) (tagged_id_at w whole bytes)
 
 -- ---- one after another
 
@@ -110,8 +66,3 @@ module _ {A X : Type 0} (decode : A → Reader X) where
 pub value_of : {X : Type 0} (decoded : Result (X × List ℕ) DataFault) (rest : List ℕ) → passed decoded ≡ Ok rest → (x : X) × (decoded ≡ Ok (x, rest))
 value_of {X = X} (Ok (x, after)) rest e = let is : after ≡ rest = cc in (x, ap (λ (r : List ℕ). Ok (x, r)) is)
 value_of (Err f) rest e = absurd cc
-
--- the fault that was found
-pub fault_of : {X : Type 0} (decoded : Result (X × List ℕ) DataFault) (f : DataFault) → passed decoded ≡ Err f → decoded ≡ Err f
-fault_of (Ok x) f e = absurd cc
-fault_of {X = X} (Err d) f e = let is : d ≡ f = cc in ap (λ (g : DataFault). Err g) is

@@ -1,10 +1,10 @@
 -- Writing one item after another, as a loop does: what was written so far, and what is left.
-use Rattle.std.proofs.Common.{◌≡◌, ℕ, ◌+◌, ◌≤◌, ◌<◌, ◌-◌, List, [], ◌∷◌, ◌++◌, length, get_or, take, drop, map, Option, Some, None, refl, sym, ap, subst, ◌∙◌, append_assoc, arith}
+use Rattle.std.proofs.Common.{◌≡◌, ℕ, ◌≤◌, ◌<◌, ◌-◌, List, [], ◌∷◌, ◌++◌, length, get_or, take, drop, map, Option, Some, None, refl, sym, ap, subst, ◌∙◌, append_assoc, arith}
 use Rattle.std.specs.List.{flat_map}
-use Rattle.std.proofs.lemmas.List.{append-nil, length-append, take_at, take_all, take-take}
+use Rattle.std.proofs.lemmas.List.{length-append, take_at, take_all, take-take}
 use Rattle.jdwp_wire.specs.declared.data_fault.DataFault.{DataFault}
 use Rattle.jdwp_wire.specs.declared.data_fault.DataFault.TheVariants.{Short, BadTag, NegativeCount, NotUtf8, BadSize, IdTooWide, NoMemory, Extra}
-use Rattle.jdwp_wire.specs.Reading.{Encoding, Written, Refused, first_of_two}
+use Rattle.jdwp_wire.specs.Reading.{Encoding, Refused, first_of_two}
 use Rattle.jdwp_wire.specs.Each.{EncodesEach, EncodesAll}
 use Rattle.jdwp_wire.specs.Listed.{first_refusal}
 use Rattle.jdwp_layout.specs.Writes.{each_refusal}
@@ -61,9 +61,6 @@ pub record Progress {S : Type 0} (encodes : S → List ℕ → Type 0) (canonica
   pub refused : refusal left ≡ refusal all
 
 module _ {S : Type 0} (encodes : S → List ℕ → Type 0) (canonical : S → List ℕ) (refusal : S → Option DataFault) (all : S) (old : List ℕ) where
-  pub begin : Progress encodes canonical refusal all old all old
-  begin = record { code = []; written = sym (append-nil old); canonical_is = refl; encoded = λ more s. s; refused = refl }
-
   pub go_on : (left next : S) (now new one : List ℕ) → canonical left ≡ one ++ canonical next → ((more : List ℕ) → encodes next more → encodes left (one ++ more)) → refusal left ≡ refusal next
       → new ≡ now ++ one → Progress encodes canonical refusal all old left now → Progress encodes canonical refusal all old next new
   go_on left next now new one canonical_step encodes_step refusal_step step p = record {
@@ -74,25 +71,11 @@ module _ {S : Type 0} (encodes : S → List ℕ → Type 0) (canonical : S → L
     refused = sym refusal_step ∙ p.refused;
   }
 
-  pub finish : (left : S) (now : List ℕ) → canonical left ≡ [] → encodes left [] → Progress encodes canonical refusal all old left now → Written (encodes all) (canonical all) old now
-  finish left now none done p =
-      let is : p.code ++ [] ≡ canonical all = ap (λ (x : List ℕ). p.code ++ x) (sym none) ∙ sym p.canonical_is in
-      (subst (λ (x : List ℕ). encodes all x) is (p.encoded [] done), p.written ∙ ap (λ (x : List ℕ). old ++ x) (sym (append-nil p.code) ∙ is))
-
   pub kept : (left : S) (now new : List ℕ) → take (length now) new ≡ now → Progress encodes canonical refusal all old left now → take (length old) new ≡ old
   kept left now new before p = kept_through old p.code now new p.written before
 
   pub stands : (left : S) (now : List ℕ) → Progress encodes canonical refusal all old left now → take (length old) now ≡ old
   stands left now p = ap (take (length old)) p.written ∙ take_at old p.code (length old) refl
-
-  -- where there is room for all, there is room for the next
-  pub room : (left next : S) (now one : List ℕ) (before after : ℕ) → canonical left ≡ one ++ canonical next → before ≤ after → length old + length (canonical all) ≤ before
-      → Progress encodes canonical refusal all old left now → length now + length one ≤ after
-  room left next now one before after step grown fits p =
-      let a = ap (λ (x : List ℕ). length x) p.written ∙ length-append old p.code in
-      let b = ap (λ (x : List ℕ). length x) (p.canonical_is ∙ ap (λ (x : List ℕ). p.code ++ x) step) ∙ length-append p.code (one ++ canonical next) in
-      let c = length-append one (canonical next) in
-      omega (arith, a, b, c, grown, fits)
 
 -- ---- one value for each key
 
@@ -110,16 +93,10 @@ module _ {A X : Type 0} (encodes : A → Encoding X) (canonical : X → List ℕ
   abbrev all_refusal : List A × List X → Option DataFault
   all_refusal s = each_refusal refusal s.0 s.1
 
-  pub each_begin : EachProgress encodes canonical refusal ks xs old ks xs old
-  each_begin = begin all_encodes all_canonical all_refusal (ks, xs) old
-
   pub each_go_on : (k : A) (ks_left : List A) (x : X) (xs_left : List X) (now new : List ℕ) → encodes k x (canonical x) → refusal k x ≡ None → new ≡ now ++ canonical x
       → EachProgress encodes canonical refusal ks xs old (k ∷ ks_left) (x ∷ xs_left) now → EachProgress encodes canonical refusal ks xs old ks_left xs_left new
   each_go_on k ks_left x xs_left now new one none step p =
       go_on all_encodes all_canonical all_refusal (ks, xs) old (k ∷ ks_left, x ∷ xs_left) (ks_left, xs_left) now new (canonical x) refl (λ more s. (canonical x, more, one, s, refl)) (rw none refl) step p
-
-  pub each_finish : (now : List ℕ) → EachProgress encodes canonical refusal ks xs old [] [] now → Written (EncodesEach encodes ks xs) (flat_map canonical xs) old now
-  each_finish now p = finish all_encodes all_canonical all_refusal (ks, xs) old ([], []) now refl refl p
 
   pub each_stands : (ks_left : List A) (xs_left : List X) (now : List ℕ) → EachProgress encodes canonical refusal ks xs old ks_left xs_left now → take (length old) now ≡ old
   each_stands ks_left xs_left now p = stands all_encodes all_canonical all_refusal (ks, xs) old (ks_left, xs_left) now p
@@ -133,19 +110,11 @@ module _ {A X : Type 0} (encodes : A → Encoding X) (canonical : X → List ℕ
   pub each_short : (k : A) (ks_left : List A) (now : List ℕ) → EachProgress encodes canonical refusal ks xs old (k ∷ ks_left) [] now → each_refusal refusal ks xs ≡ Some BadSize
   each_short k ks_left now p = sym p.refused
 
-  -- a value is too many
-  pub each_long : (x : X) (xs_left : List X) (now : List ℕ) → EachProgress encodes canonical refusal ks xs old [] (x ∷ xs_left) now → each_refusal refusal ks xs ≡ Some BadSize
-  each_long x xs_left now p = sym p.refused
-
   pub each_kept : (ks_left : List A) (xs_left : List X) (now new : List ℕ) → take (length now) new ≡ now → EachProgress encodes canonical refusal ks xs old ks_left xs_left now → take (length old) new ≡ old
   each_kept ks_left xs_left now new before p = kept all_encodes all_canonical all_refusal (ks, xs) old (ks_left, xs_left) now new before p
 
   pub each_stop : (e : DataFault) (k : A) (ks_left : List A) (x : X) (xs_left : List X) (now : List ℕ) → Refused e (refusal k x) → EachProgress encodes canonical refusal ks xs old (k ∷ ks_left) (x ∷ xs_left) now → Refused e (each_refusal refusal ks xs)
   each_stop e k ks_left x xs_left now r p = refused_along e (first_of_two (refusal k x) (each_refusal refusal ks_left xs_left)) (each_refusal refusal ks xs) p.refused (refused_first e (refusal k x) (each_refusal refusal ks_left xs_left) r)
-
-  pub each_room : (k : A) (ks_left : List A) (x : X) (xs_left : List X) (now : List ℕ) (before after : ℕ) → before ≤ after → length old + length (flat_map canonical xs) ≤ before
-      → EachProgress encodes canonical refusal ks xs old (k ∷ ks_left) (x ∷ xs_left) now → length now + length (canonical x) ≤ after
-  each_room k ks_left x xs_left now before after grown fits p = room all_encodes all_canonical all_refusal (ks, xs) old (k ∷ ks_left, x ∷ xs_left) (ks_left, xs_left) now (canonical x) before after refl grown fits p
 
 -- ---- values of one kind
 
@@ -154,23 +123,13 @@ AllProgress {X = X} encodes canonical refusal xs old xs_left now =
     Progress {S = List X} (EncodesAll encodes) (flat_map canonical) (first_refusal refusal) xs old xs_left now
 
 module _ {X : Type 0} (encodes : Encoding X) (canonical : X → List ℕ) (refusal : X → Option DataFault) (xs : List X) (old : List ℕ) where
-  pub all_begin : AllProgress encodes canonical refusal xs old xs old
-  all_begin = begin (EncodesAll encodes) (flat_map canonical) (first_refusal refusal) xs old
-
   pub all_go_on : (x : X) (xs_left : List X) (now new : List ℕ) → encodes x (canonical x) → refusal x ≡ None → new ≡ now ++ canonical x
       → AllProgress encodes canonical refusal xs old (x ∷ xs_left) now → AllProgress encodes canonical refusal xs old xs_left new
   all_go_on x xs_left now new one none step p =
       go_on (EncodesAll encodes) (flat_map canonical) (first_refusal refusal) xs old (x ∷ xs_left) xs_left now new (canonical x) refl (λ more s. (canonical x, more, one, s, refl)) (rw none refl) step p
-
-  pub all_finish : (now : List ℕ) → AllProgress encodes canonical refusal xs old [] now → Written (EncodesAll encodes xs) (flat_map canonical xs) old now
-  all_finish now p = finish (EncodesAll encodes) (flat_map canonical) (first_refusal refusal) xs old [] now refl refl p
 
   pub all_kept : (xs_left : List X) (now new : List ℕ) → take (length now) new ≡ now → AllProgress encodes canonical refusal xs old xs_left now → take (length old) new ≡ old
   all_kept xs_left now new before p = kept (EncodesAll encodes) (flat_map canonical) (first_refusal refusal) xs old xs_left now new before p
 
   pub all_stop : (e : DataFault) (x : X) (xs_left : List X) (now : List ℕ) → Refused e (refusal x) → AllProgress encodes canonical refusal xs old (x ∷ xs_left) now → Refused e (first_refusal refusal xs)
   all_stop e x xs_left now r p = refused_along e (first_of_two (refusal x) (first_refusal refusal xs_left)) (first_refusal refusal xs) p.refused (refused_first e (refusal x) (first_refusal refusal xs_left) r)
-
-  pub all_room : (x : X) (xs_left : List X) (now : List ℕ) (before after : ℕ) → before ≤ after → length old + length (flat_map canonical xs) ≤ before
-      → AllProgress encodes canonical refusal xs old (x ∷ xs_left) now → length now + length (canonical x) ≤ after
-  all_room x xs_left now before after grown fits p = room (EncodesAll encodes) (flat_map canonical) (first_refusal refusal) xs old (x ∷ xs_left) xs_left now (canonical x) before after refl grown fits p

@@ -1,7 +1,6 @@
 -- What bytes encode under a layout, and the first fault of bytes that encode nothing (JDWP specification, "Data Types"
 -- and "Protocol Details").
-use Rattle.std.specs.Prelude.{◌≡◌, ℕ, ◌<◌, List, [], ◌∷◌, ◌++◌, length, Option, Some, None, ◌⊎◌}
-use Rattle.jdwp_wire.specs.declared.data_fault.DataFault.{DataFault}
+use Rattle.std.specs.Prelude.{◌≡◌, ℕ, ◌<◌, List, ◌∷◌, ◌++◌, length, Option, Some, None, ◌⊎◌}
 use Rattle.jdwp_wire.specs.declared.data_fault.DataFault.TheVariants.{BadTag, Extra}
 use Rattle.jdwp_wire.specs.Widths.{Widths}
 use Rattle.jdwp_wire.specs.Reading.{Encoding, Faults}

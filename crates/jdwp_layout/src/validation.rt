@@ -32,13 +32,15 @@ pub fn validate(layout: &Layout, sizes: &IdSizes, bytes: &[u8]) -> Result<(), Da
     ensures fault { IfErr result (λ f. DataFaults sizes.now (shape layout.now) bytes.now f) }
     // It is that of reading.
     ensures value { Judges result (data_at sizes.now (shape layout.now) bytes.now) }
+    ensures memory { IsErrOf result NoMemory → ⊥ }
 {
     skip_whole(layout.items, sizes, bytes)
 }
 
 /// Whether the whole slice encodes data under these items.
 fn skip_whole(items: &[Item], sizes: &IdSizes, bytes: &[u8]) -> Result<(), DataFault>
-    ensures { Judges result (data_at sizes.now (shapes items.now) bytes.now) }
+    ensures value { Judges result (data_at sizes.now (shapes items.now) bytes.now) }
+    ensures memory { IsErrOf result NoMemory → ⊥ }
 {
     let rest = skip_items(items, bytes, bytes.len(), sizes)?;
     if !rest.is_empty() {

@@ -1,4 +1,4 @@
-use Rattle.std.proofs.Common.{subst, arith, ◌≡◌, Ok}
+use Rattle.std.proofs.Common.{subst, arith}
 use Rattle.jdwp_wire.specs.Reading.{Gives}
 use Rattle.jdwp_layout.specs.Shapes.{shape}
 use Rattle.jdwp_layout.specs.Meanings.{meanings}

@@ -1,4 +1,4 @@
-use Rattle.std.proofs.Common.{ap, sym, ◌∙◌, arith, subst}
+use Rattle.std.proofs.Common.{ap, sym, arith, subst}
 use Rattle.std.specs.Str.{IsUtf8}
 use Rattle.jdwp_wire.proofs.Texts.{text_reads, text_refuses}
 use Rattle.jdwp_layout.specs.Skips.{passed}

@@ -11,8 +11,8 @@ overflow_sub-result c =
     let x = value_of (items_at c.args.sizes.now whole (shapes c.args.items.now) c.args.bytes.now) c.in_ok-rest.rest.now c.in_ok-rest.ensures.value in
     rest_within c.args.sizes.now whole (shapes c.args.items.now) c.args.bytes.now x.0 c.in_ok-rest.rest.now (λ i. omega (arith, c.type_inv.bytes i)) x.1
 
-pub returns : goal.returns
-returns c =
+pub returns-clause-value : goal.returns-clause-value
+returns-clause-value c =
     let whole = length c.args.bytes.now in
     let x = value_of (items_at c.args.sizes.now whole (shapes c.args.items.now) c.args.bytes.now) c.in_ok-rest.rest.now c.in_ok-rest.ensures.value in
     (x.0, whole_read c.args.sizes.now (shapes c.args.items.now) c.args.bytes.now x.0 c.in_ok-rest.rest.now x.1 (sym c.is_empty.ensures ∙ c.if-not-is_empty.false))

@@ -1,4 +1,4 @@
-use Rattle.std.proofs.Common.{◌≡◌, ◌+◌, ◌-◌, ◌<◌, ◌≤◌, ◌∷◌, length, get_or, take, drop, sym, arith, subst, vec_capacity}
+use Rattle.std.proofs.Common.{◌+◌, ◌-◌, ◌∷◌, length, get_or, take, drop, arith}
 use Rattle.std.proofs.lemmas.Result.{err_from_is_err_and}
 use Rattle.std.proofs.lemmas.List.{drop_more}
 use Rattle.jdwp_layout.specs.declared.item.Field.TheVariants as field
