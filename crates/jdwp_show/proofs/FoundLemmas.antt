@@ -1,20 +1,21 @@
 -- What stands in the bytes of an end, step by step, and that more bytes only add to it.
-use Rattle.std.proofs.Common.{◌≡◌, ◌≢◌, ℕ, zero, suc, ◌+◌, ◌-◌, ◌^◌, ◌<◌, ◌≤◌, Bool, true, false, cond, List, [], ◌∷◌, ◌++◌, length, take, drop, get_or, refl, sym, ap, ◌∙◌, subst, arith, rules, append_assoc, lit<}
-use Rattle.std.proofs.lemmas.List.{append-nil, take-append-le, drop-append-le, get_or_append_left, drop-drop, drop-take, length-append, length-drop, length-take, nil_from_length, drop_at}
+use Rattle.std.proofs.Common.{◌≡◌, ℕ, zero, suc, ◌+◌, ◌-◌, ◌<◌, ◌≤◌, Bool, true, false, cond, eqb, ltb, ◌||◌, ◌⊎◌, inl, inr, List, [], ◌∷◌, ◌++◌, length, take, drop, get_or, refl, sym, ap, ◌∙◌, arith, append_assoc, lit<}
+use Rattle.std.proofs.lemmas.Bool.{ltb-false, le-ltb}
+use Rattle.std.proofs.lemmas.List.{append-nil, take-append-le, drop-append-le, get_or_append_left, drop-drop, drop-take, length-append, length-drop, length-take, nil_from_length}
 use Rattle.byteorder.specs.Endian.{big_number}
 use Rattle.byteorder.specs.Numbers.{big_from-append}
 use Rattle.jdwp_wire.specs.declared.frame.FrameFault.{FrameFault}
 use Rattle.jdwp_wire.specs.declared.frame.FrameFault.TheVariants.{ShortLength, TooLong, BadFlags, BadHandshake}
 use Rattle.jdwp_wire.specs.declared.frame.NextHello.{NextHello}
 use Rattle.jdwp_wire.specs.declared.frame.NextHello.TheVariants as hello
-use Rattle.jdwp_wire.specs.declared.frame.TheConstants.{HANDSHAKE, PACKET_LIMIT}
+use Rattle.jdwp_wire.specs.declared.frame.TheConstants.{HANDSHAKE}
 use Rattle.jdwp_wire.specs.declared.packet.Header.{Header}
-use Rattle.jdwp_wire.specs.Frames.{FrontOf, Front, front, packet_bytes, length_field, flags_field}
+use Rattle.jdwp_wire.specs.Frames.{FrontOf, Front, front, packet_bytes, length_field, flags_field, header_of, whole_or_more, flagged, measured}
 use Rattle.jdwp_wire.specs.Frames as frames
 use Rattle.jdwp_wire.specs.FrameLaws.{front_only, whole_is}
 use Rattle.jdwp_wire.specs.Handshake.{HandshakeFrontOf, handshake_front}
 use Rattle.jdwp_wire.specs.HandshakeLaws.{handshake_front_is, handshake_front_only}
-use Rattle.jdwp_wire.specs.Streams.{Message, Handshake, Packet, NextMessage, Whole, More, Fault, next_message, after_handshake, at_handshake}
+use Rattle.jdwp_wire.specs.Streams.{Handshake, Packet, NextMessage, Whole, More, Fault, next_message, after_handshake, at_handshake}
 use Rattle.jdwp_show.specs.Found.{Found, Sent, Faulty, found_at, found_within, found_after}
 
 -- ---- a message that is whole is not empty, and is there
@@ -172,3 +173,129 @@ packet_length bytes h body used f =
     let low = w.low in
     let there = w.there in
     (omega arith, there)
+
+-- ---- what is found stays found when more bytes come
+
+-- More are called for, or what is there stays as it is.
+abbrev Stays : (List ℕ → Front) → List ℕ → List ℕ → Type 0
+Stays read bytes more = (read bytes ≡ frames.More) ⊎ (read (bytes ++ more) ≡ read bytes)
+
+long_stays : (n : ℕ) (bytes more : List ℕ) → ltb (length bytes) n ≡ false → ltb (length (bytes ++ more)) n ≡ false
+long_stays n bytes more e =
+    let there : n ≤ length bytes = ltb-false _ _ e in
+    le-ltb _ _ (omega (arith, length-append bytes more))
+
+number_stays : (width n : ℕ) (bytes more : List ℕ) → n + width ≤ length bytes → big_number width (drop n (bytes ++ more)) ≡ big_number width (drop n bytes)
+number_stays width n bytes more le =
+    ap (λ (x : List ℕ). big_number width x) (drop-append-le n bytes more (omega arith)) ∙ big_from-append width (drop n bytes) more (omega (arith, length-drop n bytes))
+
+header_stays : (n : ℕ) (bytes more : List ℕ) → 11 ≤ length bytes → header_of n (bytes ++ more) ≡ header_of n bytes
+header_stays n bytes more le =
+    let id : big_number 4 (drop 4 (bytes ++ more)) ≡ big_number 4 (drop 4 bytes) = number_stays 4 4 bytes more (omega arith) in
+    let error : big_number 2 (drop 9 (bytes ++ more)) ≡ big_number 2 (drop 9 bytes) = number_stays 2 9 bytes more (omega arith) in
+    let flags : get_or (bytes ++ more) 8 0 ≡ get_or bytes 8 0 = get_or_append_left bytes more 0 8 (omega arith) in
+    let set : get_or (bytes ++ more) 9 0 ≡ get_or bytes 9 0 = get_or_append_left bytes more 0 9 (omega arith) in
+    let number : get_or (bytes ++ more) 10 0 ≡ get_or bytes 10 0 = get_or_append_left bytes more 0 10 (omega arith) in
+    rw (id, error, flags, set, number) refl
+
+whole_stays : (n : ℕ) (bytes more : List ℕ) → 11 ≤ n → (short : Bool) → ltb (length bytes) n ≡ short → Stays (whole_or_more n) bytes more
+whole_stays n bytes more low true e = inl (rw e refl)
+whole_stays n bytes more low false e =
+    let there : n ≤ length bytes = ltb-false _ _ e in
+    let header : header_of n (bytes ++ more) ≡ header_of n bytes = header_stays n bytes more (omega arith) in
+    let body : take (n - 11) (drop 11 (bytes ++ more)) ≡ take (n - 11) (drop 11 bytes) =
+    ap (λ (x : List ℕ). take (n - 11) x) (drop-append-le 11 bytes more (omega arith)) ∙ take-append-le (n - 11) (drop 11 bytes) more (omega (arith, length-drop 11 bytes)) in
+    inr (rw (e, long_stays n bytes more e, header, body) refl)
+
+abbrev are_flags : ℕ → Bool
+are_flags flags = eqb flags 0 || eqb flags 128
+
+flagged_stays : (n : ℕ) (bytes more : List ℕ) → 11 ≤ n → (short good : Bool) → ltb (length bytes) 9 ≡ short → are_flags (flags_field bytes) ≡ good → Stays (flagged n) bytes more
+flagged_stays n bytes more low true good e f = inl (rw e refl)
+flagged_stays n bytes more low false false e f =
+    let there : 9 ≤ length bytes = ltb-false _ _ e in
+    let g : are_flags (flags_field (bytes ++ more)) ≡ false = ap are_flags (flags_stay bytes more there) ∙ f in
+    inr (rw (e, long_stays 9 bytes more e, f, g) refl)
+flagged_stays n bytes more low false true e f =
+    let there : 9 ≤ length bytes = ltb-false _ _ e in
+    let g : are_flags (flags_field (bytes ++ more)) ≡ true = ap are_flags (flags_stay bytes more there) ∙ f in
+    elim (whole_stays n bytes more low (ltb (length bytes) n) refl) [
+      | inl h ↦ inl (rw (e, f) h)
+      | inr h ↦ inr (rw (e, long_stays 9 bytes more e, f, g) h)
+    ]
+
+measured_stays : (n : ℕ) (bytes more : List ℕ) (low high : Bool) → ltb n 11 ≡ low → ltb 65536 n ≡ high → Stays (measured 65536 n) bytes more
+measured_stays n bytes more true high e f = inr (rw e refl)
+measured_stays n bytes more false true e f = inr (rw (e, f) refl)
+measured_stays n bytes more false false e f =
+    elim (flagged_stays n bytes more (ltb-false _ _ e) (ltb (length bytes) 9) (are_flags (flags_field bytes)) refl refl) [
+      | inl h ↦ inl (rw (e, f) h)
+      | inr h ↦ inr (rw (e, f) h)
+    ]
+
+packet_stays : (bytes more : List ℕ) (short : Bool) → ltb (length bytes) 4 ≡ short → Stays (front 65536) bytes more
+packet_stays bytes more true e = inl (rw e refl)
+packet_stays bytes more false e =
+    let there : 4 ≤ length bytes = ltb-false _ _ e in
+    let n = length_field bytes in
+    let now : front 65536 bytes ≡ measured 65536 n bytes = rw e refl in
+    let then : front 65536 (bytes ++ more) ≡ measured 65536 n (bytes ++ more) =
+    ap (λ (b : Bool). cond b frames.More (measured 65536 (length_field (bytes ++ more)) (bytes ++ more))) (long_stays 4 bytes more e)
+    ∙ ap (λ (k : ℕ). measured 65536 k (bytes ++ more)) (length_stays bytes more there) in
+    elim (measured_stays n bytes more (ltb n 11) (ltb 65536 n) refl refl) [
+      | inl h ↦ inl (now ∙ h)
+      | inr h ↦ inr (then ∙ h ∙ sym now)
+    ]
+
+handshake_stays : (bytes more : List ℕ) (f : NextHello) → HandshakeFrontOf bytes f → (f ≡ hello.More) ⊎ (handshake_front (bytes ++ more) ≡ f)
+handshake_stays bytes more hello.More h = inl refl
+handshake_stays bytes more hello.Whole h = inr (handshake_front_only (bytes ++ more) hello.Whole (hello_stays bytes more hello.Whole tt h))
+handshake_stays bytes more (hello.Fault f) h = inr (handshake_front_only (bytes ++ more) (hello.Fault f) (hello_stays bytes more (hello.Fault f) tt h))
+
+next_stays : (handshaken : Bool) (bytes more : List ℕ) → (next_message 65536 handshaken bytes ≡ More) ⊎ (next_message 65536 handshaken (bytes ++ more) ≡ next_message 65536 handshaken bytes)
+next_stays true bytes more = elim (packet_stays bytes more (ltb (length bytes) 4) refl) [
+  | inl h ↦ inl (ap after_handshake h)
+  | inr h ↦ inr (ap after_handshake h)
+]
+next_stays false bytes more = elim (handshake_stays bytes more (handshake_front bytes) (handshake_front_is bytes)) [
+  | inl h ↦ inl (ap at_handshake h)
+  | inr h ↦ inr (ap at_handshake h)
+]
+
+-- what is found in the bytes with more behind them is what is found in them, and then this
+abbrev Grows : Bool → List ℕ → List ℕ → Type 0
+Grows handshaken bytes more = (things : List Found) × (found_after handshaken (bytes ++ more) ≡ found_after handshaken bytes ++ things)
+
+grows_more : (handshaken : Bool) (bytes more : List ℕ) → next_message 65536 handshaken bytes ≡ More → Grows handshaken bytes more
+grows_more handshaken bytes more e =
+    (found_after handshaken (bytes ++ more), ap (λ (x : List Found). x ++ found_after handshaken (bytes ++ more)) (sym (found_step handshaken bytes ∙ ap (λ (x : NextMessage). found_at x bytes (found_after true)) e)))
+
+grows_at : (handshaken : Bool) (bytes more : List ℕ) (m : NextMessage) → next_message 65536 handshaken bytes ≡ m → next_message 65536 handshaken (bytes ++ more) ≡ m → IsThere bytes m
+    → ((rest : List ℕ) → length rest < length bytes → Grows true rest more) → Grows handshaken bytes more
+unfolding IsThere
+grows_at handshaken bytes more (Whole m used) e f (some, within) later =
+    let t = later (drop used bytes) (omega (arith, length-drop used bytes)) in
+    let now : found_after handshaken bytes ≡ Sent m ∷ found_after true (drop used bytes) = found_step handshaken bytes ∙ ap (λ (x : NextMessage). found_at x bytes (found_after true)) e in
+    let then : found_after handshaken (bytes ++ more) ≡ Sent m ∷ found_after true (drop used bytes ++ more) =
+    found_step handshaken (bytes ++ more) ∙ ap (λ (x : NextMessage). found_at x (bytes ++ more) (found_after true)) f
+    ∙ ap (λ (x : List ℕ). Sent m ∷ found_after true x) (drop-append-le used bytes more within) in
+    (t.0, then ∙ ap (λ (x : List Found). Sent m ∷ x) t.1 ∙ ap (λ (x : List Found). x ++ t.0) (sym now))
+grows_at handshaken bytes more More e f h later = grows_more handshaken bytes more e
+grows_at handshaken bytes more (Fault fault) e f h later =
+    let now : found_after handshaken bytes ≡ Faulty fault ∷ [] = found_step handshaken bytes ∙ ap (λ (x : NextMessage). found_at x bytes (found_after true)) e in
+    let then : found_after handshaken (bytes ++ more) ≡ Faulty fault ∷ [] = found_step handshaken (bytes ++ more) ∙ ap (λ (x : NextMessage). found_at x (bytes ++ more) (found_after true)) f in
+    ([], then ∙ ap (λ (x : List Found). x ++ []) (sym now))
+
+grows_step : (handshaken : Bool) (bytes more : List ℕ) → ((rest : List ℕ) → length rest < length bytes → Grows true rest more) → Grows handshaken bytes more
+grows_step handshaken bytes more later = elim (next_stays handshaken bytes more) [
+  | inl e ↦ grows_more handshaken bytes more e
+  | inr e ↦ grows_at handshaken bytes more (next_message 65536 handshaken bytes) refl e (there handshaken bytes) later
+]
+
+grows_within : (n : ℕ) (handshaken : Bool) (bytes more : List ℕ) → length bytes ≤ n → Grows handshaken bytes more
+grows_within zero handshaken bytes more le = grows_step handshaken bytes more (λ rest less. absurd (omega arith))
+grows_within (suc n) handshaken bytes more le = grows_step handshaken bytes more (λ rest less. grows_within n true rest more (omega arith))
+
+-- more bytes only add to what is found
+pub found_grows : (handshaken : Bool) (bytes more : List ℕ) → Grows handshaken bytes more
+found_grows handshaken bytes more = grows_within (length bytes) handshaken bytes more (omega arith)

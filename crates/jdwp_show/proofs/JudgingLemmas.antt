@@ -1,7 +1,6 @@
 -- Item by item over a capture: what is kept of those before, and the first answer.
-use Rattle.std.proofs.Common.{◌≡◌, ℕ, ◌+◌, ◌<◌, ◌≤◌, Bool, true, false, ◌||◌, ◌&&◌, List, [], ◌∷◌, ◌++◌, length, map, take, drop, get_or, Option, Some, None, is_some, option_map, fold, refl, sym, ap, ◌∙◌, subst, arith}
-use Rattle.std.specs.List.{list_any}
-use Rattle.std.specs.Option.{option_or, option_flatten}
+use Rattle.std.proofs.Common.{◌≡◌, ℕ, ◌+◌, ◌<◌, ◌≤◌, Bool, true, false, ◌||◌, ◌&&◌, List, [], ◌∷◌, ◌++◌, length, map, take, drop, get_or, Option, Some, None, is_some, option_map, refl, sym, ap, ◌∙◌}
+use Rattle.std.specs.Option.{option_or}
 use Rattle.std.proofs.lemmas.List.{map-append, take_more, drop_more, drop_all}
 use Rattle.std.proofs.lemmas.List.Folds.{list_any-append}
 use Rattle.std.proofs.lemmas.List.Sums.{fold-append}
@@ -17,7 +16,7 @@ use Rattle.jdwp_show.specs.Found.{Found, Sent, Faulty}
 use Rattle.jdwp_show.specs.Items.{Item}
 use Rattle.jdwp_show.specs.Pending.{waiting_in, IsPending, IsAfter, rule_broken}
 use Rattle.jdwp_show.specs.Rules.{has_begun, waiting, is_debugger, is_handshake, waits_after_found, order_fault, data_fault, order_fault_of, fault_of}
-use Rattle.jdwp_show.specs.Sessions.{first_after, first_answer, told, told_or_ended, widths_answer, widths_of, fault_answer}
+use Rattle.jdwp_show.specs.Sessions.{first_after, first_answer, told, told_or_ended, widths_answer}
 use Rattle.jdwp_show.specs.Streams.{thing, item_of}
 
 or_nothing : (b : Bool) → (b || false) ≡ b

@@ -1,5 +1,8 @@
 pub mod LineLemmas
 pub mod FoundLemmas
+pub mod FoundLaws
+pub mod DataLaws
+pub mod ItemLaws
 pub mod StreamLemmas
 pub mod WalkLemmas
 pub mod JudgingLemmas

@@ -1,9 +1,9 @@
 -- The function and the definition agree on which captures begin a session, and on the first fault.
-use Rattle.std.proofs.Common.{◌≡◌, ◌≢◌, ℕ, zero, suc, ◌+◌, ◌<◌, ◌≤◌, Bool, true, false, cond, eqb, ◌↔◌, ◌⊎◌, inl, inr, List, [], ◌∷◌, ◌++◌, length, take, get_or, Option, Some, None, is_some, option_map, refl, sym, ap, ◌∙◌, subst, arith, append_assoc}
+use Rattle.std.proofs.Common.{◌≡◌, ℕ, zero, suc, ◌+◌, true, false, eqb, ◌⊎◌, inl, inr, List, [], ◌∷◌, ◌++◌, length, Option, Some, None, is_some, option_map, refl, sym, ap, ◌∙◌, subst, arith, append_assoc}
 use Rattle.std.specs.List.{take_while, AllPass}
 use Rattle.std.specs.Option.{option_or}
 use Rattle.std.specs.Str.Lines.{lines}
-use Rattle.std.proofs.lemmas.Bool.{cases_Bool, eqb-true, eq-eqb}
+use Rattle.std.proofs.lemmas.Bool.{cases_Bool, eq-eqb}
 use Rattle.std.proofs.lemmas.Bool.Decides.{nat_tests}
 use Rattle.std.proofs.lemmas.List.{append-nil, length-append}
 use Rattle.std.proofs.lemmas.Option.{same_Some}
@@ -11,12 +11,11 @@ use Rattle.std.proofs.lemmas.List.Sums.{take_while-cons}
 use Rattle.jdwp_wire.specs.Widths.{Widths}
 use Rattle.jdwp_show.specs.declared.capture_fault.CaptureFault.{CaptureFault}
 use Rattle.jdwp_show.specs.declared.capture_fault.CaptureFault.TheVariants.{BadLine}
-use Rattle.jdwp_show.specs.declared.checking.Verdict.{Verdict}
 use Rattle.jdwp_show.specs.declared.checking.Verdict.TheVariants.{Yes, No}
 use Rattle.jdwp_show.specs.Items.{Item}
 use Rattle.jdwp_show.specs.Lines.{Line, line_of, reads, lines_that_read, bad_line}
 use Rattle.jdwp_show.specs.Rules.{fault_of}
-use Rattle.jdwp_show.specs.Sessions.{first_after, first_answer, widths_of, items_in, fault_in_capture, NoneBreaks, BeginsSession, IsBadLine, IsBroken, IsFirstFault, fault_answer, broken_in, bad_or_broken, first_fault, verdict_by, verdict}
+use Rattle.jdwp_show.specs.Sessions.{first_after, first_answer, widths_of, items_in, NoneBreaks, BeginsSession, IsBadLine, IsBroken, IsFirstFault, fault_answer, broken_in, first_fault, verdict_by, verdict}
 
 -- ---- the first answer
 

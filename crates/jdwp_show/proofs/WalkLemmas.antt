@@ -1,6 +1,6 @@
 -- Line by line over a capture: which items have been found.
-use Rattle.std.proofs.Common.{◌≡◌, ℕ, zero, suc, ◌+◌, ◌-◌, ◌<◌, ◌≤◌, Bool, true, false, cond, List, [], ◌∷◌, ◌++◌, length, map, take, drop, get_or, refl, sym, ap, ◌∙◌, subst, arith, append_assoc}
-use Rattle.std.proofs.lemmas.List.{append-nil, map-append, drop_at, take_at, take_more, drop_more, take-append-drop, length-take-le, length-append, length-map, get_or_default}
+use Rattle.std.proofs.Common.{◌≡◌, ℕ, zero, suc, ◌+◌, ◌<◌, ◌≤◌, Bool, true, false, cond, List, [], ◌∷◌, ◌++◌, length, map, take, drop, get_or, refl, sym, ap, ◌∙◌, arith, append_assoc}
+use Rattle.std.proofs.lemmas.List.{append-nil, drop_at, take_at, take_more, drop_more, take-append-drop, length-take-le, length-append, length-map, get_or_default}
 use Rattle.jdwp_show.specs.declared.capture_line.Capture.{Capture}
 use Rattle.jdwp_show.specs.declared.capture_line.LineLength.{LineLength}
 use Rattle.jdwp_show.specs.declared.capture_line.Sender.{Sender}
@@ -11,7 +11,7 @@ use Rattle.jdwp_show.specs.Captures.{IsCapture, length_of}
 use Rattle.jdwp_show.specs.Found.{Found, found, found_after, found_within}
 use Rattle.jdwp_show.specs.Items.{Item, item_at, completed, items_after, items_of}
 use Rattle.jdwp_show.specs.Lines.{Line, is_same, sent_by}
-use Rattle.jdwp_show.specs.Streams.{item_of, coming, found_behind, IsFresh, IsCompleted}
+use Rattle.jdwp_show.specs.Streams.{item_of, coming, IsFresh, IsCompleted}
 use Rattle.jdwp_show.proofs.LineLemmas.{sent_by-push, sent_by-append}
 
 -- the stream has all that the end sent in these lines, of all that it sends

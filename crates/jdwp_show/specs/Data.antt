@@ -1,12 +1,14 @@
 -- Which data do not read (JDWP specification, "Protocol Details": the layouts of the commands and their replies).
-use Rattle.std.specs.Prelude.{ℕ, ◌==◌, ◌&&◌, nat_lt, nat_le, List, length, drop, Bool, Option, Some, None, Result, Ok, Err, if◌then◌else◌}
+use Rattle.std.specs.Prelude.{ℕ, ℤ, pos, negsuc, ◌==◌, ◌&&◌, nat_lt, nat_le, List, [], ◌∷◌, length, drop, Bool, Option, Some, None, Result, Ok, Err, if◌then◌else◌}
 use Rattle.byteorder.specs.Endian.{big_number}
 use Rattle.jdwp_wire.specs.declared.data_fault.DataFault.{DataFault}
 use Rattle.jdwp_wire.specs.declared.data_fault.DataFault.TheVariants.{Short, Extra, BadSize}
+use Rattle.jdwp_wire.specs.Reading.{◌>>=◌}
 use Rattle.jdwp_wire.specs.Widths.{Widths}
 use Rattle.jdwp_layout.specs.Shapes.{ItemShape}
 use Rattle.jdwp_layout.specs.Rows.{Row, RowShapes}
 use Rattle.jdwp_layout.specs.CommandTable.{row_at}
+use Rattle.jdwp_layout.specs.Meanings.{DatumMeaning, One, Int}
 use Rattle.jdwp_layout.specs.Reads.{data_at}
 use Rattle.jdwp_show.specs.declared.pending.Command.{Command}
 
@@ -67,6 +69,22 @@ widths_in body =
       reference = big_number 4 (drop 12 body);
       frame = big_number 4 (drop 16 body);
     }))
+
+-- an int as a width: 1 to 8
+abbrev pub width_of : ℤ → Result ℕ DataFault
+width_of (pos n) = if is_width n then Ok n else Err BadSize
+width_of (negsuc n) = Err BadSize
+
+-- five ints, each 1 to 8, as the widths of fields, methods, objects, reference types and frames
+abbrev pub widths_of_data : List DatumMeaning → Result Widths DataFault
+widths_of_data (One (Int first) ∷ One (Int second) ∷ One (Int third) ∷ One (Int fourth) ∷ One (Int fifth) ∷ []) =
+    width_of first >>= λ field. width_of second >>= λ method. width_of third >>= λ object. width_of fourth >>= λ reference. width_of fifth >>= λ frame.
+    Ok (record { field = field; method = method; object = object; reference = reference; frame = frame })
+widths_of_data items = Err BadSize
+
+-- the widths that data tell under a layout
+abbrev pub widths_by : Widths → List ItemShape → List ℕ → Result Widths DataFault
+widths_by widths layout body = data_at widths layout body >>= widths_of_data
 
 -- the data of a reply without an error to this command
 abbrev pub reply_fault : Option Widths → Option Command → List ℕ → Option DataFault

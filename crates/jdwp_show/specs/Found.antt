@@ -1,8 +1,8 @@
 -- What stands in the bytes of one end: its messages, and a frame fault where what follows them shows one.
-use Rattle.std.specs.Prelude.{◌≡◌, ℕ, zero, suc, List, [], ◌∷◌, length, drop, Bool, true, false}
+use Rattle.std.specs.Prelude.{◌≡◌, ℕ, zero, suc, List, [], ◌∷◌, ◌++◌, length, drop, map, Bool, true, false}
 use Rattle.jdwp_wire.specs.declared.frame.FrameFault.{FrameFault}
 use Rattle.jdwp_wire.specs.declared.frame.TheConstants.{PACKET_LIMIT}
-use Rattle.jdwp_wire.specs.Streams.{Message, NextMessage, Whole, More, Fault, next_message}
+use Rattle.jdwp_wire.specs.Streams.{Message, stream, IsConversation, NextMessage, Whole, More, Fault, next_message}
 
 -- a message of the end, or a frame fault
 pub data Found : Type 0 where
@@ -27,3 +27,26 @@ found_after handshaken bytes = found_within (length bytes) handshaken bytes
 -- what stands in all that an end sent
 abbrev pub found : List ℕ → List Found
 found bytes = found_after false bytes
+
+-- ---- the same as a relation
+
+-- after any message, since the first is the handshake
+abbrev pub is_handshaken : List Message → Bool
+is_handshaken [] = false
+is_handshaken (message ∷ messages) = true
+
+-- what bytes show in which no whole message stands in front: nothing, or a frame fault
+abbrev pub IsShown : NextMessage → List Found → Type 0
+IsShown (Whole message used) last = ⊥
+IsShown More last = last ≡ []
+IsShown (Fault fault) last = last ≡ Faulty fault ∷ []
+
+-- These are the messages that the bytes begin with, as many as are whole, and the frame fault that what follows them shows, if it does.
+pub record AreIn (bytes : List ℕ) (things : List Found) : Type 0 where
+  pub messages : List Message
+  pub rest : List ℕ
+  pub last : List Found
+  pub bytes_are : bytes ≡ stream messages ++ rest
+  pub in_order : IsConversation PACKET_LIMIT messages
+  pub last_shown : IsShown (next_message PACKET_LIMIT (is_handshaken messages) rest) last
+  pub things_are : things ≡ map Sent messages ++ last

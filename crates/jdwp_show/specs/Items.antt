@@ -1,7 +1,8 @@
 -- The items of a capture: the messages and frame faults of both ends, in the order of the lines that complete them.
-use Rattle.std.specs.Prelude.{ℕ, ◌+◌, List, [], ◌∷◌, ◌++◌, length, drop, map}
+use Rattle.std.specs.Prelude.{ℕ, ◌+◌, List, [], ◌∷◌, ◌++◌, length, drop, map, if◌then◌else◌}
+use Rattle.std.specs.List.{flat_map}
 use Rattle.jdwp_show.specs.declared.capture_line.Sender.{Sender}
-use Rattle.jdwp_show.specs.Lines.{Line, sent_by}
+use Rattle.jdwp_show.specs.Lines.{Line, is_same, sent_by}
 use Rattle.jdwp_show.specs.Found.{Found, found}
 
 -- the number, from 1, of the line in which the last byte stands, the end that sent it, and what it is
@@ -23,3 +24,7 @@ items_after before (line ∷ lines) = map (item_at (length before + 1) line.send
 
 abbrev pub items_of : List Line → List Item
 items_of capture = items_after [] capture
+
+-- what the items of an end are
+abbrev pub found_of : Sender → List Item → List Found
+found_of sender items = flat_map (λ item. if is_same sender item.sender then item.found ∷ [] else []) items

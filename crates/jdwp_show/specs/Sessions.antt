@@ -1,13 +1,12 @@
 -- Captures that begin a session, and the first fault of one that does not.
-use Rattle.std.specs.Prelude.{◌≡◌, ℕ, ◌+◌, ◌==◌, List, [], ◌∷◌, ◌++◌, length, Option, Bool, true, Some, None, option_map, Result, Ok, Err, if◌then◌else◌, ◌⊎◌}
+use Rattle.std.specs.Prelude.{◌≡◌, ℕ, ◌+◌, ◌==◌, List, [], ◌∷◌, ◌++◌, length, Option, Some, None, option_map, if◌then◌else◌, ◌⊎◌}
 use Rattle.std.specs.List.{AllPass}
 use Rattle.std.specs.Option.{option_or, option_flatten}
 use Rattle.std.specs.Result.{result_ok}
 use Rattle.std.specs.Str.Lines.{lines}
-use Rattle.jdwp_wire.specs.declared.data_fault.DataFault.{DataFault}
 use Rattle.jdwp_wire.specs.declared.packet.PacketKind.{PacketKind}
 use Rattle.jdwp_wire.specs.declared.packet.PacketKind.TheVariants as kind
-use Rattle.jdwp_wire.specs.Streams.{Message, Handshake, Packet}
+use Rattle.jdwp_wire.specs.Streams.{Handshake, Packet}
 use Rattle.jdwp_wire.specs.Widths.{Widths}
 use Rattle.jdwp_show.specs.declared.capture_fault.CaptureFault.{CaptureFault}
 use Rattle.jdwp_show.specs.declared.capture_fault.CaptureFault.TheVariants.{BadLine}

@@ -1,5 +1,5 @@
 //! Going over the items of a capture: the widths of ids, and the first rule that is broken.
-ghost use Rattle.std.specs.Prelude.{◌≡◌, ◌<◌, map, length, option_map, IfOk, IfSome};
+ghost use Rattle.std.specs.Prelude.{◌≡◌, map, option_map, IfOk};
 ghost use Rattle.jdwp_show.specs.Sessions.{widths_of, first_answer, fault_answer};
 ghost use Rattle.jdwp_show.specs.Streams.{item_of};
 ghost use Rattle.jdwp_show.specs.Pending.{rule_broken};
@@ -14,11 +14,28 @@ use std::alloc::Global;
 /// The first item that breaks a rule.
 #[derive(Clone, Copy, Debug)]
 pub(crate) struct Broken {
-    /// Its place among the items.
-    pub(crate) index: usize,
     /// The line in which it ends.
     pub(crate) line: usize,
     pub(crate) fault: CaptureFault,
+}
+
+/// Who is told the items before the first that breaks a rule.
+pub(crate) trait Audience {
+    /// An item, and what those before it say.
+    ///
+    /// # Errors
+    /// `NoMemory` where an allocation was refused.
+    fn hear(&mut self, pending: &Pending, item: &Item) -> Result<(), NoMemory>;
+}
+
+/// Who wants the verdict alone.
+#[derive(Drop)]
+pub(crate) struct Nobody;
+
+impl Audience for Nobody {
+    fn hear(&mut self, _pending: &Pending, _item: &Item) -> Result<(), NoMemory> {
+        Ok(())
+    }
 }
 
 /// The widths of ids that hold for these items: those of the first reply that tells them, before any item that breaks
@@ -40,21 +57,22 @@ pub(crate) fn find_sizes(alloc: Global, items: &[Item]) -> Result<Option<IdSizes
     Ok(None)
 }
 
-/// The first item that breaks a rule under these widths.
-pub(crate) fn find_broken(
+/// The first item that breaks a rule under these widths. The audience is told those before it.
+pub(crate) fn find_broken<A: Audience>(
     alloc: Global,
     sizes: &Option<IdSizes>,
     items: &[Item],
+    audience: &mut A,
 ) -> Result<Option<Broken>, NoMemory>
-    ensures first { IfOk result (λ broken. option_map (λ b. (b.line, b.fault)) broken ≡ first_answer (fault_answer sizes.now) (map item_of items.now)) }
-    ensures within { IfOk result (λ broken. IfSome broken (λ b. b.index < length items.now)) }
+    ensures { IfOk result (λ broken. option_map (λ b. (b.line, b.fault)) broken ≡ first_answer (fault_answer sizes.now) (map item_of items.now)) }
 {
     let mut pending = Pending::new(alloc);
-    for (index, item) in items.iter().enumerate() {
+    for item in items {
         if let Some(fault) = item_fault(sizes, &pending, item) {
             let line = item.line;
-            return Ok(Some(Broken { index, line, fault }));
+            return Ok(Some(Broken { line, fault }));
         }
+        audience.hear(&pending, item)?;
         pending.record(item)?;
     }
     Ok(None)

@@ -8,15 +8,20 @@ mod data_text;
 mod found;
 mod items;
 mod judging;
+mod laws;
 mod pending;
 mod rules;
 mod showing;
+mod transcript;
 
 pub use capture_fault::CaptureFault;
 pub use checking::{Verdict, check};
+pub use laws::{finds_each_message, keeps_each_message, tells_widths_by_layout};
 pub use showing::{Shown, show};
 
 #[cfg(test)]
 mod check_tests;
+#[cfg(test)]
+mod row_tests;
 #[cfg(test)]
 mod show_tests;

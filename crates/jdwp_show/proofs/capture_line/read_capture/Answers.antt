@@ -1,12 +1,12 @@
-use Rattle.std.proofs.Common.{◌≡◌, ◌≤◌, ◌<◌, ◌+◌, ◌++◌, ◌∷◌, [], length, map, take, drop, List, ℕ, true, false, refl, sym, ap, ◌∙◌, subst, arith, rules}
+use Rattle.std.proofs.Common.{◌≡◌, ◌≤◌, ◌+◌, length, take, List, ℕ, refl, ap, ◌∙◌, arith}
 use Rattle.std.proofs.lemmas.Iterator.Consumers.{YieldsList-turn, YieldsList-end}
 use Rattle.std.proofs.lemmas.Iterator.Splits.{YieldsList-from_lines}
-use Rattle.std.proofs.lemmas.List.{length_push, length-append, length-map, take_all}
-use Rattle.std.specs.List.{filter_map, take_while}
+use Rattle.std.proofs.lemmas.List.{length_push, length-map, take_all}
+use Rattle.std.specs.List.{filter_map}
 use Rattle.std.specs.Str.Lines.{lines}
 use Rattle.jdwp_show.specs.declared.capture_line.LineLength.{LineLength}
-use Rattle.jdwp_show.specs.Captures.{IsCapture, length_of}
-use Rattle.jdwp_show.specs.Lines.{Line, line_of, reads}
+use Rattle.jdwp_show.specs.Captures.{length_of}
+use Rattle.jdwp_show.specs.Lines.{line_of}
 use Rattle.jdwp_show.proofs.LineLemmas.{filter_map_more, take_while_more, take_while_bad, same_capture, bad_number, no_bad_line, take_while_all}
 use Rattle.jdwp_show.proofs.capture_line.read_capture.Goals as goal
 

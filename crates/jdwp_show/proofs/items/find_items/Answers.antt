@@ -1,4 +1,4 @@
-use Rattle.std.proofs.Common.{◌≡◌, ◌<◌, ◌≤◌, ℕ, length, get_or, List, refl, sym, ◌∙◌, ap, arith}
+use Rattle.std.proofs.Common.{◌<◌, length, get_or, List, ap, arith}
 use Rattle.std.proofs.lemmas.List.{get_or_default}
 use Rattle.jdwp_show.specs.declared.capture_line.LineLength.{LineLength}
 use Rattle.jdwp_show.specs.declared.capture_line.Sender.TheVariants.{Debugger}

@@ -1,4 +1,4 @@
-use Rattle.std.proofs.Common.{◌≡◌, ◌<◌, ◌≤◌, ℕ, length, map, get_or, Some, None, Option, is_some, true, false, sym, ◌∙◌, ap, arith}
+use Rattle.std.proofs.Common.{◌≡◌, ◌<◌, ◌≤◌, length, get_or, None, Option, is_some, true, false, sym, ◌∙◌, ap, arith}
 use Rattle.std.specs.Option.{option_flatten}
 use Rattle.std.proofs.lemmas.List.{get_or_default}
 use Rattle.jdwp_wire.specs.Widths.{Widths}
@@ -8,7 +8,7 @@ use Rattle.jdwp_show.specs.declared.found.Item.{Item}
 use Rattle.jdwp_show.specs.Pending.{waiting_in}
 use Rattle.jdwp_show.specs.Rules.{order_fault}
 use Rattle.jdwp_show.specs.Sessions.{widths_answer, told}
-use Rattle.jdwp_show.specs.Streams.{item_of, thing}
+use Rattle.jdwp_show.specs.Streams.{thing}
 use Rattle.jdwp_show.proofs.JudgingLemmas.{earlier, ended, not_ended, sizes_none, sizes_some, unanswered_more, answered, unanswered_end}
 use Rattle.jdwp_show.proofs.judging.find_sizes.Goals as goal
 

@@ -1,6 +1,4 @@
-use Rattle.std.proofs.Common.{◌≡◌, [], refl, subst, sym, ◌∙◌, ap}
-use Rattle.jdwp_show.specs.declared.found.Stream.{Stream}
-use Rattle.jdwp_show.specs.Streams.{HasFound, coming}
+use Rattle.std.proofs.Common.{refl}
 use Rattle.jdwp_show.proofs.StreamLemmas.{found_more, completed}
 use Rattle.jdwp_show.proofs.found.Stream.complete.Goals as goal
 

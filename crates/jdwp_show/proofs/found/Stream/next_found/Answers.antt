@@ -1,4 +1,4 @@
-use Rattle.std.proofs.Common.{◌≤◌, ◌+◌, ◌-◌, refl, arith, inl, inr, take, drop}
+use Rattle.std.proofs.Common.{◌≤◌, ◌+◌, ◌-◌, refl, arith, inl, inr, drop}
 use Rattle.std.proofs.lemmas.List.{length-take, length-drop}
 use Rattle.jdwp_show.proofs.FoundLemmas.{more_packets, more_handshake, faulty_packets, faulty_handshake, whole_packet, whole_handshake, hello_length, packet_length}
 use Rattle.jdwp_show.proofs.found.Stream.next_found.Goals as goal

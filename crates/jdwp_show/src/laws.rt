@@ -1,0 +1,29 @@
+//! Laws of the definitions by which captures are judged, as contracts of functions that do nothing.
+ghost use Rattle.std.specs.Prelude.{◌≡◌, ℕ, List, Some};
+ghost use Rattle.jdwp_wire.specs.Bytes.{IsBytes};
+ghost use Rattle.jdwp_wire.specs.Widths.{Widths};
+ghost use Rattle.jdwp_layout.specs.Rows.{RowShapes};
+ghost use Rattle.jdwp_show.specs.Data.{shapes_of, widths_in, widths_by};
+ghost use Rattle.jdwp_show.specs.declared.capture_line.Sender.{Sender};
+ghost use Rattle.jdwp_show.specs.Found.{Found, found, AreIn};
+ghost use Rattle.jdwp_show.specs.Items.{items_of, found_of};
+ghost use Rattle.jdwp_show.specs.Lines.{Line, sent_by};
+
+/// What is found in the bytes of an end is the messages that they begin with, as many as are whole, and the frame fault that what follows
+/// them shows, if it does. Nothing else is found in them.
+pub fn finds_each_message()
+    ensures found { (bytes : List ℕ) → IsBytes bytes → AreIn bytes (found bytes) }
+    ensures only { (bytes : List ℕ) (things : List Found) → AreIn bytes things → things ≡ found bytes }
+{}
+
+/// The widths that a reply to VirtualMachine.IDSizes tells are the five ints that the layout of its row reads, each 1 to 8. Its first fault
+/// is that of the layout, or another width.
+pub fn tells_widths_by_layout()
+    ensures { (widths : Widths) (shapes : RowShapes) (body : List ℕ) → shapes_of (record { set = 1; number = 7 }) ≡ Some shapes
+        → widths_in body ≡ widths_by widths shapes.reply body }
+{}
+
+/// The items of one end, in order, are what is found in all that it sent: no message is lost at the end of a line, and none is made up.
+pub fn keeps_each_message()
+    ensures { (capture : List Line) (sender : Sender) → found_of sender (items_of capture) ≡ found (sent_by sender capture) }
+{}
