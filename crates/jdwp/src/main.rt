@@ -1,6 +1,7 @@
 //! Ends of the Java Debug Wire Protocol, run on files.
 #![tactic(auto)]
 
+mod captures;
 mod fault;
 mod run;
 #[cfg(test)]

@@ -1,7 +1,9 @@
 //! The program, over a runtime and two writers.
-ghost use Rattle.std.specs.Prelude.{◌≡◌, ◌≤◌};
-ghost use Rattle.jdwp.specs.Statuses.{status_of_end, status_of_fault};
+ghost use Rattle.std.specs.Prelude.{◌≡◌, ◌≤◌, ◌⊎◌, Ok, IfOk, IfErr};
+ghost use Rattle.jdwp.specs.declared.fault.Fault.TheVariants.{NoMemory};
+ghost use Rattle.jdwp.specs.Statuses.{status_of_end, status_of_fault, status_of_outcome};
 
+use crate::captures::{check_capture, show_capture};
 use crate::fault::Fault;
 use crate::words::{self, ServeScript, Words};
 use jdwp_engine::{Ended, Streams, serve};
@@ -13,9 +15,11 @@ use std::{fs, io};
 
 /// Runs the words, the first of which is the program's name, and answers the exit status.
 ///
-/// 0: done. 1: words that are refused, a file that can't be opened or made, or bytes that the target refused. 2: the connection was
-/// lost. 3: no memory. 4: all rounds were used. Each of 1 to 4 is one line on `err` that begins with `jdwp: `.
-pub fn run<R, S, O, E>(rt: &R, words: &[S], _out: &mut O, err: &mut E) -> u8
+/// 0: done, or a capture without a fault. 1: words that are refused, a file that can't be opened or made or is not UTF-8, bytes that
+/// the target refused, or a capture with a fault. 2: the connection was lost, or the output can't be written. 3: no memory. 4: all
+/// rounds were used. Each of 1 to 4 is one line on `err` that begins with `jdwp: `, but for the fault of a capture, which `out` tells,
+/// and where who reads `out` went away.
+pub fn run<R, S, O, E>(rt: &R, words: &[S], out: &mut O, err: &mut E) -> u8
 where
     R: Files + AllocGlobal,
     S: AsStr,
@@ -23,8 +27,8 @@ where
     E: Write,
     ensures { result ≤ 4 }
 {
-    match execute(rt, words) {
-        Ok(ended) => report_end(ended, err),
+    match execute(rt, words, out) {
+        Ok(outcome) => report_outcome(outcome, err),
         Err(fault) => report_fault(fault, err),
     }
 }
@@ -37,6 +41,32 @@ pub fn report_fault<E: Write>(fault: Fault, err: &mut E) -> u8
     // What standard error doesn't take is lost.
     let _ = writeln!(err, "jdwp: {fault}");
     fault.status()
+}
+
+/// What the words led to.
+#[derive(Clone, Copy, Debug, PartialEq, Eq)]
+pub enum Outcome {
+    /// A session ended so.
+    Session(Ended),
+    /// A capture has no fault.
+    Faultless,
+    /// A capture has a fault, which standard output told.
+    Faulty,
+    /// Who reads the output went away.
+    Unread,
+}
+
+/// Tells the outcome where it isn't told yet, and answers its exit status.
+fn report_outcome<E: Write>(outcome: Outcome, err: &mut E) -> u8
+    ensures status { result ≡ status_of_outcome outcome }
+    ensures bound { result ≤ 4 }
+{
+    match outcome {
+        Outcome::Session(ended) => report_end(ended, err),
+        Outcome::Faultless => 0,
+        Outcome::Faulty => 1,
+        Outcome::Unread => 2,
+    }
 }
 
 /// Tells how a session ended where it wasn't done, and answers its exit status.
@@ -69,9 +99,16 @@ fn status(ended: Ended) -> u8
     }
 }
 
-fn execute<R: Files + AllocGlobal, S: AsStr>(rt: &R, words: &[S]) -> Result<Ended, Fault> {
+fn execute<R, S, O>(rt: &R, words: &[S], out: &mut O) -> Result<Outcome, Fault>
+where
+    R: Files + AllocGlobal,
+    S: AsStr,
+    O: Write,
+{
     match words::read(rt.alloc(), words)? {
-        Words::ServeScript(words) => serve_script(rt, &words),
+        Words::ServeScript(words) => Ok(Outcome::Session(serve_script(rt, &words)?)),
+        Words::Show(file) => show_capture(rt, file, out),
+        Words::Check(file) => check_capture(rt, file, out),
     }
 }
 
@@ -97,7 +134,10 @@ fn serve_script<R: Files + AllocGlobal>(rt: &R, words: &ServeScript<'_>) -> Resu
 }
 
 /// The file, or this fault where it isn't there for another cause than memory.
-fn opened<F: Drop>(file: io::Result<F>, fault: Fault) -> Result<F, Fault> {
+fn opened<F: Drop>(file: io::Result<F>, fault: Fault) -> Result<F, Fault>
+    ensures file { IfOk result (λ f. file ≡ Ok f) }
+    ensures fault { IfErr result (λ f. (f ≡ fault) ⊎ (f ≡ NoMemory)) }
+{
     match file {
         Ok(file) => Ok(file),
         Err(error) if error.kind() == ErrorKind::OutOfMemory => Err(Fault::NoMemory),

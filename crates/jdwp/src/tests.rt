@@ -296,3 +296,74 @@ fn other_words_are_refused(rt: HostRuntime) -> Result<(), Fail> {
     }
     Ok(())
 }
+
+/// Runs the words behind the program's name, and answers the exit status and what was printed on standard output.
+fn printed<R: Files + AllocGlobal>(rt: &R, words: &[&str]) -> Result<(u8, Vec<u8>, Vec<u8>), Fail> {
+    let mut all = Vec::new(rt.alloc());
+    all.push("jdwp")?;
+    all.extend_from_slice(words)?;
+    let mut out = Cursor::new(Vec::new(rt.alloc()));
+    let mut err = Cursor::new(Vec::new(rt.alloc()));
+    let status = run(rt, all.as_slice(), &mut out, &mut err);
+    Ok((status, out.into_inner(), err.into_inner()))
+}
+
+const CAPTURE: &str = "> 4a4457502d48616e647368616b65
+< 4a4457502d48616e647368616b65
+> 0000000b00000001000107
+< 0000001f000000018000000000000800000008000000080000000800000008
+> 0000001300000003000b0c0000000000000001
+< 0000000f0000000380000000000001
+";
+
+const SHOWN: &str = "> hello
+< hello
+> 1 VirtualMachine.IDSizes
+< 1 reply VirtualMachine.IDSizes 0 8 8 8 8 8
+> 3 ThreadReference.SuspendCount #1
+< 3 reply ThreadReference.SuspendCount 0 1
+";
+
+#[test]
+fn captures_are_shown_and_checked(rt: HostRuntime) -> Result<(), Fail> {
+    let file = "capture";
+    fs::write(&rt, file, CAPTURE)?;
+    let (status, out, err) = printed(&rt, &["show", file])?;
+    assert_eq!(rt; status, 0);
+    assert!(rt; out.as_slice() == SHOWN.as_bytes());
+    assert!(rt; err.is_empty());
+    let (status, out, err) = printed(&rt, &["check", file])?;
+    assert_eq!(rt; status, 0);
+    assert!(rt; out.as_slice() == b"yes\n".as_slice());
+    assert!(rt; err.is_empty());
+
+    fs::write(
+        &rt,
+        file,
+        "> 4a4457502d48616e647368616b65\n< 4a4457502d48616e647368616b65\n> 0000000a\n",
+    )?;
+    let (status, out, err) = printed(&rt, &["check", file])?;
+    assert_eq!(rt; status, 1);
+    assert!(rt; out.as_slice() == b"no: line 3: fault 1\n".as_slice());
+    assert!(rt; err.is_empty());
+    let (status, out, err) = printed(&rt, &["show", file])?;
+    assert_eq!(rt; status, 1);
+    assert!(rt; out.as_slice() == b"> hello\n< hello\nline 3: fault 1\n".as_slice());
+    assert!(rt; err.is_empty());
+
+    fs::write(&rt, file, "")?;
+    assert!(rt; printed(&rt, &["check", file])?.1.as_slice() == b"yes\n".as_slice());
+    fs::write(&rt, file, "> 4a44")?;
+    assert!(rt; printed(&rt, &["check", file])?.1.as_slice() == b"yes\n".as_slice());
+    assert!(rt; printed(&rt, &["show", file])?.1.as_slice() == b"> more 2\n".as_slice());
+
+    // Bytes that are not UTF-8, a file that is not there, and words that are too many.
+    fs::write(&rt, file, [0x3e, 0x20, 0xff].as_slice())?;
+    assert_eq!(rt; status_of(&rt, &["check", file])?, 1);
+    assert_eq!(rt; status_of(&rt, &["show", file])?, 1);
+    assert_eq!(rt; status_of(&rt, &["show", "no such file"])?, 1);
+    assert_eq!(rt; status_of(&rt, &["show"])?, 1);
+    assert_eq!(rt; status_of(&rt, &["check", file, file])?, 1);
+    fs::remove_file(&rt, file)?;
+    Ok(())
+}

@@ -1,4 +1,6 @@
 //! What the words of the command line say.
+ghost use Rattle.std.specs.Prelude.{◌≡◌, ◌↔◌, Some, true, false, codes};
+
 use crate::fault::Fault;
 use clap::error::ErrorKind;
 use clap::{Arg, ArgAction, Command};
@@ -9,6 +11,10 @@ use std::convert::AsStr;
 #[derive(Clone, Copy, Debug, PartialEq, Eq)]
 pub enum Words<'a> {
     ServeScript(ServeScript<'a>),
+    /// `show FILE`: a capture is shown in words.
+    Show(&'a str),
+    /// `check FILE`: a capture is judged.
+    Check(&'a str),
 }
 
 /// `serve-script MACHINE --from F --to F [--start all|none] [--count-limit N] [--turns N]`: a target serves one session, that of a file.
@@ -39,7 +45,13 @@ pub fn read<'a, S: AsStr>(alloc: Global, words: &'a [S]) -> Result<Words<'a>, Fa
         Err(error) if error.kind() == ErrorKind::OutOfMemory => return Err(Fault::NoMemory),
         Err(_) => return Err(Fault::Words),
     };
-    let (_, found) = matches.subcommand().ok_or(Fault::Words)?;
+    let (name, found) = matches.subcommand().ok_or(Fault::Words)?;
+    if name == "show" {
+        return Ok(Words::Show(found.get_str("file").ok_or(Fault::Words)?));
+    }
+    if name == "check" {
+        return Ok(Words::Check(found.get_str("file").ok_or(Fault::Words)?));
+    }
     Ok(Words::ServeScript(ServeScript {
         machine: found.get_str("machine").ok_or(Fault::Words)?,
         from: found.get_str("from").ok_or(Fault::Words)?,
@@ -57,11 +69,8 @@ pub fn read<'a, S: AsStr>(alloc: Global, words: &'a [S]) -> Result<Words<'a>, Fa
 }
 
 fn command<'a>(alloc: Global) -> Result<Command<'a>, AllocError> {
-    let machine = Arg::new(alloc, "machine")
-        .required(true)
-        .action(ArgAction::Set);
     let serve_script = Command::new(alloc, "serve-script")
-        .arg(machine)?
+        .arg(file(alloc, "machine"))?
         .arg(option(alloc, "from").required(true))?
         .arg(option(alloc, "to").required(true))?
         .arg(option(alloc, "start").default_value("all"))?
@@ -69,7 +78,14 @@ fn command<'a>(alloc: Global) -> Result<Command<'a>, AllocError> {
         .arg(option(alloc, "turns").default_value("100000"))?;
     Command::new(alloc, "jdwp")
         .subcommand_required(true)
-        .subcommand(serve_script)
+        .subcommand(serve_script)?
+        .subcommand(Command::new(alloc, "show").arg(file(alloc, "file"))?)?
+        .subcommand(Command::new(alloc, "check").arg(file(alloc, "file"))?)
+}
+
+/// A file by its place among the words.
+fn file<'a>(alloc: Global, name: &'a str) -> Arg<'a> {
+    Arg::new(alloc, name).required(true).action(ArgAction::Set)
 }
 
 /// An option with a value, which stands at most once.
@@ -78,7 +94,10 @@ fn option<'a>(alloc: Global, name: &'a str) -> Arg<'a> {
 }
 
 /// Whether the target starts with every thread suspended: `all`, or `none`.
-fn is_all(text: &str) -> Option<bool> {
+fn is_all(text: &str) -> Option<bool>
+    ensures all { (result ≡ Some true) ↔ (text.now ≡ codes "all") }
+    ensures none { (result ≡ Some false) ↔ (text.now ≡ codes "none") }
+{
     if text == "all" {
         Some(true)
     } else if text == "none" {

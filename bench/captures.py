@@ -1,0 +1,116 @@
+#!/usr/bin/env python3
+"""How fast the program judges and shows captures, and how much memory that takes.
+
+Makes captures of sessions as inspectors meet them: many short packets (SuspendCount of thread 1), or packets of 60,000 bytes (the replies to
+AllThreads, StringReference.Value and ArrayReference.GetValues in turn); each with one byte a line, or with long lines. Runs `check` and `show` on
+them, and prints MB of text a second (the best of three runs), and the peak of memory in MB and for each byte of text. To reach: with long lines above 200 MB
+a second for `check` and above 100 for `show`, and memory within a small multiple of the text.
+
+    bench/captures.py [PROGRAM] [MB..]
+
+PROGRAM is crates/jdwp/out/jdwp where none is given (`rt run` in crates/jdwp builds it), and MB is 10 and 100.
+"""
+
+import itertools
+import os
+import struct
+import subprocess
+import sys
+import tempfile
+import time
+
+ROOT = os.path.dirname(os.path.dirname(os.path.abspath(__file__)))
+HANDSHAKE = b"JDWP-Handshake"
+SIZES = struct.pack(">IIIII", 8, 8, 8, 8, 8)
+LONG_LINE = 100_000
+
+
+def command(number, pair, data=b""):
+    return struct.pack(">IIBBB", 11 + len(data), number, 0, *pair) + data
+
+
+def reply(number, data=b""):
+    return struct.pack(">IIBH", 11 + len(data), number, 0x80, 0) + data
+
+
+def short_exchange(number):
+    return command(number, (11, 12), struct.pack(">Q", 1)), reply(number, struct.pack(">I", 1))
+
+
+def large_exchange(number):
+    kind = number % 3
+    if kind == 0:
+        ids = b"".join(struct.pack(">Q", i) for i in range(1, 7499))
+        return command(number, (1, 4)), reply(number, struct.pack(">I", 7498) + ids)
+    if kind == 1:
+        text = (b"a reply of some thousand words, " * 1_875)[:59_985]
+        return command(number, (10, 1), struct.pack(">Q", 7)), reply(number, struct.pack(">I", len(text)) + text)
+    elements = b"".join(struct.pack(">I", i) for i in range(14_996))
+    return command(number, (13, 2), struct.pack(">QII", 9, 0, 14_996)), reply(number, b"I" + struct.pack(">I", 14_996) + elements)
+
+
+def exchanges(make):
+    yield HANDSHAKE, HANDSHAKE
+    yield command(1, (1, 7)), reply(1, SIZES)
+    for number in itertools.count(2):
+        yield make(number)
+
+
+def byte_lines(sides):
+    """The bytes of each exchange, one a line."""
+    for sent, answered in sides:
+        yield "".join(f"> {byte:02x}\n" for byte in sent) + "".join(f"< {byte:02x}\n" for byte in answered)
+
+
+def long_lines(sides):
+    """The commands of some exchanges in one line, and their replies in the next."""
+    sent, answered = bytearray(), bytearray()
+    for one, other in sides:
+        sent += one
+        answered += other
+        if len(answered) >= LONG_LINE:
+            yield f"> {sent.hex()}\n< {answered.hex()}\n"
+            sent, answered = bytearray(), bytearray()
+
+
+def write_capture(path, make, lines, size):
+    made = 0
+    with open(path, "w") as file:
+        for text in lines(exchanges(make)):
+            file.write(text)
+            made += len(text)
+            if made >= size:
+                return made
+
+
+def run(words):
+    """The status, the seconds and the peak of memory in bytes."""
+    start = time.perf_counter()
+    process = subprocess.Popen(words, stdout=subprocess.DEVNULL)
+    _, status, usage = os.wait4(process.pid, 0)
+    return status, time.perf_counter() - start, usage.ru_maxrss * 1024
+
+
+def main():
+    words = sys.argv[1:]
+    program = os.path.join(ROOT, "crates", "jdwp", "out", "jdwp")
+    if words and not words[0].isdigit():
+        program = os.path.abspath(words.pop(0))
+    sizes = [int(word) for word in words] or [10, 100]
+    packets = {"short packets": short_exchange, "60,000-byte packets": large_exchange}
+    forms = {"one byte a line": byte_lines, "long lines": long_lines}
+    with tempfile.TemporaryDirectory() as folder:
+        path = os.path.join(folder, "capture")
+        for size, (packet, make), (form, lines) in itertools.product(sizes, packets.items(), forms.items()):
+            made = write_capture(path, make, lines, size * 1_000_000)
+            for word in ("check", "show"):
+                runs = [run([program, word, path]) for _ in range(3)]
+                if any(status != 0 for status, _, _ in runs):
+                    sys.exit(f"{word} of {packet}, {form}: status {runs[0][0]}")
+                seconds = min(seconds for _, seconds, _ in runs)
+                peak = max(peak for _, _, peak in runs)
+                print(f"{size} MB, {packet}, {form}: {word} {made / seconds / 1e6:.0f} MB/s, peak {peak / 1e6:.0f} MB, {peak / made:.1f} bytes a byte of text", flush=True)
+
+
+if __name__ == "__main__":
+    main()
