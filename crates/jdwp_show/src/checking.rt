@@ -6,7 +6,7 @@ ghost use Rattle.jdwp_show.specs.Sessions.{BeginsSession, IsFirstFault, verdict}
 use crate::capture_fault::CaptureFault;
 use crate::capture_line::read_capture;
 use crate::items::find_items;
-use crate::judging::{Nobody, find_broken, find_sizes};
+use crate::judging::{NoObserver, find_broken, find_sizes};
 use jdwp_wire::NoMemory;
 use std::alloc::Global;
 
@@ -49,7 +49,7 @@ fn judge(alloc: Global, text: &str) -> Result<Verdict, NoMemory>
     }
     let items = find_items(alloc, &capture)?;
     let sizes = find_sizes(alloc, &items)?;
-    match find_broken(alloc, &sizes, &items, &mut Nobody)? {
+    match find_broken(alloc, &sizes, &items, &mut NoObserver)? {
         None => Ok(Verdict::Yes),
         Some(broken) => Ok(Verdict::No(broken.line, broken.fault)),
     }

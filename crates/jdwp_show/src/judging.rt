@@ -19,21 +19,21 @@ pub(crate) struct Broken {
     pub(crate) fault: CaptureFault,
 }
 
-/// Who is told the items before the first that breaks a rule.
-pub(crate) trait Audience {
+/// Is told each item before the first that breaks a rule.
+pub(crate) trait Observer {
     /// An item, and what those before it say.
     ///
     /// # Errors
     /// `NoMemory` where an allocation was refused.
-    fn hear(&mut self, pending: &Pending, item: &Item) -> Result<(), NoMemory>;
+    fn observe(&mut self, pending: &Pending, item: &Item) -> Result<(), NoMemory>;
 }
 
-/// Who wants the verdict alone.
+/// For the verdict alone.
 #[derive(Drop)]
-pub(crate) struct Nobody;
+pub(crate) struct NoObserver;
 
-impl Audience for Nobody {
-    fn hear(&mut self, _pending: &Pending, _item: &Item) -> Result<(), NoMemory> {
+impl Observer for NoObserver {
+    fn observe(&mut self, _pending: &Pending, _item: &Item) -> Result<(), NoMemory> {
         Ok(())
     }
 }
@@ -57,12 +57,12 @@ pub(crate) fn find_sizes(alloc: Global, items: &[Item]) -> Result<Option<IdSizes
     Ok(None)
 }
 
-/// The first item that breaks a rule under these widths. The audience is told those before it.
-pub(crate) fn find_broken<A: Audience>(
+/// The first item that breaks a rule under these widths. The observer is told each before it.
+pub(crate) fn find_broken<O: Observer>(
     alloc: Global,
     sizes: &Option<IdSizes>,
     items: &[Item],
-    audience: &mut A,
+    observer: &mut O,
 ) -> Result<Option<Broken>, NoMemory>
     ensures { IfOk result (λ broken. option_map (λ b. (b.line, b.fault)) broken ≡ first_answer (fault_answer sizes.now) (map item_of items.now)) }
 {
@@ -72,7 +72,7 @@ pub(crate) fn find_broken<A: Audience>(
             let line = item.line;
             return Ok(Some(Broken { line, fault }));
         }
-        audience.hear(&pending, item)?;
+        observer.observe(&pending, item)?;
         pending.record(item)?;
     }
     Ok(None)

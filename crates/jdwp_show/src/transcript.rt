@@ -2,7 +2,7 @@
 use crate::capture_line::{Capture, Sender};
 use crate::data_text::{push_data, push_raw};
 use crate::found::{Found, Item};
-use crate::judging::Audience;
+use crate::judging::Observer;
 use crate::pending::{Command, Pending};
 use jdwp_layout::{CommandRow, Layout, layout_of, read};
 use jdwp_wire::{DataFault, ErrorCode, HANDSHAKE, IdSizes, NoMemory, PacketKind, PacketRef};
@@ -19,9 +19,9 @@ pub(crate) struct Transcript {
     target: usize,
 }
 
-impl Audience for Transcript {
+impl Observer for Transcript {
     /// Appends the line of an item that breaks no rule.
-    fn hear(&mut self, pending: &Pending, item: &Item) -> Result<(), NoMemory> {
+    fn observe(&mut self, pending: &Pending, item: &Item) -> Result<(), NoMemory> {
         let mark = self.pass(item);
         match item.found {
             Found::Fault(_) => {}
