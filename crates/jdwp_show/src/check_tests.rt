@@ -213,3 +213,38 @@ fn numbers_of_faults(rt: HostRuntime) {
         assert_eq!(rt; fault.printed_number(), printed);
     }
 }
+
+#[test]
+fn texts_of_faults(rt: HostRuntime) -> Result<(), NoMemory> {
+    let rows = [
+        (CaptureFault::BadLine, "fault 51: not a line of a capture"),
+        (
+            CaptureFault::Frame(FrameFault::BadHandshake(3)),
+            "fault 52: fault 4: not the handshake at byte 3",
+        ),
+        (
+            CaptureFault::IdInUse,
+            "fault 53: the id of a command that waits for its reply",
+        ),
+        (
+            CaptureFault::UnknownReply,
+            "fault 54: a reply to no command",
+        ),
+        (
+            CaptureFault::BadData(DataFault::BadTag),
+            "fault 55: fault 13: a bad tag",
+        ),
+        (
+            CaptureFault::ErrorWithData,
+            "fault 55: data in a reply with an error",
+        ),
+        (
+            CaptureFault::WrongWay,
+            "fault 56: a message of the other end",
+        ),
+    ];
+    for (fault, text) in rows {
+        assert_eq!(rt; fault.to_string(rt.alloc())?.as_str(), text);
+    }
+    Ok(())
+}

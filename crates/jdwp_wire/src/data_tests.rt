@@ -1,5 +1,5 @@
 //! Worked examples of data: bytes, booleans, ints, longs and strings.
-use crate::{DataFault, IdSizes, Wire};
+use crate::{DataFault, FrameFault, IdSizes, Wire};
 use std::test::Fail;
 
 /// What a value is as bytes, and that they are taken again before anything.
@@ -94,6 +94,37 @@ fn texts_of_faults(rt: HostRuntime) -> Result<(), Fail> {
         ),
         (DataFault::IdTooWide, 17, "fault 17: an id is too wide"),
         (DataFault::NoMemory, 18, "fault 18: no memory"),
+    ];
+    for (fault, number, text) in rows {
+        assert_eq!(rt; fault.number(), number);
+        assert_eq!(rt; fault.to_string(rt.alloc())?.as_str(), text);
+    }
+    Ok(())
+}
+
+#[test]
+fn texts_of_frame_faults(rt: HostRuntime) -> Result<(), Fail> {
+    let rows = [
+        (
+            FrameFault::ShortLength,
+            1,
+            "fault 1: a packet length below 11",
+        ),
+        (
+            FrameFault::TooLong,
+            2,
+            "fault 2: a packet length above the limit",
+        ),
+        (
+            FrameFault::BadFlags,
+            3,
+            "fault 3: packet flags other than 00 and 80",
+        ),
+        (
+            FrameFault::BadHandshake(5),
+            4,
+            "fault 4: not the handshake at byte 5",
+        ),
     ];
     for (fault, number, text) in rows {
         assert_eq!(rt; fault.number(), number);
