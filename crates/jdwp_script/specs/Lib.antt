@@ -3,3 +3,5 @@ pub mod ScriptFaultNumbers
 pub mod Literals
 pub mod Parts
 pub mod Meanings
+pub mod Reading
+pub mod Scripts

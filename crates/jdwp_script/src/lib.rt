@@ -3,8 +3,11 @@
 
 mod fault;
 mod member;
+mod parts;
+mod reading;
 mod script;
 mod step;
+mod step_parts;
 
 pub use fault::ScriptFault;
 pub use member::Member;
