@@ -1,5 +1,6 @@
 -- Lists of a JSON value, and reading each of their entries as a loop does.
-use Rattle.std.proofs.Common.{◌≡◌, ℕ, ◌+◌, ◌≤◌, ◌<◌, List, [], ◌∷◌, ◌++◌, length, get_or, drop, map, Result, Ok, Err, refl, sym, ap, ◌∙◌, append_assoc}
+use Rattle.std.proofs.Common.{◌≡◌, ℕ, Bool, ◌||◌, ◌+◌, ◌≤◌, ◌<◌, List, [], ◌∷◌, ◌++◌, length, get_or, drop, map, Result, Ok, Err, refl, sym, ap, ◌∙◌, append_assoc}
+use Rattle.std.specs.List.{list_any}
 use Rattle.std.proofs.lemmas.List.{append-nil, drop_more, drop_all, get_or-map}
 use Rattle.serde_json.specs.Data.{Data}
 use Rattle.serde_json.specs.View.{items_of}
@@ -13,6 +14,10 @@ listed-items_of (d ∷ ds) = ap (λ (es : List Data). d ∷ es) (listed-items_of
 
 pub at_map : {A B : Type 0} (f : A → B) (xs : List A) (i : ℕ) (x : A) → i < length xs → x ≡ get_or xs i x → f x ≡ get_or (map f xs) i (f x)
 at_map f xs i x lt is = ap f is ∙ sym (get_or-map f xs i x (f x) lt)
+
+pub any_map : {A B : Type 0} (f : A → B) (p : B → Bool) (xs : List A) → list_any p (map f xs) ≡ list_any (λ x. p (f x)) xs
+any_map f p [] = refl
+any_map f p (x ∷ xs) = ap (λ b. p (f x) || b) (any_map f p xs)
 
 -- what was read before, and what is still read
 abbrev pub with_front : {X : Type 0} → List X → Result (List X) ScriptFault → Result (List X) ScriptFault

@@ -5,3 +5,4 @@ pub mod Parts
 pub mod Meanings
 pub mod Reading
 pub mod Scripts
+pub mod Limits

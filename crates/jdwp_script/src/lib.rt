@@ -2,6 +2,8 @@
 #![tactic(auto)]
 
 mod fault;
+mod judge;
+mod limits;
 mod member;
 mod parts;
 mod reading;
