@@ -1,3 +1,3 @@
 pub mod GrammarLaws
 pub mod Progress
-pub mod Passed
+pub mod Keeps

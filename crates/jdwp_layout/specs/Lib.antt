@@ -6,4 +6,5 @@ pub mod Meanings
 pub mod Grammar
 pub mod Reads
 pub mod Writes
+pub mod Keeping
 pub mod Skips

@@ -1,11 +1,15 @@
 //! Reading data by a layout.
-ghost use Rattle.std.specs.Prelude.{◌≡◌, List, map, IfOk, IfErr, Ok};
+ghost use Rattle.std.specs.Prelude.{◌≡◌, List, map, IfOk, IfErr, Ok, Some};
+ghost use Rattle.std.specs.Result.{IsErrOf};
+ghost use Rattle.jdwp_wire.specs.declared.data_fault.DataFault.TheVariants.{NoMemory};
 ghost use Rattle.jdwp_wire.specs.Reading.{Gives, Blames};
 ghost use Rattle.jdwp_wire.specs.Each.{each_at, times_at, with_front};
 ghost use Rattle.jdwp_layout.specs.Shapes.{item_shape, entry_shape, shapes, shape, found_fields};
 ghost use Rattle.jdwp_layout.specs.Meanings.{DatumMeaning, scalar_meaning, scalar_meanings, entry_meaning, entry_meanings, datum_meaning, meanings};
 ghost use Rattle.jdwp_layout.specs.ModifiersAndEvents.{modifier_fields, event_fields};
 ghost use Rattle.jdwp_layout.specs.Grammar.{EncodesData, DataFaults};
+ghost use Rattle.jdwp_layout.specs.declared.item.Field.{Field};
+ghost use Rattle.jdwp_layout.specs.Keeping.{FieldIsKept, FieldsAreKept, EntryIsKept, EntriesAreKept, ItemIsKept, DataAreKept};
 ghost use Rattle.jdwp_layout.specs.Reads.{field_at, fields_at, fields_of_at, entry_at, item_at, items_at, data_at};
 
 use crate::datum::{Datum, Scalar};
@@ -24,7 +28,8 @@ use std::alloc::Global;
 /// # Errors
 /// The first fault from the left: `Short` with the length of the slice where an item calls for more bytes than are
 /// left, `BadTag`, `NegativeCount` or `NotUtf8`; where each item is encoded and bytes are left over, `Extra` with the
-/// number of bytes used. `NoMemory` where an allocation was refused.
+/// number of bytes used. `NoMemory` where an allocation was refused, and only where the first item stands in front, or
+/// something in it that has to be kept: a string, an entry of a list or an element of a region.
 pub fn read(
     alloc: Global,
     layout: &Layout,
@@ -39,6 +44,8 @@ pub fn read(
     ensures fault { IfErr result (λ f. Blames (DataFaults sizes.now (shape layout.now)) bytes.now f) }
     // All of this as a function of the slice.
     ensures value { Gives (λ v. meanings v.items) result (data_at sizes.now (shape layout.now) bytes.now) }
+    // Memory is wanted only where something stands in front that has to be kept.
+    ensures memory { IsErrOf result NoMemory → DataAreKept sizes.now (shape layout.now) bytes.now }
 {
     read_whole(alloc, layout.items, sizes, bytes)
 }
@@ -50,7 +57,8 @@ fn read_whole(
     sizes: &IdSizes,
     bytes: &[u8],
 ) -> Result<Vec<Datum>, DataFault>
-    ensures { Gives (λ v. meanings v.items) result (data_at sizes.now (shapes items.now) bytes.now) }
+    ensures value { Gives (λ v. meanings v.items) result (data_at sizes.now (shapes items.now) bytes.now) }
+    ensures memory { IsErrOf result NoMemory → DataAreKept sizes.now (shapes items.now) bytes.now }
 {
     let (held, rest) = take_items(alloc, items, bytes, bytes.len(), sizes)?;
     if !rest.is_empty() {
@@ -67,7 +75,8 @@ fn take_items<'a>(
     whole: usize,
     sizes: &IdSizes,
 ) -> Result<(Vec<Datum>, &'a [u8]), DataFault>
-    ensures { Gives (λ x. (meanings x.0.items, x.1.now)) result (items_at sizes.now whole (shapes items.now) bytes.now) }
+    ensures value { Gives (λ x. (meanings x.0.items, x.1.now)) result (items_at sizes.now whole (shapes items.now) bytes.now) }
+    ensures memory { IsErrOf result NoMemory → DataAreKept sizes.now (shapes items.now) bytes.now }
 {
     let mut held = Vec::new(alloc);
     let mut rest = bytes;
@@ -87,7 +96,8 @@ fn take_item<'a>(
     whole: usize,
     sizes: &IdSizes,
 ) -> Result<(Datum, &'a [u8]), DataFault>
-    ensures { Gives (λ x. (datum_meaning x.0, x.1.now)) result (item_at sizes.now whole (item_shape item) rest.now) }
+    ensures value { Gives (λ x. (datum_meaning x.0, x.1.now)) result (item_at sizes.now whole (item_shape item) rest.now) }
+    ensures memory { IsErrOf result NoMemory → ItemIsKept sizes.now (item_shape item) rest.now }
 {
     match item {
         Item::One(field) => {
@@ -115,7 +125,8 @@ fn take_entries<'a>(
     whole: usize,
     sizes: &IdSizes,
 ) -> Result<(Vec<Vec<Scalar>>, &'a [u8]), DataFault>
-    ensures { Gives (λ x. (entry_meanings x.0.items, x.1.now)) result (times_at (entry_at sizes.now whole (entry_shape entry)) count bytes.now) }
+    ensures value { Gives (λ x. (entry_meanings x.0.items, x.1.now)) result (times_at (entry_at sizes.now whole (entry_shape entry)) count bytes.now) }
+    ensures memory { IsErrOf result NoMemory → EntriesAreKept sizes.now (entry_shape entry) count bytes.now }
 {
     let mut entries = Vec::new(alloc);
     let mut rest = bytes;
@@ -135,7 +146,8 @@ fn take_entry<'a>(
     whole: usize,
     sizes: &IdSizes,
 ) -> Result<(Vec<Scalar>, &'a [u8]), DataFault>
-    ensures { Gives (λ x. (entry_meaning x.0, x.1.now)) result (entry_at sizes.now whole (entry_shape entry) rest.now) }
+    ensures value { Gives (λ x. (entry_meaning x.0, x.1.now)) result (entry_at sizes.now whole (entry_shape entry) rest.now) }
+    ensures memory { IsErrOf result NoMemory → EntryIsKept sizes.now (entry_shape entry) rest.now }
 {
     match entry {
         Entry::Fields(fields) => {
@@ -163,7 +175,8 @@ fn take_fields_of<'a>(
     whole: usize,
     sizes: &IdSizes,
 ) -> Result<(Vec<Scalar>, &'a [u8]), DataFault>
-    ensures { Gives (λ x. (entry_meaning x.0, x.1.now)) result (fields_of_at sizes.now whole kind (found_fields found.entry) rest.now) }
+    ensures value { Gives (λ x. (entry_meaning x.0, x.1.now)) result (fields_of_at sizes.now whole kind (found_fields found.entry) rest.now) }
+    ensures memory { IsErrOf result NoMemory → (fields : List Field) × (found_fields found.entry ≡ Some fields) }
 {
     match found {
         None => Err(DataFault::BadTag),
@@ -185,7 +198,8 @@ fn take_fields<'a>(
     whole: usize,
     sizes: &IdSizes,
 ) -> Result<&'a [u8], DataFault>
-    ensures { Gives (λ x. (scalar_meanings scalars.new.items, x.now)) result (with_front (scalar_meanings scalars.old.items) (fields_at sizes.now whole fields.now bytes.now)) }
+    ensures value { Gives (λ x. (scalar_meanings scalars.new.items, x.now)) result (with_front (scalar_meanings scalars.old.items) (fields_at sizes.now whole fields.now bytes.now)) }
+    ensures memory { IsErrOf result NoMemory → FieldsAreKept sizes.now fields.now bytes.now }
 {
     let mut rest = bytes;
     for field in fields {
@@ -204,7 +218,8 @@ fn take_field<'a>(
     whole: usize,
     sizes: &IdSizes,
 ) -> Result<(Scalar, &'a [u8]), DataFault>
-    ensures { Gives (λ x. (scalar_meaning x.0, x.1.now)) result (field_at sizes.now whole field rest.now) }
+    ensures value { Gives (λ x. (scalar_meaning x.0, x.1.now)) result (field_at sizes.now whole field rest.now) }
+    ensures memory { IsErrOf result NoMemory → FieldIsKept field rest.now }
 {
     match field {
         Field::Byte => {

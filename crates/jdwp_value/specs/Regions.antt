@@ -1,11 +1,12 @@
 -- Array regions (JDWP specification, "Data Types", arrayregion): a tag, a count and the elements. Elements without
 -- references have no tags of their own; objects are tagged values, with the tags of objects alone.
-use Rattle.std.specs.Prelude.{◌≡◌, ℕ, ◌+◌, ◌==◌, List, ◌∷◌, Bool, true, false, Option, if◌then◌else◌}
+use Rattle.std.specs.Prelude.{◌≡◌, ℕ, ◌+◌, ◌^◌, ◌<◌, ◌==◌, List, ◌∷◌, ◌++◌, Bool, true, false, Option, if◌then◌else◌}
 use Rattle.std.specs.List.{list_all}
+use Rattle.byteorder.specs.Endian.{big_bytes}
 use Rattle.jdwp_wire.specs.declared.data_fault.DataFault.{DataFault}
 use Rattle.jdwp_wire.specs.declared.data_fault.DataFault.TheVariants.{BadTag}
 use Rattle.jdwp_wire.specs.Widths.{Widths}
-use Rattle.jdwp_wire.specs.Reading.{Reader, Encoding, Faults}
+use Rattle.jdwp_wire.specs.Reading.{Reader, Encoding, Faults, BeginsWith}
 use Rattle.jdwp_wire.specs.Sequence.{seq, FirstFault, mapped, unless, UnlessFault}
 use Rattle.jdwp_wire.specs.Numbers.{NumberFault}
 use Rattle.jdwp_wire.specs.Listed.{list_at, EncodesList, list_canonical, ListFault, list_refusal}
@@ -64,6 +65,11 @@ ElementFault w whole t = ElementFaultBy (is_object t) w whole t
 abbrev pub EncodesRegion : Widths → Encoding Region
 EncodesRegion w r code =
     (is_void r.tag ≡ false) × (items : List ℕ) × EncodesList (EncodesElement w r.tag) r.elements items × (code ≡ tag_byte r.tag ∷ items)
+
+-- a tag and a count stand in front, and behind them at least one element, which has to be kept
+abbrev pub RegionIsKept : Widths → List ℕ → Type 0
+RegionIsKept w bytes =
+    (t : Tag) × (n : ℕ) × (items : List ℕ) × (is_void t ≡ false) × (0 < n) × (n < 2 ^ 31) × (bytes ≡ tag_byte t ∷ (big_bytes 4 n ++ items)) × BeginsWith (EncodesElement w t) items
 
 abbrev pub region_canonical : Widths → Region → List ℕ
 region_canonical w r = tag_byte r.tag ∷ list_canonical (element_canonical w r.tag) r.elements

@@ -1,10 +1,14 @@
 //! Ids, each kind of its own width (JDWP specification, "Data Types": objectID, referenceTypeID, methodID, fieldID, frameID).
-ghost use Rattle.std.specs.Prelude.{ℕ};
+ghost use Rattle.std.specs.Prelude.{◌≡◌, ◌<◌, ◌≤◌, ◌+◌, ℕ, length, OnOk, IfErr, vec_len, vec_capacity};
+ghost use Rattle.std.specs.Result.{IsErrOf};
+ghost use Rattle.jdwp_wire.specs.declared.data_fault.DataFault.TheVariants.{NoMemory};
+ghost use Rattle.jdwp_wire.specs.Reading.{Written, Refused};
+ghost use Rattle.jdwp_wire.specs.Widths.{IsWidth};
 ghost use Rattle.byteorder.specs.Endian.{big_bytes};
 ghost use Rattle.jdwp_wire.specs.Numbers.{EncodesNumber, NumberFault, number_at, id_refusal};
 ghost use Rattle.jdwp_wire.specs.NumberLaws.{number_codes, id_unrefused};
 
-use jdwp_wire::number::{fits, put_number, take_number};
+use jdwp_wire::number::{fits, pass_bytes, put_number, take_number};
 use jdwp_wire::{DataFault, IdSizes, Wire};
 use std::alloc::Global;
 
@@ -27,18 +31,14 @@ impl Wire for ObjectId {
 
     ghost decoded = { λ w. number_at w.object };
 
-    ghost takes_memory = { ⊥ };
+    ghost takes_memory = { λ _ _. ⊥ };
 
     fn size(&self, sizes: &IdSizes) -> Option<usize> {
         Some(sizes.object() as usize)
     }
 
     fn put(&self, sizes: &IdSizes, output: &mut Vec<u8>) -> Result<(), DataFault> {
-        let width = sizes.object() as usize;
-        if !fits(self.0, width) {
-            return Err(DataFault::IdTooWide);
-        }
-        put_number(self.0, width, output)
+        put_id(self.0, sizes.object() as usize, output)
     }
 
     fn take_front<'a>(
@@ -49,6 +49,14 @@ impl Wire for ObjectId {
     ) -> Result<(ObjectId, &'a [u8]), DataFault> {
         let (id, rest) = take_number(rest, whole, sizes.object() as usize)?;
         Ok((ObjectId(id), rest))
+    }
+
+    fn pass_front<'a>(
+        rest: &'a [u8],
+        whole: usize,
+        sizes: &IdSizes,
+    ) -> Result<&'a [u8], DataFault> {
+        pass_bytes(rest, whole, sizes.object() as usize)
     }
 
     ghost found = { λ w whole. (number_codes w.object whole).found };
@@ -81,18 +89,14 @@ impl Wire for ReferenceTypeId {
 
     ghost decoded = { λ w. number_at w.reference };
 
-    ghost takes_memory = { ⊥ };
+    ghost takes_memory = { λ _ _. ⊥ };
 
     fn size(&self, sizes: &IdSizes) -> Option<usize> {
         Some(sizes.reference() as usize)
     }
 
     fn put(&self, sizes: &IdSizes, output: &mut Vec<u8>) -> Result<(), DataFault> {
-        let width = sizes.reference() as usize;
-        if !fits(self.0, width) {
-            return Err(DataFault::IdTooWide);
-        }
-        put_number(self.0, width, output)
+        put_id(self.0, sizes.reference() as usize, output)
     }
 
     fn take_front<'a>(
@@ -103,6 +107,14 @@ impl Wire for ReferenceTypeId {
     ) -> Result<(ReferenceTypeId, &'a [u8]), DataFault> {
         let (id, rest) = take_number(rest, whole, sizes.reference() as usize)?;
         Ok((ReferenceTypeId(id), rest))
+    }
+
+    fn pass_front<'a>(
+        rest: &'a [u8],
+        whole: usize,
+        sizes: &IdSizes,
+    ) -> Result<&'a [u8], DataFault> {
+        pass_bytes(rest, whole, sizes.reference() as usize)
     }
 
     ghost found = { λ w whole. (number_codes w.reference whole).found };
@@ -135,18 +147,14 @@ impl Wire for MethodId {
 
     ghost decoded = { λ w. number_at w.method };
 
-    ghost takes_memory = { ⊥ };
+    ghost takes_memory = { λ _ _. ⊥ };
 
     fn size(&self, sizes: &IdSizes) -> Option<usize> {
         Some(sizes.method() as usize)
     }
 
     fn put(&self, sizes: &IdSizes, output: &mut Vec<u8>) -> Result<(), DataFault> {
-        let width = sizes.method() as usize;
-        if !fits(self.0, width) {
-            return Err(DataFault::IdTooWide);
-        }
-        put_number(self.0, width, output)
+        put_id(self.0, sizes.method() as usize, output)
     }
 
     fn take_front<'a>(
@@ -157,6 +165,14 @@ impl Wire for MethodId {
     ) -> Result<(MethodId, &'a [u8]), DataFault> {
         let (id, rest) = take_number(rest, whole, sizes.method() as usize)?;
         Ok((MethodId(id), rest))
+    }
+
+    fn pass_front<'a>(
+        rest: &'a [u8],
+        whole: usize,
+        sizes: &IdSizes,
+    ) -> Result<&'a [u8], DataFault> {
+        pass_bytes(rest, whole, sizes.method() as usize)
     }
 
     ghost found = { λ w whole. (number_codes w.method whole).found };
@@ -189,18 +205,14 @@ impl Wire for FieldId {
 
     ghost decoded = { λ w. number_at w.field };
 
-    ghost takes_memory = { ⊥ };
+    ghost takes_memory = { λ _ _. ⊥ };
 
     fn size(&self, sizes: &IdSizes) -> Option<usize> {
         Some(sizes.field() as usize)
     }
 
     fn put(&self, sizes: &IdSizes, output: &mut Vec<u8>) -> Result<(), DataFault> {
-        let width = sizes.field() as usize;
-        if !fits(self.0, width) {
-            return Err(DataFault::IdTooWide);
-        }
-        put_number(self.0, width, output)
+        put_id(self.0, sizes.field() as usize, output)
     }
 
     fn take_front<'a>(
@@ -211,6 +223,14 @@ impl Wire for FieldId {
     ) -> Result<(FieldId, &'a [u8]), DataFault> {
         let (id, rest) = take_number(rest, whole, sizes.field() as usize)?;
         Ok((FieldId(id), rest))
+    }
+
+    fn pass_front<'a>(
+        rest: &'a [u8],
+        whole: usize,
+        sizes: &IdSizes,
+    ) -> Result<&'a [u8], DataFault> {
+        pass_bytes(rest, whole, sizes.field() as usize)
     }
 
     ghost found = { λ w whole. (number_codes w.field whole).found };
@@ -243,18 +263,14 @@ impl Wire for FrameId {
 
     ghost decoded = { λ w. number_at w.frame };
 
-    ghost takes_memory = { ⊥ };
+    ghost takes_memory = { λ _ _. ⊥ };
 
     fn size(&self, sizes: &IdSizes) -> Option<usize> {
         Some(sizes.frame() as usize)
     }
 
     fn put(&self, sizes: &IdSizes, output: &mut Vec<u8>) -> Result<(), DataFault> {
-        let width = sizes.frame() as usize;
-        if !fits(self.0, width) {
-            return Err(DataFault::IdTooWide);
-        }
-        put_number(self.0, width, output)
+        put_id(self.0, sizes.frame() as usize, output)
     }
 
     fn take_front<'a>(
@@ -267,6 +283,14 @@ impl Wire for FrameId {
         Ok((FrameId(id), rest))
     }
 
+    fn pass_front<'a>(
+        rest: &'a [u8],
+        whole: usize,
+        sizes: &IdSizes,
+    ) -> Result<&'a [u8], DataFault> {
+        pass_bytes(rest, whole, sizes.frame() as usize)
+    }
+
     ghost found = { λ w whole. (number_codes w.frame whole).found };
 
     ghost again = { λ w whole. (number_codes w.frame whole).again };
@@ -276,4 +300,18 @@ impl Wire for FrameId {
     ghost judged = { λ w whole. (number_codes w.frame whole).judged };
 
     ghost unrefused = { λ w. id_unrefused w.frame };
+}
+
+/// Appends an id of this width.
+fn put_id(id: u64, width: usize, output: &mut Vec<u8>) -> Result<(), DataFault>
+    requires { IsWidth width }
+    ensures ok { OnOk result (Written (EncodesNumber width id) (big_bytes width id) output.old.items output.new.items) }
+    ensures err { IfErr result (λ e. (output.new.items ≡ output.old.items) × Refused e (id_refusal width id)) }
+    ensures room { vec_len output.old + length (big_bytes width id) ≤ vec_capacity output.old → IsErrOf result NoMemory → ⊥ }
+    ensures capacity { vec_capacity output.old ≤ vec_capacity output.new }
+{
+    if !fits(id, width) {
+        return Err(DataFault::IdTooWide);
+    }
+    put_number(id, width, output)
 }

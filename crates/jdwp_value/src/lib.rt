@@ -11,7 +11,7 @@ pub use id::{FieldId, FrameId, MethodId, ObjectId, ReferenceTypeId};
 pub use location::{Location, TypeTag};
 pub use region::ArrayRegion;
 pub use tag::{ObjectTag, Tag};
-pub use value::{TaggedId, Value, put_untagged, take_untagged, untagged_size};
+pub use value::{TaggedId, Value, pass_untagged, put_untagged, take_untagged, untagged_size};
 
 #[cfg(test)]
 mod tests;

@@ -1,14 +1,14 @@
 //! Locations (JDWP specification, "Data Types": location).
-ghost use Rattle.std.specs.Prelude.{◌≡◌, ◌≤◌, ◌+◌, length, take, OnOk, IfErr, vec_len, vec_capacity};
+ghost use Rattle.std.specs.Prelude.{◌≡◌, ◌≤◌, ◌+◌, length, take, OnOk, IfOk, IfErr, vec_len, vec_capacity};
 ghost use Rattle.std.specs.Result.{IsErrOf};
 ghost use Rattle.jdwp_wire.specs.declared.data_fault.DataFault.TheVariants.{NoMemory};
-ghost use Rattle.jdwp_wire.specs.Reading.{Written, Refused};
+ghost use Rattle.jdwp_wire.specs.Reading.{Gives, Written, Refused};
 ghost use Rattle.jdwp_value.specs.declared.location.Location.{Location};
 ghost use Rattle.jdwp_value.specs.Locations.{EncodesLocation, location_canonical, location_refusal, LocationFault, location_at};
 ghost use Rattle.jdwp_value.specs.LocationLaws.{location_codes, location_unrefused};
 
 use crate::id::{MethodId, ReferenceTypeId};
-use jdwp_wire::number::{put_number, take_number};
+use jdwp_wire::number::{put_number, take_byte, take_number};
 use jdwp_wire::{DataFault, IdSizes, Wire};
 use std::alloc::Global;
 
@@ -56,7 +56,7 @@ impl Wire for Location {
 
     ghost decoded = { location_at };
 
-    ghost takes_memory = { ⊥ };
+    ghost takes_memory = { λ _ _. ⊥ };
 
     fn size(&self, sizes: &IdSizes) -> Option<usize> {
         Some(9 + sizes.reference() as usize + sizes.method() as usize)
@@ -72,38 +72,21 @@ impl Wire for Location {
     }
 
     fn take_front<'a>(
-        alloc: Global,
+        _alloc: Global,
         rest: &'a [u8],
         whole: usize,
         sizes: &IdSizes,
     ) -> Result<(Location, &'a [u8]), DataFault> {
-        let (tag, rest) = u8::take_front(alloc, rest, whole, sizes)?;
-        if tag > 3 {
-            return Err(DataFault::BadTag);
-        }
-        let (class, rest) = ReferenceTypeId::take_front(alloc, rest, whole, sizes)?;
-        let (method, rest) = MethodId::take_front(alloc, rest, whole, sizes)?;
-        let (index, rest) = take_number(rest, whole, 8)?;
-        let tag = match tag {
-            0 => {
-                if class.0 == 0 && (method.0 == 0 && index == 0) {
-                    return Ok((Location::Null, rest));
-                }
-                return Err(DataFault::BadTag);
-            }
-            1 => TypeTag::Class,
-            2 => TypeTag::Interface,
-            _ => TypeTag::Array,
-        };
-        Ok((
-            Location::At {
-                tag,
-                class,
-                method,
-                index,
-            },
-            rest,
-        ))
+        take_location(rest, whole, sizes)
+    }
+
+    fn pass_front<'a>(
+        rest: &'a [u8],
+        whole: usize,
+        sizes: &IdSizes,
+    ) -> Result<&'a [u8], DataFault> {
+        let (_location, rest) = take_location(rest, whole, sizes)?;
+        Ok(rest)
     }
 
     ghost found = { λ w whole. (location_codes w whole).found };
@@ -115,6 +98,43 @@ impl Wire for Location {
     ghost judged = { λ w whole. (location_codes w whole).judged };
 
     ghost unrefused = { location_unrefused };
+}
+
+/// The location at the front of the rest of a slice of `whole` bytes, and what follows it.
+fn take_location<'a>(
+    rest: &'a [u8],
+    whole: usize,
+    sizes: &IdSizes,
+) -> Result<(Location, &'a [u8]), DataFault>
+    ensures value { Gives (λ x. (x.0, x.1.now)) result (location_at sizes.now whole rest.now) }
+    ensures shorter { IfOk result (λ x. length x.1.now ≤ length rest.now) }
+    ensures memory { IsErrOf result NoMemory → ⊥ }
+{
+    let (tag, rest) = take_byte(rest, whole)?;
+    if tag > 3 {
+        return Err(DataFault::BadTag);
+    }
+    let (class, rest) = take_number(rest, whole, sizes.reference() as usize)?;
+    let (method, rest) = take_number(rest, whole, sizes.method() as usize)?;
+    let (index, rest) = take_number(rest, whole, 8)?;
+    let tag = match tag {
+        0 => {
+            if class == 0 && (method == 0 && index == 0) {
+                return Ok((Location::Null, rest));
+            }
+            return Err(DataFault::BadTag);
+        }
+        1 => TypeTag::Class,
+        2 => TypeTag::Interface,
+        _ => TypeTag::Array,
+    };
+    let location = Location::At {
+        tag,
+        class: ReferenceTypeId(class),
+        method: MethodId(method),
+        index,
+    };
+    Ok((location, rest))
 }
 
 /// Appends the parts, and may stop on the way.

@@ -1,17 +1,21 @@
 //! Array regions (JDWP specification, "Data Types": arrayregion).
-ghost use Rattle.std.specs.Prelude.{◌≡◌, ◌≤◌, ◌+◌, ◌<◌, ◌^◌, ◌↔◌, IsTrue, IsSome, IfSome, true, length, take, List, IfOk, OnOk, IfErr, vec_len, vec_capacity};
+ghost use Rattle.std.specs.Prelude.{◌≡◌, ◌≤◌, ◌+◌, ◌<◌, ◌^◌, ◌↔◌, IsTrue, IsSome, IfSome, true, false, Ok, Err, length, take, List, IfOk, OnOk, IfErr, vec_len, vec_capacity};
 ghost use Rattle.std.specs.List.{list_all, flat_map};
 ghost use Rattle.std.specs.Result.{IsErrOf};
 ghost use Rattle.jdwp_wire.specs.declared.data_fault.DataFault.TheVariants.{NoMemory};
-ghost use Rattle.jdwp_wire.specs.Reading.{Gives, Written, Refused};
+ghost use Rattle.jdwp_wire.specs.Reading.{Gives, passed, BeginsWith, Written, Refused};
 ghost use Rattle.jdwp_wire.specs.Each.{times_at, EncodesAll};
 ghost use Rattle.jdwp_wire.specs.Listed.{first_refusal};
-ghost use Rattle.jdwp_value.specs.Values.{value_refusal};
-ghost use Rattle.jdwp_value.specs.Regions.{Region, region_of, may_stand, is_region, EncodesElement, element_canonical, element_width, element_at, EncodesRegion, region_canonical, region_refusal, RegionFault, region_at};
+ghost use Rattle.jdwp_wire.specs.Widths.{Widths};
+ghost use Rattle.jdwp_value.specs.Tags.{tag_at};
+ghost use Rattle.jdwp_value.specs.Values.{value_refusal, is_void};
+ghost use Rattle.jdwp_value.specs.Regions.{Region, region_of, may_stand, is_region, EncodesElement, element_canonical, element_width, element_at, EncodesRegion, region_canonical, region_refusal, RegionFault, RegionIsKept, region_at};
 ghost use Rattle.jdwp_value.specs.RegionLaws.{region_codes, region_unrefused};
 
-use crate::tag::Tag;
-use crate::value::{TaggedId, Value, put_untagged, take_untagged, untagged_size};
+use crate::tag::{Tag, take_tag};
+use crate::value::{
+    TaggedId, Value, pass_untagged, put_untagged, take_tagged_id, take_untagged, untagged_size,
+};
 use jdwp_wire::number::{put_number, take_count};
 use jdwp_wire::{DataFault, IdSizes, Wire};
 use std::alloc::Global;
@@ -78,7 +82,7 @@ impl Wire for ArrayRegion {
 
     ghost decoded = { region_at };
 
-    ghost takes_memory = { Unit {0} };
+    ghost takes_memory = { RegionIsKept };
 
     fn size(&self, sizes: &IdSizes) -> Option<usize> {
         let each = element_size(self.tag, sizes);
@@ -103,13 +107,20 @@ impl Wire for ArrayRegion {
         whole: usize,
         sizes: &IdSizes,
     ) -> Result<(ArrayRegion, &'a [u8]), DataFault> {
-        let (tag, rest) = Tag::take_front(alloc, rest, whole, sizes)?;
-        if tag.is_void() {
-            return Err(DataFault::BadTag);
-        }
+        let (tag, rest) = take_region_tag(rest, whole)?;
         let (count, rest) = take_count(rest, whole)?;
         let (elements, rest) = take_elements(alloc, tag, count, rest, whole, sizes)?;
         Ok((ArrayRegion { tag, elements }, rest))
+    }
+
+    fn pass_front<'a>(
+        rest: &'a [u8],
+        whole: usize,
+        sizes: &IdSizes,
+    ) -> Result<&'a [u8], DataFault> {
+        let (tag, rest) = take_region_tag(rest, whole)?;
+        let (count, rest) = take_count(rest, whole)?;
+        pass_elements(tag, count, rest, whole, sizes)
     }
 
     ghost found = { λ w whole. (region_codes w whole).found };
@@ -121,6 +132,20 @@ impl Wire for ArrayRegion {
     ghost judged = { λ w whole. (region_codes w whole).judged };
 
     ghost unrefused = { region_unrefused };
+}
+
+/// The tag of the region at the front of the rest of a slice of `whole` bytes, and what follows it.
+fn take_region_tag(rest: &[u8], whole: usize) -> Result<(Tag, &[u8]), DataFault>
+    ensures ok { IfOk result (λ x. (tag_at whole rest.now ≡ Ok (x.0, x.1.now)) × (is_void x.0 ≡ false)) }
+    ensures err { IfErr result (λ e. (w : Widths) → region_at w whole rest.now ≡ Err e) }
+    ensures shorter { IfOk result (λ x. length x.1.now ≤ length rest.now) }
+    ensures memory { IsErrOf result NoMemory → ⊥ }
+{
+    let (tag, rest) = take_tag(rest, whole)?;
+    if tag.is_void() {
+        return Err(DataFault::BadTag);
+    }
+    Ok((tag, rest))
 }
 
 /// Whether each value may stand in a region of this tag.
@@ -160,7 +185,6 @@ fn element_size(tag: Tag, sizes: &IdSizes) -> usize
 
 /// The element at the front of the rest of a slice of `whole` bytes, and what follows it.
 fn take_element<'a>(
-    alloc: Global,
     tag: Tag,
     rest: &'a [u8],
     whole: usize,
@@ -169,12 +193,30 @@ fn take_element<'a>(
     ensures value { Gives (λ x. (x.0, x.1.now)) result (element_at sizes.now whole tag rest.now) }
     ensures fits { IfOk result (λ x. may_stand tag x.0 ≡ true) }
     ensures shorter { IfOk result (λ x. length x.1.now ≤ length rest.now) }
+    ensures memory { IsErrOf result NoMemory → ⊥ }
 {
     if tag.is_object() {
-        let (tagged, rest) = TaggedId::take_front(alloc, rest, whole, sizes)?;
+        let (tagged, rest) = take_tagged_id(rest, whole, sizes)?;
         Ok((Value::Object(tagged), rest))
     } else {
-        take_untagged(alloc, tag, rest, whole, sizes)
+        take_untagged(tag, rest, whole, sizes)
+    }
+}
+
+/// What follows the element.
+fn pass_element<'a>(
+    tag: Tag,
+    rest: &'a [u8],
+    whole: usize,
+    sizes: &IdSizes,
+) -> Result<&'a [u8], DataFault>
+    ensures value { Gives (λ after. after.now) result (passed (element_at sizes.now whole tag rest.now)) }
+    ensures memory { IsErrOf result NoMemory → ⊥ }
+{
+    if tag.is_object() {
+        TaggedId::pass_front(rest, whole, sizes)
+    } else {
+        pass_untagged(tag, rest, whole, sizes)
     }
 }
 
@@ -190,15 +232,35 @@ fn take_elements<'a>(
     ensures value { Gives (λ x. (x.0.items, x.1.now)) result (times_at (element_at sizes.now whole tag) count bytes.now) }
     ensures fits { IfOk result (λ x. list_all (may_stand tag) x.0.items ≡ true) }
     ensures shorter { IfOk result (λ x. length x.1.now ≤ length bytes.now) }
+    ensures memory { IsErrOf result NoMemory → (0 < count) × BeginsWith (EncodesElement sizes.now tag) bytes.now }
 {
     let mut values = Vec::new(alloc);
     let mut rest = bytes;
     for _ in 0..count {
-        let (value, after) = take_element(alloc, tag, rest, whole, sizes)?;
+        let (value, after) = take_element(tag, rest, whole, sizes)?;
         values.push(value)?;
         rest = after;
     }
     Ok((values, rest))
+}
+
+/// What follows `count` elements.
+fn pass_elements<'a>(
+    tag: Tag,
+    count: usize,
+    bytes: &'a [u8],
+    whole: usize,
+    sizes: &IdSizes,
+) -> Result<&'a [u8], DataFault>
+    ensures value { Gives (λ after. after.now) result (passed (times_at (element_at sizes.now whole tag) count bytes.now)) }
+    ensures memory { IsErrOf result NoMemory → ⊥ }
+{
+    let mut rest = bytes;
+    for _ in 0..count {
+        let after = pass_element(tag, rest, whole, sizes)?;
+        rest = after;
+    }
+    Ok(rest)
 }
 
 /// Appends an element.

@@ -1,10 +1,14 @@
 //! Tags (JDWP specification, "Tag Constants").
-ghost use Rattle.std.specs.Prelude.{◌≡◌, None, [], ◌∷◌, refl};
+ghost use Rattle.std.specs.Prelude.{◌≡◌, ◌≤◌, None, [], ◌∷◌, length, IfOk, refl};
+ghost use Rattle.std.specs.Result.{IsErrOf};
+ghost use Rattle.jdwp_wire.specs.declared.data_fault.DataFault.TheVariants.{NoMemory};
+ghost use Rattle.jdwp_wire.specs.Reading.{Gives};
 ghost use Rattle.jdwp_value.specs.declared.tag.Tag.{Tag};
 ghost use Rattle.jdwp_value.specs.Tags.{object_byte, tag_byte, EncodesTag, TagFault, tag_of_byte, tag_at};
 ghost use Rattle.jdwp_value.specs.Values.{is_object, is_void};
 ghost use Rattle.jdwp_value.specs.TagLaws.{tag_codes};
 
+use jdwp_wire::number::take_byte;
 use jdwp_wire::{DataFault, IdSizes, Wire};
 use std::alloc::Global;
 
@@ -150,7 +154,7 @@ impl Wire for Tag {
 
     ghost decoded = { λ _. tag_at };
 
-    ghost takes_memory = { ⊥ };
+    ghost takes_memory = { λ _ _. ⊥ };
 
     fn size(&self, _sizes: &IdSizes) -> Option<usize> {
         Some(1)
@@ -162,16 +166,21 @@ impl Wire for Tag {
     }
 
     fn take_front<'a>(
-        alloc: Global,
+        _alloc: Global,
         rest: &'a [u8],
         whole: usize,
-        sizes: &IdSizes,
+        _sizes: &IdSizes,
     ) -> Result<(Tag, &'a [u8]), DataFault> {
-        let (byte, rest) = u8::take_front(alloc, rest, whole, sizes)?;
-        match Tag::of_byte(byte) {
-            Some(tag) => Ok((tag, rest)),
-            None => Err(DataFault::BadTag),
-        }
+        take_tag(rest, whole)
+    }
+
+    fn pass_front<'a>(
+        rest: &'a [u8],
+        whole: usize,
+        _sizes: &IdSizes,
+    ) -> Result<&'a [u8], DataFault> {
+        let (_tag, rest) = take_tag(rest, whole)?;
+        Ok(rest)
     }
 
     ghost found = { λ _ whole. (tag_codes whole).found };
@@ -183,4 +192,17 @@ impl Wire for Tag {
     ghost judged = { λ _ whole. (tag_codes whole).judged };
 
     ghost unrefused = { λ _ _ _ _. refl };
+}
+
+/// The tag at the front of the rest of a slice of `whole` bytes, and what follows it.
+pub(crate) fn take_tag(rest: &[u8], whole: usize) -> Result<(Tag, &[u8]), DataFault>
+    ensures value { Gives (λ x. (x.0, x.1.now)) result (tag_at whole rest.now) }
+    ensures shorter { IfOk result (λ x. length x.1.now ≤ length rest.now) }
+    ensures memory { IsErrOf result NoMemory → ⊥ }
+{
+    let (byte, rest) = take_byte(rest, whole)?;
+    match Tag::of_byte(byte) {
+        Some(tag) => Ok((tag, rest)),
+        None => Err(DataFault::BadTag),
+    }
 }

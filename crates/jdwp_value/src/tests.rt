@@ -8,7 +8,7 @@ use std::alloc::Global;
 use std::process::Abort;
 use std::test::Fail;
 
-/// What a value is as bytes, which `size` counts.
+/// What a value is as bytes, which `size` counts and `pass_front` passes by.
 fn written<T: Wire>(
     rt: &impl Abort,
     alloc: Global,
@@ -18,6 +18,8 @@ fn written<T: Wire>(
     let mut bytes = Vec::new(alloc);
     value.put(sizes, &mut bytes)?;
     assert_eq!(rt; value.size(sizes), Some(bytes.len()));
+    let rest = T::pass_front(bytes.as_slice(), bytes.len(), sizes)?;
+    assert_eq!(rt; rest.len(), 0);
     Ok(bytes)
 }
 
@@ -326,5 +328,57 @@ fn regions(rt: HostRuntime) -> Result<(), Fail> {
     elements.push(Value::Byte(1))?;
     assert!(rt; ArrayRegion::new(Tag::Int, elements).is_none());
     assert!(rt; ArrayRegion::new(Tag::Void, Vec::new(rt.alloc())).is_none());
+    Ok(())
+}
+
+#[test]
+fn faults_of_what_is_passed_by(rt: HostRuntime) -> Result<(), Fail> {
+    let sizes = IdSizes::new(1, 1, 1, 1, 1)?;
+    let regions: [(&[u8], DataFault); 6] = [
+        (&[0x56, 0, 0, 0, 0], DataFault::BadTag),
+        (&[0x49, 0x7f, 0xff, 0xff, 0xff], DataFault::Short(5)),
+        (&[0x49, 0x80, 0, 0, 0], DataFault::NegativeCount),
+        (&[0x4c, 0, 0, 0, 1, 0x49], DataFault::BadTag),
+        (&[0x4c, 0, 0, 0, 2, 0x73, 5], DataFault::Short(7)),
+        (&[0x49, 0, 0], DataFault::Short(3)),
+    ];
+    for (bytes, wanted) in regions {
+        match ArrayRegion::pass_front(bytes, bytes.len(), &sizes) {
+            Ok(_) => assert!(rt; false, "no fault"),
+            Err(fault) => assert_eq!(rt; fault, wanted),
+        }
+        match ArrayRegion::take(rt.alloc(), bytes, &sizes) {
+            Ok(_) => assert!(rt; false, "no fault"),
+            Err(fault) => assert_eq!(rt; fault, wanted),
+        }
+    }
+    let locations: [(&[u8], DataFault); 3] = [
+        (&[4], DataFault::BadTag),
+        (&[0, 1], DataFault::Short(2)),
+        (&[0, 1, 0, 0, 0, 0, 0, 0, 0, 0, 0], DataFault::BadTag),
+    ];
+    for (bytes, wanted) in locations {
+        match Location::pass_front(bytes, bytes.len(), &sizes) {
+            Ok(_) => assert!(rt; false, "no fault"),
+            Err(fault) => assert_eq!(rt; fault, wanted),
+        }
+    }
+    Ok(())
+}
+
+#[test]
+fn a_long_region(rt: HostRuntime) -> Result<(), Fail> {
+    let sizes = IdSizes::new(8, 8, 8, 8, 8)?;
+    let mut bytes = Vec::new(rt.alloc());
+    bytes.extend_from_slice(&[0x49, 0, 0, 0x9c, 0x40])?;
+    for number in 0..40_000u32 {
+        bytes.extend_from_slice(&number.to_be_bytes())?;
+    }
+    let (region, used) = ArrayRegion::take(rt.alloc(), bytes.as_slice(), &sizes)?;
+    assert_eq!(rt; used, 160_005);
+    assert_eq!(rt; region.elements().len(), 40_000);
+    assert_eq!(rt; region.elements()[39_999], Value::Int(39_999));
+    let put = written(&rt, rt.alloc(), &region, &sizes)?;
+    assert!(rt; put.as_slice() == bytes.as_slice());
     Ok(())
 }

@@ -2,7 +2,7 @@
 ghost use Rattle.std.specs.Prelude.{◌≡◌, ◌≤◌, ◌+◌, ℕ, length, take, IfOk, OnOk, IfErr, vec_len, vec_capacity};
 ghost use Rattle.std.specs.Result.{IsErrOf};
 ghost use Rattle.jdwp_wire.specs.declared.data_fault.DataFault.TheVariants.{NoMemory};
-ghost use Rattle.jdwp_wire.specs.Reading.{Gives, Written, Refused};
+ghost use Rattle.jdwp_wire.specs.Reading.{Gives, passed, Written, Refused};
 ghost use Rattle.jdwp_wire.specs.Numbers.{id_refusal};
 ghost use Rattle.jdwp_value.specs.declared.value.TaggedId.{TaggedId};
 ghost use Rattle.jdwp_value.specs.declared.value.Value.{Value};
@@ -10,8 +10,8 @@ ghost use Rattle.jdwp_value.specs.Values.{EncodesTaggedId, tagged_id_canonical, 
 ghost use Rattle.jdwp_value.specs.ValueLaws.{tagged_id_codes, tagged_id_unrefused, value_codes, value_unrefused};
 
 use crate::id::ObjectId;
-use crate::tag::{ObjectTag, Tag};
-use jdwp_wire::number::{put_number, take_number};
+use crate::tag::{ObjectTag, Tag, take_tag};
+use jdwp_wire::number::{pass_bytes, put_number, take_bool, take_number};
 use jdwp_wire::{DataFault, IdSizes, Wire};
 use std::alloc::Global;
 
@@ -74,7 +74,7 @@ impl Wire for TaggedId {
 
     ghost decoded = { tagged_id_at };
 
-    ghost takes_memory = { ⊥ };
+    ghost takes_memory = { λ _ _. ⊥ };
 
     fn size(&self, sizes: &IdSizes) -> Option<usize> {
         Some(1 + sizes.object() as usize)
@@ -91,19 +91,21 @@ impl Wire for TaggedId {
     }
 
     fn take_front<'a>(
-        alloc: Global,
+        _alloc: Global,
         rest: &'a [u8],
         whole: usize,
         sizes: &IdSizes,
     ) -> Result<(TaggedId, &'a [u8]), DataFault> {
-        let (tag, rest) = Tag::take_front(alloc, rest, whole, sizes)?;
-        match tag {
-            Tag::Object(tag) => {
-                let (id, rest) = ObjectId::take_front(alloc, rest, whole, sizes)?;
-                Ok((TaggedId { tag, id }, rest))
-            }
-            _ => Err(DataFault::BadTag),
-        }
+        take_tagged_id(rest, whole, sizes)
+    }
+
+    fn pass_front<'a>(
+        rest: &'a [u8],
+        whole: usize,
+        sizes: &IdSizes,
+    ) -> Result<&'a [u8], DataFault> {
+        let (_tagged, rest) = take_tagged_id(rest, whole, sizes)?;
+        Ok(rest)
     }
 
     ghost found = { λ w whole. (tagged_id_codes w whole).found };
@@ -133,7 +135,7 @@ impl Wire for Value {
 
     ghost decoded = { value_at };
 
-    ghost takes_memory = { ⊥ };
+    ghost takes_memory = { λ _ _. ⊥ };
 
     fn size(&self, sizes: &IdSizes) -> Option<usize> {
         Some(1 + untagged_size(self.tag(), sizes))
@@ -150,13 +152,22 @@ impl Wire for Value {
     }
 
     fn take_front<'a>(
-        alloc: Global,
+        _alloc: Global,
         rest: &'a [u8],
         whole: usize,
         sizes: &IdSizes,
     ) -> Result<(Value, &'a [u8]), DataFault> {
-        let (tag, rest) = Tag::take_front(alloc, rest, whole, sizes)?;
-        take_untagged(alloc, tag, rest, whole, sizes)
+        let (tag, rest) = take_tag(rest, whole)?;
+        take_untagged(tag, rest, whole, sizes)
+    }
+
+    fn pass_front<'a>(
+        rest: &'a [u8],
+        whole: usize,
+        sizes: &IdSizes,
+    ) -> Result<&'a [u8], DataFault> {
+        let (tag, rest) = take_tag(rest, whole)?;
+        pass_untagged(tag, rest, whole, sizes)
     }
 
     ghost found = { λ w whole. (value_codes w whole).found };
@@ -168,6 +179,27 @@ impl Wire for Value {
     ghost judged = { λ w whole. (value_codes w whole).judged };
 
     ghost unrefused = { value_unrefused };
+}
+
+/// The tagged id at the front of the rest of a slice of `whole` bytes, and what follows it.
+pub(crate) fn take_tagged_id<'a>(
+    rest: &'a [u8],
+    whole: usize,
+    sizes: &IdSizes,
+) -> Result<(TaggedId, &'a [u8]), DataFault>
+    ensures value { Gives (λ x. (x.0, x.1.now)) result (tagged_id_at sizes.now whole rest.now) }
+    ensures shorter { IfOk result (λ x. length x.1.now ≤ length rest.now) }
+    ensures memory { IsErrOf result NoMemory → ⊥ }
+{
+    let (tag, rest) = take_tag(rest, whole)?;
+    match tag {
+        Tag::Object(tag) => {
+            let (id, rest) = take_number(rest, whole, sizes.object() as usize)?;
+            let id = ObjectId(id);
+            Ok((TaggedId { tag, id }, rest))
+        }
+        _ => Err(DataFault::BadTag),
+    }
 }
 
 /// How many bytes a value of this tag has without its tag, 0 to 8.
@@ -214,7 +246,6 @@ pub fn put_untagged(value: &Value, sizes: &IdSizes, output: &mut Vec<u8>) -> Res
 /// # Errors
 /// `Short(whole)` where fewer bytes are left than the tag calls for.
 pub fn take_untagged<'a>(
-    alloc: Global,
     tag: Tag,
     rest: &'a [u8],
     whole: usize,
@@ -255,12 +286,29 @@ pub fn take_untagged<'a>(
         }
         Tag::Void => Ok((Value::Void, rest)),
         Tag::Boolean => {
-            let (truth, rest) = bool::take_front(alloc, rest, whole, sizes)?;
+            let (truth, rest) = take_bool(rest, whole)?;
             Ok((Value::Boolean(truth), rest))
         }
         Tag::Object(tag) => {
-            let (id, rest) = ObjectId::take_front(alloc, rest, whole, sizes)?;
+            let (id, rest) = take_number(rest, whole, sizes.object() as usize)?;
+            let id = ObjectId(id);
             Ok((Value::Object(TaggedId { tag, id }), rest))
         }
     }
+}
+
+/// What follows the value of this tag at the front of the rest of a slice of `whole` bytes, without its tag.
+///
+/// # Errors
+/// `Short(whole)` where fewer bytes are left than the tag calls for.
+pub fn pass_untagged<'a>(
+    tag: Tag,
+    rest: &'a [u8],
+    whole: usize,
+    sizes: &IdSizes,
+) -> Result<&'a [u8], DataFault>
+    ensures value { Gives (λ after. after.now) result (passed (untagged_at sizes.now whole tag rest.now)) }
+    ensures memory { IsErrOf result NoMemory → ⊥ }
+{
+    pass_bytes(rest, whole, untagged_size(tag, sizes))
 }

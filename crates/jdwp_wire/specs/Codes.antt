@@ -44,6 +44,10 @@ failed e = Err e
 pub err_is : (A : Type 0) (d f : DataFault) → failed {A = A} d ≡ failed f → d ≡ f
 err_is A d f e = cc
 
+-- the same failure of another call
+pub failed_too : (A B : Type 0) (d f : DataFault) → failed {A = A} d ≡ failed f → failed {A = B} d ≡ failed f
+failed_too A B d f e = ap (λ (y : DataFault). failed {A = B} y) (err_is A d f e)
+
 -- the step that failed
 pub bind_err : {A B : Type 0} (r : Result A DataFault) (f : A → Result B DataFault) (d : DataFault) → (r >>= f) ≡ Err d → (r ≡ Err d) ⊎ ((x : A) × (r ≡ Ok x) × (f x ≡ Err d))
 bind_err (Ok x) f d e = inr (x, refl, e)

@@ -1,7 +1,7 @@
 -- Several items, one after another.
-use Rattle.std.specs.Prelude.{◌≡◌, ℕ, zero, suc, ◌<◌, List, [], ◌∷◌, ◌++◌, length, Result, Ok}
+use Rattle.std.specs.Prelude.{◌≡◌, ℕ, zero, suc, ◌<◌, List, [], ◌∷◌, ◌++◌, length, Result, Ok, ◌⊎◌}
 use Rattle.jdwp_wire.specs.declared.data_fault.DataFault.{DataFault}
-use Rattle.jdwp_wire.specs.Reading.{Reader, Encoding, Faults, ◌>>=◌}
+use Rattle.jdwp_wire.specs.Reading.{Reader, Encoding, Faults, ◌>>=◌, BeginsWith}
 
 -- ---- one item for each key
 
@@ -35,6 +35,11 @@ EncodesAll encodes (x ∷ xs) code = (front : List ℕ) × (back : List ℕ) × 
 abbrev pub TimesFault : {X : Type 0} → Encoding X → Faults → ℕ → Faults
 TimesFault {X = X} encodes faults n bytes f =
     (xs : List X) × (front : List ℕ) × (rest : List ℕ) × (length xs < n) × EncodesAll encodes xs front × (bytes ≡ front ++ rest) × faults rest f
+
+-- Of several items the first is kept: something in it has to be, or all of it stands in front.
+abbrev pub FirstIsKept : {A X : Type 0} → (A → List ℕ → Type 0) → (A → Encoding X) → List A → List ℕ → Type 0
+FirstIsKept kept encodes [] bytes = ⊥
+FirstIsKept kept encodes (k ∷ ks) bytes = kept k bytes ⊎ BeginsWith (encodes k) bytes
 
 -- what was read before, and what is still read
 abbrev pub with_front : {X : Type 0} → List X → Result (List X × List ℕ) DataFault → Result (List X × List ℕ) DataFault

@@ -49,6 +49,14 @@ Blames faults bytes e = faults bytes e
 abbrev pub used : {X : Type 0} → ℕ → Result (X × List ℕ) DataFault → Result (X × ℕ) DataFault
 used n decoded = decoded >>= λ x. Ok (x.0, n - length x.1)
 
+-- what follows the value that was read
+abbrev pub passed : {X : Type 0} → Result (X × List ℕ) DataFault → Result (List ℕ) DataFault
+passed decoded = decoded >>= λ x. Ok x.1
+
+-- a value is encoded in front of these bytes
+abbrev pub BeginsWith : {X : Type 0} → Encoding X → List ℕ → Type 0
+BeginsWith {X = X} encodes bytes = (x : X) × (front : List ℕ) × (rest : List ℕ) × encodes x front × (bytes ≡ front ++ rest)
+
 -- a number of bytes, where a usize holds it
 abbrev pub in_usize : ℕ → Option ℕ
 in_usize n = if nat_lt n (2 ^ 64) then Some n else None

@@ -4,7 +4,7 @@ use Rattle.std.specs.Str.{IsUtf8, is_utf8}
 use Rattle.byteorder.specs.Endian.{big_bytes}
 use Rattle.jdwp_wire.specs.declared.data_fault.DataFault.{DataFault}
 use Rattle.jdwp_wire.specs.declared.data_fault.DataFault.TheVariants.{Short, NotUtf8, BadSize}
-use Rattle.jdwp_wire.specs.Reading.{Reader, Encoding, Faults}
+use Rattle.jdwp_wire.specs.Reading.{Reader, Encoding, Faults, BeginsWith}
 use Rattle.jdwp_wire.specs.Sequence.{seq, FirstFault}
 use Rattle.jdwp_wire.specs.Numbers.{EncodesCount, CountFault, count_at}
 
@@ -22,6 +22,10 @@ CharactersFault whole n bytes f =
 -- the length is at fault, or it stands in front and its bytes are at fault
 abbrev pub TextFault : ℕ → Faults
 TextFault whole = FirstFault EncodesCount (CountFault whole) (CharactersFault whole)
+
+-- a string of at least one byte stands in front, which has to be kept
+abbrev pub TextIsKept : List ℕ → Type 0
+TextIsKept = BeginsWith (λ s code. (0 < length s) × EncodesText s code)
 
 abbrev pub text_refusal : List ℕ → Option DataFault
 text_refusal s = if nat_lt (length s) (2 ^ 31) then None else Some BadSize

@@ -1,15 +1,18 @@
 //! Bytes, booleans, ints, longs and strings (JDWP specification, "Data Types").
-ghost use Rattle.std.specs.Prelude.{ℕ, ℤ, Bool, List, [], ◌∷◌, None, length, refl};
+ghost use Rattle.std.specs.Prelude.{◌≤◌, ℕ, ℤ, Bool, List, [], ◌∷◌, None, length, refl, IfOk};
+ghost use Rattle.std.specs.Result.{IsErrOf};
+ghost use Rattle.jdwp_wire.specs.declared.data_fault.DataFault.TheVariants.{NoMemory};
+ghost use Rattle.jdwp_wire.specs.Reading.{Gives};
 ghost use Rattle.std.specs.String.{string_bytes};
 ghost use Rattle.jdwp_wire.specs.Numbers.{NumberFault};
 ghost use Rattle.jdwp_wire.specs.Basic.{EncodesByte, ByteFault, byte_at, EncodesBool, bool_canonical, bool_at, EncodesInt, int_canonical, int_at, EncodesLong, long_canonical, long_at};
 ghost use Rattle.jdwp_wire.specs.BasicLaws.{byte_codes, bool_codes, int_codes, long_codes};
-ghost use Rattle.jdwp_wire.specs.Text.{EncodesText, TextFault, text_canonical, text_at, text_refusal};
+ghost use Rattle.jdwp_wire.specs.Text.{EncodesText, TextFault, TextIsKept, text_canonical, text_at, text_refusal};
 ghost use Rattle.jdwp_wire.specs.TextLaws.{text_codes, text_unrefused};
 
 use crate::data_fault::DataFault;
 use crate::id_sizes::IdSizes;
-use crate::number::{put_number, take_count};
+use crate::number::{pass_bytes, put_number, take_bool, take_byte, take_count};
 use crate::wire::Wire;
 use byteorder::{BigEndian, ByteOrder};
 use std::alloc::Global;
@@ -30,7 +33,7 @@ impl Wire for u8 {
 
     ghost decoded = { λ _. byte_at };
 
-    ghost takes_memory = { ⊥ };
+    ghost takes_memory = { λ _ _. ⊥ };
 
     fn size(&self, _sizes: &IdSizes) -> Option<usize> {
         Some(1)
@@ -47,10 +50,15 @@ impl Wire for u8 {
         whole: usize,
         _sizes: &IdSizes,
     ) -> Result<(u8, &'a [u8]), DataFault> {
-        match rest {
-            [] => Err(DataFault::Short(whole)),
-            [byte, after @ ..] => Ok((*byte, after)),
-        }
+        take_byte(rest, whole)
+    }
+
+    fn pass_front<'a>(
+        rest: &'a [u8],
+        whole: usize,
+        _sizes: &IdSizes,
+    ) -> Result<&'a [u8], DataFault> {
+        pass_bytes(rest, whole, 1)
     }
 
     ghost found = { λ _ whole. (byte_codes whole).found };
@@ -80,7 +88,7 @@ impl Wire for bool {
 
     ghost decoded = { λ _. bool_at };
 
-    ghost takes_memory = { ⊥ };
+    ghost takes_memory = { λ _ _. ⊥ };
 
     fn size(&self, _sizes: &IdSizes) -> Option<usize> {
         Some(1)
@@ -97,11 +105,15 @@ impl Wire for bool {
         whole: usize,
         _sizes: &IdSizes,
     ) -> Result<(bool, &'a [u8]), DataFault> {
-        match rest {
-            [] => Err(DataFault::Short(whole)),
-            [0, after @ ..] => Ok((false, after)),
-            [_, after @ ..] => Ok((true, after)),
-        }
+        take_bool(rest, whole)
+    }
+
+    fn pass_front<'a>(
+        rest: &'a [u8],
+        whole: usize,
+        _sizes: &IdSizes,
+    ) -> Result<&'a [u8], DataFault> {
+        pass_bytes(rest, whole, 1)
     }
 
     ghost found = { λ _ whole. (bool_codes whole).found };
@@ -131,7 +143,7 @@ impl Wire for i32 {
 
     ghost decoded = { λ _. int_at };
 
-    ghost takes_memory = { ⊥ };
+    ghost takes_memory = { λ _ _. ⊥ };
 
     fn size(&self, _sizes: &IdSizes) -> Option<usize> {
         Some(4)
@@ -155,6 +167,14 @@ impl Wire for i32 {
         }
         let number = BigEndian::read_i32(rest);
         Ok((number, &rest[4..]))
+    }
+
+    fn pass_front<'a>(
+        rest: &'a [u8],
+        whole: usize,
+        _sizes: &IdSizes,
+    ) -> Result<&'a [u8], DataFault> {
+        pass_bytes(rest, whole, 4)
     }
 
     ghost found = { λ _ whole. (int_codes whole).found };
@@ -184,7 +204,7 @@ impl Wire for i64 {
 
     ghost decoded = { λ _. long_at };
 
-    ghost takes_memory = { ⊥ };
+    ghost takes_memory = { λ _ _. ⊥ };
 
     fn size(&self, _sizes: &IdSizes) -> Option<usize> {
         Some(8)
@@ -208,6 +228,14 @@ impl Wire for i64 {
         }
         let number = BigEndian::read_i64(rest);
         Ok((number, &rest[8..]))
+    }
+
+    fn pass_front<'a>(
+        rest: &'a [u8],
+        whole: usize,
+        _sizes: &IdSizes,
+    ) -> Result<&'a [u8], DataFault> {
+        pass_bytes(rest, whole, 8)
     }
 
     ghost found = { λ _ whole. (long_codes whole).found };
@@ -237,7 +265,7 @@ impl Wire for String {
 
     ghost decoded = { λ _. text_at };
 
-    ghost takes_memory = { Unit {0} };
+    ghost takes_memory = { λ _. TextIsKept };
 
     fn size(&self, _sizes: &IdSizes) -> Option<usize> {
         self.len().checked_add(4)
@@ -264,15 +292,20 @@ impl Wire for String {
         whole: usize,
         _sizes: &IdSizes,
     ) -> Result<(String, &'a [u8]), DataFault> {
-        let (length, rest) = take_count(rest, whole)?;
-        if rest.len() < length {
-            return Err(DataFault::Short(whole));
+        let (text, after) = take_text(rest, whole)?;
+        if text.is_empty() {
+            return Ok((String::new(alloc), after));
         }
-        let (text, after) = rest.split_at(length);
-        match str::from_utf8(text) {
-            Ok(text) => Ok((String::from_str(alloc, text)?, after)),
-            Err(_) => Err(DataFault::NotUtf8),
-        }
+        Ok((String::from_str(alloc, text)?, after))
+    }
+
+    fn pass_front<'a>(
+        rest: &'a [u8],
+        whole: usize,
+        _sizes: &IdSizes,
+    ) -> Result<&'a [u8], DataFault> {
+        let (_text, after) = take_text(rest, whole)?;
+        Ok(after)
     }
 
     ghost found = { λ _ whole. (text_codes whole).found };
@@ -284,4 +317,21 @@ impl Wire for String {
     ghost judged = { λ _ whole. (text_codes whole).judged };
 
     ghost unrefused = { λ _. text_unrefused };
+}
+
+/// The string at the front of the rest of a slice of `whole` bytes, where it lies, and what follows it.
+fn take_text(rest: &[u8], whole: usize) -> Result<(&str, &[u8]), DataFault>
+    ensures value { Gives (λ x. (x.0.now, x.1.now)) result (text_at whole rest.now) }
+    ensures shorter { IfOk result (λ x. length x.1.now ≤ length rest.now) }
+    ensures memory { IsErrOf result NoMemory → ⊥ }
+{
+    let (length, rest) = take_count(rest, whole)?;
+    if rest.len() < length {
+        return Err(DataFault::Short(whole));
+    }
+    let (text, after) = rest.split_at(length);
+    match str::from_utf8(text) {
+        Ok(text) => Ok((text, after)),
+        Err(_) => Err(DataFault::NotUtf8),
+    }
 }

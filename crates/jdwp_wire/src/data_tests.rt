@@ -1,13 +1,18 @@
 //! Worked examples of data: bytes, booleans, ints, longs and strings.
 use crate::{DataFault, FrameFault, IdSizes, Wire};
+use std::alloc::Global;
+use std::process::Abort;
 use std::test::Fail;
 
-/// What a value is as bytes, and that they are taken again before anything.
-fn written<T: Wire>(rt: &HostRuntime, value: &T) -> Result<Vec<u8>, Fail> {
+/// What a value is as bytes, which `size` counts and `pass_front` passes by.
+fn written<T: Wire>(rt: &impl Abort, alloc: Global, value: &T) -> Result<Vec<u8>, Fail> {
     let sizes = IdSizes::new(1, 1, 1, 1, 1)?;
-    let mut bytes = Vec::new(rt.alloc());
+    let mut bytes = Vec::new(alloc);
     bytes.push(0xee)?;
     value.put(&sizes, &mut bytes)?;
+    assert_eq!(rt; value.size(&sizes), Some(bytes.len() - 1));
+    let rest = T::pass_front(&bytes.as_slice()[1..], bytes.len(), &sizes)?;
+    assert_eq!(rt; rest.len(), 0);
     Ok(bytes)
 }
 
@@ -24,23 +29,32 @@ fn every_byte_but_zero_is_true(rt: HostRuntime) -> Result<(), Fail> {
     }
     assert_eq!(rt; taken::<bool>(&rt, &[0, 1])?, Ok((false, 1)));
     assert_eq!(rt; taken::<bool>(&rt, &[])?, Err(DataFault::Short(0)));
-    assert_eq!(rt; written(&rt, &true)?.as_slice(), [0xee, 1].as_slice());
-    assert_eq!(rt; written(&rt, &false)?.as_slice(), [0xee, 0].as_slice());
+    assert_eq!(rt;
+        written(&rt, rt.alloc(), &true)?.as_slice(),
+        [0xee, 1].as_slice()
+    );
+    assert_eq!(rt;
+        written(&rt, rt.alloc(), &false)?.as_slice(),
+        [0xee, 0].as_slice()
+    );
     Ok(())
 }
 
 #[test]
 fn numbers(rt: HostRuntime) -> Result<(), Fail> {
-    assert_eq!(rt; written(&rt, &7u8)?.as_slice(), [0xee, 7].as_slice());
+    assert_eq!(rt;
+        written(&rt, rt.alloc(), &7u8)?.as_slice(),
+        [0xee, 7].as_slice()
+    );
     assert_eq!(rt; taken::<u8>(&rt, &[255])?, Ok((255, 1)));
     assert_eq!(rt;
-        written(&rt, &-2i32)?.as_slice(),
+        written(&rt, rt.alloc(), &-2i32)?.as_slice(),
         [0xee, 0xff, 0xff, 0xff, 0xfe].as_slice()
     );
     assert_eq!(rt; taken::<i32>(&rt, &[0x80, 0, 0, 0, 9])?, Ok((i32::MIN, 4)));
     assert_eq!(rt; taken::<i32>(&rt, &[0x80, 0, 0])?, Err(DataFault::Short(3)));
     assert_eq!(rt;
-        written(&rt, &258i64)?.as_slice(),
+        written(&rt, rt.alloc(), &258i64)?.as_slice(),
         [0xee, 0, 0, 0, 0, 0, 0, 1, 2].as_slice()
     );
     assert_eq!(rt; taken::<i64>(&rt, &[0xff; 8])?, Ok((-1, 8)));
@@ -52,13 +66,15 @@ fn numbers(rt: HostRuntime) -> Result<(), Fail> {
 fn strings(rt: HostRuntime) -> Result<(), Fail> {
     let text = String::from_str(rt.alloc(), "né")?;
     assert_eq!(rt;
-        written(&rt, &text)?.as_slice(),
+        written(&rt, rt.alloc(), &text)?.as_slice(),
         [0xee, 0, 0, 0, 3, 0x6e, 0xc3, 0xa9].as_slice()
     );
     let (back, used) = taken::<String>(&rt, &[0, 0, 0, 3, 0x6e, 0xc3, 0xa9, 0x21])??;
     assert_eq!(rt; back.as_str(), "né");
     assert_eq!(rt; used, 7);
-    let rows: [(&[u8], DataFault, u16); 5] = [
+    let sizes = IdSizes::new(1, 1, 1, 1, 1)?;
+    let rows: [(&[u8], DataFault, u16); 6] = [
+        (&[0x7f, 0xff, 0xff, 0xff], DataFault::Short(4), 11),
         (&[0, 0, 0, 1, 0xff], DataFault::NotUtf8, 15),
         (&[0xff, 0xff, 0xff, 0xff], DataFault::NegativeCount, 14),
         (&[0, 0, 0, 2, 0x61], DataFault::Short(5), 11),
@@ -70,9 +86,39 @@ fn strings(rt: HostRuntime) -> Result<(), Fail> {
             Ok(_) => assert!(rt; false, "no fault"),
             Err(fault) => assert_eq!(rt; fault, wanted),
         }
+        match String::pass_front(bytes, bytes.len(), &sizes) {
+            Ok(_) => assert!(rt; false, "no fault"),
+            Err(fault) => assert_eq!(rt; fault, wanted),
+        }
         assert_eq!(rt; wanted.number(), number);
     }
+    let (none, used) = taken::<String>(&rt, &[0, 0, 0, 0, 9])??;
+    assert!(rt; none.as_str().is_empty());
+    assert_eq!(rt; used, 4);
     Ok(())
+}
+
+#[test]
+fn a_long_string(rt: HostRuntime) -> Result<(), Fail> {
+    let mut text = String::new(rt.alloc());
+    for _ in 0..40_000 {
+        text.push_str("né")?;
+    }
+    let bytes = written(&rt, rt.alloc(), &text)?;
+    assert_eq!(rt; bytes.len(), 120_005);
+    let (back, used) = taken::<String>(&rt, &bytes.as_slice()[1..])??;
+    assert_eq!(rt; used, 120_004);
+    assert!(rt; back.as_str() == text.as_str());
+    Ok(())
+}
+
+#[test]
+fn laws_at_a_type(_rt: HostRuntime) {
+    crate::reads_what_is_encoded::<i32>();
+    crate::reads_only_encoded::<String>();
+    crate::answers_first_fault::<bool>();
+    crate::begins_with_one_value::<i64>();
+    crate::begins_with_one_fault::<u8>();
 }
 
 #[test]
@@ -129,26 +175,6 @@ fn texts_of_frame_faults(rt: HostRuntime) -> Result<(), Fail> {
     for (fault, number, text) in rows {
         assert_eq!(rt; fault.number(), number);
         assert_eq!(rt; fault.to_string(rt.alloc())?.as_str(), text);
-    }
-    Ok(())
-}
-
-#[test]
-fn lists(rt: HostRuntime) -> Result<(), Fail> {
-    let sizes = IdSizes::new(1, 1, 1, 1, 1)?;
-    let mut bytes = Vec::new(rt.alloc());
-    crate::put_each(&[1i32, -1], &sizes, &mut bytes)?;
-    assert_eq!(rt;
-        bytes.as_slice(),
-        [0, 0, 0, 1, 0xff, 0xff, 0xff, 0xff].as_slice()
-    );
-    let (values, rest) = crate::take_times::<i32>(rt.alloc(), 2, bytes.as_slice(), 8, &sizes)?;
-    assert_eq!(rt; values.as_slice(), [1, -1].as_slice());
-    assert_eq!(rt; rest.len(), 0);
-    let short = crate::take_times::<i32>(rt.alloc(), 2, &[0, 0, 0, 1, 9], 5, &sizes);
-    match short {
-        Ok(_) => assert!(rt; false, "no fault"),
-        Err(fault) => assert_eq!(rt; fault, DataFault::Short(5)),
     }
     Ok(())
 }

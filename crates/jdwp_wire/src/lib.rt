@@ -8,7 +8,6 @@ mod frame;
 mod id_sizes;
 mod laws;
 mod limits;
-mod list;
 mod no_memory;
 pub mod number;
 mod packet;
@@ -26,7 +25,6 @@ pub use laws::{
     reads_what_is_encoded,
 };
 pub use limits::Limits;
-pub use list::{put_each, take_times};
 pub use no_memory::NoMemory;
 pub use packet::{Header, PacketKind, PacketRef};
 pub use wire::Wire;

@@ -1,14 +1,61 @@
-//! Unsigned numbers of 1 to 8 bytes, the highest byte first (JDWP specification, "Data Types").
+//! Bytes, booleans, and unsigned numbers of 1 to 8 bytes, the highest byte first (JDWP specification, "Data Types").
 ghost use Rattle.std.specs.Prelude.{◌≡◌, ◌≤◌, ◌<◌, ◌^◌, ◌++◌, ◌↔◌, IsTrue, length, IfOk, OnOk, IfErr, ◌+◌, vec_len, vec_capacity};
 ghost use Rattle.std.specs.Result.{IsErrOf};
 ghost use Rattle.byteorder.specs.Endian.{big_bytes};
 ghost use Rattle.jdwp_wire.specs.declared.data_fault.DataFault.TheVariants.{NoMemory};
 ghost use Rattle.jdwp_wire.specs.Widths.{IsWidth};
-ghost use Rattle.jdwp_wire.specs.Reading.{Gives};
+ghost use Rattle.jdwp_wire.specs.Reading.{Gives, passed};
+ghost use Rattle.jdwp_wire.specs.Basic.{byte_at, bool_at};
 ghost use Rattle.jdwp_wire.specs.Numbers.{number_at, count_at};
 
 use crate::data_fault::DataFault;
 use byteorder::{BigEndian, ByteOrder};
+
+/// The byte at the front of the rest of a slice of `whole` bytes, and what follows it.
+///
+/// # Errors
+/// `Short(whole)` where no byte is left.
+pub fn take_byte(rest: &[u8], whole: usize) -> Result<(u8, &[u8]), DataFault>
+    ensures value { Gives (λ x. (x.0, x.1.now)) result (byte_at whole rest.now) }
+    ensures shorter { IfOk result (λ x. length x.1.now ≤ length rest.now) }
+    ensures memory { IsErrOf result NoMemory → ⊥ }
+{
+    match rest {
+        [] => Err(DataFault::Short(whole)),
+        [byte, after @ ..] => Ok((*byte, after)),
+    }
+}
+
+/// The boolean at the front of the rest of a slice of `whole` bytes, and what follows it: 0 is false, and any other byte
+/// is true.
+///
+/// # Errors
+/// `Short(whole)` where no byte is left.
+pub fn take_bool(rest: &[u8], whole: usize) -> Result<(bool, &[u8]), DataFault>
+    ensures value { Gives (λ x. (x.0, x.1.now)) result (bool_at whole rest.now) }
+    ensures shorter { IfOk result (λ x. length x.1.now ≤ length rest.now) }
+    ensures memory { IsErrOf result NoMemory → ⊥ }
+{
+    match rest {
+        [] => Err(DataFault::Short(whole)),
+        [0, after @ ..] => Ok((false, after)),
+        [_, after @ ..] => Ok((true, after)),
+    }
+}
+
+/// What follows `count` bytes at the front of the rest of a slice of `whole` bytes.
+///
+/// # Errors
+/// `Short(whole)` where fewer than `count` bytes are left.
+pub fn pass_bytes(rest: &[u8], whole: usize, count: usize) -> Result<&[u8], DataFault>
+    ensures value { Gives (λ after. after.now) result (passed (number_at count whole rest.now)) }
+    ensures memory { IsErrOf result NoMemory → ⊥ }
+{
+    if rest.len() < count {
+        return Err(DataFault::Short(whole));
+    }
+    Ok(&rest[count..])
+}
 
 /// The number of `width` bytes at the front of the rest of a slice of `whole` bytes, and what follows it.
 ///

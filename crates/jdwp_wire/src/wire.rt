@@ -5,7 +5,7 @@ ghost use Rattle.jdwp_wire.specs.declared.data_fault.DataFault.TheVariants.{NoMe
 ghost use Rattle.jdwp_wire.specs.declared.data_fault.DataFault.{DataFault};
 ghost use Rattle.jdwp_wire.specs.Widths.{Widths};
 ghost use Rattle.jdwp_wire.specs.Bytes.{IsBytes};
-ghost use Rattle.jdwp_wire.specs.Reading.{Gives, Takes, Blames, used, in_usize, Written, Refused};
+ghost use Rattle.jdwp_wire.specs.Reading.{Gives, Takes, Blames, used, passed, in_usize, Written, Refused};
 
 use crate::data_fault::DataFault;
 use crate::id_sizes::IdSizes;
@@ -37,8 +37,8 @@ pub trait Wire: Sized {
     /// The value at the front of the rest of a slice of so many bytes, and what follows it; or the first fault.
     ghost decoded: { Widths → ℕ → List ℕ → Result (Meaning × List ℕ) DataFault };
 
-    /// `⊥` where reading wants no memory.
-    ghost takes_memory: { Type 0 };
+    /// At the front of these bytes stands something that has to be kept in memory.
+    ghost takes_memory: { Widths → List ℕ → Type 0 };
 
     /// How many bytes the value takes, whether or not `put` would refuse it; None past `usize`.
     fn size(&self, sizes: &IdSizes) -> Option<usize>
@@ -69,19 +69,29 @@ pub trait Wire: Sized {
     ) -> Result<(Self, &'a [u8]), DataFault>
         ensures value { Gives (λ x. (meaning x.0, x.1.now)) result (decoded sizes.now whole rest.now) }
         ensures shorter { IfOk result (λ x. length x.1.now ≤ length rest.now) }
-        ensures memory { IsErrOf result NoMemory → takes_memory };
+        ensures memory { IsErrOf result NoMemory → takes_memory sizes.now rest.now };
+
+    /// What follows the value at the front of the rest of a slice of `whole` bytes. Nothing of the value is kept, so it
+    /// takes no memory.
+    ///
+    /// # Errors
+    /// The first fault from the left. The place of `Short` is `whole`.
+    fn pass_front<'a>(rest: &'a [u8], whole: usize, sizes: &IdSizes) -> Result<&'a [u8], DataFault>
+        ensures value { Gives (λ after. after.now) result (passed (decoded sizes.now whole rest.now)) }
+        ensures memory { IsErrOf result NoMemory → ⊥ };
 
     /// The value at the front of the bytes, and how many it takes. What follows is not looked at.
     ///
     /// # Errors
     /// The first fault from the left: `Short` with the length of the slice, `BadTag`, `NegativeCount` or `NotUtf8`;
-    /// `NoMemory` where an allocation was refused, which comes for strings and lists alone.
+    /// `NoMemory` where an allocation was refused, and only where something stands in front that has to be kept: a
+    /// string of at least one byte, or a region of at least one element.
     final fn take(alloc: Global, bytes: &[u8], sizes: &IdSizes) -> Result<(Self, usize), DataFault>
         ensures found { IfOk result (λ x. (x.1 ≤ length bytes.now) × encodes sizes.now (meaning x.0) (take x.1 bytes.now)) }
         ensures only { (x : Meaning) (n : ℕ) → n ≤ length bytes.now → encodes sizes.now x (take n bytes.now) → Takes meaning result x n }
         ensures fault { IfErr result (λ f. Blames (faults sizes.now (length bytes.now)) bytes.now f) }
         ensures value { Gives (λ x. (meaning x.0, x.1)) result (used (length bytes.now) (decoded sizes.now (length bytes.now) bytes.now)) }
-        ensures memory { IsErrOf result NoMemory → takes_memory }
+        ensures memory { IsErrOf result NoMemory → takes_memory sizes.now bytes.now }
     {
         let (value, rest) = Self::take_front(alloc, bytes, bytes.len(), sizes)?;
         Ok((value, bytes.len() - rest.len()))

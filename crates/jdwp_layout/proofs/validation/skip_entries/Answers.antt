@@ -2,8 +2,8 @@ use Rattle.std.proofs.lemmas.Result.{err_from_is_err_and}
 use Rattle.jdwp_wire.specs.Each.{times_at}
 use Rattle.jdwp_layout.specs.Shapes.{entry_shape}
 use Rattle.jdwp_layout.specs.Reads.{entry_at}
-use Rattle.jdwp_layout.specs.Skips.{passed}
-use Rattle.jdwp_layout.proofs.Passed.{times_go_on, times_end}
+use Rattle.jdwp_wire.specs.Reading.{passed}
+use Rattle.jdwp_wire.proofs.Passed.{times_go_on, times_end}
 use Rattle.jdwp_layout.proofs.validation.skip_entries.Goals as goal
 
 pub returns-in_err-after-clause-value : goal.returns-in_err-after-clause-value

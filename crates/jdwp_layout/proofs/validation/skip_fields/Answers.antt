@@ -2,8 +2,8 @@ use Rattle.std.proofs.Common.{get_or}
 use Rattle.std.proofs.lemmas.Result.{err_from_is_err_and}
 use Rattle.jdwp_layout.specs.declared.item.Field.TheVariants as field
 use Rattle.jdwp_layout.specs.Reads.{field_at, fields_at}
-use Rattle.jdwp_layout.specs.Skips.{passed}
-use Rattle.jdwp_layout.proofs.Passed.{each_go_on, each_end, each_at_place}
+use Rattle.jdwp_wire.specs.Reading.{passed}
+use Rattle.jdwp_wire.proofs.Passed.{each_go_on, each_end, each_at_place}
 use Rattle.jdwp_layout.proofs.validation.skip_fields.Goals as goal
 
 pub returns-in_err-after-clause-value : goal.returns-in_err-after-clause-value

@@ -1,6 +1,6 @@
 use Rattle.std.proofs.Common.{◌≡◌, drop}
 use Rattle.jdwp_layout.specs.Reads.{fields_at}
-use Rattle.jdwp_layout.specs.Skips.{passed}
+use Rattle.jdwp_wire.specs.Reading.{passed}
 use Rattle.jdwp_layout.proofs.validation.skip_fields.Given as goal
 
 abbrev pub invariant-loop-field : goal.invariant-loop-field

@@ -5,8 +5,8 @@ use Rattle.jdwp_layout.specs.declared.item.Item.TheVariants as item
 use Rattle.jdwp_layout.specs.declared.item.Field.TheVariants as field
 use Rattle.jdwp_layout.specs.Shapes.{item_shape, shapes}
 use Rattle.jdwp_layout.specs.Reads.{item_at, items_at}
-use Rattle.jdwp_layout.specs.Skips.{passed}
-use Rattle.jdwp_layout.proofs.Passed.{each_go_on, each_end}
+use Rattle.jdwp_wire.specs.Reading.{passed}
+use Rattle.jdwp_wire.proofs.Passed.{each_go_on, each_end}
 use Rattle.jdwp_layout.proofs.validation.skip_items.Goals as goal
 
 pub returns-in_err-after-clause-value : goal.returns-in_err-after-clause-value

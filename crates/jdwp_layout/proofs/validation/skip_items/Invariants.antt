@@ -1,7 +1,7 @@
 use Rattle.std.proofs.Common.{◌≡◌, drop}
 use Rattle.jdwp_layout.specs.Shapes.{shapes}
 use Rattle.jdwp_layout.specs.Reads.{items_at}
-use Rattle.jdwp_layout.specs.Skips.{passed}
+use Rattle.jdwp_wire.specs.Reading.{passed}
 use Rattle.jdwp_layout.proofs.validation.skip_items.Given as goal
 
 abbrev pub invariant-loop-item : goal.invariant-loop-item

@@ -1,7 +1,7 @@
 use Rattle.std.proofs.Common.{length, arith, sym, ◌∙◌}
 use Rattle.jdwp_layout.specs.Shapes.{shapes}
 use Rattle.jdwp_layout.specs.Reads.{items_at}
-use Rattle.jdwp_layout.proofs.Passed.{value_of}
+use Rattle.jdwp_wire.proofs.Passed.{value_of}
 use Rattle.jdwp_layout.proofs.GrammarLaws.{rest_within, whole_read}
 use Rattle.jdwp_layout.proofs.validation.skip_whole.Goals as goal
 

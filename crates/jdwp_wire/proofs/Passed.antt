@@ -2,10 +2,9 @@
 use Rattle.std.proofs.Common.{◌≡◌, ℕ, suc, ◌+◌, ◌-◌, ◌<◌, List, ◌∷◌, length, get_or, drop, Result, Ok, Err, refl, sym, ap, ◌∙◌, arith}
 use Rattle.std.proofs.lemmas.List.{drop_more, get_or_default}
 use Rattle.jdwp_wire.specs.declared.data_fault.DataFault.{DataFault}
-use Rattle.jdwp_wire.specs.Reading.{◌>>=◌, Reader, Fails}
+use Rattle.jdwp_wire.specs.Reading.{◌>>=◌, Reader, Fails, passed}
 use Rattle.jdwp_wire.specs.Each.{each_at, times_at}
 use Rattle.jdwp_wire.proofs.Loop.{fails_along}
-use Rattle.jdwp_layout.specs.Skips.{passed}
 
 pub passed_mapped : {A B : Type 0} (make : A → B) (decoded : Result (A × List ℕ) DataFault) → passed (decoded >>= λ x. Ok (make x.0, x.1)) ≡ passed decoded
 passed_mapped make (Ok x) = refl

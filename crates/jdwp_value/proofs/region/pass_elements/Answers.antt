@@ -1,9 +1,9 @@
 use Rattle.std.proofs.lemmas.Result.{err_from_is_err_and}
 use Rattle.jdwp_wire.specs.Each.{times_at}
 use Rattle.jdwp_value.specs.Regions.{element_at}
-use Rattle.jdwp_layout.specs.Skips.{passed}
-use Rattle.jdwp_layout.proofs.Passed.{times_go_on, times_end}
-use Rattle.jdwp_layout.proofs.validation.skip_elements.Goals as goal
+use Rattle.jdwp_wire.specs.Reading.{passed}
+use Rattle.jdwp_wire.proofs.Passed.{times_go_on, times_end}
+use Rattle.jdwp_value.proofs.region.pass_elements.Goals as goal
 
 pub returns-in_err-after-clause-value : goal.returns-in_err-after-clause-value
 returns-in_err-after-clause-value c =
