@@ -1,3 +1,4 @@
+pub mod TextLemmas
 pub mod LineLemmas
 pub mod FoundLemmas
 pub mod FoundLaws

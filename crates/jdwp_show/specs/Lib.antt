@@ -7,4 +7,6 @@ pub mod Streams
 pub mod Data
 pub mod Rules
 pub mod Sessions
+pub mod DataText
+pub mod MessageLines
 pub mod Pending
