@@ -7,4 +7,5 @@ pub mod ItemLaws
 pub mod StreamLemmas
 pub mod WalkLemmas
 pub mod JudgingLemmas
+pub mod CaptureLineLemmas
 pub mod SessionLaws

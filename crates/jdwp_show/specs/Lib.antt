@@ -9,4 +9,5 @@ pub mod Rules
 pub mod Sessions
 pub mod DataText
 pub mod MessageLines
+pub mod CaptureLines
 pub mod Pending

@@ -5,7 +5,8 @@ use Rattle.jdwp_wire.specs.declared.packet.PacketKind.{PacketKind}
 use Rattle.jdwp_wire.specs.declared.packet.PacketKind.TheVariants as kind
 use Rattle.jdwp_wire.specs.Streams.{Message, Handshake, Packet}
 use Rattle.jdwp_wire.specs.Widths.{Widths}
-use Rattle.jdwp_layout.specs.Shapes.{ItemShape}
+use Rattle.jdwp_layout.specs.declared.item.Layout.{Layout}
+use Rattle.jdwp_layout.specs.Shapes.{ItemShape, shape}
 use Rattle.jdwp_layout.specs.Rows.{Row, RowShapes}
 use Rattle.jdwp_layout.specs.CommandTable.{row_at}
 use Rattle.jdwp_layout.specs.Meanings.{DatumMeaning}
@@ -62,25 +63,29 @@ mark Target = codes "<"
 abbrev pub hello_line : Sender → List ℕ
 hello_line sender = mark sender ++ codes " hello"
 
--- `> 1 ThreadReference.Suspend #5`
-abbrev pub command_line : Sender → ℕ → Command → List ℕ → List ℕ
-command_line sender id command text = mark sender ++ codes " " ++ decimal id ++ codes " " ++ name_text command ++ text
+-- `> 1 ThreadReference.Suspend`
+abbrev pub command_start : Sender → ℕ → Command → List ℕ
+command_start sender id command = mark sender ++ codes " " ++ decimal id ++ codes " " ++ name_text command
 
 -- `< 1 reply ThreadReference.Suspend 0`
-abbrev pub reply_line : Sender → ℕ → Command → ℕ → List ℕ → List ℕ
-reply_line sender id command error text = mark sender ++ codes " " ++ decimal id ++ codes " reply " ++ name_text command ++ codes " " ++ decimal error ++ text
+abbrev pub reply_start : Sender → ℕ → Command → ℕ → List ℕ
+reply_start sender id command error = mark sender ++ codes " " ++ decimal id ++ codes " reply " ++ name_text command ++ codes " " ++ decimal error
 
 -- A reply is to the command that waits under its id; one to none breaks a rule, and has no line.
 abbrev pub packet_line : Option Widths → Option Command → Sender → ℕ → PacketKind → List ℕ → List ℕ
 packet_line widths waits sender id (kind.Command set number) body =
     let command : Command = record { set = set; number = number } in
-    command_line sender id command (request_text widths command body) ++ codes "\n"
+    command_start sender id command ++ request_text widths command body ++ codes "\n"
 packet_line widths None sender id (kind.Reply error) body = []
-packet_line widths (Some command) sender id (kind.Reply error) body =
-    reply_line sender id command error.0 (reply_text widths command error.0 body) ++ codes "\n"
+packet_line widths (Some command) sender id (kind.Reply error) body = reply_start sender id command error.0 ++ reply_text widths command error.0 body ++ codes "\n"
 
 -- with a newline at its end; a frame fault has no line
-abbrev pub line_of_found : Option Widths → (ℕ → Option Command) → Sender → Found → List ℕ
-line_of_found widths waits sender (Sent Handshake) = hello_line sender ++ codes "\n"
-line_of_found widths waits sender (Sent (Packet header body)) = packet_line widths (waits header.id) sender header.id header.kind body
-line_of_found widths waits sender (Faulty fault) = []
+abbrev pub found_line : Option Widths → Option Command → Sender → Found → List ℕ
+found_line widths waits sender (Sent Handshake) = hello_line sender ++ codes "\n"
+found_line widths waits sender (Sent (Packet header body)) = packet_line widths waits sender header.id header.kind body
+found_line widths waits sender (Faulty fault) = []
+
+-- a layout that was found, apart from where it lies in memory
+abbrev pub found_shape : Option Layout → Option (List ItemShape)
+found_shape None = None
+found_shape (Some layout) = Some (shape layout)
