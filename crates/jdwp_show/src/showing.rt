@@ -16,7 +16,7 @@ use jdwp_wire::NoMemory;
 use std::alloc::Global;
 
 /// What `show` answers.
-#[derive(Drop)]
+#[derive(Debug, PartialEq, Drop)]
 pub struct Shown {
     /// The lines, each with a newline at its end.
     pub lines: String,
