@@ -7,5 +7,7 @@ pub mod ItemLaws
 pub mod StreamLemmas
 pub mod WalkLemmas
 pub mod JudgingLemmas
+pub mod WaitingLaws
+pub mod WidthsLaws
 pub mod CaptureLineLemmas
 pub mod SessionLaws

@@ -10,4 +10,5 @@ pub mod Sessions
 pub mod DataText
 pub mod MessageLines
 pub mod CaptureLines
+pub mod Waiting
 pub mod Pending
