@@ -1,5 +1,5 @@
 -- A row of the table of commands, apart from where it lies in memory.
-use Rattle.std.specs.Prelude.{ℕ, List, Bool, true, false, Option, Some, None}
+use Rattle.std.specs.Prelude.{ℕ, ◌==◌, List, [], ◌∷◌, Bool, true, false, Option, Some, None, if◌then◌else◌}
 use Rattle.std.specs.Borrow.{Bor}
 use Rattle.jdwp_layout.specs.declared.command.Layouts.{Layouts}
 use Rattle.jdwp_layout.specs.declared.command.CommandRow.{CommandRow}
@@ -31,13 +31,25 @@ found_row (Some r) = Some (row r.now)
 -- ---- the three kinds of rows
 
 -- the target answers the command
-abbrev pub answered : List ℕ → List ℕ → List ItemShape → List ItemShape → Option Row
-answered set_name name request reply = Some (record { set_name = set_name; name = name; shapes = Some (record { request = request; reply = reply }); starred = false })
+abbrev pub answered : List ℕ → List ℕ → List ItemShape → List ItemShape → Row
+answered set_name name request reply = record { set_name = set_name; name = name; shapes = Some (record { request = request; reply = reply }); starred = false }
 
 -- the target does not implement the command
-abbrev pub starred : List ℕ → List ℕ → List ItemShape → List ItemShape → Option Row
-starred set_name name request reply = Some (record { set_name = set_name; name = name; shapes = Some (record { request = request; reply = reply }); starred = true })
+abbrev pub starred : List ℕ → List ℕ → List ItemShape → List ItemShape → Row
+starred set_name name request reply = record { set_name = set_name; name = name; shapes = Some (record { request = request; reply = reply }); starred = true }
 
 -- the data are not read
-abbrev pub raw : List ℕ → List ℕ → Option Row
-raw set_name name = Some (record { set_name = set_name; name = name; shapes = None; starred = false })
+abbrev pub raw : List ℕ → List ℕ → Row
+raw set_name name = record { set_name = set_name; name = name; shapes = None; starred = false }
+
+-- ---- looking up
+
+-- what stands under the number, if anything does
+abbrev pub look_up : {A : Type 0} → ℕ → List (ℕ × A) → Option A
+look_up number [] = None
+look_up number (entry ∷ entries) = if number == entry.0 then Some entry.1 else look_up number entries
+
+-- the row of the command in a set that was found
+abbrev pub row_in : ℕ → Option (List (ℕ × Row)) → Option Row
+row_in command None = None
+row_in command (Some rows) = look_up command rows

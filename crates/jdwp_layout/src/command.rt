@@ -3,19 +3,12 @@ ghost use Rattle.std.specs.Prelude.{◌≡◌};
 ghost use Rattle.jdwp_layout.specs.Rows.{found_row};
 ghost use Rattle.jdwp_layout.specs.CommandTable.{row_at};
 
-use crate::array_and_loader::{array_reference_command, class_loader_reference_command};
-use crate::class_and_method::{
-    array_type_command, class_type_command, interface_type_command, method_command,
-};
-use crate::event_request::{event_command, event_request_command};
-use crate::frame_and_module::{
-    class_object_reference_command, module_reference_command, stack_frame_command,
+use crate::command_sets::{
+    array_reference, array_type, class_loader_reference, class_object_reference, class_type, event,
+    event_request, interface_type, method, module_reference, object_reference, reference_type,
+    stack_frame, string_reference, thread_group_reference, thread_reference, virtual_machine,
 };
 use crate::item::Layout;
-use crate::object::{object_reference_command, string_reference_command};
-use crate::reference_type::reference_type_command;
-use crate::thread::{thread_group_reference_command, thread_reference_command};
-use crate::virtual_machine::virtual_machine_command;
 
 /// What a command and its reply carry.
 #[derive(Clone, Copy, Debug, PartialEq, Eq)]
@@ -44,23 +37,23 @@ pub fn layout_of(set: u8, command: u8) -> Option<&'static CommandRow>
     ensures { found_row result ≡ row_at set command }
 {
     match set {
-        1 => virtual_machine_command(command),
-        2 => reference_type_command(command),
-        3 => class_type_command(command),
-        4 => array_type_command(command),
-        5 => interface_type_command(command),
-        6 => method_command(command),
-        9 => object_reference_command(command),
-        10 => string_reference_command(command),
-        11 => thread_reference_command(command),
-        12 => thread_group_reference_command(command),
-        13 => array_reference_command(command),
-        14 => class_loader_reference_command(command),
-        15 => event_request_command(command),
-        16 => stack_frame_command(command),
-        17 => class_object_reference_command(command),
-        18 => module_reference_command(command),
-        64 => event_command(command),
+        1 => virtual_machine::row_of(command),
+        2 => reference_type::row_of(command),
+        3 => class_type::row_of(command),
+        4 => array_type::row_of(command),
+        5 => interface_type::row_of(command),
+        6 => method::row_of(command),
+        9 => object_reference::row_of(command),
+        10 => string_reference::row_of(command),
+        11 => thread_reference::row_of(command),
+        12 => thread_group_reference::row_of(command),
+        13 => array_reference::row_of(command),
+        14 => class_loader_reference::row_of(command),
+        15 => event_request::row_of(command),
+        16 => stack_frame::row_of(command),
+        17 => class_object_reference::row_of(command),
+        18 => module_reference::row_of(command),
+        64 => event::row_of(command),
         _ => None,
     }
 }

@@ -4,7 +4,7 @@ use jdwp_value::{
 };
 
 /// What a field holds.
-#[derive(Debug, Drop)]
+#[derive(Debug, PartialEq, Drop)]
 pub enum Scalar {
     Byte(u8),
     Boolean(bool),

@@ -2,24 +2,18 @@
 //! all of them.
 #![tactic(auto)]
 
-mod array_and_loader;
-mod class_and_method;
 mod command;
+mod command_sets;
 #[cfg(test)]
 mod data_tests;
 mod datum;
-mod event_request;
-mod frame_and_module;
 mod item;
 mod laws;
-mod object;
 mod reading;
-mod reference_type;
+mod row_macros;
 #[cfg(test)]
 mod table_tests;
-mod thread;
 mod validation;
-mod virtual_machine;
 mod writing;
 
 pub use command::{CommandRow, Layouts, layout_of};

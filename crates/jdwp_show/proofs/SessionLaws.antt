@@ -35,17 +35,17 @@ first-append ask before (x ∷ xs) ys =
     ∙ sym (or_assoc (ask before x) (first_after ask (before ++ x ∷ []) xs) (first_after ask (before ++ (x ∷ xs)) ys))
 
 -- at an item of the list
-first_at : {A : Type 0} (ask : List Item → Item → Option A) (items before : List Item) (item : Item) (after : List Item) → items ≡ before ++ item ∷ after
+pub first_at : {A : Type 0} (ask : List Item → Item → Option A) (items before : List Item) (item : Item) (after : List Item) → items ≡ before ++ item ∷ after
     → first_answer ask items ≡ option_or (first_answer ask before) (option_or (ask before item) (first_after ask (before ++ item ∷ []) after))
 unfolding first_after
 first_at ask items before item after e = ap (λ (x : List Item). first_after ask [] x) e ∙ first-append ask [] before (item ∷ after)
 
-none_at : {A : Type 0} (ask : List Item → Item → Option A) (items before : List Item) (item : Item) (after : List Item) → first_answer ask items ≡ None → items ≡ before ++ item ∷ after → ask before item ≡ None
+pub none_at : {A : Type 0} (ask : List Item → Item → Option A) (items before : List Item) (item : Item) (after : List Item) → first_answer ask items ≡ None → items ≡ before ++ item ∷ after → ask before item ≡ None
 none_at ask items before item after none e =
     let a = or_none (first_answer ask before) (option_or (ask before item) (first_after ask (before ++ item ∷ []) after)) (sym (first_at ask items before item after e) ∙ none) in
     (or_none (ask before item) (first_after ask (before ++ item ∷ []) after) a.1).0
 
-none_after : {A : Type 0} (ask : List Item → Item → Option A) (base items : List Item) → ((before : List Item) (item : Item) (after : List Item) → items ≡ before ++ item ∷ after → ask (base ++ before) item ≡ None) → first_after ask base items ≡ None
+pub none_after : {A : Type 0} (ask : List Item → Item → Option A) (base items : List Item) → ((before : List Item) (item : Item) (after : List Item) → items ≡ before ++ item ∷ after → ask (base ++ before) item ≡ None) → first_after ask base items ≡ None
 unfolding first_after
 none_after ask base [] h = refl
 none_after ask base (x ∷ xs) h =
@@ -55,13 +55,13 @@ none_after ask base (x ∷ xs) h =
     rw (here, rest) refl
 
 -- where the first answer comes from
-record Answered {A : Type 0} (ask : List Item → Item → Option A) (base items : List Item) (answer : A) : Type 0 where
-  before : List Item
-  item : Item
-  after : List Item
-  in_items : items ≡ before ++ item ∷ after
-  none_earlier : first_after ask base before ≡ None
-  answers : ask (base ++ before) item ≡ Some answer
+pub record Answered {A : Type 0} (ask : List Item → Item → Option A) (base items : List Item) (answer : A) : Type 0 where
+  pub before : List Item
+  pub item : Item
+  pub after : List Item
+  pub in_items : items ≡ before ++ item ∷ after
+  pub none_earlier : first_after ask base before ≡ None
+  pub answers : ask (base ++ before) item ≡ Some answer
 
 answered_later : {A : Type 0} (ask : List Item → Item → Option A) (base : List Item) (x : Item) (xs : List Item) (answer : A) → ask base x ≡ None → Answered ask (base ++ x ∷ []) xs answer → Answered ask base (x ∷ xs) answer
 unfolding first_after
@@ -87,7 +87,7 @@ answered_case ask base x xs answer (Some a) is e later = record {
 }
 answered_case ask base x xs answer None is e later = answered_later ask base x xs answer is (later e)
 
-answered_from : {A : Type 0} (ask : List Item → Item → Option A) (base items : List Item) (answer : A) → first_after ask base items ≡ Some answer → Answered ask base items answer
+pub answered_from : {A : Type 0} (ask : List Item → Item → Option A) (base items : List Item) (answer : A) → first_after ask base items ≡ Some answer → Answered ask base items answer
 unfolding first_after
 answered_from ask base [] answer e = cc
 answered_from ask base (x ∷ xs) answer e = answered_case ask base x xs answer (ask base x) refl e (λ h. answered_from ask (base ++ x ∷ []) xs answer h)
@@ -218,11 +218,11 @@ lined_by text (one_bad line after split pass bad) =
 lined : (text : List ℕ) → Lined text
 lined text = lined_by text (read_of (lines text))
 
-yes_none : (o : Option (ℕ × CaptureFault)) → verdict_by o ≡ Yes → o ≡ None
+pub yes_none : (o : Option (ℕ × CaptureFault)) → verdict_by o ≡ Yes → o ≡ None
 yes_none None e = refl
 yes_none (Some p) e = cc
 
-no_some : (o : Option (ℕ × CaptureFault)) (line : ℕ) (fault : CaptureFault) → verdict_by o ≡ No line fault → o ≡ Some (line, fault)
+pub no_some : (o : Option (ℕ × CaptureFault)) (line : ℕ) (fault : CaptureFault) → verdict_by o ≡ No line fault → o ≡ Some (line, fault)
 no_some None line fault e = cc
 no_some (Some (n, f)) line fault e = let a : n ≡ line = cc in let b : f ≡ fault = cc in rw (a, b) refl
 

@@ -1,13 +1,17 @@
 //! Laws of the definitions by which captures are judged, as contracts of functions that do nothing.
-ghost use Rattle.std.specs.Prelude.{◌≡◌, ℕ, List, Some};
+ghost use Rattle.std.specs.Prelude.{◌≡◌, ◌↔◌, ℕ, List, Some};
 ghost use Rattle.jdwp_wire.specs.Bytes.{IsBytes};
 ghost use Rattle.jdwp_wire.specs.Widths.{Widths};
 ghost use Rattle.jdwp_layout.specs.Rows.{RowShapes};
 ghost use Rattle.jdwp_show.specs.Data.{shapes_of, widths_in, widths_by};
 ghost use Rattle.jdwp_show.specs.declared.capture_line.Sender.{Sender};
 ghost use Rattle.jdwp_show.specs.Found.{Found, found, AreIn};
-ghost use Rattle.jdwp_show.specs.Items.{items_of, found_of};
+ghost use Rattle.jdwp_show.specs.Items.{Item, items_of, found_of};
+ghost use Rattle.jdwp_show.specs.declared.pending.Command.{Command};
 ghost use Rattle.jdwp_show.specs.Lines.{Line, sent_by};
+ghost use Rattle.jdwp_show.specs.Rules.{waiting};
+ghost use Rattle.jdwp_show.specs.Sessions.{widths_of};
+ghost use Rattle.jdwp_show.specs.Waiting.{Waits, TellsWidths};
 
 /// What is found in the bytes of an end is the messages that they begin with, as many as are whole, and the frame fault that what follows
 /// them shows, if it does. Nothing else is found in them.
@@ -26,4 +30,15 @@ pub fn tells_widths_by_layout()
 /// The items of one end, in order, are what is found in all that it sent: no message is lost at the end of a line, and none is made up.
 pub fn keeps_each_message()
     ensures { (capture : List Line) (sender : Sender) → found_of sender (items_of capture) ≡ found (sent_by sender capture) }
+{}
+
+/// A command waits under an id exactly where it stands among the items and none behind it speaks of its id.
+pub fn waits_where_it_stands()
+    ensures { (items : List Item) (id : ℕ) (command : Command) → (waiting items id ≡ Some command) ↔ Waits items id command }
+{}
+
+/// Widths of ids hold for items exactly where an item tells them, and no item before it tells any or, like itself, breaks a rule of frames,
+/// ends or ids.
+pub fn tells_widths_first()
+    ensures { (items : List Item) (widths : Widths) → (widths_of items ≡ Some widths) ↔ TellsWidths items widths }
 {}
