@@ -120,8 +120,8 @@ unpaused-more : (b : Bool) (next : NextMessage) → b ≡ false → cond b More 
 unpaused-more true next p e = absurd cc
 unpaused-more false next p e = e
 
-pub more-has-room : (end : End) → length handshake_bytes ≤ end.limits.packet → IsBytes end.incoming → front_of end ≡ More → is_open end ≡ true → is_paused end ≡ false → 0 < room_of end
+pub more-has-room : (end : End) → 2048 ≤ end.limits.packet → IsBytes end.incoming → front_of end ≡ More → is_open end ≡ true → is_paused end ≡ false → 0 < room_of end
 more-has-room end low fits e opened flows =
     let next : next_of end ≡ More = unpaused-more (is_paused end) (next_of end) flows e in
-    let short = more-room end.limits.packet end.phase end.incoming low fits opened next in
+    let short = more-room end.limits.packet end.phase end.incoming (omega arith) fits opened next in
     rw opened (omega (arith, short))

@@ -53,13 +53,6 @@ impl End {
         })
     }
 
-    /// The limits that it was made with.
-    pub fn limits(&self) -> Limits
-        ensures { result ≡ self.now.limits }
-    {
-        self.limits
-    }
-
     /// Whether a session is open: begun, and not closed since.
     pub fn is_open(&self) -> bool
         ensures { result ≡ ends.is_open self.now }
@@ -131,6 +124,7 @@ impl End {
         ensures front { seen_front result ≡ front_of self.now }
         ensures room { front_of self.now ≡ More → ends.is_open self.now ≡ true → ends.is_paused self.now ≡ false → 0 < room_of self.now }
         ensures bytes { IsBytes self.now.incoming }
+        ensures least { 2048 ≤ self.now.limits.packet }
     {
         let bytes = self.incoming.as_slice();
         are_bytes(bytes);
