@@ -1,5 +1,5 @@
 //! One end of a session.
-ghost use Rattle.std.specs.Prelude.{◌≡◌, ◌≤◌, ◌<◌, ◌+◌, ◌-◌, ◌*◌, ◌++◌, None, true, false, IfOk, length, take, drop, min};
+ghost use Rattle.std.specs.Prelude.{◌≡◌, ◌≤◌, ◌<◌, ◌+◌, ◌-◌, ◌*◌, ◌++◌, [], None, true, false, IfOk, length, take, drop, min};
 ghost use Rattle.jdwp_wire.specs.Bytes.{IsBytes};
 ghost use Rattle.jdwp_wire.specs.Streams.{Message, Whole, More};
 ghost use Rattle.jdwp_end.specs.Ends as ends;
@@ -125,6 +125,7 @@ impl End {
         ensures room { front_of self.now ≡ More → ends.is_open self.now ≡ true → ends.is_paused self.now ≡ false → 0 < room_of self.now }
         ensures bytes { IsBytes self.now.incoming }
         ensures least { 2048 ≤ self.now.limits.packet }
+        ensures flows { self.now.outgoing ≡ [] → ends.is_paused self.now ≡ false }
     {
         let bytes = self.incoming.as_slice();
         are_bytes(bytes);

@@ -1,5 +1,5 @@
 //! The debuggee's end of a session.
-ghost use Rattle.std.specs.Prelude.{◌≡◌, ◌≤◌, ◌<◌, ◌++◌, ◌↔◌, true, false, Ok, IfOk, IfSome, IsTrue, length, take, drop, min};
+ghost use Rattle.std.specs.Prelude.{◌≡◌, ◌≤◌, ◌<◌, ◌++◌, ◌↔◌, [], true, false, Ok, IfOk, IfSome, IsTrue, length, take, drop, min};
 ghost use Rattle.jdwp_end.specs.Ends as ends;
 ghost use Rattle.jdwp_end.specs.Ends.{front_of, most_outgoing, room_of};
 ghost use Rattle.jdwp_wire.specs.Limits.{standard_limits};
@@ -174,6 +174,7 @@ impl Target {
     pub fn turn(&mut self) -> Result<Turn, TargetFault>
         ensures turns { TurnsAt (front_of self.old.end) self.old result self.new }
         ensures nothing { (result ≡ Ok Turn.Nothing) ↔ (front_of self.old.end ≡ More) }
+        ensures flows { self.old.end.outgoing ≡ [] → ends.is_paused self.old.end ≡ false }
         ensures room { front_of self.old.end ≡ More → ends.is_open self.old.end ≡ true → ends.is_paused self.old.end ≡ false → 0 < room_of self.old.end }
     {
         match self.end.front() {
