@@ -1,6 +1,6 @@
 -- What stands in front of the bytes that came to an end.
-use Rattle.std.proofs.Common.{◌≡◌, ◌∙◌, ℕ, ◌<◌, ◌+◌, ◌≤◌, ◌++◌, List, length, take, drop, Bool, true, false, cond, sym, ap, refl, arith, inl, inr}
-use Rattle.std.proofs.lemmas.Bool.{cases_lt}
+use Rattle.std.proofs.Common.{◌≡◌, ◌∙◌, ℕ, ◌<◌, ◌+◌, ◌≤◌, ◌++◌, List, [], length, take, drop, Bool, true, false, cond, sym, ap, refl, arith, inl, inr}
+use Rattle.std.proofs.lemmas.Bool.{cases_lt, lt-leb}
 use Rattle.std.proofs.lemmas.List.{length-append, length-drop, take_at, drop_at}
 use Rattle.jdwp_wire.specs.Bytes.{IsBytes}
 use Rattle.jdwp_wire.specs.Frames.{Front, front}
@@ -8,7 +8,8 @@ use Rattle.jdwp_wire.specs.Frames as frames
 use Rattle.jdwp_wire.specs.FrameLaws.{front_found, front_is}
 use Rattle.jdwp_wire.specs.Handshake.{handshake_bytes, handshake_front}
 use Rattle.jdwp_wire.specs.HandshakeLaws.{handshake_front_is}
-use Rattle.jdwp_wire.specs.Streams.{Message, Handshake, Packet, NextMessage, Whole, More, after_handshake, at_handshake, message_bytes, IsPacketMessage}
+use Rattle.jdwp_wire.specs.Streams.{Message, Handshake, Packet, NextMessage, Whole, More, Fault, after_handshake, at_handshake, message_bytes, IsPacketMessage}
+use Rattle.jdwp_wire.specs.declared.frame.FrameFault.{FrameFault}
 use Rattle.jdwp_wire.specs.declared.frame.NextHello.{NextHello}
 use Rattle.jdwp_wire.specs.declared.frame.NextHello.TheVariants as hello
 use Rattle.jdwp_end.specs.declared.phase.Phase.{Phase}
@@ -120,8 +121,23 @@ unpaused-more : (b : Bool) (next : NextMessage) → b ≡ false → cond b More 
 unpaused-more true next p e = absurd cc
 unpaused-more false next p e = e
 
-pub more-has-room : (end : End) → length handshake_bytes ≤ end.limits.packet → IsBytes end.incoming → front_of end ≡ More → is_open end ≡ true → is_paused end ≡ false → 0 < room_of end
+unpaused-fault : (b : Bool) (next : NextMessage) (fault : FrameFault) → cond b More next ≡ Fault fault → next ≡ Fault fault
+unpaused-fault true next fault e = absurd cc
+unpaused-fault false next fault e = e
+
+-- what there is to handle at an end that is not paused
+pub front-next : (end : End) → is_paused end ≡ false → front_of end ≡ next_of end
+front-next end flows = rw flows refl
+
+pub front-fault : (end : End) (fault : FrameFault) → front_of end ≡ Fault fault → next_of end ≡ Fault fault
+front-fault end fault e = unpaused-fault (is_paused end) (next_of end) fault e
+
+-- an end at which nothing waits is not paused
+pub empty-flows : (end : End) → 2048 ≤ end.limits.packet → end.outgoing ≡ [] → is_paused end ≡ false
+empty-flows end low none = rw none (lt-leb end.limits.packet 0 (omega arith))
+
+pub more-has-room : (end : End) → 2048 ≤ end.limits.packet → IsBytes end.incoming → front_of end ≡ More → is_open end ≡ true → is_paused end ≡ false → 0 < room_of end
 more-has-room end low fits e opened flows =
     let next : next_of end ≡ More = unpaused-more (is_paused end) (next_of end) flows e in
-    let short = more-room end.limits.packet end.phase end.incoming low fits opened next in
+    let short = more-room end.limits.packet end.phase end.incoming (omega arith) fits opened next in
     rw opened (omega (arith, short))

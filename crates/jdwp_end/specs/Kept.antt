@@ -1,6 +1,5 @@
 -- What every end keeps inside.
 use Rattle.std.specs.Prelude.{◌≡◌, ◌≤◌, ◌*◌, length}
-use Rattle.jdwp_wire.specs.Handshake.{handshake_bytes}
 use Rattle.jdwp_end.specs.declared.end.End.TheInside.{Inside}
 use Rattle.jdwp_end.specs.Ends.{End}
 
@@ -13,9 +12,9 @@ view_of e = record {
   session = e.session;
 }
 
--- both queues have their room, and the handshake fits them
+-- packets have at least 2,048 bytes, and both queues have their room
 pub record IsRight (e : Inside) : Type 0 where
-  pub handshake_fits : length handshake_bytes ≤ e.limits.packet
+  pub packet_least : 2048 ≤ e.limits.packet
   pub incoming_room : e.incoming.capacity ≡ e.limits.packet
   pub outgoing_room : e.outgoing.capacity ≡ e.limits.packet * 2
   pub incoming_fits : length e.incoming.bytes ≤ e.limits.packet

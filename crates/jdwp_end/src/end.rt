@@ -1,5 +1,5 @@
 //! One end of a session.
-ghost use Rattle.std.specs.Prelude.{◌≡◌, ◌≤◌, ◌<◌, ◌+◌, ◌-◌, ◌*◌, ◌++◌, None, true, false, IfOk, length, take, drop, min};
+ghost use Rattle.std.specs.Prelude.{◌≡◌, ◌≤◌, ◌<◌, ◌+◌, ◌-◌, ◌*◌, ◌++◌, [], None, true, false, IfOk, length, take, drop, min};
 ghost use Rattle.jdwp_wire.specs.Bytes.{IsBytes};
 ghost use Rattle.jdwp_wire.specs.Streams.{Message, Whole, More};
 ghost use Rattle.jdwp_end.specs.Ends as ends;
@@ -51,13 +51,6 @@ impl End {
             outgoing: ByteQueue::new(alloc, packet * 2)?,
             session: Session::new(),
         })
-    }
-
-    /// The limits that it was made with.
-    pub fn limits(&self) -> Limits
-        ensures { result ≡ self.now.limits }
-    {
-        self.limits
     }
 
     /// Whether a session is open: begun, and not closed since.
@@ -131,6 +124,8 @@ impl End {
         ensures front { seen_front result ≡ front_of self.now }
         ensures room { front_of self.now ≡ More → ends.is_open self.now ≡ true → ends.is_paused self.now ≡ false → 0 < room_of self.now }
         ensures bytes { IsBytes self.now.incoming }
+        ensures least { 2048 ≤ self.now.limits.packet }
+        ensures flows { self.now.outgoing ≡ [] → ends.is_paused self.now ≡ false }
     {
         let bytes = self.incoming.as_slice();
         are_bytes(bytes);

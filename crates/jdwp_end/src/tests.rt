@@ -26,7 +26,6 @@ fn front_of(end: &End) -> Result<Option<(u32, usize)>, FrameFault> {
 fn a_session_in_pieces(rt: HostRuntime) -> Result<(), Fail> {
     let mut end = end(rt.alloc())?;
     assert!(rt; !end.is_open());
-    assert_eq!(rt; end.limits().packet(), 2048);
     assert_eq!(rt; end.feed(&HANDSHAKE), 0);
     end.open();
     assert!(rt; end.is_open());

@@ -9,6 +9,7 @@ mod data_tests;
 mod datum;
 mod item;
 mod laws;
+pub mod numbers;
 mod reading;
 mod row_macros;
 #[cfg(test)]
