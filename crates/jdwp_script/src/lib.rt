@@ -2,6 +2,9 @@
 #![tactic(auto)]
 
 mod fault;
+mod gather;
+mod id_set;
+mod ids;
 mod judge;
 mod limits;
 mod member;
@@ -10,6 +13,7 @@ mod reading;
 mod script;
 mod step;
 mod step_parts;
+mod too_wide;
 
 pub use fault::ScriptFault;
 pub use member::Member;
