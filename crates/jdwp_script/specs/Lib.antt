@@ -6,6 +6,7 @@ pub mod Meanings
 pub mod Reading
 pub mod Scripts
 pub mod Limits
-pub mod IdSets
 pub mod Twice
 pub mod TooWide
+pub mod References
+pub mod IdSets

@@ -4,6 +4,7 @@ ghost use Rattle.std.specs.List.{flat_map};
 ghost use Rattle.jdwp_script.specs.Parts.{GroupPart, FieldPart, MethodPart, ClassPart, ObjectPart, StepPart, ThreadPart};
 ghost use Rattle.jdwp_script.specs.Meanings.{group_part, field_part, method_part, class_part, object_part, step_part, thread_part, script_part};
 ghost use Rattle.jdwp_script.specs.Limits.{started_by, started};
+ghost use Rattle.jdwp_script.specs.References.{prepared_by, prepared};
 ghost use Rattle.jdwp_script.specs.Twice.{group_ids, object_ids, thread_ids, shared_ids, class_ids, field_ids, method_ids, frame_of, frame_ids, has_id_twice};
 
 use crate::gather::Gather;
@@ -184,6 +185,36 @@ impl Gather<Thread> for StartedIds {
     }
 }
 
+/// The ids of the classes that steps prepare.
+pub(crate) struct PreparedIds;
+
+impl Gather<Step> for PreparedIds {
+    ghost Meaning = { StepPart };
+
+    ghost meaning = { step_part };
+
+    ghost gathers = { prepared_by };
+
+    fn gather(&self, step: &Step, ids: &mut Vec<u64>) -> Result<(), NoMemory> {
+        if let Step::Prepare(class) = step {
+            ids.push(class.0)?;
+        }
+        Ok(())
+    }
+}
+
+impl Gather<Thread> for PreparedIds {
+    ghost Meaning = { ThreadPart };
+
+    ghost meaning = { thread_part };
+
+    ghost gathers = { λ t. flat_map prepared_by t.steps };
+
+    fn gather(&self, thread: &Thread, ids: &mut Vec<u64>) -> Result<(), NoMemory> {
+        self.gather_each(&thread.steps, ids)
+    }
+}
+
 /// The ids of the groups.
 pub(crate) fn group_ids(alloc: Global, groups: &[Group]) -> Result<Vec<u64>, NoMemory>
     ensures { IfOk result (λ v. v.items ≡ group_ids (map group_part groups.now)) }
@@ -264,6 +295,15 @@ pub(crate) fn started_threads(alloc: Global, threads: &[Thread]) -> Result<Vec<u
 {
     let mut ids = Vec::new(alloc);
     StartedIds.gather_each(threads, &mut ids)?;
+    Ok(ids)
+}
+
+/// The ids of the classes that steps prepare.
+pub(crate) fn prepared_classes(alloc: Global, threads: &[Thread]) -> Result<Vec<u64>, NoMemory>
+    ensures { IfOk result (λ v. v.items ≡ prepared (map thread_part threads.now)) }
+{
+    let mut ids = Vec::new(alloc);
+    PreparedIds.gather_each(threads, &mut ids)?;
     Ok(ids)
 }
 

@@ -193,7 +193,7 @@ fn is_deep(steps: &[Step]) -> bool
 }
 
 /// How many threads live from the beginning.
-fn living(alloc: Global, threads: &[Thread]) -> Result<usize, NoMemory>
+pub(crate) fn living(alloc: Global, threads: &[Thread]) -> Result<usize, NoMemory>
     ensures { IfOk result (λ n. n ≡ length (living (map thread_part threads.now))) }
 {
     let started = set_of(alloc, &started_threads(alloc, threads)?)?;
