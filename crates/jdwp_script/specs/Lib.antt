@@ -10,3 +10,4 @@ pub mod Twice
 pub mod TooWide
 pub mod References
 pub mod IdSets
+pub mod Faults

@@ -10,6 +10,7 @@ mod known;
 mod limits;
 mod member;
 mod parts;
+mod read;
 mod reading;
 mod references;
 mod script;
