@@ -6,3 +6,8 @@ pub mod Meanings
 pub mod Reading
 pub mod Scripts
 pub mod Limits
+pub mod Twice
+pub mod TooWide
+pub mod References
+pub mod IdSets
+pub mod Faults

@@ -1,12 +1,16 @@
 //! Whether a script has more of something than it may have.
-ghost use Rattle.std.specs.Prelude.{◌≡◌, string_bytes};
+ghost use Rattle.std.specs.Prelude.{◌≡◌, length, map, IfOk, string_bytes};
 ghost use Rattle.jdwp_script.specs.Parts.{GroupPart, FieldPart, SlotPart, MethodPart, ClassPart, ObjectPart, StepPart, ThreadPart};
-ghost use Rattle.jdwp_script.specs.Meanings.{group_part, field_part, slot_part, method_part, class_part, object_part, step_part, thread_part};
-ghost use Rattle.jdwp_script.specs.Limits.{is_long, if_there, over, elements_pass, group_passes, field_passes, slot_passes, method_passes, class_passes, object_passes, step_passes, thread_passes};
+ghost use Rattle.jdwp_script.specs.Meanings.{group_part, field_part, slot_part, method_part, class_part, object_part, step_part, thread_part, script_part};
+ghost use Rattle.jdwp_script.specs.Limits.{is_long, if_there, over, elements_pass, group_passes, field_passes, slot_passes, method_passes, class_passes, object_passes, step_passes, thread_passes, is_deep, living, passes_limit};
 
+use crate::id_set::set_of;
+use crate::ids::started_threads;
 use crate::judge::Judge;
-use crate::script::{Class, Field, Group, Method, Object, Slot, Thread};
+use crate::script::{Class, Field, Group, Method, Object, Script, Slot, Thread};
 use crate::step::Step;
+use jdwp_wire::NoMemory;
+use std::alloc::Global;
 
 /// The bytes that a text may have.
 const TEXT_LIMIT: usize = 512;
@@ -16,6 +20,8 @@ const STRING_LIMIT: usize = 65_000;
 const ELEMENT_LIMIT: usize = 4_096;
 /// The fields, methods, interfaces, lines or slots that there may be in one list, and frames at once.
 const LIST_LIMIT: usize = 256;
+/// The groups, classes, objects or threads that a script may have.
+const PART_LIMIT: usize = 1_024;
 /// The steps that a thread may have.
 const STEP_LIMIT: usize = 65_536;
 
@@ -151,4 +157,70 @@ impl Judge<Step> for PassesLimit {
             _ => false,
         }
     }
+}
+
+impl Judge<Thread> for PassesLimit {
+    ghost Meaning = { ThreadPart };
+
+    ghost meaning = { thread_part };
+
+    ghost judges = { λ _. thread_passes };
+
+    fn is_bad(&self, thread: &Thread) -> bool {
+        is_long(&thread.name)
+            || thread.steps.len() > STEP_LIMIT
+            || self.has_bad(&thread.steps)
+            || is_deep(&thread.steps)
+    }
+}
+
+/// Whether more frames are there at once than may be.
+fn is_deep(steps: &[Step]) -> bool
+    ensures { result ≡ is_deep 0 (map step_part steps.now) }
+{
+    let mut frames = 0usize;
+    for step in steps {
+        match step {
+            Step::Call(_) => frames += 1,
+            Step::Return(_) => frames = frames.saturating_sub(1),
+            _ => {}
+        }
+        if frames > LIST_LIMIT {
+            return true;
+        }
+    }
+    false
+}
+
+/// How many threads live from the beginning.
+pub(crate) fn living(alloc: Global, threads: &[Thread]) -> Result<usize, NoMemory>
+    ensures { IfOk result (λ n. n ≡ length (living (map thread_part threads.now))) }
+{
+    let started = set_of(alloc, &started_threads(alloc, threads)?)?;
+    let mut count = 0usize;
+    for thread in threads {
+        if !started.contains(&thread.id.0) {
+            count += 1;
+        }
+    }
+    Ok(count)
+}
+
+/// Whether the script passes a limit, where `live` threads may live at the beginning.
+pub(crate) fn passes_limit(alloc: Global, script: &Script, live: usize) -> Result<bool, NoMemory>
+    ensures { IfOk result (λ passes. passes ≡ passes_limit live (script_part script.now)) }
+{
+    if is_long(&script.name)
+        || script.groups.len() > PART_LIMIT
+        || script.classes.len() > PART_LIMIT
+        || script.objects.len() > PART_LIMIT
+        || script.threads.len() > PART_LIMIT
+        || PassesLimit.has_bad(&script.groups)
+        || PassesLimit.has_bad(&script.classes)
+        || PassesLimit.has_bad(&script.objects)
+        || PassesLimit.has_bad(&script.threads)
+    {
+        return Ok(true);
+    }
+    Ok(living(alloc, &script.threads)? > live)
 }
