@@ -1,0 +1,5 @@
+pub mod Captures
+pub mod Files
+pub mod Printing
+pub mod Statuses
+pub mod Values

@@ -1,0 +1,1 @@
+//! What is told, on writers in memory.
