@@ -181,45 +181,6 @@ fn each_end_has_its_status(rt: HostRuntime) -> Result<(), Fail> {
 }
 
 #[test]
-fn files_are_opened_as_named(rt: HostRuntime) -> Result<(), Fail> {
-    let (machine, from, to) = ("files_machine", "files_from", "files_to");
-    fs::write(&rt, machine, "{}")?;
-    fs::write(&rt, from, SESSION.as_slice())?;
-    let absent = "files_absent";
-    assert_eq!(rt;
-        status_of(&rt, &["serve-script", absent, "--from", from, "--to", to])?,
-        1
-    );
-    assert!(rt; fs::read(&rt, to).is_err(), "made without a machine");
-    assert_eq!(rt;
-        status_of(
-            &rt,
-            &["serve-script", machine, "--from", absent, "--to", to]
-        )?,
-        1
-    );
-    assert!(rt; fs::read(&rt, to).is_err(), "made without an input");
-    assert_eq!(rt;
-        status_of(
-            &rt,
-            &[
-                "serve-script",
-                machine,
-                "--from",
-                from,
-                "--to",
-                "files_absent/to"
-            ]
-        )?,
-        1
-    );
-    for file in [machine, from] {
-        fs::remove_file(&rt, file)?;
-    }
-    Ok(())
-}
-
-#[test]
 fn other_words_are_refused(rt: HostRuntime) -> Result<(), Fail> {
     let refused: [&[&str]; 16] = [
         &[],
@@ -508,11 +469,9 @@ fn words_help(rt: HostRuntime) -> Result<(), Fail> {
         (
             &[],
             &[
+                "error: 'jdwp' requires a subcommand but one was not provided",
+                "show, check, serve-script",
                 "Usage: ",
-                "<COMMAND>",
-                "\n  show ",
-                "\n  check ",
-                "\n  serve-script ",
             ],
         ),
         (
