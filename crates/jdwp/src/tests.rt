@@ -136,24 +136,45 @@ fn a_session_of_a_file_is_answered(rt: HostRuntime) -> Result<(), Fail> {
 fn each_end_has_its_status(rt: HostRuntime) -> Result<(), Fail> {
     let (machine, from, to) = ("ends_machine", "ends_from", "ends_to");
     fs::write(&rt, machine, "{}")?;
-    let ends: [(&[u8], &str, u8, usize); 10] = [
-        (b"JDWP-HandshakE", "9", 1, 0),
-        (b"JDWP-Handshake\x00\x00\x00\x0a", "9", 1, 43),
-        (b"JDWP-Handshake\x00\x01\x00\x01", "9", 1, 43),
+    let lost = "jdwp: the connection is lost at a read\n";
+    let limit = "jdwp: the turn limit is reached\n";
+    let ends: [(&[u8], &str, u8, &str, usize); 10] = [
+        (
+            b"JDWP-HandshakE",
+            "9",
+            1,
+            "jdwp: fault 4: not the handshake\n",
+            0,
+        ),
+        (
+            b"JDWP-Handshake\x00\x00\x00\x0a",
+            "9",
+            1,
+            "jdwp: fault 1: a packet length below 11\n",
+            43,
+        ),
+        (
+            b"JDWP-Handshake\x00\x01\x00\x01",
+            "9",
+            1,
+            "jdwp: fault 2: a packet length above the limit\n",
+            43,
+        ),
         (
             b"JDWP-Handshake\x00\x00\x00\x0b\x00\x00\x00\x01\x01",
             "9",
             1,
+            "jdwp: fault 3: packet flags other than 00 and 80\n",
             43,
         ),
-        (b"", "9", 2, 0),
-        (&SESSION[..65], "9", 2, 100),
-        (&SESSION, "0", 4, 0),
-        (&SESSION, "5", 4, 100),
-        (&SESSION, "6", 0, 111),
-        (&SESSION, "4294967295", 0, 111),
+        (b"", "9", 2, lost, 0),
+        (&SESSION[..65], "9", 2, lost, 100),
+        (&SESSION, "0", 4, limit, 0),
+        (&SESSION, "5", 4, limit, 100),
+        (&SESSION, "6", 0, "", 111),
+        (&SESSION, "4294967295", 0, "", 111),
     ];
-    for (input, turns, want, written) in ends {
+    for (input, turns, status, told, written) in ends {
         fs::write(&rt, from, input)?;
         let words = [
             "serve-script",
@@ -167,12 +188,13 @@ fn each_end_has_its_status(rt: HostRuntime) -> Result<(), Fail> {
             "--turns",
             turns,
         ];
-        assert_eq!(rt; status_of(&rt, &words)?, want, "{turns} turns of {input:?}");
-        assert_eq!(rt;
-            fs::read(&rt, to)?.as_slice(),
-            &ANSWERS[..written],
-            "{turns} turns of {input:?}"
-        );
+        let ran = run_words(&rt, &words)?;
+        assert_eq!(rt; ran.status, status, "{turns} turns of {input:?}");
+        assert!(rt; ran.out.is_empty());
+        assert!(rt; ran.err.as_slice() == told.as_bytes(), "{told}");
+        let bytes = fs::read(&rt, to)?;
+        assert!(rt; ANSWERS.starts_with(bytes.as_slice()));
+        assert_eq!(rt; bytes.len(), written, "{turns} turns of {input:?}");
     }
     for file in [machine, from, to] {
         fs::remove_file(&rt, file)?;
