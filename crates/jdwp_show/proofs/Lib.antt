@@ -1,3 +1,4 @@
+pub mod TextLemmas
 pub mod LineLemmas
 pub mod FoundLemmas
 pub mod FoundLaws
@@ -6,4 +7,5 @@ pub mod ItemLaws
 pub mod StreamLemmas
 pub mod WalkLemmas
 pub mod JudgingLemmas
+pub mod CaptureLineLemmas
 pub mod SessionLaws

@@ -218,11 +218,11 @@ lined_by text (one_bad line after split pass bad) =
 lined : (text : List ℕ) → Lined text
 lined text = lined_by text (read_of (lines text))
 
-yes_none : (o : Option (ℕ × CaptureFault)) → verdict_by o ≡ Yes → o ≡ None
+pub yes_none : (o : Option (ℕ × CaptureFault)) → verdict_by o ≡ Yes → o ≡ None
 yes_none None e = refl
 yes_none (Some p) e = cc
 
-no_some : (o : Option (ℕ × CaptureFault)) (line : ℕ) (fault : CaptureFault) → verdict_by o ≡ No line fault → o ≡ Some (line, fault)
+pub no_some : (o : Option (ℕ × CaptureFault)) (line : ℕ) (fault : CaptureFault) → verdict_by o ≡ No line fault → o ≡ Some (line, fault)
 no_some None line fault e = cc
 no_some (Some (n, f)) line fault e = let a : n ≡ line = cc in let b : f ≡ fault = cc in rw (a, b) refl
 

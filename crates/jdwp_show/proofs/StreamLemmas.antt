@@ -3,26 +3,26 @@ use Rattle.std.proofs.Common.{◌≡◌, ℕ, ◌+◌, ◌-◌, ◌≤◌, List,
 use Rattle.std.proofs.lemmas.List.{append-nil, map-append, drop-drop}
 use Rattle.std.proofs.Math.Seq.{take-add}
 use Rattle.jdwp_show.specs.declared.capture_line.Sender.{Sender}
-use Rattle.jdwp_show.specs.declared.found.Found.{Found as FoundHere}
-use Rattle.jdwp_show.specs.declared.found.Item.{Item as ItemHere}
+use Rattle.jdwp_show.specs.declared.found.FoundRef.{FoundRef}
+use Rattle.jdwp_show.specs.declared.found.ItemRef.{ItemRef}
 use Rattle.jdwp_show.specs.declared.found.Stream.{Stream}
 use Rattle.jdwp_show.specs.Found.{Found}
 use Rattle.jdwp_show.specs.Items.{Item, item_at}
 use Rattle.jdwp_show.specs.Streams.{thing, item_of, coming, left, found_behind, IsNext, IsCompleted, HasFound}
 
 -- nothing yet
-pub found_none : (line : ℕ) (sender : Sender) (s : Stream) (items : List ItemHere) → HasFound line sender s items s items
+pub found_none : (line : ℕ) (sender : Sender) (s : Stream) (items : List ItemRef) → HasFound line sender s items s items
 found_none line sender s items = record { things = []; added = sym (append-nil (map item_of items)); goes_on = λ more. refl; same_bytes = refl; come = refl }
 
 -- one thing more
-pub found_more : (line : ℕ) (sender : Sender) (old : Stream) (before : List ItemHere) (now : Stream) (items : List ItemHere) (found : FoundHere) (new : Stream) (after : List ItemHere)
+pub found_more : (line : ℕ) (sender : Sender) (old : Stream) (before : List ItemRef) (now : Stream) (items : List ItemRef) (found : FoundRef) (new : Stream) (after : List ItemRef)
     → HasFound line sender old before now items → IsNext now (Some found) new → after ≡ items ++ record { line = line; sender = sender; found = found } ∷ [] → HasFound line sender old before new after
 found_more line sender old before now items found new after h (goes_on, less, bytes, come) pushed =
-    let it : ItemHere = record { line = line; sender = sender; found = found } in
+    let it : ItemRef = record { line = line; sender = sender; found = found } in
     let at : Found → Item = λ x. item_at line sender x in
     record {
       things = h.things ++ thing found ∷ [];
-      added = ap (λ (x : List ItemHere). map item_of x) pushed ∙ map-append item_of items (it ∷ []) ∙ ap (λ (x : List Item). x ++ item_of it ∷ []) h.added
+      added = ap (λ (x : List ItemRef). map item_of x) pushed ∙ map-append item_of items (it ∷ []) ∙ ap (λ (x : List Item). x ++ item_of it ∷ []) h.added
           ∙ append_assoc (map item_of before) (map at h.things) (item_of it ∷ []) ∙ ap (λ (x : List Item). map item_of before ++ x) (sym (map-append at h.things (thing found ∷ [])));
       goes_on = λ more. h.goes_on more ∙ ap (λ (x : List Found). h.things ++ x) (goes_on more) ∙ sym (append_assoc h.things (thing found ∷ []) (coming new more));
       same_bytes = bytes ∙ h.same_bytes;
@@ -37,7 +37,7 @@ left_more bytes taken come count le =
     ∙ ap (λ (x : List ℕ). take (come - taken) (drop taken bytes) ++ take count x) (drop-drop (come - taken) taken bytes ∙ ap (λ (n : ℕ). drop n bytes) k)
 
 -- all that so many bytes more complete
-pub completed : (line : ℕ) (sender : Sender) (count : ℕ) (old begun : Stream) (before : List ItemHere) (new : Stream) (after : List ItemHere)
+pub completed : (line : ℕ) (sender : Sender) (count : ℕ) (old begun : Stream) (before : List ItemRef) (new : Stream) (after : List ItemRef)
     → begun.bytes ≡ old.bytes → begun.come ≡ old.come + count → begun.taken ≡ old.taken → begun.handshaken ≡ old.handshaken → begun.faulty ≡ old.faulty
     → HasFound line sender begun before new after → coming new [] ≡ [] → IsCompleted old count line sender before new after
 completed line sender count old begun before new after bytes come taken handshaken faulty h none =

@@ -5,7 +5,7 @@ use Rattle.jdwp_show.specs.declared.capture_line.Capture.{Capture}
 use Rattle.jdwp_show.specs.declared.capture_line.LineLength.{LineLength}
 use Rattle.jdwp_show.specs.declared.capture_line.Sender.{Sender}
 use Rattle.jdwp_show.specs.declared.capture_line.Sender.TheVariants.{Debugger, Target}
-use Rattle.jdwp_show.specs.declared.found.Item.{Item as ItemHere}
+use Rattle.jdwp_show.specs.declared.found.ItemRef.{ItemRef}
 use Rattle.jdwp_show.specs.declared.found.Stream.{Stream}
 use Rattle.jdwp_show.specs.Captures.{IsCapture, length_of}
 use Rattle.jdwp_show.specs.Found.{Found, found, found_after, found_within}
@@ -21,7 +21,7 @@ pub record Follows (sender : Sender) (before : List Line) (s : Stream) (all : Li
   pub goes_on : (more : List ℕ) → found (sent_by sender before ++ more) ≡ found (sent_by sender before) ++ coming s more
 
 -- after so many lines
-pub record Walked (lines : List Line) (k : ℕ) (items : List ItemHere) (debugger target : Stream) : Type 0 where
+pub record Walked (lines : List Line) (k : ℕ) (items : List ItemRef) (debugger target : Stream) : Type 0 where
   pub found_so_far : map item_of items ≡ items_of (take k lines)
   pub of_debugger : Follows Debugger (take k lines) debugger (sent_by Debugger lines)
   pub of_target : Follows Target (take k lines) target (sent_by Target lines)
@@ -87,11 +87,11 @@ follows_other sender lines k line s all inside here other follows =
     }
 
 -- one line more of this end
-pub record Stepped (sender : Sender) (lines : List Line) (k : ℕ) (after : List ItemHere) (new : Stream) : Type 0 where
+pub record Stepped (sender : Sender) (lines : List Line) (k : ℕ) (after : List ItemRef) (new : Stream) : Type 0 where
   pub found_so_far : map item_of after ≡ items_of (take (k + 1) lines)
   pub follows : Follows sender (take (k + 1) lines) new (sent_by sender lines)
 
-pub stepped : (sender : Sender) (lines : List Line) (k : ℕ) (line : Line) (count : ℕ) (s : Stream) (items : List ItemHere) (new : Stream) (after : List ItemHere)
+pub stepped : (sender : Sender) (lines : List Line) (k : ℕ) (line : Line) (count : ℕ) (s : Stream) (items : List ItemRef) (new : Stream) (after : List ItemRef)
     → k < length lines → line ≡ get_or lines k line → line.sender ≡ sender → is_same sender sender ≡ true → count ≡ length line.bytes → Follows sender (take k lines) s (sent_by sender lines)
     → map item_of items ≡ items_of (take k lines) → IsCompleted s count (k + 1) sender items new after → Stepped sender lines k after new
 stepped sender lines k line count s items new after inside here by same counted follows so_far done =
@@ -150,19 +150,19 @@ is_here : (sender : Sender) (line : Line) (kept : LineLength) → line.sender �
 is_here sender line kept p q same = rw (p, q) same
 
 -- the room that the stream of the line's end has, and where the walk stands after the line
-pub room_debugger : (capture : Capture) (lines : List Line) (k : ℕ) (kept : LineLength) (items : List ItemHere) (d t : Stream) → IsCapture capture lines → k < length capture.lines.items → kept ≡ get_or capture.lines.items k kept → kept.sender ≡ Debugger
+pub room_debugger : (capture : Capture) (lines : List Line) (k : ℕ) (kept : LineLength) (items : List ItemRef) (d t : Stream) → IsCapture capture lines → k < length capture.lines.items → kept ≡ get_or capture.lines.items k kept → kept.sender ≡ Debugger
     → Walked lines k items d t → d.come + kept.length ≤ length d.bytes.now
 room_debugger capture lines k kept items d t h inside here by walked =
     let l = line_there capture lines k kept h inside here in
     rw l.4 (room_for Debugger lines k l.0 d l.1 l.2 (is_here Debugger l.0 kept l.3 by refl) walked.of_debugger)
 
-pub room_target : (capture : Capture) (lines : List Line) (k : ℕ) (kept : LineLength) (items : List ItemHere) (d t : Stream) → IsCapture capture lines → k < length capture.lines.items → kept ≡ get_or capture.lines.items k kept → kept.sender ≡ Target
+pub room_target : (capture : Capture) (lines : List Line) (k : ℕ) (kept : LineLength) (items : List ItemRef) (d t : Stream) → IsCapture capture lines → k < length capture.lines.items → kept ≡ get_or capture.lines.items k kept → kept.sender ≡ Target
     → Walked lines k items d t → t.come + kept.length ≤ length t.bytes.now
 room_target capture lines k kept items d t h inside here by walked =
     let l = line_there capture lines k kept h inside here in
     rw l.4 (room_for Target lines k l.0 t l.1 l.2 (is_here Target l.0 kept l.3 by refl) walked.of_target)
 
-pub walked_debugger : (capture : Capture) (lines : List Line) (k : ℕ) (kept : LineLength) (items : List ItemHere) (d t new : Stream) (after : List ItemHere) → IsCapture capture lines → k < length capture.lines.items → kept ≡ get_or capture.lines.items k kept
+pub walked_debugger : (capture : Capture) (lines : List Line) (k : ℕ) (kept : LineLength) (items : List ItemRef) (d t new : Stream) (after : List ItemRef) → IsCapture capture lines → k < length capture.lines.items → kept ≡ get_or capture.lines.items k kept
     → kept.sender ≡ Debugger → Walked lines k items d t → IsCompleted d kept.length (k + 1) Debugger items new after → Walked lines (k + 1) after new t
 walked_debugger capture lines k kept items d t new after h inside here by walked done =
     let l = line_there capture lines k kept h inside here in
@@ -170,7 +170,7 @@ walked_debugger capture lines k kept items d t new after h inside here by walked
     let other : is_same Target l.0.sender ≡ false = ap (λ (x : Sender). is_same Target x) (l.3 ∙ by) in
     record { found_so_far = s.found_so_far; of_debugger = s.follows; of_target = follows_other Target lines k l.0 t (sent_by Target lines) l.1 l.2 other walked.of_target }
 
-pub walked_target : (capture : Capture) (lines : List Line) (k : ℕ) (kept : LineLength) (items : List ItemHere) (d t new : Stream) (after : List ItemHere) → IsCapture capture lines → k < length capture.lines.items → kept ≡ get_or capture.lines.items k kept
+pub walked_target : (capture : Capture) (lines : List Line) (k : ℕ) (kept : LineLength) (items : List ItemRef) (d t new : Stream) (after : List ItemRef) → IsCapture capture lines → k < length capture.lines.items → kept ≡ get_or capture.lines.items k kept
     → kept.sender ≡ Target → Walked lines k items d t → IsCompleted t kept.length (k + 1) Target items new after → Walked lines (k + 1) after d new
 walked_target capture lines k kept items d t new after h inside here by walked done =
     let l = line_there capture lines k kept h inside here in
@@ -178,10 +178,10 @@ walked_target capture lines k kept items d t new after h inside here by walked d
     let other : is_same Debugger l.0.sender ≡ false = ap (λ (x : Sender). is_same Debugger x) (l.3 ∙ by) in
     record { found_so_far = s.found_so_far; of_debugger = follows_other Debugger lines k l.0 d (sent_by Debugger lines) l.1 l.2 other walked.of_debugger; of_target = s.follows }
 
-pub walked_none : (capture : Capture) (lines : List Line) (items : List ItemHere) (d t : Stream) → IsCapture capture lines → items ≡ [] → IsFresh capture.debugger.items d → IsFresh capture.target.items t → Walked lines 0 items d t
+pub walked_none : (capture : Capture) (lines : List Line) (items : List ItemRef) (d t : Stream) → IsCapture capture lines → items ≡ [] → IsFresh capture.debugger.items d → IsFresh capture.target.items t → Walked lines 0 items d t
 unfolding items_after
 walked_none capture lines items d t h none fd ft = record {
-  found_so_far = ap (λ (x : List ItemHere). map item_of x) none;
+  found_so_far = ap (λ (x : List ItemRef). map item_of x) none;
   of_debugger = follows_none Debugger d capture.debugger.items (sent_by Debugger lines) fd h.of_debugger;
   of_target = follows_none Target t capture.target.items (sent_by Target lines) ft h.of_target;
 }

@@ -7,4 +7,7 @@ pub mod Streams
 pub mod Data
 pub mod Rules
 pub mod Sessions
+pub mod DataText
+pub mod MessageLines
+pub mod CaptureLines
 pub mod Pending

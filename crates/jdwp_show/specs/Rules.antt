@@ -46,6 +46,15 @@ waits_after_found id sender (Faulty fault) before = before
 abbrev pub waiting : List Item → ℕ → Option Command
 waiting items id = fold (λ before item. waits_after_found id item.sender item.found before) None items
 
+-- what waits under the id of what was found
+abbrev pub under : (ℕ → Option Command) → Found → Option Command
+under waits (Sent Handshake) = None
+under waits (Sent (Packet header body)) = waits header.id
+under waits (Faulty fault) = None
+
+abbrev pub waiting_for : List Item → Found → Option Command
+waiting_for items found = under (waiting items) found
+
 -- ---- the rules of frames, ends and ids
 
 -- a command of the debugger, where this one waits under its id
@@ -58,12 +67,12 @@ abbrev pub target_fault : Option Command → PacketKind → Option CaptureFault
 target_fault waits (kind.Command set number) = if (set == 64) && (number == 100) then None else Some WrongWay
 target_fault waits (kind.Reply error) = if is_some waits then None else Some UnknownReply
 
-abbrev pub order_fault : Bool → (ℕ → Option Command) → Sender → Found → Option CaptureFault
+abbrev pub order_fault : Bool → Option Command → Sender → Found → Option CaptureFault
 order_fault begun waits sender (Faulty fault) = Some (Frame fault)
 order_fault begun waits Debugger (Sent Handshake) = None
 order_fault begun waits Target (Sent Handshake) = if begun then None else Some WrongWay
-order_fault begun waits Debugger (Sent (Packet header body)) = command_fault (waits header.id) header.kind
-order_fault begun waits Target (Sent (Packet header body)) = target_fault (waits header.id) header.kind
+order_fault begun waits Debugger (Sent (Packet header body)) = command_fault waits header.kind
+order_fault begun waits Target (Sent (Packet header body)) = target_fault waits header.kind
 
 -- ---- the rule of data
 
@@ -73,17 +82,17 @@ packet_data_fault widths waits Debugger (kind.Reply error) body = None
 packet_data_fault widths waits Target (kind.Reply error) body =
     if error.0 == 0 then option_map BadData (reply_fault widths waits body) else (if length body == 0 then None else Some ErrorWithData)
 
-abbrev pub data_fault : Option Widths → (ℕ → Option Command) → Sender → Found → Option CaptureFault
+abbrev pub data_fault : Option Widths → Option Command → Sender → Found → Option CaptureFault
 data_fault widths waits sender (Sent Handshake) = None
-data_fault widths waits sender (Sent (Packet header body)) = packet_data_fault widths (waits header.id) sender header.kind body
+data_fault widths waits sender (Sent (Packet header body)) = packet_data_fault widths waits sender header.kind body
 data_fault widths waits sender (Faulty fault) = None
 
 -- ---- both
 
 -- the rule of frames, ends and ids that the item breaks
 abbrev pub order_fault_of : List Item → Item → Option CaptureFault
-order_fault_of before item = order_fault (has_begun before) (waiting before) item.sender item.found
+order_fault_of before item = order_fault (has_begun before) (waiting_for before item.found) item.sender item.found
 
 -- the rule that the item breaks: that of data is the last to be looked at
 abbrev pub fault_of : Option Widths → List Item → Item → Option CaptureFault
-fault_of widths before item = option_or (order_fault_of before item) (data_fault widths (waiting before) item.sender item.found)
+fault_of widths before item = option_or (order_fault_of before item) (data_fault widths (waiting_for before item.found) item.sender item.found)

@@ -1,5 +1,5 @@
 -- Captures that begin a session, and the first fault of one that does not.
-use Rattle.std.specs.Prelude.{◌≡◌, ℕ, ◌+◌, ◌==◌, List, [], ◌∷◌, ◌++◌, length, Option, Some, None, option_map, if◌then◌else◌, ◌⊎◌}
+use Rattle.std.specs.Prelude.{◌≡◌, ℕ, ◌+◌, ◌==◌, List, [], ◌∷◌, ◌++◌, length, Option, Some, None, is_some, option_map, if◌then◌else◌, ◌⊎◌}
 use Rattle.std.specs.List.{AllPass}
 use Rattle.std.specs.Option.{option_or, option_flatten}
 use Rattle.std.specs.Result.{result_ok}
@@ -19,7 +19,7 @@ use Rattle.jdwp_show.specs.Data.{is_id_sizes, widths_in}
 use Rattle.jdwp_show.specs.Found.{Found, Sent, Faulty}
 use Rattle.jdwp_show.specs.Items.{Item, items_of}
 use Rattle.jdwp_show.specs.Lines.{line_of, reads, capture_of, bad_line}
-use Rattle.jdwp_show.specs.Rules.{waiting, order_fault_of, fault_of}
+use Rattle.jdwp_show.specs.Rules.{waiting_for, order_fault_of, fault_of}
 
 -- the first answer to a question that is asked of each item and of those before it
 unfoldable pub first_after : {A : Type 0} → (List Item → Item → Option A) → List Item → List Item → Option A
@@ -28,6 +28,16 @@ first_after ask before (item ∷ items) = option_or (ask before item) (first_aft
 
 abbrev pub first_answer : {A : Type 0} → (List Item → Item → Option A) → List Item → Option A
 first_answer ask items = first_after ask [] items
+
+-- the items before the first of which the question has an answer
+unfoldable pub unanswered : {A : Type 0} → (List Item → Item → Option A) → List Item → List Item → List Item
+unanswered ask before [] = []
+unanswered ask before (item ∷ items) = if is_some (ask before item) then [] else item ∷ unanswered ask (before ++ item ∷ []) items
+
+-- what is said when each of the items is told in turn, with the command that waits under its id
+unfoldable pub told_each : {S : Type 0} → (S → Option Command → Item → S) → S → List Item → List Item → S
+told_each says said before [] = said
+told_each says said before (item ∷ items) = told_each says (says said (waiting_for before item.found) item) (before ++ item ∷ []) items
 
 -- ---- the widths of ids
 
@@ -40,10 +50,10 @@ told_in waits (kind.Command set number) body = None
 told_in waits (kind.Reply error) body = if error.0 == 0 then told_by waits body else None
 
 -- the widths that a reply without an error to VirtualMachine.IDSizes tells, where its data read
-abbrev pub told : (ℕ → Option Command) → Sender → Found → Option Widths
+abbrev pub told : Option Command → Sender → Found → Option Widths
 told waits Debugger thing = None
 told waits Target (Sent Handshake) = None
-told waits Target (Sent (Packet header body)) = told_in (waits header.id) header.kind body
+told waits Target (Sent (Packet header body)) = told_in waits header.kind body
 told waits Target (Faulty fault) = None
 
 -- the search ends at an item that breaks a rule of frames, ends or ids
@@ -53,7 +63,7 @@ told_or_ended None None = None
 told_or_ended None (Some widths) = Some (Some widths)
 
 abbrev pub widths_answer : List Item → Item → Option (Option Widths)
-widths_answer before item = told_or_ended (order_fault_of before item) (told (waiting before) item.sender item.found)
+widths_answer before item = told_or_ended (order_fault_of before item) (told (waiting_for before item.found) item.sender item.found)
 
 -- The widths of the first such reply. They hold for all items, those before the reply too.
 abbrev pub widths_of : List Item → Option Widths

@@ -1,24 +1,41 @@
 //! Data of packets in words.
+ghost use Rattle.std.specs.Prelude.{◌≡◌, ◌<◌, ◌++◌, [], ◌∷◌, OnOk, false};
+ghost use Rattle.std.specs.Fmt.{digit_glyph};
+ghost use Rattle.std.specs.String.{string_bytes};
+ghost use Rattle.jdwp_value.specs.Tags.{object_byte, tag_byte};
+ghost use Rattle.jdwp_layout.specs.Meanings.{scalar_meaning, scalar_meanings, entry_meaning, entry_meanings, datum_meaning, meanings};
+ghost use Rattle.jdwp_show.specs.DataText.{listed, boolean_text, id_text, tagged_text, separator, escaped, quoted, string_text, type_tag_text, location_text, bit, element_text, value_text, region_text, scalar_text, entry_text, list_text, datum_text, data_text, raw_text};
+
+use itoa::{Buffer, Integer};
 use jdwp_layout::{Datum, Scalar};
 use jdwp_value::{ArrayRegion, Location, TaggedId, TypeTag, Value};
 use std::alloc::{AllocError, Global};
-use std::fmt::Write;
 
 /// Appends each datum, after a space.
-pub(crate) fn push_data(text: &mut String, data: &[Datum]) -> Result<(), AllocError> {
+pub(crate) fn push_data(text: &mut String, data: &[Datum]) -> Result<(), AllocError>
+    ensures { OnOk result (string_bytes text.new ≡ string_bytes text.old ++ data_text (meanings «data».now)) }
+{
     for datum in data {
-        text.push(' ')?;
-        match datum {
-            Datum::One(scalar) => push_scalar(text, scalar)?,
-            Datum::Many(entries) => push_entries(text, entries)?,
-            Datum::Region(region) => push_region(text, region)?,
-        }
+        text.push_str(" ")?;
+        push_datum(text, datum)?;
     }
     Ok(())
 }
 
+fn push_datum(text: &mut String, datum: &Datum) -> Result<(), AllocError>
+    ensures { OnOk result (string_bytes text.new ≡ string_bytes text.old ++ datum_text (datum_meaning datum.now)) }
+{
+    match datum {
+        Datum::One(scalar) => push_scalar(text, scalar),
+        Datum::Many(entries) => push_entries(text, entries),
+        Datum::Region(region) => push_region(text, region),
+    }
+}
+
 /// Appends data that are not read: ` raw` and hex digits, and nothing where there are none.
-pub(crate) fn push_raw(alloc: Global, text: &mut String, bytes: &[u8]) -> Result<(), AllocError> {
+pub(crate) fn push_raw(alloc: Global, text: &mut String, bytes: &[u8]) -> Result<(), AllocError>
+    ensures { OnOk result (string_bytes text.new ≡ string_bytes text.old ++ raw_text bytes.now) }
+{
     if bytes.is_empty() {
         return Ok(());
     }
@@ -27,41 +44,64 @@ pub(crate) fn push_raw(alloc: Global, text: &mut String, bytes: &[u8]) -> Result
     text.push_str(digits.as_str())
 }
 
-fn push_entries(text: &mut String, entries: &[Vec<Scalar>]) -> Result<(), AllocError> {
-    text.push('[')?;
-    for (index, entry) in entries.iter().enumerate() {
-        if index > 0 {
-            text.push_str(", ")?;
-        }
-        push_entry(text, entry)?;
-    }
-    text.push(']')
-}
-
-/// An entry of one item has no round brackets.
-fn push_entry(text: &mut String, entry: &[Scalar]) -> Result<(), AllocError> {
-    if entry.len() != 1 {
-        text.push('(')?;
-    }
-    for (index, scalar) in entry.iter().enumerate() {
-        if index > 0 {
-            text.push_str(", ")?;
-        }
-        push_scalar(text, scalar)?;
-    }
-    if entry.len() != 1 {
-        text.push(')')?;
+/// Appends what stands before the thing of this index in a list.
+fn push_separator(text: &mut String, index: usize) -> Result<(), AllocError>
+    ensures { OnOk result (string_bytes text.new ≡ string_bytes text.old ++ separator index) }
+{
+    if index > 0 {
+        text.push_str(", ")?;
     }
     Ok(())
 }
 
-fn push_scalar(text: &mut String, scalar: &Scalar) -> Result<(), AllocError> {
+fn push_entries(text: &mut String, entries: &[Vec<Scalar>]) -> Result<(), AllocError>
+    ensures { OnOk result (string_bytes text.new ≡ string_bytes text.old ++ list_text (entry_meanings entries.now)) }
+{
+    text.push_str("[")?;
+    push_all_entries(text, entries)?;
+    text.push_str("]")
+}
+
+fn push_all_entries(text: &mut String, entries: &[Vec<Scalar>]) -> Result<(), AllocError>
+    ensures { OnOk result (string_bytes text.new ≡ string_bytes text.old ++ listed entry_text (entry_meanings entries.now)) }
+{
+    for (index, entry) in entries.iter().enumerate() {
+        push_separator(text, index)?;
+        push_entry(text, entry)?;
+    }
+    Ok(())
+}
+
+/// An entry of one item has no round brackets.
+fn push_entry(text: &mut String, entry: &[Scalar]) -> Result<(), AllocError>
+    ensures { OnOk result (string_bytes text.new ≡ string_bytes text.old ++ entry_text (scalar_meanings entry.now)) }
+{
+    if let [scalar] = entry {
+        return push_scalar(text, scalar);
+    }
+    text.push_str("(")?;
+    push_scalars(text, entry)?;
+    text.push_str(")")
+}
+
+fn push_scalars(text: &mut String, entry: &[Scalar]) -> Result<(), AllocError>
+    ensures { OnOk result (string_bytes text.new ≡ string_bytes text.old ++ listed scalar_text (scalar_meanings entry.now)) }
+{
+    for (index, scalar) in entry.iter().enumerate() {
+        push_separator(text, index)?;
+        push_scalar(text, scalar)?;
+    }
+    Ok(())
+}
+
+fn push_scalar(text: &mut String, scalar: &Scalar) -> Result<(), AllocError>
+    ensures { OnOk result (string_bytes text.new ≡ string_bytes text.old ++ scalar_text (scalar_meaning scalar.now)) }
+{
     match scalar {
-        Scalar::Byte(number) => write!(text, "{number}"),
-        Scalar::Boolean(true) => text.push_str("true"),
-        Scalar::Boolean(false) => text.push_str("false"),
-        Scalar::Int(number) => write!(text, "{number}"),
-        Scalar::Long(number) => write!(text, "{number}"),
+        Scalar::Byte(number) => push_number(text, *number),
+        Scalar::Boolean(truth) => push_boolean(text, *truth),
+        Scalar::Int(number) => push_number(text, *number),
+        Scalar::Long(number) => push_number(text, *number),
         Scalar::String(string) => push_quoted(text, string.as_str()),
         Scalar::ObjectId(id) => push_id(text, id.0),
         Scalar::ReferenceTypeId(id) => push_id(text, id.0),
@@ -74,17 +114,50 @@ fn push_scalar(text: &mut String, scalar: &Scalar) -> Result<(), AllocError> {
     }
 }
 
-fn push_id(text: &mut String, id: u64) -> Result<(), AllocError> {
-    write!(text, "#{id}")
+/// Appends a number in decimal.
+pub(crate) fn push_number<I: Integer>(text: &mut String, number: I) -> Result<(), AllocError>
+    ensures { OnOk result (string_bytes text.new ≡ string_bytes text.old ++ I.text number) }
+{
+    let mut buffer = Buffer::new();
+    text.push_str(buffer.format(number))
 }
 
-fn push_tagged(text: &mut String, object: &TaggedId) -> Result<(), AllocError> {
-    text.push(char::from(object.tag.byte()))?;
+fn push_boolean(text: &mut String, truth: bool) -> Result<(), AllocError>
+    ensures { OnOk result (string_bytes text.new ≡ string_bytes text.old ++ boolean_text truth) }
+{
+    if truth {
+        text.push_str("true")
+    } else {
+        text.push_str("false")
+    }
+}
+
+fn push_id(text: &mut String, id: u64) -> Result<(), AllocError>
+    ensures { OnOk result (string_bytes text.new ≡ string_bytes text.old ++ id_text id) }
+{
+    text.push_str("#")?;
+    push_number(text, id)
+}
+
+/// Appends a character of ASCII.
+fn push_byte(text: &mut String, byte: u8) -> Result<(), AllocError>
+    requires { byte < 128 }
+    ensures { OnOk result (string_bytes text.new ≡ string_bytes text.old ++ byte ∷ []) }
+{
+    text.push(char::from(byte))
+}
+
+fn push_tagged(text: &mut String, object: &TaggedId) -> Result<(), AllocError>
+    ensures { OnOk result (string_bytes text.new ≡ string_bytes text.old ++ tagged_text object.now) }
+{
+    push_byte(text, object.tag.byte())?;
     push_id(text, object.id.0)
 }
 
 /// The tag, the class, the method and the index; the null location has tag 0, and all else 0.
-fn push_location(text: &mut String, location: &Location) -> Result<(), AllocError> {
+fn push_location(text: &mut String, location: &Location) -> Result<(), AllocError>
+    ensures { OnOk result (string_bytes text.new ≡ string_bytes text.old ++ location_text location.now) }
+{
     match location {
         Location::Null => text.push_str("0:#0:#0:0"),
         Location::At {
@@ -93,81 +166,123 @@ fn push_location(text: &mut String, location: &Location) -> Result<(), AllocErro
             method,
             index,
         } => {
-            let tag = match tag {
-                TypeTag::Class => 1u8,
-                TypeTag::Interface => 2,
-                TypeTag::Array => 3,
-            };
-            let class = class.0;
-            let method = method.0;
-            write!(text, "{tag}:#{class}:#{method}:{index}")
+            push_type_tag(text, *tag)?;
+            text.push_str(":")?;
+            push_id(text, class.0)?;
+            text.push_str(":")?;
+            push_id(text, method.0)?;
+            text.push_str(":")?;
+            push_number(text, *index)
         }
     }
+}
+
+fn push_type_tag(text: &mut String, tag: TypeTag) -> Result<(), AllocError>
+    ensures { OnOk result (string_bytes text.new ≡ string_bytes text.old ++ type_tag_text tag) }
+{
+    text.push_str(match tag {
+        TypeTag::Class => "1",
+        TypeTag::Interface => "2",
+        TypeTag::Array => "3",
+    })
 }
 
 /// The tag and the bits as an unsigned number; an object as its tagged id, and void as its tag alone.
-fn push_value(text: &mut String, value: &Value) -> Result<(), AllocError> {
-    match value {
-        Value::Object(object) => return push_tagged(text, object),
-        Value::Void => {}
-        _ => {
-            text.push(char::from(value.tag().byte()))?;
-            return push_bits(text, value);
-        }
-    }
-    text.push('V')
+fn push_value(text: &mut String, value: &Value) -> Result<(), AllocError>
+    ensures { OnOk result (string_bytes text.new ≡ string_bytes text.old ++ value_text value.now) }
+{
+    text.push_str(match value {
+        Value::Byte(_) => "B:",
+        Value::Char(_) => "C:",
+        Value::Double(_) => "D:",
+        Value::Float(_) => "F:",
+        Value::Int(_) => "I:",
+        Value::Long(_) => "J:",
+        Value::Short(_) => "S:",
+        Value::Void => "V",
+        Value::Boolean(_) => "Z:",
+        Value::Object(_) => "",
+    })?;
+    push_element(text, value)
 }
 
-fn push_bits(text: &mut String, value: &Value) -> Result<(), AllocError> {
-    write!(text, ":{}", bits(value))
-}
-
-/// The bits of a value that is no object.
-fn bits(value: &Value) -> u64 {
+/// The bits of a value as an unsigned number; an object as its tagged id, and nothing for void.
+fn push_element(text: &mut String, value: &Value) -> Result<(), AllocError>
+    ensures { OnOk result (string_bytes text.new ≡ string_bytes text.old ++ element_text value.now) }
+{
     match *value {
-        Value::Byte(bits) => u64::from(bits),
-        Value::Char(bits) => u64::from(bits),
-        Value::Double(bits) => bits,
-        Value::Float(bits) => u64::from(bits),
-        Value::Int(bits) => u64::from(bits),
-        Value::Long(bits) => bits,
-        Value::Short(bits) => u64::from(bits),
-        Value::Boolean(bit) => u64::from(bit),
-        Value::Void => 0,
-        Value::Object(object) => object.id.0,
+        Value::Byte(bits) => push_number(text, bits),
+        Value::Char(bits) => push_number(text, bits),
+        Value::Double(bits) => push_number(text, bits),
+        Value::Float(bits) => push_number(text, bits),
+        Value::Int(bits) => push_number(text, bits),
+        Value::Long(bits) => push_number(text, bits),
+        Value::Short(bits) => push_number(text, bits),
+        Value::Boolean(truth) => push_number(text, u8::from(truth)),
+        Value::Void => Ok(()),
+        Value::Object(object) => push_tagged(text, &object),
     }
 }
 
-/// The tag, and the elements: the bits of each, or tagged ids.
-fn push_region(text: &mut String, region: &ArrayRegion) -> Result<(), AllocError> {
-    text.push(char::from(region.tag().byte()))?;
-    text.push('[')?;
-    for (index, element) in region.elements().iter().enumerate() {
-        if index > 0 {
-            text.push_str(", ")?;
-        }
-        match element {
-            Value::Object(object) => push_tagged(text, object)?,
-            _ => write!(text, "{}", bits(element))?,
-        }
+/// The tag, and the elements in square brackets.
+fn push_region(text: &mut String, region: &ArrayRegion) -> Result<(), AllocError>
+    ensures { OnOk result (string_bytes text.new ≡ string_bytes text.old ++ region_text region.now) }
+{
+    push_byte(text, region.tag().byte())?;
+    text.push_str("[")?;
+    push_elements(text, region.elements())?;
+    text.push_str("]")
+}
+
+fn push_elements(text: &mut String, elements: &[Value]) -> Result<(), AllocError>
+    ensures { OnOk result (string_bytes text.new ≡ string_bytes text.old ++ listed element_text elements.now) }
+{
+    for (index, element) in elements.iter().enumerate() {
+        push_separator(text, index)?;
+        push_element(text, element)?;
     }
-    text.push(']')
+    Ok(())
 }
 
 /// The text between double quotes, with a backslash before a double quote and a backslash, and `\xHH` for characters
 /// below 32 and 127.
-fn push_quoted(text: &mut String, string: &str) -> Result<(), AllocError> {
-    text.push('"')?;
+fn push_quoted(text: &mut String, string: &str) -> Result<(), AllocError>
+    ensures { OnOk result (string_bytes text.new ≡ string_bytes text.old ++ string_text string.now) }
+{
+    text.push_str("\"")?;
     for c in string.chars() {
-        match c {
-            '"' => text.push_str("\\\"")?,
-            '\\' => text.push_str("\\\\")?,
-            '\0'..='\x1f' | '\x7f' => {
-                let code = u32::from(c);
-                write!(text, "\\x{code:02x}")?;
-            }
-            _ => text.push(c)?,
-        }
+        push_in_quotes(text, c)?;
     }
-    text.push('"')
+    text.push_str("\"")
+}
+
+/// Appends a character by its code, in two hex digits.
+fn push_escape(text: &mut String, code: u8) -> Result<(), AllocError>
+    ensures { OnOk result (string_bytes text.new ≡ string_bytes text.old ++ escaped code) }
+{
+    text.push_str("\\x")?;
+    push_hex_digit(text, code / 16)?;
+    push_hex_digit(text, code % 16)
+}
+
+fn push_hex_digit(text: &mut String, digit: u8) -> Result<(), AllocError>
+    requires { digit < 16 }
+    ensures { OnOk result (string_bytes text.new ≡ string_bytes text.old ++ digit_glyph false digit ∷ []) }
+{
+    if digit < 10 {
+        push_byte(text, b'0' + digit)
+    } else {
+        push_byte(text, b'a' - 10 + digit)
+    }
+}
+
+fn push_in_quotes(text: &mut String, c: char) -> Result<(), AllocError>
+    ensures { OnOk result (string_bytes text.new ≡ string_bytes text.old ++ quoted c) }
+{
+    match c {
+        '"' => text.push_str("\\\""),
+        '\\' => text.push_str("\\\\"),
+        '\0'..='\x1f' | '\x7f' => push_escape(text, c as u8),
+        _ => text.push(c),
+    }
 }

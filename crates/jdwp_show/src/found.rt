@@ -8,7 +8,7 @@ use jdwp_wire::{
 
 /// A message of an end, or the frame fault behind its messages.
 #[derive(Clone, Copy, Debug)]
-pub(crate) enum Found<'a> {
+pub(crate) enum FoundRef<'a> {
     Handshake,
     Packet(PacketRef<'a>),
     Fault(FrameFault),
@@ -16,11 +16,11 @@ pub(crate) enum Found<'a> {
 
 /// What was found, and where.
 #[derive(Clone, Copy, Debug)]
-pub(crate) struct Item<'a> {
+pub(crate) struct ItemRef<'a> {
     /// The number, from 1, of the line in which its last byte stands.
     pub(crate) line: usize,
     pub(crate) sender: Sender,
-    pub(crate) found: Found<'a>,
+    pub(crate) found: FoundRef<'a>,
 }
 
 /// What an end sent, of which some bytes have come and those before `taken` belong to what was found.
@@ -51,7 +51,7 @@ impl<'a> Stream<'a> {
     }
 
     /// What stands next, if it is whole or shows a fault.
-    fn next_found(&mut self) -> Option<Found<'a>>
+    fn next_found(&mut self) -> Option<FoundRef<'a>>
         ensures { IsNext self.old result self.new }
     {
         if self.faulty {
@@ -63,12 +63,12 @@ impl<'a> Stream<'a> {
                 NextHello::More => None,
                 NextHello::Fault(fault) => {
                     self.faulty = true;
-                    Some(Found::Fault(fault))
+                    Some(FoundRef::Fault(fault))
                 }
                 NextHello::Whole => {
                     self.handshaken = true;
                     self.taken += HANDSHAKE.len();
-                    Some(Found::Handshake)
+                    Some(FoundRef::Handshake)
                 }
             };
         }
@@ -76,11 +76,11 @@ impl<'a> Stream<'a> {
             Next::More => None,
             Next::Fault(fault) => {
                 self.faulty = true;
-                Some(Found::Fault(fault))
+                Some(FoundRef::Fault(fault))
             }
             Next::Whole(packet, used) => {
                 self.taken += used;
-                Some(Found::Packet(packet))
+                Some(FoundRef::Packet(packet))
             }
         }
     }
@@ -91,14 +91,14 @@ impl<'a> Stream<'a> {
         count: usize,
         line: usize,
         sender: Sender,
-        items: &mut Vec<Item<'a>>,
+        items: &mut Vec<ItemRef<'a>>,
     ) -> Result<(), NoMemory>
         requires { self.old.come + count ≤ length self.old.bytes.now }
         ensures { OnOk result (IsCompleted self.old count line sender items.old.items self.new items.new.items) }
     {
         self.come += count;
         while let Some(found) = self.next_found() {
-            items.push(Item {
+            items.push(ItemRef {
                 line,
                 sender,
                 found,

@@ -6,12 +6,15 @@ ghost use Rattle.jdwp_show.specs.Items.{items_of};
 ghost use Rattle.jdwp_show.specs.Streams.{item_of};
 
 use crate::capture_line::{Capture, Sender};
-use crate::found::{Item, Stream};
+use crate::found::{ItemRef, Stream};
 use jdwp_wire::NoMemory;
 use std::alloc::Global;
 
 /// The messages and frame faults of both ends, in the order of the lines that complete them.
-pub(crate) fn find_items<'a>(alloc: Global, capture: &'a Capture) -> Result<Vec<Item<'a>>, NoMemory>
+pub(crate) fn find_items<'a>(
+    alloc: Global,
+    capture: &'a Capture,
+) -> Result<Vec<ItemRef<'a>>, NoMemory>
     requires { (lines : List Line) × IsCapture capture.now lines }
     ensures { (lines : List Line) → IsCapture capture.now lines → IfOk result (λ found. map item_of found.items ≡ items_of lines) }
 {

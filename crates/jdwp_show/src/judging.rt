@@ -1,12 +1,14 @@
 //! Going over the items of a capture: the widths of ids, and the first rule that is broken.
-ghost use Rattle.std.specs.Prelude.{◌≡◌, map, option_map, IfOk};
-ghost use Rattle.jdwp_show.specs.Sessions.{widths_of, first_answer, fault_answer};
+ghost use Rattle.std.specs.Prelude.{◌≡◌, [], map, option_map, Option, IfOk, OnOk};
+ghost use Rattle.jdwp_show.specs.declared.pending.Command.{Command};
+ghost use Rattle.jdwp_show.specs.Items.{Item};
+ghost use Rattle.jdwp_show.specs.Sessions.{widths_of, first_answer, unanswered, told_each, fault_answer};
 ghost use Rattle.jdwp_show.specs.Streams.{item_of};
 ghost use Rattle.jdwp_show.specs.Pending.{rule_broken};
 
 use crate::capture_fault::CaptureFault;
-use crate::found::Item;
-use crate::pending::Pending;
+use crate::found::ItemRef;
+use crate::pending::{Command, Pending};
 use crate::rules::{data_fault, order_fault, told};
 use jdwp_wire::{IdSizes, NoMemory};
 use std::alloc::Global;
@@ -21,11 +23,20 @@ pub(crate) struct Broken {
 
 /// Is told each item before the first that breaks a rule.
 pub(crate) trait Observer {
-    /// An item, and what those before it say.
+    /// What it says of the items so far.
+    ghost Said: { Type 0 };
+
+    ghost said: { Self → Said };
+
+    /// What it says after one item more, under whose id this command waits.
+    ghost says: { Said → Option Command → Item → Said };
+
+    /// An item more, and the command that waits under its id.
     ///
     /// # Errors
     /// `NoMemory` where an allocation was refused.
-    fn observe(&mut self, pending: &Pending, item: &Item) -> Result<(), NoMemory>;
+    fn observe(&mut self, waits: Option<Command>, item: &ItemRef) -> Result<(), NoMemory>
+        ensures { OnOk result (said self.new ≡ says (said self.old) waits (item_of item.now)) };
 }
 
 /// For the verdict alone.
@@ -33,22 +44,29 @@ pub(crate) trait Observer {
 pub(crate) struct NoObserver;
 
 impl Observer for NoObserver {
-    fn observe(&mut self, _pending: &Pending, _item: &Item) -> Result<(), NoMemory> {
+    ghost Said = { Unit {0} };
+
+    ghost said = { λ observer. tt };
+
+    ghost says = { λ said waits item. tt };
+
+    fn observe(&mut self, _waits: Option<Command>, _item: &ItemRef) -> Result<(), NoMemory> {
         Ok(())
     }
 }
 
 /// The widths of ids that hold for these items: those of the first reply that tells them, before any item that breaks
 /// a rule of frames, ends or ids.
-pub(crate) fn find_sizes(alloc: Global, items: &[Item]) -> Result<Option<IdSizes>, NoMemory>
+pub(crate) fn find_sizes(alloc: Global, items: &[ItemRef]) -> Result<Option<IdSizes>, NoMemory>
     ensures { IfOk result (λ sizes. sizes ≡ widths_of (map item_of items.now)) }
 {
     let mut pending = Pending::new(alloc);
     for item in items {
-        if order_fault(&pending, item).is_some() {
+        let waits = pending.waiting_for(item);
+        if order_fault(pending.begun(), waits, item).is_some() {
             return Ok(None);
         }
-        let sizes = told(&pending, item);
+        let sizes = told(waits, item);
         if sizes.is_some() {
             return Ok(sizes);
         }
@@ -61,29 +79,36 @@ pub(crate) fn find_sizes(alloc: Global, items: &[Item]) -> Result<Option<IdSizes
 pub(crate) fn find_broken<O: Observer>(
     alloc: Global,
     sizes: &Option<IdSizes>,
-    items: &[Item],
+    items: &[ItemRef],
     observer: &mut O,
 ) -> Result<Option<Broken>, NoMemory>
-    ensures { IfOk result (λ broken. option_map (λ b. (b.line, b.fault)) broken ≡ first_answer (fault_answer sizes.now) (map item_of items.now)) }
+    ensures broken { IfOk result (λ broken. option_map (λ b. (b.line, b.fault)) broken ≡ first_answer (fault_answer sizes.now) (map item_of items.now)) }
+    ensures told { OnOk result (O.said observer.new ≡ told_each O.says (O.said observer.old) [] (unanswered (fault_answer sizes.now) [] (map item_of items.now))) }
 {
     let mut pending = Pending::new(alloc);
     for item in items {
-        if let Some(fault) = item_fault(sizes, &pending, item) {
+        let waits = pending.waiting_for(item);
+        if let Some(fault) = item_fault(sizes, pending.begun(), waits, item) {
             let line = item.line;
             return Ok(Some(Broken { line, fault }));
         }
-        observer.observe(&pending, item)?;
+        observer.observe(waits, item)?;
         pending.record(item)?;
     }
     Ok(None)
 }
 
-/// The rule that an item breaks, after the items that are recorded.
-fn item_fault(sizes: &Option<IdSizes>, pending: &Pending, item: &Item) -> Option<CaptureFault>
-    ensures { result ≡ rule_broken sizes.now pending.now item.now }
+/// The rule that an item breaks.
+fn item_fault(
+    sizes: &Option<IdSizes>,
+    begun: bool,
+    waits: Option<Command>,
+    item: &ItemRef,
+) -> Option<CaptureFault>
+    ensures { result ≡ rule_broken sizes.now begun waits item.now }
 {
-    match order_fault(pending, item) {
+    match order_fault(begun, waits, item) {
         Some(fault) => Some(fault),
-        None => data_fault(*sizes, pending, item),
+        None => data_fault(*sizes, waits, item),
     }
 }

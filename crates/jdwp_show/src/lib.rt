@@ -9,6 +9,8 @@ mod found;
 mod items;
 mod judging;
 mod laws;
+mod message_line;
+mod message_text;
 mod pending;
 mod rules;
 mod showing;
@@ -17,6 +19,7 @@ mod transcript;
 pub use capture_fault::CaptureFault;
 pub use checking::{Verdict, check};
 pub use laws::{finds_each_message, keeps_each_message, tells_widths_by_layout};
+pub use message_line::{composite_data_line, reply_line};
 pub use showing::{Shown, show};
 
 #[cfg(test)]

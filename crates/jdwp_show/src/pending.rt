@@ -2,10 +2,10 @@
 ghost use Rattle.std.specs.Prelude.{◌≡◌, ℕ, OnOk, None, false};
 
 use crate::capture_line::Sender;
-use crate::found::{Found, Item};
+use crate::found::{FoundRef, ItemRef};
 use jdwp_wire::{NoMemory, PacketKind};
 use std::alloc::Global;
-use std::collections::HashMap;
+use std::collections::BTreeMap;
 
 /// A command of a command set.
 #[derive(Clone, Copy, Debug, PartialEq, Eq)]
@@ -18,11 +18,13 @@ pub(crate) struct Command {
 #[derive(Drop)]
 pub(crate) struct Pending {
     begun: bool,
-    commands: HashMap<u32, Command>,
+    commands: BTreeMap<u32, Command>,
 }
 
 impl Pending {
     ghost use Rattle.jdwp_show.specs.Pending.{waiting_in, IsAfter};
+    ghost use Rattle.jdwp_show.specs.Rules.{under};
+    ghost use Rattle.jdwp_show.specs.Streams.{thing};
 
     pub(crate) fn new(alloc: Global) -> Pending
         ensures begun { result.begun ≡ false }
@@ -30,7 +32,7 @@ impl Pending {
     {
         Pending {
             begun: false,
-            commands: HashMap::new(alloc),
+            commands: BTreeMap::new(alloc),
         }
     }
 
@@ -41,24 +43,27 @@ impl Pending {
         self.begun
     }
 
-    /// The command that waits under the id.
-    pub(crate) fn waiting(&self, id: u32) -> Option<Command>
-        ensures { result ≡ waiting_in self.now id }
+    /// The command that waits under the id of the item.
+    pub(crate) fn waiting_for(&self, item: &ItemRef) -> Option<Command>
+        ensures { result ≡ under (waiting_in self.now) (thing item.now.found) }
     {
-        self.commands.get(&id).copied()
+        match item.found {
+            FoundRef::Packet(packet) => self.commands.get(&packet.header.id).copied(),
+            FoundRef::Handshake | FoundRef::Fault(_) => None,
+        }
     }
 
     /// One item more.
-    pub(crate) fn record(&mut self, item: &Item) -> Result<(), NoMemory>
+    pub(crate) fn record(&mut self, item: &ItemRef) -> Result<(), NoMemory>
         ensures { OnOk result (IsAfter self.old item.now self.new) }
     {
         match item.found {
-            Found::Fault(_) => {}
-            Found::Handshake => match item.sender {
+            FoundRef::Fault(_) => {}
+            FoundRef::Handshake => match item.sender {
                 Sender::Debugger => self.begun = true,
                 Sender::Target => {}
             },
-            Found::Packet(packet) => {
+            FoundRef::Packet(packet) => {
                 let id = packet.header.id;
                 match packet.header.kind {
                     PacketKind::Command { set, number } => match item.sender {

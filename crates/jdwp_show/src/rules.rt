@@ -4,35 +4,37 @@ ghost use Rattle.jdwp_layout.specs.Shapes.{shape};
 ghost use Rattle.jdwp_show.specs.Data as laws;
 ghost use Rattle.jdwp_show.specs.Rules as rules;
 ghost use Rattle.jdwp_show.specs.Sessions as sessions;
-ghost use Rattle.jdwp_show.specs.Pending.{waiting_in};
 ghost use Rattle.jdwp_show.specs.Streams.{thing};
 
 use crate::capture_fault::CaptureFault;
 use crate::capture_line::Sender;
-use crate::found::{Found, Item};
-use crate::pending::{Command, Pending};
+use crate::found::{FoundRef, ItemRef};
+use crate::pending::Command;
 use byteorder::{BigEndian, ByteOrder};
 use jdwp_layout::{Layout, layout_of, validate};
 use jdwp_wire::{DataFault, ErrorCode, IdSizes, PacketKind};
 
 /// The rule of frames, ends or ids that the item breaks.
-pub(crate) fn order_fault(pending: &Pending, item: &Item) -> Option<CaptureFault>
-    ensures { result ≡ rules.order_fault pending.now.begun (waiting_in pending.now) item.now.sender (thing item.now.found) }
+///
+/// Whether the debugger's handshake was before it, and which command waits under its id, are given.
+pub(crate) fn order_fault(
+    begun: bool,
+    waits: Option<Command>,
+    item: &ItemRef,
+) -> Option<CaptureFault>
+    ensures { result ≡ rules.order_fault begun waits item.now.sender (thing item.now.found) }
 {
     match item.found {
-        Found::Fault(fault) => Some(CaptureFault::Frame(fault)),
-        Found::Handshake => match item.sender {
+        FoundRef::Fault(fault) => Some(CaptureFault::Frame(fault)),
+        FoundRef::Handshake => match item.sender {
             Sender::Debugger => None,
-            Sender::Target if pending.begun() => None,
+            Sender::Target if begun => None,
             Sender::Target => Some(CaptureFault::WrongWay),
         },
-        Found::Packet(packet) => {
-            let waits = pending.waiting(packet.header.id);
-            match item.sender {
-                Sender::Debugger => command_fault(waits, packet.header.kind),
-                Sender::Target => target_fault(waits, packet.header.kind),
-            }
-        }
+        FoundRef::Packet(packet) => match item.sender {
+            Sender::Debugger => command_fault(waits, packet.header.kind),
+            Sender::Target => target_fault(waits, packet.header.kind),
+        },
     }
 }
 
@@ -77,12 +79,12 @@ fn target_fault(waits: Option<Command>, kind: PacketKind) -> Option<CaptureFault
 /// The rule of data that the item breaks, under these widths of ids.
 pub(crate) fn data_fault(
     sizes: Option<IdSizes>,
-    pending: &Pending,
-    item: &Item,
+    waits: Option<Command>,
+    item: &ItemRef,
 ) -> Option<CaptureFault>
-    ensures { result ≡ rules.data_fault sizes (waiting_in pending.now) item.now.sender (thing item.now.found) }
+    ensures { result ≡ rules.data_fault sizes waits item.now.sender (thing item.now.found) }
 {
-    let Found::Packet(packet) = item.found else {
+    let FoundRef::Packet(packet) = item.found else {
         return None;
     };
     match packet.header.kind {
@@ -92,7 +94,6 @@ pub(crate) fn data_fault(
         PacketKind::Reply { error } => match item.sender {
             Sender::Debugger => None,
             Sender::Target if error == ErrorCode::NONE => {
-                let waits = pending.waiting(packet.header.id);
                 reply_fault(sizes, waits, packet.body).map(CaptureFault::BadData)
             }
             Sender::Target if packet.body.is_empty() => None,
@@ -143,10 +144,10 @@ fn is_id_sizes(command: Command) -> bool
 }
 
 /// The widths of ids that the item tells, if it is a reply without an error to VirtualMachine.IDSizes whose data read.
-pub(crate) fn told(pending: &Pending, item: &Item) -> Option<IdSizes>
-    ensures { result ≡ sessions.told (waiting_in pending.now) item.now.sender (thing item.now.found) }
+pub(crate) fn told(waits: Option<Command>, item: &ItemRef) -> Option<IdSizes>
+    ensures { result ≡ sessions.told waits item.now.sender (thing item.now.found) }
 {
-    let Found::Packet(packet) = item.found else {
+    let FoundRef::Packet(packet) = item.found else {
         return None;
     };
     let PacketKind::Reply { error } = packet.header.kind else {
@@ -158,7 +159,7 @@ pub(crate) fn told(pending: &Pending, item: &Item) -> Option<IdSizes>
             if error != ErrorCode::NONE {
                 return None;
             }
-            match pending.waiting(packet.header.id) {
+            match waits {
                 Some(command) if is_id_sizes(command) => widths_in(packet.body).ok(),
                 _ => None,
             }

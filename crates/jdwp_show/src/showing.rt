@@ -1,12 +1,17 @@
 //! A capture in words.
-ghost use Rattle.std.specs.Prelude.{◌≡◌, option_map, IfOk};
-ghost use Rattle.jdwp_show.specs.Sessions.{first_fault, bad_or_broken};
+ghost use Rattle.std.specs.Prelude.{◌≡◌, ℕ, ◌↔◌, ◌++◌, map, option_map, IfOk, OnOk};
+ghost use Rattle.std.specs.String.{string_bytes};
+ghost use Rattle.jdwp_show.specs.CaptureLines.{last_lines, capture_lines};
+ghost use Rattle.jdwp_show.specs.Streams.{item_of};
+ghost use Rattle.jdwp_show.specs.declared.capture_fault.CaptureFault.{CaptureFault};
+ghost use Rattle.jdwp_show.specs.Sessions.{BeginsSession, IsFirstFault, first_fault, bad_or_broken};
 
 use crate::capture_fault::CaptureFault;
-use crate::capture_line::read_capture;
+use crate::capture_line::{Capture, Sender, read_capture};
+use crate::found::ItemRef;
 use crate::items::find_items;
 use crate::judging::{Broken, find_broken, find_sizes};
-use crate::transcript::Transcript;
+use crate::transcript::{Transcript, left_over, push_more};
 use jdwp_wire::NoMemory;
 use std::alloc::Global;
 
@@ -29,20 +34,49 @@ pub struct Shown {
 /// # Errors
 /// `NoMemory` where an allocation was refused.
 pub fn show(alloc: Global, text: &str) -> Result<Shown, NoMemory>
-    // The fault is that by which `check` judges the capture.
-    ensures { IfOk result (λ shown. shown.fault ≡ first_fault text.now) }
+    // There is no fault exactly where the capture begins a session.
+    ensures begins { IfOk result (λ shown. (shown.fault ≡ None) ↔ BeginsSession text.now) }
+    // There is one exactly where it is the first.
+    ensures fault { IfOk result (λ shown. (line : ℕ) (fault : CaptureFault) → (shown.fault ≡ Some (line, fault)) ↔ IsFirstFault text.now line fault) }
+    // The same as a function: it is the fault by which `check` judges the capture.
+    ensures value { IfOk result (λ shown. shown.fault ≡ first_fault text.now) }
+    // The lines are those of the messages before the fault, and where there is none, how much is left over.
+    ensures lines { IfOk result (λ shown. string_bytes shown.lines ≡ capture_lines text.now) }
+{
+    tell(alloc, text)
+}
+
+fn tell(alloc: Global, text: &str) -> Result<Shown, NoMemory>
+    ensures fault { IfOk result (λ shown. shown.fault ≡ first_fault text.now) }
+    ensures lines { IfOk result (λ shown. string_bytes shown.lines ≡ capture_lines text.now) }
 {
     let capture = read_capture(alloc, text)?;
     let items = find_items(alloc, &capture)?;
     let sizes = find_sizes(alloc, &items)?;
-    let mut transcript = Transcript::new(alloc, sizes, &capture);
+    let mut transcript = Transcript::new(alloc, sizes);
     let broken = find_broken(alloc, &sizes, &items, &mut transcript)?;
+    let mut lines = transcript.into_lines();
     let fault = first(capture.bad_line, broken);
-    if fault.is_none() {
-        transcript.show_rests()?;
-    }
-    let lines = transcript.into_lines();
+    push_rests(&mut lines, &fault, &capture, &items)?;
     Ok(Shown { lines, fault })
+}
+
+/// Appends how many bytes of each end belong to none of the items, where there is no fault.
+fn push_rests(
+    text: &mut String,
+    fault: &Option<(usize, CaptureFault)>,
+    capture: &Capture,
+    items: &[ItemRef],
+) -> Result<(), NoMemory>
+    ensures { OnOk result (string_bytes text.new ≡ string_bytes text.old ++ last_lines fault.now capture.now.debugger.items capture.now.target.items (map item_of items.now)) }
+{
+    if fault.is_some() {
+        return Ok(());
+    }
+    let debugger = left_over(items, Sender::Debugger, capture.debugger.len());
+    let target = left_over(items, Sender::Target, capture.target.len());
+    push_more(text, Sender::Debugger, debugger)?;
+    push_more(text, Sender::Target, target)
 }
 
 /// A line that does not read comes before all other faults.
