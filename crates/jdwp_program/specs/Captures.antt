@@ -4,6 +4,7 @@ use Rattle.std.specs.IoError.{error_kind}
 use Rattle.std.specs.Io.KnownBytes.{Appends, Keeps}
 use Rattle.std.specs.declared.io.ErrorKind.TheVariants.{BrokenPipe}
 use Rattle.jdwp_show.specs.declared.capture_fault.CaptureFault.{CaptureFault}
+use Rattle.jdwp_show.specs.CaptureLines.{capture_lines}
 use Rattle.jdwp_show.specs.FaultNumbers.{number_to_print}
 use Rattle.jdwp_show.specs.Sessions.{first_fault}
 use Rattle.jdwp_program.specs.declared.captures.Told.{Told}
@@ -26,9 +27,9 @@ abbrev pub fault_text : Option (ℕ × CaptureFault) → List ℕ
 fault_text None = []
 fault_text (Some place) = fault_line place
 
--- what `show` prints of a capture: lines, and then its fault
-abbrev pub IsShown : List ℕ → List ℕ → Type 0
-IsShown capture text = (lines : List ℕ) × (text ≡ lines ++ fault_text (first_fault capture))
+-- what `show` prints of a capture
+abbrev pub shown_text : List ℕ → List ℕ
+shown_text capture = capture_lines capture ++ fault_text (first_fault capture)
 
 -- What is answered where this text was to be printed of a capture with this first fault or without one, and what the writer held before
 -- and holds then: all of the text where it was told; else a beginning, where a write failed; nothing where no memory was left.

@@ -1,9 +1,9 @@
 //! Captures, shown and judged on a writer.
-ghost use Rattle.std.specs.Prelude.{◌≡◌, ◌++◌, ℕ, List, IfOk, OnOk};
+ghost use Rattle.std.specs.Prelude.{◌≡◌, ◌++◌, IfOk, OnOk};
 ghost use Rattle.std.specs.String.{string_bytes};
 ghost use Rattle.jdwp_show.specs.Sessions.{first_fault};
 ghost use Rattle.jdwp_program.specs.declared.captures.TellFault.TheVariants as fault;
-ghost use Rattle.jdwp_program.specs.Captures.{IsShown, Tells, fault_line, verdict_text};
+ghost use Rattle.jdwp_program.specs.Captures.{Tells, fault_line, shown_text, verdict_text};
 
 use crate::printing::print;
 use jdwp_show::{CaptureFault, Verdict, check, show};
@@ -56,7 +56,7 @@ impl From<AllocError> for TellFault {
 /// # Errors
 /// `Output` where the output didn't take all of it; `NoMemory`, and then nothing was printed.
 pub fn show_capture<O: Write>(alloc: Global, capture: &str, out: &mut O) -> Result<Told, TellFault>
-    ensures { (text : List ℕ) × IsShown capture.now text × Tells (first_fault capture.now) text (O.contents out.old) (O.contents out.new) result }
+    ensures { Tells (first_fault capture.now) (shown_text capture.now) (O.contents out.old) (O.contents out.new) result }
 {
     tell(out, &shown(alloc, capture)?)
 }
@@ -81,7 +81,7 @@ struct Text {
 /// A capture in words.
 fn shown(alloc: Global, capture: &str) -> Result<Text, NoMemory>
     ensures fault { IfOk result (λ t. t.fault ≡ first_fault capture.now) }
-    ensures text { IfOk result (λ t. IsShown capture.now (string_bytes t.text)) }
+    ensures text { IfOk result (λ t. string_bytes t.text ≡ shown_text capture.now) }
 {
     let shown = show(alloc, capture)?;
     let mut text = shown.lines;
