@@ -1,4 +1,6 @@
 //! The commands on their files.
+ghost use Rattle.jdwp_program.specs.Outputs.{LeavesCaptureTold};
+
 use crate::words::ServeScript;
 use jdwp_engine::{Ended, Streams};
 use jdwp_program::{Fault, FileCause, Told, check_capture, serve_session, show_capture, text_of};
@@ -16,7 +18,9 @@ pub fn show_file<'a, R: Files + AllocGlobal, O: Write>(
     rt: &R,
     file: &'a str,
     out: &mut O,
-) -> Result<Told, Fault<'a>> {
+) -> Result<Told, Fault<'a>>
+    ensures { LeavesCaptureTold result (O.contents out.old) (O.contents out.new) }
+{
     let bytes = read(rt, file)?;
     let capture = text_of(bytes.as_slice()).map_err(|cause| Fault::File(file, cause))?;
     Ok(show_capture(rt.alloc(), capture, out)?)
@@ -30,7 +34,9 @@ pub fn check_file<'a, R: Files + AllocGlobal, O: Write>(
     rt: &R,
     file: &'a str,
     out: &mut O,
-) -> Result<Told, Fault<'a>> {
+) -> Result<Told, Fault<'a>>
+    ensures { LeavesCaptureTold result (O.contents out.old) (O.contents out.new) }
+{
     let bytes = read(rt, file)?;
     let capture = text_of(bytes.as_slice()).map_err(|cause| Fault::File(file, cause))?;
     Ok(check_capture(rt.alloc(), capture, out)?)

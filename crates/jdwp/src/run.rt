@@ -1,5 +1,6 @@
 //! The program, over a runtime and two writers.
 ghost use Rattle.std.specs.Prelude.{◌≤◌};
+ghost use Rattle.jdwp_program.specs.Outputs.{Leaves, LeavesOutcome};
 
 use crate::files::{check_file, serve_files, show_file};
 use crate::words::{self, Words};
@@ -20,7 +21,9 @@ where
     S: AsStr,
     O: Write,
     E: Write,
-    ensures { result ≤ 4 }
+    ensures bound { result ≤ 4 }
+    // On `out` is nothing, or what is told of a capture: all of it, the status saying whether it has a fault, or a beginning.
+    ensures leaves { Leaves result (O.contents out.old) (O.contents out.new) }
 {
     match execute(rt, words, out) {
         Ok(outcome) => report_outcome(outcome, err),
@@ -33,6 +36,7 @@ where
     R: Files + AllocGlobal,
     S: AsStr,
     O: Write,
+    ensures { LeavesOutcome result (O.contents out.old) (O.contents out.new) }
 {
     match words::read(rt.alloc(), words)? {
         Words::ServeScript(words) => Ok(Outcome::Session(serve_files(rt, &words)?)),

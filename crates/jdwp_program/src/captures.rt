@@ -4,6 +4,7 @@ ghost use Rattle.std.specs.String.{string_bytes};
 ghost use Rattle.jdwp_show.specs.Sessions.{first_fault};
 ghost use Rattle.jdwp_program.specs.declared.captures.TellFault.TheVariants as fault;
 ghost use Rattle.jdwp_program.specs.Captures.{Tells, fault_line, shown_text, verdict_text};
+ghost use Rattle.jdwp_program.specs.Outputs.{LeavesTold};
 
 use crate::printing::print;
 use jdwp_show::{CaptureFault, Verdict, check, show};
@@ -56,7 +57,9 @@ impl From<AllocError> for TellFault {
 /// # Errors
 /// `Output` where the output didn't take all of it; `NoMemory`, and then nothing was printed.
 pub fn show_capture<O: Write>(alloc: Global, capture: &str, out: &mut O) -> Result<Told, TellFault>
-    ensures { Tells (first_fault capture.now) (shown_text capture.now) (O.contents out.old) (O.contents out.new) result }
+    ensures tells { Tells (first_fault capture.now) (shown_text capture.now) (O.contents out.old) (O.contents out.new) result }
+    // The same by the exit status.
+    ensures leaves { LeavesTold result (O.contents out.old) (O.contents out.new) }
 {
     tell(out, &shown(alloc, capture)?)
 }
@@ -66,7 +69,8 @@ pub fn show_capture<O: Write>(alloc: Global, capture: &str, out: &mut O) -> Resu
 /// # Errors
 /// As those of `show_capture`.
 pub fn check_capture<O: Write>(alloc: Global, capture: &str, out: &mut O) -> Result<Told, TellFault>
-    ensures { Tells (first_fault capture.now) (verdict_text (first_fault capture.now)) (O.contents out.old) (O.contents out.new) result }
+    ensures tells { Tells (first_fault capture.now) (verdict_text (first_fault capture.now)) (O.contents out.old) (O.contents out.new) result }
+    ensures leaves { LeavesTold result (O.contents out.old) (O.contents out.new) }
 {
     tell(out, &judged(alloc, capture)?)
 }
