@@ -1,14 +1,13 @@
 //! Ends of the Java Debug Wire Protocol, run on files.
 #![tactic(auto)]
 
-mod captures;
-mod fault;
+mod files;
 mod run;
 #[cfg(test)]
 mod tests;
 mod words;
 
-use fault::Fault;
+use jdwp_program::{Fault, report_fault};
 use std::env;
 use std::io::ErrorKind;
 use std::process::ExitCode;
@@ -19,12 +18,12 @@ fn main(rt: HostRuntime) -> ExitCode {
     let arguments = match env::args(&rt) {
         Ok(arguments) => arguments,
         Err(error) if error.kind() == ErrorKind::OutOfMemory => {
-            return ExitCode::from(run::report_fault(Fault::NoMemory, &mut err));
+            return ExitCode::from(report_fault(&Fault::NoMemory, &mut err));
         }
-        Err(_) => return ExitCode::from(run::report_fault(Fault::Words, &mut err)),
+        Err(_) => return ExitCode::from(report_fault(&Fault::NotText, &mut err)),
     };
     let Ok(words) = arguments.collect::<Vec<String>>(rt.alloc()) else {
-        return ExitCode::from(run::report_fault(Fault::NoMemory, &mut err));
+        return ExitCode::from(report_fault(&Fault::NoMemory, &mut err));
     };
     ExitCode::from(run::run(&rt, words.as_slice(), &mut out, &mut err))
 }

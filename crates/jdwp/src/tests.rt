@@ -1,9 +1,11 @@
 //! Runs of the program.
 use crate::run::run;
-use std::fs;
-use std::io::Cursor;
+use crate::words::{self, ServeScript, Words};
+use jdwp_target::TargetOptions;
+use std::io::{Cursor, ErrorKind, Write};
 use std::rt::Files;
 use std::test::Fail;
+use std::{fs, io};
 
 /// The handshake, IDSizes with id 1, Suspend with id 2, SuspendCount of thread 1 with id 3, Dispose with id 4.
 const SESSION: [u8; 66] = [
@@ -27,25 +29,68 @@ const ANSWERS: [u8; 111] = [
     0x00, 0x00, 0x00, 0x0b, 0x00, 0x00, 0x00, 0x04, 0x80, 0x00, 0x00, //
 ];
 
-/// Runs the words, which stand behind the program's name, and answers the exit status. One line that begins with `jdwp: ` tells each
-/// status but 0.
-fn status_of<R: Files + AllocGlobal>(rt: &R, words: &[&str]) -> Result<u8, Fail> {
+/// What a run gave: its status, and what it printed on standard output and standard error.
+#[derive(Drop)]
+struct Run {
+    status: u8,
+    out: Vec<u8>,
+    err: Vec<u8>,
+}
+
+impl Run {
+    /// Whether nothing was printed on standard output, and words behind `jdwp: ` on standard error exactly where the status isn't 0.
+    fn is_told(&self) -> bool {
+        let told = self.err.as_slice();
+        let is_told = told.starts_with(b"jdwp: ") && told.ends_with(b"\n");
+        self.out.is_empty()
+            && is_told == (self.status != 0)
+            && told.is_empty() == (self.status == 0)
+    }
+}
+
+/// Runs the words, which stand behind the program's name.
+fn run_words<R: Files + AllocGlobal>(rt: &R, words: &[&str]) -> Result<Run, Fail> {
     let mut all = Vec::new(rt.alloc());
     all.push("jdwp")?;
     all.extend_from_slice(words)?;
     let mut out = Cursor::new(Vec::new(rt.alloc()));
     let mut err = Cursor::new(Vec::new(rt.alloc()));
     let status = run(rt, all.as_slice(), &mut out, &mut err);
-    if !out.get_ref().is_empty() {
-        return Err(Fail::from("something on standard output"));
+    Ok(Run {
+        status,
+        out: out.into_inner(),
+        err: err.into_inner(),
+    })
+}
+
+/// The exit status of the words, where what is told is told on standard error behind `jdwp: `.
+fn status_of<R: Files + AllocGlobal>(rt: &R, words: &[&str]) -> Result<u8, Fail> {
+    let ran = run_words(rt, words)?;
+    if !ran.is_told() {
+        return Err(Fail::from("words behind `jdwp: ` for each status but 0"));
     }
-    let told = err.get_ref().as_slice();
-    let lines = told.iter().filter(|byte| **byte == b'\n').count();
-    let is_told = told.starts_with(b"jdwp: ") && told.ends_with(b"\n") && lines == 1;
-    if is_told == (status == 0) || told.is_empty() != (status == 0) {
-        return Err(Fail::from("not one line that begins with `jdwp: ` for each status but 0"));
+    Ok(ran.status)
+}
+
+/// Whether the words are refused with status 1, and all of these texts stand on standard error, the first behind `jdwp: `.
+fn is_refused<R: Files + AllocGlobal>(
+    rt: &R,
+    words: &[&str],
+    texts: &[&str],
+) -> Result<bool, Fail> {
+    let ran = run_words(rt, words)?;
+    let told = String::from_utf8_lossy(rt.alloc(), ran.err.as_slice())?;
+    let mut is_refused = ran.status == 1 && ran.is_told();
+    for (place, text) in texts.iter().enumerate() {
+        let found = told.as_str().find(*text);
+        is_refused = is_refused
+            && (if place == 0 {
+                found == Some(6)
+            } else {
+                found.is_some()
+            });
     }
-    Ok(status)
+    Ok(is_refused)
 }
 
 #[test]
@@ -91,24 +136,45 @@ fn a_session_of_a_file_is_answered(rt: HostRuntime) -> Result<(), Fail> {
 fn each_end_has_its_status(rt: HostRuntime) -> Result<(), Fail> {
     let (machine, from, to) = ("ends_machine", "ends_from", "ends_to");
     fs::write(&rt, machine, "{}")?;
-    let ends: [(&[u8], &str, u8, usize); 10] = [
-        (b"JDWP-HandshakE", "9", 1, 0),
-        (b"JDWP-Handshake\x00\x00\x00\x0a", "9", 1, 43),
-        (b"JDWP-Handshake\x00\x01\x00\x01", "9", 1, 43),
+    let lost = "jdwp: the connection is lost at a read\n";
+    let limit = "jdwp: the turn limit is reached\n";
+    let ends: [(&[u8], &str, u8, &str, usize); 10] = [
+        (
+            b"JDWP-HandshakE",
+            "9",
+            1,
+            "jdwp: fault 4: not the handshake\n",
+            0,
+        ),
+        (
+            b"JDWP-Handshake\x00\x00\x00\x0a",
+            "9",
+            1,
+            "jdwp: fault 1: a packet length below 11\n",
+            43,
+        ),
+        (
+            b"JDWP-Handshake\x00\x01\x00\x01",
+            "9",
+            1,
+            "jdwp: fault 2: a packet length above the limit\n",
+            43,
+        ),
         (
             b"JDWP-Handshake\x00\x00\x00\x0b\x00\x00\x00\x01\x01",
             "9",
             1,
+            "jdwp: fault 3: packet flags other than 00 and 80\n",
             43,
         ),
-        (b"", "9", 2, 0),
-        (&SESSION[..65], "9", 2, 100),
-        (&SESSION, "0", 4, 0),
-        (&SESSION, "5", 4, 100),
-        (&SESSION, "6", 0, 111),
-        (&SESSION, "4294967295", 0, 111),
+        (b"", "9", 2, lost, 0),
+        (&SESSION[..65], "9", 2, lost, 100),
+        (&SESSION, "0", 4, limit, 0),
+        (&SESSION, "5", 4, limit, 100),
+        (&SESSION, "6", 0, "", 111),
+        (&SESSION, "4294967295", 0, "", 111),
     ];
-    for (input, turns, want, written) in ends {
+    for (input, turns, status, told, written) in ends {
         fs::write(&rt, from, input)?;
         let words = [
             "serve-script",
@@ -122,53 +188,15 @@ fn each_end_has_its_status(rt: HostRuntime) -> Result<(), Fail> {
             "--turns",
             turns,
         ];
-        assert_eq!(rt; status_of(&rt, &words)?, want, "{turns} turns of {input:?}");
-        assert_eq!(rt;
-            fs::read(&rt, to)?.as_slice(),
-            &ANSWERS[..written],
-            "{turns} turns of {input:?}"
-        );
+        let ran = run_words(&rt, &words)?;
+        assert_eq!(rt; ran.status, status, "{turns} turns of {input:?}");
+        assert!(rt; ran.out.is_empty());
+        assert!(rt; ran.err.as_slice() == told.as_bytes(), "{told}");
+        let bytes = fs::read(&rt, to)?;
+        assert!(rt; ANSWERS.starts_with(bytes.as_slice()));
+        assert_eq!(rt; bytes.len(), written, "{turns} turns of {input:?}");
     }
     for file in [machine, from, to] {
-        fs::remove_file(&rt, file)?;
-    }
-    Ok(())
-}
-
-#[test]
-fn files_are_opened_as_named(rt: HostRuntime) -> Result<(), Fail> {
-    let (machine, from, to) = ("files_machine", "files_from", "files_to");
-    fs::write(&rt, machine, "{}")?;
-    fs::write(&rt, from, SESSION.as_slice())?;
-    let absent = "files_absent";
-    assert_eq!(rt;
-        status_of(&rt, &["serve-script", absent, "--from", from, "--to", to])?,
-        1
-    );
-    assert!(rt; fs::read(&rt, to).is_err(), "made without a machine");
-    assert_eq!(rt;
-        status_of(
-            &rt,
-            &["serve-script", machine, "--from", absent, "--to", to]
-        )?,
-        1
-    );
-    assert!(rt; fs::read(&rt, to).is_err(), "made without an input");
-    assert_eq!(rt;
-        status_of(
-            &rt,
-            &[
-                "serve-script",
-                machine,
-                "--from",
-                from,
-                "--to",
-                "files_absent/to"
-            ]
-        )?,
-        1
-    );
-    for file in [machine, from] {
         fs::remove_file(&rt, file)?;
     }
     Ok(())
@@ -297,17 +325,6 @@ fn other_words_are_refused(rt: HostRuntime) -> Result<(), Fail> {
     Ok(())
 }
 
-/// Runs the words behind the program's name, and answers the exit status and what was printed on standard output.
-fn printed<R: Files + AllocGlobal>(rt: &R, words: &[&str]) -> Result<(u8, Vec<u8>, Vec<u8>), Fail> {
-    let mut all = Vec::new(rt.alloc());
-    all.push("jdwp")?;
-    all.extend_from_slice(words)?;
-    let mut out = Cursor::new(Vec::new(rt.alloc()));
-    let mut err = Cursor::new(Vec::new(rt.alloc()));
-    let status = run(rt, all.as_slice(), &mut out, &mut err);
-    Ok((status, out.into_inner(), err.into_inner()))
-}
-
 const CAPTURE: &str = "> 4a4457502d48616e647368616b65
 < 4a4457502d48616e647368616b65
 > 0000000b00000001000107
@@ -327,43 +344,291 @@ const SHOWN: &str = "> hello
 #[test]
 fn captures_are_shown_and_checked(rt: HostRuntime) -> Result<(), Fail> {
     let file = "capture";
-    fs::write(&rt, file, CAPTURE)?;
-    let (status, out, err) = printed(&rt, &["show", file])?;
-    assert_eq!(rt; status, 0);
-    assert!(rt; out.as_slice() == SHOWN.as_bytes());
-    assert!(rt; err.is_empty());
-    let (status, out, err) = printed(&rt, &["check", file])?;
-    assert_eq!(rt; status, 0);
-    assert!(rt; out.as_slice() == b"yes\n".as_slice());
-    assert!(rt; err.is_empty());
-
-    fs::write(
-        &rt,
-        file,
-        "> 4a4457502d48616e647368616b65\n< 4a4457502d48616e647368616b65\n> 0000000a\n",
-    )?;
-    let (status, out, err) = printed(&rt, &["check", file])?;
-    assert_eq!(rt; status, 1);
-    assert!(rt; out.as_slice() == b"no: line 3: fault 1\n".as_slice());
-    assert!(rt; err.is_empty());
-    let (status, out, err) = printed(&rt, &["show", file])?;
-    assert_eq!(rt; status, 1);
-    assert!(rt; out.as_slice() == b"> hello\n< hello\nline 3: fault 1\n".as_slice());
-    assert!(rt; err.is_empty());
-
-    fs::write(&rt, file, "")?;
-    assert!(rt; printed(&rt, &["check", file])?.1.as_slice() == b"yes\n".as_slice());
-    fs::write(&rt, file, "> 4a44")?;
-    assert!(rt; printed(&rt, &["check", file])?.1.as_slice() == b"yes\n".as_slice());
-    assert!(rt; printed(&rt, &["show", file])?.1.as_slice() == b"> more 2\n".as_slice());
-
-    // Bytes that are not UTF-8, a file that is not there, and words that are too many.
-    fs::write(&rt, file, [0x3e, 0x20, 0xff].as_slice())?;
-    assert_eq!(rt; status_of(&rt, &["check", file])?, 1);
-    assert_eq!(rt; status_of(&rt, &["show", file])?, 1);
-    assert_eq!(rt; status_of(&rt, &["show", "no such file"])?, 1);
+    let rows = [
+        (CAPTURE, SHOWN, "yes\n", 0),
+        (
+            "> 4a4457502d48616e647368616b65\n> 0000000a\n",
+            "> hello\nline 2: fault 1\n",
+            "no: line 2: fault 1\n",
+            1,
+        ),
+    ];
+    for (capture, shown, judged, status) in rows {
+        fs::write(&rt, file, capture)?;
+        let ran = run_words(&rt, &["show", file])?;
+        assert_eq!(rt; ran.status, status);
+        assert!(rt; ran.out.as_slice() == shown.as_bytes());
+        assert!(rt; ran.err.is_empty());
+        let ran = run_words(&rt, &["check", file])?;
+        assert_eq!(rt; ran.status, status);
+        assert!(rt; ran.out.as_slice() == judged.as_bytes());
+        assert!(rt; ran.err.is_empty());
+    }
     assert_eq!(rt; status_of(&rt, &["show"])?, 1);
     assert_eq!(rt; status_of(&rt, &["check", file, file])?, 1);
     fs::remove_file(&rt, file)?;
+    Ok(())
+}
+
+/// Takes so many bytes, and then fails so.
+#[derive(Drop)]
+struct Output {
+    bytes: Vec<u8>,
+    room: usize,
+    kind: ErrorKind,
+}
+
+impl Write for Output {
+    fn write(&mut self, bytes: &[u8]) -> io::Result<usize> {
+        let count = bytes.len().min(self.room.saturating_sub(self.bytes.len()));
+        if count == 0 && !bytes.is_empty() {
+            return Err(io::Error::from(self.kind));
+        }
+        self.bytes.extend_from_slice(&bytes[..count])?;
+        Ok(count)
+    }
+
+    fn flush(&mut self) -> io::Result<()> {
+        Ok(())
+    }
+}
+
+#[test]
+fn an_output_that_breaks_is_status_2(rt: HostRuntime) -> Result<(), Fail> {
+    let file = "breaks_capture";
+    fs::write(&rt, file, CAPTURE)?;
+    let rows = [
+        (ErrorKind::BrokenPipe, ""),
+        (
+            ErrorKind::StorageFull,
+            "jdwp: the output can't be written: no storage space\n",
+        ),
+    ];
+    for (kind, told) in rows {
+        for room in [0, 1, 8, 100] {
+            let mut out = Output {
+                bytes: Vec::new(rt.alloc()),
+                room,
+                kind,
+            };
+            let mut err = Cursor::new(Vec::new(rt.alloc()));
+            assert_eq!(rt; run(&rt, &["jdwp", "show", file], &mut out, &mut err), 2);
+            assert_eq!(rt; out.bytes.len(), room);
+            assert!(rt; SHOWN.as_bytes().starts_with(out.bytes.as_slice()));
+            assert!(rt; err.get_ref().as_slice() == told.as_bytes());
+        }
+    }
+    fs::remove_file(&rt, file)?;
+    Ok(())
+}
+
+#[test]
+fn a_file_that_can_not_be_used_is_named(rt: HostRuntime) -> Result<(), Fail> {
+    let (folder, absent, other) = ("named_folder", "named_absent", "named_other");
+    fs::create_dir(&rt, folder)?;
+    fs::write(&rt, other, b"> 4a\n> \xff".as_slice())?;
+    for command in ["show", "check"] {
+        assert!(rt;
+            is_refused(
+                &rt,
+                &[command, absent],
+                &["named_absent: no such file or folder\n"]
+            )?
+        );
+        assert!(rt;
+            is_refused(
+                &rt,
+                &[command, folder],
+                &["named_folder: a folder, not a file\n"]
+            )?
+        );
+        let not_text = "named_other: not UTF-8 at byte 7, counted from 0\n";
+        assert!(rt; is_refused(&rt, &[command, other], &[not_text])?);
+    }
+    let rows = [
+        (
+            [absent, other, "named_to"],
+            "named_absent: no such file or folder\n",
+        ),
+        (
+            [folder, other, "named_to"],
+            "named_folder: a folder, not a file\n",
+        ),
+        (
+            [other, absent, "named_to"],
+            "named_absent: no such file or folder\n",
+        ),
+        (
+            [other, folder, "named_to"],
+            "named_folder: a folder, not a file\n",
+        ),
+        (
+            [other, other, folder],
+            "named_folder: a folder, not a file\n",
+        ),
+        (
+            [other, other, "named_absent/to"],
+            "named_absent/to: no such file or folder\n",
+        ),
+    ];
+    for ([machine, from, to], text) in rows {
+        let words = ["serve-script", machine, "--from", from, "--to", to];
+        assert!(rt; is_refused(&rt, &words, &[text])?, "{text}");
+        assert!(rt;
+            fs::read(&rt, "named_to").is_err(),
+            "made though another can't be used"
+        );
+    }
+    fs::remove_file(&rt, other)?;
+    fs::remove_dir(&rt, folder)?;
+    Ok(())
+}
+
+/// Words that are refused are told with the usage, and `--help` tells each command and option.
+#[test]
+fn words_help(rt: HostRuntime) -> Result<(), Fail> {
+    let rows: [(&[&str], &[&str]); 12] = [
+        (
+            &[],
+            &[
+                "error: 'jdwp' requires a subcommand but one was not provided",
+                "show, check, serve-script",
+                "Usage: ",
+            ],
+        ),
+        (
+            &["--help"],
+            &[
+                "Ends of the Java Debug Wire Protocol",
+                "Usage: ",
+                "\n  show ",
+                "\n  check ",
+                "\n  serve-script ",
+                "--help",
+            ],
+        ),
+        (
+            &["serve-script", "--help"],
+            &[
+                "Serves",
+                "Usage: ",
+                "<MACHINE>",
+                "--from <FILE>",
+                "--to <FILE>",
+                "--start <WHICH>",
+                "--count-limit <N>",
+                "--turns <N>",
+            ],
+        ),
+        (
+            &["show", "--help"],
+            &["Shows a capture", "Usage: ", "<FILE>"],
+        ),
+        (
+            &["shows"],
+            &["error: unrecognized subcommand 'shows'", "Usage: "],
+        ),
+        (&["show"], &["error: ", "<FILE>", "Usage: "]),
+        (
+            &["show", "f", "--port"],
+            &["error: unexpected argument '--port'", "Usage: "],
+        ),
+        (
+            &["serve-script", "m", "--from", "f"],
+            &["error: ", "--to <FILE>", "Usage: "],
+        ),
+        (
+            &[
+                "serve-script",
+                "m",
+                "--from",
+                "f",
+                "--to",
+                "t",
+                "--start",
+                "some",
+            ],
+            &[
+                "error: invalid value 'some' for '--start <WHICH>'",
+                "all, none",
+            ],
+        ),
+        (
+            &[
+                "serve-script",
+                "m",
+                "--from",
+                "f",
+                "--to",
+                "t",
+                "--count-limit",
+                "0",
+            ],
+            &["error: invalid value '0' for '--count-limit <N>': 0 is not in 1..=2147483647"],
+        ),
+        (
+            &[
+                "serve-script",
+                "m",
+                "--from",
+                "f",
+                "--to",
+                "t",
+                "--turns",
+                "five",
+            ],
+            &["error: invalid value 'five' for '--turns <N>'"],
+        ),
+        (
+            &[
+                "serve-script",
+                "m",
+                "--from",
+                "f",
+                "--to",
+                "t",
+                "--turns",
+                "+5",
+            ],
+            &[
+                "error: invalid value '+5' for '--turns <N>': a number is digits alone",
+                "Usage: jdwp serve-script ",
+            ],
+        ),
+    ];
+    for (words, texts) in rows {
+        assert!(rt; is_refused(&rt, words, texts)?, "{words:?}");
+    }
+    Ok(())
+}
+
+#[test]
+fn options_have_defaults(rt: HostRuntime) -> Result<(), Fail> {
+    let (alloc, machine, from, to) = (rt.alloc(), "m", "f", "t");
+    let base = ["jdwp", "serve-script", machine, "--from", from, "--to", to];
+    let rows: [(&[&str], bool, u32, u32); 5] = [
+        (&[], true, 65535, 100000),
+        (&["--start", "none"], false, 65535, 100000),
+        (&["--start=all"], true, 65535, 100000),
+        (&["--count-limit", "2147483647"], true, 2147483647, 100000),
+        (&["--turns", "007"], true, 65535, 7),
+    ];
+    for (more, start_all, count_limit, turns) in rows {
+        let mut words = Vec::new(alloc);
+        words.extend_from_slice(&base)?;
+        words.extend_from_slice(more)?;
+        let options = TargetOptions::new(start_all, count_limit).ok_or("a count limit")?;
+        let want = Words::ServeScript(ServeScript {
+            machine,
+            from,
+            to,
+            options,
+            turns,
+        });
+        match words::read(alloc, words.as_slice()) {
+            Ok(found) => assert_eq!(rt; found, want, "{more:?}"),
+            Err(_) => return Err(Fail::from("words that read")),
+        }
+    }
     Ok(())
 }

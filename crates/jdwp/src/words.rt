@@ -1,15 +1,15 @@
 //! What the words of the command line say.
-ghost use Rattle.std.specs.Prelude.{◌≡◌, ◌↔◌, Some, true, false, codes};
-
-use crate::fault::Fault;
 use clap::error::ErrorKind;
-use clap::{Arg, ArgAction, Command};
+use clap::{Arg, ArgAction, ArgMatches, Command, Error, value_parser};
+use jdwp_program::{Fault, decimal, is_all};
+use jdwp_target::TargetOptions;
 use std::alloc::{AllocError, Global};
 use std::convert::AsStr;
 
 /// A command, with its files and options.
 #[derive(Clone, Copy, Debug, PartialEq, Eq)]
 pub enum Words<'a> {
+    /// `serve-script MACHINE`: a target serves one session, that of a file.
     ServeScript(ServeScript<'a>),
     /// `show FILE`: a capture is shown in words.
     Show(&'a str),
@@ -17,7 +17,7 @@ pub enum Words<'a> {
     Check(&'a str),
 }
 
-/// `serve-script MACHINE --from F --to F [--start all|none] [--count-limit N] [--turns N]`: a target serves one session, that of a file.
+/// `serve-script MACHINE --from F --to F [--start all|none] [--count-limit N] [--turns N]`.
 #[derive(Clone, Copy, Debug, PartialEq, Eq)]
 pub struct ServeScript<'a> {
     /// The file of the machine.
@@ -26,10 +26,8 @@ pub struct ServeScript<'a> {
     pub from: &'a str,
     /// The file that the target's bytes are written to.
     pub to: &'a str,
-    /// Whether every thread is suspended when the target starts.
-    pub start_all: bool,
-    /// The greatest suspend count that a Suspend gives.
-    pub count_limit: u32,
+    /// Whether every thread is suspended when the target starts, and the greatest suspend count that a Suspend gives.
+    pub options: TargetOptions,
     /// How many rounds the session has at most.
     pub turns: u32,
 }
@@ -39,79 +37,159 @@ pub struct ServeScript<'a> {
 /// # Errors
 /// `Words` where they are no command, an option is unknown, stands twice or has no such value, or help is asked for. `NoMemory` where an
 /// allocation was refused.
-pub fn read<'a, S: AsStr>(alloc: Global, words: &'a [S]) -> Result<Words<'a>, Fault> {
+pub fn read<'a, S: AsStr>(alloc: Global, words: &'a [S]) -> Result<Words<'a>, Fault<'a>> {
     let matches = match command(alloc)?.try_get_matches_from(words) {
         Ok(matches) => matches,
-        Err(error) if error.kind() == ErrorKind::OutOfMemory => return Err(Fault::NoMemory),
-        Err(_) => return Err(Fault::Words),
+        Err(error) => return Err(refused(alloc, &error)),
     };
-    let (name, found) = matches.subcommand().ok_or(Fault::Words)?;
-    if name == "show" {
-        return Ok(Words::Show(found.get_str("file").ok_or(Fault::Words)?));
+    match matches.subcommand() {
+        Some(("show", found)) => Ok(Words::Show(value(alloc, found, "file")?)),
+        Some(("check", found)) => Ok(Words::Check(value(alloc, found, "file")?)),
+        Some((_, found)) => Ok(Words::ServeScript(read_serve_script(alloc, found)?)),
+        None => Err(bad_words(alloc, command(alloc)?, "a command is missing")?),
     }
-    if name == "check" {
-        return Ok(Words::Check(found.get_str("file").ok_or(Fault::Words)?));
+}
+
+fn read_serve_script<'a>(
+    alloc: Global,
+    found: &ArgMatches<'a>,
+) -> Result<ServeScript<'a>, Fault<'a>> {
+    let start_all = is_all(value(alloc, found, "start")?);
+    let count_limit = number(alloc, found, "count-limit")?;
+    match start_all.and_then(|start_all| TargetOptions::new(start_all, count_limit)) {
+        Some(options) => Ok(ServeScript {
+            machine: value(alloc, found, "machine")?,
+            from: value(alloc, found, "from")?,
+            to: value(alloc, found, "to")?,
+            options,
+            turns: number(alloc, found, "turns")?,
+        }),
+        None => Err(bad_words(alloc, serve_script(alloc)?, "the options don't read")?),
     }
-    Ok(Words::ServeScript(ServeScript {
-        machine: found.get_str("machine").ok_or(Fault::Words)?,
-        from: found.get_str("from").ok_or(Fault::Words)?,
-        to: found.get_str("to").ok_or(Fault::Words)?,
-        start_all: found.get_str("start").and_then(is_all).ok_or(Fault::Words)?,
-        count_limit: found
-            .get_str("count-limit")
-            .and_then(decimal)
-            .ok_or(Fault::Words)?,
-        turns: found
-            .get_str("turns")
-            .and_then(decimal)
-            .ok_or(Fault::Words)?,
-    }))
+}
+
+/// The value of an argument that is required or has a default.
+fn value<'a>(alloc: Global, found: &ArgMatches<'a>, name: &str) -> Result<&'a str, Fault<'a>> {
+    match found.get_str(name) {
+        Some(text) => Ok(text),
+        None => Err(bad_words(alloc, command(alloc)?, "a value is missing")?),
+    }
+}
+
+/// The number that an option has. `+5` is none, though clap takes it.
+fn number<'a>(alloc: Global, found: &ArgMatches<'a>, name: &str) -> Result<u32, Fault<'a>> {
+    let text = value(alloc, found, name)?;
+    match decimal(text) {
+        Some(number) => Ok(number),
+        None => {
+            let message = format!(in alloc;
+                "invalid value '{text}' for '--{name} <N>': a number is digits alone"
+            )?;
+            let command = serve_script(alloc)?.bin_name("jdwp serve-script")?;
+            Err(bad_words(alloc, command, message.as_str())?)
+        }
+    }
+}
+
+/// Words that clap takes and the program doesn't, told with the usage of this command.
+fn bad_words<'a>(
+    alloc: Global,
+    mut command: Command<'_>,
+    message: &str,
+) -> Result<Fault<'a>, AllocError> {
+    let error = command.error(ErrorKind::ValueValidation, message)?;
+    Ok(refused(alloc, &error))
+}
+
+/// What clap says of words that it refuses, or of the help that they ask for.
+fn refused<'a>(alloc: Global, error: &Error) -> Fault<'a> {
+    if error.kind() == ErrorKind::OutOfMemory {
+        return Fault::NoMemory;
+    }
+    match error.to_string(alloc) {
+        Ok(mut text) => {
+            if text.as_str().ends_with('\n') {
+                text.pop();
+            }
+            Fault::Words(text)
+        }
+        Err(_) => Fault::NoMemory,
+    }
 }
 
 fn command<'a>(alloc: Global) -> Result<Command<'a>, AllocError> {
-    let serve_script = Command::new(alloc, "serve-script")
-        .arg(file(alloc, "machine"))?
-        .arg(option(alloc, "from").required(true))?
-        .arg(option(alloc, "to").required(true))?
-        .arg(option(alloc, "start").default_value("all"))?
-        .arg(option(alloc, "count-limit").default_value("65535"))?
-        .arg(option(alloc, "turns").default_value("100000"))?;
+    let show = Command::new(alloc, "show")
+        .about("Shows a capture of a session in words, a line for each message")
+        .arg(capture(alloc))?;
+    let check = Command::new(alloc, "check")
+        .about("Judges a capture of a session: yes, or its first fault")
+        .arg(capture(alloc))?;
     Command::new(alloc, "jdwp")
+        .about("Ends of the Java Debug Wire Protocol (JDWP, Java SE 11)")
         .subcommand_required(true)
-        .subcommand(serve_script)?
-        .subcommand(Command::new(alloc, "show").arg(file(alloc, "file"))?)?
-        .subcommand(Command::new(alloc, "check").arg(file(alloc, "file"))?)
+        .subcommand(show)?
+        .subcommand(check)?
+        .subcommand(serve_script(alloc)?)
+}
+
+fn serve_script<'a>(alloc: Global) -> Result<Command<'a>, AllocError> {
+    let starts = ["all", "none"].as_slice();
+    Command::new(alloc, "serve-script")
+        .about("Serves the session of one debugger, from a file of its bytes")
+        .arg(file(alloc, "machine", "MACHINE", "The machine to be debugged"))?
+        .arg(option(alloc, "from", "FILE", "What the debugger sent, in bytes").required(true))?
+        .arg(option(alloc, "to", "FILE", "Where the target's bytes are written").required(true))?
+        .arg(
+            option(alloc, "start", "WHICH", "Which threads VM_START suspends")
+                .value_parser(starts)
+                .default_value("all"),
+        )?
+        .arg(
+            option(
+                alloc,
+                "count-limit",
+                "N",
+                "The greatest suspend count that a Suspend gives",
+            )
+            .value_parser(value_parser!(u32).range(1..=2147483647))
+            .default_value("65535"),
+        )?
+        .arg(
+            option(
+                alloc,
+                "turns",
+                "N",
+                "How many rounds the session has at most",
+            )
+            .value_parser(value_parser!(u32))
+            .default_value("100000"),
+        )
+}
+
+/// The file of a capture.
+fn capture<'a>(alloc: Global) -> Arg<'a> {
+    file(
+        alloc,
+        "file",
+        "FILE",
+        "A text of lines `> HEX` (from the debugger) and `< HEX` (from the target)",
+    )
 }
 
 /// A file by its place among the words.
-fn file<'a>(alloc: Global, name: &'a str) -> Arg<'a> {
-    Arg::new(alloc, name).required(true).action(ArgAction::Set)
+fn file<'a>(alloc: Global, name: &'a str, shown: &'a str, help: &'a str) -> Arg<'a> {
+    Arg::new(alloc, name)
+        .value_name(shown)
+        .help(help)
+        .required(true)
+        .action(ArgAction::Set)
 }
 
 /// An option with a value, which stands at most once.
-fn option<'a>(alloc: Global, name: &'a str) -> Arg<'a> {
-    Arg::new(alloc, name).long(name).action(ArgAction::Set)
-}
-
-/// Whether the target starts with every thread suspended: `all`, or `none`.
-fn is_all(text: &str) -> Option<bool>
-    ensures all { (result ≡ Some true) ↔ (text.now ≡ codes "all") }
-    ensures none { (result ≡ Some false) ↔ (text.now ≡ codes "none") }
-{
-    if text == "all" {
-        Some(true)
-    } else if text == "none" {
-        Some(false)
-    } else {
-        None
-    }
-}
-
-/// A decimal number below 2^32, of digits alone.
-fn decimal(text: &str) -> Option<u32> {
-    if text.bytes().all(|byte| byte.is_ascii_digit()) {
-        text.parse::<u32>().ok()
-    } else {
-        None
-    }
+fn option<'a>(alloc: Global, name: &'a str, shown: &'a str, help: &'a str) -> Arg<'a> {
+    Arg::new(alloc, name)
+        .long(name)
+        .value_name(shown)
+        .help(help)
+        .action(ArgAction::Set)
 }

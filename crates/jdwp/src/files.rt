@@ -1,0 +1,82 @@
+//! The commands on their files.
+ghost use Rattle.jdwp_program.specs.Outputs.{LeavesCaptureTold};
+
+use crate::words::ServeScript;
+use jdwp_engine::{Ended, Streams};
+use jdwp_program::{Fault, FileCause, Told, check_capture, serve_session, show_capture, text_of};
+use jdwp_target::{Fixed, Target};
+use std::fs;
+use std::fs::OpenFile;
+use std::io::{BufWriter, Write};
+use std::rt::Files;
+
+/// Shows the capture of a file.
+///
+/// # Errors
+/// `File` where it can't be read or is not UTF-8; `Output` where the output can't be written; `NoMemory`.
+pub fn show_file<'a, R: Files + AllocGlobal, O: Write>(
+    rt: &R,
+    file: &'a str,
+    out: &mut O,
+) -> Result<Told, Fault<'a>>
+    ensures { LeavesCaptureTold result (O.contents out.old) (O.contents out.new) }
+{
+    let bytes = read(rt, file)?;
+    let capture = text_of(bytes.as_slice()).map_err(|cause| Fault::File(file, cause))?;
+    Ok(show_capture(rt.alloc(), capture, out)?)
+}
+
+/// Judges the capture of a file.
+///
+/// # Errors
+/// As those of `show_file`.
+pub fn check_file<'a, R: Files + AllocGlobal, O: Write>(
+    rt: &R,
+    file: &'a str,
+    out: &mut O,
+) -> Result<Told, Fault<'a>>
+    ensures { LeavesCaptureTold result (O.contents out.old) (O.contents out.new) }
+{
+    let bytes = read(rt, file)?;
+    let capture = text_of(bytes.as_slice()).map_err(|cause| Fault::File(file, cause))?;
+    Ok(check_capture(rt.alloc(), capture, out)?)
+}
+
+/// Serves the session of a file. The output's file is made only once the others are open.
+///
+/// # Errors
+/// `File` where one can't be opened or made; `NoMemory`.
+pub fn serve_files<'a, R: Files + AllocGlobal>(
+    rt: &R,
+    words: &ServeScript<'a>,
+) -> Result<Ended, Fault<'a>> {
+    open(rt, words.machine)?;
+    let reader = open(rt, words.from)?;
+    let file = create(rt, words.to)?;
+    let Ok(writer) = BufWriter::new(rt.alloc(), file) else {
+        return Err(Fault::NoMemory);
+    };
+    let mut target = Target::new(rt.alloc(), Fixed, words.options)?;
+    let mut pipe = Streams::new(reader, writer);
+    Ok(serve_session(&mut target, &mut pipe, u64::from(words.turns)))
+}
+
+/// The bytes of a file.
+fn read<'a, R: Files + AllocGlobal>(rt: &R, path: &'a str) -> Result<Vec<u8>, Fault<'a>> {
+    fs::read(rt, path).map_err(|error| Fault::of_file(path, error))
+}
+
+/// A file to read from, which is not a folder.
+fn open<'a, R: Files>(rt: &R, path: &'a str) -> Result<R::File, Fault<'a>> {
+    let file = fs::open(rt, path).map_err(|error| Fault::of_file(path, error))?;
+    match file.metadata() {
+        Ok(found) if found.is_dir() => Err(Fault::File(path, FileCause::Folder)),
+        Ok(_) => Ok(file),
+        Err(error) => Err(Fault::of_file(path, error)),
+    }
+}
+
+/// A new file to write to.
+fn create<'a, R: Files>(rt: &R, path: &'a str) -> Result<R::File, Fault<'a>> {
+    fs::create(rt, path).map_err(|error| Fault::of_file(path, error))
+}

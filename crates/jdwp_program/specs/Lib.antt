@@ -1,0 +1,6 @@
+pub mod Captures
+pub mod Files
+pub mod Outputs
+pub mod Printing
+pub mod Statuses
+pub mod Values

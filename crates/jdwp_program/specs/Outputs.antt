@@ -1,0 +1,43 @@
+-- What a run of the program leaves on its standard output.
+use Rattle.std.specs.Prelude.{◌≡◌, ◌⊎◌, ℕ, List, Option, Some, None, Result, MatchResult}
+use Rattle.std.specs.Io.KnownBytes.{Appends, Keeps}
+use Rattle.jdwp_show.specs.declared.capture_fault.CaptureFault.{CaptureFault}
+use Rattle.jdwp_show.specs.Sessions.{first_fault}
+use Rattle.jdwp_program.specs.declared.captures.Told.{Told}
+use Rattle.jdwp_program.specs.declared.captures.TellFault.{TellFault}
+use Rattle.jdwp_program.specs.declared.fault.Fault.{Fault}
+use Rattle.jdwp_program.specs.declared.outcome.Outcome.{Outcome}
+use Rattle.jdwp_program.specs.Captures.{shown_text, verdict_text}
+use Rattle.jdwp_program.specs.Files.{fault_of_telling}
+use Rattle.jdwp_program.specs.Printing.{AppendsPart}
+use Rattle.jdwp_program.specs.Statuses.{status_of_told, status_of_fault, status_of_outcome}
+
+-- what is printed of a capture: it in words, or the verdict
+abbrev pub IsTextOf : List ℕ → List ℕ → Type 0
+IsTextOf capture text = (text ≡ shown_text capture) ⊎ (text ≡ verdict_text (first_fault capture))
+
+-- the status of a capture that was told whole
+abbrev pub status_of_capture : Option (ℕ × CaptureFault) → ℕ
+status_of_capture None = 0
+status_of_capture (Some fault) = 1
+
+-- a run with this status told a capture: all of it, and the status is 0 where the capture has no fault and else 1; or a beginning, and 2
+abbrev pub LeavesCapture : ℕ → Option (List ℕ) → Option (List ℕ) → Type 0
+LeavesCapture status old new =
+    (capture : List ℕ) × (text : List ℕ) × IsTextOf capture text × (((status ≡ status_of_capture (first_fault capture)) × Appends old new text) ⊎ ((status ≡ 2) × AppendsPart old new text))
+
+-- what a run with this status leaves: nothing, or what it told of a capture
+abbrev pub Leaves : ℕ → Option (List ℕ) → Option (List ℕ) → Type 0
+Leaves status old new = Keeps old new ⊎ LeavesCapture status old new
+
+-- the same by what was answered of a capture
+abbrev pub LeavesTold : Result Told TellFault → Option (List ℕ) → Option (List ℕ) → Type 0
+LeavesTold result old new = MatchResult result (λ told. Leaves (status_of_told told) old new) (λ fault. Leaves (status_of_fault (fault_of_telling fault)) old new)
+
+-- by what was answered of the capture of a file
+abbrev pub LeavesCaptureTold : Result Told Fault → Option (List ℕ) → Option (List ℕ) → Type 0
+LeavesCaptureTold result old new = MatchResult result (λ told. Leaves (status_of_told told) old new) (λ fault. Leaves (status_of_fault fault) old new)
+
+-- by what the words led to
+abbrev pub LeavesOutcome : Result Outcome Fault → Option (List ℕ) → Option (List ℕ) → Type 0
+LeavesOutcome result old new = MatchResult result (λ outcome. Leaves (status_of_outcome outcome) old new) (λ fault. Leaves (status_of_fault fault) old new)

@@ -1,0 +1,38 @@
+-- The exit status of a run.
+use Rattle.std.specs.Prelude.{ℕ}
+use Rattle.jdwp_engine.specs.declared.ended.Ended.{Ended}
+use Rattle.jdwp_engine.specs.declared.ended.Ended.TheVariants as ended
+use Rattle.jdwp_program.specs.declared.captures.Told.{Told}
+use Rattle.jdwp_program.specs.declared.captures.Told.TheVariants.{Faultless, Faulty, Unread}
+use Rattle.jdwp_program.specs.declared.fault.Fault.{Fault}
+use Rattle.jdwp_program.specs.declared.fault.Fault.TheVariants.{Words, NotText, File, Output, NoMemory}
+use Rattle.jdwp_program.specs.declared.outcome.Outcome.{Outcome}
+use Rattle.jdwp_program.specs.declared.outcome.Outcome.TheVariants.{Session, Capture}
+
+-- of a session, by how it ended
+abbrev pub status_of_end : Ended → ℕ
+status_of_end ended.Done = 0
+status_of_end (ended.Refused number) = 1
+status_of_end ended.LostByRead = 2
+status_of_end ended.LostByWrite = 2
+status_of_end ended.NoMemory = 3
+status_of_end ended.TurnLimit = 4
+
+-- of what was told of a capture
+abbrev pub status_of_told : Told → ℕ
+status_of_told Faultless = 0
+status_of_told Faulty = 1
+status_of_told Unread = 2
+
+-- of what the words led to
+abbrev pub status_of_outcome : Outcome → ℕ
+status_of_outcome (Session e) = status_of_end e
+status_of_outcome (Capture told) = status_of_told told
+
+-- where no session began and no capture was told
+abbrev pub status_of_fault : Fault → ℕ
+status_of_fault (Words text) = 1
+status_of_fault NotText = 1
+status_of_fault (File path cause) = 1
+status_of_fault (Output error) = 2
+status_of_fault NoMemory = 3

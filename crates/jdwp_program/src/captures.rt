@@ -1,0 +1,137 @@
+//! Captures, shown and judged on a writer.
+ghost use Rattle.std.specs.Prelude.{◌≡◌, ◌++◌, IfOk, OnOk};
+ghost use Rattle.std.specs.String.{string_bytes};
+ghost use Rattle.jdwp_show.specs.Sessions.{first_fault};
+ghost use Rattle.jdwp_program.specs.declared.captures.TellFault.TheVariants as fault;
+ghost use Rattle.jdwp_program.specs.Captures.{Tells, fault_line, shown_text, verdict_text};
+ghost use Rattle.jdwp_program.specs.Outputs.{LeavesTold};
+
+use crate::printing::print;
+use jdwp_show::{CaptureFault, Verdict, check, show};
+use jdwp_wire::NoMemory;
+use std::alloc::{AllocError, Global};
+use std::io;
+use std::io::{ErrorKind, Write};
+use thiserror::Error;
+
+/// What was told of a capture.
+#[derive(Clone, Copy, Debug, PartialEq, Eq)]
+pub enum Told {
+    /// The capture has no fault, and all was printed.
+    Faultless,
+    /// The capture has a fault, and all was printed, the fault with it.
+    Faulty,
+    /// Who reads the output went away before all was printed.
+    Unread,
+}
+
+/// Why a capture was not told.
+#[derive(Clone, Copy, Debug, Error)]
+pub enum TellFault {
+    /// The output didn't take all of the text, for another cause than that its reader went away.
+    #[error("the output can't be written: {0}")]
+    Output(io::Error),
+    /// An allocation was refused. Nothing was printed.
+    #[error("no memory")]
+    NoMemory,
+}
+
+impl From<NoMemory> for TellFault {
+    ghost from_gives = { λ _ f. f ≡ fault.NoMemory };
+
+    fn from(_error: NoMemory) -> TellFault {
+        TellFault::NoMemory
+    }
+}
+
+impl From<AllocError> for TellFault {
+    ghost from_gives = { λ _ f. f ≡ fault.NoMemory };
+
+    fn from(_error: AllocError) -> TellFault {
+        TellFault::NoMemory
+    }
+}
+
+/// Shows a capture: its lines, and then `line N: fault K` where it has a fault.
+///
+/// # Errors
+/// `Output` where the output didn't take all of it; `NoMemory`, and then nothing was printed.
+pub fn show_capture<O: Write>(alloc: Global, capture: &str, out: &mut O) -> Result<Told, TellFault>
+    ensures tells { Tells (first_fault capture.now) (shown_text capture.now) (O.contents out.old) (O.contents out.new) result }
+    // The same by the exit status.
+    ensures leaves { LeavesTold result (O.contents out.old) (O.contents out.new) }
+{
+    tell(out, &shown(alloc, capture)?)
+}
+
+/// Judges a capture: `yes`, or `no: line N: fault K`.
+///
+/// # Errors
+/// As those of `show_capture`.
+pub fn check_capture<O: Write>(alloc: Global, capture: &str, out: &mut O) -> Result<Told, TellFault>
+    ensures tells { Tells (first_fault capture.now) (verdict_text (first_fault capture.now)) (O.contents out.old) (O.contents out.new) result }
+    ensures leaves { LeavesTold result (O.contents out.old) (O.contents out.new) }
+{
+    tell(out, &judged(alloc, capture)?)
+}
+
+/// What is to be printed of a capture, and its first fault.
+#[derive(Drop)]
+struct Text {
+    text: String,
+    fault: Option<(usize, CaptureFault)>,
+}
+
+/// A capture in words.
+fn shown(alloc: Global, capture: &str) -> Result<Text, NoMemory>
+    ensures fault { IfOk result (λ t. t.fault ≡ first_fault capture.now) }
+    ensures text { IfOk result (λ t. string_bytes t.text ≡ shown_text capture.now) }
+{
+    let shown = show(alloc, capture)?;
+    let mut text = shown.lines;
+    let fault = shown.fault;
+    if let Some((line, fault)) = fault {
+        push_fault(&mut text, line, fault)?;
+    }
+    Ok(Text { text, fault })
+}
+
+/// The verdict on a capture.
+fn judged(alloc: Global, capture: &str) -> Result<Text, NoMemory>
+    ensures fault { IfOk result (λ t. t.fault ≡ first_fault capture.now) }
+    ensures text { IfOk result (λ t. string_bytes t.text ≡ verdict_text t.fault) }
+{
+    let mut text = String::new(alloc);
+    match check(alloc, capture)? {
+        Verdict::Yes => {
+            text.push_str("yes\n")?;
+            Ok(Text { text, fault: None })
+        }
+        Verdict::No(line, fault) => {
+            text.push_str("no: ")?;
+            push_fault(&mut text, line, fault)?;
+            let fault = Some((line, fault));
+            Ok(Text { text, fault })
+        }
+    }
+}
+
+/// Appends the line and the number of a fault.
+fn push_fault(text: &mut String, line: usize, fault: CaptureFault) -> Result<(), AllocError>
+    ensures { OnOk result (string_bytes text.new ≡ string_bytes text.old ++ fault_line (line, fault)) }
+{
+    let number = fault.printed_number();
+    writeln!(text, "line {line}: fault {number}")
+}
+
+/// Prints the text of a capture, in one piece where the output takes it so.
+fn tell<O: Write>(out: &mut O, told: &Text) -> Result<Told, TellFault>
+    ensures { Tells told.now.fault (string_bytes told.now.text) (O.contents out.old) (O.contents out.new) result }
+{
+    match print(out, told.text.as_bytes()).1 {
+        Ok(()) if told.fault.is_none() => Ok(Told::Faultless),
+        Ok(()) => Ok(Told::Faulty),
+        Err(error) if error.kind() == ErrorKind::BrokenPipe => Ok(Told::Unread),
+        Err(error) => Err(TellFault::Output(error)),
+    }
+}
