@@ -14,7 +14,7 @@ ghost use Rattle.jdwp_layout.specs.Writes.{scalar_canonical, entry_canonical, da
 
 use crate::datum::{Datum, Scalar};
 use crate::item::{Entry, Field, Item, Layout, fields_of_event, fields_of_modifier};
-use jdwp_wire::number::put_number;
+use jdwp_wire::number::put_count;
 use jdwp_wire::{DataFault, IdSizes, Wire};
 
 /// Appends the data of the layout's items. Of several encodings the canonical one is written: true as 1.
@@ -105,10 +105,7 @@ fn put_list(
     ensures room { vec_len output.old + length (list_canonical (entry_canonical sizes.now) (entry_meanings entries.now)) ≤ vec_capacity output.old → IsErrOf result NoMemory → ⊥ }
     ensures capacity { vec_capacity output.old ≤ vec_capacity output.new }
 {
-    if entries.len() > 0x7fff_ffff {
-        return Err(DataFault::BadSize);
-    }
-    put_number(entries.len() as u64, 4, output)?;
+    put_count(entries.len(), output)?;
     put_entries(entry, entries, sizes, output)
 }
 

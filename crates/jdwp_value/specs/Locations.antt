@@ -13,13 +13,17 @@ use Rattle.jdwp_value.specs.declared.location.TypeTag.TheVariants.{Class, Interf
 use Rattle.jdwp_value.specs.declared.location.Location.{Location}
 use Rattle.jdwp_value.specs.declared.location.Location.TheVariants.{Null, At}
 
+-- the byte of a type tag
+abbrev pub type_tag_byte : TypeTag → ℕ
+type_tag_byte Class = 1
+type_tag_byte Interface = 2
+type_tag_byte Array = 3
+
 -- ---- the four numbers of a location: all are 0 in the null location
 
 abbrev pub type_tag_of : Location → ℕ
 type_tag_of Null = 0
-type_tag_of (At Class class method index) = 1
-type_tag_of (At Interface class method index) = 2
-type_tag_of (At Array class method index) = 3
+type_tag_of (At tag class method index) = type_tag_byte tag
 
 abbrev pub class_of : Location → ℕ
 class_of Null = 0

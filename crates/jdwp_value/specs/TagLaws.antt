@@ -1,5 +1,5 @@
 -- The reader of tags gives exactly what bytes encode.
-use Rattle.std.specs.Prelude.{◌≡◌, ◌≢◌, ℕ, ◌<◌, List, [], ◌∷◌, ◌++◌, cond, Option, Some, None, refl}
+use Rattle.std.specs.Prelude.{◌≡◌, ◌≢◌, ℕ, ◌<◌, List, [], ◌∷◌, ◌++◌, cond, Option, Some, None, IfSome, refl}
 use Rattle.std.proofs.Common.{ap, sym, ◌∙◌, arith, eqb, inl, inr}
 use Rattle.std.proofs.lemmas.Bool.Decides.{eqb_tells}
 use Rattle.jdwp_wire.specs.declared.data_fault.DataFault.{DataFault}
@@ -20,7 +20,7 @@ pick b k t found more is others e = elim (eqb_tells b k) [
 ]
 
 -- the byte of the tag that is found
-tag_is : (b : ℕ) (found : Tag) → tag_of_byte b ≡ Some found → b ≡ tag_byte found
+pub tag_is : (b : ℕ) (found : Tag) → tag_of_byte b ≡ Some found → b ≡ tag_byte found
 tag_is b found e =
     pick b 66 tag.Byte found _ refl (λ e0.
     pick b 67 tag.Char found _ refl (λ e1.
@@ -40,8 +40,12 @@ tag_is b found e =
     pick b 99 (tag.Object kind.ClassObject) found _ refl (λ e15.
     absurd cc) e14) e13) e12) e11) e10) e9) e8) e7) e6) e5) e4) e3) e2) e1) e0) e
 
+pub found_is_tag : (b : ℕ) (found : Option Tag) → tag_of_byte b ≡ found → IfSome found (λ t. tag_byte t ≡ b)
+found_is_tag b None e = tt
+found_is_tag b (Some t) e = sym (tag_is b t e)
+
 -- the tag of a tag's byte
-tag_again : (t : Tag) → tag_of_byte (tag_byte t) ≡ Some t
+pub tag_again : (t : Tag) → tag_of_byte (tag_byte t) ≡ Some t
 tag_again tag.Byte = refl
 tag_again tag.Char = refl
 tag_again tag.Double = refl

@@ -1,19 +1,15 @@
 //! Ids, each kind of its own width (JDWP specification, "Data Types": objectID, referenceTypeID, methodID, fieldID, frameID).
-ghost use Rattle.std.specs.Prelude.{◌≡◌, ◌<◌, ◌≤◌, ◌+◌, ℕ, length, OnOk, IfErr, vec_len, vec_capacity};
-ghost use Rattle.std.specs.Result.{IsErrOf};
-ghost use Rattle.jdwp_wire.specs.declared.data_fault.DataFault.TheVariants.{NoMemory};
-ghost use Rattle.jdwp_wire.specs.Reading.{Written, Refused};
-ghost use Rattle.jdwp_wire.specs.Widths.{IsWidth};
+ghost use Rattle.std.specs.Prelude.{ℕ};
 ghost use Rattle.byteorder.specs.Endian.{big_bytes};
 ghost use Rattle.jdwp_wire.specs.Numbers.{EncodesNumber, NumberFault, number_at, id_refusal};
 ghost use Rattle.jdwp_wire.specs.NumberLaws.{number_codes, id_unrefused};
 
-use jdwp_wire::number::{fits, pass_bytes, put_number, take_number};
-use jdwp_wire::{DataFault, IdSizes, Wire};
+use jdwp_wire::number::{pass_bytes, put_number, take_number};
+use jdwp_wire::{DataFault, IdKind, IdSizes, Wire};
 use std::alloc::Global;
 
 /// An object id: an object, and so a thread, thread group, string, class loader or class object; 0 is null.
-#[derive(Clone, Copy, Debug, PartialEq, Eq)]
+#[derive(Clone, Copy, Debug, PartialEq, Eq, PartialOrd, Ord, Hash)]
 pub struct ObjectId(pub u64);
 
 impl Wire for ObjectId {
@@ -38,7 +34,7 @@ impl Wire for ObjectId {
     }
 
     fn put(&self, sizes: &IdSizes, output: &mut Vec<u8>) -> Result<(), DataFault> {
-        put_id(self.0, sizes.object() as usize, output)
+        put_number(self.0, sizes.width(IdKind::Object), output)
     }
 
     fn take_front<'a>(
@@ -47,7 +43,7 @@ impl Wire for ObjectId {
         whole: usize,
         sizes: &IdSizes,
     ) -> Result<(ObjectId, &'a [u8]), DataFault> {
-        let (id, rest) = take_number(rest, whole, sizes.object() as usize)?;
+        let (id, rest) = take_number(rest, whole, sizes.width(IdKind::Object))?;
         Ok((ObjectId(id), rest))
     }
 
@@ -71,7 +67,7 @@ impl Wire for ObjectId {
 }
 
 /// A reference type id: a class, an interface or an array type.
-#[derive(Clone, Copy, Debug, PartialEq, Eq)]
+#[derive(Clone, Copy, Debug, PartialEq, Eq, PartialOrd, Ord, Hash)]
 pub struct ReferenceTypeId(pub u64);
 
 impl Wire for ReferenceTypeId {
@@ -96,7 +92,7 @@ impl Wire for ReferenceTypeId {
     }
 
     fn put(&self, sizes: &IdSizes, output: &mut Vec<u8>) -> Result<(), DataFault> {
-        put_id(self.0, sizes.reference() as usize, output)
+        put_number(self.0, sizes.width(IdKind::ReferenceType), output)
     }
 
     fn take_front<'a>(
@@ -105,7 +101,7 @@ impl Wire for ReferenceTypeId {
         whole: usize,
         sizes: &IdSizes,
     ) -> Result<(ReferenceTypeId, &'a [u8]), DataFault> {
-        let (id, rest) = take_number(rest, whole, sizes.reference() as usize)?;
+        let (id, rest) = take_number(rest, whole, sizes.width(IdKind::ReferenceType))?;
         Ok((ReferenceTypeId(id), rest))
     }
 
@@ -129,7 +125,7 @@ impl Wire for ReferenceTypeId {
 }
 
 /// A method id, of one reference type.
-#[derive(Clone, Copy, Debug, PartialEq, Eq)]
+#[derive(Clone, Copy, Debug, PartialEq, Eq, PartialOrd, Ord, Hash)]
 pub struct MethodId(pub u64);
 
 impl Wire for MethodId {
@@ -154,7 +150,7 @@ impl Wire for MethodId {
     }
 
     fn put(&self, sizes: &IdSizes, output: &mut Vec<u8>) -> Result<(), DataFault> {
-        put_id(self.0, sizes.method() as usize, output)
+        put_number(self.0, sizes.width(IdKind::Method), output)
     }
 
     fn take_front<'a>(
@@ -163,7 +159,7 @@ impl Wire for MethodId {
         whole: usize,
         sizes: &IdSizes,
     ) -> Result<(MethodId, &'a [u8]), DataFault> {
-        let (id, rest) = take_number(rest, whole, sizes.method() as usize)?;
+        let (id, rest) = take_number(rest, whole, sizes.width(IdKind::Method))?;
         Ok((MethodId(id), rest))
     }
 
@@ -187,7 +183,7 @@ impl Wire for MethodId {
 }
 
 /// A field id, of one reference type.
-#[derive(Clone, Copy, Debug, PartialEq, Eq)]
+#[derive(Clone, Copy, Debug, PartialEq, Eq, PartialOrd, Ord, Hash)]
 pub struct FieldId(pub u64);
 
 impl Wire for FieldId {
@@ -212,7 +208,7 @@ impl Wire for FieldId {
     }
 
     fn put(&self, sizes: &IdSizes, output: &mut Vec<u8>) -> Result<(), DataFault> {
-        put_id(self.0, sizes.field() as usize, output)
+        put_number(self.0, sizes.width(IdKind::Field), output)
     }
 
     fn take_front<'a>(
@@ -221,7 +217,7 @@ impl Wire for FieldId {
         whole: usize,
         sizes: &IdSizes,
     ) -> Result<(FieldId, &'a [u8]), DataFault> {
-        let (id, rest) = take_number(rest, whole, sizes.field() as usize)?;
+        let (id, rest) = take_number(rest, whole, sizes.width(IdKind::Field))?;
         Ok((FieldId(id), rest))
     }
 
@@ -245,7 +241,7 @@ impl Wire for FieldId {
 }
 
 /// A frame id, of one thread.
-#[derive(Clone, Copy, Debug, PartialEq, Eq)]
+#[derive(Clone, Copy, Debug, PartialEq, Eq, PartialOrd, Ord, Hash)]
 pub struct FrameId(pub u64);
 
 impl Wire for FrameId {
@@ -270,7 +266,7 @@ impl Wire for FrameId {
     }
 
     fn put(&self, sizes: &IdSizes, output: &mut Vec<u8>) -> Result<(), DataFault> {
-        put_id(self.0, sizes.frame() as usize, output)
+        put_number(self.0, sizes.width(IdKind::Frame), output)
     }
 
     fn take_front<'a>(
@@ -279,7 +275,7 @@ impl Wire for FrameId {
         whole: usize,
         sizes: &IdSizes,
     ) -> Result<(FrameId, &'a [u8]), DataFault> {
-        let (id, rest) = take_number(rest, whole, sizes.frame() as usize)?;
+        let (id, rest) = take_number(rest, whole, sizes.width(IdKind::Frame))?;
         Ok((FrameId(id), rest))
     }
 
@@ -300,18 +296,4 @@ impl Wire for FrameId {
     ghost judged = { λ w whole. (number_codes w.frame whole).judged };
 
     ghost unrefused = { λ w. id_unrefused w.frame };
-}
-
-/// Appends an id of this width.
-fn put_id(id: u64, width: usize, output: &mut Vec<u8>) -> Result<(), DataFault>
-    requires { IsWidth width }
-    ensures ok { OnOk result (Written (EncodesNumber width id) (big_bytes width id) output.old.items output.new.items) }
-    ensures err { IfErr result (λ e. (output.new.items ≡ output.old.items) × Refused e (id_refusal width id)) }
-    ensures room { vec_len output.old + length (big_bytes width id) ≤ vec_capacity output.old → IsErrOf result NoMemory → ⊥ }
-    ensures capacity { vec_capacity output.old ≤ vec_capacity output.new }
-{
-    if !fits(id, width) {
-        return Err(DataFault::IdTooWide);
-    }
-    put_number(id, width, output)
 }

@@ -4,16 +4,16 @@ ghost use Rattle.std.specs.Result.{IsErrOf};
 ghost use Rattle.jdwp_wire.specs.declared.data_fault.DataFault.TheVariants.{NoMemory};
 ghost use Rattle.jdwp_wire.specs.Reading.{Gives, Written, Refused};
 ghost use Rattle.jdwp_value.specs.declared.location.Location.{Location};
-ghost use Rattle.jdwp_value.specs.Locations.{EncodesLocation, location_canonical, location_refusal, LocationFault, location_at};
+ghost use Rattle.jdwp_value.specs.Locations.{EncodesLocation, location_canonical, location_refusal, LocationFault, type_tag_byte, location_at};
 ghost use Rattle.jdwp_value.specs.LocationLaws.{location_codes, location_unrefused};
 
 use crate::id::{MethodId, ReferenceTypeId};
-use jdwp_wire::number::{put_number, take_byte, take_number};
-use jdwp_wire::{DataFault, IdSizes, Wire};
+use jdwp_wire::number::{put_long, take_byte, take_number};
+use jdwp_wire::{DataFault, IdKind, IdSizes, Width, Wire};
 use std::alloc::Global;
 
 /// What declares a method (JDWP specification, "TypeTag Constants").
-#[derive(Clone, Copy, Debug, PartialEq, Eq)]
+#[derive(Clone, Copy, Debug, PartialEq, Eq, PartialOrd, Ord, Hash)]
 pub enum TypeTag {
     /// 1
     Class,
@@ -23,16 +23,33 @@ pub enum TypeTag {
     Array,
 }
 
+impl TypeTag {
+    /// The byte of the tag, 1 to 3.
+    pub fn byte(self) -> u8
+        ensures { result ≡ type_tag_byte self }
+    {
+        match self {
+            TypeTag::Class => 1,
+            TypeTag::Interface => 2,
+            TypeTag::Array => 3,
+        }
+    }
+}
+
 /// A place in a method, or none.
 #[derive(Clone, Copy, Debug, PartialEq, Eq)]
 pub enum Location {
     /// No place: all bytes are zero.
     Null,
+    /// A place in the code of a method.
     At {
+        /// What declares the method: a class, an interface or an array type.
         tag: TypeTag,
+        /// The type that declares it.
         class: ReferenceTypeId,
+        /// The method.
         method: MethodId,
-        /// The code index.
+        /// The code index, from 0.
         index: u64,
     },
 }
@@ -114,9 +131,9 @@ fn take_location<'a>(
     if tag > 3 {
         return Err(DataFault::BadTag);
     }
-    let (class, rest) = take_number(rest, whole, sizes.reference() as usize)?;
-    let (method, rest) = take_number(rest, whole, sizes.method() as usize)?;
-    let (index, rest) = take_number(rest, whole, 8)?;
+    let (class, rest) = take_number(rest, whole, sizes.width(IdKind::ReferenceType))?;
+    let (method, rest) = take_number(rest, whole, sizes.width(IdKind::Method))?;
+    let (index, rest) = take_number(rest, whole, Width::LONG)?;
     let tag = match tag {
         0 => {
             if class == 0 && (method == 0 && index == 0) {
@@ -152,11 +169,7 @@ fn put_parts(location: &Location, sizes: &IdSizes, output: &mut Vec<u8>) -> Resu
             method,
             index,
         } => (
-            match tag {
-                TypeTag::Class => 1,
-                TypeTag::Interface => 2,
-                TypeTag::Array => 3,
-            },
+            tag.byte(),
             class,
             method,
             index,
@@ -165,5 +178,5 @@ fn put_parts(location: &Location, sizes: &IdSizes, output: &mut Vec<u8>) -> Resu
     output.push(tag)?;
     class.put(sizes, output)?;
     method.put(sizes, output)?;
-    put_number(index, 8, output)
+    put_long(index, output)
 }

@@ -16,7 +16,7 @@ use crate::tag::{Tag, take_tag};
 use crate::value::{
     TaggedId, Value, pass_untagged, put_untagged, take_tagged_id, take_untagged, untagged_size,
 };
-use jdwp_wire::number::{put_number, take_count};
+use jdwp_wire::number::{put_count, take_count};
 use jdwp_wire::{DataFault, IdSizes, Wire};
 use std::alloc::Global;
 use std::marker::Model;
@@ -56,6 +56,13 @@ impl ArrayRegion {
         self.tag
     }
 
+    /// The elements, in order, given back.
+    pub fn into_elements(self) -> Vec<Value>
+        ensures { result.items ≡ self.elements }
+    {
+        self.elements
+    }
+
     /// The elements, in order.
     pub fn elements(&self) -> &[Value]
         ensures { result.now ≡ self.now.elements }
@@ -90,9 +97,6 @@ impl Wire for ArrayRegion {
     }
 
     fn put(&self, sizes: &IdSizes, output: &mut Vec<u8>) -> Result<(), DataFault> {
-        if self.elements.len() > 0x7fff_ffff {
-            return Err(DataFault::BadSize);
-        }
         let before = output.len();
         let done = put_parts(self.tag, &self.elements, sizes, output);
         if done.is_err() {
@@ -309,14 +313,13 @@ fn put_parts(
     sizes: &IdSizes,
     output: &mut Vec<u8>,
 ) -> Result<(), DataFault>
-    requires region { is_region tag values.now ≡ true }
-    requires count { length values.now < 2 ^ 31 }
+    requires { is_region tag values.now ≡ true }
     ensures ok { OnOk result (Written (EncodesRegion sizes.now (region_of tag values.now)) (region_canonical sizes.now (region_of tag values.now)) output.old.items output.new.items) }
     ensures err { IfErr result (λ e. (take (length output.old.items) output.new.items ≡ output.old.items) × Refused e (region_refusal sizes.now (region_of tag values.now))) }
     ensures room { vec_len output.old + length (region_canonical sizes.now (region_of tag values.now)) ≤ vec_capacity output.old → IsErrOf result NoMemory → ⊥ }
     ensures capacity { vec_capacity output.old ≤ vec_capacity output.new }
 {
     output.push(tag.byte())?;
-    put_number(values.len() as u64, 4, output)?;
+    put_count(values.len(), output)?;
     put_elements(tag, values, sizes, output)
 }

@@ -1,5 +1,5 @@
 //! Tags (JDWP specification, "Tag Constants").
-ghost use Rattle.std.specs.Prelude.{◌≡◌, ◌≤◌, None, [], ◌∷◌, length, IfOk, refl};
+ghost use Rattle.std.specs.Prelude.{◌≡◌, ◌≤◌, None, [], ◌∷◌, length, IfOk, IfSome, Some, refl};
 ghost use Rattle.std.specs.Result.{IsErrOf};
 ghost use Rattle.jdwp_wire.specs.declared.data_fault.DataFault.TheVariants.{NoMemory};
 ghost use Rattle.jdwp_wire.specs.Reading.{Gives};
@@ -13,7 +13,7 @@ use jdwp_wire::{DataFault, IdSizes, Wire};
 use std::alloc::Global;
 
 /// What an object is, by its tag.
-#[derive(Clone, Copy, Debug, PartialEq, Eq)]
+#[derive(Clone, Copy, Debug, PartialEq, Eq, PartialOrd, Ord, Hash)]
 pub enum ObjectTag {
     /// `[`: an array.
     Array,
@@ -32,7 +32,7 @@ pub enum ObjectTag {
 }
 
 /// What a value is, by its tag: one of nine kinds without a reference, or one of seven kinds of objects.
-#[derive(Clone, Copy, Debug, PartialEq, Eq)]
+#[derive(Clone, Copy, Debug, PartialEq, Eq, PartialOrd, Ord, Hash)]
 pub enum Tag {
     /// `B`: 1 byte.
     Byte,
@@ -114,7 +114,9 @@ impl Tag {
 
     /// The tag of a byte, if it is one's.
     pub fn of_byte(byte: u8) -> Option<Tag>
-        ensures { result ≡ tag_of_byte byte }
+        ensures found { IfSome result (λ t. tag_byte t ≡ byte) }
+        ensures only { (t : Tag) → tag_byte t ≡ byte → result ≡ Some t }
+        ensures value { result ≡ tag_of_byte byte }
     {
         match byte {
             66 => Some(Tag::Byte),

@@ -12,13 +12,15 @@ ghost use Rattle.jdwp_value.specs.ValueLaws.{tagged_id_codes, tagged_id_unrefuse
 use crate::id::ObjectId;
 use crate::tag::{ObjectTag, Tag, take_tag};
 use jdwp_wire::number::{pass_bytes, put_number, take_bool, take_number};
-use jdwp_wire::{DataFault, IdSizes, Wire};
+use jdwp_wire::{DataFault, IdKind, IdSizes, Width, Wire};
 use std::alloc::Global;
 
 /// An object id, and what kind of object it names.
 #[derive(Clone, Copy, Debug, PartialEq, Eq)]
 pub struct TaggedId {
+    /// The kind of the object.
     pub tag: ObjectTag,
+    /// The object, or 0 for null.
     pub id: ObjectId,
 }
 
@@ -26,15 +28,25 @@ pub struct TaggedId {
 /// doubles too.
 #[derive(Clone, Copy, Debug, PartialEq, Eq)]
 pub enum Value {
+    /// The 8 bits of a byte.
     Byte(u8),
+    /// A char, one unit of UTF-16.
     Char(u16),
+    /// The 64 bits of a double.
     Double(u64),
+    /// The 32 bits of a float.
     Float(u32),
+    /// The 32 bits of an int.
     Int(u32),
+    /// The 64 bits of a long.
     Long(u64),
+    /// The 16 bits of a short.
     Short(u16),
+    /// No value.
     Void,
+    /// A boolean.
     Boolean(bool),
+    /// An object, or null.
     Object(TaggedId),
 }
 
@@ -194,7 +206,7 @@ pub(crate) fn take_tagged_id<'a>(
     let (tag, rest) = take_tag(rest, whole)?;
     match tag {
         Tag::Object(tag) => {
-            let (id, rest) = take_number(rest, whole, sizes.object() as usize)?;
+            let (id, rest) = take_number(rest, whole, sizes.width(IdKind::Object))?;
             let id = ObjectId(id);
             Ok((TaggedId { tag, id }, rest))
         }
@@ -228,13 +240,13 @@ pub fn put_untagged(value: &Value, sizes: &IdSizes, output: &mut Vec<u8>) -> Res
     ensures capacity { vec_capacity output.old ≤ vec_capacity output.new }
 {
     match *value {
-        Value::Byte(bits) => put_number(bits as u64, 1, output),
-        Value::Char(bits) => put_number(bits as u64, 2, output),
-        Value::Double(bits) => put_number(bits, 8, output),
-        Value::Float(bits) => put_number(bits as u64, 4, output),
-        Value::Int(bits) => put_number(bits as u64, 4, output),
-        Value::Long(bits) => put_number(bits, 8, output),
-        Value::Short(bits) => put_number(bits as u64, 2, output),
+        Value::Byte(bits) => put_number(bits as u64, Width::BYTE, output),
+        Value::Char(bits) => put_number(bits as u64, Width::SHORT, output),
+        Value::Double(bits) => put_number(bits, Width::LONG, output),
+        Value::Float(bits) => put_number(bits as u64, Width::INT, output),
+        Value::Int(bits) => put_number(bits as u64, Width::INT, output),
+        Value::Long(bits) => put_number(bits, Width::LONG, output),
+        Value::Short(bits) => put_number(bits as u64, Width::SHORT, output),
         Value::Void => Ok(()),
         Value::Boolean(truth) => truth.put(sizes, output),
         Value::Object(object) => object.id.put(sizes, output),
@@ -257,31 +269,31 @@ pub fn take_untagged<'a>(
 {
     match tag {
         Tag::Byte => {
-            let (bits, rest) = take_number(rest, whole, 1)?;
+            let (bits, rest) = take_number(rest, whole, Width::BYTE)?;
             Ok((Value::Byte(bits as u8), rest))
         }
         Tag::Char => {
-            let (bits, rest) = take_number(rest, whole, 2)?;
+            let (bits, rest) = take_number(rest, whole, Width::SHORT)?;
             Ok((Value::Char(bits as u16), rest))
         }
         Tag::Double => {
-            let (bits, rest) = take_number(rest, whole, 8)?;
+            let (bits, rest) = take_number(rest, whole, Width::LONG)?;
             Ok((Value::Double(bits), rest))
         }
         Tag::Float => {
-            let (bits, rest) = take_number(rest, whole, 4)?;
+            let (bits, rest) = take_number(rest, whole, Width::INT)?;
             Ok((Value::Float(bits as u32), rest))
         }
         Tag::Int => {
-            let (bits, rest) = take_number(rest, whole, 4)?;
+            let (bits, rest) = take_number(rest, whole, Width::INT)?;
             Ok((Value::Int(bits as u32), rest))
         }
         Tag::Long => {
-            let (bits, rest) = take_number(rest, whole, 8)?;
+            let (bits, rest) = take_number(rest, whole, Width::LONG)?;
             Ok((Value::Long(bits), rest))
         }
         Tag::Short => {
-            let (bits, rest) = take_number(rest, whole, 2)?;
+            let (bits, rest) = take_number(rest, whole, Width::SHORT)?;
             Ok((Value::Short(bits as u16), rest))
         }
         Tag::Void => Ok((Value::Void, rest)),
@@ -290,7 +302,7 @@ pub fn take_untagged<'a>(
             Ok((Value::Boolean(truth), rest))
         }
         Tag::Object(tag) => {
-            let (id, rest) = take_number(rest, whole, sizes.object() as usize)?;
+            let (id, rest) = take_number(rest, whole, sizes.width(IdKind::Object))?;
             let id = ObjectId(id);
             Ok((Value::Object(TaggedId { tag, id }), rest))
         }

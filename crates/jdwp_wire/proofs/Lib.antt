@@ -5,3 +5,4 @@ pub mod Loop
 pub mod Passed
 pub mod Puts
 pub mod Keeps
+pub mod Wide

@@ -2,7 +2,7 @@
 use Rattle.std.specs.Prelude.{◌≡◌, ℕ, ◌≤◌, ◌<◌, ◌^◌, length, drop, nat_lt, if◌then◌else◌, Option, Some, None, Ok, Err, ◌⊎◌}
 use Rattle.byteorder.specs.Endian.{big_number, big_bytes}
 use Rattle.jdwp_wire.specs.declared.data_fault.DataFault.{DataFault}
-use Rattle.jdwp_wire.specs.declared.data_fault.DataFault.TheVariants.{Short, NegativeCount, IdTooWide}
+use Rattle.jdwp_wire.specs.declared.data_fault.DataFault.TheVariants.{Short, NegativeCount, BadSize, IdTooWide}
 use Rattle.jdwp_wire.specs.Reading.{Reader, Encoding, Faults, ◌>>=◌}
 
 -- ---- a number of this width
@@ -28,6 +28,10 @@ CountFault whole bytes f =
 
 abbrev pub count_at : ℕ → Reader ℕ
 count_at whole bytes = number_at 4 whole bytes >>= λ n. if nat_lt n.0 (2 ^ 31) then Ok n else Err NegativeCount
+
+-- why a count or a length can't be written
+abbrev pub count_refusal : ℕ → Option DataFault
+count_refusal n = if nat_lt n (2 ^ 31) then None else Some BadSize
 
 -- ---- an id
 

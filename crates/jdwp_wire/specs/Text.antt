@@ -6,7 +6,7 @@ use Rattle.jdwp_wire.specs.declared.data_fault.DataFault.{DataFault}
 use Rattle.jdwp_wire.specs.declared.data_fault.DataFault.TheVariants.{Short, NotUtf8, BadSize}
 use Rattle.jdwp_wire.specs.Reading.{Reader, Encoding, Faults, BeginsWith}
 use Rattle.jdwp_wire.specs.Sequence.{seq, FirstFault}
-use Rattle.jdwp_wire.specs.Numbers.{EncodesCount, CountFault, count_at}
+use Rattle.jdwp_wire.specs.Numbers.{EncodesCount, CountFault, count_at, count_refusal}
 
 abbrev pub text_canonical : List ℕ → List ℕ
 text_canonical s = big_bytes 4 (length s) ++ s
@@ -28,7 +28,7 @@ abbrev pub TextIsKept : List ℕ → Type 0
 TextIsKept = BeginsWith (λ s code. (0 < length s) × EncodesText s code)
 
 abbrev pub text_refusal : List ℕ → Option DataFault
-text_refusal s = if nat_lt (length s) (2 ^ 31) then None else Some BadSize
+text_refusal s = count_refusal (length s)
 
 abbrev pub characters_at : ℕ → ℕ → Reader (List ℕ)
 characters_at whole n bytes = if nat_lt (length bytes) n then Err (Short whole) else

@@ -12,7 +12,7 @@ ghost use Rattle.jdwp_wire.specs.TextLaws.{text_codes, text_unrefused};
 
 use crate::data_fault::DataFault;
 use crate::id_sizes::IdSizes;
-use crate::number::{pass_bytes, put_number, take_bool, take_byte, take_count};
+use crate::number::{pass_bytes, put_count, take_bool, take_byte, take_count};
 use crate::wire::Wire;
 use byteorder::{BigEndian, ByteOrder};
 use std::alloc::Global;
@@ -272,11 +272,8 @@ impl Wire for String {
     }
 
     fn put(&self, _sizes: &IdSizes, output: &mut Vec<u8>) -> Result<(), DataFault> {
-        if self.len() > 0x7fff_ffff {
-            return Err(DataFault::BadSize);
-        }
         let before = output.len();
-        put_number(self.len() as u64, 4, output)?;
+        put_count(self.len(), output)?;
         match output.extend_from_slice(self.as_bytes()) {
             Ok(()) => Ok(()),
             Err(_) => {

@@ -58,6 +58,7 @@ pub enum NextHello {
     Whole,
     /// A beginning of it.
     More,
+    /// A byte that is not the handshake's.
     Fault(FrameFault),
 }
 
@@ -68,6 +69,7 @@ pub enum Next<'a> {
     Whole(PacketRef<'a>, usize),
     /// A beginning of one.
     More,
+    /// The beginning of no packet.
     Fault(FrameFault),
 }
 

@@ -1,9 +1,72 @@
 //! The widths of ids (JDWP specification, "VirtualMachine": IDSizes).
-ghost use Rattle.std.specs.Prelude.{◌≡◌, ◌↔◌, IsOk, IfOk};
-ghost use Rattle.jdwp_wire.specs.Widths.{IsWidth};
+ghost use Rattle.std.specs.Prelude.{◌≡◌, ◌↔◌, IsOk, IfOk, IsSome, IfSome};
+ghost use Rattle.jdwp_wire.specs.Widths.{IsWidth, width_of};
 
 use std::marker::Model;
 use thiserror::Error;
+
+/// How many bytes an id or a number takes, 1 to 8.
+#[derive(Clone, Copy, Debug, PartialEq, Eq)]
+pub struct Width(u8);
+
+impl Model for Width {
+    ghost use Rattle.std.specs.Prelude.{ℕ};
+    ghost use Rattle.jdwp_wire.specs.Widths as spec;
+
+    ghost Value = { ℕ };
+
+    ghost view = { λ w. w.0 };
+
+    ghost invariant = { λ w. spec.IsWidth w.0 };
+
+    ghost inverse = { λ n. record { 0 = n } };
+}
+
+impl Width {
+    /// The width of a byte, 1.
+    pub const BYTE: Width = Width(1);
+    /// The width of a char and of a short, 2.
+    pub const SHORT: Width = Width(2);
+    /// The width of an int, a float, a length and a count, 4.
+    pub const INT: Width = Width(4);
+    /// The width of a long and of a double, 8.
+    pub const LONG: Width = Width(8);
+
+    /// A width of so many bytes; None where they are not 1 to 8.
+    pub fn new(bytes: u8) -> Option<Width>
+        ensures some { IsSome result ↔ IsWidth bytes }
+        ensures same { IfSome result (λ w. w ≡ bytes) }
+    {
+        if bytes >= 1 && bytes <= 8 {
+            Some(Width(bytes))
+        } else {
+            None
+        }
+    }
+
+    /// How many bytes that is, 1 to 8.
+    pub fn bytes(self) -> usize
+        ensures value { result ≡ self }
+        ensures within { IsWidth result }
+    {
+        self.0 as usize
+    }
+}
+
+/// A kind of id (JDWP specification, "Data Types").
+#[derive(Clone, Copy, Debug, PartialEq, Eq, PartialOrd, Ord, Hash)]
+pub enum IdKind {
+    /// A field of a reference type.
+    Field,
+    /// A method of a reference type.
+    Method,
+    /// An object, and so a thread, thread group, string, class loader or class object.
+    Object,
+    /// A class, an interface or an array type.
+    ReferenceType,
+    /// A frame of a thread.
+    Frame,
+}
 
 /// How many bytes each kind of id takes, 1 to 8.
 #[derive(Clone, Copy, Debug, PartialEq, Eq)]
@@ -48,12 +111,25 @@ impl IdSizes {
         ensures widths { IfOk result (λ s. s ≡ record { field = field; method = method; object = object; reference = reference; frame = frame }) }
     {
         Ok(IdSizes {
-            field: width(field)?,
-            method: width(method)?,
-            object: width(object)?,
-            reference: width(reference)?,
-            frame: width(frame)?,
+            field: checked(field)?,
+            method: checked(method)?,
+            object: checked(object)?,
+            reference: checked(reference)?,
+            frame: checked(frame)?,
         })
+    }
+
+    /// The width of the ids of a kind.
+    pub fn width(&self, kind: IdKind) -> Width
+        ensures { result ≡ width_of self.now kind }
+    {
+        match kind {
+            IdKind::Field => Width(self.field),
+            IdKind::Method => Width(self.method),
+            IdKind::Object => Width(self.object),
+            IdKind::ReferenceType => Width(self.reference),
+            IdKind::Frame => Width(self.frame),
+        }
     }
 
     /// The width of field ids.
@@ -98,7 +174,7 @@ impl IdSizes {
 }
 
 /// The width as a byte.
-fn width(bytes: u32) -> Result<u8, BadSize>
+fn checked(bytes: u32) -> Result<u8, BadSize>
     ensures ok { IsOk result ↔ IsWidth bytes }
     ensures same { IfOk result (λ w. w ≡ bytes) }
 {

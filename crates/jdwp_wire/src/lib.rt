@@ -19,7 +19,7 @@ pub use frame::{
     FrameFault, HANDSHAKE, Next, NextHello, PACKET_LIMIT, next_hello, next_packet,
     next_packet_within,
 };
-pub use id_sizes::{BadSize, IdSizes};
+pub use id_sizes::{BadSize, IdKind, IdSizes, Width};
 pub use laws::{
     answers_first_fault, begins_with_one_fault, begins_with_one_value, reads_only_encoded,
     reads_what_is_encoded,

@@ -3,13 +3,16 @@ ghost use Rattle.std.specs.Prelude.{◌≡◌, ◌≤◌, ◌<◌, ◌^◌, ◌+
 ghost use Rattle.std.specs.Result.{IsErrOf};
 ghost use Rattle.byteorder.specs.Endian.{big_bytes};
 ghost use Rattle.jdwp_wire.specs.declared.data_fault.DataFault.TheVariants.{NoMemory};
-ghost use Rattle.jdwp_wire.specs.Widths.{IsWidth};
-ghost use Rattle.jdwp_wire.specs.Reading.{Gives, passed};
+ghost use Rattle.jdwp_wire.specs.Reading.{Gives, passed, Written, Refused};
 ghost use Rattle.jdwp_wire.specs.Basic.{byte_at, bool_at};
-ghost use Rattle.jdwp_wire.specs.Numbers.{number_at, count_at};
+ghost use Rattle.jdwp_wire.specs.Numbers.{EncodesNumber, EncodesCount, number_at, count_at, id_refusal, count_refusal};
 
 use crate::data_fault::DataFault;
+use crate::id_sizes::Width;
 use byteorder::{BigEndian, ByteOrder};
+
+/// The greatest length or count.
+const MOST: u64 = 0x7fff_ffff;
 
 /// The byte at the front of the rest of a slice of `whole` bytes, and what follows it.
 ///
@@ -61,18 +64,18 @@ pub fn pass_bytes(rest: &[u8], whole: usize, count: usize) -> Result<&[u8], Data
 ///
 /// # Errors
 /// `Short(whole)` where fewer than `width` bytes are left.
-pub fn take_number(rest: &[u8], whole: usize, width: usize) -> Result<(u64, &[u8]), DataFault>
-    requires { IsWidth width }
+pub fn take_number(rest: &[u8], whole: usize, width: Width) -> Result<(u64, &[u8]), DataFault>
     ensures value { Gives (λ x. (x.0, x.1.now)) result (number_at width whole rest.now) }
     ensures fits { IfOk result (λ x. x.0 < 256 ^ width) }
     ensures shorter { IfOk result (λ x. length x.1.now ≤ length rest.now) }
     ensures memory { IsErrOf result NoMemory → ⊥ }
 {
-    if rest.len() < width {
+    let count = width.bytes();
+    if rest.len() < count {
         return Err(DataFault::Short(whole));
     }
-    let number = BigEndian::read_uint(rest, width);
-    Ok((number, &rest[width..]))
+    let number = BigEndian::read_uint(rest, count);
+    Ok((number, &rest[count..]))
 }
 
 /// The count or length at the front of the rest of a slice of `whole` bytes, and what follows it.
@@ -85,8 +88,8 @@ pub fn take_count(rest: &[u8], whole: usize) -> Result<(usize, &[u8]), DataFault
     ensures shorter { IfOk result (λ x. length x.1.now ≤ length rest.now) }
     ensures memory { IsErrOf result NoMemory → ⊥ }
 {
-    let (count, rest) = take_number(rest, whole, 4)?;
-    if count > 0x7fff_ffff {
+    let (count, rest) = take_number(rest, whole, Width::INT)?;
+    if count > MOST {
         return Err(DataFault::NegativeCount);
     }
     Ok((count as usize, rest))
@@ -95,27 +98,66 @@ pub fn take_count(rest: &[u8], whole: usize) -> Result<(usize, &[u8]), DataFault
 /// Appends a number in `width` bytes.
 ///
 /// # Errors
-/// `NoMemory` where the vector was to grow and an allocation was refused. It is then as it was.
-pub fn put_number(number: u64, width: usize, output: &mut Vec<u8>) -> Result<(), DataFault>
-    requires width { IsWidth width }
-    requires fits { number < 256 ^ width }
-    ensures ok { OnOk result (output.new.items ≡ output.old.items ++ big_bytes width number) }
+/// `IdTooWide` where so many bytes don't hold it, and `NoMemory` where the vector was to grow and an allocation was
+/// refused. The vector's bytes are then as they were.
+pub fn put_number(number: u64, width: Width, output: &mut Vec<u8>) -> Result<(), DataFault>
+    ensures ok { OnOk result (Written (EncodesNumber width number) (big_bytes width number) output.old.items output.new.items) }
+    ensures err { IfErr result (λ e. (output.new.items ≡ output.old.items) × Refused e (id_refusal width number)) }
+    ensures room { vec_len output.old + length (big_bytes width number) ≤ vec_capacity output.old → IsErrOf result NoMemory → ⊥ }
+    ensures capacity { vec_capacity output.old ≤ vec_capacity output.new }
+{
+    let length = width.bytes();
+    if !fits(number, length) {
+        return Err(DataFault::IdTooWide);
+    }
+    let mut bytes = [0; 8];
+    BigEndian::write_uint(&mut bytes, number, length);
+    output.extend_from_slice(&bytes[..length])?;
+    Ok(())
+}
+
+/// Appends a count or a length, 4 bytes.
+///
+/// # Errors
+/// `BadSize` where it is above 2,147,483,647, and `NoMemory` where the vector was to grow and an allocation was refused.
+/// The vector's bytes are then as they were.
+pub fn put_count(count: usize, output: &mut Vec<u8>) -> Result<(), DataFault>
+    ensures ok { OnOk result (Written (EncodesCount count) (big_bytes 4 count) output.old.items output.new.items) }
+    ensures err { IfErr result (λ e. (output.new.items ≡ output.old.items) × Refused e (count_refusal count)) }
+    ensures room { vec_len output.old + 4 ≤ vec_capacity output.old → IsErrOf result NoMemory → ⊥ }
+    ensures capacity { vec_capacity output.old ≤ vec_capacity output.new }
+{
+    if count as u64 > MOST {
+        return Err(DataFault::BadSize);
+    }
+    let mut bytes = [0; 4];
+    BigEndian::write_u32(&mut bytes, count as u32);
+    output.extend_from_slice(&bytes)?;
+    Ok(())
+}
+
+/// Appends a number of 8 bytes.
+///
+/// # Errors
+/// `NoMemory` where the vector was to grow and an allocation was refused. The vector's bytes are then as they were.
+pub fn put_long(number: u64, output: &mut Vec<u8>) -> Result<(), DataFault>
+    ensures ok { OnOk result (Written (EncodesNumber 8 number) (big_bytes 8 number) output.old.items output.new.items) }
     ensures err { IfErr result (λ e. (output.new.items ≡ output.old.items) × (e ≡ NoMemory)) }
-    ensures room { vec_len output.old + width ≤ vec_capacity output.old → IsErrOf result NoMemory → ⊥ }
+    ensures room { vec_len output.old + 8 ≤ vec_capacity output.old → IsErrOf result NoMemory → ⊥ }
     ensures capacity { vec_capacity output.old ≤ vec_capacity output.new }
 {
     let mut bytes = [0; 8];
-    BigEndian::write_uint(&mut bytes, number, width);
-    output.extend_from_slice(&bytes[..width])?;
+    BigEndian::write_u64(&mut bytes, number);
+    output.extend_from_slice(&bytes)?;
     Ok(())
 }
 
 /// Whether `width` bytes hold a number.
 pub fn fits(number: u64, width: usize) -> bool
-    requires { IsWidth width }
     ensures { IsTrue result ↔ (number < 256 ^ width) }
 {
     match width {
+        0 => number == 0,
         1 => number < 0x100,
         2 => number < 0x1_0000,
         3 => number < 0x100_0000,

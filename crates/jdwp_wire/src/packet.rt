@@ -9,9 +9,17 @@ use byteorder::{BigEndian, ByteOrder};
 #[derive(Clone, Copy, Debug, PartialEq, Eq)]
 pub enum PacketKind {
     /// A command of a command set.
-    Command { set: u8, number: u8 },
+    Command {
+        /// The command set.
+        set: u8,
+        /// The command in its set.
+        number: u8,
+    },
     /// The reply to a command.
-    Reply { error: ErrorCode },
+    Reply {
+        /// Whether it succeeded, and else why not.
+        error: ErrorCode,
+    },
 }
 
 /// The header of a packet, 11 bytes.
@@ -50,6 +58,8 @@ impl Header {
 /// A packet where it lies: its header, and its data in the buffer that it was found in.
 #[derive(Clone, Copy, Debug)]
 pub struct PacketRef<'a> {
+    /// The header.
     pub header: Header,
+    /// The data behind it.
     pub body: &'a [u8],
 }

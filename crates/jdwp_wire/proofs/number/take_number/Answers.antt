@@ -1,6 +1,10 @@
-use Rattle.std.proofs.Common.{arith}
+use Rattle.std.proofs.Common.{◌<◌, ◌^◌, ℕ, arith, subst}
+use Rattle.byteorder.specs.Endian.{big_number}
 use Rattle.byteorder.specs.Numbers.{big_from-lt}
 use Rattle.jdwp_wire.proofs.number.take_number.Goals as goal
 
 pub returns-clause-fits : goal.returns-clause-fits
-returns-clause-fits c = let e = c.read_uint-number.ensures in let lt = big_from-lt 0 c.args.width c.args.rest.now (λ i. omega (arith, c.type_inv.rest i)) in rw e lt
+returns-clause-fits c =
+    let e = c.read_uint-number.ensures in
+    let lt = big_from-lt 0 c.args.width c.args.rest.now (λ i. omega (arith, c.type_inv.rest i)) in
+    rw (e, c.bytes-count.ensures.value) lt
