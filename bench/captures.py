@@ -2,8 +2,9 @@
 """How fast the program judges and shows captures, and how much memory that takes.
 
 Makes captures of sessions as inspectors meet them: many short packets (SuspendCount of thread 1), or packets of 60,000 bytes (the replies to
-AllThreads, StringReference.Value and ArrayReference.GetValues in turn); each with one byte a line, or with long lines. Runs `check` and `show` on
-them, and prints MB of text a second (the best of three runs), and the peak of memory in MB and for each byte of text. To reach: with long lines above 200 MB
+AllThreads, StringReference.Value and ArrayReference.GetValues in turn); each with one byte a line, or with long lines; lists of 50,000 bytes
+(the replies to Method.Bytecodes); and commands that all wait, under ids in order and under ids that collide in a hash map of fixed hashing
+(`colliding_ids.c`, where there is a `cc`). Runs `check` and `show` on them, and prints MB of text a second (the best of three runs), and the peak of memory in MB and for each byte of text. To reach: with long lines above 200 MB
 a second for `check` and above 100 for `show`, and memory within a small multiple of the text.
 
     bench/captures.py [PROGRAM] [MB..]
@@ -13,6 +14,7 @@ PROGRAM is crates/jdwp/out/jdwp where none is given (`rt run` in crates/jdwp bui
 
 import itertools
 import os
+import shutil
 import struct
 import subprocess
 import sys
@@ -49,6 +51,29 @@ def large_exchange(number):
     return command(number, (13, 2), struct.pack(">QII", 9, 0, 14_996)), reply(number, b"I" + struct.pack(">I", 14_996) + elements)
 
 
+def bytecodes_exchange(number):
+    code = bytes(i % 256 for i in range(50_000))
+    return command(number, (6, 3), struct.pack(">QQ", 1, 2)), reply(number, struct.pack(">I", len(code)) + code)
+
+
+def waiting_lines(ids):
+    """Commands of which none is answered, in one line each thousand."""
+    yield f"> {HANDSHAKE.hex()}\n< {HANDSHAKE.hex()}\n"
+    ids = iter(ids)
+    while some := list(itertools.islice(ids, 1_000)):
+        yield "> " + "".join(command(number, (1, 8)).hex() for number in some) + "\n"
+
+
+def colliding_ids(folder, count):
+    """Ids that collide in a hash map of fixed hashing; none where they can't be found here."""
+    compiler = shutil.which("cc")
+    if compiler is None:
+        return []
+    finder = os.path.join(folder, "colliding_ids")
+    subprocess.run([compiler, "-O2", "-o", finder, os.path.join(ROOT, "bench", "colliding_ids.c")], check=True)
+    return [int(line) for line in subprocess.run([finder, str(count)], check=True, capture_output=True, text=True).stdout.split()]
+
+
 def exchanges(make):
     yield HANDSHAKE, HANDSHAKE
     yield command(1, (1, 7)), reply(1, SIZES)
@@ -83,12 +108,27 @@ def write_capture(path, make, lines, size):
                 return made
 
 
+def write_lines(path, lines):
+    with open(path, "w") as file:
+        return sum(file.write(text) for text in lines)
+
+
 def run(words):
     """The status, the seconds and the peak of memory in bytes."""
     start = time.perf_counter()
     process = subprocess.Popen(words, stdout=subprocess.DEVNULL)
     _, status, usage = os.wait4(process.pid, 0)
     return status, time.perf_counter() - start, usage.ru_maxrss * 1024
+
+
+def measure(program, path, made, name):
+    for word in ("check", "show"):
+        runs = [run([program, word, path]) for _ in range(3)]
+        if any(status != 0 for status, _, _ in runs):
+            sys.exit(f"{word} of {name}: status {runs[0][0]}")
+        seconds = min(seconds for _, seconds, _ in runs)
+        peak = max(peak for _, _, peak in runs)
+        print(f"{name}: {word} {made / seconds / 1e6:.0f} MB/s, peak {peak / 1e6:.0f} MB, {peak / made:.1f} bytes a byte of text", flush=True)
 
 
 def main():
@@ -103,13 +143,14 @@ def main():
         path = os.path.join(folder, "capture")
         for size, (packet, make), (form, lines) in itertools.product(sizes, packets.items(), forms.items()):
             made = write_capture(path, make, lines, size * 1_000_000)
-            for word in ("check", "show"):
-                runs = [run([program, word, path]) for _ in range(3)]
-                if any(status != 0 for status, _, _ in runs):
-                    sys.exit(f"{word} of {packet}, {form}: status {runs[0][0]}")
-                seconds = min(seconds for _, seconds, _ in runs)
-                peak = max(peak for _, _, peak in runs)
-                print(f"{size} MB, {packet}, {form}: {word} {made / seconds / 1e6:.0f} MB/s, peak {peak / 1e6:.0f} MB, {peak / made:.1f} bytes a byte of text", flush=True)
+            measure(program, path, made, f"{size} MB, {packet}, {form}")
+        made = write_capture(path, bytecodes_exchange, long_lines, sizes[0] * 1_000_000)
+        measure(program, path, made, f"{sizes[0]} MB, lists of bytes")
+        count = 295_000
+        for name, ids in ("in order", range(1, count + 1)), ("that collide", colliding_ids(folder, count)):
+            if ids:
+                made = write_lines(path, waiting_lines(ids))
+                measure(program, path, made, f"commands that wait, ids {name}")
 
 
 if __name__ == "__main__":

@@ -1,5 +1,5 @@
 -- What is kept of the items so far.
-use Rattle.std.specs.Prelude.{◌≡◌, ℕ, ◌||◌, ◌&&◌, List, Bool, Option}
+use Rattle.std.specs.Prelude.{◌≡◌, ℕ, ◌==◌, ◌||◌, ◌&&◌, List, Bool, Option, Some, None, if◌then◌else◌}
 use Rattle.std.specs.BTreeMap.{get}
 use Rattle.std.specs.Ordering.{nat_cmp}
 use Rattle.std.specs.Option.{option_or}
@@ -8,12 +8,20 @@ use Rattle.jdwp_show.specs.declared.capture_fault.CaptureFault.{CaptureFault}
 use Rattle.jdwp_show.specs.declared.found.ItemRef.{ItemRef}
 use Rattle.jdwp_show.specs.declared.pending.Command.{Command}
 use Rattle.jdwp_show.specs.declared.pending.Pending.{Pending}
+use Rattle.jdwp_show.specs.declared.waiting.Waiting.{Waiting}
 use Rattle.jdwp_show.specs.Items.{Item}
 use Rattle.jdwp_show.specs.Rules.{has_begun, waiting, is_debugger, is_handshake, waits_after_found, order_fault, data_fault}
 use Rattle.jdwp_show.specs.Streams.{thing}
 
+abbrev pub last_or : Option (ℕ × Command) → ℕ → Option Command → Option Command
+last_or None id others = others
+last_or (Some last) id others = if last.0 == id then Some last.1 else others
+
+abbrev pub waits_in : Waiting → ℕ → Option Command
+waits_in waiting id = last_or waiting.last id (get nat_cmp waiting.others id)
+
 abbrev pub waiting_in : Pending → ℕ → Option Command
-waiting_in pending id = get nat_cmp pending.commands id
+waiting_in pending id = waits_in pending.commands id
 
 -- it says of these items what the rules ask
 pub record IsPending (pending : Pending) (items : List Item) : Type 0 where

@@ -15,6 +15,7 @@ mod pending;
 mod rules;
 mod showing;
 mod transcript;
+mod waiting;
 
 pub use capture_fault::CaptureFault;
 pub use checking::{Verdict, check};

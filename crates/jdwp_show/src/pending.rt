@@ -3,9 +3,9 @@ ghost use Rattle.std.specs.Prelude.{◌≡◌, ℕ, OnOk, None, false};
 
 use crate::capture_line::Sender;
 use crate::found::{FoundRef, ItemRef};
+use crate::waiting::Waiting;
 use jdwp_wire::{NoMemory, PacketKind};
 use std::alloc::Global;
-use std::collections::BTreeMap;
 
 /// A command of a command set.
 #[derive(Clone, Copy, Debug, PartialEq, Eq)]
@@ -18,7 +18,7 @@ pub(crate) struct Command {
 #[derive(Drop)]
 pub(crate) struct Pending {
     begun: bool,
-    commands: BTreeMap<u32, Command>,
+    commands: Waiting,
 }
 
 impl Pending {
@@ -32,7 +32,7 @@ impl Pending {
     {
         Pending {
             begun: false,
-            commands: BTreeMap::new(alloc),
+            commands: Waiting::new(alloc),
         }
     }
 
@@ -48,7 +48,7 @@ impl Pending {
         ensures { result ≡ under (waiting_in self.now) (thing item.now.found) }
     {
         match item.found {
-            FoundRef::Packet(packet) => self.commands.get(&packet.header.id).copied(),
+            FoundRef::Packet(packet) => self.commands.get(packet.header.id),
             FoundRef::Handshake | FoundRef::Fault(_) => None,
         }
     }
@@ -75,7 +75,7 @@ impl Pending {
                     PacketKind::Reply { error: _ } => match item.sender {
                         Sender::Debugger => {}
                         Sender::Target => {
-                            self.commands.remove(&id);
+                            self.commands.remove(id);
                         }
                     },
                 }
