@@ -212,8 +212,8 @@ message-ends {S = S} s t old new newest turn (Ends ended) turned some which done
           rw (is, d.1.0, d.1.1) (
             λ h. cc,
             λ base start k.
-              let kept : new.end.session.lost ≡ false = p.lost ∙ k.kept in
-              (handled-in-order base start s old new (sent_for old w.0) k p, (disposed (with_taken new.end.outgoing new) ran d.0 kept (omega (arith, p.turns)), d.0, kept)),
+                let kept : new.end.session.lost ≡ false = p.lost ∙ k.kept in
+                (handled-in-order base start s old new (sent_for old w.0) k p, (disposed (with_taken new.end.outgoing new) ran d.0 kept (omega (arith, p.turns)), d.0, kept, k.failed_writes)),
           )
       | inr is ↦
           let f = fails (ap Ends is) in
@@ -260,16 +260,4 @@ memory-next-ends s old new ran opened turned base start k =
     let w = m.0 in
     let next = (front-whole old.end w.0 w.1 w.2).1 in
     let front = front-left CallsForMemory old.end (handled ran.acts) ran.carries opened (w.0, w.1, next, w.3) in
-    rw m.1 (same-in-order base start s old k, (front, (k.opened, k.kept)))
-
--- ---- the last flush
-
--- a flush that failed changes nothing but how many writes did
-pub flush-in-order : {S : Type 0} (base : Endpoint (Moment S)) (start now after : Story) (target new : Endpoint (Moment S)) → InOrder base start now target
-    → after ≡ record now { failed_writes = now.failed_writes + 1 } → (new ≡ target) ⊎ (new ≡ lost target) → InOrder base start after new
-flush-in-order base start now after target new o e (inl same) = rw (e, same) (record {
-  setup = o.setup; began = o.began; read = o.read; written = o.written; whole = λ f. absurd (let le = o.failed_writes in omega arith); failed_writes = let le = o.failed_writes in omega arith;
-})
-flush-in-order base start now after target new o e (inr same) = rw (e, same) (record {
-  setup = o.setup; began = o.began; read = o.read; written = o.written; whole = λ f. absurd (let le = o.failed_writes in omega arith); failed_writes = let le = o.failed_writes in omega arith;
-})
+    rw m.1 (same-in-order base start s old k, (front, (k.opened, k.kept), k.failed_writes))

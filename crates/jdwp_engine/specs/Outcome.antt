@@ -41,13 +41,14 @@ IsKept target = (is_open target.end ≡ true) × (target.end.session.lost ≡ fa
 
 -- Why a session may end so, from the first story to the second, and what the target is then.
 abbrev pub MayEnd : {S : Type 0} → Ended → Story → Story → Endpoint (Moment S) → Type 0
-MayEnd Done start now target = EndsInDispose target.end × (is_open target.end ≡ false) × (target.end.session.lost ≡ false)
+MayEnd Done start now target =
+    EndsInDispose target.end × (is_open target.end ≡ false) × (target.end.session.lost ≡ false) × (now.failed_writes ≡ start.failed_writes)
 MayEnd LostByRead start now target =
     (start.failed_reads + start.ends < now.failed_reads + now.ends) × FrontIs (λ next. next ≡ More) target.end × IsLost target
 MayEnd LostByWrite start now target = (start.failed_writes < now.failed_writes) × IsLost target
 MayEnd (Refused number) start now target = FrontIs (IsFaultOf number) target.end × IsLost target
-MayEnd NoMemory start now target = FrontIs CallsForMemory target.end × IsKept target
-MayEnd TurnLimit start now target = IsKept target
+MayEnd NoMemory start now target = FrontIs CallsForMemory target.end × IsKept target × (now.failed_writes ≡ start.failed_writes)
+MayEnd TurnLimit start now target = IsKept target × (now.failed_writes ≡ start.failed_writes)
 
 -- A round that ends so, in every run that came to it.
 abbrev pub EndsSo : {S : Type 0} → Endpoint (Moment S) → Endpoint (Moment S) → Story → Story → Ended → Type 0

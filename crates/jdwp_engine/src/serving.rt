@@ -1,5 +1,5 @@
 //! The engine that runs a target on a pipe.
-ghost use Rattle.std.specs.Prelude.{◌≡◌, ◌≢◌, ◌⊎◌, ◌<◌, ◌≤◌, ◌+◌, ◌++◌, [], ℕ, List, length, true, false, IsTrue, Unit};
+ghost use Rattle.std.specs.Prelude.{◌≡◌, ◌≢◌, ◌⊎◌, ◌<◌, ◌≤◌, ◌+◌, ◌++◌, [], ℕ, List, length, true, false, IsTrue};
 ghost use Rattle.jdwp_end.specs.Ends.{is_open, room_of};
 ghost use Rattle.jdwp_target.specs.Endpoints.{opened, with_fed, with_taken, lost};
 ghost use Rattle.jdwp_target.specs.Runs.{Ran};
