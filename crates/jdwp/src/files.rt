@@ -4,7 +4,6 @@ ghost use Rattle.jdwp_program.specs.Outputs.{LeavesCaptureTold};
 use crate::words::ServeScript;
 use jdwp_engine::{Ended, Streams};
 use jdwp_program::{Fault, FileCause, Told, check_capture, serve_session, show_capture, text_of};
-use jdwp_target::{Fixed, Target};
 use std::fs;
 use std::fs::OpenFile;
 use std::io::{BufWriter, Write};
@@ -56,9 +55,8 @@ pub fn serve_files<'a, R: Files + AllocGlobal>(
     let Ok(writer) = BufWriter::new(rt.alloc(), file) else {
         return Err(Fault::NoMemory);
     };
-    let mut target = Target::new(rt.alloc(), Fixed, words.options)?;
     let mut pipe = Streams::new(reader, writer);
-    Ok(serve_session(&mut target, &mut pipe, u64::from(words.turns)))
+    Ok(serve_session(rt.alloc(), words.options, &mut pipe, words.turns)?)
 }
 
 /// The bytes of a file.

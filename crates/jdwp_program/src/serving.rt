@@ -1,33 +1,33 @@
 //! Sessions served over any reader and writer.
-ghost use Rattle.std.specs.Prelude.{◌≡◌, ◌⊎◌, ◌+◌, ◌≤◌, true, false};
-ghost use Rattle.jdwp_target.specs.Endpoint.{is_closed};
-ghost use Rattle.jdwp_target.specs.Runs.{Ran};
-ghost use Rattle.jdwp_engine.specs.Outcome.{MayEnd};
-ghost use Rattle.jdwp_engine.specs.Run.{InOrder, effort};
+ghost use Rattle.std.specs.Prelude.{◌≡◌, IfOk, OnErr};
 ghost use Rattle.jdwp_engine.specs.Streams.{story_of};
+ghost use Rattle.jdwp_program.specs.Serving.{ServesNew};
 
 use jdwp_engine::{Ended, Streams, serve};
-use jdwp_target::Target;
+use jdwp_target::{Fixed, Target, TargetOptions};
+use jdwp_wire::NoMemory;
+use std::alloc::Global;
 use std::io::{Read, Write};
 
-/// Serves one session of the target for at most so many rounds, as `serve` does, and flushes the writer: where that fails, the
-/// connection is lost by a write.
+/// Serves one session of a new target over the fixed machine for at most so many rounds, as `serve` does, and flushes the writer: where
+/// that fails, the connection is lost by a write.
+///
+/// # Errors
+/// `NoMemory`, and then nothing was read or written.
 pub fn serve_session<R: Read, W: Write>(
-    target: &mut Target,
+    alloc: Global,
+    options: TargetOptions,
     pipe: &mut Streams<R, W>,
-    rounds: u64,
-) -> Ended
-    requires closed { is_closed target.old.phase ≡ true }
-    ensures dead { target.old.state.alive ≡ false → ((result ≡ Ended.Done) ⊎ (result ≡ Ended.LostByWrite)) × (target.new ≡ target.old) × (story_of pipe.new ≡ story_of pipe.old) }
-    ensures in_order { target.old.state.alive ≡ true → InOrder target.old (story_of pipe.old) (story_of pipe.new) target.new }
-    ensures ended { target.old.state.alive ≡ true → (result ≡ Ended.LostByWrite) ⊎ MayEnd result (story_of pipe.old) (story_of pipe.new) target.new }
-    ensures limit { result ≡ Ended.TurnLimit → rounds + (story_of pipe.old).rooms ≤ effort (story_of pipe.new) target.new }
-    ensures ran { Ran target.new }
+    rounds: u32,
+) -> Result<Ended, NoMemory>
+    ensures served { IfOk result (ServesNew options rounds (story_of pipe.old) (story_of pipe.new)) }
+    ensures memory { OnErr result (pipe.new ≡ pipe.old) }
 {
-    let ended = serve(target, pipe, rounds);
-    if pipe.flush().is_ok() {
+    let mut target = Target::new(alloc, Fixed, options)?;
+    let ended = serve(&mut target, pipe, u64::from(rounds));
+    Ok(if pipe.flush().is_ok() {
         ended
     } else {
         Ended::LostByWrite
-    }
+    })
 }

@@ -1,13 +1,10 @@
 //! What is told, and sessions, on readers and writers in memory.
-ghost use Rattle.std.specs.Prelude.{◌≡◌, IfOk, true};
-ghost use Rattle.jdwp_target.specs.Endpoint.{is_closed};
-
 use crate::{
     Fault, FileCause, Outcome, TellFault, Told, check_capture, decimal, is_all, report_fault,
     report_outcome, serve_session, show_capture, text_of,
 };
 use jdwp_engine::{Ended, Streams};
-use jdwp_target::{Fixed, Target, TargetOptions};
+use jdwp_target::TargetOptions;
 use std::alloc::Global;
 use std::io;
 use std::io::{ErrorKind, Write};
@@ -360,33 +357,21 @@ const ANSWERS: [u8; 111] = [
     0x00, 0x00, 0x00, 0x0b, 0x00, 0x00, 0x00, 0x04, 0x80, 0x00, 0x00, //
 ];
 
-fn closed_target(alloc: Global) -> Result<Target, Fail>
-    ensures { IfOk result (λ t. is_closed t.phase ≡ true) }
-{
-    let Some(options) = TargetOptions::new(false, 65535) else {
-        return Err(Fail::from("the count limit is in range"));
-    };
-    let Ok(target) = Target::new(alloc, Fixed, options) else {
-        return Err(Fail::from("memory is ample"));
-    };
-    Ok(target)
-}
-
 #[test]
 fn a_session_is_served(rt: HostRuntime) -> Result<(), Fail> {
     let alloc = rt.alloc();
-    let rows: [(&[u8], u64, bool, Ended, usize); 4] = [
+    let options = TargetOptions::new(false, 65535).ok_or("a count limit")?;
+    let rows: [(&[u8], u32, bool, Ended, usize); 4] = [
         (&SESSION, 6, false, Ended::Done, 111),
         (&SESSION, 5, false, Ended::TurnLimit, 100),
         (&SESSION[..65], 9, false, Ended::LostByRead, 100),
         (&SESSION, 6, true, Ended::LostByWrite, 0),
     ];
     for (input, rounds, flush_fails, want, written) in rows {
-        let mut target = closed_target(alloc)?;
         let mut writer = Output::new(alloc, 1000, 0, ErrorKind::Other);
         writer.flush_fails = flush_fails;
         let mut pipe = Streams::new(input, writer);
-        let ended = serve_session(&mut target, &mut pipe, rounds);
+        let ended = serve_session(alloc, options, &mut pipe, rounds)?;
         let (_, writer) = pipe.into_parts();
         assert_eq!(rt; ended, want);
         assert!(rt; ANSWERS.starts_with(writer.bytes.as_slice()));
