@@ -2,6 +2,7 @@
 //! all of them.
 #![tactic(auto)]
 
+mod answer;
 mod array_and_loader;
 mod class_and_method;
 mod command;
@@ -22,6 +23,7 @@ mod validation;
 mod virtual_machine;
 mod writing;
 
+pub use answer::{Answer, Data};
 pub use command::{CommandRow, Layouts, layout_of};
 pub use datum::{Datum, Scalar};
 pub use item::{Entry, Field, Item, Layout, fields_of_event, fields_of_modifier};

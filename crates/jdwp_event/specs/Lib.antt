@@ -1,0 +1,2 @@
+pub mod EventKinds
+pub mod Occurrences
