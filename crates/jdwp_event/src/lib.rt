@@ -3,9 +3,13 @@
 
 mod happening;
 mod kind;
+mod modifier;
+mod policy;
 
 pub use happening::{ClassSeen, Happening, Occurrence, Place, PreparedClass, ThrownException};
 pub use kind::EventKind;
+pub use modifier::Modifier;
+pub use policy::{Policy, StepDepth, StepSize};
 
 #[cfg(test)]
 mod tests;

@@ -1,0 +1,24 @@
+-- What modifiers in memory say.
+use Rattle.std.specs.Prelude.{Option, Some, None}
+use Rattle.std.specs.String.{string_bytes}
+use Rattle.jdwp_event.specs.declared.modifier.Modifier.{Modifier}
+use Rattle.jdwp_event.specs.declared.modifier.Modifier.TheVariants as modifier
+use Rattle.jdwp_event.specs.Modifiers.{ModifierMeaning, Count, Conditional, ThreadOnly, ClassOnly, ClassMatch, ClassExclude, LocationOnly, ExceptionOnly, FieldOnly, Step, InstanceOnly, SourceNameMatch}
+
+abbrev pub modifier_meaning : Modifier → ModifierMeaning
+modifier_meaning (modifier.Count n) = Count n
+modifier_meaning (modifier.Conditional n) = Conditional n
+modifier_meaning (modifier.ThreadOnly t) = ThreadOnly t.0
+modifier_meaning (modifier.ClassOnly c) = ClassOnly c.0
+modifier_meaning (modifier.ClassMatch p) = ClassMatch (string_bytes p)
+modifier_meaning (modifier.ClassExclude p) = ClassExclude (string_bytes p)
+modifier_meaning (modifier.LocationOnly l) = LocationOnly l
+modifier_meaning (modifier.ExceptionOnly c caught uncaught) = ExceptionOnly c.0 caught uncaught
+modifier_meaning (modifier.FieldOnly c f) = FieldOnly c.0 f.0
+modifier_meaning (modifier.Step t size depth) = Step t.0 size depth
+modifier_meaning (modifier.InstanceOnly o) = InstanceOnly o.0
+modifier_meaning (modifier.SourceNameMatch p) = SourceNameMatch (string_bytes p)
+
+abbrev pub found_modifier : Option Modifier → Option ModifierMeaning
+found_modifier None = None
+found_modifier (Some m) = Some (modifier_meaning m)
