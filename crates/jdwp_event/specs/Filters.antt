@@ -65,14 +65,6 @@ thrown_of RanOut = None
 abbrev pub dotted : ℕ → ℕ
 dotted byte = if byte == 47 then 46 else byte
 
--- the name in a signature: without the `L` and the `;` where it begins with `L`
-abbrev pub bare_name : List ℕ → List ℕ
-bare_name [] = []
-bare_name (first ∷ rest) = if first == 76 then take (length rest - 1) rest else (first ∷ rest)
-
-abbrev pub class_name : List ℕ → List ℕ
-class_name signature = map dotted (bare_name signature)
-
 abbrev pub begins_in : List ℕ → List ℕ → Bool
 begins_in front name = bytes_eq (take (length front) name) front
 
@@ -82,6 +74,17 @@ ends_in back name = nat_le (length back) (length name) && bytes_eq (drop (length
 -- whether a list ends with `*`
 abbrev pub ends_with_star : List ℕ → Bool
 ends_with_star text = ends_in (42 ∷ []) text
+
+abbrev pub ends_with_semicolon : List ℕ → Bool
+ends_with_semicolon text = ends_in (59 ∷ []) text
+
+-- the name in a signature: where it begins with `L`, without that and the `;` at its end
+abbrev pub bare_name : List ℕ → List ℕ
+bare_name [] = []
+bare_name (first ∷ rest) = if first == 76 then (if ends_with_semicolon rest then take (length rest - 1) rest else rest) else (first ∷ rest)
+
+abbrev pub class_name : List ℕ → List ℕ
+class_name signature = map dotted (bare_name signature)
 
 -- `*x` fits names that end in x; `x*` names that begin with x; another fits an equal name
 abbrev pub fits_plain : List ℕ → List ℕ → Bool

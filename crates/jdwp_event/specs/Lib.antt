@@ -5,4 +5,5 @@ pub mod Modifiers
 pub mod ModifierMeanings
 pub mod Requests
 pub mod Filters
+pub mod RequestParts
 pub mod Composites

@@ -22,3 +22,17 @@ modifier_meaning (modifier.SourceNameMatch p) = SourceNameMatch (string_bytes p)
 abbrev pub found_modifier : Option Modifier → Option ModifierMeaning
 found_modifier None = None
 found_modifier (Some m) = Some (modifier_meaning m)
+
+abbrev pub IsNoCount : ModifierMeaning → Type 0
+IsNoCount (Count n) = ⊥
+IsNoCount (Conditional n) = Unit {0}
+IsNoCount (ThreadOnly t) = Unit {0}
+IsNoCount (ClassOnly c) = Unit {0}
+IsNoCount (ClassMatch p) = Unit {0}
+IsNoCount (ClassExclude p) = Unit {0}
+IsNoCount (LocationOnly l) = Unit {0}
+IsNoCount (ExceptionOnly c caught uncaught) = Unit {0}
+IsNoCount (FieldOnly c f) = Unit {0}
+IsNoCount (Step t size depth) = Unit {0}
+IsNoCount (InstanceOnly o) = Unit {0}
+IsNoCount (SourceNameMatch p) = Unit {0}
