@@ -4,6 +4,7 @@ pub mod Occurrences
 pub mod Modifiers
 pub mod ModifierMeanings
 pub mod Requests
+pub mod RequestLists
 pub mod Filters
 pub mod RequestParts
 pub mod Composites

@@ -1,5 +1,6 @@
 -- What modifiers in memory say.
 use Rattle.std.specs.Prelude.{Option, Some, None}
+use Rattle.std.specs.Borrow.{Bor}
 use Rattle.std.specs.String.{string_bytes}
 use Rattle.jdwp_event.specs.declared.modifier.Modifier.{Modifier}
 use Rattle.jdwp_event.specs.declared.modifier.Modifier.TheVariants as modifier
@@ -22,6 +23,10 @@ modifier_meaning (modifier.SourceNameMatch p) = SourceNameMatch (string_bytes p)
 abbrev pub found_modifier : Option Modifier → Option ModifierMeaning
 found_modifier None = None
 found_modifier (Some m) = Some (modifier_meaning m)
+
+abbrev pub found_modifier_behind : Option (Bor Modifier) → Option ModifierMeaning
+found_modifier_behind None = None
+found_modifier_behind (Some m) = Some (modifier_meaning m.now)
 
 abbrev pub IsNoCount : ModifierMeaning → Type 0
 IsNoCount (Count n) = ⊥

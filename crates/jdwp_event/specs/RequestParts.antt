@@ -1,5 +1,5 @@
 -- What requests in memory say.
-use Rattle.std.specs.Prelude.{ℕ, ℤ, pos, negsuc, ◌+◌, ◌-◌, Bool, false, ◌&&◌, List, map, Option, Some, None}
+use Rattle.std.specs.Prelude.{ℕ, ℤ, pos, negsuc, ◌+◌, ◌-◌, zero, suc, Bool, false, ◌&&◌, List, [], ◌∷◌, map, Option, Some, None, if◌then◌else◌}
 use Rattle.std.specs.Borrow.{Bor}
 use Rattle.std.specs.Global.{Vec}
 use Rattle.jdwp_event.specs.declared.modifier.Modifier.{Modifier}
@@ -58,6 +58,17 @@ asked_modifiers limits = map (λ (l : LimitMeaning). l.modifier) limits
 
 abbrev pub times_reached : List LimitMeaning → List ℕ
 times_reached limits = map (λ (l : LimitMeaning). l.reached) limits
+
+-- what a happening leaves of them: each that it reaches is counted
+abbrev pub limits_after : Origin → HappeningMeaning → List LimitMeaning → List LimitMeaning
+limits_after origin h [] = []
+limits_after origin h (l ∷ ls) = limit_counted l ∷ (if limit_passes origin h l then limits_after origin h ls else ls)
+
+-- the modifier at a place, counted from 0
+abbrev pub modifier_at : List ModifierMeaning → ℕ → Option ModifierMeaning
+modifier_at [] place = None
+modifier_at (m ∷ ms) zero = Some m
+modifier_at (m ∷ ms) (suc place) = modifier_at ms place
 
 -- ---- what a happening shows
 

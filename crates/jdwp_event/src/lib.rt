@@ -1,6 +1,7 @@
 //! Events of the Java Debug Wire Protocol: their kinds, and what happens at a step of a thread, as event requests see it.
 #![tactic(auto)]
 
+mod event;
 mod filter;
 mod happening;
 mod kind;
@@ -8,12 +9,15 @@ mod modifier;
 mod pattern;
 mod policy;
 mod request;
+mod requests;
 
+pub use event::{Composite, Event, gather};
 pub use happening::{ClassSeen, Happening, Occurrence, Place, PreparedClass, ThrownException};
 pub use kind::EventKind;
 pub use modifier::Modifier;
 pub use policy::{Policy, StepDepth, StepSize};
-pub use request::StepOrigin;
+pub use request::{Request, StepOrigin, matches};
+pub use requests::{Requests, count_down};
 
 #[cfg(test)]
 mod tests;
