@@ -1,5 +1,6 @@
 pub mod ModifiersAndEvents
 pub mod Shapes
+pub mod CommandNumbers
 pub mod Rows
 pub mod CommandTable
 pub mod Meanings

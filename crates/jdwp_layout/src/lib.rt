@@ -2,6 +2,7 @@
 //! all of them.
 #![tactic(auto)]
 
+mod answer;
 mod command;
 mod command_sets;
 #[cfg(test)]
@@ -17,6 +18,7 @@ mod table_tests;
 mod validation;
 mod writing;
 
+pub use answer::{Answer, Data};
 pub use command::{CommandRow, Layouts, layout_of};
 pub use datum::{Datum, Scalar};
 pub use item::{Entry, Field, Item, Layout, fields_of_event, fields_of_modifier};

@@ -1,0 +1,75 @@
+-- What commands that change nothing are answered (JDWP specification, "Protocol Details").
+use Rattle.std.specs.Prelude.{ℕ, ℤ, pos, ◌+◌, ◌==◌, nat_le, Bool, true, false, List, [], ◌∷◌, map, length, Option, Some, None, if◌then◌else◌}
+use Rattle.jdwp_wire.specs.declared.error_code.ErrorCode.{ErrorCode}
+use Rattle.jdwp_wire.specs.ErrorCodes.{INVALID_THREAD, THREAD_NOT_SUSPENDED, INTERNAL}
+use Rattle.jdwp_wire.specs.Widths.{Widths}
+use Rattle.jdwp_layout.specs.declared.answer.Answer.{Answer}
+use Rattle.jdwp_layout.specs.declared.answer.Answer.TheVariants.{Data, Error}
+use Rattle.jdwp_layout.specs.Meanings.{ScalarMeaning, Int, Object, DatumMeaning, One, Many}
+use Rattle.jdwp_layout.specs.Writes.{data_canonical}
+use Rattle.jdwp_machine.specs.declared.query.Query.{Query}
+use Rattle.jdwp_machine.specs.Meanings.{Meaning}
+use Rattle.jdwp_debuggee.specs.Settings.{Settings}
+use Rattle.jdwp_debuggee.specs.State.{Thread, State, ids}
+use Rattle.jdwp_debuggee.specs.Actions.{Carried, Content, Raw, Command}
+
+-- an answer with no data, and one with an int
+abbrev pub done : Answer
+done = Data []
+
+abbrev pub int_answer : ℕ → Answer
+int_answer n = Data (One (Int (pos n)) ∷ [])
+
+-- ---- by rising id
+
+abbrev pub inserted : ℕ → List ℕ → List ℕ
+inserted n [] = n ∷ []
+inserted n (x ∷ xs) = if nat_le n x then n ∷ x ∷ xs else x ∷ inserted n xs
+
+abbrev pub rising : List ℕ → List ℕ
+rising [] = []
+rising (n ∷ ns) = inserted n (rising ns)
+
+-- the live thread of least id
+abbrev pub first_of : List ℕ → ℕ
+first_of [] = 0
+first_of (n ∷ ns) = n
+
+abbrev pub least_thread : State → ℕ
+least_thread state = first_of (rising (ids state.threads))
+
+-- ---- answers by the state
+
+abbrev pub all_threads : State → Answer
+all_threads state = Data (Many (map (λ (t : ℕ). Object t ∷ []) (rising (ids state.threads))) ∷ [])
+
+-- field, method, object, reference type and frame
+abbrev pub sizes_answer : Widths → Answer
+sizes_answer w = Data (One (Int (pos w.field)) ∷ One (Int (pos w.method)) ∷ One (Int (pos w.object)) ∷ One (Int (pos w.reference)) ∷ One (Int (pos w.frame)) ∷ [])
+
+-- a live thread is running (1), and suspended (1) or not
+abbrev pub status_answer : ℕ → Answer
+status_answer count = Data (One (Int (pos 1)) ∷ One (Int (pos (if count == 0 then 0 else 1))) ∷ [])
+
+-- ---- answers by the machine
+
+abbrev pub content_of : Carried → List DatumMeaning
+content_of (Content items) = items
+content_of (Raw bytes) = []
+
+abbrev pub query_of : Command → Query
+query_of c = record { set = c.set; number = c.number; content = content_of c.carried }
+
+-- a question about a live thread's frames, by its suspend count
+abbrev pub frames_answer : {S : Type 0} → Meaning S → S → Command → ℕ → Answer
+frames_answer m s c count = if count == 0 then Error THREAD_NOT_SUSPENDED else m.query s (query_of c)
+
+-- ---- answers that are too long
+
+-- a packet has 11 bytes before its data
+abbrev pub fits_packet : Settings → Widths → List DatumMeaning → Bool
+fits_packet settings w content = nat_le (11 + length (data_canonical w content)) settings.limits.packet
+
+abbrev pub bounded : Settings → Widths → Answer → Answer
+bounded settings w (Data content) = if fits_packet settings w content then Data content else Error INTERNAL
+bounded settings w (Error e) = Error e

@@ -1,0 +1,9 @@
+pub mod Settings
+pub mod State
+pub mod Actions
+pub mod Origins
+pub mod Refusals
+pub mod Answers
+pub mod Effects
+pub mod Steps
+pub mod Breadth

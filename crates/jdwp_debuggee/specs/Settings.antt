@@ -1,0 +1,9 @@
+-- What a debuggee is made with, and never changes.
+use Rattle.std.specs.Prelude.{ℕ, Bool}
+use Rattle.jdwp_wire.specs.Limits.{Limits}
+
+-- Whether all threads begin suspended, the greatest suspend count that a Suspend gives, and how much a session may hold.
+pub record Settings : Type 0 where
+  pub start_all : Bool
+  pub count_limit : ℕ
+  pub limits : Limits

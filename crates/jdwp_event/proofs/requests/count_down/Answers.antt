@@ -1,0 +1,13 @@
+use Rattle.std.proofs.Common.{◌≡◌, ◌∙◌, sym, ap, subst, List, length, arith}
+use Rattle.std.proofs.lemmas.List.{with_items_is}
+use Rattle.jdwp_event.specs.Requests.{Request}
+use Rattle.jdwp_event.specs.Filters.{all_counted}
+use Rattle.jdwp_event.specs.RequestLists.{AreRising}
+use Rattle.jdwp_event.proofs.Rising.{counted_rising}
+use Rattle.jdwp_event.proofs.requests.count_down.Goals as goal
+
+pub invariant_of-requests : goal.invariant_of-requests
+invariant_of-requests c =
+    let n : length c.count_each.new.entries ≡ c.requests.inside.entries.len = omega arith in
+    let e = rw c.deref_mut.ensures.value at c.count_each.ensures in
+    subst (λ (xs : List Request). AreRising xs) (sym (with_items_is c.requests.inside.entries c.count_each.new.entries n ∙ e)) (counted_rising c.args.happening.now c.requests.inside.entries.items c.requests.invariant)

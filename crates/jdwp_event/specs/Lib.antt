@@ -1,0 +1,10 @@
+pub mod EventKinds
+pub mod Constants
+pub mod Occurrences
+pub mod Modifiers
+pub mod ModifierMeanings
+pub mod Requests
+pub mod RequestLists
+pub mod Filters
+pub mod RequestParts
+pub mod Composites

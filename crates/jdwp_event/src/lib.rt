@@ -1,0 +1,23 @@
+//! Events of the Java Debug Wire Protocol: their kinds, and what happens at a step of a thread, as event requests see it.
+#![tactic(auto)]
+
+mod event;
+mod filter;
+mod happening;
+mod kind;
+mod modifier;
+mod pattern;
+mod policy;
+mod request;
+mod requests;
+
+pub use event::{Composite, Event, gather};
+pub use happening::{ClassSeen, Happening, Occurrence, Place, PreparedClass, ThrownException};
+pub use kind::EventKind;
+pub use modifier::Modifier;
+pub use policy::{Policy, StepDepth, StepSize};
+pub use request::{Request, StepOrigin, matches};
+pub use requests::{Requests, count_down};
+
+#[cfg(test)]
+mod tests;

@@ -1,0 +1,236 @@
+//! Event requests: what was asked for, and what has become of it (JDWP specification, "Protocol Details": the set EventRequest).
+ghost use Rattle.std.specs.Prelude.{◌≡◌, ◌≤◌, ◌<◌, length, IfOk};
+ghost use Rattle.jdwp_event.specs.ModifierMeanings.{modifier_meaning, found_modifier_behind};
+ghost use Rattle.jdwp_event.specs.RequestParts.{origin_meaning, modifiers_meaning, new_limit, limit_passes, limit_counted, limits_after, asked_modifiers, times_reached, modifier_at};
+ghost use Rattle.jdwp_event.specs.Requests.{new_request};
+ghost use Rattle.jdwp_event.specs.Filters.{passes_all, passes, counted};
+
+use crate::filter;
+use crate::happening::Happening;
+use crate::modifier::Modifier;
+use jdwp_wire::NoMemory;
+use std::alloc::Global;
+use std::marker::Model;
+use trace::Trace;
+
+/// From where the steps of a request are measured: where a thread was.
+#[derive(Clone, Copy, Debug, PartialEq, Eq)]
+pub struct StepOrigin {
+    /// How many frames it had.
+    pub frames: u32,
+    /// The line of its place, where one is known.
+    pub line: Option<u32>,
+}
+
+/// A modifier of a request, and how often it was reached. What is kept of that is how many reachings a Count is still away
+/// from its last.
+#[derive(Drop)]
+struct Limit {
+    modifier: Modifier,
+    left: u32,
+    reached: Trace<()>,
+}
+
+impl Model for Limit {
+    ghost use Rattle.std.specs.Prelude.{◌≡◌, length};
+    ghost use Rattle.jdwp_event.specs.ModifierMeanings.{modifier_meaning};
+    ghost use Rattle.jdwp_event.specs.RequestParts.{LimitMeaning, left_of};
+
+    ghost Value = { LimitMeaning };
+
+    ghost view = { λ l. record { modifier = modifier_meaning l.modifier; reached = length l.reached.items } };
+
+    ghost invariant = { λ l. l.left ≡ left_of (modifier_meaning l.modifier) (length l.reached.items) };
+}
+
+impl Limit {
+    /// A modifier that was not reached yet.
+    fn new(modifier: Modifier) -> Limit
+        ensures { result ≡ new_limit (modifier_meaning modifier) }
+    {
+        let left = match &modifier {
+            Modifier::Count(count) => u32::try_from(*count).unwrap_or(0),
+            _ => 0,
+        };
+        Limit {
+            modifier,
+            left,
+            reached: Trace::new(),
+        }
+    }
+
+    /// Whether the happening passes it, this time.
+    fn passes(&self, origin: StepOrigin, happening: &Happening) -> bool
+        ensures { result ≡ limit_passes (origin_meaning origin) happening.now self.now }
+    {
+        match &self.modifier {
+            Modifier::Count(_) => self.left == 1,
+            other => filter::passes(other, origin, happening),
+        }
+    }
+
+    /// It was reached once more.
+    fn reach(&mut self)
+        ensures { self.new ≡ limit_counted self.old }
+    {
+        self.left = self.left.saturating_sub(1);
+        self.reached.push(&());
+    }
+}
+
+/// Whether the happening passes all modifiers, in order.
+fn passes_limits(limits: &[Limit], origin: StepOrigin, happening: &Happening) -> bool
+    ensures { result ≡ passes_all (origin_meaning origin) happening.now (asked_modifiers limits.now) (times_reached limits.now) }
+{
+    for limit in limits {
+        if !limit.passes(origin, happening) {
+            return false;
+        }
+    }
+    true
+}
+
+/// Counts each modifier that the happening reaches, and answers whether it passes all.
+fn count_limits(limits: &mut [Limit], origin: StepOrigin, happening: &Happening) -> bool
+    ensures passed { result ≡ passes_all (origin_meaning origin) happening.now (asked_modifiers limits.old) (times_reached limits.old) }
+    ensures reached { limits.new ≡ limits_after (origin_meaning origin) happening.now limits.old }
+{
+    for limit in limits.iter_mut() {
+        let passes = limit.passes(origin, happening);
+        limit.reach();
+        if !passes {
+            return false;
+        }
+    }
+    true
+}
+
+/// What was asked for under an id, how often each of its modifiers was reached, and from where its steps are measured.
+///
+/// The kind and the policy are kept as the bytes that were sent, since a peer may have taken others than the specification's.
+#[derive(Drop)]
+pub struct Request {
+    id: u32,
+    kind: u8,
+    policy: u8,
+    limits: Vec<Limit>,
+    origin: StepOrigin,
+}
+
+impl Model for Request {
+    ghost use Rattle.std.specs.Prelude.{◌≤◌};
+    ghost use Rattle.jdwp_event.specs.Requests.{Request};
+    ghost use Rattle.jdwp_event.specs.RequestParts.{origin_meaning, asked_modifiers, times_reached};
+
+    ghost Value = { Request };
+
+    ghost view = { λ r. record {
+      asked = record { id = r.id; kind = r.kind; policy = r.policy; modifiers = asked_modifiers r.limits.items };
+      reached = times_reached r.limits.items;
+      origin = origin_meaning r.origin;
+    } };
+
+    ghost invariant = { λ r. r.id ≤ 2147483647 };
+}
+
+impl Request {
+    /// A request that nothing has reached yet. Its id is an int on the wire.
+    ///
+    /// # Errors
+    /// `NoMemory` where an allocation was refused.
+    pub fn new(
+        alloc: Global,
+        id: u32,
+        kind: u8,
+        policy: u8,
+        modifiers: Vec<Modifier>,
+        origin: StepOrigin,
+    ) -> Result<Request, NoMemory>
+        requires { id ≤ 2147483647 }
+        ensures { IfOk result (λ r. r ≡ new_request (record { id = id; kind = kind; policy = policy; modifiers = modifiers_meaning modifiers }) (origin_meaning origin)) }
+    {
+        let mut limits = Vec::new(alloc);
+        for modifier in modifiers {
+            limits.push(Limit::new(modifier))?;
+        }
+        Ok(Request {
+            id,
+            kind,
+            policy,
+            limits,
+            origin,
+        })
+    }
+
+    /// The id, 0 to 2,147,483,647.
+    pub fn id(&self) -> u32
+        ensures is { result ≡ self.now.asked.id }
+        ensures within { result ≤ 2147483647 }
+    {
+        self.id
+    }
+
+    /// The byte of the event kind.
+    pub fn kind(&self) -> u8
+        ensures { result ≡ self.now.asked.kind }
+    {
+        self.kind
+    }
+
+    /// The byte of the suspend policy.
+    pub fn policy(&self) -> u8
+        ensures { result ≡ self.now.asked.policy }
+    {
+        self.policy
+    }
+
+    /// The number of modifiers.
+    pub fn modifier_count(&self) -> usize
+        ensures { result ≡ length self.now.asked.modifiers }
+    {
+        self.limits.len()
+    }
+
+    /// The modifier at this place in the order sent, counted from 0; None past the last.
+    pub fn modifier(&self, place: usize) -> Option<&Modifier>
+        ensures { found_modifier_behind result ≡ modifier_at self.now.asked.modifiers place }
+    {
+        match self.limits.get(place) {
+            Some(limit) => Some(&limit.modifier),
+            None => None,
+        }
+    }
+
+    /// From where its steps are measured.
+    pub fn origin(&self) -> StepOrigin
+        ensures { origin_meaning result ≡ self.now.origin }
+    {
+        self.origin
+    }
+
+    /// Counts a happening: where the kinds agree, each modifier that is reached, and a new origin where all pass.
+    pub(crate) fn count(&mut self, happening: &Happening)
+        ensures { self.new ≡ counted happening.now self.old }
+    {
+        let occurrence = happening.occurrence();
+        if filter::is_kind(occurrence, self.kind)
+            && count_limits(&mut self.limits, self.origin, happening)
+        {
+            if let Some(place) = filter::place_seen(occurrence) {
+                self.origin = StepOrigin {
+                    frames: place.frames,
+                    line: place.line,
+                };
+            }
+        }
+    }
+}
+
+/// Whether the request reports the happening: the kinds agree, and it passes each modifier in the order sent.
+/// A Count passes exactly at its n-th reaching.
+pub fn matches(request: &Request, happening: &Happening) -> bool
+    ensures { result ≡ passes happening.now request.now }
+{
+    filter::is_kind(happening.occurrence(), request.kind)
+        && passes_limits(&request.limits, request.origin, happening)
+}

@@ -1,0 +1,58 @@
+//! What a command is answered.
+ghost use Rattle.std.specs.Prelude.{◌≡◌};
+ghost use Rattle.jdwp_layout.specs.Meanings.{meanings};
+
+use crate::datum::Datum;
+use jdwp_wire::ErrorCode;
+use std::marker::Model;
+
+/// The data of a packet: what its row's layout says, item by item. Contracts see what they say, apart from where they
+/// lie in memory.
+#[derive(Drop)]
+pub struct Data {
+    items: Vec<Datum>,
+}
+
+impl Model for Data {
+    ghost use Rattle.std.specs.Prelude.{List};
+    ghost use Rattle.jdwp_layout.specs.Meanings.{DatumMeaning};
+
+    ghost Value = { List DatumMeaning };
+
+    ghost use Rattle.jdwp_layout.specs.Meanings.{meanings};
+
+    ghost view = { λ d. meanings d.items.items };
+}
+
+impl Data {
+    /// These items.
+    pub fn new(items: Vec<Datum>) -> Data
+        ensures { result ≡ meanings items.items }
+    {
+        Data { items }
+    }
+
+    /// The items, in order.
+    pub fn items(&self) -> &[Datum]
+        ensures { meanings result.now ≡ self.now }
+    {
+        self.items.as_slice()
+    }
+
+    /// The items themselves.
+    pub fn into_items(self) -> Vec<Datum>
+        ensures { meanings result.items ≡ self }
+    {
+        self.items
+    }
+}
+
+/// What a command is answered: data in the layout of its row's reply, or an error, which has no data
+/// (JDWP specification, "Packets": a reply's error code and data).
+#[derive(Drop)]
+pub enum Answer {
+    /// The command succeeded.
+    Data(Data),
+    /// The error code, not 0.
+    Error(ErrorCode),
+}

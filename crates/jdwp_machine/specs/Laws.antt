@@ -1,0 +1,118 @@
+-- What every machine keeps.
+use Rattle.std.specs.Prelude.{◌≡◌, ◌≢◌, ℕ, ℤ, ◌≤◌, Bool, true, false, ◌==◌, ◌||◌, ◌&&◌, not, List, [], ◌∷◌, length, Option, Some, None}
+use Rattle.std.specs.List.{IsDistinct}
+use Rattle.jdwp_wire.specs.declared.error_code.ErrorCode.{ErrorCode}
+use Rattle.jdwp_value.specs.declared.value.Value.{Value}
+use Rattle.jdwp_layout.specs.declared.answer.Answer.{Answer}
+use Rattle.jdwp_layout.specs.declared.answer.Answer.TheVariants.{Data, Error}
+use Rattle.jdwp_layout.specs.CommandNumbers.{is_command, FRAMES, FRAME_COUNT, GET_SLOTS, THIS_OBJECT}
+use Rattle.jdwp_layout.specs.CommandTable.{row_at}
+use Rattle.jdwp_layout.specs.Rows.{Row, RowShapes}
+use Rattle.jdwp_layout.specs.Writes.{data_refusal}
+use Rattle.jdwp_layout.specs.Meanings.{ScalarMeaning, Object, DatumMeaning, One}
+use Rattle.jdwp_event.specs.Occurrences.{HappeningMeaning, OccurrenceMeaning, Moved, Entered, Left, Threw, Prepared, Started, RanOut, ClassMeaning, started, runs_out}
+use Rattle.jdwp_machine.specs.declared.query.Query.{Query}
+use Rattle.jdwp_machine.specs.Meanings.{Meaning, has}
+
+-- ---- words of the laws
+
+-- no thread stands twice
+abbrev pub AreDistinct : List ℕ → Type 0
+AreDistinct = IsDistinct (λ (a b : ℕ). a == b)
+
+-- whether a thread is the one that is named
+abbrev pub is_named : Option ℕ → ℕ → Bool
+is_named None thread = false
+is_named (Some named) thread = named == thread
+
+-- whether data begin with this object
+abbrev pub begins_with : List DatumMeaning → ℕ → Bool
+begins_with (One (Object n) ∷ items) object = n == object
+begins_with items object = false
+
+-- a question about a thread's frames: where they are, how many, their slots, their `this`
+abbrev pub asks_places : Query → ℕ → Bool
+asks_places q thread =
+    begins_with q.content thread
+    && (is_command FRAMES q.set q.number || (is_command FRAME_COUNT q.set q.number || is_command THIS_OBJECT q.set q.number))
+
+abbrev pub asks_slots : Query → ℕ → Bool
+asks_slots q thread = begins_with q.content thread && is_command GET_SLOTS q.set q.number
+
+abbrev pub asks_frames : Query → ℕ → Bool
+asks_frames q thread = asks_places q thread || asks_slots q thread
+
+-- data in the layout of a row's reply, whose ids fit
+abbrev pub FitsShapes : {S : Type 0} → Meaning S → S → Option RowShapes → List DatumMeaning → Type 0
+FitsShapes m s None content = ⊥
+FitsShapes m s (Some shapes) content = data_refusal (m.sizes s) shapes.reply content ≡ None
+
+abbrev pub FitsRow : {S : Type 0} → Meaning S → S → Option Row → List DatumMeaning → Type 0
+FitsRow m s None content = ⊥
+FitsRow m s (Some row) content = FitsShapes m s row.shapes content
+
+-- an error that a machine may answer: whether a thread lives or is suspended is not its to say
+abbrev pub IsMachineError : ErrorCode → Type 0
+IsMachineError e = (1 ≤ e.0) × (e.0 ≢ 10) × (e.0 ≢ 13)
+
+-- an answer to a command of this set and number
+abbrev pub MayAnswer : {S : Type 0} → Meaning S → S → ℕ → ℕ → Answer → Type 0
+MayAnswer m s set number (Data content) = FitsRow m s (row_at set number) content
+MayAnswer m s set number (Error e) = IsMachineError e
+
+-- the longest signature of an event
+abbrev pub SIGNATURE_LIMIT : ℕ
+SIGNATURE_LIMIT = 512
+
+abbrev pub HasShortSignature : OccurrenceMeaning → Type 0
+HasShortSignature (Moved p) = length p.class.signature ≤ SIGNATURE_LIMIT
+HasShortSignature (Entered p) = length p.class.signature ≤ SIGNATURE_LIMIT
+HasShortSignature (Left p v) = length p.class.signature ≤ SIGNATURE_LIMIT
+HasShortSignature (Threw p t) = length p.class.signature ≤ SIGNATURE_LIMIT
+HasShortSignature (Prepared p) = length p.class.signature ≤ SIGNATURE_LIMIT
+HasShortSignature Started = Unit {0}
+HasShortSignature RanOut = Unit {0}
+
+-- ---- the laws
+
+-- A thread steps where it lives and has not run out.
+abbrev pub MaySteps : {S : Type 0} → Meaning S → S → ℕ → Type 0
+MaySteps m s t = m.is_state s × (has (m.live s) t ≡ true) × (runs_out (m.next s t) ≡ false)
+
+abbrev pub MayEnds : {S : Type 0} → Meaning S → S → ℕ → Type 0
+MayEnds m s t = m.is_state s × (has (m.live s) t ≡ true)
+
+pub record IsLawful {S : Type 0} (m : Meaning S) : Type 0 where
+  -- no thread lives twice, and who lives has lived
+  pub live_distinct : (s : S) → m.is_state s → AreDistinct (m.live s)
+  pub live_ever : (s : S) → m.is_state s → (t : ℕ) → has (m.live s) t ≡ true → m.ever s t ≡ true
+  -- A happening is of the thread that steps; but one that starts a thread names that thread, which never lived.
+  pub own_thread : (s : S) (t : ℕ) → MayEnds m s t → started (m.next s t) ≡ None → (m.next s t).thread ≡ t
+  pub new_thread : (s : S) (t n : ℕ) → MayEnds m s t → started (m.next s t) ≡ Some n → m.ever s n ≡ false
+  -- A step ends nobody, and starts the thread that its happening names, and no other.
+  pub state_stepped : (s : S) (t : ℕ) → MaySteps m s t → m.is_state (m.stepped s t)
+  pub live_stepped : (s : S) (t u : ℕ) → MaySteps m s t → has (m.live (m.stepped s t)) u ≡ (has (m.live s) u || is_named (started (m.next s t)) u)
+  pub ever_stepped : (s : S) (t u : ℕ) → MaySteps m s t → m.ever (m.stepped s t) u ≡ (m.ever s u || is_named (started (m.next s t)) u)
+  -- An end ends its thread alone.
+  pub state_ended : (s : S) (t : ℕ) → MayEnds m s t → m.is_state (m.ended s t)
+  pub live_ended : (s : S) (t u : ℕ) → MayEnds m s t → has (m.live (m.ended s t)) u ≡ (has (m.live s) u && not (u == t))
+  pub ever_ended : (s : S) (t u : ℕ) → MayEnds m s t → m.ever (m.ended s t) u ≡ m.ever s u
+  -- Writing slots starts and ends nobody, and where it is refused nothing changes.
+  pub state_written : (s : S) (t f : ℕ) (values : List (ℤ × Value)) → m.is_state s → m.is_state (m.written s t f values)
+  pub live_written : (s : S) (t f : ℕ) (values : List (ℤ × Value)) (u : ℕ) → m.is_state s → has (m.live (m.written s t f values)) u ≡ has (m.live s) u
+  pub ever_written : (s : S) (t f : ℕ) (values : List (ℤ × Value)) (u : ℕ) → m.is_state s → m.ever (m.written s t f values) u ≡ m.ever s u
+  pub refused_write : (s : S) (t f : ℕ) (values : List (ℤ × Value)) (e : ErrorCode) → m.is_state s → m.write_answer s t f values ≡ Error e → m.written s t f values ≡ s
+  -- The widths of ids never change.
+  pub sizes_stepped : (s : S) (t : ℕ) → MaySteps m s t → m.sizes (m.stepped s t) ≡ m.sizes s
+  pub sizes_ended : (s : S) (t : ℕ) → MayEnds m s t → m.sizes (m.ended s t) ≡ m.sizes s
+  pub sizes_written : (s : S) (t f : ℕ) (values : List (ℤ × Value)) → m.is_state s → m.sizes (m.written s t f values) ≡ m.sizes s
+  -- What is answered of a thread's frames stays at a step, at an end and at a write of another thread, and at a write of its own
+  -- but for the values of slots.
+  pub frames_stepped : (s : S) (t u : ℕ) (q : Query) → MaySteps m s t → t ≢ u → asks_frames q u ≡ true → m.query (m.stepped s t) q ≡ m.query s q
+  pub frames_ended : (s : S) (t u : ℕ) (q : Query) → MayEnds m s t → t ≢ u → asks_frames q u ≡ true → m.query (m.ended s t) q ≡ m.query s q
+  pub frames_written : (s : S) (t f u : ℕ) (values : List (ℤ × Value)) (q : Query) → m.is_state s → t ≢ u → asks_frames q u ≡ true → m.query (m.written s t f values) q ≡ m.query s q
+  pub places_written : (s : S) (t f : ℕ) (values : List (ℤ × Value)) (q : Query) → m.is_state s → asks_places q t ≡ true → m.query (m.written s t f values) q ≡ m.query s q
+  -- Data are in the layout of the row's reply, and errors are a machine's.
+  pub answers : (s : S) (q : Query) → m.is_state s → MayAnswer m s q.set q.number (m.query s q)
+  pub write_answers : (s : S) (t f : ℕ) (values : List (ℤ × Value)) → m.is_state s → MayAnswer m s 16 2 (m.write_answer s t f values)
+  pub short_signature : (s : S) (t : ℕ) → MayEnds m s t → HasShortSignature (m.next s t).occurrence
