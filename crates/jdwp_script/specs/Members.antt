@@ -1,0 +1,35 @@
+-- The names of the members of a script and of its parts.
+use Rattle.std.specs.Prelude.{ℕ, List, codes}
+use Rattle.jdwp_script.specs.declared.member.Member.{Member}
+use Rattle.jdwp_script.specs.declared.member.Member.TheVariants as member
+
+abbrev pub member_name : Member → List ℕ
+member_name member.Name = codes "name"
+member_name member.Sizes = codes "sizes"
+member_name member.Groups = codes "groups"
+member_name member.Classes = codes "classes"
+member_name member.Objects = codes "objects"
+member_name member.Threads = codes "threads"
+member_name member.Id = codes "id"
+member_name member.Parent = codes "parent"
+member_name member.Tag = codes "tag"
+member_name member.Signature = codes "signature"
+member_name member.Modifiers = codes "modifiers"
+member_name member.Super = codes "super"
+member_name member.Interfaces = codes "interfaces"
+member_name member.Source = codes "source"
+member_name member.Fields = codes "fields"
+member_name member.Methods = codes "methods"
+member_name member.Value = codes "value"
+member_name member.Args = codes "args"
+member_name member.Last = codes "last"
+member_name member.Lines = codes "lines"
+member_name member.Slots = codes "slots"
+member_name member.From = codes "from"
+member_name member.Length = codes "length"
+member_name member.Slot = codes "slot"
+member_name member.Class = codes "class"
+member_name member.Text = codes "text"
+member_name member.Array = codes "array"
+member_name member.Group = codes "group"
+member_name member.Steps = codes "steps"
