@@ -21,3 +21,4 @@ pub mod BasicLaws
 pub mod TextLaws
 pub mod EachLaws
 pub mod ListedLaws
+pub mod ErrorCodes
