@@ -3,3 +3,11 @@ pub mod ScriptFaultNumbers
 pub mod Literals
 pub mod Parts
 pub mod Meanings
+pub mod Reading
+pub mod Scripts
+pub mod Limits
+pub mod Twice
+pub mod TooWide
+pub mod References
+pub mod IdSets
+pub mod Faults

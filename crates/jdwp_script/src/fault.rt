@@ -4,6 +4,7 @@ ghost use Rattle.jdwp_script.specs.declared.fault.ScriptFault.TheVariants.{NoMem
 ghost use Rattle.jdwp_script.specs.ScriptFaultNumbers.{script_fault_number};
 
 use crate::member::Member;
+use jdwp_wire::NoMemory;
 use std::alloc::{AllocError, AllocFailed};
 use thiserror::Error;
 
@@ -48,6 +49,14 @@ impl ScriptFault {
             ScriptFault::OverLimit => 26,
             ScriptFault::NoMemory => 27,
         }
+    }
+}
+
+impl From<NoMemory> for ScriptFault {
+    ghost from_gives = { λ _ e. e ≡ NoMemory };
+
+    fn from(_error: NoMemory) -> ScriptFault {
+        ScriptFault::NoMemory
     }
 }
 

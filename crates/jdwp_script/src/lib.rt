@@ -2,9 +2,21 @@
 #![tactic(auto)]
 
 mod fault;
+mod gather;
+mod id_set;
+mod ids;
+mod judge;
+mod known;
+mod limits;
 mod member;
+mod parts;
+mod read;
+mod reading;
+mod references;
 mod script;
 mod step;
+mod step_parts;
+mod too_wide;
 
 pub use fault::ScriptFault;
 pub use member::Member;

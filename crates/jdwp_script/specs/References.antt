@@ -1,0 +1,184 @@
+-- When an id is 0 or unknown, or something stands where it may not.
+use Rattle.std.specs.Prelude.{ℕ, ◌-◌, ◌==◌, ◌&&◌, ◌||◌, List, [], ◌∷◌, ◌++◌, length, take, map, slice_get, Bool, false, true, not, nat_lt, nat_le, Option, None, Some, is_some, unwrap_or, if◌then◌else◌}
+use Rattle.std.specs.List.{list_any, flat_map}
+use Rattle.std.specs.Ordering.{int_eq}
+use Rattle.jdwp_value.specs.Values.{is_object}
+use Rattle.jdwp_script.specs.declared.script.Line.{Line}
+use Rattle.jdwp_script.specs.declared.script.FieldValue.{FieldValue}
+use Rattle.jdwp_script.specs.declared.step.Literal.{Literal}
+use Rattle.jdwp_script.specs.declared.step.Place.{Place}
+use Rattle.jdwp_script.specs.declared.step.SlotValue.{SlotValue}
+use Rattle.jdwp_script.specs.Parts.{GroupPart, FieldPart, MethodPart, ClassPart, ElementsPart, ObjectPart, CallPart, StepPart, Call, Go, Return, Throwing, Prepare, Start, ThreadPart, ScriptPart}
+use Rattle.jdwp_script.specs.Literals.{fits_tag}
+use Rattle.jdwp_script.specs.Limits.{if_there, is_in, started, living}
+use Rattle.jdwp_script.specs.Twice.{group_ids, object_ids, thread_ids, shared_ids, class_ids, field_ids, is_twice}
+
+-- ---- what is known
+
+-- the last code index of the method of a class, by their ids, if the class has the method
+abbrev pub Lasts : Type 0
+Lasts = ℕ → ℕ → Option ℕ
+
+abbrev pub with_method : ℕ → MethodPart → Lasts → Lasts
+with_method id m lasts class method = if (id == class) && (m.id == method) then Some m.last else lasts class method
+
+abbrev pub with_methods : ℕ → List MethodPart → Lasts → Lasts
+with_methods id [] lasts = lasts
+with_methods id (m ∷ ms) lasts = with_methods id ms (with_method id m lasts)
+
+abbrev pub with_classes : List ClassPart → Lasts → Lasts
+with_classes [] lasts = lasts
+with_classes (c ∷ cs) lasts = with_classes cs (with_methods c.id c.methods lasts)
+
+abbrev pub no_methods : Lasts
+no_methods class method = None
+
+-- which ids are known
+pub record Known : Type 0 where
+  pub group : ℕ → Bool
+  pub class : ℕ → Bool
+  pub field : ℕ → Bool
+  pub object : ℕ → Bool
+  pub thread : ℕ → Bool
+  -- what a value may name: groups, objects and threads
+  pub shared : ℕ → Bool
+  pub last : Lasts
+
+abbrev pub known_in : ScriptPart → Known
+known_in s = record { group = is_in (group_ids s.groups); class = is_in (class_ids s.classes); field = is_in (field_ids s.classes); object = is_in (object_ids s.objects); thread = is_in (thread_ids s.threads); shared = is_in (shared_ids s); last = with_classes s.classes no_methods }
+
+abbrev pub nothing : ℕ → Bool
+nothing n = false
+
+-- one more id is known
+abbrev pub or_id : ℕ → (ℕ → Bool) → ℕ → Bool
+or_id n known m = (n == m) || known m
+
+-- an id that names nothing that is known, where 0 may stand for nothing
+abbrev pub is_lost : (ℕ → Bool) → ℕ → Bool
+is_lost known n = not (n == 0) && not (known n)
+
+-- ---- values
+
+-- bits that are more than values of the tag have, or an object that is unknown
+abbrev pub literal_lost : Known → Literal → Bool
+literal_lost k v = not (fits_tag v.tag v.bits) || (is_object v.tag && is_lost k.shared v.bits)
+
+-- ---- groups and classes: a parent, a superclass and interfaces stand before those that name them
+
+abbrev pub groups_lost : (ℕ → Bool) → List GroupPart → Bool
+groups_lost before [] = false
+groups_lost before (g ∷ gs) = (g.id == 0) || (is_lost before g.parent || groups_lost (or_id g.id before) gs)
+
+abbrev pub types_lost : (ℕ → Bool) → List ClassPart → Bool
+types_lost before [] = false
+types_lost before (c ∷ cs) = (c.id == 0) || (is_lost before c.superclass || (list_any (λ n. not (before n)) c.interfaces || types_lost (or_id c.id before) cs))
+
+abbrev pub field_lost : Known → FieldPart → Bool
+field_lost k f = (f.id == 0) || if_there (literal_lost k) f.value
+
+-- an index past the last, or not above the one before it
+abbrev pub lines_lost : ℕ → Option ℕ → List Line → Bool
+lines_lost last before [] = false
+lines_lost last before (l ∷ ls) = nat_lt last l.index || (if_there (λ n. nat_le l.index n) before || lines_lost last (Some l.index) ls)
+
+abbrev pub method_lost : MethodPart → Bool
+method_lost m = (m.id == 0) || lines_lost m.last None m.lines
+
+-- a field or a method of a class
+abbrev pub class_lost : Known → ClassPart → Bool
+class_lost k c = list_any (field_lost k) c.fields || list_any method_lost c.methods
+
+-- ---- objects
+
+abbrev pub field_value_lost : Known → FieldValue → Bool
+field_value_lost k f = not (k.field f.field.0) || literal_lost k f.value
+
+abbrev pub same_field : FieldValue → FieldValue → Bool
+same_field f g = g.field.0 == f.field.0
+
+-- whether a field is listed twice
+abbrev pub field_twice : List FieldValue → Bool
+field_twice [] = false
+field_twice (f ∷ fs) = list_any (same_field f) fs || field_twice fs
+
+abbrev pub elements_lost : Known → ElementsPart → Bool
+elements_lost k e = list_any (λ n. literal_lost k (record { tag = e.tag; bits = n })) e.bits
+
+abbrev pub object_lost : Known → ObjectPart → Bool
+object_lost k o = (o.id == 0) || (not (k.class o.class) || (list_any (field_value_lost k) o.fields || (field_twice o.fields || if_there (elements_lost k) o.array)))
+
+-- ---- steps; a frame is the last code index of its method, and the newest frame stands last
+
+abbrev pub newest : List ℕ → Option ℕ
+newest frames = slice_get frames (length frames - 1)
+
+-- no method, or an index past its last
+abbrev pub is_past : ℕ → Option ℕ → Bool
+is_past n None = true
+is_past n (Some last) = nat_lt last n
+
+abbrev pub slot_value_lost : Known → SlotValue → Bool
+slot_value_lost k s = literal_lost k s.value
+
+abbrev pub same_slot : SlotValue → SlotValue → Bool
+same_slot s t = int_eq t.slot s.slot
+
+-- whether a slot is listed twice
+abbrev pub slot_twice : List SlotValue → Bool
+slot_twice [] = false
+slot_twice (s ∷ ss) = list_any (same_slot s) ss || slot_twice ss
+
+abbrev pub call_lost : Known → CallPart → Bool
+call_lost k c = (c.frame == 0) || (not (is_some (k.last c.class c.method)) || (is_lost k.object c.this || (list_any (slot_value_lost k) c.slots || slot_twice c.slots)))
+
+abbrev pub place_lost : Known → Place → Bool
+place_lost k p = is_past p.index (k.last p.class.0 p.method.0)
+
+abbrev pub step_lost : Known → List ℕ → StepPart → Bool
+step_lost k frames (Call c) = call_lost k c
+step_lost k frames (Go n) = is_past n (newest frames)
+step_lost k frames (Return v) = not (is_some (newest frames)) || literal_lost k v
+step_lost k frames (Throwing t) = not (is_some (newest frames)) || (not (k.object t.object.0) || if_there (place_lost k) t.caught)
+step_lost k frames (Prepare n) = not (k.class n)
+step_lost k frames (Start n) = not (k.thread n)
+
+-- the frames that a step leaves
+abbrev pub frames_left : Known → List ℕ → StepPart → List ℕ
+frames_left k frames (Call c) = frames ++ unwrap_or (k.last c.class c.method) 0 ∷ []
+frames_left k frames (Go n) = frames
+frames_left k frames (Return v) = take (length frames - 1) frames
+frames_left k frames (Throwing t) = frames
+frames_left k frames (Prepare n) = frames
+frames_left k frames (Start n) = frames
+
+abbrev pub steps_lost : Known → List ℕ → List StepPart → Bool
+steps_lost k frames [] = false
+steps_lost k frames (s ∷ ss) = step_lost k frames s || steps_lost k (frames_left k frames s) ss
+
+abbrev pub thread_lost : Known → ThreadPart → Bool
+thread_lost k t = (t.id == 0) || (not (k.group t.group) || steps_lost k [] t.steps)
+
+-- ---- all
+
+abbrev pub prepared_by : StepPart → List ℕ
+prepared_by (Prepare n) = n ∷ []
+prepared_by (Call c) = []
+prepared_by (Go n) = []
+prepared_by (Return v) = []
+prepared_by (Throwing t) = []
+prepared_by (Start n) = []
+
+-- the classes that steps prepare, each as often as a step prepares it
+abbrev pub prepared : List ThreadPart → List ℕ
+prepared threads = flat_map (λ t. flat_map prepared_by t.steps) threads
+
+-- what is known being so much: no thread may be started twice, no class prepared twice, and a thread has to live from
+-- the beginning
+abbrev pub is_lost_among : Known → ScriptPart → Bool
+is_lost_among k s =
+    groups_lost nothing s.groups || (types_lost nothing s.classes || (list_any (class_lost k) s.classes || (list_any (object_lost k) s.objects || (list_any (thread_lost k) s.threads
+    || (is_twice (started s.threads) || (is_twice (prepared s.threads) || (length (living s.threads) == 0)))))))
+
+abbrev pub has_bad_reference : ScriptPart → Bool
+has_bad_reference s = is_lost_among (known_in s) s

@@ -1,0 +1,83 @@
+//! Reading a script.
+ghost use Rattle.std.specs.Prelude.{◌≡◌, IfOk};
+ghost use Rattle.jdwp_wire.specs.Limits.{standard_limits};
+ghost use Rattle.jdwp_wire.specs.Widths.{AreWidths};
+ghost use Rattle.serde_json.specs.View.{view};
+ghost use Rattle.serde_json.specs.Read.{read};
+ghost use Rattle.jdwp_script.specs.Meanings.{script_part};
+ghost use Rattle.jdwp_script.specs.Reading.{Gives};
+ghost use Rattle.jdwp_script.specs.Faults.{first_fault, unless, json, read_script};
+
+use crate::fault::ScriptFault;
+use crate::ids::has_id_twice;
+use crate::limits::passes_limit;
+use crate::parts::script;
+use crate::references::has_bad_reference;
+use crate::script::Script;
+use crate::too_wide::has_wide_id;
+use jdwp_wire::{Limits, NoMemory};
+use serde_json::Value;
+use std::alloc::Global;
+
+impl Script {
+    /// The script that the text is, where 64 threads may live at the beginning.
+    ///
+    /// # Errors
+    /// As `read_with`.
+    pub fn read(alloc: Global, text: &str) -> Result<Script, ScriptFault>
+        ensures { Gives script_part result (read_script standard_limits.live text.now) }
+    {
+        Script::read_with(alloc, text, &Limits::standard())
+    }
+
+    /// The script that the text is, where as many threads may live at the beginning as `limits` has live threads.
+    ///
+    /// # Errors
+    /// The first of these that applies: `NotJson`, `Missing` with the first member that is missing or of another type,
+    /// `OverLimit`, `IdTwice`, `IdTooWide`, `BadReference`. `NoMemory` where an allocation was refused.
+    pub fn read_with(alloc: Global, text: &str, limits: &Limits) -> Result<Script, ScriptFault>
+        ensures { Gives script_part result (read_script limits.now.live text.now) }
+    {
+        let value = json(alloc, text)?;
+        let script = script(alloc, &value)?;
+        match first_fault(alloc, &script, limits.live() as usize)? {
+            Some(fault) => Err(fault),
+            None => Ok(script),
+        }
+    }
+}
+
+/// The JSON value that the text is.
+fn json(alloc: Global, text: &str) -> Result<Value, ScriptFault>
+    ensures { Gives view result (json (read text.now)) }
+{
+    match Value::from_str(alloc, text) {
+        Ok(value) => Ok(value),
+        Err(error) => {
+            if error.is_memory() {
+                Err(ScriptFault::NoMemory)
+            } else {
+                Err(ScriptFault::NotJson)
+            }
+        }
+    }
+}
+
+/// The first fault of the script, where `live` threads may live at the beginning.
+fn first_fault(alloc: Global, script: &Script, live: usize) -> Result<Option<ScriptFault>, NoMemory>
+    ensures { IfOk result (λ fault. fault ≡ first_fault live (script_part script.now)) }
+{
+    if passes_limit(alloc, script, live)? {
+        return Ok(Some(ScriptFault::OverLimit));
+    }
+    if has_id_twice(alloc, script)? {
+        return Ok(Some(ScriptFault::IdTwice));
+    }
+    if has_wide_id(script) {
+        return Ok(Some(ScriptFault::IdTooWide));
+    }
+    if has_bad_reference(alloc, script)? {
+        return Ok(Some(ScriptFault::BadReference));
+    }
+    Ok(None)
+}
