@@ -1,15 +1,21 @@
 -- What every machine keeps.
-use Rattle.std.specs.Prelude.{◌≡◌, ◌≢◌, ℕ, ℤ, ◌≤◌, Bool, true, false, ◌==◌, ◌||◌, ◌&&◌, not, List, [], ◌∷◌, length, Option, Some, None}
+use Rattle.std.specs.Prelude.{◌≡◌, ◌≢◌, ℕ, ℤ, ◌≤◌, Bool, true, false, ◌==◌, ◌||◌, ◌&&◌, not, pos, ◌⊎◌, List, [], ◌∷◌, length, Option, Some, None}
 use Rattle.std.specs.List.{IsDistinct}
 use Rattle.jdwp_wire.specs.declared.error_code.ErrorCode.{ErrorCode}
+use Rattle.jdwp_wire.specs.ErrorCodes.{INVALID_CLASS, INVALID_METHODID, INVALID_LOCATION}
+use Rattle.jdwp_wire.specs.Numbers.{id_refusal}
+use Rattle.jdwp_wire.specs.Widths.{Widths}
+use Rattle.jdwp_value.specs.declared.location.Location.{Location}
+use Rattle.jdwp_value.specs.Locations.{location_refusal}
+use Rattle.jdwp_value.specs.Values.{value_refusal}
 use Rattle.jdwp_value.specs.declared.value.Value.{Value}
 use Rattle.jdwp_layout.specs.declared.answer.Answer.{Answer}
 use Rattle.jdwp_layout.specs.declared.answer.Answer.TheVariants.{Data, Error}
-use Rattle.jdwp_layout.specs.CommandNumbers.{is_command, FRAMES, FRAME_COUNT, GET_SLOTS, THIS_OBJECT}
+use Rattle.jdwp_layout.specs.CommandNumbers.{is_command, FRAMES, FRAME_COUNT, GET_SLOTS, THIS_OBJECT, SET_REQUEST}
 use Rattle.jdwp_layout.specs.CommandTable.{row_at}
 use Rattle.jdwp_layout.specs.Rows.{Row, RowShapes}
 use Rattle.jdwp_layout.specs.Writes.{data_refusal}
-use Rattle.jdwp_layout.specs.Meanings.{ScalarMeaning, Object, DatumMeaning, One}
+use Rattle.jdwp_layout.specs.Meanings.{ScalarMeaning, Byte, Int, Object, Located, DatumMeaning, One, Many}
 use Rattle.jdwp_event.specs.Occurrences.{HappeningMeaning, OccurrenceMeaning, Moved, Entered, Left, Threw, Prepared, Started, RanOut, ClassMeaning, started, runs_out}
 use Rattle.jdwp_machine.specs.declared.query.Query.{Query}
 use Rattle.jdwp_machine.specs.Meanings.{Meaning, has}
@@ -59,6 +65,25 @@ IsMachineError e = (1 ≤ e.0) × (e.0 ≢ 10) × (e.0 ≢ 13)
 abbrev pub MayAnswer : {S : Type 0} → Meaning S → S → ℕ → ℕ → Answer → Type 0
 MayAnswer m s set number (Data content) = FitsRow m s (row_at set number) content
 MayAnswer m s set number (Error e) = IsMachineError e
+
+-- every id of an occurrence fits its width
+abbrev pub OccurrenceFits : Widths → OccurrenceMeaning → Type 0
+OccurrenceFits w (Moved p) = location_refusal w p.location ≡ None
+OccurrenceFits w (Entered p) = location_refusal w p.location ≡ None
+OccurrenceFits w (Left p v) = (location_refusal w p.location ≡ None) × (value_refusal w v ≡ None)
+OccurrenceFits w (Threw p t) = (location_refusal w p.location ≡ None) × (id_refusal w.object t.exception.id.0 ≡ None) × (location_refusal w t.caught_at ≡ None)
+OccurrenceFits w (Prepared p) = id_refusal w.reference p.id ≡ None
+OccurrenceFits w Started = Unit {0}
+OccurrenceFits w RanOut = Unit {0}
+
+-- a Set of a breakpoint (kind 2) with policy NONE (0) and one modifier, LocationOnly (7), at this location
+abbrev pub breakpoint_at : Location → List DatumMeaning
+breakpoint_at location = One (Byte 2) ∷ One (Byte 0) ∷ Many ((Byte 7 ∷ Located location ∷ []) ∷ []) ∷ []
+
+-- what the test of a location may answer: there is no such class, no such method of it, no such place, or it is one
+abbrev pub IsLocationAnswer : Answer → Type 0
+IsLocationAnswer (Data content) = content ≡ One (Int (pos 0)) ∷ []
+IsLocationAnswer (Error e) = (e ≡ INVALID_CLASS) ⊎ ((e ≡ INVALID_METHODID) ⊎ (e ≡ INVALID_LOCATION))
 
 -- the longest signature of an event
 abbrev pub SIGNATURE_LIMIT : ℕ
@@ -116,3 +141,9 @@ pub record IsLawful {S : Type 0} (m : Meaning S) : Type 0 where
   pub answers : (s : S) (q : Query) → m.is_state s → MayAnswer m s q.set q.number (m.query s q)
   pub write_answers : (s : S) (t f : ℕ) (values : List (ℤ × Value)) → m.is_state s → MayAnswer m s 16 2 (m.write_answer s t f values)
   pub short_signature : (s : S) (t : ℕ) → MayEnds m s t → HasShortSignature (m.next s t).occurrence
+  -- Ids of live threads and of happenings fit their widths.
+  pub live_fits : (s : S) (t : ℕ) → m.is_state s → has (m.live s) t ≡ true → id_refusal (m.sizes s).object t ≡ None
+  pub thread_fits : (s : S) (t : ℕ) → MayEnds m s t → id_refusal (m.sizes s).object (m.next s t).thread ≡ None
+  pub occurrence_fits : (s : S) (t : ℕ) → MayEnds m s t → OccurrenceFits (m.sizes s) (m.next s t).occurrence
+  -- The test of a location has one of four answers.
+  pub location_answers : (s : S) (q : Query) (location : Location) → m.is_state s → is_command SET_REQUEST q.set q.number ≡ true → q.content ≡ breakpoint_at location → IsLocationAnswer (m.query s q)

@@ -23,3 +23,4 @@ pub mod BasicLaws
 pub mod TextLaws
 pub mod EachLaws
 pub mod ListedLaws
+pub mod ErrorCodes

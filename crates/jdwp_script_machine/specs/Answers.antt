@@ -1,0 +1,29 @@
+-- What a machine answers to a command that changes nothing.
+use Rattle.std.specs.Prelude.{ℕ, ◌==◌, if◌then◌else◌}
+use Rattle.jdwp_wire.specs.ErrorCodes.{NOT_IMPLEMENTED}
+use Rattle.jdwp_layout.specs.declared.answer.Answer.{Answer}
+use Rattle.jdwp_layout.specs.declared.answer.Answer.TheVariants.{Error}
+use Rattle.jdwp_machine.specs.declared.query.Query.{Query}
+use Rattle.jdwp_script_machine.specs.States.{State}
+use Rattle.jdwp_script_machine.specs.Requests.{Asks}
+use Rattle.jdwp_script_machine.specs.ClassAnswers.{virtual_machine_answer, reference_type_answer, class_type_answer, method_answer}
+use Rattle.jdwp_script_machine.specs.ObjectAnswers.{object_answer, string_answer, array_answer, group_answer}
+use Rattle.jdwp_script_machine.specs.ThreadAnswers.{frames_at, thread_answer_by, stack_frame_answer_by, set_answer}
+
+abbrev pub answer_at : State → ℕ → ℕ → Asks
+answer_at s set number content =
+    if set == 1 then virtual_machine_answer s number content else (
+    if set == 2 then reference_type_answer s number content else (
+    if set == 3 then class_type_answer s number content else (
+    if set == 6 then method_answer s number content else (
+    if set == 9 then object_answer s number content else (
+    if set == 10 then string_answer s number content else (
+    if set == 11 then thread_answer_by s.script (frames_at s) number content else (
+    if set == 12 then group_answer s number content else (
+    if set == 13 then array_answer s number content else (
+    if set == 15 then (if number == 1 then set_answer s.script content else Error NOT_IMPLEMENTED) else (
+    if set == 16 then stack_frame_answer_by s.script (frames_at s) number content else
+    Error NOT_IMPLEMENTED))))))))))
+
+abbrev pub answer : State → Query → Answer
+answer s q = answer_at s q.set q.number q.content

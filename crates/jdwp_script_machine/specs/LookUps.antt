@@ -1,0 +1,25 @@
+-- Look-ups in lists of things that have ids.
+use Rattle.std.specs.Prelude.{ℕ, ◌==◌, Bool, true, false, List, [], ◌∷◌, map, nat_le, if◌then◌else◌, Option, Some, None}
+
+-- the first one with this id
+abbrev pub with_id : {A : Type 0} → (A → ℕ) → ℕ → List A → Option A
+with_id key id [] = None
+with_id key id (x ∷ xs) = if key x == id then Some x else with_id key id xs
+
+-- the list where what has this id was changed
+abbrev pub changed : {A : Type 0} → (A → ℕ) → ℕ → (A → A) → List A → List A
+changed key id change xs = map (λ x. if key x == id then change x else x) xs
+
+-- one more, before the first whose id is not less
+abbrev pub put_in : {A : Type 0} → (A → ℕ) → A → List A → List A
+put_in key x [] = x ∷ []
+put_in key x (y ∷ ys) = if nat_le (key x) (key y) then x ∷ y ∷ ys else y ∷ put_in key x ys
+
+-- the same ones by rising id
+abbrev pub rising : {A : Type 0} → (A → ℕ) → List A → List A
+rising key [] = []
+rising key (x ∷ xs) = put_in key x (rising key xs)
+
+abbrev pub is_some : {A : Type 0} → Option A → Bool
+is_some None = false
+is_some (Some x) = true
