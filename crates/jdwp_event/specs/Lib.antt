@@ -4,3 +4,4 @@ pub mod Modifiers
 pub mod Requests
 pub mod Filters
 pub mod Composites
+pub mod Told
