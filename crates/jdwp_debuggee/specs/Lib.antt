@@ -7,3 +7,4 @@ pub mod Answers
 pub mod Effects
 pub mod Steps
 pub mod Breadth
+pub mod Facts

@@ -8,3 +8,4 @@ pub mod RequestLists
 pub mod Filters
 pub mod RequestParts
 pub mod Composites
+pub mod Told

@@ -1,0 +1,67 @@
+use Rattle.std.proofs.Common.{◌≡◌, ℕ, ◌==◌, Bool, true, false, Option, Some, None, refl, sym, ◌∙◌, ap, subst, cond}
+use Rattle.jdwp_machine.specs.Meanings.{Meaning}
+use Rattle.jdwp_debuggee.specs.Settings.{Settings}
+use Rattle.jdwp_debuggee.specs.State.{Moment, count_of, at_limit}
+use Rattle.jdwp_debuggee.specs.Actions
+use Rattle.jdwp_debuggee.specs.Actions.{Command, Action, action_of, is_implemented}
+use Rattle.jdwp_debuggee.specs.Refusals.{set_refusal}
+use Rattle.jdwp_event.specs.Modifiers.{modifiers_of}
+use Rattle.jdwp_debuggee.specs.Effects.{Effect, effect, effect_by, does, suspend_by, suspend_thread_by, suspend_thread_at, resume_thread_by, count_by, status_by, frames_by, thread_by, slots_by, slots_at, set_by}
+use Rattle.jdwp_debuggee.specs.Breadth.{is_plain, keeps_machine}
+
+plain_does : {S : Type 0} (m : Meaning S) (settings : Settings) (now : Moment S) (c : Command) (a : Action) → is_plain a ≡ true → (does m settings now c a).after.state ≡ now.state
+plain_does m settings now c (Actions.SuspendCount t) h = elim (count_of now.state t) as (λ v. (count_by now v).after.state ≡ now.state) [ None ↦ refl | Some n ↦ refl ]
+plain_does m settings now c (Actions.ThreadStatus t) h = elim (count_of now.state t) as (λ v. (status_by now v).after.state ≡ now.state) [ None ↦ refl | Some n ↦ refl ]
+plain_does m settings now c (Actions.SetSlots t f values) h =
+    elim (count_of now.state t) as (λ v. (slots_by m now t f values v).after.state ≡ now.state) [
+      None ↦ refl
+    | Some n ↦ elim (n == 0) as (λ b. (slots_at m now t f values b).after.state ≡ now.state) [ true ↦ refl | false ↦ refl ]
+    ]
+plain_does m settings now c (Actions.AskFrames t) h = elim (count_of now.state t) as (λ v. (frames_by m settings now c v).after.state ≡ now.state) [ None ↦ refl | Some n ↦ refl ]
+plain_does m settings now c (Actions.AskThread t) h = elim (count_of now.state t) as (λ v. (thread_by m settings now c v).after.state ≡ now.state) [ None ↦ refl | Some n ↦ refl ]
+plain_does m settings now c Actions.AllThreads h = refl
+plain_does m settings now c Actions.IdSizes h = refl
+plain_does m settings now c Actions.Ask h = refl
+plain_does m settings now c Actions.Suspend h = absurd (cc)
+plain_does m settings now c Actions.Resume h = absurd (cc)
+plain_does m settings now c Actions.Dispose h = absurd (cc)
+plain_does m settings now c Actions.Exit h = absurd (cc)
+plain_does m settings now c Actions.HoldEvents h = absurd (cc)
+plain_does m settings now c Actions.ReleaseEvents h = absurd (cc)
+plain_does m settings now c (Actions.SetRequest byte policy entries) h = absurd (cc)
+plain_does m settings now c (Actions.ClearRequest byte id) h = absurd (cc)
+plain_does m settings now c Actions.ClearBreakpoints h = absurd (cc)
+plain_does m settings now c (Actions.SuspendThread t) h = absurd (cc)
+plain_does m settings now c (Actions.ResumeThread t) h = absurd (cc)
+
+pub plain_effect : {S : Type 0} (m : Meaning S) (settings : Settings) (now : Moment S) (c : Command) → is_plain (action_of c) ≡ true → (effect m settings now c).after.state ≡ now.state
+plain_effect m settings now c h = elim (is_implemented c) as (λ b. (effect_by m settings now c b).after.state ≡ now.state) [ true ↦ plain_does m settings now c (action_of c) h | false ↦ refl ]
+
+kept_does : {S : Type 0} (m : Meaning S) (settings : Settings) (now : Moment S) (c : Command) (a : Action) → keeps_machine a ≡ true → (does m settings now c a).after.machine ≡ now.machine
+kept_does m settings now c (Actions.SuspendCount t) h = elim (count_of now.state t) as (λ v. (count_by now v).after.machine ≡ now.machine) [ None ↦ refl | Some n ↦ refl ]
+kept_does m settings now c (Actions.ThreadStatus t) h = elim (count_of now.state t) as (λ v. (status_by now v).after.machine ≡ now.machine) [ None ↦ refl | Some n ↦ refl ]
+kept_does m settings now c (Actions.SetSlots t f values) h = absurd (cc)
+kept_does m settings now c (Actions.AskFrames t) h = elim (count_of now.state t) as (λ v. (frames_by m settings now c v).after.machine ≡ now.machine) [ None ↦ refl | Some n ↦ refl ]
+kept_does m settings now c (Actions.AskThread t) h = elim (count_of now.state t) as (λ v. (thread_by m settings now c v).after.machine ≡ now.machine) [ None ↦ refl | Some n ↦ refl ]
+kept_does m settings now c Actions.AllThreads h = refl
+kept_does m settings now c Actions.IdSizes h = refl
+kept_does m settings now c Actions.Ask h = refl
+kept_does m settings now c Actions.Suspend h = elim (at_limit settings.count_limit now.state) as (λ b. (suspend_by now b).after.machine ≡ now.machine) [ true ↦ refl | false ↦ refl ]
+kept_does m settings now c Actions.Resume h = refl
+kept_does m settings now c Actions.Dispose h = refl
+kept_does m settings now c Actions.Exit h = absurd (cc)
+kept_does m settings now c Actions.HoldEvents h = refl
+kept_does m settings now c Actions.ReleaseEvents h = refl
+kept_does m settings now c (Actions.SetRequest byte policy entries) h =
+    elim (set_refusal m settings now byte policy (modifiers_of entries)) as (λ v. (set_by m now byte policy (modifiers_of entries) v).after.machine ≡ now.machine) [ None ↦ refl | Some e ↦ refl ]
+kept_does m settings now c (Actions.ClearRequest byte id) h = refl
+kept_does m settings now c Actions.ClearBreakpoints h = refl
+kept_does m settings now c (Actions.SuspendThread t) h =
+    elim (count_of now.state t) as (λ v. (suspend_thread_by settings now t v).after.machine ≡ now.machine) [
+      None ↦ refl
+    | Some n ↦ elim (n == settings.count_limit) as (λ b. (suspend_thread_at now t b).after.machine ≡ now.machine) [ true ↦ refl | false ↦ refl ]
+    ]
+kept_does m settings now c (Actions.ResumeThread t) h = elim (count_of now.state t) as (λ v. (resume_thread_by now t v).after.machine ≡ now.machine) [ None ↦ refl | Some n ↦ refl ]
+
+pub kept_effect : {S : Type 0} (m : Meaning S) (settings : Settings) (now : Moment S) (c : Command) → keeps_machine (action_of c) ≡ true → (effect m settings now c).after.machine ≡ now.machine
+kept_effect m settings now c h = elim (is_implemented c) as (λ b. (effect_by m settings now c b).after.machine ≡ now.machine) [ true ↦ kept_does m settings now c (action_of c) h | false ↦ refl ]

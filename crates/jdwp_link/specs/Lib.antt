@@ -1,0 +1,5 @@
+pub mod Events
+pub mod World
+pub mod Next
+pub mod Seen
+pub mod Headline
