@@ -113,3 +113,14 @@ THIS_OBJECT = record { set = STACK_FRAME; number = 3 }
 
 abbrev pub COMPOSITE : CommandNumber
 COMPOSITE = record { set = EVENT; number = 100 }
+
+-- ---- what the first event of a target says (JDWP specification, "EventKind Constants", "SuspendPolicy Constants")
+
+abbrev pub VM_START : ℕ
+VM_START = 90
+
+abbrev pub SUSPEND_NONE : ℕ
+SUSPEND_NONE = 0
+
+abbrev pub SUSPEND_ALL : ℕ
+SUSPEND_ALL = 2

@@ -10,7 +10,7 @@ use Rattle.jdwp_wire.specs.declared.packet.PacketKind.{PacketKind}
 use Rattle.jdwp_wire.specs.declared.packet.PacketKind.TheVariants as kind
 use Rattle.jdwp_wire.specs.ErrorCodes.{NOT_IMPLEMENTED}
 use Rattle.jdwp_layout.specs.Meanings.{DatumMeaning, One, Object}
-use Rattle.jdwp_layout.specs.declared.numbers.TheConstants.{VIRTUAL_MACHINE, THREAD_REFERENCE, DISPOSE, ID_SIZES, SUSPEND, RESUME, SUSPEND_COUNT}
+use Rattle.jdwp_layout.specs.CommandNumbers.{VIRTUAL_MACHINE, THREAD_REFERENCE, DISPOSE, ID_SIZES, SUSPEND, RESUME, SUSPEND_COUNT}
 use Rattle.jdwp_target.specs.Acts.{Handles}
 use Rattle.jdwp_target.specs.Commands.{Command, Dispose, IDSizes, Suspend, Resume, SuspendCount, asked_in, bare, carried_out, command_read, data_read, effect, of_thread, suspend_by, thread_reference_read, virtual_machine_read}
 use Rattle.jdwp_target.specs.Meanings.{is_dispose}
@@ -27,10 +27,10 @@ reads_dispose (Err error) = false
 nonzero : (byte : ℕ) (body : List ℕ) → (length (byte ∷ body) == 0) ≡ false
 nonzero byte body = elim (cases_Bool (length (byte ∷ body) == 0)) [ inl e ↦ absurd (omega (arith, eqb-true (length (byte ∷ body)) 0 e)) | inr e ↦ e ]
 
-extra-read : (sizes : Widths) (byte : ℕ) (body : List ℕ) → data_read sizes VIRTUAL_MACHINE DISPOSE (byte ∷ body) ≡ Err (Extra (length (byte ∷ body) - length (byte ∷ body)))
+extra-read : (sizes : Widths) (byte : ℕ) (body : List ℕ) → data_read sizes VIRTUAL_MACHINE DISPOSE.number (byte ∷ body) ≡ Err (Extra (length (byte ∷ body) - length (byte ∷ body)))
 extra-read sizes byte body = rw (nonzero byte body) refl
 
-bare-Dispose : (sizes : Widths) (body : List ℕ) → reads_dispose (bare Dispose (data_read sizes VIRTUAL_MACHINE DISPOSE body)) ≡ true → body ≡ []
+bare-Dispose : (sizes : Widths) (body : List ℕ) → reads_dispose (bare Dispose (data_read sizes VIRTUAL_MACHINE DISPOSE.number body)) ≡ true → body ≡ []
 bare-Dispose sizes [] e = refl
 bare-Dispose sizes (byte ∷ body) e =
     let both : false ≡ true = sym (ap (λ (r : Result (List DatumMeaning) DataFault). reads_dispose (bare Dispose r)) (extra-read sizes byte body)) ∙ e in
@@ -57,17 +57,17 @@ of_thread-other (Ok values) = refl
 of_thread-other (Err fault) = refl
 
 -- Dispose is its command of its set, without data
-dispose-read : (sizes : Widths) (set number : ℕ) (body : List ℕ) → reads_dispose (command_read sizes set number body) ≡ true → (set ≡ VIRTUAL_MACHINE) × (number ≡ DISPOSE) × (body ≡ [])
+dispose-read : (sizes : Widths) (set number : ℕ) (body : List ℕ) → reads_dispose (command_read sizes set number body) ≡ true → (set ≡ VIRTUAL_MACHINE) × (number ≡ DISPOSE.number) × (body ≡ [])
 dispose-read sizes set number body d =
     let of_vm : ℕ → Result (List DatumMeaning) DataFault = λ n. data_read sizes VIRTUAL_MACHINE n body in
-    let thread = neither (number == SUSPEND_COUNT) (of_thread SuspendCount (data_read sizes THREAD_REFERENCE SUSPEND_COUNT body)) (Err NOT_IMPLEMENTED) (of_thread-other (data_read sizes THREAD_REFERENCE SUSPEND_COUNT body)) refl in
+    let thread = neither (number == SUSPEND_COUNT.number) (of_thread SuspendCount (data_read sizes THREAD_REFERENCE SUSPEND_COUNT.number body)) (Err NOT_IMPLEMENTED) (of_thread-other (data_read sizes THREAD_REFERENCE SUSPEND_COUNT.number body)) refl in
     let a = first-of (set == VIRTUAL_MACHINE) (virtual_machine_read sizes number body) (if set == THREAD_REFERENCE then thread_reference_read sizes number body else Err NOT_IMPLEMENTED)
     (neither (set == THREAD_REFERENCE) (thread_reference_read sizes number body) (Err NOT_IMPLEMENTED) thread refl) d in
-    let resume = neither (number == RESUME) (bare Resume (of_vm RESUME)) (Err NOT_IMPLEMENTED) (bare-other Resume (of_vm RESUME) refl) refl in
-    let suspend = neither (number == SUSPEND) (bare Suspend (of_vm SUSPEND)) (if number == RESUME then bare Resume (of_vm RESUME) else Err NOT_IMPLEMENTED) (bare-other Suspend (of_vm SUSPEND) refl) resume in
-    let sizes-asked = neither (number == ID_SIZES) (bare IDSizes (of_vm ID_SIZES)) (if number == SUSPEND then bare Suspend (of_vm SUSPEND) else (if number == RESUME then bare Resume (of_vm RESUME) else Err NOT_IMPLEMENTED)) (bare-other IDSizes (of_vm ID_SIZES) refl) suspend in
-    let b = first-of (number == DISPOSE) (bare Dispose (of_vm DISPOSE)) (if number == ID_SIZES then bare IDSizes (of_vm ID_SIZES) else (if number == SUSPEND then bare Suspend (of_vm SUSPEND) else (if number == RESUME then bare Resume (of_vm RESUME) else Err NOT_IMPLEMENTED))) sizes-asked a.1 in
-    (eqb-true set VIRTUAL_MACHINE a.0, eqb-true number DISPOSE b.0, bare-Dispose sizes body b.1)
+    let resume = neither (number == RESUME.number) (bare Resume (of_vm RESUME.number)) (Err NOT_IMPLEMENTED) (bare-other Resume (of_vm RESUME.number) refl) refl in
+    let suspend = neither (number == SUSPEND.number) (bare Suspend (of_vm SUSPEND.number)) (if number == RESUME.number then bare Resume (of_vm RESUME.number) else Err NOT_IMPLEMENTED) (bare-other Suspend (of_vm SUSPEND.number) refl) resume in
+    let sizes-asked = neither (number == ID_SIZES.number) (bare IDSizes (of_vm ID_SIZES.number)) (if number == SUSPEND.number then bare Suspend (of_vm SUSPEND.number) else (if number == RESUME.number then bare Resume (of_vm RESUME.number) else Err NOT_IMPLEMENTED)) (bare-other IDSizes (of_vm ID_SIZES.number) refl) suspend in
+    let b = first-of (number == DISPOSE.number) (bare Dispose (of_vm DISPOSE.number)) (if number == ID_SIZES.number then bare IDSizes (of_vm ID_SIZES.number) else (if number == SUSPEND.number then bare Suspend (of_vm SUSPEND.number) else (if number == RESUME.number then bare Resume (of_vm RESUME.number) else Err NOT_IMPLEMENTED))) sizes-asked a.1 in
+    (eqb-true set VIRTUAL_MACHINE a.0, eqb-true number DISPOSE.number b.0, bare-Dispose sizes body b.1)
 
 -- ---- what closes
 
@@ -91,7 +91,7 @@ handshake-closes setup now true = refl
 handshake-closes setup now false = refl
 
 packet-closes : {S : Type 0} (setup : Setup) (now : Moment S) (id : ℕ) (k : PacketKind) (body : List ℕ) → (at_packet setup now id (asked_in setup.sizes k body)).closes ≡ true
-    → (k ≡ kind.Command VIRTUAL_MACHINE DISPOSE) × (body ≡ [])
+    → (k ≡ kind.Command VIRTUAL_MACHINE DISPOSE.number) × (body ≡ [])
 packet-closes setup now id (kind.Command set number) body e =
     let h = dispose-read setup.sizes set number body (sym (read-closes setup now (command_read setup.sizes set number body)) ∙ e) in
     (rw (h.0, h.1) refl, h.2)

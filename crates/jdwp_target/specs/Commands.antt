@@ -13,7 +13,7 @@ use Rattle.jdwp_layout.specs.Meanings.{DatumMeaning, One, Int, Object}
 use Rattle.jdwp_layout.specs.Reads.{data_at}
 use Rattle.jdwp_layout.specs.Rows.{Row, RowShapes}
 use Rattle.jdwp_layout.specs.Shapes.{ItemShape}
-use Rattle.jdwp_layout.specs.declared.numbers.TheConstants.{VIRTUAL_MACHINE, THREAD_REFERENCE, DISPOSE, ID_SIZES, SUSPEND, RESUME, SUSPEND_COUNT}
+use Rattle.jdwp_layout.specs.CommandNumbers.{VIRTUAL_MACHINE, THREAD_REFERENCE, DISPOSE, ID_SIZES, SUSPEND, RESUME, SUSPEND_COUNT}
 use Rattle.jdwp_target.specs.Setup.{Setup}
 use Rattle.jdwp_target.specs.State.{State, Moment, with_counts, raised, lowered, at_limit, count_of, reset}
 
@@ -51,14 +51,14 @@ of_thread command read = Err ILLEGAL_ARGUMENT
 
 abbrev pub virtual_machine_read : Widths → ℕ → List ℕ → Result Command ErrorCode
 virtual_machine_read sizes number body =
-    if number == DISPOSE then bare Dispose (data_read sizes VIRTUAL_MACHINE DISPOSE body) else
-    (if number == ID_SIZES then bare IDSizes (data_read sizes VIRTUAL_MACHINE ID_SIZES body) else
-    (if number == SUSPEND then bare Suspend (data_read sizes VIRTUAL_MACHINE SUSPEND body) else
-    (if number == RESUME then bare Resume (data_read sizes VIRTUAL_MACHINE RESUME body) else Err NOT_IMPLEMENTED)))
+    if number == DISPOSE.number then bare Dispose (data_read sizes VIRTUAL_MACHINE DISPOSE.number body) else
+    (if number == ID_SIZES.number then bare IDSizes (data_read sizes VIRTUAL_MACHINE ID_SIZES.number body) else
+    (if number == SUSPEND.number then bare Suspend (data_read sizes VIRTUAL_MACHINE SUSPEND.number body) else
+    (if number == RESUME.number then bare Resume (data_read sizes VIRTUAL_MACHINE RESUME.number body) else Err NOT_IMPLEMENTED)))
 
 abbrev pub thread_reference_read : Widths → ℕ → List ℕ → Result Command ErrorCode
 thread_reference_read sizes number body =
-    if number == SUSPEND_COUNT then of_thread SuspendCount (data_read sizes THREAD_REFERENCE SUSPEND_COUNT body) else Err NOT_IMPLEMENTED
+    if number == SUSPEND_COUNT.number then of_thread SuspendCount (data_read sizes THREAD_REFERENCE SUSPEND_COUNT.number body) else Err NOT_IMPLEMENTED
 
 -- the command of a set and a number with this data; the data of a command that is not carried out are not read
 abbrev pub command_read : Widths → ℕ → ℕ → List ℕ → Result Command ErrorCode

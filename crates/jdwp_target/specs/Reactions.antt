@@ -4,7 +4,7 @@ use Rattle.jdwp_wire.specs.Widths.{Widths}
 use Rattle.jdwp_wire.specs.Streams.{Message, Handshake, Packet}
 use Rattle.jdwp_wire.specs.declared.error_code.ErrorCode.{ErrorCode}
 use Rattle.jdwp_wire.specs.declared.packet.PacketKind.TheVariants as kind
-use Rattle.jdwp_layout.specs.declared.numbers.TheConstants.{VIRTUAL_MACHINE, DISPOSE}
+use Rattle.jdwp_layout.specs.CommandNumbers.{VIRTUAL_MACHINE, DISPOSE}
 use Rattle.jdwp_target.specs.declared.target.Turn.{Turn}
 use Rattle.jdwp_target.specs.declared.target.Turn.TheVariants.{Hello, Replied, Ignored}
 use Rattle.jdwp_target.specs.Acts.{Act, Handles, Reaction}
@@ -62,4 +62,4 @@ told_of setup now (Packet header body) = told_of_packet setup now header.id (ask
 -- VirtualMachine.Dispose, without data
 abbrev pub IsDispose : Message → Type 0
 IsDispose Handshake = ⊥
-IsDispose (Packet header body) = (header.kind ≡ kind.Command VIRTUAL_MACHINE DISPOSE) × (body ≡ [])
+IsDispose (Packet header body) = (header.kind ≡ kind.Command VIRTUAL_MACHINE DISPOSE.number) × (body ≡ [])

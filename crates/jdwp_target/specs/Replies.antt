@@ -8,7 +8,7 @@ use Rattle.jdwp_wire.specs.declared.packet.PacketKind.{PacketKind}
 use Rattle.jdwp_wire.specs.declared.packet.PacketKind.TheVariants as kind
 use Rattle.jdwp_layout.specs.Meanings.{DatumMeaning, One, Many, Byte, Int, Object}
 use Rattle.jdwp_layout.specs.Writes.{data_canonical}
-use Rattle.jdwp_layout.specs.declared.numbers.TheConstants.{EVENT, COMPOSITE, VM_START, SUSPEND_NONE, SUSPEND_ALL}
+use Rattle.jdwp_layout.specs.CommandNumbers.{EVENT, COMPOSITE, VM_START, SUSPEND_NONE, SUSPEND_ALL}
 use Rattle.jdwp_target.specs.Commands.{Answer, Data, Error}
 
 -- a packet with this data
@@ -38,4 +38,4 @@ abbrev pub start_data : ℕ → ℕ → List DatumMeaning
 start_data policy thread = One (Byte policy) ∷ Many ((Byte VM_START ∷ Int (pos 0) ∷ Object thread ∷ []) ∷ []) ∷ []
 
 abbrev pub vm_start : Widths → ℕ → ℕ → ℕ → Message
-vm_start sizes id policy thread = packet_with id (kind.Command EVENT COMPOSITE) (data_canonical sizes (start_data policy thread))
+vm_start sizes id policy thread = packet_with id (kind.Command EVENT COMPOSITE.number) (data_canonical sizes (start_data policy thread))
