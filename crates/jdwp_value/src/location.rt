@@ -168,12 +168,7 @@ fn put_parts(location: &Location, sizes: &IdSizes, output: &mut Vec<u8>) -> Resu
             class,
             method,
             index,
-        } => (
-            tag.byte(),
-            class,
-            method,
-            index,
-        ),
+        } => (tag.byte(), class, method, index),
     };
     output.push(tag)?;
     class.put(sizes, output)?;

@@ -32,4 +32,6 @@ pub use wire::Wire;
 #[cfg(test)]
 mod data_tests;
 #[cfg(test)]
+mod example_tests;
+#[cfg(test)]
 mod tests;
