@@ -10,7 +10,7 @@ use Rattle.jdwp_show.specs.Lines.{Line, is_same, sent_by}
 use Rattle.jdwp_show.proofs.FoundLemmas.{found_grows}
 use Rattle.jdwp_show.proofs.LineLemmas.{sent_by-push}
 
-same_sender : (a b : Sender) → is_same a b ≡ true → a ≡ b
+pub same_sender : (a b : Sender) → is_same a b ≡ true → a ≡ b
 same_sender Debugger Debugger e = refl
 same_sender Debugger Target e = absurd cc
 same_sender Target Debugger e = absurd cc
@@ -18,10 +18,10 @@ same_sender Target Target e = refl
 
 -- ---- what the items of a line are
 
-found_of-append : (sender : Sender) (xs ys : List Item) → found_of sender (xs ++ ys) ≡ found_of sender xs ++ found_of sender ys
+pub found_of-append : (sender : Sender) (xs ys : List Item) → found_of sender (xs ++ ys) ≡ found_of sender xs ++ found_of sender ys
 found_of-append sender xs ys = flat_map-append (λ (item : Item). cond (is_same sender item.sender) (item.found ∷ []) []) xs ys
 
-of_this_end : (sender by : Sender) (line : ℕ) (things : List Found) → is_same sender by ≡ true → found_of sender (map (item_at line by) things) ≡ things
+pub of_this_end : (sender by : Sender) (line : ℕ) (things : List Found) → is_same sender by ≡ true → found_of sender (map (item_at line by) things) ≡ things
 of_this_end sender by line [] e = refl
 of_this_end sender by line (x ∷ things) e = rw e (ap (λ (xs : List Found). x ∷ xs) (of_this_end sender by line things e))
 
@@ -32,7 +32,7 @@ of_the_other_end sender by line (x ∷ things) e = rw e (of_the_other_end sender
 -- ---- line by line
 
 -- what the end sent in the lines before, and what its items in this line add
-line_adds : (before : List Line) (line : Line) (sender : Sender) (is_here : Bool) → is_same sender line.sender ≡ is_here
+pub line_adds : (before : List Line) (line : Line) (sender : Sender) (is_here : Bool) → is_same sender line.sender ≡ is_here
     → found (sent_by sender before) ++ found_of sender (map (item_at (length before + 1) line.sender) (completed before line)) ≡ found (sent_by sender (before ++ line ∷ []))
 line_adds before line sender true e =
     let sent = sent_by sender before in

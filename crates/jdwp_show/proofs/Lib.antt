@@ -4,6 +4,7 @@ pub mod FoundLemmas
 pub mod FoundLaws
 pub mod DataLaws
 pub mod ItemLaws
+pub mod StandingLaws
 pub mod StreamLemmas
 pub mod WalkLemmas
 pub mod JudgingLemmas

@@ -1,12 +1,12 @@
 //! Laws of the definitions by which captures are judged, as contracts of functions that do nothing.
-ghost use Rattle.std.specs.Prelude.{◌≡◌, ◌↔◌, ℕ, List, Some};
+ghost use Rattle.std.specs.Prelude.{◌≡◌, ◌↔◌, ℕ, List, ◌∷◌, ◌++◌, length, Some};
 ghost use Rattle.jdwp_wire.specs.Bytes.{IsBytes};
 ghost use Rattle.jdwp_wire.specs.Widths.{Widths};
 ghost use Rattle.jdwp_layout.specs.Rows.{RowShapes};
 ghost use Rattle.jdwp_show.specs.Data.{shapes_of, widths_in, widths_by};
 ghost use Rattle.jdwp_show.specs.declared.capture_line.Sender.{Sender};
 ghost use Rattle.jdwp_show.specs.Found.{Found, found, AreIn};
-ghost use Rattle.jdwp_show.specs.Items.{Item, items_of, found_of};
+ghost use Rattle.jdwp_show.specs.Items.{Item, items_of, found_of, StandsIn};
 ghost use Rattle.jdwp_show.specs.declared.pending.Command.{Command};
 ghost use Rattle.jdwp_show.specs.Lines.{Line, sent_by};
 ghost use Rattle.jdwp_show.specs.Rules.{waiting};
@@ -41,4 +41,10 @@ pub fn waits_where_it_stands()
 /// ends or ids.
 pub fn tells_widths_first()
     ensures { (items : List Item) (widths : Widths) → (widths_of items ≡ Some widths) ↔ TellsWidths items widths }
+{}
+
+/// Each item stands in its line: among what its end sent it comes behind those of its items that were told before it, it is whole in the
+/// lines up to that one, and it was not whole before that line.
+pub fn stands_in_its_line()
+    ensures { (capture : List Line) (earlier later : List Item) (item : Item) → items_of capture ≡ earlier ++ item ∷ later → StandsIn capture item (length (found_of item.sender earlier)) }
 {}
