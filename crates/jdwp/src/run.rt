@@ -125,12 +125,7 @@ fn serve_script<R: Files + AllocGlobal>(rt: &R, words: &ServeScript<'_>) -> Resu
         return Err(Fault::NoMemory);
     };
     let mut pipe = Streams::new(reader, writer);
-    let ended = serve(&mut target, &mut pipe, u64::from(words.turns));
-    Ok(if pipe.flush().is_ok() {
-        ended
-    } else {
-        Ended::LostByWrite
-    })
+    Ok(serve(&mut target, &mut pipe, u64::from(words.turns)))
 }
 
 /// The file, or this fault where it isn't there for another cause than memory.
