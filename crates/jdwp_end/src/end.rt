@@ -72,8 +72,7 @@ impl End {
         ensures { self.new ≡ opened self.old }
     {
         self.phase = Phase::AwaitingHandshake;
-        self.incoming.clear();
-        self.outgoing.clear();
+        self.empty();
         self.session = Session::new();
     }
 
@@ -89,9 +88,16 @@ impl End {
         ensures { self.new ≡ lost self.old }
     {
         self.phase = Phase::Closed;
+        self.empty();
+        self.session.lose();
+    }
+
+    /// Empties both buffers.
+    fn empty(&mut self)
+        ensures { self.new ≡ record self.old { incoming = []; outgoing = [] } }
+    {
         self.incoming.clear();
         self.outgoing.clear();
-        self.session.lose();
     }
 
     /// How many bytes `feed` would take, 0 at a closed end.

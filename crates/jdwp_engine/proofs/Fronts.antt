@@ -1,5 +1,5 @@
 -- What stands in front of what a target was fed and did not handle.
-use Rattle.std.proofs.Common.{◌≡◌, ◌≢◌, ◌∙◌, ℕ, ◌<◌, ◌++◌, List, [], ◌∷◌, length, Bool, true, false, sym, ap, refl, arith, nat_lt}
+use Rattle.std.proofs.Common.{◌≡◌, ◌≢◌, ◌∙◌, ℕ, ◌<◌, ◌++◌, List, [], ◌∷◌, length, true, ap, refl, arith, nat_lt}
 use Rattle.std.proofs.lemmas.Bool.{lt-ltb}
 use Rattle.jdwp_wire.specs.Streams.{Message, NextMessage, next_message}
 use Rattle.jdwp_end.specs.declared.phase.Phase.{Phase}

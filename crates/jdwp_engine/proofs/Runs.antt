@@ -1,11 +1,11 @@
 -- How the facts of an engine's run go on from one call to the next.
-use Rattle.std.proofs.Common.{◌≡◌, ◌≢◌, ◌∙◌, ℕ, ◌<◌, ◌≤◌, ◌+◌, ◌++◌, List, [], ◌∷◌, length, Bool, true, false, Ok, Err, ◌⊎◌, inl, inr, min, take, drop, sym, ap, refl, subst, append_assoc, arith}
+use Rattle.std.proofs.Common.{◌≡◌, ◌≢◌, ◌∙◌, ℕ, ◌<◌, ◌+◌, ◌++◌, List, [], ◌∷◌, length, true, false, Ok, Err, ◌⊎◌, inl, inr, min, take, drop, sym, ap, refl, subst, append_assoc, arith}
 use Rattle.std.proofs.lemmas.Grind.{common_steps}
 use Rattle.std.proofs.lemmas.List.{append-nil, length-take, length-append, take_at, take-append-drop, drop-drop}
 use Rattle.jdwp_wire.specs.FaultNumbers.{fault_number}
-use Rattle.jdwp_wire.specs.Streams.{Message, Whole, More, Fault, stream}
+use Rattle.jdwp_wire.specs.Streams.{Message, More, stream}
 use Rattle.jdwp_wire.specs.declared.frame.FrameFault.{FrameFault}
-use Rattle.jdwp_end.specs.Ends.{End, front_of, is_open, is_paused, next_of}
+use Rattle.jdwp_end.specs.Ends.{front_of, is_open, is_paused, next_of}
 use Rattle.jdwp_end.specs.Runs.{Carries}
 use Rattle.jdwp_end.proofs.Fronts.{front-fault, front-next, front-whole}
 use Rattle.jdwp_target.specs.declared.target.TargetFault.TheVariants.{Frame, NoMemory}
@@ -17,7 +17,6 @@ use Rattle.jdwp_target.specs.Reactions.{react}
 use Rattle.jdwp_target.specs.Runs.{Ran}
 use Rattle.jdwp_target.specs.State.{Moment}
 use Rattle.jdwp_target.proofs.RunLemmas.{handled-more}
-use Rattle.jdwp_engine.specs.declared.ended.Ended.{Ended}
 use Rattle.jdwp_engine.specs.declared.ended.Ended.TheVariants.{Done, LostByRead, LostByWrite, Refused, TurnLimit}
 use Rattle.jdwp_engine.specs.declared.ended.Ended.TheVariants as ended
 use Rattle.jdwp_engine.specs.declared.serving.Next.{Next}

@@ -1,11 +1,11 @@
 -- Suspend counts that are changed one after the other.
-use Rattle.std.proofs.Common.{◌≡◌, ℕ, zero, suc, ◌+◌, ◌-◌, ◌<◌, ◌≤◌, Bool, true, false, cond, eqb, ◌||◌, List, [], ◌∷◌, ◌++◌, length, get_or, map, take, drop, refl, sym, ◌∙◌, ap, subst, arith, Some, IfSome}
+use Rattle.std.proofs.Common.{◌≡◌, ℕ, zero, suc, ◌+◌, ◌<◌, ◌≤◌, Bool, true, false, cond, eqb, ◌||◌, List, [], ◌∷◌, ◌++◌, length, get_or, map, take, drop, refl, ◌∙◌, ap, arith, Some, IfSome}
 use Rattle.std.specs.List.{list_any}
 use Rattle.std.proofs.lemmas.Bool.{eqb-false}
 use Rattle.jdwp_value.specs.declared.id.ObjectId.{ObjectId}
-use Rattle.jdwp_target.specs.Counts.{AllAtMost, Debuggee, IsSound, change_of, fresh, recounted, threads_of, thread_of}
-use Rattle.jdwp_target.specs.Options.{IsCountLimit, Options}
-use Rattle.jdwp_target.specs.State.{State, Thread, at_limit, count_in, raised, lowered, cleared, running, with_counts}
+use Rattle.jdwp_target.specs.Counts.{AllAtMost, Debuggee, IsSound, fresh, recounted, threads_of}
+use Rattle.jdwp_target.specs.Options.{Options}
+use Rattle.jdwp_target.specs.State.{Thread, at_limit, count_in, raised, lowered, cleared, running, with_counts}
 use Rattle.jdwp_target.specs.declared.state.ThreadEntry.{ThreadEntry}
 
 abbrev pub debuggee : Options → List Thread → Bool → Bool → ℕ → Debuggee

@@ -1,7 +1,7 @@
 -- What every target keeps, over a message that is handled.
-use Rattle.std.proofs.Common.{◌≡◌, ◌≢◌, ◌∙◌, ℕ, List, Bool, true, false, Option, Some, None, Result, Ok, Err, sym, ap, refl, subst}
+use Rattle.std.proofs.Common.{◌≡◌, ◌∙◌, ℕ, List, Bool, true, false, Option, Some, None, Result, Ok, Err, sym, ap, refl, subst}
 use Rattle.jdwp_wire.specs.Bytes.{IsBytes}
-use Rattle.jdwp_wire.specs.Streams.{Message, Handshake, Packet, NextMessage, Whole, IsPacketMessage, stream}
+use Rattle.jdwp_wire.specs.Streams.{Message, Handshake, Packet, NextMessage, Whole, stream}
 use Rattle.jdwp_wire.specs.declared.error_code.ErrorCode.{ErrorCode}
 use Rattle.jdwp_wire.specs.declared.packet.Header.{Header}
 use Rattle.jdwp_end.specs.declared.phase.Phase.{Phase}
@@ -13,14 +13,13 @@ use Rattle.jdwp_target.specs.declared.target.Target.TheInside.{Inside}
 use Rattle.jdwp_target.specs.declared.target.Turn.{Turn}
 use Rattle.jdwp_target.specs.declared.fixed.Fixed.{Fixed}
 use Rattle.jdwp_target.specs.Acts.{Handles, Reaction}
-use Rattle.jdwp_target.specs.Commands.{Command, Dispose, IDSizes, Suspend, Resume, SuspendCount, Effect, carried_out, effect, suspend_by}
-use Rattle.jdwp_target.specs.Counts.{Debuggee}
+use Rattle.jdwp_target.specs.Commands.{Command, Dispose, IDSizes, Suspend, Resume, SuspendCount, effect, suspend_by}
 use Rattle.jdwp_target.specs.Endpoints.{Endpoint, TurnsAt, settled, setup_of, with_handled}
 use Rattle.jdwp_target.specs.Kept.{IsRight, view_of}
-use Rattle.jdwp_target.specs.Reactions.{at_handshake_by, at_message, at_packet, react, told_of}
+use Rattle.jdwp_target.specs.Reactions.{at_handshake_by, at_packet, react, told_of}
 use Rattle.jdwp_target.specs.Runs.{Ran}
 use Rattle.jdwp_target.specs.Setup.{Setup}
-use Rattle.jdwp_target.specs.State.{State, Moment}
+use Rattle.jdwp_target.specs.State.{Moment}
 use Rattle.jdwp_target.proofs.RunLemmas.{ran-handled}
 
 -- ---- what a message leaves

@@ -1,23 +1,20 @@
 -- How a run goes on.
-use Rattle.std.proofs.Common.{◌≡◌, ◌≢◌, ◌∙◌, ℕ, ◌+◌, ◌≤◌, ◌<◌, ◌++◌, List, [], ◌∷◌, length, take, drop, Bool, true, false, Option, Some, None, Result, Ok, Err, sym, ap, refl, subst, arith, append_assoc}
+use Rattle.std.proofs.Common.{◌≡◌, ◌≢◌, ◌∙◌, ℕ, ◌≤◌, ◌++◌, List, [], ◌∷◌, length, take, Bool, true, false, sym, ap, refl, subst, append_assoc}
 use Rattle.std.proofs.lemmas.List.{append-nil}
 use Rattle.jdwp_wire.specs.Bytes.{IsBytes}
-use Rattle.jdwp_wire.specs.Streams.{Message, Handshake, Packet, Whole, stream}
-use Rattle.jdwp_wire.specs.declared.error_code.ErrorCode.{ErrorCode}
-use Rattle.jdwp_end.specs.declared.phase.Phase.{Phase}
-use Rattle.jdwp_end.specs.declared.phase.Phase.TheVariants.{Closed, AwaitingHandshake, Established}
+use Rattle.jdwp_wire.specs.Streams.{Message, Whole, stream}
+use Rattle.jdwp_end.specs.declared.phase.Phase.TheVariants.{Established}
 use Rattle.jdwp_end.specs.Ends.{End, front_of, is_open, is_open_phase}
 use Rattle.jdwp_end.specs.Ends as ends
 use Rattle.jdwp_end.specs.Runs.{Carries}
-use Rattle.jdwp_end.proofs.Fronts.{due-open, front-whole, in-front}
+use Rattle.jdwp_end.proofs.Fronts.{due-open, in-front}
 use Rattle.jdwp_end.proofs.Carrying.{carries-new, carries-opened, carries-fed, carries-handled, carries-enqueued, carries-closed, carries-taken, carries-lost, open-kept, stream-append}
 use Rattle.jdwp_target.specs.Acts.{Act, Handles, Reaction, after, handled, sent}
-use Rattle.jdwp_target.specs.Commands.{Command, Dispose, IDSizes, Suspend, Resume, SuspendCount, asked_in, carried_out, effect, suspend_by}
 use Rattle.jdwp_target.specs.Endpoints.{Endpoint, lost, new_endpoint, opened, phase_after, settled, setup_of, with_fed, with_handled, with_taken}
-use Rattle.jdwp_target.specs.Reactions.{IsDispose, at_handshake_by, at_message, at_packet, react}
-use Rattle.jdwp_target.specs.Runs.{EndInDispose, Ran}
+use Rattle.jdwp_target.specs.Reactions.{react}
+use Rattle.jdwp_target.specs.Runs.{Ran}
 use Rattle.jdwp_target.specs.Setup.{Setup}
-use Rattle.jdwp_target.specs.State.{State, Moment}
+use Rattle.jdwp_target.specs.State.{Moment}
 use Rattle.jdwp_target.proofs.Disposing.{closes-IsDispose}
 
 -- ---- one act more

@@ -1,6 +1,6 @@
 -- The commands that this target carries out: what their data read as, what they do and what is answered
 -- (JDWP specification, "VirtualMachine" and "ThreadReference" command sets).
-use Rattle.std.specs.Prelude.{◌≡◌, ℕ, pos, Bool, true, false, ◌==◌, if◌then◌else◌, List, [], ◌∷◌, Option, Some, None, Result, Ok, Err}
+use Rattle.std.specs.Prelude.{ℕ, pos, Bool, true, false, ◌==◌, if◌then◌else◌, List, [], ◌∷◌, Option, Some, None, Result, Ok, Err}
 use Rattle.jdwp_wire.specs.Widths.{Widths}
 use Rattle.jdwp_wire.specs.ErrorCodes.{INVALID_THREAD, NOT_IMPLEMENTED, ILLEGAL_ARGUMENT, INTERNAL}
 use Rattle.jdwp_wire.specs.Streams.{Message}

@@ -1,5 +1,5 @@
 -- What the code keeps of the debuggee.
-use Rattle.std.specs.Prelude.{◌≡◌, ℕ, ◌+◌, ◌-◌, ◌≤◌, Bool, false, List, [], ◌∷◌, map}
+use Rattle.std.specs.Prelude.{◌≡◌, ℕ, ◌≤◌, Bool, false, List, [], ◌∷◌, map}
 use Rattle.jdwp_value.specs.declared.id.ObjectId.{ObjectId}
 use Rattle.jdwp_target.specs.Options.{Options, IsCountLimit}
 use Rattle.jdwp_target.specs.declared.state.Change.{Change}

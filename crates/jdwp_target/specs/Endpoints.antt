@@ -1,6 +1,5 @@
 -- The target's end of a session, as contracts see it, and what each call does to it.
 use Rattle.std.specs.Prelude.{◌≡◌, ℕ, Bool, true, false, List, Result, Ok, Err, MatchResult}
-use Rattle.jdwp_wire.specs.Limits.{Limits}
 use Rattle.jdwp_wire.specs.Widths.{Widths}
 use Rattle.jdwp_wire.specs.Streams.{Message, NextMessage, Whole, More, Fault, stream}
 use Rattle.jdwp_end.specs.declared.phase.Phase.{Phase}
@@ -15,7 +14,7 @@ use Rattle.jdwp_target.specs.Acts.{Reaction, Handles}
 use Rattle.jdwp_target.specs.Options.{Options}
 use Rattle.jdwp_target.specs.Reactions.{react, told_of}
 use Rattle.jdwp_target.specs.Setup.{Setup}
-use Rattle.jdwp_target.specs.State.{State, Moment, reset}
+use Rattle.jdwp_target.specs.State.{Moment, reset}
 
 -- How many bytes ids take; the options; the moment; the moment at which the session began; and what both ends have.
 pub record Endpoint (M : Type 0) : Type 0 where

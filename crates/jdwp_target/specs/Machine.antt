@@ -1,5 +1,5 @@
 -- The machine that a target runs.
-use Rattle.std.specs.Prelude.{ℕ, List, [], ◌∷◌}
+use Rattle.std.specs.Prelude.{List, [], ◌∷◌}
 use Rattle.jdwp_wire.specs.declared.id_sizes.IdSizes.{IdSizes}
 use Rattle.jdwp_value.specs.declared.id.ObjectId.{ObjectId}
 

@@ -1,5 +1,5 @@
 -- What the target does at each message.
-use Rattle.std.specs.Prelude.{◌≡◌, ℕ, Bool, true, false, List, [], ◌∷◌, if◌then◌else◌, Option, Some, None, Result}
+use Rattle.std.specs.Prelude.{◌≡◌, ℕ, Bool, true, false, [], ◌∷◌, if◌then◌else◌, Option, Some, None, Result}
 use Rattle.jdwp_wire.specs.Widths.{Widths}
 use Rattle.jdwp_wire.specs.Streams.{Message, Handshake, Packet}
 use Rattle.jdwp_wire.specs.declared.error_code.ErrorCode.{ErrorCode}

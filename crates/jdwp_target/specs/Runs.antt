@@ -1,7 +1,7 @@
 -- The whole run of a session, from bytes to bytes.
-use Rattle.std.specs.Prelude.{◌≡◌, ◌≢◌, true, false, List, [], ◌∷◌, ◌++◌}
+use Rattle.std.specs.Prelude.{◌≡◌, ◌≢◌, false, List, [], ◌∷◌, ◌++◌}
 use Rattle.jdwp_wire.specs.Streams.{Message, stream}
-use Rattle.jdwp_end.specs.Ends.{End, is_open}
+use Rattle.jdwp_end.specs.Ends.{is_open}
 use Rattle.jdwp_end.specs.Runs.{Carries}
 use Rattle.jdwp_target.specs.Acts.{Act, Handles, after, handled, sent}
 use Rattle.jdwp_target.specs.Endpoints.{Endpoint, setup_of}

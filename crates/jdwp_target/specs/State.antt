@@ -1,5 +1,5 @@
 -- The state of the debuggee (JDWP specification, "VirtualMachine": Suspend, Resume; "ThreadReference": SuspendCount).
-use Rattle.std.specs.Prelude.{◌≡◌, ℕ, ◌+◌, ◌-◌, ◌^◌, ◌%◌, ◌≤◌, Bool, true, false, ◌==◌, nat_lt, if◌then◌else◌, List, [], ◌∷◌, map, Option, Some, None, IsSome}
+use Rattle.std.specs.Prelude.{ℕ, ◌+◌, ◌-◌, ◌^◌, ◌%◌, ◌≤◌, Bool, true, false, ◌==◌, nat_lt, if◌then◌else◌, List, [], ◌∷◌, map, Option, Some, None, IsSome}
 use Rattle.std.specs.List.{list_any, AllByRecursion}
 use Rattle.jdwp_value.specs.declared.id.ObjectId.{ObjectId}
 

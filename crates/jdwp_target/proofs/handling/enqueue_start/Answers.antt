@@ -1,4 +1,4 @@
-use Rattle.std.proofs.Common.{◌≡◌, ◌∙◌, ap, refl, ℕ, pos, ◌+◌, List, ◌∷◌, [], ◌++◌}
+use Rattle.std.proofs.Common.{◌∙◌, ap, refl, ℕ, pos, ◌+◌, List, ◌∷◌, [], ◌++◌}
 use Rattle.byteorder.specs.Endian.{big_bytes}
 use Rattle.jdwp_wire.specs.Basic.{int_canonical}
 use Rattle.jdwp_wire.specs.Frames.{header_bytes}

@@ -1,4 +1,4 @@
-use Rattle.std.proofs.Common.{◌≡◌, ◌∙◌, ap, sym, refl, ℕ, pos, List}
+use Rattle.std.proofs.Common.{◌∙◌, ap, sym, refl, ℕ, pos, List}
 use Rattle.jdwp_end.specs.Ends.{with_enqueued}
 use Rattle.jdwp_wire.specs.Basic.{int_canonical}
 use Rattle.jdwp_wire.specs.Streams.{message_bytes}

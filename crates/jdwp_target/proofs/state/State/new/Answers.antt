@@ -1,6 +1,6 @@
-use Rattle.std.proofs.Common.{◌≡◌, true, false, arith, take, ◌∙◌, subst, sym, ap, rules, length}
+use Rattle.std.proofs.Common.{◌≡◌, arith, take, ◌∙◌, ap, rules}
 use Rattle.std.proofs.lemmas.List.{take_all}
-use Rattle.jdwp_target.specs.Counts.{IsSound, fresh, threads_of}
+use Rattle.jdwp_target.specs.Counts.{fresh, threads_of}
 use Rattle.jdwp_target.specs.State.{running}
 use Rattle.jdwp_target.proofs.CountLemmas.{AllAtMost-fresh, threads-fresh}
 use Rattle.jdwp_target.proofs.state.State.new.Goals as goal

@@ -1,4 +1,4 @@
-use Rattle.std.proofs.Common.{rules, ◌≡◌, ◌∙◌, ap, sym, refl, subst, false, true, List, Bool}
+use Rattle.std.proofs.Common.{rules, ◌≡◌, ◌∙◌, ap, refl, subst, false, true, Bool}
 use Rattle.jdwp_target.specs.Counts.{IsSound, threads_of}
 use Rattle.jdwp_target.specs.State.{raised, with_counts}
 use Rattle.jdwp_target.specs.Counts.{Debuggee}

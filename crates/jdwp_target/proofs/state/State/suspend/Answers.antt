@@ -1,5 +1,5 @@
-use Rattle.std.proofs.Common.{◌≡◌, ◌∙◌, ap, refl, sym, true, false, List}
-use Rattle.jdwp_target.specs.Counts.{Debuggee, recounted, threads_of}
+use Rattle.std.proofs.Common.{◌≡◌, ◌∙◌, ap, refl, sym, true, false}
+use Rattle.jdwp_target.specs.Counts.{Debuggee, threads_of}
 use Rattle.jdwp_target.specs.State.{at_limit, raised, with_counts}
 use Rattle.jdwp_target.proofs.CountLemmas.{sound-most, sound-raised, threads-at_limit, threads-recounted}
 use Rattle.jdwp_target.proofs.state.State.suspend.Goals as goal

@@ -1,4 +1,3 @@
-use Rattle.std.proofs.Common.{◌≡◌}
 use Rattle.jdwp_target.proofs.RunLemmas.{ran-opened}
 use Rattle.jdwp_target.specs.Kept.{view_of}
 use Rattle.jdwp_target.proofs.target.Target.accept.Goals as goal

@@ -1,4 +1,4 @@
-use Rattle.std.proofs.Common.{rules, ◌≡◌, ◌∙◌}
+use Rattle.std.proofs.Common.{rules, ◌≡◌}
 use Rattle.jdwp_end.specs.Ends.{new_end}
 use Rattle.jdwp_wire.specs.Limits.{standard_limits}
 use Rattle.jdwp_target.specs.Meanings.{moment_at, setup_at}

@@ -1,7 +1,4 @@
-use Rattle.std.proofs.Common.{rules, ◌≡◌, ◌≤◌, arith, length, sym, subst, ap, take}
-use Rattle.jdwp_end.specs.Ends.{with_taken}
-use Rattle.jdwp_target.specs.Kept.{IsRight}
-use Rattle.jdwp_target.specs.Runs.{Ran}
+use Rattle.std.proofs.Common.{◌≤◌, arith, length}
 use Rattle.jdwp_target.proofs.RunLemmas.{ran-taken}
 use Rattle.jdwp_target.proofs.target.Target.take.Goals as goal
 

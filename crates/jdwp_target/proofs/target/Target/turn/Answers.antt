@@ -1,10 +1,7 @@
-use Rattle.std.proofs.Common.{rules, ◌≡◌, ◌∙◌, ap, sym, refl, true, Option, Result}
-use Rattle.jdwp_wire.specs.Bytes.{IsBytes}
+use Rattle.std.proofs.Common.{rules, ◌≡◌, refl}
 use Rattle.jdwp_wire.specs.Streams.{Handshake, Packet, Whole}
-use Rattle.jdwp_wire.specs.Widths.{Widths}
-use Rattle.jdwp_wire.specs.declared.error_code.ErrorCode.{ErrorCode}
-use Rattle.jdwp_end.specs.Ends.{End, front_of, with_handled}
-use Rattle.jdwp_target.specs.Commands.{Command, asked_in}
+use Rattle.jdwp_end.specs.Ends.{front_of}
+use Rattle.jdwp_target.specs.Commands.{asked_in}
 use Rattle.jdwp_target.specs.Endpoints.{setup_of}
 use Rattle.jdwp_target.specs.Kept.{view_of}
 use Rattle.jdwp_target.specs.Machine.{fixed_sizes}
