@@ -1,4 +1,4 @@
-pub mod Dispose
 pub mod Fronts
+pub mod Known
 pub mod Runs
 pub mod Turns

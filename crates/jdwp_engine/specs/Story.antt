@@ -3,7 +3,7 @@ use Rattle.std.specs.Prelude.{ℕ, ◌+◌, ◌*◌, List, [], ◌∷◌, zero, 
 use Rattle.std.specs.Prelude.{Result}
 
 -- read: the bytes that were read; written: those that were written; rooms: the reads with room for a byte;
--- ends: those of them that gave 0; failed_reads; failed_writes: one that takes 0 of some bytes counts as failed
+-- ends: those of them that gave 0; failed_reads; failed_writes: one that takes 0 of some bytes counts as failed, and a failed flush
 pub record Story : Type 0 where
   pub read : List ℕ
   pub written : List ℕ
@@ -38,6 +38,11 @@ after_write s (Ok n) bytes = record s {
   failed_writes = s.failed_writes + some_of bytes * zero_of n;
 }
 after_write s (Err e) bytes = record s { failed_writes = s.failed_writes + 1 }
+
+-- a flush gave this
+abbrev pub after_flush : {E : Type 0} → Story → Result (Unit {0}) E → Story
+after_flush s (Ok u) = s
+after_flush s (Err e) = record s { failed_writes = s.failed_writes + 1 }
 
 -- nothing went through
 abbrev pub empty_story : Story

@@ -1,13 +1,13 @@
 //! What an engine reads from and writes to.
 ghost use Rattle.std.specs.Prelude.{◌≡◌, ◌≤◌, length, IfOk};
-ghost use Rattle.jdwp_engine.specs.Story.{Story, after_read, after_write};
+ghost use Rattle.jdwp_engine.specs.Story.{Story, after_flush, after_read, after_write};
 
 use std::io;
 
 /// A reader and a writer, seen by what went through them.
 ///
 /// Its story tells the bytes that were read, the bytes that were written, how many reads had room for a byte, how
-/// many of those gave 0, and how many reads and writes failed.
+/// many of those gave 0, how many reads failed, and how many writes and flushes did.
 pub trait Pipe {
     ghost story: { Self → Story };
 
@@ -25,4 +25,10 @@ pub trait Pipe {
     fn write(&mut self, bytes: &[u8]) -> io::Result<usize>
         ensures within { IfOk result (λ n. n ≤ length bytes.now) }
         ensures story { story self.new ≡ after_write (story self.old) result bytes.now };
+
+    /// Sees that what was written leaves, where it stands in a buffer. A flush that fails counts as a write that failed.
+    ///
+    /// An error is the writer's.
+    fn flush(&mut self) -> io::Result<()>
+        ensures { story self.new ≡ after_flush (story self.old) result };
 }

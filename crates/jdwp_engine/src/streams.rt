@@ -1,4 +1,5 @@
 //! A pipe of any reader and any writer.
+ghost use Rattle.std.specs.Io.KnownBytes.{Keeps, ReadConsumes, WriteAppends};
 ghost use Rattle.std.specs.Prelude.{◌≡◌, ◌≤◌, length, IfOk};
 
 use crate::Pipe;
@@ -8,8 +9,10 @@ use trace::{History, Trace};
 
 /// A reader and a writer as a pipe.
 ///
-/// Before each read the writer is flushed, so that no peer waits for bytes that stand in a buffer. A flush that fails
-/// counts as a read that failed. A call that was interrupted is made again.
+/// Its story is the reader's and the writer's: where the bytes that are left in the reader and those that the writer holds are known,
+/// what was read was taken from the first, and what was written was added to the second. Before each read the writer is flushed, so
+/// that no peer waits for bytes that stand in a buffer; where that flush fails, the read does. A call that was interrupted is made
+/// again.
 #[derive(Drop)]
 pub struct Streams<R, W> {
     reader: R,
@@ -54,27 +57,18 @@ impl<R, W> Streams<R, W> {
     }
 }
 
-impl<R, W: Write> Streams<R, W> {
-    ghost use Rattle.jdwp_engine.specs.Streams.{story_of, reader_of};
-
-    /// Flushes the writer, which may keep bytes in a buffer of its own. The story has no word of it.
-    ///
-    /// # Errors
-    /// The writer's.
-    pub fn flush(&mut self) -> io::Result<()>
-        ensures story { story_of self.new ≡ story_of self.old }
-        ensures reader { reader_of self.new ≡ reader_of self.old }
-    {
-        flush_uninterrupted(&mut self.writer)
-    }
-}
-
 impl<R: Read, W: Write> Pipe for Streams<R, W> {
-    ghost use Rattle.jdwp_engine.specs.Streams.{story_of};
+    ghost use Rattle.jdwp_engine.specs.Streams.{story_of, reader_of, writer_of};
+    ghost use Rattle.jdwp_engine.specs.Story.{after_flush, after_read, after_write};
 
     ghost story = { story_of };
 
-    fn read(&mut self, buffer: &mut [u8]) -> io::Result<usize> {
+    fn read(&mut self, buffer: &mut [u8]) -> io::Result<usize>
+        ensures within { IfOk result (λ n. n ≤ length buffer.new) }
+        ensures story { story_of self.new ≡ after_read (story_of self.old) result buffer.new }
+        ensures reader { ReadConsumes (R.remaining (reader_of self.old)) (R.remaining (reader_of self.new)) result buffer.new }
+        ensures writer { Keeps (W.contents (writer_of self.old)) (W.contents (writer_of self.new)) }
+    {
         let has_room = !buffer.is_empty();
         if has_room {
             self.rooms.push(&());
@@ -94,7 +88,12 @@ impl<R: Read, W: Write> Pipe for Streams<R, W> {
         }
     }
 
-    fn write(&mut self, bytes: &[u8]) -> io::Result<usize> {
+    fn write(&mut self, bytes: &[u8]) -> io::Result<usize>
+        ensures within { IfOk result (λ n. n ≤ length bytes.now) }
+        ensures story { story_of self.new ≡ after_write (story_of self.old) result bytes.now }
+        ensures writer { WriteAppends (W.contents (writer_of self.old)) (W.contents (writer_of self.new)) result bytes.now }
+        ensures reader { reader_of self.new ≡ reader_of self.old }
+    {
         match write_uninterrupted(&mut self.writer, bytes) {
             Ok(count) => {
                 self.written.extend(&bytes[..count]);
@@ -103,6 +102,20 @@ impl<R: Read, W: Write> Pipe for Streams<R, W> {
                 }
                 Ok(count)
             }
+            Err(error) => {
+                self.failed_writes.push(&());
+                Err(error)
+            }
+        }
+    }
+
+    fn flush(&mut self) -> io::Result<()>
+        ensures story { story_of self.new ≡ after_flush (story_of self.old) result }
+        ensures writer { Keeps (W.contents (writer_of self.old)) (W.contents (writer_of self.new)) }
+        ensures reader { reader_of self.new ≡ reader_of self.old }
+    {
+        match flush_uninterrupted(&mut self.writer) {
+            Ok(()) => Ok(()),
             Err(error) => {
                 self.failed_writes.push(&());
                 Err(error)
@@ -120,13 +133,17 @@ fn flush_and_read<R: Read, W: Write>(
     writer: &mut W,
     buffer: &mut [u8],
 ) -> io::Result<usize>
-    ensures { IfOk result (λ n. n ≤ length buffer.new) }
+    ensures bound { IfOk result (λ n. n ≤ length buffer.new) }
+    ensures reader { ReadConsumes (R.remaining reader.old) (R.remaining reader.new) result buffer.new }
+    ensures writer { Keeps (W.contents writer.old) (W.contents writer.new) }
 {
     flush_uninterrupted(writer)?;
     read_uninterrupted(reader, buffer)
 }
 
-fn flush_uninterrupted<W: Write>(writer: &mut W) -> io::Result<()> {
+fn flush_uninterrupted<W: Write>(writer: &mut W) -> io::Result<()>
+    ensures { Keeps (W.contents writer.old) (W.contents writer.new) }
+{
     for _ in 0..TRIES {
         match writer.flush() {
             Err(error) if error.kind() == ErrorKind::Interrupted => {}
@@ -137,7 +154,8 @@ fn flush_uninterrupted<W: Write>(writer: &mut W) -> io::Result<()> {
 }
 
 fn read_uninterrupted<R: Read>(reader: &mut R, buffer: &mut [u8]) -> io::Result<usize>
-    ensures { IfOk result (λ n. n ≤ length buffer.new) }
+    ensures bound { IfOk result (λ n. n ≤ length buffer.new) }
+    ensures bytes { ReadConsumes (R.remaining reader.old) (R.remaining reader.new) result buffer.new }
 {
     for _ in 0..TRIES {
         match reader.read(buffer) {
@@ -149,7 +167,8 @@ fn read_uninterrupted<R: Read>(reader: &mut R, buffer: &mut [u8]) -> io::Result<
 }
 
 fn write_uninterrupted<W: Write>(writer: &mut W, bytes: &[u8]) -> io::Result<usize>
-    ensures { IfOk result (λ n. n ≤ length bytes.now) }
+    ensures bound { IfOk result (λ n. n ≤ length bytes.now) }
+    ensures bytes { WriteAppends (W.contents writer.old) (W.contents writer.new) result bytes.now }
 {
     for _ in 0..TRIES {
         match writer.write(bytes) {

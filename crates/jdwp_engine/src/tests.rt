@@ -1,6 +1,5 @@
 //! Sessions of a target on readers and writers.
 ghost use Rattle.std.specs.Prelude.{◌≡◌, ◌≤◌, IfOk, IfSome, true};
-ghost use Rattle.jdwp_target.specs.Endpoint.{is_closed};
 
 use crate::{Ended, Streams, serve};
 use jdwp_target::{Fixed, Target, TargetOptions};
@@ -50,18 +49,22 @@ impl Plan {
     }
 }
 
-/// Gives so many bytes a call at most.
+/// Gives so many bytes a call at most, and keeps the least and the greatest number of bytes that it was asked for.
 #[derive(Drop)]
 struct Reader<'a> {
     bytes: &'a [u8],
     most: usize,
     calls: u32,
     plan: Plan,
+    least_asked: usize,
+    most_asked: usize,
 }
 
 impl<'a> Read for Reader<'a> {
     fn read(&mut self, buffer: &mut [u8]) -> io::Result<usize> {
         self.calls = self.calls.saturating_add(1);
+        self.least_asked = self.least_asked.min(buffer.len());
+        self.most_asked = self.most_asked.max(buffer.len());
         if let Some(result) = self.plan.at(self.calls) {
             return result;
         }
@@ -79,7 +82,8 @@ struct Writer {
     most: usize,
     calls: u32,
     plan: Plan,
-    flush_fails: bool,
+    flushes: u32,
+    flush_plan: Plan,
 }
 
 impl Write for Writer {
@@ -94,10 +98,11 @@ impl Write for Writer {
     }
 
     fn flush(&mut self) -> io::Result<()> {
-        if self.flush_fails {
-            return Err(io::Error::from(ErrorKind::BrokenPipe));
+        self.flushes = self.flushes.saturating_add(1);
+        match self.flush_plan.at(self.flushes) {
+            Some(Err(error)) => Err(error),
+            Some(Ok(_)) | None => Ok(()),
         }
-        Ok(())
     }
 }
 
@@ -107,6 +112,8 @@ fn reading(bytes: &[u8], most: usize, plan: Plan) -> Reader<'_> {
         most,
         calls: 0,
         plan,
+        least_asked: usize::MAX,
+        most_asked: 0,
     }
 }
 
@@ -116,13 +123,12 @@ fn writing(alloc: Global, most: usize, plan: Plan) -> Writer {
         most,
         calls: 0,
         plan,
-        flush_fails: false,
+        flushes: 0,
+        flush_plan: UNDISTURBED,
     }
 }
 
-fn closed_target(alloc: Global, start_all: bool) -> Result<Target, Fail>
-    ensures { IfOk result (λ t. is_closed t.phase ≡ true) }
-{
+fn closed_target(alloc: Global, start_all: bool) -> Result<Target, Fail> {
     let Some(options) = TargetOptions::new(start_all, 65535) else {
         return Err(Fail::from("the count limit is in range"));
     };
@@ -346,7 +352,10 @@ fn an_interrupted_call_is_repeated(rt: HostRuntime) -> Result<(), Fail> {
 fn a_failed_flush_is_a_failed_read(rt: HostRuntime) -> Result<(), Fail> {
     let alloc = rt.alloc();
     let mut writer = writing(alloc, 5000, UNDISTURBED);
-    writer.flush_fails = true;
+    writer.flush_plan = Plan {
+        call: 1,
+        event: Event::Fails,
+    };
     let (ended, bytes) = served(
         alloc,
         false,
@@ -381,6 +390,89 @@ fn answers_leave_before_a_read(rt: HostRuntime) -> Result<(), Fail> {
             "at {call}"
         );
     }
+    Ok(())
+}
+
+/// What was written leaves the writer's own buffer at the end, and in few writes.
+#[test]
+fn answers_leave_at_the_end_in_one_write(rt: HostRuntime) -> Result<(), Fail> {
+    let alloc = rt.alloc();
+    let mut target = closed_target(alloc, false)?;
+    let writer = BufWriter::new(alloc, writing(alloc, 5000, UNDISTURBED))?;
+    let mut pipe = Streams::new(reading(&SESSION, 66, UNDISTURBED), writer);
+    assert_eq!(rt; serve(&mut target, &mut pipe, ROUNDS), Ended::Done);
+    let (_, writer) = pipe.into_parts();
+    assert_eq!(rt; writer.get_ref().bytes.as_slice(), ANSWERS.as_slice());
+    assert_eq!(rt; writer.get_ref().calls, 1);
+    Ok(())
+}
+
+/// The first flush stands before the one read, and the second at the end.
+#[test]
+fn a_failed_last_flush_is_a_failed_write(rt: HostRuntime) -> Result<(), Fail> {
+    for (call, want) in [(2u32, Ended::LostByWrite), (3, Ended::Done)] {
+        let alloc = rt.alloc();
+        let mut writer = writing(alloc, 5000, UNDISTURBED);
+        writer.flush_plan = Plan {
+            call,
+            event: Event::Fails,
+        };
+        let (ended, _) = served(
+            alloc,
+            false,
+            reading(&SESSION, 66, UNDISTURBED),
+            writer,
+            ROUNDS,
+        )?;
+        assert_eq!(rt; ended, want, "at {call}");
+    }
+    Ok(())
+}
+
+/// A packet of 65,536 bytes behind the handshake: 4,096 bytes are asked for at once, and at the end the 14 for which there is room.
+#[test]
+fn reads_are_of_what_there_is_room_for(rt: HostRuntime) -> Result<(), Fail> {
+    let alloc = rt.alloc();
+    let mut input = Vec::new(alloc);
+    input.extend_from_slice(b"JDWP-Handshake\x00\x01\x00\x00\x00\x00\x00\x05\x00\x40\x64")?;
+    let block = [0; 4096];
+    for _ in 0..16u32 {
+        input.extend_from_slice(&block)?;
+    }
+    input.truncate(65550);
+    let mut target = closed_target(alloc, false)?;
+    let mut pipe = Streams::new(
+        reading(&input, 5000, UNDISTURBED),
+        writing(alloc, 5000, UNDISTURBED),
+    );
+    assert_eq!(rt; serve(&mut target, &mut pipe, 19), Ended::TurnLimit);
+    let (reader, writer) = pipe.into_parts();
+    assert_eq!(rt; reader.most_asked, 4096);
+    assert_eq!(rt; reader.least_asked, 14);
+    assert!(rt;
+        writer
+            .bytes
+            .as_slice()
+            .ends_with(b"\x00\x00\x00\x0b\x00\x00\x00\x05\x80\x00\x63")
+    );
+    Ok(())
+}
+
+#[test]
+fn an_open_target_is_refused(rt: HostRuntime) -> Result<(), Fail> {
+    let alloc = rt.alloc();
+    let mut target = closed_target(alloc, false)?;
+    assert!(rt; target.accept());
+    let mut pipe = Streams::new(
+        reading(&SESSION, 66, UNDISTURBED),
+        writing(alloc, 5000, UNDISTURBED),
+    );
+    assert_eq!(rt; serve(&mut target, &mut pipe, ROUNDS), Ended::Refused(0));
+    assert!(rt; target.is_open());
+    let (reader, writer) = pipe.into_parts();
+    assert_eq!(rt; reader.calls, 0);
+    assert_eq!(rt; writer.calls, 0);
+    assert_eq!(rt; writer.flushes, 0);
     Ok(())
 }
 

@@ -12,6 +12,7 @@ mod event_request;
 mod frame_and_module;
 mod item;
 mod laws;
+pub mod numbers;
 mod object;
 mod reading;
 mod reference_type;

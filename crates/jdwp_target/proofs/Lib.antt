@@ -1,4 +1,5 @@
 pub mod CountLemmas
-pub mod QueueLemmas
+pub mod EnqueueLemmas
+pub mod Disposing
 pub mod RunLemmas
 pub mod KeptLemmas

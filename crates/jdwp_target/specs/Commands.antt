@@ -1,92 +1,120 @@
--- The commands that this target carries out: what they read as, what they do to the state and what they answer
+-- The commands that this target carries out: what their data read as, what they do and what is answered
 -- (JDWP specification, "VirtualMachine" and "ThreadReference" command sets).
-use Rattle.std.specs.Prelude.{◌≡◌, ℕ, Bool, true, false, ◌==◌, ◌&&◌, if◌then◌else◌, List, [], ◌∷◌, length, Option, Some, None, Result, Ok, Err}
-use Rattle.byteorder.specs.Endian.{big_number}
+use Rattle.std.specs.Prelude.{◌≡◌, ℕ, pos, Bool, true, false, ◌==◌, if◌then◌else◌, List, [], ◌∷◌, Option, Some, None, Result, Ok, Err}
+use Rattle.jdwp_wire.specs.Widths.{Widths}
+use Rattle.jdwp_wire.specs.ErrorCodes.{INVALID_THREAD, NOT_IMPLEMENTED, ILLEGAL_ARGUMENT, INTERNAL}
+use Rattle.jdwp_wire.specs.Streams.{Message}
+use Rattle.jdwp_wire.specs.declared.data_fault.DataFault.{DataFault}
 use Rattle.jdwp_wire.specs.declared.error_code.ErrorCode.{ErrorCode}
-use Rattle.jdwp_wire.specs.declared.id_sizes.IdSizes.{IdSizes}
-use Rattle.jdwp_value.specs.declared.id.ObjectId.{ObjectId}
-use Rattle.jdwp_target.specs.declared.command.Answer.{Answer}
-use Rattle.jdwp_target.specs.declared.command.Answer.TheVariants.{Done, Count, Refused}
-use Rattle.jdwp_target.specs.declared.command.Answer.TheVariants as answer
-use Rattle.jdwp_target.specs.declared.command.Command.{Command}
-use Rattle.jdwp_target.specs.declared.command.Command.TheVariants.{AskSizes, Suspend, Resume, Dispose, SuspendCount}
-use Rattle.jdwp_target.specs.State.{State, with_counts, raised, lowered, at_limit, count_of, reset}
+use Rattle.jdwp_wire.specs.declared.packet.PacketKind.{PacketKind}
+use Rattle.jdwp_wire.specs.declared.packet.PacketKind.TheVariants as kind
+use Rattle.jdwp_layout.specs.CommandTable.{row_at}
+use Rattle.jdwp_layout.specs.Meanings.{DatumMeaning, One, Int, Object}
+use Rattle.jdwp_layout.specs.Reads.{data_at}
+use Rattle.jdwp_layout.specs.Rows.{Row, RowShapes}
+use Rattle.jdwp_layout.specs.Shapes.{ItemShape}
+use Rattle.jdwp_layout.specs.declared.numbers.TheConstants.{VIRTUAL_MACHINE, THREAD_REFERENCE, DISPOSE, ID_SIZES, SUSPEND, RESUME, SUSPEND_COUNT}
+use Rattle.jdwp_target.specs.Setup.{Setup}
+use Rattle.jdwp_target.specs.State.{State, Moment, with_counts, raised, lowered, at_limit, count_of, reset}
 
--- ---- error codes
-
-abbrev pub INVALID_THREAD : ErrorCode
-INVALID_THREAD = record { 0 = 10 }
-
-abbrev pub NOT_IMPLEMENTED : ErrorCode
-NOT_IMPLEMENTED = record { 0 = 99 }
-
-abbrev pub ILLEGAL_ARGUMENT : ErrorCode
-ILLEGAL_ARGUMENT = record { 0 = 103 }
-
-abbrev pub INTERNAL : ErrorCode
-INTERNAL = record { 0 = 113 }
+-- a command with what its data say: the ids are numbers
+pub data Command : Type 0 where
+  Dispose : Command
+  IDSizes : Command
+  Suspend : Command
+  Resume : Command
+  SuspendCount : ℕ → Command
 
 -- ---- reading
 
--- a command without data
-abbrev pub bare : Command → List ℕ → Result Command ErrorCode
-bare command [] = Ok command
-bare command (byte ∷ bytes) = Err ILLEGAL_ARGUMENT
+abbrev pub shapes_in : Option RowShapes → List ItemShape
+shapes_in None = []
+shapes_in (Some shapes) = shapes.request
 
--- an object id of this width, alone
-abbrev pub object_read : ℕ → List ℕ → Result ObjectId ErrorCode
-object_read width body = if length body == width then Ok (record { 0 = big_number width body }) else Err ILLEGAL_ARGUMENT
+abbrev pub request_in : Option Row → List ItemShape
+request_in None = []
+request_in (Some row) = shapes_in row.shapes
 
--- a command of the thread that was read
-abbrev pub of_thread : (ObjectId → Command) → Result ObjectId ErrorCode → Result Command ErrorCode
-of_thread command (Ok thread) = Ok (command thread)
-of_thread command (Err error) = Err error
+-- the data of a command, by the layout of its row in the table of commands
+abbrev pub data_read : Widths → ℕ → ℕ → List ℕ → Result (List DatumMeaning) DataFault
+data_read sizes set number body = data_at sizes (request_in (row_at set number)) body
 
--- the commands of VirtualMachine, command set 1
-abbrev pub of_virtual_machine : ℕ → List ℕ → Result Command ErrorCode
-of_virtual_machine number body =
-    if number == 6 then bare Dispose body else
-    (if number == 7 then bare AskSizes body else
-    (if number == 8 then bare Suspend body else
-    (if number == 9 then bare Resume body else Err NOT_IMPLEMENTED)))
+-- a command whose data say nothing
+abbrev pub bare : Command → Result (List DatumMeaning) DataFault → Result Command ErrorCode
+bare command (Ok values) = Ok command
+bare command (Err fault) = Err ILLEGAL_ARGUMENT
 
--- the commands of ThreadReference, command set 11
-abbrev pub of_thread_reference : IdSizes → ℕ → List ℕ → Result Command ErrorCode
-of_thread_reference sizes number body =
-    if number == 12 then of_thread SuspendCount (object_read sizes.object body) else Err NOT_IMPLEMENTED
+-- a command whose data are a thread
+abbrev pub of_thread : (ℕ → Command) → Result (List DatumMeaning) DataFault → Result Command ErrorCode
+of_thread command (Ok (One (Object thread) ∷ [])) = Ok (command thread)
+of_thread command read = Err ILLEGAL_ARGUMENT
 
--- the command of a set and a number with this data; the data of an unknown command are not read
-abbrev pub command_read : IdSizes → ℕ → ℕ → List ℕ → Result Command ErrorCode
+abbrev pub virtual_machine_read : Widths → ℕ → List ℕ → Result Command ErrorCode
+virtual_machine_read sizes number body =
+    if number == DISPOSE then bare Dispose (data_read sizes VIRTUAL_MACHINE DISPOSE body) else
+    (if number == ID_SIZES then bare IDSizes (data_read sizes VIRTUAL_MACHINE ID_SIZES body) else
+    (if number == SUSPEND then bare Suspend (data_read sizes VIRTUAL_MACHINE SUSPEND body) else
+    (if number == RESUME then bare Resume (data_read sizes VIRTUAL_MACHINE RESUME body) else Err NOT_IMPLEMENTED)))
+
+abbrev pub thread_reference_read : Widths → ℕ → List ℕ → Result Command ErrorCode
+thread_reference_read sizes number body =
+    if number == SUSPEND_COUNT then of_thread SuspendCount (data_read sizes THREAD_REFERENCE SUSPEND_COUNT body) else Err NOT_IMPLEMENTED
+
+-- the command of a set and a number with this data; the data of a command that is not carried out are not read
+abbrev pub command_read : Widths → ℕ → ℕ → List ℕ → Result Command ErrorCode
 command_read sizes set number body =
-    if set == 1 then of_virtual_machine number body else
-    (if set == 11 then of_thread_reference sizes number body else Err NOT_IMPLEMENTED)
+    if set == VIRTUAL_MACHINE then virtual_machine_read sizes number body else
+    (if set == THREAD_REFERENCE then thread_reference_read sizes number body else Err NOT_IMPLEMENTED)
+
+-- what a packet asks for, or none where it is a reply
+abbrev pub asked_in : Widths → PacketKind → List ℕ → Option (Result Command ErrorCode)
+asked_in sizes (kind.Command set number) body = Some (command_read sizes set number body)
+asked_in sizes (kind.Reply error) body = None
 
 -- ---- effects
 
+-- What a reply says: data of the layout of the command's row, or why the command was refused.
+pub data Answer : Type 0 where
+  Data : List DatumMeaning → Answer
+  Error : ErrorCode → Answer
+
+-- the moment after a command; what is answered; what is sent after the reply; and whether the session closes then
+pub record Effect (S : Type 0) : Type 0 where
+  pub after : Moment S
+  pub answer : Answer
+  pub follows : List Message
+  pub closes : Bool
+
+-- nothing changes
+abbrev pub answering : {S : Type 0} → Moment S → Answer → Effect S
+answering now answer = record { after = now; answer = answer; follows = []; closes = false }
+
+-- the state changes, and there is nothing to say
+abbrev pub changing : {S : Type 0} → Moment S → State → Effect S
+changing now state = record { after = record now { state = state }; answer = Data []; follows = []; closes = false }
+
 -- each command by the outcome of its test
-abbrev pub suspend_by : State → Bool → State × Answer
-suspend_by state true = (state, Refused INTERNAL)
-suspend_by state false = (record state { threads = with_counts raised state.threads }, Done)
+abbrev pub suspend_by : {S : Type 0} → Moment S → Bool → Effect S
+suspend_by now true = answering now (Error INTERNAL)
+suspend_by now false = changing now (record now.state { threads = with_counts raised now.state.threads })
 
-abbrev pub suspend_count_by : State → Option ℕ → State × Answer
-suspend_count_by state None = (state, Refused INVALID_THREAD)
-suspend_count_by state (Some count) = (state, Count count)
+abbrev pub count_answer : Option ℕ → Answer
+count_answer None = Error INVALID_THREAD
+count_answer (Some count) = Data (One (Int (pos count)) ∷ [])
 
--- What a command does to the state, and what is answered. A command that is refused leaves the state.
-abbrev pub effect : IdSizes → State → Command → State × Answer
-effect sizes state AskSizes = (state, answer.Sizes sizes)
-effect sizes state Suspend = suspend_by state (at_limit state)
-effect sizes state Resume = (record state { threads = with_counts lowered state.threads }, Done)
-effect sizes state Dispose = (reset state, Done)
-effect sizes state (SuspendCount thread) = suspend_count_by state (count_of state thread)
+-- the sizes of field, method, object, reference type and frame ids
+abbrev pub sizes_data : Widths → List DatumMeaning
+sizes_data sizes = One (Int (pos sizes.field)) ∷ One (Int (pos sizes.method)) ∷ One (Int (pos sizes.object)) ∷ One (Int (pos sizes.reference)) ∷ One (Int (pos sizes.frame)) ∷ []
+
+-- What a command does, and what is answered. A command that is refused leaves everything.
+abbrev pub effect : {S : Type 0} → Setup → Moment S → Command → Effect S
+effect setup now Suspend = suspend_by now (at_limit setup.options.count_limit now.state.threads)
+effect setup now Resume = changing now (record now.state { threads = with_counts lowered now.state.threads })
+effect setup now Dispose = record { after = record now { state = reset now.state }; answer = Data []; follows = []; closes = true }
+effect setup now IDSizes = answering now (Data (sizes_data setup.sizes))
+effect setup now (SuspendCount thread) = answering now (count_answer (count_of now.state thread))
 
 -- the same of a command as it was read
-abbrev pub carried_out : IdSizes → State → Result Command ErrorCode → State × Answer
-carried_out sizes state (Ok command) = effect sizes state command
-carried_out sizes state (Err error) = (state, Refused error)
-
--- the command that ends the session, once it is answered
-abbrev pub is_dispose : Result Command ErrorCode → Bool
-is_dispose (Ok Dispose) = true
-is_dispose (Ok command) = false
-is_dispose (Err error) = false
+abbrev pub carried_out : {S : Type 0} → Setup → Moment S → Result Command ErrorCode → Effect S
+carried_out setup now (Ok command) = effect setup now command
+carried_out setup now (Err error) = answering now (Error error)

@@ -1,27 +1,29 @@
 -- What every target keeps.
-use Rattle.std.specs.Prelude.{◌≡◌, ℕ, ◌≤◌, true, length}
-use Rattle.jdwp_target.specs.declared.target.Phase.TheVariants.{Established}
+use Rattle.std.specs.Prelude.{◌≡◌, true, List, [], ◌∷◌, false}
+use Rattle.jdwp_end.specs.declared.phase.Phase.TheVariants.{Established}
+use Rattle.jdwp_target.specs.declared.fixed.Fixed.{Fixed}
 use Rattle.jdwp_target.specs.declared.target.Target.TheInside.{Inside}
-use Rattle.jdwp_target.specs.Endpoint.{Endpoint}
+use Rattle.jdwp_target.specs.Counts.{Debuggee}
+use Rattle.jdwp_target.specs.Endpoints.{Endpoint}
 use Rattle.jdwp_target.specs.Machine.{fixed_sizes}
 use Rattle.jdwp_target.specs.Runs.{Ran}
+use Rattle.jdwp_target.specs.State.{State, Moment}
 
-abbrev pub view_of : Inside → Endpoint
+-- the state of the first of a list, or an empty one
+abbrev pub first_of : List Debuggee → State
+first_of [] = record { threads = []; handshaken = false; alive = false; next_packet = 0 }
+first_of (debuggee ∷ debuggees) = debuggee.state
+
+abbrev pub view_of : Inside → Endpoint (Moment Fixed)
 view_of t = record {
   sizes = fixed_sizes;
-  options = t.options;
-  state = t.state;
-  phase = t.phase;
-  incoming = t.incoming.bytes;
-  outgoing = t.outgoing.bytes;
-  session = t.session;
+  options = t.state.options;
+  moment = record { state = t.state.state; machine = t.machine };
+  began = record { state = first_of t.began.items; machine = t.machine };
+  end = t.end;
 }
 
--- the buffers have their room, a session that is established began with a handshake, and the run is as it should be
+-- a session that is established began with a handshake, and the run is as it should be
 pub record IsRight (t : Inside) : Type 0 where
-  pub incoming_room : t.incoming.capacity ≡ 65536
-  pub outgoing_room : t.outgoing.capacity ≡ 131072
-  pub incoming_fits : length t.incoming.bytes ≤ 65536
-  pub outgoing_fits : length t.outgoing.bytes ≤ 131072
-  pub handshaken : t.phase ≡ Established → t.state.handshaken ≡ true
+  pub handshaken : t.end.phase ≡ Established → t.state.state.handshaken ≡ true
   pub ran : Ran (view_of t)

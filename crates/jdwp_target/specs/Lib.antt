@@ -1,11 +1,13 @@
 pub mod Machine
 pub mod Options
+pub mod Setup
 pub mod State
-pub mod Counts
 pub mod Commands
 pub mod Replies
+pub mod Acts
 pub mod Reactions
-pub mod Sessions
-pub mod Endpoint
+pub mod Endpoints
 pub mod Runs
+pub mod Counts
+pub mod Meanings
 pub mod Kept

@@ -1,49 +1,65 @@
 -- What the target does at each message.
-use Rattle.std.specs.Prelude.{◌≡◌, ℕ, Bool, true, false, ◌&&◌, List, [], ◌∷◌, ◌++◌, if◌then◌else◌, Result, Ok, Err}
-use Rattle.jdwp_wire.specs.declared.error_code.ErrorCode.{ErrorCode}
-use Rattle.jdwp_wire.specs.declared.id_sizes.IdSizes.{IdSizes}
-use Rattle.jdwp_wire.specs.declared.packet.PacketKind.{PacketKind}
-use Rattle.jdwp_wire.specs.declared.packet.PacketKind.TheVariants as kind
+use Rattle.std.specs.Prelude.{◌≡◌, ℕ, Bool, true, false, List, [], ◌∷◌, if◌then◌else◌, Option, Some, None, Result}
+use Rattle.jdwp_wire.specs.Widths.{Widths}
 use Rattle.jdwp_wire.specs.Streams.{Message, Handshake, Packet}
-use Rattle.jdwp_target.specs.declared.command.Answer.{Answer}
-use Rattle.jdwp_target.specs.declared.command.Command.{Command}
+use Rattle.jdwp_wire.specs.declared.error_code.ErrorCode.{ErrorCode}
+use Rattle.jdwp_wire.specs.declared.packet.PacketKind.TheVariants as kind
+use Rattle.jdwp_layout.specs.declared.numbers.TheConstants.{VIRTUAL_MACHINE, DISPOSE}
 use Rattle.jdwp_target.specs.declared.target.Turn.{Turn}
 use Rattle.jdwp_target.specs.declared.target.Turn.TheVariants.{Hello, Replied, Ignored}
-use Rattle.jdwp_target.specs.Commands.{command_read, carried_out, is_dispose}
-use Rattle.jdwp_target.specs.Replies.{reply_to, vm_start, answer_error}
-use Rattle.jdwp_target.specs.State.{State, with_counts, raised, least_thread, next_packet_id}
-
--- the state after a message, what is sent for it, whether the session closes, and what the turn tells
-pub record Reaction : Type 0 where
-  pub state : State
-  pub sends : List Message
-  pub closes : Bool
-  pub tells : Turn
+use Rattle.jdwp_target.specs.Acts.{Act, Handles, Reaction}
+use Rattle.jdwp_target.specs.Commands.{Command, Effect, asked_in, carried_out}
+use Rattle.jdwp_target.specs.Replies.{error_of, reply_to, start_policy, vm_start}
+use Rattle.jdwp_target.specs.Setup.{Setup}
+use Rattle.jdwp_target.specs.State.{State, Moment, with_counts, raised, least_thread, next_packet_id}
 
 -- the first handshake of the target's life: VM_START takes a packet id, and its policy ALL suspends every thread
 abbrev pub started : Bool → State → State
 started start_all state = record state {
   threads = if start_all then with_counts raised state.threads else state.threads;
   handshaken = true;
-  next_id = next_packet_id state.next_id;
+  next_packet = next_packet_id state.next_packet;
 }
 
-abbrev pub at_handshake_by : IdSizes → Bool → State → Bool → Reaction
-at_handshake_by sizes start_all state true = record { state = state; sends = Handshake ∷ []; closes = false; tells = Hello }
-at_handshake_by sizes start_all state false =
-    record { state = started start_all state; sends = Handshake ∷ vm_start sizes state.next_id start_all (least_thread state.threads) ∷ []; closes = false; tells = Hello }
+-- the handshake is answered by the handshake, and the first of the target's life by VM_START too
+abbrev pub at_handshake_by : {S : Type 0} → Setup → Moment S → Bool → Reaction (Moment S)
+at_handshake_by setup now true = record { after = now; sends = Handshake ∷ []; closes = false }
+at_handshake_by setup now false = record {
+  after = record now { state = started setup.options.start_all now.state };
+  sends = Handshake ∷ vm_start setup.sizes now.state.next_packet (start_policy setup.options.start_all) (least_thread now.state.threads) ∷ [];
+  closes = false;
+}
 
--- the reply to a command, which is enqueued after its effect
-abbrev pub answering : ℕ → Bool → State × Answer → Reaction
-answering id closes (state, answer) = record { state = state; sends = reply_to id answer ∷ []; closes = closes; tells = Replied id (answer_error answer) }
+-- the reply to a command, which is enqueued after its effect, and then what follows it
+abbrev pub replying : {S : Type 0} → Widths → ℕ → Effect S → Reaction (Moment S)
+replying sizes id done = record { after = done.after; sends = reply_to sizes id done.answer ∷ done.follows; closes = done.closes }
 
-abbrev pub at_packet : IdSizes → State → ℕ → PacketKind → List ℕ → Reaction
-at_packet sizes state id (kind.Command set number) body =
-    answering id (is_dispose (command_read sizes set number body)) (carried_out sizes state (command_read sizes set number body))
-at_packet sizes state id (kind.Reply error) body = record { state = state; sends = []; closes = false; tells = Ignored }
+-- a command is answered by its reply, and a reply is ignored
+abbrev pub at_packet : {S : Type 0} → Setup → Moment S → ℕ → Option (Result Command ErrorCode) → Reaction (Moment S)
+at_packet setup now id (Some command) = replying setup.sizes id (carried_out setup now command)
+at_packet setup now id None = record { after = now; sends = []; closes = false }
 
--- The handshake is answered by the handshake, and the first of the target's life by VM_START too. A command is answered by its reply,
--- and a reply is ignored.
-abbrev pub reaction : IdSizes → Bool → State → Message → Reaction
-reaction sizes start_all state Handshake = at_handshake_by sizes start_all state state.handshaken
-reaction sizes start_all state (Packet header body) = at_packet sizes state header.id header.kind body
+abbrev pub at_message : {S : Type 0} → Setup → Moment S → Message → Reaction (Moment S)
+at_message setup now Handshake = at_handshake_by setup now now.state.handshaken
+at_message setup now (Packet header body) = at_packet setup now header.id (asked_in setup.sizes header.kind body)
+
+-- what each act does
+abbrev pub react : {S : Type 0} → Setup → Moment S → Act → Reaction (Moment S)
+react setup now (Handles message) = at_message setup now message
+
+-- ---- what a turn tells of it
+
+abbrev pub told_of_packet : {S : Type 0} → Setup → Moment S → ℕ → Option (Result Command ErrorCode) → Turn
+told_of_packet setup now id (Some command) = Replied id (error_of (carried_out setup now command).answer)
+told_of_packet setup now id None = Ignored
+
+abbrev pub told_of : {S : Type 0} → Setup → Moment S → Message → Turn
+told_of setup now Handshake = Hello
+told_of setup now (Packet header body) = told_of_packet setup now header.id (asked_in setup.sizes header.kind body)
+
+-- ---- the command that ends a session
+
+-- VirtualMachine.Dispose, without data
+abbrev pub IsDispose : Message → Type 0
+IsDispose Handshake = ⊥
+IsDispose (Packet header body) = (header.kind ≡ kind.Command VIRTUAL_MACHINE DISPOSE) × (body ≡ [])

@@ -1,48 +1,41 @@
--- What the target sends (JDWP specification, "Packets"; "VirtualMachine": IDSizes; "Event": Composite).
-use Rattle.std.specs.Prelude.{◌≡◌, ℕ, ◌+◌, Bool, true, false, List, [], ◌∷◌, ◌++◌, length}
-use Rattle.byteorder.specs.Endian.{big_bytes}
+-- What the target sends (JDWP specification, "Packets"; "Event": Composite).
+use Rattle.std.specs.Prelude.{◌≡◌, ℕ, pos, ◌+◌, Bool, true, false, List, [], ◌∷◌, ◌++◌, length}
+use Rattle.jdwp_wire.specs.ErrorCodes.{NONE}
+use Rattle.jdwp_wire.specs.Widths.{Widths}
+use Rattle.jdwp_wire.specs.Streams.{Message, Packet}
 use Rattle.jdwp_wire.specs.declared.error_code.ErrorCode.{ErrorCode}
-use Rattle.jdwp_wire.specs.declared.id_sizes.IdSizes.{IdSizes}
 use Rattle.jdwp_wire.specs.declared.packet.PacketKind.{PacketKind}
 use Rattle.jdwp_wire.specs.declared.packet.PacketKind.TheVariants as kind
-use Rattle.jdwp_wire.specs.Streams.{Message, Packet}
-use Rattle.jdwp_target.specs.declared.command.Answer.{Answer}
-use Rattle.jdwp_target.specs.declared.command.Answer.TheVariants.{Done, Sizes, Count, Refused}
+use Rattle.jdwp_layout.specs.Meanings.{DatumMeaning, One, Many, Byte, Int, Object}
+use Rattle.jdwp_layout.specs.Writes.{data_canonical}
+use Rattle.jdwp_layout.specs.declared.numbers.TheConstants.{EVENT, COMPOSITE, VM_START, SUSPEND_NONE, SUSPEND_ALL}
+use Rattle.jdwp_target.specs.Commands.{Answer, Data, Error}
 
 -- a packet with this data
 abbrev pub packet_with : ℕ → PacketKind → List ℕ → Message
 packet_with id packet_kind body = Packet (record { length = 11 + length body; id = id; kind = packet_kind }) body
 
-abbrev pub int_bytes : ℕ → List ℕ
-int_bytes n = big_bytes 4 n
+abbrev pub error_of : Answer → ErrorCode
+error_of (Data values) = NONE
+error_of (Error error) = error
 
-abbrev pub answer_error : Answer → ErrorCode
-answer_error (Refused error) = error
-answer_error (Sizes sizes) = record { 0 = 0 }
-answer_error (Count count) = record { 0 = 0 }
-answer_error Done = record { 0 = 0 }
-
--- the sizes of field, method, object, reference type and frame ids
-abbrev pub sizes_bytes : IdSizes → List ℕ
-sizes_bytes sizes = int_bytes sizes.field ++ (int_bytes sizes.method ++ (int_bytes sizes.object ++ (int_bytes sizes.reference ++ int_bytes sizes.frame)))
-
--- the data of a reply
-abbrev pub answer_bytes : Answer → List ℕ
-answer_bytes (Sizes sizes) = sizes_bytes sizes
-answer_bytes (Count count) = int_bytes count
-answer_bytes (Refused error) = []
-answer_bytes Done = []
+-- the data of a reply as they are written; none where the command was refused
+abbrev pub answer_bytes : Widths → Answer → List ℕ
+answer_bytes sizes (Data values) = data_canonical sizes values
+answer_bytes sizes (Error error) = []
 
 -- the reply to the command of this id
-abbrev pub reply_to : ℕ → Answer → Message
-reply_to id answer = packet_with id (kind.Reply (answer_error answer)) (answer_bytes answer)
+abbrev pub reply_to : Widths → ℕ → Answer → Message
+reply_to sizes id answer = packet_with id (kind.Reply (error_of answer)) (answer_bytes sizes answer)
 
--- the suspend policy of VM_START: ALL is 2, NONE is 0
+-- the suspend policy of VM_START
 abbrev pub start_policy : Bool → ℕ
-start_policy true = 2
-start_policy false = 0
+start_policy true = SUSPEND_ALL
+start_policy false = SUSPEND_NONE
 
--- Event.Composite, command 100 of set 64, with one event: VM_START, kind 90, of no request, and its thread
-abbrev pub vm_start : IdSizes → ℕ → Bool → ℕ → Message
-vm_start sizes id start_all thread =
-    packet_with id (kind.Command 64 100) (start_policy start_all ∷ int_bytes 1 ++ (90 ∷ int_bytes 0 ++ big_bytes sizes.object thread))
+-- the data of the command Event.Composite: the suspend policy, and one event, VM_START of no request with its thread
+abbrev pub start_data : ℕ → ℕ → List DatumMeaning
+start_data policy thread = One (Byte policy) ∷ Many ((Byte VM_START ∷ Int (pos 0) ∷ Object thread ∷ []) ∷ []) ∷ []
+
+abbrev pub vm_start : Widths → ℕ → ℕ → ℕ → Message
+vm_start sizes id policy thread = packet_with id (kind.Command EVENT COMPOSITE) (data_canonical sizes (start_data policy thread))

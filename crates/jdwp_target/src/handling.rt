@@ -1,115 +1,99 @@
 //! What the target does at each message.
 ghost use Rattle.std.specs.Prelude.{◌≡◌, ◌≤◌, ◌+◌, ◌++◌, true, length};
-ghost use Rattle.jdwp_wire.specs.Streams.{Message, Handshake, message_bytes, stream};
+ghost use Rattle.jdwp_end.specs.Ends.{most_outgoing, with_enqueued};
+ghost use Rattle.jdwp_wire.specs.Streams.{Handshake, message_bytes, stream};
+ghost use Rattle.jdwp_target.specs.Endpoints.{settled};
 ghost use Rattle.jdwp_target.specs.Machine.{fixed_sizes};
-ghost use Rattle.jdwp_target.specs.Reactions.{at_packet, reaction};
+ghost use Rattle.jdwp_target.specs.Meanings.{asked_meaning, moment_at, setup_at};
+ghost use Rattle.jdwp_target.specs.Reactions.{at_message, at_packet, told_of_packet};
 ghost use Rattle.jdwp_target.specs.Replies as replies;
 ghost use Rattle.jdwp_target.specs.Replies.{vm_start};
 
-use crate::command::{Answer, Command, enqueue_int};
+use crate::command::{Answer, Asked, enqueue_int};
+use crate::fixed::Fixed;
 use crate::state::State;
 use crate::target::Turn;
-use byte_queue::ByteQueue;
+use jdwp_end::End;
+use jdwp_layout::numbers::{COMPOSITE, EVENT, SUSPEND_ALL, SUSPEND_NONE, VM_START};
 use jdwp_value::ObjectId;
-use jdwp_wire::{HANDSHAKE, Header, IdSizes, PacketKind, PacketRef};
-use std::alloc::Global;
-
-/// The event kind of VM_START.
-const VM_START: u8 = 90;
-
-/// What a packet did to the session.
-#[derive(Clone, Copy)]
-pub struct Handled {
-    pub tells: Turn,
-    pub closes: bool,
-}
+use jdwp_wire::{HANDSHAKE, Header, IdSizes, PacketKind};
 
 /// Handles the handshake: it is answered, and the first of the target's life is followed by VM_START.
-pub fn handle_handshake(state: &mut State, sizes: &IdSizes, start_all: bool, out: &mut ByteQueue)
-    requires room { length out.old.bytes + 43 ≤ out.old.capacity }
-    requires sizes { sizes.now ≡ fixed_sizes }
-    ensures state { state.new ≡ (reaction fixed_sizes start_all state.old Handshake).state }
-    ensures out { out.new ≡ record out.old { bytes = out.old.bytes ++ stream (reaction fixed_sizes start_all state.old Handshake).sends } }
+pub fn handle_handshake(machine: &Fixed, state: &mut State, end: &mut End)
+    requires room { length end.old.outgoing + 43 ≤ most_outgoing end.old.limits }
+    ensures state { state.new ≡ record state.old { state = (at_message (setup_at state.old.options end.old.limits) (moment_at state.old.state machine.now) Handshake).after.state } }
+    ensures end { end.new ≡ with_enqueued (stream (at_message (setup_at state.old.options end.old.limits) (moment_at state.old.state machine.now) Handshake).sends) end.old }
 {
-    out.append(&HANDSHAKE);
+    end.enqueue(&HANDSHAKE);
     if !state.is_handshaken() {
-        enqueue_start(state.next_id(), start_all, state.least_thread(), sizes, out);
-        state.start(start_all);
+        enqueue_start(
+            state.next_packet(),
+            start_policy(state.start_all()),
+            state.least_thread(),
+            &machine.sizes(),
+            end,
+        );
+        state.start();
     }
 }
 
-/// Enqueues VM_START.
-fn enqueue_start(id: u32, start_all: bool, thread: ObjectId, sizes: &IdSizes, out: &mut ByteQueue)
-    requires room { length out.old.bytes + 29 ≤ out.old.capacity }
+/// Enqueues VM_START: the header, and then the suspend policy, the number of events, and the event's kind, request and thread.
+fn enqueue_start(id: u32, policy: u8, thread: ObjectId, sizes: &IdSizes, end: &mut End)
+    requires room { length end.old.outgoing + 29 ≤ most_outgoing end.old.limits }
     requires sizes { sizes.now ≡ fixed_sizes }
-    ensures { out.new ≡ record out.old { bytes = out.old.bytes ++ message_bytes (vm_start fixed_sizes id start_all thread.0) } }
+    ensures { end.new ≡ with_enqueued (message_bytes (vm_start fixed_sizes id policy thread.0)) end.old }
 {
     let header = Header {
-        length: 29,
+        length: 21 + u32::from(sizes.object()),
         id,
         kind: PacketKind::Command {
-            set: 64,
-            number: 100,
+            set: EVENT,
+            number: COMPOSITE,
         },
     };
-    out.append(&header.to_bytes());
-    out.put(&start_policy(start_all), sizes);
-    enqueue_int(1, sizes, out);
-    out.put(&VM_START, sizes);
-    enqueue_int(0, sizes, out);
-    out.put(&thread, sizes);
+    end.enqueue(&header.to_bytes());
+    end.put(&policy, sizes);
+    enqueue_int(1, sizes, end);
+    end.put(&VM_START, sizes);
+    enqueue_int(0, sizes, end);
+    end.put(&thread, sizes);
 }
 
 /// The suspend policy of VM_START: ALL or NONE.
 fn start_policy(start_all: bool) -> u8
     ensures { result ≡ replies.start_policy start_all }
 {
-    if start_all { 2 } else { 0 }
+    if start_all { SUSPEND_ALL } else { SUSPEND_NONE }
 }
 
 /// Handles a packet: a command is carried out and answered, a reply is ignored.
 pub fn handle_packet(
-    alloc: Global,
+    machine: &Fixed,
     state: &mut State,
-    sizes: &IdSizes,
-    packet: &PacketRef<'_>,
-    out: &mut ByteQueue,
-) -> Handled
-    requires handshaken { state.old.handshaken ≡ true }
-    requires room { length out.old.bytes + 31 ≤ out.old.capacity }
-    ensures state { state.new ≡ (at_packet sizes.now state.old packet.now.header.id packet.now.header.kind packet.now.body.now).state }
-    ensures out { out.new ≡ record out.old { bytes = out.old.bytes ++ stream (at_packet sizes.now state.old packet.now.header.id packet.now.header.kind packet.now.body.now).sends } }
-    ensures tells { result.tells ≡ (at_packet sizes.now state.old packet.now.header.id packet.now.header.kind packet.now.body.now).tells }
-    ensures closes { result.closes ≡ (at_packet sizes.now state.old packet.now.header.id packet.now.header.kind packet.now.body.now).closes }
+    id: u32,
+    asked: Asked,
+    end: &mut End,
+) -> Turn
+    requires handshaken { state.old.state.handshaken ≡ true }
+    requires room { length end.old.outgoing + 31 ≤ most_outgoing end.old.limits }
+    ensures state { state.new ≡ record state.old { state = (at_packet (setup_at state.old.options end.old.limits) (moment_at state.old.state machine.now) id (asked_meaning asked)).after.state } }
+    ensures end { end.new ≡ settled (at_packet (setup_at state.old.options end.old.limits) (moment_at state.old.state machine.now) id (asked_meaning asked)).closes (with_enqueued (stream (at_packet (setup_at state.old.options end.old.limits) (moment_at state.old.state machine.now) id (asked_meaning asked)).sends) end.old) }
+    ensures tells { result ≡ told_of_packet (setup_at state.old.options end.old.limits) (moment_at state.old.state machine.now) id (asked_meaning asked) }
 {
-    let id = packet.header.id;
-    match packet.header.kind {
-        PacketKind::Reply { .. } => Handled {
-            tells: Turn::Ignored,
-            closes: false,
-        },
-        PacketKind::Command { set, number } => match Command::read(
-            alloc,
-            sizes,
-            set,
-            number,
-            packet.body,
-        ) {
-            Ok(command) => {
-                let answer = state.carry_out(sizes, command);
-                answer.enqueue(id, sizes, out);
-                Handled {
-                    tells: Turn::Replied(id, answer.error()),
-                    closes: command == Command::Dispose,
-                }
+    let sizes = machine.sizes();
+    match asked {
+        Asked::Nothing => Turn::Ignored,
+        Asked::Refuses(error) => {
+            Answer::Refused(error).enqueue(id, &sizes, end);
+            Turn::Replied(id, error)
+        }
+        Asked::Carries(command) => {
+            let answer = state.carry_out(machine, command);
+            answer.enqueue(id, &sizes, end);
+            if command.closes() {
+                end.close();
             }
-            Err(error) => {
-                Answer::Refused(error).enqueue(id, sizes, out);
-                Handled {
-                    tells: Turn::Replied(id, error),
-                    closes: false,
-                }
-            }
-        },
+            Turn::Replied(id, answer.error())
+        }
     }
 }

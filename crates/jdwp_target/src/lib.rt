@@ -7,17 +7,12 @@ mod command;
 mod fixed;
 mod handling;
 mod options;
-mod session;
 mod state;
 mod target;
 
-pub use command::{Answer, Command};
 pub use fixed::Fixed;
 pub use options::TargetOptions;
-pub use state::ThreadEntry;
-pub use target::{
-    HIGH_WATER_MARK, INCOMING_LIMIT, OUTGOING_LIMIT, Phase, Target, TargetFault, Turn,
-};
+pub use target::{Target, TargetFault, Turn};
 
 #[cfg(test)]
 mod tests;

@@ -1,49 +1,32 @@
 //! The debuggee's end of a session.
-ghost use Rattle.std.specs.Prelude.{◌≡◌, ◌≤◌, ◌<◌, ◌+◌, ◌-◌, ◌++◌, ◌↔◌, true, false, Ok, Err, IfOk, IsTrue, IsErr, IsErrOf, length, take, drop, min, not};
-ghost use Rattle.jdwp_target.specs.Endpoint as endpoint;
-ghost use Rattle.jdwp_target.specs.Endpoint.{IsIdle, TurnsAt, lost, new_endpoint, next_of, opened, room_of, with_fed, with_taken, is_closed};
-ghost use Rattle.jdwp_target.specs.Machine.{fixed_sizes, fixed_threads};
+ghost use Rattle.std.specs.Prelude.{◌≡◌, ◌≤◌, ◌<◌, ◌++◌, ◌↔◌, [], true, false, Ok, IfOk, IfSome, IsTrue, length, take, drop, min};
+ghost use Rattle.jdwp_end.specs.Ends as ends;
+ghost use Rattle.jdwp_end.specs.Ends.{front_of, most_outgoing, room_of};
+ghost use Rattle.jdwp_wire.specs.Limits.{standard_limits};
+ghost use Rattle.jdwp_wire.specs.Streams.{More};
+ghost use Rattle.jdwp_target.specs.Endpoints.{TurnsAt, lost, new_endpoint, opened, with_fed, with_taken};
+ghost use Rattle.jdwp_target.specs.Machine.{fixed_threads};
+ghost use Rattle.jdwp_target.specs.Meanings.{moment_at, setup_at};
 ghost use Rattle.jdwp_target.specs.Runs.{Ran};
 ghost use Rattle.jdwp_target.specs.State as spec;
 
+use crate::command::Asked;
 use crate::fixed::Fixed;
 use crate::handling::{handle_handshake, handle_packet};
 use crate::options::TargetOptions;
-use crate::session::Session;
 use crate::state::State;
-use byte_queue::ByteQueue;
+use jdwp_end::{End, Front};
 use jdwp_value::ObjectId;
-use jdwp_wire::{
-    ErrorCode, FrameFault, HANDSHAKE, Next, NextHello, NoMemory, next_hello, next_packet,
-};
+use jdwp_wire::{ErrorCode, FrameFault, HANDSHAKE, Limits, NoMemory};
 use std::alloc::Global;
 use std::marker::Model;
 use thiserror::Error;
-
-/// The most bytes that are fed and not handled.
-pub const INCOMING_LIMIT: usize = 65536;
-
-/// Where so many bytes or more wait to leave, the end is stalled: it handles nothing.
-pub const HIGH_WATER_MARK: usize = 65536;
-
-/// The most bytes that wait to leave.
-pub const OUTGOING_LIMIT: usize = 131072;
-
-/// Where a session stands.
-#[derive(Clone, Copy, Debug, PartialEq, Eq)]
-pub enum Phase {
-    /// There is no session.
-    Closed,
-    /// A session was accepted, and the debugger's handshake was not handled yet.
-    AwaitingHandshake,
-    /// Packets are handled.
-    Established,
-}
+use trace::Trace;
 
 /// What a turn did.
 #[derive(Clone, Copy, Debug, PartialEq, Eq)]
 pub enum Turn {
-    /// Nothing: the end is closed or stalled, or no message is whole.
+    /// Nothing: the end is closed or paused, or no message is whole.
     Nothing,
     /// It handled the handshake.
     Hello,
@@ -64,23 +47,23 @@ pub enum TargetFault {
     NoMemory,
 }
 
-/// A target: its machine's state, and its end of a session.
+/// A target: a machine, the state of the debuggee, and its end of a session.
 #[derive(Drop)]
 pub struct Target {
     alloc: Global,
     machine: Fixed,
-    options: TargetOptions,
     state: State,
-    phase: Phase,
-    incoming: ByteQueue,
-    outgoing: ByteQueue,
-    session: Session,
+    /// The state at which the session began, for contracts alone.
+    began: Trace<State>,
+    end: End,
 }
 
 impl Model for Target {
-    ghost use Rattle.jdwp_target.specs.Endpoint.{Endpoint};
+    ghost use Rattle.jdwp_target.specs.declared.fixed.Fixed.{Fixed};
+    ghost use Rattle.jdwp_target.specs.Endpoints.{Endpoint};
+    ghost use Rattle.jdwp_target.specs.State.{Moment};
 
-    ghost Value = { Endpoint };
+    ghost Value = { Endpoint (Moment Fixed) };
 
     ghost use Rattle.jdwp_target.specs.Kept.{view_of, IsRight};
 
@@ -90,38 +73,37 @@ impl Model for Target {
 }
 
 impl Target {
-    /// A closed target over this machine, before its first session. All its buffers are made here.
+    /// A closed target over this machine, before its first session, within the standard limits. All its buffers are made here.
     ///
     /// # Errors
     /// Where an allocation is refused.
     pub fn new(alloc: Global, machine: Fixed, options: TargetOptions) -> Result<Target, NoMemory>
-        ensures { IfOk result (λ t. t ≡ new_endpoint fixed_sizes options (spec.new_state fixed_threads options.count_limit)) }
+        ensures { IfOk result (λ t. t ≡ new_endpoint (setup_at options standard_limits) (moment_at (spec.new_state fixed_threads) machine)) }
     {
         let live = machine.live();
-        let state = State::new(alloc, &live, options.count_limit())?;
-        let session = Session::new(&state);
+        let state = State::new(alloc, &live, options)?;
+        let mut began = Trace::new();
+        began.push(&state);
         Ok(Target {
             alloc,
             machine,
-            options,
-            phase: Phase::Closed,
-            incoming: ByteQueue::new(alloc, INCOMING_LIMIT)?,
-            outgoing: ByteQueue::new(alloc, OUTGOING_LIMIT)?,
-            session,
             state,
+            began,
+            end: End::new(alloc, Limits::standard())?,
         })
     }
 
     /// Whether a session is open: accepted, and not closed since.
     pub fn is_open(&self) -> bool
-        ensures { result ≡ not (is_closed self.now.phase) }
+        ensures { result ≡ ends.is_open self.now.end }
     {
-        self.phase != Phase::Closed
+        self.end.is_open()
     }
 
-    /// The suspend count of a thread, 0 to 2,147,483,647; None where it is not alive.
+    /// The suspend count of a thread, 0 to the count limit of the options; None where it is not alive.
     pub fn count(&self, thread: ObjectId) -> Option<u32>
-        ensures { result ≡ spec.count_of self.now.state thread }
+        ensures value { result ≡ spec.count_of self.now.moment.state thread.0 }
+        ensures bound { IfSome result (λ count. count ≤ self.now.options.count_limit) }
     {
         self.state.count(thread)
     }
@@ -129,63 +111,50 @@ impl Target {
     /// Begins a session: both buffers are empty, and the handshake is waited for. False, and nothing changes, where a session is
     /// open or the machine is dead.
     pub fn accept(&mut self) -> bool
-        ensures when { IsTrue result ↔ ((is_closed self.old.phase ≡ true) × (self.old.state.alive ≡ true)) }
+        ensures when { IsTrue result ↔ ((ends.is_open self.old.end ≡ false) × (self.old.moment.state.alive ≡ true)) }
         ensures opened { IsTrue result → self.new ≡ opened self.old }
         ensures refused { result ≡ false → self.new ≡ self.old }
     {
-        if self.phase != Phase::Closed || !self.state.is_alive() {
+        if self.end.is_open() || !self.state.is_alive() {
             return false;
         }
-        self.phase = Phase::AwaitingHandshake;
-        self.incoming.clear();
-        self.outgoing.clear();
-        self.session = Session::new(&self.state);
+        self.end.open();
+        self.began = Trace::new();
+        self.began.push(&self.state);
         true
     }
 
     /// How many bytes `feed` would take, 0 at a closed end.
     pub fn room(&self) -> usize
-        ensures room { result ≡ room_of self.now }
-        ensures bound { length self.now.incoming ≤ INCOMING_LIMIT }
+        ensures room { result ≡ room_of self.now.end }
+        ensures bound { length self.now.end.incoming ≤ self.now.end.limits.packet }
     {
-        match self.phase {
-            Phase::Closed => 0,
-            Phase::AwaitingHandshake | Phase::Established => self.incoming.room(),
-        }
+        self.end.room()
     }
 
     /// Takes as many of the bytes as fit, and answers how many.
     pub fn feed(&mut self, bytes: &[u8]) -> usize
-        ensures count { result ≡ min (length bytes.now) (room_of self.old) }
+        ensures count { result ≡ min (length bytes.now) (room_of self.old.end) }
         ensures fed { self.new ≡ with_fed (take result bytes.now) self.old }
     {
-        let count = self.room().min(bytes.len());
-        let taken = &bytes[..count];
-        self.incoming.append(taken);
-        self.session.feed(taken);
-        count
+        self.end.feed(bytes)
     }
 
     /// How many bytes wait to leave.
     pub fn waiting(&self) -> usize
-        ensures count { result ≡ length self.now.outgoing }
-        ensures bound { result ≤ OUTGOING_LIMIT }
+        ensures count { result ≡ length self.now.end.outgoing }
+        ensures bound { result ≤ most_outgoing self.now.end.limits }
     {
-        self.outgoing.len()
+        self.end.waiting()
     }
 
     /// Moves as many of the bytes that wait to the front of `out` as fit, and answers how many.
     pub fn take(&mut self, out: &mut [u8]) -> usize
-        ensures count { result ≡ min (length out.old) (length self.old.outgoing) }
-        ensures bytes { out.new ≡ take result self.old.outgoing ++ drop result out.old }
-        ensures taken { self.new ≡ with_taken (take result self.old.outgoing) self.old }
+        ensures count { result ≡ min (length out.old) (length self.old.end.outgoing) }
+        ensures bytes { out.new ≡ take result self.old.end.outgoing ++ drop result out.old }
+        ensures taken { self.new ≡ with_taken (take result self.old.end.outgoing) self.old }
     {
-        let count = self.outgoing.len().min(out.len());
-        let taken = &self.outgoing.as_slice()[..count];
-        out[..count].copy_from_slice(taken);
-        self.session.take(taken);
-        self.outgoing.drop_front(count);
-        count
+        self.end.take(out)
     }
 
     /// The connection is lost: the end is closed, both buffers are empty and every suspend count is 0.
@@ -193,88 +162,37 @@ impl Target {
         ensures { self.new ≡ lost self.old }
     {
         self.state.reset();
-        self.phase = Phase::Closed;
-        self.incoming.clear();
-        self.outgoing.clear();
-        self.session.lose();
+        self.end.lose();
     }
 
-    /// Handles the message in front, if one is whole and the end is neither closed nor stalled.
+    /// Handles the message in front, if one is whole and the end is neither closed nor paused. An open end that is not paused and
+    /// asks for more has room for a byte.
     ///
     /// # Errors
     /// `Frame` exactly where the bytes in front begin no message; the end is then as after `lose`. `NoMemory` where an allocation
     /// was refused, which no message of this target calls for; then nothing has changed.
     pub fn turn(&mut self) -> Result<Turn, TargetFault>
-        ensures nothing { (result ≡ Ok Turn.Nothing) ↔ IsIdle self.old }
-        ensures idle { IsIdle self.old → self.new ≡ self.old }
-        ensures turns { length self.old.outgoing < HIGH_WATER_MARK → TurnsAt (next_of self.old) self.old result self.new }
+        ensures turns { TurnsAt (front_of self.old.end) self.old result self.new }
+        ensures nothing { (result ≡ Ok Turn.Nothing) ↔ (front_of self.old.end ≡ More) }
+        ensures flows { self.old.end.outgoing ≡ [] → ends.is_paused self.old.end ≡ false }
+        ensures room { front_of self.old.end ≡ More → ends.is_open self.old.end ≡ true → ends.is_paused self.old.end ≡ false → 0 < room_of self.old.end }
     {
-        if self.outgoing.len() >= HIGH_WATER_MARK {
-            return Ok(Turn::Nothing);
-        }
-        match self.phase {
-            Phase::Closed => Ok(Turn::Nothing),
-            Phase::AwaitingHandshake => self.turn_handshake(),
-            Phase::Established => self.turn_packet(),
-        }
-    }
-
-    fn turn_handshake(&mut self) -> Result<Turn, TargetFault>
-        requires phase { self.old.phase ≡ Phase.AwaitingHandshake }
-        requires room { length self.old.outgoing < HIGH_WATER_MARK }
-        ensures { TurnsAt (next_of self.old) self.old result self.new }
-    {
-        match next_hello(self.incoming.as_slice()) {
-            NextHello::More => Ok(Turn::Nothing),
-            NextHello::Fault(fault) => {
+        match self.end.front() {
+            Front::More => Ok(Turn::Nothing),
+            Front::Fault(fault) => {
                 self.lose();
                 Err(TargetFault::Frame(fault))
             }
-            NextHello::Whole => {
-                let before = self.outgoing.len();
-                handle_handshake(
-                    &mut self.state,
-                    &self.machine.sizes(),
-                    self.options.start_all(),
-                    &mut self.outgoing,
-                );
-                self.session
-                    .handle(&HANDSHAKE, &self.outgoing.as_slice()[before..]);
-                self.incoming.drop_front(HANDSHAKE.len());
-                self.phase = Phase::Established;
+            Front::Handshake => {
+                self.end.take_off(HANDSHAKE.len());
+                handle_handshake(&self.machine, &mut self.state, &mut self.end);
                 Ok(Turn::Hello)
             }
-        }
-    }
-
-    fn turn_packet(&mut self) -> Result<Turn, TargetFault>
-        requires phase { self.old.phase ≡ Phase.Established }
-        requires room { length self.old.outgoing < HIGH_WATER_MARK }
-        ensures { TurnsAt (next_of self.old) self.old result self.new }
-    {
-        match next_packet(self.incoming.as_slice()) {
-            Next::More => Ok(Turn::Nothing),
-            Next::Fault(fault) => {
-                self.lose();
-                Err(TargetFault::Frame(fault))
-            }
-            Next::Whole(packet, used) => {
-                let before = self.outgoing.len();
-                let sizes = self.machine.sizes();
-                let handled = handle_packet(
-                    self.alloc,
-                    &mut self.state,
-                    &sizes,
-                    &packet,
-                    &mut self.outgoing,
-                );
-                self.session.handle(
-                    &self.incoming.as_slice()[..used],
-                    &self.outgoing.as_slice()[before..],
-                );
-                self.incoming.drop_front(used);
-                self.phase = phase_after(handled.closes);
-                Ok(handled.tells)
+            Front::Packet(packet, used) => {
+                let id = packet.header.id;
+                let asked = Asked::read(self.alloc, &self.machine.sizes(), &packet);
+                self.end.take_off(used);
+                Ok(handle_packet(&self.machine, &mut self.state, id, asked, &mut self.end))
             }
         }
     }
@@ -283,17 +201,6 @@ impl Target {
     pub fn session(&self)
         ensures { Ran self.now }
     {
-        let _ = &self.session;
-    }
-}
-
-/// The phase after a packet.
-fn phase_after(closes: bool) -> Phase
-    ensures { result ≡ endpoint.phase_after closes }
-{
-    if closes {
-        Phase::Closed
-    } else {
-        Phase::Established
+        let _ = &self.end;
     }
 }

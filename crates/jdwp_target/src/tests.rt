@@ -149,6 +149,24 @@ fn commands_and_their_replies(rt: HostRuntime) -> Result<(), Fail> {
     Ok(())
 }
 
+/// Suspend twice, Resume: each count is 1. Resume twice more: each is 0.
+#[test]
+fn counts_in_one_session(rt: HostRuntime) -> Result<(), Fail> {
+    let alloc = rt.alloc();
+    let mut target = ready(alloc, 65535)?;
+    let suspend = bytes(alloc, "0000000b 00000001 00 01 08")?;
+    let resume = bytes(alloc, "0000000b 00000002 00 01 09")?;
+    let ask = bytes(alloc, "00000013 00000003 00 0b 0c 0000000000000002")?;
+    for command in [&suspend, &suspend, &resume, &ask, &resume, &resume, &ask] {
+        target.feed(command);
+        assert!(rt; target.turn().is_ok());
+    }
+    let replies =
+        "0000000b 00000001 80 0000 0000000b 00000001 80 0000 0000000b 00000002 80 0000 0000000f 00000003 80 0000 00000001 0000000b 00000002 80 0000 0000000b 00000002 80 0000 0000000f 00000003 80 0000 00000000";
+    assert!(rt; taken(alloc, &mut target)?.as_slice() == bytes(alloc, replies)?.as_slice());
+    Ok(())
+}
+
 #[test]
 fn counts_over_sessions(rt: HostRuntime) -> Result<(), Fail> {
     let alloc = rt.alloc();
@@ -267,7 +285,7 @@ fn empty_and_full(rt: HostRuntime) -> Result<(), Fail> {
 }
 
 #[test]
-fn stalls_at_the_high_water_mark(rt: HostRuntime) -> Result<(), Fail> {
+fn pauses_where_a_packet_waits(rt: HostRuntime) -> Result<(), Fail> {
     let alloc = rt.alloc();
     let mut target = target(alloc, false, 65535)?;
     target.accept();

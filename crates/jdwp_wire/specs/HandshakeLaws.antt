@@ -5,8 +5,7 @@ use Rattle.std.proofs.lemmas.Bool.{eqb-true, eq-eqb, cases_Bool}
 use Rattle.jdwp_wire.specs.declared.frame.FrameFault.TheVariants.{ShortLength, TooLong, BadFlags, BadHandshake}
 use Rattle.jdwp_wire.specs.declared.frame.NextHello.{NextHello}
 use Rattle.jdwp_wire.specs.declared.frame.NextHello.TheVariants.{Whole, More, Fault}
-use Rattle.jdwp_wire.specs.declared.frame.TheConstants.{HANDSHAKE}
-use Rattle.jdwp_wire.specs.Handshake.{HandshakeFrontOf, handshake_from, handshake_front}
+use Rattle.jdwp_wire.specs.Handshake.{handshake_bytes, HandshakeFrontOf, handshake_from, handshake_front}
 
 -- the relation from a place on, for any expected bytes
 abbrev FrontFrom : ℕ → List ℕ → List ℕ → NextHello → Type 0
@@ -71,7 +70,7 @@ from_fault i (suc k) (x ∷ xs) (b ∷ bytes) low high same other =
     rw e (from_fault (suc i) k xs bytes (omega arith) (omega arith) both.1 other ∙ ap fault_at (omega arith))
 
 -- the relation from place 0 is the definition's
-as_defined : (bytes : List ℕ) (f : NextHello) → FrontFrom 0 HANDSHAKE bytes f → HandshakeFrontOf bytes f
+as_defined : (bytes : List ℕ) (f : NextHello) → FrontFrom 0 handshake_bytes bytes f → HandshakeFrontOf bytes f
 as_defined bytes Whole h = h
 as_defined bytes More h = h
 as_defined bytes (Fault (BadHandshake p)) (k, at, low, high, same, other) =
@@ -83,14 +82,14 @@ as_defined bytes (Fault BadFlags) h = absurd h
 
 -- the function gives what stands at the front
 pub handshake_front_is : (bytes : List ℕ) → HandshakeFrontOf bytes (handshake_front bytes)
-handshake_front_is bytes = as_defined bytes (handshake_front bytes) (from_is 0 HANDSHAKE bytes)
+handshake_front_is bytes = as_defined bytes (handshake_front bytes) (from_is 0 handshake_bytes bytes)
 
 -- and nothing else stands there
 pub handshake_front_only : (bytes : List ℕ) (f : NextHello) → HandshakeFrontOf bytes f → handshake_front bytes ≡ f
-handshake_front_only bytes Whole (rest, e) = rw e (from_whole 0 HANDSHAKE rest)
+handshake_front_only bytes Whole (rest, e) = rw e (from_whole 0 handshake_bytes rest)
 handshake_front_only bytes More (rest, some, e) =
     ap (λ (xs : List ℕ). handshake_from 0 xs bytes) e ∙ from_more 0 bytes rest some
-handshake_front_only bytes (Fault (BadHandshake p)) (low, high, same, other) = from_fault 0 p HANDSHAKE bytes low high same other ∙ ap fault_at (omega arith)
+handshake_front_only bytes (Fault (BadHandshake p)) (low, high, same, other) = from_fault 0 p handshake_bytes bytes low high same other ∙ ap fault_at (omega arith)
 handshake_front_only bytes (Fault ShortLength) h = absurd h
 handshake_front_only bytes (Fault TooLong) h = absurd h
 handshake_front_only bytes (Fault BadFlags) h = absurd h

@@ -1,9 +1,11 @@
 pub mod Widths
+pub mod Limits
 pub mod Bytes
 pub mod BigEndian
 pub mod Handshake
 pub mod HandshakeLaws
 pub mod FaultNumbers
+pub mod ErrorCodes
 pub mod Frames
 pub mod FrameLaws
 pub mod Streams

@@ -4,11 +4,10 @@ use Rattle.std.specs.List.{flat_map, AllByRecursion}
 use Rattle.jdwp_wire.specs.declared.frame.FrameFault.{FrameFault}
 use Rattle.jdwp_wire.specs.declared.frame.NextHello.{NextHello}
 use Rattle.jdwp_wire.specs.declared.frame.NextHello.TheVariants as hello
-use Rattle.jdwp_wire.specs.declared.frame.TheConstants.{HANDSHAKE}
 use Rattle.jdwp_wire.specs.declared.packet.Header.{Header}
 use Rattle.jdwp_wire.specs.Frames.{packet_bytes, IsPacket, Front, front}
 use Rattle.jdwp_wire.specs.Frames as frames
-use Rattle.jdwp_wire.specs.Handshake.{handshake_front}
+use Rattle.jdwp_wire.specs.Handshake.{handshake_bytes, handshake_front}
 
 -- what an end sends
 pub data Message : Type 0 where
@@ -16,7 +15,7 @@ pub data Message : Type 0 where
   Packet : Header → List ℕ → Message
 
 abbrev pub message_bytes : Message → List ℕ
-message_bytes Handshake = HANDSHAKE
+message_bytes Handshake = handshake_bytes
 message_bytes (Packet header body) = packet_bytes header body
 
 -- the bytes of these messages, one after the other

@@ -1,15 +1,17 @@
 //! What stands at the front of a byte stream: the handshake, or a packet.
-ghost use Rattle.std.specs.Prelude.{◌≡◌, ◌<◌, ◌^◌};
+ghost use Rattle.std.specs.Prelude.{◌≡◌};
 ghost use Rattle.jdwp_wire.specs.Handshake.{HandshakeFrontOf, handshake_front};
 ghost use Rattle.jdwp_wire.specs.FaultNumbers.{fault_number};
 ghost use Rattle.jdwp_wire.specs.Frames.{FrontOf, Front, front, seen};
+ghost use Rattle.jdwp_wire.specs.Limits.{standard_limits};
 
 use crate::error_code::ErrorCode;
+use crate::limits::Limits;
 use crate::packet::{Header, PacketKind, PacketRef};
 use byteorder::{BigEndian, ByteOrder};
 use thiserror::Error;
 
-/// The most bytes of a packet, its header among them.
+/// The most bytes of a packet by the standard limits, its header among them.
 pub const PACKET_LIMIT: usize = 65536;
 
 /// The bytes that each end sends first (JDWP specification, "JDWP overview": the handshake).
@@ -92,19 +94,31 @@ fn compare_handshake(bytes: &[u8]) -> NextHello
     NextHello::Whole
 }
 
-/// The packet at the front of the bytes, borrowed from them. What follows it is not looked at.
+/// The packet at the front of the bytes, borrowed from them, within the standard limits. What follows it is not looked
+/// at.
 ///
 /// A length is judged once its 4 bytes are there, the flags once 9 bytes are.
 pub fn next_packet(bytes: &[u8]) -> Next<'_>
-    ensures front { FrontOf PACKET_LIMIT bytes.now (seen result) }
-    ensures only { (f : Front) → FrontOf PACKET_LIMIT bytes.now f → seen result ≡ f }
-    ensures exact { seen result ≡ front PACKET_LIMIT bytes.now }
+    ensures front { FrontOf standard_limits.packet bytes.now (seen result) }
+    ensures only { (f : Front) → FrontOf standard_limits.packet bytes.now f → seen result ≡ f }
+    ensures exact { seen result ≡ front standard_limits.packet bytes.now }
 {
-    packet_within(bytes, PACKET_LIMIT)
+    next_packet_within(bytes, &Limits::standard())
 }
 
-fn packet_within(bytes: &[u8], limit: usize) -> Next<'_>
-    requires { limit < 2 ^ 32 }
+/// The packet at the front of the bytes, borrowed from them, of at most `limits.packet()` bytes. What follows it is not
+/// looked at.
+///
+/// A length is judged once its 4 bytes are there, the flags once 9 bytes are.
+pub fn next_packet_within<'a>(bytes: &'a [u8], limits: &Limits) -> Next<'a>
+    ensures front { FrontOf limits.now.packet bytes.now (seen result) }
+    ensures only { (f : Front) → FrontOf limits.now.packet bytes.now f → seen result ≡ f }
+    ensures exact { seen result ≡ front limits.now.packet bytes.now }
+{
+    find_packet(bytes, limits.packet())
+}
+
+fn find_packet(bytes: &[u8], limit: u32) -> Next<'_>
     ensures { seen result ≡ front limit bytes.now }
 {
     if bytes.len() < 4 {
@@ -115,7 +129,7 @@ fn packet_within(bytes: &[u8], limit: usize) -> Next<'_>
     if used < HEADER_LENGTH {
         return Next::Fault(FrameFault::ShortLength);
     }
-    if used > limit {
+    if length > limit {
         return Next::Fault(FrameFault::TooLong);
     }
     if bytes.len() < 9 {

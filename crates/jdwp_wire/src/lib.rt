@@ -7,6 +7,7 @@ mod error_code;
 mod frame;
 mod id_sizes;
 mod laws;
+mod limits;
 mod list;
 mod no_memory;
 pub mod number;
@@ -14,13 +15,17 @@ mod packet;
 mod wire;
 
 pub use data_fault::DataFault;
-pub use error_code::ErrorCode;
-pub use frame::{FrameFault, HANDSHAKE, Next, NextHello, PACKET_LIMIT, next_hello, next_packet};
+pub use error_code::{ErrorCode, names_error_codes};
+pub use frame::{
+    FrameFault, HANDSHAKE, Next, NextHello, PACKET_LIMIT, next_hello, next_packet,
+    next_packet_within,
+};
 pub use id_sizes::{BadSize, IdSizes};
 pub use laws::{
     answers_first_fault, begins_with_one_fault, begins_with_one_value, reads_only_encoded,
     reads_what_is_encoded,
 };
+pub use limits::Limits;
 pub use list::{put_each, take_times};
 pub use no_memory::NoMemory;
 pub use packet::{Header, PacketKind, PacketRef};

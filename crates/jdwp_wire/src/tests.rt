@@ -1,7 +1,9 @@
 //! Worked examples of frames.
 use crate::{
-    FrameFault, HANDSHAKE, Header, IdSizes, Next, NextHello, PacketKind, next_hello, next_packet,
+    FrameFault, HANDSHAKE, Header, IdSizes, Limits, Next, NextHello, PacketKind, names_error_codes,
+    next_hello, next_packet, next_packet_within,
 };
+use std::test::Fail;
 
 #[test]
 fn the_handshake(rt: HostRuntime) {
@@ -105,4 +107,58 @@ fn widths_of_ids(rt: HostRuntime) {
             );
         }
     }
+}
+
+#[test]
+fn limits_of_sessions(rt: HostRuntime) -> Result<(), Fail> {
+    let standard = Limits::standard();
+    assert_eq!(rt; Limits::new(65536, 64, 64, 64), Some(standard));
+    let rows = [
+        (2048, 64, 3, 64, true),
+        (2048, 64, 4, 64, false),
+        (2047, 64, 3, 64, false),
+        (1_048_576, 1024, 1024, 1024, true),
+        (1_048_577, 64, 64, 64, false),
+        (65536, 1025, 64, 64, false),
+        (65536, 0, 64, 64, false),
+        (1_048_576, 64, 1025, 64, false),
+        (65536, 64, 0, 64, false),
+        (65536, 64, 64, 1025, false),
+        (65536, 64, 64, 0, false),
+        (65536, 64, 4_294_967_295, 64, false),
+    ];
+    for (packet, live, requests, pending, wanted) in rows {
+        let limits = Limits::new(packet, live, requests, pending);
+        assert_eq!(rt; limits.is_some(), wanted);
+        if let Some(limits) = limits {
+            assert_eq!(rt; limits.packet(), packet);
+            assert_eq!(rt; limits.live(), live);
+            assert_eq!(rt; limits.requests(), requests);
+            assert_eq!(rt; limits.pending(), pending);
+        }
+    }
+    Ok(())
+}
+
+#[test]
+fn packets_within_limits(rt: HostRuntime) -> Result<(), Fail> {
+    match Limits::new(2048, 64, 3, 64) {
+        Some(limits) => {
+            match next_packet_within(&[0, 0, 8, 1], &limits) {
+                Next::Fault(fault) => assert_eq!(rt; fault, FrameFault::TooLong),
+                _ => assert!(rt; false, "no fault"),
+            }
+            match next_packet_within(&[0, 0, 8, 0], &limits) {
+                Next::More => {}
+                _ => assert!(rt; false, "not more"),
+            }
+        }
+        None => assert!(rt; false, "no limits"),
+    }
+    match next_packet(&[0, 0, 8, 1]) {
+        Next::More => {}
+        _ => assert!(rt; false, "not more"),
+    }
+    names_error_codes();
+    Ok(())
 }

@@ -1,7 +1,6 @@
 use Rattle.std.proofs.Common.{ap, Ok}
-use Rattle.jdwp_engine.proofs.Fronts.{more_has_room}
 use Rattle.jdwp_engine.proofs.Runs.{fault-next-ends, memory-next-ends, message-ends, message-goes, read-goes, read-next-ends}
-use Rattle.jdwp_engine.proofs.Turns.{idle-more}
+use Rattle.jdwp_engine.proofs.Turns.{more-same}
 use Rattle.jdwp_engine.proofs.serving.round.Goals as goal
 
 pub returns-in-Err-Frame-clause-ends : goal.returns-in-Err-Frame-clause-ends
@@ -9,32 +8,30 @@ returns-in-Err-Frame-clause-ends g c =
     let turned = rw c.in-Err-Frame.field-0-is at c.in-Err-Frame.ensures.turns in (
       λ h. cc,
       fault-next-ends (g.P.Pipe.story c.args.pipe.now) c.args.target.now c.turn.new.self c.in-Err-Frame.fault c.number.result
-          c.session.ensures c.requires.is_open c.requires.idle turned c.number.ensures,
+          c.session.ensures c.requires.is_open turned c.number.ensures,
     )
 
 pub returns-in-Err-NoMemory-clause-ends : goal.returns-in-Err-NoMemory-clause-ends
 returns-in-Err-NoMemory-clause-ends g c =
     let turned = rw c.in-Err-NoMemory.field-0-is at c.in-Err-NoMemory.ensures.turns in
-    (λ h. cc, memory-next-ends (g.P.Pipe.story c.args.pipe.now) c.args.target.now c.turn.new.self c.session.ensures c.requires.is_open c.requires.idle turned)
+    (λ h. cc, memory-next-ends (g.P.Pipe.story c.args.pipe.now) c.args.target.now c.turn.new.self c.session.ensures c.requires.is_open turned)
 
 pub read_and_feed-requires : goal.read_and_feed-requires
 read_and_feed-requires g c =
-    let idle = c.in-Ok.ensures.nothing.0 (ap Ok c.in-Nothing.is) in
-    let more = idle-more c.args.target.now idle c.requires.is_open c.requires.idle in
-    rw (c.in-Ok.ensures.idle idle) (more_has_room c.args.target.now c.requires.is_open c.requires.bytes more)
+    let more = c.in-Ok.ensures.nothing.0 (ap Ok c.in-Nothing.is) in
+    rw (more-same _ _ _ _ more c.in-Ok.ensures.turns) (c.in-Ok.ensures.room more c.requires.is_open (c.in-Ok.ensures.flows c.requires.idle))
 
 pub returns-in-Nothing-clause-goes : goal.returns-in-Nothing-clause-goes
 returns-in-Nothing-clause-goes g c = λ e base start k.
-    let idle = c.in-Ok.ensures.nothing.0 (ap Ok c.in-Nothing.is) in
+    let more = c.in-Ok.ensures.nothing.0 (ap Ok c.in-Nothing.is) in
     read-goes base start (g.P.Pipe.story c.args.pipe.now) (g.P.Pipe.story c.read_and_feed.new.pipe) c.args.target.now c.turn.new.self c.read_and_feed.new.target
-    k (c.in-Ok.ensures.idle idle) (c.read_and_feed.ensures.goes e)
+    k (more-same _ _ _ _ more c.in-Ok.ensures.turns) (c.read_and_feed.ensures.goes e)
 
 pub returns-in-Nothing-clause-ends : goal.returns-in-Nothing-clause-ends
 returns-in-Nothing-clause-ends g c =
-    let idle = c.in-Ok.ensures.nothing.0 (ap Ok c.in-Nothing.is) in
-    let more = idle-more c.args.target.now idle c.requires.is_open c.requires.idle in
+    let more = c.in-Ok.ensures.nothing.0 (ap Ok c.in-Nothing.is) in
     read-next-ends (g.P.Pipe.story c.args.pipe.now) (g.P.Pipe.story c.read_and_feed.new.pipe) c.args.target.now c.turn.new.self c.read_and_feed.new.target
-    c.read_and_feed.result c.session.ensures c.requires.is_open more (c.in-Ok.ensures.idle idle) c.read_and_feed.ensures.ends
+    c.read_and_feed.result c.session.ensures c.requires.is_open (c.in-Ok.ensures.flows c.requires.idle) more (more-same _ _ _ _ more c.in-Ok.ensures.turns) c.read_and_feed.ensures.ends
 
 pub returns-in_default-clause-goes : goal.returns-in_default-clause-goes
 returns-in_default-clause-goes g c = λ e base start k.
@@ -45,4 +42,4 @@ pub returns-in_default-clause-ends : goal.returns-in_default-clause-ends
 returns-in_default-clause-ends g c =
     let w = c.write_and_go.ensures in
     message-ends (g.P.Pipe.story c.args.pipe.now) (g.P.Pipe.story c.write_and_go.new.pipe) c.args.target.now c.turn.new.self c.write_and_go.new.target
-    c.in-Ok.turn c.write_and_go.result c.session.ensures c.requires.bytes c.requires.is_open c.requires.idle c.in-Ok.ensures.turns c.in_default.not-Nothing w.ends w.done w.fails
+    c.in-Ok.turn c.write_and_go.result c.in-Ok.ensures.turns c.in_default.not-Nothing w.ends w.done w.fails

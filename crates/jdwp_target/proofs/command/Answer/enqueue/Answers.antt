@@ -1,9 +1,15 @@
-use Rattle.std.proofs.Common.{◌≡◌, ◌∙◌, ap, sym, refl, ℕ}
+use Rattle.std.proofs.Common.{◌≡◌, ◌∙◌, ap, sym, refl, ℕ, pos, List}
+use Rattle.jdwp_end.specs.Ends.{with_enqueued}
+use Rattle.jdwp_wire.specs.Basic.{int_canonical}
 use Rattle.jdwp_wire.specs.Streams.{message_bytes}
 use Rattle.jdwp_target.specs.declared.command.Answer.{Answer}
-use Rattle.jdwp_target.specs.Replies.{int_bytes, reply_to}
-use Rattle.jdwp_target.proofs.QueueLemmas.{more, two_appends}
+use Rattle.jdwp_target.specs.Meanings.{answer_meaning}
+use Rattle.jdwp_target.specs.Replies.{reply_to}
+use Rattle.jdwp_target.proofs.EnqueueLemmas.{two_enqueued}
 use Rattle.jdwp_target.proofs.command.Answer.enqueue.Goals as goal
+
+abbrev int_bytes : ℕ → List ℕ
+int_bytes n = int_canonical (pos n)
 
 pub returns-in-Sizes : goal.returns-in-Sizes
 returns-in-Sizes c =
@@ -12,9 +18,9 @@ returns-in-Sizes c =
     let object = ap int_bytes (c.from-in-Sizes-2.ensures ∙ c.object.ensures.value) in
     let reference = ap int_bytes (c.from-in-Sizes-3.ensures ∙ c.reference.ensures.value) in
     let frame = ap int_bytes (c.from-in-Sizes-4.ensures ∙ c.frame.ensures.value) in
-    two_appends _ _ _ _ _ _ _ refl refl c.enqueue_header.ensures
-    (two_appends _ _ _ _ _ _ _ field refl c.enqueue_int.ensures
-    (two_appends _ _ _ _ _ _ _ method refl c.enqueue_int-in-Sizes.ensures
-    (two_appends _ _ _ _ _ _ _ object refl c.enqueue_int-in-Sizes-2.ensures
-    (two_appends _ _ _ _ _ _ _ reference frame c.enqueue_int-in-Sizes-3.ensures c.enqueue_int-in-Sizes-4.ensures))))
-    ∙ ap (λ (a : Answer). more c.args.out.now (message_bytes (reply_to c.args.id a))) (sym c.in-Sizes.is)
+    two_enqueued _ _ _ _ _ _ _ refl refl c.enqueue_header.ensures
+    (two_enqueued _ _ _ _ _ _ _ field refl c.enqueue_int.ensures
+    (two_enqueued _ _ _ _ _ _ _ method refl c.enqueue_int-in-Sizes.ensures
+    (two_enqueued _ _ _ _ _ _ _ object refl c.enqueue_int-in-Sizes-2.ensures
+    (two_enqueued _ _ _ _ _ _ _ reference frame c.enqueue_int-in-Sizes-3.ensures c.enqueue_int-in-Sizes-4.ensures))))
+    ∙ ap (λ (a : Answer). with_enqueued (message_bytes (reply_to c.args.sizes.now c.args.id (answer_meaning a))) c.args.end.now) (sym c.in-Sizes.is)

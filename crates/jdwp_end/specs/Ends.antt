@@ -1,0 +1,100 @@
+-- One end of a session, as contracts see it, and what each call does to it (JDWP specification, "JDWP overview" and "Packets": each end
+-- sends the handshake, and then packets).
+use Rattle.std.specs.Prelude.{ℕ, ◌+◌, ◌-◌, ◌*◌, Bool, true, false, nat_le, List, [], ◌++◌, length, drop, if◌then◌else◌}
+use Rattle.jdwp_wire.specs.Limits.{Limits}
+use Rattle.jdwp_wire.specs.Streams.{Message, NextMessage, Whole, More, Fault, message_bytes, next_message}
+use Rattle.jdwp_end.specs.declared.front.Front.{Front}
+use Rattle.jdwp_end.specs.declared.front.Front.TheVariants as found
+use Rattle.jdwp_end.specs.declared.phase.Phase.{Phase}
+use Rattle.jdwp_end.specs.declared.phase.Phase.TheVariants.{Closed, AwaitingHandshake, Established}
+use Rattle.jdwp_end.specs.Sessions.{Session, new_session}
+
+-- The limits; the phase of the session; the bytes that were fed and not handled; those that wait to leave; and what happened in the
+-- session.
+pub record End : Type 0 where
+  pub limits : Limits
+  pub phase : Phase
+  pub incoming : List ℕ
+  pub outgoing : List ℕ
+  pub session : Session
+
+-- ---- how an end stands
+
+abbrev pub is_open_phase : Phase → Bool
+is_open_phase Closed = false
+is_open_phase AwaitingHandshake = true
+is_open_phase Established = true
+
+-- a session was begun, and not closed since
+abbrev pub is_open : End → Bool
+is_open end = is_open_phase end.phase
+
+-- so much waits to leave that nothing is handled
+abbrev pub is_paused : End → Bool
+is_paused end = nat_le end.limits.packet (length end.outgoing)
+
+-- how many bytes may wait to leave
+abbrev pub most_outgoing : Limits → ℕ
+most_outgoing limits = limits.packet * 2
+
+-- how many bytes more are taken
+abbrev pub room_of : End → ℕ
+room_of end = if is_open end then end.limits.packet - length end.incoming else 0
+
+-- what stands at the front of what came: a handshake is looked for first, and then packets
+abbrev pub next_at : ℕ → Phase → List ℕ → NextMessage
+next_at limit Closed bytes = More
+next_at limit AwaitingHandshake bytes = next_message limit false bytes
+next_at limit Established bytes = next_message limit true bytes
+
+abbrev pub next_of : End → NextMessage
+next_of end = next_at end.limits.packet end.phase end.incoming
+
+-- what there is to handle: nothing at an end that is closed or paused
+abbrev pub front_of : End → NextMessage
+front_of end = if is_paused end then More else next_of end
+
+-- an answer of the code, without the place in memory
+abbrev pub seen_front : Front → NextMessage
+seen_front found.More = More
+seen_front (found.Fault fault) = Fault fault
+seen_front found.Handshake = Whole Message.Handshake 14
+seen_front (found.Packet packet used) = Whole (Message.Packet packet.header packet.body.now) used
+
+-- ---- what each call does
+
+-- an end before its first session
+abbrev pub new_end : Limits → End
+new_end limits = record { limits = limits; phase = Closed; incoming = []; outgoing = []; session = new_session }
+
+-- a session begins
+abbrev pub opened : End → End
+opened end = record end { phase = AwaitingHandshake; incoming = []; outgoing = []; session = new_session }
+
+-- bytes came
+abbrev pub with_fed : List ℕ → End → End
+with_fed bytes end = record end { incoming = end.incoming ++ bytes; session = record end.session { fed = end.session.fed ++ bytes } }
+
+-- the message of so many bytes in front is handled
+abbrev pub with_handled : Message → ℕ → End → End
+with_handled message used end = record end {
+  phase = Established;
+  incoming = drop used end.incoming;
+  session = record end.session { handled = end.session.handled ++ message_bytes message; turns = end.session.turns + 1 };
+}
+
+-- bytes are to leave
+abbrev pub with_enqueued : List ℕ → End → End
+with_enqueued bytes end = record end { outgoing = end.outgoing ++ bytes; session = record end.session { enqueued = end.session.enqueued ++ bytes } }
+
+-- bytes left
+abbrev pub with_taken : List ℕ → End → End
+with_taken bytes end = record end { outgoing = drop (length bytes) end.outgoing; session = record end.session { taken = end.session.taken ++ bytes } }
+
+-- the session ends; what waits to leave may still be taken
+abbrev pub closed : End → End
+closed end = record end { phase = Closed }
+
+-- the connection is lost: the end is closed, and nothing waits
+abbrev pub lost : End → End
+lost end = record end { phase = Closed; incoming = []; outgoing = []; session = record end.session { lost = true } }

@@ -1,0 +1,21 @@
+-- What every end keeps inside.
+use Rattle.std.specs.Prelude.{◌≡◌, ◌≤◌, ◌*◌, length}
+use Rattle.jdwp_end.specs.declared.end.End.TheInside.{Inside}
+use Rattle.jdwp_end.specs.Ends.{End}
+
+abbrev pub view_of : Inside → End
+view_of e = record {
+  limits = e.limits;
+  phase = e.phase;
+  incoming = e.incoming.bytes;
+  outgoing = e.outgoing.bytes;
+  session = e.session;
+}
+
+-- packets have at least 2,048 bytes, and both queues have their room
+pub record IsRight (e : Inside) : Type 0 where
+  pub packet_least : 2048 ≤ e.limits.packet
+  pub incoming_room : e.incoming.capacity ≡ e.limits.packet
+  pub outgoing_room : e.outgoing.capacity ≡ e.limits.packet * 2
+  pub incoming_fits : length e.incoming.bytes ≤ e.limits.packet
+  pub outgoing_fits : length e.outgoing.bytes ≤ e.limits.packet * 2

@@ -1,0 +1,4 @@
+pub mod Sessions
+pub mod Ends
+pub mod Runs
+pub mod Kept

@@ -1,0 +1,14 @@
+//! What both ends of a Java Debug Wire Protocol session share: the phase, the bytes that came and those that wait to leave, within
+//! limits, and what happened in the session. It knows no command and no state.
+#![tactic(auto)]
+
+mod end;
+mod front;
+mod phase;
+mod session;
+#[cfg(test)]
+mod tests;
+
+pub use end::End;
+pub use front::Front;
+pub use phase::Phase;
