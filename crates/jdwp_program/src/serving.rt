@@ -9,8 +9,7 @@ use jdwp_wire::NoMemory;
 use std::alloc::Global;
 use std::io::{Read, Write};
 
-/// Serves one session of a new target over the fixed machine for at most so many rounds, as `serve` does, and flushes the writer: where
-/// that fails, the connection is lost by a write.
+/// Serves one session of a new target over the fixed machine for at most so many rounds, as `serve` does.
 ///
 /// # Errors
 /// `NoMemory`, and then nothing was read or written.
@@ -24,10 +23,5 @@ pub fn serve_session<R: Read, W: Write>(
     ensures memory { OnErr result (pipe.new ≡ pipe.old) }
 {
     let mut target = Target::new(alloc, Fixed, options)?;
-    let ended = serve(&mut target, pipe, u64::from(rounds));
-    Ok(if pipe.flush().is_ok() {
-        ended
-    } else {
-        Ended::LostByWrite
-    })
+    Ok(serve(&mut target, pipe, u64::from(rounds)))
 }

@@ -361,11 +361,13 @@ const ANSWERS: [u8; 111] = [
 fn a_session_is_served(rt: HostRuntime) -> Result<(), Fail> {
     let alloc = rt.alloc();
     let options = TargetOptions::new(false, 65535).ok_or("a count limit")?;
-    let rows: [(&[u8], u32, bool, Ended, usize); 4] = [
+    let rows: [(&[u8], u32, bool, Ended, usize); 5] = [
         (&SESSION, 6, false, Ended::Done, 111),
         (&SESSION, 5, false, Ended::TurnLimit, 100),
         (&SESSION[..65], 9, false, Ended::LostByRead, 100),
-        (&SESSION, 6, true, Ended::LostByWrite, 0),
+        // A flush stands before each read, and one at the end.
+        (&SESSION, 6, true, Ended::LostByRead, 0),
+        (&SESSION, 0, true, Ended::LostByWrite, 0),
     ];
     for (input, rounds, flush_fails, want, written) in rows {
         let mut writer = Output::new(alloc, 1000, 0, ErrorKind::Other);
