@@ -1,12 +1,11 @@
 //! Reading a script.
-ghost use Rattle.std.specs.Prelude.{◌≡◌, IfOk};
+ghost use Rattle.std.specs.Prelude.{◌≡◌, None, IfOk};
 ghost use Rattle.jdwp_wire.specs.Limits.{standard_limits};
-ghost use Rattle.jdwp_wire.specs.Widths.{AreWidths};
 ghost use Rattle.serde_json.specs.View.{view};
 ghost use Rattle.serde_json.specs.Read.{read};
 ghost use Rattle.jdwp_script.specs.Meanings.{script_part};
 ghost use Rattle.jdwp_script.specs.Reading.{Gives};
-ghost use Rattle.jdwp_script.specs.Faults.{first_fault, unless, json, read_script};
+ghost use Rattle.jdwp_script.specs.Faults.{first_fault, json, read_script};
 
 use crate::fault::ScriptFault;
 use crate::ids::has_id_twice;
@@ -25,7 +24,9 @@ impl Script {
     /// # Errors
     /// As `read_with`.
     pub fn read(alloc: Global, text: &str) -> Result<Script, ScriptFault>
-        ensures { Gives script_part result (read_script standard_limits.live text.now) }
+        ensures value { Gives script_part result (read_script standard_limits.live text.now) }
+        // A script that is read has no fault.
+        ensures sound { IfOk result (λ s. first_fault standard_limits.live (script_part s) ≡ None) }
     {
         Script::read_with(alloc, text, &Limits::standard())
     }
@@ -36,7 +37,9 @@ impl Script {
     /// The first of these that applies: `NotJson`, `Missing` with the first member that is missing or of another type,
     /// `OverLimit`, `IdTwice`, `IdTooWide`, `BadReference`. `NoMemory` where an allocation was refused.
     pub fn read_with(alloc: Global, text: &str, limits: &Limits) -> Result<Script, ScriptFault>
-        ensures { Gives script_part result (read_script limits.now.live text.now) }
+        ensures value { Gives script_part result (read_script limits.now.live text.now) }
+        // A script that is read has no fault.
+        ensures sound { IfOk result (λ s. first_fault limits.now.live (script_part s) ≡ None) }
     {
         let value = json(alloc, text)?;
         let script = script(alloc, &value)?;
