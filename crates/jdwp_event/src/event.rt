@@ -77,11 +77,7 @@ impl Composite {
     ///
     /// # Errors
     /// `NoMemory` where an allocation was refused.
-    pub fn vm_start(
-        alloc: Global,
-        policy: Policy,
-        thread: ObjectId,
-    ) -> Result<Composite, NoMemory>
+    pub fn vm_start(alloc: Global, policy: Policy, thread: ObjectId) -> Result<Composite, NoMemory>
         ensures { IfOk result (λ c. c ≡ vm_start (policy_byte policy) thread.0) }
     {
         let mut fields = Vec::with_capacity(alloc, 3)?;
