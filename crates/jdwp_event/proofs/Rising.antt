@@ -46,8 +46,8 @@ placed_rising r (x ∷ xs) rising =
     if_by AreRising (nat_lt x.asked.id r.asked.id) (x ∷ placed r xs) (if x.asked.id == r.asked.id then r ∷ xs else (r ∷ x ∷ xs))
     (λ e. (placed_above x.asked.id r xs (less_from x.asked.id r.asked.id e) rising.0, placed_rising r xs rising.1))
     (λ e. if_by AreRising (x.asked.id == r.asked.id) (r ∷ xs) (r ∷ x ∷ xs)
-      (λ f. (subst (λ (n : ℕ). AllAbove n xs) (same_from x.asked.id r.asked.id f) rising.0, rising.1))
-      (λ f. let lt : r.asked.id < x.asked.id = more_from x.asked.id r.asked.id e f in ((lt, above_less r.asked.id x.asked.id xs lt rising.0), rising)))
+    (λ f. (subst (λ (n : ℕ). AllAbove n xs) (same_from x.asked.id r.asked.id f) rising.0, rising.1))
+    (λ f. let lt : r.asked.id < x.asked.id = more_from x.asked.id r.asked.id e f in ((lt, above_less r.asked.id x.asked.id xs lt rising.0), rising)))
 
 lt_true : (a b : ℕ) → a < b → nat_lt a b ≡ true
 lt_true a b lt = grind (arith, nat_tests)

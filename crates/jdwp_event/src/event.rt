@@ -4,14 +4,14 @@ ghost use Rattle.jdwp_layout.specs.Meanings.{entry_meaning, scalar_meanings};
 ghost use Rattle.jdwp_event.specs.Occurrences.{occurrence_meaning};
 ghost use Rattle.jdwp_event.specs.Constants.{policy_byte};
 ghost use Rattle.jdwp_event.specs.Filters.{passing};
-ghost use Rattle.jdwp_event.specs.Composites.{type_byte, details, event_for, gathered, vm_start, vm_death};
+ghost use Rattle.jdwp_event.specs.Composites.{composite_data, type_byte, details, event_for, gathered, vm_start, vm_death};
 
 use crate::happening::{Happening, Occurrence};
 use crate::kind::EventKind;
 use crate::policy::Policy;
 use crate::request::{Request, matches};
 use crate::requests::Requests;
-use jdwp_layout::Scalar;
+use jdwp_layout::{Data, Datum, Scalar};
 use jdwp_value::{ObjectId, TypeTag};
 use jdwp_wire::NoMemory;
 use std::alloc::Global;
@@ -77,11 +77,7 @@ impl Composite {
     ///
     /// # Errors
     /// `NoMemory` where an allocation was refused.
-    pub fn vm_start(
-        alloc: Global,
-        policy: Policy,
-        thread: ObjectId,
-    ) -> Result<Composite, NoMemory>
+    pub fn vm_start(alloc: Global, policy: Policy, thread: ObjectId) -> Result<Composite, NoMemory>
         ensures { IfOk result (λ c. c ≡ vm_start (policy_byte policy) thread.0) }
     {
         let mut fields = Vec::with_capacity(alloc, 3)?;
@@ -112,6 +108,23 @@ impl Composite {
             policy: Policy::None.byte(),
             events,
         })
+    }
+
+    /// Its data, in the layout of its row.
+    ///
+    /// # Errors
+    /// `NoMemory` where an allocation was refused.
+    pub fn into_data(self, alloc: Global) -> Result<Data, NoMemory>
+        ensures { IfOk result (λ d. d ≡ composite_data self) }
+    {
+        let mut entries = Vec::with_capacity(alloc, self.events.len())?;
+        for event in self.events {
+            entries.push(event.fields)?;
+        }
+        let mut items = Vec::with_capacity(alloc, 2)?;
+        items.push(Datum::One(Scalar::Byte(self.policy)))?;
+        items.push(Datum::Many(entries))?;
+        Ok(Data::new(items))
     }
 
     /// The byte of the suspend policy.

@@ -105,16 +105,12 @@ fn of_three(kind: u8, first: &Scalar, second: &Scalar, third: &Scalar) -> Option
     ensures { found_modifier result ≡ modifier_of_kind kind (scalar_meaning first.now ∷ scalar_meaning second.now ∷ scalar_meaning third.now ∷ []) }
 {
     match (kind, first, second, third) {
-        (
-            8,
-            Scalar::ReferenceTypeId(class),
-            Scalar::Boolean(caught),
-            Scalar::Boolean(uncaught),
-        ) => Some(Modifier::ExceptionOnly {
-            class: *class,
-            caught: *caught,
-            uncaught: *uncaught,
-        }),
+        (8, Scalar::ReferenceTypeId(class), Scalar::Boolean(caught), Scalar::Boolean(uncaught)) =>
+            Some(Modifier::ExceptionOnly {
+                class: *class,
+                caught: *caught,
+                uncaught: *uncaught,
+            }),
         (10, Scalar::ObjectId(thread), Scalar::Int(size), Scalar::Int(depth)) => {
             Some(Modifier::Step {
                 thread: *thread,

@@ -5,7 +5,6 @@ use Rattle.jdwp_event.proofs.Rising.{placed_there, placed_between, placed_rising
 use Rattle.jdwp_event.proofs.requests.Requests.insert.Goals as goal
 use Rattle.jdwp_event.proofs.requests.Requests.insert.Goals.{else-place-len-via-then-place-len+else-id, else-place-len-via-else-place-len}
 
-
 pub invariant_of-self : goal.invariant_of-self
 invariant_of-self c =
     let below = rw (c.deref.ensures.value, c.id.ensures.is) at c.place_for-place.ensures.below in
@@ -25,9 +24,9 @@ inserted c =
     let below = rw (c.deref.ensures.value, c.id.ensures.is) at c.place_for-place.ensures.below in
     let above = rw (c.deref.ensures.value, c.id.ensures.is) at c.place_for-place.ensures.above in
     elim c.else-place-len.branch [
-      else-place-len-via-then-place-len+else-id w ↦ c.in_ok-insert.ensures.items ∙ placed_between c.args.request c.self.inside.entries.items c.place_for-place.result w.index.result.now below above
-        (λ lt e. let f : w.index.result.now.asked.id ≡ c.args.request.asked.id = rw (w.index.ensures) e in w.if-id.false (w.id-then-place-len.ensures.is ∙ (f ∙ sym w.id-then-place-len-2.ensures.is)))
-    | else-place-len-via-else-place-len w ↦ c.in_ok-insert.ensures.items ∙ placed_between c.args.request c.self.inside.entries.items c.place_for-place.result c.args.request below above (λ lt e. absurd (omega arith))
+      | else-place-len-via-then-place-len+else-id w ↦ c.in_ok-insert.ensures.items ∙ placed_between c.args.request c.self.inside.entries.items c.place_for-place.result w.index.result.now below above
+          (λ lt e. let f : w.index.result.now.asked.id ≡ c.args.request.asked.id = rw (w.index.ensures) e in w.if-id.false (w.id-then-place-len.ensures.is ∙ (f ∙ sym w.id-then-place-len-2.ensures.is)))
+      | else-place-len-via-else-place-len w ↦ c.in_ok-insert.ensures.items ∙ placed_between c.args.request c.self.inside.entries.items c.place_for-place.result c.args.request below above (λ lt e. absurd (omega arith))
     ]
 
 pub invariant_of-self-2 : goal.invariant_of-self-2

@@ -1,0 +1,6 @@
+use Rattle.std.proofs.Common.{◌≡◌, ◌++◌}
+use Rattle.jdwp_layout.specs.Meanings.{entry_meanings}
+use Rattle.jdwp_event.proofs.event.Composite.into_data.Given as goal
+
+abbrev pub invariant-loop-event : goal.invariant-loop-event
+invariant-loop-event l = entry_meanings l.entries.items ++ l.event-iterator.rest.items ≡ l.initial.event-iterator.rest.items
