@@ -23,4 +23,3 @@ pub mod BasicLaws
 pub mod TextLaws
 pub mod EachLaws
 pub mod ListedLaws
-pub mod ErrorCodes
