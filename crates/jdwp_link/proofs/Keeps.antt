@@ -378,7 +378,7 @@ same-ticket : (k : Ticket) → same_ticket k k ≡ true
 same-ticket None = refl
 same-ticket (Some n) = eq-eqb n n refl
 
-without-first : (k : Ticket) (c : Command) (ps : List (Ticket × Command)) → without_ticket k ((k, c) ∷ ps) ≡ ps
+pub without-first : (k : Ticket) (c : Command) (ps : List (Ticket × Command)) → without_ticket k ((k, c) ∷ ps) ≡ ps
 without-first k c ps = ap (λ b. cond b ps ((k, c) ∷ without_ticket k ps)) (same-ticket k)
 
 or-parts : (a b : Bool) → (a || b) ≡ false → (a ≡ false) × (b ≡ false)

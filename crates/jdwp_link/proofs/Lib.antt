@@ -4,3 +4,4 @@ pub mod Acts
 pub mod Session
 pub mod Keeps
 pub mod Theorems
+pub mod Settles
