@@ -3,3 +3,4 @@ pub mod World
 pub mod Next
 pub mod Seen
 pub mod Headline
+pub mod Tickets

@@ -120,18 +120,19 @@ answers w k c e = record w {
   to_debugger = w.to_debugger ++ (Reply k c e.answer, e.after) ∷ [];
 }
 
-abbrev pub target_handles : {S : Type 0} → Meaning S → Settings → World S → Phase → Call → World S
-target_handles m settings w Waiting Greets = greets_by settings w w.now.state.handshaken
-target_handles m settings w Open (Asks k c) = dies_by (answers w k c (effect m settings w.now c)) (effect m settings w.now c).dies
-target_handles m settings w phase call = target_loses w
-
 abbrev pub target_takes : {S : Type 0} → Measure → World S → Call → List Call → World S
 target_takes measure w call rest = record w { to_target = rest; at_target = w.at_target - measure.call call }
+
+abbrev pub target_handles : {S : Type 0} → Meaning S → Settings → Measure → World S → List Call → Phase → Call → World S
+target_handles m settings measure w rest Waiting Greets = greets_by settings (target_takes measure w Greets rest) w.now.state.handshaken
+target_handles m settings measure w rest Open (Asks k c) =
+    dies_by (answers (target_takes measure w (Asks k c) rest) k c (effect m settings w.now c)) (effect m settings w.now c).dies
+target_handles m settings measure w rest phase call = target_loses w
 
 abbrev pub target_turn_at : {S : Type 0} → Meaning S → Settings → Measure → World S → List Call → World S
 target_turn_at m settings measure w [] = w
 target_turn_at m settings measure w (call ∷ rest) =
-    if nat_lt w.at_target (measure.call call) then w else target_handles m settings (target_takes measure w call rest) w.target call
+    if nat_lt w.at_target (measure.call call) then w else target_handles m settings measure w rest w.target call
 
 -- nothing where the end is closed or paused, or no whole message came
 abbrev pub target_turn : {S : Type 0} → Meaning S → Settings → Measure → World S → World S

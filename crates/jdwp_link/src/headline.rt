@@ -1,5 +1,6 @@
 //! What a debugger may rely on, of every machine and over every list of events: each function without a body is a theorem.
 ghost use Rattle.jdwp_link.specs.Headline.{Always, KnowsAndHolds, HasTheCounts, HasTheRequests, HeldIsSuspended, HeldIsCovered, CountIsAtMost};
+ghost use Rattle.jdwp_link.specs.Tickets.{SettlesInOrder};
 
 use jdwp_machine::Machine;
 
@@ -27,4 +28,10 @@ pub fn holds_only_suspended_threads<M: Machine>()
 /// unanswered Suspends, and the composites under way.
 pub fn counts_at_most<M: Machine>()
     ensures { Always M.meaning CountIsAtMost }
+{}
+
+/// Each command that was asked is settled once, and in the order asked: it is answered, or it is lost as the debugger's end closes.
+/// Those that are settled and then those that wait are all that were asked, whatever was lost and reattached in between.
+pub fn settles_each_command_once<M: Machine>()
+    ensures { SettlesInOrder M.meaning }
 {}

@@ -1,0 +1,75 @@
+-- facts on tests, options and lists
+use Rattle.std.proofs.Common.{◌≡◌, ℕ, ℤ, pos, ◌==◌, ◌+◌, ◌-◌, ◌<◌, ◌≤◌, ◌⊎◌, inl, inr, min, Bool, true, false, ◌||◌, ◌&&◌, cond, not, Option, Some, None, List, [], ◌∷◌, ◌++◌, map, refl, sym, ◌∙◌, ap, subst, arith, is_some, zero, suc}
+use Rattle.std.specs.List.{list_any, filter}
+use Rattle.std.specs.Option.{option_map}
+use Rattle.std.specs.Ordering.{int_eq}
+use Rattle.std.proofs.lemmas.Bool.Decides.{Decides-int_eq}
+use Rattle.std.proofs.lemmas.Bool.{eqb-true, eq-eqb, eqb-false, false_from_ne_true}
+use Rattle.std.proofs.Math.Nat.{min-eq_left}
+use Rattle.jdwp_layout.specs.Meanings.{ScalarMeaning, Object, DatumMeaning, Many}
+use Rattle.jdwp_layout.specs.declared.answer.Answer.TheVariants.{Data}
+use Rattle.jdwp_event.specs.Requests.{Asked}
+use Rattle.jdwp_machine.specs.Meanings.{has}
+use Rattle.jdwp_debuggee.specs.Answers.{inserted, rising, all_threads}
+use Rattle.jdwp_debuggee.specs.State.{State, ids, count_of}
+use Rattle.jdwp_debuggee.specs.Facts.{AreBelow}
+use Rattle.jdwp_debuggee.proofs.Threads.{has-count}
+use Rattle.jdwp_debugger.specs.Mirror.{Kept, kept, all_kept, has_other_id, lists, begins_with_object, more, COUNT_MOST}
+use Rattle.std.specs.Prelude.{nat_le}
+
+pub more-exact : (j : ℕ) → j + 1 ≤ COUNT_MOST → more j ≡ j + 1
+more-exact j h = min-eq_left h
+
+pub some-same : (t u : ℕ) → Some t ≡ Some u → t ≡ u
+some-same t u h = cc
+
+-- ---- requests, as the mirror keeps them
+
+pub kept-append : (xs ys : List Asked) → all_kept (xs ++ ys) ≡ all_kept xs ++ all_kept ys
+kept-append [] ys = refl
+kept-append (x ∷ xs) ys = ap (λ l. kept x ∷ l) (kept-append xs ys)
+
+pub kept-filter : (p : Kept → Bool) (rs : List Asked) → all_kept (filter (λ (r : Asked). p (kept r)) rs) ≡ filter p (all_kept rs)
+kept-filter p [] = refl
+kept-filter p (r ∷ rs) =
+    elim (p (kept r)) as (λ b. all_kept (cond b (r ∷ filter (λ (x : Asked). p (kept x)) rs) (filter (λ (x : Asked). p (kept x)) rs)) ≡ cond b (kept r ∷ filter p (all_kept rs)) (filter p (all_kept rs))) [
+      true ↦ ap (λ l. kept r ∷ l) (kept-filter p rs)
+    | false ↦ kept-filter p rs
+    ]
+
+other-id : (a n : ℕ) → a < n → int_eq (pos a) (pos n) ≡ false
+other-id a n h = false_from_ne_true (int_eq (pos a) (pos n)) (λ k. let e : pos a ≡ pos n = (Decides-int_eq (pos a) (pos n)).0 k in let f : a ≡ n = cc in absurd (omega arith))
+
+pub kept-below : (n : ℕ) (rs : List Asked) → AreBelow n rs → filter (has_other_id (pos n)) (all_kept rs) ≡ all_kept rs
+kept-below n [] h = refl
+kept-below n (r ∷ rs) h =
+    ap (λ b. cond (not b) (kept r ∷ filter (has_other_id (pos n)) (all_kept rs)) (filter (has_other_id (pos n)) (all_kept rs))) (other-id r.id n h.0)
+    ∙ ap (λ l. kept r ∷ l) (kept-below n rs h.1)
+
+-- ---- a list of all threads
+
+listed-has : (xs : List ℕ) (t : ℕ) → list_any (begins_with_object t) (map (λ (x : ℕ). Object x ∷ []) xs) ≡ has xs t
+listed-has [] t = refl
+listed-has (x ∷ xs) t = ap (λ b. (x == t) || b) (listed-has xs t)
+
+swap : (a b c : Bool) → (a || (b || c)) ≡ (b || (a || c))
+swap true true c = refl
+swap true false c = refl
+swap false b c = refl
+
+has-inserted : (n : ℕ) (xs : List ℕ) (t : ℕ) → has (inserted n xs) t ≡ ((n == t) || has xs t)
+has-inserted n [] t = refl
+has-inserted n (x ∷ xs) t =
+    elim (nat_le n x) as (λ b. has (cond b (n ∷ x ∷ xs) (x ∷ inserted n xs)) t ≡ ((n == t) || ((x == t) || has xs t))) [
+      true ↦ refl
+    | false ↦ ap (λ b. (x == t) || b) (has-inserted n xs t) ∙ swap (x == t) (n == t) (has xs t)
+    ]
+
+pub has-rising : (xs : List ℕ) (t : ℕ) → has (rising xs) t ≡ has xs t
+has-rising [] t = refl
+has-rising (x ∷ xs) t = has-inserted x (rising xs) t ∙ ap (λ b. (x == t) || b) (has-rising xs t)
+
+pub lists-alive : (state : State) (content : List DatumMeaning) (t : ℕ) → Data content ≡ all_threads state → lists content t ≡ is_some (count_of state t)
+lists-alive state content t e =
+    let f : content ≡ Many (map (λ (x : ℕ). Object x ∷ []) (rising (ids state.threads))) ∷ [] = cc in
+    ap (λ c. lists c t) f ∙ (listed-has (rising (ids state.threads)) t ∙ (has-rising (ids state.threads) t ∙ has-count state.threads t))
