@@ -242,8 +242,8 @@ unfolding IsDistinct
 distinct_put key x [] apart all = (tt, tt)
 distinct_put key x (y ∷ ys) apart all =
     elim (nat_le (key x) (key y)) as (λ (b : Bool). IsDistinct (λ (a b : ℕ). a == b) (map key (if b then x ∷ y ∷ ys else y ∷ put_in key x ys))) [
-      true ↦ (apart, all)
-    | false ↦ (apart_put key (key y) x ys (eqb_swap (key y) (key x) ∙ apart.0) all.0, distinct_put key x ys apart.1 all.1)
+      | true ↦ (apart, all)
+      | false ↦ (apart_put key (key y) x ys (eqb_swap (key y) (key x) ∙ apart.0) all.0, distinct_put key x ys apart.1 all.1)
     ]
 
 distinct_rising : {A : Type 0} (key : A → ℕ) (xs : List A) → IsDistinct (λ (a b : ℕ). a == b) (map key xs) → IsDistinct (λ (a b : ℕ). a == b) (map key (rising key xs))
@@ -277,11 +277,11 @@ arranged_sound : (live : ℕ) (s : ScriptPart) → passes_limit live s ≡ false
 arranged_sound live s limits wide =
     let w = s.sizes in
     let l = each_false (is_long s.name) (
-        over 1_024 s.groups ∷ over 1_024 s.classes ∷ over 1_024 s.objects ∷ over 1_024 s.threads ∷ list_any (λ (g : GroupPart). is_long g.name) s.groups ∷ list_any class_passes s.classes
-        ∷ list_any object_passes s.objects ∷ list_any thread_passes s.threads ∷ over live (living s.threads) ∷ []) limits in
+    over 1_024 s.groups ∷ over 1_024 s.classes ∷ over 1_024 s.objects ∷ over 1_024 s.threads ∷ list_any (λ (g : GroupPart). is_long g.name) s.groups ∷ list_any class_passes s.classes
+    ∷ list_any object_passes s.objects ∷ list_any thread_passes s.threads ∷ over live (living s.threads) ∷ []) limits in
     let i = each_false (is_no_width w.field) (
-        is_no_width w.method ∷ is_no_width w.object ∷ is_no_width w.reference ∷ is_no_width w.frame ∷ list_any (group_wide w) s.groups ∷ list_any (class_wide w) s.classes
-        ∷ list_any (object_wide w) s.objects ∷ list_any (thread_wide w) s.threads ∷ []) wide in
+    is_no_width w.method ∷ is_no_width w.object ∷ is_no_width w.reference ∷ is_no_width w.frame ∷ list_any (group_wide w) s.groups ∷ list_any (class_wide w) s.classes
+    ∷ list_any (object_wide w) s.objects ∷ list_any (thread_wide w) s.threads ∷ []) wide in
     let kinds = i.1.1.1.1.1 in
     let each = l.1.1.1.1.1 in
     let groups = with_both (λ (g : GroupPart). is_long g.name ≡ false) (λ (g : GroupPart). group_wide w g ≡ false) (GroupIsSound w) (group_sound w) s.groups (none_passes (λ (g : GroupPart). is_long g.name) s.groups each.0) (none_passes (group_wide w) s.groups kinds.0) in

@@ -130,7 +130,7 @@ pub record AnswersAreWorked : Type 0 where
   pub null_this : answer_at (machine 1) 16 3 (One (Object 1) ∷ One (Frame 30) ∷ []) ≡ Data (One (Tagged (object_id kind.Object 0)) ∷ [])
   pub no_such_frame : answer_at (machine 1) 16 3 (One (Object 1) ∷ One (Frame 31) ∷ []) ≡ Error INVALID_FRAMEID
   pub lines : answer_at (machine 1) 6 1 (One (ReferenceType 10) ∷ One (Method 20) ∷ [])
-    ≡ Data (One (Long (pos 0)) ∷ One (Long (pos 9)) ∷ Many ((Long (pos 0) ∷ Int (pos 1) ∷ []) ∷ (Long (pos 3) ∷ Int (pos 2) ∷ []) ∷ (Long (pos 4) ∷ Int (pos 3) ∷ []) ∷ []) ∷ [])
+      ≡ Data (One (Long (pos 0)) ∷ One (Long (pos 9)) ∷ Many ((Long (pos 0) ∷ Int (pos 1) ∷ []) ∷ (Long (pos 3) ∷ Int (pos 2) ∷ []) ∷ (Long (pos 4) ∷ Int (pos 3) ∷ []) ∷ []) ∷ [])
   pub no_such_class : answer_at (machine 1) 2 1 (One (ReferenceType 11) ∷ []) ≡ Error INVALID_CLASS
   pub no_such_method : answer_at (machine 1) 6 1 (One (ReferenceType 10) ∷ One (Method 21) ∷ []) ≡ Error INVALID_METHODID
   pub location : tested (place 10 20 9) ≡ Data (One (Int (pos 0)) ∷ [])
