@@ -21,3 +21,5 @@ pub mod ThreadAnswerLaws
 pub mod FrameLaws
 pub mod HappeningLaws
 pub mod ScriptLaws
+pub mod OpeningLaws
+pub mod Worked

@@ -97,7 +97,7 @@ out_there : (x a r : Bool) → ((x ≡ true) → a ≡ false) → (x || (r && no
 out_there true a r f = rw (f refl) refl
 out_there false a r f = refl
 
-eqb_swap : (a b : ℕ) → eqb a b ≡ eqb b a
+pub eqb_swap : (a b : ℕ) → eqb a b ≡ eqb b a
 eqb_swap a b = elim (either (eqb a b)) [
   | inl h ↦ h ∙ sym (eq-eqb b a (sym (eqb-true a b h)))
   | inr h ↦ elim (either (eqb b a)) [ inl k ↦ absurd (false≢true (sym h ∙ eq-eqb a b (sym (eqb-true b a k)))) | inr k ↦ h ∙ sym k ]

@@ -2,5 +2,7 @@
 #![tactic(auto)]
 
 mod laws;
+mod worked;
 
-pub use laws::scripts_are_lawful;
+pub use laws::{scripts_are_lawful, scripts_begin_soundly};
+pub use worked::definitions_give_worked_machine;
