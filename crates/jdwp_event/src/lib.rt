@@ -20,4 +20,6 @@ pub use request::{Request, StepOrigin, matches};
 pub use requests::{Requests, count_down};
 
 #[cfg(test)]
+mod request_tests;
+#[cfg(test)]
 mod tests;
