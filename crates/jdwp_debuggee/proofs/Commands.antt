@@ -1,29 +1,27 @@
 -- what commands do
-use Rattle.std.proofs.Common.{◌≡◌, ◌≢◌, ℕ, ℤ, pos, ◌==◌, ◌+◌, ◌-◌, ◌<◌, ◌≤◌, Bool, true, false, ◌||◌, ◌&&◌, cond, not, Option, Some, None, List, [], ◌∷◌, ◌++◌, map, refl, sym, ◌∙◌, ap, subst, arith, is_some, zero, suc}
-use Rattle.std.specs.List.{list_any, filter}
-use Rattle.std.specs.Option.{option_map, option_or}
-use Rattle.std.proofs.lemmas.Bool.{eqb-true, eq-eqb, eqb-false}
+use Rattle.std.proofs.Common.{◌≡◌, ℕ, ℤ, ◌==◌, ◌+◌, ◌-◌, ◌≤◌, true, false, ◌||◌, ◌&&◌, cond, Option, Some, None, List, refl, sym, ◌∙◌, ap, subst, arith, is_some}
+use Rattle.std.specs.Option.{option_map}
+use Rattle.std.proofs.lemmas.Bool.{eqb-true}
 use Rattle.jdwp_wire.specs.declared.error_code.ErrorCode.{ErrorCode}
 use Rattle.jdwp_wire.specs.ErrorCodes.{INVALID_THREAD, THREAD_NOT_SUSPENDED, INTERNAL, NOT_IMPLEMENTED}
-use Rattle.jdwp_wire.specs.Widths.{Widths}
 use Rattle.jdwp_value.specs.declared.value.Value.{Value}
 use Rattle.jdwp_layout.specs.declared.answer.Answer.{Answer}
 use Rattle.jdwp_layout.specs.declared.answer.Answer.TheVariants.{Data, Error}
 use Rattle.jdwp_layout.specs.Meanings.{ScalarMeaning, DatumMeaning}
-use Rattle.jdwp_event.specs.Modifiers.{ModifierMeaning, modifiers_of}
-use Rattle.jdwp_event.specs.Requests.{Asked, Request, all_asked}
-use Rattle.jdwp_machine.specs.Meanings.{Meaning, has}
-use Rattle.jdwp_machine.specs.Laws.{IsLawful, MayAnswer, IsMachineError}
+use Rattle.jdwp_event.specs.Modifiers.{modifiers_of}
+use Rattle.jdwp_event.specs.Requests.{Asked, all_asked}
+use Rattle.jdwp_machine.specs.Meanings.{Meaning}
+use Rattle.jdwp_machine.specs.Laws.{IsLawful, MayAnswer}
 use Rattle.jdwp_debuggee.specs.Settings.{Settings}
-use Rattle.jdwp_debuggee.specs.State.{State, Moment, count_of, with_counts, changed, raised, lowered, cleared, only, at_limit, reset, dead}
+use Rattle.jdwp_debuggee.specs.State.{State, Moment, count_of, with_counts, raised, lowered, cleared, only, at_limit}
 use Rattle.jdwp_debuggee.specs.Actions
 use Rattle.jdwp_debuggee.specs.Actions.{Command, Action, action_of, is_implemented}
 use Rattle.jdwp_debuggee.specs.Answers.{done, int_answer, bounded, fits_packet, frames_answer, query_of, all_threads, status_answer, sizes_answer}
 use Rattle.jdwp_debuggee.specs.Refusals.{set_refusal}
-use Rattle.jdwp_debuggee.specs.Effects.{Effect, effect, effect_by, does, answered, refused, changes, suspend_by, suspend_thread_by, suspend_thread_at, resume_thread_by, count_by, status_by, frames_by, thread_by, slots_by, slots_at, set_by, all_ended, without_request, without_breakpoints, is_not, is_no_breakpoint}
+use Rattle.jdwp_debuggee.specs.Effects.{Effect, effect, effect_by, does, answered, refused, changes, suspend_by, suspend_thread_by, suspend_thread_at, resume_thread_by, count_by, status_by, frames_by, thread_by, slots_by, slots_at, set_by}
 use Rattle.jdwp_debuggee.specs.Breadth.{is_plain}
-use Rattle.jdwp_debuggee.specs.Facts.{AreBelow, IsSound, is_data, is_dispose, is_exit, about, moved_by, moved, requests_by, requests_moved, Says, IsInvalid, OfThread, Does, is_not_asked, is_no_asked_breakpoint}
-use Rattle.jdwp_debuggee.proofs.Small.{and-true, and-false, some-same, some-map, mapped, map-same, asked-append, asked-filter, below-filter, below-more}
+use Rattle.jdwp_debuggee.specs.Facts.{AreBelow, IsSound, is_dispose, is_exit, about, moved_by, requests_by, Says, OfThread, Does, is_not_asked, is_no_asked_breakpoint}
+use Rattle.jdwp_debuggee.proofs.Small.{and-true, and-false, some-same, some-map, mapped, asked-append, asked-filter, below-filter, below-more}
 use Rattle.jdwp_debuggee.proofs.Threads.{count-changed, below-limit, under-limit}
 use Rattle.jdwp_debuggee.proofs.Ends.{ended-state, ended-ever, ended-live}
 
@@ -38,7 +36,10 @@ says-error a state e = tt
 pub does_refused : {S : Type 0} (m : Meaning S) (settings : Settings) (now : Moment S) (a : Action) (e : ErrorCode) → IsSound m settings now → ((t : ℕ) → about a ≡ Some t → OfThread (Error e) (count_of now.state t)) → Does m settings now a (refused now e)
 does_refused m settings now a e s h =
     record {
-      sound = s; ever = λ t x. x; counts = λ t. refl; requests = refl;
+      sound = s;
+      ever = λ t x. x;
+      counts = λ t. refl;
+      requests = refl;
       says = says-error a now.state e;
       of_thread = h;
       handshaken = refl;
@@ -78,7 +79,8 @@ pub does_answered : {S : Type 0} (m : Meaning S) (settings : Settings) (now : Mo
 does_answered m settings now a (Error e) s p y h = does_refused m settings now a e s h
 does_answered m settings now a (Data content) s p y h =
     record {
-      sound = s; ever = λ t x. x;
+      sound = s;
+      ever = λ t x. x;
       counts = λ t. plain-moved a t (count_of now.state t) p;
       requests = plain-requests a now.state.next_request (all_asked now.state.requests) p;
       says = y;
@@ -97,8 +99,8 @@ sound_counts m settings now f s most =
       state = s.state;
       lives = λ t. s.lives t ∙ sym (ap is_some (count-changed f now.state.threads t) ∙ some-map (f t) (count_of now.state t));
       at_most = λ t n h.
-        let j = mapped (f t) (count_of now.state t) n (sym (count-changed f now.state.threads t) ∙ h) in
-        subst (λ x. x ≤ settings.count_limit) (sym j.2) (most t j.0 j.1);
+          let j = mapped (f t) (count_of now.state t) n (sym (count-changed f now.state.threads t) ∙ h) in
+          subst (λ x. x ≤ settings.count_limit) (sym j.2) (most t j.0 j.1);
       below = s.below;
     }
 
@@ -137,8 +139,8 @@ bounded-of m s settings set number (Error e) n h = λ k. absurd (h.1 k)
 frames-of : {S : Type 0} (m : Meaning S) (law : IsLawful m) (settings : Settings) (now : Moment S) (c : Command) (n : ℕ) → m.is_state now.machine → OfThread (bounded settings (m.sizes now.machine) (frames_answer m now.machine c n)) (Some n)
 frames-of m law settings now c n st =
     elim (n == 0) as (λ b. OfThread (bounded settings (m.sizes now.machine) (cond b (Error THREAD_NOT_SUSPENDED) (m.query now.machine (query_of c)))) (Some n)) [
-      true ↦ λ k. absurd (omega (arith, k))
-    | false ↦ bounded-of m now.machine settings c.set c.number (m.query now.machine (query_of c)) n (law.answers now.machine (query_of c) st)
+      | true ↦ λ k. absurd (omega (arith, k))
+      | false ↦ bounded-of m now.machine settings c.set c.number (m.query now.machine (query_of c)) n (law.answers now.machine (query_of c) st)
     ]
 
 -- the thread of the action is the one that was asked about
@@ -156,17 +158,29 @@ slots-does m law settings now t f values n x s e h =
       below = s.below;
     } in
     elim x as (λ (x : Answer). MayAnswer m now.machine 16 2 x → Does m settings now (Actions.SetSlots t f values) (record { after = record { state = now.state; machine = m.written now.machine t f values }; answer = x; dies = false; closes = false })) [
-      Data content ↦ λ _. record {
-        sound = sound; ever = λ u k. law.ever_written now.machine t f values u s.state ∙ k;
-        counts = λ u. refl; requests = refl; says = tt;
+      | Data content ↦ λ _. record {
+        sound = sound;
+        ever = λ u k. law.ever_written now.machine t f values u s.state ∙ k;
+        counts = λ u. refl;
+        requests = refl;
+        says = tt;
         of_thread = λ u k. of-one (Data content) now.state t u (Some n) e refl k;
-        handshaken = refl; alive = and-true now.state.alive; dies = refl; closes = refl;
+        handshaken = refl;
+        alive = and-true now.state.alive;
+        dies = refl;
+        closes = refl;
       }
-    | Error c ↦ λ y. record {
-        sound = sound; ever = λ u k. law.ever_written now.machine t f values u s.state ∙ k;
-        counts = λ u. refl; requests = refl; says = tt;
+      | Error c ↦ λ y. record {
+        sound = sound;
+        ever = λ u k. law.ever_written now.machine t f values u s.state ∙ k;
+        counts = λ u. refl;
+        requests = refl;
+        says = tt;
         of_thread = λ u k. of-one (Error c) now.state t u (Some n) e (λ i. absurd (y.1 i)) k;
-        handshaken = refl; alive = and-true now.state.alive; dies = refl; closes = refl;
+        handshaken = refl;
+        alive = and-true now.state.alive;
+        dies = refl;
+        closes = refl;
       }
     ] h
 
@@ -177,14 +191,20 @@ set-does m settings now byte policy entries (Some e) s = does_refused m settings
 set-does m settings now byte policy entries None s =
     record {
       sound = record {
-        state = s.state; lives = s.lives; at_most = s.at_most;
+        state = s.state;
+        lives = s.lives;
+        at_most = s.at_most;
         below = subst (AreBelow (now.state.next_request + 1)) (sym (asked-append now.state.requests _)) (below-more now.state.next_request (all_asked now.state.requests) _ refl s.below);
       };
-      ever = λ t x. x; counts = λ t. refl;
+      ever = λ t x. x;
+      counts = λ t. refl;
       requests = asked-append now.state.requests _;
       says = refl;
       of_thread = λ t h. absurd (cc);
-      handshaken = refl; alive = and-true now.state.alive; dies = refl; closes = refl;
+      handshaken = refl;
+      alive = and-true now.state.alive;
+      dies = refl;
+      closes = refl;
     }
 
 -- ---- all threads
@@ -192,8 +212,8 @@ set-does m settings now byte policy entries None s =
 listed-does : {S : Type 0} (m : Meaning S) (settings : Settings) (now : Moment S) (content : List DatumMeaning) → IsSound m settings now → Data content ≡ all_threads now.state → Does m settings now Actions.AllThreads (answered now (bounded settings (m.sizes now.machine) (Data content)))
 listed-does m settings now content s e =
     elim (fits_packet settings (m.sizes now.machine) content) as (λ b. Does m settings now Actions.AllThreads (answered now (cond b (Data content) (Error INTERNAL)))) [
-      true ↦ does_answered m settings now Actions.AllThreads (Data content) s refl e (λ t h. absurd (cc))
-    | false ↦ does_refused m settings now Actions.AllThreads INTERNAL s (λ t h. absurd (cc))
+      | true ↦ does_answered m settings now Actions.AllThreads (Data content) s refl e (λ t h. absurd (cc))
+      | false ↦ does_refused m settings now Actions.AllThreads INTERNAL s (λ t h. absurd (cc))
     ]
 
 -- ---- all commands
@@ -204,8 +224,8 @@ Is m settings now a e = Does m settings now a e
 pub does_all : {S : Type 0} (m : Meaning S) → IsLawful m → (settings : Settings) (now : Moment S) (c : Command) (a : Action) → IsSound m settings now → Does m settings now a (does m settings now c a)
 does_all m law settings now c Actions.Suspend s =
     elim (at_limit settings.count_limit now.state) as (λ b. at_limit settings.count_limit now.state ≡ b → Does m settings now Actions.Suspend (suspend_by now b)) [
-      true ↦ λ _. does_refused m settings now Actions.Suspend INTERNAL s (λ t h. absurd (cc))
-    | false ↦ λ e. does_counts m settings now Actions.Suspend raised s (raised-most settings now s.at_most e) (λ t c. refl) (λ rs n. refl) tt (λ t h. absurd (cc)) refl refl
+      | true ↦ λ _. does_refused m settings now Actions.Suspend INTERNAL s (λ t h. absurd (cc))
+      | false ↦ λ e. does_counts m settings now Actions.Suspend raised s (raised-most settings now s.at_most e) (λ t c. refl) (λ rs n. refl) tt (λ t h. absurd (cc)) refl refl
     ] refl
 does_all m law settings now c Actions.Resume s =
     does_counts m settings now Actions.Resume lowered s (λ t n h. lowered-most n settings.count_limit (s.at_most t n h)) (λ t c. refl) (λ rs n. refl) tt (λ t h. absurd (cc)) refl refl
@@ -214,7 +234,13 @@ does_all m law settings now c Actions.Dispose s =
       sound = record { state = s.state; lives = (sound_counts m settings now cleared s (λ t n h. omega arith)).lives; at_most = (sound_counts m settings now cleared s (λ t n h. omega arith)).at_most; below = tt };
       ever = λ t x. x;
       counts = λ t. count-changed cleared now.state.threads t;
-      requests = refl; says = tt; of_thread = λ t h. absurd (cc); handshaken = refl; alive = and-true now.state.alive; dies = refl; closes = refl;
+      requests = refl;
+      says = tt;
+      of_thread = λ t h. absurd (cc);
+      handshaken = refl;
+      alive = and-true now.state.alive;
+      dies = refl;
+      closes = refl;
     }
 does_all m law settings now c Actions.Exit s =
     record {
@@ -226,74 +252,112 @@ does_all m law settings now c Actions.Exit s =
       };
       ever = λ t x. ended-ever m law now.machine s.state t ∙ x;
       counts = λ t. refl;
-      requests = refl; says = tt; of_thread = λ t h. absurd (cc); handshaken = refl; alive = and-false now.state.alive; dies = refl; closes = refl;
+      requests = refl;
+      says = tt;
+      of_thread = λ t h. absurd (cc);
+      handshaken = refl;
+      alive = and-false now.state.alive;
+      dies = refl;
+      closes = refl;
     }
 does_all m law settings now c Actions.HoldEvents s =
     record {
       sound = record { state = s.state; lives = s.lives; at_most = s.at_most; below = s.below };
-      ever = λ t x. x; counts = λ t. refl; requests = refl; says = tt; of_thread = λ t h. absurd (cc); handshaken = refl; alive = and-true now.state.alive; dies = refl; closes = refl;
+      ever = λ t x. x;
+      counts = λ t. refl;
+      requests = refl;
+      says = tt;
+      of_thread = λ t h. absurd (cc);
+      handshaken = refl;
+      alive = and-true now.state.alive;
+      dies = refl;
+      closes = refl;
     }
 does_all m law settings now c Actions.ReleaseEvents s =
     record {
       sound = record { state = s.state; lives = s.lives; at_most = s.at_most; below = s.below };
-      ever = λ t x. x; counts = λ t. refl; requests = refl; says = tt; of_thread = λ t h. absurd (cc); handshaken = refl; alive = and-true now.state.alive; dies = refl; closes = refl;
+      ever = λ t x. x;
+      counts = λ t. refl;
+      requests = refl;
+      says = tt;
+      of_thread = λ t h. absurd (cc);
+      handshaken = refl;
+      alive = and-true now.state.alive;
+      dies = refl;
+      closes = refl;
     }
 does_all m law settings now c (Actions.SetRequest byte policy entries) s =
     set-does m settings now byte policy entries (set_refusal m settings now byte policy (modifiers_of entries)) s
 does_all m law settings now c (Actions.ClearRequest byte id) s =
     record {
       sound = record { state = s.state; lives = s.lives; at_most = s.at_most; below = subst (AreBelow now.state.next_request) (sym (asked-filter (is_not_asked byte id) now.state.requests)) (below-filter now.state.next_request (is_not_asked byte id) (all_asked now.state.requests) s.below) };
-      ever = λ t x. x; counts = λ t. refl; requests = asked-filter (is_not_asked byte id) now.state.requests; says = tt; of_thread = λ t h. absurd (cc); handshaken = refl; alive = and-true now.state.alive; dies = refl; closes = refl;
+      ever = λ t x. x;
+      counts = λ t. refl;
+      requests = asked-filter (is_not_asked byte id) now.state.requests;
+      says = tt;
+      of_thread = λ t h. absurd (cc);
+      handshaken = refl;
+      alive = and-true now.state.alive;
+      dies = refl;
+      closes = refl;
     }
 does_all m law settings now c Actions.ClearBreakpoints s =
     record {
       sound = record { state = s.state; lives = s.lives; at_most = s.at_most; below = subst (AreBelow now.state.next_request) (sym (asked-filter is_no_asked_breakpoint now.state.requests)) (below-filter now.state.next_request is_no_asked_breakpoint (all_asked now.state.requests) s.below) };
-      ever = λ t x. x; counts = λ t. refl; requests = asked-filter is_no_asked_breakpoint now.state.requests; says = tt; of_thread = λ t h. absurd (cc); handshaken = refl; alive = and-true now.state.alive; dies = refl; closes = refl;
+      ever = λ t x. x;
+      counts = λ t. refl;
+      requests = asked-filter is_no_asked_breakpoint now.state.requests;
+      says = tt;
+      of_thread = λ t h. absurd (cc);
+      handshaken = refl;
+      alive = and-true now.state.alive;
+      dies = refl;
+      closes = refl;
     }
 does_all m law settings now c (Actions.SuspendThread t) s =
     elim (count_of now.state t) as (λ v. count_of now.state t ≡ v → Does m settings now (Actions.SuspendThread t) (suspend_thread_by settings now t v)) [
-      None ↦ λ e. does_refused m settings now (Actions.SuspendThread t) INVALID_THREAD s (λ u h. of-one (Error INVALID_THREAD) now.state t u None e (λ _. refl) h)
-    | Some n ↦ λ e. elim (n == settings.count_limit) as (λ b. (n == settings.count_limit) ≡ b → Does m settings now (Actions.SuspendThread t) (suspend_thread_at now t b)) [
-          true ↦ λ _. does_refused m settings now (Actions.SuspendThread t) INTERNAL s (λ u h. of-one (Error INTERNAL) now.state t u (Some n) e (λ k. absurd (omega (arith, k))) h)
+      | None ↦ λ e. does_refused m settings now (Actions.SuspendThread t) INVALID_THREAD s (λ u h. of-one (Error INVALID_THREAD) now.state t u None e (λ _. refl) h)
+      | Some n ↦ λ e. elim (n == settings.count_limit) as (λ b. (n == settings.count_limit) ≡ b → Does m settings now (Actions.SuspendThread t) (suspend_thread_at now t b)) [
+        | true ↦ λ _. does_refused m settings now (Actions.SuspendThread t) INTERNAL s (λ u h. of-one (Error INTERNAL) now.state t u (Some n) e (λ k. absurd (omega (arith, k))) h)
         | false ↦ λ z. does_counts m settings now (Actions.SuspendThread t) (only t raised) s
             (λ u k h. only-most t u (k + 1) k settings.count_limit (λ q. let w : Some n ≡ Some k = sym e ∙ (ap (λ x. count_of now.state x) q ∙ h) in let y : n ≡ k = cc in under-limit k settings.count_limit (s.at_most u k h) (subst (λ x. (x == settings.count_limit) ≡ false) y z)) (s.at_most u k h))
             (λ u c. refl) (λ rs n. refl) tt (λ u h. of-one done now.state t u (Some n) e refl h) refl refl
-        ] refl
+      ] refl
     ] refl
 does_all m law settings now c (Actions.ResumeThread t) s =
     elim (count_of now.state t) as (λ v. count_of now.state t ≡ v → Does m settings now (Actions.ResumeThread t) (resume_thread_by now t v)) [
-      None ↦ λ e. does_refused m settings now (Actions.ResumeThread t) INVALID_THREAD s (λ u h. of-one (Error INVALID_THREAD) now.state t u None e (λ _. refl) h)
-    | Some n ↦ λ e. does_counts m settings now (Actions.ResumeThread t) (only t lowered) s
-        (λ u k h. only-most t u (k - 1) k settings.count_limit (λ q. lowered-most k settings.count_limit (s.at_most u k h)) (s.at_most u k h))
-        (λ u c. refl) (λ rs n. refl) tt (λ u h. of-one done now.state t u (Some n) e refl h) refl refl
+      | None ↦ λ e. does_refused m settings now (Actions.ResumeThread t) INVALID_THREAD s (λ u h. of-one (Error INVALID_THREAD) now.state t u None e (λ _. refl) h)
+      | Some n ↦ λ e. does_counts m settings now (Actions.ResumeThread t) (only t lowered) s
+          (λ u k h. only-most t u (k - 1) k settings.count_limit (λ q. lowered-most k settings.count_limit (s.at_most u k h)) (s.at_most u k h))
+          (λ u c. refl) (λ rs n. refl) tt (λ u h. of-one done now.state t u (Some n) e refl h) refl refl
     ] refl
 does_all m law settings now c (Actions.SuspendCount t) s =
     elim (count_of now.state t) as (λ v. count_of now.state t ≡ v → Does m settings now (Actions.SuspendCount t) (count_by now v)) [
-      None ↦ λ e. does_refused m settings now (Actions.SuspendCount t) INVALID_THREAD s (λ u h. of-one (Error INVALID_THREAD) now.state t u None e (λ _. refl) h)
-    | Some n ↦ λ e. does_answered m settings now (Actions.SuspendCount t) (int_answer n) s refl (n, e, refl) (λ u h. of-one (int_answer n) now.state t u (Some n) e refl h)
+      | None ↦ λ e. does_refused m settings now (Actions.SuspendCount t) INVALID_THREAD s (λ u h. of-one (Error INVALID_THREAD) now.state t u None e (λ _. refl) h)
+      | Some n ↦ λ e. does_answered m settings now (Actions.SuspendCount t) (int_answer n) s refl (n, e, refl) (λ u h. of-one (int_answer n) now.state t u (Some n) e refl h)
     ] refl
 does_all m law settings now c (Actions.ThreadStatus t) s =
     elim (count_of now.state t) as (λ v. count_of now.state t ≡ v → Does m settings now (Actions.ThreadStatus t) (status_by now v)) [
-      None ↦ λ e. does_refused m settings now (Actions.ThreadStatus t) INVALID_THREAD s (λ u h. of-one (Error INVALID_THREAD) now.state t u None e (λ _. refl) h)
-    | Some n ↦ λ e. does_answered m settings now (Actions.ThreadStatus t) (status_answer n) s refl tt (λ u h. of-one (status_answer n) now.state t u (Some n) e refl h)
+      | None ↦ λ e. does_refused m settings now (Actions.ThreadStatus t) INVALID_THREAD s (λ u h. of-one (Error INVALID_THREAD) now.state t u None e (λ _. refl) h)
+      | Some n ↦ λ e. does_answered m settings now (Actions.ThreadStatus t) (status_answer n) s refl tt (λ u h. of-one (status_answer n) now.state t u (Some n) e refl h)
     ] refl
 does_all m law settings now c (Actions.SetSlots t f values) s =
     elim (count_of now.state t) as (λ v. count_of now.state t ≡ v → Does m settings now (Actions.SetSlots t f values) (slots_by m now t f values v)) [
-      None ↦ λ e. does_refused m settings now (Actions.SetSlots t f values) INVALID_THREAD s (λ u h. of-one (Error INVALID_THREAD) now.state t u None e (λ _. refl) h)
-    | Some n ↦ λ e. elim (n == 0) as (λ b. Does m settings now (Actions.SetSlots t f values) (slots_at m now t f values b)) [
-          true ↦ does_refused m settings now (Actions.SetSlots t f values) THREAD_NOT_SUSPENDED s (λ u h. of-one (Error THREAD_NOT_SUSPENDED) now.state t u (Some n) e (λ k. absurd (omega (arith, k))) h)
+      | None ↦ λ e. does_refused m settings now (Actions.SetSlots t f values) INVALID_THREAD s (λ u h. of-one (Error INVALID_THREAD) now.state t u None e (λ _. refl) h)
+      | Some n ↦ λ e. elim (n == 0) as (λ b. Does m settings now (Actions.SetSlots t f values) (slots_at m now t f values b)) [
+        | true ↦ does_refused m settings now (Actions.SetSlots t f values) THREAD_NOT_SUSPENDED s (λ u h. of-one (Error THREAD_NOT_SUSPENDED) now.state t u (Some n) e (λ k. absurd (omega (arith, k))) h)
         | false ↦ slots-does m law settings now t f values n (m.write_answer now.machine t f values) s e (law.write_answers now.machine t f values s.state)
-        ]
+      ]
     ] refl
 does_all m law settings now c (Actions.AskFrames t) s =
     elim (count_of now.state t) as (λ v. count_of now.state t ≡ v → Does m settings now (Actions.AskFrames t) (frames_by m settings now c v)) [
-      None ↦ λ e. does_refused m settings now (Actions.AskFrames t) INVALID_THREAD s (λ u h. of-one (Error INVALID_THREAD) now.state t u None e (λ _. refl) h)
-    | Some n ↦ λ e. does_answered m settings now (Actions.AskFrames t) _ s refl tt (λ u h. of-one _ now.state t u (Some n) e (frames-of m law settings now c n s.state) h)
+      | None ↦ λ e. does_refused m settings now (Actions.AskFrames t) INVALID_THREAD s (λ u h. of-one (Error INVALID_THREAD) now.state t u None e (λ _. refl) h)
+      | Some n ↦ λ e. does_answered m settings now (Actions.AskFrames t) _ s refl tt (λ u h. of-one _ now.state t u (Some n) e (frames-of m law settings now c n s.state) h)
     ] refl
 does_all m law settings now c (Actions.AskThread t) s =
     elim (count_of now.state t) as (λ v. count_of now.state t ≡ v → Does m settings now (Actions.AskThread t) (thread_by m settings now c v)) [
-      None ↦ λ e. does_refused m settings now (Actions.AskThread t) INVALID_THREAD s (λ u h. of-one (Error INVALID_THREAD) now.state t u None e (λ _. refl) h)
-    | Some n ↦ λ e. does_answered m settings now (Actions.AskThread t) _ s refl tt (λ u h. of-one _ now.state t u (Some n) e (bounded-of m now.machine settings c.set c.number (m.query now.machine (query_of c)) n (law.answers now.machine (query_of c) s.state)) h)
+      | None ↦ λ e. does_refused m settings now (Actions.AskThread t) INVALID_THREAD s (λ u h. of-one (Error INVALID_THREAD) now.state t u None e (λ _. refl) h)
+      | Some n ↦ λ e. does_answered m settings now (Actions.AskThread t) _ s refl tt (λ u h. of-one _ now.state t u (Some n) e (bounded-of m now.machine settings c.set c.number (m.query now.machine (query_of c)) n (law.answers now.machine (query_of c) s.state)) h)
     ] refl
 does_all m law settings now c Actions.AllThreads s = listed-does m settings now _ s refl
 does_all m law settings now c Actions.IdSizes s = does_answered m settings now Actions.IdSizes (sizes_answer (m.sizes now.machine)) s refl tt (λ t h. absurd (cc))
@@ -306,6 +370,6 @@ not-implemented t count k = absurd (omega (arith, k))
 pub does_effect : {S : Type 0} (m : Meaning S) → IsLawful m → (settings : Settings) (now : Moment S) (c : Command) → IsSound m settings now → Does m settings now (action_of c) (effect m settings now c)
 does_effect m law settings now c s =
     elim (is_implemented c) as (λ b. Does m settings now (action_of c) (effect_by m settings now c b)) [
-      true ↦ does_all m law settings now c (action_of c) s
-    | false ↦ does_refused m settings now (action_of c) NOT_IMPLEMENTED s (λ t h. not-implemented t (count_of now.state t))
+      | true ↦ does_all m law settings now c (action_of c) s
+      | false ↦ does_refused m settings now (action_of c) NOT_IMPLEMENTED s (λ t h. not-implemented t (count_of now.state t))
     ]

@@ -1,5 +1,5 @@
 -- every live thread ends
-use Rattle.std.proofs.Common.{◌≡◌, ℕ, ◌==◌, Bool, true, false, ◌||◌, ◌&&◌, cond, not, List, [], ◌∷◌, refl, sym, ◌∙◌, ap, subst}
+use Rattle.std.proofs.Common.{◌≡◌, ℕ, ◌==◌, Bool, true, false, ◌||◌, ◌&&◌, not, List, [], ◌∷◌, refl, sym, ◌∙◌, ap}
 use Rattle.std.specs.List.{IsDistinct, AllByRecursion}
 use Rattle.std.proofs.lemmas.Bool.{eqb-true, eq-eqb, false_from_ne_true}
 use Rattle.jdwp_machine.specs.Meanings.{Meaning, has}
@@ -11,8 +11,8 @@ another : (t u : ℕ) (ts : List ℕ) → AllByRecursion (λ (y : ℕ). (t == y)
 another t u [] d h = absurd (cc)
 another t u (x ∷ xs) d h =
     elim (x == u) as (λ b. (x == u) ≡ b → (b || has xs u) ≡ true → (u == t) ≡ false) [
-      true ↦ λ e _. false_from_ne_true (u == t) (λ k. let y : (t == x) ≡ true = eq-eqb t x (sym (eqb-true x u e ∙ eqb-true u t k)) in let z : (t == x) ≡ false = d.0 in absurd (cc))
-    | false ↦ λ _ r. another t u xs d.1 r
+      | true ↦ λ e _. false_from_ne_true (u == t) (λ k. let y : (t == x) ≡ true = eq-eqb t x (sym (eqb-true x u e ∙ eqb-true u t k)) in let z : (t == x) ≡ false = d.0 in absurd (cc))
+      | false ↦ λ _ r. another t u xs d.1 r
     ] refl h
 
 distinct-head : (t : ℕ) (ts : List ℕ) → AreDistinct (t ∷ ts) → AllByRecursion (λ (y : ℕ). (t == y) ≡ false) ts
@@ -54,8 +54,8 @@ turned false b c x e = refl
 same : (t u : ℕ) → (u == t) ≡ (t == u)
 same t u =
     elim (t == u) as (λ b. (t == u) ≡ b → (u == t) ≡ b) [
-      true ↦ λ e. eq-eqb u t (sym (eqb-true t u e))
-    | false ↦ λ e. false_from_ne_true (u == t) (λ k. let y : (t == u) ≡ true = eq-eqb t u (sym (eqb-true u t k)) in absurd (cc))
+      | true ↦ λ e. eq-eqb u t (sym (eqb-true t u e))
+      | false ↦ λ e. false_from_ne_true (u == t) (λ k. let y : (t == u) ≡ true = eq-eqb t u (sym (eqb-true u t k)) in absurd (cc))
     ] refl
 
 all-live : {S : Type 0} (m : Meaning S) → IsLawful m → (s : S) (ts : List ℕ) → m.is_state s → AreDistinct ts → AllLive m s ts → (u : ℕ) → has (m.live (all_ended m s ts)) u ≡ (has (m.live s) u && not (has ts u))

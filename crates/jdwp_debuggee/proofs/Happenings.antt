@@ -1,11 +1,11 @@
 -- what steps do
-use Rattle.std.proofs.Common.{◌≡◌, ◌≢◌, ℕ, ℤ, pos, ◌==◌, ◌+◌, ◌-◌, ◌<◌, ◌≤◌, Bool, true, false, ◌||◌, ◌&&◌, cond, not, Option, Some, None, List, [], ◌∷◌, ◌++◌, map, refl, sym, ◌∙◌, ap, subst, arith, is_some, zero, suc}
-use Rattle.std.specs.List.{list_any, filter}
-use Rattle.std.specs.Option.{option_map, option_or}
-use Rattle.std.proofs.lemmas.Bool.{eqb-true, eq-eqb, eqb-false, false_from_ne_true}
+use Rattle.std.proofs.Common.{◌≡◌, ℕ, ◌==◌, ◌+◌, ◌≤◌, Bool, true, false, ◌||◌, ◌&&◌, cond, not, Option, Some, None, List, [], ◌∷◌, map, refl, sym, ◌∙◌, ap, subst, arith, is_some}
+use Rattle.std.specs.List.{list_any}
+use Rattle.std.specs.Option.{option_or}
+use Rattle.std.proofs.lemmas.Bool.{eqb-true, eq-eqb, false_from_ne_true}
 use Rattle.jdwp_event.specs.declared.kind.EventKind.TheVariants as kind
 use Rattle.jdwp_event.specs.EventKinds.{kind_byte}
-use Rattle.jdwp_event.specs.Requests.{Asked, Request, all_asked}
+use Rattle.jdwp_event.specs.Requests.{Request, all_asked}
 use Rattle.jdwp_event.specs.Occurrences.{OccurrenceMeaning, Moved, Entered, Left, Threw, Prepared, Started, RanOut, HappeningMeaning, started, started_by, runs_out, is_run_out}
 use Rattle.jdwp_event.specs.Filters.{is_of_kind, passes, passing, counted, all_counted, reached_after, origin_at, place_of}
 use Rattle.jdwp_event.specs.Composites.{CompositeMeaning, POLICY_ALL, POLICY_EVENT_THREAD, event_for, gathered, composite_by}
@@ -13,11 +13,10 @@ use Rattle.jdwp_event.specs.Told.{composite_thread, is_event_of, is_vm_death}
 use Rattle.jdwp_machine.specs.Meanings.{Meaning, has}
 use Rattle.jdwp_machine.specs.Laws.{IsLawful, is_named}
 use Rattle.jdwp_debuggee.specs.Settings.{Settings}
-use Rattle.jdwp_debuggee.specs.State.{Thread, State, Moment, count_of, count_in, count_by, count_or_zero, or_zero, with_counts, with_thread, without_thread, is_other, at_limit, is_marked, with_mark, with_packet}
-use Rattle.jdwp_debuggee.specs.Steps
-use Rattle.jdwp_debuggee.specs.Steps.{Step, seen, ended_by, thread_ended, ends, death_by, report_by, happens, occurs_by, occurs, may_step, is_zero, is_full, with_started, raised_by, suspended_by}
-use Rattle.jdwp_debuggee.specs.Facts.{AreBelow, IsSound, Quiet, Tells, Died, Happens}
-use Rattle.jdwp_debuggee.proofs.Small.{and-left, and-right, is-not-true, mapped, some-map}
+use Rattle.jdwp_debuggee.specs.State.{Thread, State, Moment, count_of, count_in, count_by, or_zero, with_counts, with_thread, without_thread, at_limit, is_marked}
+use Rattle.jdwp_debuggee.specs.Steps.{Step, seen, ended_by, ends, death_by, report_by, happens, occurs_by, occurs, may_step, is_zero, with_started, raised_by}
+use Rattle.jdwp_debuggee.specs.Facts.{AreBelow, IsSound, Quiet, Happens}
+use Rattle.jdwp_debuggee.proofs.Small.{and-left, and-right, is-not-true}
 use Rattle.jdwp_debuggee.proofs.Threads.{count-changed, count-append, count-marked, count-without, below-limit, under-limit}
 use Rattle.jdwp_debuggee.proofs.Commands.{sound_counts}
 
@@ -43,16 +42,16 @@ no-death-kind RanOut = refl
 other-kind : (o : OccurrenceMeaning) (byte : ℕ) → is_of_kind o byte ≡ true → (byte == kind_byte kind.VmDeath) ≡ false
 other-kind o byte h =
     false_from_ne_true (byte == kind_byte kind.VmDeath) (λ k.
-        let e : is_of_kind o (kind_byte kind.VmDeath) ≡ true = subst (λ n. is_of_kind o n ≡ true) (eqb-true byte (kind_byte kind.VmDeath) k) h in
-        let f : is_of_kind o (kind_byte kind.VmDeath) ≡ false = no-death-kind o in
-        absurd (cc))
+    let e : is_of_kind o (kind_byte kind.VmDeath) ≡ true = subst (λ n. is_of_kind o n ≡ true) (eqb-true byte (kind_byte kind.VmDeath) k) h in
+    let f : is_of_kind o (kind_byte kind.VmDeath) ≡ false = no-death-kind o in
+    absurd (cc))
 
 no-death : (h : HappeningMeaning) (rs : List Request) → list_any (is_event_of kind.VmDeath) (map (event_for h) (passing h rs)) ≡ false
 no-death h [] = refl
 no-death h (r ∷ rs) =
     elim (passes h r) as (λ b. passes h r ≡ b → list_any (is_event_of kind.VmDeath) (map (event_for h) (cond b (r ∷ passing h rs) (passing h rs))) ≡ false) [
-      true ↦ λ e. ap (λ b. b || list_any (is_event_of kind.VmDeath) (map (event_for h) (passing h rs))) (other-kind h.occurrence r.asked.kind (and-left _ _ e)) ∙ no-death h rs
-    | false ↦ λ _. no-death h rs
+      | true ↦ λ e. ap (λ b. b || list_any (is_event_of kind.VmDeath) (map (event_for h) (passing h rs))) (other-kind h.occurrence r.asked.kind (and-left _ _ e)) ∙ no-death h rs
+      | false ↦ λ _. no-death h rs
     ] refl
 
 -- what a composite that was gathered says
@@ -94,11 +93,11 @@ gone-zero c false h k = ap or_zero k
 pub raised-by-most : (policy t u n : ℕ) → raised_by policy t u n ≤ n + 1
 raised-by-most policy t u n =
     elim (policy == POLICY_ALL) as (λ b. cond b (n + 1) (cond (policy == POLICY_EVENT_THREAD) (cond (t == u) (n + 1) n) n) ≤ n + 1) [
-      true ↦ omega arith
-    | false ↦ elim (policy == POLICY_EVENT_THREAD) as (λ b. cond b (cond (t == u) (n + 1) n) n ≤ n + 1) [
-          true ↦ elim (t == u) as (λ b. cond b (n + 1) n ≤ n + 1) [ true ↦ omega arith | false ↦ omega arith ]
+      | true ↦ omega arith
+      | false ↦ elim (policy == POLICY_EVENT_THREAD) as (λ b. cond b (cond (t == u) (n + 1) n) n ≤ n + 1) [
+        | true ↦ elim (t == u) as (λ b. cond b (n + 1) n ≤ n + 1) [ true ↦ omega arith | false ↦ omega arith ]
         | false ↦ omega arith
-        ]
+      ]
     ]
 
 -- ---- a thread ends
@@ -213,25 +212,25 @@ pub record Ready {S : Type 0} (m : Meaning S) (settings : Settings) (now : Momen
 
 started-thread : (h : HappeningMeaning) (n : ℕ) → started h ≡ Some n → h.thread ≡ n
 started-thread h n = elim h.occurrence as (λ o. started_by h.thread o ≡ Some n → h.thread ≡ n) [
-    Moved p ↦ λ e. absurd (cc)
+  | Moved p ↦ λ e. absurd (cc)
   | Entered p ↦ λ e. absurd (cc)
   | Left p v ↦ λ e. absurd (cc)
   | Threw p t ↦ λ e. absurd (cc)
   | Prepared p ↦ λ e. absurd (cc)
   | Started ↦ λ e. cc
   | RanOut ↦ λ e. absurd (cc)
-  ]
+]
 
 out-of-started : (h : HappeningMeaning) → runs_out h ≡ true → started h ≡ None
 out-of-started h = elim h.occurrence as (λ o. is_run_out o ≡ true → started_by h.thread o ≡ None) [
-    Moved p ↦ λ e. refl
+  | Moved p ↦ λ e. refl
   | Entered p ↦ λ e. refl
   | Left p v ↦ λ e. refl
   | Threw p t ↦ λ e. refl
   | Prepared p ↦ λ e. refl
   | Started ↦ λ e. absurd (cc)
   | RanOut ↦ λ e. refl
-  ]
+]
 
 stepped-mid : {S : Type 0} (m : Meaning S) → IsLawful m → (settings : Settings) (now : Moment S) (t : ℕ) (o : Option ℕ) → Ready m settings now t → runs_out (m.next now.machine t) ≡ false → started (m.next now.machine t) ≡ o → Mid m settings now (record { state = with_started o (seen (m.next now.machine t) now.state); machine = m.stepped now.machine t }) (m.next now.machine t).thread
 stepped-mid m law settings now t None r x e =
@@ -274,16 +273,16 @@ stepped-mid m law settings now t (Some n) r x e =
       quiet = record {
         same_count = λ u. ap or_zero (count u) ∙ or-zero (count_of now.state u) (n == u);
         no_birth = λ u k y h.
-          let f : (n == u) ≡ false = false_from_ne_true (n == u) (λ q. let z : m.ever now.machine u ≡ false = subst (λ v. m.ever now.machine v ≡ false) (eqb-true n u q) fresh in absurd (cc)) in
-          sym (count u ∙ (ap (λ b. option_or (count_of now.state u) (cond b (Some 0) None)) f ∙ or-none _)) ∙ h;
+            let f : (n == u) ≡ false = false_from_ne_true (n == u) (λ q. let z : m.ever now.machine u ≡ false = subst (λ v. m.ever now.machine v ≡ false) (eqb-true n u q) fresh in absurd (cc)) in
+            sym (count u ∙ (ap (λ b. option_or (count_of now.state u) (cond b (Some 0) None)) f ∙ or-none _)) ∙ h;
         ever = λ u h. law.ever_stepped now.machine t u may ∙ ap (λ b. b || is_named (started (m.next now.machine t)) u) h;
         same_requests = asked-counted (m.next now.machine t) now.state.requests;
         alive = λ h. h;
       };
       ran =
-        let none : count_of now.state n ≡ None = elim (count_of now.state n) as (λ v. count_of now.state n ≡ v → v ≡ None) [ None ↦ λ _. refl | Some k ↦ λ q. let z : m.ever now.machine n ≡ true = lived n k q in absurd (cc) ] refl in
-        let here : count_of after n ≡ Some 0 = count n ∙ (ap (λ v. option_or v (cond (n == n) (Some 0) None)) none ∙ ap (λ b. cond b (Some 0) None) (eq-eqb n n refl)) in
-        ap (λ v. count_of after v) (started-thread (m.next now.machine t) n e) ∙ here;
+          let none : count_of now.state n ≡ None = elim (count_of now.state n) as (λ v. count_of now.state n ≡ v → v ≡ None) [ None ↦ λ _. refl | Some k ↦ λ q. let z : m.ever now.machine n ≡ true = lived n k q in absurd (cc) ] refl in
+          let here : count_of after n ≡ Some 0 = count n ∙ (ap (λ v. option_or v (cond (n == n) (Some 0) None)) none ∙ ap (λ b. cond b (Some 0) None) (eq-eqb n n refl)) in
+          ap (λ v. count_of after v) (started-thread (m.next now.machine t) n e) ∙ here;
       below_limit = λ u k h. or-most (count_of now.state u) (n == u) settings.count_limit k least (r.below_limit u) (sym (count u) ∙ h);
       shaken = refl;
       alive = refl;
@@ -311,11 +310,21 @@ reports {S} m law settings now t (Some c) r x e =
     record {
       sound = record { state = q.state; lives = q.lives; at_most = q.at_most; below = q.below };
       ever = d.quiet.ever;
-      told = (refl, record {
-        thread = thread; mid = mid; quiet = d.quiet; of_thread = says.0; is_no_death = says.1; ran = d.ran;
-        counts = λ u. count-changed (raised_by c.policy thread) mid.state.threads u;
-        same_requests = refl; ever = λ u h. h; alive = refl;
-      });
+      told = (
+        refl,
+        record {
+          thread = thread;
+          mid = mid;
+          quiet = d.quiet;
+          of_thread = says.0;
+          is_no_death = says.1;
+          ran = d.ran;
+          counts = λ u. count-changed (raised_by c.policy thread) mid.state.threads u;
+          same_requests = refl;
+          ever = λ u h. h;
+          alive = refl;
+        },
+      );
       silent = λ h. let y : gathered (m.next now.machine t) now.state.requests ≡ None = ap (gathered (m.next now.machine t)) h in absurd (cc);
       handshaken = d.shaken;
       alive = λ h. d.alive;
@@ -332,7 +341,9 @@ dies {S} m law settings now t (Some c) r x e =
       sound = record { state = r.sound.state; lives = r.sound.lives; at_most = r.sound.at_most; below = subst (AreBelow now.state.next_request) (sym asked) r.sound.below };
       quiet = record { same_count = λ u. refl; no_birth = λ u n _ h. h; ever = λ u h. h; same_requests = asked; alive = λ h. h };
       ran = ap (λ v. count_of now.state v) own ∙ r.count;
-      below_limit = r.below_limit; shaken = refl; alive = refl;
+      below_limit = r.below_limit;
+      shaken = refl;
+      alive = refl;
     } in
     let q = raised-sound m settings now mid thread c d in
     let says = gathered-says (m.next now.machine t) now.state.requests c e in
@@ -345,11 +356,21 @@ dies {S} m law settings now t (Some c) r x e =
         below = q.below;
       };
       ever = λ u h. h;
-      told = (refl, record {
-        thread = thread; mid = mid; quiet = d.quiet; of_thread = says.0; is_no_death = says.1; ran = d.ran;
-        counts = λ u. count-marked t raised.threads u ∙ count-changed (raised_by c.policy thread) mid.state.threads u;
-        same_requests = refl; ever = λ u h. h; alive = refl;
-      });
+      told = (
+        refl,
+        record {
+          thread = thread;
+          mid = mid;
+          quiet = d.quiet;
+          of_thread = says.0;
+          is_no_death = says.1;
+          ran = d.ran;
+          counts = λ u. count-marked t raised.threads u ∙ count-changed (raised_by c.policy thread) mid.state.threads u;
+          same_requests = refl;
+          ever = λ u h. h;
+          alive = refl;
+        },
+      );
       silent = λ h. let y : gathered (m.next now.machine t) now.state.requests ≡ None = ap (gathered (m.next now.machine t)) h in absurd (cc);
       handshaken = refl;
       alive = λ h. refl;
@@ -378,6 +399,6 @@ pub happens_step : {S : Type 0} (m : Meaning S) → IsLawful m → (settings : S
 happens_step m law settings now t s h =
     let r = ready m settings now t s h in
     elim (is_marked now.state t) as (λ b. Happens m settings now (occurs_by m now t b)) [
-      true ↦ ends-happens m law settings now t now.state _ s r.live r.count (same-itself now.state) refl
-    | false ↦ happens-by m law settings now t _ r refl
+      | true ↦ ends-happens m law settings now t now.state _ s r.live r.count (same-itself now.state) refl
+      | false ↦ happens-by m law settings now t _ r refl
     ]

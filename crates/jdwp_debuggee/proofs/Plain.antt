@@ -1,4 +1,4 @@
-use Rattle.std.proofs.Common.{◌≡◌, ℕ, ◌==◌, Bool, true, false, Option, Some, None, refl, sym, ◌∙◌, ap, subst, cond}
+use Rattle.std.proofs.Common.{◌≡◌, ◌==◌, true, false, Some, None, refl}
 use Rattle.jdwp_machine.specs.Meanings.{Meaning}
 use Rattle.jdwp_debuggee.specs.Settings.{Settings}
 use Rattle.jdwp_debuggee.specs.State.{Moment, count_of, at_limit}
@@ -6,7 +6,7 @@ use Rattle.jdwp_debuggee.specs.Actions
 use Rattle.jdwp_debuggee.specs.Actions.{Command, Action, action_of, is_implemented}
 use Rattle.jdwp_debuggee.specs.Refusals.{set_refusal}
 use Rattle.jdwp_event.specs.Modifiers.{modifiers_of}
-use Rattle.jdwp_debuggee.specs.Effects.{Effect, effect, effect_by, does, suspend_by, suspend_thread_by, suspend_thread_at, resume_thread_by, count_by, status_by, frames_by, thread_by, slots_by, slots_at, set_by}
+use Rattle.jdwp_debuggee.specs.Effects.{effect, effect_by, does, suspend_by, suspend_thread_by, suspend_thread_at, resume_thread_by, count_by, status_by, frames_by, thread_by, slots_by, slots_at, set_by}
 use Rattle.jdwp_debuggee.specs.Breadth.{is_plain, keeps_machine}
 
 plain_does : {S : Type 0} (m : Meaning S) (settings : Settings) (now : Moment S) (c : Command) (a : Action) → is_plain a ≡ true → (does m settings now c a).after.state ≡ now.state
@@ -14,8 +14,8 @@ plain_does m settings now c (Actions.SuspendCount t) h = elim (count_of now.stat
 plain_does m settings now c (Actions.ThreadStatus t) h = elim (count_of now.state t) as (λ v. (status_by now v).after.state ≡ now.state) [ None ↦ refl | Some n ↦ refl ]
 plain_does m settings now c (Actions.SetSlots t f values) h =
     elim (count_of now.state t) as (λ v. (slots_by m now t f values v).after.state ≡ now.state) [
-      None ↦ refl
-    | Some n ↦ elim (n == 0) as (λ b. (slots_at m now t f values b).after.state ≡ now.state) [ true ↦ refl | false ↦ refl ]
+      | None ↦ refl
+      | Some n ↦ elim (n == 0) as (λ b. (slots_at m now t f values b).after.state ≡ now.state) [ true ↦ refl | false ↦ refl ]
     ]
 plain_does m settings now c (Actions.AskFrames t) h = elim (count_of now.state t) as (λ v. (frames_by m settings now c v).after.state ≡ now.state) [ None ↦ refl | Some n ↦ refl ]
 plain_does m settings now c (Actions.AskThread t) h = elim (count_of now.state t) as (λ v. (thread_by m settings now c v).after.state ≡ now.state) [ None ↦ refl | Some n ↦ refl ]
@@ -58,8 +58,8 @@ kept_does m settings now c (Actions.ClearRequest byte id) h = refl
 kept_does m settings now c Actions.ClearBreakpoints h = refl
 kept_does m settings now c (Actions.SuspendThread t) h =
     elim (count_of now.state t) as (λ v. (suspend_thread_by settings now t v).after.machine ≡ now.machine) [
-      None ↦ refl
-    | Some n ↦ elim (n == settings.count_limit) as (λ b. (suspend_thread_at now t b).after.machine ≡ now.machine) [ true ↦ refl | false ↦ refl ]
+      | None ↦ refl
+      | Some n ↦ elim (n == settings.count_limit) as (λ b. (suspend_thread_at now t b).after.machine ≡ now.machine) [ true ↦ refl | false ↦ refl ]
     ]
 kept_does m settings now c (Actions.ResumeThread t) h = elim (count_of now.state t) as (λ v. (resume_thread_by now t v).after.machine ≡ now.machine) [ None ↦ refl | Some n ↦ refl ]
 

@@ -1,10 +1,9 @@
 -- small facts on tests, options and lists
-use Rattle.std.proofs.Common.{◌≡◌, ℕ, ◌==◌, ◌+◌, ◌-◌, ◌<◌, ◌≤◌, Bool, true, false, ◌||◌, ◌&&◌, cond, not, Option, Some, None, List, [], ◌∷◌, ◌++◌, map, refl, sym, ◌∙◌, ap, subst, arith, is_some, zero, suc}
+use Rattle.std.proofs.Common.{◌≡◌, ℕ, ◌+◌, ◌<◌, Bool, true, false, ◌&&◌, cond, not, Option, Some, None, List, [], ◌∷◌, ◌++◌, refl, ap, arith, is_some}
 use Rattle.std.specs.List.{filter}
-use Rattle.std.specs.Option.{option_map, option_or}
+use Rattle.std.specs.Option.{option_map}
 use Rattle.jdwp_event.specs.Requests.{Asked, Request, all_asked}
 use Rattle.jdwp_debuggee.specs.Facts.{AreBelow}
-use Rattle.jdwp_debuggee.specs.State.{or_zero}
 
 pub and-true : (b : Bool) → b ≡ (b && true)
 and-true true = refl
@@ -49,8 +48,8 @@ pub asked-filter : (p : Asked → Bool) (rs : List Request) → all_asked (filte
 asked-filter p [] = refl
 asked-filter p (r ∷ rs) =
     elim (p r.asked) as (λ b. all_asked (cond b (r ∷ filter (λ (x : Request). p x.asked) rs) (filter (λ (x : Request). p x.asked) rs)) ≡ cond b (r.asked ∷ filter p (all_asked rs)) (filter p (all_asked rs))) [
-      true ↦ ap (λ l. r.asked ∷ l) (asked-filter p rs)
-    | false ↦ asked-filter p rs
+      | true ↦ ap (λ l. r.asked ∷ l) (asked-filter p rs)
+      | false ↦ asked-filter p rs
     ]
 
 pub below-filter : (n : ℕ) (p : Asked → Bool) (rs : List Asked) → AreBelow n rs → AreBelow n (filter p rs)

@@ -1,16 +1,15 @@
 -- What commands that change nothing are answered (JDWP specification, "Protocol Details").
-use Rattle.std.specs.Prelude.{ℕ, ℤ, pos, ◌+◌, ◌==◌, nat_le, Bool, true, false, List, [], ◌∷◌, map, length, Option, Some, None, if◌then◌else◌}
-use Rattle.jdwp_wire.specs.declared.error_code.ErrorCode.{ErrorCode}
-use Rattle.jdwp_wire.specs.ErrorCodes.{INVALID_THREAD, THREAD_NOT_SUSPENDED, INTERNAL}
+use Rattle.std.specs.Prelude.{ℕ, pos, ◌+◌, ◌==◌, nat_le, Bool, List, [], ◌∷◌, map, length, if◌then◌else◌}
+use Rattle.jdwp_wire.specs.ErrorCodes.{THREAD_NOT_SUSPENDED, INTERNAL}
 use Rattle.jdwp_wire.specs.Widths.{Widths}
 use Rattle.jdwp_layout.specs.declared.answer.Answer.{Answer}
 use Rattle.jdwp_layout.specs.declared.answer.Answer.TheVariants.{Data, Error}
-use Rattle.jdwp_layout.specs.Meanings.{ScalarMeaning, Int, Object, DatumMeaning, One, Many}
+use Rattle.jdwp_layout.specs.Meanings.{Int, Object, DatumMeaning, One, Many}
 use Rattle.jdwp_layout.specs.Writes.{data_canonical}
 use Rattle.jdwp_machine.specs.declared.query.Query.{Query}
 use Rattle.jdwp_machine.specs.Meanings.{Meaning}
 use Rattle.jdwp_debuggee.specs.Settings.{Settings}
-use Rattle.jdwp_debuggee.specs.State.{Thread, State, ids}
+use Rattle.jdwp_debuggee.specs.State.{State, ids}
 use Rattle.jdwp_debuggee.specs.Actions.{Carried, Content, Raw, Command}
 
 -- an answer with no data, and one with an int

@@ -9,7 +9,7 @@ use Rattle.jdwp_wire.specs.declared.error_code.ErrorCode.{ErrorCode}
 use Rattle.jdwp_wire.specs.ErrorCodes.{INVALID_THREAD}
 use Rattle.jdwp_layout.specs.declared.answer.Answer.{Answer}
 use Rattle.jdwp_layout.specs.declared.answer.Answer.TheVariants.{Data, Error}
-use Rattle.jdwp_layout.specs.Meanings.{Int, DatumMeaning, One}
+use Rattle.jdwp_layout.specs.Meanings.{Int, One}
 use Rattle.jdwp_event.specs.declared.kind.EventKind.TheVariants as kind
 use Rattle.jdwp_event.specs.EventKinds.{kind_byte}
 use Rattle.jdwp_event.specs.Modifiers.{modifiers_of}
@@ -18,10 +18,10 @@ use Rattle.jdwp_event.specs.Composites.{CompositeMeaning}
 use Rattle.jdwp_event.specs.Told.{composite_thread, is_vm_death}
 use Rattle.jdwp_machine.specs.Meanings.{Meaning, has}
 use Rattle.jdwp_debuggee.specs.Settings.{Settings}
-use Rattle.jdwp_debuggee.specs.State.{State, Moment, count_of, count_or_zero, raised, lowered, cleared, only, reset}
+use Rattle.jdwp_debuggee.specs.State.{State, Moment, count_of, count_or_zero, raised, lowered, cleared, only}
 use Rattle.jdwp_debuggee.specs.Actions
 use Rattle.jdwp_debuggee.specs.Actions.{Command, Action, action_of}
-use Rattle.jdwp_debuggee.specs.Answers.{int_answer, all_threads}
+use Rattle.jdwp_debuggee.specs.Answers.{all_threads}
 use Rattle.jdwp_debuggee.specs.Effects.{Effect, effect}
 use Rattle.jdwp_debuggee.specs.Steps.{Step, occurs, may_step, raised_by}
 

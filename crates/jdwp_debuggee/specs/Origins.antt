@@ -1,13 +1,13 @@
 -- Where a thread is, as a machine answers it: from there the steps of a new request are measured
 -- (JDWP specification, "Protocol Details": ThreadReference.Frames, Method.LineTable, and the modifier Step).
-use Rattle.std.specs.Prelude.{ℕ, ℤ, pos, negsuc, nat_le, List, [], ◌∷◌, length, Option, Some, None, if◌then◌else◌}
+use Rattle.std.specs.Prelude.{ℕ, pos, negsuc, nat_le, List, [], ◌∷◌, length, Option, Some, None, if◌then◌else◌}
 use Rattle.std.specs.Int.{w32, w64, cast_unsigned}
 use Rattle.jdwp_value.specs.declared.location.Location.{Location}
 use Rattle.jdwp_value.specs.declared.location.Location.TheVariants as location
 use Rattle.jdwp_layout.specs.declared.answer.Answer.{Answer}
-use Rattle.jdwp_layout.specs.declared.answer.Answer.TheVariants.{Data, Error}
+use Rattle.jdwp_layout.specs.declared.answer.Answer.TheVariants.{Data}
 use Rattle.jdwp_layout.specs.CommandNumbers.{FRAMES, LINE_TABLE}
-use Rattle.jdwp_layout.specs.Meanings.{ScalarMeaning, Int, Long, Object, ReferenceType, Method, Frame, Located, DatumMeaning, One, Many}
+use Rattle.jdwp_layout.specs.Meanings.{ScalarMeaning, Int, Long, Object, ReferenceType, Method, Frame, Located, One, Many}
 use Rattle.jdwp_event.specs.Requests.{Origin}
 use Rattle.jdwp_machine.specs.declared.query.Query.{Query}
 use Rattle.jdwp_machine.specs.Meanings.{Meaning}

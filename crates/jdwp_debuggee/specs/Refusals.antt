@@ -4,12 +4,12 @@ use Rattle.std.specs.Prelude.{ℕ, ℤ, pos, ◌==◌, nat_le, nat_lt, int_lt, B
 use Rattle.std.specs.Ordering.{int_eq}
 use Rattle.std.specs.List.{list_any, filter}
 use Rattle.jdwp_wire.specs.declared.error_code.ErrorCode.{ErrorCode}
-use Rattle.jdwp_wire.specs.ErrorCodes.{INVALID_THREAD, INVALID_CLASS, INVALID_LOCATION, NOT_IMPLEMENTED, INVALID_EVENT_TYPE, ILLEGAL_ARGUMENT, INTERNAL, INVALID_COUNT}
+use Rattle.jdwp_wire.specs.ErrorCodes.{INVALID_THREAD, INVALID_CLASS, NOT_IMPLEMENTED, INVALID_EVENT_TYPE, ILLEGAL_ARGUMENT, INTERNAL, INVALID_COUNT}
 use Rattle.jdwp_value.specs.declared.location.Location.{Location}
 use Rattle.jdwp_layout.specs.declared.answer.Answer.{Answer}
 use Rattle.jdwp_layout.specs.declared.answer.Answer.TheVariants.{Data, Error}
 use Rattle.jdwp_layout.specs.CommandNumbers.{SIGNATURE, SET_REQUEST}
-use Rattle.jdwp_layout.specs.Meanings.{ScalarMeaning, Byte, ReferenceType, Located, DatumMeaning, One, Many}
+use Rattle.jdwp_layout.specs.Meanings.{Byte, ReferenceType, Located, One, Many}
 use Rattle.jdwp_event.specs.declared.kind.EventKind.{EventKind}
 use Rattle.jdwp_event.specs.declared.kind.EventKind.TheVariants as kind
 use Rattle.jdwp_event.specs.EventKinds.{kind_byte, kind_of_byte}

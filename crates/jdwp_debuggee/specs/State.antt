@@ -1,7 +1,7 @@
 -- The state of the debuggee (JDWP specification: the sets VirtualMachine, ThreadReference and EventRequest).
 use Rattle.std.specs.Prelude.{ℕ, ◌+◌, ◌-◌, ◌^◌, ◌%◌, Bool, true, false, ◌==◌, List, [], ◌∷◌, ◌++◌, map, Option, Some, None, if◌then◌else◌}
 use Rattle.std.specs.List.{list_any, filter}
-use Rattle.jdwp_event.specs.Requests.{Asked, Request}
+use Rattle.jdwp_event.specs.Requests.{Request}
 
 -- A live thread: its suspend count, and whether its death was reported.
 pub record Thread : Type 0 where

@@ -5,7 +5,7 @@ use Rattle.jdwp_event.specs.Filters.{all_counted}
 use Rattle.jdwp_event.specs.Occurrences.{HappeningMeaning, started, runs_out}
 use Rattle.jdwp_machine.specs.Meanings.{Meaning}
 use Rattle.jdwp_debuggee.specs.Settings.{Settings}
-use Rattle.jdwp_debuggee.specs.State.{Thread, State, Moment, count_of, with_counts, raised, only, at_limit, with_thread, without_thread, with_mark, is_marked, with_packet, dead}
+use Rattle.jdwp_debuggee.specs.State.{Thread, State, Moment, count_of, with_counts, at_limit, with_thread, without_thread, with_mark, is_marked, with_packet, dead}
 use Rattle.jdwp_debuggee.specs.Answers.{least_thread}
 
 -- ---- when a thread may step

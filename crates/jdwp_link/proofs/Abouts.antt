@@ -1,11 +1,9 @@
 -- the thread that a command is about
-use Rattle.std.proofs.Common.{◌≡◌, ℕ, ◌==◌, Bool, true, false, ◌||◌, ◌&&◌, cond, Option, Some, None, List, [], ◌∷◌, refl, sym, ◌∙◌, ap, subst}
-use Rattle.std.specs.Prelude.{ℤ}
+use Rattle.std.proofs.Common.{◌≡◌, ℕ, ◌==◌, ◌||◌, Option, Some, None, [], ◌∷◌, refl}
 use Rattle.std.proofs.lemmas.Bool.{cond_both}
 use Rattle.jdwp_layout.specs.CommandNumbers.{is_command, STACK_FRAME, FRAMES, FRAME_COUNT, SUSPEND, RESUME, DISPOSE, EXIT, HOLD_EVENTS, RELEASE_EVENTS, ALL_THREADS, ID_SIZES, SET_REQUEST, CLEAR_REQUEST, CLEAR_ALL_BREAKPOINTS, SUSPEND_THREAD, RESUME_THREAD, SUSPEND_COUNT, THREAD_STATUS, SET_SLOTS}
-use Rattle.jdwp_layout.specs.Meanings.{ScalarMeaning, Byte, Int, Object, Frame, DatumMeaning, One, Many}
-use Rattle.jdwp_debuggee.specs.Actions
-use Rattle.jdwp_debuggee.specs.Actions.{Carried, Content, Raw, Command, Action, action_of, action_by, thread_of, thread_action, other_action, slots_of, set_action, clear_action}
+use Rattle.jdwp_layout.specs.Meanings.{Byte, Int, Object, Frame, One, Many}
+use Rattle.jdwp_debuggee.specs.Actions.{Carried, Content, Command, Action, action_of, action_by, thread_of, thread_action, other_action, slots_of, set_action, clear_action}
 use Rattle.jdwp_debuggee.specs.Facts.{about}
 
 abbrev IsAbout : Option ℕ → Action → Type 0

@@ -1,25 +1,24 @@
 -- what sending a message does, and what reading it teaches
-use Rattle.std.proofs.Common.{◌≡◌, ℕ, ℤ, pos, zero, suc, ◌==◌, ◌+◌, ◌-◌, ◌<◌, ◌≤◌, ◌⊎◌, inl, inr, min, Bool, true, false, ◌||◌, ◌&&◌, not, cond, Option, Some, None, List, [], ◌∷◌, ◌++◌, refl, sym, ◌∙◌, ap, subst, arith, is_some}
-use Rattle.std.proofs.lemmas.Bool.{eqb-true, eq-eqb}
+use Rattle.std.proofs.Common.{◌≡◌, ℕ, ◌==◌, ◌+◌, ◌-◌, ◌≤◌, ◌⊎◌, inl, inr, Bool, true, false, ◌||◌, ◌&&◌, not, cond, Option, Some, None, List, [], ◌∷◌, ◌++◌, refl, sym, ◌∙◌, ap, subst, arith, is_some}
+use Rattle.std.proofs.lemmas.Bool.{eqb-true}
 use Rattle.std.specs.Option.{option_map}
 use Rattle.jdwp_layout.specs.declared.answer.Answer.{Answer}
 use Rattle.jdwp_layout.specs.declared.answer.Answer.TheVariants.{Data, Error}
 use Rattle.jdwp_wire.specs.declared.error_code.ErrorCode.{ErrorCode}
-use Rattle.jdwp_wire.specs.ErrorCodes.{INVALID_THREAD}
-use Rattle.jdwp_layout.specs.Meanings.{Int, DatumMeaning, One}
+use Rattle.jdwp_layout.specs.Meanings.{DatumMeaning}
 use Rattle.jdwp_event.specs.Modifiers.{modifiers_of}
-use Rattle.jdwp_event.specs.Requests.{Asked, all_asked}
+use Rattle.jdwp_event.specs.Requests.{all_asked}
 use Rattle.jdwp_event.specs.Composites.{CompositeMeaning, POLICY_ALL, POLICY_EVENT_THREAD, vm_death}
 use Rattle.jdwp_event.specs.Told.{composite_thread, is_vm_death}
-use Rattle.jdwp_machine.specs.Meanings.{Meaning, has}
+use Rattle.jdwp_machine.specs.Meanings.{Meaning}
 use Rattle.jdwp_machine.specs.Laws.{IsLawful}
 use Rattle.jdwp_debuggee.specs.Settings.{Settings}
-use Rattle.jdwp_debuggee.specs.State.{State, Moment, count_of, count_or_zero, or_zero, raised, lowered, cleared, only}
+use Rattle.jdwp_debuggee.specs.State.{State, Moment, count_of, or_zero, raised, lowered, only}
 use Rattle.jdwp_debuggee.specs.Actions
 use Rattle.jdwp_debuggee.specs.Actions.{Command, Action, action_of, thread_of}
 use Rattle.jdwp_debuggee.specs.Effects.{Effect}
 use Rattle.jdwp_debuggee.specs.Steps.{raised_by}
-use Rattle.jdwp_debuggee.specs.Facts.{AreBelow, IsSound, Quiet, Does, Tells, Says, OfThread, about, moved, moved_by, requests_by, requests_moved, is_data, is_dispose, is_exit, is_not_asked, is_no_asked_breakpoint}
+use Rattle.jdwp_debuggee.specs.Facts.{AreBelow, IsSound, Does, Says, OfThread, about, moved, moved_by, requests_by, requests_moved, is_data, is_dispose, is_exit}
 use Rattle.jdwp_debugger.specs.Messages.{Ticket, Message, Handshake, Reply, Report}
 use Rattle.jdwp_debugger.specs.Mirror
 use Rattle.jdwp_debugger.specs.Mirror.{Kept, kept, all_kept, learned, learned_data, learned_error, learned_reply, learned_event, own_count, other_count, first_count, taught, counted, lists, is_thread, teaches, teaches_data, forgets, forgets_data, shows, shows_data, is_last_of_thread, is_invalid_thread, requests_after, requests_after_data, requests_after_reply, is_not_kept, is_no_kept_breakpoint, ends, more, less, COUNT_MOST}
@@ -95,15 +94,15 @@ fall mv t n c after h e =
 rise-one : (u t n : ℕ) (c : Option ℕ) (after : State) → cond (u == t) (option_map more c) c ≡ Some n → Learns-by (λ j. Some (cond (u == t) (j + 1) j)) c t n after
 rise-one u t n c after =
     elim (u == t) as (λ b. cond b (option_map more c) c ≡ Some n → Learns-by (λ j. Some (cond b (j + 1) j)) c t n after) [
-      true ↦ λ h. rise (λ j. Some (j + 1)) t n c after h (λ j. refl)
-    | false ↦ λ h. stay (λ j. Some j) t n c after h refl
+      | true ↦ λ h. rise (λ j. Some (j + 1)) t n c after h (λ j. refl)
+      | false ↦ λ h. stay (λ j. Some j) t n c after h refl
     ]
 
 fall-one : (u t n : ℕ) (c : Option ℕ) (after : State) → cond (u == t) (option_map less c) c ≡ Some n → Learns-by (λ j. Some (cond (u == t) (j - 1) j)) c t n after
 fall-one u t n c after =
     elim (u == t) as (λ b. cond b (option_map less c) c ≡ Some n → Learns-by (λ j. Some (cond b (j - 1) j)) c t n after) [
-      true ↦ λ h. fall (λ j. Some (j - 1)) t n c after h (λ j. refl)
-    | false ↦ λ h. stay (λ j. Some j) t n c after h refl
+      | true ↦ λ h. fall (λ j. Some (j - 1)) t n c after h (λ j. refl)
+      | false ↦ λ h. stay (λ j. Some j) t n c after h refl
     ]
 
 learns-data : (a : Action) (content : List DatumMeaning) (before after : State) (t n : ℕ) (c : Option ℕ) → Says a before (Data content) → count_of after t ≡ moved_by a t (count_of before t) → learned_data a content t c ≡ Some n → Learns-by (λ j. moved_by a t (Some j)) c t n after
@@ -114,10 +113,10 @@ learns-data (Actions.ResumeThread u) content before after t n c y e h = fall-one
 learns-data (Actions.SuspendCount u) content before after t n c y e h =
     let f : counted content ≡ Some y.0 = ap counted y.2 in
     elim (u == t) as (λ b. (u == t) ≡ b → cond b (taught (counted content) c) c ≡ Some n → Learns-by (λ j. Some j) c t n after) [
-      true ↦ λ q z.
-        let w : Some y.0 ≡ Some n = sym (ap (λ x. taught x c) f) ∙ z in
-        inl (e ∙ (ap (λ x. count_of before x) (sym (eqb-true u t q)) ∙ (y.1 ∙ w)))
-    | false ↦ λ _ z. stay (λ j. Some j) t n c after z refl
+      | true ↦ λ q z.
+          let w : Some y.0 ≡ Some n = sym (ap (λ x. taught x c) f) ∙ z in
+          inl (e ∙ (ap (λ x. count_of before x) (sym (eqb-true u t q)) ∙ (y.1 ∙ w)))
+      | false ↦ λ _ z. stay (λ j. Some j) t n c after z refl
     ] refl h
 learns-data Actions.AllThreads content before after t n c y e h =
     elim (lists content t) as (λ b. cond b c None ≡ Some n → Learns-by (λ j. Some j) c t n after) [ true ↦ λ z. stay (λ j. Some j) t n c after z refl | false ↦ λ z. absurd (cc) ] h
@@ -215,35 +214,35 @@ other-raise c t j k h e l =
     let f : event_raise c t j ≡ cond (c.policy == POLICY_ALL) (j + 1) (cond (c.policy == POLICY_EVENT_THREAD) j j) = ap (λ b. cond (c.policy == POLICY_ALL) (j + 1) (cond (c.policy == POLICY_EVENT_THREAD) (cond b (j + 1) j) j)) h in
     let g : cond (c.policy == POLICY_ALL) (j + 1) (cond (c.policy == POLICY_EVENT_THREAD) j j) ≡ k = sym f ∙ some-same _ _ e in
     elim (c.policy == POLICY_ALL) as (λ b. cond b (j + 1) (cond (c.policy == POLICY_EVENT_THREAD) j j) ≡ k → cond b (more j) j ≡ k) [
-      true ↦ λ q. more-exact j (subst (λ x. x ≤ COUNT_MOST) (sym q) l) ∙ q
-    | false ↦ elim (c.policy == POLICY_EVENT_THREAD) as (λ b. cond b j j ≡ k → j ≡ k) [ true ↦ λ q. q | false ↦ λ q. q ]
+      | true ↦ λ q. more-exact j (subst (λ x. x ≤ COUNT_MOST) (sym q) l) ∙ q
+      | false ↦ elim (c.policy == POLICY_EVENT_THREAD) as (λ b. cond b j j ≡ k → j ≡ k) [ true ↦ λ q. q | false ↦ λ q. q ]
     ] g
 
 learns-event : (c : CompositeMeaning) (before after : State) (t n : ℕ) (count : Option ℕ) → ((u : ℕ) → is_thread (composite_thread c) u ≡ true → count_of before u ≡ Some 0) → count_of after t ≡ option_map (event_raise c t) (count_of before t) → learned_event c t count ≡ Some n → Learns-by (λ j. Some (event_raise c t j)) count t n after
 learns-event c before after t n count ran e =
     elim (is_thread (composite_thread c) t) as (λ b. is_thread (composite_thread c) t ≡ b → cond b (own_count c) (option_map (other_count c.policy) count) ≡ Some n → Learns-by (λ j. Some (event_raise c t j)) count t n after) [
-      true ↦ λ q h. elim (is_last_of_thread c) as (λ b. cond b None (Some (first_count c.policy)) ≡ Some n → Learns-by (λ j. Some (event_raise c t j)) count t n after) [
-          true ↦ λ z. absurd (cc)
+      | true ↦ λ q h. elim (is_last_of_thread c) as (λ b. cond b None (Some (first_count c.policy)) ≡ Some n → Learns-by (λ j. Some (event_raise c t j)) count t n after) [
+        | true ↦ λ z. absurd (cc)
         | false ↦ λ z. inl (e ∙ (ap (option_map (event_raise c t)) (ran t q) ∙ (ap Some (first-raise c t q) ∙ z)))
-        ] h
-    | false ↦ λ q h. let j = mapped (other_count c.policy) count n h in inr (j.0, j.1, λ k z l. j.2 ∙ other-raise c t j.0 k q z l)
+      ] h
+      | false ↦ λ q h. let j = mapped (other_count c.policy) count n h in inr (j.0, j.1, λ k z l. j.2 ∙ other-raise c t j.0 k q z l)
     ] refl
 
 pub acts_event : {S : Type 0} (m : Meaning S) → IsLawful m → (settings : Settings) → settings.count_limit ≤ COUNT_MOST → (before after : Moment S) (c : CompositeMeaning) (thread : ℕ) → IsSound m settings after → composite_thread c ≡ Some thread → is_vm_death c ≡ false → count_of before.state thread ≡ Some 0 → ((t : ℕ) → count_of after.state t ≡ option_map (raised_by c.policy thread t) (count_of before.state t)) → all_asked after.state.requests ≡ all_asked before.state.requests → ((t : ℕ) → m.ever before.machine t ≡ true → m.ever after.machine t ≡ true) → after.state.alive ≡ before.state.alive → Acts m (Report c) before after
 acts_event m law settings most before after c thread s of lasts ran counts asked ever alive =
     let ran_one : (u : ℕ) → is_thread (composite_thread c) u ≡ true → count_of before.state u ≡ Some 0 = λ u h.
-      let q : Some thread ≡ Some u = sym of ∙ of-thread (composite_thread c) u h in
-      subst (λ x. count_of before.state x ≡ Some 0) (some-same thread u q) ran in
+    let q : Some thread ≡ Some u = sym of ∙ of-thread (composite_thread c) u h in
+    subst (λ x. count_of before.state x ≡ Some 0) (some-same thread u q) ran in
     let raise : (t : ℕ) → count_of after.state t ≡ option_map (event_raise c t) (count_of before.state t) = λ t.
-      counts t ∙ sym (ap (λ (o : Option ℕ). option_map (λ n. cond (c.policy == POLICY_ALL) (n + 1) (cond (c.policy == POLICY_EVENT_THREAD) (cond (is_thread o t) (n + 1) n) n)) (count_of before.state t)) of) in
+    counts t ∙ sym (ap (λ (o : Option ℕ). option_map (λ n. cond (c.policy == POLICY_ALL) (n + 1) (cond (c.policy == POLICY_EVENT_THREAD) (cond (is_thread o t) (n + 1) n) n)) (count_of before.state t)) of) in
     record {
       counts = λ t. raise t ∙ sym (ap (λ b. cond b None (option_map (event_raise c t) (count_of before.state t))) lasts);
       learns = λ t n count h.
-        let x = learns-event c before.state after.state t n count ran_one (raise t) (sym (ap (λ b. cond b None (learned_event c t count)) lasts) ∙ h) in
-        elim x [
-          inl l ↦ inl l
-        | inr l ↦ inr (l.0, l.1, λ k z y. l.2 k (sym (ap (λ b. cond b None (Some (event_raise c t l.0))) lasts) ∙ z) y)
-        ];
+          let x = learns-event c before.state after.state t n count ran_one (raise t) (sym (ap (λ b. cond b None (learned_event c t count)) lasts) ∙ h) in
+          elim x [
+            | inl l ↦ inl l
+            | inr l ↦ inr (l.0, l.1, λ k z y. l.2 k (sym (ap (λ b. cond b None (Some (event_raise c t l.0))) lasts) ∙ z) y)
+          ];
       same_requests = ap all_kept asked ∙ sym (ap (λ b. cond b [] (all_kept (all_asked before.state.requests))) lasts);
       shown = λ t h. ap is_some (ran_one t h);
       ever = ever;
@@ -281,8 +280,8 @@ known-data (Actions.SuspendThread u) content t c h = elim (u == t) as (λ b. is_
 known-data (Actions.ResumeThread u) content t c h = elim (u == t) as (λ b. is_some (cond b (option_map less c) c) ≡ is_some c) [ true ↦ some-map less c | false ↦ refl ]
 known-data (Actions.SuspendCount u) content t c h =
     elim (u == t) as (λ b. is_some (cond b (taught (counted content) c) c) ≡ ((b && is_some (counted content)) || is_some c)) [
-      true ↦ elim (counted content) as (λ v. is_some (taught v c) ≡ (is_some v || is_some c)) [ Some n ↦ refl | None ↦ refl ]
-    | false ↦ refl
+      | true ↦ elim (counted content) as (λ v. is_some (taught v c) ≡ (is_some v || is_some c)) [ Some n ↦ refl | None ↦ refl ]
+      | false ↦ refl
     ]
 known-data Actions.AllThreads content t c h = elim (lists content t) as (λ b. is_some (cond b c None) ≡ (not (not b) && is_some c)) [ true ↦ refl | false ↦ refl ]
 known-data Actions.Exit content t c h = refl
@@ -292,8 +291,8 @@ known-data a content t c h = refl
 known-event : (c : CompositeMeaning) (t : ℕ) (n : Option ℕ) → is_some (learned_event c t n) ≡ (not (is_last_of_thread c && is_thread (composite_thread c) t) && (is_thread (composite_thread c) t || is_some n))
 known-event c t n =
     elim (is_thread (composite_thread c) t) as (λ b. is_some (cond b (own_count c) (option_map (other_count c.policy) n)) ≡ (not (is_last_of_thread c && b) && (b || is_some n))) [
-      true ↦ elim (is_last_of_thread c) as (λ b. is_some (cond b None (Some (first_count c.policy))) ≡ (not (b && true) && true)) [ true ↦ refl | false ↦ refl ]
-    | false ↦ some-map (other_count c.policy) n ∙ elim (is_last_of_thread c) as (λ b. is_some n ≡ (not (b && false) && is_some n)) [ true ↦ refl | false ↦ refl ]
+      | true ↦ elim (is_last_of_thread c) as (λ b. is_some (cond b None (Some (first_count c.policy))) ≡ (not (b && true) && true)) [ true ↦ refl | false ↦ refl ]
+      | false ↦ some-map (other_count c.policy) n ∙ elim (is_last_of_thread c) as (λ b. is_some n ≡ (not (b && false) && is_some n)) [ true ↦ refl | false ↦ refl ]
     ]
 
 -- the mirror knows a thread that the packet teaches, or that it knew, unless the packet forgets it
@@ -358,21 +357,21 @@ raises-data a t c = omega arith
 event-more : (c : CompositeMeaning) (t n : ℕ) → n ≤ event_raise c t n + 0
 event-more c t n =
     elim (c.policy == POLICY_ALL) as (λ b. n ≤ cond b (n + 1) (cond (c.policy == POLICY_EVENT_THREAD) (cond (is_thread (composite_thread c) t) (n + 1) n) n) + 0) [
-      true ↦ omega arith
-    | false ↦ elim (c.policy == POLICY_EVENT_THREAD) as (λ b. n ≤ cond b (cond (is_thread (composite_thread c) t) (n + 1) n) n + 0) [
-          true ↦ elim (is_thread (composite_thread c) t) as (λ b. n ≤ cond b (n + 1) n + 0) [ true ↦ omega arith | false ↦ omega arith ]
+      | true ↦ omega arith
+      | false ↦ elim (c.policy == POLICY_EVENT_THREAD) as (λ b. n ≤ cond b (cond (is_thread (composite_thread c) t) (n + 1) n) n + 0) [
+        | true ↦ elim (is_thread (composite_thread c) t) as (λ b. n ≤ cond b (n + 1) n + 0) [ true ↦ omega arith | false ↦ omega arith ]
         | false ↦ omega arith
-        ]
+      ]
     ]
 
 event-one : (c : CompositeMeaning) (t n : ℕ) → event_raise c t n ≤ n + 1
 event-one c t n =
     elim (c.policy == POLICY_ALL) as (λ b. cond b (n + 1) (cond (c.policy == POLICY_EVENT_THREAD) (cond (is_thread (composite_thread c) t) (n + 1) n) n) ≤ n + 1) [
-      true ↦ omega arith
-    | false ↦ elim (c.policy == POLICY_EVENT_THREAD) as (λ b. cond b (cond (is_thread (composite_thread c) t) (n + 1) n) n ≤ n + 1) [
-          true ↦ elim (is_thread (composite_thread c) t) as (λ b. cond b (n + 1) n ≤ n + 1) [ true ↦ omega arith | false ↦ omega arith ]
+      | true ↦ omega arith
+      | false ↦ elim (c.policy == POLICY_EVENT_THREAD) as (λ b. cond b (cond (is_thread (composite_thread c) t) (n + 1) n) n ≤ n + 1) [
+        | true ↦ elim (is_thread (composite_thread c) t) as (λ b. cond b (n + 1) n ≤ n + 1) [ true ↦ omega arith | false ↦ omega arith ]
         | false ↦ omega arith
-        ]
+      ]
     ]
 
 pub move_lowers : (message : Message) (t : ℕ) (c : Option ℕ) → kills message ≡ false → or_zero c ≤ or_zero (move message t c) + message_lowers message t
@@ -388,8 +387,8 @@ move_raises (Reply k d (Data content)) t c = raises-data (action_of d) t c
 move_raises (Reply k d (Error e)) t c = omega arith
 move_raises (Report d) t c =
     elim (is_vm_death d) as (λ b. or_zero (cond b None (option_map (event_raise d t) c)) ≤ or_zero c + 1) [
-      true ↦ omega arith
-    | false ↦ raise-map (event_raise d t) c 1 (event-one d t)
+      | true ↦ omega arith
+      | false ↦ raise-map (event_raise d t) c 1 (event-one d t)
     ]
 
 -- who does not live before a message does not live after it

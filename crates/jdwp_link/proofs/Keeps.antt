@@ -1,7 +1,7 @@
 -- every event keeps what holds of a link
-use Rattle.std.proofs.Common.{◌≡◌, ℕ, zero, suc, ◌==◌, ◌+◌, ◌-◌, ◌<◌, ◌≤◌, ◌⊎◌, inl, inr, Bool, true, false, ◌||◌, ◌&&◌, not, cond, Option, Some, None, List, [], ◌∷◌, ◌++◌, map, length, refl, sym, ◌∙◌, ap, subst, arith, is_some, is_none, append_assoc}
+use Rattle.std.proofs.Common.{◌≡◌, ℕ, ◌+◌, ◌-◌, ◌≤◌, Bool, true, false, ◌||◌, ◌&&◌, not, cond, Option, Some, None, List, [], ◌∷◌, ◌++◌, refl, sym, ◌∙◌, ap, subst, arith, append_assoc}
 use Rattle.std.specs.Prelude.{nat_lt}
-use Rattle.std.proofs.lemmas.Bool.{eqb-true, eq-eqb, cond_both}
+use Rattle.std.proofs.lemmas.Bool.{eq-eqb, cond_both}
 use Rattle.std.proofs.lemmas.List.{append-nil}
 use Rattle.std.specs.Option.{option_map}
 use Rattle.jdwp_layout.specs.declared.answer.Answer.{Answer}
@@ -12,30 +12,27 @@ use Rattle.jdwp_event.specs.Told.{is_vm_death}
 use Rattle.jdwp_machine.specs.Meanings.{Meaning}
 use Rattle.jdwp_machine.specs.Laws.{IsLawful}
 use Rattle.jdwp_debuggee.specs.Settings.{Settings}
-use Rattle.jdwp_debuggee.specs.State.{Thread, State, Moment, count_of, count_or_zero, or_zero, reset, changed, cleared, ids, with_count}
+use Rattle.jdwp_debuggee.specs.State.{Thread, Moment, count_of, count_or_zero, or_zero, reset, changed, cleared, ids}
 use Rattle.jdwp_debuggee.specs.Actions
 use Rattle.jdwp_debuggee.specs.Actions.{Command, Action, action_of}
 use Rattle.jdwp_debuggee.specs.Answers.{least_thread, first_of, rising}
 use Rattle.jdwp_debuggee.specs.Effects.{Effect, effect}
-use Rattle.jdwp_debuggee.specs.Steps
-use Rattle.jdwp_debuggee.specs.Steps.{occurs, may_step, raised_by, start_event, start_policy}
-use Rattle.jdwp_debuggee.specs.Facts.{IsSound, Quiet, Does, Tells, Died, Told, Happens, Facts, moved, moved_by, requests_moved, requests_by, is_data, is_dispose, is_exit}
+use Rattle.jdwp_debuggee.specs.Steps.{occurs, may_step, raised_by, start_event}
+use Rattle.jdwp_debuggee.specs.Facts.{IsSound, Quiet, Does, Tells, Died, Told, moved, requests_moved, is_data, is_dispose, is_exit}
 use Rattle.jdwp_debuggee.proofs.Threads.{count-changed}
 use Rattle.jdwp_debuggee.proofs.Commands.{sound_counts}
 use Rattle.jdwp_debuggee.proofs.Happenings.{raised-by-most}
 use Rattle.jdwp_debuggee.proofs.AllFacts.{facts}
-use Rattle.jdwp_debugger.specs.Messages.{Ticket, same_ticket, Call, Greets, Asks, Message, Handshake, Reply, Report, id_sizes}
+use Rattle.jdwp_debugger.specs.Messages.{Ticket, same_ticket, Call, Greets, Asks, Handshake, Reply, Report, id_sizes}
 use Rattle.jdwp_debugger.specs.Mirror.{all_kept, ends, COUNT_MOST}
 use Rattle.jdwp_debugger.specs.Faults
 use Rattle.jdwp_debugger.specs.Faults.{Fault, Reader, fault_of, fault_after_greeting}
 use Rattle.jdwp_link.specs.Events
 use Rattle.jdwp_link.specs.Events.{LinkEvent, AskRefusal, Outcome}
-use Rattle.jdwp_link.specs.World.{Measure, Phase, Closed, Waiting, Open, is_closed, is_open, Packet, World, way_to_target, way_to_debugger, opening, PAUSE}
-use Rattle.jdwp_link.specs.Next
-use Rattle.jdwp_link.specs.Next.{attached, may_attach, attaches, ask_refusal, asks, ask_by, target_loses, started, greets_by, after_death, dying, dies_by, answers, target_handles, target_turn_at, target_turn, debugger_closed, debugger_loses, closes_by, without_ticket, entered, has_end, composites_of, answered, reads_handshake, reads_reply, reads_composite, reads, reader, debugger_handles, debugger_takes, debugger_turn_at, debugger_turn, told, step_ends, stepped, steps, next, run}
-use Rattle.jdwp_link.specs.Headline.{MayBegin}
+use Rattle.jdwp_link.specs.World.{Measure, Phase, Closed, Waiting, Open, is_closed, is_open, Packet, World, way_to_target, way_to_debugger, PAUSE}
+use Rattle.jdwp_link.specs.Next.{attached, may_attach, attaches, ask_refusal, asks, ask_by, target_loses, started, greets_by, after_death, dying, dies_by, answers, target_handles, target_turn_at, target_turn, closes_by, without_ticket, entered, has_end, composites_of, answered, reads_handshake, reads_reply, reads_composite, reads, reader, debugger_handles, debugger_takes, debugger_turn_at, debugger_turn, told, step_ends, steps, next, run}
 use Rattle.jdwp_link.proofs.Acts.{Acts, acts_reply, acts_handshake, acts_event, acts_death}
-use Rattle.jdwp_link.proofs.Session.{Sent, Links, last, links_more, last_more, links_front, links_back, last_append, Mirrors, mirrors_read, mirrors_entered, quiet_refl, quiet_trans, replies, commands, replies_append, commands_append, not-true, and-left, and-right}
+use Rattle.jdwp_link.proofs.Session.{Links, last, links_more, last_more, links_front, links_back, last_append, Mirrors, mirrors_read, mirrors_entered, quiet_refl, quiet_trans, replies, commands, replies_append, commands_append, not-true, and-left, and-right}
 
 -- a moment is that of the last packet read
 abbrev pub IsLast : {S : Type 0} → List (Packet S) → Moment S → Type 0
@@ -97,31 +94,40 @@ asked-nil (r ∷ rs) h = absurd (cc)
 sends : {S : Type 0} (m : Meaning S) (phase : Phase) (ready : Bool) (parked read td : List (Packet S)) (calls rest : List Call) (pending : List (Ticket × Command)) (lost : Bool) (now mid : Moment S) (p : Packet S) → DebuggerSide m phase ready parked read td calls pending lost now → lost ≡ false → Quiet m now mid → Acts m p.0 mid p.1 → replies td ++ commands calls ≡ replies (td ++ p ∷ []) ++ commands rest → DebuggerSide m phase ready parked read (td ++ p ∷ []) rest pending lost p.1
 sends m phase ready parked read td calls rest pending lost now mid p d l q acts e =
     record {
-      closed = d.closed; unparked = d.unparked; ready_parked = d.ready_parked;
+      closed = d.closed;
+      unparked = d.unparked;
+      ready_parked = d.ready_parked;
       session = λ h.
-        let s = d.session h in
-        let a : (parked ++ td) ++ p ∷ [] ≡ parked ++ (td ++ p ∷ []) = append_assoc parked td (p ∷ []) in
-        record {
-          base = s.base; mirrors = s.mirrors;
-          links = subst (Links m s.base) a (links_more m s.base (parked ++ td) p s.links (record { mid = mid; quiet = quiet_trans m (last s.base (parked ++ td)) now mid (s.quiet l) q; acts = acts }));
-          quiet = λ _. subst (λ ps. Quiet m (last s.base ps) p.1) a (subst (λ x. Quiet m x p.1) (sym (last_more s.base (parked ++ td) p)) (quiet_refl m p.1));
-          at_last = s.at_last;
-          in_order = s.in_order ∙ e;
-          no_reply_waits = s.no_reply_waits;
-        };
+          let s = d.session h in
+          let a : (parked ++ td) ++ p ∷ [] ≡ parked ++ (td ++ p ∷ []) = append_assoc parked td (p ∷ []) in
+          record {
+            base = s.base;
+            mirrors = s.mirrors;
+            links = subst (Links m s.base) a (links_more m s.base (parked ++ td) p s.links (record { mid = mid; quiet = quiet_trans m (last s.base (parked ++ td)) now mid (s.quiet l) q; acts = acts }));
+            quiet = λ _. subst (λ ps. Quiet m (last s.base ps) p.1) a (subst (λ x. Quiet m x p.1) (sym (last_more s.base (parked ++ td) p)) (quiet_refl m p.1));
+            at_last = s.at_last;
+            in_order = s.in_order ∙ e;
+            no_reply_waits = s.no_reply_waits;
+          };
     }
 
 passes : {S : Type 0} (m : Meaning S) (phase : Phase) (ready : Bool) (parked read td : List (Packet S)) (calls : List Call) (pending : List (Ticket × Command)) (lost : Bool) (now after : Moment S) → DebuggerSide m phase ready parked read td calls pending lost now → Quiet m now after → DebuggerSide m phase ready parked read td calls pending lost after
 passes m phase ready parked read td calls pending lost now after d q =
     record {
-      closed = d.closed; unparked = d.unparked; ready_parked = d.ready_parked;
+      closed = d.closed;
+      unparked = d.unparked;
+      ready_parked = d.ready_parked;
       session = λ h.
-        let s = d.session h in
-        record {
-          base = s.base; mirrors = s.mirrors; links = s.links;
-          quiet = λ l. quiet_trans m (last s.base (parked ++ td)) now after (s.quiet l) q;
-          at_last = s.at_last; in_order = s.in_order; no_reply_waits = s.no_reply_waits;
-        };
+          let s = d.session h in
+          record {
+            base = s.base;
+            mirrors = s.mirrors;
+            links = s.links;
+            quiet = λ l. quiet_trans m (last s.base (parked ++ td)) now after (s.quiet l) q;
+            at_last = s.at_last;
+            in_order = s.in_order;
+            no_reply_waits = s.no_reply_waits;
+          };
     }
 
 no-reply : {S : Type 0} (td : List (Packet S)) (p : Packet S) (cs : List (Ticket × Command)) → replies (p ∷ []) ≡ [] → replies td ++ cs ≡ replies (td ++ p ∷ []) ++ cs
@@ -135,34 +141,34 @@ one-reply td k c x a cs = sym (append_assoc (replies td) ((k, c) ∷ []) cs) ∙
 keeps_attach : {S : Type 0} (m : Meaning S) (settings : Settings) (w : World S) → Inv m settings w → Inv m settings (attaches w)
 keeps_attach m settings w i =
     cond_both (may_attach w) (attached w) w (Inv m settings) (λ h.
-        let t : is_closed w.target ≡ true = and-left _ _ h in
-        let d : is_closed w.debugger ≡ true = and-left _ _ (and-right (is_closed w.target) _ h) in
-        let al : w.now.state.alive ≡ true = and-right (is_closed w.debugger) _ (and-right (is_closed w.target) _ h) in
-        let o : is_open w.target ≡ false = closed-not-open w.target t in
-        record {
-          target = record { sound = i.target.sound; idle = λ _. i.target.idle o; living = λ _. al; unlost = λ _. refl; greeted = λ x. absurd (cc); unborn = i.target.unborn };
-          debugger = record {
-            closed = λ x. absurd (cc);
-            unparked = λ _. refl;
-            ready_parked = λ _. refl;
-            session = λ _. record {
-              base = w.now;
-              mirrors = record {
-                known_ever = λ t n x. absurd (cc);
-                counts = λ t n k x y. absurd (cc);
-                requests = sym (ap (λ r. all_kept (all_asked r)) (i.target.idle o).0);
-                known = λ t. refl;
-                held = λ t. refl;
-                shown = λ t x. absurd (cc);
-              };
-              links = tt;
-              quiet = λ _. quiet_refl m w.now;
-              at_last = tt;
-              in_order = (i.debugger.closed d).1;
-              no_reply_waits = refl;
-            };
+    let t : is_closed w.target ≡ true = and-left _ _ h in
+    let d : is_closed w.debugger ≡ true = and-left _ _ (and-right (is_closed w.target) _ h) in
+    let al : w.now.state.alive ≡ true = and-right (is_closed w.debugger) _ (and-right (is_closed w.target) _ h) in
+    let o : is_open w.target ≡ false = closed-not-open w.target t in
+    record {
+      target = record { sound = i.target.sound; idle = λ _. i.target.idle o; living = λ _. al; unlost = λ _. refl; greeted = λ x. absurd (cc); unborn = i.target.unborn };
+      debugger = record {
+        closed = λ x. absurd (cc);
+        unparked = λ _. refl;
+        ready_parked = λ _. refl;
+        session = λ _. record {
+          base = w.now;
+          mirrors = record {
+            known_ever = λ t n x. absurd (cc);
+            counts = λ t n k x y. absurd (cc);
+            requests = sym (ap (λ r. all_kept (all_asked r)) (i.target.idle o).0);
+            known = λ t. refl;
+            held = λ t. refl;
+            shown = λ t x. absurd (cc);
           };
-        }) (λ _. i)
+          links = tt;
+          quiet = λ _. quiet_refl m w.now;
+          at_last = tt;
+          in_order = (i.debugger.closed d).1;
+          no_reply_waits = refl;
+        };
+      };
+    }) (λ _. i)
 
 -- ---- asking
 
@@ -179,12 +185,16 @@ keeps_asks m settings w c i o =
         unparked = i.debugger.unparked;
         ready_parked = i.debugger.ready_parked;
         session = λ _.
-          let s = i.debugger.session o in
-          record {
-            base = s.base; mirrors = s.mirrors; links = s.links; quiet = s.quiet; at_last = s.at_last;
-            in_order = ap (λ l. l ++ (Some (w.asked + 1), c) ∷ []) s.in_order ∙ (append_assoc (replies w.to_debugger) (commands w.to_target) ((Some (w.asked + 1), c) ∷ []) ∙ ap (λ l. replies w.to_debugger ++ l) (sym (commands_append w.to_target (Asks (Some (w.asked + 1)) c ∷ []))));
-            no_reply_waits = s.no_reply_waits;
-          };
+            let s = i.debugger.session o in
+            record {
+              base = s.base;
+              mirrors = s.mirrors;
+              links = s.links;
+              quiet = s.quiet;
+              at_last = s.at_last;
+              in_order = ap (λ l. l ++ (Some (w.asked + 1), c) ∷ []) s.in_order ∙ (append_assoc (replies w.to_debugger) (commands w.to_target) ((Some (w.asked + 1), c) ∷ []) ∙ ap (λ l. replies w.to_debugger ++ l) (sym (commands_append w.to_target (Asks (Some (w.asked + 1)) c ∷ []))));
+              no_reply_waits = s.no_reply_waits;
+            };
       };
     }
 
@@ -213,14 +223,16 @@ keeps_target_loses m settings w i =
         unlost = λ x. absurd (cc);
         greeted = λ x. absurd (cc);
         unborn = λ h.
-          let l : least_thread (reset w.now.state) ≡ least_thread w.now.state = ap (λ x. first_of (rising x)) (ids-changed cleared w.now.state.threads) in
-          ap (λ x. count_of (reset w.now.state) x) l ∙ (count-changed cleared w.now.state.threads (least_thread w.now.state) ∙ ap (option_map (cleared (least_thread w.now.state))) (i.target.unborn h));
+            let l : least_thread (reset w.now.state) ≡ least_thread w.now.state = ap (λ x. first_of (rising x)) (ids-changed cleared w.now.state.threads) in
+            ap (λ x. count_of (reset w.now.state) x) l ∙ (count-changed cleared w.now.state.threads (least_thread w.now.state) ∙ ap (option_map (cleared (least_thread w.now.state))) (i.target.unborn h));
       };
       debugger = record {
-        closed = i.debugger.closed; unparked = i.debugger.unparked; ready_parked = i.debugger.ready_parked;
+        closed = i.debugger.closed;
+        unparked = i.debugger.unparked;
+        ready_parked = i.debugger.ready_parked;
         session = λ h.
-          let s = i.debugger.session h in
-          record { base = s.base; mirrors = s.mirrors; links = s.links; quiet = λ x. absurd (cc); at_last = s.at_last; in_order = s.in_order; no_reply_waits = s.no_reply_waits };
+            let s = i.debugger.session h in
+            record { base = s.base; mirrors = s.mirrors; links = s.links; quiet = λ x. absurd (cc); at_last = s.at_last; in_order = s.in_order; no_reply_waits = s.no_reply_waits };
       };
     }
 
@@ -247,9 +259,9 @@ keeps_greets {S} m law settings least most w n rest false i p e h =
     let side = subst (λ cs. DebuggerSide m w.debugger w.ready w.parked w.read w.to_debugger cs w.pending w.lost w.now) e i.debugger in
     let one = sends m w.debugger w.ready w.parked w.read w.to_debugger (Greets ∷ rest) rest w.pending w.lost w.now w.now (Handshake, w.now) side (i.target.unlost o) (quiet_refl m w.now) (acts_handshake m law settings most w.now i.target.sound) (no-reply w.to_debugger (Handshake, w.now) (commands rest) refl) in
     let q = sound_counts m settings w.now (raised_by c.policy thread) i.target.sound (λ t k x.
-        let z : k ≡ 0 = ap or_zero (sym x) ∙ (i.target.idle shut).1 t in
-        let y : raised_by c.policy thread t k ≤ k + 1 = raised-by-most c.policy thread t k in
-        omega arith) in
+    let z : k ≡ 0 = ap or_zero (sym x) ∙ (i.target.idle shut).1 t in
+    let y : raised_by c.policy thread t k ≤ k + 1 = raised-by-most c.policy thread t k in
+    omega arith) in
     let sound : IsSound m settings after = record { state = q.state; lives = q.lives; at_most = q.at_most; below = q.below } in
     let acts = acts_event m law settings most w.now after c thread sound refl refl (i.target.unborn h) (λ t. count-changed (raised_by c.policy thread) w.now.state.threads t) refl (λ t x. x) refl in
     let two = sends m w.debugger w.ready w.parked w.read (w.to_debugger ++ (Handshake, w.now) ∷ []) rest rest w.pending w.lost w.now w.now (Report c, after) one (i.target.unlost o) (quiet_refl m w.now) acts (no-reply (w.to_debugger ++ (Handshake, w.now) ∷ []) (Report c, after) (commands rest) refl) in
@@ -284,7 +296,9 @@ answered_target m settings now a e lost true t d h =
     record {
       sound = d.sound;
       idle = λ _. (asked-nil e.after.state.requests (d.requests ∙ x.0 (all_asked now.state.requests) now.state.next_request), λ u. ap or_zero (d.counts u) ∙ x.1 u (count_of now.state u));
-      living = λ y. absurd (cc); unlost = λ y. absurd (cc); greeted = λ y. absurd (cc);
+      living = λ y. absurd (cc);
+      unlost = λ y. absurd (cc);
+      greeted = λ y. absurd (cc);
       unborn = λ y. let z : now.state.handshaken ≡ true = t.greeted refl in let v : e.after.state.handshaken ≡ now.state.handshaken = d.handshaken in absurd (cc);
     }
 answered_target m settings now a e lost false t d h =
@@ -314,7 +328,9 @@ keeps_dying m settings w before mid s l d q none empty dead shaken ever =
       target = record {
         sound = record { state = s.state; lives = s.lives; at_most = s.at_most; below = s.below };
         idle = λ _. (empty, λ t. ap or_zero (none t));
-        living = λ y. absurd (cc); unlost = λ y. absurd (cc); greeted = λ y. absurd (cc);
+        living = λ y. absurd (cc);
+        unlost = λ y. absurd (cc);
+        greeted = λ y. absurd (cc);
         unborn = λ y. absurd (cc);
       };
       debugger = sends m w.debugger w.ready w.parked w.read w.to_debugger w.to_target w.to_target w.pending w.lost before mid (Report vm_death, after_death w.now) d l q (acts_death m mid (after_death w.now) none empty dead ever) (no-reply w.to_debugger (Report vm_death, after_death w.now) (commands w.to_target) refl);
@@ -421,7 +437,8 @@ keeps_composite m settings w n c a rest false i o g e h =
         unparked = λ y. absurd (cc);
         ready_parked = λ y. absurd (cc);
         session = λ _. record {
-          base = s.base; mirrors = s.mirrors;
+          base = s.base;
+          mirrors = s.mirrors;
           links = subst (Links m s.base) (sym j) (subst (λ ps. Links m s.base (w.parked ++ ps)) e s.links);
           quiet = λ y. subst (λ ps. Quiet m (last s.base ps) w.now) (sym j) (subst (λ ps. Quiet m (last s.base (w.parked ++ ps)) w.now) e (s.quiet y));
           at_last = s.at_last;
@@ -432,28 +449,28 @@ keeps_composite m settings w n c a rest false i o g e h =
     }
 keeps_composite m settings w n c a rest true i o g e h =
     elim (is_vm_death c) as (λ b. is_vm_death c ≡ b → Inv m settings (closes_by (record w { to_debugger = rest; at_debugger = n; read = (Report c, a) ∷ w.read }) (Events.Seen c ∷ []) b).0) [
-      true ↦ λ _. record { target = i.target; debugger = closed_side m rest w.to_target w.lost w.now }
-    | false ↦ λ d.
-      let s = i.debugger.session o in
-      let empty : w.parked ≡ [] = i.debugger.ready_parked h in
-      let l : Links m s.base ((Report c, a) ∷ rest) = subst (λ ps. Links m s.base (ps ++ (Report c, a) ∷ rest)) empty (subst (λ ps. Links m s.base (w.parked ++ ps)) e s.links) in
-      record {
-        target = i.target;
-        debugger = record {
-          closed = λ y. absurd (cc);
-          unparked = i.debugger.unparked;
-          ready_parked = i.debugger.ready_parked;
-          session = λ _. record {
-            base = a;
-            mirrors = mirrors_read m w.read s.base (Report c, a) d s.mirrors l.0;
-            links = subst (λ ps. Links m a (ps ++ rest)) (sym empty) l.1;
-            quiet = λ y. subst (λ ps. Quiet m (last a (ps ++ rest)) w.now) (sym empty) (subst (λ ps. Quiet m (last s.base (ps ++ (Report c, a) ∷ rest)) w.now) empty (subst (λ ps. Quiet m (last s.base (w.parked ++ ps)) w.now) e (s.quiet y)));
-            at_last = refl;
-            in_order = s.in_order ∙ ap (λ ps. replies ps ++ commands w.to_target) e;
-            no_reply_waits = s.no_reply_waits;
-          };
-        };
-      }
+      | true ↦ λ _. record { target = i.target; debugger = closed_side m rest w.to_target w.lost w.now }
+      | false ↦ λ d.
+          let s = i.debugger.session o in
+          let empty : w.parked ≡ [] = i.debugger.ready_parked h in
+          let l : Links m s.base ((Report c, a) ∷ rest) = subst (λ ps. Links m s.base (ps ++ (Report c, a) ∷ rest)) empty (subst (λ ps. Links m s.base (w.parked ++ ps)) e s.links) in
+          record {
+            target = i.target;
+            debugger = record {
+              closed = λ y. absurd (cc);
+              unparked = i.debugger.unparked;
+              ready_parked = i.debugger.ready_parked;
+              session = λ _. record {
+                base = a;
+                mirrors = mirrors_read m w.read s.base (Report c, a) d s.mirrors l.0;
+                links = subst (λ ps. Links m a (ps ++ rest)) (sym empty) l.1;
+                quiet = λ y. subst (λ ps. Quiet m (last a (ps ++ rest)) w.now) (sym empty) (subst (λ ps. Quiet m (last s.base (ps ++ (Report c, a) ∷ rest)) w.now) empty (subst (λ ps. Quiet m (last s.base (w.parked ++ ps)) w.now) e (s.quiet y)));
+                at_last = refl;
+                in_order = s.in_order ∙ ap (λ ps. replies ps ++ commands w.to_target) e;
+                no_reply_waits = s.no_reply_waits;
+              };
+            };
+          }
     ] refl
 
 greeted-before : (b : Bool) (f g : Option Fault) → cond b f (Some Faults.BadHandshake) ≡ None → b ≡ true
@@ -469,8 +486,8 @@ keeps_reads m settings w n (Handshake, a) rest i o e f = keeps_handshake m setti
 keeps_reads m settings w n (Reply k c x, a) rest i o e f =
     let g = greeted-before (is_open w.debugger) _ None f in
     elim (ends (Reply k c x) || has_end w.parked) as (λ b. (ends (Reply k c x) || has_end w.parked) ≡ b → Inv m settings (closes_by (reads_reply (record w { to_debugger = rest; at_debugger = n }) (Reply k c x, a) k) (composites_of w.parked ++ answered k x) b).0) [
-      true ↦ λ _. record { target = i.target; debugger = closed_side m rest w.to_target w.lost w.now }
-    | false ↦ λ d. keeps_reply m settings w n k c x a rest i o g e d
+      | true ↦ λ _. record { target = i.target; debugger = closed_side m rest w.to_target w.lost w.now }
+      | false ↦ λ d. keeps_reply m settings w n k c x a rest i o g e d
     ] refl
 keeps_reads m settings w n (Report c, a) rest i o e f = keeps_composite m settings w n c a rest w.ready i o (greeted-before (is_open w.debugger) _ None f) e refl
 
@@ -540,8 +557,8 @@ keeps_tells m law settings most w after c i o s d h a =
         unborn = λ y. absurd (cc);
       };
       debugger = sends m w.debugger w.ready w.parked w.read w.to_debugger w.to_target w.to_target w.pending w.lost w.now d.mid (Report c, after) i.debugger (i.target.unlost shut) d.quiet
-        (acts_event m law settings most d.mid after c d.thread s d.of_thread d.is_no_death d.ran d.counts d.same_requests d.ever d.alive)
-        (no-reply w.to_debugger (Report c, after) (commands w.to_target) refl);
+          (acts_event m law settings most d.mid after c d.thread s d.of_thread d.is_no_death d.ran d.counts d.same_requests d.ever d.alive)
+          (no-reply w.to_debugger (Report c, after) (commands w.to_target) refl);
     }
 
 keeps_stepped : {S : Type 0} (m : Meaning S) → IsLawful m → (settings : Settings) → settings.count_limit ≤ COUNT_MOST → (w : World S) (after : Moment S) (o : Option CompositeMeaning) (dies : Bool) → Inv m settings w → IsSound m settings after → ((t : ℕ) → m.ever w.now.machine t ≡ true → m.ever after.machine t ≡ true) → Told m w.now after dies o → (w.now.state.requests ≡ [] → o ≡ None) → after.state.handshaken ≡ true → (dies ≡ false → after.state.alive ≡ w.now.state.alive) → Inv m settings (step_ends (told w after o) w.target dies)
@@ -555,9 +572,9 @@ keeps_stepped m law settings most w after (Some c) false i s ever d silent h a =
 keeps_steps : {S : Type 0} (m : Meaning S) → IsLawful m → (settings : Settings) → settings.count_limit ≤ COUNT_MOST → (measure : Measure) (w : World S) (t : ℕ) → Inv m settings w → Inv m settings (steps m settings measure w t)
 keeps_steps m law settings most measure w t i =
     cond_both (may_step m settings w.now t && (w.lost || nat_lt (way_to_debugger measure w) PAUSE)) _ _ (Inv m settings) (λ h.
-        let may : may_step m settings w.now t ≡ true = and-left _ _ h in
-        let d = (facts m law settings).happens w.now t i.target.sound may in
-        keeps_stepped m law settings most w (occurs m w.now t).after (occurs m w.now t).sends (occurs m w.now t).dies i d.sound d.ever d.told d.silent (d.handshaken ∙ and-left w.now.state.handshaken _ may) d.alive) (λ _. i)
+    let may : may_step m settings w.now t ≡ true = and-left _ _ h in
+    let d = (facts m law settings).happens w.now t i.target.sound may in
+    keeps_stepped m law settings most w (occurs m w.now t).after (occurs m w.now t).sends (occurs m w.now t).dies i d.sound d.ever d.told d.silent (d.handshaken ∙ and-left w.now.state.handshaken _ may) d.alive) (λ _. i)
 
 -- ---- all events
 

@@ -5,3 +5,4 @@ pub mod Session
 pub mod Keeps
 pub mod Theorems
 pub mod Settles
+pub mod Gives

@@ -1,12 +1,11 @@
 -- facts on tests, options and lists
-use Rattle.std.proofs.Common.{◌≡◌, ℕ, ℤ, pos, ◌==◌, ◌+◌, ◌-◌, ◌<◌, ◌≤◌, ◌⊎◌, inl, inr, min, Bool, true, false, ◌||◌, ◌&&◌, cond, not, Option, Some, None, List, [], ◌∷◌, ◌++◌, map, refl, sym, ◌∙◌, ap, subst, arith, is_some, zero, suc}
+use Rattle.std.proofs.Common.{◌≡◌, ℕ, pos, ◌==◌, ◌+◌, ◌<◌, ◌≤◌, Bool, true, false, ◌||◌, cond, not, Some, List, [], ◌∷◌, ◌++◌, map, refl, ◌∙◌, ap, arith, is_some}
 use Rattle.std.specs.List.{list_any, filter}
-use Rattle.std.specs.Option.{option_map}
 use Rattle.std.specs.Ordering.{int_eq}
 use Rattle.std.proofs.lemmas.Bool.Decides.{Decides-int_eq}
-use Rattle.std.proofs.lemmas.Bool.{eqb-true, eq-eqb, eqb-false, false_from_ne_true}
+use Rattle.std.proofs.lemmas.Bool.{false_from_ne_true}
 use Rattle.std.proofs.Math.Nat.{min-eq_left}
-use Rattle.jdwp_layout.specs.Meanings.{ScalarMeaning, Object, DatumMeaning, Many}
+use Rattle.jdwp_layout.specs.Meanings.{Object, DatumMeaning, Many}
 use Rattle.jdwp_layout.specs.declared.answer.Answer.TheVariants.{Data}
 use Rattle.jdwp_event.specs.Requests.{Asked}
 use Rattle.jdwp_machine.specs.Meanings.{has}
@@ -33,8 +32,8 @@ pub kept-filter : (p : Kept → Bool) (rs : List Asked) → all_kept (filter (λ
 kept-filter p [] = refl
 kept-filter p (r ∷ rs) =
     elim (p (kept r)) as (λ b. all_kept (cond b (r ∷ filter (λ (x : Asked). p (kept x)) rs) (filter (λ (x : Asked). p (kept x)) rs)) ≡ cond b (kept r ∷ filter p (all_kept rs)) (filter p (all_kept rs))) [
-      true ↦ ap (λ l. kept r ∷ l) (kept-filter p rs)
-    | false ↦ kept-filter p rs
+      | true ↦ ap (λ l. kept r ∷ l) (kept-filter p rs)
+      | false ↦ kept-filter p rs
     ]
 
 other-id : (a n : ℕ) → a < n → int_eq (pos a) (pos n) ≡ false
@@ -61,8 +60,8 @@ has-inserted : (n : ℕ) (xs : List ℕ) (t : ℕ) → has (inserted n xs) t ≡
 has-inserted n [] t = refl
 has-inserted n (x ∷ xs) t =
     elim (nat_le n x) as (λ b. has (cond b (n ∷ x ∷ xs) (x ∷ inserted n xs)) t ≡ ((n == t) || ((x == t) || has xs t))) [
-      true ↦ refl
-    | false ↦ ap (λ b. (x == t) || b) (has-inserted n xs t) ∙ swap (x == t) (n == t) (has xs t)
+      | true ↦ refl
+      | false ↦ ap (λ b. (x == t) || b) (has-inserted n xs t) ∙ swap (x == t) (n == t) (has xs t)
     ]
 
 pub has-rising : (xs : List ℕ) (t : ℕ) → has (rising xs) t ≡ has xs t

@@ -1,18 +1,17 @@
 -- a mirror that is right stays right as packets are read, and how far counts move along packets
-use Rattle.std.proofs.Common.{◌≡◌, ℕ, zero, suc, ◌==◌, ◌+◌, ◌-◌, ◌<◌, ◌≤◌, ◌⊎◌, inl, inr, Bool, true, false, ◌||◌, ◌&&◌, not, cond, Option, Some, None, List, [], ◌∷◌, ◌++◌, refl, sym, ◌∙◌, ap, subst, arith, is_some, append_assoc}
-use Rattle.std.specs.Option.{option_map}
+use Rattle.std.proofs.Common.{◌≡◌, ℕ, ◌==◌, ◌+◌, ◌≤◌, inl, inr, Bool, true, false, ◌||◌, ◌&&◌, not, Option, Some, None, List, [], ◌∷◌, ◌++◌, refl, sym, ◌∙◌, ap, arith, is_some}
 use Rattle.jdwp_event.specs.Requests.{all_asked}
 use Rattle.jdwp_machine.specs.Meanings.{Meaning}
-use Rattle.jdwp_debuggee.specs.State.{State, Moment, count_of, count_or_zero, or_zero}
+use Rattle.jdwp_debuggee.specs.State.{Moment, count_of, count_or_zero, or_zero}
 use Rattle.jdwp_debuggee.specs.Actions.{Command, action_of}
 use Rattle.jdwp_debuggee.specs.Facts.{Quiet, is_dispose}
 use Rattle.jdwp_debugger.specs.Messages.{Ticket, Call, Greets, Asks, Message, Handshake, Reply, Report}
-use Rattle.jdwp_debugger.specs.Mirror.{all_kept, learned, teaches, forgets, shows, is_positive, requests_after, ends, COUNT_MOST}
+use Rattle.jdwp_debugger.specs.Mirror.{all_kept, learned, teaches, forgets, shows, is_positive, requests_after, ends}
 use Rattle.jdwp_link.specs.World.{Packet}
 use Rattle.jdwp_link.specs.Next.{entered, has_end}
 use Rattle.jdwp_link.specs.Seen.{mirror_count, mirror_held, mirror_requests, is_known, is_shown, is_held, unanswered, lowers, raises, has_dispose, composites_in}
 use Rattle.jdwp_link.proofs.Plain.{some-same}
-use Rattle.jdwp_link.proofs.Acts.{Acts, disposes, move, Learns, learned_known, teaches_shows, kills, message_lowers, message_raises, move_lowers, move_raises, move_none, move_some}
+use Rattle.jdwp_link.proofs.Acts.{Acts, disposes, move, learned_known, teaches_shows, message_lowers, message_raises, move_lowers, move_raises, move_none, move_some}
 
 -- ---- quiet moments
 
@@ -126,12 +125,12 @@ moved-some message t k (Some j) h = (j, refl, h)
 mirrors-counts : {S : Type 0} (m : Meaning S) (read : List (Packet S)) (base : Moment S) (p : Packet S) → Mirrors m read base → Sent m base p → (t n k : ℕ) → mirror_count (p ∷ read) t ≡ Some n → count_of p.1.state t ≡ Some k → n ≡ k
 mirrors-counts m read base p r s t n k h e =
     elim (s.acts.learns t n (mirror_count read t) h) [
-          inl l ↦ some-same n k (sym l ∙ e)
-        | inr l ↦
+      | inl l ↦ some-same n k (sym l ∙ e)
+      | inr l ↦
           let j = moved-some p.0 t k (count_of s.mid.state t) (sym (s.acts.counts t) ∙ e) in
           let q : l.0 ≡ j.0 = r.counts t l.0 j.0 l.1 (s.quiet.no_birth t j.0 (r.known_ever t l.0 l.1) j.1) in
           l.2 k (ap (λ x. move p.0 t (Some x)) q ∙ j.2) (s.acts.at_most t k e)
-        ]
+    ]
 
 moves-on : {S : Type 0} (m : Meaning S) (read : List (Packet S)) (base : Moment S) (p : Packet S) → ends p.0 ≡ false → (s : Sent m base p) → (t n i : ℕ) → count_of s.mid.state t ≡ Some n → learned p.0 t (mirror_count read t) ≡ Some i → (j : ℕ) × (count_of p.1.state t ≡ Some j)
 moves-on m read base p d s t n i h e =
@@ -152,9 +151,9 @@ pub mirrors_read : {S : Type 0} (m : Meaning S) (read : List (Packet S)) (base :
 mirrors_read m read base p d r s =
     record {
       known_ever = λ t n h. elim (s.acts.learns t n (mirror_count read t) h) [
-          inl l ↦ s.acts.lives t n l
+        | inl l ↦ s.acts.lives t n l
         | inr l ↦ s.acts.ever t (s.quiet.ever t (r.known_ever t l.0 l.1))
-        ];
+      ];
       counts = mirrors-counts m read base p r s;
       requests = ap (requests_after p.0) (r.requests ∙ ap all_kept (sym s.quiet.same_requests)) ∙ sym s.acts.same_requests;
       known = λ t. learned_known p.0 t (mirror_count read t) d ∙ ap (λ b. not (forgets p.0 t) && (teaches p.0 t || b)) (r.known t);

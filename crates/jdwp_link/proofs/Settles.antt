@@ -1,5 +1,5 @@
 -- each ticket is settled once, in order
-use Rattle.std.proofs.Common.{◌≡◌, ℕ, zero, suc, ◌==◌, ◌+◌, ◌-◌, ◌≤◌, Bool, true, false, ◌||◌, ◌&&◌, not, cond, Option, Some, None, List, [], ◌∷◌, ◌++◌, refl, sym, ◌∙◌, ap, subst, arith, append_assoc}
+use Rattle.std.proofs.Common.{◌≡◌, ℕ, suc, ◌+◌, ◌-◌, ◌≤◌, Bool, true, false, ◌||◌, ◌&&◌, not, Option, Some, None, List, [], ◌∷◌, ◌++◌, refl, sym, ◌∙◌, ap, subst, arith, append_assoc}
 use Rattle.std.specs.Prelude.{nat_lt}
 use Rattle.std.proofs.lemmas.Bool.{cond_both}
 use Rattle.std.proofs.lemmas.List.{append-nil}
@@ -13,14 +13,13 @@ use Rattle.jdwp_debuggee.specs.State.{Moment}
 use Rattle.jdwp_debuggee.specs.Actions.{Command}
 use Rattle.jdwp_debuggee.specs.Effects.{effect}
 use Rattle.jdwp_debuggee.specs.Steps.{occurs, may_step}
-use Rattle.jdwp_debugger.specs.Messages.{Ticket, Call, Greets, Asks, Message, Handshake, Reply, Report, id_sizes}
+use Rattle.jdwp_debugger.specs.Messages.{Ticket, Call, Greets, Asks, Handshake, Reply, Report, id_sizes}
 use Rattle.jdwp_debugger.specs.Mirror.{ends, COUNT_MOST}
 use Rattle.jdwp_debugger.specs.Faults.{Fault, fault_of}
 use Rattle.jdwp_link.specs.Events
 use Rattle.jdwp_link.specs.Events.{LinkEvent, AskRefusal, Outcome}
 use Rattle.jdwp_link.specs.World.{Measure, Phase, Closed, Waiting, Open, is_closed, Packet, World, way_to_target, way_to_debugger, opening, PAUSE}
-use Rattle.jdwp_link.specs.Next.{attached, may_attach, attaches, ask_refusal, asks, ask_by, target_loses, greets_by, dying, dies_by, answers, target_takes, target_handles, target_turn_at, target_turn, lost_tickets, debugger_closed, debugger_loses, closes_by, without_ticket, has_end, composites_of, answered, reads_handshake, reads_reply, reads_composite, reads, reader, debugger_handles, debugger_takes, debugger_turn_at, debugger_turn, told, step_ends, stepped, steps, next, run, outcomes}
-use Rattle.jdwp_link.specs.Headline.{MayBegin}
+use Rattle.jdwp_link.specs.Next.{attached, may_attach, attaches, ask_refusal, ask_by, target_loses, greets_by, dies_by, answers, target_takes, target_handles, target_turn_at, lost_tickets, debugger_closed, debugger_loses, closes_by, without_ticket, has_end, composites_of, answered, reads_handshake, reads_reply, reads_composite, reads, reader, debugger_handles, debugger_takes, debugger_turn_at, told, step_ends, next, run, outcomes}
 use Rattle.jdwp_link.specs.Tickets.{settled, tickets, tickets_to, SettlesInOrder}
 use Rattle.jdwp_link.proofs.Session.{replies, commands, not-true, and-left}
 use Rattle.jdwp_link.proofs.Keeps.{Inv, keeps, without-first}
@@ -167,7 +166,7 @@ settles-run m law settings least most measure w (e ∷ es) before i h =
     let later : List Outcome = outcomes m settings measure (next m settings measure w e).0 es in
     let left : List ℕ = tickets (run m settings measure w (e ∷ es)).pending in
     let here : (before ++ settled o) ++ tickets (next m settings measure w e).0.pending ≡ tickets_to (next m settings measure w e).0.asked =
-      append_assoc before (settled o) (tickets (next m settings measure w e).0.pending) ∙ (ap (λ l. before ++ l) s.same ∙ (sym (append_assoc before (tickets w.pending) s.new) ∙ (ap (λ l. l ++ s.new) h ∙ sym s.given))) in
+    append_assoc before (settled o) (tickets (next m settings measure w e).0.pending) ∙ (ap (λ l. before ++ l) s.same ∙ (sym (append_assoc before (tickets w.pending) s.new) ∙ (ap (λ l. l ++ s.new) h ∙ sym s.given))) in
     let rest = settles-run m law settings least most measure (next m settings measure w e).0 es (before ++ settled o) (keeps m law settings least most measure w e i) here in
     ap (λ l. before ++ (l ++ left)) (settled-append o later) ∙ (ap (λ l. before ++ l) (append_assoc (settled o) (settled later) left) ∙ (sym (append_assoc before (settled o) (settled later ++ left)) ∙ rest))
 

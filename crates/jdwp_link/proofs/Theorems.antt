@@ -1,23 +1,22 @@
 -- what holds of every link that is reached
-use Rattle.std.proofs.Common.{◌≡◌, ℕ, zero, suc, ◌==◌, ◌+◌, ◌-◌, ◌<◌, ◌≤◌, Bool, true, false, ◌||◌, ◌&&◌, not, cond, Option, Some, None, List, [], ◌∷◌, ◌++◌, length, refl, sym, ◌∙◌, ap, subst, arith, is_some}
+use Rattle.std.proofs.Common.{◌≡◌, ℕ, zero, suc, ◌==◌, ◌+◌, ◌<◌, ◌≤◌, Bool, true, false, ◌||◌, cond, Option, Some, None, List, [], ◌∷◌, ◌++◌, length, refl, sym, ◌∙◌, ap, subst, arith, is_some}
 use Rattle.std.specs.Prelude.{nat_le}
-use Rattle.std.proofs.lemmas.Bool.{eqb-true, eq-eqb}
+use Rattle.std.proofs.lemmas.Bool.{eq-eqb}
 use Rattle.jdwp_event.specs.Requests.{all_asked}
 use Rattle.jdwp_machine.specs.Meanings.{Meaning, has}
 use Rattle.jdwp_machine.specs.Laws.{IsLawful}
 use Rattle.jdwp_debuggee.specs.Settings.{Settings}
-use Rattle.jdwp_debuggee.specs.State.{State, Moment, count_in, count_of, count_or_zero, or_zero, running, ids, new_state}
-use Rattle.jdwp_debuggee.specs.Answers.{inserted, rising, first_of, least_thread}
+use Rattle.jdwp_debuggee.specs.State.{Moment, count_in, count_of, count_or_zero, or_zero, running, ids, new_state}
+use Rattle.jdwp_debuggee.specs.Answers.{inserted, rising, first_of}
 use Rattle.jdwp_debuggee.proofs.Threads.{has-count, ids-running, count-running}
-use Rattle.jdwp_debugger.specs.Mirror.{all_kept, held_after, learned, is_positive, shows, COUNT_MOST}
-use Rattle.jdwp_link.specs.Events.{LinkEvent}
-use Rattle.jdwp_link.specs.World.{Measure, World, Packet, is_closed, is_open, Closed, opening}
+use Rattle.jdwp_debugger.specs.Mirror.{all_kept, learned, is_positive}
+use Rattle.jdwp_link.specs.World.{World, Packet, is_closed, opening}
 use Rattle.jdwp_link.specs.Next.{run}
 use Rattle.jdwp_link.specs.Seen.{mirror_count, mirror_held, mirror_requests, seen, is_known, is_shown, is_held, unanswered, lowers, raises, has_dispose, composites_in}
-use Rattle.jdwp_link.specs.Headline.{MayBegin, Always, KnowsAndHolds, HasTheCounts, requests_then, HasTheRequests, IsUnbroken, HeldIsSuspended, HeldIsCovered, CountIsAtMost}
+use Rattle.jdwp_link.specs.Headline.{MayBegin, Always, KnowsAndHolds, HasTheCounts, requests_then, HasTheRequests, HeldIsSuspended, HeldIsCovered, CountIsAtMost}
 use Rattle.jdwp_link.proofs.Plain.{has-rising}
-use Rattle.jdwp_link.proofs.Session.{Links, last, links_lower, links_upper, lowers_in, raises_in, no_dispose_in, replies, commands, replies_append, unanswered_append, lowers_replies, raises_replies, composites_append, dispose_front, no_dispose_replies, and-left, and-right}
-use Rattle.jdwp_link.proofs.Keeps.{Inv, Session, TargetSide, IsLast, closed_side, closed-not-open, keeps_run}
+use Rattle.jdwp_link.proofs.Session.{last, links_lower, links_upper, lowers_in, raises_in, no_dispose_in, replies, commands, replies_append, unanswered_append, lowers_replies, raises_replies, composites_append, dispose_front, no_dispose_replies, and-left, and-right}
+use Rattle.jdwp_link.proofs.Keeps.{Inv, Session, IsLast, closed_side, closed-not-open, keeps_run}
 
 -- ---- before the first session
 
@@ -25,8 +24,8 @@ inserted-first : (n : ℕ) (xs : List ℕ) → has (inserted n xs) (first_of (in
 inserted-first n [] = ap (λ b. b || false) (eq-eqb n n refl)
 inserted-first n (x ∷ xs) =
     elim (nat_le n x) as (λ b. has (cond b (n ∷ x ∷ xs) (x ∷ inserted n xs)) (first_of (cond b (n ∷ x ∷ xs) (x ∷ inserted n xs))) ≡ true) [
-      true ↦ ap (λ b. b || has (x ∷ xs) n) (eq-eqb n n refl)
-    | false ↦ ap (λ b. b || has (inserted n xs) x) (eq-eqb x x refl)
+      | true ↦ ap (λ b. b || has (x ∷ xs) n) (eq-eqb n n refl)
+      | false ↦ ap (λ b. b || has (inserted n xs) x) (eq-eqb x x refl)
     ]
 
 rising-first : (xs : List ℕ) → 1 ≤ length xs → has (rising xs) (first_of (rising xs)) ≡ true
@@ -80,15 +79,15 @@ always m law P f settings measure s events b =
 open-if-read : {S : Type 0} (m : Meaning S) (settings : Settings) (w : World S) → Inv m settings w → (t n : ℕ) → mirror_count w.read t ≡ Some n → is_closed w.debugger ≡ false
 open-if-read m settings w i t n h =
     elim (is_closed w.debugger) as (λ b. is_closed w.debugger ≡ b → b ≡ false) [
-      true ↦ λ x. let y : mirror_count w.read t ≡ None = ap (λ l. mirror_count l t) (i.debugger.closed x).0 in absurd (cc)
-    | false ↦ λ _. refl
+      | true ↦ λ x. let y : mirror_count w.read t ≡ None = ap (λ l. mirror_count l t) (i.debugger.closed x).0 in absurd (cc)
+      | false ↦ λ _. refl
     ] refl
 
 pub knows_and_holds : {S : Type 0} (m : Meaning S) (settings : Settings) (w : World S) → Inv m settings w → KnowsAndHolds w
 knows_and_holds m settings w i t =
     elim (is_closed w.debugger) as (λ b. is_closed w.debugger ≡ b → (is_some (mirror_count w.read t) ≡ is_known w.read t) × (mirror_held w.read t ≡ is_held w.read t)) [
-      true ↦ λ x. rw ((i.debugger.closed x).0) (refl, refl)
-    | false ↦ λ x. ((i.debugger.session x).mirrors.known t, (i.debugger.session x).mirrors.held t)
+      | true ↦ λ x. rw ((i.debugger.closed x).0) (refl, refl)
+      | false ↦ λ x. ((i.debugger.session x).mirrors.known t, (i.debugger.session x).mirrors.held t)
     ] refl
 
 seen-base : {S : Type 0} (read : List (Packet S)) (base past : Moment S) → IsLast read base → seen read ≡ Some past → past ≡ base
@@ -107,8 +106,8 @@ requests-base (p ∷ ps) base l h = h ∙ ap (λ (x : Moment _). all_kept (all_a
 pub has_the_requests : {S : Type 0} (m : Meaning S) (settings : Settings) (w : World S) → Inv m settings w → HasTheRequests w
 has_the_requests m settings w i =
     elim (is_closed w.debugger) as (λ b. is_closed w.debugger ≡ b → HasTheRequests w) [
-      true ↦ λ x. rw ((i.debugger.closed x).0) refl
-    | false ↦ λ x. requests-base w.read (i.debugger.session x).base (i.debugger.session x).at_last (i.debugger.session x).mirrors.requests
+      | true ↦ λ x. rw ((i.debugger.closed x).0) refl
+      | false ↦ λ x. requests-base w.read (i.debugger.session x).base (i.debugger.session x).at_last (i.debugger.session x).mirrors.requests
     ] refl
 
 -- ---- what is held
@@ -133,10 +132,10 @@ held_is_covered m settings w i t n h c u =
     let spared : no_dispose_in (w.parked ++ w.to_debugger) ≡ true = no_dispose_replies (w.parked ++ w.to_debugger) (subst (λ x. has_dispose x ≡ false) (sym all) (dispose_front (replies w.to_debugger) (commands w.to_target) none)) in
     let q = s.quiet u.not_lost in
     let lower : count_or_zero s.base.state t ≤ count_or_zero (last s.base (w.parked ++ w.to_debugger)).state t + lowers_in (w.parked ++ w.to_debugger) t =
-      links_lower m s.base (w.parked ++ w.to_debugger) t s.links spared (q.alive u.alive) in
+    links_lower m s.base (w.parked ++ w.to_debugger) t s.links spared (q.alive u.alive) in
     let now : count_or_zero w.now.state t ≡ count_or_zero (last s.base (w.parked ++ w.to_debugger)).state t = q.same_count t in
     let parts : unanswered lowers w.pending t ≡ unanswered lowers (replies w.to_debugger) t + unanswered lowers (commands w.to_target) t =
-      ap (λ x. unanswered lowers x t) s.in_order ∙ unanswered_append lowers (replies w.to_debugger) (commands w.to_target) t in
+    ap (λ x. unanswered lowers x t) s.in_order ∙ unanswered_append lowers (replies w.to_debugger) (commands w.to_target) t in
     let lowered : lowers_in (w.parked ++ w.to_debugger) t ≡ unanswered lowers (replies w.to_debugger) t = lowers_replies (w.parked ++ w.to_debugger) t ∙ ap (λ x. unanswered lowers x t) all in
     (omega arith, omega arith)
 
@@ -170,9 +169,9 @@ at-most-by m settings w i false e t n s here =
     let upper : count_or_zero (last s.base (w.parked ++ w.to_debugger)).state t ≤ count_or_zero s.base.state t + raises_in (w.parked ++ w.to_debugger) t = links_upper m s.base (w.parked ++ w.to_debugger) t s.links in
     let now : count_or_zero w.now.state t ≡ count_or_zero (last s.base (w.parked ++ w.to_debugger)).state t = (s.quiet e).same_count t in
     let parts : unanswered raises w.pending t ≡ unanswered raises (replies w.to_debugger) t + unanswered raises (commands w.to_target) t =
-      ap (λ x. unanswered raises x t) s.in_order ∙ unanswered_append raises (replies w.to_debugger) (commands w.to_target) t in
+    ap (λ x. unanswered raises x t) s.in_order ∙ unanswered_append raises (replies w.to_debugger) (commands w.to_target) t in
     let raised : raises_in (w.parked ++ w.to_debugger) t ≡ unanswered raises (replies w.to_debugger) t + (composites_in w.parked + composites_in w.to_debugger) =
-      raises_replies (w.parked ++ w.to_debugger) t ∙ (ap (λ x. unanswered raises x t + composites_in (w.parked ++ w.to_debugger)) all ∙ ap (λ x. unanswered raises (replies w.to_debugger) t + x) (composites_append w.parked w.to_debugger)) in
+    raises_replies (w.parked ++ w.to_debugger) t ∙ (ap (λ x. unanswered raises x t + composites_in (w.parked ++ w.to_debugger)) all ∙ ap (λ x. unanswered raises (replies w.to_debugger) t + x) (composites_append w.parked w.to_debugger)) in
     omega arith
 
 pub count_is_at_most : {S : Type 0} (m : Meaning S) (settings : Settings) (w : World S) → Inv m settings w → CountIsAtMost w

@@ -4,3 +4,4 @@ pub mod Next
 pub mod Seen
 pub mod Headline
 pub mod Tickets
+pub mod Given

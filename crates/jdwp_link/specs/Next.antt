@@ -6,7 +6,7 @@ use Rattle.jdwp_event.specs.Composites.{CompositeMeaning, vm_death}
 use Rattle.jdwp_event.specs.Told.{is_vm_death}
 use Rattle.jdwp_machine.specs.Meanings.{Meaning}
 use Rattle.jdwp_debuggee.specs.Settings.{Settings}
-use Rattle.jdwp_debuggee.specs.State.{State, Moment, reset, with_packet}
+use Rattle.jdwp_debuggee.specs.State.{Moment, reset, with_packet}
 use Rattle.jdwp_debuggee.specs.Actions.{Command}
 use Rattle.jdwp_debuggee.specs.Effects.{Effect, effect}
 use Rattle.jdwp_debuggee.specs.Steps
@@ -16,7 +16,7 @@ use Rattle.jdwp_debugger.specs.Mirror.{ends}
 use Rattle.jdwp_debugger.specs.Faults.{Fault, Reader, fault_of}
 use Rattle.jdwp_link.specs.Events
 use Rattle.jdwp_link.specs.Events.{LinkEvent, AskRefusal, Outcome}
-use Rattle.jdwp_link.specs.World.{Measure, Phase, Closed, Waiting, Open, is_closed, is_open, Packet, World, calls_size, packets_size, way_to_target, way_to_debugger, INBOX, PAUSE}
+use Rattle.jdwp_link.specs.World.{Measure, Phase, Closed, Waiting, Open, is_closed, is_open, Packet, World, way_to_target, way_to_debugger, INBOX, PAUSE}
 use Rattle.jdwp_link.specs.Seen.{mirror_count}
 
 -- ---- a new session

@@ -1,11 +1,11 @@
 -- What a debugger can say after the packets that it read in this session: what its mirror has, and the same said of the packets themselves.
 -- The last packet read stands first.
-use Rattle.std.specs.Prelude.{ℕ, ◌+◌, ◌==◌, Bool, true, false, ◌||◌, ◌&&◌, not, List, [], ◌∷◌, Option, Some, None, if◌then◌else◌}
-use Rattle.jdwp_debuggee.specs.State.{State, Moment, count_or_zero}
+use Rattle.std.specs.Prelude.{ℕ, ◌+◌, ◌==◌, Bool, false, ◌||◌, ◌&&◌, not, List, [], ◌∷◌, Option, Some, None, if◌then◌else◌}
+use Rattle.jdwp_debuggee.specs.State.{Moment, count_or_zero}
 use Rattle.jdwp_debuggee.specs.Actions
 use Rattle.jdwp_debuggee.specs.Actions.{Command, Action, action_of}
 use Rattle.jdwp_debuggee.specs.Facts.{is_dispose}
-use Rattle.jdwp_debugger.specs.Messages.{Ticket, Message, Handshake, Reply, Report}
+use Rattle.jdwp_debugger.specs.Messages.{Ticket, Handshake, Reply, Report}
 use Rattle.jdwp_debugger.specs.Mirror.{Kept, learned, teaches, forgets, shows, held_after, requests_after}
 use Rattle.jdwp_link.specs.World.{Packet}
 

@@ -1,8 +1,8 @@
 -- A target and a debugger, and what is under way between them (JDWP specification, "JDWP Handshake" and "JDWP Packets": one session over
 -- one connection). No byte, buffer or width of an id occurs: messages are what they mean, and a measure says how long they are.
-use Rattle.std.specs.Prelude.{ℕ, ◌+◌, ◌-◌, ◌==◌, Bool, true, false, List, [], ◌∷◌, ◌++◌, Option, Some, None, if◌then◌else◌}
+use Rattle.std.specs.Prelude.{ℕ, ◌+◌, ◌-◌, Bool, true, false, List, [], ◌∷◌, Option}
 use Rattle.jdwp_machine.specs.Meanings.{Meaning}
-use Rattle.jdwp_debuggee.specs.State.{State, Moment, new_state}
+use Rattle.jdwp_debuggee.specs.State.{Moment, new_state}
 use Rattle.jdwp_debuggee.specs.Actions.{Command}
 use Rattle.jdwp_debugger.specs.Messages.{Ticket, Call, Message}
 use Rattle.jdwp_link.specs.Events.{AskRefusal}

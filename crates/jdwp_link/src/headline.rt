@@ -1,6 +1,7 @@
 //! What a debugger may rely on, of every machine and over every list of events: each function without a body is a theorem.
 ghost use Rattle.jdwp_link.specs.Headline.{Always, KnowsAndHolds, HasTheCounts, HasTheRequests, HeldIsSuspended, HeldIsCovered, CountIsAtMost};
 ghost use Rattle.jdwp_link.specs.Tickets.{SettlesInOrder};
+ghost use Rattle.jdwp_link.specs.Given.{TellsWhatWasGiven};
 
 use jdwp_machine::Machine;
 
@@ -34,4 +35,9 @@ pub fn counts_at_most<M: Machine>()
 /// Those that are settled and then those that wait are all that were asked, whatever was lost and reattached in between.
 pub fn settles_each_command_once<M: Machine>()
     ensures { SettlesInOrder M.meaning }
+{}
+
+/// Each answer that the debugger tells of a ticket is the one that the target gave to that same ticket, when it handled its command.
+pub fn tells_what_was_given<M: Machine>()
+    ensures { TellsWhatWasGiven M.meaning }
 {}
