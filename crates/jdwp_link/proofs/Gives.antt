@@ -137,8 +137,8 @@ front-comes w q rest r e f h =
 nothing-lost : (os : List Outcome) (ps : List (Ticket × Command)) (p : ℕ × Answer) → IsIn (told_answers (os ++ lost_tickets ps)) p → IsIn (told_answers os) p
 nothing-lost os ps p h =
     elim (in-append (told_answers os) (told_answers (lost_tickets ps)) p (subst (λ l. IsIn l p) (told-append os (lost_tickets ps)) h)) [
-      inl k ↦ k
-    | inr k ↦ absurd (subst (λ l. IsIn l p) (told-lost ps) k)
+      | inl k ↦ k
+      | inr k ↦ absurd (subst (λ l. IsIn l p) (told-lost ps) k)
     ]
 
 closes-comes : {S : Type 0} (w v : World S) (q : Packet S) (rest : List (Packet S)) (os : List Outcome) (b : Bool) → w.to_debugger ≡ q ∷ rest → v.to_debugger ≡ rest → ((p : ℕ × Answer) → IsIn (told_answers os) p → IsIn (replied (q ∷ [])) p) → Comes w [] (closes_by v os b)
@@ -210,11 +210,11 @@ comes-run m settings measure w (e ∷ es) p h =
     let now = gives m settings measure w e in
     let later = given m settings measure v es in
     elim (in-append (told_answers (next m settings measure w e).1) (told_answers (outcomes m settings measure v es)) p (subst (λ l. IsIn l p) (told-append (next m settings measure w e).1 (outcomes m settings measure v es)) h)) [
-      inl k ↦ inl (c.told p k)
-    | inr k ↦ elim (comes-run m settings measure v es p k) [
-          inl q ↦ elim (c.left p q) [ inl z ↦ inl z | inr z ↦ inr (in-front now later p z) ]
+      | inl k ↦ inl (c.told p k)
+      | inr k ↦ elim (comes-run m settings measure v es p k) [
+        | inl q ↦ elim (c.left p q) [ inl z ↦ inl z | inr z ↦ inr (in-front now later p z) ]
         | inr q ↦ inr (in-back now later p q)
-        ]
+      ]
     ]
 
 pub tells_what_was_given : {S : Type 0} (m : Meaning S) → TellsWhatWasGiven m
