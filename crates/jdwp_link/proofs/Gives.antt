@@ -17,7 +17,7 @@ use Rattle.jdwp_debugger.specs.Mirror.{ends}
 use Rattle.jdwp_debugger.specs.Faults.{Fault, fault_of}
 use Rattle.jdwp_link.specs.Events
 use Rattle.jdwp_link.specs.Events.{LinkEvent, AskRefusal, Outcome}
-use Rattle.jdwp_link.specs.World.{Measure, Phase, Closed, Waiting, Open, is_closed, Packet, World, way_to_target, way_to_debugger, opening, PAUSE}
+use Rattle.jdwp_link.specs.World.{Measure, Phase, Closed, Waiting, Open, is_closed, Packet, World, way_to_target, way_to_debugger, opening}
 use Rattle.jdwp_link.specs.Next.{attached, may_attach, attaches, ask_refusal, asks, ask_by, started, greets_by, dies_by, answers, target_takes, target_handles, target_turn_at, target_turn, lost_tickets, debugger_closed, closes_by, composites_of, answered, has_end, reads_reply, reads_composite, reads, reader, debugger_handles, debugger_takes, debugger_turn_at, debugger_turn, told, step_ends, steps, next, outcomes}
 use Rattle.jdwp_link.specs.Given.{gives_call, gives_front, gives_turn, gives, given, told_answers, IsIn, TellsWhatWasGiven}
 
@@ -122,7 +122,7 @@ comes-turn-at m settings measure w [] = same-comes w w [] refl
 comes-turn-at m settings measure w (call ∷ rest) = comes-unless w _ _ (nat_lt w.at_target (measure.call call)) (comes-handles m settings measure w rest w.target call)
 
 comes-turn : {S : Type 0} (m : Meaning S) (settings : Settings) (measure : Measure) (w : World S) → Comes w (gives_turn m settings measure w) (target_turn m settings measure w, [])
-comes-turn m settings measure w = comes-by w _ _ (not (is_closed w.target) && nat_lt (way_to_debugger measure w) PAUSE) (comes-turn-at m settings measure w w.to_target)
+comes-turn m settings measure w = comes-by w _ _ (not (is_closed w.target) && nat_lt (way_to_debugger measure w) settings.limits.packet) (comes-turn-at m settings measure w w.to_target)
 
 -- ---- the debugger's turn
 
@@ -196,9 +196,9 @@ comes-next m settings measure w (Events.ToTarget n) = cond_both (is_closed w.tar
 comes-next m settings measure w (Events.ToDebugger n) = cond_both (is_closed w.debugger) w _ (Comes-to w) (λ _. same-comes w w [] refl) (λ _. same-comes w _ [] refl)
 comes-next m settings measure w Events.TargetTurn = comes-turn m settings measure w
 comes-next m settings measure w Events.DebuggerTurn =
-    cond_both (not (is_closed w.debugger) && nat_lt (way_to_target measure w) PAUSE) _ _ (Comes w []) (λ _. comes-debugger-at measure w w.to_debugger refl) (λ _. same-comes w w [] refl)
+    cond_both (not (is_closed w.debugger) && nat_lt (way_to_target measure w) settings.limits.packet) _ _ (Comes w []) (λ _. comes-debugger-at measure w w.to_debugger refl) (λ _. same-comes w w [] refl)
 comes-next m settings measure w (Events.Step t) =
-    cond_both (may_step m settings w.now t && (w.lost || nat_lt (way_to_debugger measure w) PAUSE)) _ _ (Comes-to w) (λ _. comes-told w (occurs m w.now t).after (occurs m w.now t).sends w.target (occurs m w.now t).dies) (λ _. same-comes w w [] refl)
+    cond_both (may_step m settings w.now t && (w.lost || nat_lt (way_to_debugger measure w) settings.limits.packet)) _ _ (Comes-to w) (λ _. comes-told w (occurs m w.now t).after (occurs m w.now t).sends w.target (occurs m w.now t).dies) (λ _. same-comes w w [] refl)
 comes-next m settings measure w Events.TargetLoses = same-comes w _ [] refl
 comes-next m settings measure w Events.DebuggerLoses = record { told = λ p h. absurd (subst (λ l. IsIn l p) (told-lost w.pending) h); left = λ p h. inl h }
 

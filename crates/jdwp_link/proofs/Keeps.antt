@@ -29,7 +29,7 @@ use Rattle.jdwp_debugger.specs.Faults
 use Rattle.jdwp_debugger.specs.Faults.{Fault, Reader, fault_of, fault_after_greeting}
 use Rattle.jdwp_link.specs.Events
 use Rattle.jdwp_link.specs.Events.{LinkEvent, AskRefusal, Outcome}
-use Rattle.jdwp_link.specs.World.{Measure, Phase, Closed, Waiting, Open, is_closed, is_open, Packet, World, way_to_target, way_to_debugger, PAUSE}
+use Rattle.jdwp_link.specs.World.{Measure, Phase, Closed, Waiting, Open, is_closed, is_open, Packet, World, way_to_target, way_to_debugger}
 use Rattle.jdwp_link.specs.Next.{attached, may_attach, attaches, ask_refusal, asks, ask_by, target_loses, started, greets_by, after_death, dying, dies_by, answers, target_handles, target_turn_at, target_turn, closes_by, without_ticket, entered, has_end, composites_of, answered, reads_handshake, reads_reply, reads_composite, reads, reader, debugger_handles, debugger_takes, debugger_turn_at, debugger_turn, told, step_ends, steps, next, run}
 use Rattle.jdwp_link.proofs.Acts.{Acts, acts_reply, acts_handshake, acts_event, acts_death}
 use Rattle.jdwp_link.proofs.Session.{Links, last, links_more, last_more, links_front, links_back, last_append, Mirrors, mirrors_read, mirrors_entered, quiet_refl, quiet_trans, replies, commands, replies_append, commands_append, not-true, and-left, and-right}
@@ -363,7 +363,7 @@ keeps_target_turn_at m law settings least most measure w (call ∷ rest) i e =
 
 keeps_target_turn : {S : Type 0} (m : Meaning S) → IsLawful m → (settings : Settings) → 1 ≤ settings.count_limit → settings.count_limit ≤ COUNT_MOST → (measure : Measure) (w : World S) → Inv m settings w → Inv m settings (target_turn m settings measure w)
 keeps_target_turn m law settings least most measure w i =
-    cond_both (not (is_closed w.target) && nat_lt (way_to_debugger measure w) PAUSE) _ _ (Inv m settings) (λ _. keeps_target_turn_at m law settings least most measure w w.to_target i refl) (λ _. i)
+    cond_both (not (is_closed w.target) && nat_lt (way_to_debugger measure w) settings.limits.packet) _ _ (Inv m settings) (λ _. keeps_target_turn_at m law settings least most measure w w.to_target i refl) (λ _. i)
 
 -- ---- the debugger's turn
 
@@ -500,9 +500,9 @@ keeps_debugger_turn_at m settings measure w [] i o e = i
 keeps_debugger_turn_at m settings measure w (p ∷ rest) i o e =
     cond_both (nat_lt w.at_debugger (measure.message p.0)) _ _ (Inv_of m settings) (λ _. i) (λ _. keeps_debugger_handles m settings measure w p rest (fault_of (reader w) p.0) i o e refl)
 
-keeps_debugger_turn : {S : Type 0} (m : Meaning S) (settings : Settings) (measure : Measure) (w : World S) → Inv m settings w → Inv m settings (debugger_turn measure w).0
+keeps_debugger_turn : {S : Type 0} (m : Meaning S) (settings : Settings) (measure : Measure) (w : World S) → Inv m settings w → Inv m settings (debugger_turn settings measure w).0
 keeps_debugger_turn m settings measure w i =
-    cond_both (not (is_closed w.debugger) && nat_lt (way_to_target measure w) PAUSE) _ _ (Inv_of m settings) (λ h. keeps_debugger_turn_at m settings measure w w.to_debugger i (not-true _ (and-left _ _ h)) refl) (λ _. i)
+    cond_both (not (is_closed w.debugger) && nat_lt (way_to_target measure w) settings.limits.packet) _ _ (Inv_of m settings) (λ h. keeps_debugger_turn_at m settings measure w w.to_debugger i (not-true _ (and-left _ _ h)) refl) (λ _. i)
 
 -- ---- steps
 
@@ -571,7 +571,7 @@ keeps_stepped m law settings most w after (Some c) false i s ever d silent h a =
 
 keeps_steps : {S : Type 0} (m : Meaning S) → IsLawful m → (settings : Settings) → settings.count_limit ≤ COUNT_MOST → (measure : Measure) (w : World S) (t : ℕ) → Inv m settings w → Inv m settings (steps m settings measure w t)
 keeps_steps m law settings most measure w t i =
-    cond_both (may_step m settings w.now t && (w.lost || nat_lt (way_to_debugger measure w) PAUSE)) _ _ (Inv m settings) (λ h.
+    cond_both (may_step m settings w.now t && (w.lost || nat_lt (way_to_debugger measure w) settings.limits.packet)) _ _ (Inv m settings) (λ h.
     let may : may_step m settings w.now t ≡ true = and-left _ _ h in
     let d = (facts m law settings).happens w.now t i.target.sound may in
     keeps_stepped m law settings most w (occurs m w.now t).after (occurs m w.now t).sends (occurs m w.now t).dies i d.sound d.ever d.told d.silent (d.handshaken ∙ and-left w.now.state.handshaken _ may) d.alive) (λ _. i)

@@ -18,7 +18,7 @@ use Rattle.jdwp_debugger.specs.Mirror.{ends, COUNT_MOST}
 use Rattle.jdwp_debugger.specs.Faults.{Fault, fault_of}
 use Rattle.jdwp_link.specs.Events
 use Rattle.jdwp_link.specs.Events.{LinkEvent, AskRefusal, Outcome}
-use Rattle.jdwp_link.specs.World.{Measure, Phase, Closed, Waiting, Open, is_closed, Packet, World, way_to_target, way_to_debugger, opening, PAUSE}
+use Rattle.jdwp_link.specs.World.{Measure, Phase, Closed, Waiting, Open, is_closed, Packet, World, way_to_target, way_to_debugger, opening}
 use Rattle.jdwp_link.specs.Next.{attached, may_attach, attaches, ask_refusal, ask_by, target_loses, greets_by, dies_by, answers, target_takes, target_handles, target_turn_at, lost_tickets, debugger_closed, debugger_loses, closes_by, without_ticket, has_end, composites_of, answered, reads_handshake, reads_reply, reads_composite, reads, reader, debugger_handles, debugger_takes, debugger_turn_at, told, step_ends, next, run, outcomes}
 use Rattle.jdwp_link.specs.Tickets.{settled, tickets, tickets_to, SettlesInOrder}
 use Rattle.jdwp_link.proofs.Session.{replies, commands, not-true, and-left}
@@ -150,11 +150,11 @@ settles_next m settings measure w Events.Attach i = stays w (attaches w) (cond_b
 settles_next m settings measure w (Events.Ask c) i = settles-ask w c (ask_refusal settings measure w c)
 settles_next m settings measure w (Events.ToTarget n) i = stays w _ (cond_both (is_closed w.target) w _ (Stays w) (λ _. itself w) (λ _. record { pending = refl; asked = refl }))
 settles_next m settings measure w (Events.ToDebugger n) i = stays w _ (cond_both (is_closed w.debugger) w _ (Stays w) (λ _. itself w) (λ _. record { pending = refl; asked = refl }))
-settles_next m settings measure w Events.TargetTurn i = stays w _ (cond_both (not (is_closed w.target) && nat_lt (way_to_debugger measure w) PAUSE) _ _ (Stays w) (λ _. stays-turn-at m settings measure w w.to_target) (λ _. itself w))
+settles_next m settings measure w Events.TargetTurn i = stays w _ (cond_both (not (is_closed w.target) && nat_lt (way_to_debugger measure w) settings.limits.packet) _ _ (Stays w) (λ _. stays-turn-at m settings measure w w.to_target) (λ _. itself w))
 settles_next m settings measure w Events.DebuggerTurn i =
-    cond_both (not (is_closed w.debugger) && nat_lt (way_to_target measure w) PAUSE) _ _ (Settles w) (λ h. settles-turn-at m settings measure w w.to_debugger i (not-true _ (and-left _ _ h)) refl) (λ _. stays w w (itself w))
+    cond_both (not (is_closed w.debugger) && nat_lt (way_to_target measure w) settings.limits.packet) _ _ (Settles w) (λ h. settles-turn-at m settings measure w w.to_debugger i (not-true _ (and-left _ _ h)) refl) (λ _. stays w w (itself w))
 settles_next m settings measure w (Events.Step t) i =
-    stays w _ (cond_both (may_step m settings w.now t && (w.lost || nat_lt (way_to_debugger measure w) PAUSE)) _ _ (Stays w) (λ _. stays-told w (occurs m w.now t).after (occurs m w.now t).sends w.target (occurs m w.now t).dies) (λ _. itself w))
+    stays w _ (cond_both (may_step m settings w.now t && (w.lost || nat_lt (way_to_debugger measure w) settings.limits.packet)) _ _ (Stays w) (λ _. stays-told w (occurs m w.now t).after (occurs m w.now t).sends w.target (occurs m w.now t).dies) (λ _. itself w))
 settles_next m settings measure w Events.TargetLoses i = stays w (target_loses w) (record { pending = refl; asked = refl })
 settles_next m settings measure w Events.DebuggerLoses i = settles w (debugger_loses w) (append-nil _ ∙ settled-lost w.pending) refl
 

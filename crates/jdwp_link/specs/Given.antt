@@ -7,7 +7,7 @@ use Rattle.jdwp_debuggee.specs.Effects.{effect}
 use Rattle.jdwp_debugger.specs.Messages.{Call, Greets, Asks}
 use Rattle.jdwp_link.specs.Events
 use Rattle.jdwp_link.specs.Events.{LinkEvent, Outcome}
-use Rattle.jdwp_link.specs.World.{Measure, Phase, Closed, Waiting, Open, is_closed, World, way_to_debugger, PAUSE, opening}
+use Rattle.jdwp_link.specs.World.{Measure, Phase, Closed, Waiting, Open, is_closed, World, way_to_debugger, opening}
 use Rattle.jdwp_link.specs.Next.{next, outcomes}
 use Rattle.jdwp_link.specs.Headline.{MayBegin}
 
@@ -22,7 +22,7 @@ gives_front m settings measure w (call ∷ rest) = if nat_lt w.at_target (measur
 
 abbrev pub gives_turn : {S : Type 0} → Meaning S → Settings → Measure → World S → List (ℕ × Answer)
 gives_turn m settings measure w =
-    if not (is_closed w.target) && nat_lt (way_to_debugger measure w) PAUSE then gives_front m settings measure w w.to_target else []
+    if not (is_closed w.target) && nat_lt (way_to_debugger measure w) settings.limits.packet then gives_front m settings measure w w.to_target else []
 
 abbrev pub gives : {S : Type 0} → Meaning S → Settings → Measure → World S → LinkEvent → List (ℕ × Answer)
 gives m settings measure w Events.TargetTurn = gives_turn m settings measure w

@@ -16,7 +16,7 @@ use Rattle.jdwp_debugger.specs.Mirror.{ends}
 use Rattle.jdwp_debugger.specs.Faults.{Fault, Reader, fault_of}
 use Rattle.jdwp_link.specs.Events
 use Rattle.jdwp_link.specs.Events.{LinkEvent, AskRefusal, Outcome}
-use Rattle.jdwp_link.specs.World.{Measure, Phase, Closed, Waiting, Open, is_closed, is_open, Packet, World, way_to_target, way_to_debugger, INBOX, PAUSE}
+use Rattle.jdwp_link.specs.World.{Measure, Phase, Closed, Waiting, Open, is_closed, is_open, Packet, World, way_to_target, way_to_debugger}
 use Rattle.jdwp_link.specs.Seen.{mirror_count}
 
 -- ---- a new session
@@ -53,7 +53,7 @@ LAST_TICKET = 2 ^ 64 - 1
 
 abbrev pub is_busy : {S : Type 0} → Settings → Measure → World S → Bool
 is_busy settings measure w =
-    not (nat_lt (length w.pending) settings.limits.pending) || (not (nat_lt (way_to_target measure w) PAUSE) || not (nat_lt w.asked LAST_TICKET))
+    not (nat_lt (length w.pending) settings.limits.pending) || (not (nat_lt (way_to_target measure w) settings.limits.packet) || not (nat_lt w.asked LAST_TICKET))
 
 abbrev pub ask_refusal : {S : Type 0} → Settings → Measure → World S → Command → Option AskRefusal
 ask_refusal settings measure w c =
@@ -74,14 +74,15 @@ ask_by w c None = (asks w c, Events.Asked (w.asked + 1) ∷ [])
 
 -- ---- bytes come
 
-abbrev pub delivered : ℕ → ℕ → ℕ → ℕ
-delivered n way at = at + min n (min way (INBOX - at))
+-- an end takes as many bytes as a packet may have before it handles them
+abbrev pub delivered : Settings → ℕ → ℕ → ℕ → ℕ
+delivered settings n way at = at + min n (min way (settings.limits.packet - at))
 
-abbrev pub delivers_to_target : {S : Type 0} → Measure → World S → ℕ → World S
-delivers_to_target measure w n = if is_closed w.target then w else record w { at_target = delivered n (way_to_target measure w) w.at_target }
+abbrev pub delivers_to_target : {S : Type 0} → Settings → Measure → World S → ℕ → World S
+delivers_to_target settings measure w n = if is_closed w.target then w else record w { at_target = delivered settings n (way_to_target measure w) w.at_target }
 
-abbrev pub delivers_to_debugger : {S : Type 0} → Measure → World S → ℕ → World S
-delivers_to_debugger measure w n = if is_closed w.debugger then w else record w { at_debugger = delivered n (way_to_debugger measure w) w.at_debugger }
+abbrev pub delivers_to_debugger : {S : Type 0} → Settings → Measure → World S → ℕ → World S
+delivers_to_debugger settings measure w n = if is_closed w.debugger then w else record w { at_debugger = delivered settings n (way_to_debugger measure w) w.at_debugger }
 
 -- ---- the target's turn
 
@@ -134,10 +135,10 @@ target_turn_at m settings measure w [] = w
 target_turn_at m settings measure w (call ∷ rest) =
     if nat_lt w.at_target (measure.call call) then w else target_handles m settings measure w rest w.target call
 
--- nothing where the end is closed or paused, or no whole message came
+-- nothing where the end is closed, or paused because as many of its own bytes as a packet may have are under way, or no whole message came
 abbrev pub target_turn : {S : Type 0} → Meaning S → Settings → Measure → World S → World S
 target_turn m settings measure w =
-    if not (is_closed w.target) && nat_lt (way_to_debugger measure w) PAUSE then target_turn_at m settings measure w w.to_target else w
+    if not (is_closed w.target) && nat_lt (way_to_debugger measure w) settings.limits.packet then target_turn_at m settings measure w w.to_target else w
 
 -- ---- the debugger's turn
 
@@ -225,9 +226,9 @@ debugger_turn_at measure w [] = (w, [])
 debugger_turn_at measure w (p ∷ rest) =
     if nat_lt w.at_debugger (measure.message p.0) then (w, []) else debugger_handles (debugger_takes measure w p rest) p (fault_of (reader w) p.0)
 
-abbrev pub debugger_turn : {S : Type 0} → Measure → World S → World S × List Outcome
-debugger_turn measure w =
-    if not (is_closed w.debugger) && nat_lt (way_to_target measure w) PAUSE then debugger_turn_at measure w w.to_debugger else (w, [])
+abbrev pub debugger_turn : {S : Type 0} → Settings → Measure → World S → World S × List Outcome
+debugger_turn settings measure w =
+    if not (is_closed w.debugger) && nat_lt (way_to_target measure w) settings.limits.packet then debugger_turn_at measure w w.to_debugger else (w, [])
 
 -- ---- steps
 
@@ -247,7 +248,7 @@ stepped w o = step_ends (told w o.after o.sends) w.target o.dies
 -- a target that lost the connection is not paused
 abbrev pub steps : {S : Type 0} → Meaning S → Settings → Measure → World S → ℕ → World S
 steps m settings measure w t =
-    if may_step m settings w.now t && (w.lost || nat_lt (way_to_debugger measure w) PAUSE) then stepped w (occurs m w.now t) else w
+    if may_step m settings w.now t && (w.lost || nat_lt (way_to_debugger measure w) settings.limits.packet) then stepped w (occurs m w.now t) else w
 
 -- ---- all events
 
@@ -255,10 +256,10 @@ steps m settings measure w t =
 abbrev pub next : {S : Type 0} → Meaning S → Settings → Measure → World S → LinkEvent → World S × List Outcome
 next m settings measure w Events.Attach = (attaches w, [])
 next m settings measure w (Events.Ask c) = ask_by w c (ask_refusal settings measure w c)
-next m settings measure w (Events.ToTarget n) = (delivers_to_target measure w n, [])
-next m settings measure w (Events.ToDebugger n) = (delivers_to_debugger measure w n, [])
+next m settings measure w (Events.ToTarget n) = (delivers_to_target settings measure w n, [])
+next m settings measure w (Events.ToDebugger n) = (delivers_to_debugger settings measure w n, [])
 next m settings measure w Events.TargetTurn = (target_turn m settings measure w, [])
-next m settings measure w Events.DebuggerTurn = debugger_turn measure w
+next m settings measure w Events.DebuggerTurn = debugger_turn settings measure w
 next m settings measure w (Events.Step t) = (steps m settings measure w t, [])
 next m settings measure w Events.TargetLoses = (target_loses w, [])
 next m settings measure w Events.DebuggerLoses = debugger_loses w

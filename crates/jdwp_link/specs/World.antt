@@ -73,13 +73,6 @@ way_to_target measure w = calls_size measure w.to_target - w.at_target
 abbrev pub way_to_debugger : {S : Type 0} → Measure → World S → ℕ
 way_to_debugger measure w = packets_size measure w.to_debugger - w.at_debugger
 
--- how many bytes an end takes before it handles them; and where so many of its own are under way, it handles nothing
-abbrev pub INBOX : ℕ
-INBOX = 65536
-
-abbrev pub PAUSE : ℕ
-PAUSE = 65536
-
 -- ---- a link before its first session
 
 abbrev pub opening : {S : Type 0} → Meaning S → S → World S
