@@ -3,3 +3,4 @@ pub mod EnqueueLemmas
 pub mod Disposing
 pub mod RunLemmas
 pub mod KeptLemmas
+pub mod LeastThread

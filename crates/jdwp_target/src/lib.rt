@@ -6,11 +6,13 @@
 mod command;
 mod fixed;
 mod handling;
+mod laws;
 mod options;
 mod state;
 mod target;
 
 pub use fixed::Fixed;
+pub use laws::starts_with_least_thread;
 pub use options::TargetOptions;
 pub use target::{Target, TargetFault, Turn};
 
