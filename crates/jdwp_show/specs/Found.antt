@@ -1,7 +1,7 @@
 -- What stands in the bytes of one end: its messages, and a frame fault where what follows them shows one.
 use Rattle.std.specs.Prelude.{◌≡◌, ℕ, zero, suc, List, [], ◌∷◌, ◌++◌, length, drop, map, Bool, true, false}
 use Rattle.jdwp_wire.specs.declared.frame.FrameFault.{FrameFault}
-use Rattle.jdwp_wire.specs.declared.frame.TheConstants.{PACKET_LIMIT}
+use Rattle.jdwp_wire.specs.Limits.{standard_limits}
 use Rattle.jdwp_wire.specs.Streams.{Message, stream, IsConversation, NextMessage, Whole, More, Fault, next_message}
 
 -- a message of the end, or a frame fault
@@ -18,7 +18,7 @@ found_at (Fault fault) bytes rest = Faulty fault ∷ []
 -- the first so many; before the handshake was found it is looked for, and packets after it
 unfoldable pub found_within : ℕ → Bool → List ℕ → List Found
 found_within zero handshaken bytes = []
-found_within (suc n) handshaken bytes = found_at (next_message PACKET_LIMIT handshaken bytes) bytes (found_within n true)
+found_within (suc n) handshaken bytes = found_at (next_message standard_limits.packet handshaken bytes) bytes (found_within n true)
 
 -- all of them: no message is empty, so there are no more than bytes
 unfoldable pub found_after : Bool → List ℕ → List Found
@@ -47,6 +47,6 @@ pub record AreIn (bytes : List ℕ) (things : List Found) : Type 0 where
   pub rest : List ℕ
   pub last : List Found
   pub bytes_are : bytes ≡ stream messages ++ rest
-  pub in_order : IsConversation PACKET_LIMIT messages
-  pub last_shown : IsShown (next_message PACKET_LIMIT (is_handshaken messages) rest) last
+  pub in_order : IsConversation standard_limits.packet messages
+  pub last_shown : IsShown (next_message standard_limits.packet (is_handshaken messages) rest) last
   pub things_are : things ≡ map Sent messages ++ last
