@@ -1,6 +1,10 @@
 //! Array regions (JDWP specification, "Data Types": arrayregion).
 ghost use Rattle.std.specs.Prelude.{◌≡◌, ◌≤◌, ◌+◌, ◌<◌, ◌^◌, ◌↔◌, IsTrue, IsSome, IfSome, true, false, Ok, Err, length, take, List, IfOk, OnOk, IfErr, vec_len, vec_capacity};
 ghost use Rattle.std.specs.List.{list_all, flat_map};
+ghost use Rattle.std.specs.Cmp.{and_per, on_per};
+ghost use Rattle.std.specs.Cmp.Lexicographic.{lists_per};
+ghost use Rattle.std.specs.Cmp.Lexicographic.{pointwise};
+ghost use Rattle.std.specs.Ordering.{eq_of_both, on};
 ghost use Rattle.std.specs.Result.{IsErrOf};
 ghost use Rattle.jdwp_wire.specs.declared.data_fault.DataFault.TheVariants.{NoMemory};
 ghost use Rattle.jdwp_wire.specs.Reading.{Gives, passed, BeginsWith, Written, Refused};
@@ -23,7 +27,7 @@ use std::marker::Model;
 
 /// Elements of an array, and their tag. A region has another tag than `V`. Where its tag is an object's, its
 /// elements are objects of any kind; else they have its very tag.
-#[derive(Drop)]
+#[derive(Debug, Drop)]
 pub struct ArrayRegion {
     tag: Tag,
     elements: Vec<Value>,
@@ -71,6 +75,23 @@ impl ArrayRegion {
     }
 }
 
+impl PartialEq for ArrayRegion {
+    ghost use Rattle.jdwp_value.specs.contracts.tag.TagPartialEq.TheImpl as tags;
+    ghost use Rattle.jdwp_value.specs.contracts.value.ValuePartialEq.TheImpl as values;
+
+    ghost eq = { eq_of_both (on (λ r. r.tag) tags.ghosts.eq) (on (λ r. r.elements) (pointwise values.ghosts.eq)) };
+
+    ghost use Rattle.jdwp_value.specs.contracts.tag.TagPartialEq.TheImpl.Laws as tag_laws;
+    ghost use Rattle.jdwp_value.specs.contracts.value.ValuePartialEq.TheImpl.Laws as value_laws;
+
+    ghost laws = { and_per (on_per (λ r. r.tag) tag_laws.lawful.laws) (on_per (λ r. r.elements) (lists_per value_laws.lawful.laws)) };
+
+    fn eq(&self, other: &ArrayRegion) -> bool {
+        let same_tag = self.tag == other.tag;
+        same_tag && self.elements.as_slice() == other.elements.as_slice()
+    }
+}
+
 /// A tag, a count and so many elements: those of an object's tag with tags of their own, the others without.
 ///
 /// Tag `V` is `BadTag`. Elements are read one by one, and nothing is reserved by the count.
@@ -92,8 +113,9 @@ impl Wire for ArrayRegion {
     ghost takes_memory = { RegionIsKept };
 
     fn size(&self, sizes: &IdSizes) -> Option<usize> {
+        let count = self.elements.len();
         let each = element_size(self.tag, sizes);
-        self.elements.len().checked_mul(each)?.checked_add(5)
+        count.checked_mul(each)?.checked_add(5)
     }
 
     fn put(&self, sizes: &IdSizes, output: &mut Vec<u8>) -> Result<(), DataFault> {

@@ -382,3 +382,32 @@ fn a_long_region(rt: HostRuntime) -> Result<(), Fail> {
     assert!(rt; put.as_slice() == bytes.as_slice());
     Ok(())
 }
+
+#[test]
+fn regions_are_compared_by_their_elements(rt: HostRuntime) -> Result<(), Fail> {
+    let sizes = IdSizes::new(1, 1, 1, 1, 1)?;
+    let bytes = [0x53, 0, 0, 0, 2, 0, 1, 0, 2];
+    let (region, _) = ArrayRegion::take(rt.alloc(), &bytes, &sizes)?;
+    let (same, _) = ArrayRegion::take(rt.alloc(), &bytes, &sizes)?;
+    assert!(rt; region == same);
+    let others = [
+        [0x53, 0, 0, 0, 2, 0, 1, 0, 3],
+        [0x43, 0, 0, 0, 2, 0, 1, 0, 2],
+    ];
+    for bytes in others {
+        let (other, _) = ArrayRegion::take(rt.alloc(), &bytes, &sizes)?;
+        assert!(rt; region != other);
+    }
+    assert_eq!(rt;
+        region.into_elements().as_slice(),
+        [Value::Short(1), Value::Short(2)].as_slice()
+    );
+    Ok(())
+}
+
+#[test]
+fn type_tags(rt: HostRuntime) {
+    assert_eq!(rt; TypeTag::Class.byte(), 1);
+    assert_eq!(rt; TypeTag::Interface.byte(), 2);
+    assert_eq!(rt; TypeTag::Array.byte(), 3);
+}

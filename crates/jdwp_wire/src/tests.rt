@@ -1,7 +1,7 @@
 //! Worked examples of frames.
 use crate::{
-    FrameFault, HANDSHAKE, Header, IdSizes, Limits, Next, NextHello, PacketKind, names_error_codes,
-    next_hello, next_packet, next_packet_within,
+    FrameFault, HANDSHAKE, Header, IdKind, IdSizes, Limits, Next, NextHello, PacketKind, Width,
+    names_error_codes, next_hello, next_packet, next_packet_within,
 };
 use std::test::Fail;
 
@@ -107,6 +107,23 @@ fn widths_of_ids(rt: HostRuntime) {
             );
         }
     }
+}
+
+#[test]
+fn a_width_of_one_kind(rt: HostRuntime) -> Result<(), Fail> {
+    for bytes in 1..=8u8 {
+        assert_eq!(rt;
+            Width::new(bytes).map(Width::bytes),
+            Some(usize::from(bytes))
+        );
+    }
+    for bytes in [0, 9, 255] {
+        assert!(rt; Width::new(bytes).is_none());
+    }
+    let sizes = IdSizes::new(1, 2, 3, 4, 8)?;
+    assert_eq!(rt; sizes.width(IdKind::ReferenceType).bytes(), 4);
+    assert_eq!(rt; sizes.width(IdKind::Frame).bytes(), 8);
+    Ok(())
 }
 
 #[test]
