@@ -1,5 +1,5 @@
 -- The table of the commands (JDWP specification, "Protocol Details"): what each carries there and back.
-use Rattle.std.specs.Prelude.{ℕ, List, [], ◌∷◌, Option, Some, None, codes}
+use Rattle.std.specs.Prelude.{ℕ, List, [], ◌∷◌, Option, codes}
 use Rattle.jdwp_layout.specs.declared.item.Field.TheVariants.{Byte, Boolean, Int, Long, String, ObjectId, ReferenceTypeId, MethodId, FieldId, FrameId, Location, Value, TaggedId}
 use Rattle.jdwp_layout.specs.Shapes.{Fields, Modifiers, Events, OneOf, ListOf, RegionOf}
 use Rattle.jdwp_layout.specs.Rows.{Row, answered, starred, raw, look_up, row_in}

@@ -9,3 +9,4 @@ pub mod Reads
 pub mod Writes
 pub mod Keeping
 pub mod Skips
+pub mod EntryLaws

@@ -22,7 +22,7 @@ pub enum Scalar {
 }
 
 /// What an item holds.
-#[derive(Drop)]
+#[derive(Debug, PartialEq, Drop)]
 pub enum Datum {
     /// What one field holds.
     One(Scalar),

@@ -8,6 +8,7 @@ mod command_sets;
 #[cfg(test)]
 mod data_tests;
 mod datum;
+mod entry;
 mod item;
 mod laws;
 pub mod numbers;
@@ -21,6 +22,7 @@ mod writing;
 pub use answer::{Answer, Data};
 pub use command::{CommandRow, Layouts, layout_of};
 pub use datum::{Datum, Scalar};
+pub use entry::{entry_size, pass_entries, pass_entry, read_entry, write_entry};
 pub use item::{Entry, Field, Item, Layout, fields_of_event, fields_of_modifier};
 pub use laws::{
     answers_first_fault, encodes_one_list, reads_only_encoded, reads_what_is_encoded,

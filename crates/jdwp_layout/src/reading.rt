@@ -139,7 +139,7 @@ fn take_entries<'a>(
 }
 
 /// What the entry's fields hold, and what follows them.
-fn take_entry<'a>(
+pub fn take_entry<'a>(
     alloc: Global,
     entry: Entry,
     rest: &'a [u8],

@@ -84,7 +84,7 @@ fn skip_item<'a>(
 }
 
 /// What follows `count` entries.
-fn skip_entries<'a>(
+pub fn skip_entries<'a>(
     count: usize,
     entry: Entry,
     bytes: &'a [u8],
@@ -103,7 +103,7 @@ fn skip_entries<'a>(
 }
 
 /// What follows the entry.
-fn skip_entry<'a>(
+pub fn skip_entry<'a>(
     entry: Entry,
     rest: &'a [u8],
     whole: usize,

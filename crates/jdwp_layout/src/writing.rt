@@ -128,7 +128,7 @@ fn put_entries(
 }
 
 /// Appends an entry, and may stop on the way.
-fn put_entry(
+pub fn put_entry(
     entry: Entry,
     scalars: &[Scalar],
     sizes: &IdSizes,

@@ -7,7 +7,7 @@ use Rattle.jdwp_layout.specs.Shapes.{entry_shape}
 use Rattle.jdwp_layout.specs.Meanings.{entry_meaning, entry_meanings}
 use Rattle.jdwp_layout.specs.Reads.{entry_at}
 use Rattle.jdwp_wire.proofs.Keeps.{first_begins}
-use Rattle.jdwp_layout.proofs.GrammarLaws.{entry_codes}
+use Rattle.jdwp_layout.specs.EntryLaws.{entry_codes}
 use Rattle.jdwp_layout.proofs.reading.take_entries.Goals as goal
 
 pub returns-in_err-scalars-clause-value : goal.returns-in_err-scalars-clause-value

@@ -1,5 +1,5 @@
 use Rattle.std.proofs.Common.{sym, ◌∙◌}
-use Rattle.jdwp_layout.specs.ModifiersAndEvents.{modifier_fields, event_fields}
+use Rattle.jdwp_layout.specs.ModifiersAndEvents.{event_fields}
 use Rattle.jdwp_layout.proofs.Keeps.{kind_is_kept}
 use Rattle.jdwp_layout.proofs.reading.take_entry.Goals as goal
 

@@ -9,7 +9,7 @@ use Rattle.jdwp_layout.specs.Meanings.{scalar_meaning, scalar_meanings}
 use Rattle.jdwp_layout.specs.Grammar.{EncodesField}
 use Rattle.jdwp_layout.specs.Keeping.{FieldIsKept}
 use Rattle.jdwp_layout.specs.Reads.{field_at, fields_at}
-use Rattle.jdwp_layout.proofs.GrammarLaws.{field_codes}
+use Rattle.jdwp_layout.specs.EntryLaws.{field_codes}
 use Rattle.jdwp_layout.proofs.reading.take_fields.Goals as goal
 
 pub returns-in_err-push-clause-memory : goal.returns-in_err-push-clause-memory

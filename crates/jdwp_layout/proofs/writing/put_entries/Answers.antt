@@ -8,7 +8,7 @@ use Rattle.jdwp_layout.specs.Shapes.{entry_shape}
 use Rattle.jdwp_layout.specs.Meanings.{scalar_meanings, entry_meaning, entry_meanings}
 use Rattle.jdwp_layout.specs.Grammar.{EncodesEntry}
 use Rattle.jdwp_layout.specs.Writes.{entry_canonical, entry_refusal}
-use Rattle.jdwp_layout.proofs.GrammarLaws.{entry_unrefused}
+use Rattle.jdwp_layout.specs.EntryLaws.{entry_unrefused}
 use Rattle.jdwp_layout.proofs.Progress.{AllProgress, all_kept, all_stop, all_go_on}
 use Rattle.jdwp_layout.proofs.writing.put_entries.Goals as goal
 

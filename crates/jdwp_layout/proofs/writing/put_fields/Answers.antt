@@ -5,7 +5,7 @@ use Rattle.jdwp_layout.specs.declared.item.Field.TheVariants as field
 use Rattle.jdwp_layout.specs.Meanings.{scalar_meaning, scalar_meanings}
 use Rattle.jdwp_layout.specs.Grammar.{EncodesField}
 use Rattle.jdwp_layout.specs.Writes.{scalar_canonical, field_refusal}
-use Rattle.jdwp_layout.proofs.GrammarLaws.{field_unrefused}
+use Rattle.jdwp_layout.specs.EntryLaws.{field_unrefused}
 use Rattle.jdwp_layout.proofs.Progress.{meanings_are, none_left, each_same, each_stands, each_short, each_kept, each_stop, each_go_on}
 use Rattle.jdwp_layout.proofs.writing.put_fields.Goals as goal
 
