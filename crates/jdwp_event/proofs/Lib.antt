@@ -1,3 +1,5 @@
 pub mod Patterns
 pub mod Limits
 pub mod Rising
+pub mod CompositeKept
+pub mod ModifierPassed

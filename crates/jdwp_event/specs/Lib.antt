@@ -9,3 +9,8 @@ pub mod Filters
 pub mod RequestParts
 pub mod Composites
 pub mod Told
+pub mod CompositeBytes
+pub mod CompositeLaws
+pub mod ModifierBytes
+pub mod ModifierParts
+pub mod ModifierLaws

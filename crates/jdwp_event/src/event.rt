@@ -1,6 +1,20 @@
 //! Events and composites (JDWP specification, "Protocol Details": the command Composite of the set Event).
-ghost use Rattle.std.specs.Prelude.{◌≡◌, ◌≤◌, ◌++◌, OnOk, IfOk, IfErr, []};
-ghost use Rattle.jdwp_layout.specs.Meanings.{entry_meaning, scalar_meanings};
+ghost use Rattle.std.specs.Prelude.{◌≡◌, ◌≤◌, ◌+◌, ◌<◌, ◌++◌, length, take, OnOk, IfOk, IfErr, [], vec_len, vec_capacity};
+ghost use Rattle.std.specs.List.{flat_map};
+ghost use Rattle.std.specs.Result.{IsErrOf};
+ghost use Rattle.jdwp_wire.specs.declared.data_fault.DataFault.TheVariants.{NoMemory as WantOfMemory};
+ghost use Rattle.jdwp_wire.specs.Reading.{Gives, passed, in_usize, Written, Refused};
+ghost use Rattle.jdwp_wire.specs.Each.{times_at, EncodesAll};
+ghost use Rattle.jdwp_wire.specs.Listed.{first_refusal};
+ghost use Rattle.jdwp_layout.specs.Shapes.{Events};
+ghost use Rattle.jdwp_layout.specs.Meanings.{ScalarMeaning, entry_meaning, entry_meanings, scalar_meanings};
+ghost use Rattle.jdwp_layout.specs.Grammar.{EncodesEntry, EntryFault};
+ghost use Rattle.jdwp_layout.specs.Keeping.{EntryIsKept, EntriesAreKept};
+ghost use Rattle.jdwp_layout.specs.Reads.{entry_at};
+ghost use Rattle.jdwp_layout.specs.Writes.{entry_canonical, entry_refusal};
+ghost use Rattle.jdwp_layout.specs.EntryLaws.{entry_codes, entry_unrefused};
+ghost use Rattle.jdwp_event.specs.CompositeBytes.{EncodesComposite, composite_canonical, composite_refusal, CompositeFault, composite_at, CompositeIsKept, composite_of, with_policy};
+ghost use Rattle.jdwp_event.specs.CompositeLaws.{composite_codes, composite_unrefused};
 ghost use Rattle.jdwp_event.specs.Occurrences.{occurrence_meaning};
 ghost use Rattle.jdwp_event.specs.Constants.{policy_byte};
 ghost use Rattle.jdwp_event.specs.Filters.{passing};
@@ -11,9 +25,12 @@ use crate::kind::EventKind;
 use crate::policy::Policy;
 use crate::request::{Request, matches};
 use crate::requests::Requests;
-use jdwp_layout::{Data, Datum, Scalar};
+use jdwp_layout::{
+    Data, Datum, Entry, Scalar, entry_size, pass_entries, pass_entry, read_entry, write_entry,
+};
 use jdwp_value::{ObjectId, TypeTag};
-use jdwp_wire::NoMemory;
+use jdwp_wire::number::{put_count, take_byte, take_count};
+use jdwp_wire::{DataFault, IdSizes, NoMemory, Wire};
 use std::alloc::Global;
 use std::marker::Model;
 
@@ -46,6 +63,66 @@ impl Event {
     {
         self.fields.as_slice()
     }
+}
+
+/// A kind byte, the id of the request as an int, and the fields of that kind.
+///
+/// A kind that no event has is `BadTag` once its byte is there. An event whose fields are not those of its kind is not
+/// written: `BadSize`.
+impl Wire for Event {
+    ghost use Rattle.std.specs.Prelude.{List};
+
+    ghost Meaning = { List ScalarMeaning };
+
+    ghost meaning = { λ event. event };
+
+    ghost encodes = { λ w. EncodesEntry w Events };
+
+    ghost canonical = { entry_canonical };
+
+    ghost refusal = { λ w. entry_refusal w Events };
+
+    ghost faults = { λ w whole. EntryFault w whole Events };
+
+    ghost decoded = { λ w whole. entry_at w whole Events };
+
+    ghost takes_memory = { λ w. EntryIsKept w Events };
+
+    fn size(&self, sizes: &IdSizes) -> Option<usize> {
+        entry_size(&self.fields, sizes)
+    }
+
+    fn put(&self, sizes: &IdSizes, output: &mut Vec<u8>) -> Result<(), DataFault> {
+        write_entry(Entry::Event, &self.fields, sizes, output)
+    }
+
+    fn take_front<'a>(
+        alloc: Global,
+        rest: &'a [u8],
+        whole: usize,
+        sizes: &IdSizes,
+    ) -> Result<(Event, &'a [u8]), DataFault> {
+        let (fields, rest) = read_entry(alloc, Entry::Event, rest, whole, sizes)?;
+        Ok((Event { fields }, rest))
+    }
+
+    fn pass_front<'a>(
+        rest: &'a [u8],
+        whole: usize,
+        sizes: &IdSizes,
+    ) -> Result<&'a [u8], DataFault> {
+        pass_entry(Entry::Event, rest, whole, sizes)
+    }
+
+    ghost found = { λ w whole. (entry_codes w whole Events).found };
+
+    ghost again = { λ w whole. (entry_codes w whole Events).again };
+
+    ghost blamed = { λ w whole. (entry_codes w whole Events).blamed };
+
+    ghost judged = { λ w whole. (entry_codes w whole Events).judged };
+
+    ghost unrefused = { λ w. entry_unrefused w Events };
 }
 
 /// What is reported at once, and which threads that suspends.
@@ -127,6 +204,28 @@ impl Composite {
         Ok(Data::new(items))
     }
 
+    /// The composite of data in the layout of its row; None exactly where they are not a byte and a list.
+    ///
+    /// # Errors
+    /// `NoMemory` where an allocation was refused.
+    pub fn of_data(alloc: Global, carried: Data) -> Result<Option<Composite>, NoMemory>
+        ensures { IfOk result (λ found. found ≡ composite_of carried) }
+    {
+        let mut items = carried.into_items();
+        if items.len() != 2 {
+            return Ok(None);
+        }
+        let events = items.pop();
+        let policy = items.pop();
+        match (policy, events) {
+            (Some(Datum::One(Scalar::Byte(policy))), Some(Datum::Many(entries))) => {
+                let events = events_of(alloc, entries)?;
+                Ok(Some(Composite { policy, events }))
+            }
+            _ => Ok(None),
+        }
+    }
+
     /// The byte of the suspend policy.
     pub fn policy(&self) -> u8
         ensures { result ≡ self.now.policy }
@@ -140,6 +239,150 @@ impl Composite {
     {
         self.events.as_slice()
     }
+}
+
+/// The policy as a byte, an int count and so many events.
+///
+/// Events are read one by one, and nothing is reserved by the count.
+impl Wire for Composite {
+    ghost use Rattle.jdwp_event.specs.Composites.{CompositeMeaning};
+
+    ghost Meaning = { CompositeMeaning };
+
+    ghost meaning = { λ composite. composite };
+
+    ghost encodes = { EncodesComposite };
+
+    ghost canonical = { composite_canonical };
+
+    ghost refusal = { composite_refusal };
+
+    ghost faults = { CompositeFault };
+
+    ghost decoded = { composite_at };
+
+    ghost takes_memory = { CompositeIsKept };
+
+    fn size(&self, sizes: &IdSizes) -> Option<usize> {
+        let events = events_size(&self.events, sizes)?;
+        events.checked_add(5)
+    }
+
+    fn put(&self, sizes: &IdSizes, output: &mut Vec<u8>) -> Result<(), DataFault> {
+        let before = output.len();
+        let done = put_parts(self.policy, &self.events, sizes, output);
+        if done.is_err() {
+            output.truncate(before);
+        }
+        done
+    }
+
+    fn take_front<'a>(
+        alloc: Global,
+        rest: &'a [u8],
+        whole: usize,
+        sizes: &IdSizes,
+    ) -> Result<(Composite, &'a [u8]), DataFault> {
+        let (policy, rest) = take_byte(rest, whole)?;
+        let (count, rest) = take_count(rest, whole)?;
+        let (events, rest) = take_events(alloc, count, rest, whole, sizes)?;
+        Ok((Composite { policy, events }, rest))
+    }
+
+    fn pass_front<'a>(
+        rest: &'a [u8],
+        whole: usize,
+        sizes: &IdSizes,
+    ) -> Result<&'a [u8], DataFault> {
+        let (_policy, rest) = take_byte(rest, whole)?;
+        let (count, rest) = take_count(rest, whole)?;
+        pass_entries(count, Entry::Event, rest, whole, sizes)
+    }
+
+    ghost found = { λ w whole. (composite_codes w whole).found };
+
+    ghost again = { λ w whole. (composite_codes w whole).again };
+
+    ghost blamed = { λ w whole. (composite_codes w whole).blamed };
+
+    ghost judged = { λ w whole. (composite_codes w whole).judged };
+
+    ghost unrefused = { composite_unrefused };
+}
+
+/// The events of the entries of a composite's list.
+fn events_of(alloc: Global, entries: Vec<Vec<Scalar>>) -> Result<Vec<Event>, NoMemory>
+    ensures { IfOk result (λ events. events.items ≡ entry_meanings entries.items) }
+{
+    let mut events = Vec::with_capacity(alloc, entries.len())?;
+    for fields in entries {
+        events.push(Event { fields })?;
+    }
+    Ok(events)
+}
+
+/// How many bytes the events take; None past `usize`.
+fn events_size(events: &[Event], sizes: &IdSizes) -> Option<usize>
+    ensures { result ≡ in_usize (length (flat_map (entry_canonical sizes.now) events.now)) }
+{
+    let mut total: usize = 0;
+    for event in events {
+        let size = event.size(sizes)?;
+        total = total.checked_add(size)?;
+    }
+    Some(total)
+}
+
+/// `count` events, and what follows them.
+fn take_events<'a>(
+    alloc: Global,
+    count: usize,
+    bytes: &'a [u8],
+    whole: usize,
+    sizes: &IdSizes,
+) -> Result<(Vec<Event>, &'a [u8]), DataFault>
+    ensures value { Gives (λ x. (x.0.items, x.1.now)) result (times_at (entry_at sizes.now whole Events) count bytes.now) }
+    ensures shorter { IfOk result (λ x. length x.1.now ≤ length bytes.now) }
+    ensures memory { IsErrOf result WantOfMemory → EntriesAreKept sizes.now Events count bytes.now }
+{
+    let mut events = Vec::new(alloc);
+    let mut rest = bytes;
+    for _ in 0..count {
+        let (event, after) = Event::take_front(alloc, rest, whole, sizes)?;
+        events.push(event)?;
+        rest = after;
+    }
+    Ok((events, rest))
+}
+
+/// Appends the policy, the count and the events, and may stop on the way.
+fn put_parts(
+    policy: u8,
+    events: &[Event],
+    sizes: &IdSizes,
+    output: &mut Vec<u8>,
+) -> Result<(), DataFault>
+    ensures ok { OnOk result (Written (EncodesComposite sizes.now (with_policy policy events.now)) (composite_canonical sizes.now (with_policy policy events.now)) output.old.items output.new.items) }
+    ensures err { IfErr result (λ e. (take (length output.old.items) output.new.items ≡ output.old.items) × Refused e (composite_refusal sizes.now (with_policy policy events.now))) }
+    ensures room { vec_len output.old + length (composite_canonical sizes.now (with_policy policy events.now)) ≤ vec_capacity output.old → IsErrOf result WantOfMemory → ⊥ }
+    ensures capacity { vec_capacity output.old ≤ vec_capacity output.new }
+{
+    output.push(policy)?;
+    put_count(events.len(), output)?;
+    put_events(events, sizes, output)
+}
+
+/// Appends each event, and may stop on the way.
+fn put_events(events: &[Event], sizes: &IdSizes, output: &mut Vec<u8>) -> Result<(), DataFault>
+    ensures ok { OnOk result (Written (EncodesAll (EncodesEntry sizes.now Events) events.now) (flat_map (entry_canonical sizes.now) events.now) output.old.items output.new.items) }
+    ensures err { IfErr result (λ e. (take (length output.old.items) output.new.items ≡ output.old.items) × Refused e (first_refusal (entry_refusal sizes.now Events) events.now)) }
+    ensures room { vec_len output.old + length (flat_map (entry_canonical sizes.now) events.now) ≤ vec_capacity output.old → IsErrOf result WantOfMemory → ⊥ }
+    ensures capacity { vec_capacity output.old ≤ vec_capacity output.new }
+{
+    for event in events {
+        event.put(sizes, output)?;
+    }
+    Ok(())
 }
 
 /// The composite of all requests that report the happening, by rising id, with the most suspending of their policies; None exactly

@@ -5,6 +5,7 @@ mod event;
 mod filter;
 mod happening;
 mod kind;
+mod laws;
 mod modifier;
 mod pattern;
 mod policy;
@@ -14,6 +15,7 @@ mod requests;
 pub use event::{Composite, Event, gather};
 pub use happening::{ClassSeen, Happening, Occurrence, Place, PreparedClass, ThrownException};
 pub use kind::EventKind;
+pub use laws::composites_have_their_layout;
 pub use modifier::Modifier;
 pub use policy::{Policy, StepDepth, StepSize};
 pub use request::{Request, StepOrigin, matches};
@@ -23,3 +25,5 @@ pub use requests::{Requests, count_down};
 mod request_tests;
 #[cfg(test)]
 mod tests;
+#[cfg(test)]
+mod wire_tests;

@@ -1,11 +1,27 @@
 //! Modifiers of event requests (JDWP specification, "Protocol Details": the command Set of the set EventRequest).
-ghost use Rattle.std.specs.Prelude.{◌≡◌, ◌≢◌, ◌∷◌, [], length};
-ghost use Rattle.jdwp_layout.specs.Meanings.{scalar_meaning, scalar_meanings, entry_meaning};
-ghost use Rattle.jdwp_event.specs.Modifiers.{modifier_of, modifier_of_kind};
-ghost use Rattle.jdwp_event.specs.ModifierMeanings.{found_modifier};
+ghost use Rattle.std.specs.Prelude.{◌≡◌, ◌≢◌, ◌≤◌, ◌+◌, ◌∷◌, [], length, OnOk, IfOk, IfErr, Some, vec_len, vec_capacity};
+ghost use Rattle.std.specs.Result.{IsErrOf};
+ghost use Rattle.std.specs.String.{string_bytes};
+ghost use Rattle.jdwp_wire.specs.declared.data_fault.DataFault.TheVariants.{NoMemory as WantOfMemory};
+ghost use Rattle.jdwp_wire.specs.Reading.{in_usize, Written, Refused};
+ghost use Rattle.jdwp_layout.specs.declared.item.Field.TheVariants.{String as TextField};
+ghost use Rattle.jdwp_layout.specs.ModifiersAndEvents.{modifier_fields};
+ghost use Rattle.jdwp_layout.specs.Shapes.{Modifiers};
+ghost use Rattle.jdwp_layout.specs.Meanings.{Byte, Text};
+ghost use Rattle.jdwp_layout.specs.Grammar.{EncodesEntry};
+ghost use Rattle.jdwp_layout.specs.Writes.{entry_canonical, entry_refusal};
+ghost use Rattle.jdwp_layout.specs.Meanings.{scalar_meaning, scalar_meanings, entry_meaning, entry_meanings};
+ghost use Rattle.jdwp_event.specs.ModifierBytes.{modifier_entry, EncodesModifier, modifier_canonical, modifier_refusal, ModifierFault, modifier_at, ModifierIsKept};
+ghost use Rattle.jdwp_event.specs.ModifierParts.{parts_meaning, MayHavePattern};
+ghost use Rattle.jdwp_event.specs.ModifierLaws.{modifier_codes, modifier_unrefused};
+ghost use Rattle.jdwp_event.specs.Modifiers.{ModifierMeaning, modifier_of, modifier_of_kind, modifiers_of};
+ghost use Rattle.jdwp_event.specs.ModifierMeanings.{found_modifier, modifier_meaning};
+ghost use Rattle.jdwp_event.specs.RequestParts.{modifiers_meaning};
 
-use jdwp_layout::Scalar;
+use jdwp_layout::{Entry, Scalar, entry_size, pass_entry, read_entry, write_entry};
 use jdwp_value::{FieldId, Location, ObjectId, ReferenceTypeId};
+use jdwp_wire::{DataFault, IdSizes, NoMemory, Wire};
+use std::alloc::Global;
 
 /// What limits the events that a request reports. A request tries its modifiers in the order sent.
 #[derive(Debug, Drop)]
@@ -67,6 +83,183 @@ impl Modifier {
             _ => None,
         }
     }
+
+    /// The modifiers of the entries of a Set's list, in the order sent. An entry that is no modifier is left out.
+    ///
+    /// # Errors
+    /// `NoMemory` where an allocation was refused.
+    pub fn of_entries(alloc: Global, entries: Vec<Vec<Scalar>>) -> Result<Vec<Modifier>, NoMemory>
+        ensures { IfOk result (λ found. modifiers_meaning found ≡ modifiers_of (entry_meanings entries.items)) }
+    {
+        let mut modifiers = Vec::new(alloc);
+        for entry in entries {
+            if let Some(modifier) = Modifier::of_entry(entry) {
+                modifiers.push(modifier)?;
+            }
+        }
+        Ok(modifiers)
+    }
+}
+
+/// A kind byte and the fields of that kind.
+///
+/// A kind that no modifier has is `BadTag` once its byte is there.
+impl Wire for Modifier {
+    ghost Meaning = { ModifierMeaning };
+
+    ghost meaning = { modifier_meaning };
+
+    ghost encodes = { EncodesModifier };
+
+    ghost canonical = { modifier_canonical };
+
+    ghost refusal = { modifier_refusal };
+
+    ghost faults = { ModifierFault };
+
+    ghost decoded = { modifier_at };
+
+    ghost takes_memory = { ModifierIsKept };
+
+    fn size(&self, sizes: &IdSizes) -> Option<usize> {
+        match parts_of(self) {
+            Parts::Pattern(_, pattern) => pattern_size(pattern, sizes),
+            Parts::One(kind, field) => entry_size(&[Scalar::Byte(kind), field], sizes),
+            Parts::Two(kind, first, second) => {
+                entry_size(&[Scalar::Byte(kind), first, second], sizes)
+            }
+            Parts::Three(kind, first, second, third) => {
+                entry_size(&[Scalar::Byte(kind), first, second, third], sizes)
+            }
+        }
+    }
+
+    fn put(&self, sizes: &IdSizes, output: &mut Vec<u8>) -> Result<(), DataFault> {
+        match parts_of(self) {
+            Parts::Pattern(kind, pattern) => put_pattern(kind, pattern, sizes, output),
+            Parts::One(kind, field) => {
+                write_entry(Entry::Modifier, &[Scalar::Byte(kind), field], sizes, output)
+            }
+            Parts::Two(kind, first, second) => {
+                let entry = [Scalar::Byte(kind), first, second];
+                write_entry(Entry::Modifier, &entry, sizes, output)
+            }
+            Parts::Three(kind, first, second, third) => {
+                let entry = [Scalar::Byte(kind), first, second, third];
+                write_entry(Entry::Modifier, &entry, sizes, output)
+            }
+        }
+    }
+
+    fn take_front<'a>(
+        alloc: Global,
+        rest: &'a [u8],
+        whole: usize,
+        sizes: &IdSizes,
+    ) -> Result<(Modifier, &'a [u8]), DataFault> {
+        let (entry, rest) = read_entry(alloc, Entry::Modifier, rest, whole, sizes)?;
+        match Modifier::of_entry(entry) {
+            Some(modifier) => Ok((modifier, rest)),
+            None => Err(DataFault::BadTag),
+        }
+    }
+
+    fn pass_front<'a>(
+        rest: &'a [u8],
+        whole: usize,
+        sizes: &IdSizes,
+    ) -> Result<&'a [u8], DataFault> {
+        pass_entry(Entry::Modifier, rest, whole, sizes)
+    }
+
+    ghost found = { λ w whole. (modifier_codes w whole).found };
+
+    ghost again = { λ w whole. (modifier_codes w whole).again };
+
+    ghost blamed = { λ w whole. (modifier_codes w whole).blamed };
+
+    ghost judged = { λ w whole. (modifier_codes w whole).judged };
+
+    ghost unrefused = { modifier_unrefused };
+}
+
+/// The kind of a modifier, and what its fields hold: a pattern where it lies, or up to three scalars.
+#[derive(Drop)]
+enum Parts<'a> {
+    Pattern(u8, &'a String),
+    One(u8, Scalar),
+    Two(u8, Scalar, Scalar),
+    Three(u8, Scalar, Scalar, Scalar),
+}
+
+fn parts_of(modifier: &Modifier) -> Parts<'_>
+    ensures all { parts_meaning result ≡ modifier_entry (modifier_meaning modifier.now) }
+    ensures pattern { MayHavePattern result }
+{
+    match modifier {
+        Modifier::Count(n) => Parts::One(1, Scalar::Int(*n)),
+        Modifier::Conditional(n) => Parts::One(2, Scalar::Int(*n)),
+        Modifier::ThreadOnly(thread) => Parts::One(3, Scalar::ObjectId(*thread)),
+        Modifier::ClassOnly(class) => Parts::One(4, Scalar::ReferenceTypeId(*class)),
+        Modifier::ClassMatch(pattern) => Parts::Pattern(5, pattern),
+        Modifier::ClassExclude(pattern) => Parts::Pattern(6, pattern),
+        Modifier::LocationOnly(location) => Parts::One(7, Scalar::Location(*location)),
+        Modifier::ExceptionOnly {
+            class,
+            caught,
+            uncaught,
+        } => Parts::Three(
+            8,
+            Scalar::ReferenceTypeId(*class),
+            Scalar::Boolean(*caught),
+            Scalar::Boolean(*uncaught),
+        ),
+        Modifier::FieldOnly { class, field } => {
+            Parts::Two(9, Scalar::ReferenceTypeId(*class), Scalar::FieldId(*field))
+        }
+        Modifier::Step {
+            thread,
+            size,
+            depth,
+        } => Parts::Three(
+            10,
+            Scalar::ObjectId(*thread),
+            Scalar::Int(*size),
+            Scalar::Int(*depth),
+        ),
+        Modifier::InstanceOnly(object) => Parts::One(11, Scalar::ObjectId(*object)),
+        Modifier::SourceNameMatch(pattern) => Parts::Pattern(12, pattern),
+    }
+}
+
+/// How many bytes a modifier with a pattern takes; None past `usize`.
+fn pattern_size(pattern: &String, sizes: &IdSizes) -> Option<usize>
+    ensures { result ≡ in_usize (length (entry_canonical sizes.now (Byte 5 ∷ Text (string_bytes pattern.now) ∷ []))) }
+{
+    let text = pattern.size(sizes)?;
+    text.checked_add(1)
+}
+
+/// Appends a modifier of a kind that has a pattern.
+fn put_pattern(
+    kind: u8,
+    pattern: &String,
+    sizes: &IdSizes,
+    output: &mut Vec<u8>,
+) -> Result<(), DataFault>
+    requires { modifier_fields kind ≡ Some (TextField ∷ []) }
+    ensures ok { OnOk result (Written (EncodesEntry sizes.now Modifiers (Byte kind ∷ Text (string_bytes pattern.now) ∷ [])) (entry_canonical sizes.now (Byte kind ∷ Text (string_bytes pattern.now) ∷ [])) output.old.items output.new.items) }
+    ensures err { IfErr result (λ e. (output.new.items ≡ output.old.items) × Refused e (entry_refusal sizes.now Modifiers (Byte kind ∷ Text (string_bytes pattern.now) ∷ []))) }
+    ensures room { vec_len output.old + length (entry_canonical sizes.now (Byte kind ∷ Text (string_bytes pattern.now) ∷ [])) ≤ vec_capacity output.old → IsErrOf result WantOfMemory → ⊥ }
+    ensures capacity { vec_capacity output.old ≤ vec_capacity output.new }
+{
+    let before = output.len();
+    output.push(kind)?;
+    let done = pattern.put(sizes, output);
+    if done.is_err() {
+        output.truncate(before);
+    }
+    done
 }
 
 /// The modifier of a kind with one field.
