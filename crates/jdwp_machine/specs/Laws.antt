@@ -4,7 +4,7 @@ use Rattle.std.specs.List.{IsDistinct}
 use Rattle.jdwp_wire.specs.declared.error_code.ErrorCode.{ErrorCode}
 use Rattle.jdwp_wire.specs.ErrorCodes.{INVALID_CLASS, INVALID_METHODID, INVALID_LOCATION}
 use Rattle.jdwp_wire.specs.Numbers.{id_refusal}
-use Rattle.jdwp_wire.specs.Widths.{Widths}
+use Rattle.jdwp_wire.specs.Widths.{Widths, AreWidths}
 use Rattle.jdwp_value.specs.declared.location.Location.{Location}
 use Rattle.jdwp_value.specs.Locations.{location_refusal}
 use Rattle.jdwp_value.specs.Values.{value_refusal}
@@ -127,7 +127,8 @@ pub record IsLawful {S : Type 0} (m : Meaning S) : Type 0 where
   pub live_written : (s : S) (t f : ℕ) (values : List (ℤ × Value)) (u : ℕ) → m.is_state s → has (m.live (m.written s t f values)) u ≡ has (m.live s) u
   pub ever_written : (s : S) (t f : ℕ) (values : List (ℤ × Value)) (u : ℕ) → m.is_state s → m.ever (m.written s t f values) u ≡ m.ever s u
   pub refused_write : (s : S) (t f : ℕ) (values : List (ℤ × Value)) (e : ErrorCode) → m.is_state s → m.write_answer s t f values ≡ Error e → m.written s t f values ≡ s
-  -- The widths of ids never change.
+  -- The widths of ids are 1 to 8, and never change.
+  pub sizes_are_widths : (s : S) → m.is_state s → AreWidths (m.sizes s).field (m.sizes s).method (m.sizes s).object (m.sizes s).reference (m.sizes s).frame
   pub sizes_stepped : (s : S) (t : ℕ) → MaySteps m s t → m.sizes (m.stepped s t) ≡ m.sizes s
   pub sizes_ended : (s : S) (t : ℕ) → MayEnds m s t → m.sizes (m.ended s t) ≡ m.sizes s
   pub sizes_written : (s : S) (t f : ℕ) (values : List (ℤ × Value)) → m.is_state s → m.sizes (m.written s t f values) ≡ m.sizes s
