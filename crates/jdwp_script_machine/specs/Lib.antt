@@ -1,12 +1,21 @@
 pub mod LookUps
 pub mod States
+pub mod StateMeanings
 pub mod Sites
+pub mod Found
+pub mod Sought
 pub mod Steps
 pub mod SlotWrites
+pub mod Changes
 pub mod Requests
+pub mod Parts
+pub mod PartLaws
 pub mod ClassAnswers
+pub mod ClassQuestions
 pub mod ObjectAnswers
+pub mod Lives
 pub mod ThreadAnswers
+pub mod SlotQuestions
 pub mod Answers
 pub mod Sound
 pub mod StateLaws
@@ -22,4 +31,5 @@ pub mod FrameLaws
 pub mod HappeningLaws
 pub mod ScriptLaws
 pub mod OpeningLaws
+pub mod Machines
 pub mod Worked

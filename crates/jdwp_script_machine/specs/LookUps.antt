@@ -1,5 +1,5 @@
 -- Look-ups in lists of things that have ids.
-use Rattle.std.specs.Prelude.{ℕ, ◌==◌, Bool, true, false, List, [], ◌∷◌, map, nat_le, if◌then◌else◌, Option, Some, None}
+use Rattle.std.specs.Prelude.{ℕ, suc, ◌==◌, Bool, true, false, List, [], ◌∷◌, map, nat_le, if◌then◌else◌, Option, Some, None}
 
 -- the first one with this id
 abbrev pub with_id : {A : Type 0} → (A → ℕ) → ℕ → List A → Option A
@@ -10,10 +10,20 @@ with_id key id (x ∷ xs) = if key x == id then Some x else with_id key id xs
 abbrev pub changed : {A : Type 0} → (A → ℕ) → ℕ → (A → A) → List A → List A
 changed key id change xs = map (λ x. if key x == id then change x else x) xs
 
+-- the list where the first that has this id was changed
+abbrev pub first_changed : {A : Type 0} → (A → ℕ) → ℕ → (A → A) → List A → List A
+first_changed key id change [] = []
+first_changed key id change (x ∷ xs) = if key x == id then change x ∷ xs else x ∷ first_changed key id change xs
+
 -- one more, before the first whose id is not less
 abbrev pub put_in : {A : Type 0} → (A → ℕ) → A → List A → List A
 put_in key x [] = x ∷ []
 put_in key x (y ∷ ys) = if nat_le (key x) (key y) then x ∷ y ∷ ys else y ∷ put_in key x ys
+
+-- how many stand before the first whose id is not less
+abbrev pub place_for : {A : Type 0} → (A → ℕ) → ℕ → List A → ℕ
+place_for key id [] = 0
+place_for key id (y ∷ ys) = if nat_le id (key y) then 0 else suc (place_for key id ys)
 
 -- the same ones by rising id
 abbrev pub rising : {A : Type 0} → (A → ℕ) → List A → List A

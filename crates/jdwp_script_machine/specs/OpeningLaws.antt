@@ -4,7 +4,7 @@ use Rattle.std.proofs.Common.{◌≡◌, ℕ, suc, ◌+◌, ◌^◌, ◌<◌, �
 use Rattle.std.proofs.lemmas.Bool.{ltb-false, false≢true}
 use Rattle.std.proofs.lemmas.List.{length-map}
 use Rattle.std.specs.List.{list_any, AllByRecursion, IsDistinct}
-use Rattle.jdwp_wire.specs.Widths.{Widths}
+use Rattle.jdwp_wire.specs.Widths.{Widths, IsWidth}
 use Rattle.jdwp_value.specs.declared.tag.Tag.{Tag}
 use Rattle.jdwp_value.specs.declared.tag.Tag.TheVariants as tag
 use Rattle.jdwp_value.specs.Values.{value_refusal, is_object}
@@ -24,7 +24,7 @@ use Rattle.jdwp_script_machine.specs.StateLaws.{eqb_swap}
 
 -- ---- words
 
-neither : (a b : Bool) → (a || b) ≡ false → (a ≡ false) × (b ≡ false)
+pub neither : (a b : Bool) → (a || b) ≡ false → (a ≡ false) × (b ≡ false)
 neither true b h = absurd (false≢true (sym h))
 neither false b h = (refl, h)
 
@@ -272,6 +272,11 @@ each_mapped : {A B : Type 0} (P : A → Type 0) (Q : B → Type 0) (f : A → B)
 each_mapped P Q f step [] all = tt
 each_mapped P Q f step (x ∷ xs) all = (step x all.0, each_mapped P Q f step xs all.1)
 
+is_width : (n : ℕ) → is_no_width n ≡ false → IsWidth n
+is_width n h =
+    let both = neither (nat_lt n 1) (nat_lt 8 n) h in
+    (ltb-false n 1 both.0, ltb-false 8 n both.1)
+
 -- what holds of a script that was not refused for a limit or an id that is too wide
 arranged_sound : (live : ℕ) (s : ScriptPart) → passes_limit live s ≡ false → has_wide_id s ≡ false → ScriptIsSound (arranged s)
 arranged_sound live s limits wide =
@@ -289,6 +294,7 @@ arranged_sound live s limits wide =
     let objects = with_both (λ (o : ObjectPart). object_passes o ≡ false) (λ (o : ObjectPart). object_wide w o ≡ false) (ObjectIsSound w) (object_sound w) s.objects (none_passes object_passes s.objects each.1.1.0) (none_passes (object_wide w) s.objects kinds.1.1.0) in
     let threads = with_both (λ (t : ThreadPart). thread_passes t ≡ false) (λ (t : ThreadPart). thread_wide w t ≡ false) (ThreadIsSound w) (thread_sound w) s.threads (none_passes thread_passes s.threads each.1.1.1.0) (none_passes (thread_wide w) s.threads kinds.1.1.1.0) in
     record {
+      widths = record { field_is = is_width w.field i.0; method_is = is_width w.method i.1.0; object_is = is_width w.object i.1.1.0; reference_is = is_width w.reference i.1.1.1.0; frame_is = is_width w.frame i.1.1.1.1.0 };
       name = short 512 s.name (omega arith) l.0;
       groups = short_rising (λ (g : GroupPart). g.id) s.groups (short 1_024 s.groups (omega arith) l.1.0);
       each_group = all_rising (λ (g : GroupPart). g.id) (GroupIsSound w) s.groups groups;

@@ -145,6 +145,7 @@ script_lawful =
       live_written = λ s t f values u sound. live_written s t f values u;
       ever_written = λ s t f values u sound. written_life has_begun s t f values u (write_refusal s t f values);
       refused_write = λ s t f values e sound h. refused_by s t f values e (write_refusal s t f values) h;
+      sizes_are_widths = λ s sound. sound.script.widths;
       sizes_stepped = λ s t may. ap (λ (x : ScriptPart). x.sizes) (stepped_script s t);
       sizes_ended = λ s t may. refl;
       sizes_written = λ s t f values sound. ap (λ (x : ScriptPart). x.sizes) (written_script s t f values);

@@ -1,8 +1,8 @@
--- What holds of every state of a script machine: its ids fit their widths, its texts and lists are not too long for a
+-- What holds of every state of a script machine: its widths are 1 to 8, its ids fit them, its texts and lists are not too long for a
 -- packet's counts, and no two threads have one id.
 use Rattle.std.specs.Prelude.{◌≡◌, ℕ, ◌≤◌, ◌==◌, List, map, length, Option, Some, None}
 use Rattle.std.specs.List.{AllByRecursion, IsDistinct}
-use Rattle.jdwp_wire.specs.Widths.{Widths}
+use Rattle.jdwp_wire.specs.Widths.{Widths, AreWidths}
 use Rattle.jdwp_wire.specs.Numbers.{id_refusal}
 use Rattle.jdwp_value.specs.Values.{value_refusal}
 use Rattle.jdwp_script.specs.declared.script.FieldValue.{FieldValue}
@@ -96,6 +96,7 @@ pub record ThreadIsSound (w : Widths) (t : ThreadPart) : Type 0 where
   pub steps : AllByRecursion (StepIsSound w) t.steps
 
 pub record ScriptIsSound (s : ScriptPart) : Type 0 where
+  pub widths : AreWidths s.sizes.field s.sizes.method s.sizes.object s.sizes.reference s.sizes.frame
   pub name : IsShort s.name
   pub groups : IsShort s.groups
   pub each_group : AllByRecursion (GroupIsSound s.sizes) s.groups

@@ -52,7 +52,7 @@ all_changed key P change step [] n all = tt
 all_changed key P change step (x ∷ xs) n all = (elim (key x == n) as (λ (b : Bool). P (if b then change x else x)) [ true ↦ step x all.0 | false ↦ all.0 ], all_changed key P change step xs n all.1)
 
 -- where nothing has the id, nothing changes
-unchanged : {A : Type 0} (key : A → ℕ) (change : A → A) (x n : ℕ) → (x == n) ≡ true → (xs : List A) → AllByRecursion (λ (y : ℕ). (x == y) ≡ false) (map key xs) → changed key n change xs ≡ xs
+pub unchanged : {A : Type 0} (key : A → ℕ) (change : A → A) (x n : ℕ) → (x == n) ≡ true → (xs : List A) → AllByRecursion (λ (y : ℕ). (x == y) ≡ false) (map key xs) → changed key n change xs ≡ xs
 unchanged key change x n h [] apart = refl
 unchanged key change x n h (y ∷ ys) apart =
     let same : x ≡ n = eqb-true x n h in
@@ -86,7 +86,7 @@ called_sound : (w : Widths) (c : CallPart) → CallIsSound w c → FrameIsSound 
 called_sound w c h =
     record { id = h.frame; this = h.this; slots = all_map (λ (x : SlotValue). ValueFits w x.value) (SlotNowIsSound w) slot_now (λ x fits. fits) c.slots h.slots }
 
-moved_length : (n : ℕ) (fs : List FrameNow) → length (moved n fs) ≡ length fs
+pub moved_length : (n : ℕ) (fs : List FrameNow) → length (moved n fs) ≡ length fs
 moved_length n [] = refl
 moved_length n (f ∷ fs) = refl
 
@@ -98,7 +98,7 @@ dropped_sound : (w : Widths) (fs : List FrameNow) → AllByRecursion (FrameIsSou
 dropped_sound w [] all = tt
 dropped_sound w (f ∷ fs) all = all.1
 
-dropped_length : (fs : List FrameNow) (n : ℕ) → length fs ≤ n → length (drop 1 fs) ≤ n
+pub dropped_length : (fs : List FrameNow) (n : ℕ) → length fs ≤ n → length (drop 1 fs) ≤ n
 dropped_length [] n h = h
 dropped_length (f ∷ fs) n h = omega arith
 
@@ -116,14 +116,22 @@ call_room s t fs c h = elim (either (nat_lt (length fs) FRAME_LIMIT)) [
   | inr k ↦ absurd (let e = rw k at h in cc)
 ]
 
-threads_sound : (s : State) (t : ℕ) (e : ThreadNow) (step : StepPart) → IsSound s → thread_at s t ≡ Some e → StepIsSound s.script.sizes step → runs_out (happening_by t step (occurrence s e.frames step)) ≡ false
+-- a step that can be made leaves no more frames than may be
+made_room : (s : State) (t : ℕ) (fs : List FrameNow) (step : StepPart) → length fs ≤ FRAME_LIMIT → runs_out (happening_by t step (occurrence s fs step)) ≡ false → length (frames_after step fs) ≤ FRAME_LIMIT
+made_room s t fs (Call c) few h = let room = call_room s t fs c h in omega arith
+made_room s t fs (Go n) few h = rw (moved_length n fs) few
+made_room s t fs (Return v) few h = dropped_length fs FRAME_LIMIT few
+made_room s t fs (Throwing x) few h = few
+made_room s t fs (Prepare n) few h = few
+made_room s t fs (Start n) few h = few
+
+threads_sound : (s : State) (t : ℕ) (e : ThreadNow) (step : StepPart) → IsSound s → thread_at s t ≡ Some e → StepIsSound s.script.sizes step → length (frames_after step e.frames) ≤ FRAME_LIMIT
     → AllByRecursion (ThreadNowIsSound s.script.sizes) (with_change t (after_step step) (with_started step s.threads))
 threads_sound s t e (Call c) sound found good h =
     let w = s.script.sizes in
-    let room = call_room s t e.frames c h in
     let own : ThreadNowIsSound w e = all_found (λ (e : ThreadNow). e.id) (ThreadNowIsSound w) s.threads t e sound.each_thread found in
     all_changed_found (λ (e : ThreadNow). e.id) (ThreadNowIsSound w) (after_step (Call c)) s.threads t e sound.distinct found
-    (after_sound w (Call c) e (omega arith) (called_sound w c good, own.each_frame) own) sound.each_thread
+    (after_sound w (Call c) e h (called_sound w c good, own.each_frame) own) sound.each_thread
 threads_sound s t e (Go n) sound found good h =
     let w = s.script.sizes in
     all_changed (λ (e : ThreadNow). e.id) (ThreadNowIsSound w) (after_step (Go n)) (λ x p. after_sound w (Go n) x (rw (moved_length n x.frames) p.frames) (moved_sound w n x.frames p.each_frame) p) s.threads t sound.each_thread
@@ -149,7 +157,7 @@ started_ids (Return v) es = refl
 started_ids (Throwing x) es = refl
 started_ids (Prepare n) es = refl
 
-started_length : (step : StepPart) (es : List ThreadNow) → length (with_started step es) ≡ length es
+pub started_length : (step : StepPart) (es : List ThreadNow) → length (with_started step es) ≡ length es
 started_length (Start n) es = length-map es _
 started_length (Call c) es = refl
 started_length (Go n) es = refl
@@ -157,15 +165,20 @@ started_length (Return v) es = refl
 started_length (Throwing x) es = refl
 started_length (Prepare n) es = refl
 
-stepped_by_sound : (s : State) (t : ℕ) (e : ThreadNow) (p : Option StepPart) → IsSound s → thread_at s t ≡ Some e → next_step s.script e ≡ p → runs_out (happening_at s t e.frames p) ≡ false → IsSound (stepped_by s t p)
-stepped_by_sound s t e None sound found step h = sound
-stepped_by_sound s t e (Some step) sound found is h =
+pub stepped_step_sound : (s : State) (t : ℕ) (e : ThreadNow) (step : StepPart) → IsSound s → thread_at s t ≡ Some e → next_step s.script e ≡ Some step → length (frames_after step e.frames) ≤ FRAME_LIMIT → IsSound (stepped_by s t (Some step))
+stepped_step_sound s t e step sound found is room =
     record {
       script = sound.script;
       threads = rw (length-map (with_started step s.threads) _, started_length step s.threads) sound.threads;
-      each_thread = threads_sound s t e step sound found (sound_step s.script e step sound.script is) h;
+      each_thread = threads_sound s t e step sound found (sound_step s.script e step sound.script is) room;
       distinct = rw (ids_kept (after_step step) (λ e. refl) (with_started step s.threads) t, started_ids step s.threads) sound.distinct;
     }
+
+stepped_by_sound : (s : State) (t : ℕ) (e : ThreadNow) (p : Option StepPart) → IsSound s → thread_at s t ≡ Some e → next_step s.script e ≡ p → runs_out (happening_at s t e.frames p) ≡ false → IsSound (stepped_by s t p)
+stepped_by_sound s t e None sound found step h = sound
+stepped_by_sound s t e (Some step) sound found is h =
+    let own : ThreadNowIsSound s.script.sizes e = all_found (λ (e : ThreadNow). e.id) (ThreadNowIsSound s.script.sizes) s.threads t e sound.each_thread found in
+    stepped_step_sound s t e step sound found is (made_room s t e.frames step own.frames h)
 
 stepped_of_sound : (s : State) (t : ℕ) (o : Option ThreadNow) → IsSound s → thread_at s t ≡ o → runs_out (happening_of s t o) ≡ false → IsSound (stepped_of s t o)
 stepped_of_sound s t None sound found h = sound

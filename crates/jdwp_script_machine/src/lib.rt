@@ -1,8 +1,43 @@
 //! Machines that run a script: what a script means as a machine, and that it is lawful.
 #![tactic(auto)]
 
+mod answers;
+mod arranging;
+mod array_answers;
+mod class_answers;
+mod class_entries;
+mod class_look_ups;
+mod entries;
+mod frame_answers;
+mod group_answers;
+mod happening;
 mod laws;
+mod location_answers;
+mod look_ups;
+mod machine;
+mod machine_answers;
+mod method_answers;
+mod numbers;
+mod object_answers;
+mod opening;
+mod places;
+mod replies;
+mod requests;
+mod sites;
+mod slots;
+mod state;
+mod static_values;
+mod steps;
+mod thread_answers;
 mod worked;
 
 pub use laws::{scripts_are_lawful, scripts_begin_soundly};
+pub use machine::ScriptMachine;
 pub use worked::definitions_give_worked_machine;
+
+#[cfg(test)]
+mod answer_tests;
+#[cfg(test)]
+mod class_tests;
+#[cfg(test)]
+mod machine_tests;

@@ -1,0 +1,64 @@
+//! What commands are answered.
+ghost use Rattle.std.specs.Prelude.{◌≡◌, IfOk};
+ghost use Rattle.jdwp_layout.specs.Meanings.{meanings};
+ghost use Rattle.jdwp_script_machine.specs.StateMeanings.{state_now};
+ghost use Rattle.jdwp_script_machine.specs.Answers.{answer_at};
+
+use crate::array_answers::array_answer;
+use crate::class_answers::{class_type_answer, reference_type_answer};
+use crate::frame_answers::stack_frame_answer;
+use crate::group_answers::group_answer;
+use crate::location_answers::set_answer;
+use crate::machine_answers::virtual_machine_answer;
+use crate::method_answers::method_answer;
+use crate::object_answers::{object_answer, string_answer};
+use crate::state::MachineState;
+use crate::thread_answers::thread_answer;
+use jdwp_layout::{Answer, Datum};
+use jdwp_wire::{ErrorCode, NoMemory};
+use std::alloc::Global;
+
+/// What a command of this set and number with these data is answered.
+///
+/// # Errors
+/// `NoMemory` where an allocation was refused.
+pub(crate) fn answer_at(
+    alloc: Global,
+    state: &MachineState,
+    set: u8,
+    number: u8,
+    content: &[Datum],
+) -> Result<Answer, NoMemory>
+    ensures { IfOk result (λ a. a ≡ answer_at (state_now state.now) set number (meanings content.now)) }
+{
+    match set {
+        1 => virtual_machine_answer(alloc, state, number, content),
+        2 => reference_type_answer(alloc, state, number, content),
+        3 => class_type_answer(alloc, state, number, content),
+        6 => method_answer(alloc, state, number, content),
+        9 => object_answer(alloc, state, number, content),
+        10 => string_answer(alloc, state, number, content),
+        11 => thread_answer(alloc, state, number, content),
+        12 => group_answer(alloc, state, number, content),
+        13 => array_answer(alloc, state, number, content),
+        15 => event_request_answer(alloc, state, number, content),
+        16 => stack_frame_answer(alloc, state, number, content),
+        _ => Ok(Answer::Error(ErrorCode::NOT_IMPLEMENTED)),
+    }
+}
+
+/// The answer of the set EventRequest: the test of a location.
+fn event_request_answer(
+    alloc: Global,
+    state: &MachineState,
+    number: u8,
+    content: &[Datum],
+) -> Result<Answer, NoMemory>
+    ensures { IfOk result (λ a. a ≡ answer_at (state_now state.now) 15 number (meanings content.now)) }
+{
+    if number == 1 {
+        set_answer(alloc, &state.script, content)
+    } else {
+        Ok(Answer::Error(ErrorCode::NOT_IMPLEMENTED))
+    }
+}

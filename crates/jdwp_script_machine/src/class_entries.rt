@@ -1,0 +1,236 @@
+//! The entries of lists of classes, fields, methods, interfaces, lines and variables.
+ghost use Rattle.std.specs.Prelude.{◌≡◌, ℕ};
+ghost use Rattle.jdwp_script.specs.Parts.{ClassPart, FieldPart, MethodPart, SlotPart};
+ghost use Rattle.jdwp_script.specs.Meanings.{class_part, field_part, method_part, slot_part};
+ghost use Rattle.jdwp_script.specs.declared.script.Line as declared;
+ghost use Rattle.jdwp_layout.specs.Meanings.{scalar_meaning};
+ghost use Rattle.jdwp_script_machine.specs.StateMeanings.{state_now};
+ghost use Rattle.jdwp_script_machine.specs.ClassAnswers.{type_byte, class_entry_signed, class_entry_generic, field_entry, field_entry_generic, method_entry, method_entry_generic, interface_entry, index_long, line_entry, variable_entry, variable_entry_generic};
+
+use crate::class_look_ups::status;
+use crate::entries::{Tell, empty_text, text};
+use crate::state::MachineState;
+use jdwp_layout::Scalar;
+use jdwp_script::{Class, Field, Line, Method, Slot};
+use jdwp_value::{ReferenceTypeId, TypeTag};
+use jdwp_wire::NoMemory;
+use std::alloc::Global;
+
+/// The byte of a type tag (JDWP specification, "TypeTag Constants").
+pub(crate) fn byte_of_tag(tag: TypeTag) -> u8
+    ensures { result ≡ type_byte tag }
+{
+    match tag {
+        TypeTag::Class => 1,
+        TypeTag::Interface => 2,
+        TypeTag::Array => 3,
+    }
+}
+
+/// A class in AllClasses.
+#[derive(Clone, Copy)]
+pub(crate) struct ClassEntry<'a> {
+    pub(crate) state: &'a MachineState,
+}
+
+impl<'a> Tell<Class> for ClassEntry<'a> {
+    ghost Meaning = { ClassPart };
+
+    ghost meaning = { class_part };
+
+    ghost tells = { λ self c. class_entry_signed (state_now self.state.now) c };
+
+    fn tell(&self, alloc: Global, class: &Class) -> Result<Vec<Scalar>, NoMemory> {
+        let mut entry = Vec::with_capacity(alloc, 4)?;
+        entry.push(Scalar::Byte(byte_of_tag(class.tag)))?;
+        entry.push(Scalar::ReferenceTypeId(class.id))?;
+        entry.push(text(alloc, &class.signature)?)?;
+        entry.push(Scalar::Int(status(self.state, class.id)))?;
+        Ok(entry)
+    }
+}
+
+/// A class in AllClassesWithGeneric: its generic signature is empty.
+#[derive(Clone, Copy)]
+pub(crate) struct GenericClassEntry<'a> {
+    pub(crate) state: &'a MachineState,
+}
+
+impl<'a> Tell<Class> for GenericClassEntry<'a> {
+    ghost Meaning = { ClassPart };
+
+    ghost meaning = { class_part };
+
+    ghost tells = { λ self c. class_entry_generic (state_now self.state.now) c };
+
+    fn tell(&self, alloc: Global, class: &Class) -> Result<Vec<Scalar>, NoMemory> {
+        let mut entry = Vec::with_capacity(alloc, 5)?;
+        entry.push(Scalar::Byte(byte_of_tag(class.tag)))?;
+        entry.push(Scalar::ReferenceTypeId(class.id))?;
+        entry.push(text(alloc, &class.signature)?)?;
+        entry.push(empty_text(alloc))?;
+        entry.push(Scalar::Int(status(self.state, class.id)))?;
+        Ok(entry)
+    }
+}
+
+/// A field or a method in Fields and Methods.
+pub(crate) struct MemberEntry;
+
+impl Tell<Field> for MemberEntry {
+    ghost Meaning = { FieldPart };
+
+    ghost meaning = { field_part };
+
+    ghost tells = { λ _ f. field_entry f };
+
+    fn tell(&self, alloc: Global, field: &Field) -> Result<Vec<Scalar>, NoMemory> {
+        let mut entry = Vec::with_capacity(alloc, 4)?;
+        entry.push(Scalar::FieldId(field.id))?;
+        entry.push(text(alloc, &field.name)?)?;
+        entry.push(text(alloc, &field.signature)?)?;
+        entry.push(Scalar::Int(field.modifiers))?;
+        Ok(entry)
+    }
+}
+
+impl Tell<Method> for MemberEntry {
+    ghost Meaning = { MethodPart };
+
+    ghost meaning = { method_part };
+
+    ghost tells = { λ _ m. method_entry m };
+
+    fn tell(&self, alloc: Global, method: &Method) -> Result<Vec<Scalar>, NoMemory> {
+        let mut entry = Vec::with_capacity(alloc, 4)?;
+        entry.push(Scalar::MethodId(method.id))?;
+        entry.push(text(alloc, &method.name)?)?;
+        entry.push(text(alloc, &method.signature)?)?;
+        entry.push(Scalar::Int(method.modifiers))?;
+        Ok(entry)
+    }
+}
+
+/// A field or a method in FieldsWithGeneric and MethodsWithGeneric: its generic signature is empty.
+pub(crate) struct GenericMemberEntry;
+
+impl Tell<Field> for GenericMemberEntry {
+    ghost Meaning = { FieldPart };
+
+    ghost meaning = { field_part };
+
+    ghost tells = { λ _ f. field_entry_generic f };
+
+    fn tell(&self, alloc: Global, field: &Field) -> Result<Vec<Scalar>, NoMemory> {
+        let mut entry = Vec::with_capacity(alloc, 5)?;
+        entry.push(Scalar::FieldId(field.id))?;
+        entry.push(text(alloc, &field.name)?)?;
+        entry.push(text(alloc, &field.signature)?)?;
+        entry.push(empty_text(alloc))?;
+        entry.push(Scalar::Int(field.modifiers))?;
+        Ok(entry)
+    }
+}
+
+impl Tell<Method> for GenericMemberEntry {
+    ghost Meaning = { MethodPart };
+
+    ghost meaning = { method_part };
+
+    ghost tells = { λ _ m. method_entry_generic m };
+
+    fn tell(&self, alloc: Global, method: &Method) -> Result<Vec<Scalar>, NoMemory> {
+        let mut entry = Vec::with_capacity(alloc, 5)?;
+        entry.push(Scalar::MethodId(method.id))?;
+        entry.push(text(alloc, &method.name)?)?;
+        entry.push(text(alloc, &method.signature)?)?;
+        entry.push(empty_text(alloc))?;
+        entry.push(Scalar::Int(method.modifiers))?;
+        Ok(entry)
+    }
+}
+
+/// An interface in Interfaces.
+pub(crate) struct InterfaceEntry;
+
+impl Tell<ReferenceTypeId> for InterfaceEntry {
+    ghost Meaning = { ℕ };
+
+    ghost meaning = { λ id. id.0 };
+
+    ghost tells = { λ _ i. interface_entry i };
+
+    fn tell(&self, alloc: Global, id: &ReferenceTypeId) -> Result<Vec<Scalar>, NoMemory> {
+        let mut entry = Vec::with_capacity(alloc, 1)?;
+        entry.push(Scalar::ReferenceTypeId(*id))?;
+        Ok(entry)
+    }
+}
+
+/// The code index as a long, of the same 8 bytes.
+pub(crate) fn long_of_index(index: u64) -> Scalar
+    ensures { scalar_meaning result ≡ index_long index }
+{
+    Scalar::Long(index.cast_signed())
+}
+
+/// A line in LineTable.
+pub(crate) struct LineEntry;
+
+impl Tell<Line> for LineEntry {
+    ghost Meaning = { declared.Line };
+
+    ghost meaning = { λ l. l };
+
+    ghost tells = { λ _ l. line_entry l };
+
+    fn tell(&self, alloc: Global, line: &Line) -> Result<Vec<Scalar>, NoMemory> {
+        let mut entry = Vec::with_capacity(alloc, 2)?;
+        entry.push(long_of_index(line.index))?;
+        entry.push(Scalar::Int(line.line))?;
+        Ok(entry)
+    }
+}
+
+/// A variable in VariableTable.
+pub(crate) struct VariableEntry;
+
+impl Tell<Slot> for VariableEntry {
+    ghost Meaning = { SlotPart };
+
+    ghost meaning = { slot_part };
+
+    ghost tells = { λ _ x. variable_entry x };
+
+    fn tell(&self, alloc: Global, slot: &Slot) -> Result<Vec<Scalar>, NoMemory> {
+        let mut entry = Vec::with_capacity(alloc, 5)?;
+        entry.push(long_of_index(slot.from))?;
+        entry.push(text(alloc, &slot.name)?)?;
+        entry.push(text(alloc, &slot.signature)?)?;
+        entry.push(Scalar::Int(slot.length))?;
+        entry.push(Scalar::Int(slot.slot))?;
+        Ok(entry)
+    }
+}
+
+/// A variable in VariableTableWithGeneric: its generic signature is empty.
+pub(crate) struct GenericVariableEntry;
+
+impl Tell<Slot> for GenericVariableEntry {
+    ghost Meaning = { SlotPart };
+
+    ghost meaning = { slot_part };
+
+    ghost tells = { λ _ x. variable_entry_generic x };
+
+    fn tell(&self, alloc: Global, slot: &Slot) -> Result<Vec<Scalar>, NoMemory> {
+        let mut entry = Vec::with_capacity(alloc, 6)?;
+        entry.push(long_of_index(slot.from))?;
+        entry.push(text(alloc, &slot.name)?)?;
+        entry.push(text(alloc, &slot.signature)?)?;
+        entry.push(empty_text(alloc))?;
+        entry.push(Scalar::Int(slot.length))?;
+        entry.push(Scalar::Int(slot.slot))?;
+        Ok(entry)
+    }
+}

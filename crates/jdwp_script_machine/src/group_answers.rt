@@ -1,0 +1,179 @@
+//! What is answered of thread groups (JDWP specification, "ThreadGroupReference").
+ghost use Rattle.std.specs.Prelude.{◌≡◌, map, IfOk};
+ghost use Rattle.jdwp_layout.specs.Meanings.{meanings, entry_meanings};
+ghost use Rattle.jdwp_script.specs.Meanings.{group_part, script_part};
+ghost use Rattle.jdwp_script_machine.specs.States.{is_living};
+ghost use Rattle.jdwp_script_machine.specs.StateMeanings.{life_now, thread_now, state_now};
+ghost use Rattle.jdwp_script_machine.specs.Requests.{of_group};
+ghost use Rattle.jdwp_script_machine.specs.ClassAnswers.{group_entry, groups_below};
+ghost use Rattle.jdwp_script_machine.specs.ObjectAnswers.{group_name_answer, parent_answer, is_in_group, thread_entry, threads_below, children_answer, group_answer};
+ghost use Rattle.jdwp_script_machine.specs.Lives.{lives_in};
+
+use crate::places::{group_of, thread_of};
+use crate::replies::{object_entry, of_pair, of_scalar};
+use crate::state::{Life, MachineState, ThreadState};
+use jdwp_layout::{Answer, Datum, Scalar};
+use jdwp_script::{Group, Script};
+use jdwp_value::ObjectId;
+use jdwp_wire::{ErrorCode, NoMemory};
+use std::alloc::Global;
+
+/// What is answered of a thread group to the command of this number: its name, its parent (0 where it has none), or the
+/// threads that live in it and the groups right below it, each by rising id.
+///
+/// # Errors
+/// `NoMemory` where an allocation was refused.
+pub(crate) fn group_answer(
+    alloc: Global,
+    state: &MachineState,
+    number: u8,
+    content: &[Datum],
+) -> Result<Answer, NoMemory>
+    ensures { IfOk result (λ a. a ≡ group_answer (state_now state.now) number (meanings content.now)) }
+{
+    match number {
+        1 => name(alloc, &state.script, content),
+        2 => parent(alloc, &state.script, content),
+        3 => children(alloc, state, content),
+        _ => Ok(Answer::Error(ErrorCode::NOT_IMPLEMENTED)),
+    }
+}
+
+/// The name of a group.
+fn name(alloc: Global, script: &Script, content: &[Datum]) -> Result<Answer, NoMemory>
+    ensures { IfOk result (λ a. a ≡ of_group (script_part script.now) group_name_answer (meanings content.now)) }
+{
+    match content {
+        [Datum::One(Scalar::ObjectId(id)), rest @ ..] => match group_of(script, *id) {
+            Some(group) => name_of(alloc, group, rest),
+            None => Ok(Answer::Error(ErrorCode::INVALID_THREAD_GROUP)),
+        },
+        _ => Ok(Answer::Error(ErrorCode::ILLEGAL_ARGUMENT)),
+    }
+}
+
+/// The name of this group, where nothing more is asked.
+fn name_of(alloc: Global, group: &Group, rest: &[Datum]) -> Result<Answer, NoMemory>
+    ensures { IfOk result (λ a. a ≡ group_name_answer (group_part group.now) (meanings rest.now)) }
+{
+    if !rest.is_empty() {
+        return Ok(Answer::Error(ErrorCode::ILLEGAL_ARGUMENT));
+    }
+    let name = String::from_str(alloc, &group.name)?;
+    of_scalar(alloc, Scalar::String(name))
+}
+
+/// The parent of a group.
+fn parent(alloc: Global, script: &Script, content: &[Datum]) -> Result<Answer, NoMemory>
+    ensures { IfOk result (λ a. a ≡ of_group (script_part script.now) parent_answer (meanings content.now)) }
+{
+    match content {
+        [Datum::One(Scalar::ObjectId(id)), rest @ ..] => match group_of(script, *id) {
+            Some(group) => parent_of(alloc, group, rest),
+            None => Ok(Answer::Error(ErrorCode::INVALID_THREAD_GROUP)),
+        },
+        _ => Ok(Answer::Error(ErrorCode::ILLEGAL_ARGUMENT)),
+    }
+}
+
+/// The parent of this group, where nothing more is asked.
+fn parent_of(alloc: Global, group: &Group, rest: &[Datum]) -> Result<Answer, NoMemory>
+    ensures { IfOk result (λ a. a ≡ parent_answer (group_part group.now) (meanings rest.now)) }
+{
+    if !rest.is_empty() {
+        return Ok(Answer::Error(ErrorCode::ILLEGAL_ARGUMENT));
+    }
+    of_scalar(alloc, Scalar::ObjectId(group.parent))
+}
+
+/// The threads and the groups right below a group.
+fn children(alloc: Global, state: &MachineState, content: &[Datum]) -> Result<Answer, NoMemory>
+    ensures { IfOk result (λ a. a ≡ of_group (script_part state.now.script) (children_answer (state_now state.now)) (meanings content.now)) }
+{
+    match content {
+        [Datum::One(Scalar::ObjectId(id)), rest @ ..] => match group_of(&state.script, *id) {
+            Some(group) => children_of(alloc, state, group, rest),
+            None => Ok(Answer::Error(ErrorCode::INVALID_THREAD_GROUP)),
+        },
+        _ => Ok(Answer::Error(ErrorCode::ILLEGAL_ARGUMENT)),
+    }
+}
+
+/// The threads and the groups right below this group, where nothing more is asked.
+fn children_of(
+    alloc: Global,
+    state: &MachineState,
+    group: &Group,
+    rest: &[Datum],
+) -> Result<Answer, NoMemory>
+    ensures { IfOk result (λ a. a ≡ children_answer (state_now state.now) (group_part group.now) (meanings rest.now)) }
+{
+    if !rest.is_empty() {
+        return Ok(Answer::Error(ErrorCode::ILLEGAL_ARGUMENT));
+    }
+    let threads = threads_below(alloc, state, group.id)?;
+    let groups = groups_below(alloc, &state.script, group.id)?;
+    of_pair(alloc, Datum::Many(threads), Datum::Many(groups))
+}
+
+/// The entries of the threads that live in a group.
+fn threads_below(
+    alloc: Global,
+    state: &MachineState,
+    group: ObjectId,
+) -> Result<Vec<Vec<Scalar>>, NoMemory>
+    ensures { IfOk result (λ found. entry_meanings found.items ≡ map thread_entry (threads_below (state_now state.now) group.0)) }
+{
+    let mut found = Vec::new(alloc);
+    for thread in &state.threads {
+        if is_below(&state.script, group, thread) {
+            let entry = object_entry(alloc, thread.id)?;
+            found.push(entry)?;
+        }
+    }
+    Ok(found)
+}
+
+/// Whether the thread lives and is in the group.
+fn is_below(script: &Script, group: ObjectId, thread: &ThreadState) -> bool
+    ensures { result ≡ lives_in (script_part script.now) group.0 (thread_now thread.now) }
+{
+    is_living(thread.life) && is_in_group(script, group, thread.id)
+}
+
+fn is_living(life: Life) -> bool
+    ensures { result ≡ is_living (life_now life) }
+{
+    match life {
+        Life::Lives => true,
+        Life::Waits | Life::HasEnded => false,
+    }
+}
+
+/// Whether a thread of the script is in the group.
+fn is_in_group(script: &Script, group: ObjectId, thread: ObjectId) -> bool
+    ensures { result ≡ is_in_group (script_part script.now) group.0 thread.0 }
+{
+    match thread_of(script, thread) {
+        Some(thread) => thread.group.0 == group.0,
+        None => false,
+    }
+}
+
+/// The entries of the groups right below a group.
+fn groups_below(
+    alloc: Global,
+    script: &Script,
+    parent: ObjectId,
+) -> Result<Vec<Vec<Scalar>>, NoMemory>
+    ensures { IfOk result (λ found. entry_meanings found.items ≡ map group_entry (groups_below (script_part script.now) parent.0)) }
+{
+    let mut found = Vec::new(alloc);
+    for group in &script.groups {
+        if group.parent.0 == parent.0 {
+            let entry = object_entry(alloc, group.id)?;
+            found.push(entry)?;
+        }
+    }
+    Ok(found)
+}

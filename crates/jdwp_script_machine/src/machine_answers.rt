@@ -1,0 +1,223 @@
+//! What is answered of the whole machine (JDWP specification, "VirtualMachine").
+ghost use Rattle.std.specs.Prelude.{◌≡◌, ℕ, ◌==◌, ◌∷◌, [], map, filter, bytes_eq, IfOk, IfErr, IsTrue};
+ghost use Rattle.jdwp_layout.specs.Meanings.{Many, meanings, entry_meanings, datum_meaning, scalar_meanings};
+ghost use Rattle.jdwp_script.specs.Parts.{ClassPart};
+ghost use Rattle.jdwp_script.specs.Meanings.{class_part, script_part};
+ghost use Rattle.jdwp_script_machine.specs.Requests.{alone};
+ghost use Rattle.jdwp_script_machine.specs.StateMeanings.{state_now};
+ghost use Rattle.jdwp_script_machine.specs.ClassAnswers.{version, class_entry, classes_by_signature, group_entry, groups_below, incapable, disposed, virtual_machine_answer};
+ghost use Rattle.jdwp_script_machine.specs.ClassQuestions.{machine_answer_to, takes_memory};
+
+use crate::class_entries::{ClassEntry, GenericClassEntry, byte_of_tag};
+use crate::class_look_ups::status;
+use crate::entries::{Tell, single, text};
+use crate::numbers::virtual_machine;
+use crate::state::MachineState;
+use jdwp_layout::{Answer, Data, Datum, Scalar};
+use jdwp_script::{Class, Script};
+use jdwp_value::ObjectId;
+use jdwp_wire::{ErrorCode, NoMemory};
+use std::alloc::Global;
+
+/// What may be asked of the machine alone.
+#[derive(Clone, Copy)]
+pub(crate) enum MachineQuestion {
+    Version,
+    AllClasses,
+    TopLevelThreadGroups,
+    Capabilities,
+    CapabilitiesNew,
+    AllClassesWithGeneric,
+}
+
+/// The answer to a command of the set VirtualMachine with these data, in the state, where threads and event requests
+/// have no part in it.
+///
+/// Data that are not in the command's layout are `ILLEGAL_ARGUMENT`, and another command `NOT_IMPLEMENTED`.
+///
+/// # Errors
+/// `NoMemory` where an allocation was refused; a refusal takes no memory.
+pub fn virtual_machine_answer(
+    alloc: Global,
+    state: &MachineState,
+    number: u8,
+    content: &[Datum],
+) -> Result<Answer, NoMemory>
+    ensures value { IfOk result (λ a. a ≡ virtual_machine_answer (state_now state.now) number (meanings content.now)) }
+    // A refusal takes no memory.
+    ensures memory { IfErr result (λ _. IsTrue (takes_memory (virtual_machine_answer (state_now state.now) number (meanings content.now)))) }
+{
+    match number {
+        virtual_machine::VERSION => of_machine(alloc, state, MachineQuestion::Version, content),
+        virtual_machine::CLASSES_BY_SIGNATURE => classes_by_signature(alloc, state, content),
+        virtual_machine::ALL_CLASSES => {
+            of_machine(alloc, state, MachineQuestion::AllClasses, content)
+        }
+        virtual_machine::TOP_LEVEL_THREAD_GROUPS => {
+            of_machine(alloc, state, MachineQuestion::TopLevelThreadGroups, content)
+        }
+        virtual_machine::CAPABILITIES => {
+            of_machine(alloc, state, MachineQuestion::Capabilities, content)
+        }
+        virtual_machine::DISPOSE_OBJECTS => Ok(disposed(alloc, content)),
+        virtual_machine::CAPABILITIES_NEW => {
+            of_machine(alloc, state, MachineQuestion::CapabilitiesNew, content)
+        }
+        virtual_machine::ALL_CLASSES_WITH_GENERIC => {
+            of_machine(
+                alloc,
+                state,
+                MachineQuestion::AllClassesWithGeneric,
+                content,
+            )
+        }
+        _ => Ok(Answer::Error(ErrorCode::NOT_IMPLEMENTED)),
+    }
+}
+
+/// The answer to the question of the machine, where the data are nothing more.
+fn of_machine(
+    alloc: Global,
+    state: &MachineState,
+    question: MachineQuestion,
+    content: &[Datum],
+) -> Result<Answer, NoMemory>
+    ensures value { IfOk result (λ a. a ≡ alone (machine_answer_to (state_now state.now) question) (meanings content.now)) }
+    // A refusal takes no memory.
+    ensures memory { IfErr result (λ _. IsTrue (takes_memory (alone (machine_answer_to (state_now state.now) question) (meanings content.now)))) }
+{
+    match content {
+        [] => machine_answer_to(alloc, state, question),
+        _ => Ok(Answer::Error(ErrorCode::ILLEGAL_ARGUMENT)),
+    }
+}
+
+/// The answer to the question of the machine.
+fn machine_answer_to(
+    alloc: Global,
+    state: &MachineState,
+    question: MachineQuestion,
+) -> Result<Answer, NoMemory>
+    ensures value { IfOk result (λ a. a ≡ machine_answer_to (state_now state.now) question) }
+    // A refusal takes no memory.
+    ensures memory { IfErr result (λ _. IsTrue (takes_memory (machine_answer_to (state_now state.now) question))) }
+{
+    let script = &state.script;
+    match question {
+        MachineQuestion::Version => version(alloc, script),
+        MachineQuestion::AllClasses => {
+            let entry = ClassEntry { state };
+            single(alloc, entry.tell_each(alloc, &script.classes)?)
+        }
+        MachineQuestion::TopLevelThreadGroups => {
+            single(alloc, groups_below(alloc, script, ObjectId(0))?)
+        }
+        MachineQuestion::Capabilities => incapable(alloc, 7),
+        MachineQuestion::CapabilitiesNew => incapable(alloc, 32),
+        MachineQuestion::AllClassesWithGeneric => {
+            let entry = GenericClassEntry { state };
+            single(alloc, entry.tell_each(alloc, &script.classes)?)
+        }
+    }
+}
+
+/// A description, the version of JDWP, the version of the machine, and its name.
+fn version(alloc: Global, script: &Script) -> Result<Answer, NoMemory>
+    ensures value { IfOk result (λ a. a ≡ version (script_part script.now)) }
+    // A refusal takes no memory.
+    ensures memory { IfErr result (λ _. IsTrue (takes_memory (version (script_part script.now)))) }
+{
+    let mut items = Vec::with_capacity(alloc, 5)?;
+    items.push(Datum::One(text(alloc, "scripted machine")?))?;
+    items.push(Datum::One(Scalar::Int(11)))?;
+    items.push(Datum::One(Scalar::Int(0)))?;
+    items.push(Datum::One(text(alloc, "11")?))?;
+    items.push(Datum::One(text(alloc, &script.name)?))?;
+    Ok(Answer::Data(Data::new(items)))
+}
+
+/// So many capabilities that the machine does not have.
+fn incapable(alloc: Global, count: usize) -> Result<Answer, NoMemory>
+    ensures value { IfOk result (λ a. a ≡ incapable count) }
+    // A refusal takes no memory.
+    ensures memory { IfErr result (λ _. IsTrue (takes_memory (incapable count))) }
+{
+    let mut items = Vec::with_capacity(alloc, count)?;
+    for _ in 0..count {
+        items.push(Datum::One(Scalar::Boolean(false)))?;
+    }
+    Ok(Answer::Data(Data::new(items)))
+}
+
+/// The answer to DisposeObjects, which does nothing.
+fn disposed(alloc: Global, content: &[Datum]) -> Answer
+    ensures { result ≡ disposed (meanings content.now) }
+{
+    match content {
+        [Datum::Many(_)] => Answer::Data(Data::new(Vec::new(alloc))),
+        _ => Answer::Error(ErrorCode::ILLEGAL_ARGUMENT),
+    }
+}
+
+/// The classes with the signature that the data are.
+fn classes_by_signature(
+    alloc: Global,
+    state: &MachineState,
+    content: &[Datum],
+) -> Result<Answer, NoMemory>
+    ensures value { IfOk result (λ a. a ≡ classes_by_signature (state_now state.now) (meanings content.now)) }
+    // A refusal takes no memory.
+    ensures memory { IfErr result (λ _. IsTrue (takes_memory (classes_by_signature (state_now state.now) (meanings content.now)))) }
+{
+    match content {
+        [Datum::One(Scalar::String(signature))] => {
+            let classes = classes_with(alloc, state, signature)?;
+            single(alloc, classes)
+        }
+        _ => Ok(Answer::Error(ErrorCode::ILLEGAL_ARGUMENT)),
+    }
+}
+
+/// The list of the classes with this signature.
+fn classes_with(alloc: Global, state: &MachineState, signature: &str) -> Result<Datum, NoMemory>
+    ensures { IfOk result (λ d. datum_meaning d ≡ Many (map (class_entry (state_now state.now)) (filter (λ (c : ClassPart). bytes_eq c.signature signature.now) (map class_part state.now.script.classes.items)))) }
+{
+    let mut entries = Vec::new(alloc);
+    for class in &state.script.classes {
+        if class.signature.as_str() == signature {
+            let entry = class_entry(alloc, state, class)?;
+            entries.push(entry)?;
+        }
+    }
+    Ok(Datum::Many(entries))
+}
+
+/// The entry of the class in ClassesBySignature.
+fn class_entry(alloc: Global, state: &MachineState, class: &Class) -> Result<Vec<Scalar>, NoMemory>
+    ensures { IfOk result (λ e. scalar_meanings e.items ≡ class_entry (state_now state.now) (class_part class.now)) }
+{
+    let mut entry = Vec::with_capacity(alloc, 3)?;
+    entry.push(Scalar::Byte(byte_of_tag(class.tag)))?;
+    entry.push(Scalar::ReferenceTypeId(class.id))?;
+    entry.push(Scalar::Int(status(state, class.id)))?;
+    Ok(entry)
+}
+
+/// The list of the groups whose parent is this; with 0, of those that have none.
+pub(crate) fn groups_below(
+    alloc: Global,
+    script: &Script,
+    parent: ObjectId,
+) -> Result<Datum, NoMemory>
+    ensures { IfOk result (λ d. datum_meaning d ≡ Many (map group_entry (groups_below (script_part script.now) parent.0))) }
+{
+    let mut entries = Vec::new(alloc);
+    for group in &script.groups {
+        if group.parent == parent {
+            let mut entry = Vec::with_capacity(alloc, 1)?;
+            entry.push(Scalar::ObjectId(group.id))?;
+            entries.push(entry)?;
+        }
+    }
+    Ok(Datum::Many(entries))
+}

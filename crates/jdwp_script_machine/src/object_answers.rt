@@ -1,0 +1,242 @@
+//! What is answered of objects and strings (JDWP specification, "ObjectReference" and "StringReference").
+ghost use Rattle.std.specs.Prelude.{◌≡◌, IfOk};
+ghost use Rattle.jdwp_layout.specs.Meanings.{meanings, scalar_meanings, entry_meanings};
+ghost use Rattle.jdwp_script.specs.Meanings.{class_part, object_part, script_part};
+ghost use Rattle.jdwp_script_machine.specs.StateMeanings.{state_now};
+ghost use Rattle.jdwp_script_machine.specs.ClassAnswers.{type_byte, answer_entries, entry_value, field_values};
+ghost use Rattle.jdwp_script_machine.specs.Requests.{of_object};
+ghost use Rattle.jdwp_script_machine.specs.ObjectAnswers.{held_value, type_answer, object_type_answer, held_answer, collection_answer, collected_answer, object_answer, string_value_answer, string_answer};
+
+use crate::places::{class_of, object_of};
+use crate::replies::{done, of_entries, of_pair, of_scalar, value_entry};
+use crate::requests::entries_of;
+use crate::state::MachineState;
+use jdwp_layout::{Answer, Datum, Scalar};
+use jdwp_script::{Class, Literal, Object, Script};
+use jdwp_value::{FieldId, TypeTag};
+use jdwp_wire::{ErrorCode, NoMemory};
+use std::alloc::Global;
+
+/// What is answered of an object to the command of this number: its type, values of its fields, or whether it was
+/// collected, which it never is; disabling and enabling collection does nothing.
+///
+/// # Errors
+/// `NoMemory` where an allocation was refused.
+pub(crate) fn object_answer(
+    alloc: Global,
+    state: &MachineState,
+    number: u8,
+    content: &[Datum],
+) -> Result<Answer, NoMemory>
+    ensures { IfOk result (λ a. a ≡ object_answer (state_now state.now) number (meanings content.now)) }
+{
+    let script = &state.script;
+    match number {
+        1 => object_type(alloc, script, content),
+        2 => held_values(alloc, script, content),
+        7 | 8 => Ok(collection(alloc, script, content)),
+        9 => collected(alloc, script, content),
+        _ => Ok(Answer::Error(ErrorCode::NOT_IMPLEMENTED)),
+    }
+}
+
+/// The type of an object.
+fn object_type(alloc: Global, script: &Script, content: &[Datum]) -> Result<Answer, NoMemory>
+    ensures { IfOk result (λ a. a ≡ of_object (script_part script.now) (object_type_answer (script_part script.now)) (meanings content.now)) }
+{
+    match content {
+        [Datum::One(Scalar::ObjectId(id)), rest @ ..] => match object_of(script, *id) {
+            Some(object) => type_of(alloc, script, object, rest),
+            None => Ok(Answer::Error(ErrorCode::INVALID_OBJECT)),
+        },
+        _ => Ok(Answer::Error(ErrorCode::ILLEGAL_ARGUMENT)),
+    }
+}
+
+/// The type of this object, where nothing more is asked.
+fn type_of(
+    alloc: Global,
+    script: &Script,
+    object: &Object,
+    rest: &[Datum],
+) -> Result<Answer, NoMemory>
+    ensures { IfOk result (λ a. a ≡ object_type_answer (script_part script.now) (object_part object.now) (meanings rest.now)) }
+{
+    if !rest.is_empty() {
+        return Ok(Answer::Error(ErrorCode::ILLEGAL_ARGUMENT));
+    }
+    match class_of(script, object.class) {
+        Some(class) => class_told(alloc, class),
+        None => Ok(Answer::Error(ErrorCode::INVALID_CLASS)),
+    }
+}
+
+/// The tag and the id of a class.
+fn class_told(alloc: Global, class: &Class) -> Result<Answer, NoMemory>
+    ensures { IfOk result (λ a. a ≡ type_answer (class_part class.now)) }
+{
+    let tag = Scalar::Byte(byte_of_tag(class.tag));
+    let id = Scalar::ReferenceTypeId(class.id);
+    of_pair(alloc, Datum::One(tag), Datum::One(id))
+}
+
+fn byte_of_tag(tag: TypeTag) -> u8
+    ensures { result ≡ type_byte tag }
+{
+    match tag {
+        TypeTag::Class => 1,
+        TypeTag::Interface => 2,
+        TypeTag::Array => 3,
+    }
+}
+
+/// The values of fields of an object.
+fn held_values(alloc: Global, script: &Script, content: &[Datum]) -> Result<Answer, NoMemory>
+    ensures { IfOk result (λ a. a ≡ of_object (script_part script.now) held_answer (meanings content.now)) }
+{
+    match content {
+        [Datum::One(Scalar::ObjectId(id)), rest @ ..] => match object_of(script, *id) {
+            Some(object) => held_by(alloc, object, rest),
+            None => Ok(Answer::Error(ErrorCode::INVALID_OBJECT)),
+        },
+        _ => Ok(Answer::Error(ErrorCode::ILLEGAL_ARGUMENT)),
+    }
+}
+
+/// The values of fields of this object.
+fn held_by(alloc: Global, object: &Object, content: &[Datum]) -> Result<Answer, NoMemory>
+    ensures { IfOk result (λ a. a ≡ held_answer (object_part object.now) (meanings content.now)) }
+{
+    match entries_of(content) {
+        Some(entries) => values_of(alloc, object, entries),
+        None => Ok(Answer::Error(ErrorCode::ILLEGAL_ARGUMENT)),
+    }
+}
+
+/// The value of each field that an entry names, in their order.
+fn values_of(alloc: Global, object: &Object, entries: &[Vec<Scalar>]) -> Result<Answer, NoMemory>
+    ensures { IfOk result (λ a. a ≡ answer_entries (field_values (held_value (object_part object.now)) (entry_meanings entries.now))) }
+{
+    let mut values = Vec::new(alloc);
+    for entry in entries {
+        match held_asked(object, entry) {
+            Some(literal) => {
+                let value = value_entry(alloc, literal.value())?;
+                values.push(value)?;
+            }
+            None => return Ok(Answer::Error(ErrorCode::INVALID_FIELDID)),
+        }
+    }
+    of_entries(alloc, values)
+}
+
+/// What the object has in the field that the entry names.
+fn held_asked(object: &Object, entry: &[Scalar]) -> Option<Literal>
+    ensures { result ≡ entry_value (held_value (object_part object.now)) (scalar_meanings entry.now) }
+{
+    match entry {
+        [Scalar::FieldId(id)] => held_value(object, *id),
+        _ => None,
+    }
+}
+
+/// What the object has in a field.
+fn held_value(object: &Object, id: FieldId) -> Option<Literal>
+    ensures { result ≡ held_value (object_part object.now) id.0 }
+{
+    for held in &object.fields {
+        if held.field.0 == id.0 {
+            return Some(held.value);
+        }
+    }
+    None
+}
+
+/// Success where the object is there, and nothing more is asked.
+fn collection(alloc: Global, script: &Script, content: &[Datum]) -> Answer
+    ensures { result ≡ of_object (script_part script.now) collection_answer (meanings content.now) }
+{
+    match content {
+        [Datum::One(Scalar::ObjectId(id)), rest @ ..] => match object_of(script, *id) {
+            Some(object) => {
+                if rest.is_empty() {
+                    done(alloc)
+                } else {
+                    Answer::Error(ErrorCode::ILLEGAL_ARGUMENT)
+                }
+            }
+            None => Answer::Error(ErrorCode::INVALID_OBJECT),
+        },
+        _ => Answer::Error(ErrorCode::ILLEGAL_ARGUMENT),
+    }
+}
+
+/// Whether an object was collected: no object ever is.
+fn collected(alloc: Global, script: &Script, content: &[Datum]) -> Result<Answer, NoMemory>
+    ensures { IfOk result (λ a. a ≡ of_object (script_part script.now) collected_answer (meanings content.now)) }
+{
+    match content {
+        [Datum::One(Scalar::ObjectId(id)), rest @ ..] => match object_of(script, *id) {
+            Some(object) => collected_of(alloc, object, rest),
+            None => Ok(Answer::Error(ErrorCode::INVALID_OBJECT)),
+        },
+        _ => Ok(Answer::Error(ErrorCode::ILLEGAL_ARGUMENT)),
+    }
+}
+
+/// Whether this object was collected, where nothing more is asked.
+fn collected_of(alloc: Global, _object: &Object, rest: &[Datum]) -> Result<Answer, NoMemory>
+    ensures { IfOk result (λ a. a ≡ collected_answer (object_part _object.now) (meanings rest.now)) }
+{
+    if !rest.is_empty() {
+        return Ok(Answer::Error(ErrorCode::ILLEGAL_ARGUMENT));
+    }
+    of_scalar(alloc, Scalar::Boolean(false))
+}
+
+/// What is answered of a string to the command of this number: its text.
+///
+/// # Errors
+/// `NoMemory` where an allocation was refused.
+pub(crate) fn string_answer(
+    alloc: Global,
+    state: &MachineState,
+    number: u8,
+    content: &[Datum],
+) -> Result<Answer, NoMemory>
+    ensures { IfOk result (λ a. a ≡ string_answer (state_now state.now) number (meanings content.now)) }
+{
+    match number {
+        1 => string_value(alloc, &state.script, content),
+        _ => Ok(Answer::Error(ErrorCode::NOT_IMPLEMENTED)),
+    }
+}
+
+/// The text of a string.
+fn string_value(alloc: Global, script: &Script, content: &[Datum]) -> Result<Answer, NoMemory>
+    ensures { IfOk result (λ a. a ≡ of_object (script_part script.now) string_value_answer (meanings content.now)) }
+{
+    match content {
+        [Datum::One(Scalar::ObjectId(id)), rest @ ..] => match object_of(script, *id) {
+            Some(object) => text_of(alloc, object, rest),
+            None => Ok(Answer::Error(ErrorCode::INVALID_OBJECT)),
+        },
+        _ => Ok(Answer::Error(ErrorCode::ILLEGAL_ARGUMENT)),
+    }
+}
+
+/// The text of this object, where it is a string and nothing more is asked.
+fn text_of(alloc: Global, object: &Object, rest: &[Datum]) -> Result<Answer, NoMemory>
+    ensures { IfOk result (λ a. a ≡ string_value_answer (object_part object.now) (meanings rest.now)) }
+{
+    if !rest.is_empty() {
+        return Ok(Answer::Error(ErrorCode::ILLEGAL_ARGUMENT));
+    }
+    match &object.text {
+        Some(text) => {
+            let text = String::from_str(alloc, text)?;
+            of_scalar(alloc, Scalar::String(text))
+        }
+        None => Ok(Answer::Error(ErrorCode::INVALID_STRING)),
+    }
+}

@@ -1,0 +1,108 @@
+//! The values of static fields (JDWP specification, "ReferenceType": GetValues).
+ghost use Rattle.std.specs.Prelude.{◌≡◌, List, map, IfOk, IfErr, IsTrue};
+ghost use Rattle.jdwp_layout.specs.declared.answer.Answer as declared;
+ghost use Rattle.jdwp_layout.specs.Meanings.{ScalarMeaning, meanings, scalar_meanings, entry_meanings};
+ghost use Rattle.jdwp_script.specs.Meanings.{class_part};
+ghost use Rattle.jdwp_script_machine.specs.Requests.{of_entries};
+ghost use Rattle.jdwp_script_machine.specs.ClassAnswers.{static_value, entry_value, field_values, answer_entries, statics_answer};
+ghost use Rattle.jdwp_script_machine.specs.ClassQuestions.{by_entries, takes_memory};
+
+use crate::class_look_ups::field_by_id;
+use crate::entries::single;
+use jdwp_layout::{Answer, Datum, Scalar};
+use jdwp_script::{Class, Literal};
+use jdwp_value::FieldId;
+use jdwp_wire::{ErrorCode, NoMemory};
+use std::alloc::Global;
+
+/// The entries that the data are, if they are one list, of fewer than 2^31 entries.
+pub(crate) fn entries_asked(content: &[Datum]) -> Option<&[Vec<Scalar>]>
+    ensures { (answer : List (List ScalarMeaning) → declared.Answer) → of_entries answer (meanings content.now) ≡ by_entries answer result }
+{
+    match content {
+        [Datum::Many(entries)] => {
+            if entries.len() < 2_147_483_648 {
+                Some(entries.as_slice())
+            } else {
+                None
+            }
+        }
+        _ => None,
+    }
+}
+
+/// The answer to GetValues of the class, where the data ask for fields: the value of each, in the order asked.
+/// `INVALID_FIELDID` where one is not the class's own or not static.
+///
+/// # Errors
+/// `NoMemory` where an allocation was refused; a refusal takes no memory.
+pub(crate) fn static_values(
+    alloc: Global,
+    class: &Class,
+    content: &[Datum],
+) -> Result<Answer, NoMemory>
+    ensures value { IfOk result (λ a. a ≡ statics_answer (class_part class.now) (meanings content.now)) }
+    // A refusal takes no memory.
+    ensures memory { IfErr result (λ _. IsTrue (takes_memory (statics_answer (class_part class.now) (meanings content.now)))) }
+{
+    match entries_asked(content) {
+        Some(entries) => values_of(alloc, class, entries),
+        None => Ok(Answer::Error(ErrorCode::ILLEGAL_ARGUMENT)),
+    }
+}
+
+/// Whether each entry names a static field of the class.
+fn are_static(class: &Class, entries: &[Vec<Scalar>]) -> bool
+    ensures { result ≡ takes_memory (answer_entries (field_values (static_value (class_part class.now)) (entry_meanings entries.now))) }
+{
+    for entry in entries {
+        if static_asked(class, entry).is_none() {
+            return false;
+        }
+    }
+    true
+}
+
+/// The answer with the value of each field that an entry names.
+#[tactic(auto, using(crate::proofs::StaticValues::refused_as))]
+fn values_of(alloc: Global, class: &Class, entries: &[Vec<Scalar>]) -> Result<Answer, NoMemory>
+    ensures value { IfOk result (λ a. a ≡ answer_entries (field_values (static_value (class_part class.now)) (entry_meanings entries.now))) }
+    // A refusal takes no memory.
+    ensures memory { IfErr result (λ _. IsTrue (takes_memory (answer_entries (field_values (static_value (class_part class.now)) (entry_meanings entries.now))))) }
+{
+    if !are_static(class, entries) {
+        return Ok(Answer::Error(ErrorCode::INVALID_FIELDID));
+    }
+    let mut values = Vec::new(alloc);
+    for entry in entries {
+        match static_asked(class, entry) {
+            Some(literal) => {
+                let mut value = Vec::with_capacity(alloc, 1)?;
+                value.push(Scalar::Value(literal.value()))?;
+                values.push(value)?;
+            }
+            None => return Ok(Answer::Error(ErrorCode::INVALID_FIELDID)),
+        }
+    }
+    single(alloc, Datum::Many(values))
+}
+
+/// The value of the static field that the entry names.
+fn static_asked(class: &Class, entry: &[Scalar]) -> Option<Literal>
+    ensures { result ≡ entry_value (static_value (class_part class.now)) (scalar_meanings entry.now) }
+{
+    match entry {
+        [Scalar::FieldId(id)] => static_value(class, *id),
+        _ => None,
+    }
+}
+
+/// The value of the class's static field.
+fn static_value(class: &Class, id: FieldId) -> Option<Literal>
+    ensures { result ≡ static_value (class_part class.now) id.0 }
+{
+    match field_by_id(&class.fields, id) {
+        Some(field) => field.value,
+        None => None,
+    }
+}

@@ -1,0 +1,183 @@
+//! What is answered of threads (JDWP specification, "ThreadReference").
+ghost use Rattle.std.specs.Prelude.{◌≡◌, map, true, IfOk};
+ghost use Rattle.jdwp_layout.specs.Meanings.{meanings, entry_meaning};
+ghost use Rattle.jdwp_script.specs.Meanings.{thread_part, script_part};
+ghost use Rattle.jdwp_script_machine.specs.StateMeanings.{frame_now, state_now};
+ghost use Rattle.jdwp_script_machine.specs.Requests.{of_thread, of_frames, part_of};
+ghost use Rattle.jdwp_script_machine.specs.ThreadAnswers.{frames_at, thread_name_answer, thread_group_answer, frame_entry, frames_listed, frames_answer, frame_count_answer, thread_answer_by};
+
+use crate::places::{frames_of, thread_of};
+use crate::replies::{of_entries, of_scalar};
+use crate::requests::part_of;
+use crate::sites::location;
+use crate::state::{FrameState, MachineState};
+use jdwp_layout::{Answer, Datum, Scalar};
+use jdwp_script::{Script, Thread};
+use jdwp_wire::{ErrorCode, NoMemory};
+use std::alloc::Global;
+
+/// What is answered of a thread to the command of this number: its name, its group, some of its frames from the newest
+/// on, or how many it has. Whether the thread lives and is suspended is not tested.
+///
+/// # Errors
+/// `NoMemory` where an allocation was refused, or a thread has 2^31 frames or more.
+pub(crate) fn thread_answer(
+    alloc: Global,
+    state: &MachineState,
+    number: u8,
+    content: &[Datum],
+) -> Result<Answer, NoMemory>
+    ensures { IfOk result (λ a. a ≡ thread_answer_by (script_part state.now.script) (frames_at (state_now state.now)) number (meanings content.now)) }
+{
+    match number {
+        1 => name(alloc, &state.script, content),
+        5 => group(alloc, &state.script, content),
+        6 => frames(alloc, state, content),
+        7 => frame_count(alloc, state, content),
+        _ => Ok(Answer::Error(ErrorCode::NOT_IMPLEMENTED)),
+    }
+}
+
+/// The name of a thread.
+fn name(alloc: Global, script: &Script, content: &[Datum]) -> Result<Answer, NoMemory>
+    ensures { IfOk result (λ a. a ≡ of_thread (script_part script.now) thread_name_answer (meanings content.now)) }
+{
+    match content {
+        [Datum::One(Scalar::ObjectId(id)), rest @ ..] => match thread_of(script, *id) {
+            Some(thread) => name_of(alloc, thread, rest),
+            None => Ok(Answer::Error(ErrorCode::INVALID_OBJECT)),
+        },
+        _ => Ok(Answer::Error(ErrorCode::ILLEGAL_ARGUMENT)),
+    }
+}
+
+/// The name of this thread, where nothing more is asked.
+fn name_of(alloc: Global, thread: &Thread, rest: &[Datum]) -> Result<Answer, NoMemory>
+    ensures { IfOk result (λ a. a ≡ thread_name_answer (thread_part thread.now) (meanings rest.now)) }
+{
+    if !rest.is_empty() {
+        return Ok(Answer::Error(ErrorCode::ILLEGAL_ARGUMENT));
+    }
+    let name = String::from_str(alloc, &thread.name)?;
+    of_scalar(alloc, Scalar::String(name))
+}
+
+/// The group of a thread.
+fn group(alloc: Global, script: &Script, content: &[Datum]) -> Result<Answer, NoMemory>
+    ensures { IfOk result (λ a. a ≡ of_thread (script_part script.now) thread_group_answer (meanings content.now)) }
+{
+    match content {
+        [Datum::One(Scalar::ObjectId(id)), rest @ ..] => match thread_of(script, *id) {
+            Some(thread) => group_of(alloc, thread, rest),
+            None => Ok(Answer::Error(ErrorCode::INVALID_OBJECT)),
+        },
+        _ => Ok(Answer::Error(ErrorCode::ILLEGAL_ARGUMENT)),
+    }
+}
+
+/// The group of this thread, where nothing more is asked.
+fn group_of(alloc: Global, thread: &Thread, rest: &[Datum]) -> Result<Answer, NoMemory>
+    ensures { IfOk result (λ a. a ≡ thread_group_answer (thread_part thread.now) (meanings rest.now)) }
+{
+    if !rest.is_empty() {
+        return Ok(Answer::Error(ErrorCode::ILLEGAL_ARGUMENT));
+    }
+    of_scalar(alloc, Scalar::ObjectId(thread.group))
+}
+
+/// Some frames of a thread.
+fn frames(alloc: Global, state: &MachineState, content: &[Datum]) -> Result<Answer, NoMemory>
+    ensures { IfOk result (λ a. a ≡ of_frames (frames_at (state_now state.now)) (frames_answer (script_part state.now.script)) (meanings content.now)) }
+{
+    match content {
+        [Datum::One(Scalar::ObjectId(id)), rest @ ..] => match frames_of(state, *id) {
+            Some(frames) => some_of(alloc, &state.script, frames, rest),
+            None => Ok(Answer::Error(ErrorCode::INVALID_OBJECT)),
+        },
+        _ => Ok(Answer::Error(ErrorCode::ILLEGAL_ARGUMENT)),
+    }
+}
+
+/// Those of these frames that are asked for by a place and a count.
+fn some_of(
+    alloc: Global,
+    script: &Script,
+    frames: &[FrameState],
+    rest: &[Datum],
+) -> Result<Answer, NoMemory>
+    ensures { IfOk result (λ a. a ≡ frames_answer (script_part script.now) (map frame_now frames.now) (meanings rest.now)) }
+{
+    match rest {
+        [
+            Datum::One(Scalar::Int(from)),
+            Datum::One(Scalar::Int(count)),
+        ] => { part_listed(alloc, script, frames, *from, *count) }
+        _ => Ok(Answer::Error(ErrorCode::ILLEGAL_ARGUMENT)),
+    }
+}
+
+/// So many of these frames from a place on.
+#[tactic(auto, using(crate::specs::PartLaws::part_is))]
+fn part_listed(
+    alloc: Global,
+    script: &Script,
+    frames: &[FrameState],
+    from: i32,
+    count: i32,
+) -> Result<Answer, NoMemory>
+    ensures { IfOk result (λ a. a ≡ part_of true (frames_listed (script_part script.now)) (map frame_now frames.now) from count) }
+{
+    match part_of(true, frames, from, count) {
+        Ok(part) => listed(alloc, script, part),
+        Err(error) => Ok(Answer::Error(error)),
+    }
+}
+
+/// These frames, each with its location.
+fn listed(alloc: Global, script: &Script, frames: &[FrameState]) -> Result<Answer, NoMemory>
+    ensures { IfOk result (λ a. a ≡ frames_listed (script_part script.now) (map frame_now frames.now)) }
+{
+    let mut entries = Vec::with_capacity(alloc, frames.len())?;
+    for frame in frames {
+        let entry = entry_of(alloc, script, frame)?;
+        entries.push(entry)?;
+    }
+    of_entries(alloc, entries)
+}
+
+/// A frame and its location.
+fn entry_of(alloc: Global, script: &Script, frame: &FrameState) -> Result<Vec<Scalar>, NoMemory>
+    ensures { IfOk result (λ e. entry_meaning e ≡ frame_entry (script_part script.now) (frame_now frame.now)) }
+{
+    let mut entry = Vec::with_capacity(alloc, 2)?;
+    entry.push(Scalar::FrameId(frame.id))?;
+    let place = location(script, frame.class, frame.method, frame.index);
+    entry.push(Scalar::Location(place))?;
+    Ok(entry)
+}
+
+/// How many frames a thread has.
+fn frame_count(alloc: Global, state: &MachineState, content: &[Datum]) -> Result<Answer, NoMemory>
+    ensures { IfOk result (λ a. a ≡ of_frames (frames_at (state_now state.now)) frame_count_answer (meanings content.now)) }
+{
+    match content {
+        [Datum::One(Scalar::ObjectId(id)), rest @ ..] => match frames_of(state, *id) {
+            Some(frames) => count_of(alloc, frames, rest),
+            None => Ok(Answer::Error(ErrorCode::INVALID_OBJECT)),
+        },
+        _ => Ok(Answer::Error(ErrorCode::ILLEGAL_ARGUMENT)),
+    }
+}
+
+/// How many these frames are, where nothing more is asked.
+fn count_of(alloc: Global, frames: &[FrameState], rest: &[Datum]) -> Result<Answer, NoMemory>
+    ensures { IfOk result (λ a. a ≡ frame_count_answer (map frame_now frames.now) (meanings rest.now)) }
+{
+    match rest {
+        [] => match i32::try_from(frames.len()) {
+            Ok(count) => of_scalar(alloc, Scalar::Int(count)),
+            Err(_) => Err(NoMemory),
+        },
+        _ => Ok(Answer::Error(ErrorCode::ILLEGAL_ARGUMENT)),
+    }
+}
