@@ -22,7 +22,7 @@ use Rattle.jdwp_debuggee.specs.Effects.{Effect, effect, effect_by, does, answere
 use Rattle.jdwp_debuggee.specs.Breadth.{is_plain}
 use Rattle.jdwp_debuggee.specs.Facts.{AreBelow, IsSound, is_dispose, is_exit, about, moved_by, requests_by, Says, OfThread, Does, is_not_asked, is_no_asked_breakpoint}
 use Rattle.jdwp_debuggee.proofs.Small.{and-true, and-false, some-same, some-map, mapped, asked-append, asked-filter, below-filter, below-more}
-use Rattle.jdwp_debuggee.proofs.Threads.{count-changed, below-limit, under-limit}
+use Rattle.jdwp_debuggee.proofs.ThreadLists.{count-changed, below-limit, under-limit}
 use Rattle.jdwp_debuggee.proofs.Ends.{ended-state, ended-ever, ended-live}
 
 says-error : (a : Action) (state : State) (e : ErrorCode) → Says a state (Error e)
@@ -120,13 +120,13 @@ does_counts m settings now a f s most mv rq y h x d =
       closes = sym (ap (λ b. (b || is_dispose a) && true) x ∙ ap (λ b. b && true) d);
     }
 
-raised-most : {S : Type 0} (settings : Settings) (now : Moment S) → ((t n : ℕ) → count_of now.state t ≡ Some n → n ≤ settings.count_limit) → at_limit settings.count_limit now.state ≡ false → (t n : ℕ) → count_of now.state t ≡ Some n → n + 1 ≤ settings.count_limit
+pub raised-most : {S : Type 0} (settings : Settings) (now : Moment S) → ((t n : ℕ) → count_of now.state t ≡ Some n → n ≤ settings.count_limit) → at_limit settings.count_limit now.state ≡ false → (t n : ℕ) → count_of now.state t ≡ Some n → n + 1 ≤ settings.count_limit
 raised-most settings now most h t n e = under-limit n settings.count_limit (most t n e) (below-limit settings.count_limit now.state.threads t n h e)
 
-lowered-most : (n limit : ℕ) → n ≤ limit → n - 1 ≤ limit
+pub lowered-most : (n limit : ℕ) → n ≤ limit → n - 1 ≤ limit
 lowered-most n limit h = omega arith
 
-only-most : (u t k n limit : ℕ) → (u ≡ t → k ≤ limit) → n ≤ limit → cond (u == t) k n ≤ limit
+pub only-most : (u t k n limit : ℕ) → (u ≡ t → k ≤ limit) → n ≤ limit → cond (u == t) k n ≤ limit
 only-most u t k n limit h l = elim (u == t) as (λ b. (u == t) ≡ b → cond b k n ≤ limit) [ true ↦ λ e. h (eqb-true u t e) | false ↦ λ _. l ] refl
 
 -- ---- answers of the machine
@@ -186,7 +186,7 @@ slots-does m law settings now t f values n x s e h =
 
 -- ---- requests
 
-set-does : {S : Type 0} (m : Meaning S) (settings : Settings) (now : Moment S) (byte policy : ℕ) (entries : List (List ScalarMeaning)) (v : Option ErrorCode) → IsSound m settings now → Does m settings now (Actions.SetRequest byte policy entries) (set_by m now byte policy (modifiers_of entries) v)
+pub set-does : {S : Type 0} (m : Meaning S) (settings : Settings) (now : Moment S) (byte policy : ℕ) (entries : List (List ScalarMeaning)) (v : Option ErrorCode) → IsSound m settings now → Does m settings now (Actions.SetRequest byte policy entries) (set_by m now byte policy (modifiers_of entries) v)
 set-does m settings now byte policy entries (Some e) s = does_refused m settings now (Actions.SetRequest byte policy entries) e s (λ t h. absurd (cc))
 set-does m settings now byte policy entries None s =
     record {

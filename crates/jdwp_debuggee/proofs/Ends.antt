@@ -7,7 +7,7 @@ use Rattle.jdwp_machine.specs.Laws.{IsLawful, AreDistinct}
 use Rattle.jdwp_debuggee.specs.Effects.{all_ended}
 
 -- a thread that stands in the rest is another one
-another : (t u : ℕ) (ts : List ℕ) → AllByRecursion (λ (y : ℕ). (t == y) ≡ false) ts → has ts u ≡ true → (u == t) ≡ false
+pub another : (t u : ℕ) (ts : List ℕ) → AllByRecursion (λ (y : ℕ). (t == y) ≡ false) ts → has ts u ≡ true → (u == t) ≡ false
 another t u [] d h = absurd (cc)
 another t u (x ∷ xs) d h =
     elim (x == u) as (λ b. (x == u) ≡ b → (b || has xs u) ≡ true → (u == t) ≡ false) [
@@ -15,22 +15,22 @@ another t u (x ∷ xs) d h =
       | false ↦ λ _ r. another t u xs d.1 r
     ] refl h
 
-distinct-head : (t : ℕ) (ts : List ℕ) → AreDistinct (t ∷ ts) → AllByRecursion (λ (y : ℕ). (t == y) ≡ false) ts
+pub distinct-head : (t : ℕ) (ts : List ℕ) → AreDistinct (t ∷ ts) → AllByRecursion (λ (y : ℕ). (t == y) ≡ false) ts
 unfolding IsDistinct
 distinct-head t ts d = d.0
 
-distinct-tail : (t : ℕ) (ts : List ℕ) → AreDistinct (t ∷ ts) → AreDistinct ts
+pub distinct-tail : (t : ℕ) (ts : List ℕ) → AreDistinct (t ∷ ts) → AreDistinct ts
 unfolding IsDistinct
 distinct-tail t ts d = d.1
 
 -- all of them live
-abbrev AllLive : {S : Type 0} → Meaning S → S → List ℕ → Type 0
+abbrev pub AllLive : {S : Type 0} → Meaning S → S → List ℕ → Type 0
 AllLive m s ts = (u : ℕ) → has ts u ≡ true → has (m.live s) u ≡ true
 
 head-live : {S : Type 0} (m : Meaning S) (s : S) (t : ℕ) (ts : List ℕ) → AllLive m s (t ∷ ts) → has (m.live s) t ≡ true
 head-live m s t ts l = l t (ap (λ b. b || has ts t) (eq-eqb t t refl))
 
-tail-live : {S : Type 0} (m : Meaning S) → IsLawful m → (s : S) (t : ℕ) (ts : List ℕ) → m.is_state s → AreDistinct (t ∷ ts) → AllLive m s (t ∷ ts) → AllLive m (m.ended s t) ts
+pub tail-live : {S : Type 0} (m : Meaning S) → IsLawful m → (s : S) (t : ℕ) (ts : List ℕ) → m.is_state s → AreDistinct (t ∷ ts) → AllLive m s (t ∷ ts) → AllLive m (m.ended s t) ts
 tail-live m law s t ts st d l u h =
     let a : has (t ∷ ts) u ≡ true = elim (t == u) as (λ b. (b || has ts u) ≡ true) [ true ↦ refl | false ↦ h ] in
     law.live_ended s t u (st, head-live m s t ts l) ∙ (ap (λ b. b && not (u == t)) (l u a) ∙ ap not (another t u ts (distinct-head t ts d) h))

@@ -17,7 +17,7 @@ use Rattle.jdwp_debuggee.specs.State.{Thread, State, Moment, count_of, count_in,
 use Rattle.jdwp_debuggee.specs.Steps.{Step, seen, ended_by, ends, death_by, report_by, happens, occurs_by, occurs, may_step, is_zero, with_started, raised_by}
 use Rattle.jdwp_debuggee.specs.Facts.{AreBelow, IsSound, Quiet, Happens}
 use Rattle.jdwp_debuggee.proofs.Small.{and-left, and-right, is-not-true}
-use Rattle.jdwp_debuggee.proofs.Threads.{count-changed, count-append, count-marked, count-without, below-limit, under-limit}
+use Rattle.jdwp_debuggee.proofs.ThreadLists.{count-changed, count-append, count-marked, count-without, below-limit, under-limit}
 use Rattle.jdwp_debuggee.proofs.Commands.{sound_counts}
 
 -- ---- what requests see

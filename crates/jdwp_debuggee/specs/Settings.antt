@@ -1,5 +1,5 @@
 -- What a debuggee is made with, and never changes.
-use Rattle.std.specs.Prelude.{ℕ, Bool}
+use Rattle.std.specs.Prelude.{ℕ, ◌≤◌, Bool}
 use Rattle.jdwp_wire.specs.Limits.{Limits}
 
 -- Whether all threads begin suspended, the greatest suspend count that a Suspend gives, and how much a session may hold.
@@ -7,3 +7,7 @@ pub record Settings : Type 0 where
   pub start_all : Bool
   pub count_limit : ℕ
   pub limits : Limits
+
+-- a suspend count is a signed int on the wire
+abbrev pub IsCountLimit : ℕ → Type 0
+IsCountLimit n = (1 ≤ n) × (n ≤ 2147483647)

@@ -1,11 +1,19 @@
 //! Laws of the definitions, each the contract of a function without a body.
-ghost use Rattle.std.specs.Prelude.{◌≡◌, false, true};
+ghost use Rattle.std.specs.Prelude.{◌≡◌, ◌≤◌, ℕ, List, Some, false, true};
 ghost use Rattle.jdwp_machine.specs.Meanings.{Meaning};
 ghost use Rattle.jdwp_debuggee.specs.Settings.{Settings};
 ghost use Rattle.jdwp_debuggee.specs.State.{Moment};
-ghost use Rattle.jdwp_debuggee.specs.Actions.{Command, action_of};
+ghost use Rattle.jdwp_debuggee.specs.Actions.{Command, action_of, IdSizes, SetRequest};
 ghost use Rattle.jdwp_debuggee.specs.Effects.{effect};
 ghost use Rattle.jdwp_debuggee.specs.Breadth.{is_plain, keeps_machine};
+ghost use Rattle.jdwp_debuggee.specs.Answers.{sizes_answer};
+ghost use Rattle.jdwp_debuggee.specs.Facts.{is_data};
+ghost use Rattle.jdwp_debuggee.specs.Reports.{HavePolicies, IsReport};
+ghost use Rattle.jdwp_debuggee.specs.Steps.{may_step, occurs};
+ghost use Rattle.jdwp_event.specs.Composites.{CompositeMeaning, POLICY_ALL};
+ghost use Rattle.jdwp_event.specs.Requests.{all_asked};
+ghost use Rattle.jdwp_layout.specs.Meanings.{ScalarMeaning};
+ghost use Rattle.jdwp_debuggee.specs.Running.{Runs};
 
 use jdwp_machine::Machine;
 
@@ -17,4 +25,24 @@ pub fn leaves_state_at_plain_commands<M: Machine>()
 /// Of all commands Exit and StackFrame.SetValues alone change the machine.
 pub fn changes_machine_at_exit_and_slots<M: Machine>()
     ensures { (settings : Settings) (now : Moment M) (c : Command) → keeps_machine (action_of c) ≡ true → (effect M.meaning settings now c).after.machine ≡ now.machine }
+{}
+
+/// IDSizes is never refused: it is answered the widths of the machine's ids.
+pub fn answers_id_sizes<M: Machine>()
+    ensures { (settings : Settings) (now : Moment M) (c : Command) → action_of c ≡ IdSizes → (effect M.meaning settings now c).answer ≡ sizes_answer (M.meaning.sizes now.machine) }
+{}
+
+/// A request whose policy is none of the three is refused.
+pub fn accepts_the_three_policies<M: Machine>()
+    ensures { (settings : Settings) (now : Moment M) (c : Command) (kind policy : ℕ) (entries : List (List ScalarMeaning)) → action_of c ≡ SetRequest kind policy entries → is_data (effect M.meaning settings now c).answer ≡ true → policy ≤ POLICY_ALL }
+{}
+
+/// What a step reports for requests of the three policies has such a policy too, an event at least, and one thread in all events.
+pub fn reports_one_thread<M: Machine>()
+    ensures { (now : Moment M) (t : ℕ) (c : CompositeMeaning) → HavePolicies (all_asked now.state.requests) → (occurs M.meaning now t).sends ≡ Some c → IsReport c }
+{}
+
+/// A thread makes a step only where it lives and is not suspended, events are not held, and no thread stands at the count limit.
+pub fn steps_where_it_runs<M: Machine>()
+    ensures { (settings : Settings) (now : Moment M) (t : ℕ) → may_step M.meaning settings now t ≡ true → Runs settings now.state t }
 {}

@@ -1,6 +1,31 @@
 //! The debuggee behind a target: what commands and steps do to it.
 #![tactic(auto)]
 
+mod actions;
+mod asking;
+mod carrying;
+mod command;
+mod debuggee;
 mod laws;
+mod origins;
+mod reading;
+mod refusals;
+mod reply;
+mod requesting;
+mod settings;
+mod steps;
+mod threads;
 
-pub use laws::{changes_machine_at_exit_and_slots, leaves_state_at_plain_commands};
+pub use command::{Action, Asked};
+pub use debuggee::{Debuggee, Start};
+pub use laws::{
+    accepts_the_three_policies, answers_id_sizes, changes_machine_at_exit_and_slots,
+    leaves_state_at_plain_commands, reports_one_thread, steps_where_it_runs,
+};
+pub use reading::read_command;
+pub use reply::{Reply, Sent};
+pub use settings::Settings;
+pub use steps::StepDone;
+
+#[cfg(test)]
+mod reading_tests;

@@ -1,0 +1,97 @@
+-- answers to questions, and slots that were written
+use Rattle.std.proofs.Common.{◌≡◌, ℕ, Option, Some, None, List, [], ◌∷◌, ◌+◌, ◌≤◌, length, refl, ◌∙◌, ap, sym, subst, arith}
+use Rattle.jdwp_layout.specs.declared.answer.Answer.{Answer}
+use Rattle.jdwp_layout.specs.declared.answer.Answer.TheVariants.{Data, Error}
+use Rattle.jdwp_layout.specs.CommandTable.{row_at}
+use Rattle.jdwp_layout.specs.Meanings.{DatumMeaning}
+use Rattle.jdwp_layout.specs.Rows.{Row, RowShapes}
+use Rattle.jdwp_layout.specs.Writes.{data_refusal}
+use Rattle.jdwp_machine.specs.Meanings.{Meaning}
+use Rattle.jdwp_machine.specs.Laws.{FitsRow, FitsShapes, MayAnswer}
+use Rattle.jdwp_wire.specs.Widths.{Widths}
+use Rattle.jdwp_debuggee.specs.Answers.{done}
+use Rattle.jdwp_debuggee.specs.Actions.{Action, Command, action_of}
+use Rattle.jdwp_debuggee.specs.Debuggees.{CarriesOut, Debuggee, at_moment}
+use Rattle.jdwp_debuggee.specs.CommandReads.{question_by}
+use Rattle.jdwp_debuggee.specs.Effects.{does, frames_by, thread_by}
+use Rattle.jdwp_debuggee.specs.Settings.{Settings}
+use Rattle.jdwp_debuggee.specs.State.{Moment}
+use Rattle.jdwp_machine.specs.declared.query.Query.{Query}
+use Rattle.jdwp_debuggee.specs.declared.reply.Sent.{Sent}
+use Rattle.jdwp_debuggee.specs.Replies.{reply_meaning}
+use Rattle.jdwp_debuggee.specs.Sending.{AreWritable, Did, IsSent, IsWritable, answer_bytes, error_of, row_reply, sent_bytes, shapes_reply}
+use Rattle.jdwp_debuggee.specs.declared.reply.Reply.{Reply}
+use Rattle.jdwp_debuggee.specs.declared.reply.Reply.TheVariants as reply
+use Rattle.jdwp_debuggee.specs.declared.reply.Sent.TheVariants as sent
+
+by-shapes : {S : Type 0} (m : Meaning S) (s : S) (shapes : Option RowShapes) (content : List DatumMeaning) → FitsShapes m s shapes content → AreWritable (m.sizes s) (shapes_reply shapes) content
+by-shapes m s None content h = absurd h
+by-shapes m s (Some shapes) content h = h
+
+by-row : {S : Type 0} (m : Meaning S) (s : S) (row : Option Row) (content : List DatumMeaning) → FitsRow m s row content → AreWritable (m.sizes s) (row_reply row) content
+by-row m s None content h = absurd h
+by-row m s (Some row) content h = by-shapes m s row.shapes content h
+
+-- what a lawful machine answers can be written
+pub answer-writable : {S : Type 0} (m : Meaning S) (s : S) (set number : ℕ) (x : Answer) → MayAnswer m s set number x → IsWritable (m.sizes s) set number x
+answer-writable m s set number (Data content) h = by-row m s (row_at set number) content h
+answer-writable m s set number (Error e) h = tt
+
+nothing-fits : (w : Widths) (content : List DatumMeaning) → data_refusal w [] content ≡ None → content ≡ []
+nothing-fits w [] h = refl
+nothing-fits w (x ∷ xs) h = absurd (cc)
+
+-- slots that were written are answered by nothing
+pub written-done : {S : Type 0} (m : Meaning S) (s : S) (content : List DatumMeaning) → MayAnswer m s 16 2 (Data content) → Data content ≡ done
+written-done m s content h = ap Data (nothing-fits (m.sizes s) content h)
+
+record Did-by {S : Type 0} (m : Meaning S) (c : Command) (a : Action) (old new : Debuggee S) (r : Reply) : Type 0 where
+  pub after : new ≡ at_moment (does m old.settings old.moment c a).after old
+  pub answers : reply_meaning r ≡ (does m old.settings old.moment c a).answer
+
+-- what is answered without memory is short
+pub short-length : (w : Widths) (reply : Reply) → length (sent_bytes w (sent.Short reply)) ≤ 20
+short-length w reply.Done = omega arith
+short-length w (reply.Number n) = omega arith
+short-length w (reply.Status n) = omega arith
+short-length w (reply.Sizes sizes) = omega arith
+short-length w (reply.Refused e) = omega arith
+
+-- a command that was answered without memory was carried out
+pub short-did : {S : Type 0} (m : Meaning S) (c : Command) (a : Action) (old new : Debuggee S) (r : Reply) → a ≡ action_of c → CarriesOut m a old new (reply_meaning r) → Did m c old new (sent.Short r)
+short-did {S = S} m c a old new r is k =
+    let e : (b : Action) → a ≡ b → Did-by m c b old new r = λ b h. subst (λ x. Did-by m c x old new r) h (record { after = k.after c; answers = k.answers c }) in
+    let d = e (action_of c) is in
+    record {
+      after = d.after;
+      sends = record { error = ap error_of d.answers; bytes = ap (answer_bytes (m.sizes old.moment.machine)) d.answers };
+      fits = λ h. let l = short-length (m.sizes old.moment.machine) r in omega (arith, h, l);
+    }
+
+-- ---- questions
+
+-- a question that was answered
+pub ask-did : {S : Type 0} (m : Meaning S) (c : Command) (a : Action) (d : Debuggee S) (x : Sent) → a ≡ action_of c → (does m d.settings d.moment c a).after ≡ d.moment
+    → IsSent (m.sizes d.moment.machine) (does m d.settings d.moment c a).answer x
+    → (2048 ≤ d.settings.limits.packet → 11 + length (sent_bytes (m.sizes d.moment.machine) x) ≤ d.settings.limits.packet) → Did m c d d x
+ask-did {S = S} m c a d x is same sends fits =
+    let by : (b : Action) → a ≡ b → ((does m d.settings d.moment c b).after ≡ d.moment) × IsSent (m.sizes d.moment.machine) (does m d.settings d.moment c b).answer x =
+    λ b h. subst (λ (y : Action). ((does m d.settings d.moment c y).after ≡ d.moment) × IsSent (m.sizes d.moment.machine) (does m d.settings d.moment c y).answer x) h (same, sends) in
+    let p = by (action_of c) is in
+    record {
+      after = ap (λ (y : Moment S). at_moment y d) (sym p.0);
+      sends = p.1;
+      fits = fits;
+    }
+
+-- the question that was read is the command's
+pub same-question : (a b : Action) (q r : Query) → a ≡ b → question_by a r ≡ Some r → Some q ≡ question_by b r → r ≡ q
+same-question a b q r is asks e = let h : Some q ≡ Some r = e ∙ (ap (λ (x : Action). question_by x r) (sym is) ∙ asks) in cc
+
+pub frames-stay : {S : Type 0} (m : Meaning S) (settings : Settings) (now : Moment S) (c : Command) (count : Option ℕ) → (frames_by m settings now c count).after ≡ now
+frames-stay m settings now c None = refl
+frames-stay m settings now c (Some n) = refl
+
+pub thread-stays : {S : Type 0} (m : Meaning S) (settings : Settings) (now : Moment S) (c : Command) (count : Option ℕ) → (thread_by m settings now c count).after ≡ now
+thread-stays m settings now c None = refl
+thread-stays m settings now c (Some n) = refl

@@ -1,0 +1,11 @@
+use Rattle.std.proofs.Common.{◌∙◌, sym}
+use Rattle.jdwp_debuggee.proofs.Kept.{kept-raised, most-of}
+use Rattle.jdwp_debuggee.proofs.debuggee.Debuggee.suspend.Goals as goal
+
+pub change-requires : goal.change-requires
+change-requires g c = most-of g.M.Machine.meaning _ c.self.invariant
+
+pub invariant_of-self : goal.invariant_of-self
+invariant_of-self g c =
+    let below = rw c.count_limit.ensures.value at (sym c.stands_at.ensures ∙ c.if-stands_at.false) in
+    rw c.change.ensures (kept-raised g.M.Machine.meaning _ c.self.invariant (rw (← c.self.view_is) at c.requires) below)

@@ -1,0 +1,18 @@
+use Rattle.std.proofs.Common.{◌≡◌, Some, rules}
+use Rattle.jdwp_layout.specs.Reads.{data_at}
+use Rattle.jdwp_layout.specs.Shapes.{shape}
+use Rattle.jdwp_debuggee.specs.CommandReads.{asking}
+use Rattle.jdwp_debuggee.specs.ReadParts.{implemented_request}
+use Rattle.jdwp_debuggee.proofs.Read.{asks_content, asks_refused}
+use Rattle.jdwp_debuggee.proofs.reading.read_command.Goals as goal
+
+pub returns-in_ok-action-in-Ok-clause-value : goal.returns-in_ok-action-in-Ok-clause-value
+returns-in_ok-action-in-Ok-clause-value c =
+    let layout : implemented_request c.args.set c.args.number ≡ Some (shape c.in-Some-request_of.layout) = search rules in
+    asks_content c.args.sizes.now c.args.set c.args.number c.args.bytes.now _ _ (asking c.in_ok-action-in-Ok.action) layout c.in-Ok.ensures.value (rw c.new.ensures at c.in_ok-action-in-Ok.ensures)
+
+pub returns-in-Err-clause-value : goal.returns-in-Err-clause-value
+returns-in-Err-clause-value c =
+    let layout : implemented_request c.args.set c.args.number ≡ Some (shape c.in-Some-request_of.layout) = search rules in
+    asks_refused c.args.sizes.now c.args.set c.args.number c.args.bytes.now _ _ layout
+    (c.refused.ensures c.args.set c.args.number (data_at c.args.sizes.now (shape c.in-Some-request_of.layout) c.args.bytes.now) c.in-Err.ensures.value)

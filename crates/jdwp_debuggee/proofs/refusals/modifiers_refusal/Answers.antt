@@ -1,0 +1,15 @@
+use Rattle.std.proofs.Common.{◌<◌, length, sym, ◌∙◌}
+use Rattle.jdwp_debuggee.specs.RefusalParts.{moment_of}
+use Rattle.jdwp_debuggee.proofs.Refused.{passed_one, asked_later, not_some}
+use Rattle.jdwp_debuggee.proofs.refusals.modifiers_refusal.Goals as goal
+
+pub loop-modifier-preserved : goal.loop-modifier-preserved
+loop-modifier-preserved g c =
+    let within : c.loop-modifier.modifier-index < length c.args.modifiers.now = c.loop-modifier-test.true in
+    let none = sym c.in_ok-refusal.ensures.value ∙ not_some _ (sym c.is_some.ensures ∙ c.if-is_some.false) in
+    record {
+      same =
+          sym (passed_one g.M.Machine.meaning (moment_of c.args.threads.now c.args.machine.now) c.args.byte c.args.modifiers.now c.loop-modifier.modifier-index c.modifier-item.result within c.modifier-item.is none)
+          ∙ c.loop-modifier.invariant.same;
+      left = λ later. c.loop-modifier.invariant.left (asked_later c.args.modifiers.now c.loop-modifier.modifier-index c.modifier-item.result within c.modifier-item.is later);
+    }

@@ -1,0 +1,34 @@
+-- A debuggee: what it is made with, and its moment; and what the code keeps of it.
+use Rattle.std.specs.Prelude.{◌≡◌, ◌≤◌, ℕ, false, Some}
+use Rattle.jdwp_layout.specs.declared.answer.Answer.{Answer}
+use Rattle.jdwp_machine.specs.Meanings.{Meaning}
+use Rattle.jdwp_machine.specs.Laws.{AreDistinct}
+use Rattle.jdwp_debuggee.specs.Actions.{Action, Command}
+use Rattle.jdwp_debuggee.specs.Effects.{does}
+use Rattle.jdwp_debuggee.specs.Facts.{IsSound}
+use Rattle.jdwp_debuggee.specs.Settings.{Settings, IsCountLimit}
+use Rattle.jdwp_debuggee.specs.State.{State, Moment, count_of, ids}
+
+pub record Debuggee (S : Type 0) : Type 0 where
+  pub settings : Settings
+  pub moment : Moment S
+
+-- the same debuggee at another moment; with another state; with another machine
+abbrev pub at_moment : {S : Type 0} → Moment S → Debuggee S → Debuggee S
+at_moment moment d = record { settings = d.settings; moment = moment }
+
+abbrev pub with_state : {S : Type 0} → State → Debuggee S → Debuggee S
+with_state state d = at_moment (record { state = state; machine = d.moment.machine }) d
+
+-- What holds of every debuggee: its moment is sound, no thread stands twice, and every suspend count is 0 before the first handshake.
+pub record IsKept {S : Type 0} (m : Meaning S) (d : Debuggee S) : Type 0 where
+  pub sound : IsSound m d.settings d.moment
+  pub distinct : AreDistinct (ids d.moment.state.threads)
+  pub quiet : d.moment.state.handshaken ≡ false → (t n : ℕ) → count_of d.moment.state t ≡ Some n → n ≡ 0
+  pub limit : IsCountLimit d.settings.count_limit
+  pub next : d.moment.state.next_request ≤ 2147483648
+
+-- a command of this action was carried out: what became of the debuggee, and what is answered
+pub record CarriesOut {S : Type 0} (m : Meaning S) (action : Action) (old new : Debuggee S) (answer : Answer) : Type 0 where
+  pub after : (c : Command) → new ≡ at_moment (does m old.settings old.moment c action).after old
+  pub answers : (c : Command) → answer ≡ (does m old.settings old.moment c action).answer

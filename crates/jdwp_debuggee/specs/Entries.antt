@@ -1,0 +1,54 @@
+-- What the code keeps of live threads, and changes of their suspend counts.
+use Rattle.std.specs.Prelude.{ℕ, ◌≤◌, ◌==◌, nat_lt, Bool, true, Option, Some, None, List, [], ◌∷◌, map, if◌then◌else◌}
+use Rattle.std.specs.List.{list_any}
+use Rattle.jdwp_debuggee.specs.declared.threads.Change.{Change}
+use Rattle.jdwp_debuggee.specs.declared.threads.Change.TheVariants.{Raise, Lower, Clear, RaiseOne, LowerOne, RaiseBy}
+use Rattle.jdwp_debuggee.specs.declared.threads.ThreadEntry.{ThreadEntry}
+use Rattle.jdwp_debuggee.specs.State.{Thread, raised, lowered, cleared, only}
+use Rattle.jdwp_debuggee.specs.Steps.{raised_by}
+
+abbrev pub thread_of : ThreadEntry → Thread
+thread_of entry = record { id = entry.id.0; suspend_count = entry.suspend_count; death_reported = entry.death_reported }
+
+abbrev pub threads_of : List ThreadEntry → List Thread
+threads_of entries = map thread_of entries
+
+abbrev pub map_thread : Option ThreadEntry → Option Thread
+map_thread None = None
+map_thread (Some entry) = Some (thread_of entry)
+
+-- the entries, each count changed by a function of the thread and its count
+abbrev pub recount : (ℕ → ℕ → ℕ) → ThreadEntry → ThreadEntry
+recount change entry = record { id = entry.id; suspend_count = change entry.id.0 entry.suspend_count; death_reported = entry.death_reported }
+
+abbrev pub recounted : (ℕ → ℕ → ℕ) → List ThreadEntry → List ThreadEntry
+recounted change entries = map (recount change) entries
+
+abbrev pub change_of : Change → ℕ → ℕ → ℕ
+change_of Raise = raised
+change_of Lower = lowered
+change_of Clear = cleared
+change_of (RaiseOne thread) = only thread.0 raised
+change_of (LowerOne thread) = only thread.0 lowered
+change_of (RaiseBy policy thread) = raised_by policy thread.0
+
+-- no suspend count is above this
+abbrev pub AllAtMost : ℕ → List Thread → Type 0
+AllAtMost most [] = Unit {0}
+AllAtMost most (thread ∷ threads) = (thread.suspend_count ≤ most) × AllAtMost most threads
+
+-- a live thread stands at this count
+abbrev pub stands_at : ℕ → List Thread → Bool
+stands_at count threads = list_any (λ (thread : Thread). thread.suspend_count == count) threads
+
+-- the entries, one marked
+abbrev pub mark_of : ℕ → ThreadEntry → ThreadEntry
+mark_of t entry = if entry.id.0 == t then record entry { death_reported = true } else entry
+
+abbrev pub all_marked : ℕ → List ThreadEntry → List ThreadEntry
+all_marked t entries = map (mark_of t) entries
+
+-- the least of an id and those of threads
+abbrev pub least_of : ℕ → List Thread → ℕ
+least_of least [] = least
+least_of least (thread ∷ threads) = least_of (if nat_lt thread.id least then thread.id else least) threads

@@ -1,0 +1,40 @@
+-- Parts of reading commands.
+use Rattle.std.specs.Prelude.{◌≡◌, ℕ, ℤ, ◌==◌, true, List, [], length, Option, Some, None, Result, Ok, Err, if◌then◌else◌}
+use Rattle.byteorder.specs.Endian.{big_number}
+use Rattle.jdwp_wire.specs.declared.data_fault.DataFault.{DataFault}
+use Rattle.jdwp_wire.specs.declared.error_code.ErrorCode.{ErrorCode}
+use Rattle.jdwp_wire.specs.ErrorCodes.{ILLEGAL_ARGUMENT}
+use Rattle.jdwp_layout.specs.CommandTable.{row_at}
+use Rattle.jdwp_layout.specs.Meanings.{DatumMeaning}
+use Rattle.jdwp_layout.specs.Shapes.{ItemShape, shape}
+use Rattle.jdwp_layout.specs.declared.item.Layout.{Layout}
+use Rattle.jdwp_debuggee.specs.Actions
+use Rattle.jdwp_debuggee.specs.Actions.{Command, Raw, is_implemented}
+use Rattle.jdwp_debuggee.specs.CommandReads.{Asking, asking_of, row_request, with_content}
+
+abbrev pub unread : ℕ → ℕ → Command
+unread set number = record { set = set; number = number; carried = Raw [] }
+
+-- a command that is implemented, carries nothing, and asks for this
+abbrev pub IsBare : Asking → ℕ → ℕ → Type 0
+IsBare asking set number =
+    (is_implemented (unread set number) ≡ true) × (row_request (row_at set number) ≡ [])
+    × ((content : List DatumMeaning) → asking_of (with_content set number content) ≡ asking)
+
+-- an object id of this width, and nothing else
+abbrev pub object_alone : ℕ → List ℕ → Option ℕ
+object_alone width bytes = if length bytes == width then Some (big_number width bytes) else None
+
+-- what a Clear of this kind and id asks for; data that do not read are refused
+abbrev pub clear_asks : Result (ℕ × ℤ) DataFault → Result Asking ErrorCode
+clear_asks (Ok (kind, id)) = Ok (record { action = Actions.ClearRequest kind id; question = None })
+clear_asks (Err fault) = Err ILLEGAL_ARGUMENT
+
+-- ---- layouts
+
+abbrev pub found_layout : Option Layout → Option (List ItemShape)
+found_layout None = None
+found_layout (Some layout) = Some (shape layout)
+
+abbrev pub implemented_request : ℕ → ℕ → Option (List ItemShape)
+implemented_request set number = if is_implemented (unread set number) then Some (row_request (row_at set number)) else None

@@ -1,0 +1,87 @@
+-- What is sent for an answer (JDWP specification, "Packets": a reply's error code and data).
+use Rattle.std.specs.Prelude.{◌≡◌, ℕ, ◌+◌, ◌≤◌, ⊤, suc, nat_le, if◌then◌else◌, ◌∷◌, Bool, true, false, List, [], length, Option, Some, None}
+use Rattle.jdwp_wire.specs.ErrorCodes.{NONE}
+use Rattle.jdwp_wire.specs.Widths.{Widths}
+use Rattle.jdwp_wire.specs.declared.error_code.ErrorCode.{ErrorCode}
+use Rattle.jdwp_layout.specs.CommandTable.{row_at}
+use Rattle.jdwp_layout.specs.Meanings.{DatumMeaning}
+use Rattle.jdwp_layout.specs.Rows.{Row, RowShapes}
+use Rattle.jdwp_layout.specs.Shapes.{ItemShape}
+use Rattle.jdwp_layout.specs.Writes.{data_canonical, data_refusal}
+use Rattle.jdwp_layout.specs.declared.answer.Answer.{Answer}
+use Rattle.jdwp_layout.specs.declared.answer.Answer.TheVariants.{Data, Error}
+use Rattle.jdwp_machine.specs.Meanings.{Meaning}
+use Rattle.jdwp_debuggee.specs.Actions
+use Rattle.jdwp_debuggee.specs.Actions.{Action, Command, action_of}
+use Rattle.jdwp_debuggee.specs.Debuggees.{Debuggee, at_moment}
+use Rattle.jdwp_debuggee.specs.Effects.{does}
+use Rattle.jdwp_debuggee.specs.Replies.{reply_meaning}
+use Rattle.jdwp_debuggee.specs.declared.reply.Sent.{Sent}
+use Rattle.jdwp_debuggee.specs.declared.reply.Sent.TheVariants as sent
+
+-- the error code of a reply
+abbrev pub error_of : Answer → ErrorCode
+error_of (Data content) = NONE
+error_of (Error error) = error
+
+-- the data of a reply as they are written; none where the command was refused
+abbrev pub answer_bytes : Widths → Answer → List ℕ
+answer_bytes w (Data content) = data_canonical w content
+answer_bytes w (Error error) = []
+
+-- ---- in code
+
+abbrev pub sent_error : Sent → ErrorCode
+sent_error (sent.Short reply) = error_of (reply_meaning reply)
+sent_error (sent.Written bytes) = NONE
+
+abbrev pub sent_bytes : Widths → Sent → List ℕ
+sent_bytes w (sent.Short reply) = answer_bytes w (reply_meaning reply)
+sent_bytes w (sent.Written bytes) = bytes.items
+
+-- this is sent for an answer
+pub record IsSent (w : Widths) (answer : Answer) (sent : Sent) : Type 0 where
+  pub error : sent_error sent ≡ error_of answer
+  pub bytes : sent_bytes w sent ≡ answer_bytes w answer
+
+-- A command was carried out: what became of the debuggee, and what is sent, which fits a packet.
+pub record Did {S : Type 0} (m : Meaning S) (c : Command) (old new : Debuggee S) (sent : Sent) : Type 0 where
+  pub after : new ≡ at_moment (does m old.settings old.moment c (action_of c)).after old
+  pub sends : IsSent (m.sizes old.moment.machine) (does m old.settings old.moment c (action_of c)).answer sent
+  pub fits : 2048 ≤ old.settings.limits.packet → 11 + length (sent_bytes (m.sizes old.moment.machine) sent) ≤ old.settings.limits.packet
+
+-- the actions that want no memory
+abbrev pub is_short_action : Action → Bool
+is_short_action Actions.Exit = false
+is_short_action (Actions.SetRequest kind policy entries) = false
+is_short_action (Actions.SetSlots t f values) = false
+is_short_action (Actions.AskFrames t) = false
+is_short_action (Actions.AskThread t) = false
+is_short_action Actions.AllThreads = false
+is_short_action Actions.Ask = false
+is_short_action action = true
+
+-- how many stand before the first whose id is not less
+abbrev pub place_in : ℕ → List ℕ → ℕ
+place_in n [] = 0
+place_in n (x ∷ xs) = if nat_le n x then 0 else suc (place_in n xs)
+
+-- ---- data that can be written
+
+-- the layout of a row's reply
+abbrev pub shapes_reply : Option RowShapes → Option (List ItemShape)
+shapes_reply None = None
+shapes_reply (Some shapes) = Some shapes.reply
+
+abbrev pub row_reply : Option Row → Option (List ItemShape)
+row_reply None = None
+row_reply (Some row) = shapes_reply row.shapes
+
+abbrev pub AreWritable : Widths → Option (List ItemShape) → List DatumMeaning → Type 0
+AreWritable w None content = ⊥
+AreWritable w (Some shapes) content = data_refusal w shapes content ≡ None
+
+-- an answer to a command of this set and number, in the layout of its row's reply
+abbrev pub IsWritable : Widths → ℕ → ℕ → Answer → Type 0
+IsWritable w set number (Data content) = AreWritable w (row_reply (row_at set number)) content
+IsWritable w set number (Error error) = ⊤

@@ -1,0 +1,198 @@
+//! The commands that ask the machine or list the live threads, and StackFrame.SetValues (JDWP specification, "Protocol Details").
+ghost use Rattle.std.specs.Prelude.{◌≡◌, ℕ, ◌+◌, ◌≤◌, ◌∷◌, [], length, map, IfOk, OnErr};
+ghost use Rattle.jdwp_debuggee.specs.Actions as action;
+ghost use Rattle.jdwp_debuggee.specs.Actions.{Command};
+ghost use Rattle.jdwp_debuggee.specs.Answers.{all_threads, bounded, query_of};
+ghost use Rattle.jdwp_debuggee.specs.Debuggees.{CarriesOut};
+ghost use Rattle.jdwp_debuggee.specs.Effects.{does};
+ghost use Rattle.jdwp_debuggee.specs.ReadParts.{found_layout};
+ghost use Rattle.jdwp_debuggee.specs.Replies.{reply_meaning};
+ghost use Rattle.jdwp_debuggee.specs.Sending.{IsSent, IsWritable, row_reply, sent_bytes};
+ghost use Rattle.jdwp_layout.specs.CommandTable.{row_at};
+ghost use Rattle.jdwp_layout.specs.Meanings.{Object, entry_meanings};
+
+use crate::debuggee::Debuggee;
+use crate::reply::{Reply, Sent};
+use crate::settings::Settings;
+use jdwp_layout::numbers::{ALL_THREADS, VIRTUAL_MACHINE};
+use jdwp_layout::{Answer, Data, Datum, Layout, Scalar, layout_of, write};
+use jdwp_machine::{Machine, Query};
+use jdwp_value::{FrameId, ObjectId, Value};
+use jdwp_wire::{DataFault, ErrorCode, IdSizes, NoMemory};
+use std::alloc::Global;
+
+/// The layout of a command's reply, where its row has one.
+fn reply_layout(set: u8, number: u8) -> Option<Layout>
+    ensures { found_layout result ≡ row_reply (row_at set number) }
+{
+    let row = layout_of(set, number)?;
+    let layouts = row.layouts?;
+    Some(layouts.reply)
+}
+
+/// An answer to a command of this set and number, ready to be sent; `INTERNAL` where it is longer than a packet.
+///
+/// # Errors
+/// `NoMemory` where an allocation was refused.
+fn sent(
+    alloc: Global,
+    settings: &Settings,
+    set: u8,
+    number: u8,
+    sizes: &IdSizes,
+    answer: Answer,
+) -> Result<Sent, NoMemory>
+    requires { IsWritable sizes.now set number answer }
+    ensures value { IfOk result (λ sent. IsSent sizes.now (bounded settings.now sizes.now answer) sent) }
+    ensures fits { IfOk result (λ sent. 2048 ≤ settings.now.limits.packet → 11 + length (sent_bytes sizes.now sent) ≤ settings.now.limits.packet) }
+{
+    let content = match answer {
+        Answer::Error(error) => return Ok(Sent::Short(Reply::Refused(error))),
+        Answer::Data(content) => content,
+    };
+    let Some(layout) = reply_layout(set, number) else {
+        unreachable!();
+    };
+    let mut bytes = Vec::new(alloc);
+    match write(&layout, sizes, content.items(), &mut bytes) {
+        Ok(()) => {}
+        Err(DataFault::NoMemory) => return Err(NoMemory),
+        Err(
+            DataFault::Short(_)
+            | DataFault::Extra(_)
+            | DataFault::BadTag
+            | DataFault::NegativeCount
+            | DataFault::NotUtf8
+            | DataFault::BadSize
+            | DataFault::IdTooWide,
+        ) => unreachable!(),
+    }
+    if bytes.len() + 11 > settings.limits().packet() as usize {
+        return Ok(Sent::Short(Reply::Refused(ErrorCode::INTERNAL)));
+    }
+    Ok(Sent::Written(bytes))
+}
+
+impl<M: Machine> Debuggee<M> {
+    /// A question for the machine that is about no thread.
+    ///
+    /// # Errors
+    /// `NoMemory` where an allocation was refused.
+    pub fn ask(&self, alloc: Global, query: &Query) -> Result<Sent, NoMemory>
+        ensures value { IfOk result (λ sent. IsSent (M.meaning.sizes self.now.moment.machine) (bounded self.now.settings (M.meaning.sizes self.now.moment.machine) (M.meaning.query self.now.moment.machine query.now)) sent) }
+        ensures fits { IfOk result (λ sent. 2048 ≤ self.now.settings.limits.packet → 11 + length (sent_bytes (M.meaning.sizes self.now.moment.machine) sent) ≤ self.now.settings.limits.packet) }
+    {
+        let answer = self.machine.query(query)?;
+        let sizes = self.machine.sizes();
+        sent(
+            alloc,
+            &self.settings,
+            query.set,
+            query.number,
+            &sizes,
+            answer,
+        )
+    }
+
+    /// A question about a thread; `INVALID_THREAD` where it is not alive.
+    ///
+    /// # Errors
+    /// `NoMemory` where an allocation was refused.
+    pub fn ask_thread(
+        &self,
+        alloc: Global,
+        thread: ObjectId,
+        query: &Query,
+    ) -> Result<Sent, NoMemory>
+        ensures value { IfOk result (λ sent. (c : Command) → query_of c ≡ query.now → IsSent (M.meaning.sizes self.now.moment.machine) (does M.meaning self.now.settings self.now.moment c (action.AskThread thread.0)).answer sent) }
+        ensures fits { IfOk result (λ sent. 2048 ≤ self.now.settings.limits.packet → 11 + length (sent_bytes (M.meaning.sizes self.now.moment.machine) sent) ≤ self.now.settings.limits.packet) }
+    {
+        match self.threads.count(thread) {
+            None => Ok(Sent::Short(Reply::Refused(ErrorCode::INVALID_THREAD))),
+            Some(_) => self.ask(alloc, query),
+        }
+    }
+
+    /// A question about the frames of a thread; `INVALID_THREAD` where it is not alive, `THREAD_NOT_SUSPENDED` where it runs.
+    ///
+    /// # Errors
+    /// `NoMemory` where an allocation was refused.
+    pub fn ask_frames(
+        &self,
+        alloc: Global,
+        thread: ObjectId,
+        query: &Query,
+    ) -> Result<Sent, NoMemory>
+        ensures value { IfOk result (λ sent. (c : Command) → query_of c ≡ query.now → IsSent (M.meaning.sizes self.now.moment.machine) (does M.meaning self.now.settings self.now.moment c (action.AskFrames thread.0)).answer sent) }
+        ensures fits { IfOk result (λ sent. 2048 ≤ self.now.settings.limits.packet → 11 + length (sent_bytes (M.meaning.sizes self.now.moment.machine) sent) ≤ self.now.settings.limits.packet) }
+    {
+        match self.threads.count(thread) {
+            None => Ok(Sent::Short(Reply::Refused(ErrorCode::INVALID_THREAD))),
+            Some(0) => Ok(Sent::Short(Reply::Refused(ErrorCode::THREAD_NOT_SUSPENDED))),
+            Some(_) => self.ask(alloc, query),
+        }
+    }
+
+    /// StackFrame.SetValues: these slots of a frame of a suspended thread are written; `INVALID_THREAD` where it is not alive,
+    /// `THREAD_NOT_SUSPENDED` where it runs, else the machine's refusal.
+    ///
+    /// # Errors
+    /// `NoMemory` where an allocation was refused; then nothing has changed.
+    pub fn set_slots(
+        &mut self,
+        thread: ObjectId,
+        frame: FrameId,
+        values: &[(i32, Value)],
+    ) -> Result<Reply, NoMemory>
+        ensures ok { IfOk result (λ reply. CarriesOut M.meaning (action.SetSlots thread.0 frame.0 values.now) self.old self.new (reply_meaning reply)) }
+        ensures err { OnErr result (self.new ≡ self.old) }
+    {
+        match self.threads.count(thread) {
+            None => Ok(Reply::Refused(ErrorCode::INVALID_THREAD)),
+            Some(0) => Ok(Reply::Refused(ErrorCode::THREAD_NOT_SUSPENDED)),
+            Some(_) => match self.machine.write_slots(thread, frame, values)? {
+                Answer::Data(_) => Ok(Reply::Done),
+                Answer::Error(error) => Ok(Reply::Refused(error)),
+            },
+        }
+    }
+
+    /// VirtualMachine.AllThreads: the live threads by rising id; `INTERNAL` where they are longer than a packet.
+    ///
+    /// # Errors
+    /// `NoMemory` where an allocation was refused.
+    pub fn ask_all_threads(&self, alloc: Global) -> Result<Sent, NoMemory>
+        ensures value { IfOk result (λ sent. IsSent (M.meaning.sizes self.now.moment.machine) (bounded self.now.settings (M.meaning.sizes self.now.moment.machine) (all_threads self.now.moment.state)) sent) }
+        ensures fits { IfOk result (λ sent. 2048 ≤ self.now.settings.limits.packet → 11 + length (sent_bytes (M.meaning.sizes self.now.moment.machine) sent) ≤ self.now.settings.limits.packet) }
+    {
+        if self.threads.len() > self.settings.limits().packet() as usize {
+            return Ok(Sent::Short(Reply::Refused(ErrorCode::INTERNAL)));
+        }
+        let entries = listed(alloc, &self.threads.rising(alloc)?)?;
+        let mut items = Vec::new(alloc);
+        items.push(Datum::Many(entries))?;
+        let answer = Answer::Data(Data::new(items));
+        let sizes = self.machine.sizes();
+        sent(
+            alloc,
+            &self.settings,
+            VIRTUAL_MACHINE,
+            ALL_THREADS,
+            &sizes,
+            answer,
+        )
+    }
+}
+
+/// These threads, as the entries of a list.
+fn listed(alloc: Global, threads: &[u64]) -> Result<Vec<Vec<Scalar>>, NoMemory>
+    ensures { IfOk result (λ entries. entry_meanings entries.items ≡ map (λ (t : ℕ). Object t ∷ []) threads.now) }
+{
+    let mut entries = Vec::new(alloc);
+    for thread in threads {
+        let mut entry = Vec::new(alloc);
+        entry.push(Scalar::ObjectId(ObjectId(*thread)))?;
+        entries.push(entry)?;
+    }
+    Ok(entries)
+}

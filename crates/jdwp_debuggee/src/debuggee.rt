@@ -1,0 +1,193 @@
+//! The debuggee: its threads, its event requests, and the machine that it runs.
+ghost use Rattle.std.specs.Prelude.{◌≡◌, false, IfOk};
+ghost use Rattle.jdwp_event.specs.Composites.{vm_start};
+ghost use Rattle.jdwp_event.specs.Constants.{policy_byte};
+ghost use Rattle.jdwp_machine.specs.Meanings.{numbers};
+ghost use Rattle.jdwp_debuggee.specs.Debuggees.{with_state};
+ghost use Rattle.jdwp_debuggee.specs.State as spec;
+ghost use Rattle.jdwp_debuggee.specs.StepParts.{policy_at_start};
+ghost use Rattle.jdwp_debuggee.specs.Steps.{handshaken, start_event};
+
+use crate::settings::Settings;
+use crate::threads::{Change, Threads};
+use jdwp_event::{Policy, Requests};
+use jdwp_machine::Machine;
+use jdwp_value::ObjectId;
+use jdwp_wire::{IdSizes, NoMemory};
+use std::alloc::Global;
+use std::marker::Model;
+
+/// The debuggee behind a target: a machine, the suspend counts of its threads, and event requests.
+///
+/// Contracts see what it was made with, and its moment: the state of the debuggee and that of the machine.
+#[derive(Drop)]
+pub struct Debuggee<M: Machine> {
+    pub(crate) settings: Settings,
+    pub(crate) machine: M,
+    pub(crate) threads: Threads,
+    pub(crate) requests: Requests,
+    pub(crate) held: bool,
+    pub(crate) handshaken: bool,
+    pub(crate) alive: bool,
+    pub(crate) next_request: u32,
+    pub(crate) next_packet: u32,
+}
+
+impl<M: Machine> Model for Debuggee<M> {
+    ghost use Rattle.jdwp_debuggee.specs.Debuggees.{Debuggee, IsKept};
+
+    ghost Value = { Debuggee M };
+
+    ghost view = { λ d. record {
+      settings = d.settings;
+      moment = record {
+        state = record {
+          threads = d.threads;
+          requests = d.requests;
+          held = d.held;
+          handshaken = d.handshaken;
+          alive = d.alive;
+          next_request = d.next_request;
+          next_packet = d.next_packet;
+        };
+        machine = d.machine;
+      };
+    } };
+
+    ghost invariant = { λ d. IsKept M.meaning (record {
+      settings = d.settings;
+      moment = record {
+        state = record {
+          threads = d.threads;
+          requests = d.requests;
+          held = d.held;
+          handshaken = d.handshaken;
+          alive = d.alive;
+          next_request = d.next_request;
+          next_packet = d.next_packet;
+        };
+        machine = d.machine;
+      };
+    }) };
+}
+
+impl<M: Machine> Debuggee<M> {
+    /// A debuggee before its first session: all threads of the machine run.
+    ///
+    /// # Errors
+    /// `NoMemory` where an allocation was refused.
+    pub fn new(alloc: Global, machine: M, settings: Settings) -> Result<Debuggee<M>, NoMemory>
+    where
+        M: Drop,
+        ensures { IfOk result (λ d. d ≡ record { settings = settings; moment = record { state = spec.new_state (M.meaning.live machine); machine = machine } }) }
+    {
+        let threads = Threads::new(alloc, machine.live())?;
+        settings.count_limit();
+        Ok(Debuggee {
+            settings,
+            machine,
+            threads,
+            requests: Requests::new(alloc),
+            held: false,
+            handshaken: false,
+            alive: true,
+            next_request: 1,
+            next_packet: 1,
+        })
+    }
+
+    /// The suspend count of a thread, or None where it is not alive.
+    pub fn count(&self, thread: ObjectId) -> Option<u32>
+        ensures { result ≡ spec.count_of self.now.moment.state thread.0 }
+    {
+        self.threads.count(thread)
+    }
+
+    /// Whether the machine is alive.
+    pub fn is_alive(&self) -> bool
+        ensures { result ≡ self.now.moment.state.alive }
+    {
+        self.alive
+    }
+
+    /// Whether the first handshake of the target's life was completed.
+    pub fn is_handshaken(&self) -> bool
+        ensures { result ≡ self.now.moment.state.handshaken }
+    {
+        self.handshaken
+    }
+
+    /// The id of the target's next packet.
+    pub fn next_packet(&self) -> u32
+        ensures { result ≡ self.now.moment.state.next_packet }
+    {
+        self.next_packet
+    }
+
+    /// The threads that live, in the machine's order.
+    pub fn live(&self) -> &[ObjectId]
+        ensures { numbers result.now ≡ M.meaning.live self.now.moment.machine }
+    {
+        self.machine.live()
+    }
+
+    /// The event requests, by rising id.
+    pub fn requests(&self) -> &Requests
+        ensures { result.now ≡ self.now.moment.state.requests }
+    {
+        &self.requests
+    }
+
+    /// How many bytes each kind of id takes.
+    pub fn sizes(&self) -> IdSizes
+        ensures { result ≡ M.meaning.sizes self.now.moment.machine }
+    {
+        self.machine.sizes()
+    }
+
+    /// The end of a session, by Dispose or by a loss: every suspend count is 0, there are no requests, and events are not held.
+    pub fn reset(&mut self)
+        ensures { self.new ≡ with_state (spec.reset self.old.moment.state) self.old }
+    {
+        self.threads.change(Change::Clear);
+        self.requests.clear();
+        self.held = false;
+    }
+
+    /// The first handshake of the target's life is completed. Answers what VM_START says; its policy ALL suspends every thread.
+    pub fn handshake(&mut self) -> Start
+        requires { self.old.moment.state.handshaken ≡ false }
+        ensures state { self.new ≡ with_state (handshaken self.old.settings self.old.moment.state) self.old }
+        ensures says { vm_start (policy_byte result.policy) result.thread.0 ≡ start_event self.old.settings self.old.moment.state }
+        ensures packet { result.packet ≡ self.old.moment.state.next_packet }
+    {
+        let start = Start {
+            policy: start_policy(self.settings.start_all()),
+            thread: self.threads.least(),
+            packet: self.next_packet,
+        };
+        self.threads
+            .change(Change::RaiseBy(start.policy.byte(), start.thread));
+        self.handshaken = true;
+        self.next_packet = self.next_packet.wrapping_add(1);
+        start
+    }
+}
+
+/// The policy of VM_START.
+fn start_policy(start_all: bool) -> Policy
+    ensures { policy_byte result ≡ policy_at_start start_all }
+{
+    if start_all { Policy::All } else { Policy::None }
+}
+
+/// What VM_START says: its policy, the live thread of least id, and the id of its packet.
+#[derive(Clone, Copy, Debug, PartialEq, Eq)]
+pub struct Start {
+    /// ALL where all threads begin suspended, else NONE.
+    pub policy: Policy,
+    /// The live thread of least id.
+    pub thread: ObjectId,
+    /// The id of the packet.
+    pub packet: u32,
+}

@@ -1,0 +1,165 @@
+//! Reading commands: those that carry little without memory, and all others by the table of commands
+//! (JDWP specification, "Protocol Details").
+ghost use Rattle.std.specs.Prelude.{◌≡◌, ℕ, Result, ◌∷◌, [], true, false, List, IfOk, IfErr, MatchOption, Some, None};
+ghost use Rattle.jdwp_wire.specs.Widths.{Widths};
+ghost use Rattle.jdwp_wire.specs.declared.data_fault.DataFault.{DataFault};
+ghost use Rattle.jdwp_wire.specs.Reading.{Fails};
+ghost use Rattle.jdwp_layout.specs.Meanings.{DatumMeaning};
+ghost use Rattle.jdwp_debuggee.specs.CommandReads.{asked_meaning, asking, asks, command_read, content_read, is_short};
+ghost use Rattle.jdwp_debuggee.specs.ReadParts.{IsBare, clear_asks, found_layout, implemented_request, object_alone};
+ghost use Rattle.jdwp_debuggee.specs.RefusalParts.{found_thread};
+
+use crate::command::{Action, Asked};
+use jdwp_layout::numbers::{
+    CLEAR_ALL_BREAKPOINTS, CLEAR_REQUEST, DISPOSE, EVENT, EVENT_REQUEST, HOLD_EVENTS, ID_SIZES,
+    RELEASE_EVENTS, RESUME, RESUME_THREAD, SUSPEND, SUSPEND_COUNT, SUSPEND_THREAD,
+    THREAD_REFERENCE, THREAD_STATUS, VIRTUAL_MACHINE,
+};
+use jdwp_layout::{Data, Layout, layout_of, read};
+use jdwp_value::ObjectId;
+use jdwp_wire::{DataFault, ErrorCode, IdSizes, NoMemory, Wire};
+use std::alloc::Global;
+
+/// What a command comes to that carries nothing.
+fn bare(set: u8, number: u8, action: Action, bytes: &[u8]) -> Asked
+    requires { IsBare (asking action) set number }
+    ensures { (w : Widths) → asked_meaning result ≡ asks (command_read w set number bytes.now) }
+{
+    if bytes.is_empty() {
+        Asked::Carries(action)
+    } else {
+        Asked::Refuses(ErrorCode::ILLEGAL_ARGUMENT)
+    }
+}
+
+/// The object id that the data are, and nothing else.
+fn object(alloc: Global, sizes: &IdSizes, bytes: &[u8]) -> Option<ObjectId>
+    ensures { found_thread result ≡ object_alone sizes.now.object bytes.now }
+{
+    match ObjectId::take(alloc, bytes, sizes) {
+        Ok((id, used)) if used == bytes.len() => Some(id),
+        Ok(_) | Err(_) => None,
+    }
+}
+
+/// What a command of ThreadReference comes to that carries a thread alone.
+fn read_of_thread(alloc: Global, number: u8, sizes: &IdSizes, bytes: &[u8]) -> Option<Asked>
+    ensures { MatchOption result (is_short 11 number ≡ false) (λ asked. (is_short 11 number ≡ true) × (asked_meaning asked ≡ asks (command_read sizes.now 11 number bytes.now))) }
+{
+    let thread = object(alloc, sizes, bytes);
+    match (number, thread) {
+        (SUSPEND_THREAD, Some(thread)) => Some(Asked::Carries(Action::SuspendThread(thread))),
+        (RESUME_THREAD, Some(thread)) => Some(Asked::Carries(Action::ResumeThread(thread))),
+        (THREAD_STATUS, Some(thread)) => Some(Asked::Carries(Action::ThreadStatus(thread))),
+        (SUSPEND_COUNT, Some(thread)) => Some(Asked::Carries(Action::SuspendCount(thread))),
+        (SUSPEND_THREAD | RESUME_THREAD | THREAD_STATUS | SUSPEND_COUNT, None) => {
+            Some(Asked::Refuses(ErrorCode::ILLEGAL_ARGUMENT))
+        }
+        _ => None,
+    }
+}
+
+/// The kind and the id that the data of an EventRequest.Clear are.
+fn take_clear(alloc: Global, sizes: &IdSizes, bytes: &[u8]) -> Result<(u8, i32), DataFault>
+    ensures { asks (command_read sizes.now 15 2 bytes.now) ≡ clear_asks result }
+{
+    let (kind, rest) = u8::take_front(alloc, bytes, bytes.len(), sizes)?;
+    let (id, rest) = i32::take_front(alloc, rest, bytes.len(), sizes)?;
+    if !rest.is_empty() {
+        return Err(DataFault::Extra(bytes.len() - rest.len()));
+    }
+    Ok((kind, id))
+}
+
+/// What an EventRequest.Clear comes to.
+fn read_clear(alloc: Global, sizes: &IdSizes, bytes: &[u8]) -> Asked
+    ensures { asked_meaning result ≡ asks (command_read sizes.now 15 2 bytes.now) }
+{
+    match take_clear(alloc, sizes, bytes) {
+        Ok((kind, id)) => Asked::Carries(Action::ClearRequest { kind, id }),
+        Err(_) => Asked::Refuses(ErrorCode::ILLEGAL_ARGUMENT),
+    }
+}
+
+/// What a command comes to that is read without memory; None where it is none of those.
+fn read_short(alloc: Global, set: u8, number: u8, sizes: &IdSizes, bytes: &[u8]) -> Option<Asked>
+    ensures { MatchOption result (is_short set number ≡ false) (λ asked. (is_short set number ≡ true) × (asked_meaning asked ≡ asks (command_read sizes.now set number bytes.now))) }
+{
+    match (set, number) {
+        (VIRTUAL_MACHINE, SUSPEND) => Some(bare(set, number, Action::Suspend, bytes)),
+        (VIRTUAL_MACHINE, RESUME) => Some(bare(set, number, Action::Resume, bytes)),
+        (VIRTUAL_MACHINE, HOLD_EVENTS) => Some(bare(set, number, Action::HoldEvents, bytes)),
+        (VIRTUAL_MACHINE, RELEASE_EVENTS) => {
+            Some(bare(set, number, Action::ReleaseEvents, bytes))
+        }
+        (VIRTUAL_MACHINE, ID_SIZES) => Some(bare(set, number, Action::IdSizes, bytes)),
+        (VIRTUAL_MACHINE, DISPOSE) => Some(bare(set, number, Action::Dispose, bytes)),
+        (EVENT_REQUEST, CLEAR_ALL_BREAKPOINTS) => {
+            Some(bare(set, number, Action::ClearBreakpoints, bytes))
+        }
+        (EVENT_REQUEST, CLEAR_REQUEST) => Some(read_clear(alloc, sizes, bytes)),
+        (THREAD_REFERENCE, _) => read_of_thread(alloc, number, sizes, bytes),
+        _ => None,
+    }
+}
+
+/// What a command comes to whose data do not read for this fault.
+fn refused(fault: DataFault) -> Result<Asked, NoMemory>
+    ensures { (set number : ℕ) (found : Result (List DatumMeaning) DataFault) → Fails fault found → IfOk result (λ asked. asked_meaning asked ≡ asks (content_read set number found)) }
+{
+    match fault {
+        DataFault::NoMemory => Err(NoMemory),
+        DataFault::Short(_)
+        | DataFault::Extra(_)
+        | DataFault::BadTag
+        | DataFault::NegativeCount
+        | DataFault::NotUtf8
+        | DataFault::BadSize
+        | DataFault::IdTooWide => Ok(Asked::Refuses(ErrorCode::ILLEGAL_ARGUMENT)),
+    }
+}
+
+/// The layout of a command's data, where the command is implemented.
+fn request_of(set: u8, number: u8) -> Option<Layout>
+    ensures { found_layout result ≡ implemented_request set number }
+{
+    let row = layout_of(set, number)?;
+    let layouts = row.layouts?;
+    if row.starred || set == EVENT {
+        return None;
+    }
+    Some(layouts.request)
+}
+
+/// What a command of this set and number comes to that has these bytes as its data.
+///
+/// A command that is not implemented is refused with `NOT_IMPLEMENTED`, and its data are not read; one whose data do not read, or
+/// leave bytes over, with `ILLEGAL_ARGUMENT`. These take no memory: VirtualMachine's Suspend, Resume, HoldEvents, ReleaseEvents,
+/// IDSizes and Dispose; ThreadReference's Suspend, Resume, Status and SuspendCount; EventRequest's Clear and ClearAllBreakpoints.
+///
+/// # Errors
+/// `NoMemory` where an allocation was refused.
+pub fn read_command(
+    alloc: Global,
+    set: u8,
+    number: u8,
+    sizes: &IdSizes,
+    bytes: &[u8],
+) -> Result<Asked, NoMemory>
+    ensures value { IfOk result (λ asked. asked_meaning asked ≡ asks (command_read sizes.now set number bytes.now)) }
+    ensures memory { IfErr result (λ _. is_short set number ≡ false) }
+{
+    if let Some(asked) = read_short(alloc, set, number, sizes, bytes) {
+        return Ok(asked);
+    }
+    let Some(layout) = request_of(set, number) else {
+        return Ok(Asked::Refuses(ErrorCode::NOT_IMPLEMENTED));
+    };
+    match read(alloc, &layout, sizes, bytes) {
+        Ok(items) => {
+            let action = Action::of_command(alloc, set, number, Data::new(items))?;
+            Ok(Asked::Carries(action))
+        }
+        Err(fault) => refused(fault),
+    }
+}

@@ -1,0 +1,393 @@
+//! Which event requests are refused, and why (JDWP specification, "Protocol Details": EventRequest.Set).
+ghost use Rattle.std.specs.Prelude.{◌≡◌, ◌==◌, ◌&&◌, ℕ, true, length, map, nat_le, not, IfOk, IfErr, Some, None};
+ghost use Rattle.std.specs.List.{list_any, filter};
+ghost use Rattle.jdwp_event.specs.ModifierMeanings.{modifier_meaning};
+ghost use Rattle.jdwp_event.specs.RequestParts.{origin_meaning};
+ghost use Rattle.jdwp_wire.specs.ErrorCodes as codes;
+ghost use Rattle.jdwp_event.specs.declared.kind.EventKind.TheVariants as kind;
+ghost use Rattle.jdwp_debuggee.specs.Settings.{Settings};
+ghost use Rattle.jdwp_debuggee.specs.State.{Moment, count_in};
+ghost use Rattle.jdwp_debuggee.specs.Effects as effects;
+ghost use Rattle.jdwp_debuggee.specs.Refusals as spec;
+ghost use Rattle.jdwp_debuggee.specs.RefusalParts.{moment_of, room_by, asks_machine, found_thread};
+
+use crate::origins::origin_of;
+use crate::threads::Threads;
+use jdwp_event::{EventKind, Modifier, Policy, StepDepth, StepOrigin, StepSize};
+use jdwp_layout::numbers::{EVENT_REQUEST, REFERENCE_TYPE, SET_REQUEST, SIGNATURE};
+use jdwp_layout::{Answer, Data, Datum, Scalar};
+use jdwp_machine::{Machine, Query};
+use jdwp_value::{Location, ObjectId, ReferenceTypeId};
+use jdwp_wire::{ErrorCode, NoMemory};
+use std::alloc::Global;
+
+/// The kinds that may be requested.
+static REQUESTABLE: [EventKind; 9] = [
+    EventKind::SingleStep,
+    EventKind::Breakpoint,
+    EventKind::Exception,
+    EventKind::ThreadStart,
+    EventKind::ThreadDeath,
+    EventKind::ClassPrepare,
+    EventKind::MethodEntry,
+    EventKind::MethodExit,
+    EventKind::MethodExitWithReturnValue,
+];
+
+/// The kinds of events that are of no class.
+static OF_THREADS: [EventKind; 2] = [EventKind::ThreadStart, EventKind::ThreadDeath];
+
+/// The kinds at which a location says nothing of its own.
+static WITHOUT_LOCATIONS: [EventKind; 6] = [
+    EventKind::ThreadStart,
+    EventKind::ThreadDeath,
+    EventKind::ClassPrepare,
+    EventKind::MethodEntry,
+    EventKind::MethodExit,
+    EventKind::MethodExitWithReturnValue,
+];
+
+/// The greatest id of a request, which is an int on the wire.
+const LAST_REQUEST: u32 = 2_147_483_647;
+
+/// What an event request asks for.
+#[derive(Clone, Copy)]
+pub(crate) struct Asked<'a> {
+    /// The byte of the event kind.
+    pub kind: u8,
+    /// The byte of the suspend policy.
+    pub policy: u8,
+    /// The modifiers, in the order sent.
+    pub modifiers: &'a [Modifier],
+}
+
+/// How much room there is for another event request.
+#[derive(Clone, Copy)]
+pub(crate) struct Room {
+    /// How many requests there are.
+    pub count: usize,
+    /// How many there may be.
+    pub limit: u32,
+    /// The id of the next one.
+    pub next: u32,
+}
+
+/// The error, unless the test holds.
+fn unless(holds: bool, error: ErrorCode) -> Option<ErrorCode>
+    ensures { result ≡ spec.unless holds error }
+{
+    if holds { None } else { Some(error) }
+}
+
+/// The first refusal of two tests.
+fn or_else(first: Option<ErrorCode>, second: Option<ErrorCode>) -> Option<ErrorCode>
+    ensures { result ≡ spec.or_else first second }
+{
+    match first {
+        Some(error) => Some(error),
+        None => second,
+    }
+}
+
+/// Whether it is the byte of one of these kinds.
+fn is_one_of(kinds: &[EventKind], byte: u8) -> bool
+    ensures { result ≡ spec.is_one_of kinds.now byte }
+{
+    kinds.iter().any(|kind| byte == kind.byte())
+}
+
+/// A kind byte of no kind, and a kind that is not implemented.
+fn kind_refusal(byte: u8) -> Option<ErrorCode>
+    ensures { result ≡ spec.kind_refusal byte }
+{
+    match EventKind::of_byte(byte) {
+        None => Some(ErrorCode::INVALID_EVENT_TYPE),
+        Some(_) => unless(is_one_of(&REQUESTABLE, byte), ErrorCode::NOT_IMPLEMENTED),
+    }
+}
+
+/// A policy that the specification does not name.
+fn policy_refusal(byte: u8) -> Option<ErrorCode>
+    ensures { result ≡ spec.unless (nat_le byte 2) codes.ILLEGAL_ARGUMENT }
+{
+    unless(Policy::of_byte(byte).is_some(), ErrorCode::ILLEGAL_ARGUMENT)
+}
+
+impl Room {
+    /// Whether as many requests stand as may, or no id is left.
+    fn refusal(self) -> Option<ErrorCode>
+        ensures { result ≡ room_by self.count self.limit self.next }
+    {
+        unless(
+            self.count < self.limit as usize && self.next <= LAST_REQUEST,
+            ErrorCode::INTERNAL,
+        )
+    }
+}
+
+/// A thread that is not alive.
+fn thread_refusal(threads: &Threads, thread: ObjectId) -> Option<ErrorCode>
+    ensures { result ≡ spec.unless (spec.is_some_count (count_in threads.now thread.0)) codes.INVALID_THREAD }
+{
+    unless(threads.is_live(thread), ErrorCode::INVALID_THREAD)
+}
+
+/// The question for a class's signature.
+fn ask_signature(alloc: Global, class: ReferenceTypeId) -> Result<Query, NoMemory>
+    ensures { IfOk result (λ query. query ≡ spec.signature_query class.0) }
+{
+    let mut items = Vec::with_capacity(alloc, 1)?;
+    items.push(Datum::One(Scalar::ReferenceTypeId(class)))?;
+    Ok(Query {
+        set: REFERENCE_TYPE,
+        number: SIGNATURE,
+        content: Data::new(items),
+    })
+}
+
+/// A class that the machine does not know.
+fn class_refusal<M: Machine>(
+    alloc: Global,
+    machine: &M,
+    class: ReferenceTypeId,
+) -> Result<Option<ErrorCode>, NoMemory>
+    ensures { IfOk result (λ refusal. refusal ≡ spec.class_refusal M.meaning machine.now class.0) }
+{
+    let query = ask_signature(alloc, class)?;
+    match machine.query(&query)? {
+        Answer::Data(_) => Ok(None),
+        Answer::Error(error) => Ok(unless(
+            error.0 != ErrorCode::INVALID_CLASS.0,
+            ErrorCode::INVALID_CLASS,
+        )),
+    }
+}
+
+/// The question for a place: a Set of a breakpoint there.
+fn ask_location(alloc: Global, location: Location) -> Result<Query, NoMemory>
+    ensures { IfOk result (λ query. query ≡ spec.location_query location) }
+{
+    let mut modifier = Vec::with_capacity(alloc, 2)?;
+    modifier.push(Scalar::Byte(7))?;
+    modifier.push(Scalar::Location(location))?;
+    let mut modifiers = Vec::with_capacity(alloc, 1)?;
+    modifiers.push(modifier)?;
+    let mut items = Vec::with_capacity(alloc, 3)?;
+    items.push(Datum::One(Scalar::Byte(EventKind::Breakpoint.byte())))?;
+    items.push(Datum::One(Scalar::Byte(Policy::None.byte())))?;
+    items.push(Datum::Many(modifiers))?;
+    Ok(Query {
+        set: EVENT_REQUEST,
+        number: SET_REQUEST,
+        content: Data::new(items),
+    })
+}
+
+/// A place that is none, as the machine answers.
+fn location_refusal<M: Machine>(
+    alloc: Global,
+    machine: &M,
+    location: Location,
+) -> Result<Option<ErrorCode>, NoMemory>
+    ensures { IfOk result (λ refusal. refusal ≡ spec.location_refusal M.meaning machine.now location) }
+{
+    let query = ask_location(alloc, location)?;
+    match machine.query(&query)? {
+        Answer::Data(_) => Ok(None),
+        Answer::Error(error) => Ok(Some(error)),
+    }
+}
+
+/// A class of exceptions that the machine does not know; 0 is any.
+fn exception_refusal<M: Machine>(
+    alloc: Global,
+    machine: &M,
+    class: ReferenceTypeId,
+) -> Result<Option<ErrorCode>, NoMemory>
+    ensures value { IfOk result (λ refusal. refusal ≡ spec.exception_refusal M.meaning machine.now class.0) }
+    ensures memory { IfErr result (λ _. not (class.0 == 0) ≡ true) }
+{
+    if class.0 == 0 {
+        return Ok(None);
+    }
+    class_refusal(alloc, machine, class)
+}
+
+/// A modifier that says nothing in requests of these kinds.
+fn not_in(kinds: &[EventKind], byte: u8) -> Option<ErrorCode>
+    ensures { result ≡ spec.not_in kinds.now byte }
+{
+    unless(!is_one_of(kinds, byte), ErrorCode::ILLEGAL_ARGUMENT)
+}
+
+/// A Step in a request of another kind, or of a size or depth that the specification does not name.
+fn step_refusal(byte: u8, size: i32, depth: i32) -> Option<ErrorCode>
+    ensures { result ≡ spec.unless (spec.is_kind kind.SingleStep byte && (spec.is_size size && spec.is_depth depth)) codes.ILLEGAL_ARGUMENT }
+{
+    unless(
+        byte == EventKind::SingleStep.byte()
+            && StepSize::of_number(size).is_some()
+            && StepDepth::of_number(depth).is_some(),
+        ErrorCode::ILLEGAL_ARGUMENT,
+    )
+}
+
+/// Why a modifier is refused in a request of this kind.
+fn modifier_refusal<M: Machine>(
+    alloc: Global,
+    machine: &M,
+    threads: &Threads,
+    byte: u8,
+    modifier: &Modifier,
+) -> Result<Option<ErrorCode>, NoMemory>
+    ensures value { IfOk result (λ refusal. refusal ≡ spec.modifier_refusal M.meaning (moment_of threads.now machine.now) byte (modifier_meaning modifier.now)) }
+    ensures memory { IfErr result (λ _. asks_machine (modifier_meaning modifier.now) ≡ true) }
+{
+    match modifier {
+        Modifier::Count(count) => Ok(unless(*count >= 1, ErrorCode::INVALID_COUNT)),
+        Modifier::ThreadOnly(thread) => Ok(thread_refusal(threads, *thread)),
+        Modifier::ClassOnly(class) => {
+            let refusal = class_refusal(alloc, machine, *class)?;
+            Ok(or_else(refusal, not_in(&OF_THREADS, byte)))
+        }
+        Modifier::ClassMatch(_) | Modifier::ClassExclude(_) => Ok(not_in(&OF_THREADS, byte)),
+        Modifier::LocationOnly(location) => {
+            let refusal = location_refusal(alloc, machine, *location)?;
+            Ok(or_else(refusal, not_in(&WITHOUT_LOCATIONS, byte)))
+        }
+        Modifier::ExceptionOnly { class, .. } => {
+            let refusal = exception_refusal(alloc, machine, *class)?;
+            let is_exception = byte == EventKind::Exception.byte();
+            Ok(or_else(refusal, unless(is_exception, ErrorCode::ILLEGAL_ARGUMENT)))
+        }
+        Modifier::Step {
+            thread,
+            size,
+            depth,
+        } => Ok(or_else(
+            thread_refusal(threads, *thread),
+            step_refusal(byte, *size, *depth),
+        )),
+        Modifier::Conditional(_)
+        | Modifier::FieldOnly { .. }
+        | Modifier::InstanceOnly(_)
+        | Modifier::SourceNameMatch(_) => Ok(Some(ErrorCode::NOT_IMPLEMENTED)),
+    }
+}
+
+/// The refusal of the first modifier that is refused in a request of this kind.
+fn modifiers_refusal<M: Machine>(
+    alloc: Global,
+    machine: &M,
+    threads: &Threads,
+    byte: u8,
+    modifiers: &[Modifier],
+) -> Result<Option<ErrorCode>, NoMemory>
+    ensures value { IfOk result (λ refusal. refusal ≡ spec.modifiers_refusal M.meaning (moment_of threads.now machine.now) byte (map modifier_meaning modifiers.now)) }
+    ensures memory { IfErr result (λ _. list_any asks_machine (map modifier_meaning modifiers.now) ≡ true) }
+{
+    for modifier in modifiers {
+        let refusal = modifier_refusal(alloc, machine, threads, byte, modifier)?;
+        if refusal.is_some() {
+            return Ok(refusal);
+        }
+    }
+    Ok(None)
+}
+
+/// Whether there is a LocationOnly.
+fn has_location(modifiers: &[Modifier]) -> bool
+    ensures { result ≡ list_any spec.is_location (map modifier_meaning modifiers.now) }
+{
+    for modifier in modifiers {
+        if let Modifier::LocationOnly(_) = modifier {
+            return true;
+        }
+    }
+    false
+}
+
+/// How many modifiers are a Step.
+fn count_steps(modifiers: &[Modifier]) -> usize
+    ensures { result ≡ length (filter spec.is_step (map modifier_meaning modifiers.now)) }
+{
+    let mut count = 0;
+    for modifier in modifiers {
+        if let Modifier::Step { .. } = modifier {
+            count += 1;
+        }
+    }
+    count
+}
+
+/// What a request of a kind must have: a breakpoint a location, and a single step exactly one Step.
+fn shape_refusal(byte: u8, modifiers: &[Modifier]) -> Option<ErrorCode>
+    ensures { result ≡ spec.shape_refusal byte (map modifier_meaning modifiers.now) }
+{
+    if byte == EventKind::Breakpoint.byte() {
+        unless(has_location(modifiers), ErrorCode::ILLEGAL_ARGUMENT)
+    } else if byte == EventKind::SingleStep.byte() {
+        unless(count_steps(modifiers) == 1, ErrorCode::ILLEGAL_ARGUMENT)
+    } else {
+        None
+    }
+}
+
+/// Why an event request is refused; None where it is not. The tests are made in this order, and the first that fails is the answer:
+/// the kind (`INVALID_EVENT_TYPE`, `NOT_IMPLEMENTED`), the policy (`ILLEGAL_ARGUMENT`), room (`INTERNAL`), each modifier in the order
+/// sent, and what a request of the kind must have (`ILLEGAL_ARGUMENT`).
+///
+/// # Errors
+/// `NoMemory` where an allocation was refused, and only where the machine is asked about a modifier.
+pub(crate) fn set_refusal<M: Machine>(
+    alloc: Global,
+    machine: &M,
+    threads: &Threads,
+    room: Room,
+    asked: &Asked<'_>,
+) -> Result<Option<ErrorCode>, NoMemory>
+    ensures value { (settings : Settings) (now : Moment M) → now.machine ≡ machine.now → now.state.threads ≡ threads.now → length now.state.requests ≡ room.count → settings.limits.requests ≡ room.limit → now.state.next_request ≡ room.next → IfOk result (λ refusal. refusal ≡ spec.set_refusal M.meaning settings now asked.now.kind asked.now.policy (map modifier_meaning asked.now.modifiers.now)) }
+    ensures memory { IfErr result (λ _. list_any asks_machine (map modifier_meaning asked.now.modifiers.now) ≡ true) }
+{
+    let first = or_else(
+        kind_refusal(asked.kind),
+        or_else(policy_refusal(asked.policy), room.refusal()),
+    );
+    if first.is_some() {
+        return Ok(first);
+    }
+    let second = modifiers_refusal(alloc, machine, threads, asked.kind, asked.modifiers)?;
+    Ok(or_else(second, shape_refusal(asked.kind, asked.modifiers)))
+}
+
+/// The thread of the first Step.
+fn step_thread(modifiers: &[Modifier]) -> Option<ObjectId>
+    ensures { found_thread result ≡ effects.step_thread (map modifier_meaning modifiers.now) }
+{
+    for modifier in modifiers {
+        if let Modifier::Step { thread, .. } = modifier {
+            return Some(*thread);
+        }
+    }
+    None
+}
+
+/// From where the steps of a new request are measured: where the thread of its Step is.
+///
+/// # Errors
+/// `NoMemory` where an allocation was refused.
+pub(crate) fn first_origin<M: Machine>(
+    alloc: Global,
+    machine: &M,
+    modifiers: &[Modifier],
+) -> Result<StepOrigin, NoMemory>
+    ensures { IfOk result (λ origin. origin_meaning origin ≡ effects.first_origin M.meaning machine.now (effects.step_thread (map modifier_meaning modifiers.now))) }
+{
+    match step_thread(modifiers) {
+        Some(thread) => origin_of(alloc, machine, thread),
+        None => Ok(StepOrigin {
+            frames: 0,
+            line: None,
+        }),
+    }
+}

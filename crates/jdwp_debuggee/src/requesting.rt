@@ -1,0 +1,99 @@
+//! The commands that take memory: EventRequest.Set, and VirtualMachine.Exit, after which the machine is dead.
+ghost use Rattle.std.specs.Prelude.{◌≡◌, map, IfOk, OnErr};
+ghost use Rattle.jdwp_event.specs.ModifierMeanings.{modifier_meaning};
+ghost use Rattle.jdwp_layout.specs.Meanings.{entry_meanings};
+ghost use Rattle.jdwp_machine.specs.Meanings.{numbers};
+ghost use Rattle.jdwp_debuggee.specs.Actions as action;
+ghost use Rattle.jdwp_debuggee.specs.Debuggees.{CarriesOut};
+ghost use Rattle.jdwp_debuggee.specs.Effects.{all_ended};
+ghost use Rattle.jdwp_debuggee.specs.Refusals as refusals;
+ghost use Rattle.jdwp_debuggee.specs.Replies.{reply_meaning};
+
+use crate::debuggee::Debuggee;
+use crate::refusals::{Asked, Room, first_origin, set_refusal};
+use crate::reply::Reply;
+use jdwp_event::{Modifier, Request};
+use jdwp_layout::Scalar;
+use jdwp_machine::Machine;
+use jdwp_value::ObjectId;
+use jdwp_wire::{ErrorCode, NoMemory};
+use std::alloc::Global;
+
+/// Ends all live threads, in the machine's order.
+fn end_all<M: Machine>(machine: &mut M, threads: &[ObjectId])
+    requires state { M.meaning.is_state machine.old }
+    requires all { numbers threads.now ≡ M.meaning.live machine.old }
+    ensures { machine.new ≡ all_ended M.meaning machine.old (numbers threads.now) }
+{
+    for thread in threads {
+        machine.end(*thread);
+    }
+}
+
+impl<M: Machine> Debuggee<M> {
+    /// VirtualMachine.Exit: every thread ends, and the machine is dead. The session closes behind VM_DEATH.
+    ///
+    /// # Errors
+    /// `NoMemory` where an allocation was refused; then nothing has changed.
+    pub fn exit(&mut self, alloc: Global) -> Result<Reply, NoMemory>
+        ensures ok { IfOk result (λ reply. CarriesOut M.meaning action.Exit self.old self.new (reply_meaning reply)) }
+        ensures err { OnErr result (self.new ≡ self.old) }
+    {
+        let live = self.machine.live().to_vec(alloc)?;
+        end_all(&mut self.machine, live.as_slice());
+        self.threads.clear();
+        self.requests.clear();
+        self.alive = false;
+        Ok(Reply::Done)
+    }
+
+    /// EventRequest.Set of this kind and policy, with the entries of its list of modifiers: the request under the next id, which is
+    /// answered; or the first of the refusals.
+    ///
+    /// # Errors
+    /// `NoMemory` where an allocation was refused; then nothing has changed.
+    pub fn set_request(
+        &mut self,
+        alloc: Global,
+        kind: u8,
+        policy: u8,
+        entries: Vec<Vec<Scalar>>,
+    ) -> Result<Reply, NoMemory>
+        ensures ok { IfOk result (λ reply. CarriesOut M.meaning (action.SetRequest kind policy (entry_meanings entries.items)) self.old self.new (reply_meaning reply)) }
+        ensures err { OnErr result (self.new ≡ self.old) }
+    {
+        let modifiers = Modifier::of_entries(alloc, entries)?;
+        if let Some(error) = self.refusal_of(alloc, kind, policy, modifiers.as_slice())? {
+            return Ok(Reply::Refused(error));
+        }
+        let origin = first_origin(alloc, &self.machine, modifiers.as_slice())?;
+        let id = self.next_request;
+        let request = Request::new(alloc, id, kind, policy, modifiers, origin)?;
+        self.requests.insert(request)?;
+        self.next_request = id + 1;
+        Ok(Reply::Number(id))
+    }
+
+    /// Why an event request is refused; None where it is not.
+    fn refusal_of(
+        &self,
+        alloc: Global,
+        kind: u8,
+        policy: u8,
+        modifiers: &[Modifier],
+    ) -> Result<Option<ErrorCode>, NoMemory>
+        ensures { IfOk result (λ refusal. refusal ≡ refusals.set_refusal M.meaning self.now.settings self.now.moment kind policy (map modifier_meaning modifiers.now)) }
+    {
+        let room = Room {
+            count: self.requests.len(),
+            limit: self.settings.limits().requests(),
+            next: self.next_request,
+        };
+        let asked = Asked {
+            kind,
+            policy,
+            modifiers,
+        };
+        set_refusal(alloc, &self.machine, &self.threads, room, &asked)
+    }
+}

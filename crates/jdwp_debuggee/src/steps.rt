@@ -1,0 +1,258 @@
+//! Steps of threads: what happens, what is sent, and who is suspended by it (JDWP specification, "Protocol Details": the command
+//! Composite of the set Event).
+ghost use Rattle.std.specs.Prelude.{◌≡◌, ◌≤◌, ◌==◌, true, false, length, IfOk, IfErr, OnOk, OnErr};
+ghost use Rattle.std.specs.List.{filter};
+ghost use Rattle.jdwp_event.specs.Composites.{gathered};
+ghost use Rattle.jdwp_event.specs.Occurrences.{started, runs_out};
+ghost use Rattle.jdwp_machine.specs.Meanings.{has};
+ghost use Rattle.jdwp_debuggee.specs.Entries.{AllAtMost};
+ghost use Rattle.jdwp_debuggee.specs.State.{is_marked, is_other};
+ghost use Rattle.jdwp_debuggee.specs.Steps.{may_step};
+ghost use Rattle.jdwp_debuggee.specs.StepParts.{Steps, StepsOrNot, is_full_by, is_ready, number_of, packet_after, raised_for, unless_last, with_new};
+
+use crate::debuggee::Debuggee;
+use crate::threads::{Change, Threads};
+use jdwp_event::{Composite, Happening, Occurrence, Requests, count_down, gather};
+use jdwp_machine::Machine;
+use jdwp_value::ObjectId;
+use jdwp_wire::NoMemory;
+use std::alloc::Global;
+
+/// What a step did.
+#[derive(Drop)]
+pub struct StepDone {
+    /// What is sent, if any request reports what happened.
+    pub sends: Option<Composite>,
+    /// Whether the thread ended.
+    pub ends: bool,
+    /// Whether it was the last, so that the machine died.
+    pub dies: bool,
+}
+
+/// The thread that a happening starts.
+fn thread_started(happening: &Happening) -> Option<ObjectId>
+    ensures { number_of result ≡ started happening.now }
+{
+    match happening.occurrence() {
+        Occurrence::Started => Some(happening.thread()),
+        _ => None,
+    }
+}
+
+/// Whether the thread has run out.
+fn has_run_out(happening: &Happening) -> bool
+    ensures { result ≡ runs_out happening.now }
+{
+    matches!(happening.occurrence(), Occurrence::RanOut)
+}
+
+/// Adds a thread that starts.
+fn add_started(threads: &mut Threads, started: Option<ObjectId>) -> Result<(), NoMemory>
+    ensures ok { OnOk result (threads.new ≡ with_new (number_of started) threads.old) }
+    ensures err { OnErr result (threads.new ≡ threads.old) }
+{
+    match started {
+        Some(thread) => threads.add(thread),
+        None => Ok(()),
+    }
+}
+
+/// Suspends the threads that the policy of what is sent suspends.
+fn suspend_for(threads: &mut Threads, sends: &Option<Composite>, event_thread: ObjectId)
+    requires { AllAtMost 2147483647 threads.old }
+    ensures { threads.new ≡ raised_for sends.now event_thread.0 threads.old }
+{
+    if let Some(composite) = sends {
+        threads.change(Change::RaiseBy(composite.policy(), event_thread));
+    }
+}
+
+/// The id of the next packet, behind what is sent.
+fn id_after(id: u32, sends: &Option<Composite>) -> u32
+    ensures { result ≡ packet_after sends.now id }
+{
+    match sends {
+        Some(_) => id.wrapping_add(1),
+        None => id,
+    }
+}
+
+/// Ends a live thread, and with the last one all event requests. Whether it was the last.
+fn end_thread<M: Machine>(
+    machine: &mut M,
+    threads: &mut Threads,
+    requests: &mut Requests,
+    thread: ObjectId,
+) -> bool
+    requires { has (M.meaning.live machine.old) thread.0 ≡ true }
+    ensures machine { machine.new ≡ M.meaning.ended machine.old thread.0 }
+    ensures threads { threads.new ≡ filter (is_other thread.0) threads.old }
+    ensures last { result ≡ (length threads.new == 0) }
+    ensures requests { requests.new ≡ unless_last result requests.old }
+{
+    machine.end(thread);
+    threads.remove(thread);
+    if threads.len() == 0 {
+        requests.clear();
+        return true;
+    }
+    false
+}
+
+impl<M: Machine> Debuggee<M> {
+    /// Whether a thread may step: the first handshake was completed, the machine is alive, events are not held, the thread is alive
+    /// and not suspended, no live thread stands at the count limit, and no thread too many would start.
+    ///
+    /// # Errors
+    /// `NoMemory` where an allocation was refused; only where nothing but a thread too many could forbid the step.
+    pub fn may_step(&self, thread: ObjectId) -> Result<bool, NoMemory>
+        ensures exact { IfOk result (λ may. may ≡ may_step M.meaning self.now.settings self.now.moment thread.0) }
+        ensures memory { IfErr result (λ _. is_ready self.now.settings self.now.moment.state thread.0 ≡ true) }
+    {
+        if !self.is_ready(thread) {
+            return Ok(false);
+        }
+        let happening = self.machine.next(thread)?;
+        Ok(!self.is_full(&happening))
+    }
+
+    /// One step of a thread, if it may make one.
+    ///
+    /// # Errors
+    /// `NoMemory` where an allocation was refused; only where nothing but a thread too many could forbid the step, and then nothing
+    /// has changed.
+    pub fn step(&mut self, alloc: Global, thread: ObjectId) -> Result<Option<StepDone>, NoMemory>
+        ensures exact { IfOk result (λ done. StepsOrNot M.meaning thread.0 self.old self.new done) }
+        ensures unchanged { OnErr result (self.new ≡ self.old) }
+        ensures memory { IfErr result (λ _. is_ready self.old.settings self.old.moment.state thread.0 ≡ true) }
+    {
+        if !self.is_ready(thread) {
+            return Ok(None);
+        }
+        let happening = self.machine.next(thread)?;
+        if self.is_full(&happening) {
+            return Ok(None);
+        }
+        if self.threads.is_marked(thread) {
+            return Ok(Some(self.end(thread)));
+        }
+        let sends = gather(alloc, &self.requests, &happening)?;
+        if has_run_out(&happening) {
+            return Ok(Some(self.run_out(thread, &happening, sends)));
+        }
+        let done = self.advance(thread, &happening, sends)?;
+        Ok(Some(done))
+    }
+
+    /// Whether a thread may step but for a thread too many that would start.
+    fn is_ready(&self, thread: ObjectId) -> bool
+        ensures { result ≡ is_ready self.now.settings self.now.moment.state thread.0 }
+    {
+        self.handshaken
+            && self.alive
+            && !self.held
+            && matches!(self.threads.count(thread), Some(0))
+            && !self.threads.stands_at(self.settings.count_limit())
+    }
+
+    /// Whether one thread more than there may be would start.
+    fn is_full(&self, happening: &Happening) -> bool
+        ensures { result ≡ is_full_by (started happening.now) self.now.settings self.now.moment.state }
+    {
+        match thread_started(happening) {
+            Some(_) => self.threads.len() >= self.settings.limits().live() as usize,
+            None => false,
+        }
+    }
+
+    /// The step of a thread whose death was reported: it ends.
+    fn end(&mut self, thread: ObjectId) -> StepDone
+        requires may { may_step M.meaning self.old.settings self.old.moment thread.0 ≡ true }
+        requires marked { is_marked self.old.moment.state thread.0 ≡ true }
+        ensures { Steps M.meaning thread.0 self.old self.new result }
+    {
+        let dies = end_thread(
+            &mut self.machine,
+            &mut self.threads,
+            &mut self.requests,
+            thread,
+        );
+        self.alive = !dies;
+        StepDone {
+            sends: None,
+            ends: true,
+            dies,
+        }
+    }
+
+    /// The step of a thread that has run out: it ends, or its death is reported.
+    fn run_out(
+        &mut self,
+        thread: ObjectId,
+        happening: &Happening,
+        sends: Option<Composite>,
+    ) -> StepDone
+        requires may { may_step M.meaning self.old.settings self.old.moment thread.0 ≡ true }
+        requires unmarked { is_marked self.old.moment.state thread.0 ≡ false }
+        requires next { happening.now ≡ M.meaning.next self.old.moment.machine thread.0 }
+        requires runs_out { runs_out happening.now ≡ true }
+        requires sends { sends ≡ gathered happening.now self.old.moment.state.requests }
+        ensures { Steps M.meaning thread.0 self.old self.new result }
+    {
+        count_down(&mut self.requests, happening);
+        if let Some(composite) = sends {
+            self.threads
+                .change(Change::RaiseBy(composite.policy(), happening.thread()));
+            self.threads.mark(thread);
+            self.next_packet = self.next_packet.wrapping_add(1);
+            return StepDone {
+                sends: Some(composite),
+                ends: false,
+                dies: false,
+            };
+        }
+        let dies = end_thread(
+            &mut self.machine,
+            &mut self.threads,
+            &mut self.requests,
+            thread,
+        );
+        self.alive = !dies;
+        StepDone {
+            sends: None,
+            ends: true,
+            dies,
+        }
+    }
+
+    /// Any other step.
+    fn advance(
+        &mut self,
+        thread: ObjectId,
+        happening: &Happening,
+        sends: Option<Composite>,
+    ) -> Result<StepDone, NoMemory>
+        requires may { may_step M.meaning self.old.settings self.old.moment thread.0 ≡ true }
+        requires unmarked { is_marked self.old.moment.state thread.0 ≡ false }
+        requires next { happening.now ≡ M.meaning.next self.old.moment.machine thread.0 }
+        requires runs_on { runs_out happening.now ≡ false }
+        requires sends { sends ≡ gathered happening.now self.old.moment.state.requests }
+        ensures ok { IfOk result (λ done. Steps M.meaning thread.0 self.old self.new done) }
+        ensures err { OnErr result (self.new ≡ self.old) }
+    {
+        let count = self.threads.len();
+        add_started(&mut self.threads, thread_started(happening))?;
+        if let Err(error) = self.machine.step(thread) {
+            self.threads.truncate(count);
+            return Err(error);
+        }
+        count_down(&mut self.requests, happening);
+        suspend_for(&mut self.threads, &sends, happening.thread());
+        self.next_packet = id_after(self.next_packet, &sends);
+        Ok(StepDone {
+            sends,
+            ends: false,
+            dies: false,
+        })
+    }
+}

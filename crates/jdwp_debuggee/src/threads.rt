@@ -1,0 +1,302 @@
+//! The live threads and their suspend counts.
+ghost use Rattle.std.specs.Prelude.{◌≡◌, ◌≤◌, ◌==◌, ◌++◌, ◌∷◌, [], map, length, take, false, OnOk, OnErr, IfOk};
+ghost use Rattle.std.specs.List.{list_any, filter};
+ghost use Rattle.jdwp_machine.specs.Meanings.{numbers};
+ghost use Rattle.jdwp_debuggee.specs.Entries.{AllAtMost, all_marked, change_of, least_of, map_thread, mark_of, recount, recounted, stands_at, threads_of};
+ghost use Rattle.jdwp_debuggee.specs.State as spec;
+ghost use Rattle.jdwp_debuggee.specs.State.{changed, is_marked_by, is_other, marked, running, thread_in};
+ghost use Rattle.jdwp_debuggee.specs.Refusals.{is_some_count};
+ghost use Rattle.jdwp_debuggee.specs.Answers.{first_of, rising};
+ghost use Rattle.jdwp_debuggee.specs.Sending.{place_in};
+
+use jdwp_value::ObjectId;
+use jdwp_wire::NoMemory;
+use std::alloc::Global;
+use std::marker::Model;
+
+/// A live thread with its suspend count, and whether its death was reported.
+#[derive(Clone, Copy)]
+struct ThreadEntry {
+    id: ObjectId,
+    suspend_count: u32,
+    death_reported: bool,
+}
+
+/// A change of the suspend counts of all live threads, or of one.
+#[derive(Clone, Copy)]
+pub(crate) enum Change {
+    /// Each rises by one.
+    Raise,
+    /// Each that is positive falls by one.
+    Lower,
+    /// Each is 0.
+    Clear,
+    /// This thread's rises by one.
+    RaiseOne(ObjectId),
+    /// This thread's falls by one, if it is positive.
+    LowerOne(ObjectId),
+    /// Those that the policy of this byte suspends rise by one, where the event is of this thread.
+    RaiseBy(u8, ObjectId),
+}
+
+impl Change {
+    /// The count of this thread after the change.
+    fn apply(self, thread: ObjectId, count: u32) -> u32
+        requires { count ≤ 2147483647 }
+        ensures { result ≡ change_of self thread.0 count }
+    {
+        match self {
+            Change::Raise => count + 1,
+            Change::Lower => count.saturating_sub(1),
+            Change::Clear => 0,
+            Change::RaiseOne(one) if one.0 == thread.0 => count + 1,
+            Change::LowerOne(one) if one.0 == thread.0 => count.saturating_sub(1),
+            Change::RaiseBy(2, _) => count + 1,
+            Change::RaiseBy(1, one) if one.0 == thread.0 => count + 1,
+            _ => count,
+        }
+    }
+}
+
+impl ThreadEntry {
+    fn change(&mut self, change: Change)
+        requires { self.old.suspend_count ≤ 2147483647 }
+        ensures { self.new ≡ recount (change_of change) self.old }
+    {
+        self.suspend_count = change.apply(self.id, self.suspend_count);
+    }
+
+    fn mark(&mut self, thread: ObjectId)
+        ensures { self.new ≡ mark_of thread.0 self.old }
+    {
+        if self.id.0 == thread.0 {
+            self.death_reported = true;
+        }
+    }
+}
+
+/// The live threads.
+#[derive(Drop)]
+pub(crate) struct Threads {
+    entries: Vec<ThreadEntry>,
+}
+
+impl Model for Threads {
+    ghost use Rattle.std.specs.Prelude.{List};
+    ghost use Rattle.jdwp_debuggee.specs.State.{Thread};
+    ghost use Rattle.jdwp_debuggee.specs.Entries.{threads_of};
+
+    ghost Value = { List Thread };
+
+    ghost view = { λ t. threads_of t.entries.items };
+}
+
+/// The entry of a thread, or None where it is not alive.
+fn find(entries: &[ThreadEntry], thread: ObjectId) -> Option<ThreadEntry>
+    ensures { map_thread result ≡ thread_in (threads_of entries.now) thread.0 }
+{
+    for entry in entries {
+        if entry.id.0 == thread.0 {
+            return Some(*entry);
+        }
+    }
+    None
+}
+
+/// Whether an entry's suspend count is this one.
+fn any_stands_at(entries: &[ThreadEntry], count: u32) -> bool
+    ensures { result ≡ list_any (λ (entry : ThreadEntry). entry.suspend_count == count) entries.now }
+{
+    entries.iter().any(|entry| entry.suspend_count == count)
+}
+
+/// Changes the suspend counts.
+fn change_counts(entries: &mut [ThreadEntry], change: Change)
+    requires { AllAtMost 2147483647 (threads_of entries.old) }
+    ensures { entries.new ≡ recounted (change_of change) entries.old }
+{
+    for entry in entries.iter_mut() {
+        entry.change(change);
+    }
+}
+
+/// Marks a thread's death as reported.
+fn mark_one(entries: &mut [ThreadEntry], thread: ObjectId)
+    ensures { entries.new ≡ all_marked thread.0 entries.old }
+{
+    for entry in entries.iter_mut() {
+        entry.mark(thread);
+    }
+}
+
+/// The least of this id and those of the entries.
+fn least_from(id: u64, entries: &[ThreadEntry]) -> u64
+    ensures { result ≡ least_of id (threads_of entries.now) }
+{
+    let mut least = id;
+    for entry in entries {
+        if entry.id.0 < least {
+            least = entry.id.0;
+        }
+    }
+    least
+}
+
+/// Where an id stands among rising ones: before the first that is not less.
+fn place_for(ids: &[u64], id: u64) -> usize
+    ensures within { result ≤ length ids.now }
+    ensures value { result ≡ place_in id ids.now }
+{
+    for (place, other) in ids.iter().enumerate() {
+        if id <= *other {
+            return place;
+        }
+    }
+    ids.len()
+}
+
+/// The ids of the entries, by rising id: each is put at its place, from the last one on.
+fn rising_ids(alloc: Global, entries: &[ThreadEntry]) -> Result<Vec<u64>, NoMemory>
+    ensures { IfOk result (λ ids. ids.items ≡ rising (spec.ids (threads_of entries.now))) }
+{
+    let [first, others @ ..] = entries else {
+        return Ok(Vec::new(alloc));
+    };
+    let mut ids = rising_ids(alloc, others)?;
+    let place = place_for(&ids, first.id.0);
+    ids.insert(place, first.id.0)?;
+    Ok(ids)
+}
+
+impl Threads {
+    /// These threads, which all run.
+    ///
+    /// # Errors
+    /// `NoMemory` where an allocation was refused.
+    pub(crate) fn new(alloc: Global, live: &[ObjectId]) -> Result<Threads, NoMemory>
+        ensures { IfOk result (λ threads. threads ≡ running (numbers live.now)) }
+    {
+        let mut entries = Vec::with_capacity(alloc, live.len())?;
+        for id in live {
+            entries.push(ThreadEntry {
+                id: *id,
+                suspend_count: 0,
+                death_reported: false,
+            })?;
+        }
+        Ok(Threads { entries })
+    }
+
+    /// How many there are.
+    pub(crate) fn len(&self) -> usize
+        ensures { result ≡ length self.now }
+    {
+        self.entries.len()
+    }
+
+    /// The suspend count of a thread, or None where it is not alive.
+    pub(crate) fn count(&self, thread: ObjectId) -> Option<u32>
+        ensures { result ≡ spec.count_in self.now thread.0 }
+    {
+        match find(&self.entries, thread) {
+            Some(entry) => Some(entry.suspend_count),
+            None => None,
+        }
+    }
+
+    /// Whether a thread is alive.
+    pub(crate) fn is_live(&self, thread: ObjectId) -> bool
+        ensures { result ≡ is_some_count (spec.count_in self.now thread.0) }
+    {
+        self.count(thread).is_some()
+    }
+
+    /// Whether a thread's death was reported.
+    pub(crate) fn is_marked(&self, thread: ObjectId) -> bool
+        ensures { result ≡ is_marked_by (thread_in self.now thread.0) }
+    {
+        match find(&self.entries, thread) {
+            Some(entry) => entry.death_reported,
+            None => false,
+        }
+    }
+
+    /// Whether a live thread's suspend count is this one.
+    pub(crate) fn stands_at(&self, count: u32) -> bool
+        ensures { result ≡ stands_at count self.now }
+    {
+        any_stands_at(&self.entries, count)
+    }
+
+    /// The live thread of least id; 0 where none lives.
+    pub(crate) fn least(&self) -> ObjectId
+        ensures { result.0 ≡ first_of (rising (spec.ids self.now)) }
+    {
+        match self.entries.as_slice() {
+            [] => ObjectId(0),
+            [first, others @ ..] => ObjectId(least_from(first.id.0, others)),
+        }
+    }
+
+    /// Their ids, by rising id.
+    ///
+    /// # Errors
+    /// `NoMemory` where an allocation was refused.
+    pub(crate) fn rising(&self, alloc: Global) -> Result<Vec<u64>, NoMemory>
+        ensures { IfOk result (λ ids. ids.items ≡ rising (spec.ids self.now)) }
+    {
+        rising_ids(alloc, &self.entries)
+    }
+
+    /// Changes the suspend counts.
+    pub(crate) fn change(&mut self, change: Change)
+        requires { AllAtMost 2147483647 self.old }
+        ensures { self.new ≡ changed (change_of change) self.old }
+    {
+        change_counts(self.entries.as_mut_slice(), change);
+    }
+
+    /// Marks a thread's death as reported.
+    pub(crate) fn mark(&mut self, thread: ObjectId)
+        ensures { self.new ≡ map (marked thread.0) self.old }
+    {
+        mark_one(self.entries.as_mut_slice(), thread);
+    }
+
+    /// Adds a thread at the end, which is not suspended.
+    ///
+    /// # Errors
+    /// `NoMemory` where an allocation was refused; then nothing has changed.
+    pub(crate) fn add(&mut self, thread: ObjectId) -> Result<(), NoMemory>
+        ensures ok { OnOk result (self.new ≡ self.old ++ record { id = thread.0; suspend_count = 0; death_reported = false } ∷ []) }
+        ensures err { OnErr result (self.new ≡ self.old) }
+    {
+        self.entries.push(ThreadEntry {
+            id: thread,
+            suspend_count: 0,
+            death_reported: false,
+        })?;
+        Ok(())
+    }
+
+    /// Keeps so many threads from the beginning.
+    pub(crate) fn truncate(&mut self, count: usize)
+        ensures { self.new ≡ take count self.old }
+    {
+        self.entries.truncate(count);
+    }
+
+    /// Removes a thread.
+    pub(crate) fn remove(&mut self, thread: ObjectId)
+        ensures { self.new ≡ filter (is_other thread.0) self.old }
+    {
+        self.entries.retain(|entry| entry.id.0 != thread.0);
+    }
+
+    /// Removes all of them.
+    pub(crate) fn clear(&mut self)
+        ensures { self.new ≡ [] }
+    {
+        self.entries.clear();
+    }
+}
