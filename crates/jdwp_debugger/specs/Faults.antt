@@ -1,5 +1,5 @@
 -- Which packets a debugger refuses from a target, and why. A refused packet closes the debugger's end.
-use Rattle.std.specs.Prelude.{ℕ, ℤ, pos, ◌==◌, nat_le, nat_lt, Bool, true, false, ◌||◌, ◌&&◌, not, List, [], ◌∷◌, length, Option, Some, None, is_some, if◌then◌else◌}
+use Rattle.std.specs.Prelude.{ℕ, pos, ◌==◌, nat_le, nat_lt, Bool, true, false, ◌||◌, ◌&&◌, not, List, [], ◌∷◌, length, Option, Some, None, is_some, if◌then◌else◌}
 use Rattle.std.specs.List.{list_any}
 use Rattle.jdwp_layout.specs.declared.answer.Answer.{Answer}
 use Rattle.jdwp_layout.specs.declared.answer.Answer.TheVariants.{Data, Error}

@@ -1,3 +1,10 @@
 pub mod Messages
 pub mod Mirror
 pub mod Faults
+pub mod Laws
+pub mod KnownThreads
+pub mod Acts
+pub mod Commands
+pub mod Mirrors
+pub mod Debuggers
+pub mod DebuggersKept

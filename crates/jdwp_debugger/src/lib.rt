@@ -1,2 +1,25 @@
 //! The debugger's end: what it reads from a target, and what it makes of it.
 #![tactic(auto)]
+
+mod command;
+mod composite;
+mod debugger;
+mod laws;
+mod mirror;
+mod pending;
+mod reply;
+mod requests;
+mod threads;
+
+pub use command::{Carried, Command};
+pub use debugger::Debugger;
+pub use laws::{
+    counts_by_commands, counts_by_events, forgets_ended_threads, keeps_requests, refuses_packets,
+};
+pub use mirror::Mirror;
+pub use pending::Ticket;
+pub use requests::KeptRequest;
+pub use threads::Known;
+
+#[cfg(test)]
+mod mirror_tests;

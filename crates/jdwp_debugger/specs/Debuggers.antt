@@ -1,0 +1,88 @@
+-- The debugger's end of a session, as contracts see it, and what each call does to it.
+use Rattle.std.specs.Prelude.{◌≡◌, ℕ, zero, suc, Bool, true, false, ◌||◌, List, [], ◌∷◌, Option, Some, None, is_some}
+use Rattle.std.specs.Borrow.{Bor}
+use Rattle.jdwp_wire.specs.Handshake.{handshake_bytes}
+use Rattle.jdwp_wire.specs.Streams.{NextMessage, Whole, More, Fault}
+use Rattle.jdwp_wire.specs.Limits.{Limits}
+use Rattle.jdwp_wire.specs.Widths.{Widths}
+use Rattle.jdwp_end.specs.Ends.{End}
+use Rattle.jdwp_end.specs.Ends as ends
+use Rattle.jdwp_debuggee.specs.Actions.{Command}
+use Rattle.jdwp_debugger.specs.declared.pending.Asked.{Asked}
+use Rattle.jdwp_debugger.specs.declared.pending.Ticket.{Ticket}
+use Rattle.jdwp_debugger.specs.Mirrors.{Mirror, empty_mirror}
+
+-- What both ends have; what was learned; the widths of ids, once they are known; the commands that wait for replies, in the order
+-- asked; and the id of the next packet.
+pub record Debugger : Type 0 where
+  pub end : End
+  pub mirror : Mirror
+  pub sizes : Option Widths
+  pub pending : List Asked
+  pub next_id : ℕ
+
+-- ---- commands that wait for replies
+
+-- A command with the ticket under which it was asked.
+pub record Unanswered : Type 0 where
+  pub ticket : ℕ
+  pub command : Command
+
+-- this one, where it has a ticket, and then those after it
+abbrev pub and_then : Option Ticket → Command → List Unanswered → List Unanswered
+and_then None c rest = rest
+and_then (Some k) c rest = record { ticket = k.0; command = c } ∷ rest
+
+-- those that have tickets, in the order asked
+abbrev pub unanswered : List Asked → List Unanswered
+unanswered [] = []
+unanswered (p ∷ ps) = and_then p.ticket p.command (unanswered ps)
+
+-- the one at a place, counted from 0
+abbrev pub at_place : List Unanswered → ℕ → Option Unanswered
+at_place [] place = None
+at_place (u ∷ us) zero = Some u
+at_place (u ∷ us) (suc place) = at_place us place
+
+abbrev pub seen_unanswered : Option (Ticket × Bor Command) → Option Unanswered
+seen_unanswered None = None
+seen_unanswered (Some p) = Some (record { ticket = p.0.0; command = p.1.now })
+
+abbrev pub has_tickets : List Asked → Bool
+has_tickets [] = false
+has_tickets (p ∷ ps) = is_some p.ticket || has_tickets ps
+
+-- the tickets of those that have one
+abbrev pub tickets_of : List Unanswered → List ℕ
+tickets_of [] = []
+tickets_of (u ∷ us) = u.ticket ∷ tickets_of us
+
+-- ---- what there is to handle
+
+-- a whole message or a fault
+abbrev pub is_front : NextMessage → Bool
+is_front (Whole message used) = true
+is_front (Fault fault) = true
+is_front More = false
+
+-- ---- what each call does
+
+-- a debugger before its first session
+abbrev pub new_debugger : Limits → ℕ → Debugger
+new_debugger limits first = record { end = ends.new_end limits; mirror = empty_mirror; sizes = None; pending = []; next_id = first }
+
+-- a session begins: the handshake is to leave
+abbrev pub attached : Debugger → Debugger
+attached d = record d { end = ends.with_enqueued handshake_bytes (ends.opened d.end); mirror = empty_mirror; sizes = None; pending = [] }
+
+-- bytes came
+abbrev pub with_fed : List ℕ → Debugger → Debugger
+with_fed bytes d = record d { end = ends.with_fed bytes d.end }
+
+-- bytes left
+abbrev pub with_taken : List ℕ → Debugger → Debugger
+with_taken bytes d = record d { end = ends.with_taken bytes d.end }
+
+-- the connection is lost: the end is closed, nothing waits to leave, nothing is known, and no command waits for a reply
+abbrev pub lost : Debugger → Debugger
+lost d = record d { end = ends.lost d.end; mirror = empty_mirror; sizes = None; pending = [] }

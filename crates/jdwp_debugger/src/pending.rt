@@ -1,0 +1,47 @@
+//! The commands that wait for replies.
+ghost use Rattle.std.specs.Prelude.{◌≡◌, ◌≤◌, length, take};
+ghost use Rattle.jdwp_debugger.specs.Debuggers.{at_place, has_tickets, seen_unanswered, tickets_of, unanswered};
+
+use crate::command::Command;
+
+/// The name of a command that was asked. Tickets rise from 1 for the life of a debugger, and none is given twice.
+#[derive(Clone, Copy, Debug, PartialEq, Eq, PartialOrd, Ord, Hash)]
+pub struct Ticket(pub u64);
+
+/// A command that waits for its reply.
+#[derive(Drop)]
+pub(crate) struct Asked {
+    /// The id of its packet.
+    pub id: u32,
+    /// None for IDSizes, which a debugger asks by itself.
+    pub ticket: Option<Ticket>,
+    pub command: Command,
+}
+
+/// Whether one of them has a ticket.
+pub(crate) fn have_tickets(pending: &[Asked]) -> bool
+    ensures { result ≡ has_tickets pending.now }
+{
+    for asked in pending {
+        if asked.ticket.is_some() {
+            return true;
+        }
+    }
+    false
+}
+
+/// The one at this place among those that have tickets, from 0; None past the last.
+pub(crate) fn unanswered_at(pending: &[Asked], place: usize) -> Option<(Ticket, &Command)>
+    ensures { seen_unanswered result ≡ at_place (unanswered pending.now) place }
+{
+    let mut left = place;
+    for asked in pending {
+        if let Some(ticket) = asked.ticket {
+            if left == 0 {
+                return Some((ticket, &asked.command));
+            }
+            left -= 1;
+        }
+    }
+    None
+}

@@ -1,0 +1,331 @@
+//! The threads that a debugger knows.
+ghost use Rattle.std.specs.Prelude.{◌≡◌, IfErr, OnOk, OnErr, [], is_some};
+ghost use Rattle.jdwp_debugger.specs.KnownThreads.{AreSound, all_taught, change_of, count_in, is_held_in, is_of_id, only, taught_by, with_thread, without};
+ghost use Rattle.jdwp_debugger.specs.Acts.{lesson_of, lesson_of_event, own_change, others_change, ready_for, with_counted};
+ghost use Rattle.jdwp_debugger.specs.Mirror.{counted, lists};
+
+use crate::command::Act;
+use crate::reply::{count_in_reply, is_listed};
+use jdwp_layout::Data;
+use jdwp_value::ObjectId;
+use jdwp_wire::NoMemory;
+use std::alloc::Global;
+use std::marker::Model;
+
+/// Where a count stops.
+const COUNT_MOST: u32 = 2_147_483_647;
+
+/// The suspend policies that suspend a thread.
+const SUSPEND_EVENT_THREAD: u8 = 1;
+
+const SUSPEND_ALL: u8 = 2;
+
+/// A thread that a debugger knows.
+#[derive(Clone, Copy, Debug, PartialEq, Eq)]
+pub struct Known {
+    pub id: ObjectId,
+    /// The suspend count, 0 to 2,147,483,647.
+    pub count: u32,
+    /// Whether it was shown alive since its count last rose above 0.
+    pub held: bool,
+}
+
+/// What becomes of a suspend count.
+#[derive(Clone, Copy, Debug, PartialEq, Eq)]
+pub(crate) enum Change {
+    Keep,
+    /// One more.
+    Raise,
+    /// One less, where it is above 0.
+    Lower,
+    Set(u32),
+}
+
+impl Change {
+    /// What a reply makes of the count of the thread that the command is about.
+    fn of_own(act: Act, reply: &Data) -> Change
+        ensures { result ≡ own_change act reply.now }
+    {
+        match act {
+            Act::SuspendThread => Change::Raise,
+            Act::ResumeThread => Change::Lower,
+            Act::SuspendCount => match count_in_reply(reply) {
+                Some(count) => Change::Set(count),
+                None => Change::Keep,
+            },
+            _ => Change::Keep,
+        }
+    }
+
+    /// What a reply makes of the counts of all others.
+    fn of_others(act: Act) -> Change
+        ensures { result ≡ others_change act }
+    {
+        match act {
+            Act::Suspend => Change::Raise,
+            Act::Resume => Change::Lower,
+            _ => Change::Keep,
+        }
+    }
+
+    fn apply(self, count: u32) -> u32
+        ensures { result ≡ change_of self count }
+    {
+        match self {
+            Change::Keep => count,
+            Change::Raise => count.saturating_add(1).min(COUNT_MOST),
+            Change::Lower => count.saturating_sub(1),
+            Change::Set(set) => set,
+        }
+    }
+}
+
+/// What a packet teaches of the threads that are known.
+#[derive(Clone, Copy, Debug, PartialEq, Eq)]
+pub(crate) struct Lesson {
+    /// The thread that the packet is about, and shows alive.
+    pub thread: Option<ObjectId>,
+    /// What becomes of its count.
+    pub own: Change,
+    /// What becomes of the counts of the others.
+    pub others: Change,
+    /// Whether the packet shows all of them alive.
+    pub shows_all: bool,
+}
+
+impl Lesson {
+    /// What a reply without an error teaches.
+    pub fn of_reply(act: Act, thread: Option<ObjectId>, reply: &Data) -> Lesson
+        ensures { result ≡ lesson_of act thread reply.now }
+    {
+        Lesson {
+            thread,
+            own: Change::of_own(act, reply),
+            others: Change::of_others(act),
+            shows_all: matches!(act, Act::AllThreads),
+        }
+    }
+
+    /// What a composite with this policy teaches that is of this thread.
+    pub fn of_event(thread: Option<ObjectId>, policy: u8) -> Lesson
+        ensures { result ≡ lesson_of_event thread policy }
+    {
+        let suspends_all = policy == SUSPEND_ALL;
+        let count = if suspends_all || policy == SUSPEND_EVENT_THREAD {
+            1
+        } else {
+            0
+        };
+        Lesson {
+            thread,
+            own: Change::Set(count),
+            others: if suspends_all {
+                Change::Raise
+            } else {
+                Change::Keep
+            },
+            shows_all: false,
+        }
+    }
+
+    fn is_about(self, id: ObjectId) -> bool
+        ensures { result ≡ is_of_id self.thread id.0 }
+    {
+        match self.thread {
+            Some(thread) => thread.0 == id.0,
+            None => false,
+        }
+    }
+
+    fn teach(self, known: Known) -> Known
+        ensures { result ≡ taught_by self known }
+    {
+        let is_own = self.is_about(known.id);
+        let change = if is_own { self.own } else { self.others };
+        let count = change.apply(known.count);
+        Known {
+            id: known.id,
+            count,
+            held: count != 0 && (self.shows_all || is_own || known.held),
+        }
+    }
+}
+
+/// Known threads in the order in which they became known, each once.
+#[derive(Drop)]
+pub(crate) struct Threads {
+    entries: Vec<Known>,
+}
+
+impl Model for Threads {
+    ghost use Rattle.std.specs.Prelude.{List};
+    ghost use Rattle.jdwp_debugger.specs.declared.threads.Known.{Known};
+
+    ghost Value = { List Known };
+
+    ghost use Rattle.jdwp_debugger.specs.KnownThreads.{AreSound};
+
+    ghost view = { λ t. t.entries.items };
+
+    ghost invariant = { λ t. AreSound t.entries.items };
+}
+
+impl Threads {
+    /// No threads.
+    pub fn new(alloc: Global) -> Threads
+        ensures { result ≡ [] }
+    {
+        Threads {
+            entries: Vec::new(alloc),
+        }
+    }
+
+    /// All of them, in the order in which they became known.
+    pub fn as_slice(&self) -> &[Known]
+        ensures all { result.now ≡ self.now }
+        ensures sound { AreSound self.now }
+    {
+        self.entries.as_slice()
+    }
+
+    /// The count of a thread, or None where it is not known.
+    pub fn count(&self, id: ObjectId) -> Option<u32>
+        ensures { result ≡ count_in self.now id.0 }
+    {
+        count_among(&self.entries, id)
+    }
+
+    /// Whether a thread is held.
+    pub fn is_held(&self, id: ObjectId) -> bool
+        ensures { result ≡ is_held_in self.now id.0 }
+    {
+        is_held_among(&self.entries, id)
+    }
+
+    /// Makes a thread known, with a count of 0, where it is not.
+    ///
+    /// # Errors
+    /// `NoMemory` where an allocation was refused; nothing has changed.
+    pub fn meet(&mut self, id: ObjectId) -> Result<(), NoMemory>
+        ensures ok { OnOk result (self.new ≡ with_thread id self.old) }
+        ensures err { OnErr result (self.new ≡ self.old) }
+    {
+        if count_among(&self.entries, id).is_some() {
+            return Ok(());
+        }
+        self.entries.push(Known {
+            id,
+            count: 0,
+            held: false,
+        })?;
+        Ok(())
+    }
+
+    /// Changes counts, and holds what is shown alive.
+    pub fn learn(&mut self, lesson: Lesson)
+        ensures { self.new ≡ all_taught lesson self.old }
+    {
+        teach_all(&mut self.entries, lesson);
+    }
+
+    /// What holds of all threads that are known. It does nothing.
+    pub fn are_sound(&self)
+        ensures { AreSound self.now }
+    {
+        let _entries = &self.entries;
+    }
+
+    /// Makes a thread known whose count was read, and forgets those that a reply says are not alive.
+    ///
+    /// # Errors
+    /// `NoMemory` where an allocation was refused; nothing has changed.
+    pub fn make_ready(
+        &mut self,
+        act: Act,
+        thread: Option<ObjectId>,
+        reply: &Data,
+    ) -> Result<(), NoMemory>
+        ensures ok { OnOk result (self.new ≡ ready_for act thread reply.now self.old) }
+        ensures err { OnErr result (self.new ≡ self.old) }
+    {
+        match act {
+            Act::SuspendCount => self.meet_counted(thread, reply),
+            Act::AllThreads => {
+                self.keep_listed(reply);
+                Ok(())
+            }
+            Act::Exit | Act::Dispose => {
+                self.clear();
+                Ok(())
+            }
+            _ => Ok(()),
+        }
+    }
+
+    fn meet_counted(&mut self, thread: Option<ObjectId>, reply: &Data) -> Result<(), NoMemory>
+        ensures ok { OnOk result (self.new ≡ with_counted thread (counted reply.now) self.old) }
+        ensures err { OnErr result (self.new ≡ self.old) }
+    {
+        match (thread, count_in_reply(reply)) {
+            (Some(id), Some(_)) => self.meet(id),
+            _ => Ok(()),
+        }
+    }
+
+    fn keep_listed(&mut self, reply: &Data)
+        ensures { self.new ≡ only (lists reply.now) self.old }
+    {
+        self.entries.retain(|known| is_listed(reply, known.id));
+    }
+
+    /// Forgets a thread.
+    pub fn forget(&mut self, id: ObjectId)
+        ensures { self.new ≡ without id.0 self.old }
+    {
+        let id = id.0;
+        self.entries.retain(|known| known.id.0 != id);
+    }
+
+    /// Forgets all of them.
+    pub fn clear(&mut self)
+        ensures { self.new ≡ [] }
+    {
+        self.entries.clear();
+    }
+}
+
+fn count_among(entries: &[Known], id: ObjectId) -> Option<u32>
+    ensures { result ≡ count_in entries.now id.0 }
+{
+    for known in entries {
+        if known.id.0 == id.0 {
+            return Some(known.count);
+        }
+    }
+    None
+}
+
+fn is_held_among(entries: &[Known], id: ObjectId) -> bool
+    ensures { result ≡ is_held_in entries.now id.0 }
+{
+    for known in entries {
+        if known.id.0 == id.0 {
+            return known.held;
+        }
+    }
+    false
+}
+
+fn teach_each(entries: &mut [Known], lesson: Lesson)
+    ensures { entries.new ≡ all_taught lesson entries.old }
+{
+    for known in entries.iter_mut() {
+        *known = lesson.teach(*known);
+    }
+}
+
+fn teach_all(entries: &mut Vec<Known>, lesson: Lesson)
+    ensures { entries.new.items ≡ all_taught lesson entries.old.items }
+{
+    teach_each(entries.as_mut_slice(), lesson);
+}
