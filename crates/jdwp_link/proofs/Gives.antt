@@ -4,7 +4,7 @@ use Rattle.std.specs.Prelude.{nat_lt}
 use Rattle.std.proofs.lemmas.Bool.{cond_both}
 use Rattle.std.proofs.lemmas.List.{append-nil}
 use Rattle.jdwp_layout.specs.declared.answer.Answer.{Answer}
-use Rattle.jdwp_event.specs.Composites.{CompositeMeaning, vm_death}
+use Rattle.jdwp_event.specs.Composites.{CompositeMeaning}
 use Rattle.jdwp_event.specs.Told.{is_vm_death}
 use Rattle.jdwp_machine.specs.Meanings.{Meaning}
 use Rattle.jdwp_debuggee.specs.Settings.{Settings}
@@ -12,13 +12,13 @@ use Rattle.jdwp_debuggee.specs.State.{Moment}
 use Rattle.jdwp_debuggee.specs.Actions.{Command}
 use Rattle.jdwp_debuggee.specs.Effects.{Effect, effect}
 use Rattle.jdwp_debuggee.specs.Steps.{occurs, may_step, start_event}
-use Rattle.jdwp_debugger.specs.Messages.{Ticket, Call, Greets, Asks, Message, Handshake, Reply, Report}
+use Rattle.jdwp_debugger.specs.Messages.{Ticket, Call, Greets, Asks, Handshake, Reply, Report}
 use Rattle.jdwp_debugger.specs.Mirror.{ends}
 use Rattle.jdwp_debugger.specs.Faults.{Fault, fault_of}
 use Rattle.jdwp_link.specs.Events
 use Rattle.jdwp_link.specs.Events.{LinkEvent, AskRefusal, Outcome}
 use Rattle.jdwp_link.specs.World.{Measure, Phase, Closed, Waiting, Open, is_closed, Packet, World, way_to_target, way_to_debugger, opening}
-use Rattle.jdwp_link.specs.Next.{attached, may_attach, attaches, ask_refusal, asks, ask_by, started, greets_by, dies_by, answers, target_takes, target_handles, target_turn_at, target_turn, lost_tickets, debugger_closed, closes_by, composites_of, answered, has_end, reads_reply, reads_composite, reads, reader, debugger_handles, debugger_takes, debugger_turn_at, debugger_turn, told, step_ends, steps, next, outcomes}
+use Rattle.jdwp_link.specs.Next.{attached, may_attach, ask_refusal, ask_by, started, greets_by, dies_by, answers, target_takes, target_handles, target_turn_at, target_turn, lost_tickets, debugger_closed, closes_by, composites_of, answered, has_end, reads_reply, reads_composite, reads, reader, debugger_handles, debugger_takes, debugger_turn_at, told, step_ends, next, outcomes}
 use Rattle.jdwp_link.specs.Given.{gives_call, gives_front, gives_turn, gives, given, told_answers, IsIn, TellsWhatWasGiven}
 
 -- the answers under way

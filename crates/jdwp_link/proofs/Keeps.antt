@@ -19,7 +19,7 @@ use Rattle.jdwp_debuggee.specs.Answers.{least_thread, first_of, rising}
 use Rattle.jdwp_debuggee.specs.Effects.{Effect, effect}
 use Rattle.jdwp_debuggee.specs.Steps.{occurs, may_step, raised_by, start_event}
 use Rattle.jdwp_debuggee.specs.Facts.{IsSound, Quiet, Does, Tells, Died, Told, moved, requests_moved, is_data, is_dispose, is_exit}
-use Rattle.jdwp_debuggee.proofs.Threads.{count-changed}
+use Rattle.jdwp_debuggee.proofs.ThreadLists.{count-changed}
 use Rattle.jdwp_debuggee.proofs.Commands.{sound_counts}
 use Rattle.jdwp_debuggee.proofs.Happenings.{raised-by-most}
 use Rattle.jdwp_debuggee.proofs.AllFacts.{facts}
@@ -80,12 +80,12 @@ closed-not-open Closed h = refl
 closed-not-open Waiting h = absurd (cc)
 closed-not-open Open h = absurd (cc)
 
-open-not-closed : (p : Phase) → is_open p ≡ true → is_closed p ≡ false
+pub open-not-closed : (p : Phase) → is_open p ≡ true → is_closed p ≡ false
 open-not-closed Closed h = absurd (cc)
 open-not-closed Waiting h = absurd (cc)
 open-not-closed Open h = refl
 
-asked-nil : (rs : List Request) → all_asked rs ≡ [] → rs ≡ []
+pub asked-nil : (rs : List Request) → all_asked rs ≡ [] → rs ≡ []
 asked-nil [] h = refl
 asked-nil (r ∷ rs) h = absurd (cc)
 
@@ -397,7 +397,7 @@ same-ticket (Some n) = eq-eqb n n refl
 pub without-first : (k : Ticket) (c : Command) (ps : List (Ticket × Command)) → without_ticket k ((k, c) ∷ ps) ≡ ps
 without-first k c ps = ap (λ b. cond b ps ((k, c) ∷ without_ticket k ps)) (same-ticket k)
 
-or-parts : (a b : Bool) → (a || b) ≡ false → (a ≡ false) × (b ≡ false)
+pub or-parts : (a b : Bool) → (a || b) ≡ false → (a ≡ false) × (b ≡ false)
 or-parts true b h = absurd (cc)
 or-parts false b h = (refl, h)
 
@@ -473,11 +473,11 @@ keeps_composite m settings w n c a rest true i o g e h =
           }
     ] refl
 
-greeted-before : (b : Bool) (f g : Option Fault) → cond b f (Some Faults.BadHandshake) ≡ None → b ≡ true
+pub greeted-before : (b : Bool) (f g : Option Fault) → cond b f (Some Faults.BadHandshake) ≡ None → b ≡ true
 greeted-before true f g h = refl
 greeted-before false f g h = absurd (cc)
 
-not-greeted : (b : Bool) → cond b (Some Faults.BadHandshake) None ≡ None → b ≡ false
+pub not-greeted : (b : Bool) → cond b (Some Faults.BadHandshake) None ≡ None → b ≡ false
 not-greeted true h = absurd (cc)
 not-greeted false h = refl
 

@@ -3,6 +3,15 @@ pub mod Abouts
 pub mod Acts
 pub mod Session
 pub mod Keeps
+pub mod Cases
+pub mod Fair
+pub mod Fairness
+pub mod Phases
+pub mod Unready
 pub mod Theorems
 pub mod Settles
 pub mod Gives
+pub mod Faultless
+pub mod Frames
+pub mod Lasting
+pub mod WorkedMachine

@@ -118,7 +118,7 @@ known-before : (message : Message) (t : ℕ) (c : Option ℕ) → ends message �
 known-before message t c d s h = known-parts (forgets message t) (teaches message t) (is_some c) (sym (learned_known message t c d) ∙ h) (teaches_shows message t s)
 
 -- who lives after a packet lived before it
-moved-some : (message : Message) (t k : ℕ) (c : Option ℕ) → move message t c ≡ Some k → (j : ℕ) × (c ≡ Some j) × (move message t (Some j) ≡ Some k)
+pub moved-some : (message : Message) (t k : ℕ) (c : Option ℕ) → move message t c ≡ Some k → (j : ℕ) × (c ≡ Some j) × (move message t (Some j) ≡ Some k)
 moved-some message t k None h = let e = move_none message t in absurd (cc)
 moved-some message t k (Some j) h = (j, refl, h)
 

@@ -8,7 +8,7 @@ use Rattle.jdwp_machine.specs.Laws.{IsLawful}
 use Rattle.jdwp_debuggee.specs.Settings.{Settings}
 use Rattle.jdwp_debuggee.specs.State.{Moment, count_in, count_of, count_or_zero, or_zero, running, ids, new_state}
 use Rattle.jdwp_debuggee.specs.Answers.{inserted, rising, first_of}
-use Rattle.jdwp_debuggee.proofs.Threads.{has-count, ids-running, count-running}
+use Rattle.jdwp_debuggee.proofs.ThreadLists.{has-count, ids-running, count-running}
 use Rattle.jdwp_debugger.specs.Mirror.{all_kept, learned, is_positive}
 use Rattle.jdwp_link.specs.World.{World, Packet, is_closed, opening}
 use Rattle.jdwp_link.specs.Next.{run}
@@ -90,7 +90,7 @@ knows_and_holds m settings w i t =
       | false ↦ λ x. ((i.debugger.session x).mirrors.known t, (i.debugger.session x).mirrors.held t)
     ] refl
 
-seen-base : {S : Type 0} (read : List (Packet S)) (base past : Moment S) → IsLast read base → seen read ≡ Some past → past ≡ base
+pub seen-base : {S : Type 0} (read : List (Packet S)) (base past : Moment S) → IsLast read base → seen read ≡ Some past → past ≡ base
 seen-base [] base past l h = absurd (cc)
 seen-base (p ∷ ps) base past l h = let q : Some p.1 ≡ Some past = h in let e : p.1 ≡ past = cc in sym e ∙ l
 
@@ -117,7 +117,7 @@ above-zero zero h = absurd (cc)
 above-zero (suc n) h = omega arith
 
 -- the replies under way, composites that wait among them or not
-all-replies : {S : Type 0} (parked td : List (Packet S)) → replies parked ≡ [] → replies (parked ++ td) ≡ replies td
+pub all-replies : {S : Type 0} (parked td : List (Packet S)) → replies parked ≡ [] → replies (parked ++ td) ≡ replies td
 all-replies parked td h = replies_append parked td ∙ ap (λ x. x ++ replies td) h
 
 pub held_is_covered : {S : Type 0} (m : Meaning S) (settings : Settings) (w : World S) → Inv m settings w → HeldIsCovered w

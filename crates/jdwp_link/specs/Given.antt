@@ -1,15 +1,14 @@
 -- What the target answered, by the ticket.
-use Rattle.std.specs.Prelude.{◌≡◌, ℕ, nat_lt, Bool, true, false, ◌&&◌, not, ◌⊎◌, List, [], ◌∷◌, ◌++◌, Option, Some, None, if◌then◌else◌}
+use Rattle.std.specs.Prelude.{◌≡◌, ℕ, nat_lt, ◌&&◌, not, ◌⊎◌, List, [], ◌∷◌, ◌++◌, Some, if◌then◌else◌}
 use Rattle.jdwp_layout.specs.declared.answer.Answer.{Answer}
 use Rattle.jdwp_machine.specs.Meanings.{Meaning}
 use Rattle.jdwp_debuggee.specs.Settings.{Settings}
 use Rattle.jdwp_debuggee.specs.Effects.{effect}
-use Rattle.jdwp_debugger.specs.Messages.{Call, Greets, Asks}
+use Rattle.jdwp_debugger.specs.Messages.{Call, Asks}
 use Rattle.jdwp_link.specs.Events
 use Rattle.jdwp_link.specs.Events.{LinkEvent, Outcome}
-use Rattle.jdwp_link.specs.World.{Measure, Phase, Closed, Waiting, Open, is_closed, World, way_to_debugger, opening}
+use Rattle.jdwp_link.specs.World.{Measure, Phase, Open, is_closed, World, way_to_debugger, opening}
 use Rattle.jdwp_link.specs.Next.{next, outcomes}
-use Rattle.jdwp_link.specs.Headline.{MayBegin}
 
 -- the answer to the command that an open target handles, as it is then
 abbrev pub gives_call : {S : Type 0} → Meaning S → Settings → World S → Phase → Call → List (ℕ × Answer)

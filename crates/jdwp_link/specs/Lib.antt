@@ -5,3 +5,7 @@ pub mod Seen
 pub mod Headline
 pub mod Tickets
 pub mod Given
+pub mod Faultless
+pub mod Lasting
+pub mod WorkedMachine
+pub mod Worked

@@ -2,6 +2,8 @@
 ghost use Rattle.jdwp_link.specs.Headline.{Always, KnowsAndHolds, HasTheCounts, HasTheRequests, HeldIsSuspended, HeldIsCovered, CountIsAtMost};
 ghost use Rattle.jdwp_link.specs.Tickets.{SettlesInOrder};
 ghost use Rattle.jdwp_link.specs.Given.{TellsWhatWasGiven};
+ghost use Rattle.jdwp_link.specs.Faultless.{NoPacketIsRefused, NoCallIsRefused, AnswersFirstWaiting, FewWait, TurnsLoseNothing, TurnsCloseAtEnds, AtEachTurn};
+ghost use Rattle.jdwp_link.specs.Lasting.{AlwaysStaysTrue};
 
 use jdwp_machine::Machine;
 
@@ -40,4 +42,39 @@ pub fn settles_each_command_once<M: Machine>()
 /// Each answer that the debugger tells of a ticket is the one that the target gave to that same ticket, when it handled its command.
 pub fn tells_what_was_given<M: Machine>()
     ensures { TellsWhatWasGiven M.meaning }
+{}
+
+/// Neither end ever refuses what the other sent.
+///
+/// Whatever the debugger reads is a handshake where it waits for it, a reply to a command that waits for one and that says what such a
+/// reply has to say, or a composite that a target may send; and no more composites come before the widths of ids are known than may
+/// wait: never more than two do. The target reads the handshake first, and after it commands alone.
+pub fn meets_no_fault<M: Machine>()
+    ensures debugger { Always M.meaning NoPacketIsRefused }
+    ensures target { Always M.meaning NoCallIsRefused }
+    ensures waiting { Always M.meaning FewWait }
+{}
+
+/// A reply that the debugger reads next is to the command that waits longest, under its ticket.
+pub fn answers_the_first_waiting<M: Machine>()
+    ensures { Always M.meaning AnswersFirstWaiting }
+{}
+
+/// No turn is a loss, and none closes the debugger's end but at an end of the session.
+///
+/// A target that handles a message stays as it is in what it knows of losses: it takes nothing that came for nonsense. A debugger's
+/// turn closes its end only where the packet in front, or a composite that waited for the widths of ids, is VM_DEATH or the packet is
+/// an OK reply to Dispose.
+pub fn turns_close_at_ends_alone<M: Machine>()
+    ensures target { AtEachTurn M.meaning (TurnsLoseNothing M.meaning) }
+    ensures debugger { AtEachTurn M.meaning TurnsCloseAtEnds }
+{}
+
+/// What the debugger read of a suspended thread's frames (where they are, how many, their slots, their `this`) the target would answer
+/// now, whatever is under way.
+///
+/// This holds for as long as the thread's count was above 0 as each later packet was sent, the debugger has written no slot of the
+/// thread since, and fewer Resumes of it are unanswered than its count was as the last packet read was sent.
+pub fn frames_read_stay_true<M: Machine>()
+    ensures { AlwaysStaysTrue M.meaning }
 {}
