@@ -1,3 +1,8 @@
+pub mod Sends
+pub mod Standings
+pub mod Targets
+pub mod Insides
+pub mod Turns
 pub mod Machine
 pub mod Options
 pub mod Setup

@@ -7,14 +7,19 @@ mod command;
 mod fixed;
 mod handling;
 mod laws;
+mod machine_target;
 mod options;
+mod sending;
 mod state;
 mod target;
 
 pub use fixed::Fixed;
-pub use laws::starts_with_least_thread;
+pub use laws::{goes_on_at_each_call, starts_with_least_thread};
+pub use machine_target::{MachineTarget, Stepped};
 pub use options::TargetOptions;
 pub use target::{Target, TargetFault, Turn};
 
+#[cfg(test)]
+mod example_tests;
 #[cfg(test)]
 mod tests;

@@ -1,0 +1,37 @@
+-- What a target over a machine keeps inside, over each call.
+use Rattle.std.proofs.Common.{◌≡◌, ◌≤◌, ℕ, List, [], ◌∷◌, length, take, refl, sym, subst}
+use Rattle.jdwp_end.specs.declared.phase.Phase.{Phase}
+use Rattle.jdwp_end.specs.declared.phase.Phase.TheVariants.{Closed, AwaitingHandshake}
+use Rattle.jdwp_end.specs.Ends.{End}
+use Rattle.jdwp_end.specs.Ends as ends
+use Rattle.jdwp_machine.specs.Meanings.{Meaning}
+use Rattle.jdwp_debuggee.specs.Debuggees.{Debuggee, with_state}
+use Rattle.jdwp_debuggee.specs.State.{reset}
+use Rattle.jdwp_target.specs.Insides.{IsRight, target_of}
+use Rattle.jdwp_target.specs.Targets.{Ran}
+use Rattle.jdwp_target.proofs.TargetRuns.{ran-new, ran-opened, ran-lost, ran-taken}
+
+pub right-new : {S : Type 0} (m : Meaning S) (d : Debuggee S) → IsRight m d (d ∷ []) (Closed ∷ []) (ends.new_end d.settings.limits)
+right-new m d = record { some = (d, [], refl); handshaken = λ e. absurd cc; limits = refl; ran = ran-new m d.settings d.moment }
+
+pub right-opened : {S : Type 0} (m : Meaning S) (d : Debuggee S) (began : List (Debuggee S)) (phases : List Phase) (end : End) → IsRight m d began phases end
+    → IsRight m d (d ∷ []) (AwaitingHandshake ∷ []) (ends.opened end)
+right-opened m d began phases end k = record { some = (d, [], refl); handshaken = λ e. absurd cc; limits = k.limits; ran = ran-opened m (target_of d began phases end) }
+
+pub right-lost : {S : Type 0} (m : Meaning S) (d : Debuggee S) (began : List (Debuggee S)) (phases : List Phase) (end : End) → IsRight m d began phases end
+    → IsRight m (with_state (reset d.moment.state) d) began phases (ends.lost end)
+right-lost {S = S} m d began phases end k =
+    let first = k.some.0 in
+    let rest = k.some.1 in
+    let split : began ≡ first ∷ rest = k.some.2 in
+    let ran : Ran m (target_of d (first ∷ rest) phases end) = subst (λ (b : List (Debuggee S)). Ran m (target_of d b phases end)) split k.ran in
+    record {
+      some = k.some;
+      handshaken = λ e. absurd cc;
+      limits = k.limits;
+      ran = subst (λ (b : List (Debuggee S)). Ran m (target_of (with_state (reset d.moment.state) d) b phases (ends.lost end))) (sym split) (ran-lost m (target_of d (first ∷ rest) phases end) ran);
+    }
+
+pub right-taken : {S : Type 0} (m : Meaning S) (d : Debuggee S) (began : List (Debuggee S)) (phases : List Phase) (end : End) (n : ℕ) → n ≤ length end.outgoing → IsRight m d began phases end
+    → IsRight m d began phases (ends.with_taken (take n end.outgoing) end)
+right-taken m d began phases end n le k = record { some = k.some; handshaken = k.handshaken; limits = k.limits; ran = ran-taken m (target_of d began phases end) n le k.ran }

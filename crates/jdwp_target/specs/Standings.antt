@@ -1,0 +1,135 @@
+-- What a target over any machine does in a session, one act after the other (JDWP specification, "JDWP Handshake", "JDWP Packets", and
+-- "Protocol Details": VirtualMachine.Dispose, VirtualMachine.Exit and Event.Composite).
+use Rattle.std.specs.Prelude.{ℕ, Bool, true, false, List, [], ◌∷◌, ◌++◌, Option, Some, None, Result, Ok, Err}
+use Rattle.jdwp_wire.specs.Streams.{Message, Handshake, Packet}
+use Rattle.jdwp_wire.specs.Widths.{Widths}
+use Rattle.jdwp_wire.specs.declared.error_code.ErrorCode.{ErrorCode}
+use Rattle.jdwp_wire.specs.declared.packet.PacketKind.{PacketKind}
+use Rattle.jdwp_wire.specs.declared.packet.PacketKind.TheVariants as kind
+use Rattle.jdwp_end.specs.declared.phase.Phase.{Phase}
+use Rattle.jdwp_end.specs.declared.phase.Phase.TheVariants.{Closed, AwaitingHandshake, Established}
+use Rattle.jdwp_event.specs.Composites.{CompositeMeaning, vm_death}
+use Rattle.jdwp_machine.specs.Meanings.{Meaning}
+use Rattle.jdwp_debuggee.specs.Actions.{Command}
+use Rattle.jdwp_debuggee.specs.CommandReads.{command_read}
+use Rattle.jdwp_debuggee.specs.Effects.{Effect, effect, refused}
+use Rattle.jdwp_debuggee.specs.Settings.{Settings}
+use Rattle.jdwp_debuggee.specs.State.{Moment, reset, with_packet}
+use Rattle.jdwp_debuggee.specs.Steps.{Step, may_step, occurs, start_event, handshaken}
+use Rattle.jdwp_target.specs.Sends.{reply_to, report_of}
+
+-- An act: a message of the debugger's is handled, a thread is stepped, or the connection is lost.
+pub data Act : Type 0 where
+  Handles : Message → Act
+  Steps : ℕ → Act
+  Loses : Act
+
+-- what acts change: the moment of the debuggee, and the phase of the session
+pub record Standing (S : Type 0) : Type 0 where
+  pub moment : Moment S
+  pub phase : Phase
+
+-- how a target stands after an act, and what is sent for it
+pub record Reaction (S : Type 0) : Type 0 where
+  pub after : Standing S
+  pub sends : List Message
+
+abbrev pub stands : {S : Type 0} → Moment S → Phase → Standing S
+stands now phase = record { moment = now; phase = phase }
+
+-- ---- the handshake
+
+-- It is answered, and the first of the target's life is followed by VM_START, which takes a packet id and whose policy ALL suspends
+-- every thread.
+abbrev pub greets_by : {S : Type 0} → Meaning S → Settings → Moment S → Bool → Reaction S
+greets_by m settings now true = record { after = stands now Established; sends = Handshake ∷ [] }
+greets_by m settings now false = record {
+  after = stands (record { state = handshaken settings now.state; machine = now.machine }) Established;
+  sends = Handshake ∷ report_of (m.sizes now.machine) now.state.next_packet (start_event settings now.state) ∷ [];
+}
+
+-- ---- commands
+
+-- VM_DEATH takes a packet id
+abbrev pub after_death : {S : Type 0} → Moment S → Moment S
+after_death now = record { state = with_packet now.state; machine = now.machine }
+
+-- a command as it was read, or why it is refused
+abbrev pub carried_out : {S : Type 0} → Meaning S → Settings → Moment S → Result Command ErrorCode → Effect S
+carried_out m settings now (Ok c) = effect m settings now c
+carried_out m settings now (Err e) = refused now e
+
+abbrev pub phase_after : Bool → Phase
+phase_after true = Closed
+phase_after false = Established
+
+-- The reply is put behind the effect, and where the machine died VM_DEATH behind the reply.
+abbrev pub replies_by : {S : Type 0} → Widths → ℕ → Effect S → Bool → Reaction S
+replies_by w id e true = record { after = stands (after_death e.after) Closed; sends = reply_to w id e.answer ∷ report_of w e.after.state.next_packet vm_death ∷ [] }
+replies_by w id e false = record { after = stands e.after (phase_after e.closes); sends = reply_to w id e.answer ∷ [] }
+
+abbrev pub replies : {S : Type 0} → Widths → ℕ → Effect S → Reaction S
+replies w id e = replies_by w id e e.dies
+
+-- a reply that comes to a target is ignored
+abbrev pub handles_packet : {S : Type 0} → Meaning S → Settings → Moment S → ℕ → PacketKind → List ℕ → Reaction S
+handles_packet m settings now id (kind.Command set number) body = replies (m.sizes now.machine) id (carried_out m settings now (command_read (m.sizes now.machine) set number body))
+handles_packet m settings now id (kind.Reply error) body = record { after = stands now Established; sends = [] }
+
+abbrev pub handles : {S : Type 0} → Meaning S → Settings → Moment S → Message → Reaction S
+handles m settings now Handshake = greets_by m settings now now.state.handshaken
+handles m settings now (Packet header body) = handles_packet m settings now header.id header.kind body
+
+-- ---- steps
+
+abbrev pub reports : Widths → ℕ → Option CompositeMeaning → List Message
+reports w id None = []
+reports w id (Some c) = report_of w id c ∷ []
+
+-- In a session whose handshake is done: what the step reports is sent; and where the machine died, VM_DEATH, and the session closes.
+abbrev pub steps_in_session : {S : Type 0} → Widths → ℕ → Step S → Bool → Reaction S
+steps_in_session w id o true = record { after = stands (after_death o.after) Closed; sends = reports w id o.sends ++ report_of w o.after.state.next_packet vm_death ∷ [] }
+steps_in_session w id o false = record { after = stands o.after Established; sends = reports w id o.sends }
+
+-- Where the handshake is waited for, or there is no session, nothing is sent, and the session closes where the machine died.
+abbrev pub steps_apart : {S : Type 0} → Phase → Step S → Bool → Reaction S
+steps_apart phase o true = record { after = stands o.after Closed; sends = [] }
+steps_apart phase o false = record { after = stands o.after phase; sends = [] }
+
+abbrev pub steps_at : {S : Type 0} → Widths → ℕ → Step S → Phase → Reaction S
+steps_at w id o Established = steps_in_session w id o o.dies
+steps_at w id o AwaitingHandshake = steps_apart AwaitingHandshake o o.dies
+steps_at w id o Closed = steps_apart Closed o o.dies
+
+-- nothing happens where the thread may not step
+abbrev pub steps_by : {S : Type 0} → Meaning S → Standing S → ℕ → Bool → Reaction S
+steps_by m now t false = record { after = now; sends = [] }
+steps_by m now t true = steps_at (m.sizes now.moment.machine) now.moment.state.next_packet (occurs m now.moment t) now.phase
+
+-- ---- all of it
+
+abbrev pub reset_moment : {S : Type 0} → Moment S → Moment S
+reset_moment now = record { state = reset now.state; machine = now.machine }
+
+-- what each act does
+abbrev pub react : {S : Type 0} → Meaning S → Settings → Standing S → Act → Reaction S
+react m settings now (Handles message) = handles m settings now.moment message
+react m settings now (Steps t) = steps_by m now t (may_step m settings now.moment t)
+react m settings now Loses = record { after = stands (reset_moment now.moment) Closed; sends = [] }
+
+-- the messages that these acts handled
+abbrev pub handled : List Act → List Message
+handled [] = []
+handled (Handles message ∷ acts) = message ∷ handled acts
+handled (Steps t ∷ acts) = handled acts
+handled (Loses ∷ acts) = handled acts
+
+-- how the target stands after these acts
+abbrev pub after : {S : Type 0} → Meaning S → Settings → Standing S → List Act → Standing S
+after m settings now [] = now
+after m settings now (act ∷ acts) = after m settings (react m settings now act).after acts
+
+-- what is sent for these acts
+abbrev pub sent : {S : Type 0} → Meaning S → Settings → Standing S → List Act → List Message
+sent m settings now [] = []
+sent m settings now (act ∷ acts) = (react m settings now act).sends ++ sent m settings (react m settings now act).after acts

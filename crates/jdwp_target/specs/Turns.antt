@@ -1,0 +1,79 @@
+-- What turns and steps of a target over any machine answer, and what they leave.
+use Rattle.std.specs.Prelude.{◌≡◌, ℕ, Bool, true, false, ◌||◌, not, List, Option, Some, None, Result, Ok, Err, MatchResult}
+use Rattle.jdwp_wire.specs.Streams.{Message, Handshake, Packet, NextMessage, Whole, More, Fault}
+use Rattle.jdwp_wire.specs.declared.packet.PacketKind.{PacketKind}
+use Rattle.jdwp_wire.specs.declared.packet.PacketKind.TheVariants as kind
+use Rattle.jdwp_end.specs.Ends.{is_paused}
+use Rattle.jdwp_event.specs.Composites.{CompositeMeaning}
+use Rattle.jdwp_machine.specs.Meanings.{Meaning}
+use Rattle.jdwp_debuggee.specs.CommandReads.{command_read, is_short}
+use Rattle.jdwp_debuggee.specs.Sending.{error_of}
+use Rattle.jdwp_debuggee.specs.Settings.{Settings}
+use Rattle.jdwp_debuggee.specs.State.{Moment}
+use Rattle.jdwp_debuggee.specs.StepParts.{is_ready}
+use Rattle.jdwp_debuggee.specs.Steps.{Step, may_step, occurs}
+use Rattle.jdwp_target.specs.declared.machine_target.Stepped.{Stepped}
+use Rattle.jdwp_target.specs.declared.machine_target.Stepped.TheVariants.{Frozen, Quiet, Reported, Ended}
+use Rattle.jdwp_target.specs.declared.target.TargetFault.{TargetFault}
+use Rattle.jdwp_target.specs.declared.target.TargetFault.TheVariants.{Frame, NoMemory}
+use Rattle.jdwp_target.specs.declared.target.Turn.{Turn}
+use Rattle.jdwp_target.specs.declared.target.Turn.TheVariants.{Nothing, Hello, Replied, Ignored}
+use Rattle.jdwp_target.specs.Standings.{carried_out}
+use Rattle.jdwp_target.specs.Targets.{Target, lost, with_handled, with_step}
+
+-- ---- turns
+
+-- what a turn tells of a message
+abbrev pub told_of_packet : {S : Type 0} → Meaning S → Settings → Moment S → ℕ → PacketKind → List ℕ → Turn
+told_of_packet m settings now id (kind.Command set number) body = Replied id (error_of (carried_out m settings now (command_read (m.sizes now.machine) set number body)).answer)
+told_of_packet m settings now id (kind.Reply error) body = Ignored
+
+abbrev pub told_of : {S : Type 0} → Meaning S → Settings → Moment S → Message → Turn
+told_of m settings now Handshake = Hello
+told_of m settings now (Packet header body) = told_of_packet m settings now header.id header.kind body
+
+-- the messages that may call for memory: all commands but the twelve that are short
+abbrev pub kind_needs_memory : PacketKind → Type 0
+kind_needs_memory (kind.Command set number) = is_short set number ≡ false
+kind_needs_memory (kind.Reply error) = ⊥
+
+abbrev pub NeedsMemory : Message → Type 0
+NeedsMemory Handshake = ⊥
+NeedsMemory (Packet header body) = kind_needs_memory header.kind
+
+-- What a turn answers, and what the target is after it, by what there is to handle.
+abbrev pub TurnsAt : {S : Type 0} → Meaning S → NextMessage → Target S → Result Turn TargetFault → Target S → Type 0
+TurnsAt m (Whole message used) old result new =
+    MatchResult result
+    (λ turn. (turn ≡ told_of m old.settings old.moment message) × (new ≡ with_handled m message used old))
+    (λ fault. (fault ≡ NoMemory) × NeedsMemory message × (new ≡ old))
+TurnsAt m More old result new = (result ≡ Ok Nothing) × (new ≡ old)
+TurnsAt m (Fault fault) old result new = (result ≡ Err (Frame fault)) × (new ≡ lost old)
+
+-- ---- steps
+
+-- as much as a packet may have waits to leave, or the thread may not step
+abbrev pub is_frozen : {S : Type 0} → Meaning S → ℕ → Target S → Bool
+is_frozen m t v = is_paused v.end || not (may_step m v.settings v.moment t)
+
+abbrev pub told_of_sends : Option CompositeMeaning → Stepped
+told_of_sends None = Quiet
+told_of_sends (Some c) = Reported
+
+abbrev pub told_by_end : Option CompositeMeaning → Bool → Stepped
+told_by_end sends true = Ended
+told_by_end sends false = told_of_sends sends
+
+abbrev pub told_of_step : {S : Type 0} → Step S → Stepped
+told_of_step o = told_by_end o.sends o.ends
+
+-- What a step answers, and what the target is after it, by whether it is frozen.
+abbrev pub StepsWhere : {S : Type 0} → Meaning S → ℕ → Target S → Stepped → Target S → Bool → Type 0
+StepsWhere m t old stepped new true = (stepped ≡ Frozen) × (new ≡ old)
+StepsWhere m t old stepped new false = (stepped ≡ told_of_step (occurs m old.moment t)) × (new ≡ with_step m t old)
+
+abbrev pub StepsAt : {S : Type 0} → Meaning S → ℕ → Target S → Result Stepped TargetFault → Target S → Type 0
+StepsAt m t old result new =
+    MatchResult result
+    (λ stepped. StepsWhere m t old stepped new (is_frozen m t old))
+    (λ fault. (fault ≡ NoMemory) × (is_ready old.settings old.moment.state t ≡ true) × (new ≡ old))

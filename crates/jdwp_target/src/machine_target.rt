@@ -1,0 +1,170 @@
+//! The debuggee's end of a session, over any lawful machine.
+ghost use Rattle.std.specs.Prelude.{◌≡◌, ◌≤◌, ◌++◌, ◌↔◌, true, false, IfOk, IsTrue, length, take, drop, min};
+ghost use Rattle.jdwp_end.specs.Ends as ends;
+ghost use Rattle.jdwp_end.specs.Ends.{most_outgoing, room_of};
+ghost use Rattle.jdwp_machine.specs.Meanings.{numbers};
+ghost use Rattle.jdwp_debuggee.specs.State as spec;
+ghost use Rattle.jdwp_target.specs.Targets.{Ran, lost, new_target, opened, with_fed, with_taken};
+
+use jdwp_debuggee::{Debuggee, Settings};
+use jdwp_end::{End, Phase};
+use jdwp_event::Requests;
+use jdwp_machine::Machine;
+use jdwp_value::ObjectId;
+use jdwp_wire::NoMemory;
+use std::alloc::Global;
+use std::marker::Model;
+use trace::Trace;
+
+/// What a step of a thread did.
+#[derive(Clone, Copy, Debug, PartialEq, Eq)]
+pub enum Stepped {
+    /// Nothing: the end is paused, or the thread may not step.
+    Frozen,
+    /// It made a step, and nothing was reported.
+    Quiet,
+    /// What it did was reported.
+    Reported,
+    /// It ended.
+    Ended,
+}
+
+/// A target over a machine: the debuggee, and its end of a session.
+#[derive(Drop)]
+pub struct MachineTarget<M: Machine> {
+    debuggee: Debuggee<M>,
+    /// The debuggee as it was when the session began, for contracts alone.
+    began: Trace<Debuggee<M>>,
+    /// The phase in which the session began, for contracts alone.
+    phases: Trace<Phase>,
+    end: End,
+}
+
+impl<M: Machine> Model for MachineTarget<M> {
+    ghost use Rattle.jdwp_target.specs.Targets.{Target};
+    ghost use Rattle.jdwp_target.specs.Insides.{target_of, IsRight};
+
+    ghost Value = { Target M };
+
+    ghost view = { λ t. target_of t.debuggee t.began.items t.phases.items t.end };
+
+    ghost invariant = { λ t. IsRight M.meaning t.debuggee t.began.items t.phases.items t.end };
+}
+
+impl<M: Machine + Drop> MachineTarget<M> {
+    /// A closed target over this machine, before its first session. All its buffers are made here.
+    ///
+    /// # Errors
+    /// `NoMemory` where an allocation was refused.
+    pub fn new(alloc: Global, machine: M, settings: Settings) -> Result<MachineTarget<M>, NoMemory>
+        ensures { IfOk result (λ t. t ≡ new_target settings (record { state = spec.new_state (M.meaning.live machine); machine = machine })) }
+    {
+        let debuggee = Debuggee::new(alloc, machine, settings)?;
+        let end = End::new(alloc, settings.limits())?;
+        let mut began = Trace::new();
+        began.push(&debuggee);
+        let mut phases = Trace::new();
+        phases.push(&Phase::Closed);
+        Ok(MachineTarget {
+            debuggee,
+            began,
+            phases,
+            end,
+        })
+    }
+
+    /// Whether a session is open: accepted, and not closed since.
+    pub fn is_open(&self) -> bool
+        ensures { result ≡ ends.is_open self.now.end }
+    {
+        self.end.is_open()
+    }
+
+    /// The suspend count of a thread, 0 to the count limit of the settings; None where it is not alive.
+    pub fn count(&self, thread: ObjectId) -> Option<u32>
+        ensures { result ≡ spec.count_of self.now.moment.state thread.0 }
+    {
+        self.debuggee.count(thread)
+    }
+
+    /// The threads that live, in the machine's order.
+    pub fn live(&self) -> &[ObjectId]
+        ensures { numbers result.now ≡ M.meaning.live self.now.moment.machine }
+    {
+        self.debuggee.live()
+    }
+
+    /// The event requests, by rising id.
+    pub fn requests(&self) -> &Requests
+        ensures { result.now ≡ self.now.moment.state.requests }
+    {
+        self.debuggee.requests()
+    }
+
+    /// Begins a session: both buffers are empty, and the handshake is waited for. False, and nothing changes, where a session is
+    /// open or the machine is dead.
+    pub fn accept(&mut self) -> bool
+        ensures when { IsTrue result ↔ ((ends.is_open self.old.end ≡ false) × (self.old.moment.state.alive ≡ true)) }
+        ensures opened { IsTrue result → self.new ≡ opened self.old }
+        ensures refused { result ≡ false → self.new ≡ self.old }
+    {
+        if self.end.is_open() || !self.debuggee.is_alive() {
+            return false;
+        }
+        self.end.open();
+        self.began = Trace::new();
+        self.began.push(&self.debuggee);
+        self.phases = Trace::new();
+        self.phases.push(&Phase::AwaitingHandshake);
+        true
+    }
+
+    /// How many bytes `feed` would take, 0 at a closed end.
+    pub fn room(&self) -> usize
+        ensures room { result ≡ room_of self.now.end }
+        ensures bound { length self.now.end.incoming ≤ self.now.end.limits.packet }
+    {
+        self.end.room()
+    }
+
+    /// Takes as many of the bytes as fit, and answers how many.
+    pub fn feed(&mut self, bytes: &[u8]) -> usize
+        ensures count { result ≡ min (length bytes.now) (room_of self.old.end) }
+        ensures fed { self.new ≡ with_fed (take result bytes.now) self.old }
+    {
+        self.end.feed(bytes)
+    }
+
+    /// How many bytes wait to leave.
+    pub fn waiting(&self) -> usize
+        ensures count { result ≡ length self.now.end.outgoing }
+        ensures bound { result ≤ most_outgoing self.now.end.limits }
+    {
+        self.end.waiting()
+    }
+
+    /// Moves as many of the bytes that wait to the front of `out` as fit, and answers how many.
+    pub fn take(&mut self, out: &mut [u8]) -> usize
+        ensures count { result ≡ min (length out.old) (length self.old.end.outgoing) }
+        ensures bytes { out.new ≡ take result self.old.end.outgoing ++ drop result out.old }
+        ensures taken { self.new ≡ with_taken (take result self.old.end.outgoing) self.old }
+    {
+        self.end.take(out)
+    }
+
+    /// The connection is lost: the end is closed, both buffers are empty, every suspend count is 0, there are no requests, and
+    /// events are not held.
+    pub fn lose(&mut self)
+        ensures { self.new ≡ lost self.old }
+    {
+        self.debuggee.reset();
+        self.end.lose();
+    }
+
+    /// What holds after every list of calls in a session. It does nothing.
+    pub fn session(&self)
+        ensures { Ran M.meaning self.now }
+    {
+        let _ = &self.end;
+    }
+}

@@ -1,0 +1,71 @@
+//! Replies as they are enqueued to leave.
+ghost use Rattle.std.specs.Prelude.{◌≡◌, ◌≤◌, ◌+◌, length, pos};
+ghost use Rattle.jdwp_end.specs.Ends.{most_outgoing, with_enqueued};
+ghost use Rattle.jdwp_wire.specs.Frames.{header_bytes};
+ghost use Rattle.jdwp_wire.specs.Streams.{message_bytes};
+ghost use Rattle.jdwp_debuggee.specs.Replies.{reply_meaning};
+ghost use Rattle.jdwp_debuggee.specs.Sending.{sent_bytes, sent_error};
+ghost use Rattle.jdwp_target.specs.Sends.{packet_with, reply_to};
+
+use crate::command::enqueue_int;
+use jdwp_debuggee::{Reply, Sent};
+use jdwp_end::End;
+use jdwp_wire::{ErrorCode, Header, IdSizes, PacketKind};
+
+/// Enqueues the header of a reply with so many bytes of data.
+fn enqueue_header(id: u32, error: ErrorCode, size: u32, end: &mut End)
+    requires room { length end.old.outgoing + 11 ≤ most_outgoing end.old.limits }
+    requires small { size ≤ 1048576 }
+    ensures { end.new ≡ with_enqueued (header_bytes (record { length = 11 + size; id = id; kind = PacketKind.Reply error })) end.old }
+{
+    let header = Header {
+        length: 11 + size,
+        id,
+        kind: PacketKind::Reply { error },
+    };
+    end.enqueue(&header.to_bytes());
+}
+
+/// Enqueues a reply that takes no memory, to the command of this id.
+fn enqueue_short(id: u32, reply: Reply, sizes: &IdSizes, end: &mut End)
+    requires { length end.old.outgoing + 31 ≤ most_outgoing end.old.limits }
+    ensures { end.new ≡ with_enqueued (message_bytes (reply_to sizes.now id (reply_meaning reply))) end.old }
+{
+    match reply {
+        Reply::Done => enqueue_header(id, ErrorCode::NONE, 0, end),
+        Reply::Number(number) => {
+            enqueue_header(id, ErrorCode::NONE, 4, end);
+            enqueue_int(number, sizes, end);
+        }
+        Reply::Status(count) => {
+            enqueue_header(id, ErrorCode::NONE, 8, end);
+            enqueue_int(1, sizes, end);
+            enqueue_int(if count == 0 { 0 } else { 1 }, sizes, end);
+        }
+        Reply::Sizes(widths) => {
+            enqueue_header(id, ErrorCode::NONE, 20, end);
+            enqueue_int(u32::from(widths.field()), sizes, end);
+            enqueue_int(u32::from(widths.method()), sizes, end);
+            enqueue_int(u32::from(widths.object()), sizes, end);
+            enqueue_int(u32::from(widths.reference()), sizes, end);
+            enqueue_int(u32::from(widths.frame()), sizes, end);
+        }
+        Reply::Refused(error) => enqueue_header(id, error, 0, end),
+    }
+}
+
+/// Enqueues what is sent for an answer, as the reply to the command of this id. It takes no memory.
+pub fn enqueue_reply(id: u32, sent: &Sent, sizes: &IdSizes, end: &mut End)
+    requires short { length end.old.outgoing + 31 ≤ most_outgoing end.old.limits }
+    requires room { length end.old.outgoing + (11 + length (sent_bytes sizes.now sent.now)) ≤ most_outgoing end.old.limits }
+    requires small { length (sent_bytes sizes.now sent.now) ≤ 1048576 }
+    ensures { end.new ≡ with_enqueued (message_bytes (packet_with id (PacketKind.Reply (sent_error sent.now)) (sent_bytes sizes.now sent.now))) end.old }
+{
+    match sent {
+        Sent::Short(reply) => enqueue_short(id, *reply, sizes, end),
+        Sent::Written(bytes) => {
+            enqueue_header(id, ErrorCode::NONE, bytes.len() as u32, end);
+            end.enqueue(bytes);
+        }
+    }
+}
