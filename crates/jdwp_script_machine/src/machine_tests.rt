@@ -2,7 +2,7 @@
 use crate::ScriptMachine;
 use jdwp_event::{Happening, Occurrence, Place};
 use jdwp_layout::{Answer, Data, Datum, Scalar};
-use jdwp_machine::{Machine, Query};
+use jdwp_machine::{Machine, Query, is_among};
 use jdwp_script::{Member, ScriptFault};
 use jdwp_value::{FrameId, Location, MethodId, ObjectId, ReferenceTypeId, TypeTag, Value};
 use jdwp_wire::{ErrorCode, Limits};
@@ -45,6 +45,9 @@ fn machine(alloc: Global, text: &str) -> Result<ScriptMachine, Fail> {
 }
 
 fn next(machine: &ScriptMachine, thread: u64) -> Result<Happening, Fail> {
+    if !is_among(ObjectId(thread), machine.live()) {
+        return Err(Fail::from("the thread does not live"));
+    }
     match machine.next(ObjectId(thread)) {
         Ok(happening) => Ok(happening),
         Err(_) => Err(Fail::from("no memory")),
@@ -52,10 +55,21 @@ fn next(machine: &ScriptMachine, thread: u64) -> Result<Happening, Fail> {
 }
 
 fn step(machine: &mut ScriptMachine, thread: u64) -> Result<(), Fail> {
+    if !is_among(ObjectId(thread), machine.live()) {
+        return Err(Fail::from("the thread does not live"));
+    }
     match machine.step(ObjectId(thread)) {
         Ok(()) => Ok(()),
         Err(_) => Err(Fail::from("no memory")),
     }
+}
+
+fn end(machine: &mut ScriptMachine, thread: u64) -> Result<(), Fail> {
+    if !is_among(ObjectId(thread), machine.live()) {
+        return Err(Fail::from("the thread does not live"));
+    }
+    machine.end(ObjectId(thread));
+    Ok(())
 }
 
 fn live_are(machine: &ScriptMachine, ids: &[u64]) -> bool {
@@ -126,9 +140,9 @@ fn machine_a_steps(rt: HostRuntime) -> Result<(), Fail> {
     assert!(rt; is_run_out(&next(&machine, 1)?, 1));
     step(&mut machine, 1)?;
     assert!(rt; is_run_out(&next(&machine, 1)?, 1));
-    machine.end(ObjectId(1));
+    end(&mut machine, 1)?;
     assert!(rt; live_are(&machine, &[2]));
-    machine.end(ObjectId(2));
+    end(&mut machine, 2)?;
     assert!(rt; live_are(&machine, &[]));
     Ok(())
 }
