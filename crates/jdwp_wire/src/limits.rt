@@ -20,11 +20,21 @@ impl Model for Limits {
 
     ghost Value = { spec.Limits };
 
-    ghost view = { λ l. record { packet = l.packet; live = l.live; requests = l.requests; pending = l.pending } };
+    ghost view = { λ l. record {
+      packet = l.packet;
+      live = l.live;
+      requests = l.requests;
+      pending = l.pending;
+    } };
 
     ghost invariant = { λ l. spec.AreLimits l.packet l.live l.requests l.pending };
 
-    ghost inverse = { λ l. record { packet = l.packet; live = l.live; requests = l.requests; pending = l.pending } };
+    ghost inverse = { λ l. record {
+      packet = l.packet;
+      live = l.live;
+      requests = l.requests;
+      pending = l.pending;
+    } };
 }
 
 impl Limits {
@@ -32,7 +42,12 @@ impl Limits {
     /// composite event of one event for each request fits one packet: 16 + 542 * `requests` is at most `packet`.
     pub fn new(packet: u32, live: u32, requests: u32, pending: u32) -> Option<Limits>
         ensures some { IsSome result ↔ AreLimits packet live requests pending }
-        ensures same { IfSome result (λ l. l ≡ record { packet = packet; live = live; requests = requests; pending = pending }) }
+        ensures same { IfSome result (λ l. l ≡ record {
+          packet = packet;
+          live = live;
+          requests = requests;
+          pending = pending;
+        }) }
     {
         if packet < 2048 || packet > 1_048_576 {
             return None;
