@@ -124,6 +124,16 @@ impl<M: Machine> Debuggee<M> {
         self.next_packet
     }
 
+    /// The id of the target's next packet, which is taken: the packet after it has the next id.
+    pub fn take_packet_id(&mut self) -> u32
+        ensures id { result ≡ self.old.moment.state.next_packet }
+        ensures after { self.new ≡ with_state (spec.with_packet self.old.moment.state) self.old }
+    {
+        let id = self.next_packet;
+        self.next_packet = id.wrapping_add(1);
+        id
+    }
+
     /// The threads that live, in the machine's order.
     pub fn live(&self) -> &[ObjectId]
         ensures { numbers result.now ≡ M.meaning.live self.now.moment.machine }
