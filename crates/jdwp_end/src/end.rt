@@ -60,6 +60,13 @@ impl End {
         self.phase != Phase::Closed
     }
 
+    /// Whether a session is open whose handshake was handled, so that packets are handled and sent.
+    pub fn is_established(&self) -> bool
+        ensures { result ≡ ends.is_established self.now }
+    {
+        self.phase == Phase::Established
+    }
+
     /// Whether so much waits to leave, `limits.packet()` bytes or more, that nothing is handled.
     pub fn is_paused(&self) -> bool
         ensures { result ≡ ends.is_paused self.now }
