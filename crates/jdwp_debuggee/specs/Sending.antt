@@ -1,18 +1,22 @@
 -- What is sent for an answer (JDWP specification, "Packets": a reply's error code and data).
-use Rattle.std.specs.Prelude.{◌≡◌, ℕ, ◌+◌, ◌≤◌, ⊤, suc, nat_le, if◌then◌else◌, ◌∷◌, Bool, true, false, List, [], length, Option, Some, None}
+use Rattle.std.specs.Prelude.{◌≡◌, ℕ, ◌+◌, ◌≤◌, ⊤, suc, nat_le, if◌then◌else◌, ◌∷◌, Bool, true, false, List, [], length, Option, Some, None, Result, Ok, Err}
 use Rattle.jdwp_wire.specs.ErrorCodes.{NONE}
 use Rattle.jdwp_wire.specs.Widths.{Widths}
 use Rattle.jdwp_wire.specs.declared.error_code.ErrorCode.{ErrorCode}
+use Rattle.jdwp_event.specs.CompositeBytes.{composite_canonical, composite_refusal}
+use Rattle.jdwp_event.specs.Composites.{CompositeMeaning, composite_data}
 use Rattle.jdwp_layout.specs.CommandTable.{row_at}
 use Rattle.jdwp_layout.specs.Meanings.{DatumMeaning}
 use Rattle.jdwp_layout.specs.Rows.{Row, RowShapes}
-use Rattle.jdwp_layout.specs.Shapes.{ItemShape}
+use Rattle.jdwp_layout.specs.Shapes.{ItemShape, Events, OneOf, ListOf}
 use Rattle.jdwp_layout.specs.Writes.{data_canonical, data_refusal}
 use Rattle.jdwp_layout.specs.declared.answer.Answer.{Answer}
+use Rattle.jdwp_layout.specs.declared.item.Field.TheVariants as field
 use Rattle.jdwp_layout.specs.declared.answer.Answer.TheVariants.{Data, Error}
 use Rattle.jdwp_machine.specs.Meanings.{Meaning}
 use Rattle.jdwp_debuggee.specs.Actions
 use Rattle.jdwp_debuggee.specs.Actions.{Action, Command, action_of}
+use Rattle.jdwp_debuggee.specs.CommandReads.{Asking}
 use Rattle.jdwp_debuggee.specs.Debuggees.{Debuggee, at_moment}
 use Rattle.jdwp_debuggee.specs.Effects.{does}
 use Rattle.jdwp_debuggee.specs.Replies.{reply_meaning}
@@ -61,6 +65,11 @@ is_short_action Actions.AllThreads = false
 is_short_action Actions.Ask = false
 is_short_action action = true
 
+-- what is asked for wants no memory; a refusal wants none
+abbrev pub is_short_asked : Result Asking ErrorCode → Bool
+is_short_asked (Ok asking) = is_short_action asking.action
+is_short_asked (Err error) = true
+
 -- how many stand before the first whose id is not less
 abbrev pub place_in : ℕ → List ℕ → ℕ
 place_in n [] = 0
@@ -85,3 +94,13 @@ AreWritable w (Some shapes) content = data_refusal w shapes content ≡ None
 abbrev pub IsWritable : Widths → ℕ → ℕ → Answer → Type 0
 IsWritable w set number (Data content) = AreWritable w (row_reply (row_at set number)) content
 IsWritable w set number (Error error) = ⊤
+
+-- ---- composites that can be sent
+
+-- A composite can be written at these widths, as it is and as data in the layout of its row, which have the same bytes; and with the
+-- header of a packet they are within the limit.
+pub record FitsPacket (w : Widths) (limit : ℕ) (c : CompositeMeaning) : Type 0 where
+  pub unrefused : composite_refusal w c ≡ None
+  pub in_layout : data_refusal w (OneOf field.Byte ∷ ListOf Events ∷ []) (composite_data c) ≡ None
+  pub same_bytes : composite_canonical w c ≡ data_canonical w (composite_data c)
+  pub within : 11 + length (data_canonical w (composite_data c)) ≤ limit
