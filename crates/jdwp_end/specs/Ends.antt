@@ -29,6 +29,15 @@ is_open_phase Established = true
 abbrev pub is_open : End → Bool
 is_open end = is_open_phase end.phase
 
+abbrev pub is_established_phase : Phase → Bool
+is_established_phase Closed = false
+is_established_phase AwaitingHandshake = false
+is_established_phase Established = true
+
+-- the handshake was handled, and the session was not closed since
+abbrev pub is_established : End → Bool
+is_established end = is_established_phase end.phase
+
 -- so much waits to leave that nothing is handled
 abbrev pub is_paused : End → Bool
 is_paused end = nat_le end.limits.packet (length end.outgoing)

@@ -12,9 +12,10 @@ view_of e = record {
   session = e.session;
 }
 
--- packets have at least 2,048 bytes, and both queues have their room
+-- packets have at least 2,048 bytes and at most 1,048,576, and both queues have their room
 pub record IsRight (e : Inside) : Type 0 where
   pub packet_least : 2048 ≤ e.limits.packet
+  pub packet_most : e.limits.packet ≤ 1048576
   pub incoming_room : e.incoming.capacity ≡ e.limits.packet
   pub outgoing_room : e.outgoing.capacity ≡ e.limits.packet * 2
   pub incoming_fits : length e.incoming.bytes ≤ e.limits.packet

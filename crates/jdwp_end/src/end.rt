@@ -60,6 +60,13 @@ impl End {
         self.phase != Phase::Closed
     }
 
+    /// Whether a session is open whose handshake was handled, so that packets are handled and sent.
+    pub fn is_established(&self) -> bool
+        ensures { result ≡ ends.is_established self.now }
+    {
+        self.phase == Phase::Established
+    }
+
     /// Whether so much waits to leave, `limits.packet()` bytes or more, that nothing is handled.
     pub fn is_paused(&self) -> bool
         ensures { result ≡ ends.is_paused self.now }
@@ -131,6 +138,7 @@ impl End {
         ensures room { front_of self.now ≡ More → ends.is_open self.now ≡ true → ends.is_paused self.now ≡ false → 0 < room_of self.now }
         ensures bytes { IsBytes self.now.incoming }
         ensures least { 2048 ≤ self.now.limits.packet }
+        ensures most { self.now.limits.packet ≤ 1048576 }
         ensures flows { self.now.outgoing ≡ [] → ends.is_paused self.now ≡ false }
     {
         let bytes = self.incoming.as_slice();
