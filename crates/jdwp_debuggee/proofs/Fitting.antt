@@ -1,10 +1,9 @@
 -- what is reported can be written, and fits a packet
-use Rattle.std.proofs.Common.{◌≡◌, ℕ, pos, ◌+◌, ◌*◌, ◌≤◌, ◌^◌, ◌==◌, ◌⊎◌, inl, inr, true, false, ◌||◌, cond, nat_lt, Option, Some, None, List, [], ◌∷◌, length, map, refl, sym, ap, ◌∙◌, subst, arith}
+use Rattle.std.proofs.Common.{◌≡◌, ℕ, pos, ◌+◌, ◌*◌, ◌≤◌, ◌^◌, ◌==◌, ◌⊎◌, inl, inr, true, false, ◌||◌, cond, nat_lt, Option, Some, None, List, [], ◌∷◌, length, map, refl, sym, ap, subst, arith}
 use Rattle.std.specs.Prelude.{IfSome}
 use Rattle.std.specs.List.{filter, flat_map}
-use Rattle.std.proofs.lemmas.Bool.{eq-eqb, eqb-true, lt-ltb}
+use Rattle.std.proofs.lemmas.Bool.{eqb-true, lt-ltb}
 use Rattle.std.proofs.lemmas.List.{append-nil, length-append}
-use Rattle.std.proofs.Math.Nat.{one-le-pow}
 use Rattle.byteorder.specs.Numbers.{length-bytes_high_first}
 use Rattle.jdwp_wire.specs.Limits.{Limits}
 use Rattle.jdwp_wire.specs.Listed.{first_refusal, list_canonical, list_refusal}
@@ -25,18 +24,17 @@ use Rattle.jdwp_event.specs.Filters.{is_of_kind, passes, passing}
 use Rattle.jdwp_event.specs.Occurrences.{HappeningMeaning, OccurrenceMeaning, Moved, Entered, Left, Threw, Prepared, Started, RanOut}
 use Rattle.jdwp_event.specs.Requests.{Request}
 use Rattle.jdwp_machine.specs.Laws.{HasShortSignature, IsLawful, MayEnds, OccurrenceFits}
-use Rattle.jdwp_machine.specs.Meanings.{Meaning, has}
-use Rattle.jdwp_debuggee.specs.Answers.{first_of, least_thread, rising}
+use Rattle.jdwp_machine.specs.Meanings.{Meaning}
+use Rattle.jdwp_debuggee.specs.Answers.{least_thread}
 use Rattle.jdwp_debuggee.specs.Debuggees.{AreRoomy, Debuggee, IsKept}
 use Rattle.jdwp_debuggee.specs.Sending.{FitsPacket}
-use Rattle.jdwp_debuggee.specs.State.{ids}
 use Rattle.jdwp_debuggee.specs.StepParts.{SendFits, Steps}
 use Rattle.jdwp_debuggee.specs.Steps.{may_step, occurs, start_event, start_policy}
 use Rattle.jdwp_debuggee.specs.declared.steps.StepDone.{StepDone}
 use Rattle.jdwp_debuggee.proofs.KeptSteps.{live-may}
 use Rattle.jdwp_debuggee.proofs.Reported.{step_sends}
 use Rattle.jdwp_debuggee.proofs.Small.{and-left}
-use Rattle.jdwp_debuggee.proofs.ThreadsListed.{live-fit}
+use Rattle.jdwp_debuggee.proofs.ThreadsListed.{least-fits}
 
 -- the widths of ids are 1 to 8
 abbrev Wide : Widths → Type 0
@@ -198,6 +196,10 @@ step-fits m law d t k may =
     step_sends (FitsPacket (m.sizes s) d.settings.limits.packet) m d.moment t
     (report-fits (m.sizes s) d.settings.limits (length d.moment.state.requests) (m.next s t) (passing (m.next s t) d.moment.state.requests) k.limits k.room f)
 
+-- what a step that was made sends
+pub steps-fit : {S : Type 0} (m : Meaning S) → IsLawful m → (d new : Debuggee S) (t : ℕ) (done : StepDone) → IsKept m d → Steps m t d new done → SendFits (m.sizes d.moment.machine) d.settings.limits.packet (Some done)
+steps-fit m law d new t done k s = subst (λ (o : Option CompositeMeaning). IfSome o (FitsPacket (m.sizes d.moment.machine) d.settings.limits.packet)) (sym s.sends) (step-fits m law d t k s.may)
+
 -- ---- what the target reports by itself
 
 alone-fits : (w : Widths) (limits : Limits) (policy : ℕ) (event : List ScalarMeaning) → AreRoomy limits → EventFits w event → FitsPacket w limits.packet (with_policy policy (event ∷ []))
@@ -206,17 +208,6 @@ alone-fits w limits policy event roomy f =
     composite-fits w limits policy 1 (event ∷ []) roomy roomy.requests.0
     (record { unrefused = rw (f.unrefused) refl; few = omega arith; short = omega (arith, len, f.short) })
 
--- what a step that was made sends
-pub steps-fit : {S : Type 0} (m : Meaning S) → IsLawful m → (d new : Debuggee S) (t : ℕ) (done : StepDone) → IsKept m d → Steps m t d new done → SendFits (m.sizes d.moment.machine) d.settings.limits.packet (Some done)
-steps-fit m law d new t done k s = subst (λ (o : Option CompositeMeaning). IfSome o (FitsPacket (m.sizes d.moment.machine) d.settings.limits.packet)) (sym s.sends) (step-fits m law d t k s.may)
-
-least-fits : {S : Type 0} (m : Meaning S) → IsLawful m → (d : Debuggee S) (ts : List ℕ) → IsKept m d → rising (ids d.moment.state.threads) ≡ ts → id_refusal (m.sizes d.moment.machine).object (first_of ts) ≡ None
-least-fits m law d [] k e =
-    let one : 1 ≤ 256 ^ (m.sizes d.moment.machine).object = one-le-pow (m.sizes d.moment.machine).object 256 (omega arith) in
-    let fits : nat_lt 0 (256 ^ (m.sizes d.moment.machine).object) ≡ true = lt-ltb 0 (256 ^ (m.sizes d.moment.machine).object) (omega (arith, one)) in
-    rw fits refl
-least-fits m law d (t ∷ ts) k e = live-fit m law d.settings d.moment k.sound t (ap (λ l. has l t) e ∙ ap (λ b. b || has ts t) (eq-eqb t t refl))
-
 -- VM_START
 pub start-fits : {S : Type 0} (m : Meaning S) → IsLawful m → (d : Debuggee S) → IsKept m d → FitsPacket (m.sizes d.moment.machine) d.settings.limits.packet (start_event d.settings d.moment.state)
 start-fits m law d k =
@@ -224,7 +215,7 @@ start-fits m law d k =
     let a = law.sizes_are_widths d.moment.machine k.sound.state in
     let t = least_thread d.moment.state in
     alone-fits w d.settings.limits (start_policy d.settings.start_all) _ k.limits
-    (fits-by w a (Byte 90 ∷ Int (pos 0) ∷ Object t ∷ []) (rw (least-fits m law d _ k refl) refl) (omega arith))
+    (fits-by w a (Byte 90 ∷ Int (pos 0) ∷ Object t ∷ []) (rw (least-fits m law d.settings d.moment k.sound) refl) (omega arith))
 
 -- VM_DEATH
 pub death-fits : (w : Widths) (limit : ℕ) → 2048 ≤ limit → FitsPacket w limit vm_death
