@@ -6,3 +6,4 @@ pub mod TargetRuns
 pub mod RightTargets
 pub mod KeptLemmas
 pub mod LeastThread
+pub mod RightTurns

@@ -3,6 +3,7 @@ pub mod Standings
 pub mod Targets
 pub mod Insides
 pub mod Turns
+pub mod TurnParts
 pub mod Machine
 pub mod Options
 pub mod Setup

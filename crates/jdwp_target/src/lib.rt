@@ -12,6 +12,7 @@ mod options;
 mod sending;
 mod state;
 mod target;
+mod turning;
 
 pub use fixed::Fixed;
 pub use laws::{goes_on_at_each_call, starts_with_least_thread};
