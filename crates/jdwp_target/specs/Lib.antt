@@ -3,6 +3,7 @@ pub mod Standings
 pub mod Targets
 pub mod Insides
 pub mod Turns
+pub mod StepParts
 pub mod Machine
 pub mod Options
 pub mod Setup
