@@ -1,4 +1,7 @@
 //! Machines of scripts: their threads, their steps and the faults of their texts.
+ghost use Rattle.std.specs.Prelude.{◌≡◌};
+ghost use Rattle.jdwp_machine.specs.Meanings.{has, numbers};
+
 use crate::ScriptMachine;
 use jdwp_event::{Happening, Occurrence, Place};
 use jdwp_layout::{Answer, Data, Datum, Scalar};
@@ -68,18 +71,47 @@ fn machine(alloc: Global, text: &str) -> Result<ScriptMachine, Fail> {
     }
 }
 
+/// Whether a thread is among those that live.
+fn is_among(live: &[ObjectId], thread: u64) -> bool
+    ensures { result ≡ has (numbers live.now) thread }
+{
+    for each in live {
+        if each.0 == thread {
+            return true;
+        }
+    }
+    false
+}
+
+/// The happening of a thread that lives.
 fn next(machine: &ScriptMachine, thread: u64) -> Result<Happening, Fail> {
+    if !is_among(machine.live(), thread) {
+        return Err(Fail::from("the thread doesn't live"));
+    }
     match machine.next(ObjectId(thread)) {
         Ok(happening) => Ok(happening),
         Err(_) => Err(Fail::from("no memory")),
     }
 }
 
+/// A step of a thread that lives.
 fn step(machine: &mut ScriptMachine, thread: u64) -> Result<(), Fail> {
+    if !is_among(machine.live(), thread) {
+        return Err(Fail::from("the thread doesn't live"));
+    }
     match machine.step(ObjectId(thread)) {
         Ok(()) => Ok(()),
         Err(_) => Err(Fail::from("no memory")),
     }
+}
+
+/// The end of a thread that lives.
+fn end(machine: &mut ScriptMachine, thread: u64) -> Result<(), Fail> {
+    if !is_among(machine.live(), thread) {
+        return Err(Fail::from("the thread doesn't live"));
+    }
+    machine.end(ObjectId(thread));
+    Ok(())
 }
 
 fn live_are(machine: &ScriptMachine, ids: &[u64]) -> bool {
@@ -150,9 +182,9 @@ fn machine_a_steps(rt: HostRuntime) -> Result<(), Fail> {
     assert!(rt; is_run_out(&next(&machine, 1)?, 1));
     step(&mut machine, 1)?;
     assert!(rt; is_run_out(&next(&machine, 1)?, 1));
-    machine.end(ObjectId(1));
+    end(&mut machine, 1)?;
     assert!(rt; live_are(&machine, &[2]));
-    machine.end(ObjectId(2));
+    end(&mut machine, 2)?;
     assert!(rt; live_are(&machine, &[]));
     Ok(())
 }
