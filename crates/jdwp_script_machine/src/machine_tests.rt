@@ -68,6 +68,7 @@ fn machine(alloc: Global, text: &str) -> Result<ScriptMachine, Fail> {
     }
 }
 
+/// The happening of a thread that lives.
 fn next(machine: &ScriptMachine, thread: u64) -> Result<Happening, Fail> {
     if !is_among(ObjectId(thread), machine.live()) {
         return Err(Fail::from("the thread does not live"));
@@ -78,6 +79,7 @@ fn next(machine: &ScriptMachine, thread: u64) -> Result<Happening, Fail> {
     }
 }
 
+/// A step of a thread that lives.
 fn step(machine: &mut ScriptMachine, thread: u64) -> Result<(), Fail> {
     if !is_among(ObjectId(thread), machine.live()) {
         return Err(Fail::from("the thread does not live"));
@@ -88,6 +90,7 @@ fn step(machine: &mut ScriptMachine, thread: u64) -> Result<(), Fail> {
     }
 }
 
+/// The end of a thread that lives.
 fn end(machine: &mut ScriptMachine, thread: u64) -> Result<(), Fail> {
     if !is_among(ObjectId(thread), machine.live()) {
         return Err(Fail::from("the thread does not live"));
