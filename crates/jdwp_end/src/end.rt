@@ -69,7 +69,9 @@ impl End {
 
     /// Whether so much waits to leave, `limits.packet()` bytes or more, that nothing is handled.
     pub fn is_paused(&self) -> bool
-        ensures { result ≡ ends.is_paused self.now }
+        ensures paused { result ≡ ends.is_paused self.now }
+        ensures least { 2048 ≤ self.now.limits.packet }
+        ensures most { self.now.limits.packet ≤ 1048576 }
     {
         self.limits.packet() as usize <= self.outgoing.len()
     }

@@ -4,6 +4,7 @@ pub mod Targets
 pub mod Insides
 pub mod Turns
 pub mod TurnParts
+pub mod StepParts
 pub mod Machine
 pub mod Options
 pub mod Setup

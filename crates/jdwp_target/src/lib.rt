@@ -11,6 +11,7 @@ mod machine_target;
 mod options;
 mod sending;
 mod state;
+mod stepping;
 mod target;
 mod turning;
 

@@ -1,5 +1,5 @@
 //! How much a session may hold.
-ghost use Rattle.std.specs.Prelude.{◌≡◌, ◌≤◌, ◌↔◌, IsTrue, IsSome, IfSome};
+ghost use Rattle.std.specs.Prelude.{◌≡◌, ◌≤◌, ◌+◌, ◌*◌, ◌↔◌, IsTrue, IsSome, IfSome};
 ghost use Rattle.jdwp_wire.specs.Limits.{IsCount, AreLimits, standard_limits};
 
 use crate::frame::PACKET_LIMIT;
@@ -63,10 +63,11 @@ impl Limits {
         }
     }
 
-    /// The most bytes of a packet, its header among them.
+    /// The most bytes of a packet, its header among them. A composite event of one event for each request fits it.
     pub fn packet(&self) -> u32
         ensures value { result ≡ self.now.packet }
         ensures within { (2048 ≤ result) × (result ≤ 1048576) }
+        ensures composite { 16 + 542 * self.now.requests ≤ result }
     {
         self.packet
     }
