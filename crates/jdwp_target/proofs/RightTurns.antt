@@ -48,7 +48,8 @@ use Rattle.jdwp_target.specs.Insides.{IsRight, target_of}
 use Rattle.jdwp_target.specs.Sends.{packet_with, reply_to, report_of}
 use Rattle.jdwp_target.specs.Standings.{carried_out, greets_by, phase_after, replies_by}
 use Rattle.jdwp_target.specs.Targets.{Ran, Target, in_phase, with_handled}
-use Rattle.jdwp_target.specs.TurnParts.{IsDone, IsHandled, after_deaths, closed_where, deaths, debuggee_after, end_after, reply_of}
+use Rattle.jdwp_target.specs.StepParts.{debuggee_after, end_after}
+use Rattle.jdwp_target.specs.TurnParts.{IsDone, IsHandled, after_deaths, closed_where, deaths, reply_of}
 use Rattle.jdwp_target.specs.Turns.{NeedsMemory, TurnsAt, told_of, told_of_packet}
 use Rattle.jdwp_target.proofs.EnqueueLemmas.{two_enqueued}
 use Rattle.jdwp_target.proofs.KeptLemmas.{packet-phase}

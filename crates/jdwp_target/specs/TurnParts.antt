@@ -1,9 +1,9 @@
 -- Parts of a turn, as the code makes them one after the other.
 use Rattle.std.specs.Prelude.{◌≡◌, ◌≤◌, ℕ, ◌+◌, Bool, true, false, ◌||◌, List, [], ◌∷◌, length}
-use Rattle.jdwp_wire.specs.Streams.{Message, stream}
+use Rattle.jdwp_wire.specs.Streams.{Message}
 use Rattle.jdwp_wire.specs.Widths.{Widths}
 use Rattle.jdwp_wire.specs.declared.packet.PacketKind.TheVariants as kind
-use Rattle.jdwp_end.specs.Ends.{End, closed, with_enqueued}
+use Rattle.jdwp_end.specs.Ends.{End, closed}
 use Rattle.jdwp_end.specs.Ends as ends
 use Rattle.jdwp_event.specs.Composites.{vm_death}
 use Rattle.jdwp_machine.specs.Meanings.{Meaning}
@@ -13,16 +13,9 @@ use Rattle.jdwp_debuggee.specs.Sending.{IsSent, sent_bytes, sent_error}
 use Rattle.jdwp_debuggee.specs.State.{with_packet}
 use Rattle.jdwp_debuggee.specs.declared.reply.Sent.{Sent}
 use Rattle.jdwp_target.specs.Sends.{packet_with, report_of}
-use Rattle.jdwp_target.specs.Standings.{Reaction, handles}
-use Rattle.jdwp_target.specs.Targets.{in_phase}
+use Rattle.jdwp_target.specs.Standings.{handles}
+use Rattle.jdwp_target.specs.StepParts.{debuggee_after, end_after}
 use Rattle.jdwp_target.specs.declared.turning.Done.{Done}
-
--- what an act leaves of a debuggee, and of an end
-abbrev pub debuggee_after : {S : Type 0} → Reaction S → Debuggee S → Debuggee S
-debuggee_after r d = at_moment r.after.moment d
-
-abbrev pub end_after : {S : Type 0} → Reaction S → End → End
-end_after r end = in_phase r.after.phase (with_enqueued (stream r.sends) end)
 
 -- what is sent for a command, as the reply to the command of this id
 abbrev pub reply_of : Widths → ℕ → Sent → Message

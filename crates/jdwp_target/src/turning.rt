@@ -9,7 +9,8 @@ ghost use Rattle.jdwp_debuggee.specs.CommandReads.{command_read, is_short};
 ghost use Rattle.jdwp_debuggee.specs.Sending.{sent_bytes, sent_error};
 ghost use Rattle.jdwp_target.specs.Sends.{report_of};
 ghost use Rattle.jdwp_target.specs.Standings.{carried_out, greets_by};
-ghost use Rattle.jdwp_target.specs.TurnParts.{IsDone, after_deaths, closed_where, deaths, debuggee_after, reply_of};
+ghost use Rattle.jdwp_target.specs.StepParts.{debuggee_after};
+ghost use Rattle.jdwp_target.specs.TurnParts.{IsDone, after_deaths, closed_where, deaths, reply_of};
 ghost use Rattle.jdwp_target.specs.Turns.{TurnsAt};
 
 use crate::command::enqueue_int;
