@@ -6,7 +6,9 @@ ghost use Rattle.jdwp_wire.specs.Limits.{standard_limits};
 ghost use Rattle.jdwp_debugger.specs.Debuggers.{at_place, attached, has_tickets, is_front, new_debugger, seen_unanswered, unanswered, with_fed, with_taken};
 
 use crate::command::Command;
+use crate::heads::{Head, Heads};
 use crate::mirror::Mirror;
+use crate::parked::Parked;
 use crate::pending::{Asked, Ticket, have_tickets, unanswered_at};
 use jdwp_end::{End, Front};
 use jdwp_wire::{HANDSHAKE, IdSizes, Limits, NoMemory};
@@ -19,8 +21,11 @@ pub struct Debugger {
     end: End,
     mirror: Mirror,
     sizes: Option<IdSizes>,
+    parked: Vec<Parked>,
     pending: Vec<Asked>,
     next_id: u32,
+    tickets: u64,
+    last: Heads,
 }
 
 impl Model for Debugger {
@@ -58,8 +63,11 @@ impl Debugger {
             end: End::new(alloc, Limits::standard())?,
             mirror: Mirror::new(alloc),
             sizes: None,
+            parked: Vec::new(alloc),
             pending: Vec::new(alloc),
             next_id: first_id,
+            tickets: 0,
+            last: Heads::new(),
         })
     }
 
@@ -84,6 +92,7 @@ impl Debugger {
         self.end.enqueue(&HANDSHAKE);
         self.mirror.clear();
         self.sizes = None;
+        self.parked.clear();
         self.pending.clear();
         true
     }
@@ -151,6 +160,13 @@ impl Debugger {
         ensures { result ≡ self.now.sizes }
     {
         self.sizes
+    }
+
+    /// What the last turn read, in the order in which it was learned; nothing before the first turn.
+    pub fn last(&self) -> &[Head]
+        ensures { result.now ≡ self.now.last }
+    {
+        self.last.as_slice()
     }
 
     /// The command at this place among those that were asked under tickets and neither answered nor lost, in the order asked, from 0;

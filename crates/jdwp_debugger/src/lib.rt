@@ -4,8 +4,10 @@
 mod command;
 mod composite;
 mod debugger;
+mod heads;
 mod laws;
 mod mirror;
+mod parked;
 mod pending;
 mod reply;
 mod requests;
@@ -13,6 +15,7 @@ mod threads;
 
 pub use command::{Carried, Command};
 pub use debugger::Debugger;
+pub use heads::Head;
 pub use laws::{
     counts_by_commands, counts_by_events, forgets_ended_threads, keeps_requests, refuses_packets,
 };
