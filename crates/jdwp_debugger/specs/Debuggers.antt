@@ -1,5 +1,6 @@
 -- The debugger's end of a session, as contracts see it, and what each call does to it.
-use Rattle.std.specs.Prelude.{◌≡◌, ℕ, zero, suc, Bool, true, false, ◌||◌, List, [], ◌∷◌, Option, Some, None, is_some}
+use Rattle.std.specs.Prelude.{ℕ, zero, suc, Bool, true, false, ◌||◌, List, [], ◌∷◌, Option, Some, None, is_some}
+use Rattle.std.specs.List.{filter_map}
 use Rattle.std.specs.Borrow.{Bor}
 use Rattle.jdwp_wire.specs.Handshake.{handshake_bytes}
 use Rattle.jdwp_wire.specs.Streams.{NextMessage, Whole, More, Fault}
@@ -63,10 +64,9 @@ abbrev pub has_tickets : List Asked → Bool
 has_tickets [] = false
 has_tickets (p ∷ ps) = is_some p.ticket || has_tickets ps
 
--- the tickets of those that have one
-abbrev pub tickets_of : List Unanswered → List ℕ
-tickets_of [] = []
-tickets_of (u ∷ us) = u.ticket ∷ tickets_of us
+-- the tickets of those that have one, in the order asked
+abbrev pub tickets_of : List Asked → List Ticket
+tickets_of pending = filter_map (λ (p : Asked). p.ticket) pending
 
 -- ---- what there is to handle
 
