@@ -1,25 +1,37 @@
 -- The debugger's end of a session, as contracts see it, and what each call does to it.
-use Rattle.std.specs.Prelude.{◌≡◌, ℕ, zero, suc, Bool, true, false, ◌||◌, List, [], ◌∷◌, Option, Some, None, is_some}
+use Rattle.std.specs.Prelude.{ℕ, zero, suc, Bool, true, false, ◌||◌, List, [], ◌∷◌, Option, Some, None, is_some}
+use Rattle.std.specs.List.{filter_map}
 use Rattle.std.specs.Borrow.{Bor}
 use Rattle.jdwp_wire.specs.Handshake.{handshake_bytes}
 use Rattle.jdwp_wire.specs.Streams.{NextMessage, Whole, More, Fault}
 use Rattle.jdwp_wire.specs.Limits.{Limits}
 use Rattle.jdwp_wire.specs.Widths.{Widths}
+use Rattle.jdwp_wire.specs.declared.packet.Header.{Header}
 use Rattle.jdwp_end.specs.Ends.{End}
 use Rattle.jdwp_end.specs.Ends as ends
 use Rattle.jdwp_debuggee.specs.Actions.{Command}
+use Rattle.jdwp_debugger.specs.declared.heads.Head.{Head}
 use Rattle.jdwp_debugger.specs.declared.pending.Asked.{Asked}
 use Rattle.jdwp_debugger.specs.declared.pending.Ticket.{Ticket}
 use Rattle.jdwp_debugger.specs.Mirrors.{Mirror, empty_mirror}
 
--- What both ends have; what was learned; the widths of ids, once they are known; the commands that wait for replies, in the order
--- asked; and the id of the next packet.
+-- A composite that was read before the widths of ids were known: its header, and its data as they came.
+pub record Parked : Type 0 where
+  pub header : Header
+  pub body : List ℕ
+
+-- What both ends have; what was learned; the widths of ids, once they are known; the composites that wait for them, in the order read;
+-- the commands that wait for replies, in the order asked; the id of the next packet; how many tickets were given; and what the last turn
+-- read, in the order in which it was learned.
 pub record Debugger : Type 0 where
   pub end : End
   pub mirror : Mirror
   pub sizes : Option Widths
+  pub parked : List Parked
   pub pending : List Asked
   pub next_id : ℕ
+  pub tickets : ℕ
+  pub last : List Head
 
 -- ---- commands that wait for replies
 
@@ -52,10 +64,9 @@ abbrev pub has_tickets : List Asked → Bool
 has_tickets [] = false
 has_tickets (p ∷ ps) = is_some p.ticket || has_tickets ps
 
--- the tickets of those that have one
-abbrev pub tickets_of : List Unanswered → List ℕ
-tickets_of [] = []
-tickets_of (u ∷ us) = u.ticket ∷ tickets_of us
+-- the tickets of those that have one, in the order asked
+abbrev pub tickets_of : List Asked → List Ticket
+tickets_of pending = filter_map (λ (p : Asked). p.ticket) pending
 
 -- ---- what there is to handle
 
@@ -69,11 +80,13 @@ is_front More = false
 
 -- a debugger before its first session
 abbrev pub new_debugger : Limits → ℕ → Debugger
-new_debugger limits first = record { end = ends.new_end limits; mirror = empty_mirror; sizes = None; pending = []; next_id = first }
+new_debugger limits first =
+    record { end = ends.new_end limits; mirror = empty_mirror; sizes = None; parked = []; pending = []; next_id = first; tickets = 0; last = [] }
 
 -- a session begins: the handshake is to leave
 abbrev pub attached : Debugger → Debugger
-attached d = record d { end = ends.with_enqueued handshake_bytes (ends.opened d.end); mirror = empty_mirror; sizes = None; pending = [] }
+attached d =
+    record d { end = ends.with_enqueued handshake_bytes (ends.opened d.end); mirror = empty_mirror; sizes = None; parked = []; pending = [] }
 
 -- bytes came
 abbrev pub with_fed : List ℕ → Debugger → Debugger
@@ -85,4 +98,4 @@ with_taken bytes d = record d { end = ends.with_taken bytes d.end }
 
 -- the connection is lost: the end is closed, nothing waits to leave, nothing is known, and no command waits for a reply
 abbrev pub lost : Debugger → Debugger
-lost d = record d { end = ends.lost d.end; mirror = empty_mirror; sizes = None; pending = [] }
+lost d = record d { end = ends.lost d.end; mirror = empty_mirror; sizes = None; parked = []; pending = [] }

@@ -1,13 +1,21 @@
 -- What every debugger keeps inside.
-use Rattle.std.specs.Prelude.{◌≡◌, ◌≤◌, length}
+use Rattle.std.specs.Prelude.{◌≡◌, ◌≤◌, [], None, length}
 use Rattle.jdwp_wire.specs.Limits.{standard_limits}
+use Rattle.jdwp_end.specs.declared.phase.Phase.TheVariants.{AwaitingHandshake}
 use Rattle.jdwp_debugger.specs.declared.debugger.Debugger.TheInside.{Inside}
-use Rattle.jdwp_debugger.specs.Debuggers.{Debugger, unanswered}
+use Rattle.jdwp_debugger.specs.Debuggers.{Debugger}
 
 abbrev pub view_of : Inside → Debugger
-view_of d = record { end = d.end; mirror = d.mirror; sizes = d.sizes; pending = d.pending.items; next_id = d.next_id }
+view_of d =
+    record { end = d.end; mirror = d.mirror; sizes = d.sizes; parked = d.parked.items; pending = d.pending.items; next_id = d.next_id; tickets = d.tickets; last = d.last }
 
--- the limits are the standard's, and no more than 64 commands with tickets wait
+-- Before the target's handshake no command waits for a reply, no composite for the widths of ids, and the widths are not known.
+abbrev pub Begins : Inside → Type 0
+Begins d = (d.pending.items ≡ []) × (d.parked.items ≡ []) × (d.sizes ≡ None)
+
+-- the limits are the standard's; no more than 64 commands wait for replies, and no more than four composites for the widths of ids
 pub record IsRight (d : Inside) : Type 0 where
   pub limits : d.end.limits ≡ standard_limits
-  pub few : length (unanswered d.pending.items) ≤ 64
+  pub few : length d.pending.items ≤ 64
+  pub few_parked : length d.parked.items ≤ 4
+  pub begins : d.end.phase ≡ AwaitingHandshake → Begins d

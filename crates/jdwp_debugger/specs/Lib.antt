@@ -8,3 +8,5 @@ pub mod Commands
 pub mod Mirrors
 pub mod Debuggers
 pub mod DebuggersKept
+pub mod Asking
+pub mod RefusedNumbers

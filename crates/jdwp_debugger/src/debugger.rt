@@ -1,17 +1,31 @@
 //! The debugger's end of a session.
-ghost use Rattle.std.specs.Prelude.{◌≡◌, ◌≤◌, ◌++◌, ◌↔◌, IfOk, IsTrue, drop, false, length, min, take};
+ghost use Rattle.std.specs.Prelude.{◌≡◌, ◌≤◌, ◌+◌, ◌++◌, ◌↔◌, IfErr, IfOk, IsTrue, None, drop, false, length, min, take};
 ghost use Rattle.jdwp_end.specs.Ends as ends;
 ghost use Rattle.jdwp_end.specs.Ends.{front_of, most_outgoing, room_of};
 ghost use Rattle.jdwp_wire.specs.Limits.{standard_limits};
-ghost use Rattle.jdwp_debugger.specs.Debuggers.{at_place, attached, has_tickets, is_front, new_debugger, seen_unanswered, unanswered, with_fed, with_taken};
+ghost use Rattle.jdwp_debugger.specs.Asking.{HasAsked, IsAdmitted, IsRefusal, MayLeave, is_busy, refusal_of_ask};
+ghost use Rattle.jdwp_debugger.specs.Debuggers.{at_place, attached, has_tickets, is_front, lost, new_debugger, seen_unanswered, tickets_of, unanswered, with_fed, with_taken};
 
+use crate::asking::{Admitted, Body, Refused};
 use crate::command::Command;
+use crate::heads::{Head, Heads};
+use crate::lost::Lost;
 use crate::mirror::Mirror;
-use crate::pending::{Asked, Ticket, have_tickets, unanswered_at};
+use crate::parked::Parked;
+use crate::pending::{Asked, Ticket, have_tickets, next_free, unanswered_at};
 use jdwp_end::{End, Front};
-use jdwp_wire::{HANDSHAKE, IdSizes, Limits, NoMemory};
+use jdwp_wire::{HANDSHAKE, IdSizes, Limits, NoMemory, PACKET_LIMIT};
 use std::alloc::Global;
 use std::marker::Model;
+
+/// The most commands that wait for replies.
+const PENDING_MOST: usize = 64;
+
+/// The last ticket that there is.
+const LAST_TICKET: u64 = u64::MAX;
+
+/// The most bytes of a packet behind its header.
+const BODY_MOST: usize = PACKET_LIMIT - 11;
 
 /// A debugger: its end of a session, what it learned, and the commands that wait for replies.
 #[derive(Drop)]
@@ -19,8 +33,11 @@ pub struct Debugger {
     end: End,
     mirror: Mirror,
     sizes: Option<IdSizes>,
+    parked: Vec<Parked>,
     pending: Vec<Asked>,
     next_id: u32,
+    tickets: u64,
+    last: Heads,
 }
 
 impl Model for Debugger {
@@ -58,8 +75,11 @@ impl Debugger {
             end: End::new(alloc, Limits::standard())?,
             mirror: Mirror::new(alloc),
             sizes: None,
+            parked: Vec::new(alloc),
             pending: Vec::new(alloc),
             next_id: first_id,
+            tickets: 0,
+            last: Heads::new(),
         })
     }
 
@@ -84,8 +104,100 @@ impl Debugger {
         self.end.enqueue(&HANDSHAKE);
         self.mirror.clear();
         self.sizes = None;
+        self.parked.clear();
         self.pending.clear();
         true
+    }
+
+    /// Asks a command of the target: its packet is to leave, under the next id under which no command waits for its reply. The answer comes
+    /// under the ticket.
+    ///
+    /// # Errors
+    /// The first of these that applies; nothing has changed. `Closed` where no session is open; `NotReady` where the widths of ids are not
+    /// known; `Busy` where 64 commands wait for replies, 65,536 or more bytes wait to leave, or 2^64 - 1 tickets were given; `BadCommand`
+    /// where the sets 0 to 63 have no such command, or its data don't fit it; `TooLong` where its packet would have more than 65,536
+    /// bytes; `NoMemory` where an allocation was refused.
+    pub fn ask(&mut self, alloc: Global, command: Command) -> Result<Ticket, Refused>
+        ensures ok { IfOk result (λ ticket. (refusal_of_ask self.old command ≡ None) × (ticket.0 ≡ self.old.tickets + 1) × HasAsked command self.old self.new) }
+        ensures err { IfErr result (λ e. (self.new ≡ self.old) × IsRefusal e (refusal_of_ask self.old command)) }
+    {
+        let id = next_free(&self.pending, self.next_id);
+        let packet = self.packet_to_ask(alloc, id, &command)?;
+        let ticket = Ticket(self.tickets + 1);
+        self.pending.push(Asked {
+            id,
+            ticket: Some(ticket),
+            command,
+        })?;
+        self.end.enqueue(&packet);
+        self.next_id = id.wrapping_add(1);
+        self.tickets = ticket.0;
+        Ok(ticket)
+    }
+
+    /// The packet of a command under an id, where it may be asked.
+    fn packet_to_ask(&self, alloc: Global, id: u32, command: &Command) -> Result<Vec<u8>, Refused>
+        ensures ok { IfOk result (λ packet. MayLeave self.now command.now id packet.items) }
+        ensures err { IfErr result (λ e. IsRefusal e (refusal_of_ask self.now command.now)) }
+    {
+        match self.admit(command) {
+            Ok(admitted) => {
+                let packet = admitted.packet(alloc, id, command)?;
+                Ok(packet)
+            }
+            Err(refused) => Err(refused),
+        }
+    }
+
+    /// A command that may be asked, or the first reason why not. Takes no memory.
+    fn admit<'a>(&self, command: &'a Command) -> Result<Admitted<'a>, Refused>
+        ensures ok { IfOk result (λ a. IsAdmitted self.now command.now a.sizes a.body a.size) }
+        ensures err { IfErr result (λ e. IsRefusal e (refusal_of_ask self.now command.now)) }
+    {
+        if !self.end.is_open() {
+            return Err(Refused::Closed);
+        }
+        let sizes = match self.sizes {
+            None => return Err(Refused::NotReady),
+            Some(sizes) => sizes,
+        };
+        if self.is_busy() {
+            return Err(Refused::Busy);
+        }
+        let body = match Body::of(command, &sizes) {
+            None => return Err(Refused::BadCommand),
+            Some(body) => body,
+        };
+        match body.size(&sizes) {
+            Some(size) if size <= BODY_MOST => Ok(Admitted {
+                sizes,
+                body,
+                size: size + 11,
+            }),
+            _ => Err(Refused::TooLong),
+        }
+    }
+
+    /// Whether so much waits that no command is asked.
+    fn is_busy(&self) -> bool
+        ensures { result ≡ is_busy self.now }
+    {
+        self.pending.len() >= PENDING_MOST || self.end.is_paused() || self.tickets >= LAST_TICKET
+    }
+
+    /// The connection is lost: the end is closed, both buffers are empty, and nothing is known. Answers the tickets that were neither answered
+    /// nor lost before; no command waits afterwards. Takes no memory.
+    pub fn lose(&mut self) -> Lost
+        ensures tickets { result ≡ tickets_of self.old.pending }
+        ensures lost { self.new ≡ lost self.old }
+    {
+        let lost = Lost::of(&self.pending);
+        self.end.lose();
+        self.mirror.clear();
+        self.sizes = None;
+        self.parked.clear();
+        self.pending.clear();
+        lost
     }
 
     /// Whether a session is open: attached, and not closed since.
@@ -153,11 +265,43 @@ impl Debugger {
         self.sizes
     }
 
+    /// What the last turn read, in the order in which it was learned; nothing before the first turn.
+    pub fn last(&self) -> &[Head]
+        ensures { result.now ≡ self.now.last }
+    {
+        self.last.as_slice()
+    }
+
     /// The command at this place among those that were asked under tickets and neither answered nor lost, in the order asked, from 0;
     /// None past the last.
     pub fn unanswered(&self, place: usize) -> Option<(Ticket, &Command)>
         ensures { seen_unanswered result ≡ at_place (unanswered self.now.pending) place }
     {
         unanswered_at(&self.pending, place)
+    }
+}
+
+#[cfg(test)]
+impl Debugger {
+    /// A debugger whose session is open and that knows the widths of ids. Its next id is 1.
+    pub(crate) fn ready(alloc: Global, sizes: IdSizes) -> Result<Debugger, NoMemory> {
+        let mut end = End::new(alloc, Limits::standard())?;
+        end.open();
+        end.feed(&HANDSHAKE);
+        if matches!(end.front(), Front::Handshake) {
+            end.take_off(HANDSHAKE.len());
+        } else {
+            return Err(NoMemory);
+        }
+        Ok(Debugger {
+            end,
+            mirror: Mirror::new(alloc),
+            sizes: Some(sizes),
+            parked: Vec::new(alloc),
+            pending: Vec::new(alloc),
+            next_id: 1,
+            tickets: 0,
+            last: Heads::new(),
+        })
     }
 }

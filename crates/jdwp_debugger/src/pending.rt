@@ -1,6 +1,7 @@
 //! The commands that wait for replies.
-ghost use Rattle.std.specs.Prelude.{◌≡◌, ◌≤◌, length, take};
-ghost use Rattle.jdwp_debugger.specs.Debuggers.{at_place, has_tickets, seen_unanswered, tickets_of, unanswered};
+ghost use Rattle.std.specs.Prelude.{◌≡◌, ◌≤◌, length};
+ghost use Rattle.jdwp_debugger.specs.Asking.{IsNextFree, is_outstanding};
+ghost use Rattle.jdwp_debugger.specs.Debuggers.{at_place, has_tickets, seen_unanswered, unanswered};
 
 use crate::command::Command;
 
@@ -44,4 +45,31 @@ pub(crate) fn unanswered_at(pending: &[Asked], place: usize) -> Option<(Ticket, 
         }
     }
     None
+}
+
+/// The first id from this one on under which no command waits. 0 follows 4,294,967,295.
+pub(crate) fn next_free(pending: &[Asked], from: u32) -> u32
+    requires { length pending.now ≤ 64 }
+    ensures { IsNextFree pending.now from result }
+{
+    let mut id = from;
+    for _ in 0..pending.len() {
+        if !has_outstanding(pending, id) {
+            return id;
+        }
+        id = id.wrapping_add(1);
+    }
+    id
+}
+
+/// Whether a command waits under this id.
+fn has_outstanding(pending: &[Asked], id: u32) -> bool
+    ensures { result ≡ is_outstanding pending.now id }
+{
+    for asked in pending {
+        if asked.id == id {
+            return true;
+        }
+    }
+    false
 }

@@ -118,7 +118,7 @@ pub fn entry_size(scalars: &[Scalar], sizes: &IdSizes) -> Option<usize>
 }
 
 /// How many bytes a scalar takes; None past `usize`.
-fn scalar_size(scalar: &Scalar, sizes: &IdSizes) -> Option<usize>
+pub fn scalar_size(scalar: &Scalar, sizes: &IdSizes) -> Option<usize>
     ensures { result ≡ in_usize (length (scalar_canonical sizes.now (scalar_meaning scalar.now))) }
 {
     match scalar {

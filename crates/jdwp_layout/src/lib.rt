@@ -9,6 +9,7 @@ mod command_sets;
 mod data_tests;
 mod datum;
 mod entry;
+mod fitting;
 mod item;
 mod laws;
 pub mod numbers;
@@ -23,6 +24,7 @@ pub use answer::{Answer, Data};
 pub use command::{CommandRow, Layouts, layout_of};
 pub use datum::{Datum, Scalar};
 pub use entry::{entry_size, pass_entries, pass_entry, read_entry, write_entry};
+pub use fitting::{data_size, refusal};
 pub use item::{Entry, Field, Item, Layout, fields_of_event, fields_of_modifier};
 pub use laws::{
     answers_first_fault, encodes_one_list, reads_only_encoded, reads_what_is_encoded,

@@ -1,0 +1,40 @@
+-- What holds of a command that may be asked.
+use Rattle.std.proofs.Common.{◌≡◌, ℕ, ◌+◌, ◌<◌, ◌≤◌, ◌||◌, nat_le, nat_lt, true, false, length, Some, None, ap, refl, arith}
+use Rattle.std.proofs.lemmas.Bool.{le-ltb, leb-false, or_parts}
+use Rattle.jdwp_wire.specs.Limits.{Limits, standard_limits}
+use Rattle.jdwp_wire.specs.Reading.{in_usize}
+use Rattle.jdwp_wire.specs.Widths.{Widths}
+use Rattle.jdwp_layout.proofs.Sizes.{some_is}
+use Rattle.jdwp_end.specs.Ends.{is_open, is_paused}
+use Rattle.jdwp_debuggee.specs.Actions.{Command}
+use Rattle.jdwp_debugger.specs.declared.asking.Body.{Body}
+use Rattle.jdwp_debugger.specs.Debuggers.{Debugger}
+use Rattle.jdwp_debugger.specs.Asking.{IsAdmitted, LAST_TICKET, body_bytes, carried_bytes, is_busy, is_for_target, packet_length, refusal_of_ask}
+
+unrefused : (d : Debugger) (c : Command) (w : Widths) → is_open d.end ≡ true → d.sizes ≡ Some w → is_busy d ≡ false → is_for_target w c ≡ true
+    → nat_lt d.end.limits.packet (packet_length w c) ≡ false → refusal_of_ask d c ≡ None
+unrefused d c w opens known busy good fits = rw (opens, known, busy, good, fits) refl
+
+pub admitted : (d : Debugger) (c : Command) (w : Widths) (b : Body) (n : ℕ) → is_open d.end ≡ true → d.sizes ≡ Some w → is_busy d ≡ false → is_for_target w c ≡ true
+    → d.end.limits ≡ standard_limits → body_bytes w b ≡ carried_bytes w c.carried → in_usize (length (body_bytes w b)) ≡ Some n → n ≤ 65525
+    → IsAdmitted d c w b (n + 11)
+admitted d c w b n opens known busy good limits bytes counted most =
+    let is : n ≡ length (body_bytes w b) = (some_is (length (body_bytes w b)) n counted).0 in
+    let same : length (body_bytes w b) ≡ length (carried_bytes w c.carried) = ap length bytes in
+    let packet : d.end.limits.packet ≡ 65536 = ap (λ (l : Limits). l.packet) limits in
+    let pending : d.end.limits.pending ≡ 64 = ap (λ (l : Limits). l.pending) limits in
+    let waits = or_parts (nat_le d.end.limits.pending (length d.pending)) (is_paused d.end || nat_le LAST_TICKET d.tickets) busy in
+    let rest = or_parts (is_paused d.end) (nat_le LAST_TICKET d.tickets) waits.1 in
+    let few : length d.pending < d.end.limits.pending = leb-false d.end.limits.pending (length d.pending) waits.0 in
+    let room : length d.end.outgoing < d.end.limits.packet = leb-false d.end.limits.packet (length d.end.outgoing) rest.0 in
+    let fits : nat_lt d.end.limits.packet (packet_length w c) ≡ false = le-ltb d.end.limits.packet (packet_length w c) (omega (arith, is, same, most, packet)) in
+    record {
+      unrefused = unrefused d c w opens known busy good fits;
+      known = known;
+      bytes = bytes;
+      size_is = omega (arith, is, same);
+      size_most = omega (arith, most);
+      few = omega (arith, few, pending);
+      room = omega (arith, room, packet);
+      left = leb-false LAST_TICKET d.tickets rest.1;
+    }

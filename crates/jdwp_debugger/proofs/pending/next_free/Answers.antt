@@ -1,0 +1,16 @@
+use Rattle.std.proofs.Common.{◌≡◌, length, arith}
+use Rattle.jdwp_debugger.proofs.Ids.{next_is_free}
+use Rattle.jdwp_debugger.proofs.pending.next_free.Goals as goal
+
+pub returns : goal.returns
+returns c =
+    let past = c.loop-test.false in
+    let end = c.loop.auto.counter-end in
+    let whole : c.loop.counter ≡ length c.args.pending.now = omega (arith, past, end) in
+    let others = c.loop.invariant.others in
+    record {
+      passed = c.loop.counter;
+      is = c.loop.invariant.at;
+      free = (rw (c.loop.invariant.at, whole) (next_is_free c.args.pending.now c.args.from c.ranges.from.fits c.requires (rw (← whole) others)));
+      others = others;
+    }

@@ -1,0 +1,140 @@
+-- What asking a command does, and why a debugger refuses to (JDWP specification, "Packets": ids are unique among the outstanding commands
+-- of one source).
+use Rattle.std.specs.Prelude.{◌≡◌, ℕ, ◌+◌, ◌-◌, ◌^◌, ◌%◌, ◌<◌, ◌≤◌, ◌==◌, nat_le, nat_lt, Bool, true, false, ◌||◌, ◌&&◌, not, List, [], ◌∷◌, ◌++◌, length, Option, Some, None, is_none, if◌then◌else◌}
+use Rattle.std.specs.List.{list_any}
+use Rattle.jdwp_wire.specs.Widths.{Widths}
+use Rattle.jdwp_wire.specs.Frames.{packet_bytes}
+use Rattle.jdwp_wire.specs.declared.packet.Header.{Header}
+use Rattle.jdwp_wire.specs.declared.packet.PacketKind.TheVariants as packet
+use Rattle.jdwp_layout.specs.CommandTable.{row_at}
+use Rattle.jdwp_layout.specs.Meanings.{meanings}
+use Rattle.jdwp_layout.specs.Rows.{Row, RowShapes}
+use Rattle.jdwp_layout.specs.Writes.{data_canonical, data_refusal}
+use Rattle.jdwp_end.specs.Ends.{is_open, is_paused, with_enqueued}
+use Rattle.jdwp_debuggee.specs.Actions.{Carried, Content, Raw, Command}
+use Rattle.jdwp_debugger.specs.declared.asking.Refused.{Refused}
+use Rattle.jdwp_debugger.specs.declared.asking.Refused.TheVariants.{Closed, NotReady, Busy, BadCommand, TooLong, NoMemory}
+use Rattle.jdwp_debugger.specs.declared.asking.Body.{Body}
+use Rattle.jdwp_debugger.specs.declared.asking.Body.TheVariants as body
+use Rattle.jdwp_debugger.specs.declared.pending.Asked.{Asked}
+use Rattle.jdwp_debugger.specs.Debuggers.{Debugger}
+
+-- ---- the command's packet
+
+-- the data have the layout of the request, or are bytes in a raw row
+abbrev pub fits_shapes : Widths → Option RowShapes → Carried → Bool
+fits_shapes w None (Raw bytes) = true
+fits_shapes w (Some shapes) (Content content) = is_none (data_refusal w shapes.request content)
+fits_shapes w shapes carried = false
+
+abbrev pub fits_row : Widths → Option Row → Carried → Bool
+fits_row w None carried = false
+fits_row w (Some row) carried = fits_shapes w row.shapes carried
+
+-- a command of a set that goes to the target, 0 to 63, with data that fit its row
+abbrev pub is_for_target : Widths → Command → Bool
+is_for_target w c = nat_lt c.set 64 && fits_row w (row_at c.set c.number) c.carried
+
+abbrev pub carried_bytes : Widths → Carried → List ℕ
+carried_bytes w (Content content) = data_canonical w content
+carried_bytes w (Raw bytes) = bytes
+
+abbrev pub packet_length : Widths → Command → ℕ
+packet_length w c = 11 + length (carried_bytes w c.carried)
+
+abbrev pub command_header : Widths → ℕ → Command → Header
+command_header w id c = record { length = packet_length w c; id = id; kind = packet.Command c.set c.number }
+
+-- the command as it is sent under an id
+abbrev pub command_bytes : Widths → ℕ → Command → List ℕ
+command_bytes w id c = packet_bytes (command_header w id c) (carried_bytes w c.carried)
+
+-- the same of what was found to fit
+abbrev pub body_bytes : Widths → Body → List ℕ
+body_bytes w (body.Laid layout items) = data_canonical w (meanings items.now)
+body_bytes w (body.Raw bytes) = bytes.now
+
+-- ---- why a command is not asked
+
+abbrev pub LAST_TICKET : ℕ
+LAST_TICKET = 2 ^ 64 - 1
+
+-- as many commands wait for replies as may, so much waits to leave that the end is paused, or all tickets were given
+abbrev pub is_busy : Debugger → Bool
+is_busy d = nat_le d.end.limits.pending (length d.pending) || (is_paused d.end || nat_le LAST_TICKET d.tickets)
+
+abbrev pub refusal_by : Option Widths → Debugger → Command → Option Refused
+refusal_by None d c = Some NotReady
+refusal_by (Some w) d c =
+    if is_busy d then Some Busy else
+    (if not (is_for_target w c) then Some BadCommand else
+    (if nat_lt d.end.limits.packet (packet_length w c) then Some TooLong else None))
+
+-- the first that applies
+abbrev pub refusal_of_ask : Debugger → Command → Option Refused
+refusal_of_ask d c = if is_open d.end then refusal_by d.sizes d c else Some Closed
+
+-- Want of memory refuses only what nothing else does.
+abbrev pub IsRefusal : Refused → Option Refused → Type 0
+IsRefusal NoMemory refusal = refusal ≡ None
+IsRefusal e refusal = refusal ≡ Some e
+
+-- ---- the id of a packet
+
+abbrev pub is_under : ℕ → Asked → Bool
+is_under id p = p.id == id
+
+-- a command waits for its reply under this id
+abbrev pub is_outstanding : List Asked → ℕ → Bool
+is_outstanding pending id = list_any (is_under id) pending
+
+-- so many ids on: 0 follows 4,294,967,295
+abbrev pub id_after : ℕ → ℕ → ℕ
+id_after from n = (from + n) % 2 ^ 32
+
+-- The first id from this one on that is not outstanding: so many before it were passed over, as they are.
+pub record IsNextFree (pending : List Asked) (from : ℕ) (id : ℕ) : Type 0 where
+  pub passed : ℕ
+  pub is : id ≡ id_after from passed
+  pub free : is_outstanding pending id ≡ false
+  pub others : (n : ℕ) → n < passed → is_outstanding pending (id_after from n) ≡ true
+
+-- ---- what asking does
+
+-- The packet is put behind what waits to leave, and the command behind those that wait for replies, under the next ticket.
+abbrev pub asked : Widths → ℕ → Command → Debugger → Debugger
+asked w id c d = record d {
+  end = with_enqueued (command_bytes w id c) d.end;
+  pending = d.pending ++ record { id = id; ticket = Some (record { 0 = d.tickets + 1 }); command = c } ∷ [];
+  next_id = id_after id 1;
+  tickets = d.tickets + 1;
+}
+
+pub record HasAsked (command : Command) (old : Debugger) (new : Debugger) : Type 0 where
+  pub widths : Widths
+  pub known : old.sizes ≡ Some widths
+  pub id : ℕ
+  pub next : IsNextFree old.pending old.next_id id
+  pub is : new ≡ asked widths id command old
+
+-- A command that may be asked: what it carries in so wide ids, and that its packet of so many bytes has room.
+pub record IsAdmitted (d : Debugger) (command : Command) (widths : Widths) (carried : Body) (size : ℕ) : Type 0 where
+  pub unrefused : refusal_of_ask d command ≡ None
+  pub known : d.sizes ≡ Some widths
+  pub bytes : body_bytes widths carried ≡ carried_bytes widths command.carried
+  pub size_is : size ≡ packet_length widths command
+  pub size_most : size ≤ 65536
+  pub few : length d.pending < 64
+  pub room : length d.end.outgoing < 65536
+  pub left : d.tickets < LAST_TICKET
+
+-- The packet of a command that may be asked, and that it has room.
+pub record MayLeave (d : Debugger) (command : Command) (id : ℕ) (bytes : List ℕ) : Type 0 where
+  pub unrefused : refusal_of_ask d command ≡ None
+  pub widths : Widths
+  pub known : d.sizes ≡ Some widths
+  pub bytes_are : bytes ≡ command_bytes widths id command
+  pub size_most : length bytes ≤ 65536
+  pub few : length d.pending < 64
+  pub room : length d.end.outgoing < 65536
+  pub left : d.tickets < LAST_TICKET

@@ -1,0 +1,70 @@
+//! What the last turn read.
+ghost use Rattle.std.specs.Prelude.{◌≡◌, ◌<◌, ◌++◌, ◌∷◌, [], length};
+
+use jdwp_wire::Header;
+use std::marker::Model;
+
+/// The front of a message that was read.
+#[derive(Clone, Copy, Debug, PartialEq, Eq)]
+pub enum Head {
+    /// The handshake.
+    Hello,
+    /// A packet with this header.
+    Packet(Header),
+}
+
+/// The most messages that one turn reads: the composites that waited for the widths of ids, and the reply that has them.
+const MOST: usize = 5;
+
+/// What a turn read, in order: at most five messages. It takes no memory.
+#[derive(Drop)]
+pub(crate) struct Heads {
+    heads: [Head; MOST],
+    count: usize,
+}
+
+impl Model for Heads {
+    ghost use Rattle.std.specs.Prelude.{List, ◌≤◌, take};
+    ghost use Rattle.jdwp_debugger.specs.declared.heads.Head.{Head};
+
+    ghost Value = { List Head };
+
+    ghost view = { λ h. take h.count h.heads };
+
+    ghost invariant = { λ h. h.count ≤ 5 };
+}
+
+impl Heads {
+    /// Nothing was read.
+    pub fn new() -> Heads
+        ensures { result ≡ [] }
+    {
+        Heads {
+            heads: [Head::Hello; MOST],
+            count: 0,
+        }
+    }
+
+    /// What was read, in order.
+    pub fn as_slice(&self) -> &[Head]
+        ensures { result.now ≡ self.now }
+    {
+        &self.heads[..self.count]
+    }
+
+    /// Nothing was read.
+    pub fn clear(&mut self)
+        ensures { self.new ≡ [] }
+    {
+        self.count = 0;
+    }
+
+    /// This was read behind the others.
+    pub fn push(&mut self, head: Head)
+        requires { length self.old < 5 }
+        ensures { self.new ≡ self.old ++ head ∷ [] }
+    {
+        self.heads[self.count] = head;
+        self.count += 1;
+    }
+}
