@@ -1,5 +1,5 @@
 -- the live threads as a list
-use Rattle.std.proofs.Common.{◌≡◌, ℕ, suc, ◌+◌, ◌^◌, ◌<◌, ◌≤◌, ◌==◌, ◌⊎◌, inl, inr, Bool, true, false, ◌||◌, cond, nat_le, nat_lt, None, List, [], ◌∷◌, ◌++◌, length, map, take, drop, get_or, ◌-◌, refl, sym, ap, ◌∙◌, arith}
+use Rattle.std.proofs.Common.{◌≡◌, ℕ, zero, suc, ◌+◌, ◌^◌, ◌<◌, ◌≤◌, ◌==◌, ◌⊎◌, inl, inr, Bool, true, false, ◌||◌, cond, nat_le, nat_lt, None, List, [], ◌∷◌, ◌++◌, length, map, take, drop, get_or, ◌-◌, refl, sym, ap, ◌∙◌, arith}
 use Rattle.std.proofs.lemmas.Bool.{eq-eqb, lt-ltb, lt-leb}
 use Rattle.std.proofs.lemmas.List.{length-append, length-map, take_all}
 use Rattle.std.specs.List.{flat_map, insert}
@@ -17,7 +17,7 @@ use Rattle.jdwp_layout.specs.declared.item.Field.TheVariants as field
 use Rattle.jdwp_layout.specs.declared.answer.Answer.TheVariants.{Data, Error}
 use Rattle.jdwp_machine.specs.Meanings.{Meaning, has}
 use Rattle.jdwp_machine.specs.Laws.{IsLawful}
-use Rattle.jdwp_debuggee.specs.Answers.{bounded, inserted, rising}
+use Rattle.jdwp_debuggee.specs.Answers.{bounded, first_of, inserted, least_thread, rising}
 use Rattle.jdwp_debuggee.specs.Entries.{threads_of}
 use Rattle.jdwp_debuggee.specs.Facts.{IsSound}
 use Rattle.jdwp_debuggee.specs.Sending.{IsSent, IsWritable, place_in}
@@ -127,6 +127,21 @@ pub live-fit : {S : Type 0} (m : Meaning S) → IsLawful m → (settings : Setti
 live-fit m law settings now sound t h =
     law.live_fits now.machine t sound.state
     (sound.lives t ∙ (sym (has-count now.state.threads t) ∙ (sym (has-rising (ids now.state.threads) t) ∙ h)))
+
+-- and so does the first of them, or 0 where none lives
+positive-power : (n : ℕ) → 0 < 256 ^ n
+positive-power zero = omega arith
+positive-power (suc n) = omega (arith, positive-power n)
+
+zero-fits : (width : ℕ) → id_refusal width 0 ≡ None
+zero-fits width = rw (lt-ltb 0 (256 ^ width) (positive-power width)) refl
+
+first-fits : (width : ℕ) (ns : List ℕ) → ((t : ℕ) → has ns t ≡ true → id_refusal width t ≡ None) → id_refusal width (first_of ns) ≡ None
+first-fits width [] all = zero-fits width
+first-fits width (n ∷ ns) all = all n (rw (eq-eqb n n refl) refl)
+
+pub least-fits : {S : Type 0} (m : Meaning S) → IsLawful m → (settings : Settings) (now : Moment S) → IsSound m settings now → id_refusal (m.sizes now.machine).object (least_thread now.state) ≡ None
+least-fits m law settings now sound = first-fits (m.sizes now.machine).object (rising (ids now.state.threads)) (live-fit m law settings now sound)
 
 -- the first of some entries is put at its place among the others
 pub risen : (es : List ThreadEntry) (d : ThreadEntry) (others : List ℕ) → 1 ≤ length es → others ≡ rising (ids (threads_of (take (length es - 1) (drop 1 es))))

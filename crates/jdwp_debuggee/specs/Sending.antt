@@ -1,5 +1,5 @@
 -- What is sent for an answer (JDWP specification, "Packets": a reply's error code and data).
-use Rattle.std.specs.Prelude.{◌≡◌, ℕ, ◌+◌, ◌≤◌, ⊤, suc, nat_le, if◌then◌else◌, ◌∷◌, Bool, true, false, List, [], length, Option, Some, None}
+use Rattle.std.specs.Prelude.{◌≡◌, ℕ, ◌+◌, ◌≤◌, ⊤, suc, nat_le, if◌then◌else◌, ◌∷◌, Bool, true, false, List, [], length, Option, Some, None, Result, Ok, Err}
 use Rattle.jdwp_wire.specs.ErrorCodes.{NONE}
 use Rattle.jdwp_wire.specs.Widths.{Widths}
 use Rattle.jdwp_wire.specs.declared.error_code.ErrorCode.{ErrorCode}
@@ -13,6 +13,7 @@ use Rattle.jdwp_layout.specs.declared.answer.Answer.TheVariants.{Data, Error}
 use Rattle.jdwp_machine.specs.Meanings.{Meaning}
 use Rattle.jdwp_debuggee.specs.Actions
 use Rattle.jdwp_debuggee.specs.Actions.{Action, Command, action_of}
+use Rattle.jdwp_debuggee.specs.CommandReads.{Asking}
 use Rattle.jdwp_debuggee.specs.Debuggees.{Debuggee, at_moment}
 use Rattle.jdwp_debuggee.specs.Effects.{does}
 use Rattle.jdwp_debuggee.specs.Replies.{reply_meaning}
@@ -60,6 +61,11 @@ is_short_action (Actions.AskThread t) = false
 is_short_action Actions.AllThreads = false
 is_short_action Actions.Ask = false
 is_short_action action = true
+
+-- what is asked for wants no memory; a refusal wants none
+abbrev pub is_short_asked : Result Asking ErrorCode → Bool
+is_short_asked (Ok asking) = is_short_action asking.action
+is_short_asked (Err error) = true
 
 -- how many stand before the first whose id is not less
 abbrev pub place_in : ℕ → List ℕ → ℕ

@@ -1,8 +1,9 @@
 //! The debuggee: its threads, its event requests, and the machine that it runs.
-ghost use Rattle.std.specs.Prelude.{◌≡◌, false, IfOk};
+ghost use Rattle.std.specs.Prelude.{◌≡◌, false, None, IfOk};
 ghost use Rattle.jdwp_event.specs.Composites.{vm_start};
 ghost use Rattle.jdwp_event.specs.Constants.{policy_byte};
 ghost use Rattle.jdwp_machine.specs.Meanings.{numbers};
+ghost use Rattle.jdwp_wire.specs.Numbers.{id_refusal};
 ghost use Rattle.jdwp_debuggee.specs.Debuggees.{with_state};
 ghost use Rattle.jdwp_debuggee.specs.State as spec;
 ghost use Rattle.jdwp_debuggee.specs.StepParts.{policy_at_start};
@@ -164,12 +165,14 @@ impl<M: Machine> Debuggee<M> {
         self.held = false;
     }
 
-    /// The first handshake of the target's life is completed. Answers what VM_START says; its policy ALL suspends every thread.
+    /// The first handshake of the target's life is completed. Answers what VM_START says; its policy ALL suspends every thread. The
+    /// id of its thread fits the width of object ids.
     pub fn handshake(&mut self) -> Start
         requires { self.old.moment.state.handshaken ≡ false }
         ensures state { self.new ≡ with_state (handshaken self.old.settings self.old.moment.state) self.old }
         ensures says { vm_start (policy_byte result.policy) result.thread.0 ≡ start_event self.old.settings self.old.moment.state }
         ensures packet { result.packet ≡ self.old.moment.state.next_packet }
+        ensures fits { id_refusal (M.meaning.sizes self.old.moment.machine).object result.thread.0 ≡ None }
     {
         let start = Start {
             policy: start_policy(self.settings.start_all()),

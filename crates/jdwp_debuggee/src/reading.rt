@@ -1,13 +1,14 @@
 //! Reading commands: those that carry little without memory, and all others by the table of commands
 //! (JDWP specification, "Protocol Details").
-ghost use Rattle.std.specs.Prelude.{◌≡◌, ℕ, Result, ◌∷◌, [], true, false, List, IfOk, IfErr, MatchOption, Some, None};
+ghost use Rattle.std.specs.Prelude.{◌≡◌, ℕ, Result, ◌∷◌, [], true, false, List, IfOk, IfErr, IfSome, MatchOption, Some, None};
 ghost use Rattle.jdwp_wire.specs.Widths.{Widths};
 ghost use Rattle.jdwp_wire.specs.declared.data_fault.DataFault.{DataFault};
 ghost use Rattle.jdwp_wire.specs.Reading.{Fails};
 ghost use Rattle.jdwp_layout.specs.Meanings.{DatumMeaning};
-ghost use Rattle.jdwp_debuggee.specs.CommandReads.{asked_meaning, asking, asks, command_read, content_read, is_short};
+ghost use Rattle.jdwp_debuggee.specs.CommandReads.{action_meaning, asked_meaning, asking, asks, command_read, content_read, is_short};
 ghost use Rattle.jdwp_debuggee.specs.ReadParts.{IsBare, clear_asks, found_layout, implemented_request, object_alone};
 ghost use Rattle.jdwp_debuggee.specs.RefusalParts.{found_thread};
+ghost use Rattle.jdwp_debuggee.specs.Sending.{is_short_action, is_short_asked};
 
 use crate::command::{Action, Asked};
 use jdwp_layout::numbers::{
@@ -22,8 +23,10 @@ use std::alloc::Global;
 
 /// What a command comes to that carries nothing.
 fn bare(set: u8, number: u8, action: Action, bytes: &[u8]) -> Asked
-    requires { IsBare (asking action) set number }
-    ensures { (w : Widths) → asked_meaning result ≡ asks (command_read w set number bytes.now) }
+    requires bare { IsBare (asking action) set number }
+    requires short { is_short_action (action_meaning action) ≡ true }
+    ensures value { (w : Widths) → asked_meaning result ≡ asks (command_read w set number bytes.now) }
+    ensures short { is_short_asked (asked_meaning result) ≡ true }
 {
     if bytes.is_empty() {
         Asked::Carries(action)
@@ -44,7 +47,8 @@ fn object(alloc: Global, sizes: &IdSizes, bytes: &[u8]) -> Option<ObjectId>
 
 /// What a command of ThreadReference comes to that carries a thread alone.
 fn read_of_thread(alloc: Global, number: u8, sizes: &IdSizes, bytes: &[u8]) -> Option<Asked>
-    ensures { MatchOption result (is_short 11 number ≡ false) (λ asked. (is_short 11 number ≡ true) × (asked_meaning asked ≡ asks (command_read sizes.now 11 number bytes.now))) }
+    ensures value { MatchOption result (is_short 11 number ≡ false) (λ asked. (is_short 11 number ≡ true) × (asked_meaning asked ≡ asks (command_read sizes.now 11 number bytes.now))) }
+    ensures short { IfSome result (λ asked. is_short_asked (asked_meaning asked) ≡ true) }
 {
     let thread = object(alloc, sizes, bytes);
     match (number, thread) {
@@ -73,7 +77,8 @@ fn take_clear(alloc: Global, sizes: &IdSizes, bytes: &[u8]) -> Result<(u8, i32),
 
 /// What an EventRequest.Clear comes to.
 fn read_clear(alloc: Global, sizes: &IdSizes, bytes: &[u8]) -> Asked
-    ensures { asked_meaning result ≡ asks (command_read sizes.now 15 2 bytes.now) }
+    ensures short { is_short_asked (asked_meaning result) ≡ true }
+    ensures value { asked_meaning result ≡ asks (command_read sizes.now 15 2 bytes.now) }
 {
     match take_clear(alloc, sizes, bytes) {
         Ok((kind, id)) => Asked::Carries(Action::ClearRequest { kind, id }),
@@ -83,7 +88,8 @@ fn read_clear(alloc: Global, sizes: &IdSizes, bytes: &[u8]) -> Asked
 
 /// What a command comes to that is read without memory; None where it is none of those.
 fn read_short(alloc: Global, set: u8, number: u8, sizes: &IdSizes, bytes: &[u8]) -> Option<Asked>
-    ensures { MatchOption result (is_short set number ≡ false) (λ asked. (is_short set number ≡ true) × (asked_meaning asked ≡ asks (command_read sizes.now set number bytes.now))) }
+    ensures value { MatchOption result (is_short set number ≡ false) (λ asked. (is_short set number ≡ true) × (asked_meaning asked ≡ asks (command_read sizes.now set number bytes.now))) }
+    ensures short { IfSome result (λ asked. is_short_asked (asked_meaning asked) ≡ true) }
 {
     match (set, number) {
         (VIRTUAL_MACHINE, SUSPEND) => Some(bare(set, number, Action::Suspend, bytes)),
@@ -135,7 +141,8 @@ fn request_of(set: u8, number: u8) -> Option<Layout>
 ///
 /// A command that is not implemented is refused with `NOT_IMPLEMENTED`, and its data are not read; one whose data do not read, or
 /// leave bytes over, with `ILLEGAL_ARGUMENT`. These take no memory: VirtualMachine's Suspend, Resume, HoldEvents, ReleaseEvents,
-/// IDSizes and Dispose; ThreadReference's Suspend, Resume, Status and SuspendCount; EventRequest's Clear and ClearAllBreakpoints.
+/// IDSizes and Dispose; ThreadReference's Suspend, Resume, Status and SuspendCount; EventRequest's Clear and ClearAllBreakpoints. What
+/// these ask for is carried out without memory, too.
 ///
 /// # Errors
 /// `NoMemory` where an allocation was refused.
@@ -147,6 +154,7 @@ pub fn read_command(
     bytes: &[u8],
 ) -> Result<Asked, NoMemory>
     ensures value { IfOk result (λ asked. asked_meaning asked ≡ asks (command_read sizes.now set number bytes.now)) }
+    ensures short { IfOk result (λ asked. is_short set number ≡ true → is_short_asked (asked_meaning asked) ≡ true) }
     ensures memory { IfErr result (λ _. is_short set number ≡ false) }
 {
     if let Some(asked) = read_short(alloc, set, number, sizes, bytes) {

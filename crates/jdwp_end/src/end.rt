@@ -140,6 +140,7 @@ impl End {
         ensures room { front_of self.now ≡ More → ends.is_open self.now ≡ true → ends.is_paused self.now ≡ false → 0 < room_of self.now }
         ensures bytes { IsBytes self.now.incoming }
         ensures least { 2048 ≤ self.now.limits.packet }
+        ensures most { self.now.limits.packet ≤ 1048576 }
         ensures flows { self.now.outgoing ≡ [] → ends.is_paused self.now ≡ false }
     {
         let bytes = self.incoming.as_slice();
