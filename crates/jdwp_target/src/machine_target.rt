@@ -1,7 +1,9 @@
 //! The debuggee's end of a session, over any lawful machine.
-ghost use Rattle.std.specs.Prelude.{◌≡◌, ◌≤◌, ◌++◌, ◌↔◌, true, false, IfOk, IsTrue, length, take, drop, min};
+ghost use Rattle.std.specs.Prelude.{◌≡◌, ◌≤◌, ◌<◌, ◌++◌, ◌↔◌, [], true, false, IfOk, IsTrue, length, take, drop, min};
+ghost use Rattle.jdwp_wire.specs.Bytes.{IsBytes};
+ghost use Rattle.jdwp_wire.specs.Streams.{More};
 ghost use Rattle.jdwp_end.specs.Ends as ends;
-ghost use Rattle.jdwp_end.specs.Ends.{most_outgoing, room_of};
+ghost use Rattle.jdwp_end.specs.Ends.{front_of, most_outgoing, room_of};
 ghost use Rattle.jdwp_machine.specs.Meanings.{numbers};
 ghost use Rattle.jdwp_debuggee.specs.State as spec;
 ghost use Rattle.jdwp_target.specs.Targets.{Ran, lost, new_target, opened, with_fed, with_taken};
@@ -161,10 +163,14 @@ impl<M: Machine + Drop> MachineTarget<M> {
         self.end.lose();
     }
 
-    /// What holds after every list of calls in a session. It does nothing.
+    /// What holds after every list of calls in a session: the whole run; that what came are bytes; that an end at which nothing waits
+    /// is not paused; and that an open end that is not paused and asks for more has room for a byte. It changes nothing.
     pub fn session(&self)
-        ensures { Ran M.meaning self.now }
+        ensures ran { Ran M.meaning self.now }
+        ensures bytes { IsBytes self.now.end.incoming }
+        ensures flows { self.now.end.outgoing ≡ [] → ends.is_paused self.now.end ≡ false }
+        ensures room { front_of self.now.end ≡ More → ends.is_open self.now.end ≡ true → ends.is_paused self.now.end ≡ false → 0 < room_of self.now.end }
     {
-        let _ = &self.end;
+        let _ = self.end.front();
     }
 }
