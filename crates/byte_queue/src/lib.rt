@@ -24,7 +24,8 @@ impl Model for ByteQueue {
 
     ghost view = { λ q. record { bytes = drop q.start q.bytes.items; capacity = q.capacity } };
 
-    ghost invariant = { λ q. IsRoomy q.start (length q.bytes.items) q.capacity (vec_capacity q.bytes) };
+    ghost invariant = { λ q. IsRoomy q.start (length q.bytes.items) q.capacity
+        (vec_capacity q.bytes) };
 }
 
 impl ByteQueue {
@@ -89,8 +90,11 @@ impl ByteQueue {
     /// Adds a value at the end. It takes no memory.
     pub fn put<T: Wire>(&mut self, value: &T, sizes: &IdSizes)
         requires writable { T.refusal sizes.now (T.meaning value.now) ≡ None }
-        requires room { length self.old.bytes + length (T.canonical sizes.now (T.meaning value.now)) ≤ self.old.capacity }
-        ensures { self.new ≡ record self.old { bytes = self.old.bytes ++ T.canonical sizes.now (T.meaning value.now) } }
+        requires room { length self.old.bytes + length (T.canonical sizes.now (T.meaning value.now))
+            ≤ self.old.capacity }
+        ensures { self.new ≡ record self.old {
+          bytes = self.old.bytes ++ T.canonical sizes.now (T.meaning value.now);
+        } }
     {
         let room = (self.capacity * 2).saturating_sub(self.bytes.len());
         let size = value.size(sizes).unwrap();

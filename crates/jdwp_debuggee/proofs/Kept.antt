@@ -1,9 +1,9 @@
 -- what the code keeps stays
-use Rattle.std.proofs.Common.{◌≡◌, ◌≤◌, ◌==◌, ◌+◌, ◌-◌, cond, ℕ, Bool, true, false, Option, Some, [], refl, sym, ◌∙◌, ap, subst, arith}
+use Rattle.std.proofs.Common.{◌≡◌, ◌≤◌, ◌==◌, ◌+◌, ◌-◌, cond, ℕ, Bool, true, false, Option, Some, [], length, refl, sym, ◌∙◌, ap, subst, arith}
 use Rattle.jdwp_machine.specs.Meanings.{Meaning, has}
 use Rattle.jdwp_machine.specs.Laws.{IsLawful, AreDistinct}
 use Rattle.jdwp_debuggee.specs.Actions.{Command, Raw}
-use Rattle.jdwp_debuggee.specs.Debuggees.{Debuggee, IsKept, at_moment, with_state}
+use Rattle.jdwp_debuggee.specs.Debuggees.{AreRoomy, Debuggee, IsKept, at_moment, with_state}
 use Rattle.jdwp_debuggee.specs.Entries.{AllAtMost}
 use Rattle.jdwp_debuggee.specs.Facts.{IsSound}
 use Rattle.jdwp_debuggee.specs.Settings.{Settings, IsCountLimit}
@@ -20,8 +20,8 @@ most-of m d k =
     at-most-more d.settings.count_limit 2147483647 d.moment.state.threads k.limit.1
     (all-at-most d.settings.count_limit d.moment.state.threads k.distinct k.sound.at_most)
 
-pub kept-new : {S : Type 0} (m : Meaning S) → IsLawful m → (settings : Settings) (s : S) → m.is_state s → IsCountLimit settings.count_limit → IsKept m (record { settings = settings; moment = record { state = new_state (m.live s); machine = s } })
-kept-new m law settings s st limit = record {
+pub kept-new : {S : Type 0} (m : Meaning S) → IsLawful m → (settings : Settings) (s : S) → m.is_state s → IsCountLimit settings.count_limit → AreRoomy settings.limits → IsKept m (record { settings = settings; moment = record { state = new_state (m.live s); machine = s } })
+kept-new m law settings s st limit limits = record {
   sound = record {
     state = st;
     lives = λ t. sym (ap (λ l. has l t) (ids-running (m.live s))) ∙ has-count (running (m.live s)) t;
@@ -32,6 +32,8 @@ kept-new m law settings s st limit = record {
   quiet = λ _ t n e. count-running (m.live s) t n e;
   limit = limit;
   next = omega arith;
+  limits = limits;
+  room = omega arith;
 }
 
 -- counts change, and a count that is 0 stays 0 before the first handshake
@@ -44,16 +46,20 @@ kept-counts m d f k most zero = record {
       j.2 ∙ (ap (f t) (k.quiet e t j.0 j.1) ∙ zero e t);
   limit = k.limit;
   next = k.next;
+  limits = k.limits;
+  room = k.room;
 }
 
 -- the threads are the same, or a part of them, and so are the requests
-pub kept-threads : {S : Type 0} (m : Meaning S) (d : Debuggee S) (state : State) → IsKept m d → state.threads ≡ d.moment.state.threads → state.handshaken ≡ d.moment.state.handshaken → state.next_request ≡ d.moment.state.next_request → IsSound m d.settings (record { state = state; machine = d.moment.machine }) → IsKept m (with_state state d)
-kept-threads m d state k e h n s = record {
+pub kept-threads : {S : Type 0} (m : Meaning S) (d : Debuggee S) (state : State) → IsKept m d → state.threads ≡ d.moment.state.threads → state.handshaken ≡ d.moment.state.handshaken → state.next_request ≡ d.moment.state.next_request → length state.requests ≤ length d.moment.state.requests → IsSound m d.settings (record { state = state; machine = d.moment.machine }) → IsKept m (with_state state d)
+kept-threads m d state k e h n l s = record {
   sound = s;
   distinct = subst (λ l. AreDistinct (ids l)) (sym e) k.distinct;
   quiet = λ x t c y. k.quiet (sym h ∙ x) t c (sym (ap (λ l. count_in l t) e) ∙ y);
   limit = k.limit;
   next = subst (λ x. x ≤ 2147483648) (sym n) k.next;
+  limits = k.limits;
+  room = let r : length d.moment.state.requests ≤ d.settings.limits.requests = k.room in omega arith;
 }
 
 both : {b : Bool} → b ≡ true → b ≡ false → ⊥
@@ -103,6 +109,8 @@ kept-reset m d k =
       quiet = c.quiet;
       limit = c.limit;
       next = c.next;
+      limits = c.limits;
+      room = omega arith;
     }
 
 pub kept-start : {S : Type 0} (m : Meaning S) (d : Debuggee S) (f : ℕ → ℕ → ℕ) (packet : ℕ) → IsKept m d → d.moment.state.handshaken ≡ false → ((t n : ℕ) → f t n ≤ n + 1) → IsKept m (with_state (record d.moment.state { threads = changed f d.moment.state.threads; handshaken = true; next_packet = packet }) d)
@@ -114,6 +122,8 @@ kept-start m d f packet k h most =
       quiet = λ e. absurd (cc);
       limit = k.limit;
       next = k.next;
+      limits = k.limits;
+      room = k.room;
     } in
     kept-shaken m now f kept refl (λ t n c. let z : n ≡ 0 = k.quiet h t n c in let l : f t n ≤ n + 1 = most t n in let i : 1 ≤ d.settings.count_limit = k.limit.0 in omega arith)
 

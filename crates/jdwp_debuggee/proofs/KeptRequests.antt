@@ -3,6 +3,7 @@ use Rattle.std.proofs.Common.{◌≡◌, ◌≤◌, ◌<◌, ◌+◌, ℕ, Bool,
 use Rattle.std.specs.Prelude.{nat_le, nat_lt}
 use Rattle.std.proofs.lemmas.Bool.{eq-eqb}
 use Rattle.std.proofs.lemmas.Bool.Decides.{nat_tests}
+use Rattle.std.proofs.lemmas.List.{length-append}
 use Rattle.jdwp_wire.specs.declared.error_code.ErrorCode.{ErrorCode}
 use Rattle.jdwp_layout.specs.Meanings.{ScalarMeaning}
 use Rattle.jdwp_event.specs.Modifiers.{ModifierMeaning, modifiers_of}
@@ -23,7 +24,7 @@ use Rattle.jdwp_value.specs.declared.id.ObjectId.{ObjectId}
 use Rattle.jdwp_debuggee.proofs.Distinct.{distinct-none}
 use Rattle.jdwp_debuggee.proofs.Ends.{distinct-tail, tail-live}
 use Rattle.jdwp_debuggee.proofs.Kept.{any}
-use Rattle.jdwp_debuggee.proofs.Small.{and-right}
+use Rattle.jdwp_debuggee.proofs.Small.{and-left, and-right}
 
 -- ---- Set
 
@@ -47,7 +48,15 @@ unless-none : (b : Bool) (e : ErrorCode) → unless b e ≡ None → b ≡ true
 unless-none true e h = refl
 unless-none false e h = absurd (cc)
 
--- a request that is not refused has an id
+-- a request that is not refused has room, and an id
+pub set-few : {S : Type 0} (m : Meaning S) (settings : Settings) (now : Moment S) (byte policy : ℕ) (modifiers : List ModifierMeaning) → set_refusal m settings now byte policy modifiers ≡ None → length now.state.requests + 1 ≤ settings.limits.requests
+set-few m settings now byte policy modifiers h =
+    let a = second-none (kind_refusal byte) _ h in
+    let b = second-none _ _ a in
+    let c = first-none (room_refusal settings now.state) _ b in
+    let d : nat_lt (length now.state.requests) settings.limits.requests ≡ true = and-left (nat_lt (length now.state.requests) settings.limits.requests) _ (unless-none _ _ c) in
+    grind (arith, nat_tests)
+
 pub set-room : {S : Type 0} (m : Meaning S) (settings : Settings) (now : Moment S) (byte policy : ℕ) (modifiers : List ModifierMeaning) → set_refusal m settings now byte policy modifiers ≡ None → now.state.next_request ≤ 2147483647
 set-room m settings now byte policy modifiers h =
     let a = second-none (kind_refusal byte) _ h in
@@ -55,6 +64,10 @@ set-room m settings now byte policy modifiers h =
     let c = first-none (room_refusal settings now.state) _ b in
     let d : nat_le now.state.next_request LAST_REQUEST ≡ true = and-right (nat_lt (length now.state.requests) settings.limits.requests) _ (unless-none _ _ c) in
     grind (arith, nat_tests)
+
+-- the request that a Set makes
+abbrev pub made : {S : Type 0} → Meaning S → Moment S → ℕ → ℕ → List ModifierMeaning → Request
+made m now byte policy modifiers = new_request (asked now.state byte policy modifiers) (first_origin m now.machine (step_thread modifiers))
 
 pub kept-set : {S : Type 0} (m : Meaning S) (d : Debuggee S) (byte policy : ℕ) (entries : List (List ScalarMeaning)) → IsKept m d → set_refusal m d.settings d.moment byte policy (modifiers_of entries) ≡ None → IsKept m (at_moment (set_by m d.moment byte policy (modifiers_of entries) None).after d)
 kept-set m d byte policy entries k h =
@@ -65,11 +78,12 @@ kept-set m d byte policy entries k h =
       quiet = k.quiet;
       limit = k.limit;
       next = omega arith;
+      limits = k.limits;
+      room =
+          let few = set-few m d.settings d.moment byte policy (modifiers_of entries) h in
+          let more = length-append d.moment.state.requests (made m d.moment byte policy (modifiers_of entries) ∷ []) in
+          omega (arith, few, more);
     }
-
--- the request that a Set makes
-abbrev pub made : {S : Type 0} → Meaning S → Moment S → ℕ → ℕ → List ModifierMeaning → Request
-made m now byte policy modifiers = new_request (asked now.state byte policy modifiers) (first_origin m now.machine (step_thread modifiers))
 
 placed-made : {S : Type 0} (m : Meaning S) (d : Debuggee S) (byte policy : ℕ) (modifiers : List ModifierMeaning) (r : Request) → IsKept m d → r ≡ made m d.moment byte policy modifiers → placed r d.moment.state.requests ≡ d.moment.state.requests ++ made m d.moment byte policy modifiers ∷ []
 placed-made m d byte policy modifiers r k e =
@@ -98,6 +112,8 @@ kept-dead m law d k = record {
   quiet = λ _ t n h. absurd (cc);
   limit = k.limit;
   next = k.next;
+  limits = k.limits;
+  room = omega arith;
 }
 
 -- ---- threads that end one after the other

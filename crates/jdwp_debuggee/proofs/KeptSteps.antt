@@ -2,7 +2,8 @@
 use Rattle.std.proofs.Common.{◌≡◌, ◌≤◌, ◌==◌, ℕ, Bool, true, false, not, ◌&&◌, Option, Some, None, List, [], ◌∷◌, length, suc, refl, sym, ◌∙◌, ap, subst, arith, is_some}
 use Rattle.std.specs.List.{filter}
 use Rattle.std.proofs.lemmas.Bool.{eqb-true, false_from_ne_true}
-use Rattle.jdwp_event.specs.Filters.{all_counted}
+use Rattle.std.proofs.lemmas.List.{length-map}
+use Rattle.jdwp_event.specs.Filters.{all_counted, counted}
 use Rattle.jdwp_event.specs.Occurrences.{HappeningMeaning, runs_out, started}
 use Rattle.jdwp_event.specs.Composites.{CompositeMeaning, gathered}
 use Rattle.jdwp_event.specs.Requests.{Request}
@@ -52,9 +53,22 @@ live-may m d t k h = (ready m d.settings d.moment t k.sound h).live
 ends-state : {S : Type 0} (m : Meaning S) (s : S) (t : ℕ) (x : State × Bool) → (ends m s t x).after.state ≡ x.0
 ends-state m s t (state, b) = refl
 
-fine-ended : (t : ℕ) (st : State) (ts : List Thread) → (without_thread t st).threads ≡ ts → AreDistinct (ids st.threads) × (st.next_request ≤ 2147483648) → AreDistinct (ids (ended_by ts (without_thread t st)).0.threads) × ((ended_by ts (without_thread t st)).0.next_request ≤ 2147483648)
-fine-ended t st [] e f = (distinct-none, f.1)
-fine-ended t st (p ∷ ps) e f = (distinct-filter t st.threads f.0, f.1)
+-- what is kept of the state that a step leaves, where there may be so many requests
+record Fine (most : ℕ) (st : State) : Type 0 where
+  distinct : AreDistinct (ids st.threads)
+  next : st.next_request ≤ 2147483648
+  room : length st.requests ≤ most
+
+fine-ended : (t most : ℕ) (st : State) (ts : List Thread) → (without_thread t st).threads ≡ ts → Fine most st → Fine most (ended_by ts (without_thread t st)).0
+fine-ended t most st [] e f = record { distinct = distinct-none; next = f.next; room = omega arith }
+fine-ended t most st (p ∷ ps) e f = record { distinct = distinct-filter t st.threads f.distinct; next = f.next; room = f.room }
+
+fine-seen : (most : ℕ) (h : HappeningMeaning) (st : State) → Fine most st → Fine most (seen h st)
+fine-seen most h st f = record {
+  distinct = f.distinct;
+  next = f.next;
+  room = let e = length-map st.requests (counted h) in let r : length st.requests ≤ most = f.room in omega (arith, e, r);
+}
 
 new-apart : {S : Type 0} (m : Meaning S) → IsLawful m → (d : Debuggee S) (t n : ℕ) → IsKept m d → has (m.live d.moment.machine) t ≡ true → started (m.next d.moment.machine t) ≡ Some n → has (ids d.moment.state.threads) n ≡ false
 new-apart m law d t n k live e =
@@ -64,30 +78,36 @@ new-apart m law d t n k live e =
     let never : m.ever d.moment.machine n ≡ false = law.new_thread d.moment.machine t n (k.sound.state, live) e in
     absurd (cc))
 
-fine-started : {S : Type 0} (m : Meaning S) → IsLawful m → (d : Debuggee S) (t : ℕ) (o : Option ℕ) → IsKept m d → has (m.live d.moment.machine) t ≡ true → started (m.next d.moment.machine t) ≡ o → AreDistinct (ids (with_started o (seen (m.next d.moment.machine t) d.moment.state)).threads) × ((with_started o (seen (m.next d.moment.machine t) d.moment.state)).next_request ≤ 2147483648)
-fine-started m law d t None k live e = (k.distinct, k.next)
-fine-started m law d t (Some n) k live e = (distinct-push d.moment.state.threads _ (new-apart m law d t n k live e) k.distinct, k.next)
+fine-started : {S : Type 0} (m : Meaning S) → IsLawful m → (d : Debuggee S) (t most : ℕ) (o : Option ℕ) → IsKept m d → has (m.live d.moment.machine) t ≡ true → started (m.next d.moment.machine t) ≡ o → Fine most (seen (m.next d.moment.machine t) d.moment.state) → Fine most (with_started o (seen (m.next d.moment.machine t) d.moment.state))
+fine-started m law d t most None k live e f = f
+fine-started m law d t most (Some n) k live e f = record { distinct = distinct-push d.moment.state.threads _ (new-apart m law d t n k live e) k.distinct; next = f.next; room = f.room }
 
-fine-counts : (f : ℕ → ℕ → ℕ) (st : State) → AreDistinct (ids st.threads) × (st.next_request ≤ 2147483648) → AreDistinct (ids (changed f st.threads))
-fine-counts f st h = subst AreDistinct (sym (ids-changed f st.threads)) h.0
+fine-counts : (f : ℕ → ℕ → ℕ) (st : State) → AreDistinct (ids st.threads) → AreDistinct (ids (changed f st.threads))
+fine-counts f st h = subst AreDistinct (sym (ids-changed f st.threads)) h
 
-fine-step : {S : Type 0} (m : Meaning S) → IsLawful m → (d : Debuggee S) (t : ℕ) → IsKept m d → has (m.live d.moment.machine) t ≡ true → AreDistinct (ids (occurs m d.moment t).after.state.threads) × ((occurs m d.moment t).after.state.next_request ≤ 2147483648)
+fine-step : {S : Type 0} (m : Meaning S) → IsLawful m → (d : Debuggee S) (t : ℕ) → IsKept m d → has (m.live d.moment.machine) t ≡ true → Fine d.settings.limits.requests (occurs m d.moment t).after.state
 fine-step m law d t k live =
     let now = d.moment in
     let h = m.next now.machine t in
-    let F : State → Type 0 = λ st. AreDistinct (ids st.threads) × (st.next_request ≤ 2147483648) in
-    elim (is_marked now.state t) as (λ b. F (occurs_by m now t b).after.state) [
-      | true ↦ subst F (sym (ends-state m now.machine t (thread_ended t now.state))) (fine-ended t now.state _ refl (k.distinct, k.next))
-      | false ↦ elim (runs_out h) as (λ b. F (happens m now t h b).after.state) [
-        | true ↦ elim (gathered h now.state.requests) as (λ o. F (death_by m now.machine t h now.state o).after.state) [
-          | None ↦ subst F (sym (ends-state m now.machine t (thread_ended t (seen h now.state)))) (fine-ended t (seen h now.state) _ refl (k.distinct, k.next))
-          | Some c ↦ (subst AreDistinct (sym (ids-marked t (changed (raised_by c.policy h.thread) now.state.threads))) (fine-counts (raised_by c.policy h.thread) now.state (k.distinct, k.next)), k.next)
+    let most = d.settings.limits.requests in
+    let old : Fine most now.state = record { distinct = k.distinct; next = k.next; room = k.room } in
+    let told : Fine most (seen h now.state) = fine-seen most h now.state old in
+    elim (is_marked now.state t) as (λ b. Fine most (occurs_by m now t b).after.state) [
+      | true ↦ subst (Fine most) (sym (ends-state m now.machine t (thread_ended t now.state))) (fine-ended t most now.state _ refl old)
+      | false ↦ elim (runs_out h) as (λ b. Fine most (happens m now t h b).after.state) [
+        | true ↦ elim (gathered h now.state.requests) as (λ o. Fine most (death_by m now.machine t h now.state o).after.state) [
+          | None ↦ subst (Fine most) (sym (ends-state m now.machine t (thread_ended t (seen h now.state)))) (fine-ended t most (seen h now.state) _ refl told)
+          | Some c ↦ record {
+            distinct = subst AreDistinct (sym (ids-marked t (changed (raised_by c.policy h.thread) now.state.threads))) (fine-counts (raised_by c.policy h.thread) now.state k.distinct);
+            next = k.next;
+            room = told.room;
+          }
         ]
-        | false ↦ elim (gathered h now.state.requests) as (λ o. F (report_by m now.machine t h now.state o).after.state) [
-          | None ↦ fine-started m law d t _ k live refl
+        | false ↦ elim (gathered h now.state.requests) as (λ o. Fine most (report_by m now.machine t h now.state o).after.state) [
+          | None ↦ fine-started m law d t most _ k live refl told
           | Some c ↦
-              let s = fine-started m law d t _ k live refl in
-              (fine-counts (raised_by c.policy h.thread) (with_started (started h) (seen h now.state)) s, s.1)
+              let s = fine-started m law d t most _ k live refl told in
+              record { distinct = fine-counts (raised_by c.policy h.thread) (with_started (started h) (seen h now.state)) s.distinct; next = s.next; room = s.room }
         ]
       ]
     ]
@@ -101,10 +121,12 @@ kept-step m law d t k h =
     let f = fine-step m law d t k (live-may m d t k h) in
     record {
       sound = r.sound;
-      distinct = f.0;
+      distinct = f.distinct;
       quiet = λ e. absurd (apart (and-left d.moment.state.handshaken _ h) (sym r.handshaken ∙ e));
       limit = k.limit;
-      next = f.1;
+      next = f.next;
+      limits = k.limits;
+      room = f.room;
     }
 
 -- ---- the parts of a step

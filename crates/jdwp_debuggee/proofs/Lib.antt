@@ -14,5 +14,6 @@ pub mod KeptRequests
 pub mod Answered
 pub mod Writable
 pub mod ThreadsListed
+pub mod Fitting
 pub mod Refused
 pub mod Read

@@ -1,6 +1,7 @@
 -- which requests are accepted, what is reported for them, and what IDSizes is answered
 use Rattle.std.proofs.Common.{◌≡◌, ℕ, ◌==◌, ◌≤◌, Bool, true, false, ◌||◌, ◌&&◌, not, cond, Option, Some, None, List, [], ◌∷◌, map, refl, sym, ◌∙◌, ap, subst, arith}
 use Rattle.std.specs.List.{filter, AllByRecursion}
+use Rattle.std.specs.Prelude.{IfSome}
 use Rattle.std.proofs.lemmas.Bool.{eqb-true, cond_both, leb-true}
 use Rattle.jdwp_wire.specs.declared.error_code.ErrorCode.{ErrorCode}
 use Rattle.jdwp_layout.specs.CommandNumbers.{is_command, STACK_FRAME, FRAMES, FRAME_COUNT, SUSPEND, RESUME, DISPOSE, EXIT, HOLD_EVENTS, RELEASE_EVENTS, ALL_THREADS, ID_SIZES, SET_REQUEST, CLEAR_REQUEST, CLEAR_ALL_BREAKPOINTS, SUSPEND_THREAD, RESUME_THREAD, SUSPEND_COUNT, THREAD_STATUS, SET_SLOTS}
@@ -10,7 +11,7 @@ use Rattle.jdwp_event.specs.Modifiers.{ModifierMeaning, modifiers_of}
 use Rattle.jdwp_event.specs.Requests.{Request, all_asked}
 use Rattle.jdwp_event.specs.Occurrences.{HappeningMeaning, runs_out}
 use Rattle.jdwp_event.specs.Filters.{passes, passing}
-use Rattle.jdwp_event.specs.Composites.{CompositeMeaning, POLICY_ALL, event_for, greatest_policy, composite_by}
+use Rattle.jdwp_event.specs.Composites.{CompositeMeaning, POLICY_ALL, event_for, gathered, greatest_policy, composite_by}
 use Rattle.jdwp_event.specs.Told.{event_thread}
 use Rattle.jdwp_machine.specs.Meanings.{Meaning}
 use Rattle.jdwp_debuggee.specs.Settings.{Settings}
@@ -123,30 +124,32 @@ all-of-thread : (h : HappeningMeaning) (rs : List Request) → AllByRecursion (�
 all-of-thread h [] = tt
 all-of-thread h (r ∷ rs) = (refl, all-of-thread h rs)
 
--- what is reported, if anything is
-abbrev IfReported : Option CompositeMeaning → Type 0
-IfReported None = Unit {0}
-IfReported (Some c) = IsReport c
-
-report-by : (h : HappeningMeaning) (rs : List Request) → HavePolicies (all_asked rs) → IfReported (composite_by h rs)
+report-by : (h : HappeningMeaning) (rs : List Request) → HavePolicies (all_asked rs) → IfSome (composite_by h rs) IsReport
 report-by h [] p = tt
 report-by h (r ∷ rs) p = record { thread = h.thread; policy = greatest-policy (r ∷ rs) p; some_event = omega arith; one_thread = all-of-thread h (r ∷ rs) }
 
-death-reported : {S : Type 0} (m : Meaning S) (s : S) (t : ℕ) (h : HappeningMeaning) (state : State) (o : Option CompositeMeaning) → IfReported o → IfReported (death_by m s t h state o).sends
-death-reported m s t h state None r = r
-death-reported m s t h state (Some c) r = r
+gathered-report : (h : HappeningMeaning) (rs : List Request) → HavePolicies (all_asked rs) → IfSome (gathered h rs) IsReport
+gathered-report h rs p = report-by h (passing h rs) (policies-passing (passes h) rs p)
 
-step-reported : {S : Type 0} (m : Meaning S) (s : S) (t : ℕ) (h : HappeningMeaning) (state : State) (o : Option CompositeMeaning) → IfReported o → IfReported (report_by m s t h state o).sends
-step-reported m s t h state None r = r
-step-reported m s t h state (Some c) r = r
+-- what holds of all that is gathered holds of what a step sends
+death-sends : {S : Type 0} (P : CompositeMeaning → Type 0) (m : Meaning S) (s : S) (t : ℕ) (h : HappeningMeaning) (state : State) (o : Option CompositeMeaning) → IfSome o P → IfSome (death_by m s t h state o).sends P
+death-sends P m s t h state None r = r
+death-sends P m s t h state (Some c) r = r
 
-happens-reported : {S : Type 0} (m : Meaning S) (now : Moment S) (t : ℕ) (h : HappeningMeaning) (b : Bool) → HavePolicies (all_asked now.state.requests) → IfReported (happens m now t h b).sends
-happens-reported m now t h true p = death-reported m now.machine t h now.state _ (report-by h (passing h now.state.requests) (policies-passing (passes h) now.state.requests p))
-happens-reported m now t h false p = step-reported m now.machine t h now.state _ (report-by h (passing h now.state.requests) (policies-passing (passes h) now.state.requests p))
+report-sends : {S : Type 0} (P : CompositeMeaning → Type 0) (m : Meaning S) (s : S) (t : ℕ) (h : HappeningMeaning) (state : State) (o : Option CompositeMeaning) → IfSome o P → IfSome (report_by m s t h state o).sends P
+report-sends P m s t h state None r = r
+report-sends P m s t h state (Some c) r = r
 
-occurs-reported : {S : Type 0} (m : Meaning S) (now : Moment S) (t : ℕ) (b : Bool) → HavePolicies (all_asked now.state.requests) → IfReported (occurs_by m now t b).sends
-occurs-reported m now t true p = tt
-occurs-reported m now t false p = happens-reported m now t (m.next now.machine t) (runs_out (m.next now.machine t)) p
+happens-sends : {S : Type 0} (P : CompositeMeaning → Type 0) (m : Meaning S) (now : Moment S) (t : ℕ) (h : HappeningMeaning) (b : Bool) → IfSome (gathered h now.state.requests) P → IfSome (happens m now t h b).sends P
+happens-sends P m now t h true g = death-sends P m now.machine t h now.state _ g
+happens-sends P m now t h false g = report-sends P m now.machine t h now.state _ g
+
+occurs-sends : {S : Type 0} (P : CompositeMeaning → Type 0) (m : Meaning S) (now : Moment S) (t : ℕ) (b : Bool) → IfSome (gathered (m.next now.machine t) now.state.requests) P → IfSome (occurs_by m now t b).sends P
+occurs-sends P m now t true g = tt
+occurs-sends P m now t false g = happens-sends P m now t (m.next now.machine t) (runs_out (m.next now.machine t)) g
+
+pub step_sends : {S : Type 0} (P : CompositeMeaning → Type 0) (m : Meaning S) (now : Moment S) (t : ℕ) → IfSome (gathered (m.next now.machine t) now.state.requests) P → IfSome (occurs m now t).sends P
+step_sends P m now t g = occurs-sends P m now t (is_marked now.state t) g
 
 pub step_reports : {S : Type 0} (m : Meaning S) (now : Moment S) (t : ℕ) (c : CompositeMeaning) → HavePolicies (all_asked now.state.requests) → (occurs m now t).sends ≡ Some c → IsReport c
-step_reports m now t c p e = subst IfReported e (occurs-reported m now t (is_marked now.state t) p)
+step_reports m now t c p e = subst (λ (o : Option CompositeMeaning). IfSome o IsReport) e (step_sends IsReport m now t (gathered-report (m.next now.machine t) now.state.requests p))

@@ -1,6 +1,7 @@
 -- small facts on tests, options and lists
-use Rattle.std.proofs.Common.{◌≡◌, ℕ, ◌+◌, ◌<◌, Bool, true, false, ◌&&◌, cond, not, Option, Some, None, List, [], ◌∷◌, ◌++◌, refl, ap, arith, is_some}
+use Rattle.std.proofs.Common.{◌≡◌, ℕ, ◌+◌, ◌<◌, ◌≤◌, length, Bool, true, false, ◌&&◌, cond, not, Option, Some, None, List, [], ◌∷◌, ◌++◌, refl, ap, arith, is_some}
 use Rattle.std.specs.List.{filter}
+use Rattle.std.proofs.lemmas.List.Filters.{length-filter_both}
 use Rattle.std.specs.Option.{option_map}
 use Rattle.jdwp_event.specs.Requests.{Asked, Request, all_asked}
 use Rattle.jdwp_debuggee.specs.Facts.{AreBelow}
@@ -51,6 +52,9 @@ asked-filter p (r ∷ rs) =
       | true ↦ ap (λ l. r.asked ∷ l) (asked-filter p rs)
       | false ↦ asked-filter p rs
     ]
+
+pub few-filtered : (p : Request → Bool) (rs : List Request) → length (filter p rs) ≤ length rs
+few-filtered p rs = let e = length-filter_both p (λ (r : Request). not (p r)) (λ _. refl) rs in omega (arith, e)
 
 pub below-filter : (n : ℕ) (p : Asked → Bool) (rs : List Asked) → AreBelow n rs → AreBelow n (filter p rs)
 below-filter n p [] h = tt

@@ -1,5 +1,6 @@
 -- A debuggee: what it is made with, and its moment; and what the code keeps of it.
-use Rattle.std.specs.Prelude.{◌≡◌, ◌≤◌, ℕ, false, Some}
+use Rattle.std.specs.Prelude.{◌≡◌, ◌≤◌, ◌+◌, ◌*◌, ℕ, false, length, Some}
+use Rattle.jdwp_wire.specs.Limits.{Limits, IsCount}
 use Rattle.jdwp_layout.specs.declared.answer.Answer.{Answer}
 use Rattle.jdwp_machine.specs.Meanings.{Meaning}
 use Rattle.jdwp_machine.specs.Laws.{AreDistinct}
@@ -20,13 +21,22 @@ at_moment moment d = record { settings = d.settings; moment = moment }
 abbrev pub with_state : {S : Type 0} → State → Debuggee S → Debuggee S
 with_state state d = at_moment (record { state = state; machine = d.moment.machine }) d
 
--- What holds of every debuggee: its moment is sound, no thread stands twice, and every suspend count is 0 before the first handshake.
+-- Limits by which a composite event of one event for each request fits a packet.
+pub record AreRoomy (limits : Limits) : Type 0 where
+  pub packet : 2048 ≤ limits.packet
+  pub requests : IsCount limits.requests
+  pub composite : 16 + 542 * limits.requests ≤ limits.packet
+
+-- What holds of every debuggee: its moment is sound, no thread stands twice, every suspend count is 0 before the first handshake, and
+-- there are no more requests than there may be.
 pub record IsKept {S : Type 0} (m : Meaning S) (d : Debuggee S) : Type 0 where
   pub sound : IsSound m d.settings d.moment
   pub distinct : AreDistinct (ids d.moment.state.threads)
   pub quiet : d.moment.state.handshaken ≡ false → (t n : ℕ) → count_of d.moment.state t ≡ Some n → n ≡ 0
   pub limit : IsCountLimit d.settings.count_limit
   pub next : d.moment.state.next_request ≤ 2147483648
+  pub limits : AreRoomy d.settings.limits
+  pub room : length d.moment.state.requests ≤ d.settings.limits.requests
 
 -- a command of this action was carried out: what became of the debuggee, and what is answered
 pub record CarriesOut {S : Type 0} (m : Meaning S) (action : Action) (old new : Debuggee S) (answer : Answer) : Type 0 where

@@ -3,12 +3,15 @@ use Rattle.std.specs.Prelude.{◌≡◌, ℕ, ◌+◌, ◌≤◌, ⊤, suc, nat_
 use Rattle.jdwp_wire.specs.ErrorCodes.{NONE}
 use Rattle.jdwp_wire.specs.Widths.{Widths}
 use Rattle.jdwp_wire.specs.declared.error_code.ErrorCode.{ErrorCode}
+use Rattle.jdwp_event.specs.CompositeBytes.{composite_canonical, composite_refusal}
+use Rattle.jdwp_event.specs.Composites.{CompositeMeaning, composite_data}
 use Rattle.jdwp_layout.specs.CommandTable.{row_at}
 use Rattle.jdwp_layout.specs.Meanings.{DatumMeaning}
 use Rattle.jdwp_layout.specs.Rows.{Row, RowShapes}
-use Rattle.jdwp_layout.specs.Shapes.{ItemShape}
+use Rattle.jdwp_layout.specs.Shapes.{ItemShape, Events, OneOf, ListOf}
 use Rattle.jdwp_layout.specs.Writes.{data_canonical, data_refusal}
 use Rattle.jdwp_layout.specs.declared.answer.Answer.{Answer}
+use Rattle.jdwp_layout.specs.declared.item.Field.TheVariants as field
 use Rattle.jdwp_layout.specs.declared.answer.Answer.TheVariants.{Data, Error}
 use Rattle.jdwp_machine.specs.Meanings.{Meaning}
 use Rattle.jdwp_debuggee.specs.Actions
@@ -91,3 +94,13 @@ AreWritable w (Some shapes) content = data_refusal w shapes content ≡ None
 abbrev pub IsWritable : Widths → ℕ → ℕ → Answer → Type 0
 IsWritable w set number (Data content) = AreWritable w (row_reply (row_at set number)) content
 IsWritable w set number (Error error) = ⊤
+
+-- ---- composites that can be sent
+
+-- A composite can be written at these widths, as it is and as data in the layout of its row, which have the same bytes; and with the
+-- header of a packet they are within the limit.
+pub record FitsPacket (w : Widths) (limit : ℕ) (c : CompositeMeaning) : Type 0 where
+  pub unrefused : composite_refusal w c ≡ None
+  pub in_layout : data_refusal w (OneOf field.Byte ∷ ListOf Events ∷ []) (composite_data c) ≡ None
+  pub same_bytes : composite_canonical w c ≡ data_canonical w (composite_data c)
+  pub within : 11 + length (data_canonical w (composite_data c)) ≤ limit

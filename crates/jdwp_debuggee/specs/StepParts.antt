@@ -1,11 +1,13 @@
 -- Parts of a step, as the code makes them one after the other.
-use Rattle.std.specs.Prelude.{◌≡◌, ℕ, Bool, true, false, ◌&&◌, not, nat_lt, List, [], ◌∷◌, ◌++◌, length, Option, Some, None, if◌then◌else◌}
+use Rattle.std.specs.Prelude.{◌≡◌, ℕ, Bool, true, false, ◌&&◌, not, nat_lt, List, [], ◌∷◌, ◌++◌, length, Option, Some, None, IfSome, ⊤, if◌then◌else◌}
 use Rattle.std.specs.Option.{option_map}
+use Rattle.jdwp_wire.specs.Widths.{Widths}
 use Rattle.jdwp_value.specs.declared.id.ObjectId.{ObjectId}
 use Rattle.jdwp_event.specs.Composites.{CompositeMeaning}
 use Rattle.jdwp_event.specs.Requests.{Request}
 use Rattle.jdwp_machine.specs.Meanings.{Meaning}
 use Rattle.jdwp_debuggee.specs.Debuggees.{Debuggee, at_moment}
+use Rattle.jdwp_debuggee.specs.Sending.{FitsPacket}
 use Rattle.jdwp_debuggee.specs.Settings.{Settings}
 use Rattle.jdwp_debuggee.specs.State.{Thread, State, changed, count_of, at_limit, next_packet_id}
 use Rattle.jdwp_debuggee.specs.Steps.{is_zero, starts_one, may_step, occurs, raised_by, start_policy}
@@ -52,6 +54,11 @@ pub record Steps {S : Type 0} (m : Meaning S) (t : ℕ) (old new : Debuggee S) (
   pub sends : done.sends ≡ (occurs m old.moment t).sends
   pub ends : done.ends ≡ (occurs m old.moment t).ends
   pub dies : done.dies ≡ (occurs m old.moment t).dies
+
+-- what a step sends, if anything, fits a packet
+abbrev pub SendFits : Widths → ℕ → Option StepDone → Type 0
+SendFits w limit None = ⊤
+SendFits w limit (Some done) = IfSome done.sends (FitsPacket w limit)
 
 -- a step, or none, where the thread may not make one
 abbrev pub StepsOrNot : {S : Type 0} → Meaning S → ℕ → Debuggee S → Debuggee S → Option StepDone → Type 0

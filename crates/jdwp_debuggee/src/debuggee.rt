@@ -5,6 +5,7 @@ ghost use Rattle.jdwp_event.specs.Constants.{policy_byte};
 ghost use Rattle.jdwp_machine.specs.Meanings.{numbers};
 ghost use Rattle.jdwp_wire.specs.Numbers.{id_refusal};
 ghost use Rattle.jdwp_debuggee.specs.Debuggees.{with_state};
+ghost use Rattle.jdwp_debuggee.specs.Sending.{FitsPacket};
 ghost use Rattle.jdwp_debuggee.specs.State as spec;
 ghost use Rattle.jdwp_debuggee.specs.StepParts.{policy_at_start};
 ghost use Rattle.jdwp_debuggee.specs.Steps.{handshaken, start_event};
@@ -84,6 +85,8 @@ impl<M: Machine> Debuggee<M> {
     {
         let threads = Threads::new(alloc, machine.live())?;
         settings.count_limit();
+        settings.limits().packet();
+        settings.limits().requests();
         Ok(Debuggee {
             settings,
             machine,
@@ -166,13 +169,14 @@ impl<M: Machine> Debuggee<M> {
     }
 
     /// The first handshake of the target's life is completed. Answers what VM_START says; its policy ALL suspends every thread. The
-    /// id of its thread fits the width of object ids.
+    /// id of its thread fits the width of object ids, and the event can be written and fits a packet.
     pub fn handshake(&mut self) -> Start
         requires { self.old.moment.state.handshaken ≡ false }
         ensures state { self.new ≡ with_state (handshaken self.old.settings self.old.moment.state) self.old }
         ensures says { vm_start (policy_byte result.policy) result.thread.0 ≡ start_event self.old.settings self.old.moment.state }
         ensures packet { result.packet ≡ self.old.moment.state.next_packet }
         ensures fits { id_refusal (M.meaning.sizes self.old.moment.machine).object result.thread.0 ≡ None }
+        ensures report { FitsPacket (M.meaning.sizes self.old.moment.machine) self.old.settings.limits.packet (start_event self.old.settings self.old.moment.state) }
     {
         let start = Start {
             policy: start_policy(self.settings.start_all()),

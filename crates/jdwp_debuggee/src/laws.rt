@@ -9,10 +9,12 @@ ghost use Rattle.jdwp_debuggee.specs.Breadth.{is_plain, keeps_machine};
 ghost use Rattle.jdwp_debuggee.specs.Answers.{sizes_answer};
 ghost use Rattle.jdwp_debuggee.specs.Facts.{is_data};
 ghost use Rattle.jdwp_debuggee.specs.Reports.{HavePolicies, IsReport};
+ghost use Rattle.jdwp_debuggee.specs.Sending.{FitsPacket};
 ghost use Rattle.jdwp_debuggee.specs.Steps.{may_step, occurs};
-ghost use Rattle.jdwp_event.specs.Composites.{CompositeMeaning, POLICY_ALL};
+ghost use Rattle.jdwp_event.specs.Composites.{CompositeMeaning, POLICY_ALL, vm_death};
 ghost use Rattle.jdwp_event.specs.Requests.{all_asked};
 ghost use Rattle.jdwp_layout.specs.Meanings.{ScalarMeaning};
+ghost use Rattle.jdwp_wire.specs.Widths.{Widths};
 ghost use Rattle.jdwp_debuggee.specs.Running.{Runs};
 
 use jdwp_machine::Machine;
@@ -45,4 +47,9 @@ pub fn reports_one_thread<M: Machine>()
 /// A thread makes a step only where it lives and is not suspended, events are not held, and no thread stands at the count limit.
 pub fn steps_where_it_runs<M: Machine>()
     ensures { (settings : Settings) (now : Moment M) (t : ℕ) → may_step M.meaning settings now t ≡ true → Runs settings now.state t }
+{}
+
+/// VM_DEATH can be written at any widths, and fits each packet limit of 2,048 bytes or more.
+pub fn fits_vm_death()
+    ensures { (w : Widths) (limit : ℕ) → 2048 ≤ limit → FitsPacket w limit vm_death }
 {}

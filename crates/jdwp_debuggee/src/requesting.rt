@@ -12,7 +12,7 @@ ghost use Rattle.jdwp_debuggee.specs.Replies.{reply_meaning};
 use crate::debuggee::Debuggee;
 use crate::refusals::{Asked, Room, first_origin, set_refusal};
 use crate::reply::Reply;
-use jdwp_event::{Modifier, Request};
+use jdwp_event::{Modifier, Request, RequestId};
 use jdwp_layout::Scalar;
 use jdwp_machine::Machine;
 use jdwp_value::ObjectId;
@@ -68,7 +68,8 @@ impl<M: Machine> Debuggee<M> {
         }
         let origin = first_origin(alloc, &self.machine, modifiers.as_slice())?;
         let id = self.next_request;
-        let request = Request::new(alloc, id, kind, policy, modifiers, origin)?;
+        let asked_id = RequestId::new(id).unwrap();
+        let request = Request::new(alloc, asked_id, kind, policy, modifiers, origin)?;
         self.requests.insert(request)?;
         self.next_request = id + 1;
         Ok(Reply::Number(id))

@@ -8,7 +8,7 @@ ghost use Rattle.jdwp_machine.specs.Meanings.{has};
 ghost use Rattle.jdwp_debuggee.specs.Entries.{AllAtMost};
 ghost use Rattle.jdwp_debuggee.specs.State.{is_marked, is_other};
 ghost use Rattle.jdwp_debuggee.specs.Steps.{may_step};
-ghost use Rattle.jdwp_debuggee.specs.StepParts.{Steps, StepsOrNot, is_full_by, is_ready, number_of, packet_after, raised_for, unless_last, with_new};
+ghost use Rattle.jdwp_debuggee.specs.StepParts.{SendFits, Steps, StepsOrNot, is_full_by, is_ready, number_of, packet_after, raised_for, unless_last, with_new};
 
 use crate::debuggee::Debuggee;
 use crate::threads::{Change, Threads};
@@ -116,13 +116,14 @@ impl<M: Machine> Debuggee<M> {
         Ok(!self.is_full(&happening))
     }
 
-    /// One step of a thread, if it may make one.
+    /// One step of a thread, if it may make one. What is sent can be written at the machine's widths, and fits a packet.
     ///
     /// # Errors
     /// `NoMemory` where an allocation was refused; only where nothing but a thread too many could forbid the step, and then nothing
     /// has changed.
     pub fn step(&mut self, alloc: Global, thread: ObjectId) -> Result<Option<StepDone>, NoMemory>
         ensures exact { IfOk result (λ done. StepsOrNot M.meaning thread.0 self.old self.new done) }
+        ensures fits { IfOk result (λ done. SendFits (M.meaning.sizes self.old.moment.machine) self.old.settings.limits.packet done) }
         ensures unchanged { OnErr result (self.new ≡ self.old) }
         ensures memory { IfErr result (λ _. is_ready self.old.settings self.old.moment.state thread.0 ≡ true) }
     {

@@ -1,13 +1,13 @@
 -- The modifiers of a request, one after another.
-use Rattle.std.proofs.Common.{◌≡◌, ℕ, ◌+◌, ◌<◌, ◌≤◌, zero, suc, Bool, true, false, ◌&&◌, List, [], ◌∷◌, ◌++◌, length, map, take, drop, get_or, Option, Some, None, refl, ap, sym, ◌∙◌, append-nil, arith, add-one, if◌then◌else◌}
+use Rattle.std.proofs.Common.{◌≡◌, ℕ, ◌+◌, ◌<◌, ◌≤◌, zero, suc, Bool, true, false, List, [], ◌∷◌, ◌++◌, length, map, take, drop, get_or, Some, None, refl, ap, sym, ◌∙◌, append-nil, arith, add-one, if◌then◌else◌}
 use Rattle.std.proofs.Math.ListN.{set}
 use Rattle.std.proofs.lemmas.List.{drop_more}
 use Rattle.jdwp_event.specs.declared.modifier.Modifier.{Modifier}
 use Rattle.jdwp_event.specs.Modifiers.{ModifierMeaning}
 use Rattle.jdwp_event.specs.ModifierMeanings.{modifier_meaning}
 use Rattle.jdwp_event.specs.Occurrences.{HappeningMeaning}
-use Rattle.jdwp_event.specs.Requests.{Asked, Origin, Request, new_request}
-use Rattle.jdwp_event.specs.Filters.{is_of_kind, place_of, passes_modifier, passes_all, reached_after, origin_at, counted}
+use Rattle.jdwp_event.specs.Requests.{Origin, Request, new_request}
+use Rattle.jdwp_event.specs.Filters.{is_of_kind, place_of, passes_all, reached_after, origin_at, counted}
 use Rattle.jdwp_event.specs.RequestParts.{LimitMeaning, new_limit, limit_passes, limit_counted, limits_after, asked_modifiers, times_reached, modifier_at}
 
 -- a list with one element changed

@@ -1,5 +1,5 @@
 -- What is read of a composite is what bytes encode, and what is encoded is not refused.
-use Rattle.std.specs.Prelude.{◌≡◌, ℕ, List, [], ◌∷◌, Option, None, refl}
+use Rattle.std.specs.Prelude.{◌≡◌, ℕ, List, [], ◌∷◌, None, refl}
 use Rattle.jdwp_wire.specs.Widths.{Widths}
 use Rattle.jdwp_wire.specs.BasicLaws.{byte_codes}
 use Rattle.jdwp_wire.specs.ListedLaws.{list_codes, list_unrefused}

@@ -1,11 +1,11 @@
 -- Composite events (JDWP specification, "Protocol Details": the command Composite of the set Event).
-use Rattle.std.specs.Prelude.{ℕ, pos, ◌==◌, max, List, [], ◌∷◌, ◌++◌, map, Option, Some, None, if◌then◌else◌}
+use Rattle.std.specs.Prelude.{ℕ, pos, ◌==◌, max, List, [], ◌∷◌, map, Option, Some, None, if◌then◌else◌}
 use Rattle.jdwp_value.specs.declared.location.TypeTag.{TypeTag}
 use Rattle.jdwp_value.specs.declared.location.TypeTag.TheVariants as type
 use Rattle.jdwp_layout.specs.Meanings.{ScalarMeaning, Byte, Int, Text, Object, ReferenceType, Located, Valued, Tagged, DatumMeaning, One, Many}
 use Rattle.jdwp_event.specs.declared.kind.EventKind.TheVariants as kind
 use Rattle.jdwp_event.specs.EventKinds.{kind_byte}
-use Rattle.jdwp_event.specs.Occurrences.{PlaceMeaning, ThrownMeaning, PreparedMeaning, OccurrenceMeaning, Moved, Entered, Left, Threw, Prepared, Started, RanOut, HappeningMeaning}
+use Rattle.jdwp_event.specs.Occurrences.{OccurrenceMeaning, Moved, Entered, Left, Threw, Prepared, Started, RanOut, HappeningMeaning}
 use Rattle.jdwp_event.specs.Requests.{Request}
 use Rattle.jdwp_event.specs.Filters.{passing}
 

@@ -1,5 +1,5 @@
 -- What a modifier is as bytes: an entry of the command's list (JDWP specification, "Protocol Details": the command Set of the set EventRequest).
-use Rattle.std.specs.Prelude.{◌≡◌, ℕ, List, [], ◌∷◌, Option, Some, None}
+use Rattle.std.specs.Prelude.{ℕ, List, [], ◌∷◌, Option, Some, None}
 use Rattle.jdwp_wire.specs.declared.data_fault.DataFault.{DataFault}
 use Rattle.jdwp_wire.specs.declared.data_fault.DataFault.TheVariants.{BadTag}
 use Rattle.jdwp_wire.specs.Widths.{Widths}

@@ -1,12 +1,11 @@
 -- What is read of a modifier is what bytes encode, and what is encoded is not refused.
-use Rattle.std.specs.Prelude.{◌≡◌, ℕ, List, [], ◌∷◌, ◌++◌, Option, Some, None, refl, ◌⊎◌}
+use Rattle.std.specs.Prelude.{◌≡◌, ℕ, List, [], ◌∷◌, ◌++◌, Option, Some, None, refl}
 use Rattle.std.proofs.Common.{ap, sym, ◌∙◌, subst, inl, inr, eqb, false}
 use Rattle.std.proofs.lemmas.Bool.Decides.{eqb_tells}
 use Rattle.std.proofs.lemmas.List.{append-nil}
 use Rattle.jdwp_wire.specs.declared.data_fault.DataFault.{DataFault}
 use Rattle.jdwp_wire.specs.declared.data_fault.DataFault.TheVariants.{BadTag}
 use Rattle.jdwp_wire.specs.Widths.{Widths}
-use Rattle.jdwp_wire.specs.Bytes.{IsBytes}
 use Rattle.jdwp_wire.specs.Reading.{Encoding, Faults}
 use Rattle.jdwp_wire.specs.Sequence.{Is, NoFault, Nothing, Always, Then, FirstFault}
 use Rattle.jdwp_wire.specs.Codes.{Codes, seq_codes, give_codes, refuse_codes, codes_as, faults_as}

@@ -1,6 +1,6 @@
 -- What happens at a step of a thread, as event requests and events see it
 -- (JDWP specification, "Protocol Details": the commands Set of EventRequest and Composite of Event).
-use Rattle.std.specs.Prelude.{ℕ, ℤ, Bool, true, false, List, [], ◌∷◌, map, Option, Some, None}
+use Rattle.std.specs.Prelude.{ℕ, ℤ, Bool, true, false, List, map, Option, Some, None}
 use Rattle.std.specs.Global.{Vec}
 use Rattle.std.specs.String.{string_bytes}
 use Rattle.jdwp_value.specs.declared.id.ReferenceTypeId.{ReferenceTypeId}

@@ -11,7 +11,7 @@ use Rattle.jdwp_event.specs.declared.happening.ClassSeen.{ClassSeen}
 use Rattle.jdwp_event.specs.declared.happening.Place.{Place}
 use Rattle.jdwp_event.specs.declared.happening.ThrownException.{ThrownException}
 use Rattle.jdwp_event.specs.Occurrences.{ClassMeaning, PlaceMeaning, ThrownMeaning, HappeningMeaning, class_meaning, place_meaning, thrown_meaning}
-use Rattle.jdwp_event.specs.Requests.{Asked, Origin, Request}
+use Rattle.jdwp_event.specs.Requests.{Origin}
 use Rattle.jdwp_event.specs.Filters.{passes_modifier, passes_depth, passes_size}
 
 abbrev pub origin_meaning : StepOrigin → Origin

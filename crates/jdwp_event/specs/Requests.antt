@@ -1,5 +1,5 @@
 -- Event requests: what was asked for, and what has become of it (JDWP specification, "Protocol Details": the set EventRequest).
-use Rattle.std.specs.Prelude.{ℕ, ◌+◌, ◌==◌, Bool, true, false, List, [], ◌∷◌, map, Option, Some, None, if◌then◌else◌}
+use Rattle.std.specs.Prelude.{ℕ, List, map, Option}
 use Rattle.jdwp_event.specs.Modifiers.{ModifierMeaning}
 
 -- A request as it was asked for: its id, its kind and policy as bytes, and its modifiers in the order sent.

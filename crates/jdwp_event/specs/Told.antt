@@ -1,5 +1,5 @@
 -- What a composite tells whoever reads it (JDWP specification, "Protocol Details": the command Composite of the set Event).
-use Rattle.std.specs.Prelude.{ℕ, ◌==◌, Bool, true, false, List, [], ◌∷◌, Option, Some, None}
+use Rattle.std.specs.Prelude.{ℕ, ◌==◌, Bool, false, List, [], ◌∷◌, Option, Some, None}
 use Rattle.std.specs.List.{list_any}
 use Rattle.jdwp_layout.specs.Meanings.{ScalarMeaning, Byte, Int, Object}
 use Rattle.jdwp_event.specs.declared.kind.EventKind.{EventKind}

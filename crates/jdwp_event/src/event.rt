@@ -3,7 +3,8 @@ ghost use Rattle.std.specs.Prelude.{◌≡◌, ◌≤◌, ◌+◌, ◌<◌, ◌+
 ghost use Rattle.std.specs.List.{flat_map};
 ghost use Rattle.std.specs.Result.{IsErrOf};
 ghost use Rattle.jdwp_wire.specs.declared.data_fault.DataFault.TheVariants.{NoMemory as WantOfMemory};
-ghost use Rattle.jdwp_wire.specs.Reading.{Gives, passed, in_usize, Written, Refused};
+ghost use Rattle.jdwp_wire.specs.Reading.{Gives, passed, in_usize};
+ghost use Rattle.jdwp_wire.specs.Writing.{Appends, LeavesInFront, HasRoom};
 ghost use Rattle.jdwp_wire.specs.Each.{times_at, EncodesAll};
 ghost use Rattle.jdwp_wire.specs.Listed.{first_refusal};
 ghost use Rattle.jdwp_layout.specs.Shapes.{Events};
@@ -30,7 +31,7 @@ use jdwp_layout::{
 };
 use jdwp_value::{ObjectId, TypeTag};
 use jdwp_wire::number::{put_count, take_byte, take_count};
-use jdwp_wire::{DataFault, IdSizes, NoMemory, Wire};
+use jdwp_wire::{DataFault, IdSizes, NoMemory, Wire, all_or_nothing};
 use std::alloc::Global;
 use std::marker::Model;
 
@@ -271,10 +272,7 @@ impl Wire for Composite {
     fn put(&self, sizes: &IdSizes, output: &mut Vec<u8>) -> Result<(), DataFault> {
         let before = output.len();
         let done = put_parts(self.policy, &self.events, sizes, output);
-        if done.is_err() {
-            output.truncate(before);
-        }
-        done
+        all_or_nothing(done, before, output)
     }
 
     fn take_front<'a>(
@@ -341,7 +339,8 @@ fn take_events<'a>(
     whole: usize,
     sizes: &IdSizes,
 ) -> Result<(Vec<Event>, &'a [u8]), DataFault>
-    ensures value { Gives (λ x. (x.0.items, x.1.now)) result (times_at (entry_at sizes.now whole Events) count bytes.now) }
+    ensures value { Gives (λ x. (x.0.items, x.1.now)) result
+        (times_at (entry_at sizes.now whole Events) count bytes.now) }
     ensures shorter { IfOk result (λ x. length x.1.now ≤ length bytes.now) }
     ensures memory { IsErrOf result WantOfMemory → EntriesAreKept sizes.now Events count bytes.now }
 {
@@ -362,9 +361,12 @@ fn put_parts(
     sizes: &IdSizes,
     output: &mut Vec<u8>,
 ) -> Result<(), DataFault>
-    ensures ok { OnOk result (Written (EncodesComposite sizes.now (with_policy policy events.now)) (composite_canonical sizes.now (with_policy policy events.now)) output.old.items output.new.items) }
-    ensures err { IfErr result (λ e. (take (length output.old.items) output.new.items ≡ output.old.items) × Refused e (composite_refusal sizes.now (with_policy policy events.now))) }
-    ensures room { vec_len output.old + length (composite_canonical sizes.now (with_policy policy events.now)) ≤ vec_capacity output.old → IsErrOf result WantOfMemory → ⊥ }
+    ensures ok { Appends (EncodesComposite sizes.now) (composite_canonical sizes.now)
+        (with_policy policy events.now) result output.old output.new }
+    ensures err { LeavesInFront (composite_refusal sizes.now (with_policy policy events.now))
+        result output.old output.new }
+    ensures room { HasRoom (composite_canonical sizes.now (with_policy policy events.now))
+        output.old → IsErrOf result WantOfMemory → ⊥ }
     ensures capacity { vec_capacity output.old ≤ vec_capacity output.new }
 {
     output.push(policy)?;
@@ -374,9 +376,12 @@ fn put_parts(
 
 /// Appends each event, and may stop on the way.
 fn put_events(events: &[Event], sizes: &IdSizes, output: &mut Vec<u8>) -> Result<(), DataFault>
-    ensures ok { OnOk result (Written (EncodesAll (EncodesEntry sizes.now Events) events.now) (flat_map (entry_canonical sizes.now) events.now) output.old.items output.new.items) }
-    ensures err { IfErr result (λ e. (take (length output.old.items) output.new.items ≡ output.old.items) × Refused e (first_refusal (entry_refusal sizes.now Events) events.now)) }
-    ensures room { vec_len output.old + length (flat_map (entry_canonical sizes.now) events.now) ≤ vec_capacity output.old → IsErrOf result WantOfMemory → ⊥ }
+    ensures ok { Appends (EncodesAll (EncodesEntry sizes.now Events))
+        (flat_map (entry_canonical sizes.now)) events.now result output.old output.new }
+    ensures err { LeavesInFront (first_refusal (entry_refusal sizes.now Events) events.now)
+        result output.old output.new }
+    ensures room { HasRoom (flat_map (entry_canonical sizes.now) events.now) output.old
+        → IsErrOf result WantOfMemory → ⊥ }
     ensures capacity { vec_capacity output.old ≤ vec_capacity output.new }
 {
     for event in events {
@@ -432,7 +437,9 @@ fn add_details(
     occurrence: &Occurrence,
     fields: &mut Vec<Scalar>,
 ) -> Result<(), NoMemory>
-    ensures { OnOk result (entry_meaning fields.new ≡ entry_meaning fields.old ++ details kind (occurrence_meaning occurrence.now)) }
+    ensures { OnOk result
+        (entry_meaning fields.new
+        ≡ entry_meaning fields.old ++ details kind (occurrence_meaning occurrence.now)) }
 {
     match occurrence {
         Occurrence::Moved(place) | Occurrence::Entered(place) => {

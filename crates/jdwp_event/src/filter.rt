@@ -16,7 +16,8 @@ use jdwp_value::{Location, ObjectId, ReferenceTypeId};
 /// Whether the happening passes the modifier, which is no Count.
 pub(crate) fn passes(modifier: &Modifier, origin: StepOrigin, happening: &Happening) -> bool
     requires { IsNoCount (modifier_meaning modifier.now) }
-    ensures { (times : ℕ) → result ≡ passes_modifier (origin_meaning origin) happening.now (modifier_meaning modifier.now) times }
+    ensures { (times : ℕ) → result ≡ passes_modifier (origin_meaning origin)
+        happening.now (modifier_meaning modifier.now) times }
 {
     let occurrence = happening.occurrence();
     match modifier {

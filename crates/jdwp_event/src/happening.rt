@@ -82,13 +82,17 @@ impl Model for Happening {
 
     ghost Value = { HappeningMeaning };
 
-    ghost view = { λ h. record { thread = h.thread.0; occurrence = occurrence_meaning h.occurrence } };
+    ghost view = { λ h. record {
+      thread = h.thread.0;
+      occurrence = occurrence_meaning h.occurrence;
+    } };
 }
 
 impl Happening {
     /// This happened, and its events name this thread.
     pub fn new(thread: ObjectId, occurrence: Occurrence) -> Happening
-        ensures { result ≡ record { thread = thread.0; occurrence = occurrence_meaning occurrence } }
+        ensures { result
+            ≡ record { thread = thread.0; occurrence = occurrence_meaning occurrence } }
     {
         Happening { thread, occurrence }
     }

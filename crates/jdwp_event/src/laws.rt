@@ -9,5 +9,6 @@ ghost use Rattle.jdwp_event.specs.CompositeBytes.{EncodesComposite};
 
 /// The bytes of a composite are those of its data in the layout of its row: a byte and a list of events.
 pub fn composites_have_their_layout()
-    ensures { (w : Widths) (c : CompositeMeaning) (code : List ℕ) → EncodesComposite w c code ↔ EncodesData w (OneOf field.Byte ∷ ListOf Events ∷ []) (composite_data c) code }
+    ensures { (w : Widths) (c : CompositeMeaning) (code : List ℕ) → EncodesComposite w c code
+        ↔ EncodesData w (OneOf field.Byte ∷ ListOf Events ∷ []) (composite_data c) code }
 {}

@@ -10,6 +10,7 @@ mod modifier;
 mod pattern;
 mod policy;
 mod request;
+mod request_id;
 mod requests;
 
 pub use event::{Composite, Event, gather};
@@ -19,6 +20,7 @@ pub use laws::composites_have_their_layout;
 pub use modifier::Modifier;
 pub use policy::{Policy, StepDepth, StepSize};
 pub use request::{Request, StepOrigin, matches};
+pub use request_id::RequestId;
 pub use requests::{Requests, count_down};
 
 #[cfg(test)]

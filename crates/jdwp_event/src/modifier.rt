@@ -3,7 +3,8 @@ ghost use Rattle.std.specs.Prelude.{◌≡◌, ◌≢◌, ◌≤◌, ◌+◌, �
 ghost use Rattle.std.specs.Result.{IsErrOf};
 ghost use Rattle.std.specs.String.{string_bytes};
 ghost use Rattle.jdwp_wire.specs.declared.data_fault.DataFault.TheVariants.{NoMemory as WantOfMemory};
-ghost use Rattle.jdwp_wire.specs.Reading.{in_usize, Written, Refused};
+ghost use Rattle.jdwp_wire.specs.Reading.{in_usize};
+ghost use Rattle.jdwp_wire.specs.Writing.{Appends, Leaves, HasRoom};
 ghost use Rattle.jdwp_layout.specs.declared.item.Field.TheVariants.{String as TextField};
 ghost use Rattle.jdwp_layout.specs.ModifiersAndEvents.{modifier_fields};
 ghost use Rattle.jdwp_layout.specs.Shapes.{Modifiers};
@@ -20,7 +21,7 @@ ghost use Rattle.jdwp_event.specs.RequestParts.{modifiers_meaning};
 
 use jdwp_layout::{Entry, Scalar, entry_size, pass_entry, read_entry, write_entry};
 use jdwp_value::{FieldId, Location, ObjectId, ReferenceTypeId};
-use jdwp_wire::{DataFault, IdSizes, NoMemory, Wire};
+use jdwp_wire::{DataFault, IdSizes, NoMemory, Wire, all_or_nothing};
 use std::alloc::Global;
 
 /// What limits the events that a request reports. A request tries its modifiers in the order sent.
@@ -89,7 +90,8 @@ impl Modifier {
     /// # Errors
     /// `NoMemory` where an allocation was refused.
     pub fn of_entries(alloc: Global, entries: Vec<Vec<Scalar>>) -> Result<Vec<Modifier>, NoMemory>
-        ensures { IfOk result (λ found. modifiers_meaning found ≡ modifiers_of (entry_meanings entries.items)) }
+        ensures { IfOk result
+            (λ found. modifiers_meaning found ≡ modifiers_of (entry_meanings entries.items)) }
     {
         let mut modifiers = Vec::new(alloc);
         for entry in entries {
@@ -234,7 +236,8 @@ fn parts_of(modifier: &Modifier) -> Parts<'_>
 
 /// How many bytes a modifier with a pattern takes; None past `usize`.
 fn pattern_size(pattern: &String, sizes: &IdSizes) -> Option<usize>
-    ensures { result ≡ in_usize (length (entry_canonical sizes.now (Byte 5 ∷ Text (string_bytes pattern.now) ∷ []))) }
+    ensures { result ≡ in_usize
+        (length (entry_canonical sizes.now (Byte 5 ∷ Text (string_bytes pattern.now) ∷ []))) }
 {
     let text = pattern.size(sizes)?;
     text.checked_add(1)
@@ -248,18 +251,20 @@ fn put_pattern(
     output: &mut Vec<u8>,
 ) -> Result<(), DataFault>
     requires { modifier_fields kind ≡ Some (TextField ∷ []) }
-    ensures ok { OnOk result (Written (EncodesEntry sizes.now Modifiers (Byte kind ∷ Text (string_bytes pattern.now) ∷ [])) (entry_canonical sizes.now (Byte kind ∷ Text (string_bytes pattern.now) ∷ [])) output.old.items output.new.items) }
-    ensures err { IfErr result (λ e. (output.new.items ≡ output.old.items) × Refused e (entry_refusal sizes.now Modifiers (Byte kind ∷ Text (string_bytes pattern.now) ∷ []))) }
-    ensures room { vec_len output.old + length (entry_canonical sizes.now (Byte kind ∷ Text (string_bytes pattern.now) ∷ [])) ≤ vec_capacity output.old → IsErrOf result WantOfMemory → ⊥ }
+    ensures ok { Appends (EncodesEntry sizes.now Modifiers) (entry_canonical sizes.now)
+        (Byte kind ∷ Text (string_bytes pattern.now) ∷ []) result output.old output.new }
+    ensures err { Leaves
+        (entry_refusal sizes.now Modifiers (Byte kind ∷ Text (string_bytes pattern.now) ∷ []))
+        result output.old output.new }
+    ensures room { HasRoom
+        (entry_canonical sizes.now (Byte kind ∷ Text (string_bytes pattern.now) ∷ [])) output.old
+        → IsErrOf result WantOfMemory → ⊥ }
     ensures capacity { vec_capacity output.old ≤ vec_capacity output.new }
 {
     let before = output.len();
     output.push(kind)?;
     let done = pattern.put(sizes, output);
-    if done.is_err() {
-        output.truncate(before);
-    }
-    done
+    all_or_nothing(done, before, output)
 }
 
 /// The modifier of a kind with one field.
@@ -282,7 +287,8 @@ fn of_one(kind: u8, field: Scalar) -> Option<Modifier>
 
 /// The modifier of a kind with two fields.
 fn of_two(kind: u8, first: &Scalar, second: &Scalar) -> Option<Modifier>
-    ensures { found_modifier result ≡ modifier_of_kind kind (scalar_meaning first.now ∷ scalar_meaning second.now ∷ []) }
+    ensures { found_modifier result
+        ≡ modifier_of_kind kind (scalar_meaning first.now ∷ scalar_meaning second.now ∷ []) }
 {
     match (kind, first, second) {
         (9, Scalar::ReferenceTypeId(class), Scalar::FieldId(field)) => Some(Modifier::FieldOnly {
@@ -295,7 +301,8 @@ fn of_two(kind: u8, first: &Scalar, second: &Scalar) -> Option<Modifier>
 
 /// The modifier of a kind with three fields.
 fn of_three(kind: u8, first: &Scalar, second: &Scalar, third: &Scalar) -> Option<Modifier>
-    ensures { found_modifier result ≡ modifier_of_kind kind (scalar_meaning first.now ∷ scalar_meaning second.now ∷ scalar_meaning third.now ∷ []) }
+    ensures { found_modifier result ≡ modifier_of_kind kind
+        (scalar_meaning first.now ∷ scalar_meaning second.now ∷ scalar_meaning third.now ∷ []) }
 {
     match (kind, first, second, third) {
         (8, Scalar::ReferenceTypeId(class), Scalar::Boolean(caught), Scalar::Boolean(uncaught)) =>

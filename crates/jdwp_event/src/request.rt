@@ -1,5 +1,6 @@
 //! Event requests: what was asked for, and what has become of it (JDWP specification, "Protocol Details": the set EventRequest).
 ghost use Rattle.std.specs.Prelude.{◌≡◌, ◌≤◌, ◌<◌, length, IfOk};
+ghost use Rattle.jdwp_wire.specs.Numbers.{greatest_int};
 ghost use Rattle.jdwp_event.specs.ModifierMeanings.{modifier_meaning, found_modifier_behind};
 ghost use Rattle.jdwp_event.specs.RequestParts.{origin_meaning, modifiers_meaning, new_limit, limit_passes, limit_counted, limits_after, asked_modifiers, times_reached, modifier_at};
 ghost use Rattle.jdwp_event.specs.Requests.{new_request};
@@ -8,6 +9,7 @@ ghost use Rattle.jdwp_event.specs.Filters.{passes_all, passes, counted};
 use crate::filter;
 use crate::happening::Happening;
 use crate::modifier::Modifier;
+use crate::request_id::RequestId;
 use jdwp_wire::NoMemory;
 use std::alloc::Global;
 use std::marker::Model;
@@ -38,9 +40,13 @@ impl Model for Limit {
 
     ghost Value = { LimitMeaning };
 
-    ghost view = { λ l. record { modifier = modifier_meaning l.modifier; reached = length l.reached.items } };
+    ghost view = { λ l. record {
+      modifier = modifier_meaning l.modifier;
+      reached = length l.reached.items;
+    } };
 
-    ghost invariant = { λ l. l.left ≡ left_of (modifier_meaning l.modifier) (length l.reached.items) };
+    ghost invariant = { λ l. l.left
+        ≡ left_of (modifier_meaning l.modifier) (length l.reached.items) };
 }
 
 impl Limit {
@@ -80,7 +86,8 @@ impl Limit {
 
 /// Whether the happening passes all modifiers, in order.
 fn passes_limits(limits: &[Limit], origin: StepOrigin, happening: &Happening) -> bool
-    ensures { result ≡ passes_all (origin_meaning origin) happening.now (asked_modifiers limits.now) (times_reached limits.now) }
+    ensures { result ≡ passes_all (origin_meaning origin) happening.now
+        (asked_modifiers limits.now) (times_reached limits.now) }
 {
     for limit in limits {
         if !limit.passes(origin, happening) {
@@ -92,7 +99,8 @@ fn passes_limits(limits: &[Limit], origin: StepOrigin, happening: &Happening) ->
 
 /// Counts each modifier that the happening reaches, and answers whether it passes all.
 fn count_limits(limits: &mut [Limit], origin: StepOrigin, happening: &Happening) -> bool
-    ensures passed { result ≡ passes_all (origin_meaning origin) happening.now (asked_modifiers limits.old) (times_reached limits.old) }
+    ensures passed { result ≡ passes_all (origin_meaning origin) happening.now
+        (asked_modifiers limits.old) (times_reached limits.old) }
     ensures reached { limits.new ≡ limits_after (origin_meaning origin) happening.now limits.old }
 {
     for limit in limits.iter_mut() {
@@ -110,7 +118,7 @@ fn count_limits(limits: &mut [Limit], origin: StepOrigin, happening: &Happening)
 /// The kind and the policy are kept as the bytes that were sent, since a peer may have taken others than the specification's.
 #[derive(Drop)]
 pub struct Request {
-    id: u32,
+    id: RequestId,
     kind: u8,
     policy: u8,
     limits: Vec<Limit>,
@@ -118,36 +126,42 @@ pub struct Request {
 }
 
 impl Model for Request {
-    ghost use Rattle.std.specs.Prelude.{◌≤◌};
     ghost use Rattle.jdwp_event.specs.Requests.{Request};
     ghost use Rattle.jdwp_event.specs.RequestParts.{origin_meaning, asked_modifiers, times_reached};
 
     ghost Value = { Request };
 
     ghost view = { λ r. record {
-      asked = record { id = r.id; kind = r.kind; policy = r.policy; modifiers = asked_modifiers r.limits.items };
+      asked = record {
+        id = r.id;
+        kind = r.kind;
+        policy = r.policy;
+        modifiers = asked_modifiers r.limits.items;
+      };
       reached = times_reached r.limits.items;
       origin = origin_meaning r.origin;
     } };
-
-    ghost invariant = { λ r. r.id ≤ 2147483647 };
 }
 
 impl Request {
-    /// A request that nothing has reached yet. Its id is an int on the wire.
+    /// A request that nothing has reached yet.
     ///
     /// # Errors
     /// `NoMemory` where an allocation was refused.
     pub fn new(
         alloc: Global,
-        id: u32,
+        id: RequestId,
         kind: u8,
         policy: u8,
         modifiers: Vec<Modifier>,
         origin: StepOrigin,
     ) -> Result<Request, NoMemory>
-        requires { id ≤ 2147483647 }
-        ensures { IfOk result (λ r. r ≡ new_request (record { id = id; kind = kind; policy = policy; modifiers = modifiers_meaning modifiers }) (origin_meaning origin)) }
+        ensures { IfOk result (λ r. r ≡ new_request (record {
+          id = id;
+          kind = kind;
+          policy = policy;
+          modifiers = modifiers_meaning modifiers;
+        }) (origin_meaning origin)) }
     {
         let mut limits = Vec::new(alloc);
         for modifier in modifiers {
@@ -165,9 +179,9 @@ impl Request {
     /// The id, 0 to 2,147,483,647.
     pub fn id(&self) -> u32
         ensures is { result ≡ self.now.asked.id }
-        ensures within { result ≤ 2147483647 }
+        ensures within { result ≤ greatest_int }
     {
-        self.id
+        self.id.number()
     }
 
     /// The byte of the event kind.

@@ -1,7 +1,7 @@
 //! Requests, what passes them and what is counted, by worked examples.
 use crate::{
     ClassSeen, Composite, EventKind, Happening, Modifier, Occurrence, Place, Policy, PreparedClass,
-    Request, Requests, StepOrigin, ThrownException, count_down, gather, matches,
+    Request, RequestId, Requests, StepOrigin, ThrownException, count_down, gather, matches,
 };
 use jdwp_layout::{layout_of, write};
 use jdwp_value::{
@@ -74,7 +74,7 @@ fn request(
 ) -> Result<Request, Fail> {
     Ok(Request::new(
         alloc,
-        u32::from(id),
+        RequestId::new(u32::from(id)).ok_or("no id")?,
         kind.byte(),
         policy.byte(),
         modifiers,
@@ -390,7 +390,8 @@ fn each_kind_has_its_data(rt: HostRuntime) -> Result<(), Fail> {
     for (kind, occurrence, wanted) in rows {
         let mut requests = Requests::new(alloc);
         let none = Vec::new(alloc);
-        requests.insert(Request::new(alloc, 9, kind, 1, none, NOWHERE)?)?;
+        let id = RequestId::new(9).ok_or("no id")?;
+        requests.insert(Request::new(alloc, id, kind, 1, none, NOWHERE)?)?;
         let happening = Happening::new(ObjectId(1), occurrence);
         let composite = gather(alloc, &requests, &happening)?.ok_or("nothing")?;
         let mut all = String::new(alloc);
@@ -405,7 +406,8 @@ fn an_exception_has_its_data(rt: HostRuntime) -> Result<(), Fail> {
     let alloc = rt.alloc();
     let mut requests = Requests::new(alloc);
     let none = Vec::new(alloc);
-    requests.insert(Request::new(alloc, 9, 4, 0, none, NOWHERE)?)?;
+    let id = RequestId::new(9).ok_or("no id")?;
+    requests.insert(Request::new(alloc, id, 4, 0, none, NOWHERE)?)?;
     let happening = thrown(alloc, Location::Null)?;
     let composite = gather(alloc, &requests, &happening)?.ok_or("nothing")?;
     assert_eq!(rt;

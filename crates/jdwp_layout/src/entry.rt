@@ -2,7 +2,8 @@
 ghost use Rattle.std.specs.Prelude.{◌≡◌, ◌+◌, ◌≤◌, length, OnOk, IfOk, IfErr, vec_len, vec_capacity};
 ghost use Rattle.std.specs.Result.{IsErrOf};
 ghost use Rattle.jdwp_wire.specs.declared.data_fault.DataFault.TheVariants.{NoMemory};
-ghost use Rattle.jdwp_wire.specs.Reading.{Gives, passed, in_usize, Written, Refused};
+ghost use Rattle.jdwp_wire.specs.Reading.{Gives, passed, in_usize};
+ghost use Rattle.jdwp_wire.specs.Writing.{Appends, Leaves, HasRoom};
 ghost use Rattle.jdwp_wire.specs.Each.{times_at};
 ghost use Rattle.jdwp_layout.specs.Shapes.{entry_shape};
 ghost use Rattle.jdwp_layout.specs.Meanings.{scalar_meaning, scalar_meanings, entry_meaning};
@@ -16,7 +17,7 @@ use crate::item::Entry;
 use crate::reading::take_entry;
 use crate::validation::{skip_entries, skip_entry};
 use crate::writing::put_entry;
-use jdwp_wire::{DataFault, IdSizes, Wire};
+use jdwp_wire::{DataFault, IdSizes, Wire, all_or_nothing};
 use std::alloc::Global;
 
 /// The entry at the front of the rest of a slice of `whole` bytes, and what follows it. A modifier or an event begins
@@ -33,7 +34,8 @@ pub fn read_entry<'a>(
     whole: usize,
     sizes: &IdSizes,
 ) -> Result<(Vec<Scalar>, &'a [u8]), DataFault>
-    ensures value { Gives (λ x. (entry_meaning x.0, x.1.now)) result (entry_at sizes.now whole (entry_shape entry) rest.now) }
+    ensures value { Gives (λ x. (entry_meaning x.0, x.1.now)) result
+        (entry_at sizes.now whole (entry_shape entry) rest.now) }
     ensures shorter { IfOk result (λ x. length x.1.now ≤ length rest.now) }
     ensures memory { IsErrOf result NoMemory → EntryIsKept sizes.now (entry_shape entry) rest.now }
 {
@@ -51,7 +53,8 @@ pub fn pass_entry<'a>(
     whole: usize,
     sizes: &IdSizes,
 ) -> Result<&'a [u8], DataFault>
-    ensures value { Gives (λ after. after.now) result (passed (entry_at sizes.now whole (entry_shape entry) rest.now)) }
+    ensures value { Gives (λ after. after.now) result
+        (passed (entry_at sizes.now whole (entry_shape entry) rest.now)) }
     ensures memory { IsErrOf result NoMemory → ⊥ }
 {
     skip_entry(entry, rest, whole, sizes)
@@ -69,7 +72,8 @@ pub fn pass_entries<'a>(
     whole: usize,
     sizes: &IdSizes,
 ) -> Result<&'a [u8], DataFault>
-    ensures value { Gives (λ after. after.now) result (passed (times_at (entry_at sizes.now whole (entry_shape entry)) count rest.now)) }
+    ensures value { Gives (λ after. after.now) result
+        (passed (times_at (entry_at sizes.now whole (entry_shape entry)) count rest.now)) }
     ensures memory { IsErrOf result NoMemory → ⊥ }
 {
     skip_entries(count, entry, rest, whole, sizes)
@@ -88,17 +92,17 @@ pub fn write_entry(
     sizes: &IdSizes,
     output: &mut Vec<u8>,
 ) -> Result<(), DataFault>
-    ensures ok { OnOk result (Written (EncodesEntry sizes.now (entry_shape entry) (scalar_meanings scalars.now)) (entry_canonical sizes.now (scalar_meanings scalars.now)) output.old.items output.new.items) }
-    ensures err { IfErr result (λ e. (output.new.items ≡ output.old.items) × Refused e (entry_refusal sizes.now (entry_shape entry) (scalar_meanings scalars.now))) }
-    ensures room { vec_len output.old + length (entry_canonical sizes.now (scalar_meanings scalars.now)) ≤ vec_capacity output.old → IsErrOf result NoMemory → ⊥ }
+    ensures ok { Appends (EncodesEntry sizes.now (entry_shape entry)) (entry_canonical sizes.now)
+        (scalar_meanings scalars.now) result output.old output.new }
+    ensures err { Leaves (entry_refusal sizes.now (entry_shape entry) (scalar_meanings scalars.now))
+        result output.old output.new }
+    ensures room { HasRoom (entry_canonical sizes.now (scalar_meanings scalars.now)) output.old
+        → IsErrOf result NoMemory → ⊥ }
     ensures capacity { vec_capacity output.old ≤ vec_capacity output.new }
 {
     let before = output.len();
     let done = put_entry(entry, scalars, sizes, output);
-    if done.is_err() {
-        output.truncate(before);
-    }
-    done
+    all_or_nothing(done, before, output)
 }
 
 /// How many bytes the fields of an entry take, whether or not `write_entry` would refuse them; None past `usize`.

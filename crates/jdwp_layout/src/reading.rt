@@ -37,13 +37,17 @@ pub fn read(
     bytes: &[u8],
 ) -> Result<Vec<Datum>, DataFault>
     // What is read is what the slice encodes.
-    ensures found { IfOk result (λ v. EncodesData sizes.now (shape layout.now) (meanings v.items) bytes.now) }
+    ensures found { IfOk result
+        (λ v. EncodesData sizes.now (shape layout.now) (meanings v.items) bytes.now) }
     // What the slice encodes is read, unless memory runs out, and nothing else is.
-    ensures only { (xs : List DatumMeaning) → EncodesData sizes.now (shape layout.now) xs bytes.now → Gives (λ v. meanings v.items) result (Ok xs) }
+    ensures only { (xs : List DatumMeaning) → EncodesData sizes.now (shape layout.now) xs bytes.now
+        → Gives (λ v. meanings v.items) result (Ok xs) }
     // The fault is the first from the left.
-    ensures fault { IfErr result (λ f. Blames (DataFaults sizes.now (shape layout.now)) bytes.now f) }
+    ensures fault { IfErr result
+        (λ f. Blames (DataFaults sizes.now (shape layout.now)) bytes.now f) }
     // All of this as a function of the slice.
-    ensures value { Gives (λ v. meanings v.items) result (data_at sizes.now (shape layout.now) bytes.now) }
+    ensures value { Gives (λ v. meanings v.items) result
+        (data_at sizes.now (shape layout.now) bytes.now) }
     // Memory is wanted only where something stands in front that has to be kept.
     ensures memory { IsErrOf result NoMemory → DataAreKept sizes.now (shape layout.now) bytes.now }
 {
@@ -57,7 +61,8 @@ fn read_whole(
     sizes: &IdSizes,
     bytes: &[u8],
 ) -> Result<Vec<Datum>, DataFault>
-    ensures value { Gives (λ v. meanings v.items) result (data_at sizes.now (shapes items.now) bytes.now) }
+    ensures value { Gives (λ v. meanings v.items) result
+        (data_at sizes.now (shapes items.now) bytes.now) }
     ensures memory { IsErrOf result NoMemory → DataAreKept sizes.now (shapes items.now) bytes.now }
 {
     let (held, rest) = take_items(alloc, items, bytes, bytes.len(), sizes)?;
@@ -75,7 +80,8 @@ fn take_items<'a>(
     whole: usize,
     sizes: &IdSizes,
 ) -> Result<(Vec<Datum>, &'a [u8]), DataFault>
-    ensures value { Gives (λ x. (meanings x.0.items, x.1.now)) result (items_at sizes.now whole (shapes items.now) bytes.now) }
+    ensures value { Gives (λ x. (meanings x.0.items, x.1.now)) result
+        (items_at sizes.now whole (shapes items.now) bytes.now) }
     ensures memory { IsErrOf result NoMemory → DataAreKept sizes.now (shapes items.now) bytes.now }
 {
     let mut held = Vec::new(alloc);
@@ -96,7 +102,8 @@ fn take_item<'a>(
     whole: usize,
     sizes: &IdSizes,
 ) -> Result<(Datum, &'a [u8]), DataFault>
-    ensures value { Gives (λ x. (datum_meaning x.0, x.1.now)) result (item_at sizes.now whole (item_shape item) rest.now) }
+    ensures value { Gives (λ x. (datum_meaning x.0, x.1.now)) result
+        (item_at sizes.now whole (item_shape item) rest.now) }
     ensures memory { IsErrOf result NoMemory → ItemIsKept sizes.now (item_shape item) rest.now }
 {
     match item {
@@ -125,8 +132,10 @@ fn take_entries<'a>(
     whole: usize,
     sizes: &IdSizes,
 ) -> Result<(Vec<Vec<Scalar>>, &'a [u8]), DataFault>
-    ensures value { Gives (λ x. (entry_meanings x.0.items, x.1.now)) result (times_at (entry_at sizes.now whole (entry_shape entry)) count bytes.now) }
-    ensures memory { IsErrOf result NoMemory → EntriesAreKept sizes.now (entry_shape entry) count bytes.now }
+    ensures value { Gives (λ x. (entry_meanings x.0.items, x.1.now)) result
+        (times_at (entry_at sizes.now whole (entry_shape entry)) count bytes.now) }
+    ensures memory { IsErrOf result NoMemory
+        → EntriesAreKept sizes.now (entry_shape entry) count bytes.now }
 {
     let mut entries = Vec::new(alloc);
     let mut rest = bytes;
@@ -146,7 +155,8 @@ pub fn take_entry<'a>(
     whole: usize,
     sizes: &IdSizes,
 ) -> Result<(Vec<Scalar>, &'a [u8]), DataFault>
-    ensures value { Gives (λ x. (entry_meaning x.0, x.1.now)) result (entry_at sizes.now whole (entry_shape entry) rest.now) }
+    ensures value { Gives (λ x. (entry_meaning x.0, x.1.now)) result
+        (entry_at sizes.now whole (entry_shape entry) rest.now) }
     ensures memory { IsErrOf result NoMemory → EntryIsKept sizes.now (entry_shape entry) rest.now }
 {
     match entry {
@@ -175,8 +185,10 @@ fn take_fields_of<'a>(
     whole: usize,
     sizes: &IdSizes,
 ) -> Result<(Vec<Scalar>, &'a [u8]), DataFault>
-    ensures value { Gives (λ x. (entry_meaning x.0, x.1.now)) result (fields_of_at sizes.now whole kind (found_fields found.entry) rest.now) }
-    ensures memory { IsErrOf result NoMemory → (fields : List Field) × (found_fields found.entry ≡ Some fields) }
+    ensures value { Gives (λ x. (entry_meaning x.0, x.1.now)) result
+        (fields_of_at sizes.now whole kind (found_fields found.entry) rest.now) }
+    ensures memory { IsErrOf result NoMemory → (fields : List Field)
+        × (found_fields found.entry ≡ Some fields) }
 {
     match found {
         None => Err(DataFault::BadTag),
@@ -198,7 +210,9 @@ fn take_fields<'a>(
     whole: usize,
     sizes: &IdSizes,
 ) -> Result<&'a [u8], DataFault>
-    ensures value { Gives (λ x. (scalar_meanings scalars.new.items, x.now)) result (with_front (scalar_meanings scalars.old.items) (fields_at sizes.now whole fields.now bytes.now)) }
+    ensures value { Gives (λ x. (scalar_meanings scalars.new.items, x.now)) result
+        (with_front (scalar_meanings scalars.old.items)
+        (fields_at sizes.now whole fields.now bytes.now)) }
     ensures memory { IsErrOf result NoMemory → FieldsAreKept sizes.now fields.now bytes.now }
 {
     let mut rest = bytes;
@@ -218,7 +232,8 @@ fn take_field<'a>(
     whole: usize,
     sizes: &IdSizes,
 ) -> Result<(Scalar, &'a [u8]), DataFault>
-    ensures value { Gives (λ x. (scalar_meaning x.0, x.1.now)) result (field_at sizes.now whole field rest.now) }
+    ensures value { Gives (λ x. (scalar_meaning x.0, x.1.now)) result
+        (field_at sizes.now whole field rest.now) }
     ensures memory { IsErrOf result NoMemory → FieldIsKept field rest.now }
 {
     match field {

@@ -23,7 +23,8 @@ use jdwp_wire::{DataFault, IdSizes, Wire};
 /// # Errors
 /// The fault that `read` answers, and never `NoMemory`.
 pub fn validate(layout: &Layout, sizes: &IdSizes, bytes: &[u8]) -> Result<(), DataFault>
-    ensures accepted { IsOk result ↔ ((xs : List DatumMeaning) × EncodesData sizes.now (shape layout.now) xs bytes.now) }
+    ensures accepted { IsOk result
+        ↔ ((xs : List DatumMeaning) × EncodesData sizes.now (shape layout.now) xs bytes.now) }
     // The fault is the first from the left.
     ensures fault { IfErr result (λ f. DataFaults sizes.now (shape layout.now) bytes.now f) }
     // It is that of reading.
@@ -52,7 +53,8 @@ fn skip_items<'a>(
     whole: usize,
     sizes: &IdSizes,
 ) -> Result<&'a [u8], DataFault>
-    ensures value { Gives (λ after. after.now) result (passed (items_at sizes.now whole (shapes items.now) bytes.now)) }
+    ensures value { Gives (λ after. after.now) result
+        (passed (items_at sizes.now whole (shapes items.now) bytes.now)) }
     ensures memory { IsErrOf result NoMemory → ⊥ }
 {
     let mut rest = bytes;
@@ -70,7 +72,8 @@ fn skip_item<'a>(
     whole: usize,
     sizes: &IdSizes,
 ) -> Result<&'a [u8], DataFault>
-    ensures value { Gives (λ after. after.now) result (passed (item_at sizes.now whole (item_shape item) rest.now)) }
+    ensures value { Gives (λ after. after.now) result
+        (passed (item_at sizes.now whole (item_shape item) rest.now)) }
     ensures memory { IsErrOf result NoMemory → ⊥ }
 {
     match item {
@@ -91,7 +94,8 @@ pub fn skip_entries<'a>(
     whole: usize,
     sizes: &IdSizes,
 ) -> Result<&'a [u8], DataFault>
-    ensures value { Gives (λ after. after.now) result (passed (times_at (entry_at sizes.now whole (entry_shape entry)) count bytes.now)) }
+    ensures value { Gives (λ after. after.now) result
+        (passed (times_at (entry_at sizes.now whole (entry_shape entry)) count bytes.now)) }
     ensures memory { IsErrOf result NoMemory → ⊥ }
 {
     let mut rest = bytes;
@@ -109,7 +113,8 @@ pub fn skip_entry<'a>(
     whole: usize,
     sizes: &IdSizes,
 ) -> Result<&'a [u8], DataFault>
-    ensures value { Gives (λ after. after.now) result (passed (entry_at sizes.now whole (entry_shape entry) rest.now)) }
+    ensures value { Gives (λ after. after.now) result
+        (passed (entry_at sizes.now whole (entry_shape entry) rest.now)) }
     ensures memory { IsErrOf result NoMemory → ⊥ }
 {
     match entry {
@@ -133,7 +138,8 @@ fn skip_fields_of<'a>(
     whole: usize,
     sizes: &IdSizes,
 ) -> Result<&'a [u8], DataFault>
-    ensures value { Gives (λ after. after.now) result (passed (fields_of_at sizes.now whole kind (found_fields found.entry) rest.now)) }
+    ensures value { Gives (λ after. after.now) result
+        (passed (fields_of_at sizes.now whole kind (found_fields found.entry) rest.now)) }
     ensures memory { IsErrOf result NoMemory → ⊥ }
 {
     match found {
@@ -149,7 +155,8 @@ fn skip_fields<'a>(
     whole: usize,
     sizes: &IdSizes,
 ) -> Result<&'a [u8], DataFault>
-    ensures value { Gives (λ after. after.now) result (passed (fields_at sizes.now whole fields.now bytes.now)) }
+    ensures value { Gives (λ after. after.now) result
+        (passed (fields_at sizes.now whole fields.now bytes.now)) }
     ensures memory { IsErrOf result NoMemory → ⊥ }
 {
     let mut rest = bytes;
@@ -167,7 +174,8 @@ fn skip_field<'a>(
     whole: usize,
     sizes: &IdSizes,
 ) -> Result<&'a [u8], DataFault>
-    ensures value { Gives (λ after. after.now) result (passed (field_at sizes.now whole field rest.now)) }
+    ensures value { Gives (λ after. after.now) result
+        (passed (field_at sizes.now whole field rest.now)) }
     ensures memory { IsErrOf result NoMemory → ⊥ }
 {
     match field {

@@ -3,7 +3,7 @@ ghost use Rattle.std.specs.Prelude.{◌≡◌, ◌+◌, ◌≤◌, ◌<◌, ◌^
 ghost use Rattle.std.specs.List.{flat_map};
 ghost use Rattle.std.specs.Result.{IsErrOf};
 ghost use Rattle.jdwp_wire.specs.declared.data_fault.DataFault.TheVariants.{NoMemory};
-ghost use Rattle.jdwp_wire.specs.Reading.{Written, Refused};
+ghost use Rattle.jdwp_wire.specs.Writing.{Appends, Leaves, LeavesInFront, HasRoom};
 ghost use Rattle.jdwp_wire.specs.Each.{EncodesAll};
 ghost use Rattle.jdwp_wire.specs.Listed.{EncodesList, list_canonical, list_refusal, first_refusal};
 ghost use Rattle.jdwp_layout.specs.Shapes.{item_shape, entry_shape, shapes, shape, found_fields};
@@ -15,7 +15,7 @@ ghost use Rattle.jdwp_layout.specs.Writes.{scalar_canonical, entry_canonical, da
 use crate::datum::{Datum, Scalar};
 use crate::item::{Entry, Field, Item, Layout, fields_of_event, fields_of_modifier};
 use jdwp_wire::number::put_count;
-use jdwp_wire::{DataFault, IdSizes, Wire};
+use jdwp_wire::{DataFault, IdSizes, Wire, all_or_nothing};
 
 /// Appends the data of the layout's items. Of several encodings the canonical one is written: true as 1.
 ///
@@ -32,17 +32,17 @@ pub fn write(
     output: &mut Vec<u8>,
 ) -> Result<(), DataFault>
     // The canonical encoding is appended, and it encodes the data.
-    ensures ok { OnOk result (Written (EncodesData sizes.now (shape layout.now) (meanings values.now)) (data_canonical sizes.now (meanings values.now)) output.old.items output.new.items) }
-    ensures err { IfErr result (λ e. (output.new.items ≡ output.old.items) × Refused e (data_refusal sizes.now (shape layout.now) (meanings values.now))) }
-    ensures room { vec_len output.old + length (data_canonical sizes.now (meanings values.now)) ≤ vec_capacity output.old → IsErrOf result NoMemory → ⊥ }
+    ensures ok { Appends (EncodesData sizes.now (shape layout.now)) (data_canonical sizes.now)
+        (meanings values.now) result output.old output.new }
+    ensures err { Leaves (data_refusal sizes.now (shape layout.now) (meanings values.now))
+        result output.old output.new }
+    ensures room { HasRoom (data_canonical sizes.now (meanings values.now)) output.old
+        → IsErrOf result NoMemory → ⊥ }
     ensures capacity { vec_capacity output.old ≤ vec_capacity output.new }
 {
     let before = output.len();
     let done = put_items(layout.items, values, sizes, output);
-    if done.is_err() {
-        output.truncate(before);
-    }
-    done
+    all_or_nothing(done, before, output)
 }
 
 /// Appends one datum for each item, and may stop on the way.
@@ -52,9 +52,12 @@ fn put_items(
     sizes: &IdSizes,
     output: &mut Vec<u8>,
 ) -> Result<(), DataFault>
-    ensures ok { OnOk result (Written (EncodesData sizes.now (shapes items.now) (meanings values.now)) (data_canonical sizes.now (meanings values.now)) output.old.items output.new.items) }
-    ensures err { IfErr result (λ e. (take (length output.old.items) output.new.items ≡ output.old.items) × Refused e (data_refusal sizes.now (shapes items.now) (meanings values.now))) }
-    ensures room { vec_len output.old + length (data_canonical sizes.now (meanings values.now)) ≤ vec_capacity output.old → IsErrOf result NoMemory → ⊥ }
+    ensures ok { Appends (EncodesData sizes.now (shapes items.now)) (data_canonical sizes.now)
+        (meanings values.now) result output.old output.new }
+    ensures err { LeavesInFront (data_refusal sizes.now (shapes items.now) (meanings values.now))
+        result output.old output.new }
+    ensures room { HasRoom (data_canonical sizes.now (meanings values.now)) output.old
+        → IsErrOf result NoMemory → ⊥ }
     ensures capacity { vec_capacity output.old ≤ vec_capacity output.new }
 {
     let mut left = values;
@@ -80,9 +83,12 @@ fn put_item(
     sizes: &IdSizes,
     output: &mut Vec<u8>,
 ) -> Result<(), DataFault>
-    ensures ok { OnOk result (Written (EncodesItem sizes.now (item_shape item) (datum_meaning value.now)) (datum_canonical sizes.now (datum_meaning value.now)) output.old.items output.new.items) }
-    ensures err { IfErr result (λ e. (take (length output.old.items) output.new.items ≡ output.old.items) × Refused e (item_refusal sizes.now (item_shape item) (datum_meaning value.now))) }
-    ensures room { vec_len output.old + length (datum_canonical sizes.now (datum_meaning value.now)) ≤ vec_capacity output.old → IsErrOf result NoMemory → ⊥ }
+    ensures ok { Appends (EncodesItem sizes.now (item_shape item)) (datum_canonical sizes.now)
+        (datum_meaning value.now) result output.old output.new }
+    ensures err { LeavesInFront (item_refusal sizes.now (item_shape item) (datum_meaning value.now))
+        result output.old output.new }
+    ensures room { HasRoom (datum_canonical sizes.now (datum_meaning value.now)) output.old
+        → IsErrOf result NoMemory → ⊥ }
     ensures capacity { vec_capacity output.old ≤ vec_capacity output.new }
 {
     match (item, value) {
@@ -100,9 +106,14 @@ fn put_list(
     sizes: &IdSizes,
     output: &mut Vec<u8>,
 ) -> Result<(), DataFault>
-    ensures ok { OnOk result (Written (EncodesList (EncodesEntry sizes.now (entry_shape entry)) (entry_meanings entries.now)) (list_canonical (entry_canonical sizes.now) (entry_meanings entries.now)) output.old.items output.new.items) }
-    ensures err { IfErr result (λ e. (take (length output.old.items) output.new.items ≡ output.old.items) × Refused e (list_refusal (entry_refusal sizes.now (entry_shape entry)) (entry_meanings entries.now))) }
-    ensures room { vec_len output.old + length (list_canonical (entry_canonical sizes.now) (entry_meanings entries.now)) ≤ vec_capacity output.old → IsErrOf result NoMemory → ⊥ }
+    ensures ok { Appends (EncodesList (EncodesEntry sizes.now (entry_shape entry)))
+        (list_canonical (entry_canonical sizes.now)) (entry_meanings entries.now)
+        result output.old output.new }
+    ensures err { LeavesInFront
+        (list_refusal (entry_refusal sizes.now (entry_shape entry)) (entry_meanings entries.now))
+        result output.old output.new }
+    ensures room { HasRoom (list_canonical (entry_canonical sizes.now) (entry_meanings entries.now))
+        output.old → IsErrOf result NoMemory → ⊥ }
     ensures capacity { vec_capacity output.old ≤ vec_capacity output.new }
 {
     put_count(entries.len(), output)?;
@@ -116,9 +127,14 @@ fn put_entries(
     sizes: &IdSizes,
     output: &mut Vec<u8>,
 ) -> Result<(), DataFault>
-    ensures ok { OnOk result (Written (EncodesAll (EncodesEntry sizes.now (entry_shape entry)) (entry_meanings entries.now)) (flat_map (entry_canonical sizes.now) (entry_meanings entries.now)) output.old.items output.new.items) }
-    ensures err { IfErr result (λ e. (take (length output.old.items) output.new.items ≡ output.old.items) × Refused e (first_refusal (entry_refusal sizes.now (entry_shape entry)) (entry_meanings entries.now))) }
-    ensures room { vec_len output.old + length (flat_map (entry_canonical sizes.now) (entry_meanings entries.now)) ≤ vec_capacity output.old → IsErrOf result NoMemory → ⊥ }
+    ensures ok { Appends (EncodesAll (EncodesEntry sizes.now (entry_shape entry)))
+        (flat_map (entry_canonical sizes.now)) (entry_meanings entries.now)
+        result output.old output.new }
+    ensures err { LeavesInFront
+        (first_refusal (entry_refusal sizes.now (entry_shape entry)) (entry_meanings entries.now))
+        result output.old output.new }
+    ensures room { HasRoom (flat_map (entry_canonical sizes.now) (entry_meanings entries.now))
+        output.old → IsErrOf result NoMemory → ⊥ }
     ensures capacity { vec_capacity output.old ≤ vec_capacity output.new }
 {
     for scalars in entries {
@@ -134,9 +150,13 @@ pub fn put_entry(
     sizes: &IdSizes,
     output: &mut Vec<u8>,
 ) -> Result<(), DataFault>
-    ensures ok { OnOk result (Written (EncodesEntry sizes.now (entry_shape entry) (scalar_meanings scalars.now)) (entry_canonical sizes.now (scalar_meanings scalars.now)) output.old.items output.new.items) }
-    ensures err { IfErr result (λ e. (take (length output.old.items) output.new.items ≡ output.old.items) × Refused e (entry_refusal sizes.now (entry_shape entry) (scalar_meanings scalars.now))) }
-    ensures room { vec_len output.old + length (entry_canonical sizes.now (scalar_meanings scalars.now)) ≤ vec_capacity output.old → IsErrOf result NoMemory → ⊥ }
+    ensures ok { Appends (EncodesEntry sizes.now (entry_shape entry)) (entry_canonical sizes.now)
+        (scalar_meanings scalars.now) result output.old output.new }
+    ensures err { LeavesInFront
+        (entry_refusal sizes.now (entry_shape entry) (scalar_meanings scalars.now))
+        result output.old output.new }
+    ensures room { HasRoom (entry_canonical sizes.now (scalar_meanings scalars.now)) output.old
+        → IsErrOf result NoMemory → ⊥ }
     ensures capacity { vec_capacity output.old ≤ vec_capacity output.new }
 {
     match entry {
@@ -172,9 +192,14 @@ fn put_fields_of(
     sizes: &IdSizes,
     output: &mut Vec<u8>,
 ) -> Result<(), DataFault>
-    ensures ok { OnOk result (Written (EncodesFieldsOf sizes.now kind (found_fields found.entry) (Byte kind ∷ scalar_meanings scalars.now)) (entry_canonical sizes.now (Byte kind ∷ scalar_meanings scalars.now)) output.old.items output.new.items) }
-    ensures err { IfErr result (λ e. (take (length output.old.items) output.new.items ≡ output.old.items) × Refused e (fields_of_refusal sizes.now (found_fields found.entry) (scalar_meanings scalars.now))) }
-    ensures room { vec_len output.old + length (entry_canonical sizes.now (Byte kind ∷ scalar_meanings scalars.now)) ≤ vec_capacity output.old → IsErrOf result NoMemory → ⊥ }
+    ensures ok { Appends (EncodesFieldsOf sizes.now kind (found_fields found.entry))
+        (entry_canonical sizes.now) (Byte kind ∷ scalar_meanings scalars.now)
+        result output.old output.new }
+    ensures err { LeavesInFront
+        (fields_of_refusal sizes.now (found_fields found.entry) (scalar_meanings scalars.now))
+        result output.old output.new }
+    ensures room { HasRoom (entry_canonical sizes.now (Byte kind ∷ scalar_meanings scalars.now))
+        output.old → IsErrOf result NoMemory → ⊥ }
     ensures capacity { vec_capacity output.old ≤ vec_capacity output.new }
 {
     match found {
@@ -193,9 +218,12 @@ fn put_fields(
     sizes: &IdSizes,
     output: &mut Vec<u8>,
 ) -> Result<(), DataFault>
-    ensures ok { OnOk result (Written (EncodesFields sizes.now fields.now (scalar_meanings scalars.now)) (entry_canonical sizes.now (scalar_meanings scalars.now)) output.old.items output.new.items) }
-    ensures err { IfErr result (λ e. (take (length output.old.items) output.new.items ≡ output.old.items) × Refused e (fields_refusal sizes.now fields.now (scalar_meanings scalars.now))) }
-    ensures room { vec_len output.old + length (entry_canonical sizes.now (scalar_meanings scalars.now)) ≤ vec_capacity output.old → IsErrOf result NoMemory → ⊥ }
+    ensures ok { Appends (EncodesFields sizes.now fields.now) (entry_canonical sizes.now)
+        (scalar_meanings scalars.now) result output.old output.new }
+    ensures err { LeavesInFront (fields_refusal sizes.now fields.now (scalar_meanings scalars.now))
+        result output.old output.new }
+    ensures room { HasRoom (entry_canonical sizes.now (scalar_meanings scalars.now)) output.old
+        → IsErrOf result NoMemory → ⊥ }
     ensures capacity { vec_capacity output.old ≤ vec_capacity output.new }
 {
     let mut left = scalars;
@@ -222,9 +250,12 @@ fn put_field(
     sizes: &IdSizes,
     output: &mut Vec<u8>,
 ) -> Result<(), DataFault>
-    ensures ok { OnOk result (Written (EncodesField sizes.now field (scalar_meaning scalar.now)) (scalar_canonical sizes.now (scalar_meaning scalar.now)) output.old.items output.new.items) }
-    ensures err { IfErr result (λ e. (take (length output.old.items) output.new.items ≡ output.old.items) × Refused e (field_refusal sizes.now field (scalar_meaning scalar.now))) }
-    ensures room { vec_len output.old + length (scalar_canonical sizes.now (scalar_meaning scalar.now)) ≤ vec_capacity output.old → IsErrOf result NoMemory → ⊥ }
+    ensures ok { Appends (EncodesField sizes.now field) (scalar_canonical sizes.now)
+        (scalar_meaning scalar.now) result output.old output.new }
+    ensures err { LeavesInFront (field_refusal sizes.now field (scalar_meaning scalar.now))
+        result output.old output.new }
+    ensures room { HasRoom (scalar_canonical sizes.now (scalar_meaning scalar.now)) output.old
+        → IsErrOf result NoMemory → ⊥ }
     ensures capacity { vec_capacity output.old ≤ vec_capacity output.new }
 {
     match (field, scalar) {

@@ -1,8 +1,15 @@
 //! What a target runs: the trait `Machine` with its laws.
 #![tactic(auto)]
 
+mod laws;
+mod live;
 mod machine;
 mod query;
 
+pub use laws::{ends_its_thread, starts_a_new_thread};
+pub use live::is_among;
 pub use machine::Machine;
 pub use query::Query;
+
+#[cfg(test)]
+mod tests;

@@ -2,6 +2,7 @@ pub mod LookUps
 pub mod States
 pub mod StateMeanings
 pub mod Sites
+pub mod Layers
 pub mod Found
 pub mod Sought
 pub mod Steps

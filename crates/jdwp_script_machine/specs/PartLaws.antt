@@ -1,13 +1,14 @@
 -- What is answered of a part of a list is the answer of the part that is asked for.
-use Rattle.std.proofs.Common.{◌≡◌, ℤ, pos, negsuc, zero, suc, Bool, true, false, nat_lt, List, length, take, drop, map, refl}
+use Rattle.std.proofs.Common.{◌≡◌, ℤ, pos, negsuc, zero, suc, Bool, true, false, nat_lt, List, [], ◌∷◌, length, take, drop, map, refl}
 use Rattle.std.specs.Prelude.{if◌then◌else◌, Result, Err, Ok}
 use Rattle.std.proofs.lemmas.List.{length-map, take-map, drop-map}
 use Rattle.jdwp_wire.specs.declared.error_code.ErrorCode.{ErrorCode}
 use Rattle.jdwp_wire.specs.ErrorCodes.{INVALID_INDEX, INVALID_LENGTH}
 use Rattle.jdwp_layout.specs.declared.answer.Answer.{Answer}
 use Rattle.jdwp_layout.specs.declared.answer.Answer.TheVariants.{Error}
-use Rattle.jdwp_script_machine.specs.Requests.{part_from, part_of}
-use Rattle.jdwp_script_machine.specs.Parts.{counted, part, of_found_part}
+use Rattle.jdwp_layout.specs.Meanings.{DatumMeaning, One, Int}
+use Rattle.jdwp_script_machine.specs.Requests.{part_from, part_of, of_part}
+use Rattle.jdwp_script_machine.specs.Parts.{counted, part, of_found_part, range_asked, of_range}
 
 unless_error : {A : Type 0} (answer : List A → Answer) (e : ErrorCode) (x : Answer) (r : Result (List A) ErrorCode) (b : Bool) → x ≡ of_found_part answer r
     → (if b then Error e else x) ≡ of_found_part answer (if b then Err e else r)
@@ -35,3 +36,7 @@ pub plain_part_is : {A : Type 0} (or_rest : Bool) (answer : List A → Answer) (
 plain_part_is or_rest answer xs (pos from) count =
     unless_error answer INVALID_INDEX (part_from or_rest answer (drop from xs) count) (counted or_rest (drop from xs) count) (nat_lt (length xs) from) (counted_plain or_rest answer (drop from xs) count)
 plain_part_is or_rest answer xs (negsuc n) count = refl
+
+pub range_is : {A : Type 0} (or_rest : Bool) (answer : List A → Answer) (xs : List A) (content : List DatumMeaning) → of_part or_rest answer xs content ≡ of_range or_rest answer xs (range_asked content)
+range_is or_rest answer xs (One (Int from) ∷ One (Int count) ∷ []) = refl
+range_is or_rest answer xs content = refl

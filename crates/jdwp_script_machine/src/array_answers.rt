@@ -8,7 +8,7 @@ ghost use Rattle.jdwp_script_machine.specs.ObjectAnswers.{element, length_answer
 
 use crate::places::object_of;
 use crate::replies::{of_datum, of_scalar};
-use crate::requests::part_of;
+use crate::requests::{part_of, range_of};
 use crate::sites::tagged;
 use crate::state::MachineState;
 use jdwp_layout::{Answer, Datum, Scalar};
@@ -102,6 +102,7 @@ fn values_of(
 }
 
 /// Those of these elements that are asked for by a place and a count.
+#[tactic(auto, using(crate::specs::PartLaws::range_is))]
 fn some_of(
     alloc: Global,
     script: &Script,
@@ -110,12 +111,9 @@ fn some_of(
 ) -> Result<Answer, NoMemory>
     ensures { IfOk result (λ a. a ≡ elements_asked (script_part script.now) (meanings rest.now) (elements_part elements.now)) }
 {
-    match rest {
-        [
-            Datum::One(Scalar::Int(from)),
-            Datum::One(Scalar::Int(count)),
-        ] => { part_told(alloc, script, elements.tag, &elements.bits, *from, *count) }
-        _ => Ok(Answer::Error(ErrorCode::ILLEGAL_ARGUMENT)),
+    match range_of(rest) {
+        Some((from, count)) => part_told(alloc, script, elements.tag, &elements.bits, from, count),
+        None => Ok(Answer::Error(ErrorCode::ILLEGAL_ARGUMENT)),
     }
 }
 

@@ -12,6 +12,7 @@ mod frame_answers;
 mod group_answers;
 mod happening;
 mod laws;
+mod layers;
 mod location_answers;
 mod look_ups;
 mod machine;

@@ -2,7 +2,7 @@
 use crate::ScriptMachine;
 use jdwp_event::{Happening, Occurrence, Place};
 use jdwp_layout::{Answer, Data, Datum, Scalar};
-use jdwp_machine::{Machine, Query};
+use jdwp_machine::{Machine, Query, is_among};
 use jdwp_script::{Member, ScriptFault};
 use jdwp_value::{FrameId, Location, MethodId, ObjectId, ReferenceTypeId, TypeTag, Value};
 use jdwp_wire::{ErrorCode, Limits};
@@ -37,6 +37,30 @@ const EACH_KIND: &str = "{\"name\":\"B\",\"sizes\":[8,8,8,8,8],
  [\"call\",30,11,20,0,[[0,[\"I\",7]]]],[\"throw\",50,[11,20,9]],[\"throw\",50,null],
  [\"return\",[\"I\",7]]]}]}";
 
+/// Interfaces that extend two others each, which extend two others in turn, and a thread in a class that implements the
+/// last two.
+const DIAMONDS: &str = "{\"name\":\"D\",\"sizes\":[8,8,8,8,8],
+\"groups\":[{\"id\":5,\"name\":\"main\",\"parent\":0}],
+\"classes\":[{\"id\":16,\"tag\":2,\"signature\":\"LA;\",\"modifiers\":1537,
+ \"super\":0,\"interfaces\":[],\"source\":null,\"fields\":[],\"methods\":[]},
+ {\"id\":12,\"tag\":2,\"signature\":\"LB;\",\"modifiers\":1537,
+ \"super\":0,\"interfaces\":[16],\"source\":null,\"fields\":[],\"methods\":[]},
+ {\"id\":14,\"tag\":2,\"signature\":\"LC;\",\"modifiers\":1537,
+ \"super\":0,\"interfaces\":[16],\"source\":null,\"fields\":[],\"methods\":[]},
+ {\"id\":15,\"tag\":2,\"signature\":\"LD;\",\"modifiers\":1537,
+ \"super\":0,\"interfaces\":[12,14],\"source\":null,\"fields\":[],\"methods\":[]},
+ {\"id\":13,\"tag\":2,\"signature\":\"LE;\",\"modifiers\":1537,
+ \"super\":0,\"interfaces\":[12,14],\"source\":null,\"fields\":[],\"methods\":[]},
+ {\"id\":17,\"tag\":1,\"signature\":\"LOther;\",\"modifiers\":1,
+ \"super\":0,\"interfaces\":[13],\"source\":null,\"fields\":[],\"methods\":[]},
+ {\"id\":11,\"tag\":1,\"signature\":\"LMain;\",\"modifiers\":1,
+ \"super\":0,\"interfaces\":[13,15],\"source\":null,\"fields\":[],
+ \"methods\":[{\"id\":20,\"name\":\"run\",\"signature\":\"()V\",\"modifiers\":1,
+  \"args\":0,\"last\":9,\"lines\":[],\"slots\":[]}]}],
+\"objects\":[],
+\"threads\":[{\"id\":1,\"name\":\"main\",\"group\":5,\"steps\":[
+ [\"call\",30,11,20,0,[]],[\"return\",[\"V\",0]]]}]}";
+
 fn machine(alloc: Global, text: &str) -> Result<ScriptMachine, Fail> {
     match ScriptMachine::read(alloc, text) {
         Ok(machine) => Ok(machine),
@@ -45,6 +69,9 @@ fn machine(alloc: Global, text: &str) -> Result<ScriptMachine, Fail> {
 }
 
 fn next(machine: &ScriptMachine, thread: u64) -> Result<Happening, Fail> {
+    if !is_among(ObjectId(thread), machine.live()) {
+        return Err(Fail::from("the thread does not live"));
+    }
     match machine.next(ObjectId(thread)) {
         Ok(happening) => Ok(happening),
         Err(_) => Err(Fail::from("no memory")),
@@ -52,10 +79,21 @@ fn next(machine: &ScriptMachine, thread: u64) -> Result<Happening, Fail> {
 }
 
 fn step(machine: &mut ScriptMachine, thread: u64) -> Result<(), Fail> {
+    if !is_among(ObjectId(thread), machine.live()) {
+        return Err(Fail::from("the thread does not live"));
+    }
     match machine.step(ObjectId(thread)) {
         Ok(()) => Ok(()),
         Err(_) => Err(Fail::from("no memory")),
     }
+}
+
+fn end(machine: &mut ScriptMachine, thread: u64) -> Result<(), Fail> {
+    if !is_among(ObjectId(thread), machine.live()) {
+        return Err(Fail::from("the thread does not live"));
+    }
+    machine.end(ObjectId(thread));
+    Ok(())
 }
 
 fn live_are(machine: &ScriptMachine, ids: &[u64]) -> bool {
@@ -126,9 +164,9 @@ fn machine_a_steps(rt: HostRuntime) -> Result<(), Fail> {
     assert!(rt; is_run_out(&next(&machine, 1)?, 1));
     step(&mut machine, 1)?;
     assert!(rt; is_run_out(&next(&machine, 1)?, 1));
-    machine.end(ObjectId(1));
+    end(&mut machine, 1)?;
     assert!(rt; live_are(&machine, &[2]));
-    machine.end(ObjectId(2));
+    end(&mut machine, 2)?;
     assert!(rt; live_are(&machine, &[]));
     Ok(())
 }
@@ -186,6 +224,19 @@ fn steps_of_each_kind(rt: HostRuntime) -> Result<(), Fail> {
     );
     step(&mut machine, 1)?;
     assert!(rt; is_run_out(&next(&machine, 1)?, 1));
+    Ok(())
+}
+
+#[test]
+fn classes_reached_by_many_ways(rt: HostRuntime) -> Result<(), Fail> {
+    let machine = machine(rt.alloc(), DIAMONDS)?;
+    let entered = next(&machine, 1)?;
+    assert!(rt;
+        match entered.occurrence() {
+            Occurrence::Entered(place) => is_at(place, 11, 0, None, &[11, 12, 13, 14, 15, 16]),
+            _ => false,
+        }
+    );
     Ok(())
 }
 

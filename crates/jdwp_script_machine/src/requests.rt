@@ -4,7 +4,7 @@ ghost use Rattle.jdwp_layout.specs.declared.answer.Answer as declared;
 ghost use Rattle.jdwp_layout.specs.Meanings.{ScalarMeaning, meanings};
 ghost use Rattle.jdwp_script_machine.specs.Requests.{of_entries};
 ghost use Rattle.jdwp_script_machine.specs.SlotQuestions.{by_entries};
-ghost use Rattle.jdwp_script_machine.specs.Parts.{part};
+ghost use Rattle.jdwp_script_machine.specs.Parts.{part, range_asked};
 
 use jdwp_layout::{Datum, Scalar};
 use jdwp_wire::ErrorCode;
@@ -21,6 +21,19 @@ pub(crate) fn entries_of(content: &[Datum]) -> Option<&[Vec<Scalar>]>
                 None
             }
         }
+        _ => None,
+    }
+}
+
+/// The place and the count that are asked for; None where the data are not these two alone.
+pub(crate) fn range_of(content: &[Datum]) -> Option<(i32, i32)>
+    ensures { result ≡ range_asked (meanings content.now) }
+{
+    match content {
+        [
+            Datum::One(Scalar::Int(from)),
+            Datum::One(Scalar::Int(count)),
+        ] => Some((*from, *count)),
         _ => None,
     }
 }

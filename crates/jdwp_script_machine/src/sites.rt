@@ -3,8 +3,9 @@ ghost use Rattle.std.specs.Prelude.{◌≡◌, IfOk, option_map};
 ghost use Rattle.jdwp_event.specs.Occurrences.{ids_of, class_meaning, place_meaning};
 ghost use Rattle.jdwp_script.specs.Meanings.{class_part, object_part, script_part};
 ghost use Rattle.jdwp_script_machine.specs.Found.{found, site_part, site_found};
-ghost use Rattle.jdwp_script_machine.specs.Sites.{tagged, reaches_within, reached, class_seen, line_of, site_in, site_location, site_place, found_location, tag_by_contents};
+ghost use Rattle.jdwp_script_machine.specs.Sites.{tagged, reached, class_seen, line_of, site_in, site_location, site_place, found_location, tag_by_contents};
 
+use crate::layers::reached_within;
 use crate::look_ups::with_id;
 use jdwp_event::{ClassSeen, Place};
 use jdwp_script::{Class, Line, Method, Object, Script};
@@ -120,39 +121,14 @@ pub(crate) fn reached(
 ) -> Result<Vec<ReferenceTypeId>, NoMemory>
     ensures { IfOk result (λ ids. ids_of ids ≡ reached (script_part script.now) from.0) }
 {
+    let found = reached_within(alloc, script, script.classes.len(), from)?;
     let mut ids = Vec::new(alloc);
     for class in &script.classes {
-        if reaches_within(script, script.classes.len(), class.id, from) {
+        if found.contains(&class.id.0) {
             ids.push(class.id)?;
         }
     }
     Ok(ids)
-}
-
-/// Whether a class is this one, or has it above it by so many superclasses and interfaces at most.
-fn reaches_within(script: &Script, most: usize, to: ReferenceTypeId, from: ReferenceTypeId) -> bool
-    ensures { result ≡ reaches_within (script_part script.now) most to.0 from.0 }
-{
-    if from.0 == to.0 {
-        return true;
-    }
-    if most == 0 {
-        return false;
-    }
-    match with_id(&script.classes, from.0) {
-        None => false,
-        Some(class) => {
-            if reaches_within(script, most - 1, to, class.superclass) {
-                return true;
-            }
-            for interface in &class.interfaces {
-                if reaches_within(script, most - 1, to, *interface) {
-                    return true;
-                }
-            }
-            false
-        }
-    }
 }
 
 /// The id with the tag of what it names: an object's by what it has, and else that of a plain object.

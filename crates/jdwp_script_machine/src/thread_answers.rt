@@ -8,7 +8,7 @@ ghost use Rattle.jdwp_script_machine.specs.ThreadAnswers.{frames_at, thread_name
 
 use crate::places::{frames_of, thread_of};
 use crate::replies::{of_entries, of_scalar};
-use crate::requests::part_of;
+use crate::requests::{part_of, range_of};
 use crate::sites::location;
 use crate::state::{FrameState, MachineState};
 use jdwp_layout::{Answer, Datum, Scalar};
@@ -99,6 +99,7 @@ fn frames(alloc: Global, state: &MachineState, content: &[Datum]) -> Result<Answ
 }
 
 /// Those of these frames that are asked for by a place and a count.
+#[tactic(auto, using(crate::specs::PartLaws::range_is))]
 fn some_of(
     alloc: Global,
     script: &Script,
@@ -107,12 +108,9 @@ fn some_of(
 ) -> Result<Answer, NoMemory>
     ensures { IfOk result (λ a. a ≡ frames_answer (script_part script.now) (map frame_now frames.now) (meanings rest.now)) }
 {
-    match rest {
-        [
-            Datum::One(Scalar::Int(from)),
-            Datum::One(Scalar::Int(count)),
-        ] => { part_listed(alloc, script, frames, *from, *count) }
-        _ => Ok(Answer::Error(ErrorCode::ILLEGAL_ARGUMENT)),
+    match range_of(rest) {
+        Some((from, count)) => part_listed(alloc, script, frames, from, count),
+        None => Ok(Answer::Error(ErrorCode::ILLEGAL_ARGUMENT)),
     }
 }
 

@@ -58,7 +58,7 @@ pub handshake-greets : {S : Type 0} (setup : Setup) (now : Moment S) (b : Bool) 
 handshake-greets setup now true e = record { machine = refl; handshaken = e; closes = refl }
 handshake-greets setup now false e = record { machine = refl; handshaken = refl; closes = refl }
 
-packet-phase : (limit : ℕ) (phase : Phase) (header : Header) (body : List ℕ) → IsDue limit phase (Packet header body) → phase ≡ Established
+pub packet-phase : (limit : ℕ) (phase : Phase) (header : Header) (body : List ℕ) → IsDue limit phase (Packet header body) → phase ≡ Established
 packet-phase limit Closed header body due = absurd due
 packet-phase limit AwaitingHandshake header body due = absurd (let e = due in cc)
 packet-phase limit Established header body due = refl

@@ -4,5 +4,7 @@ pub mod Disposing
 pub mod RunLemmas
 pub mod TargetRuns
 pub mod RightTargets
+pub mod StepLemmas
 pub mod KeptLemmas
 pub mod LeastThread
+pub mod RightTurns

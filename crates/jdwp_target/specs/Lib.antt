@@ -3,6 +3,8 @@ pub mod Standings
 pub mod Targets
 pub mod Insides
 pub mod Turns
+pub mod TurnParts
+pub mod StepParts
 pub mod Machine
 pub mod Options
 pub mod Setup

@@ -11,7 +11,9 @@ mod machine_target;
 mod options;
 mod sending;
 mod state;
+mod stepping;
 mod target;
+mod turning;
 
 pub use fixed::Fixed;
 pub use laws::{goes_on_at_each_call, starts_with_least_thread};

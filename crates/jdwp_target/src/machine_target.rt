@@ -34,12 +34,13 @@ pub enum Stepped {
 /// A target over a machine: the debuggee, and its end of a session.
 #[derive(Drop)]
 pub struct MachineTarget<M: Machine> {
-    debuggee: Debuggee<M>,
+    pub(crate) alloc: Global,
+    pub(crate) debuggee: Debuggee<M>,
     /// The debuggee as it was when the session began, for contracts alone.
-    began: Trace<Debuggee<M>>,
+    pub(crate) began: Trace<Debuggee<M>>,
     /// The phase in which the session began, for contracts alone.
-    phases: Trace<Phase>,
-    end: End,
+    pub(crate) phases: Trace<Phase>,
+    pub(crate) end: End,
 }
 
 impl<M: Machine> Model for MachineTarget<M> {
@@ -68,6 +69,7 @@ impl<M: Machine + Drop> MachineTarget<M> {
         let mut phases = Trace::new();
         phases.push(&Phase::Closed);
         Ok(MachineTarget {
+            alloc,
             debuggee,
             began,
             phases,

@@ -1,16 +1,21 @@
-//! Replies as they are enqueued to leave.
-ghost use Rattle.std.specs.Prelude.{◌≡◌, ◌≤◌, ◌+◌, length, pos};
+//! Replies and composites as they are enqueued to leave.
+ghost use Rattle.std.specs.Prelude.{◌≡◌, ◌≤◌, ◌+◌, None, length, pos};
 ghost use Rattle.jdwp_end.specs.Ends.{most_outgoing, with_enqueued};
 ghost use Rattle.jdwp_wire.specs.Frames.{header_bytes};
 ghost use Rattle.jdwp_wire.specs.Streams.{message_bytes};
+ghost use Rattle.jdwp_event.specs.CompositeBytes.{composite_canonical, composite_refusal};
+ghost use Rattle.jdwp_event.specs.Composites.{vm_death};
 ghost use Rattle.jdwp_debuggee.specs.Replies.{reply_meaning};
 ghost use Rattle.jdwp_debuggee.specs.Sending.{sent_bytes, sent_error};
-ghost use Rattle.jdwp_target.specs.Sends.{packet_with, reply_to};
+ghost use Rattle.jdwp_layout.specs.CommandNumbers as commands;
+ghost use Rattle.jdwp_target.specs.Sends.{packet_with, reply_to, report_of};
 
 use crate::command::enqueue_int;
 use jdwp_debuggee::{Reply, Sent};
 use jdwp_end::End;
-use jdwp_wire::{ErrorCode, Header, IdSizes, PacketKind};
+use jdwp_event::{Composite, EventKind, Policy};
+use jdwp_layout::numbers::{COMPOSITE, EVENT};
+use jdwp_wire::{ErrorCode, Header, IdSizes, PacketKind, Wire};
 
 /// Enqueues the header of a reply with so many bytes of data.
 fn enqueue_header(id: u32, error: ErrorCode, size: u32, end: &mut End)
@@ -68,4 +73,45 @@ pub fn enqueue_reply(id: u32, sent: &Sent, sizes: &IdSizes, end: &mut End)
             end.enqueue(bytes);
         }
     }
+}
+
+/// Enqueues the header of a composite with so many bytes of data.
+pub fn enqueue_composite_header(id: u32, size: u32, end: &mut End)
+    requires room { length end.old.outgoing + 11 ≤ most_outgoing end.old.limits }
+    requires small { size ≤ 1048576 }
+    ensures { end.new ≡ with_enqueued (header_bytes (record { length = 11 + size; id = id; kind = PacketKind.Command commands.EVENT commands.COMPOSITE.number })) end.old }
+{
+    let header = Header {
+        length: 11 + size,
+        id,
+        kind: PacketKind::Command {
+            set: EVENT,
+            number: COMPOSITE,
+        },
+    };
+    end.enqueue(&header.to_bytes());
+}
+
+/// Enqueues a composite as the packet of this id. It takes no memory.
+pub fn enqueue_report(id: u32, composite: &Composite, sizes: &IdSizes, end: &mut End)
+    requires writable { composite_refusal sizes.now composite.now ≡ None }
+    requires room { length end.old.outgoing + (11 + length (composite_canonical sizes.now composite.now)) ≤ most_outgoing end.old.limits }
+    requires small { length (composite_canonical sizes.now composite.now) ≤ 1048576 }
+    ensures { end.new ≡ with_enqueued (message_bytes (report_of sizes.now id composite.now)) end.old }
+{
+    let size = composite.size(sizes).unwrap_or(0);
+    enqueue_composite_header(id, size as u32, end);
+    end.put(composite, sizes);
+}
+
+/// Enqueues VM_DEATH as the packet of this id: the policy, the number of events, and the event's kind and request. It takes no memory.
+pub fn enqueue_death(id: u32, sizes: &IdSizes, end: &mut End)
+    requires { length end.old.outgoing + 21 ≤ most_outgoing end.old.limits }
+    ensures { end.new ≡ with_enqueued (message_bytes (report_of sizes.now id vm_death)) end.old }
+{
+    enqueue_composite_header(id, 10, end);
+    end.put(&Policy::None.byte(), sizes);
+    enqueue_int(1, sizes, end);
+    end.put(&EventKind::VmDeath.byte(), sizes);
+    enqueue_int(0, sizes, end);
 }

@@ -47,6 +47,16 @@ pub enum TargetFault {
     NoMemory,
 }
 
+impl From<NoMemory> for TargetFault {
+    ghost use Rattle.jdwp_target.specs.declared.target.TargetFault.TheVariants as fault;
+
+    ghost from_gives = { λ _ f. f ≡ fault.NoMemory };
+
+    fn from(_error: NoMemory) -> TargetFault {
+        TargetFault::NoMemory
+    }
+}
+
 /// A target: a machine, the state of the debuggee, and its end of a session.
 #[derive(Drop)]
 pub struct Target {

@@ -9,12 +9,10 @@ use Rattle.jdwp_wire.specs.Each.{times_at}
 use Rattle.jdwp_wire.proofs.Passed.{passed_mapped}
 use Rattle.jdwp_wire.specs.Codes.{IsBytes-rest}
 use Rattle.jdwp_value.specs.declared.tag.Tag.{Tag}
-use Rattle.jdwp_value.specs.declared.value.Value.{Value}
 use Rattle.jdwp_value.specs.Tags.{tag_byte, tag_at}
 use Rattle.jdwp_value.specs.TagLaws.{tag_codes}
 use Rattle.jdwp_value.specs.Values.{is_void}
 use Rattle.jdwp_value.specs.Regions.{EncodesElement, element_at, region_of, region_at, RegionIsKept}
-use Rattle.jdwp_value.specs.RegionLaws.{element_codes}
 
 pub region_is_kept : (w : Widths) (whole : ℕ) (bytes : List ℕ) (t : Tag) (behind : List ℕ) (n : ℕ) (items : List ℕ) → IsBytes bytes → tag_at whole bytes ≡ Ok (t, behind) → is_void t ≡ false
     → count_at whole behind ≡ Ok (n, items) → (0 < n) × BeginsWith (EncodesElement w t) items → RegionIsKept w bytes

@@ -2,14 +2,15 @@
 ghost use Rattle.std.specs.Prelude.{◌≡◌, ◌≤◌, ◌+◌, length, take, OnOk, IfOk, IfErr, vec_len, vec_capacity};
 ghost use Rattle.std.specs.Result.{IsErrOf};
 ghost use Rattle.jdwp_wire.specs.declared.data_fault.DataFault.TheVariants.{NoMemory};
-ghost use Rattle.jdwp_wire.specs.Reading.{Gives, Written, Refused};
+ghost use Rattle.jdwp_wire.specs.Reading.{Gives};
+ghost use Rattle.jdwp_wire.specs.Writing.{Appends, LeavesInFront, HasRoom};
 ghost use Rattle.jdwp_value.specs.declared.location.Location.{Location};
 ghost use Rattle.jdwp_value.specs.Locations.{EncodesLocation, location_canonical, location_refusal, LocationFault, type_tag_byte, location_at};
 ghost use Rattle.jdwp_value.specs.LocationLaws.{location_codes, location_unrefused};
 
 use crate::id::{MethodId, ReferenceTypeId};
 use jdwp_wire::number::{put_long, take_byte, take_number};
-use jdwp_wire::{DataFault, IdKind, IdSizes, Width, Wire};
+use jdwp_wire::{DataFault, IdKind, IdSizes, Width, Wire, all_or_nothing};
 use std::alloc::Global;
 
 /// What declares a method (JDWP specification, "TypeTag Constants").
@@ -82,10 +83,7 @@ impl Wire for Location {
     fn put(&self, sizes: &IdSizes, output: &mut Vec<u8>) -> Result<(), DataFault> {
         let before = output.len();
         let done = put_parts(self, sizes, output);
-        if done.is_err() {
-            output.truncate(before);
-        }
-        done
+        all_or_nothing(done, before, output)
     }
 
     fn take_front<'a>(
@@ -156,9 +154,12 @@ fn take_location<'a>(
 
 /// Appends the parts, and may stop on the way.
 fn put_parts(location: &Location, sizes: &IdSizes, output: &mut Vec<u8>) -> Result<(), DataFault>
-    ensures ok { OnOk result (Written (EncodesLocation sizes.now location.now) (location_canonical sizes.now location.now) output.old.items output.new.items) }
-    ensures err { IfErr result (λ e. (take (length output.old.items) output.new.items ≡ output.old.items) × Refused e (location_refusal sizes.now location.now)) }
-    ensures room { vec_len output.old + length (location_canonical sizes.now location.now) ≤ vec_capacity output.old → IsErrOf result NoMemory → ⊥ }
+    ensures ok { Appends (EncodesLocation sizes.now) (location_canonical sizes.now) location.now
+        result output.old output.new }
+    ensures err { LeavesInFront (location_refusal sizes.now location.now)
+        result output.old output.new }
+    ensures room { HasRoom (location_canonical sizes.now location.now) output.old
+        → IsErrOf result NoMemory → ⊥ }
     ensures capacity { vec_capacity output.old ≤ vec_capacity output.new }
 {
     let (tag, class, method, index) = match *location {

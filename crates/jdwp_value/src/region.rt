@@ -7,7 +7,8 @@ ghost use Rattle.std.specs.Cmp.Lexicographic.{pointwise};
 ghost use Rattle.std.specs.Ordering.{eq_of_both, on};
 ghost use Rattle.std.specs.Result.{IsErrOf};
 ghost use Rattle.jdwp_wire.specs.declared.data_fault.DataFault.TheVariants.{NoMemory};
-ghost use Rattle.jdwp_wire.specs.Reading.{Gives, passed, BeginsWith, Written, Refused};
+ghost use Rattle.jdwp_wire.specs.Reading.{Gives, passed, BeginsWith};
+ghost use Rattle.jdwp_wire.specs.Writing.{Appends, Leaves, LeavesInFront, HasRoom};
 ghost use Rattle.jdwp_wire.specs.Each.{times_at, EncodesAll};
 ghost use Rattle.jdwp_wire.specs.Listed.{first_refusal};
 ghost use Rattle.jdwp_wire.specs.Widths.{Widths};
@@ -21,7 +22,7 @@ use crate::value::{
     TaggedId, Value, pass_untagged, put_untagged, take_tagged_id, take_untagged, untagged_size,
 };
 use jdwp_wire::number::{put_count, take_count};
-use jdwp_wire::{DataFault, IdSizes, Wire};
+use jdwp_wire::{DataFault, IdSizes, Wire, all_or_nothing};
 use std::alloc::Global;
 use std::marker::Model;
 
@@ -79,12 +80,14 @@ impl PartialEq for ArrayRegion {
     ghost use Rattle.jdwp_value.specs.contracts.tag.TagPartialEq.TheImpl as tags;
     ghost use Rattle.jdwp_value.specs.contracts.value.ValuePartialEq.TheImpl as values;
 
-    ghost eq = { eq_of_both (on (λ r. r.tag) tags.ghosts.eq) (on (λ r. r.elements) (pointwise values.ghosts.eq)) };
+    ghost eq = { eq_of_both (on (λ r. r.tag) tags.ghosts.eq)
+        (on (λ r. r.elements) (pointwise values.ghosts.eq)) };
 
     ghost use Rattle.jdwp_value.specs.contracts.tag.TagPartialEq.TheImpl.Laws as tag_laws;
     ghost use Rattle.jdwp_value.specs.contracts.value.ValuePartialEq.TheImpl.Laws as value_laws;
 
-    ghost laws = { and_per (on_per (λ r. r.tag) tag_laws.lawful.laws) (on_per (λ r. r.elements) (lists_per value_laws.lawful.laws)) };
+    ghost laws = { and_per (on_per (λ r. r.tag) tag_laws.lawful.laws)
+        (on_per (λ r. r.elements) (lists_per value_laws.lawful.laws)) };
 
     fn eq(&self, other: &ArrayRegion) -> bool {
         let same_tag = self.tag == other.tag;
@@ -121,10 +124,7 @@ impl Wire for ArrayRegion {
     fn put(&self, sizes: &IdSizes, output: &mut Vec<u8>) -> Result<(), DataFault> {
         let before = output.len();
         let done = put_parts(self.tag, &self.elements, sizes, output);
-        if done.is_err() {
-            output.truncate(before);
-        }
-        done
+        all_or_nothing(done, before, output)
     }
 
     fn take_front<'a>(
@@ -162,7 +162,8 @@ impl Wire for ArrayRegion {
 
 /// The tag of the region at the front of the rest of a slice of `whole` bytes, and what follows it.
 fn take_region_tag(rest: &[u8], whole: usize) -> Result<(Tag, &[u8]), DataFault>
-    ensures ok { IfOk result (λ x. (tag_at whole rest.now ≡ Ok (x.0, x.1.now)) × (is_void x.0 ≡ false)) }
+    ensures ok { IfOk result (λ x. (tag_at whole rest.now ≡ Ok (x.0, x.1.now))
+        × (is_void x.0 ≡ false)) }
     ensures err { IfErr result (λ e. (w : Widths) → region_at w whole rest.now ≡ Err e) }
     ensures shorter { IfOk result (λ x. length x.1.now ≤ length rest.now) }
     ensures memory { IsErrOf result NoMemory → ⊥ }
@@ -236,7 +237,8 @@ fn pass_element<'a>(
     whole: usize,
     sizes: &IdSizes,
 ) -> Result<&'a [u8], DataFault>
-    ensures value { Gives (λ after. after.now) result (passed (element_at sizes.now whole tag rest.now)) }
+    ensures value { Gives (λ after. after.now) result
+        (passed (element_at sizes.now whole tag rest.now)) }
     ensures memory { IsErrOf result NoMemory → ⊥ }
 {
     if tag.is_object() {
@@ -255,10 +257,12 @@ fn take_elements<'a>(
     whole: usize,
     sizes: &IdSizes,
 ) -> Result<(Vec<Value>, &'a [u8]), DataFault>
-    ensures value { Gives (λ x. (x.0.items, x.1.now)) result (times_at (element_at sizes.now whole tag) count bytes.now) }
+    ensures value { Gives (λ x. (x.0.items, x.1.now)) result
+        (times_at (element_at sizes.now whole tag) count bytes.now) }
     ensures fits { IfOk result (λ x. list_all (may_stand tag) x.0.items ≡ true) }
     ensures shorter { IfOk result (λ x. length x.1.now ≤ length bytes.now) }
-    ensures memory { IsErrOf result NoMemory → (0 < count) × BeginsWith (EncodesElement sizes.now tag) bytes.now }
+    ensures memory { IsErrOf result NoMemory
+        → (0 < count) × BeginsWith (EncodesElement sizes.now tag) bytes.now }
 {
     let mut values = Vec::new(alloc);
     let mut rest = bytes;
@@ -278,7 +282,8 @@ fn pass_elements<'a>(
     whole: usize,
     sizes: &IdSizes,
 ) -> Result<&'a [u8], DataFault>
-    ensures value { Gives (λ after. after.now) result (passed (times_at (element_at sizes.now whole tag) count bytes.now)) }
+    ensures value { Gives (λ after. after.now) result
+        (passed (times_at (element_at sizes.now whole tag) count bytes.now)) }
     ensures memory { IsErrOf result NoMemory → ⊥ }
 {
     let mut rest = bytes;
@@ -297,9 +302,11 @@ fn put_element(
     output: &mut Vec<u8>,
 ) -> Result<(), DataFault>
     requires { may_stand tag value.now ≡ true }
-    ensures ok { OnOk result (Written (EncodesElement sizes.now tag value.now) (element_canonical sizes.now tag value.now) output.old.items output.new.items) }
-    ensures err { IfErr result (λ e. (output.new.items ≡ output.old.items) × Refused e (value_refusal sizes.now value.now)) }
-    ensures room { vec_len output.old + length (element_canonical sizes.now tag value.now) ≤ vec_capacity output.old → IsErrOf result NoMemory → ⊥ }
+    ensures ok { Appends (EncodesElement sizes.now tag) (element_canonical sizes.now tag) value.now
+        result output.old output.new }
+    ensures err { Leaves (value_refusal sizes.now value.now) result output.old output.new }
+    ensures room { HasRoom (element_canonical sizes.now tag value.now) output.old
+        → IsErrOf result NoMemory → ⊥ }
     ensures capacity { vec_capacity output.old ≤ vec_capacity output.new }
 {
     if tag.is_object() {
@@ -317,9 +324,12 @@ fn put_elements(
     output: &mut Vec<u8>,
 ) -> Result<(), DataFault>
     requires { list_all (may_stand tag) values.now ≡ true }
-    ensures ok { OnOk result (Written (EncodesAll (EncodesElement sizes.now tag) values.now) (flat_map (element_canonical sizes.now tag) values.now) output.old.items output.new.items) }
-    ensures err { IfErr result (λ e. (take (length output.old.items) output.new.items ≡ output.old.items) × Refused e (first_refusal (value_refusal sizes.now) values.now)) }
-    ensures room { vec_len output.old + length (flat_map (element_canonical sizes.now tag) values.now) ≤ vec_capacity output.old → IsErrOf result NoMemory → ⊥ }
+    ensures ok { Appends (EncodesAll (EncodesElement sizes.now tag))
+        (flat_map (element_canonical sizes.now tag)) values.now result output.old output.new }
+    ensures err { LeavesInFront (first_refusal (value_refusal sizes.now) values.now)
+        result output.old output.new }
+    ensures room { HasRoom (flat_map (element_canonical sizes.now tag) values.now) output.old
+        → IsErrOf result NoMemory → ⊥ }
     ensures capacity { vec_capacity output.old ≤ vec_capacity output.new }
 {
     for value in values {
@@ -336,9 +346,12 @@ fn put_parts(
     output: &mut Vec<u8>,
 ) -> Result<(), DataFault>
     requires { is_region tag values.now ≡ true }
-    ensures ok { OnOk result (Written (EncodesRegion sizes.now (region_of tag values.now)) (region_canonical sizes.now (region_of tag values.now)) output.old.items output.new.items) }
-    ensures err { IfErr result (λ e. (take (length output.old.items) output.new.items ≡ output.old.items) × Refused e (region_refusal sizes.now (region_of tag values.now))) }
-    ensures room { vec_len output.old + length (region_canonical sizes.now (region_of tag values.now)) ≤ vec_capacity output.old → IsErrOf result NoMemory → ⊥ }
+    ensures ok { Appends (EncodesRegion sizes.now) (region_canonical sizes.now)
+        (region_of tag values.now) result output.old output.new }
+    ensures err { LeavesInFront (region_refusal sizes.now (region_of tag values.now))
+        result output.old output.new }
+    ensures room { HasRoom (region_canonical sizes.now (region_of tag values.now)) output.old
+        → IsErrOf result NoMemory → ⊥ }
     ensures capacity { vec_capacity output.old ≤ vec_capacity output.new }
 {
     output.push(tag.byte())?;

@@ -2,7 +2,8 @@
 ghost use Rattle.std.specs.Prelude.{◌≡◌, ◌≤◌, ◌+◌, ℕ, length, take, IfOk, OnOk, IfErr, vec_len, vec_capacity};
 ghost use Rattle.std.specs.Result.{IsErrOf};
 ghost use Rattle.jdwp_wire.specs.declared.data_fault.DataFault.TheVariants.{NoMemory};
-ghost use Rattle.jdwp_wire.specs.Reading.{Gives, passed, Written, Refused};
+ghost use Rattle.jdwp_wire.specs.Reading.{Gives, passed};
+ghost use Rattle.jdwp_wire.specs.Writing.{Appends, Leaves, HasRoom};
 ghost use Rattle.jdwp_wire.specs.Numbers.{id_refusal};
 ghost use Rattle.jdwp_value.specs.declared.value.TaggedId.{TaggedId};
 ghost use Rattle.jdwp_value.specs.declared.value.Value.{Value};
@@ -12,7 +13,7 @@ ghost use Rattle.jdwp_value.specs.ValueLaws.{tagged_id_codes, tagged_id_unrefuse
 use crate::id::ObjectId;
 use crate::tag::{ObjectTag, Tag, take_tag};
 use jdwp_wire::number::{pass_bytes, put_number, take_bool, take_number};
-use jdwp_wire::{DataFault, IdKind, IdSizes, Width, Wire};
+use jdwp_wire::{DataFault, IdKind, IdSizes, Width, Wire, all_or_nothing};
 use std::alloc::Global;
 
 /// An object id, and what kind of object it names.
@@ -96,10 +97,7 @@ impl Wire for TaggedId {
         let before = output.len();
         output.push(self.tag.byte())?;
         let done = self.id.put(sizes, output);
-        if done.is_err() {
-            output.truncate(before);
-        }
-        done
+        all_or_nothing(done, before, output)
     }
 
     fn take_front<'a>(
@@ -157,10 +155,7 @@ impl Wire for Value {
         let before = output.len();
         output.push(self.tag().byte())?;
         let done = put_untagged(self, sizes, output);
-        if done.is_err() {
-            output.truncate(before);
-        }
-        done
+        all_or_nothing(done, before, output)
     }
 
     fn take_front<'a>(
@@ -234,9 +229,11 @@ pub fn untagged_size(tag: Tag, sizes: &IdSizes) -> usize
 /// # Errors
 /// `IdTooWide` where an object id is above its width, and `NoMemory`; the vector is then as it was.
 pub fn put_untagged(value: &Value, sizes: &IdSizes, output: &mut Vec<u8>) -> Result<(), DataFault>
-    ensures ok { OnOk result (Written (EncodesUntagged sizes.now value.now) (untagged_canonical sizes.now value.now) output.old.items output.new.items) }
-    ensures err { IfErr result (λ e. (output.new.items ≡ output.old.items) × Refused e (value_refusal sizes.now value.now)) }
-    ensures room { vec_len output.old + length (untagged_canonical sizes.now value.now) ≤ vec_capacity output.old → IsErrOf result NoMemory → ⊥ }
+    ensures ok { Appends (EncodesUntagged sizes.now) (untagged_canonical sizes.now) value.now
+        result output.old output.new }
+    ensures err { Leaves (value_refusal sizes.now value.now) result output.old output.new }
+    ensures room { HasRoom (untagged_canonical sizes.now value.now) output.old
+        → IsErrOf result NoMemory → ⊥ }
     ensures capacity { vec_capacity output.old ≤ vec_capacity output.new }
 {
     match *value {
@@ -319,7 +316,8 @@ pub fn pass_untagged<'a>(
     whole: usize,
     sizes: &IdSizes,
 ) -> Result<&'a [u8], DataFault>
-    ensures value { Gives (λ after. after.now) result (passed (untagged_at sizes.now whole tag rest.now)) }
+    ensures value { Gives (λ after. after.now) result
+        (passed (untagged_at sizes.now whole tag rest.now)) }
     ensures memory { IsErrOf result NoMemory → ⊥ }
 {
     pass_bytes(rest, whole, untagged_size(tag, sizes))

@@ -1,5 +1,5 @@
 -- Eight bytes and more hold every number of 64 bits.
-use Rattle.std.proofs.Common.{◌≡◌, ◌≤◌, ◌<◌, ◌+◌, ◌*◌, ◌-◌, ◌^◌, ℕ, zero, suc, refl, sym, subst, arith}
+use Rattle.std.proofs.Common.{◌≡◌, ◌≤◌, ◌<◌, ◌+◌, ◌*◌, ◌-◌, ◌^◌, ℕ, zero, suc, sym, subst, arith}
 use Rattle.std.proofs.Math.Nat.{pow-suc}
 
 wide : (n k : ℕ) → n < 2 ^ 64 → n < 256 ^ (8 + k)

@@ -11,6 +11,7 @@ pub mod FrameLaws
 pub mod Streams
 pub mod DataFaultNumbers
 pub mod Reading
+pub mod Writing
 pub mod Sequence
 pub mod Each
 pub mod Numbers

@@ -19,6 +19,10 @@ number_at width whole bytes = if nat_lt (length bytes) width then Err (Short who
 
 -- ---- a count or a length: an int that is not negative
 
+-- the greatest int, and so the greatest count or length
+abbrev pub greatest_int : ℕ
+greatest_int = 2147483647
+
 abbrev pub EncodesCount : Encoding ℕ
 EncodesCount n code = (n < 2 ^ 31) × (code ≡ big_bytes 4 n)
 

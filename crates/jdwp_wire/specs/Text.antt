@@ -1,9 +1,9 @@
 -- A string: its length in bytes, and so many bytes of UTF-8 (JDWP specification, "Data Types").
-use Rattle.std.specs.Prelude.{◌≡◌, ℕ, ◌≤◌, ◌<◌, ◌^◌, List, ◌++◌, length, take, drop, nat_lt, if◌then◌else◌, Option, Some, None, Ok, Err, ◌⊎◌}
+use Rattle.std.specs.Prelude.{◌≡◌, ℕ, ◌≤◌, ◌<◌, ◌^◌, List, ◌++◌, length, take, drop, nat_lt, if◌then◌else◌, Option, Ok, Err, ◌⊎◌}
 use Rattle.std.specs.Str.{IsUtf8, is_utf8}
 use Rattle.byteorder.specs.Endian.{big_bytes}
 use Rattle.jdwp_wire.specs.declared.data_fault.DataFault.{DataFault}
-use Rattle.jdwp_wire.specs.declared.data_fault.DataFault.TheVariants.{Short, NotUtf8, BadSize}
+use Rattle.jdwp_wire.specs.declared.data_fault.DataFault.TheVariants.{Short, NotUtf8}
 use Rattle.jdwp_wire.specs.Reading.{Reader, Encoding, Faults, BeginsWith}
 use Rattle.jdwp_wire.specs.Sequence.{seq, FirstFault}
 use Rattle.jdwp_wire.specs.Numbers.{EncodesCount, CountFault, count_at, count_refusal}

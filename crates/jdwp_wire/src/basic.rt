@@ -14,6 +14,7 @@ use crate::data_fault::DataFault;
 use crate::id_sizes::IdSizes;
 use crate::number::{pass_bytes, put_count, take_bool, take_byte, take_count};
 use crate::wire::Wire;
+use crate::writing::all_or_nothing;
 use byteorder::{BigEndian, ByteOrder};
 use std::alloc::Global;
 
@@ -274,13 +275,11 @@ impl Wire for String {
     fn put(&self, _sizes: &IdSizes, output: &mut Vec<u8>) -> Result<(), DataFault> {
         let before = output.len();
         put_count(self.len(), output)?;
-        match output.extend_from_slice(self.as_bytes()) {
+        let done = match output.extend_from_slice(self.as_bytes()) {
             Ok(()) => Ok(()),
-            Err(_) => {
-                output.truncate(before);
-                Err(DataFault::NoMemory)
-            }
-        }
+            Err(_) => Err(DataFault::NoMemory),
+        };
+        all_or_nothing(done, before, output)
     }
 
     fn take_front<'a>(

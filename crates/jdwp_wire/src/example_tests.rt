@@ -11,7 +11,7 @@ ghost use Rattle.jdwp_wire.specs.NumberLaws.{number_codes};
 ghost use Rattle.jdwp_wire.specs.Codes.{seq_codes, mapped_codes};
 
 use crate::number::{put_long, take_number};
-use crate::{DataFault, IdSizes, Width, Wire};
+use crate::{DataFault, IdSizes, Width, Wire, all_or_nothing};
 use std::alloc::Global;
 use std::test::Fail;
 
@@ -27,15 +27,18 @@ impl Wire for CodeRange {
 
     ghost meaning = { λ range. (range.first, range.last) };
 
-    ghost encodes = { λ _. Then (EncodesNumber 8) (λ first. Made (λ (last : ℕ). (first, last)) (EncodesNumber 8)) };
+    ghost encodes = { λ _. Then (EncodesNumber 8)
+        (λ first. Made (λ (last : ℕ). (first, last)) (EncodesNumber 8)) };
 
     ghost canonical = { λ _ range. big_bytes 8 range.0 ++ big_bytes 8 range.1 };
 
     ghost refusal = { λ _ _. None };
 
-    ghost faults = { λ _ whole. FirstFault (EncodesNumber 8) (NumberFault 8 whole) (λ _. NumberFault 8 whole) };
+    ghost faults = { λ _ whole. FirstFault (EncodesNumber 8) (NumberFault 8 whole)
+        (λ _. NumberFault 8 whole) };
 
-    ghost decoded = { λ _ whole. seq (number_at 8 whole) (λ first. mapped (λ (last : ℕ). (first, last)) (number_at 8 whole)) };
+    ghost decoded = { λ _ whole. seq (number_at 8 whole)
+        (λ first. mapped (λ (last : ℕ). (first, last)) (number_at 8 whole)) };
 
     ghost takes_memory = { λ _ _. ⊥ };
 
@@ -47,10 +50,7 @@ impl Wire for CodeRange {
         let before = output.len();
         put_long(self.first, output)?;
         let done = put_long(self.last, output);
-        if done.is_err() {
-            output.truncate(before);
-        }
-        done
+        all_or_nothing(done, before, output)
     }
 
     fn take_front<'a>(
@@ -71,19 +71,25 @@ impl Wire for CodeRange {
         Ok(rest)
     }
 
-    ghost found = { λ _ whole. (seq_codes (number_codes 8 whole) (λ first. mapped_codes (λ (last : ℕ). (first, last)) (number_codes 8 whole))).found };
+    ghost found = { λ _ whole. (seq_codes (number_codes 8 whole)
+        (λ first. mapped_codes (λ (last : ℕ). (first, last)) (number_codes 8 whole))).found };
 
-    ghost again = { λ _ whole. (seq_codes (number_codes 8 whole) (λ first. mapped_codes (λ (last : ℕ). (first, last)) (number_codes 8 whole))).again };
+    ghost again = { λ _ whole. (seq_codes (number_codes 8 whole)
+        (λ first. mapped_codes (λ (last : ℕ). (first, last)) (number_codes 8 whole))).again };
 
-    ghost blamed = { λ _ whole. (seq_codes (number_codes 8 whole) (λ first. mapped_codes (λ (last : ℕ). (first, last)) (number_codes 8 whole))).blamed };
+    ghost blamed = { λ _ whole. (seq_codes (number_codes 8 whole)
+        (λ first. mapped_codes (λ (last : ℕ). (first, last)) (number_codes 8 whole))).blamed };
 
-    ghost judged = { λ _ whole. (seq_codes (number_codes 8 whole) (λ first. mapped_codes (λ (last : ℕ). (first, last)) (number_codes 8 whole))).judged };
+    ghost judged = { λ _ whole. (seq_codes (number_codes 8 whole)
+        (λ first. mapped_codes (λ (last : ℕ). (first, last)) (number_codes 8 whole))).judged };
 
     ghost unrefused = { λ _ _ _ _. refl };
 }
 
 fn take_range(rest: &[u8], whole: usize) -> Result<(CodeRange, &[u8]), DataFault>
-    ensures value { Gives (λ x. ((x.0.first, x.0.last), x.1.now)) result (seq {B = ℕ × ℕ} (number_at 8 whole) (λ first. mapped (λ (last : ℕ). (first, last)) (number_at 8 whole)) rest.now) }
+    ensures value { Gives (λ x. ((x.0.first, x.0.last), x.1.now)) result
+        (seq {B = ℕ × ℕ} (number_at 8 whole)
+        (λ first. mapped (λ (last : ℕ). (first, last)) (number_at 8 whole)) rest.now) }
     ensures shorter { IfOk result (λ x. length x.1.now ≤ length rest.now) }
     ensures memory { IsErrOf result NoMemory → ⊥ }
 {

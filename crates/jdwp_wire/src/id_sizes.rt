@@ -83,11 +83,23 @@ impl Model for IdSizes {
 
     ghost Value = { Widths };
 
-    ghost view = { λ s. record { field = s.field; method = s.method; object = s.object; reference = s.reference; frame = s.frame } };
+    ghost view = { λ s. record {
+      field = s.field;
+      method = s.method;
+      object = s.object;
+      reference = s.reference;
+      frame = s.frame;
+    } };
 
     ghost invariant = { λ s. AreWidths s.field s.method s.object s.reference s.frame };
 
-    ghost inverse = { λ w. record { field = w.field; method = w.method; object = w.object; reference = w.reference; frame = w.frame } };
+    ghost inverse = { λ w. record {
+      field = w.field;
+      method = w.method;
+      object = w.object;
+      reference = w.reference;
+      frame = w.frame;
+    } };
 }
 
 /// A width outside 1 to 8.
@@ -107,8 +119,15 @@ impl IdSizes {
         reference: u32,
         frame: u32,
     ) -> Result<IdSizes, BadSize>
-        ensures ok { IsOk result ↔ (IsWidth field × IsWidth method × IsWidth object × IsWidth reference × IsWidth frame) }
-        ensures widths { IfOk result (λ s. s ≡ record { field = field; method = method; object = object; reference = reference; frame = frame }) }
+        ensures ok { IsOk result ↔ (IsWidth field × IsWidth method
+            × IsWidth object × IsWidth reference × IsWidth frame) }
+        ensures widths { IfOk result (λ s. s ≡ record {
+          field = field;
+          method = method;
+          object = object;
+          reference = reference;
+          frame = frame;
+        }) }
     {
         Ok(IdSizes {
             field: checked(field)?,

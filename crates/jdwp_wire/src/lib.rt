@@ -12,6 +12,7 @@ mod no_memory;
 pub mod number;
 mod packet;
 mod wire;
+mod writing;
 
 pub use data_fault::DataFault;
 pub use error_code::{ErrorCode, names_error_codes};
@@ -28,6 +29,7 @@ pub use limits::Limits;
 pub use no_memory::NoMemory;
 pub use packet::{Header, PacketKind, PacketRef};
 pub use wire::Wire;
+pub use writing::all_or_nothing;
 
 #[cfg(test)]
 mod data_tests;

@@ -1,5 +1,5 @@
 //! How much a session may hold.
-ghost use Rattle.std.specs.Prelude.{◌≡◌, ◌≤◌, ◌↔◌, IsTrue, IsSome, IfSome};
+ghost use Rattle.std.specs.Prelude.{◌≡◌, ◌≤◌, ◌+◌, ◌*◌, ◌↔◌, IsTrue, IsSome, IfSome};
 ghost use Rattle.jdwp_wire.specs.Limits.{IsCount, AreLimits, standard_limits};
 
 use crate::frame::PACKET_LIMIT;
@@ -20,11 +20,21 @@ impl Model for Limits {
 
     ghost Value = { spec.Limits };
 
-    ghost view = { λ l. record { packet = l.packet; live = l.live; requests = l.requests; pending = l.pending } };
+    ghost view = { λ l. record {
+      packet = l.packet;
+      live = l.live;
+      requests = l.requests;
+      pending = l.pending;
+    } };
 
     ghost invariant = { λ l. spec.AreLimits l.packet l.live l.requests l.pending };
 
-    ghost inverse = { λ l. record { packet = l.packet; live = l.live; requests = l.requests; pending = l.pending } };
+    ghost inverse = { λ l. record {
+      packet = l.packet;
+      live = l.live;
+      requests = l.requests;
+      pending = l.pending;
+    } };
 }
 
 impl Limits {
@@ -32,7 +42,12 @@ impl Limits {
     /// composite event of one event for each request fits one packet: 16 + 542 * `requests` is at most `packet`.
     pub fn new(packet: u32, live: u32, requests: u32, pending: u32) -> Option<Limits>
         ensures some { IsSome result ↔ AreLimits packet live requests pending }
-        ensures same { IfSome result (λ l. l ≡ record { packet = packet; live = live; requests = requests; pending = pending }) }
+        ensures same { IfSome result (λ l. l ≡ record {
+          packet = packet;
+          live = live;
+          requests = requests;
+          pending = pending;
+        }) }
     {
         if packet < 2048 || packet > 1_048_576 {
             return None;
@@ -63,10 +78,11 @@ impl Limits {
         }
     }
 
-    /// The most bytes of a packet, its header among them.
+    /// The most bytes of a packet, its header among them. A composite event of one event for each request fits it.
     pub fn packet(&self) -> u32
         ensures value { result ≡ self.now.packet }
         ensures within { (2048 ≤ result) × (result ≤ 1048576) }
+        ensures composite { 16 + 542 * self.now.requests ≤ result }
     {
         self.packet
     }

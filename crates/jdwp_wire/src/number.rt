@@ -1,18 +1,19 @@
 //! Bytes, booleans, and unsigned numbers of 1 to 8 bytes, the highest byte first (JDWP specification, "Data Types").
-ghost use Rattle.std.specs.Prelude.{◌≡◌, ◌≤◌, ◌<◌, ◌^◌, ◌++◌, ◌↔◌, IsTrue, length, IfOk, OnOk, IfErr, ◌+◌, vec_len, vec_capacity};
+ghost use Rattle.std.specs.Prelude.{◌≡◌, ◌≤◌, ◌<◌, ◌^◌, ◌++◌, ◌↔◌, IsTrue, length, IfOk, IfErr, ◌+◌, vec_len, vec_capacity};
 ghost use Rattle.std.specs.Result.{IsErrOf};
 ghost use Rattle.byteorder.specs.Endian.{big_bytes};
 ghost use Rattle.jdwp_wire.specs.declared.data_fault.DataFault.TheVariants.{NoMemory};
-ghost use Rattle.jdwp_wire.specs.Reading.{Gives, passed, Written, Refused};
+ghost use Rattle.jdwp_wire.specs.Reading.{Gives, passed};
+ghost use Rattle.jdwp_wire.specs.Writing.{Appends, Leaves, HasRoom};
 ghost use Rattle.jdwp_wire.specs.Basic.{byte_at, bool_at};
-ghost use Rattle.jdwp_wire.specs.Numbers.{EncodesNumber, EncodesCount, number_at, count_at, id_refusal, count_refusal};
+ghost use Rattle.jdwp_wire.specs.Numbers.{EncodesNumber, EncodesCount, number_at, greatest_int, count_at, id_refusal, count_refusal};
 
 use crate::data_fault::DataFault;
 use crate::id_sizes::Width;
 use byteorder::{BigEndian, ByteOrder};
 
-/// The greatest length or count.
-const MOST: u64 = 0x7fff_ffff;
+/// The greatest int, and so the greatest length or count.
+pub const GREATEST_INT: u32 = 2_147_483_647;
 
 /// The byte at the front of the rest of a slice of `whole` bytes, and what follows it.
 ///
@@ -85,11 +86,12 @@ pub fn take_number(rest: &[u8], whole: usize, width: Width) -> Result<(u64, &[u8
 /// above 2,147,483,647.
 pub fn take_count(rest: &[u8], whole: usize) -> Result<(usize, &[u8]), DataFault>
     ensures value { Gives (λ x. (x.0, x.1.now)) result (count_at whole rest.now) }
+    ensures within { IfOk result (λ x. x.0 ≤ greatest_int) }
     ensures shorter { IfOk result (λ x. length x.1.now ≤ length rest.now) }
     ensures memory { IsErrOf result NoMemory → ⊥ }
 {
     let (count, rest) = take_number(rest, whole, Width::INT)?;
-    if count > MOST {
+    if count > GREATEST_INT as u64 {
         return Err(DataFault::NegativeCount);
     }
     Ok((count as usize, rest))
@@ -101,9 +103,10 @@ pub fn take_count(rest: &[u8], whole: usize) -> Result<(usize, &[u8]), DataFault
 /// `IdTooWide` where so many bytes don't hold it, and `NoMemory` where the vector was to grow and an allocation was
 /// refused. The vector's bytes are then as they were.
 pub fn put_number(number: u64, width: Width, output: &mut Vec<u8>) -> Result<(), DataFault>
-    ensures ok { OnOk result (Written (EncodesNumber width number) (big_bytes width number) output.old.items output.new.items) }
-    ensures err { IfErr result (λ e. (output.new.items ≡ output.old.items) × Refused e (id_refusal width number)) }
-    ensures room { vec_len output.old + length (big_bytes width number) ≤ vec_capacity output.old → IsErrOf result NoMemory → ⊥ }
+    ensures ok { Appends (EncodesNumber width) (big_bytes width) number
+        result output.old output.new }
+    ensures err { Leaves (id_refusal width number) result output.old output.new }
+    ensures room { HasRoom (big_bytes width number) output.old → IsErrOf result NoMemory → ⊥ }
     ensures capacity { vec_capacity output.old ≤ vec_capacity output.new }
 {
     let length = width.bytes();
@@ -122,12 +125,12 @@ pub fn put_number(number: u64, width: Width, output: &mut Vec<u8>) -> Result<(),
 /// `BadSize` where it is above 2,147,483,647, and `NoMemory` where the vector was to grow and an allocation was refused.
 /// The vector's bytes are then as they were.
 pub fn put_count(count: usize, output: &mut Vec<u8>) -> Result<(), DataFault>
-    ensures ok { OnOk result (Written (EncodesCount count) (big_bytes 4 count) output.old.items output.new.items) }
-    ensures err { IfErr result (λ e. (output.new.items ≡ output.old.items) × Refused e (count_refusal count)) }
+    ensures ok { Appends EncodesCount (big_bytes 4) count result output.old output.new }
+    ensures err { Leaves (count_refusal count) result output.old output.new }
     ensures room { vec_len output.old + 4 ≤ vec_capacity output.old → IsErrOf result NoMemory → ⊥ }
     ensures capacity { vec_capacity output.old ≤ vec_capacity output.new }
 {
-    if count as u64 > MOST {
+    if count > GREATEST_INT as usize {
         return Err(DataFault::BadSize);
     }
     let mut bytes = [0; 4];
@@ -141,7 +144,7 @@ pub fn put_count(count: usize, output: &mut Vec<u8>) -> Result<(), DataFault>
 /// # Errors
 /// `NoMemory` where the vector was to grow and an allocation was refused. The vector's bytes are then as they were.
 pub fn put_long(number: u64, output: &mut Vec<u8>) -> Result<(), DataFault>
-    ensures ok { OnOk result (Written (EncodesNumber 8 number) (big_bytes 8 number) output.old.items output.new.items) }
+    ensures ok { Appends (EncodesNumber 8) (big_bytes 8) number result output.old output.new }
     ensures err { IfErr result (λ e. (output.new.items ≡ output.old.items) × (e ≡ NoMemory)) }
     ensures room { vec_len output.old + 8 ≤ vec_capacity output.old → IsErrOf result NoMemory → ⊥ }
     ensures capacity { vec_capacity output.old ≤ vec_capacity output.new }

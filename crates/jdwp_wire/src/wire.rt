@@ -52,9 +52,12 @@ pub trait Wire: Sized {
     /// and an allocation was refused, and never where its spare room holds `size`. After an error the vector's
     /// bytes are as they were.
     fn put(&self, sizes: &IdSizes, output: &mut Vec<u8>) -> Result<(), DataFault>
-        ensures ok { OnOk result (Written (encodes sizes.now (meaning self.now)) (canonical sizes.now (meaning self.now)) output.old.items output.new.items) }
-        ensures err { IfErr result (λ e. (output.new.items ≡ output.old.items) × Refused e (refusal sizes.now (meaning self.now))) }
-        ensures room { vec_len output.old + length (canonical sizes.now (meaning self.now)) ≤ vec_capacity output.old → IsErrOf result NoMemory → ⊥ }
+        ensures ok { OnOk result (Written (encodes sizes.now (meaning self.now))
+            (canonical sizes.now (meaning self.now)) output.old.items output.new.items) }
+        ensures err { IfErr result (λ e. (output.new.items ≡ output.old.items)
+            × Refused e (refusal sizes.now (meaning self.now))) }
+        ensures room { vec_len output.old + length (canonical sizes.now (meaning self.now))
+            ≤ vec_capacity output.old → IsErrOf result NoMemory → ⊥ }
         ensures capacity { vec_capacity output.old ≤ vec_capacity output.new };
 
     /// The value at the front of the rest of a slice of `whole` bytes, and what follows it.
@@ -67,7 +70,8 @@ pub trait Wire: Sized {
         whole: usize,
         sizes: &IdSizes,
     ) -> Result<(Self, &'a [u8]), DataFault>
-        ensures value { Gives (λ x. (meaning x.0, x.1.now)) result (decoded sizes.now whole rest.now) }
+        ensures value { Gives (λ x. (meaning x.0, x.1.now)) result
+            (decoded sizes.now whole rest.now) }
         ensures shorter { IfOk result (λ x. length x.1.now ≤ length rest.now) }
         ensures memory { IsErrOf result NoMemory → takes_memory sizes.now rest.now };
 
@@ -77,7 +81,8 @@ pub trait Wire: Sized {
     /// # Errors
     /// The first fault from the left. The place of `Short` is `whole`.
     fn pass_front<'a>(rest: &'a [u8], whole: usize, sizes: &IdSizes) -> Result<&'a [u8], DataFault>
-        ensures value { Gives (λ after. after.now) result (passed (decoded sizes.now whole rest.now)) }
+        ensures value { Gives (λ after. after.now) result
+            (passed (decoded sizes.now whole rest.now)) }
         ensures memory { IsErrOf result NoMemory → ⊥ };
 
     /// The value at the front of the bytes, and how many it takes. What follows is not looked at.
@@ -87,10 +92,14 @@ pub trait Wire: Sized {
     /// `NoMemory` where an allocation was refused, and only where something stands in front that has to be kept: a
     /// string of at least one byte, or a region of at least one element.
     final fn take(alloc: Global, bytes: &[u8], sizes: &IdSizes) -> Result<(Self, usize), DataFault>
-        ensures found { IfOk result (λ x. (x.1 ≤ length bytes.now) × encodes sizes.now (meaning x.0) (take x.1 bytes.now)) }
-        ensures only { (x : Meaning) (n : ℕ) → n ≤ length bytes.now → encodes sizes.now x (take n bytes.now) → Takes meaning result x n }
-        ensures fault { IfErr result (λ f. Blames (faults sizes.now (length bytes.now)) bytes.now f) }
-        ensures value { Gives (λ x. (meaning x.0, x.1)) result (used (length bytes.now) (decoded sizes.now (length bytes.now) bytes.now)) }
+        ensures found { IfOk result (λ x. (x.1 ≤ length bytes.now)
+            × encodes sizes.now (meaning x.0) (take x.1 bytes.now)) }
+        ensures only { (x : Meaning) (n : ℕ) → n ≤ length bytes.now
+            → encodes sizes.now x (take n bytes.now) → Takes meaning result x n }
+        ensures fault { IfErr result
+            (λ f. Blames (faults sizes.now (length bytes.now)) bytes.now f) }
+        ensures value { Gives (λ x. (meaning x.0, x.1)) result
+            (used (length bytes.now) (decoded sizes.now (length bytes.now) bytes.now)) }
         ensures memory { IsErrOf result NoMemory → takes_memory sizes.now bytes.now }
     {
         let (value, rest) = Self::take_front(alloc, bytes, bytes.len(), sizes)?;
@@ -98,17 +107,23 @@ pub trait Wire: Sized {
     }
 
     /// What is read is encoded in front.
-    ghost found: { (w : Widths) (whole : ℕ) (bytes : List ℕ) (x : Meaning) (rest : List ℕ) → IsBytes bytes → decoded w whole bytes ≡ Ok (x, rest) → (code : List ℕ) × encodes w x code × (bytes ≡ code ++ rest) };
+    ghost found: { (w : Widths) (whole : ℕ) (bytes : List ℕ) (x : Meaning) (rest : List ℕ)
+        → IsBytes bytes → decoded w whole bytes ≡ Ok (x, rest)
+        → (code : List ℕ) × encodes w x code × (bytes ≡ code ++ rest) };
 
     /// What is encoded is read, whatever follows.
-    ghost again: { (w : Widths) (whole : ℕ) (code : List ℕ) (x : Meaning) (rest : List ℕ) → encodes w x code → decoded w whole (code ++ rest) ≡ Ok (x, rest) };
+    ghost again: { (w : Widths) (whole : ℕ) (code : List ℕ) (x : Meaning) (rest : List ℕ)
+        → encodes w x code → decoded w whole (code ++ rest) ≡ Ok (x, rest) };
 
     /// The fault that reading gives is the first.
-    ghost blamed: { (w : Widths) (whole : ℕ) (bytes : List ℕ) (f : DataFault) → IsBytes bytes → decoded w whole bytes ≡ Err f → faults w whole bytes f };
+    ghost blamed: { (w : Widths) (whole : ℕ) (bytes : List ℕ) (f : DataFault)
+        → IsBytes bytes → decoded w whole bytes ≡ Err f → faults w whole bytes f };
 
     /// The first fault is what reading gives.
-    ghost judged: { (w : Widths) (whole : ℕ) (bytes : List ℕ) (f : DataFault) → faults w whole bytes f → decoded w whole bytes ≡ Err f };
+    ghost judged: { (w : Widths) (whole : ℕ) (bytes : List ℕ) (f : DataFault)
+        → faults w whole bytes f → decoded w whole bytes ≡ Err f };
 
     /// What bytes encode is not refused.
-    ghost unrefused: { (w : Widths) (code : List ℕ) (x : Meaning) → encodes w x code → refusal w x ≡ None };
+    ghost unrefused: { (w : Widths) (code : List ℕ) (x : Meaning)
+        → encodes w x code → refusal w x ≡ None };
 }

@@ -1,4 +1,4 @@
-use Rattle.std.proofs.Common.{◌≡◌, ◌++◌}
+use Rattle.std.proofs.Common.{◌≡◌}
 use Rattle.jdwp_layout.specs.Meanings.{entry_meanings}
 use Rattle.jdwp_event.proofs.event.events_of.Given as goal
 

@@ -1,4 +1,4 @@
-use Rattle.std.proofs.Common.{◌≡◌, map, drop}
+use Rattle.std.proofs.Common.{◌≡◌, drop}
 use Rattle.jdwp_event.specs.Filters.{reaches_class}
 use Rattle.jdwp_event.specs.RequestParts.{ids_meaning}
 use Rattle.jdwp_event.proofs.filter.is_among.Given as goal

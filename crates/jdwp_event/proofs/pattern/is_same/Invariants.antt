@@ -1,4 +1,4 @@
-use Rattle.std.proofs.Common.{◌≡◌, map, drop, length}
+use Rattle.std.proofs.Common.{◌≡◌, map, drop}
 use Rattle.std.specs.Str.{bytes_eq}
 use Rattle.jdwp_event.specs.Filters.{dotted}
 use Rattle.jdwp_event.proofs.pattern.is_same.Given as goal

@@ -1,5 +1,5 @@
-use Rattle.std.proofs.Common.{◌≡◌, ◌<◌, ◌∙◌, sym, false, length, arith}
-use Rattle.jdwp_event.specs.RequestParts.{origin_meaning, limit_passes}
+use Rattle.std.proofs.Common.{◌<◌, ◌∙◌, sym, length, arith}
+use Rattle.jdwp_event.specs.RequestParts.{origin_meaning}
 use Rattle.jdwp_event.proofs.Limits.{limits_stop}
 use Rattle.jdwp_event.proofs.request.count_limits.Goals as goal
 

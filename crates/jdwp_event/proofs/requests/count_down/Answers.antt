@@ -1,7 +1,6 @@
-use Rattle.std.proofs.Common.{◌≡◌, ◌∙◌, sym, ap, subst, List, length, arith}
+use Rattle.std.proofs.Common.{◌≡◌, ◌∙◌, sym, subst, List, length, arith}
 use Rattle.std.proofs.lemmas.List.{with_items_is}
 use Rattle.jdwp_event.specs.Requests.{Request}
-use Rattle.jdwp_event.specs.Filters.{all_counted}
 use Rattle.jdwp_event.specs.RequestLists.{AreRising}
 use Rattle.jdwp_event.proofs.Rising.{counted_rising}
 use Rattle.jdwp_event.proofs.requests.count_down.Goals as goal

@@ -1,4 +1,4 @@
-use Rattle.std.proofs.Common.{◌≡◌, ◌+◌, ◌<◌, List, take, get_or, sym, subst}
+use Rattle.std.proofs.Common.{◌<◌, List, take, get_or, sym, subst}
 use Rattle.std.proofs.lemmas.List.{take_more}
 use Rattle.jdwp_event.specs.Requests.{Request}
 use Rattle.jdwp_event.specs.RequestLists.{AllBelow}

@@ -8,5 +8,5 @@ use Rattle.jdwp_script_machine.proofs.sites.reached.Given as goal
 abbrev pub invariant-loop-class : goal.invariant-loop-class
 invariant-loop-class l =
     map (λ (id : ReferenceTypeId). id.0) l.ids.items
-    ++ filter (λ to. reaches_within (script_part l.script) (length l.script.classes.items) to l.from.0) (map (λ (c : ClassPart). c.id) (map class_part (drop l.class-index l.script.classes.items)))
-    ≡ reached (script_part l.script) l.from.0
+    ++ filter (λ to. reaches_within (script_part l.script) (length l.script.classes.items) to l.fn.from.0) (map (λ (c : ClassPart). c.id) (map class_part (drop l.class-index l.script.classes.items)))
+    ≡ reached (script_part l.script) l.fn.from.0

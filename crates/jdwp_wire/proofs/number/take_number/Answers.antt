@@ -1,5 +1,4 @@
-use Rattle.std.proofs.Common.{◌<◌, ◌^◌, ℕ, arith, subst}
-use Rattle.byteorder.specs.Endian.{big_number}
+use Rattle.std.proofs.Common.{arith}
 use Rattle.byteorder.specs.Numbers.{big_from-lt}
 use Rattle.jdwp_wire.proofs.number.take_number.Goals as goal
 

@@ -1,3 +1,6 @@
+use Rattle.std.proofs.Common.{subst}
+use Rattle.jdwp_debuggee.specs.Debuggees.{Debuggee, IsKept}
+use Rattle.jdwp_debuggee.proofs.Fitting.{start-fits}
 use Rattle.jdwp_debuggee.proofs.Kept.{kept-start-by, most-of}
 use Rattle.jdwp_debuggee.proofs.ThreadsListed.{least-fits}
 use Rattle.jdwp_debuggee.proofs.debuggee.Debuggee.handshake.Goals as goal
@@ -10,3 +13,6 @@ invariant_of-self g c = rw c.change.ensures (kept-start-by g.M.Machine.meaning _
 
 pub returns-clause-fits : goal.returns-clause-fits
 returns-clause-fits g c = rw (c.least.ensures, ← c.self.view_is) (least-fits g.M.Machine.meaning g.met.M.Machine.lawful _ _ c.self.invariant.sound)
+
+pub returns-clause-report : goal.returns-clause-report
+returns-clause-report g c = start-fits g.M.Machine.meaning g.met.M.Machine.lawful _ (subst (λ (d : Debuggee g.row.M.Denot). IsKept g.M.Machine.meaning d) c.self.view_is c.self.invariant)

@@ -18,7 +18,8 @@ invariant_of-self-2 g c =
     ap (λ (d : Debuggee g.row.M.Denot). set_refusal m d.settings d.moment c.args.kind c.args.policy modifiers) c.self.view_is
     ∙ (ap (λ l. set_refusal m c.args.self.now.settings c.args.self.now.moment c.args.kind c.args.policy l) (sym same) ∙ (sym c.in_ok-error.ensures ∙ none)) in
     let origin = rw same-2 at c.in_ok-origin.ensures in
-    let request = rw (c.in_ok-modifiers.ensures, origin) at c.in_ok-request.ensures in
+    let number : c.unwrap-asked_id.result ≡ c.self.inside.next_request = search rules in
+    let request = rw (c.in_ok-modifiers.ensures, origin, number) at c.in_ok-request.ensures in
     rw c.in_ok-insert.ensures.ok (kept-set-by m _ c.args.kind c.args.policy (entry_meanings c.args.entries.items) c.in_ok-request.request c.self.invariant free request)
 
 pub returns-clause-ok : goal.returns-clause-ok
@@ -32,5 +33,6 @@ returns-clause-ok g c =
     ap (λ (d : Debuggee g.row.M.Denot). set_refusal m d.settings d.moment c.args.kind c.args.policy modifiers) c.self.view_is
     ∙ (ap (λ l. set_refusal m c.args.self.now.settings c.args.self.now.moment c.args.kind c.args.policy l) (sym same) ∙ (sym c.in_ok-error.ensures ∙ none)) in
     let origin = rw same-2 at c.in_ok-origin.ensures in
-    let request = rw (c.in_ok-modifiers.ensures, origin) at c.in_ok-request.ensures in
+    let number : c.unwrap-asked_id.result ≡ c.self.inside.next_request = search rules in
+    let request = rw (c.in_ok-modifiers.ensures, origin, number) at c.in_ok-request.ensures in
     rw (← c.self.view_is, c.in_ok-insert.ensures.ok) (carries-set m _ c.args.kind c.args.policy (entry_meanings c.args.entries.items) c.in_ok-request.request c.self.invariant free request)

@@ -1,4 +1,4 @@
-use Rattle.std.proofs.Common.{◌≡◌, ◌∙◌, sym, true, false, refl, length, arith}
+use Rattle.std.proofs.Common.{◌≡◌, ◌∙◌, sym, refl, length, arith}
 use Rattle.std.specs.Vec.{with_items}
 use Rattle.std.proofs.lemmas.List.{with_items_is}
 use Rattle.jdwp_event.specs.RequestParts.{origin_meaning}

@@ -1,4 +1,4 @@
-use Rattle.std.proofs.Common.{◌≡◌, [], length, arith}
+use Rattle.std.proofs.Common.{◌≡◌, length, arith}
 use Rattle.jdwp_event.specs.RequestParts.{origin_meaning, modifiers_meaning}
 use Rattle.jdwp_event.proofs.Limits.{new_is, nothing_left}
 use Rattle.jdwp_event.proofs.request.Request.new.Goals as goal

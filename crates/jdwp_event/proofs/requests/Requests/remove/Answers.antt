@@ -1,4 +1,4 @@
-use Rattle.std.proofs.Common.{◌≡◌, ◌∙◌, rules, sym, subst, List}
+use Rattle.std.proofs.Common.{rules, sym, subst, List}
 use Rattle.std.proofs.lemmas.Fn.{filter_same}
 use Rattle.jdwp_event.specs.Requests.{Request}
 use Rattle.jdwp_event.specs.RequestLists.{AreRising, is_another}

@@ -1,0 +1,425 @@
+-- Turns of a target over any machine.
+use Rattle.std.proofs.Common.{◌≡◌, ◌∙◌, ℕ, ◌+◌, ◌≤◌, List, [], ◌∷◌, ◌++◌, ◌==◌, length, Bool, true, false, ◌||◌, Option, Some, None, Result, Ok, Err, pos, sym, ap, refl, subst, arith}
+use Rattle.std.proofs.lemmas.List.{append-nil, length-append}
+use Rattle.byteorder.specs.Endian.{big_bytes}
+use Rattle.byteorder.specs.Numbers.{length-bytes_high_first}
+use Rattle.jdwp_wire.specs.Basic.{int_canonical}
+use Rattle.jdwp_wire.specs.Frames.{header_bytes}
+use Rattle.jdwp_wire.specs.Bytes.{IsBytes}
+use Rattle.jdwp_wire.specs.Streams.{Message, Handshake, Packet, NextMessage, Whole, message_bytes, stream}
+use Rattle.jdwp_wire.specs.Widths.{Widths}
+use Rattle.jdwp_wire.specs.declared.data_fault.DataFault.{DataFault}
+use Rattle.jdwp_wire.specs.declared.error_code.ErrorCode.{ErrorCode}
+use Rattle.jdwp_wire.specs.declared.packet.Header.{Header}
+use Rattle.jdwp_wire.specs.declared.packet.PacketKind.{PacketKind}
+use Rattle.jdwp_wire.specs.declared.packet.PacketKind.TheVariants as kind
+use Rattle.jdwp_end.specs.declared.phase.Phase.{Phase}
+use Rattle.jdwp_end.specs.declared.phase.Phase.TheVariants.{Closed, AwaitingHandshake, Established}
+use Rattle.jdwp_end.specs.Ends.{End, front_of, most_outgoing, with_enqueued}
+use Rattle.jdwp_end.specs.Ends as ends
+use Rattle.jdwp_end.proofs.Fronts.{in-front}
+use Rattle.jdwp_layout.specs.Meanings.{DatumMeaning}
+use Rattle.jdwp_layout.specs.CommandTable.{row_at}
+use Rattle.jdwp_layout.specs.CommandNumbers.{EVENT, COMPOSITE}
+use Rattle.jdwp_layout.specs.Reads.{data_at}
+use Rattle.jdwp_layout.specs.Writes.{data_canonical}
+use Rattle.jdwp_event.specs.Composites.{composite_data, vm_death, vm_start}
+use Rattle.jdwp_event.specs.Modifiers.{modifiers_of}
+use Rattle.jdwp_machine.specs.Meanings.{Meaning}
+use Rattle.jdwp_debuggee.specs.Actions
+use Rattle.jdwp_debuggee.specs.Actions.{Action, Command, Raw, action_of, is_implemented}
+use Rattle.jdwp_debuggee.specs.CommandReads.{Asking, action_meaning, asking, asking_of, asks, command_read, content_read, read_by, row_request, with_content}
+use Rattle.jdwp_debuggee.specs.Debuggees.{Debuggee, at_moment}
+use Rattle.jdwp_debuggee.specs.Effects.{Effect, does, effect_by, refused, suspend_by, set_by, suspend_thread_by, suspend_thread_at, resume_thread_by, count_by, status_by, slots_by, slots_at, frames_by, thread_by}
+use Rattle.jdwp_debuggee.specs.Facts.{is_dispose, is_exit}
+use Rattle.jdwp_debuggee.specs.Refusals.{set_refusal}
+use Rattle.jdwp_debuggee.specs.Sending.{Did, IsSent, answer_bytes, error_of, sent_bytes, sent_error}
+use Rattle.jdwp_debuggee.specs.Settings.{Settings}
+use Rattle.jdwp_debuggee.specs.State.{Moment, at_limit, count_of}
+use Rattle.jdwp_debuggee.specs.declared.command as code
+use Rattle.jdwp_debuggee.specs.declared.reply.Reply.TheVariants as reply
+use Rattle.jdwp_debuggee.specs.declared.reply.Sent.{Sent}
+use Rattle.jdwp_debuggee.specs.declared.reply.Sent.TheVariants as sent
+use Rattle.jdwp_target.specs.declared.target.TargetFault.TheVariants as fault
+use Rattle.jdwp_target.specs.declared.target.Turn.{Turn}
+use Rattle.jdwp_target.specs.declared.target.Turn.TheVariants as turn
+use Rattle.jdwp_target.specs.declared.turning.Done.{Done}
+use Rattle.jdwp_target.specs.Insides.{IsRight, target_of}
+use Rattle.jdwp_target.specs.Sends.{packet_with, reply_to, report_of}
+use Rattle.jdwp_target.specs.Standings.{carried_out, greets_by, phase_after, replies_by}
+use Rattle.jdwp_target.specs.Targets.{Ran, Target, in_phase, with_handled}
+use Rattle.jdwp_target.specs.TurnParts.{IsDone, IsHandled, after_deaths, closed_where, deaths, debuggee_after, end_after, reply_of}
+use Rattle.jdwp_target.specs.Turns.{NeedsMemory, TurnsAt, told_of, told_of_packet}
+use Rattle.jdwp_target.proofs.EnqueueLemmas.{two_enqueued}
+use Rattle.jdwp_target.proofs.KeptLemmas.{packet-phase}
+use Rattle.jdwp_target.proofs.TargetRuns.{ran-handled}
+
+-- ---- what an action leaves: whether the machine dies, whether the session closes, and that the first handshake stays completed
+
+record Ending {S : Type 0} (now : Moment S) (a : Action) (e : Effect S) : Type 0 where
+  pub dies : e.dies ≡ is_exit a
+  pub closes : (e.dies || e.closes) ≡ (is_exit a || is_dispose a)
+  pub bare : (w : Widths) → is_exit a ≡ true → length (answer_bytes w e.answer) ≡ 0
+  pub handshaken : e.after.state.handshaken ≡ now.state.handshaken
+
+-- an action that ends nothing
+goes-on : {S : Type 0} (now : Moment S) (a : Action) (e : Effect S) → is_exit a ≡ false → is_dispose a ≡ false → e.dies ≡ false → e.closes ≡ false → e.after.state.handshaken ≡ now.state.handshaken → Ending now a e
+goes-on now a e exit dispose dies closes handshaken = record {
+  dies = dies ∙ sym exit;
+  closes = rw (dies, closes, exit, dispose) refl;
+  bare = λ w is. absurd (let no = exit in cc);
+  handshaken = handshaken;
+}
+
+ending : {S : Type 0} (m : Meaning S) (settings : Settings) (now : Moment S) (c : Command) (a : Action) → Ending now a (does m settings now c a)
+ending m settings now c Actions.Suspend =
+    elim (at_limit settings.count_limit now.state) as (λ b. Ending now Actions.Suspend (suspend_by now b)) [
+      | true ↦ goes-on now _ _ refl refl refl refl refl
+      | false ↦ goes-on now _ _ refl refl refl refl refl
+    ]
+ending m settings now c Actions.Resume = goes-on now _ _ refl refl refl refl refl
+ending m settings now c Actions.Dispose = record { dies = refl; closes = refl; bare = λ w is. refl; handshaken = refl }
+ending m settings now c Actions.Exit = record { dies = refl; closes = refl; bare = λ w is. refl; handshaken = refl }
+ending m settings now c Actions.HoldEvents = goes-on now _ _ refl refl refl refl refl
+ending m settings now c Actions.ReleaseEvents = goes-on now _ _ refl refl refl refl refl
+ending m settings now c (Actions.SetRequest byte policy entries) =
+    elim (set_refusal m settings now byte policy (modifiers_of entries)) as (λ v. Ending now (Actions.SetRequest byte policy entries) (set_by m now byte policy (modifiers_of entries) v)) [
+      | None ↦ goes-on now _ _ refl refl refl refl refl
+      | Some e ↦ goes-on now _ _ refl refl refl refl refl
+    ]
+ending m settings now c (Actions.ClearRequest byte id) = goes-on now _ _ refl refl refl refl refl
+ending m settings now c Actions.ClearBreakpoints = goes-on now _ _ refl refl refl refl refl
+ending m settings now c (Actions.SuspendThread t) =
+    elim (count_of now.state t) as (λ v. Ending now (Actions.SuspendThread t) (suspend_thread_by settings now t v)) [
+      | None ↦ goes-on now _ _ refl refl refl refl refl
+      | Some n ↦ elim (n == settings.count_limit) as (λ b. Ending now (Actions.SuspendThread t) (suspend_thread_at now t b)) [
+        | true ↦ goes-on now _ _ refl refl refl refl refl
+        | false ↦ goes-on now _ _ refl refl refl refl refl
+      ]
+    ]
+ending m settings now c (Actions.ResumeThread t) =
+    elim (count_of now.state t) as (λ v. Ending now (Actions.ResumeThread t) (resume_thread_by now t v)) [
+      | None ↦ goes-on now _ _ refl refl refl refl refl
+      | Some n ↦ goes-on now _ _ refl refl refl refl refl
+    ]
+ending m settings now c (Actions.SuspendCount t) =
+    elim (count_of now.state t) as (λ v. Ending now (Actions.SuspendCount t) (count_by now v)) [
+      | None ↦ goes-on now _ _ refl refl refl refl refl
+      | Some n ↦ goes-on now _ _ refl refl refl refl refl
+    ]
+ending m settings now c (Actions.ThreadStatus t) =
+    elim (count_of now.state t) as (λ v. Ending now (Actions.ThreadStatus t) (status_by now v)) [
+      | None ↦ goes-on now _ _ refl refl refl refl refl
+      | Some n ↦ goes-on now _ _ refl refl refl refl refl
+    ]
+ending m settings now c (Actions.SetSlots t f values) =
+    elim (count_of now.state t) as (λ v. Ending now (Actions.SetSlots t f values) (slots_by m now t f values v)) [
+      | None ↦ goes-on now _ _ refl refl refl refl refl
+      | Some n ↦ elim (n == 0) as (λ b. Ending now (Actions.SetSlots t f values) (slots_at m now t f values b)) [
+        | true ↦ goes-on now _ _ refl refl refl refl refl
+        | false ↦ goes-on now _ _ refl refl refl refl refl
+      ]
+    ]
+ending m settings now c (Actions.AskFrames t) =
+    elim (count_of now.state t) as (λ v. Ending now (Actions.AskFrames t) (frames_by m settings now c v)) [
+      | None ↦ goes-on now _ _ refl refl refl refl refl
+      | Some n ↦ goes-on now _ _ refl refl refl refl refl
+    ]
+ending m settings now c (Actions.AskThread t) =
+    elim (count_of now.state t) as (λ v. Ending now (Actions.AskThread t) (thread_by m settings now c v)) [
+      | None ↦ goes-on now _ _ refl refl refl refl refl
+      | Some n ↦ goes-on now _ _ refl refl refl refl refl
+    ]
+ending m settings now c Actions.AllThreads = goes-on now _ _ refl refl refl refl refl
+ending m settings now c Actions.IdSizes = goes-on now _ _ refl refl refl refl refl
+ending m settings now c Actions.Ask = goes-on now _ _ refl refl refl refl refl
+
+-- ---- what a command reads as
+
+-- a command that reads is implemented
+abbrev read_ok : Command → Result Command ErrorCode
+read_ok c = Ok c
+
+abbrev asking_ok : Asking → Result Asking ErrorCode
+asking_ok a = Ok a
+
+command-same : (x y : Command) → read_ok x ≡ read_ok y → x ≡ y
+command-same x y e = cc
+
+asking-same : (x y : Asking) → asking_ok x ≡ asking_ok y → x ≡ y
+asking-same x y e = cc
+
+implemented-content : (set number : ℕ) (found : Result (List DatumMeaning) DataFault) (c : Command) → is_implemented (record { set = set; number = number; carried = Raw [] }) ≡ true
+    → content_read set number found ≡ Ok c → is_implemented c ≡ true
+implemented-content set number (Ok content) c impl e = subst (λ (x : Command). is_implemented x ≡ true) (command-same (with_content set number content) c e) impl
+implemented-content set number (Err fault) c impl e = absurd cc
+
+implemented-by : (w : Widths) (set number : ℕ) (bytes : List ℕ) (b : Bool) (c : Command) → is_implemented (record { set = set; number = number; carried = Raw [] }) ≡ b
+    → read_by w set number bytes b ≡ Ok c → is_implemented c ≡ true
+implemented-by w set number bytes true c impl e = implemented-content set number (data_at w (row_request (row_at set number)) bytes) c impl e
+implemented-by w set number bytes false c impl e = absurd cc
+
+implemented : (w : Widths) (set number : ℕ) (bytes : List ℕ) (c : Command) → command_read w set number bytes ≡ Ok c → is_implemented c ≡ true
+implemented w set number bytes c e = implemented-by w set number bytes (is_implemented (record { set = set; number = number; carried = Raw bytes })) c refl e
+
+-- ---- a command that was carried out or refused
+
+abbrev effect_read : {S : Type 0} → Meaning S → Debuggee S → Result Command ErrorCode → Effect S
+effect_read m d read = carried_out m d.settings d.moment read
+
+-- it is refused
+done-refused-by : {S : Type 0} (m : Meaning S) (w : Widths) (d : Debuggee S) (error : ErrorCode) (read : Result Command ErrorCode) → Err error ≡ asks read
+    → IsDone w (effect_read m d read) d d (record { sent = sent.Short (reply.Refused error); dies = false; closes = false })
+done-refused-by m w d error (Ok c) e = absurd cc
+done-refused-by m w d error (Err x) e =
+    let same : error ≡ x = cc in
+    rw (← same) (record {
+      after = refl;
+      sends = record { error = refl; bytes = refl };
+      fits = λ least. omega arith;
+      dies = refl;
+      bare = λ is. refl;
+      closes = refl;
+      handshaken = refl;
+    })
+
+pub done-refused : {S : Type 0} (m : Meaning S) (d : Debuggee S) (w : Widths) (set number : ℕ) (body : List ℕ) (error : ErrorCode) → Err error ≡ asks (command_read w set number body)
+    → IsDone w (carried_out m d.settings d.moment (command_read w set number body)) d d (record { sent = sent.Short (reply.Refused error); dies = false; closes = false })
+done-refused m d w set number body error e = done-refused-by m w d error (command_read w set number body) e
+
+-- it is carried out
+pub record HasEnding (a : code.Action.Action) (done : Done) : Type 0 where
+  pub dies : done.dies ≡ is_exit (action_meaning a)
+  pub closes : done.closes ≡ (is_exit (action_meaning a) || is_dispose (action_meaning a))
+
+did-done : {S : Type 0} (m : Meaning S) (d new : Debuggee S) (a : code.Action.Action) (c : Command) (done : Done) → is_implemented c ≡ true → action_meaning a ≡ action_of c
+    → HasEnding a done → Did m c d new done.sent → IsDone (m.sizes d.moment.machine) (effect_by m d.settings d.moment c (is_implemented c)) d new done
+did-done m d new a c done impl same ends did =
+    let e = does m d.settings d.moment c (action_of c) in
+    let x = ending m d.settings d.moment c (action_of c) in
+    let exit : done.dies ≡ is_exit (action_of c) = ends.dies ∙ ap is_exit same in
+    rw impl (record {
+      after = did.after;
+      sends = did.sends;
+      fits = did.fits;
+      dies = exit ∙ sym x.dies;
+      bare = λ is. ap length did.sends.bytes ∙ x.bare (m.sizes d.moment.machine) (sym exit ∙ is);
+      closes = ends.closes ∙ (ap (λ (y : Action). is_exit y || is_dispose y) same ∙ sym x.closes);
+      handshaken = x.handshaken;
+    })
+
+done-carried-by : {S : Type 0} (m : Meaning S) (d new : Debuggee S) (a : code.Action.Action) (done : Done) (read : Result Command ErrorCode)
+    → ((c : Command) → read ≡ Ok c → is_implemented c ≡ true) → Ok (asking a) ≡ asks read → HasEnding a done → ((c : Command) → asking a ≡ asking_of c → Did m c d new done.sent)
+    → IsDone (m.sizes d.moment.machine) (effect_read m d read) d new done
+done-carried-by m d new a done (Ok c) impl e ends did =
+    let same : asking a ≡ asking_of c = asking-same (asking a) (asking_of c) e in
+    did-done m d new a c done (impl c refl) (ap (λ (x : Asking). x.action) same) ends (did c same)
+done-carried-by m d new a done (Err x) impl e ends did = absurd cc
+
+pub done-carried : {S : Type 0} (m : Meaning S) (d new : Debuggee S) (set number : ℕ) (body : List ℕ) (a : code.Action.Action) (done : Done)
+    → Ok (asking a) ≡ asks (command_read (m.sizes d.moment.machine) set number body) → HasEnding a done → ((c : Command) → asking a ≡ asking_of c → Did m c d new done.sent)
+    → IsDone (m.sizes d.moment.machine) (carried_out m d.settings d.moment (command_read (m.sizes d.moment.machine) set number body)) d new done
+done-carried m d new set number body a done e ends did =
+    done-carried-by m d new a done (command_read (m.sizes d.moment.machine) set number body) (implemented (m.sizes d.moment.machine) set number body) e ends did
+
+-- Exit and Dispose close
+pub closes-by : (a : Action) (b : Bool) → (is_dispose a ≡ true → b ≡ true) → (is_exit a ≡ true → b ≡ true) → (is_dispose a ≡ false → is_exit a ≡ false → b ≡ false) → b ≡ (is_exit a || is_dispose a)
+closes-by a b dispose exit other =
+    elim (is_exit a) as (λ (x : Bool). (x ≡ true → b ≡ true) → (is_dispose a ≡ false → x ≡ false → b ≡ false) → b ≡ (x || is_dispose a)) [
+      | true ↦ λ on off. on refl
+      | false ↦ λ on off. elim (is_dispose a) as (λ (y : Bool). (y ≡ true → b ≡ true) → (y ≡ false → b ≡ false) → b ≡ y) [
+        | true ↦ λ yes no. yes refl
+        | false ↦ λ yes no. no refl
+      ] dispose (λ e. off e refl)
+    ] exit other
+
+-- what wants memory is not short
+pub not-short : (b s : Bool) → (b ≡ true → s ≡ true) → s ≡ false → b ≡ false
+not-short true s h e = absurd (let on = h refl in cc)
+not-short false s h e = refl
+
+-- ---- what a reply leaves
+
+died : {S : Type 0} (w : Widths) (id : ℕ) (e : Effect S) (b : Bool) (d : Debuggee S) → after_deaths b (at_moment e.after d) ≡ debuggee_after (replies_by w id e b) d
+died w id e true d = refl
+died w id e false d = refl
+
+closed-by : {S : Type 0} (w : Widths) (id : ℕ) (e : Effect S) (b : Bool) (message : Message) (used : ℕ) (end : End)
+    → closed_where (b || e.closes) (with_enqueued (stream (reply_to w id e.answer ∷ deaths w e.after.state.next_packet b)) (ends.with_handled message used end))
+    ≡ end_after (replies_by w id e b) (ends.with_handled message used end)
+closed-by w id e true message used end = refl
+closed-by w id e false message used end =
+    elim e.closes as (λ (x : Bool). closed_where x (with_enqueued (stream (reply_to w id e.answer ∷ [])) (ends.with_handled message used end))
+    ≡ in_phase (phase_after x) (with_enqueued (stream (reply_to w id e.answer ∷ [])) (ends.with_handled message used end))) [
+      | true ↦ refl
+      | false ↦ refl
+    ]
+
+shaken-by : {S : Type 0} (w : Widths) (id : ℕ) (e : Effect S) (b : Bool) → (replies_by w id e b).after.moment.state.handshaken ≡ e.after.state.handshaken
+shaken-by w id e true = refl
+shaken-by w id e false = refl
+
+reply-is : (w : Widths) (id : ℕ) (x : Sent) {S : Type 0} (e : Effect S) → IsSent w e.answer x → reply_of w id x ≡ reply_to w id e.answer
+reply-is w id x e is = rw (is.error, is.bytes) refl
+
+handled-kind : {S : Type 0} (m : Meaning S) (header : Header) (body : List ℕ) (k : PacketKind) (used : ℕ) (old new : Debuggee S) (end after : End) → header.kind ≡ k
+    → IsHandled m (Packet (record { length = header.length; id = header.id; kind = k }) body) used old new end after → IsHandled m (Packet header body) used old new end after
+handled-kind m header body k used old new end after e h =
+    subst (λ (x : PacketKind). IsHandled m (Packet (record { length = header.length; id = header.id; kind = x }) body) used old new end after) (sym e) h
+
+sent-is : (w : Widths) (id : ℕ) {S : Type 0} (e : Effect S) (d mid : Debuggee S) (done : Done) (end : End) → IsDone w e d mid done
+    → closed_where done.closes (with_enqueued (stream (reply_of w id done.sent ∷ deaths w mid.moment.state.next_packet done.dies)) end)
+    ≡ closed_where (e.dies || e.closes) (with_enqueued (stream (reply_to w id e.answer ∷ deaths w e.after.state.next_packet e.dies)) end)
+sent-is w id {S = S} e d mid done end h =
+    ap (λ (b : Bool). closed_where b (with_enqueued (stream (reply_of w id done.sent ∷ deaths w mid.moment.state.next_packet done.dies)) end)) h.closes
+    ∙ (ap (λ (x : Message). closed_where (e.dies || e.closes) (with_enqueued (stream (x ∷ deaths w mid.moment.state.next_packet done.dies)) end)) (reply-is w id done.sent e h.sends)
+    ∙ (ap (λ (x : Debuggee S). closed_where (e.dies || e.closes) (with_enqueued (stream (reply_to w id e.answer ∷ deaths w x.moment.state.next_packet done.dies)) end)) h.after
+    ∙ ap (λ (b : Bool). closed_where (e.dies || e.closes) (with_enqueued (stream (reply_to w id e.answer ∷ deaths w e.after.state.next_packet b)) end)) h.dies))
+
+-- a command was handled
+command-handled : {S : Type 0} (m : Meaning S) (d mid new : Debuggee S) (header : Header) (body : List ℕ) (used set number : ℕ) (end after : End) (done : Done) → header.kind ≡ kind.Command set number
+    → IsDone (m.sizes d.moment.machine) (carried_out m d.settings d.moment (command_read (m.sizes d.moment.machine) set number body)) d mid done → d.moment.state.handshaken ≡ true
+    → new ≡ after_deaths done.dies mid
+    → after ≡ closed_where done.closes (with_enqueued (stream (reply_of (m.sizes d.moment.machine) header.id done.sent ∷ deaths (m.sizes d.moment.machine) mid.moment.state.next_packet done.dies)) (ends.with_handled (Packet header body) used end))
+    → IsHandled m (Packet header body) used d new end after
+command-handled {S = S} m d mid new header body used set number end after done is h shaken new-is after-is =
+    let w = m.sizes d.moment.machine in
+    let e = carried_out m d.settings d.moment (command_read w set number body) in
+    let debuggee : new ≡ debuggee_after (replies_by w header.id e e.dies) d = new-is ∙ (rw (h.dies, h.after) refl ∙ died w header.id e e.dies d) in
+    let message = Packet (record { length = header.length; id = header.id; kind = kind.Command set number }) body in
+    let left : after ≡ closed_where done.closes (with_enqueued (stream (reply_of w header.id done.sent ∷ deaths w mid.moment.state.next_packet done.dies)) (ends.with_handled message used end)) =
+    subst
+    (λ (x : PacketKind). after ≡ closed_where done.closes (with_enqueued (stream (reply_of w header.id done.sent ∷ deaths w mid.moment.state.next_packet done.dies))
+    (ends.with_handled (Packet (record { length = header.length; id = header.id; kind = x }) body) used end)))
+    is after-is in
+    handled-kind m header body (kind.Command set number) used d new end after is (record {
+      debuggee = debuggee;
+      left = left ∙ (sent-is w header.id e d mid done (ends.with_handled message used end) h ∙ closed-by w header.id e e.dies message used end);
+      handshaken = ap (λ (x : Debuggee S). x.moment.state.handshaken) debuggee ∙ (shaken-by w header.id e e.dies ∙ (h.handshaken ∙ shaken));
+    })
+
+-- the same, where the widths and the end without the message have names of their own
+pub command-replied : {S : Type 0} (m : Meaning S) (d mid new : Debuggee S) (header : Header) (body : List ℕ) (used set number : ℕ) (end off after : End) (done : Done) (w : Widths) → header.kind ≡ kind.Command set number
+    → IsDone (m.sizes d.moment.machine) (carried_out m d.settings d.moment (command_read (m.sizes d.moment.machine) set number body)) d mid done → d.moment.state.handshaken ≡ true
+    → new ≡ after_deaths done.dies mid → w ≡ m.sizes d.moment.machine → off ≡ ends.with_handled (Packet header body) used end
+    → after ≡ closed_where done.closes (with_enqueued (stream (reply_of w header.id done.sent ∷ deaths w mid.moment.state.next_packet done.dies)) off)
+    → IsHandled m (Packet header body) used d new end after
+command-replied m d mid new header body used set number end off after done w is h shaken new-is w-is off-is after-is =
+    command-handled m d mid new header body used set number end after done is h shaken new-is
+    (after-is
+    ∙ (ap (λ (x : Widths). closed_where done.closes (with_enqueued (stream (reply_of x header.id done.sent ∷ deaths x mid.moment.state.next_packet done.dies)) off)) w-is
+    ∙ ap (λ (x : End). closed_where done.closes (with_enqueued (stream (reply_of (m.sizes d.moment.machine) header.id done.sent ∷ deaths (m.sizes d.moment.machine) mid.moment.state.next_packet done.dies)) x)) off-is))
+
+-- nothing was put
+nothing-put : (message : Message) (used : ℕ) (end : End) → ends.with_handled message used end ≡ in_phase Established (with_enqueued [] (ends.with_handled message used end))
+nothing-put message used end = rw (append-nil end.outgoing, append-nil end.session.enqueued) refl
+
+-- a reply that came was ignored
+pub reply-handled : {S : Type 0} (m : Meaning S) (d : Debuggee S) (header : Header) (body : List ℕ) (used : ℕ) (error : ErrorCode) (end after : End) → header.kind ≡ kind.Reply error
+    → d.moment.state.handshaken ≡ true → after ≡ ends.with_handled (Packet header body) used end → IsHandled m (Packet header body) used d d end after
+reply-handled m d header body used error end after is shaken after-is =
+    let message = Packet (record { length = header.length; id = header.id; kind = kind.Reply error }) body in
+    let left : after ≡ ends.with_handled message used end =
+    subst (λ (x : PacketKind). after ≡ ends.with_handled (Packet (record { length = header.length; id = header.id; kind = x }) body) used end) is after-is in
+    handled-kind m header body (kind.Reply error) used d d end after is (record { debuggee = refl; left = left ∙ nothing-put message used end; handshaken = shaken })
+
+-- the handshake was answered
+greeted-end : {S : Type 0} (m : Meaning S) (settings : Settings) (now : Moment S) (b : Bool) (end : End)
+    → with_enqueued (stream (greets_by m settings now b).sends) (ends.with_handled Handshake 14 end) ≡ end_after (greets_by m settings now b) (ends.with_handled Handshake 14 end)
+greeted-end m settings now true end = refl
+greeted-end m settings now false end = refl
+
+greeted-shaken : {S : Type 0} (m : Meaning S) (settings : Settings) (now : Moment S) (b : Bool) → now.state.handshaken ≡ b → (greets_by m settings now b).after.moment.state.handshaken ≡ true
+greeted-shaken m settings now true e = e
+greeted-shaken m settings now false e = refl
+
+pub greeted : {S : Type 0} (m : Meaning S) (d new : Debuggee S) (end mid after : End) → mid ≡ ends.with_handled Handshake 14 end
+    → new ≡ debuggee_after (greets_by m d.settings d.moment d.moment.state.handshaken) d
+    → after ≡ with_enqueued (stream (greets_by m d.settings d.moment d.moment.state.handshaken).sends) mid → IsHandled m Handshake 14 d new end after
+greeted {S = S} m d new end mid after mid-is new-is after-is =
+    let b = d.moment.state.handshaken in
+    record {
+      debuggee = new-is;
+      left = after-is ∙ (ap (λ (x : End). with_enqueued (stream (greets_by m d.settings d.moment b).sends) x) mid-is ∙ greeted-end m d.settings d.moment b end);
+      handshaken = ap (λ (x : Debuggee S). x.moment.state.handshaken) new-is ∙ greeted-shaken m d.settings d.moment b refl;
+    }
+
+-- ---- the target behind a message
+
+-- a packet comes after the first handshake
+pub packet-handshaken : {S : Type 0} (m : Meaning S) (d : Debuggee S) (began : List (Debuggee S)) (phases : List Phase) (end : End) (header : Header) (body : List ℕ) (used : ℕ)
+    → IsRight m d began phases end → IsBytes end.incoming → front_of end ≡ Whole (Packet header body) used → d.moment.state.handshaken ≡ true
+packet-handshaken m d began phases end header body used right fits front =
+    right.handshaken (packet-phase end.limits.packet end.phase header body (in-front end (Packet header body) used fits front).1)
+
+pub handled-view : {S : Type 0} (m : Meaning S) (d new : Debuggee S) (began : List (Debuggee S)) (phases : List Phase) (end after : End) (message : Message) (used : ℕ)
+    → IsRight m d began phases end → IsHandled m message used d new end after → target_of new began phases after ≡ with_handled m message used (target_of d began phases end)
+handled-view m d new began phases end after message used right h =
+    let split = right.some.2 in
+    rw (h.debuggee, h.left, split) refl
+
+pub right-handled : {S : Type 0} (m : Meaning S) (d new : Debuggee S) (began : List (Debuggee S)) (phases : List Phase) (end after : End) (message : Message) (used : ℕ)
+    → IsRight m d began phases end → IsBytes end.incoming → front_of end ≡ Whole message used → IsHandled m message used d new end after → IsRight m new began phases after
+right-handled m d new began phases end after message used right fits front h = record {
+  some = right.some;
+  handshaken = λ _. h.handshaken;
+  limits = rw (h.debuggee, h.left) right.limits;
+  ran = subst (Ran m) (sym (handled-view m d new began phases end after message used right h)) (ran-handled m (target_of d began phases end) message used fits front right.ran);
+}
+
+pub turns-whole : {S : Type 0} (m : Meaning S) (old new : Target S) (message : Message) (used : ℕ) (told : Turn) → front_of old.end ≡ Whole message used
+    → told ≡ told_of m old.settings old.moment message → new ≡ with_handled m message used old → TurnsAt m (front_of old.end) old (Ok told) new
+turns-whole m old new message used told front tells same = subst (λ (x : NextMessage). TurnsAt m x old (Ok told) new) (sym front) (tells, same)
+
+pub turns-wanting : {S : Type 0} (m : Meaning S) (old new : Target S) (message : Message) (used : ℕ) → front_of old.end ≡ Whole message used
+    → NeedsMemory message → new ≡ old → TurnsAt m (front_of old.end) old (Err fault.NoMemory) new
+turns-wanting m old new message used front needs same = subst (λ (x : NextMessage). TurnsAt m x old (Err fault.NoMemory) new) (sym front) (refl, needs, same)
+
+-- what is told of a command
+pub told-command : {S : Type 0} (m : Meaning S) (settings : Settings) (now : Moment S) (header : Header) (body : List ℕ) (set number : ℕ) (error : ErrorCode) → header.kind ≡ kind.Command set number
+    → error ≡ error_of (carried_out m settings now (command_read (m.sizes now.machine) set number body)).answer → turn.Replied header.id error ≡ told_of m settings now (Packet header body)
+told-command m settings now header body set number error is e =
+    subst (λ (x : PacketKind). turn.Replied header.id error ≡ told_of_packet m settings now header.id x body) (sym is) (ap (λ (x : ErrorCode). turn.Replied header.id x) e)
+
+-- ---- VM_START
+
+abbrev int_bytes : ℕ → List ℕ
+int_bytes n = int_canonical (pos n)
+
+-- the data of VM_START before its thread
+abbrev pub start_front : ℕ → List ℕ
+start_front policy = (policy ∷ []) ++ (int_bytes 1 ++ ((90 ∷ []) ++ int_bytes 0))
+
+start-data : (w : Widths) (policy thread : ℕ) → data_canonical w (composite_data (vm_start policy thread)) ≡ start_front policy ++ big_bytes w.object thread
+start-data w policy thread =
+    let t = big_bytes w.object thread in
+    let bare : ((t ++ []) ++ []) ++ [] ≡ t = append-nil ((t ++ []) ++ []) ∙ (append-nil (t ++ []) ∙ append-nil t) in
+    ap (λ (x : List ℕ). start_front policy ++ x) bare
+
+pub start-bytes : (w : Widths) (id policy thread : ℕ) → message_bytes (report_of w id (vm_start policy thread))
+    ≡ header_bytes (record { length = 11 + (10 + w.object); id = id; kind = kind.Command EVENT COMPOSITE.number }) ++ (start_front policy ++ big_bytes w.object thread)
+start-bytes w id policy thread =
+    let body = data_canonical w (composite_data (vm_start policy thread)) in
+    let size : length (big_bytes w.object thread) ≡ w.object = length-bytes_high_first w.object thread in
+    let same = start-data w policy thread in
+    let front : length (start_front policy) ≡ 10 = refl in
+    let all : length body ≡ 10 + w.object = ap length same ∙ (length-append (start_front policy) (big_bytes w.object thread) ∙ rw (front, size) refl) in
+    ap (λ (n : ℕ). header_bytes (record { length = 11 + n; id = id; kind = kind.Command EVENT COMPOSITE.number }) ++ body) all
+    ∙ ap (λ (x : List ℕ). header_bytes (record { length = 11 + (10 + w.object); id = id; kind = kind.Command EVENT COMPOSITE.number }) ++ x) same
+
+-- there is room behind what was enqueued
+pub room-behind : (e f : End) (bytes : List ℕ) (n k : ℕ) → f ≡ with_enqueued bytes e → length bytes ≡ k → length e.outgoing + (k + n) ≤ most_outgoing e.limits → length f.outgoing + n ≤ most_outgoing f.limits
+room-behind e f bytes n k is size room = rw is (omega (arith, length-append e.outgoing bytes, size, room))
+
+-- ---- a reply, alone or with VM_DEATH behind it
+
+pub put-alone : (e f : End) (w : Widths) (id next : ℕ) (x : Sent) (b : Bool) → b ≡ false → f ≡ with_enqueued (message_bytes (reply_of w id x)) e
+    → f ≡ with_enqueued (stream (reply_of w id x ∷ deaths w next b)) e
+put-alone e f w id next x b is f-is = rw is (f-is ∙ ap (λ (y : List ℕ). with_enqueued y e) (sym (append-nil (message_bytes (reply_of w id x)))))
+
+pub put-death : (e f h : End) (w : Widths) (id next taken : ℕ) (x : Sent) (b : Bool) → b ≡ true → f ≡ with_enqueued (message_bytes (reply_of w id x)) e
+    → h ≡ with_enqueued (message_bytes (report_of w taken vm_death)) f → taken ≡ next → h ≡ with_enqueued (stream (reply_of w id x ∷ deaths w next b)) e
+put-death e f h w id next taken x b is f-is h-is same =
+    rw is
+    (two_enqueued e f h (message_bytes (reply_of w id x)) (message_bytes (report_of w taken vm_death)) (message_bytes (reply_of w id x)) (stream (report_of w next vm_death ∷ [])) refl
+    (ap (λ (n : ℕ). message_bytes (report_of w n vm_death)) same ∙ sym (append-nil (message_bytes (report_of w next vm_death)))) f-is h-is)

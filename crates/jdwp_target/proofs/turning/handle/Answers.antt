@@ -1,0 +1,17 @@
+use Rattle.std.proofs.Common.{◌≡◌}
+use Rattle.jdwp_debuggee.specs.CommandReads.{action_meaning}
+use Rattle.jdwp_target.specs.declared.turning.Done.{Done}
+use Rattle.jdwp_target.proofs.RightTurns.{closes-by, done-carried, done-refused}
+use Rattle.jdwp_target.proofs.turning.handle.Goals as goal
+
+pub returns-in-Refuses-clause-ok : goal.returns-in-Refuses-clause-ok
+returns-in-Refuses-clause-ok g c =
+    done-refused g.M.Machine.meaning c.args.debuggee.now _ c.args.set c.args.number c.args.body.now c.in-Refuses.error
+    (rw (c.in-Refuses.is, c.sizes.ensures) at c.in_ok-error.ensures.value)
+
+pub returns-in_ok-sent-in-Carries-clause-ok : goal.returns-in_ok-sent-in-Carries-clause-ok
+returns-in_ok-sent-in-Carries-clause-ok g c =
+    let done : Done = record { sent = c.in_ok-sent-in-Carries.sent; dies = c.kills-dies.result; closes = c.closes-closes.result } in
+    let closes = closes-by (action_meaning c.in-Carries.action) c.closes-closes.result c.closes-closes.ensures.dispose c.closes-closes.ensures.exit c.closes-closes.ensures.other in
+    done-carried g.M.Machine.meaning c.args.debuggee.now c.carry_out.new.self c.args.set c.args.number c.args.body.now c.in-Carries.action done
+    (rw (c.in-Carries.is, c.sizes.ensures) at c.in_ok-error.ensures.value) (record { dies = c.kills-dies.ensures; closes = closes }) c.in_ok-sent-in-Carries.ensures.ok

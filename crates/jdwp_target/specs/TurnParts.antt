@@ -1,0 +1,59 @@
+-- Parts of a turn, as the code makes them one after the other.
+use Rattle.std.specs.Prelude.{◌≡◌, ◌≤◌, ℕ, ◌+◌, Bool, true, false, ◌||◌, List, [], ◌∷◌, length}
+use Rattle.jdwp_wire.specs.Streams.{Message, stream}
+use Rattle.jdwp_wire.specs.Widths.{Widths}
+use Rattle.jdwp_wire.specs.declared.packet.PacketKind.TheVariants as kind
+use Rattle.jdwp_end.specs.Ends.{End, closed, with_enqueued}
+use Rattle.jdwp_end.specs.Ends as ends
+use Rattle.jdwp_event.specs.Composites.{vm_death}
+use Rattle.jdwp_machine.specs.Meanings.{Meaning}
+use Rattle.jdwp_debuggee.specs.Debuggees.{Debuggee, at_moment, with_state}
+use Rattle.jdwp_debuggee.specs.Effects.{Effect}
+use Rattle.jdwp_debuggee.specs.Sending.{IsSent, sent_bytes, sent_error}
+use Rattle.jdwp_debuggee.specs.State.{with_packet}
+use Rattle.jdwp_debuggee.specs.declared.reply.Sent.{Sent}
+use Rattle.jdwp_target.specs.Sends.{packet_with, report_of}
+use Rattle.jdwp_target.specs.Standings.{Reaction, handles}
+use Rattle.jdwp_target.specs.Targets.{in_phase}
+use Rattle.jdwp_target.specs.declared.turning.Done.{Done}
+
+-- what an act leaves of a debuggee, and of an end
+abbrev pub debuggee_after : {S : Type 0} → Reaction S → Debuggee S → Debuggee S
+debuggee_after r d = at_moment r.after.moment d
+
+abbrev pub end_after : {S : Type 0} → Reaction S → End → End
+end_after r end = in_phase r.after.phase (with_enqueued (stream r.sends) end)
+
+-- what is sent for a command, as the reply to the command of this id
+abbrev pub reply_of : Widths → ℕ → Sent → Message
+reply_of w id sent = packet_with id (kind.Reply (sent_error sent)) (sent_bytes w sent)
+
+-- VM_DEATH follows where the machine died, and takes a packet id
+abbrev pub deaths : Widths → ℕ → Bool → List Message
+deaths w id true = report_of w id vm_death ∷ []
+deaths w id false = []
+
+abbrev pub after_deaths : {S : Type 0} → Bool → Debuggee S → Debuggee S
+after_deaths true d = with_state (with_packet d.moment.state) d
+after_deaths false d = d
+
+abbrev pub closed_where : Bool → End → End
+closed_where true end = closed end
+closed_where false end = end
+
+-- A command was carried out or refused: what became of the debuggee; what is sent, which fits a packet, and has no data where the
+-- machine died; and whether the session closes.
+pub record IsDone {S : Type 0} (w : Widths) (e : Effect S) (old new : Debuggee S) (done : Done) : Type 0 where
+  pub after : new ≡ at_moment e.after old
+  pub sends : IsSent w e.answer done.sent
+  pub fits : 2048 ≤ old.settings.limits.packet → 11 + length (sent_bytes w done.sent) ≤ old.settings.limits.packet
+  pub dies : done.dies ≡ e.dies
+  pub bare : done.dies ≡ true → length (sent_bytes w done.sent) ≡ 0
+  pub closes : done.closes ≡ (e.dies || e.closes)
+  pub handshaken : e.after.state.handshaken ≡ old.moment.state.handshaken
+
+-- A message of so many bytes was handled: the debuggee, and the end behind it.
+pub record IsHandled {S : Type 0} (m : Meaning S) (message : Message) (used : ℕ) (old new : Debuggee S) (end after : End) : Type 0 where
+  pub debuggee : new ≡ debuggee_after (handles m old.settings old.moment message) old
+  pub left : after ≡ end_after (handles m old.settings old.moment message) (ends.with_handled message used end)
+  pub handshaken : new.moment.state.handshaken ≡ true

@@ -1,0 +1,96 @@
+//! Steps of a target over any machine.
+ghost use Rattle.std.specs.Prelude.{◌≡◌};
+ghost use Rattle.jdwp_end.specs.declared.phase.Phase.TheVariants.{Established};
+ghost use Rattle.jdwp_target.specs.Standings.{steps_at, steps_in_session};
+ghost use Rattle.jdwp_target.specs.StepParts.{CanTell, debuggee_after, end_after, step_of, told_of_done};
+ghost use Rattle.jdwp_target.specs.Turns.{StepsAt};
+
+use crate::machine_target::{MachineTarget, Stepped};
+use crate::sending::{enqueue_death, enqueue_report};
+use crate::target::TargetFault;
+use jdwp_debuggee::{Debuggee, StepDone};
+use jdwp_end::End;
+use jdwp_machine::Machine;
+use jdwp_value::ObjectId;
+use jdwp_wire::IdSizes;
+
+impl<M: Machine + Drop> MachineTarget<M> {
+    /// One step of a thread, if the end is not paused and the thread may make one. In a session whose handshake is done, what
+    /// happened is reported, and where the last thread ended VM_DEATH; in any other nothing is sent. Where the last thread ended
+    /// the session closes.
+    ///
+    /// # Errors
+    /// `NoMemory` where an allocation was refused; only where nothing but a thread too many could forbid the step, and then nothing
+    /// has changed.
+    pub fn step(&mut self, thread: ObjectId) -> Result<Stepped, TargetFault>
+        ensures { StepsAt M.meaning thread.0 self.old result self.new }
+    {
+        if self.end.is_paused() {
+            return Ok(Stepped::Frozen);
+        }
+        let packet = self.debuggee.next_packet();
+        let sizes = self.debuggee.sizes();
+        let done = match self.debuggee.step(self.alloc, thread) {
+            Err(_) => return Err(TargetFault::NoMemory),
+            Ok(None) => return Ok(Stepped::Frozen),
+            Ok(Some(done)) => done,
+        };
+        tell(packet, &done, &sizes, &mut self.debuggee, &mut self.end);
+        Ok(told_of(&done))
+    }
+}
+
+/// Puts what a step reports, if the session is established; where the machine died the session closes.
+fn tell<M: Machine>(
+    packet: u32,
+    done: &StepDone,
+    sizes: &IdSizes,
+    debuggee: &mut Debuggee<M>,
+    end: &mut End,
+)
+    requires { CanTell sizes.now end.old done.now }
+    ensures debuggee { debuggee.new ≡ debuggee_after (steps_at sizes.now packet (step_of debuggee.old done.now) end.old.phase) debuggee.old }
+    ensures end { end.new ≡ end_after (steps_at sizes.now packet (step_of debuggee.old done.now) end.old.phase) end.old }
+{
+    if end.is_established() {
+        report(packet, done, sizes, debuggee, end);
+    } else if done.dies {
+        end.close();
+    }
+}
+
+/// Puts what a step reports in an established session; where the machine died VM_DEATH, which takes a packet id, and the session
+/// closes.
+fn report<M: Machine>(
+    packet: u32,
+    done: &StepDone,
+    sizes: &IdSizes,
+    debuggee: &mut Debuggee<M>,
+    end: &mut End,
+)
+    requires established { end.old.phase ≡ Established }
+    requires can { CanTell sizes.now end.old done.now }
+    ensures debuggee { debuggee.new ≡ debuggee_after (steps_in_session sizes.now packet (step_of debuggee.old done.now) done.now.dies) debuggee.old }
+    ensures end { end.new ≡ end_after (steps_in_session sizes.now packet (step_of debuggee.old done.now) done.now.dies) end.old }
+{
+    if done.dies {
+        let id = debuggee.take_packet_id();
+        enqueue_death(id, sizes, end);
+        end.close();
+    } else if let Some(composite) = &done.sends {
+        enqueue_report(packet, composite, sizes, end);
+    }
+}
+
+/// What is told of a step.
+fn told_of(done: &StepDone) -> Stepped
+    ensures { result ≡ told_of_done done.now }
+{
+    if done.ends {
+        Stepped::Ended
+    } else if done.sends.is_some() {
+        Stepped::Reported
+    } else {
+        Stepped::Quiet
+    }
+}

@@ -1,0 +1,165 @@
+//! Messages as a target over any machine handles them.
+ghost use Rattle.std.specs.Prelude.{◌≡◌, ◌≤◌, ◌+◌, ◌∷◌, None, true, false, length, IfOk, IfErr, OnErr};
+ghost use Rattle.jdwp_end.specs.Ends.{front_of, most_outgoing, with_enqueued};
+ghost use Rattle.jdwp_event.specs.Composites.{vm_start};
+ghost use Rattle.jdwp_event.specs.Constants.{policy_byte};
+ghost use Rattle.jdwp_wire.specs.Numbers.{id_refusal};
+ghost use Rattle.jdwp_wire.specs.Streams.{message_bytes, stream};
+ghost use Rattle.jdwp_debuggee.specs.CommandReads.{command_read, is_short};
+ghost use Rattle.jdwp_debuggee.specs.Sending.{sent_bytes, sent_error};
+ghost use Rattle.jdwp_target.specs.Sends.{report_of};
+ghost use Rattle.jdwp_target.specs.Standings.{carried_out, greets_by};
+ghost use Rattle.jdwp_target.specs.TurnParts.{IsDone, after_deaths, closed_where, deaths, debuggee_after, reply_of};
+ghost use Rattle.jdwp_target.specs.Turns.{TurnsAt};
+
+use crate::command::enqueue_int;
+use crate::machine_target::MachineTarget;
+use crate::sending::{enqueue_composite_header, enqueue_death, enqueue_reply};
+use crate::target::{TargetFault, Turn};
+use jdwp_debuggee::{Asked, Debuggee, Reply, Sent, Start, read_command};
+use jdwp_end::{End, Front};
+use jdwp_event::EventKind;
+use jdwp_machine::Machine;
+use jdwp_wire::{ErrorCode, HANDSHAKE, IdSizes, NoMemory, PacketKind};
+use std::alloc::Global;
+
+/// What became of a command: what is sent for it, whether the machine died by it, and whether the session closes behind it.
+#[derive(Drop)]
+pub struct Done {
+    sent: Sent,
+    dies: bool,
+    closes: bool,
+}
+
+impl<M: Machine + Drop> MachineTarget<M> {
+    /// Handles the message in front, if one is whole and the end is neither closed nor paused. An open end that is not paused and
+    /// asks for more has room for a byte.
+    ///
+    /// # Errors
+    /// `Frame` exactly where the bytes in front begin no message; the end is then as after `lose`. `NoMemory` where an allocation
+    /// was refused, which only commands call for that are none of these: VirtualMachine's Suspend, Resume, HoldEvents,
+    /// ReleaseEvents, IDSizes and Dispose; ThreadReference's Suspend, Resume, Status and SuspendCount; EventRequest's Clear and
+    /// ClearAllBreakpoints. Then nothing has changed.
+    pub fn turn(&mut self) -> Result<Turn, TargetFault>
+        ensures turns { TurnsAt M.meaning (front_of self.old.end) self.old result self.new }
+    {
+        match self.end.front() {
+            Front::More => Ok(Turn::Nothing),
+            Front::Fault(fault) => {
+                self.lose();
+                Err(TargetFault::Frame(fault))
+            }
+            Front::Handshake => {
+                self.end.take_off(HANDSHAKE.len());
+                greet(&mut self.debuggee, &mut self.end);
+                Ok(Turn::Hello)
+            }
+            Front::Packet(packet, used) => {
+                let id = packet.header.id;
+                let PacketKind::Command { set, number } = packet.header.kind else {
+                    self.end.take_off(used);
+                    return Ok(Turn::Ignored);
+                };
+                let sizes = self.debuggee.sizes();
+                let done = handle(&mut self.debuggee, self.alloc, set, number, packet.body)?;
+                self.end.take_off(used);
+                reply(id, &done, &sizes, &mut self.debuggee, &mut self.end);
+                Ok(Turn::Replied(id, error_of(&done.sent)))
+            }
+        }
+    }
+}
+
+/// Answers the handshake; behind the first of the target's life follows VM_START. It takes no memory.
+fn greet<M: Machine>(debuggee: &mut Debuggee<M>, end: &mut End)
+    requires { length end.old.outgoing + 43 ≤ most_outgoing end.old.limits }
+    ensures debuggee { debuggee.new ≡ debuggee_after (greets_by M.meaning debuggee.old.settings debuggee.old.moment debuggee.old.moment.state.handshaken) debuggee.old }
+    ensures end { end.new ≡ with_enqueued (stream (greets_by M.meaning debuggee.old.settings debuggee.old.moment debuggee.old.moment.state.handshaken).sends) end.old }
+{
+    end.enqueue(&HANDSHAKE);
+    if !debuggee.is_handshaken() {
+        let sizes = debuggee.sizes();
+        let start = debuggee.handshake();
+        enqueue_start(start, &sizes, end);
+    }
+}
+
+/// Enqueues VM_START: the policy, the number of events, and the event's kind, request and thread. It takes no memory.
+fn enqueue_start(start: Start, sizes: &IdSizes, end: &mut End)
+    requires fits { id_refusal sizes.now.object start.thread.0 ≡ None }
+    requires room { length end.old.outgoing + 29 ≤ most_outgoing end.old.limits }
+    ensures { end.new ≡ with_enqueued (message_bytes (report_of sizes.now start.packet (vm_start (policy_byte start.policy) start.thread.0))) end.old }
+{
+    enqueue_composite_header(start.packet, 10 + u32::from(sizes.object()), end);
+    end.put(&start.policy.byte(), sizes);
+    enqueue_int(1, sizes, end);
+    end.put(&EventKind::VmStart.byte(), sizes);
+    enqueue_int(0, sizes, end);
+    end.put(&start.thread, sizes);
+}
+
+/// Carries out the command of this set and number with these data, or refuses it.
+///
+/// # Errors
+/// `NoMemory` where an allocation was refused, which the twelve short commands never answer; then nothing has changed.
+fn handle<M: Machine>(
+    debuggee: &mut Debuggee<M>,
+    alloc: Global,
+    set: u8,
+    number: u8,
+    body: &[u8],
+) -> Result<Done, NoMemory>
+    requires { debuggee.old.moment.state.handshaken ≡ true }
+    ensures ok { IfOk result (λ done. IsDone (M.meaning.sizes debuggee.old.moment.machine) (carried_out M.meaning debuggee.old.settings debuggee.old.moment (command_read (M.meaning.sizes debuggee.old.moment.machine) set number body.now)) debuggee.old debuggee.new done) }
+    ensures err { OnErr result (debuggee.new ≡ debuggee.old) }
+    ensures memory { IfErr result (λ _. is_short set number ≡ false) }
+{
+    match read_command(alloc, set, number, &debuggee.sizes(), body)? {
+        Asked::Refuses(error) => Ok(Done {
+            sent: Sent::Short(Reply::Refused(error)),
+            dies: false,
+            closes: false,
+        }),
+        Asked::Carries(action) => {
+            let dies = action.kills();
+            let closes = action.closes();
+            let sent = debuggee.carry_out(alloc, action)?;
+            Ok(Done { sent, dies, closes })
+        }
+    }
+}
+
+/// Enqueues what is sent for a command, and VM_DEATH behind it where the machine died; the session closes where it is to. It takes
+/// no memory.
+fn reply<M: Machine>(
+    id: u32,
+    done: &Done,
+    sizes: &IdSizes,
+    debuggee: &mut Debuggee<M>,
+    end: &mut End,
+)
+    requires short { length end.old.outgoing + 32 ≤ most_outgoing end.old.limits }
+    requires room { length end.old.outgoing + (11 + length (sent_bytes sizes.now done.now.sent)) ≤ most_outgoing end.old.limits }
+    requires small { length (sent_bytes sizes.now done.now.sent) ≤ 1048576 }
+    requires bare { done.now.dies ≡ true → length (sent_bytes sizes.now done.now.sent) ≡ 0 }
+    ensures debuggee { debuggee.new ≡ after_deaths done.now.dies debuggee.old }
+    ensures end { end.new ≡ closed_where done.now.closes (with_enqueued (stream (reply_of sizes.now id done.now.sent ∷ deaths sizes.now debuggee.old.moment.state.next_packet done.now.dies)) end.old) }
+{
+    enqueue_reply(id, &done.sent, sizes, end);
+    if done.dies {
+        enqueue_death(debuggee.take_packet_id(), sizes, end);
+    }
+    if done.closes {
+        end.close();
+    }
+}
+
+/// The error code of a reply.
+fn error_of(sent: &Sent) -> ErrorCode
+    ensures { result ≡ sent_error sent.now }
+{
+    match sent {
+        Sent::Short(Reply::Refused(error)) => *error,
+        Sent::Short(_) | Sent::Written(_) => ErrorCode::NONE,
+    }
+}
