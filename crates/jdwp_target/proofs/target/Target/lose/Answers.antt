@@ -1,5 +1,5 @@
 use Rattle.jdwp_target.proofs.RightTargets.{right-lost}
-use Rattle.jdwp_target.proofs.machine_target.MachineTarget.lose.Goals as goal
+use Rattle.jdwp_target.proofs.target.Target.lose.Goals as goal
 
 pub invariant_of-self : goal.invariant_of-self
 invariant_of-self g c =

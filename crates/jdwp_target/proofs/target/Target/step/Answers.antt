@@ -2,7 +2,7 @@ use Rattle.std.proofs.Common.{◌≡◌, ◌∙◌, false, Some, sym}
 use Rattle.jdwp_end.specs.Ends.{is_paused}
 use Rattle.jdwp_debuggee.specs.StepParts as debuggee
 use Rattle.jdwp_target.proofs.StepLemmas.{death-leaves, dies-alone, reports-leave, right-stepped, stepped-debuggee, stepped-end}
-use Rattle.jdwp_target.proofs.machine_target.MachineTarget.step.Goals as goal
+use Rattle.jdwp_target.proofs.target.Target.step.Goals as goal
 
 pub tell-requires : goal.tell-requires
 tell-requires g c =
