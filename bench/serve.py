@@ -1,7 +1,7 @@
 #!/usr/bin/env python3
 """How fast the program serves a long session from a file.
 
-Makes a session of the handshake, a million SuspendCount commands of thread 1 and Dispose, runs the program on it, checks the answer and
+Makes a session of the handshake, a million SuspendCount commands of thread 1 and Dispose, runs the program on it with every thread suspended, checks the answer and
 prints messages a second (on a file, the best of three runs) and the peak of memory (on a pipe, before Dispose). To reach: 5 million messages a second, and memory that doesn't grow with the session.
 
     bench/serve.py [PROGRAM] [COMMANDS]
@@ -18,7 +18,7 @@ import time
 
 ROOT = os.path.dirname(os.path.dirname(os.path.abspath(__file__)))
 HANDSHAKE = b"JDWP-Handshake"
-VM_START = bytes.fromhex("0000001d 00000001 00 40 64 00 00000001 5a 00000000 0000000000000001")
+VM_START = bytes.fromhex("0000001d 00000001 00 40 64 02 00000001 5a 00000000 0000000000000001")
 
 
 def session(commands):
@@ -32,7 +32,7 @@ def session(commands):
 def answers(commands):
     parts = [HANDSHAKE, VM_START]
     for i in range(1, commands + 1):
-        parts.append(struct.pack(">IIBHI", 15, i, 0x80, 0, 0))
+        parts.append(struct.pack(">IIBHI", 15, i, 0x80, 0, 1))
     parts.append(struct.pack(">IIBH", 11, commands + 1, 0x80, 0))
     return b"".join(parts)
 
@@ -40,10 +40,8 @@ def answers(commands):
 def words_of(program, folder, given, commands):
     # A round for each message and for each read; a pipe may give less than 4,096 bytes a read.
     turns = 20 * commands + 100
-    machine, made = os.path.join(folder, "machine"), os.path.join(folder, "to")
-    with open(machine, "w") as file:
-        file.write("{}")
-    return [program, "serve-script", machine, "--start", "none", "--from", given, "--to", made, "--turns", str(turns)], made
+    machine, made = os.path.join(ROOT, "examples", "A.json"), os.path.join(folder, "to")
+    return [program, "serve-script", machine, "--start", "all", "--from", given, "--to", made, "--turns", str(turns)], made
 
 
 def check(made, commands):

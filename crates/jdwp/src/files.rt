@@ -3,7 +3,7 @@ ghost use Rattle.jdwp_program.specs.Outputs.{LeavesCaptureTold};
 
 use crate::words::ServeScript;
 use jdwp_engine::{Ended, Streams};
-use jdwp_program::{Fault, FileCause, Told, check_capture, serve_session, show_capture, text_of};
+use jdwp_program::{Fault, FileCause, Told, check_capture, serve_script, show_capture, text_of};
 use std::fs;
 use std::fs::OpenFile;
 use std::io::{BufWriter, Write};
@@ -41,22 +41,24 @@ pub fn check_file<'a, R: Files + AllocGlobal, O: Write>(
     Ok(check_capture(rt.alloc(), capture, out)?)
 }
 
-/// Serves the session of a file. The output's file is made only once the others are open.
+/// Serves the session of a file over the machine of a script. The output's file is made only once the others are read and open, and the
+/// script is judged then.
 ///
 /// # Errors
-/// `File` where one can't be opened or made; `NoMemory`.
+/// `File` where one can't be read, opened or made, or the script is not UTF-8; `Script` where it is refused; `NoMemory`.
 pub fn serve_files<'a, R: Files + AllocGlobal>(
     rt: &R,
     words: &ServeScript<'a>,
 ) -> Result<Ended, Fault<'a>> {
-    open(rt, words.machine)?;
+    let bytes = read(rt, words.machine)?;
     let reader = open(rt, words.from)?;
     let file = create(rt, words.to)?;
+    let script = text_of(bytes.as_slice()).map_err(|cause| Fault::File(words.machine, cause))?;
     let Ok(writer) = BufWriter::new(rt.alloc(), file) else {
         return Err(Fault::NoMemory);
     };
     let mut pipe = Streams::new(reader, writer);
-    Ok(serve_session(rt.alloc(), words.options, &mut pipe, words.turns)?)
+    Ok(serve_script(rt.alloc(), script, words.settings, &mut pipe, words.turns)?)
 }
 
 /// The bytes of a file.

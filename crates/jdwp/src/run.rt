@@ -12,7 +12,7 @@ use std::rt::Files;
 /// Runs the words, the first of which is the program's name, and answers the exit status.
 ///
 /// 0: done, or a capture without a fault. 1: words that are refused or ask for help, a file that can't be opened or made or is not
-/// UTF-8, bytes that the target refused, or a capture with a fault. 2: the connection was lost, or the output can't be written. 3: no
+/// UTF-8, a script or bytes that are refused, or a capture with a fault. 2: the connection was lost, or the output can't be written. 3: no
 /// memory. 4: all rounds were used. Each of 1 to 4 is told on `err` behind `jdwp: `, but for the fault of a capture, which `out` tells,
 /// and where who reads `out` went away.
 pub fn run<R, S, O, E>(rt: &R, words: &[S], out: &mut O, err: &mut E) -> u8

@@ -1,7 +1,8 @@
 //! Runs of the program.
 use crate::run::run;
 use crate::words::{self, ServeScript, Words};
-use jdwp_target::TargetOptions;
+use jdwp_debuggee::Settings;
+use jdwp_wire::Limits;
 use std::io::{Cursor, ErrorKind, Write};
 use std::rt::Files;
 use std::test::Fail;
@@ -28,6 +29,19 @@ const ANSWERS: [u8; 111] = [
     0x00, 0x00, 0x00, 0x0f, 0x00, 0x00, 0x00, 0x03, 0x80, 0x00, 0x00, 0x00, 0x00, 0x00, 0x01, //
     0x00, 0x00, 0x00, 0x0b, 0x00, 0x00, 0x00, 0x04, 0x80, 0x00, 0x00, //
 ];
+
+/// Two threads: one calls a method, moves in it and returns, and the other has no step.
+const MACHINE: &str = r#"{"name":"A","sizes":[8,8,8,8,8],
+"groups":[{"id":5,"name":"main","parent":0}],
+"classes":[{"id":10,"tag":1,"signature":"LMain;","modifiers":1,
+ "super":0,"interfaces":[],"source":"Main.java","fields":[],
+ "methods":[{"id":20,"name":"run","signature":"()V","modifiers":1,
+  "args":0,"last":9,"lines":[[0,1],[3,2],[4,3]],"slots":[]}]}],
+"objects":[],
+"threads":[{"id":1,"name":"main","group":5,"steps":[
+ ["call",30,10,20,0,[]],["go",3],["go",4],["go",3],["go",4],
+ ["go",3],["return",["V",0]]]},
+ {"id":2,"name":"work","group":5,"steps":[]}]}"#;
 
 /// What a run gave: its status, and what it printed on standard output and standard error.
 #[derive(Drop)]
@@ -96,7 +110,7 @@ fn is_refused<R: Files + AllocGlobal>(
 #[test]
 fn a_session_of_a_file_is_answered(rt: HostRuntime) -> Result<(), Fail> {
     let (machine, from, to) = ("session_machine", "session_from", "session_to");
-    fs::write(&rt, machine, "{}")?;
+    fs::write(&rt, machine, MACHINE)?;
     fs::write(&rt, from, SESSION.as_slice())?;
     let words = [
         "serve-script",
@@ -135,7 +149,7 @@ fn a_session_of_a_file_is_answered(rt: HostRuntime) -> Result<(), Fail> {
 #[test]
 fn each_end_has_its_status(rt: HostRuntime) -> Result<(), Fail> {
     let (machine, from, to) = ("ends_machine", "ends_from", "ends_to");
-    fs::write(&rt, machine, "{}")?;
+    fs::write(&rt, machine, MACHINE)?;
     let lost = "jdwp: the connection is lost at a read\n";
     let limit = "jdwp: the turn limit is reached\n";
     let ends: [(&[u8], &str, u8, &str, usize); 10] = [
@@ -254,7 +268,7 @@ fn other_words_are_refused(rt: HostRuntime) -> Result<(), Fail> {
             "words_to",
         ],
     ];
-    fs::write(&rt, "words_machine", "{}")?;
+    fs::write(&rt, "words_machine", MACHINE)?;
     fs::write(&rt, "words_from", SESSION.as_slice())?;
     for words in refused {
         assert_eq!(rt; status_of(&rt, words)?, 1, "{words:?}");
@@ -479,8 +493,49 @@ fn a_file_that_can_not_be_used_is_named(rt: HostRuntime) -> Result<(), Fail> {
             "made though another can't be used"
         );
     }
+    let words = ["serve-script", other, "--from", other, "--to", "named_to"];
+    let not_text = "named_other: not UTF-8 at byte 7, counted from 0\n";
+    assert!(rt; is_refused(&rt, &words, &[not_text])?);
+    fs::remove_file(&rt, "named_to")?;
     fs::remove_file(&rt, other)?;
     fs::remove_dir(&rt, folder)?;
+    Ok(())
+}
+
+/// A script that is refused is told by its fault's number and words, and by the name of a missing member; nothing is sent.
+#[test]
+fn a_script_that_is_refused_is_told(rt: HostRuntime) -> Result<(), Fail> {
+    let (alloc, machine, from, to) = (rt.alloc(), "refused_machine", "refused_from", "refused_to");
+    fs::write(&rt, from, SESSION.as_slice())?;
+    let rows = [
+        (
+            "\"name\":\"A\",",
+            "\"name\":\"A\"",
+            "fault 21: the text is not JSON\n",
+        ),
+        (
+            "\"last\":9,",
+            "",
+            "fault 22: the member last is missing or of another type\n",
+        ),
+        ("{\"id\":2,", "{\"id\":1,", "fault 23: an id stands twice\n"),
+        (
+            "[8,8,8,8,8]",
+            "[8,8,8,8,9]",
+            "fault 24: an id is too wide\n",
+        ),
+        ("\"super\":0", "\"super\":7", "fault 25: a bad reference\n"),
+    ];
+    for (part, other, text) in rows {
+        let script = MACHINE.replacen(alloc, part, other, 1)?;
+        fs::write(&rt, machine, script.as_str())?;
+        let words = ["serve-script", machine, "--from", from, "--to", to];
+        assert!(rt; is_refused(&rt, &words, &[text])?, "{text}");
+        assert!(rt; fs::read(&rt, to)?.is_empty());
+    }
+    for file in [machine, from, to] {
+        fs::remove_file(&rt, file)?;
+    }
     Ok(())
 }
 
@@ -617,12 +672,14 @@ fn options_have_defaults(rt: HostRuntime) -> Result<(), Fail> {
         let mut words = Vec::new(alloc);
         words.extend_from_slice(&base)?;
         words.extend_from_slice(more)?;
-        let options = TargetOptions::new(start_all, count_limit).ok_or("a count limit")?;
+        let settings = Settings::new(start_all, count_limit, Limits::standard()).ok_or(
+            "a count limit",
+        )?;
         let want = Words::ServeScript(ServeScript {
             machine,
             from,
             to,
-            options,
+            settings,
             turns,
         });
         match words::read(alloc, words.as_slice()) {

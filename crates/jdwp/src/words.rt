@@ -1,8 +1,9 @@
 //! What the words of the command line say.
 use clap::error::ErrorKind;
 use clap::{Arg, ArgAction, ArgMatches, Command, Error, value_parser};
+use jdwp_debuggee::Settings;
 use jdwp_program::{Fault, decimal, is_all};
-use jdwp_target::TargetOptions;
+use jdwp_wire::Limits;
 use std::alloc::{AllocError, Global};
 use std::convert::AsStr;
 
@@ -20,14 +21,14 @@ pub enum Words<'a> {
 /// `serve-script MACHINE --from F --to F [--start all|none] [--count-limit N] [--turns N]`.
 #[derive(Clone, Copy, Debug, PartialEq, Eq)]
 pub struct ServeScript<'a> {
-    /// The file of the machine.
+    /// The file of the machine's script.
     pub machine: &'a str,
     /// The file that the debugger's bytes are read from.
     pub from: &'a str,
     /// The file that the target's bytes are written to.
     pub to: &'a str,
     /// Whether every thread is suspended when the target starts, and the greatest suspend count that a Suspend gives.
-    pub options: TargetOptions,
+    pub settings: Settings,
     /// How many rounds the session has at most.
     pub turns: u32,
 }
@@ -56,12 +57,13 @@ fn read_serve_script<'a>(
 ) -> Result<ServeScript<'a>, Fault<'a>> {
     let start_all = is_all(value(alloc, found, "start")?);
     let count_limit = number(alloc, found, "count-limit")?;
-    match start_all.and_then(|start_all| TargetOptions::new(start_all, count_limit)) {
-        Some(options) => Ok(ServeScript {
+    let limits = Limits::standard();
+    match start_all.and_then(|start_all| Settings::new(start_all, count_limit, limits)) {
+        Some(settings) => Ok(ServeScript {
             machine: value(alloc, found, "machine")?,
             from: value(alloc, found, "from")?,
             to: value(alloc, found, "to")?,
-            options,
+            settings,
             turns: number(alloc, found, "turns")?,
         }),
         None => Err(bad_words(alloc, serve_script(alloc)?, "the options don't read")?),
@@ -136,7 +138,12 @@ fn serve_script<'a>(alloc: Global) -> Result<Command<'a>, AllocError> {
     let starts = ["all", "none"].as_slice();
     Command::new(alloc, "serve-script")
         .about("Serves the session of one debugger, from a file of its bytes")
-        .arg(file(alloc, "machine", "MACHINE", "The machine to be debugged"))?
+        .arg(file(
+            alloc,
+            "machine",
+            "MACHINE",
+            "The script of the machine to be debugged, in JSON",
+        ))?
         .arg(option(alloc, "from", "FILE", "What the debugger sent, in bytes").required(true))?
         .arg(option(alloc, "to", "FILE", "Where the target's bytes are written").required(true))?
         .arg(

@@ -1,3 +1,5 @@
+pub mod Advancing
+pub mod Closing
 pub mod Fronts
 pub mod Known
 pub mod Runs

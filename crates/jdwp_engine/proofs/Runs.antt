@@ -1,30 +1,35 @@
 -- How the facts of an engine's run go on from one call to the next.
-use Rattle.std.proofs.Common.{◌≡◌, ◌≢◌, ◌∙◌, ℕ, ◌<◌, ◌+◌, ◌++◌, List, [], ◌∷◌, length, true, false, Ok, Err, ◌⊎◌, inl, inr, min, take, drop, sym, ap, refl, subst, append_assoc, arith}
+use Rattle.std.proofs.Common.{◌≡◌, ◌≢◌, ◌∙◌, ℕ, ◌<◌, ◌≤◌, ◌+◌, ◌++◌, List, [], ◌∷◌, length, Bool, true, false, Ok, Err, ◌⊎◌, inl, inr, min, take, drop, sym, ap, refl, subst, append_assoc, arith}
 use Rattle.std.proofs.lemmas.Grind.{common_steps}
-use Rattle.std.proofs.lemmas.List.{append-nil, length-take, length-append, take_at, take-append-drop, drop-drop}
+use Rattle.std.proofs.lemmas.List.{append-nil, length-take, length-append, take_at, take-append-drop, take_all, drop-drop}
+use Rattle.jdwp_wire.specs.Bytes.{IsBytes}
 use Rattle.jdwp_wire.specs.FaultNumbers.{fault_number}
-use Rattle.jdwp_wire.specs.Streams.{Message, More, stream}
+use Rattle.jdwp_wire.specs.Streams.{Message, More}
 use Rattle.jdwp_wire.specs.declared.frame.FrameFault.{FrameFault}
 use Rattle.jdwp_end.specs.Ends.{front_of, is_open, is_paused, next_of}
+use Rattle.jdwp_end.specs.Ends as ends
 use Rattle.jdwp_end.specs.Runs.{Carries}
+use Rattle.jdwp_end.proofs.Carrying.{carries-taken}
 use Rattle.jdwp_end.proofs.Fronts.{front-fault, front-next, front-whole}
+use Rattle.jdwp_machine.specs.Meanings.{Meaning}
 use Rattle.jdwp_target.specs.declared.target.TargetFault.TheVariants.{Frame, NoMemory}
 use Rattle.jdwp_target.specs.declared.target.Turn.{Turn}
 use Rattle.jdwp_target.specs.declared.target.Turn.TheVariants.{Nothing}
-use Rattle.jdwp_target.specs.Acts.{Act, handled, Handles}
-use Rattle.jdwp_target.specs.Endpoints.{Endpoint, TurnsAt, lost, setup_of, with_fed, with_handled, with_taken}
-use Rattle.jdwp_target.specs.Reactions.{react}
-use Rattle.jdwp_target.specs.Runs.{Ran}
-use Rattle.jdwp_target.specs.State.{Moment}
-use Rattle.jdwp_target.proofs.RunLemmas.{handled-more}
+use Rattle.jdwp_target.specs.Standings.{Act, handled}
+use Rattle.jdwp_target.specs.Targets.{Target, Ran, lost, opened, with_fed, with_handled, with_taken}
+use Rattle.jdwp_target.specs.Turns.{TurnsAt}
+use Rattle.jdwp_target.proofs.TargetRuns.{fed-acts, ran-fed, ran-opened, ran-taken, taken-acts}
+use Rattle.jdwp_engine.specs.declared.ended.Ended.{Ended}
 use Rattle.jdwp_engine.specs.declared.ended.Ended.TheVariants.{Done, LostByRead, LostByWrite, Refused, TurnLimit}
 use Rattle.jdwp_engine.specs.declared.ended.Ended.TheVariants as ended
 use Rattle.jdwp_engine.specs.declared.serving.Next.{Next}
 use Rattle.jdwp_engine.specs.declared.serving.Next.TheVariants.{Goes, Ends}
 use Rattle.jdwp_engine.specs.Next.{IfEnds}
-use Rattle.jdwp_engine.specs.Outcome.{CallsForMemory, EndsInDispose, EndsSo, FrontIs, IsFaultOf, MayEnd}
-use Rattle.jdwp_engine.specs.Run.{FailsRead, FailsWrite, InOrder, IsGoing, LosesAtRead, LosesAtWrite, ReadsMore, WritesAll, effort, with_read, with_written}
+use Rattle.jdwp_engine.specs.Outcome.{CallsForMemory, EndsSo, FrontIs, IsFaultOf, MayEnd, MayStep}
+use Rattle.jdwp_engine.specs.Run.{CostsAtLeast, FailsRead, FailsWrite, GoesOn, InOrder, IsGoing, LosesAtRead, LosesAtWrite, ReadsMore, WritesAll, deeds, with_read, with_written}
+use Rattle.jdwp_engine.specs.Steps.{Advances, StepsIf, StepsOn}
 use Rattle.jdwp_engine.specs.Story.{Story}
+use Rattle.jdwp_engine.proofs.Advancing.{HasEnded, message-advances}
 use Rattle.jdwp_engine.proofs.Fronts.{front-left}
 use Rattle.jdwp_engine.proofs.Turns.{frame-Fault, handled-Whole, no_memory-Whole}
 
@@ -43,32 +48,38 @@ fails-after s t done chunk more whole e f =
       read = f.read;
     }
 
--- ---- a message
+-- ---- what is put
 
--- a target that handled a message and enqueued these bytes for it
-pub record Handled {S : Type 0} (old new : Endpoint (Moment S)) (bytes : List ℕ) : Type 0 where
-  pub setup : setup_of new ≡ setup_of old
-  pub began : new.began ≡ old.began
-  pub lost : new.end.session.lost ≡ old.end.session.lost
-  pub fed : new.end.session.fed ≡ old.end.session.fed
-  pub enqueued : new.end.session.enqueued ≡ old.end.session.enqueued ++ bytes
-  pub outgoing : new.end.outgoing ≡ old.end.outgoing ++ bytes
-  pub turns : new.end.session.turns ≡ old.end.session.turns + 1
+-- a target that enqueued these bytes, and stands in the same session
+record Puts {S : Type 0} (old new : Target S) : Type 0 where
+  settings : new.settings ≡ old.settings
+  began : new.began ≡ old.began
+  lost : new.end.session.lost ≡ old.end.session.lost
+  fed : new.end.session.fed ≡ old.end.session.fed
+  bytes : List ℕ
+  enqueued : new.end.session.enqueued ≡ old.end.session.enqueued ++ bytes
+  outgoing : new.end.outgoing ≡ old.end.outgoing ++ bytes
 
-abbrev sent_for : {S : Type 0} → Endpoint (Moment S) → Message → List ℕ
-sent_for old message = stream (react (setup_of old) old.moment (Handles message)).sends
+puts-of : {S : Type 0} (m : Meaning S) (old new : Target S) (why : Type 0) → Advances m old new why → Puts old new
+puts-of m old new why p =
+    record { settings = p.settings; began = p.began; lost = p.lost; fed = p.fed; bytes = p.bytes; enqueued = p.enqueued; outgoing = p.outgoing }
 
-was-handled : {S : Type 0} (message : Message) (used : ℕ) (old new : Endpoint (Moment S)) → new ≡ with_handled message used old → Handled old new (sent_for old message)
-was-handled message used old new e = rw e (record { setup = refl; began = refl; lost = refl; fed = refl; enqueued = refl; outgoing = refl; turns = refl })
+puts-nothing : {S : Type 0} (v : Target S) → Puts v v
+puts-nothing v =
+    record { settings = refl; began = refl; lost = refl; fed = refl; bytes = []; enqueued = sym (append-nil v.end.session.enqueued); outgoing = sym (append-nil v.end.outgoing) }
 
--- all that it enqueued was written, and the session goes on
-handled-going : {S : Type 0} (base : Endpoint (Moment S)) (start s : Story) (old new : Endpoint (Moment S)) (bytes : List ℕ) → IsGoing base start s old → Handled old new bytes
+puts-if : {S : Type 0} (m : Meaning S) (old new : Target S) (made : Bool) → StepsIf m old new made → Puts old new
+puts-if m old new true p = puts-of m old new _ p
+puts-if m old new false same = rw same (puts-nothing old)
+
+-- all that was put was written, and the session goes on
+going : {S : Type 0} (base : Target S) (start s : Story) (old new : Target S) → IsGoing base start s old → Puts old new
     → is_open new.end ≡ true → IsGoing base start (with_written new.end.outgoing s) (with_taken new.end.outgoing new)
-handled-going base start s old new bytes k p opened = record {
+going base start s old new k p opened = record {
   opened = opened;
   kept = p.lost ∙ k.kept;
   idle = grind (arith, common_steps);
-  setup = p.setup ∙ k.setup;
+  settings = p.settings ∙ k.settings;
   began = p.began ∙ k.began;
   read = grind (arith, common_steps, k.read, p.fed);
   written = grind (arith, common_steps, k.written, k.idle, p.enqueued, p.outgoing, append_assoc);
@@ -77,13 +88,37 @@ handled-going base start s old new bytes k p opened = record {
   ends = k.ends;
 }
 
--- all that it enqueued was written, and the session is closed
-handled-in-order : {S : Type 0} (base : Endpoint (Moment S)) (start s : Story) (old new : Endpoint (Moment S)) (bytes : List ℕ) → IsGoing base start s old → Handled old new bytes
+-- what waited was taken: the run has the same acts
+taken-run : {S : Type 0} (m : Meaning S) (v : Target S) (ran : Ran m v) → (now : Ran m (with_taken v.end.outgoing v)) × (now.acts ≡ ran.acts)
+taken-run {S = S} m v ran =
+    let out : List ℕ = v.end.outgoing in
+    let le : length out ≤ length out = omega arith in
+    let whole : take (length out) out ≡ out = take_all (length out) out (omega arith) in
+    subst (λ (x : List ℕ). (now : Ran m (with_taken x v)) × (now.acts ≡ ran.acts)) whole (ran-taken m v (length out) le ran, taken-acts m v (length out) le ran)
+
+taken-costs : {S : Type 0} (m : Meaning S) (cost : ℕ) (s : Story) (v : Target S) → CostsAtLeast m cost s v → CostsAtLeast m cost s (with_taken v.end.outgoing v)
+taken-costs m cost s v (ran, le) =
+    let t = taken-run m v ran in
+    let same : deeds m v.settings v.began t.0.acts ≡ deeds m v.settings v.began ran.acts = ap (λ (x : List Act). deeds m v.settings v.began x) t.1 in
+    (t.0, omega (arith, same, le))
+
+-- the reason for which a session closed stays when what waits is taken
+ended-taken : {S : Type 0} (m : Meaning S) (v : Target S) → HasEnded v → HasEnded (with_taken v.end.outgoing v)
+ended-taken m v (inl e) =
+    let out : List ℕ = v.end.outgoing in
+    let whole : take (length out) out ≡ out = take_all (length out) out (omega arith) in
+    let le : length out ≤ length out = omega arith in
+    let messages : List Message = e.0 ++ e.1 ∷ [] in
+    inl (e.0, e.1, subst (λ (x : List ℕ). Carries (ends.with_taken x v.end) messages) whole (carries-taken v.end messages (length out) le e.2), e.3)
+ended-taken m v (inr e) = inr e
+
+-- all that was put was written, and the session is closed
+in-order : {S : Type 0} (base : Target S) (start s : Story) (old new : Target S) → IsGoing base start s old → Puts old new
     → InOrder base start (with_written new.end.outgoing s) (with_taken new.end.outgoing new)
-handled-in-order base start s old new bytes k p =
+in-order base start s old new k p =
     let all : s.written ++ new.end.outgoing ≡ start.written ++ new.end.session.enqueued = grind (arith, common_steps, k.written, k.idle, p.enqueued, p.outgoing, append_assoc) in
     record {
-      setup = p.setup ∙ k.setup;
+      settings = p.settings ∙ k.settings;
       began = p.began ∙ k.began;
       read = grind (arith, common_steps, k.read, p.fed);
       written = (new.end.session.enqueued, all, ([], sym (append-nil new.end.session.enqueued)));
@@ -92,12 +127,12 @@ handled-in-order base start s old new bytes k p =
     }
 
 -- a write of it failed
-handled-fails : {S : Type 0} (base : Endpoint (Moment S)) (start s t : Story) (old new : Endpoint (Moment S)) (bytes taken : List ℕ) → IsGoing base start s old → Handled old new bytes
+fails : {S : Type 0} (base : Target S) (start s t : Story) (old new : Target S) (taken : List ℕ) → IsGoing base start s old → Puts old new
     → FailsWrite s t new.end.outgoing → InOrder base start t (lost (with_taken taken new))
-handled-fails base start s t old new bytes taken k p f =
+fails base start s t old new taken k p f =
     let w = f.written in
     record {
-      setup = p.setup ∙ k.setup;
+      settings = p.settings ∙ k.settings;
       began = p.began ∙ k.began;
       read = grind (arith, common_steps, k.read, p.fed, f.read);
       written = (
@@ -109,42 +144,37 @@ handled-fails base start s t old new bytes taken k p f =
       failed_writes = omega (arith, f.failed_writes, k.failed_writes);
     }
 
--- a session that closed and was not lost, and in which a message was handled, ended in Dispose
-disposed : {S : Type 0} (v : Endpoint (Moment S)) → Ran v → is_open v.end ≡ false → v.end.session.lost ≡ false → 0 < v.end.session.turns → EndsInDispose v.end
-disposed v ran closed kept turned =
-    let counts : v.end.session.turns ≡ length (handled ran.acts) = ran.carries.turns in
-    let d = ran.disposed closed kept (λ e. let none : length (handled ran.acts) ≡ 0 = ap (λ (x : List Act). length (handled x)) e in omega (arith, counts, turned, none)) in
-    let same : handled ran.acts ≡ handled d.0 ++ d.1 ∷ [] = ap handled d.2 ∙ handled-more d.0 d.1 in
-    (handled d.0, d.1, subst (λ (x : List Message). Carries v.end x) same ran.carries, d.3)
-
 -- ---- a read
 
-pub read-going : {S : Type 0} (base : Endpoint (Moment S)) (start s : Story) (target : Endpoint (Moment S)) (more : List ℕ) → IsGoing base start s target
-    → IsGoing base start (with_read more s) (with_fed more target) × (effort s target < effort (with_read more s) (with_fed more target))
-read-going base start s target more k = (
-  record {
-    opened = k.opened;
-    kept = k.kept;
-    idle = k.idle;
-    setup = k.setup;
-    began = k.began;
-    read = grind (arith, common_steps, k.read, append_assoc);
-    written = k.written;
-    failed_reads = k.failed_reads;
-    failed_writes = k.failed_writes;
-    ends = k.ends;
-  },
-  omega arith,
-)
+-- a run goes on over bytes that are fed
+fed-costs : {S : Type 0} (m : Meaning S) (cost : ℕ) (s : Story) (v : Target S) (more : List ℕ) → is_open v.end ≡ true → CostsAtLeast m cost s v → CostsAtLeast m (cost + 1) (with_read more s) (with_fed more v)
+fed-costs m cost s v more opened (ran, le) =
+    let now = ran-fed m v more opened ran in
+    let same : deeds m v.settings v.began now.acts ≡ deeds m v.settings v.began ran.acts = ap (λ (x : List Act). deeds m v.settings v.began x) (fed-acts m v more opened ran) in
+    (now, omega (arith, same, le))
+
+read-going : {S : Type 0} (base : Target S) (start s : Story) (target : Target S) (more : List ℕ) → IsGoing base start s target → IsGoing base start (with_read more s) (with_fed more target)
+read-going base start s target more k = record {
+  opened = k.opened;
+  kept = k.kept;
+  idle = k.idle;
+  settings = k.settings;
+  began = k.began;
+  read = grind (arith, common_steps, k.read, append_assoc);
+  written = k.written;
+  failed_reads = k.failed_reads;
+  failed_writes = k.failed_writes;
+  ends = k.ends;
+}
 
 -- nothing waits, and nothing is written any more
-stays-in-order : {S : Type 0} (base : Endpoint (Moment S)) (start s t : Story) (old new : Endpoint (Moment S)) → IsGoing base start s old → t.read ≡ s.read → t.written ≡ s.written → t.failed_writes ≡ s.failed_writes
-    → setup_of new ≡ setup_of old → new.began ≡ old.began → new.end.session.fed ≡ old.end.session.fed → new.end.session.enqueued ≡ old.end.session.enqueued
+stays-in-order : {S : Type 0} (base : Target S) (start s t : Story) (old new : Target S) → IsGoing base start s old → t.read ≡ s.read → t.written ≡ s.written → t.failed_writes ≡ s.failed_writes
+    → new.settings ≡ old.settings → new.began ≡ old.began → new.end.session.fed ≡ old.end.session.fed → new.end.session.enqueued ≡ old.end.session.enqueued
     → InOrder base start t new
-stays-in-order base start s t old new k read written failed setup began fed enqueued =
+stays-in-order base start s t old new k read written failed settings began fed enqueued =
     let all : t.written ≡ start.written ++ new.end.session.enqueued = grind (arith, common_steps, written, k.written, enqueued) in
     record {
-      setup = setup ∙ k.setup;
+      settings = settings ∙ k.settings;
       began = began ∙ k.began;
       read = grind (arith, common_steps, read, k.read, fed);
       written = (new.end.session.enqueued, all, ([], sym (append-nil new.end.session.enqueued)));
@@ -153,18 +183,18 @@ stays-in-order base start s t old new k read written failed setup began fed enqu
     }
 
 -- a read failed
-pub read-ends : {S : Type 0} (base : Endpoint (Moment S)) (start s t : Story) (target : Endpoint (Moment S)) → IsGoing base start s target → FailsRead s t → FrontIs (λ next. next ≡ More) target.end → Ran target
-    → InOrder base start t (lost target) × MayEnd LostByRead start t (lost target)
-read-ends base start s t target k f front ran = (
+read-ends : {S : Type 0} (m : Meaning S) (base : Target S) (start s t : Story) (target : Target S) → IsGoing base start s target → FailsRead s t → FrontIs (λ next. next ≡ More) target.end → Ran m target
+    → InOrder base start t (lost target) × MayEnd m LostByRead start t (lost target)
+read-ends m base start s t target k f front ran = (
   stays-in-order base start s t target (lost target) k f.read f.written f.failed_writes refl refl refl refl,
   (omega (arith, f.fails, k.failed_reads, k.ends), front, (target, ran, k.kept, refl)),
 )
 
 -- nothing changed, or the bytes in front begin no message
-pub lost-in-order : {S : Type 0} (base : Endpoint (Moment S)) (start s : Story) (target : Endpoint (Moment S)) → IsGoing base start s target → InOrder base start s (lost target)
+lost-in-order : {S : Type 0} (base : Target S) (start s : Story) (target : Target S) → IsGoing base start s target → InOrder base start s (lost target)
 lost-in-order base start s target k = stays-in-order base start s s target (lost target) k refl refl refl refl refl refl refl
 
-pub same-in-order : {S : Type 0} (base : Endpoint (Moment S)) (start s : Story) (target : Endpoint (Moment S)) → IsGoing base start s target → InOrder base start s target
+same-in-order : {S : Type 0} (base : Target S) (start s : Story) (target : Target S) → IsGoing base start s target → InOrder base start s target
 same-in-order base start s target k = stays-in-order base start s s target target k refl refl refl refl refl refl refl
 
 -- ---- bytes that leave
@@ -178,85 +208,212 @@ taken-front done out buffer out' count counts e =
     ap (λ (xs : List ℕ). done ++ xs) (sym (take-append-drop count out) ∙ ap (λ (xs : List ℕ). xs ++ drop count out) (sym front))
     ∙ sym (append_assoc done (take count out') (drop count out))
 
-pub taken-again : {S : Type 0} (old now new : Endpoint (Moment S)) (done more : List ℕ) → now ≡ with_taken done old → new ≡ with_taken more now → new ≡ with_taken (done ++ more) old
+pub taken-again : {S : Type 0} (old now new : Target S) (done more : List ℕ) → now ≡ with_taken done old → new ≡ with_taken more now → new ≡ with_taken (done ++ more) old
 taken-again old now new done more e h = rw (h, e) (grind (arith, common_steps, append_assoc, drop-drop, length-append))
 
 -- ---- rounds
 
--- a round that goes on after a message
-pub message-goes : {S : Type 0} (base : Endpoint (Moment S)) (start s t : Story) (old new newest : Endpoint (Moment S)) (turn : Turn) → IsGoing base start s old
-    → TurnsAt (front_of old.end) old (Ok turn) new → turn ≢ Nothing
-    → (is_open new.end ≡ true) × WritesAll new newest s t
-    → IsGoing base start t newest × (effort s old < effort t newest)
-message-goes base start s t old new newest turn k turned some h =
-    let w = handled-Whole (front_of old.end) old new turn turned some in
-    let p = was-handled w.0 w.1 old new w.3 in
-    rw (h.1.0, h.1.1) (handled-going base start s old new (sent_for old w.0) k p h.0, omega (arith, p.turns))
+advance-costs : {S : Type 0} (m : Meaning S) (cost : ℕ) (s : Story) (old new : Target S) (why : Type 0) → Advances m old new why → CostsAtLeast m cost s old → CostsAtLeast m (cost + 1) s new
+advance-costs m cost s old new why p (ran, le) =
+    let now = p.runs ran in
+    (now.0, omega (arith, now.1, le))
 
--- a round that ends after a message: the message was Dispose, or a write failed
-pub message-ends : {S : Type 0} (s t : Story) (old new newest : Endpoint (Moment S)) (turn : Turn) (next : Next)
-    → TurnsAt (front_of old.end) old (Ok turn) new → turn ≢ Nothing
+written-costs : {S : Type 0} (m : Meaning S) (cost : ℕ) (s : Story) (bytes : List ℕ) (v : Target S) → CostsAtLeast m cost s v → CostsAtLeast m cost (with_written bytes s) v
+written-costs m cost s bytes v c = c
+
+-- a round that goes on after a message or steps
+advance-goes : {S : Type 0} (m : Meaning S) (base : Target S) (start s t : Story) (old new newest : Target S) (why : Type 0) (cost : ℕ) → Advances m old new why
+    → (is_open new.end ≡ true) × WritesAll new newest s t → IsGoing base start s old → CostsAtLeast m cost s old
+    → IsGoing base start t newest × CostsAtLeast m (cost + 1) t newest
+advance-goes m base start s t old new newest why cost p h k c =
+    rw (h.1.0, h.1.1) (
+      going base start s old new k (puts-of m old new why p) h.0,
+      written-costs m (cost + 1) s new.end.outgoing _ (taken-costs m (cost + 1) s new (advance-costs m cost s old new why p c)),
+    )
+
+-- a round that ends after a message or steps: the session closed, or a write failed
+advance-ends : {S : Type 0} (m : Meaning S) (s t : Story) (old new newest : Target S) (next : Next) → Advances m old new (HasEnded new)
     → IfEnds next (λ ended. (ended ≡ Done) ⊎ (ended ≡ LostByWrite))
-    → (next ≡ Ends Done → (is_open new.end ≡ false) × WritesAll new newest s t × Ran newest)
-    → (next ≡ Ends LostByWrite → LosesAtWrite new newest s t)
-    → IfEnds next (EndsSo old newest s t)
-message-ends s t old new newest turn Goes turned some which done fails = tt
-message-ends {S = S} s t old new newest turn (Ends ended) turned some which done fails =
-    let w = handled-Whole (front_of old.end) old new turn turned some in
-    let p = was-handled w.0 w.1 old new w.3 in
+    → (next ≡ Ends Done → (is_open new.end ≡ false) × WritesAll new newest s t)
+    → (next ≡ Ends LostByWrite → LosesAtWrite m new newest s t)
+    → IfEnds next (EndsSo m old newest s t)
+advance-ends m s t old new newest Goes p which done fails-so = tt
+advance-ends {S = S} m s t old new newest (Ends ended) p which done fails-so =
     elim which [
       | inl is ↦
           let d = done (ap Ends is) in
-          let ran : Ran (with_taken new.end.outgoing new) = subst (λ (x : Endpoint (Moment S)). Ran x) d.1.0 d.2 in
           rw (is, d.1.0, d.1.1) (
             λ h. cc,
-            λ base start k.
-                let kept : new.end.session.lost ≡ false = p.lost ∙ k.kept in
-                (handled-in-order base start s old new (sent_for old w.0) k p, (disposed (with_taken new.end.outgoing new) ran d.0 kept (omega (arith, p.turns)), d.0, kept, k.failed_writes)),
+            λ base start k. (
+              in-order base start s old new k (puts-of m old new _ p),
+              (ended-taken m new (p.closes d.0), d.0, p.lost ∙ k.kept, k.failed_writes),
+            ),
           )
       | inr is ↦
-          let f = fails (ap Ends is) in
+          let f = fails-so (ap Ends is) in
           rw (is, f.1.2) (
             λ h. cc,
             λ base start k. (
-              handled-fails base start s t old new (sent_for old w.0) f.1.0 k p f.0,
+              fails base start s t old new f.1.0 k (puts-of m old new _ p) f.0,
               (omega (arith, f.0.failed_writes, k.failed_writes), (with_taken f.1.0 new, f.1.1, p.lost ∙ k.kept, refl)),
             ),
           )
     ]
 
+-- a message that was handled
+message-of : {S : Type 0} (m : Meaning S) (old new : Target S) (turn : Turn) → IsBytes old.end.incoming → Ran m old → TurnsAt m (front_of old.end) old (Ok turn) new → turn ≢ Nothing → Advances m old new (HasEnded new)
+message-of m old new turn fits ran turned some =
+    let w = handled-Whole m (front_of old.end) old new turn turned some in
+    rw w.3 (message-advances m old w.0 w.1 fits w.2 ran)
+
+pub message-goes : {S : Type 0} (m : Meaning S) (s t : Story) (old new newest : Target S) (turn : Turn) → IsBytes old.end.incoming → Ran m old → TurnsAt m (front_of old.end) old (Ok turn) new → turn ≢ Nothing
+    → (is_open new.end ≡ true) × WritesAll new newest s t → GoesOn m old newest s t
+message-goes m s t old new newest turn fits ran turned some h base start cost k c =
+    advance-goes m base start s t old new newest (HasEnded new) cost (message-of m old new turn fits ran turned some) h k c
+
+pub message-ends : {S : Type 0} (m : Meaning S) (s t : Story) (old new newest : Target S) (turn : Turn) (next : Next) → IsBytes old.end.incoming → Ran m old → TurnsAt m (front_of old.end) old (Ok turn) new → turn ≢ Nothing
+    → IfEnds next (λ ended. (ended ≡ Done) ⊎ (ended ≡ LostByWrite))
+    → (next ≡ Ends Done → (is_open new.end ≡ false) × WritesAll new newest s t × Ran m newest)
+    → (next ≡ Ends LostByWrite → LosesAtWrite m new newest s t)
+    → IfEnds next (EndsSo m old newest s t)
+message-ends m s t old new newest turn next fits ran turned some which done fails-so =
+    advance-ends m s t old new newest next (message-of m old new turn fits ran turned some) which (λ e. let d = done e in (d.0, d.1)) fails-so
+
+-- steps that were made
+steps-of : {S : Type 0} (m : Meaning S) (old new : Target S) → StepsOn m old new → Advances m old new (HasEnded new)
+steps-of m old new p = record {
+  settings = p.settings;
+  began = p.began;
+  lost = p.lost;
+  fed = p.fed;
+  bytes = p.bytes;
+  enqueued = p.enqueued;
+  outgoing = p.outgoing;
+  runs = p.runs;
+  closes = λ closed. inr (p.closes closed);
+}
+
+pub steps-goes : {S : Type 0} (m : Meaning S) (s t : Story) (old new newest : Target S) → StepsOn m old new → (is_open new.end ≡ true) × WritesAll new newest s t → GoesOn m old newest s t
+steps-goes m s t old new newest p h base start cost k c = advance-goes m base start s t old new newest _ cost p h k c
+
+pub steps-ends : {S : Type 0} (m : Meaning S) (s t : Story) (old new newest : Target S) (next : Next) → StepsOn m old new
+    → IfEnds next (λ ended. (ended ≡ Done) ⊎ (ended ≡ LostByWrite))
+    → (next ≡ Ends Done → (is_open new.end ≡ false) × WritesAll new newest s t × Ran m newest)
+    → (next ≡ Ends LostByWrite → LosesAtWrite m new newest s t)
+    → IfEnds next (EndsSo m old newest s t)
+steps-ends m s t old new newest next p which done fails-so = advance-ends m s t old new newest next (steps-of m old new p) which (λ e. let d = done e in (d.0, d.1)) fails-so
+
+-- a step wanted memory, and what steps before it put was written
+pub memory-goes : {S : Type 0} (m : Meaning S) (s t : Story) (old mid newest : Target S) (made : Bool) → StepsIf m old mid made → MayStep mid → (is_open mid.end ≡ true) × WritesAll mid newest s t
+    → EndsSo m old newest s t ended.NoMemory
+memory-goes m s t old mid newest made p may h =
+    rw (h.1.0, h.1.1) (
+      λ e. cc,
+      λ base start k.
+          let now = going base start s old mid k (puts-if m old mid made p) h.0 in
+          (same-in-order base start (with_written mid.end.outgoing s) (with_taken mid.end.outgoing mid) now, (inr may, (now.opened, now.kept), now.failed_writes)),
+    )
+
+-- the same, and a write failed
+pub memory-ends : {S : Type 0} (m : Meaning S) (s t : Story) (old mid newest : Target S) (made : Bool) (next : Next) → StepsIf m old mid made → is_open mid.end ≡ true
+    → IfEnds next (λ ended. (ended ≡ Done) ⊎ (ended ≡ LostByWrite))
+    → (next ≡ Ends Done → (is_open mid.end ≡ false) × WritesAll mid newest s t × Ran m newest)
+    → (next ≡ Ends LostByWrite → LosesAtWrite m mid newest s t)
+    → IfEnds next (EndsSo m old newest s t)
+memory-ends m s t old mid newest made Goes p opened which done fails-so = tt
+memory-ends m s t old mid newest made (Ends ended) p opened which done fails-so =
+    elim which [
+      | inl is ↦ absurd (let closed = (done (ap Ends is)).0 in let e = sym opened ∙ closed in cc)
+      | inr is ↦
+          let f = fails-so (ap Ends is) in
+          let puts = puts-if m old mid made p in
+          rw (is, f.1.2) (
+            λ h. cc,
+            λ base start k. (
+              fails base start s t old mid f.1.0 k puts f.0,
+              (omega (arith, f.0.failed_writes, k.failed_writes), (with_taken f.1.0 mid, f.1.1, puts.lost ∙ k.kept, refl)),
+            ),
+          )
+    ]
+
 -- a round that goes on after a read
-pub read-goes : {S : Type 0} (base : Endpoint (Moment S)) (start s t : Story) (old new newest : Endpoint (Moment S)) → IsGoing base start s old → new ≡ old
-    → ReadsMore new newest s t
-    → IsGoing base start t newest × (effort s old < effort t newest)
-read-goes base start s t old new newest k same (more, fed, read) = rw (fed, read, same) (read-going base start s old more k)
+pub read-goes : {S : Type 0} (m : Meaning S) (s t : Story) (old new newest : Target S) → new ≡ old → ReadsMore new newest s t → GoesOn m old newest s t
+read-goes m s t old new newest same (more, fed, read) base start cost k c =
+    rw (fed, read, same) (read-going base start s old more k, fed-costs m cost s old more k.opened c)
 
 -- a round that ends at a read
-pub read-next-ends : {S : Type 0} (s t : Story) (old new newest : Endpoint (Moment S)) (next : Next) → Ran old → is_open old.end ≡ true → is_paused old.end ≡ false → front_of old.end ≡ More → new ≡ old
+pub read-next-ends : {S : Type 0} (m : Meaning S) (s t : Story) (old new newest : Target S) (next : Next) → Ran m old → is_open old.end ≡ true → is_paused old.end ≡ false → front_of old.end ≡ More → new ≡ old
     → IfEnds next (λ ended. (ended ≡ LostByRead) × LosesAtRead new newest s t)
-    → IfEnds next (EndsSo old newest s t)
-read-next-ends s t old new newest Goes ran opened flows more same which = tt
-read-next-ends s t old new newest (Ends ended) ran opened flows more same (is, (loses, fails)) =
+    → IfEnds next (EndsSo m old newest s t)
+read-next-ends m s t old new newest Goes ran opened flows more same which = tt
+read-next-ends m s t old new newest (Ends ended) ran opened flows more same (is, (loses, fails-so)) =
     let next : next_of old.end ≡ More = sym (front-next old.end flows) ∙ more in
     let front = front-left (λ next. next ≡ More) old.end (handled ran.acts) ran.carries opened next in
-    rw (is, loses, same) (λ h. cc, λ base start k. read-ends base start s t old k fails front ran)
+    rw (is, loses, same) (λ h. cc, λ base start k. read-ends m base start s t old k fails-so front ran)
 
 -- a round that ends at a fault
-pub fault-next-ends : {S : Type 0} (s : Story) (old new : Endpoint (Moment S)) (fault : FrameFault) (number : ℕ) → Ran old → is_open old.end ≡ true
-    → TurnsAt (front_of old.end) old (Err (Frame fault)) new → number ≡ fault_number fault
-    → (base : Endpoint (Moment S)) (start : Story) → IsGoing base start s old → InOrder base start s new × MayEnd (Refused number) start s new
-fault-next-ends s old new fault number ran opened turned number-is base start k =
-    let f = frame-Fault (front_of old.end) old new fault turned in
+pub fault-next-ends : {S : Type 0} (m : Meaning S) (s : Story) (old new : Target S) (fault : FrameFault) (number : ℕ) → Ran m old → is_open old.end ≡ true
+    → TurnsAt m (front_of old.end) old (Err (Frame fault)) new → number ≡ fault_number fault
+    → (base : Target S) (start : Story) → IsGoing base start s old → InOrder base start s new × MayEnd m (Refused number) start s new
+fault-next-ends m s old new fault number ran opened turned number-is base start k =
+    let f = frame-Fault m (front_of old.end) old new fault turned in
     let front = front-left (IsFaultOf number) old.end (handled ran.acts) ran.carries opened (fault, number-is, front-fault old.end fault f.0) in
     rw f.1 (lost-in-order base start s old k, (front, (old, ran, k.kept, refl)))
 
 -- a round that ends for want of memory
-pub memory-next-ends : {S : Type 0} (s : Story) (old new : Endpoint (Moment S)) → Ran old → is_open old.end ≡ true
-    → TurnsAt (front_of old.end) old (Err NoMemory) new
-    → (base : Endpoint (Moment S)) (start : Story) → IsGoing base start s old → InOrder base start s new × MayEnd ended.NoMemory start s new
-memory-next-ends s old new ran opened turned base start k =
-    let m = no_memory-Whole (front_of old.end) old new turned in
-    let w = m.0 in
+pub memory-next-ends : {S : Type 0} (m : Meaning S) (s : Story) (old new : Target S) → Ran m old → is_open old.end ≡ true
+    → TurnsAt m (front_of old.end) old (Err NoMemory) new
+    → (base : Target S) (start : Story) → IsGoing base start s old → InOrder base start s new × MayEnd m ended.NoMemory start s new
+memory-next-ends m s old new ran opened turned base start k =
+    let n = no_memory-Whole m (front_of old.end) old new turned in
+    let w = n.0 in
     let next = (front-whole old.end w.0 w.1 w.2).1 in
     let front = front-left CallsForMemory old.end (handled ran.acts) ran.carries opened (w.0, w.1, next, w.3) in
-    rw m.1 (same-in-order base start s old k, (front, (k.opened, k.kept), k.failed_writes))
+    rw n.1 (same-in-order base start s old k, (inl front, (k.opened, k.kept), k.failed_writes))
+
+-- the last flush failed, and a connection that was not lost before is lost
+pub kept-ends : {S : Type 0} (m : Meaning S) (base : Target S) (start now after : Story) (target : Target S) → Ran m target → target.end.session.lost ≡ false → InOrder base start now target
+    → after ≡ record now { failed_writes = now.failed_writes + 1 } → InOrder base start after (lost target) × MayEnd m LostByWrite start after (lost target) × (LostByWrite ≢ TurnLimit)
+kept-ends m base start now after target ran kept o e =
+    rw e (
+      record {
+        settings = o.settings;
+        began = o.began;
+        read = o.read;
+        written = o.written;
+        whole = λ f. absurd (omega (arith, o.failed_writes, f));
+        failed_writes = omega (arith, o.failed_writes);
+      },
+      (omega (arith, o.failed_writes), (target, ran, kept, refl)),
+      λ f. cc,
+    )
+
+-- what was kept
+pub kept-by : {S : Type 0} (m : Meaning S) (e : Ended) (start now : Story) (target : Target S) → (e ≡ Done) ⊎ ((e ≡ ended.NoMemory) ⊎ (e ≡ TurnLimit)) → MayEnd m e start now target → target.end.session.lost ≡ false
+kept-by m Done start now target which h = h.2
+kept-by m ended.NoMemory start now target which h = h.1.1
+kept-by m TurnLimit start now target which h = h.0.1
+kept-by m LostByRead start now target which h = absurd (elim which [ inl e ↦ cc | inr (inl e) ↦ cc | inr (inr e) ↦ cc ])
+kept-by m LostByWrite start now target which h = absurd (elim which [ inl e ↦ cc | inr (inl e) ↦ cc | inr (inr e) ↦ cc ])
+kept-by m (Refused number) start now target which h = absurd (elim which [ inl e ↦ cc | inr (inl e) ↦ cc | inr (inr e) ↦ cc ])
+
+-- a session that begins
+pub going-opened : {S : Type 0} (s : Story) (v : Target S) → v ≡ opened v → IsGoing v s s v
+going-opened {S = S} s v e =
+    subst (λ (x : Target S). IsGoing x s s x) (sym e)
+    (record {
+      opened = refl;
+      kept = refl;
+      idle = refl;
+      settings = refl;
+      began = refl;
+      read = sym (append-nil s.read);
+      written = sym (append-nil s.written);
+      failed_reads = refl;
+      failed_writes = refl;
+      ends = refl;
+    })
+
+-- what is spent where a session begins
+pub costs-opened : {S : Type 0} (m : Meaning S) (s : Story) (v : Target S) → v ≡ opened v → CostsAtLeast m (0 + s.rooms) s v
+costs-opened {S = S} m s v e = subst (λ (x : Target S). CostsAtLeast m (0 + s.rooms) s x) (sym e) (ran-opened m v, omega arith)

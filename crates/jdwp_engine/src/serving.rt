@@ -1,19 +1,20 @@
 //! The engine that runs a target on a pipe.
-ghost use Rattle.std.specs.Prelude.{◌≡◌, ◌≢◌, ◌⊎◌, ◌<◌, ◌≤◌, ◌+◌, ◌++◌, [], ℕ, List, length, true, false, IsTrue};
-ghost use Rattle.jdwp_end.specs.Ends.{is_open, room_of};
-ghost use Rattle.jdwp_target.specs.Endpoints.{opened, with_fed, with_taken, lost};
-ghost use Rattle.jdwp_target.specs.Runs.{Ran};
-ghost use Rattle.jdwp_target.specs.State.{Moment};
-ghost use Rattle.jdwp_target.specs.Endpoints.{Endpoint};
-ghost use Rattle.jdwp_target.specs.declared.fixed.Fixed.{Fixed};
+ghost use Rattle.std.specs.Prelude.{◌≡◌, ◌≢◌, ◌⊎◌, ◌<◌, ◌≤◌, ◌+◌, [], ℕ, Bool, List, length, true, false, IsTrue, IfOk, OnErr, IfSome};
+ghost use Rattle.jdwp_end.specs.Ends.{front_of, is_open, is_paused, room_of};
+ghost use Rattle.jdwp_wire.specs.Streams.{More};
+ghost use Rattle.jdwp_target.specs.Targets as spec;
+ghost use Rattle.jdwp_target.specs.Targets.{Ran, opened, with_fed, with_taken};
 ghost use Rattle.jdwp_engine.specs.Next.{IfEnds};
-ghost use Rattle.jdwp_engine.specs.Outcome.{EndsSo, MayEnd};
-ghost use Rattle.jdwp_engine.specs.Run.{InOrder, FailsWrite, GoesOn, LosesAtRead, LosesAtWrite, ReadsMore, WritesAll, with_written, effort};
+ghost use Rattle.jdwp_engine.specs.Outcome.{EndsSo, MayEnd, MayStep};
+ghost use Rattle.jdwp_engine.specs.Run.{CostsAtLeast, InOrder, FailsWrite, GoesOn, LosesAtRead, LosesAtWrite, ReadsMore, WritesAll, with_written};
+ghost use Rattle.jdwp_engine.specs.Steps.{StepsIf};
 ghost use Rattle.jdwp_engine.specs.Story.{Story};
 
 use crate::ended::Ended;
 use crate::pipe::Pipe;
-use jdwp_target::{Target, TargetFault, Turn};
+use jdwp_machine::Machine;
+use jdwp_target::{Stepped, Target, TargetFault, Turn};
+use jdwp_value::ObjectId;
 
 /// How many bytes are read or written at once at most.
 const CHUNK: usize = 4096;
@@ -21,34 +22,41 @@ const CHUNK: usize = 4096;
 /// Runs the target on the pipe for one session, for at most so many rounds.
 ///
 /// It begins with `accept`; a target that is already open is `Refused(0)`, and one whose machine is dead is `Done` at once, with nothing
-/// touched. A round is one turn; if that handled nothing, one read of at most 4,096 bytes and of what the target has room for, which
-/// are fed. What waits to leave is written after each round, and the pipe is flushed at the end, whatever the end is. Where the input
+/// touched. A round is one turn; if that handled nothing, one step of each live thread by rising id; and if none of them stepped, one
+/// read of at most 4,096 bytes and of what the target has room for, which are fed. What waits to leave is written after each round, and
+/// the pipe is flushed at the end, whatever the end is. The session is done after Dispose, and where the machine died. Where the input
 /// ends, or a read, a write or the last flush fails, the target loses the connection. It takes no memory of its own.
-pub fn serve<P: Pipe>(target: &mut Target, pipe: &mut P, rounds: u64) -> Ended
+pub fn serve<M: Machine + Drop, P: Pipe>(target: &mut Target<M>, pipe: &mut P, rounds: u64) -> Ended
     ensures refused { is_open target.old.end ≡ true → (result ≡ Ended.Refused 0) × (target.new ≡ target.old) × (P.story pipe.new ≡ P.story pipe.old) }
     ensures dead { is_open target.old.end ≡ false → target.old.moment.state.alive ≡ false → (result ≡ Ended.Done) × (target.new ≡ target.old) × (P.story pipe.new ≡ P.story pipe.old) }
     ensures in_order { is_open target.old.end ≡ false → target.old.moment.state.alive ≡ true → InOrder target.old (P.story pipe.old) (P.story pipe.new) target.new }
-    ensures ended { is_open target.old.end ≡ false → target.old.moment.state.alive ≡ true → MayEnd result (P.story pipe.old) (P.story pipe.new) target.new }
-    ensures limit { result ≡ Ended.TurnLimit → rounds + (P.story pipe.old).rooms ≤ effort (P.story pipe.new) target.new }
-    ensures ran { Ran target.new }
+    ensures ended { is_open target.old.end ≡ false → target.old.moment.state.alive ≡ true → MayEnd M.meaning result (P.story pipe.old) (P.story pipe.new) target.new }
+    ensures limit { result ≡ Ended.TurnLimit → CostsAtLeast M.meaning (rounds + (P.story pipe.old).rooms) (P.story pipe.new) target.new }
+    ensures ran { Ran M.meaning target.new }
 {
-    let ended = if target.is_open() {
-        Ended::Refused(0)
-    } else if target.accept() {
-        run_session(target, pipe, rounds)
-    } else {
-        Ended::Done
-    };
+    if target.is_open() {
+        target.session();
+        return Ended::Refused(0);
+    }
+    if !target.accept() {
+        target.session();
+        return Ended::Done;
+    }
+    let ended = run_session(target, pipe, rounds);
     target.session();
     ended
 }
 
 /// Runs a session that was accepted, and flushes the pipe.
-fn run_session<P: Pipe>(target: &mut Target, pipe: &mut P, rounds: u64) -> Ended
+fn run_session<M: Machine + Drop, P: Pipe>(
+    target: &mut Target<M>,
+    pipe: &mut P,
+    rounds: u64,
+) -> Ended
     requires opened { target.old ≡ opened target.old }
     ensures in_order { InOrder target.old (P.story pipe.old) (P.story pipe.new) target.new }
-    ensures ended { MayEnd result (P.story pipe.old) (P.story pipe.new) target.new }
-    ensures limit { result ≡ Ended.TurnLimit → rounds + (P.story pipe.old).rooms ≤ effort (P.story pipe.new) target.new }
+    ensures ended { MayEnd M.meaning result (P.story pipe.old) (P.story pipe.new) target.new }
+    ensures limit { result ≡ Ended.TurnLimit → CostsAtLeast M.meaning (rounds + (P.story pipe.old).rooms) (P.story pipe.new) target.new }
 {
     let ended = run_rounds(target, pipe, rounds);
     target.session();
@@ -59,9 +67,9 @@ fn run_session<P: Pipe>(target: &mut Target, pipe: &mut P, rounds: u64) -> Ended
 }
 
 /// The last flush failed: a connection that was not lost before is lost now.
-fn lose_what_is_kept(target: &mut Target, ended: Ended) -> Ended
-    requires { Ran target.old }
-    ensures { (base : Endpoint (Moment Fixed)) (start now after : Story) → InOrder base start now target.old → MayEnd ended start now target.old → after ≡ record now { failed_writes = now.failed_writes + 1 } → InOrder base start after target.new × MayEnd result start after target.new × (result ≢ Ended.TurnLimit) }
+fn lose_what_is_kept<M: Machine + Drop>(target: &mut Target<M>, ended: Ended) -> Ended
+    requires { Ran M.meaning target.old }
+    ensures { (base : spec.Target M) (start now after : Story) → InOrder base start now target.old → MayEnd M.meaning ended start now target.old → after ≡ record now { failed_writes = now.failed_writes + 1 } → InOrder base start after target.new × MayEnd M.meaning result start after target.new × (result ≢ Ended.TurnLimit) }
 {
     match ended {
         Ended::LostByRead | Ended::LostByWrite | Ended::Refused(_) => ended,
@@ -73,11 +81,15 @@ fn lose_what_is_kept(target: &mut Target, ended: Ended) -> Ended
 }
 
 /// Runs the rounds of a session that was accepted.
-fn run_rounds<P: Pipe>(target: &mut Target, pipe: &mut P, rounds: u64) -> Ended
+fn run_rounds<M: Machine + Drop, P: Pipe>(
+    target: &mut Target<M>,
+    pipe: &mut P,
+    rounds: u64,
+) -> Ended
     requires opened { target.old ≡ opened target.old }
     ensures in_order { InOrder target.old (P.story pipe.old) (P.story pipe.new) target.new }
-    ensures ended { MayEnd result (P.story pipe.old) (P.story pipe.new) target.new }
-    ensures limit { result ≡ Ended.TurnLimit → rounds + (P.story pipe.old).rooms ≤ effort (P.story pipe.new) target.new }
+    ensures ended { MayEnd M.meaning result (P.story pipe.old) (P.story pipe.new) target.new }
+    ensures limit { result ≡ Ended.TurnLimit → CostsAtLeast M.meaning (rounds + (P.story pipe.old).rooms) (P.story pipe.new) target.new }
 {
     let mut buffer = [0; CHUNK];
     for _done in 0..rounds {
@@ -96,12 +108,16 @@ enum Next {
     Ends(Ended),
 }
 
-/// One turn, and if it handled nothing one read. What waits to leave is written.
-fn round<P: Pipe>(target: &mut Target, pipe: &mut P, buffer: &mut [u8; CHUNK]) -> Next
+/// One turn, and if it handled nothing a step of each live thread, or else one read. What waits to leave is written.
+fn round<M: Machine + Drop, P: Pipe>(
+    target: &mut Target<M>,
+    pipe: &mut P,
+    buffer: &mut [u8; CHUNK],
+) -> Next
     requires is_open { is_open target.old.end ≡ true }
     requires idle { target.old.end.outgoing ≡ [] }
-    ensures goes { result ≡ Next.Goes → GoesOn target.old target.new (P.story pipe.old) (P.story pipe.new) }
-    ensures ends { IfEnds result (EndsSo target.old target.new (P.story pipe.old) (P.story pipe.new)) }
+    ensures goes { result ≡ Next.Goes → GoesOn M.meaning target.old target.new (P.story pipe.old) (P.story pipe.new) }
+    ensures ends { IfEnds result (EndsSo M.meaning target.old target.new (P.story pipe.old) (P.story pipe.new)) }
 {
     target.session();
     let turn = match target.turn() {
@@ -110,13 +126,99 @@ fn round<P: Pipe>(target: &mut Target, pipe: &mut P, buffer: &mut [u8; CHUNK]) -
         Err(TargetFault::NoMemory) => return Next::Ends(Ended::NoMemory),
     };
     match turn {
-        Turn::Nothing => read_and_feed(target, pipe, buffer),
+        Turn::Nothing => step_or_read(target, pipe, buffer),
         _ => write_and_go(target, pipe, buffer),
     }
 }
 
+/// One step of each live thread, and if none of them stepped one read. What waits to leave is written.
+fn step_or_read<M: Machine + Drop, P: Pipe>(
+    target: &mut Target<M>,
+    pipe: &mut P,
+    buffer: &mut [u8; CHUNK],
+) -> Next
+    requires is_open { is_open target.old.end ≡ true }
+    requires idle { target.old.end.outgoing ≡ [] }
+    requires asks { front_of target.old.end ≡ More }
+    requires flows { is_paused target.old.end ≡ false }
+    requires room { 0 < room_of target.old.end }
+    ensures goes { result ≡ Next.Goes → GoesOn M.meaning target.old target.new (P.story pipe.old) (P.story pipe.new) }
+    ensures ends { IfEnds result (EndsSo M.meaning target.old target.new (P.story pipe.old) (P.story pipe.new)) }
+{
+    target.session();
+    match step_each(target) {
+        Ok(false) => read_and_feed(target, pipe, buffer),
+        Ok(true) => write_and_go(target, pipe, buffer),
+        Err(_) => match write_and_go(target, pipe, buffer) {
+            Next::Goes => Next::Ends(Ended::NoMemory),
+            Next::Ends(ended) => Next::Ends(ended),
+        },
+    }
+}
+
+/// One step of each live thread, by rising id, and whether one of them stepped. Threads that a step starts are among them where their
+/// ids are higher.
+///
+/// # Errors
+/// `NoMemory` where a step wanted memory; those of lower ids were made.
+fn step_each<M: Machine + Drop>(target: &mut Target<M>) -> Result<bool, TargetFault>
+    requires { is_open target.old.end ≡ true }
+    ensures stepped { IfOk result (StepsIf M.meaning target.old target.new) }
+    ensures memory { OnErr result (((stepped : Bool) × StepsIf M.meaning target.old target.new stepped) × (is_open target.new.end ≡ true) × MayStep target.new) }
+{
+    let mut has_stepped = false;
+    let mut least = 0;
+    while let Some(thread) = least_from(target.live(), least) {
+        match step_one(target, thread, has_stepped) {
+            Ok(now) => has_stepped = now,
+            Err(fault) => return Err(fault),
+        }
+        match thread.0.checked_add(1) {
+            Some(above) => least = above,
+            None => break,
+        }
+    }
+    Ok(has_stepped)
+}
+
+/// One step of this thread, after others or none, and whether one of them stepped.
+fn step_one<M: Machine + Drop>(
+    target: &mut Target<M>,
+    thread: ObjectId,
+    has_stepped: bool,
+) -> Result<bool, TargetFault>
+    ensures goes { IfOk result (λ now. (first : spec.Target M) → is_open first.end ≡ true → StepsIf M.meaning first target.old has_stepped → StepsIf M.meaning first target.new now) }
+    ensures memory { OnErr result (MayStep target.old × (target.new ≡ target.old)) }
+{
+    let stepped = match target.step(thread) {
+        Ok(stepped) => stepped,
+        Err(fault) => return Err(fault),
+    };
+    match stepped {
+        Stepped::Frozen => Ok(has_stepped),
+        _ => Ok(true),
+    }
+}
+
+/// The least of these ids that is no less than `least`.
+fn least_from(threads: &[ObjectId], least: u64) -> Option<ObjectId>
+    ensures { IfSome result (λ thread. least ≤ thread.0) }
+{
+    let mut found: Option<ObjectId> = None;
+    for thread in threads {
+        if thread.0 >= least && found.is_none_or(|other| thread.0 < other.0) {
+            found = Some(*thread);
+        }
+    }
+    found
+}
+
 /// Reads once, and feeds what came.
-fn read_and_feed<P: Pipe>(target: &mut Target, pipe: &mut P, buffer: &mut [u8; CHUNK]) -> Next
+fn read_and_feed<M: Machine + Drop, P: Pipe>(
+    target: &mut Target<M>,
+    pipe: &mut P,
+    buffer: &mut [u8; CHUNK],
+) -> Next
     requires { 0 < room_of target.old.end }
     ensures goes { result ≡ Next.Goes → ReadsMore target.old target.new (P.story pipe.old) (P.story pipe.new) }
     ensures ends { IfEnds result (λ ended. (ended ≡ Ended.LostByRead) × LosesAtRead target.old target.new (P.story pipe.old) (P.story pipe.new)) }
@@ -135,7 +237,7 @@ fn read_and_feed<P: Pipe>(target: &mut Target, pipe: &mut P, buffer: &mut [u8; C
 }
 
 /// Feeds all of the bytes.
-fn feed_all(target: &mut Target, bytes: &[u8])
+fn feed_all<M: Machine + Drop>(target: &mut Target<M>, bytes: &[u8])
     requires { length bytes.now ≤ room_of target.old.end }
     ensures { target.new ≡ with_fed bytes.now target.old }
 {
@@ -143,11 +245,15 @@ fn feed_all(target: &mut Target, bytes: &[u8])
 }
 
 /// Writes what waits, and ends where a write fails or the session has closed.
-fn write_and_go<P: Pipe>(target: &mut Target, pipe: &mut P, buffer: &mut [u8; CHUNK]) -> Next
+fn write_and_go<M: Machine + Drop, P: Pipe>(
+    target: &mut Target<M>,
+    pipe: &mut P,
+    buffer: &mut [u8; CHUNK],
+) -> Next
     ensures goes { result ≡ Next.Goes → (is_open target.old.end ≡ true) × WritesAll target.old target.new (P.story pipe.old) (P.story pipe.new) }
-    ensures done { result ≡ Next.Ends Ended.Done → (is_open target.old.end ≡ false) × WritesAll target.old target.new (P.story pipe.old) (P.story pipe.new) × Ran target.new }
+    ensures done { result ≡ Next.Ends Ended.Done → (is_open target.old.end ≡ false) × WritesAll target.old target.new (P.story pipe.old) (P.story pipe.new) × Ran M.meaning target.new }
     ensures ends { IfEnds result (λ ended. (ended ≡ Ended.Done) ⊎ (ended ≡ Ended.LostByWrite)) }
-    ensures fails { result ≡ Next.Ends Ended.LostByWrite → LosesAtWrite target.old target.new (P.story pipe.old) (P.story pipe.new) }
+    ensures fails { result ≡ Next.Ends Ended.LostByWrite → LosesAtWrite M.meaning target.old target.new (P.story pipe.old) (P.story pipe.new) }
 {
     let written = write_out(target, pipe, buffer);
     target.session();
@@ -163,7 +269,11 @@ fn write_and_go<P: Pipe>(target: &mut Target, pipe: &mut P, buffer: &mut [u8; CH
 }
 
 /// Writes all that waits to leave, or says that a write failed.
-fn write_out<P: Pipe>(target: &mut Target, pipe: &mut P, buffer: &mut [u8; CHUNK]) -> bool
+fn write_out<M: Machine + Drop, P: Pipe>(
+    target: &mut Target<M>,
+    pipe: &mut P,
+    buffer: &mut [u8; CHUNK],
+) -> bool
     ensures all { IsTrue result → WritesAll target.old target.new (P.story pipe.old) (P.story pipe.new) }
     ensures fails { result ≡ false → FailsWrite (P.story pipe.old) (P.story pipe.new) target.old.end.outgoing }
     ensures kept { (taken : List ℕ) × (target.new ≡ with_taken taken target.old) }

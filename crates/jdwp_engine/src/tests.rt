@@ -2,8 +2,11 @@
 ghost use Rattle.std.specs.Prelude.{◌≡◌, ◌≤◌, IfOk, IfSome, true};
 
 use crate::{Ended, Streams, serve};
-use jdwp_target::{Fixed, Target, TargetOptions};
+use jdwp_debuggee::Settings;
+use jdwp_script_machine::ScriptMachine;
+use jdwp_target::Target;
 use jdwp_value::ObjectId;
+use jdwp_wire::Limits;
 use std::alloc::Global;
 use std::io;
 use std::io::{BufWriter, ErrorKind, Read, Write};
@@ -128,14 +131,25 @@ fn writing(alloc: Global, most: usize, plan: Plan) -> Writer {
     }
 }
 
-fn closed_target(alloc: Global, start_all: bool) -> Result<Target, Fail> {
-    let Some(options) = TargetOptions::new(start_all, 65535) else {
+/// Two threads: one calls a method, moves in it and returns, and the other has no step.
+const MACHINE: &str = r#"{"name":"A","sizes":[8,8,8,8,8],
+"groups":[{"id":5,"name":"main","parent":0}],
+"classes":[{"id":10,"tag":1,"signature":"LMain;","modifiers":1,
+ "super":0,"interfaces":[],"source":"Main.java","fields":[],
+ "methods":[{"id":20,"name":"run","signature":"()V","modifiers":1,
+  "args":0,"last":9,"lines":[[0,1],[3,2],[4,3]],"slots":[]}]}],
+"objects":[],
+"threads":[{"id":1,"name":"main","group":5,"steps":[
+ ["call",30,10,20,0,[]],["go",3],["go",4],["go",3],["go",4],
+ ["go",3],["return",["V",0]]]},
+ {"id":2,"name":"work","group":5,"steps":[]}]}"#;
+
+fn closed_target(alloc: Global, start_all: bool) -> Result<Target<ScriptMachine>, Fail> {
+    let machine = ScriptMachine::read(alloc, MACHINE)?;
+    let Some(settings) = Settings::new(start_all, 65535, Limits::standard()) else {
         return Err(Fail::from("the count limit is in range"));
     };
-    let Ok(target) = Target::new(alloc, Fixed, options) else {
-        return Err(Fail::from("memory is ample"));
-    };
-    Ok(target)
+    Ok(Target::new(alloc, machine, settings)?)
 }
 
 /// Serves one session, and answers how it ended and what was written.
@@ -189,28 +203,30 @@ const ANSWERS_SUSPENDED: [u8; 111] = [
     0x00, 0x00, 0x00, 0x0b, 0x00, 0x00, 0x00, 0x04, 0x80, 0x00, 0x00, //
 ];
 
+/// A target that starts every thread suspended answers however the session is cut. Where none is suspended the threads step once all
+/// that was read is handled, and so the session is read whole.
 #[test]
 fn a_session_is_answered(rt: HostRuntime) -> Result<(), Fail> {
-    for most in [1, 2, 13, 66, 5000] {
+    let rows: [(bool, usize, &[u8]); 7] = [
+        (true, 1, &ANSWERS_SUSPENDED),
+        (true, 2, &ANSWERS_SUSPENDED),
+        (true, 13, &ANSWERS_SUSPENDED),
+        (true, 66, &ANSWERS_SUSPENDED),
+        (true, 5000, &ANSWERS_SUSPENDED),
+        (false, 66, &ANSWERS),
+        (false, 5000, &ANSWERS),
+    ];
+    for (start_all, most, answers) in rows {
         let alloc = rt.alloc();
         let (ended, bytes) = served(
             alloc,
-            false,
+            start_all,
             reading(&SESSION, most, UNDISTURBED),
             writing(alloc, most, UNDISTURBED),
             ROUNDS,
         )?;
         assert_eq!(rt; ended, Ended::Done, "by {most}");
-        assert_eq!(rt; bytes.as_slice(), ANSWERS.as_slice(), "by {most}");
-        let (ended, bytes) = served(
-            alloc,
-            true,
-            reading(&SESSION, most, UNDISTURBED),
-            writing(alloc, most, UNDISTURBED),
-            ROUNDS,
-        )?;
-        assert_eq!(rt; ended, Ended::Done, "by {most}");
-        assert_eq!(rt; bytes.as_slice(), ANSWERS_SUSPENDED.as_slice(), "by {most}");
+        assert_eq!(rt; bytes.as_slice(), answers, "by {most}");
     }
     Ok(())
 }
@@ -279,7 +295,7 @@ fn each_write_may_fail(rt: HostRuntime) -> Result<(), Fail> {
             let plan = Plan { call, event };
             let (ended, bytes) = served(
                 alloc,
-                false,
+                true,
                 reading(&SESSION, 1, UNDISTURBED),
                 writing(alloc, 5000, plan),
                 ROUNDS,
@@ -292,7 +308,7 @@ fn each_write_may_fail(rt: HostRuntime) -> Result<(), Fail> {
             assert_eq!(rt; ended, want, "{event:?} at {call}");
             assert_eq!(rt;
                 bytes.as_slice(),
-                &ANSWERS[..written],
+                &ANSWERS_SUSPENDED[..written],
                 "{event:?} at {call}"
             );
         }
@@ -337,13 +353,13 @@ fn an_interrupted_call_is_repeated(rt: HostRuntime) -> Result<(), Fail> {
         };
         let (ended, bytes) = served(
             alloc,
-            false,
+            true,
             reading(&SESSION, 20, plan),
             writing(alloc, 5000, plan),
             ROUNDS,
         )?;
         assert_eq!(rt; ended, Ended::Done, "at {call}");
-        assert_eq!(rt; bytes.as_slice(), ANSWERS.as_slice(), "at {call}");
+        assert_eq!(rt; bytes.as_slice(), ANSWERS_SUSPENDED.as_slice(), "at {call}");
     }
     Ok(())
 }
@@ -440,7 +456,7 @@ fn reads_are_of_what_there_is_room_for(rt: HostRuntime) -> Result<(), Fail> {
         input.extend_from_slice(&block)?;
     }
     input.truncate(65550);
-    let mut target = closed_target(alloc, false)?;
+    let mut target = closed_target(alloc, true)?;
     let mut pipe = Streams::new(
         reading(&input, 5000, UNDISTURBED),
         writing(alloc, 5000, UNDISTURBED),
@@ -506,13 +522,13 @@ fn unknown_commands_are_answered(rt: HostRuntime) -> Result<(), Fail> {
     let alloc = rt.alloc();
     let (ended, bytes) = served(
         alloc,
-        false,
+        true,
         reading(input, 5000, UNDISTURBED),
         writing(alloc, 5000, UNDISTURBED),
         ROUNDS,
     )?;
     assert_eq!(rt; ended, Ended::LostByRead);
-    assert!(rt; bytes.as_slice().starts_with(&ANSWERS[..43]));
+    assert!(rt; bytes.as_slice().starts_with(&ANSWERS_SUSPENDED[..43]));
     let replies =
         b"\x00\x00\x00\x0b\x00\x00\x00\x05\x80\x00\x63\x00\x00\x00\x0b\x00\x00\x00\x06\x80\x00\x63";
     assert!(rt; bytes.as_slice().ends_with(replies));
@@ -581,27 +597,72 @@ fn a_loss_lowers_the_counts(rt: HostRuntime) -> Result<(), Fail> {
     Ok(())
 }
 
-/// A second session has no VM_START.
+/// VM_DEATH under the id 2.
+const VM_DEATH: &[u8] =
+    b"\x00\x00\x00\x15\x00\x00\x00\x02\x00\x40\x64\x00\x00\x00\x00\x01\x63\x00\x00\x00\x00";
+
+/// Where nothing is to be handled each live thread steps once a round: the read, the handshake, seven steps of thread 1 beside the end
+/// of thread 2, and the end of thread 1, with which the machine dies. From then on a session is done at once.
 #[test]
-fn a_target_serves_again(rt: HostRuntime) -> Result<(), Fail> {
-    let alloc = rt.alloc();
-    let mut target = closed_target(alloc, true)?;
-    let mut pipe = Streams::new(
-        reading(&SESSION, 66, UNDISTURBED),
-        writing(alloc, 5000, UNDISTURBED),
-    );
-    assert_eq!(rt; serve(&mut target, &mut pipe, ROUNDS), Ended::Done);
-    if target.is_open() {
-        return Err(Fail::from("a disposed session is closed"));
+fn threads_step_until_the_machine_dies(rt: HostRuntime) -> Result<(), Fail> {
+    for (rounds, want, written) in [(9u64, Ended::TurnLimit, 43usize), (10, Ended::Done, 64)] {
+        let alloc = rt.alloc();
+        let mut target = closed_target(alloc, false)?;
+        let mut pipe = Streams::new(
+            reading(&SESSION[..14], 66, UNDISTURBED),
+            writing(alloc, 5000, UNDISTURBED),
+        );
+        assert_eq!(rt;
+            serve(&mut target, &mut pipe, rounds),
+            want,
+            "{rounds} rounds"
+        );
+        let (reader, writer) = pipe.into_parts();
+        assert_eq!(rt; reader.calls, 1);
+        assert_eq!(rt; writer.bytes.len(), written, "{rounds} rounds");
+        assert!(rt; writer.bytes.as_slice().starts_with(&ANSWERS[..43]));
+        if want == Ended::Done {
+            assert!(rt; writer.bytes.as_slice().ends_with(VM_DEATH));
+            assert!(rt; target.live().is_empty());
+            let mut pipe = Streams::new(
+                reading(&SESSION, 66, UNDISTURBED),
+                writing(alloc, 5000, UNDISTURBED),
+            );
+            assert_eq!(rt; serve(&mut target, &mut pipe, 0), Ended::Done);
+            let (reader, writer) = pipe.into_parts();
+            assert_eq!(rt; reader.calls, 0);
+            assert_eq!(rt; writer.flushes, 0);
+        }
     }
-    let mut pipe = Streams::new(
-        reading(&SESSION, 66, UNDISTURBED),
+    Ok(())
+}
+
+/// Breakpoints at index 3 are requested twice, with the policies NONE and ALL. Both Sets are handled before a thread steps; then thread 1
+/// calls and comes there, both requests report it in one composite, and nobody steps any more.
+#[test]
+fn what_steps_report_is_written(rt: HostRuntime) -> Result<(), Fail> {
+    let input = b"JDWP-Handshake\
+        \x00\x00\x00\x2b\x00\x00\x00\x02\x00\x0f\x01\x02\x00\x00\x00\x00\x01\x07\x01\
+        \x00\x00\x00\x00\x00\x00\x00\x0a\x00\x00\x00\x00\x00\x00\x00\x14\x00\x00\x00\x00\x00\x00\x00\x03\
+        \x00\x00\x00\x2b\x00\x00\x00\x03\x00\x0f\x01\x02\x02\x00\x00\x00\x01\x07\x01\
+        \x00\x00\x00\x00\x00\x00\x00\x0a\x00\x00\x00\x00\x00\x00\x00\x14\x00\x00\x00\x00\x00\x00\x00\x03";
+    let told = b"\x00\x00\x00\x0f\x00\x00\x00\x02\x80\x00\x00\x00\x00\x00\x01\
+        \x00\x00\x00\x0f\x00\x00\x00\x03\x80\x00\x00\x00\x00\x00\x02\
+        \x00\x00\x00\x5c\x00\x00\x00\x02\x00\x40\x64\x02\x00\x00\x00\x02\
+        \x02\x00\x00\x00\x01\x00\x00\x00\x00\x00\x00\x00\x01\x01\
+        \x00\x00\x00\x00\x00\x00\x00\x0a\x00\x00\x00\x00\x00\x00\x00\x14\x00\x00\x00\x00\x00\x00\x00\x03\
+        \x02\x00\x00\x00\x02\x00\x00\x00\x00\x00\x00\x00\x01\x01\
+        \x00\x00\x00\x00\x00\x00\x00\x0a\x00\x00\x00\x00\x00\x00\x00\x14\x00\x00\x00\x00\x00\x00\x00\x03";
+    let alloc = rt.alloc();
+    let (ended, bytes) = served(
+        alloc,
+        false,
+        reading(input, 5000, UNDISTURBED),
         writing(alloc, 5000, UNDISTURBED),
-    );
-    assert_eq!(rt; serve(&mut target, &mut pipe, ROUNDS), Ended::Done);
-    let (_, writer) = pipe.into_parts();
-    assert!(rt; writer.bytes.as_slice().starts_with(&ANSWERS[..14]));
-    assert!(rt; writer.bytes.as_slice().ends_with(&ANSWERS[43..]));
-    assert_eq!(rt; writer.bytes.len(), 82);
+        ROUNDS,
+    )?;
+    assert_eq!(rt; ended, Ended::LostByRead);
+    assert!(rt; bytes.as_slice().starts_with(&ANSWERS[..43]));
+    assert_eq!(rt; &bytes.as_slice()[43..], told.as_slice());
     Ok(())
 }

@@ -5,6 +5,8 @@ use Rattle.std.specs.Borrow.{Bor}
 use Rattle.std.specs.IoError.{error_kind}
 use Rattle.std.specs.declared.io.Error.{Error}
 use Rattle.std.specs.declared.io.ErrorKind.TheVariants as kind
+use Rattle.jdwp_script.specs.declared.fault.ScriptFault.{ScriptFault}
+use Rattle.jdwp_script.specs.declared.fault.ScriptFault.TheVariants as script
 use Rattle.jdwp_program.specs.declared.captures.TellFault.{TellFault}
 use Rattle.jdwp_program.specs.declared.captures.TellFault.TheVariants as telling
 use Rattle.jdwp_program.specs.declared.fault.Fault.{Fault}
@@ -26,6 +28,7 @@ IsUnusable path error fault.NoMemory = error_kind error ≡ kind.OutOfMemory
 IsUnusable path error (fault.File named cause) = (named ≡ path) × (error_kind error ≢ kind.OutOfMemory) × IsCauseOf error cause
 IsUnusable path error (fault.Words text) = ⊥
 IsUnusable path error fault.NotText = ⊥
+IsUnusable path error (fault.Script other) = ⊥
 IsUnusable path error (fault.Output other) = ⊥
 
 -- the bytes are not UTF-8, and this says at which of them no character begins
@@ -40,3 +43,13 @@ IsNotText bytes (Other error) = ⊥
 abbrev pub fault_of_telling : TellFault → Fault
 fault_of_telling (telling.Output error) = fault.Output error
 fault_of_telling telling.NoMemory = fault.NoMemory
+
+-- what is told of a script's fault: want of memory alone, or the fault
+abbrev pub fault_of_script : ScriptFault → Fault
+fault_of_script script.NoMemory = fault.NoMemory
+fault_of_script script.NotJson = fault.Script script.NotJson
+fault_of_script (script.Missing member) = fault.Script (script.Missing member)
+fault_of_script script.IdTwice = fault.Script script.IdTwice
+fault_of_script script.IdTooWide = fault.Script script.IdTooWide
+fault_of_script script.BadReference = fault.Script script.BadReference
+fault_of_script script.OverLimit = fault.Script script.OverLimit

@@ -5,6 +5,7 @@ ghost use Rattle.jdwp_program.specs.Files.{IsNotText};
 ghost use Rattle.jdwp_program.specs.declared.fault.Fault.TheVariants as fault;
 
 use crate::captures::TellFault;
+use jdwp_script::ScriptFault;
 use jdwp_wire::NoMemory;
 use std::alloc::AllocError;
 use std::io;
@@ -23,6 +24,9 @@ pub enum Fault<'a> {
     /// A file that can't be used, as it was named, and why.
     #[error("{0}: {1}")]
     File(&'a str, FileCause),
+    /// The script of the machine is refused.
+    #[error("{0}")]
+    Script(ScriptFault),
     /// The output can't be written.
     #[error("the output can't be written: {0}")]
     Output(io::Error),
@@ -75,7 +79,7 @@ impl<'a> Fault<'a> {
         ensures bound { result ≤ 4 }
     {
         match self {
-            Fault::Words(_) | Fault::NotText | Fault::File(_, _) => 1,
+            Fault::Words(_) | Fault::NotText | Fault::File(_, _) | Fault::Script(_) => 1,
             Fault::Output(_) => 2,
             Fault::NoMemory => 3,
         }
@@ -91,6 +95,19 @@ impl<'a> From<TellFault> for Fault<'a> {
         match error {
             TellFault::Output(error) => Fault::Output(error),
             TellFault::NoMemory => Fault::NoMemory,
+        }
+    }
+}
+
+impl<'a> From<ScriptFault> for Fault<'a> {
+    ghost use Rattle.jdwp_program.specs.Files.{fault_of_script};
+
+    ghost from_gives = { λ t f. f ≡ fault_of_script t };
+
+    fn from(error: ScriptFault) -> Fault<'a> {
+        match error {
+            ScriptFault::NoMemory => Fault::NoMemory,
+            error => Fault::Script(error),
         }
     }
 }

@@ -15,5 +15,5 @@ mod values;
 pub use captures::{TellFault, Told, check_capture, show_capture};
 pub use fault::{Fault, FileCause, text_of};
 pub use outcome::{Outcome, report_fault, report_outcome};
-pub use serving::serve_session;
+pub use serving::{serve_script, serve_session};
 pub use values::{decimal, is_all};

@@ -1,27 +1,55 @@
 //! Sessions served over any reader and writer.
-ghost use Rattle.std.specs.Prelude.{◌≡◌, IfOk, OnErr};
+ghost use Rattle.std.specs.Prelude.{◌≡◌, ◌⊎◌, Ok, Err, IfOk, IfErr, OnErr};
+ghost use Rattle.jdwp_wire.specs.Limits.{standard_limits};
+ghost use Rattle.jdwp_script.specs.declared.fault.ScriptFault.TheVariants.{NoMemory};
+ghost use Rattle.jdwp_script_machine.specs.Machines.{read_machine};
+ghost use Rattle.jdwp_script_machine.specs.ScriptMeaning.{script_meaning};
+ghost use Rattle.jdwp_script_machine.specs.States.{State};
 ghost use Rattle.jdwp_engine.specs.Streams.{story_of};
 ghost use Rattle.jdwp_program.specs.Serving.{ServesNew};
 
+use jdwp_debuggee::Settings;
 use jdwp_engine::{Ended, Streams, serve};
-use jdwp_target::{Fixed, Target, TargetOptions};
-use jdwp_wire::NoMemory;
+use jdwp_machine::Machine;
+use jdwp_script::ScriptFault;
+use jdwp_script_machine::ScriptMachine;
+use jdwp_target::Target;
 use std::alloc::Global;
 use std::io::{Read, Write};
 
-/// Serves one session of a new target over the fixed machine for at most so many rounds, as `serve` does.
+/// Serves one session of a new target over the machine of this script for at most so many rounds, as `serve` does.
+///
+/// # Errors
+/// The first fault of the script, or `NoMemory` where an allocation was refused; and then nothing was read or written.
+pub fn serve_script<R: Read, W: Write>(
+    alloc: Global,
+    script: &str,
+    settings: Settings,
+    pipe: &mut Streams<R, W>,
+    rounds: u32,
+) -> Result<Ended, ScriptFault>
+    ensures served { IfOk result (λ ended. (machine : State) × (read_machine standard_limits.live script.now ≡ Ok machine) × ServesNew script_meaning settings machine rounds (story_of pipe.old) (story_of pipe.new) ended) }
+    ensures fault { IfErr result (λ fault. (fault ≡ NoMemory) ⊎ (read_machine standard_limits.live script.now ≡ Err fault)) }
+    ensures untouched { OnErr result (pipe.new ≡ pipe.old) }
+{
+    let machine = ScriptMachine::read(alloc, script)?;
+    Ok(serve_session(alloc, machine, settings, pipe, rounds)?)
+}
+
+/// Serves one session of a new target over the machine for at most so many rounds, as `serve` does.
 ///
 /// # Errors
 /// `NoMemory`, and then nothing was read or written.
-pub fn serve_session<R: Read, W: Write>(
+pub fn serve_session<M: Machine + Drop, R: Read, W: Write>(
     alloc: Global,
-    options: TargetOptions,
+    machine: M,
+    settings: Settings,
     pipe: &mut Streams<R, W>,
     rounds: u32,
-) -> Result<Ended, NoMemory>
-    ensures served { IfOk result (ServesNew options rounds (story_of pipe.old) (story_of pipe.new)) }
+) -> Result<Ended, jdwp_wire::NoMemory>
+    ensures served { IfOk result (ServesNew M.meaning settings machine rounds (story_of pipe.old) (story_of pipe.new)) }
     ensures memory { OnErr result (pipe.new ≡ pipe.old) }
 {
-    let mut target = Target::new(alloc, Fixed, options)?;
+    let mut target = Target::new(alloc, machine, settings)?;
     Ok(serve(&mut target, pipe, u64::from(rounds)))
 }

@@ -1,10 +1,12 @@
 //! What is told, and sessions, on readers and writers in memory.
 use crate::{
     Fault, FileCause, Outcome, TellFault, Told, check_capture, decimal, is_all, report_fault,
-    report_outcome, serve_session, show_capture, text_of,
+    report_outcome, serve_script, show_capture, text_of,
 };
+use jdwp_debuggee::Settings;
 use jdwp_engine::{Ended, Streams};
-use jdwp_target::TargetOptions;
+use jdwp_script::{Member, ScriptFault};
+use jdwp_wire::Limits;
 use std::alloc::Global;
 use std::io;
 use std::io::{ErrorKind, Write};
@@ -192,6 +194,16 @@ fn faults_are_told(rt: HostRuntime) -> Result<(), Fail> {
             "jdwp: a/b: no storage space\n",
         ),
         (
+            Fault::Script(ScriptFault::Missing(Member::Last)),
+            1,
+            "jdwp: fault 22: the member last is missing or of another type\n",
+        ),
+        (
+            Fault::Script(ScriptFault::BadReference),
+            1,
+            "jdwp: fault 25: a bad reference\n",
+        ),
+        (
             Fault::Output(full),
             2,
             "jdwp: the output can't be written: no storage space\n",
@@ -357,10 +369,23 @@ const ANSWERS: [u8; 111] = [
     0x00, 0x00, 0x00, 0x0b, 0x00, 0x00, 0x00, 0x04, 0x80, 0x00, 0x00, //
 ];
 
+/// Two threads: one calls a method, moves in it and returns, and the other has no step.
+const MACHINE: &str = r#"{"name":"A","sizes":[8,8,8,8,8],
+"groups":[{"id":5,"name":"main","parent":0}],
+"classes":[{"id":10,"tag":1,"signature":"LMain;","modifiers":1,
+ "super":0,"interfaces":[],"source":"Main.java","fields":[],
+ "methods":[{"id":20,"name":"run","signature":"()V","modifiers":1,
+  "args":0,"last":9,"lines":[[0,1],[3,2],[4,3]],"slots":[]}]}],
+"objects":[],
+"threads":[{"id":1,"name":"main","group":5,"steps":[
+ ["call",30,10,20,0,[]],["go",3],["go",4],["go",3],["go",4],
+ ["go",3],["return",["V",0]]]},
+ {"id":2,"name":"work","group":5,"steps":[]}]}"#;
+
 #[test]
 fn a_session_is_served(rt: HostRuntime) -> Result<(), Fail> {
     let alloc = rt.alloc();
-    let options = TargetOptions::new(false, 65535).ok_or("a count limit")?;
+    let settings = Settings::new(false, 65535, Limits::standard()).ok_or("a count limit")?;
     let rows: [(&[u8], u32, bool, Ended, usize); 5] = [
         (&SESSION, 6, false, Ended::Done, 111),
         (&SESSION, 5, false, Ended::TurnLimit, 100),
@@ -373,11 +398,32 @@ fn a_session_is_served(rt: HostRuntime) -> Result<(), Fail> {
         let mut writer = Output::new(alloc, 1000, 0, ErrorKind::Other);
         writer.flush_fails = flush_fails;
         let mut pipe = Streams::new(input, writer);
-        let ended = serve_session(alloc, options, &mut pipe, rounds)?;
+        let ended = serve_script(alloc, MACHINE, settings, &mut pipe, rounds)?;
         let (_, writer) = pipe.into_parts();
         assert_eq!(rt; ended, want);
         assert!(rt; ANSWERS.starts_with(writer.bytes.as_slice()));
         assert_eq!(rt; writer.bytes.len(), written);
     }
+    Ok(())
+}
+
+/// A script that is refused is told by its fault, and nothing is read or written.
+#[test]
+fn a_script_is_refused(rt: HostRuntime) -> Result<(), Fail> {
+    let alloc = rt.alloc();
+    let settings = Settings::new(false, 65535, Limits::standard()).ok_or("a count limit")?;
+    let mut pipe = Streams::new(
+        SESSION.as_slice(),
+        Output::new(alloc, 1000, 0, ErrorKind::Other),
+    );
+    let ended = serve_script(alloc, "A", settings, &mut pipe, 6);
+    assert_eq!(rt; ended, Err(ScriptFault::NotJson));
+    let (rest, writer) = pipe.into_parts();
+    assert_eq!(rt; rest.len(), SESSION.len());
+    assert_eq!(rt; writer.calls, 0);
+    let fault = Fault::from(ScriptFault::BadReference);
+    assert_eq!(rt; fault.status(), 1);
+    let fault = Fault::from(ScriptFault::NoMemory);
+    assert_eq!(rt; fault.status(), 3);
     Ok(())
 }

@@ -1,10 +1,6 @@
-pub mod CountLemmas
 pub mod EnqueueLemmas
-pub mod Disposing
-pub mod RunLemmas
 pub mod TargetRuns
 pub mod RightTargets
 pub mod StepLemmas
-pub mod KeptLemmas
-pub mod LeastThread
 pub mod RightTurns
+pub mod LeastThread

@@ -1,5 +1,5 @@
 -- Turns of a target over any machine.
-use Rattle.std.proofs.Common.{◌≡◌, ◌∙◌, ℕ, ◌+◌, ◌≤◌, List, [], ◌∷◌, ◌++◌, ◌==◌, length, Bool, true, false, ◌||◌, Option, Some, None, Result, Ok, Err, pos, sym, ap, refl, subst, arith}
+use Rattle.std.proofs.Common.{◌≡◌, ◌∙◌, ℕ, ◌+◌, ◌≤◌, List, [], ◌∷◌, ◌++◌, ◌==◌, length, Bool, true, false, ◌||◌, Some, None, Result, Ok, Err, pos, sym, ap, refl, subst, arith}
 use Rattle.std.proofs.lemmas.List.{append-nil, length-append}
 use Rattle.byteorder.specs.Endian.{big_bytes}
 use Rattle.byteorder.specs.Numbers.{length-bytes_high_first}
@@ -17,7 +17,7 @@ use Rattle.jdwp_end.specs.declared.phase.Phase.{Phase}
 use Rattle.jdwp_end.specs.declared.phase.Phase.TheVariants.{Closed, AwaitingHandshake, Established}
 use Rattle.jdwp_end.specs.Ends.{End, front_of, most_outgoing, with_enqueued}
 use Rattle.jdwp_end.specs.Ends as ends
-use Rattle.jdwp_end.proofs.Fronts.{in-front}
+use Rattle.jdwp_end.proofs.Fronts.{IsDue, in-front}
 use Rattle.jdwp_layout.specs.Meanings.{DatumMeaning}
 use Rattle.jdwp_layout.specs.CommandTable.{row_at}
 use Rattle.jdwp_layout.specs.CommandNumbers.{EVENT, COMPOSITE}
@@ -30,10 +30,10 @@ use Rattle.jdwp_debuggee.specs.Actions
 use Rattle.jdwp_debuggee.specs.Actions.{Action, Command, Raw, action_of, is_implemented}
 use Rattle.jdwp_debuggee.specs.CommandReads.{Asking, action_meaning, asking, asking_of, asks, command_read, content_read, read_by, row_request, with_content}
 use Rattle.jdwp_debuggee.specs.Debuggees.{Debuggee, at_moment}
-use Rattle.jdwp_debuggee.specs.Effects.{Effect, does, effect_by, refused, suspend_by, set_by, suspend_thread_by, suspend_thread_at, resume_thread_by, count_by, status_by, slots_by, slots_at, frames_by, thread_by}
+use Rattle.jdwp_debuggee.specs.Effects.{Effect, does, effect_by, suspend_by, set_by, suspend_thread_by, suspend_thread_at, resume_thread_by, count_by, status_by, slots_by, slots_at, frames_by, thread_by}
 use Rattle.jdwp_debuggee.specs.Facts.{is_dispose, is_exit}
 use Rattle.jdwp_debuggee.specs.Refusals.{set_refusal}
-use Rattle.jdwp_debuggee.specs.Sending.{Did, IsSent, answer_bytes, error_of, sent_bytes, sent_error}
+use Rattle.jdwp_debuggee.specs.Sending.{Did, IsSent, answer_bytes, error_of}
 use Rattle.jdwp_debuggee.specs.Settings.{Settings}
 use Rattle.jdwp_debuggee.specs.State.{Moment, at_limit, count_of}
 use Rattle.jdwp_debuggee.specs.declared.command as code
@@ -45,15 +45,20 @@ use Rattle.jdwp_target.specs.declared.target.Turn.{Turn}
 use Rattle.jdwp_target.specs.declared.target.Turn.TheVariants as turn
 use Rattle.jdwp_target.specs.declared.turning.Done.{Done}
 use Rattle.jdwp_target.specs.Insides.{IsRight, target_of}
-use Rattle.jdwp_target.specs.Sends.{packet_with, reply_to, report_of}
+use Rattle.jdwp_target.specs.Sends.{reply_to, report_of}
 use Rattle.jdwp_target.specs.Standings.{carried_out, greets_by, phase_after, replies_by}
 use Rattle.jdwp_target.specs.Targets.{Ran, Target, in_phase, with_handled}
 use Rattle.jdwp_target.specs.StepParts.{debuggee_after, end_after}
 use Rattle.jdwp_target.specs.TurnParts.{IsDone, IsHandled, after_deaths, closed_where, deaths, reply_of}
 use Rattle.jdwp_target.specs.Turns.{NeedsMemory, TurnsAt, told_of, told_of_packet}
 use Rattle.jdwp_target.proofs.EnqueueLemmas.{two_enqueued}
-use Rattle.jdwp_target.proofs.KeptLemmas.{packet-phase}
 use Rattle.jdwp_target.proofs.TargetRuns.{ran-handled}
+
+-- a packet comes in an established session
+packet-phase : (limit : ℕ) (phase : Phase) (header : Header) (body : List ℕ) → IsDue limit phase (Packet header body) → phase ≡ Established
+packet-phase limit Closed header body due = absurd due
+packet-phase limit AwaitingHandshake header body due = absurd (let e = due in cc)
+packet-phase limit Established header body due = refl
 
 -- ---- what an action leaves: whether the machine dies, whether the session closes, and that the first handshake stays completed
 

@@ -23,7 +23,7 @@ use Rattle.jdwp_target.specs.Targets.{Target, Ran, in_phase, lost, new_target, o
 
 -- ---- one act more
 
-handled-message : (acts : List Act) (m : Message) → handled (acts ++ Handles m ∷ []) ≡ handled acts ++ m ∷ []
+pub handled-message : (acts : List Act) (m : Message) → handled (acts ++ Handles m ∷ []) ≡ handled acts ++ m ∷ []
 handled-message [] m = refl
 handled-message (Handles n ∷ acts) m = ap (λ (x : List Message). n ∷ x) (handled-message acts m)
 handled-message (Steps t ∷ acts) m = handled-message acts m
@@ -166,3 +166,26 @@ ran-handled m v message used fits front ran =
     goes-on m v (with_handled m message used v) (Handles message) ran refl refl
     (subst (Carries (with_handled m message used v).end) (sym (handled-message ran.acts message)) c)
     refl refl
+
+-- ---- the acts of a run, after each call
+
+pub opened-acts : {S : Type 0} (m : Meaning S) (v : Target S) → (ran-opened m v).acts ≡ []
+unfolding ran-opened
+opened-acts m v = refl
+
+pub fed-acts : {S : Type 0} (m : Meaning S) (v : Target S) (bytes : List ℕ) (opened : is_open v.end ≡ true) (ran : Ran m v) → (ran-fed m v bytes opened ran).acts ≡ ran.acts
+unfolding ran-fed
+fed-acts m v bytes opened ran = refl
+
+pub taken-acts : {S : Type 0} (m : Meaning S) (v : Target S) (n : ℕ) (le : n ≤ length v.end.outgoing) (ran : Ran m v) → (ran-taken m v n le ran).acts ≡ ran.acts
+unfolding ran-taken
+taken-acts m v n le ran = refl
+
+pub handled-acts : {S : Type 0} (m : Meaning S) (v : Target S) (message : Message) (used : ℕ) (fits : IsBytes v.end.incoming) (front : front_of v.end ≡ Whole message used) (ran : Ran m v)
+    → (ran-handled m v message used fits front ran).acts ≡ ran.acts ++ Handles message ∷ []
+unfolding ran-handled goes-on
+handled-acts m v message used fits front ran = refl
+
+pub stepped-acts : {S : Type 0} (m : Meaning S) (v : Target S) (t : ℕ) (ran : Ran m v) → (ran-stepped m v t ran).acts ≡ ran.acts ++ Steps t ∷ []
+unfolding ran-stepped goes-on
+stepped-acts m v t ran = refl

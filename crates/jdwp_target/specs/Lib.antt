@@ -5,16 +5,4 @@ pub mod Insides
 pub mod Turns
 pub mod TurnParts
 pub mod StepParts
-pub mod Machine
-pub mod Options
-pub mod Setup
-pub mod State
-pub mod Commands
-pub mod Replies
-pub mod Acts
-pub mod Reactions
-pub mod Endpoints
-pub mod Runs
-pub mod Counts
-pub mod Meanings
-pub mod Kept
+pub mod Starts

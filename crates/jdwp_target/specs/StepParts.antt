@@ -11,7 +11,7 @@ use Rattle.jdwp_debuggee.specs.declared.steps.StepDone.{StepDone}
 use Rattle.jdwp_target.specs.Standings.{Reaction}
 use Rattle.jdwp_target.specs.Targets.{in_phase}
 use Rattle.jdwp_target.specs.Turns.{told_by_end}
-use Rattle.jdwp_target.specs.declared.machine_target.Stepped.{Stepped}
+use Rattle.jdwp_target.specs.declared.target.Stepped.{Stepped}
 
 -- A composite can be written, and there is room for its packet behind what waits.
 pub record CanLeave (w : Widths) (end : End) (c : CompositeMeaning) : Type 0 where

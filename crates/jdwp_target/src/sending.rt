@@ -10,7 +10,7 @@ ghost use Rattle.jdwp_debuggee.specs.Sending.{sent_bytes, sent_error};
 ghost use Rattle.jdwp_layout.specs.CommandNumbers as commands;
 ghost use Rattle.jdwp_target.specs.Sends.{packet_with, reply_to, report_of};
 
-use crate::command::enqueue_int;
+use crate::numbers::enqueue_int;
 use jdwp_debuggee::{Reply, Sent};
 use jdwp_end::End;
 use jdwp_event::{Composite, EventKind, Policy};

@@ -5,16 +5,15 @@ ghost use Rattle.jdwp_target.specs.Standings.{steps_at, steps_in_session};
 ghost use Rattle.jdwp_target.specs.StepParts.{CanTell, debuggee_after, end_after, step_of, told_of_done};
 ghost use Rattle.jdwp_target.specs.Turns.{StepsAt};
 
-use crate::machine_target::{MachineTarget, Stepped};
 use crate::sending::{enqueue_death, enqueue_report};
-use crate::target::TargetFault;
+use crate::target::{Stepped, Target, TargetFault};
 use jdwp_debuggee::{Debuggee, StepDone};
 use jdwp_end::End;
 use jdwp_machine::Machine;
 use jdwp_value::ObjectId;
 use jdwp_wire::IdSizes;
 
-impl<M: Machine + Drop> MachineTarget<M> {
+impl<M: Machine + Drop> Target<M> {
     /// One step of a thread, if the end is not paused and the thread may make one. In a session whose handshake is done, what
     /// happened is reported, and where the last thread ended VM_DEATH; in any other nothing is sent. Where the last thread ended
     /// the session closes.

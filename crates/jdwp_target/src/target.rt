@@ -1,23 +1,19 @@
 //! The debuggee's end of a session.
-ghost use Rattle.std.specs.Prelude.{◌≡◌, ◌≤◌, ◌<◌, ◌++◌, ◌↔◌, [], true, false, Ok, IfOk, IfSome, IsTrue, length, take, drop, min};
+ghost use Rattle.std.specs.Prelude.{◌≡◌, ◌≤◌, ◌<◌, ◌++◌, ◌↔◌, [], true, false, IfOk, IsTrue, length, take, drop, min};
+ghost use Rattle.jdwp_wire.specs.Bytes.{IsBytes};
+ghost use Rattle.jdwp_wire.specs.Streams.{More};
 ghost use Rattle.jdwp_end.specs.Ends as ends;
 ghost use Rattle.jdwp_end.specs.Ends.{front_of, most_outgoing, room_of};
-ghost use Rattle.jdwp_wire.specs.Limits.{standard_limits};
-ghost use Rattle.jdwp_wire.specs.Streams.{More};
-ghost use Rattle.jdwp_target.specs.Endpoints.{TurnsAt, lost, new_endpoint, opened, with_fed, with_taken};
-ghost use Rattle.jdwp_target.specs.Machine.{fixed_threads};
-ghost use Rattle.jdwp_target.specs.Meanings.{moment_at, setup_at};
-ghost use Rattle.jdwp_target.specs.Runs.{Ran};
-ghost use Rattle.jdwp_target.specs.State as spec;
+ghost use Rattle.jdwp_machine.specs.Meanings.{numbers};
+ghost use Rattle.jdwp_debuggee.specs.State as spec;
+ghost use Rattle.jdwp_target.specs.Targets.{Ran, lost, new_target, opened, with_fed, with_taken};
 
-use crate::command::Asked;
-use crate::fixed::Fixed;
-use crate::handling::{handle_handshake, handle_packet};
-use crate::options::TargetOptions;
-use crate::state::State;
-use jdwp_end::{End, Front};
+use jdwp_debuggee::{Debuggee, Settings};
+use jdwp_end::{End, Phase};
+use jdwp_event::Requests;
+use jdwp_machine::Machine;
 use jdwp_value::ObjectId;
-use jdwp_wire::{ErrorCode, FrameFault, HANDSHAKE, Limits, NoMemory};
+use jdwp_wire::{ErrorCode, FrameFault, NoMemory};
 use std::alloc::Global;
 use std::marker::Model;
 use thiserror::Error;
@@ -57,49 +53,62 @@ impl From<NoMemory> for TargetFault {
     }
 }
 
-/// A target: a machine, the state of the debuggee, and its end of a session.
+/// What a step of a thread did.
+#[derive(Clone, Copy, Debug, PartialEq, Eq)]
+pub enum Stepped {
+    /// Nothing: the end is paused, or the thread may not step.
+    Frozen,
+    /// It made a step, and nothing was reported.
+    Quiet,
+    /// What it did was reported.
+    Reported,
+    /// It ended.
+    Ended,
+}
+
+/// A target over a machine: the debuggee, and its end of a session.
 #[derive(Drop)]
-pub struct Target {
-    alloc: Global,
-    machine: Fixed,
-    state: State,
-    /// The state at which the session began, for contracts alone.
-    began: Trace<State>,
-    end: End,
+pub struct Target<M: Machine> {
+    pub(crate) alloc: Global,
+    pub(crate) debuggee: Debuggee<M>,
+    /// The debuggee as it was when the session began, for contracts alone.
+    pub(crate) began: Trace<Debuggee<M>>,
+    /// The phase in which the session began, for contracts alone.
+    pub(crate) phases: Trace<Phase>,
+    pub(crate) end: End,
 }
 
-impl Model for Target {
-    ghost use Rattle.jdwp_target.specs.declared.fixed.Fixed.{Fixed};
-    ghost use Rattle.jdwp_target.specs.Endpoints.{Endpoint};
-    ghost use Rattle.jdwp_target.specs.State.{Moment};
+impl<M: Machine> Model for Target<M> {
+    ghost use Rattle.jdwp_target.specs.Targets as targets;
+    ghost use Rattle.jdwp_target.specs.Insides.{target_of, IsRight};
 
-    ghost Value = { Endpoint (Moment Fixed) };
+    ghost Value = { targets.Target M };
 
-    ghost use Rattle.jdwp_target.specs.Kept.{view_of, IsRight};
+    ghost view = { λ t. target_of t.debuggee t.began.items t.phases.items t.end };
 
-    ghost view = { view_of };
-
-    ghost invariant = { IsRight };
+    ghost invariant = { λ t. IsRight M.meaning t.debuggee t.began.items t.phases.items t.end };
 }
 
-impl Target {
-    /// A closed target over this machine, before its first session, within the standard limits. All its buffers are made here.
+impl<M: Machine + Drop> Target<M> {
+    /// A closed target over this machine, before its first session. All its buffers are made here.
     ///
     /// # Errors
-    /// Where an allocation is refused.
-    pub fn new(alloc: Global, machine: Fixed, options: TargetOptions) -> Result<Target, NoMemory>
-        ensures { IfOk result (λ t. t ≡ new_endpoint (setup_at options standard_limits) (moment_at (spec.new_state fixed_threads) machine)) }
+    /// `NoMemory` where an allocation was refused.
+    pub fn new(alloc: Global, machine: M, settings: Settings) -> Result<Target<M>, NoMemory>
+        ensures { IfOk result (λ t. t ≡ new_target settings (record { state = spec.new_state (M.meaning.live machine); machine = machine })) }
     {
-        let live = machine.live();
-        let state = State::new(alloc, &live, options)?;
+        let debuggee = Debuggee::new(alloc, machine, settings)?;
+        let end = End::new(alloc, settings.limits())?;
         let mut began = Trace::new();
-        began.push(&state);
+        began.push(&debuggee);
+        let mut phases = Trace::new();
+        phases.push(&Phase::Closed);
         Ok(Target {
             alloc,
-            machine,
-            state,
+            debuggee,
             began,
-            end: End::new(alloc, Limits::standard())?,
+            phases,
+            end,
         })
     }
 
@@ -110,12 +119,25 @@ impl Target {
         self.end.is_open()
     }
 
-    /// The suspend count of a thread, 0 to the count limit of the options; None where it is not alive.
+    /// The suspend count of a thread, 0 to the count limit of the settings; None where it is not alive.
     pub fn count(&self, thread: ObjectId) -> Option<u32>
-        ensures value { result ≡ spec.count_of self.now.moment.state thread.0 }
-        ensures bound { IfSome result (λ count. count ≤ self.now.options.count_limit) }
+        ensures { result ≡ spec.count_of self.now.moment.state thread.0 }
     {
-        self.state.count(thread)
+        self.debuggee.count(thread)
+    }
+
+    /// The threads that live, in the machine's order.
+    pub fn live(&self) -> &[ObjectId]
+        ensures { numbers result.now ≡ M.meaning.live self.now.moment.machine }
+    {
+        self.debuggee.live()
+    }
+
+    /// The event requests, by rising id.
+    pub fn requests(&self) -> &Requests
+        ensures { result.now ≡ self.now.moment.state.requests }
+    {
+        self.debuggee.requests()
     }
 
     /// Begins a session: both buffers are empty, and the handshake is waited for. False, and nothing changes, where a session is
@@ -125,12 +147,14 @@ impl Target {
         ensures opened { IsTrue result → self.new ≡ opened self.old }
         ensures refused { result ≡ false → self.new ≡ self.old }
     {
-        if self.end.is_open() || !self.state.is_alive() {
+        if self.end.is_open() || !self.debuggee.is_alive() {
             return false;
         }
         self.end.open();
         self.began = Trace::new();
-        self.began.push(&self.state);
+        self.began.push(&self.debuggee);
+        self.phases = Trace::new();
+        self.phases.push(&Phase::AwaitingHandshake);
         true
     }
 
@@ -167,50 +191,23 @@ impl Target {
         self.end.take(out)
     }
 
-    /// The connection is lost: the end is closed, both buffers are empty and every suspend count is 0.
+    /// The connection is lost: the end is closed, both buffers are empty, every suspend count is 0, there are no requests, and
+    /// events are not held.
     pub fn lose(&mut self)
         ensures { self.new ≡ lost self.old }
     {
-        self.state.reset();
+        self.debuggee.reset();
         self.end.lose();
     }
 
-    /// Handles the message in front, if one is whole and the end is neither closed nor paused. An open end that is not paused and
-    /// asks for more has room for a byte.
-    ///
-    /// # Errors
-    /// `Frame` exactly where the bytes in front begin no message; the end is then as after `lose`. `NoMemory` where an allocation
-    /// was refused, which no message of this target calls for; then nothing has changed.
-    pub fn turn(&mut self) -> Result<Turn, TargetFault>
-        ensures turns { TurnsAt (front_of self.old.end) self.old result self.new }
-        ensures nothing { (result ≡ Ok Turn.Nothing) ↔ (front_of self.old.end ≡ More) }
-        ensures flows { self.old.end.outgoing ≡ [] → ends.is_paused self.old.end ≡ false }
-        ensures room { front_of self.old.end ≡ More → ends.is_open self.old.end ≡ true → ends.is_paused self.old.end ≡ false → 0 < room_of self.old.end }
-    {
-        match self.end.front() {
-            Front::More => Ok(Turn::Nothing),
-            Front::Fault(fault) => {
-                self.lose();
-                Err(TargetFault::Frame(fault))
-            }
-            Front::Handshake => {
-                self.end.take_off(HANDSHAKE.len());
-                handle_handshake(&self.machine, &mut self.state, &mut self.end);
-                Ok(Turn::Hello)
-            }
-            Front::Packet(packet, used) => {
-                let id = packet.header.id;
-                let asked = Asked::read(self.alloc, &self.machine.sizes(), &packet);
-                self.end.take_off(used);
-                Ok(handle_packet(&self.machine, &mut self.state, id, asked, &mut self.end))
-            }
-        }
-    }
-
-    /// What holds after every list of calls in a session. It does nothing.
+    /// What holds after every list of calls in a session: the whole run; that what came are bytes; that an end at which nothing waits
+    /// is not paused; and that an open end that is not paused and asks for more has room for a byte. It changes nothing.
     pub fn session(&self)
-        ensures { Ran self.now }
+        ensures ran { Ran M.meaning self.now }
+        ensures bytes { IsBytes self.now.end.incoming }
+        ensures flows { self.now.end.outgoing ≡ [] → ends.is_paused self.now.end ≡ false }
+        ensures room { front_of self.now.end ≡ More → ends.is_open self.now.end ≡ true → ends.is_paused self.now.end ≡ false → 0 < room_of self.now.end }
     {
-        let _ = &self.end;
+        let _ = self.end.front();
     }
 }

@@ -13,10 +13,9 @@ ghost use Rattle.jdwp_target.specs.StepParts.{debuggee_after};
 ghost use Rattle.jdwp_target.specs.TurnParts.{IsDone, after_deaths, closed_where, deaths, reply_of};
 ghost use Rattle.jdwp_target.specs.Turns.{TurnsAt};
 
-use crate::command::enqueue_int;
-use crate::machine_target::MachineTarget;
+use crate::numbers::enqueue_int;
 use crate::sending::{enqueue_composite_header, enqueue_death, enqueue_reply};
-use crate::target::{TargetFault, Turn};
+use crate::target::{Target, TargetFault, Turn};
 use jdwp_debuggee::{Asked, Debuggee, Reply, Sent, Start, read_command};
 use jdwp_end::{End, Front};
 use jdwp_event::EventKind;
@@ -32,7 +31,7 @@ pub struct Done {
     closes: bool,
 }
 
-impl<M: Machine + Drop> MachineTarget<M> {
+impl<M: Machine + Drop> Target<M> {
     /// Handles the message in front, if one is whole and the end is neither closed nor paused. An open end that is not paused and
     /// asks for more has room for a byte.
     ///

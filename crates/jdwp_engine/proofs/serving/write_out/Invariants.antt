@@ -1,5 +1,5 @@
 use Rattle.std.proofs.Common.{◌≡◌, ◌++◌, ℕ, List, length}
-use Rattle.jdwp_target.specs.Endpoints.{with_taken}
+use Rattle.jdwp_target.specs.Targets.{with_taken}
 use Rattle.jdwp_engine.specs.Run.{with_written}
 use Rattle.jdwp_engine.proofs.serving.write_out.Given as goal
 

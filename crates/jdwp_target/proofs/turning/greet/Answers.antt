@@ -1,4 +1,4 @@
-use Rattle.std.proofs.Common.{◌≡◌, ◌∙◌, ◌++◌, [], List, ℕ, refl, ap, sym, true, false}
+use Rattle.std.proofs.Common.{◌≡◌, ◌∙◌, ℕ, refl, ap, sym, true, false}
 use Rattle.std.proofs.lemmas.List.{append-nil}
 use Rattle.jdwp_wire.specs.Handshake.{handshake_bytes}
 use Rattle.jdwp_wire.specs.Streams.{message_bytes}

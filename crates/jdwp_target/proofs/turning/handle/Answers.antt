@@ -1,4 +1,3 @@
-use Rattle.std.proofs.Common.{◌≡◌}
 use Rattle.jdwp_debuggee.specs.CommandReads.{action_meaning}
 use Rattle.jdwp_target.specs.declared.turning.Done.{Done}
 use Rattle.jdwp_target.proofs.RightTurns.{closes-by, done-carried, done-refused}

@@ -1,8 +1,8 @@
-use Rattle.std.proofs.Common.{◌≡◌, ◌∙◌, ◌∷◌, List, ℕ, ap, refl, sym}
-use Rattle.jdwp_wire.specs.Streams.{message_bytes, stream}
+use Rattle.std.proofs.Common.{◌≡◌, ◌∙◌, ◌∷◌, ap}
+use Rattle.jdwp_wire.specs.Streams.{stream}
 use Rattle.jdwp_end.specs.Ends.{End, with_enqueued}
 use Rattle.jdwp_end.specs.Ends as ends
-use Rattle.jdwp_target.specs.TurnParts.{closed_where, deaths, reply_of}
+use Rattle.jdwp_target.specs.TurnParts.{deaths, reply_of}
 use Rattle.jdwp_target.proofs.RightTurns.{put-alone, put-death}
 use Rattle.jdwp_target.proofs.turning.reply.Goals as goal
 use Rattle.jdwp_target.proofs.turning.reply.Goals.{then-done, else-done}

@@ -1,7 +1,7 @@
-use Rattle.jdwp_target.proofs.RunLemmas.{ran-opened}
-use Rattle.jdwp_target.specs.Kept.{view_of}
+use Rattle.jdwp_target.proofs.RightTargets.{right-opened}
 use Rattle.jdwp_target.proofs.target.Target.accept.Goals as goal
 
 pub invariant_of-self : goal.invariant_of-self
-invariant_of-self c =
-    rw (c.open.ensures, c.push.ensures, c.new-self-inside.ensures) (record { handshaken = λ e. absurd cc; ran = ran-opened (view_of c.self.inside) })
+invariant_of-self g c =
+    rw (c.open.ensures, c.push.ensures, c.push-2.ensures, c.new-self-inside.ensures, c.new-self-inside-2.ensures)
+    (right-opened g.M.Machine.meaning c.self.inside.debuggee c.self.inside.began.items c.self.inside.phases.items c.self.inside.end c.self.invariant)

@@ -1,39 +1,89 @@
-use Rattle.std.proofs.Common.{rules, ◌≡◌, refl}
+use Rattle.std.proofs.Common.{◌≡◌, ◌∙◌, rules, refl}
 use Rattle.jdwp_wire.specs.Streams.{Handshake, Packet, Whole}
 use Rattle.jdwp_end.specs.Ends.{front_of}
-use Rattle.jdwp_target.specs.Commands.{asked_in}
-use Rattle.jdwp_target.specs.Endpoints.{setup_of}
-use Rattle.jdwp_target.specs.Kept.{view_of}
-use Rattle.jdwp_target.specs.Machine.{fixed_sizes}
-use Rattle.jdwp_target.specs.Meanings.{asked_meaning}
-use Rattle.jdwp_target.proofs.KeptLemmas.{greeted-handshaken, greeted-view, handled-right, handled-view, packet-handshaken, packet-keeps, turns-whole}
+use Rattle.jdwp_target.specs.Insides.{target_of}
+use Rattle.jdwp_target.proofs.RightTurns.{command-replied, greeted, handled-view, packet-handshaken, reply-handled, right-handled, told-command, turns-whole}
 use Rattle.jdwp_target.proofs.target.Target.turn.Goals as goal
+use Rattle.jdwp_target.proofs.target.Target.turn.Goals.{in-Written-1, in-Short-1}
 
 pub invariant_of-self : goal.invariant_of-self
-invariant_of-self c =
-    let front : front_of c.self.inside.end ≡ Whole Handshake 14 = search rules in
-    let off = c.take_off.ensures Handshake front in
-    let same = greeted-view c.self.inside _ refl refl c.handle_handshake.ensures.state (rw off at c.handle_handshake.ensures.end) in
-    handled-right c.self.inside _ Handshake 14 c.self.invariant c.front.ensures.bytes front same (greeted-handshaken c.self.inside)
+invariant_of-self g c =
+    let t = c.self.inside in
+    let front : front_of t.end ≡ Whole Handshake 14 = search rules in
+    let h = greeted g.M.Machine.meaning t.debuggee _ t.end _ _ (c.take_off.ensures Handshake front) c.greet.ensures.debuggee c.greet.ensures.end in
+    right-handled g.M.Machine.meaning t.debuggee _ t.began.items t.phases.items t.end _ Handshake 14 c.self.invariant c.front.ensures.bytes front h
 
-pub returns-in-Handshake-clause-turns : goal.returns-in-Handshake-clause-turns
-returns-in-Handshake-clause-turns c =
-    let front : front_of c.self.inside.end ≡ Whole Handshake 14 = search rules in
-    let off = c.take_off.ensures Handshake front in
-    let same = greeted-view c.self.inside _ refl refl c.handle_handshake.ensures.state (rw off at c.handle_handshake.ensures.end) in
-    rw (← c.self.view_is) (turns-whole (view_of c.self.inside) _ Handshake 14 _ front refl same)
+pub returns-in-Handshake : goal.returns-in-Handshake
+returns-in-Handshake g c =
+    let t = c.self.inside in
+    let front : front_of t.end ≡ Whole Handshake 14 = search rules in
+    let h = greeted g.M.Machine.meaning t.debuggee _ t.end _ _ (c.take_off.ensures Handshake front) c.greet.ensures.debuggee c.greet.ensures.end in
+    rw (← c.self.view_is)
+    (record {
+      turns =
+          turns-whole g.M.Machine.meaning (target_of t.debuggee t.began.items t.phases.items t.end) _ Handshake 14 _ front refl
+          (handled-view g.M.Machine.meaning t.debuggee _ t.began.items t.phases.items t.end _ Handshake 14 c.self.invariant h);
+    })
 
-pub invariant_of-self-in-Packet : goal.invariant_of-self-in-Packet
-invariant_of-self-in-Packet c =
+pub invariant_of-self-in_default : goal.invariant_of-self-in_default
+invariant_of-self-in_default g c =
+    let t = c.self.inside in
     let header = c.in-Packet.packet.header in
     let body = c.in-Packet.packet.body.now in
-    let front : front_of c.self.inside.end ≡ Whole (Packet header body) c.in-Packet.used = search rules in
+    let used = c.in-Packet.used in
+    let front : front_of t.end ≡ Whole (Packet header body) used = search rules in
+    let shaken = packet-handshaken g.M.Machine.meaning t.debuggee t.began.items t.phases.items t.end header body used c.self.invariant c.front.ensures.bytes front in
+    let h = reply-handled g.M.Machine.meaning t.debuggee header body used _ t.end _ c.in_default.is shaken (c.take_off-in_default.ensures (Packet header body) front) in
+    right-handled g.M.Machine.meaning t.debuggee _ t.began.items t.phases.items t.end _ (Packet header body) used c.self.invariant c.front.ensures.bytes front h
+
+pub invariant_of-self-in_ok-done-in-Packet : goal.invariant_of-self-in_ok-done-in-Packet
+invariant_of-self-in_ok-done-in-Packet g c =
+    let t = c.self.inside in
+    let header = c.in-Packet.packet.header in
+    let body = c.in-Packet.packet.body.now in
+    let used = c.in-Packet.used in
+    let front : front_of t.end ≡ Whole (Packet header body) used = search rules in
+    let shaken = packet-handshaken g.M.Machine.meaning t.debuggee t.began.items t.phases.items t.end header body used c.self.invariant c.front.ensures.bytes front in
     let off = c.take_off-in-Packet.ensures (Packet header body) front in
-    let asked : asked_meaning c.read-asked.result ≡ asked_in fixed_sizes header.kind body = search rules in
-    let state = rw (off, asked) at c.handle_packet.ensures.state in
-    let end = rw (off, asked) at c.handle_packet.ensures.end in
-    let now = (view_of c.self.inside).moment in
-    let k = packet-keeps (setup_of (view_of c.self.inside)) now header.id (asked_in fixed_sizes header.kind body) in
-    let same = handled-view c.self.inside _ (Packet header body) c.in-Packet.used refl refl state k.machine end in
-    handled-right c.self.inside _ (Packet header body) c.in-Packet.used c.self.invariant c.front.ensures.bytes front same
-    (k.handshaken (packet-handshaken c.self.inside header body c.in-Packet.used c.self.invariant c.front.ensures.bytes front))
+    let h =
+    command-replied g.M.Machine.meaning t.debuggee c.handle.new.debuggee c.reply.new.debuggee header body used c.in-Command.set c.in-Command.number t.end c.take_off-in-Packet.new.self c.reply.new.end c.in_ok-done-in-Packet.done
+    c.sizes-sizes.result c.in-Command.is
+    c.in_ok-done-in-Packet.ensures.ok shaken c.reply.ensures.debuggee c.sizes-sizes.ensures off c.reply.ensures.end in
+    right-handled g.M.Machine.meaning t.debuggee _ t.began.items t.phases.items t.end _ (Packet header body) used c.self.invariant c.front.ensures.bytes front h
+
+pub invariant_of-self-in_ok-done-in-Packet-2 : goal.invariant_of-self-in_ok-done-in-Packet-2
+invariant_of-self-in_ok-done-in-Packet-2 g c =
+    let t = c.self.inside in
+    let header = c.in-Packet.packet.header in
+    let body = c.in-Packet.packet.body.now in
+    let used = c.in-Packet.used in
+    let front : front_of t.end ≡ Whole (Packet header body) used = search rules in
+    let shaken = packet-handshaken g.M.Machine.meaning t.debuggee t.began.items t.phases.items t.end header body used c.self.invariant c.front.ensures.bytes front in
+    let off = c.take_off-in-Packet.ensures (Packet header body) front in
+    let h =
+    command-replied g.M.Machine.meaning t.debuggee c.handle.new.debuggee c.reply.new.debuggee header body used c.in-Command.set c.in-Command.number t.end c.take_off-in-Packet.new.self c.reply.new.end c.in_ok-done-in-Packet.done
+    c.sizes-sizes.result c.in-Command.is
+    c.in_ok-done-in-Packet.ensures.ok shaken c.reply.ensures.debuggee c.sizes-sizes.ensures off c.reply.ensures.end in
+    right-handled g.M.Machine.meaning t.debuggee _ t.began.items t.phases.items t.end _ (Packet header body) used c.self.invariant c.front.ensures.bytes front h
+
+pub returns-in_ok-done-in-Packet : goal.returns-in_ok-done-in-Packet
+returns-in_ok-done-in-Packet g c =
+    let t = c.self.inside in
+    let header = c.in-Packet.packet.header in
+    let body = c.in-Packet.packet.body.now in
+    let used = c.in-Packet.used in
+    let front : front_of t.end ≡ Whole (Packet header body) used = search rules in
+    let shaken = packet-handshaken g.M.Machine.meaning t.debuggee t.began.items t.phases.items t.end header body used c.self.invariant c.front.ensures.bytes front in
+    let off = c.take_off-in-Packet.ensures (Packet header body) front in
+    let h =
+    command-replied g.M.Machine.meaning t.debuggee c.handle.new.debuggee c.reply.new.debuggee header body used c.in-Command.set c.in-Command.number t.end c.take_off-in-Packet.new.self c.reply.new.end c.in_ok-done-in-Packet.done
+    c.sizes-sizes.result c.in-Command.is
+    c.in_ok-done-in-Packet.ensures.ok shaken c.reply.ensures.debuggee c.sizes-sizes.ensures off c.reply.ensures.end in
+    let same : c.match-done.self ≡ target_of c.reply.new.debuggee t.began.items t.phases.items c.reply.new.end = elim c.match-done.branch [ in-Written-1 w ↦ w.self-is | in-Short-1 w ↦ w.self-is ] in
+    rw (← c.self.view_is)
+    (record {
+      turns =
+          turns-whole g.M.Machine.meaning (target_of t.debuggee t.began.items t.phases.items t.end) c.match-done.self (Packet header body) used _ front
+          (told-command g.M.Machine.meaning t.debuggee.settings t.debuggee.moment header body c.in-Command.set c.in-Command.number c.error_of.result c.in-Command.is (c.error_of.ensures ∙ c.in_ok-done-in-Packet.ensures.ok.sends.error))
+          (same ∙ handled-view g.M.Machine.meaning t.debuggee c.reply.new.debuggee t.began.items t.phases.items t.end c.reply.new.end (Packet header body) used c.self.invariant h);
+    })

@@ -1,0 +1,42 @@
+use Rattle.std.proofs.Common.{refl}
+use Rattle.jdwp_engine.specs.declared.serving.Next.TheVariants.{Ends}
+use Rattle.jdwp_engine.proofs.Runs.{memory-ends, memory-goes, read-goes, read-next-ends, steps-ends, steps-goes}
+use Rattle.jdwp_engine.proofs.serving.step_or_read.Goals as goal
+
+pub returns-in-Ok-true-clause-goes : goal.returns-in-Ok-true-clause-goes
+returns-in-Ok-true-clause-goes g c = λ e.
+    let on = rw c.in-Ok-true.field-0-test at c.in-Ok-true.ensures.stepped in
+    steps-goes g.M.Machine.meaning (g.P.Pipe.story c.args.pipe.now) (g.P.Pipe.story c.write_and_go.new.pipe) c.args.target.now c.step_each.new.target c.write_and_go.new.target
+    on (c.write_and_go.ensures.goes e)
+
+pub returns-in-Ok-true-clause-ends : goal.returns-in-Ok-true-clause-ends
+returns-in-Ok-true-clause-ends g c =
+    let on = rw c.in-Ok-true.field-0-test at c.in-Ok-true.ensures.stepped in
+    let w = c.write_and_go.ensures in
+    steps-ends g.M.Machine.meaning (g.P.Pipe.story c.args.pipe.now) (g.P.Pipe.story c.write_and_go.new.pipe) c.args.target.now c.step_each.new.target c.write_and_go.new.target
+    c.write_and_go.result on w.ends w.done w.fails
+
+pub returns-in-Ok-false-clause-goes : goal.returns-in-Ok-false-clause-goes
+returns-in-Ok-false-clause-goes g c = λ e.
+    let same = rw c.in-Ok-false.field-0-test at c.in-Ok-false.ensures.stepped in
+    read-goes g.M.Machine.meaning (g.P.Pipe.story c.args.pipe.now) (g.P.Pipe.story c.read_and_feed.new.pipe) c.args.target.now c.step_each.new.target c.read_and_feed.new.target
+    same (c.read_and_feed.ensures.goes e)
+
+pub returns-in-Ok-false-clause-ends : goal.returns-in-Ok-false-clause-ends
+returns-in-Ok-false-clause-ends g c =
+    let same = rw c.in-Ok-false.field-0-test at c.in-Ok-false.ensures.stepped in
+    read-next-ends g.M.Machine.meaning (g.P.Pipe.story c.args.pipe.now) (g.P.Pipe.story c.read_and_feed.new.pipe) c.args.target.now c.step_each.new.target c.read_and_feed.new.target
+    c.read_and_feed.result c.session.ensures.ran c.requires.is_open c.requires.flows c.requires.asks same c.read_and_feed.ensures.ends
+
+pub returns-in-Goes-clause-ends : goal.returns-in-Goes-clause-ends
+returns-in-Goes-clause-ends g c =
+    let memory = c.in-Err.ensures.memory in
+    memory-goes g.M.Machine.meaning (g.P.Pipe.story c.args.pipe.now) (g.P.Pipe.story c.write_and_go-in-Err.new.pipe) c.args.target.now c.step_each.new.target c.write_and_go-in-Err.new.target
+    memory.0.0 memory.0.1 memory.2 (c.in-Goes.ensures.goes refl)
+
+pub returns-in-Ends-clause-ends : goal.returns-in-Ends-clause-ends
+returns-in-Ends-clause-ends g c =
+    let memory = c.in-Err.ensures.memory in
+    let w = c.in-Ends.ensures in
+    memory-ends g.M.Machine.meaning (g.P.Pipe.story c.args.pipe.now) (g.P.Pipe.story c.write_and_go-in-Err.new.pipe) c.args.target.now c.step_each.new.target c.write_and_go-in-Err.new.target
+    memory.0.0 (Ends c.in-Ends.ended) memory.0.1 memory.1 w.ends w.done w.fails
