@@ -8,3 +8,7 @@ pub mod Commands
 pub mod Mirrors
 pub mod Debuggers
 pub mod DebuggersKept
+pub mod FaultNumbers
+pub mod FaultParts
+pub mod News
+pub mod DebuggerTurns
