@@ -4,3 +4,6 @@ pub mod Learning
 pub mod Ids
 pub mod Losing
 pub mod Admitting
+pub mod JudgingLemmas
+pub mod NewsLemmas
+pub mod TurningLemmas

@@ -10,3 +10,7 @@ pub mod Debuggers
 pub mod DebuggersKept
 pub mod Asking
 pub mod RefusedNumbers
+pub mod FaultNumbers
+pub mod FaultParts
+pub mod News
+pub mod DebuggerTurns

@@ -20,12 +20,19 @@ fn thread_in_events(events: &[Event]) -> Option<ObjectId>
     ensures { result ≡ id_found (events_thread events.now) }
 {
     for event in events {
-        let thread = thread_in_fields(event.fields());
+        let thread = thread_of_event(event);
         if thread.is_some() {
             return thread;
         }
     }
     None
+}
+
+/// The thread of an event; None where it has none.
+pub fn thread_of_event(event: &Event) -> Option<ObjectId>
+    ensures { result ≡ id_found (event_thread event.now) }
+{
+    thread_in_fields(event.fields())
 }
 
 fn thread_in_fields(fields: &[Scalar]) -> Option<ObjectId>

@@ -30,14 +30,14 @@ const BODY_MOST: usize = PACKET_LIMIT - 11;
 /// A debugger: its end of a session, what it learned, and the commands that wait for replies.
 #[derive(Drop)]
 pub struct Debugger {
-    end: End,
-    mirror: Mirror,
-    sizes: Option<IdSizes>,
-    parked: Vec<Parked>,
-    pending: Vec<Asked>,
-    next_id: u32,
-    tickets: u64,
-    last: Heads,
+    pub(crate) end: End,
+    pub(crate) mirror: Mirror,
+    pub(crate) sizes: Option<IdSizes>,
+    pub(crate) parked: Vec<Parked>,
+    pub(crate) pending: Vec<Asked>,
+    pub(crate) next_id: u32,
+    pub(crate) tickets: u64,
+    pub(crate) last: Heads,
 }
 
 impl Model for Debugger {

@@ -5,19 +5,24 @@ mod asking;
 mod command;
 mod composite;
 mod debugger;
+mod faults;
 mod heads;
+mod judging;
 mod laws;
 mod lost;
 mod mirror;
+mod news;
 mod parked;
 mod pending;
 mod reply;
 mod requests;
 mod threads;
+mod turning;
 
 pub use asking::Refused;
 pub use command::{Carried, Command};
 pub use debugger::Debugger;
+pub use faults::DebuggerFault;
 pub use heads::Head;
 pub use laws::{
     counts_by_commands, counts_by_events, forgets_ended_threads, keeps_requests, refuses_packets,
@@ -27,6 +32,7 @@ pub use mirror::Mirror;
 pub use pending::Ticket;
 pub use requests::KeptRequest;
 pub use threads::Known;
+pub use turning::Read;
 
 #[cfg(test)]
 mod asking_tests;

@@ -3,6 +3,7 @@ ghost use Rattle.std.specs.Prelude.{◌≡◌, OnErr, OnOk};
 ghost use Rattle.jdwp_debuggee.specs.Actions.{action_of, thread_of};
 ghost use Rattle.jdwp_event.specs.Told.{composite_thread};
 ghost use Rattle.jdwp_debugger.specs.Acts.{act_of, id_found, requests_after_act, requests_after_others, threads_after_data, threads_after_error, threads_after_event, threads_after_others};
+ghost use Rattle.jdwp_debugger.specs.FaultParts.{IsData};
 ghost use Rattle.jdwp_debugger.specs.KnownThreads.{AreDistinct, count_in, is_held_in};
 ghost use Rattle.jdwp_debugger.specs.Messages.{Reply, Report, Ticket};
 ghost use Rattle.jdwp_debugger.specs.Mirrors as mirrors;
@@ -95,6 +96,7 @@ impl Mirror {
     ) -> Result<(), NoMemory>
         ensures ok { OnOk result ((ticket : Ticket) → Learned self.old (Reply ticket command.now answer.now) self.new) }
         ensures err { OnErr result (self.new ≡ self.old) }
+        ensures memory { OnErr result (IsData answer.now) }
     {
         self.threads.are_sound();
         match answer {

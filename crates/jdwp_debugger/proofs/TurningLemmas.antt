@@ -1,0 +1,117 @@
+-- What turns leave is what is to be learned from what was read.
+use Rattle.std.proofs.Common.{◌≡◌, ℕ, ◌+◌, ◌<◌, ◌||◌, ◌&&◌, not, Bool, true, false, List, [], ◌∷◌, ◌++◌, map, length, refl, sym, ap, ◌∙◌, subst, arith, Option, Some, None, if◌then◌else◌}
+use Rattle.std.specs.Prelude.{◌==◌, nat_le}
+use Rattle.std.specs.Prelude.{Result, Ok, Err, OnOk, IfErr}
+use Rattle.jdwp_wire.specs.Frames as frames
+use Rattle.jdwp_wire.specs.Streams.{Handshake, Whole, More, Fault, after_handshake}
+use Rattle.jdwp_end.specs.declared.phase.Phase.{Phase}
+use Rattle.jdwp_end.specs.declared.phase.Phase.TheVariants.{Closed, AwaitingHandshake, Established}
+use Rattle.jdwp_end.specs.Ends.{End, front_of, is_paused, next_at}
+use Rattle.jdwp_debugger.specs.declared.faults.DebuggerFault.{DebuggerFault}
+use Rattle.jdwp_layout.specs.declared.answer.Answer.{Answer}
+use Rattle.jdwp_layout.specs.declared.answer.Answer.TheVariants.{Data, Error}
+use Rattle.jdwp_event.specs.Composites.{CompositeMeaning, POLICY_NONE, POLICY_ALL}
+use Rattle.jdwp_event.specs.Told.{composite_thread, is_vm_death}
+use Rattle.jdwp_debuggee.specs.Actions
+use Rattle.jdwp_debuggee.specs.Actions.{Action, Command, action_of}
+use Rattle.jdwp_debugger.specs.Acts.{act_of}
+use Rattle.jdwp_debugger.specs.DebuggerTurns.{FailsOnly, LearnedAll, reports}
+use Rattle.jdwp_debugger.specs.Faults.{count_of_thread, has_bad_event, is_bad_event, is_of_two}
+use Rattle.jdwp_debugger.specs.FaultParts.{is_dispose_act}
+use Rattle.jdwp_debugger.specs.KnownThreads.{count_in}
+use Rattle.jdwp_debugger.specs.Messages.{Message, Reply, Report}
+use Rattle.jdwp_debugger.specs.Mirror.{is_dispose, is_positive, learned}
+use Rattle.jdwp_debugger.specs.Mirrors.{Mirror, Learned}
+
+-- ---- events are judged by counts alone
+
+same-count : (f g : ℕ → Option ℕ) → ((t : ℕ) → f t ≡ g t) → (th : Option ℕ) → count_of_thread f th ≡ count_of_thread g th
+same-count f g e None = refl
+same-count f g e (Some t) = e t
+
+same-event : (f g : ℕ → Option ℕ) → ((t : ℕ) → f t ≡ g t) → (c : CompositeMeaning) → is_bad_event f c ≡ is_bad_event g c
+same-event f g e c =
+    ap (λ (n : Option ℕ). (length c.events == 0) || (not (nat_le c.policy POLICY_ALL) || (is_of_two c.events || (is_positive n || (is_vm_death c && (not (length c.events == 1) || not (c.policy == POLICY_NONE)))))))
+    (same-count f g e (composite_thread c))
+
+pub same-bad : (f g : ℕ → Option ℕ) → ((t : ℕ) → f t ≡ g t) → (cs : List CompositeMeaning) → has_bad_event f (reports cs) ≡ has_bad_event g (reports cs)
+same-bad f g e [] = refl
+same-bad f g e (c ∷ cs) =
+    ap (λ (b : Bool). b || has_bad_event (λ t. learned (Report c) t (f t)) (reports cs)) (same-event f g e c)
+    ∙ ap (λ (b : Bool). is_bad_event g c || b) (same-bad (λ t. learned (Report c) t (f t)) (λ t. learned (Report c) t (g t)) (λ t. ap (learned (Report c) t) (e t)) cs)
+
+-- the rest is judged by the mirror that learned the first
+pub bad-rest : (c : CompositeMeaning) (cs : List CompositeMeaning) (old middle : Mirror) → is_bad_event (count_in old.threads) c ≡ false → Learned old (Report c) middle
+    → has_bad_event (count_in old.threads) (reports (c ∷ cs)) ≡ has_bad_event (count_in middle.threads) (reports cs)
+bad-rest c cs old middle good l =
+    ap (λ (b : Bool). b || has_bad_event (λ t. learned (Report c) t (count_in old.threads t)) (reports cs)) good
+    ∙ same-bad (λ t. learned (Report c) t (count_in old.threads t)) (count_in middle.threads) (λ t. sym (l.counts t)) cs
+
+pub bad-first : (c : CompositeMeaning) (cs : List CompositeMeaning) (counts : ℕ → Option ℕ) → is_bad_event counts c ≡ true → has_bad_event counts (reports (c ∷ cs)) ≡ true
+bad-first c cs counts bad = ap (λ (b : Bool). b || has_bad_event (λ t. learned (Report c) t (counts t)) (reports cs)) bad
+
+-- ---- one message more
+
+pub learned-then : (messages : List Message) (last : Message) (old middle new : Mirror) → LearnedAll old messages middle → Learned middle last new → LearnedAll old (messages ++ last ∷ []) new
+learned-then [] last old middle new e l = (new, subst (λ (m : Mirror). Learned m last new) e l, refl)
+learned-then (message ∷ messages) last old middle new (next, first, others) l = (next, first, learned-then messages last next middle new others l)
+
+-- ---- which answers end a session
+
+dispose-act : (a : Action) → is_dispose_act (act_of a) ≡ is_dispose a
+dispose-act Actions.Suspend = refl
+dispose-act Actions.Resume = refl
+dispose-act Actions.Dispose = refl
+dispose-act Actions.Exit = refl
+dispose-act Actions.HoldEvents = refl
+dispose-act Actions.ReleaseEvents = refl
+dispose-act (Actions.SetRequest kind policy entries) = refl
+dispose-act (Actions.ClearRequest kind id) = refl
+dispose-act Actions.ClearBreakpoints = refl
+dispose-act (Actions.SuspendThread t) = refl
+dispose-act (Actions.ResumeThread t) = refl
+dispose-act (Actions.SuspendCount t) = refl
+dispose-act (Actions.ThreadStatus t) = refl
+dispose-act (Actions.SetSlots t f slots) = refl
+dispose-act (Actions.AskFrames t) = refl
+dispose-act (Actions.AskThread t) = refl
+dispose-act Actions.AllThreads = refl
+dispose-act Actions.IdSizes = refl
+dispose-act Actions.Ask = refl
+
+pub disposes : (c : Command) → is_dispose_act (act_of (action_of c)) ≡ is_dispose (action_of c)
+disposes c = dispose-act (action_of c)
+
+-- ---- composites, one after the other
+
+abbrev pub AllLearned : Mirror → List CompositeMeaning → Mirror → Type 0
+AllLearned old cs new = (has_bad_event (count_in old.threads) (reports cs) ≡ false) × LearnedAll old (reports cs) new
+
+pub all-learned : {U E : Type 0} (r : Result U E) (c : CompositeMeaning) (cs : List CompositeMeaning) (old middle new : Mirror) → is_bad_event (count_in old.threads) c ≡ false → Learned old (Report c) middle
+    → OnOk r (AllLearned middle cs new) → OnOk r (AllLearned old (c ∷ cs) new)
+all-learned (Ok u) c cs old middle new good l (fine, all) = (bad-rest c cs old middle good l ∙ fine, (middle, l, all))
+all-learned (Err e) c cs old middle new good l h = tt
+
+pub all-failed : {U : Type 0} (r : Result U DebuggerFault) (c : CompositeMeaning) (cs : List CompositeMeaning) (old middle : Mirror) → is_bad_event (count_in old.threads) c ≡ false → Learned old (Report c) middle
+    → IfErr r (λ f. FailsOnly f (has_bad_event (count_in middle.threads) (reports cs))) → IfErr r (λ f. FailsOnly f (has_bad_event (count_in old.threads) (reports (c ∷ cs))))
+all-failed (Ok u) c cs old middle good l h = tt
+all-failed (Err f) c cs old middle good l h = subst (λ (b : Bool). FailsOnly f b) (sym (bad-rest c cs old middle good l)) h
+
+-- ---- the phase in which the handshake stands in front
+
+no-packet : (f : frames.Front) (n : ℕ) → after_handshake f ≡ Whole Handshake n → ⊥
+no-packet (frames.Whole header body used) n h = cc
+no-packet frames.More n h = cc
+no-packet (frames.Fault fault) n h = cc
+
+handshake-next : (limit : ℕ) (p : Phase) (bytes : List ℕ) (n : ℕ) → next_at limit p bytes ≡ Whole Handshake n → p ≡ AwaitingHandshake
+handshake-next limit Closed bytes n h = absurd (cc)
+handshake-next limit AwaitingHandshake bytes n h = refl
+handshake-next limit Established bytes n h = absurd (no-packet (frames.front limit bytes) n h)
+
+handshake-unpaused : (b : Bool) (limit : ℕ) (p : Phase) (bytes : List ℕ) (n : ℕ) → (if b then More else next_at limit p bytes) ≡ Whole Handshake n → p ≡ AwaitingHandshake
+handshake-unpaused true limit p bytes n h = absurd (cc)
+handshake-unpaused false limit p bytes n h = handshake-next limit p bytes n h
+
+pub handshake-phase : (e : End) (n : ℕ) → front_of e ≡ Whole Handshake n → e.phase ≡ AwaitingHandshake
+handshake-phase e n h = handshake-unpaused (is_paused e) e.limits.packet e.phase e.incoming n h

@@ -1,0 +1,8 @@
+use Rattle.std.proofs.Common.{◌∙◌, ap}
+use Rattle.jdwp_wire.specs.Streams.{Packet}
+use Rattle.jdwp_end.specs.Ends.{front_of}
+use Rattle.jdwp_debugger.specs.Debuggers.{Debugger}
+use Rattle.jdwp_debugger.proofs.debugger.Debugger.note.Goals as goal
+
+pub take_off-requires : goal.take_off-requires
+take_off-requires c = (Packet c.args.header c.requires.0, ap (λ (d : Debugger). front_of d.end) c.self.view_is ∙ c.requires.1)

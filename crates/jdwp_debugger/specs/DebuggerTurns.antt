@@ -1,0 +1,225 @@
+-- What turns of a debugger answer, and what they leave.
+use Rattle.std.specs.Prelude.{◌≡◌, ℕ, ◌+◌, ◌%◌, ◌^◌, ◌<◌, Bool, true, false, List, [], ◌∷◌, ◌++◌, length, map, remove, slice_get, Option, Some, None, Result, Ok, Err, MatchResult, if◌then◌else◌}
+use Rattle.std.specs.List.{list_any}
+use Rattle.jdwp_wire.specs.declared.packet.Header.{Header}
+use Rattle.jdwp_wire.specs.declared.packet.PacketKind.{PacketKind}
+use Rattle.jdwp_wire.specs.declared.packet.PacketKind.TheVariants as kind
+use Rattle.jdwp_wire.specs.Frames.{header_bytes}
+use Rattle.jdwp_wire.specs.Streams as streams
+use Rattle.jdwp_wire.specs.Streams.{NextMessage, Whole, More, Fault}
+use Rattle.jdwp_wire.specs.Widths.{Widths}
+use Rattle.jdwp_layout.specs.declared.answer.Answer.{Answer}
+use Rattle.jdwp_layout.specs.CommandNumbers.{ID_SIZES}
+use Rattle.jdwp_event.specs.Composites.{CompositeMeaning}
+use Rattle.jdwp_end.specs.Ends as ends
+use Rattle.jdwp_debuggee.specs.Actions.{Command}
+use Rattle.jdwp_debugger.specs.declared.faults.DebuggerFault.{DebuggerFault}
+use Rattle.jdwp_debugger.specs.declared.faults.DebuggerFault.TheVariants as code
+use Rattle.jdwp_debugger.specs.declared.heads.Head.{Head}
+use Rattle.jdwp_debugger.specs.declared.heads.Head.TheVariants as head
+use Rattle.jdwp_debugger.specs.declared.pending.Asked.{Asked}
+use Rattle.jdwp_debugger.specs.declared.turning.News as declared
+use Rattle.jdwp_debugger.specs.declared.turning.News.TheVariants as news
+use Rattle.jdwp_debugger.specs.declared.turning.Read.{Read}
+use Rattle.jdwp_debugger.specs.declared.turning.Read.TheVariants as read
+use Rattle.jdwp_debugger.specs.Debuggers.{Debugger}
+use Rattle.jdwp_debugger.specs.Debuggers as debuggers
+use Rattle.jdwp_debugger.specs.Faults.{is_bad_event, has_bad_event}
+use Rattle.jdwp_debugger.specs.FaultParts.{IsData}
+use Rattle.jdwp_debugger.specs.KnownThreads.{count_in}
+use Rattle.jdwp_debugger.specs.Messages.{Message, Reply, Report, id_sizes}
+use Rattle.jdwp_debugger.specs.Mirror.{ends}
+use Rattle.jdwp_debugger.specs.Mirrors.{Mirror, Learned, empty_mirror}
+use Rattle.jdwp_debugger.specs.News.{News, Waits, Happens, Answers, Measures, Reading, says}
+
+-- ---- what a turn tells
+
+pub data Told : Type 0 where
+  Nothing : Told
+  Hello : Told
+  Parked : Told
+  Sizes : List CompositeMeaning → Told
+  Answered : ℕ → Answer → Told
+  Seen : CompositeMeaning → Told
+
+abbrev pub told : Read → Told
+told read.Nothing = Nothing
+told read.Hello = Hello
+told read.Parked = Parked
+told (read.Sizes composites) = Sizes composites.items
+told (read.Answered ticket answer) = Answered ticket.0 answer
+told (read.Seen composite) = Seen composite
+
+abbrev pub news_meaning : declared.News → News
+news_meaning (news.Waits bytes) = Waits bytes.items
+news_meaning (news.Happens composite) = Happens composite
+news_meaning (news.Answers place ticket answer) = Answers place ticket.0 answer
+news_meaning (news.Measures place answer sizes composites) = Measures place answer sizes composites.items
+
+-- ---- what a turn leaves
+
+-- the session ends, and what was learned in it is forgotten; tickets and what waits to leave stay
+abbrev pub closed : Debugger → Debugger
+closed d = record d { end = ends.closed d.end; mirror = empty_mirror; sizes = None; parked = [] }
+
+abbrev pub closed_where : Bool → Debugger → Debugger
+closed_where true d = closed d
+closed_where false d = d
+
+-- where it ends as the widths of ids become known, they stay
+abbrev pub measured_where : Bool → Widths → Debugger → Debugger
+measured_where true w d = record (closed d) { sizes = Some w }
+measured_where false w d = d
+
+-- a message is refused
+abbrev pub refused : Debugger → Debugger
+refused d = record (closed d) { last = [] }
+
+-- a message of so many bytes is handled, and these were read
+abbrev pub with_read : streams.Message → ℕ → List Head → Debugger → Debugger
+with_read message used heads d = record d { end = ends.with_handled message used d.end; last = heads }
+
+-- the target's handshake came: IDSizes is put under the next id, without a ticket
+abbrev pub sizes_header : ℕ → Header
+sizes_header id = record { length = 11; id = id; kind = kind.Command ID_SIZES.set ID_SIZES.number }
+
+abbrev pub greeted : ℕ → Debugger → Debugger
+greeted used d = record d {
+  end = ends.with_enqueued (header_bytes (sizes_header d.next_id)) (ends.with_handled streams.Handshake used d.end);
+  pending = d.pending ++ record { id = d.next_id; ticket = None; command = id_sizes } ∷ [];
+  next_id = (d.next_id + 1) % 2 ^ 32;
+  last = head.Hello ∷ [];
+}
+
+-- ---- what is learned
+
+-- messages in the order in which they are learned
+abbrev pub LearnedAll : Mirror → List Message → Mirror → Type 0
+LearnedAll old [] new = new ≡ old
+LearnedAll old (message ∷ messages) new = (middle : Mirror) × Learned old message middle × LearnedAll middle messages new
+
+abbrev pub reports : List CompositeMeaning → List Message
+reports cs = map (λ (c : CompositeMeaning). Report c) cs
+
+-- the command at a place among those that wait
+abbrev pub command_of : Option Asked → Command
+command_of None = id_sizes
+command_of (Some asked) = asked.command
+
+abbrev pub command_at : ℕ → List Asked → Command
+command_at place pending = command_of (slice_get pending place)
+
+abbrev pub heads_of : List debuggers.Parked → List Head
+heads_of parked = map (λ (p : debuggers.Parked). head.Packet p.header) parked
+
+-- the widths of ids became known, and with them what the composites that waited say
+abbrev pub with_sizes : streams.Message → ℕ → Header → ℕ → Mirror → Widths → Debugger → Debugger
+with_sizes message used header place m w d =
+    record (with_read message used (heads_of d.parked ++ head.Packet header ∷ []) d) { mirror = m; sizes = Some w; parked = []; pending = remove d.pending place }
+
+-- What a packet with this header leaves that says this, and what the turn tells. Nothing is learned before the widths of ids are known,
+-- so what waited for them is learned from nothing.
+abbrev pub Enters : streams.Message → ℕ → Header → News → Debugger → Told → Debugger → Type 0
+Enters message used header (Waits bytes) old told new =
+    (told ≡ Parked) × (new ≡ record (with_read message used [] old) { parked = old.parked ++ record { header = header; body = bytes } ∷ [] })
+Enters message used header (Happens c) old told new =
+    (told ≡ Seen c) × ((m : Mirror) × Learned old.mirror (Report c) m
+    × (new ≡ closed_where (ends (Report c)) (record (with_read message used (head.Packet header ∷ []) old) { mirror = m })))
+Enters message used header (Answers place ticket answer) old told new =
+    (told ≡ Answered ticket answer) × ((m : Mirror) × Learned old.mirror (Reply (Some ticket) (command_at place old.pending) answer) m
+    × (new ≡ closed_where (ends (Reply (Some ticket) (command_at place old.pending) answer))
+    (record (with_read message used (head.Packet header ∷ []) old) { mirror = m; pending = remove old.pending place })))
+Enters message used header (Measures place answer w cs) old told new =
+    (told ≡ Sizes cs) × ((m : Mirror) × LearnedAll empty_mirror (reports cs ++ Reply None (command_at place old.pending) answer ∷ []) m
+    × (new ≡ measured_where (list_any ends (reports cs)) w (with_sizes message used header place m w old)))
+
+-- ---- what is refused
+
+abbrev pub reading_of : Debugger → Reading
+reading_of d = record { sizes = d.sizes; parked = d.parked; pending = d.pending }
+
+abbrev pub bad_where : Bool → Option DebuggerFault
+bad_where true = Some code.BadEvent
+bad_where false = None
+
+-- no thread is known
+abbrev pub none_known : ℕ → Option ℕ
+none_known t = None
+
+-- events that no target may send
+abbrev pub news_refusal : Mirror → News → Option DebuggerFault
+news_refusal m (Waits bytes) = None
+news_refusal m (Happens c) = bad_where (is_bad_event (count_in m.threads) c)
+news_refusal m (Answers place ticket answer) = None
+news_refusal m (Measures place answer w cs) = bad_where (has_bad_event none_known (reports cs))
+
+abbrev pub refusal_by : Mirror → Result News DebuggerFault → Option DebuggerFault
+refusal_by m (Ok news) = news_refusal m news
+refusal_by m (Err fault) = Some fault
+
+abbrev pub refusal : Debugger → Header → List ℕ → Option DebuggerFault
+refusal d header body = refusal_by d.mirror (says (reading_of d) header.id header.kind body)
+
+-- a reply with an error takes no memory
+abbrev pub MayWantMemory : PacketKind → Type 0
+MayWantMemory (kind.Command set number) = Unit {0}
+MayWantMemory (kind.Reply e) = e.0 ≡ 0
+
+abbrev pub FailsAt : Header → List ℕ → Debugger → DebuggerFault → Debugger → Type 0
+FailsAt header body old code.NoMemory new = MayWantMemory header.kind × (new ≡ old)
+FailsAt header body old fault new = (refusal old header body ≡ Some fault) × (new ≡ refused old)
+
+-- ---- what calls within a turn answer
+
+-- what is learned of an answer with an error takes no memory
+abbrev pub WantsMemory : News → Type 0
+WantsMemory (Waits bytes) = Unit {0}
+WantsMemory (Happens c) = Unit {0}
+WantsMemory (Answers place ticket answer) = IsData answer
+WantsMemory (Measures place answer w cs) = IsData answer
+
+-- what a packet says has room, and its place is that of a command
+abbrev pub Fits : Debugger → News → Type 0
+Fits d (Waits bytes) = length d.parked < 4
+Fits d (Happens c) = Unit {0}
+Fits d (Answers place ticket answer) = place < length d.pending
+Fits d (Measures place answer w cs) = place < length d.pending
+
+-- what a failure leaves
+abbrev pub FailsTo : DebuggerFault → Debugger → Debugger → Type 0
+FailsTo code.NoMemory old new = new ≡ old
+FailsTo fault old new = new ≡ refused old
+
+-- events are refused only where one is bad
+abbrev pub FailsOnly : DebuggerFault → Bool → Type 0
+FailsOnly code.NoMemory bad = Unit {0}
+FailsOnly code.BadEvent bad = bad ≡ true
+FailsOnly fault bad = ⊥
+
+abbrev pub EntersOrFails : News → Debugger → DebuggerFault → Debugger → Type 0
+EntersOrFails news old code.NoMemory new = WantsMemory news × (new ≡ old)
+EntersOrFails news old fault new = (news_refusal old.mirror news ≡ Some fault) × (new ≡ refused old)
+
+abbrev pub EntersAt : Header → List ℕ → ℕ → News → Debugger → Result Read DebuggerFault → Debugger → Type 0
+EntersAt header body used news old result new =
+    MatchResult result (λ r. (news_refusal old.mirror news ≡ None) × Enters (streams.Packet header body) used header news old (told r) new) (λ fault. EntersOrFails news old fault new)
+
+-- ---- turns
+
+pub record ReadsAt (header : Header) (body : List ℕ) (used : ℕ) (old : Debugger) (told : Told) (new : Debugger) : Type 0 where
+  pub news : News
+  pub said : says (reading_of old) header.id header.kind body ≡ Ok news
+  pub unrefused : news_refusal old.mirror news ≡ None
+  pub entered : Enters (streams.Packet header body) used header news old told new
+
+abbrev pub HandlesAt : streams.Message → ℕ → Debugger → Result Read DebuggerFault → Debugger → Type 0
+HandlesAt streams.Handshake used old result new =
+    MatchResult result (λ r. (told r ≡ Hello) × (old.pending ≡ []) × (new ≡ greeted used old)) (λ fault. (fault ≡ code.NoMemory) × (new ≡ old))
+HandlesAt (streams.Packet header body) used old result new =
+    MatchResult result (λ r. ReadsAt header body used old (told r) new) (λ fault. FailsAt header body old fault new)
+
+-- What a turn answers, and what the debugger is after it, by what there is to handle.
+abbrev pub TurnsAt : NextMessage → Debugger → Result Read DebuggerFault → Debugger → Type 0
+TurnsAt (Whole message used) old result new = HandlesAt message used old result new
+TurnsAt More old result new = (result ≡ Ok read.Nothing) × (new ≡ record old { last = [] })
+TurnsAt (Fault fault) old result new = (result ≡ Err (code.Frame fault)) × (new ≡ refused old)

@@ -1,0 +1,202 @@
+//! What packets from a target say by their bytes.
+ghost use Rattle.std.specs.Prelude.{◌≡◌, ◌<◌, ◌∷◌, [], ℕ, IfOk, IfSome, List, Result, length, map};
+ghost use Rattle.std.specs.Result.{IsErrOf};
+ghost use Rattle.jdwp_wire.specs.declared.data_fault.DataFault.{DataFault};
+ghost use Rattle.jdwp_wire.specs.Reading as reading;
+ghost use Rattle.jdwp_layout.specs.CommandTable.{row_at};
+ghost use Rattle.jdwp_layout.specs.Meanings.{Byte, DatumMeaning, entry_meanings, meanings};
+ghost use Rattle.jdwp_event.specs.Composites.{CompositeMeaning};
+ghost use Rattle.jdwp_debuggee.specs.ReadParts.{found_layout};
+ghost use Rattle.jdwp_debugger.specs.declared.faults.DebuggerFault.TheVariants as code;
+ghost use Rattle.jdwp_debugger.specs.FaultParts.{IsData};
+ghost use Rattle.jdwp_debugger.specs.News.{Fails, Tells, answer_in, composite_in, composites_in, content_in, data_by, place_of, raw_data, reply_shape, required, unless_bad, whole};
+
+use crate::command::Command;
+use crate::faults::DebuggerFault;
+use crate::judging::is_bad_answer;
+use crate::parked::Parked;
+use crate::pending::Asked;
+use jdwp_event::Composite;
+use jdwp_layout::{Answer, Data, Datum, Layout, Scalar, layout_of, read};
+use jdwp_wire::{DataFault, ErrorCode, IdSizes, NoMemory, Wire};
+use std::alloc::Global;
+
+/// The composite that all of these bytes are.
+///
+/// # Errors
+/// `BadEvent` where they are none; `NoMemory` where an allocation was refused.
+pub(crate) fn read_composite(
+    alloc: Global,
+    sizes: &IdSizes,
+    bytes: &[u8],
+) -> Result<Composite, DebuggerFault>
+    ensures { Tells (λ c. c) result (required code.BadEvent (composite_in sizes.now bytes.now)) }
+{
+    match Composite::take_front(alloc, bytes, bytes.len(), sizes) {
+        Ok((composite, rest)) => {
+            if !rest.is_empty() {
+                return Err(DebuggerFault::BadEvent);
+            }
+            Ok(composite)
+        }
+        Err(fault) => Err(event_fault(fault)),
+    }
+}
+
+/// What is the matter with an event whose data do not read.
+fn event_fault(fault: DataFault) -> DebuggerFault
+    ensures { (found : Result (CompositeMeaning × List ℕ) DataFault) → reading.Fails fault found → Fails result (required code.BadEvent (whole found)) }
+{
+    match fault {
+        DataFault::NoMemory => DebuggerFault::NoMemory,
+        DataFault::Short(_)
+        | DataFault::Extra(_)
+        | DataFault::BadTag
+        | DataFault::NegativeCount
+        | DataFault::NotUtf8
+        | DataFault::BadSize
+        | DataFault::IdTooWide => DebuggerFault::BadEvent,
+    }
+}
+
+/// The composites that waited, in order.
+///
+/// # Errors
+/// `BadEvent` where one of them is none; `NoMemory` where an allocation was refused.
+pub(crate) fn read_parked(
+    alloc: Global,
+    sizes: &IdSizes,
+    parked: &[Parked],
+) -> Result<Vec<Composite>, DebuggerFault>
+    ensures { Tells (λ v. v.items) result (required code.BadEvent (composites_in sizes.now parked.now)) }
+{
+    let mut composites = Vec::new(alloc);
+    for waiting in parked {
+        let composite = read_composite(alloc, sizes, &waiting.body)?;
+        composites.push(composite)?;
+    }
+    Ok(composites)
+}
+
+/// The answer of a reply to a command, with this error code and these data.
+///
+/// # Errors
+/// `BadReply` where the data do not read, an error has data, or a debugger can't use them; `NoMemory` where an allocation was refused,
+/// which a reply with an error does not call for.
+pub(crate) fn read_answer(
+    alloc: Global,
+    command: &Command,
+    sizes: &IdSizes,
+    error: ErrorCode,
+    bytes: &[u8],
+) -> Result<Answer, DebuggerFault>
+    ensures value { Tells (λ a. a) result (required code.BadReply (unless_bad command.now (answer_in sizes.now command.now error bytes.now))) }
+    ensures memory { IsErrOf result code.NoMemory → error.0 ≡ 0 }
+    ensures without_error { IfOk result (λ a. IsData a → error.0 ≡ 0) }
+{
+    let answer = read_any_answer(alloc, command, sizes, error, bytes)?;
+    if is_bad_answer(command, &answer) {
+        return Err(DebuggerFault::BadReply);
+    }
+    Ok(answer)
+}
+
+/// The same, whether or not a debugger can use it.
+fn read_any_answer(
+    alloc: Global,
+    command: &Command,
+    sizes: &IdSizes,
+    error: ErrorCode,
+    bytes: &[u8],
+) -> Result<Answer, DebuggerFault>
+    ensures value { Tells (λ a. a) result (required code.BadReply (answer_in sizes.now command.now error bytes.now)) }
+    ensures memory { IsErrOf result code.NoMemory → error.0 ≡ 0 }
+    ensures without_error { IfOk result (λ a. IsData a → error.0 ≡ 0) }
+{
+    if error.0 == 0 {
+        return read_data(alloc, reply_layout(command), sizes, bytes);
+    }
+    if !bytes.is_empty() {
+        return Err(DebuggerFault::BadReply);
+    }
+    Ok(Answer::Error(error))
+}
+
+/// The layout of the reply to a command; None where its data are not read.
+fn reply_layout(command: &Command) -> Option<Layout>
+    ensures { found_layout result ≡ reply_shape (row_at command.now.set command.now.number) }
+{
+    let row = layout_of(command.set(), command.number())?;
+    let layouts = row.layouts?;
+    Some(layouts.reply)
+}
+
+/// The data of a reply without an error in this layout; without one, its bytes.
+fn read_data(
+    alloc: Global,
+    layout: Option<Layout>,
+    sizes: &IdSizes,
+    bytes: &[u8],
+) -> Result<Answer, DebuggerFault>
+    ensures { Tells (λ a. a) result (required code.BadReply (data_by sizes.now (found_layout layout) bytes.now)) }
+{
+    let Some(layout) = layout else {
+        let items = raw_items(alloc, bytes)?;
+        return Ok(Answer::Data(Data::new(items)));
+    };
+    match read(alloc, &layout, sizes, bytes) {
+        Ok(items) => Ok(Answer::Data(Data::new(items))),
+        Err(fault) => Err(reply_fault(fault)),
+    }
+}
+
+/// What is the matter with a reply whose data do not read.
+fn reply_fault(fault: DataFault) -> DebuggerFault
+    ensures { (found : Result (List DatumMeaning) DataFault) → reading.Fails fault found → Fails result (required code.BadReply (content_in found)) }
+{
+    match fault {
+        DataFault::NoMemory => DebuggerFault::NoMemory,
+        DataFault::Short(_)
+        | DataFault::Extra(_)
+        | DataFault::BadTag
+        | DataFault::NegativeCount
+        | DataFault::NotUtf8
+        | DataFault::BadSize
+        | DataFault::IdTooWide => DebuggerFault::BadReply,
+    }
+}
+
+/// Bytes that are not read, as a list of bytes.
+fn raw_items(alloc: Global, bytes: &[u8]) -> Result<Vec<Datum>, NoMemory>
+    ensures { IfOk result (λ items. meanings items.items ≡ raw_data bytes.now) }
+{
+    let entries = raw_entries(alloc, bytes)?;
+    let mut items = Vec::with_capacity(alloc, 1)?;
+    items.push(Datum::Many(entries))?;
+    Ok(items)
+}
+
+fn raw_entries(alloc: Global, bytes: &[u8]) -> Result<Vec<Vec<Scalar>>, NoMemory>
+    ensures { IfOk result (λ entries. entry_meanings entries.items ≡ map (λ (b : ℕ). Byte b ∷ []) bytes.now) }
+{
+    let mut entries = Vec::with_capacity(alloc, bytes.len())?;
+    for byte in bytes {
+        let mut fields = Vec::with_capacity(alloc, 1)?;
+        fields.push(Scalar::Byte(*byte))?;
+        entries.push(fields)?;
+    }
+    Ok(entries)
+}
+
+/// The place of the command that waits under an id; None where none does.
+pub(crate) fn place_under(id: u32, pending: &[Asked]) -> Option<usize>
+    ensures place { result ≡ place_of id pending.now }
+    ensures within { IfSome result (λ place. place < length pending.now) }
+{
+    for (place, asked) in pending.iter().enumerate() {
+        if asked.id == id {
+            return Some(place);
+        }
+    }
+    None
+}
