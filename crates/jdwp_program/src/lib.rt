@@ -9,6 +9,8 @@ mod outcome;
 mod printing;
 mod serving;
 #[cfg(test)]
+mod session_tests;
+#[cfg(test)]
 mod tests;
 mod values;
 

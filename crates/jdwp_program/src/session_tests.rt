@@ -1,0 +1,612 @@
+//! Sessions of a target over machine scripts, byte for byte.
+use jdwp_debuggee::Settings;
+use jdwp_script_machine::ScriptMachine;
+use jdwp_target::{Stepped, TargetFault, Turn};
+use jdwp_value::ObjectId;
+use jdwp_wire::{ErrorCode, FrameFault, Limits};
+use std::alloc::Global;
+use std::test::Fail;
+
+/// A target over the machine of a script.
+type Target = jdwp_target::Target<ScriptMachine>;
+
+const HANDSHAKE: &str = "4a4457502d48616e647368616b65";
+
+const VM_START: &str = "0000001d 00000001 00 40 64 00 00000001 5a 00000000 0000000000000001";
+
+const MACHINE_A: &str = "{\"name\":\"A\",\"sizes\":[8,8,8,8,8],
+\"groups\":[{\"id\":5,\"name\":\"main\",\"parent\":0}],
+\"classes\":[{\"id\":10,\"tag\":1,\"signature\":\"LMain;\",\"modifiers\":1,
+ \"super\":0,\"interfaces\":[],\"source\":\"Main.java\",\"fields\":[],
+ \"methods\":[{\"id\":20,\"name\":\"run\",\"signature\":\"()V\",\"modifiers\":1,
+  \"args\":0,\"last\":9,\"lines\":[[0,1],[3,2],[4,3]],\"slots\":[]}]}],
+\"objects\":[],
+\"threads\":[{\"id\":1,\"name\":\"main\",\"group\":5,\"steps\":[
+ [\"call\",30,10,20,0,[]],[\"go\",3],[\"go\",4],[\"go\",3],[\"go\",4],
+ [\"go\",3],[\"return\",[\"V\",0]]]},
+ {\"id\":2,\"name\":\"work\",\"group\":5,\"steps\":[]}]}";
+
+/// Machine A whose first call has a slot.
+const WITH_A_SLOT: &str = "{\"name\":\"A\",\"sizes\":[8,8,8,8,8],
+\"groups\":[{\"id\":5,\"name\":\"main\",\"parent\":0}],
+\"classes\":[{\"id\":10,\"tag\":1,\"signature\":\"LMain;\",\"modifiers\":1,
+ \"super\":0,\"interfaces\":[],\"source\":\"Main.java\",\"fields\":[],
+ \"methods\":[{\"id\":20,\"name\":\"run\",\"signature\":\"()V\",\"modifiers\":1,
+  \"args\":0,\"last\":9,\"lines\":[[0,1],[3,2],[4,3]],\"slots\":[]}]}],
+\"objects\":[],
+\"threads\":[{\"id\":1,\"name\":\"main\",\"group\":5,\"steps\":[
+ [\"call\",30,10,20,0,[[0,[\"I\",7]]]],[\"go\",3],[\"go\",4],[\"go\",3],[\"go\",4],
+ [\"go\",3],[\"return\",[\"V\",0]]]},
+ {\"id\":2,\"name\":\"work\",\"group\":5,\"steps\":[]}]}";
+
+/// The bytes that hex digits spell; spaces are for reading.
+fn bytes(alloc: Global, hex: &str) -> Result<Vec<u8>, Fail> {
+    let mut bytes = Vec::new(alloc);
+    let mut high = None;
+    for digit in hex.chars() {
+        let Some(value) = digit.to_digit(16) else {
+            continue;
+        };
+        match high {
+            None => high = Some(value),
+            Some(first) => {
+                let Ok(byte) = u8::try_from(first.saturating_mul(16).saturating_add(value)) else {
+                    return Err(Fail::from("not a byte"));
+                };
+                bytes.push(byte)?;
+                high = None;
+            }
+        }
+    }
+    Ok(bytes)
+}
+
+/// All that waits to leave.
+fn taken(alloc: Global, target: &mut Target) -> Result<Vec<u8>, Fail> {
+    let mut all = Vec::new(alloc);
+    let mut buffer = [0; 256];
+    for _ in 0..1024u32 {
+        let count = target.take(&mut buffer);
+        if count == 0 || count > 256 {
+            break;
+        }
+        all.extend_from_slice(&buffer[..count])?;
+    }
+    Ok(all)
+}
+
+/// A closed target over this script.
+fn target(alloc: Global, script: &str, start_all: bool, count_limit: u32) -> Result<Target, Fail> {
+    let Some(settings) = Settings::new(start_all, count_limit, Limits::standard()) else {
+        return Err(Fail::from("the count limit is refused"));
+    };
+    let Ok(machine) = ScriptMachine::read(alloc, script) else {
+        return Err(Fail::from("the script is refused"));
+    };
+    match Target::new(alloc, machine, settings) {
+        Ok(target) => Ok(target),
+        Err(_) => Err(Fail::from("no memory")),
+    }
+}
+
+/// The same, none of whose threads begins suspended, with the handshake done and its answer taken.
+fn ready(alloc: Global, script: &str, count_limit: u32) -> Result<Target, Fail> {
+    let mut target = target(alloc, script, false, count_limit)?;
+    target.accept();
+    target.feed(&bytes(alloc, HANDSHAKE)?);
+    if target.turn() != Ok(Turn::Hello) {
+        return Err(Fail::from("no handshake"));
+    }
+    taken(alloc, &mut target)?;
+    Ok(target)
+}
+
+/// Whether the target sends this when it is sent that, in turns until nothing is left to handle.
+fn answers(alloc: Global, target: &mut Target, input: &str, output: &str) -> Result<bool, Fail> {
+    target.feed(&bytes(alloc, input)?);
+    for _ in 0..16u32 {
+        if target.turn() == Ok(Turn::Nothing) {
+            break;
+        }
+    }
+    Ok(taken(alloc, target)?.as_slice() == bytes(alloc, output)?.as_slice())
+}
+
+/// Whether a thread, stepped so many times, is `Quiet` each time, and sends nothing.
+fn is_quiet(alloc: Global, target: &mut Target, thread: u64, times: u32) -> Result<bool, Fail> {
+    for _ in 0..times {
+        if target.step(ObjectId(thread)) != Ok(Stepped::Quiet) {
+            return Ok(false);
+        }
+    }
+    Ok(taken(alloc, target)?.is_empty())
+}
+
+/// Whether a step of the thread is `Reported`, by these bytes.
+fn reports(alloc: Global, target: &mut Target, thread: u64, output: &str) -> Result<bool, Fail> {
+    if target.step(ObjectId(thread)) != Ok(Stepped::Reported) {
+        return Ok(false);
+    }
+    Ok(taken(alloc, target)?.as_slice() == bytes(alloc, output)?.as_slice())
+}
+
+/// Whether the suspend counts of threads 1 and 2 are these.
+fn counts_are(target: &Target, first: Option<u32>, second: Option<u32>) -> bool {
+    target.count(ObjectId(1)) == first && target.count(ObjectId(2)) == second
+}
+
+#[test]
+fn handshake_byte_by_byte(rt: HostRuntime) -> Result<(), Fail> {
+    let alloc = rt.alloc();
+    let mut target = target(alloc, MACHINE_A, false, 65535)?;
+    assert!(rt; !target.is_open());
+    assert!(rt; target.accept());
+    assert!(rt; !target.accept());
+    let handshake = bytes(alloc, HANDSHAKE)?;
+    assert_eq!(rt; handshake.len(), 14);
+    for (place, byte) in handshake.iter().enumerate() {
+        assert_eq!(rt; target.feed(&[*byte]), 1);
+        let wanted = if place < 13 {
+            Turn::Nothing
+        } else {
+            Turn::Hello
+        };
+        assert_eq!(rt; target.turn(), Ok(wanted));
+    }
+    let mut wanted = handshake;
+    wanted.extend_from_slice(&bytes(alloc, VM_START)?)?;
+    assert_eq!(rt; target.waiting(), 43);
+    assert!(rt; taken(alloc, &mut target)?.as_slice() == wanted.as_slice());
+    Ok(())
+}
+
+#[test]
+fn short_commands(rt: HostRuntime) -> Result<(), Fail> {
+    let alloc = rt.alloc();
+    let rows = [
+        (
+            "0000000b 00000001 00 01 07",
+            "0000001f 00000001 80 0000 00000008 00000008 00000008 00000008 00000008",
+        ),
+        (
+            "0000000b 00000002 00 01 08 00000013 00000003 00 0b 0c 0000000000000001",
+            "0000000b 00000002 80 0000 0000000f 00000003 80 0000 00000001",
+        ),
+        (
+            "00000013 00000004 00 0b 03 0000000000000002 00000013 00000005 00 0b 0c 0000000000000002",
+            "0000000b 00000004 80 0000 0000000f 00000005 80 0000 00000000",
+        ),
+        (
+            "0000000b 00000005 00 40 64 0000000b 00000006 00 01 63",
+            "0000000b 00000005 80 0063 0000000b 00000006 80 0063",
+        ),
+        (
+            "0000000f 00000007 00 01 02 ffffffff",
+            "0000000b 00000007 80 0067",
+        ),
+        (
+            "00000013 00000005 00 0b 0c 0000000000000003",
+            "0000000b 00000005 80 000a",
+        ),
+        (
+            "0000000c 00000007 00 01 08 00 00000012 00000008 00 0b 0c 00000000000001",
+            "0000000b 00000007 80 0067 0000000b 00000008 80 0067",
+        ),
+        ("0000000b 00000004 00 01 06", "0000000b 00000004 80 0000"),
+        ("0000000b 00000009 80 0000", ""),
+    ];
+    for (input, output) in rows {
+        let mut target = ready(alloc, MACHINE_A, 65535)?;
+        assert!(rt; answers(alloc, &mut target, input, output)?, "{input}");
+    }
+    Ok(())
+}
+
+#[test]
+fn suspends_and_resumes(rt: HostRuntime) -> Result<(), Fail> {
+    let alloc = rt.alloc();
+    let mut target = ready(alloc, MACHINE_A, 65535)?;
+    let rows = [
+        ("0000000b 00000002 00 01 08", "0000000b 00000002 80 0000", 1, 1),
+        (
+            "00000013 00000003 00 0b 02 0000000000000001",
+            "0000000b 00000003 80 0000",
+            2,
+            1,
+        ),
+        ("0000000b 00000004 00 01 09", "0000000b 00000004 80 0000", 1, 0),
+        ("0000000b 00000005 00 01 09", "0000000b 00000005 80 0000", 0, 0),
+    ];
+    for (input, output, first, second) in rows {
+        assert!(rt; answers(alloc, &mut target, input, output)?);
+        assert!(rt; counts_are(&target, Some(first), Some(second)));
+    }
+    Ok(())
+}
+
+#[test]
+fn a_session_after_a_loss(rt: HostRuntime) -> Result<(), Fail> {
+    let alloc = rt.alloc();
+    let mut target = ready(alloc, MACHINE_A, 65535)?;
+    target.feed(&bytes(alloc, "0000000b 00000004 00 01 08")?);
+    assert_eq!(rt; target.turn(), Ok(Turn::Replied(4, ErrorCode::NONE)));
+    assert!(rt; counts_are(&target, Some(1), Some(1)));
+    target.lose();
+    assert!(rt; !target.is_open());
+    assert_eq!(rt; target.room(), 0);
+    assert_eq!(rt; target.waiting(), 0);
+    assert!(rt; counts_are(&target, Some(0), Some(0)));
+    // The second handshake of the target's life is not followed by VM_START.
+    assert!(rt; target.accept());
+    assert_eq!(rt; target.room(), 65536);
+    assert!(rt; answers(alloc, &mut target, HANDSHAKE, HANDSHAKE)?);
+    Ok(())
+}
+
+#[test]
+fn frame_faults(rt: HostRuntime) -> Result<(), Fail> {
+    let alloc = rt.alloc();
+    let mut closed = target(alloc, MACHINE_A, true, 65535)?;
+    closed.accept();
+    closed.feed(&bytes(alloc, "4a4457502d48616e647368616b45")?);
+    assert_eq!(rt;
+        closed.turn(),
+        Err(TargetFault::Frame(FrameFault::BadHandshake(13)))
+    );
+    assert!(rt; !closed.is_open());
+    assert!(rt; closed.accept());
+    for (input, fault) in [
+        ("0000000a", FrameFault::ShortLength),
+        ("00010001", FrameFault::TooLong),
+        ("0000000b 00000001 01", FrameFault::BadFlags),
+    ] {
+        let mut target = ready(alloc, MACHINE_A, 65535)?;
+        target.feed(&bytes(alloc, input)?);
+        assert_eq!(rt; target.turn(), Err(TargetFault::Frame(fault)), "{input}");
+        assert!(rt; !target.is_open(), "{input}");
+    }
+    Ok(())
+}
+
+#[test]
+fn all_begin_suspended(rt: HostRuntime) -> Result<(), Fail> {
+    let alloc = rt.alloc();
+    let mut target = target(alloc, MACHINE_A, true, 65535)?;
+    target.accept();
+    target.feed(&bytes(alloc, HANDSHAKE)?);
+    assert_eq!(rt; target.turn(), Ok(Turn::Hello));
+    assert!(rt; counts_are(&target, Some(1), Some(1)));
+    assert_eq!(rt; target.step(ObjectId(1)), Ok(Stepped::Frozen));
+    let mut wanted = bytes(alloc, HANDSHAKE)?;
+    wanted.extend_from_slice(&bytes(
+        alloc,
+        "0000001d 00000001 00 40 64 02 00000001 5a 00000000 0000000000000001",
+    )?)?;
+    assert!(rt; taken(alloc, &mut target)?.as_slice() == wanted.as_slice());
+    Ok(())
+}
+
+#[test]
+fn nothing_and_too_much(rt: HostRuntime) -> Result<(), Fail> {
+    let alloc = rt.alloc();
+    let mut target = ready(alloc, MACHINE_A, 65535)?;
+    assert_eq!(rt; target.feed(&[]), 0);
+    assert_eq!(rt; target.turn(), Ok(Turn::Nothing));
+    assert_eq!(rt; target.take(&mut []), 0);
+    let block = [0; 4096];
+    for _ in 0..16u32 {
+        assert_eq!(rt; target.feed(&block), 4096);
+    }
+    assert_eq!(rt; target.room(), 0);
+    assert_eq!(rt; target.feed(&[0]), 0);
+    Ok(())
+}
+
+#[test]
+fn pauses_where_a_packet_waits(rt: HostRuntime) -> Result<(), Fail> {
+    let alloc = rt.alloc();
+    let mut target = target(alloc, MACHINE_A, false, 65535)?;
+    target.accept();
+    target.feed(&bytes(alloc, HANDSHAKE)?);
+    assert_eq!(rt; target.turn(), Ok(Turn::Hello));
+    let count = bytes(alloc, "00000013 00000003 00 0b 0c 0000000000000001")?;
+    for _ in 0..4367u32 {
+        target.feed(&count);
+        assert_eq!(rt; target.turn(), Ok(Turn::Replied(3, ErrorCode::NONE)));
+    }
+    target.feed(&count);
+    assert_eq!(rt; target.turn(), Ok(Turn::Nothing));
+    assert_eq!(rt; target.step(ObjectId(1)), Ok(Stepped::Frozen));
+    assert_eq!(rt; target.waiting(), 65548);
+    let mut few = [0; 13];
+    assert_eq!(rt; target.take(&mut few), 13);
+    assert_eq!(rt; target.turn(), Ok(Turn::Replied(3, ErrorCode::NONE)));
+    Ok(())
+}
+
+#[test]
+fn frames_of_a_suspended_thread(rt: HostRuntime) -> Result<(), Fail> {
+    let alloc = rt.alloc();
+    let mut target = ready(alloc, MACHINE_A, 65535)?;
+    assert!(rt; is_quiet(alloc, &mut target, 1, 1)?);
+    let rows = [
+        (
+            "0000001b 00000002 00 0b 06 0000000000000001 00000000 ffffffff",
+            "0000000b 00000002 80 000d",
+        ),
+        ("0000000b 00000009 00 01 08", "0000000b 00000009 80 0000"),
+        (
+            "0000001b 00000003 00 0b 06 0000000000000001 00000000 ffffffff",
+            "00000030 00000003 80 0000 00000001 000000000000001e 01 000000000000000a 0000000000000014 0000000000000000",
+        ),
+        (
+            "0000001b 00000004 00 0b 06 0000000000000001 00000002 ffffffff",
+            "0000000b 00000004 80 01f7",
+        ),
+        (
+            "0000001b 00000005 00 0b 06 0000000000000001 00000001 00000001",
+            "0000000b 00000005 80 01f8",
+        ),
+        (
+            "00000013 00000006 00 0b 01 0000000000000001",
+            "00000013 00000006 80 0000 00000004 6d61696e",
+        ),
+        (
+            "00000015 00000007 00 01 02 00000006 4c4d61696e3b",
+            "0000001c 00000007 80 0000 00000001 01 000000000000000a 00000003",
+        ),
+    ];
+    for (input, output) in rows {
+        assert!(rt; answers(alloc, &mut target, input, output)?);
+    }
+    Ok(())
+}
+
+#[test]
+fn slots_are_written_and_read(rt: HostRuntime) -> Result<(), Fail> {
+    let alloc = rt.alloc();
+    let mut target = ready(alloc, WITH_A_SLOT, 65535)?;
+    assert!(rt; is_quiet(alloc, &mut target, 1, 1)?);
+    let rows = [
+        ("0000000b 00000002 00 01 08", "0000000b 00000002 80 0000"),
+        (
+            "00000028 00000003 00 10 02 0000000000000001 000000000000001e 00000001 00000000 49 00000005",
+            "0000000b 00000003 80 0000",
+        ),
+        (
+            "00000024 00000004 00 10 01 0000000000000001 000000000000001e 00000001 00000000 49",
+            "00000014 00000004 80 0000 00000001 49 00000005",
+        ),
+    ];
+    for (input, output) in rows {
+        assert!(rt; answers(alloc, &mut target, input, output)?);
+    }
+    Ok(())
+}
+
+#[test]
+fn event_requests_that_are_refused(rt: HostRuntime) -> Result<(), Fail> {
+    let alloc = rt.alloc();
+    let mut target = ready(alloc, MACHINE_A, 65535)?;
+    let rows = [
+        (
+            "00000011 00000002 00 0f 01 14 03 00000000",
+            "0000000b 00000002 80 0063",
+        ),
+        (
+            "00000011 00000003 00 0f 01 7f 00 00000000",
+            "0000000b 00000003 80 0066",
+        ),
+        (
+            "00000011 00000004 00 0f 01 02 03 00000000",
+            "0000000b 00000004 80 0067",
+        ),
+        (
+            "00000011 00000005 00 0f 01 02 00 00000000",
+            "0000000b 00000005 80 0067",
+        ),
+        (
+            "0000002b 00000006 00 0f 01 02 00 00000001 07 01 000000000000000a 0000000000000014 000000000000000a",
+            "0000000b 00000006 80 0018",
+        ),
+        (
+            "00000030 00000007 00 0f 01 02 00 00000002 01 00000000 07 01 000000000000000a 0000000000000014 0000000000000003",
+            "0000000b 00000007 80 0200",
+        ),
+        (
+            "00000017 00000008 00 0f 01 06 00 00000001 05 00000001 2a",
+            "0000000b 00000008 80 0067",
+        ),
+    ];
+    for (input, output) in rows {
+        assert!(rt; answers(alloc, &mut target, input, output)?);
+    }
+    assert_eq!(rt; target.requests().len(), 0);
+    Ok(())
+}
+
+#[test]
+fn two_breakpoints_of_one_place_report_together(rt: HostRuntime) -> Result<(), Fail> {
+    let alloc = rt.alloc();
+    let mut target = ready(alloc, MACHINE_A, 65535)?;
+    let rows = [
+        (
+            "0000002b 00000002 00 0f 01 02 00 00000001 07 01 000000000000000a 0000000000000014 0000000000000003",
+            "0000000f 00000002 80 0000 00000001",
+        ),
+        (
+            "0000002b 00000003 00 0f 01 02 02 00000001 07 01 000000000000000a 0000000000000014 0000000000000003",
+            "0000000f 00000003 80 0000 00000002",
+        ),
+    ];
+    for (input, output) in rows {
+        assert!(rt; answers(alloc, &mut target, input, output)?);
+    }
+    assert!(rt; is_quiet(alloc, &mut target, 1, 1)?);
+    let composite = "0000005c 00000002 00 40 64 02 00000002 02 00000001 0000000000000001 01 000000000000000a 0000000000000014 0000000000000003 02 00000002 0000000000000001 01 000000000000000a 0000000000000014 0000000000000003";
+    assert!(rt; reports(alloc, &mut target, 1, composite)?);
+    assert!(rt; counts_are(&target, Some(1), Some(1)));
+    Ok(())
+}
+
+#[test]
+fn a_breakpoint_that_counts_reports_once(rt: HostRuntime) -> Result<(), Fail> {
+    let alloc = rt.alloc();
+    let mut target = ready(alloc, MACHINE_A, 65535)?;
+    assert!(rt; answers(
+        alloc,
+        &mut target,
+        "00000030 00000002 00 0f 01 02 00 00000002 07 01 000000000000000a 0000000000000014 0000000000000003 01 00000002",
+        "0000000f 00000002 80 0000 00000001",
+    )?);
+    assert!(rt; is_quiet(alloc, &mut target, 1, 3)?);
+    let composite = "00000036 00000002 00 40 64 00 00000001 02 00000001 0000000000000001 01 000000000000000a 0000000000000014 0000000000000003";
+    assert!(rt; reports(alloc, &mut target, 1, composite)?);
+    assert!(rt; is_quiet(alloc, &mut target, 1, 2)?);
+    assert_eq!(rt; target.requests().len(), 1);
+    let clear = "00000010 00000003 00 0f 02 02 00000001";
+    assert!(rt; answers(alloc, &mut target, clear, "0000000b 00000003 80 0000")?);
+    assert_eq!(rt; target.requests().len(), 0);
+    assert!(rt; answers(alloc, &mut target, clear, "0000000b 00000003 80 0000")?);
+    Ok(())
+}
+
+#[test]
+fn steps_by_line(rt: HostRuntime) -> Result<(), Fail> {
+    let alloc = rt.alloc();
+    let into = "00000022 00000002 00 0f 01 01 00 00000001 0a 0000000000000001 00000001 00000000";
+    let over = "00000022 00000002 00 0f 01 01 00 00000001 0a 0000000000000001 00000001 00000001";
+    let breakpoint = "0000002b 00000003 00 0f 01 02 01 00000001 07 01 000000000000000a 0000000000000014 0000000000000003";
+    let set = "0000000f 00000002 80 0000 00000001";
+    let mut target = ready(alloc, MACHINE_A, 65535)?;
+    assert!(rt; answers(alloc, &mut target, into, set)?);
+    assert!(rt; is_quiet(alloc, &mut target, 1, 1)?);
+    let step = "00000036 00000002 00 40 64 00 00000001 01 00000001 0000000000000001 01 000000000000000a 0000000000000014 0000000000000003";
+    assert!(rt; reports(alloc, &mut target, 1, step)?);
+    let mut target = ready(alloc, MACHINE_A, 65535)?;
+    assert!(rt; answers(alloc, &mut target, over, set)?);
+    assert!(rt; is_quiet(alloc, &mut target, 1, 7)?);
+    let mut target = ready(alloc, MACHINE_A, 65535)?;
+    assert!(rt; answers(alloc, &mut target, into, set)?);
+    assert!(rt; answers(alloc, &mut target, breakpoint, "0000000f 00000003 80 0000 00000002")?);
+    assert!(rt; is_quiet(alloc, &mut target, 1, 1)?);
+    let both = "0000005c 00000002 00 40 64 01 00000002 01 00000001 0000000000000001 01 000000000000000a 0000000000000014 0000000000000003 02 00000002 0000000000000001 01 000000000000000a 0000000000000014 0000000000000003";
+    assert!(rt; reports(alloc, &mut target, 1, both)?);
+    assert!(rt; counts_are(&target, Some(1), Some(0)));
+    Ok(())
+}
+
+#[test]
+fn a_count_at_its_limit_freezes_all(rt: HostRuntime) -> Result<(), Fail> {
+    let alloc = rt.alloc();
+    let mut target = ready(alloc, MACHINE_A, 2)?;
+    let rows = [
+        ("0000000b 00000002 00 01 08", "0000000b 00000002 80 0000"),
+        ("0000000b 00000003 00 01 08", "0000000b 00000003 80 0000"),
+        ("0000000b 00000004 00 01 08", "0000000b 00000004 80 0071"),
+    ];
+    for (input, output) in rows {
+        assert!(rt; answers(alloc, &mut target, input, output)?);
+    }
+    assert!(rt; counts_are(&target, Some(2), Some(2)));
+    let resume = "00000013 00000005 00 0b 03 0000000000000001";
+    for _ in 0..2u32 {
+        assert!(rt; answers(alloc, &mut target, resume, "0000000b 00000005 80 0000")?);
+    }
+    assert!(rt; counts_are(&target, Some(0), Some(2)));
+    assert_eq!(rt; target.step(ObjectId(1)), Ok(Stepped::Frozen));
+    Ok(())
+}
+
+#[test]
+fn held_events_freeze_threads(rt: HostRuntime) -> Result<(), Fail> {
+    let alloc = rt.alloc();
+    let mut target = ready(alloc, MACHINE_A, 65535)?;
+    assert!(rt; answers(
+        alloc,
+        &mut target,
+        "0000002b 00000002 00 0f 01 02 00 00000001 07 01 000000000000000a 0000000000000014 0000000000000003",
+        "0000000f 00000002 80 0000 00000001",
+    )?);
+    assert!(rt; is_quiet(alloc, &mut target, 1, 1)?);
+    let hold = "0000000b 00000003 00 01 0f";
+    assert!(rt; answers(alloc, &mut target, hold, "0000000b 00000003 80 0000")?);
+    assert_eq!(rt; target.step(ObjectId(1)), Ok(Stepped::Frozen));
+    let release = "0000000b 00000004 00 01 10";
+    assert!(rt; answers(alloc, &mut target, release, "0000000b 00000004 80 0000")?);
+    let composite = "00000036 00000002 00 40 64 00 00000001 02 00000001 0000000000000001 01 000000000000000a 0000000000000014 0000000000000003";
+    assert!(rt; reports(alloc, &mut target, 1, composite)?);
+    Ok(())
+}
+
+#[test]
+fn an_exit_ends_the_machine(rt: HostRuntime) -> Result<(), Fail> {
+    let alloc = rt.alloc();
+    let mut target = ready(alloc, MACHINE_A, 65535)?;
+    assert!(rt; answers(
+        alloc,
+        &mut target,
+        "0000000f 00000002 00 01 0a 00000000",
+        "0000000b 00000002 80 0000 00000015 00000002 00 40 64 00 00000001 63 00000000",
+    )?);
+    assert!(rt; !target.is_open());
+    assert!(rt; !target.accept());
+    assert!(rt; target.live().is_empty());
+    Ok(())
+}
+
+#[test]
+fn a_death_is_reported_before_the_end(rt: HostRuntime) -> Result<(), Fail> {
+    let alloc = rt.alloc();
+    let mut target = ready(alloc, MACHINE_A, 65535)?;
+    assert!(rt; answers(
+        alloc,
+        &mut target,
+        "00000011 00000002 00 0f 01 07 01 00000000",
+        "0000000f 00000002 80 0000 00000001",
+    )?);
+    assert_eq!(rt; target.step(ObjectId(2)), Ok(Stepped::Reported));
+    assert!(rt; counts_are(&target, Some(0), Some(1)));
+    assert_eq!(rt; target.step(ObjectId(2)), Ok(Stepped::Frozen));
+    taken(alloc, &mut target)?;
+    let resume = "00000013 00000003 00 0b 03 0000000000000002";
+    assert!(rt; answers(alloc, &mut target, resume, "0000000b 00000003 80 0000")?);
+    assert_eq!(rt; target.step(ObjectId(2)), Ok(Stepped::Ended));
+    assert!(rt; counts_are(&target, Some(0), None));
+    let asked = "00000013 00000004 00 0b 0c 0000000000000002";
+    assert!(rt; answers(alloc, &mut target, asked, "0000000b 00000004 80 000a")?);
+    Ok(())
+}
+
+#[test]
+fn the_last_end_is_the_machines(rt: HostRuntime) -> Result<(), Fail> {
+    let alloc = rt.alloc();
+    let mut target = ready(alloc, MACHINE_A, 65535)?;
+    assert_eq!(rt; target.step(ObjectId(2)), Ok(Stepped::Ended));
+    assert!(rt; is_quiet(alloc, &mut target, 1, 7)?);
+    assert!(rt; target.is_open());
+    assert_eq!(rt; target.step(ObjectId(1)), Ok(Stepped::Ended));
+    assert!(rt; !target.is_open());
+    let death = bytes(alloc, "00000015 00000002 00 40 64 00 00000001 63 00000000")?;
+    assert!(rt; taken(alloc, &mut target)?.as_slice() == death.as_slice());
+    assert!(rt; !target.accept());
+    Ok(())
+}
+
+#[test]
+fn a_packet_of_the_greatest_length(rt: HostRuntime) -> Result<(), Fail> {
+    let alloc = rt.alloc();
+    let mut text = bytes(alloc, "00010000 00000002 00 01 02 0000fff1")?;
+    for _ in 0..65521u32 {
+        text.push(b'x')?;
+    }
+    let mut target = ready(alloc, MACHINE_A, 65535)?;
+    assert_eq!(rt; target.feed(text.as_slice()), 65536);
+    assert_eq!(rt; target.turn(), Ok(Turn::Replied(2, ErrorCode::NONE)));
+    let reply = bytes(alloc, "0000000f 00000002 80 0000 00000000")?;
+    assert!(rt; taken(alloc, &mut target)?.as_slice() == reply.as_slice());
+    target.feed(&bytes(alloc, "00010001")?);
+    let turn = target.turn();
+    assert!(rt; matches!(turn, Err(TargetFault::Frame(FrameFault::TooLong))));
+    Ok(())
+}
