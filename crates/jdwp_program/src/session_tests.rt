@@ -207,15 +207,30 @@ fn suspends_and_resumes(rt: HostRuntime) -> Result<(), Fail> {
     let alloc = rt.alloc();
     let mut target = ready(alloc, MACHINE_A, 65535)?;
     let rows = [
-        ("0000000b 00000002 00 01 08", "0000000b 00000002 80 0000", 1, 1),
+        (
+            "0000000b 00000002 00 01 08",
+            "0000000b 00000002 80 0000",
+            1,
+            1,
+        ),
         (
             "00000013 00000003 00 0b 02 0000000000000001",
             "0000000b 00000003 80 0000",
             2,
             1,
         ),
-        ("0000000b 00000004 00 01 09", "0000000b 00000004 80 0000", 1, 0),
-        ("0000000b 00000005 00 01 09", "0000000b 00000005 80 0000", 0, 0),
+        (
+            "0000000b 00000004 00 01 09",
+            "0000000b 00000004 80 0000",
+            1,
+            0,
+        ),
+        (
+            "0000000b 00000005 00 01 09",
+            "0000000b 00000005 80 0000",
+            0,
+            0,
+        ),
     ];
     for (input, output, first, second) in rows {
         assert!(rt; answers(alloc, &mut target, input, output)?);
@@ -443,7 +458,8 @@ fn two_breakpoints_of_one_place_report_together(rt: HostRuntime) -> Result<(), F
         assert!(rt; answers(alloc, &mut target, input, output)?);
     }
     assert!(rt; is_quiet(alloc, &mut target, 1, 1)?);
-    let composite = "0000005c 00000002 00 40 64 02 00000002 02 00000001 0000000000000001 01 000000000000000a 0000000000000014 0000000000000003 02 00000002 0000000000000001 01 000000000000000a 0000000000000014 0000000000000003";
+    let composite =
+        "0000005c 00000002 00 40 64 02 00000002 02 00000001 0000000000000001 01 000000000000000a 0000000000000014 0000000000000003 02 00000002 0000000000000001 01 000000000000000a 0000000000000014 0000000000000003";
     assert!(rt; reports(alloc, &mut target, 1, composite)?);
     assert!(rt; counts_are(&target, Some(1), Some(1)));
     Ok(())
@@ -453,14 +469,17 @@ fn two_breakpoints_of_one_place_report_together(rt: HostRuntime) -> Result<(), F
 fn a_breakpoint_that_counts_reports_once(rt: HostRuntime) -> Result<(), Fail> {
     let alloc = rt.alloc();
     let mut target = ready(alloc, MACHINE_A, 65535)?;
-    assert!(rt; answers(
-        alloc,
-        &mut target,
-        "00000030 00000002 00 0f 01 02 00 00000002 07 01 000000000000000a 0000000000000014 0000000000000003 01 00000002",
-        "0000000f 00000002 80 0000 00000001",
-    )?);
+    assert!(rt;
+        answers(
+            alloc,
+            &mut target,
+            "00000030 00000002 00 0f 01 02 00 00000002 07 01 000000000000000a 0000000000000014 0000000000000003 01 00000002",
+            "0000000f 00000002 80 0000 00000001",
+        )?
+    );
     assert!(rt; is_quiet(alloc, &mut target, 1, 3)?);
-    let composite = "00000036 00000002 00 40 64 00 00000001 02 00000001 0000000000000001 01 000000000000000a 0000000000000014 0000000000000003";
+    let composite =
+        "00000036 00000002 00 40 64 00 00000001 02 00000001 0000000000000001 01 000000000000000a 0000000000000014 0000000000000003";
     assert!(rt; reports(alloc, &mut target, 1, composite)?);
     assert!(rt; is_quiet(alloc, &mut target, 1, 2)?);
     assert_eq!(rt; target.requests().len(), 1);
@@ -476,21 +495,31 @@ fn steps_by_line(rt: HostRuntime) -> Result<(), Fail> {
     let alloc = rt.alloc();
     let into = "00000022 00000002 00 0f 01 01 00 00000001 0a 0000000000000001 00000001 00000000";
     let over = "00000022 00000002 00 0f 01 01 00 00000001 0a 0000000000000001 00000001 00000001";
-    let breakpoint = "0000002b 00000003 00 0f 01 02 01 00000001 07 01 000000000000000a 0000000000000014 0000000000000003";
+    let breakpoint =
+        "0000002b 00000003 00 0f 01 02 01 00000001 07 01 000000000000000a 0000000000000014 0000000000000003";
     let set = "0000000f 00000002 80 0000 00000001";
     let mut target = ready(alloc, MACHINE_A, 65535)?;
     assert!(rt; answers(alloc, &mut target, into, set)?);
     assert!(rt; is_quiet(alloc, &mut target, 1, 1)?);
-    let step = "00000036 00000002 00 40 64 00 00000001 01 00000001 0000000000000001 01 000000000000000a 0000000000000014 0000000000000003";
+    let step =
+        "00000036 00000002 00 40 64 00 00000001 01 00000001 0000000000000001 01 000000000000000a 0000000000000014 0000000000000003";
     assert!(rt; reports(alloc, &mut target, 1, step)?);
     let mut target = ready(alloc, MACHINE_A, 65535)?;
     assert!(rt; answers(alloc, &mut target, over, set)?);
     assert!(rt; is_quiet(alloc, &mut target, 1, 7)?);
     let mut target = ready(alloc, MACHINE_A, 65535)?;
     assert!(rt; answers(alloc, &mut target, into, set)?);
-    assert!(rt; answers(alloc, &mut target, breakpoint, "0000000f 00000003 80 0000 00000002")?);
+    assert!(rt;
+        answers(
+            alloc,
+            &mut target,
+            breakpoint,
+            "0000000f 00000003 80 0000 00000002"
+        )?
+    );
     assert!(rt; is_quiet(alloc, &mut target, 1, 1)?);
-    let both = "0000005c 00000002 00 40 64 01 00000002 01 00000001 0000000000000001 01 000000000000000a 0000000000000014 0000000000000003 02 00000002 0000000000000001 01 000000000000000a 0000000000000014 0000000000000003";
+    let both =
+        "0000005c 00000002 00 40 64 01 00000002 01 00000001 0000000000000001 01 000000000000000a 0000000000000014 0000000000000003 02 00000002 0000000000000001 01 000000000000000a 0000000000000014 0000000000000003";
     assert!(rt; reports(alloc, &mut target, 1, both)?);
     assert!(rt; counts_are(&target, Some(1), Some(0)));
     Ok(())
@@ -522,19 +551,22 @@ fn a_count_at_its_limit_freezes_all(rt: HostRuntime) -> Result<(), Fail> {
 fn held_events_freeze_threads(rt: HostRuntime) -> Result<(), Fail> {
     let alloc = rt.alloc();
     let mut target = ready(alloc, MACHINE_A, 65535)?;
-    assert!(rt; answers(
-        alloc,
-        &mut target,
-        "0000002b 00000002 00 0f 01 02 00 00000001 07 01 000000000000000a 0000000000000014 0000000000000003",
-        "0000000f 00000002 80 0000 00000001",
-    )?);
+    assert!(rt;
+        answers(
+            alloc,
+            &mut target,
+            "0000002b 00000002 00 0f 01 02 00 00000001 07 01 000000000000000a 0000000000000014 0000000000000003",
+            "0000000f 00000002 80 0000 00000001",
+        )?
+    );
     assert!(rt; is_quiet(alloc, &mut target, 1, 1)?);
     let hold = "0000000b 00000003 00 01 0f";
     assert!(rt; answers(alloc, &mut target, hold, "0000000b 00000003 80 0000")?);
     assert_eq!(rt; target.step(ObjectId(1)), Ok(Stepped::Frozen));
     let release = "0000000b 00000004 00 01 10";
     assert!(rt; answers(alloc, &mut target, release, "0000000b 00000004 80 0000")?);
-    let composite = "00000036 00000002 00 40 64 00 00000001 02 00000001 0000000000000001 01 000000000000000a 0000000000000014 0000000000000003";
+    let composite =
+        "00000036 00000002 00 40 64 00 00000001 02 00000001 0000000000000001 01 000000000000000a 0000000000000014 0000000000000003";
     assert!(rt; reports(alloc, &mut target, 1, composite)?);
     Ok(())
 }
@@ -543,12 +575,14 @@ fn held_events_freeze_threads(rt: HostRuntime) -> Result<(), Fail> {
 fn an_exit_ends_the_machine(rt: HostRuntime) -> Result<(), Fail> {
     let alloc = rt.alloc();
     let mut target = ready(alloc, MACHINE_A, 65535)?;
-    assert!(rt; answers(
-        alloc,
-        &mut target,
-        "0000000f 00000002 00 01 0a 00000000",
-        "0000000b 00000002 80 0000 00000015 00000002 00 40 64 00 00000001 63 00000000",
-    )?);
+    assert!(rt;
+        answers(
+            alloc,
+            &mut target,
+            "0000000f 00000002 00 01 0a 00000000",
+            "0000000b 00000002 80 0000 00000015 00000002 00 40 64 00 00000001 63 00000000",
+        )?
+    );
     assert!(rt; !target.is_open());
     assert!(rt; !target.accept());
     assert!(rt; target.live().is_empty());
@@ -559,12 +593,14 @@ fn an_exit_ends_the_machine(rt: HostRuntime) -> Result<(), Fail> {
 fn a_death_is_reported_before_the_end(rt: HostRuntime) -> Result<(), Fail> {
     let alloc = rt.alloc();
     let mut target = ready(alloc, MACHINE_A, 65535)?;
-    assert!(rt; answers(
-        alloc,
-        &mut target,
-        "00000011 00000002 00 0f 01 07 01 00000000",
-        "0000000f 00000002 80 0000 00000001",
-    )?);
+    assert!(rt;
+        answers(
+            alloc,
+            &mut target,
+            "00000011 00000002 00 0f 01 07 01 00000000",
+            "0000000f 00000002 80 0000 00000001",
+        )?
+    );
     assert_eq!(rt; target.step(ObjectId(2)), Ok(Stepped::Reported));
     assert!(rt; counts_are(&target, Some(0), Some(1)));
     assert_eq!(rt; target.step(ObjectId(2)), Ok(Stepped::Frozen));
