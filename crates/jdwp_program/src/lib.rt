@@ -4,6 +4,8 @@
 #![tactic(auto)]
 
 mod captures;
+#[cfg(test)]
+mod example_tests;
 mod fault;
 mod outcome;
 mod printing;

@@ -14,7 +14,8 @@ const HANDSHAKE: &str = "4a4457502d48616e647368616b65";
 
 const VM_START: &str = "0000001d 00000001 00 40 64 00 00000001 5a 00000000 0000000000000001";
 
-const MACHINE_A: &str = "{\"name\":\"A\",\"sizes\":[8,8,8,8,8],
+/// A machine of two threads, of which the first calls a method, moves in it and returns.
+pub(crate) const MACHINE_A: &str = "{\"name\":\"A\",\"sizes\":[8,8,8,8,8],
 \"groups\":[{\"id\":5,\"name\":\"main\",\"parent\":0}],
 \"classes\":[{\"id\":10,\"tag\":1,\"signature\":\"LMain;\",\"modifiers\":1,
  \"super\":0,\"interfaces\":[],\"source\":\"Main.java\",\"fields\":[],
