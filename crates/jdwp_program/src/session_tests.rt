@@ -102,38 +102,100 @@ fn ready(alloc: Global, script: &str, count_limit: u32) -> Result<Target, Fail> 
     Ok(target)
 }
 
-/// Whether the target sends this when it is sent that, in turns until nothing is left to handle.
-fn answers(alloc: Global, target: &mut Target, input: &str, output: &str) -> Result<bool, Fail> {
+/// What is done with a target, and what comes of it.
+#[derive(Clone, Copy)]
+enum Act<'a> {
+    /// It is sent the first bytes, and sends the others, in turns until nothing is left to handle.
+    Says(&'a str, &'a str),
+    /// A thread is stepped so many times; each step tells this, and all send these bytes.
+    Steps(u64, u32, Stepped, &'a str),
+    /// It is sent bytes that begin no message.
+    Fails(&'a str, FrameFault),
+    /// The suspend counts of threads 1 and 2.
+    Counts(Option<u32>, Option<u32>),
+    /// How many event requests there are.
+    Requests(usize),
+    /// How many threads live.
+    Lives(usize),
+    /// Whether the session is open.
+    Open(bool),
+    /// Whether a session begins.
+    Accepts(bool),
+    /// The connection is lost.
+    Loses,
+}
+
+/// Whether this comes of it.
+fn comes(alloc: Global, target: &mut Target, act: &Act<'_>) -> Result<bool, Fail> {
+    match act {
+        Act::Says(input, output) => says(alloc, target, input, output),
+        Act::Steps(thread, times, told, output) => steps(
+            alloc, target, *thread, *times, *told, output,
+        ),
+        Act::Fails(input, fault) => {
+            target.feed(&bytes(alloc, input)?);
+            Ok(target.turn() == Err(TargetFault::Frame(*fault)))
+        }
+        Act::Counts(first, second) => {
+            Ok(target.count(ObjectId(1)) == *first && target.count(ObjectId(2)) == *second)
+        }
+        Act::Requests(count) => Ok(target.requests().len() == *count),
+        Act::Lives(count) => Ok(target.live().len() == *count),
+        Act::Open(open) => Ok(target.is_open() == *open),
+        Act::Accepts(accepts) => Ok(target.accept() == *accepts),
+        Act::Loses => {
+            target.lose();
+            Ok(target.room() == 0 && target.waiting() == 0)
+        }
+    }
+}
+
+fn says(alloc: Global, target: &mut Target, input: &str, output: &str) -> Result<bool, Fail> {
     target.feed(&bytes(alloc, input)?);
     for _ in 0..16u32 {
         if target.turn() == Ok(Turn::Nothing) {
             break;
         }
     }
-    Ok(taken(alloc, target)?.as_slice() == bytes(alloc, output)?.as_slice())
+    sends(alloc, target, output)
 }
 
-/// Whether a thread, stepped so many times, is `Quiet` each time, and sends nothing.
-fn is_quiet(alloc: Global, target: &mut Target, thread: u64, times: u32) -> Result<bool, Fail> {
+fn steps(
+    alloc: Global,
+    target: &mut Target,
+    thread: u64,
+    times: u32,
+    told: Stepped,
+    output: &str,
+) -> Result<bool, Fail> {
     for _ in 0..times {
-        if target.step(ObjectId(thread)) != Ok(Stepped::Quiet) {
+        if target.step(ObjectId(thread)) != Ok(told) {
             return Ok(false);
         }
     }
-    Ok(taken(alloc, target)?.is_empty())
+    sends(alloc, target, output)
 }
 
-/// Whether a step of the thread is `Reported`, by these bytes.
-fn reports(alloc: Global, target: &mut Target, thread: u64, output: &str) -> Result<bool, Fail> {
-    if target.step(ObjectId(thread)) != Ok(Stepped::Reported) {
-        return Ok(false);
-    }
+/// Whether these bytes wait to leave; they are taken.
+fn sends(alloc: Global, target: &mut Target, output: &str) -> Result<bool, Fail> {
     Ok(taken(alloc, target)?.as_slice() == bytes(alloc, output)?.as_slice())
 }
 
-/// Whether the suspend counts of threads 1 and 2 are these.
-fn counts_are(target: &Target, first: Option<u32>, second: Option<u32>) -> bool {
-    target.count(ObjectId(1)) == first && target.count(ObjectId(2)) == second
+/// The place, from 0, of the first act of a session of which something else comes; None where all is as it is to be. The session
+/// begins with the handshake done and its answer taken, and no thread is suspended.
+fn goes_wrong_at(
+    alloc: Global,
+    script: &str,
+    count_limit: u32,
+    acts: &[Act<'_>],
+) -> Result<Option<usize>, Fail> {
+    let mut target = ready(alloc, script, count_limit)?;
+    for (place, act) in acts.iter().enumerate() {
+        if !comes(alloc, &mut target, act)? {
+            return Ok(Some(place));
+        }
+    }
+    Ok(None)
 }
 
 #[test]
@@ -162,143 +224,425 @@ fn handshake_byte_by_byte(rt: HostRuntime) -> Result<(), Fail> {
 }
 
 #[test]
-fn short_commands(rt: HostRuntime) -> Result<(), Fail> {
-    let alloc = rt.alloc();
-    let rows = [
-        (
-            "0000000b 00000001 00 01 07",
-            "0000001f 00000001 80 0000 00000008 00000008 00000008 00000008 00000008",
-        ),
-        (
-            "0000000b 00000002 00 01 08 00000013 00000003 00 0b 0c 0000000000000001",
-            "0000000b 00000002 80 0000 0000000f 00000003 80 0000 00000001",
-        ),
-        (
-            "00000013 00000004 00 0b 03 0000000000000002 00000013 00000005 00 0b 0c 0000000000000002",
-            "0000000b 00000004 80 0000 0000000f 00000005 80 0000 00000000",
-        ),
-        (
-            "0000000b 00000005 00 40 64 0000000b 00000006 00 01 63",
-            "0000000b 00000005 80 0063 0000000b 00000006 80 0063",
-        ),
-        (
-            "0000000f 00000007 00 01 02 ffffffff",
-            "0000000b 00000007 80 0067",
-        ),
-        (
-            "00000013 00000005 00 0b 0c 0000000000000003",
-            "0000000b 00000005 80 000a",
-        ),
-        (
-            "0000000c 00000007 00 01 08 00 00000012 00000008 00 0b 0c 00000000000001",
-            "0000000b 00000007 80 0067 0000000b 00000008 80 0067",
-        ),
-        ("0000000b 00000004 00 01 06", "0000000b 00000004 80 0000"),
-        ("0000000b 00000009 80 0000", ""),
-    ];
-    for (input, output) in rows {
-        let mut target = ready(alloc, MACHINE_A, 65535)?;
-        assert!(rt; answers(alloc, &mut target, input, output)?, "{input}");
-    }
-    Ok(())
-}
-
-#[test]
-fn suspends_and_resumes(rt: HostRuntime) -> Result<(), Fail> {
-    let alloc = rt.alloc();
-    let mut target = ready(alloc, MACHINE_A, 65535)?;
-    let rows = [
-        (
-            "0000000b 00000002 00 01 08",
-            "0000000b 00000002 80 0000",
-            1,
-            1,
-        ),
-        (
-            "00000013 00000003 00 0b 02 0000000000000001",
-            "0000000b 00000003 80 0000",
-            2,
-            1,
-        ),
-        (
-            "0000000b 00000004 00 01 09",
-            "0000000b 00000004 80 0000",
-            1,
-            0,
-        ),
-        (
-            "0000000b 00000005 00 01 09",
-            "0000000b 00000005 80 0000",
-            0,
-            0,
-        ),
-    ];
-    for (input, output, first, second) in rows {
-        assert!(rt; answers(alloc, &mut target, input, output)?);
-        assert!(rt; counts_are(&target, Some(first), Some(second)));
-    }
-    Ok(())
-}
-
-#[test]
-fn a_session_after_a_loss(rt: HostRuntime) -> Result<(), Fail> {
-    let alloc = rt.alloc();
-    let mut target = ready(alloc, MACHINE_A, 65535)?;
-    target.feed(&bytes(alloc, "0000000b 00000004 00 01 08")?);
-    assert_eq!(rt; target.turn(), Ok(Turn::Replied(4, ErrorCode::NONE)));
-    assert!(rt; counts_are(&target, Some(1), Some(1)));
-    target.lose();
-    assert!(rt; !target.is_open());
-    assert_eq!(rt; target.room(), 0);
-    assert_eq!(rt; target.waiting(), 0);
-    assert!(rt; counts_are(&target, Some(0), Some(0)));
-    // The second handshake of the target's life is not followed by VM_START.
-    assert!(rt; target.accept());
-    assert_eq!(rt; target.room(), 65536);
-    assert!(rt; answers(alloc, &mut target, HANDSHAKE, HANDSHAKE)?);
-    Ok(())
-}
-
-#[test]
-fn frame_faults(rt: HostRuntime) -> Result<(), Fail> {
-    let alloc = rt.alloc();
-    let mut closed = target(alloc, MACHINE_A, true, 65535)?;
-    closed.accept();
-    closed.feed(&bytes(alloc, "4a4457502d48616e647368616b45")?);
-    assert_eq!(rt;
-        closed.turn(),
-        Err(TargetFault::Frame(FrameFault::BadHandshake(13)))
-    );
-    assert!(rt; !closed.is_open());
-    assert!(rt; closed.accept());
-    for (input, fault) in [
-        ("0000000a", FrameFault::ShortLength),
-        ("00010001", FrameFault::TooLong),
-        ("0000000b 00000001 01", FrameFault::BadFlags),
-    ] {
-        let mut target = ready(alloc, MACHINE_A, 65535)?;
-        target.feed(&bytes(alloc, input)?);
-        assert_eq!(rt; target.turn(), Err(TargetFault::Frame(fault)), "{input}");
-        assert!(rt; !target.is_open(), "{input}");
-    }
-    Ok(())
-}
-
-#[test]
 fn all_begin_suspended(rt: HostRuntime) -> Result<(), Fail> {
     let alloc = rt.alloc();
     let mut target = target(alloc, MACHINE_A, true, 65535)?;
     target.accept();
     target.feed(&bytes(alloc, HANDSHAKE)?);
     assert_eq!(rt; target.turn(), Ok(Turn::Hello));
-    assert!(rt; counts_are(&target, Some(1), Some(1)));
+    assert_eq!(rt; target.count(ObjectId(1)), Some(1));
+    assert_eq!(rt; target.count(ObjectId(2)), Some(1));
     assert_eq!(rt; target.step(ObjectId(1)), Ok(Stepped::Frozen));
-    let mut wanted = bytes(alloc, HANDSHAKE)?;
-    wanted.extend_from_slice(&bytes(
-        alloc,
-        "0000001d 00000001 00 40 64 02 00000001 5a 00000000 0000000000000001",
-    )?)?;
-    assert!(rt; taken(alloc, &mut target)?.as_slice() == wanted.as_slice());
+    assert_eq!(rt; target.waiting(), 43);
+    Ok(())
+}
+
+#[test]
+fn short_commands(rt: HostRuntime) -> Result<(), Fail> {
+    let acts = [
+        Act::Says(
+            "0000000b 00000001 00 01 07",
+            "0000001f 00000001 80 0000 00000008 00000008 00000008 00000008 00000008",
+        ),
+        Act::Says(
+            "0000000b 00000002 00 01 08 00000013 00000003 00 0b 0c 0000000000000001",
+            "0000000b 00000002 80 0000 0000000f 00000003 80 0000 00000001",
+        ),
+        Act::Says("0000000b 00000004 00 01 09", "0000000b 00000004 80 0000"),
+        Act::Says(
+            "00000013 00000004 00 0b 03 0000000000000002",
+            "0000000b 00000004 80 0000",
+        ),
+        Act::Counts(Some(0), Some(0)),
+        Act::Says(
+            "0000000b 00000005 00 40 64 0000000b 00000006 00 01 63",
+            "0000000b 00000005 80 0063 0000000b 00000006 80 0063",
+        ),
+        Act::Says(
+            "0000000f 00000007 00 01 02 ffffffff",
+            "0000000b 00000007 80 0067",
+        ),
+        Act::Says(
+            "00000013 00000005 00 0b 0c 0000000000000003",
+            "0000000b 00000005 80 000a",
+        ),
+        Act::Says(
+            "0000000c 00000007 00 01 08 00 00000012 00000008 00 0b 0c 00000000000001",
+            "0000000b 00000007 80 0067 0000000b 00000008 80 0067",
+        ),
+        Act::Says("0000000b 00000009 80 0000", ""),
+        Act::Says("0000000b 00000004 00 01 06", "0000000b 00000004 80 0000"),
+        Act::Open(false),
+    ];
+    assert_eq!(rt; goes_wrong_at(rt.alloc(), MACHINE_A, 65535, &acts)?, None);
+    Ok(())
+}
+
+#[test]
+fn suspends_and_resumes(rt: HostRuntime) -> Result<(), Fail> {
+    let acts = [
+        Act::Says("0000000b 00000002 00 01 08", "0000000b 00000002 80 0000"),
+        Act::Counts(Some(1), Some(1)),
+        Act::Says(
+            "00000013 00000003 00 0b 02 0000000000000001",
+            "0000000b 00000003 80 0000",
+        ),
+        Act::Counts(Some(2), Some(1)),
+        Act::Says("0000000b 00000004 00 01 09", "0000000b 00000004 80 0000"),
+        Act::Counts(Some(1), Some(0)),
+        Act::Says("0000000b 00000005 00 01 09", "0000000b 00000005 80 0000"),
+        Act::Counts(Some(0), Some(0)),
+    ];
+    assert_eq!(rt; goes_wrong_at(rt.alloc(), MACHINE_A, 65535, &acts)?, None);
+    Ok(())
+}
+
+/// The second handshake of the target's life is not followed by VM_START.
+#[test]
+fn a_session_after_a_loss(rt: HostRuntime) -> Result<(), Fail> {
+    let acts = [
+        Act::Says("0000000b 00000004 00 01 08", "0000000b 00000004 80 0000"),
+        Act::Counts(Some(1), Some(1)),
+        Act::Loses,
+        Act::Open(false),
+        Act::Counts(Some(0), Some(0)),
+        Act::Accepts(true),
+        Act::Says(HANDSHAKE, HANDSHAKE),
+    ];
+    assert_eq!(rt; goes_wrong_at(rt.alloc(), MACHINE_A, 65535, &acts)?, None);
+    Ok(())
+}
+
+#[test]
+fn frame_faults(rt: HostRuntime) -> Result<(), Fail> {
+    let acts = [
+        Act::Loses,
+        Act::Accepts(true),
+        Act::Fails("4a4457502d48616e647368616b45", FrameFault::BadHandshake(13)),
+        Act::Open(false),
+        Act::Accepts(true),
+        Act::Says(HANDSHAKE, HANDSHAKE),
+        Act::Fails("0000000a", FrameFault::ShortLength),
+        Act::Open(false),
+        Act::Accepts(true),
+        Act::Says(HANDSHAKE, HANDSHAKE),
+        Act::Fails("00010001", FrameFault::TooLong),
+        Act::Open(false),
+        Act::Accepts(true),
+        Act::Says(HANDSHAKE, HANDSHAKE),
+        Act::Says("0000000b 00000001 00 01 08", "0000000b 00000001 80 0000"),
+        Act::Fails("0000000b 00000001 01", FrameFault::BadFlags),
+        Act::Open(false),
+        Act::Counts(Some(0), Some(0)),
+    ];
+    assert_eq!(rt; goes_wrong_at(rt.alloc(), MACHINE_A, 65535, &acts)?, None);
+    Ok(())
+}
+
+#[test]
+fn frames_of_a_suspended_thread(rt: HostRuntime) -> Result<(), Fail> {
+    let acts = [
+        Act::Steps(1, 1, Stepped::Quiet, ""),
+        Act::Says(
+            "0000001b 00000002 00 0b 06 0000000000000001 00000000 ffffffff",
+            "0000000b 00000002 80 000d",
+        ),
+        Act::Says("0000000b 00000009 00 01 08", "0000000b 00000009 80 0000"),
+        Act::Says(
+            "0000001b 00000003 00 0b 06 0000000000000001 00000000 ffffffff",
+            "00000030 00000003 80 0000 00000001 000000000000001e 01 000000000000000a 0000000000000014 0000000000000000",
+        ),
+        Act::Says(
+            "0000001b 00000004 00 0b 06 0000000000000001 00000002 ffffffff",
+            "0000000b 00000004 80 01f7",
+        ),
+        Act::Says(
+            "0000001b 00000005 00 0b 06 0000000000000001 00000001 00000001",
+            "0000000b 00000005 80 01f8",
+        ),
+        Act::Says(
+            "00000013 00000006 00 0b 01 0000000000000001",
+            "00000013 00000006 80 0000 00000004 6d61696e",
+        ),
+        Act::Says(
+            "00000015 00000007 00 01 02 00000006 4c4d61696e3b",
+            "0000001c 00000007 80 0000 00000001 01 000000000000000a 00000003",
+        ),
+    ];
+    assert_eq!(rt; goes_wrong_at(rt.alloc(), MACHINE_A, 65535, &acts)?, None);
+    Ok(())
+}
+
+#[test]
+fn slots_are_written_and_read(rt: HostRuntime) -> Result<(), Fail> {
+    let acts = [
+        Act::Steps(1, 1, Stepped::Quiet, ""),
+        Act::Says("0000000b 00000002 00 01 08", "0000000b 00000002 80 0000"),
+        Act::Says(
+            "00000028 00000003 00 10 02 0000000000000001 000000000000001e 00000001 00000000 49 00000005",
+            "0000000b 00000003 80 0000",
+        ),
+        Act::Says(
+            "00000024 00000004 00 10 01 0000000000000001 000000000000001e 00000001 00000000 49",
+            "00000014 00000004 80 0000 00000001 49 00000005",
+        ),
+    ];
+    assert_eq!(rt; goes_wrong_at(rt.alloc(), WITH_A_SLOT, 65535, &acts)?, None);
+    Ok(())
+}
+
+#[test]
+fn event_requests_that_are_refused(rt: HostRuntime) -> Result<(), Fail> {
+    let acts = [
+        Act::Says(
+            "00000011 00000002 00 0f 01 14 03 00000000",
+            "0000000b 00000002 80 0063",
+        ),
+        Act::Says(
+            "00000011 00000003 00 0f 01 7f 00 00000000",
+            "0000000b 00000003 80 0066",
+        ),
+        Act::Says(
+            "00000011 00000004 00 0f 01 02 03 00000000",
+            "0000000b 00000004 80 0067",
+        ),
+        Act::Says(
+            "00000011 00000005 00 0f 01 02 00 00000000",
+            "0000000b 00000005 80 0067",
+        ),
+        Act::Says(
+            "0000002b 00000006 00 0f 01 02 00 00000001 07 01 000000000000000a 0000000000000014 000000000000000a",
+            "0000000b 00000006 80 0018",
+        ),
+        Act::Says(
+            "00000030 00000007 00 0f 01 02 00 00000002 01 00000000 07 01 000000000000000a 0000000000000014 0000000000000003",
+            "0000000b 00000007 80 0200",
+        ),
+        Act::Says(
+            "00000017 00000008 00 0f 01 06 00 00000001 05 00000001 2a",
+            "0000000b 00000008 80 0067",
+        ),
+        Act::Requests(0),
+    ];
+    assert_eq!(rt; goes_wrong_at(rt.alloc(), MACHINE_A, 65535, &acts)?, None);
+    Ok(())
+}
+
+#[test]
+fn two_breakpoints_of_one_place_report_together(rt: HostRuntime) -> Result<(), Fail> {
+    let acts = [
+        Act::Says(
+            "0000002b 00000002 00 0f 01 02 00 00000001 07 01 000000000000000a 0000000000000014 0000000000000003",
+            "0000000f 00000002 80 0000 00000001",
+        ),
+        Act::Says(
+            "0000002b 00000003 00 0f 01 02 02 00000001 07 01 000000000000000a 0000000000000014 0000000000000003",
+            "0000000f 00000003 80 0000 00000002",
+        ),
+        Act::Steps(1, 1, Stepped::Quiet, ""),
+        Act::Steps(
+            1,
+            1,
+            Stepped::Reported,
+            "0000005c 00000002 00 40 64 02 00000002 02 00000001 0000000000000001 01 000000000000000a 0000000000000014 0000000000000003 02 00000002 0000000000000001 01 000000000000000a 0000000000000014 0000000000000003",
+        ),
+        Act::Counts(Some(1), Some(1)),
+    ];
+    assert_eq!(rt; goes_wrong_at(rt.alloc(), MACHINE_A, 65535, &acts)?, None);
+    Ok(())
+}
+
+#[test]
+fn a_breakpoint_that_counts_reports_once(rt: HostRuntime) -> Result<(), Fail> {
+    let acts = [
+        Act::Says(
+            "00000030 00000002 00 0f 01 02 00 00000002 07 01 000000000000000a 0000000000000014 0000000000000003 01 00000002",
+            "0000000f 00000002 80 0000 00000001",
+        ),
+        Act::Steps(1, 3, Stepped::Quiet, ""),
+        Act::Steps(
+            1,
+            1,
+            Stepped::Reported,
+            "00000036 00000002 00 40 64 00 00000001 02 00000001 0000000000000001 01 000000000000000a 0000000000000014 0000000000000003",
+        ),
+        Act::Steps(1, 2, Stepped::Quiet, ""),
+        Act::Requests(1),
+        Act::Says(
+            "00000010 00000003 00 0f 02 02 00000001",
+            "0000000b 00000003 80 0000",
+        ),
+        Act::Requests(0),
+        Act::Says(
+            "00000010 00000003 00 0f 02 02 00000001",
+            "0000000b 00000003 80 0000",
+        ),
+    ];
+    assert_eq!(rt; goes_wrong_at(rt.alloc(), MACHINE_A, 65535, &acts)?, None);
+    Ok(())
+}
+
+#[test]
+fn a_step_into_by_line(rt: HostRuntime) -> Result<(), Fail> {
+    let acts = [
+        Act::Says(
+            "00000022 00000002 00 0f 01 01 00 00000001 0a 0000000000000001 00000001 00000000",
+            "0000000f 00000002 80 0000 00000001",
+        ),
+        Act::Steps(1, 1, Stepped::Quiet, ""),
+        Act::Steps(
+            1,
+            1,
+            Stepped::Reported,
+            "00000036 00000002 00 40 64 00 00000001 01 00000001 0000000000000001 01 000000000000000a 0000000000000014 0000000000000003",
+        ),
+    ];
+    assert_eq!(rt; goes_wrong_at(rt.alloc(), MACHINE_A, 65535, &acts)?, None);
+    Ok(())
+}
+
+#[test]
+fn a_step_over_by_line(rt: HostRuntime) -> Result<(), Fail> {
+    let acts = [
+        Act::Says(
+            "00000022 00000002 00 0f 01 01 00 00000001 0a 0000000000000001 00000001 00000001",
+            "0000000f 00000002 80 0000 00000001",
+        ),
+        Act::Steps(1, 7, Stepped::Quiet, ""),
+    ];
+    assert_eq!(rt; goes_wrong_at(rt.alloc(), MACHINE_A, 65535, &acts)?, None);
+    Ok(())
+}
+
+#[test]
+fn a_step_and_a_breakpoint_report_together(rt: HostRuntime) -> Result<(), Fail> {
+    let acts = [
+        Act::Says(
+            "00000022 00000002 00 0f 01 01 00 00000001 0a 0000000000000001 00000001 00000000",
+            "0000000f 00000002 80 0000 00000001",
+        ),
+        Act::Says(
+            "0000002b 00000003 00 0f 01 02 01 00000001 07 01 000000000000000a 0000000000000014 0000000000000003",
+            "0000000f 00000003 80 0000 00000002",
+        ),
+        Act::Steps(1, 1, Stepped::Quiet, ""),
+        Act::Steps(
+            1,
+            1,
+            Stepped::Reported,
+            "0000005c 00000002 00 40 64 01 00000002 01 00000001 0000000000000001 01 000000000000000a 0000000000000014 0000000000000003 02 00000002 0000000000000001 01 000000000000000a 0000000000000014 0000000000000003",
+        ),
+        Act::Counts(Some(1), Some(0)),
+    ];
+    assert_eq!(rt; goes_wrong_at(rt.alloc(), MACHINE_A, 65535, &acts)?, None);
+    Ok(())
+}
+
+#[test]
+fn a_count_at_its_limit_freezes_all(rt: HostRuntime) -> Result<(), Fail> {
+    let acts = [
+        Act::Says("0000000b 00000002 00 01 08", "0000000b 00000002 80 0000"),
+        Act::Says("0000000b 00000003 00 01 08", "0000000b 00000003 80 0000"),
+        Act::Says("0000000b 00000004 00 01 08", "0000000b 00000004 80 0071"),
+        Act::Counts(Some(2), Some(2)),
+        Act::Says(
+            "00000013 00000005 00 0b 03 0000000000000001",
+            "0000000b 00000005 80 0000",
+        ),
+        Act::Says(
+            "00000013 00000006 00 0b 03 0000000000000001",
+            "0000000b 00000006 80 0000",
+        ),
+        Act::Counts(Some(0), Some(2)),
+        Act::Steps(1, 1, Stepped::Frozen, ""),
+    ];
+    assert_eq!(rt; goes_wrong_at(rt.alloc(), MACHINE_A, 2, &acts)?, None);
+    Ok(())
+}
+
+#[test]
+fn held_events_freeze_threads(rt: HostRuntime) -> Result<(), Fail> {
+    let acts = [
+        Act::Says(
+            "0000002b 00000002 00 0f 01 02 00 00000001 07 01 000000000000000a 0000000000000014 0000000000000003",
+            "0000000f 00000002 80 0000 00000001",
+        ),
+        Act::Steps(1, 1, Stepped::Quiet, ""),
+        Act::Says("0000000b 00000003 00 01 0f", "0000000b 00000003 80 0000"),
+        Act::Steps(1, 1, Stepped::Frozen, ""),
+        Act::Says("0000000b 00000004 00 01 10", "0000000b 00000004 80 0000"),
+        Act::Steps(
+            1,
+            1,
+            Stepped::Reported,
+            "00000036 00000002 00 40 64 00 00000001 02 00000001 0000000000000001 01 000000000000000a 0000000000000014 0000000000000003",
+        ),
+    ];
+    assert_eq!(rt; goes_wrong_at(rt.alloc(), MACHINE_A, 65535, &acts)?, None);
+    Ok(())
+}
+
+#[test]
+fn an_exit_ends_the_machine(rt: HostRuntime) -> Result<(), Fail> {
+    let acts = [
+        Act::Says(
+            "0000000f 00000002 00 01 0a 00000000",
+            "0000000b 00000002 80 0000 00000015 00000002 00 40 64 00 00000001 63 00000000",
+        ),
+        Act::Open(false),
+        Act::Lives(0),
+        Act::Accepts(false),
+    ];
+    assert_eq!(rt; goes_wrong_at(rt.alloc(), MACHINE_A, 65535, &acts)?, None);
+    Ok(())
+}
+
+#[test]
+fn a_death_is_reported_before_the_end(rt: HostRuntime) -> Result<(), Fail> {
+    let acts = [
+        Act::Says(
+            "00000011 00000002 00 0f 01 07 01 00000000",
+            "0000000f 00000002 80 0000 00000001",
+        ),
+        Act::Steps(
+            2,
+            1,
+            Stepped::Reported,
+            "0000001d 00000002 00 40 64 01 00000001 07 00000001 0000000000000002",
+        ),
+        Act::Counts(Some(0), Some(1)),
+        Act::Steps(2, 1, Stepped::Frozen, ""),
+        Act::Says(
+            "00000013 00000003 00 0b 03 0000000000000002",
+            "0000000b 00000003 80 0000",
+        ),
+        Act::Steps(2, 1, Stepped::Ended, ""),
+        Act::Counts(Some(0), None),
+        Act::Says(
+            "00000013 00000004 00 0b 0c 0000000000000002",
+            "0000000b 00000004 80 000a",
+        ),
+    ];
+    assert_eq!(rt; goes_wrong_at(rt.alloc(), MACHINE_A, 65535, &acts)?, None);
+    Ok(())
+}
+
+#[test]
+fn the_last_end_is_the_machines(rt: HostRuntime) -> Result<(), Fail> {
+    let acts = [
+        Act::Steps(2, 1, Stepped::Ended, ""),
+        Act::Steps(1, 7, Stepped::Quiet, ""),
+        Act::Open(true),
+        Act::Steps(
+            1,
+            1,
+            Stepped::Ended,
+            "00000015 00000002 00 40 64 00 00000001 63 00000000",
+        ),
+        Act::Open(false),
+        Act::Accepts(false),
+    ];
+    assert_eq!(rt; goes_wrong_at(rt.alloc(), MACHINE_A, 65535, &acts)?, None);
     Ok(())
 }
 
@@ -337,296 +681,6 @@ fn pauses_where_a_packet_waits(rt: HostRuntime) -> Result<(), Fail> {
     let mut few = [0; 13];
     assert_eq!(rt; target.take(&mut few), 13);
     assert_eq!(rt; target.turn(), Ok(Turn::Replied(3, ErrorCode::NONE)));
-    Ok(())
-}
-
-#[test]
-fn frames_of_a_suspended_thread(rt: HostRuntime) -> Result<(), Fail> {
-    let alloc = rt.alloc();
-    let mut target = ready(alloc, MACHINE_A, 65535)?;
-    assert!(rt; is_quiet(alloc, &mut target, 1, 1)?);
-    let rows = [
-        (
-            "0000001b 00000002 00 0b 06 0000000000000001 00000000 ffffffff",
-            "0000000b 00000002 80 000d",
-        ),
-        ("0000000b 00000009 00 01 08", "0000000b 00000009 80 0000"),
-        (
-            "0000001b 00000003 00 0b 06 0000000000000001 00000000 ffffffff",
-            "00000030 00000003 80 0000 00000001 000000000000001e 01 000000000000000a 0000000000000014 0000000000000000",
-        ),
-        (
-            "0000001b 00000004 00 0b 06 0000000000000001 00000002 ffffffff",
-            "0000000b 00000004 80 01f7",
-        ),
-        (
-            "0000001b 00000005 00 0b 06 0000000000000001 00000001 00000001",
-            "0000000b 00000005 80 01f8",
-        ),
-        (
-            "00000013 00000006 00 0b 01 0000000000000001",
-            "00000013 00000006 80 0000 00000004 6d61696e",
-        ),
-        (
-            "00000015 00000007 00 01 02 00000006 4c4d61696e3b",
-            "0000001c 00000007 80 0000 00000001 01 000000000000000a 00000003",
-        ),
-    ];
-    for (input, output) in rows {
-        assert!(rt; answers(alloc, &mut target, input, output)?);
-    }
-    Ok(())
-}
-
-#[test]
-fn slots_are_written_and_read(rt: HostRuntime) -> Result<(), Fail> {
-    let alloc = rt.alloc();
-    let mut target = ready(alloc, WITH_A_SLOT, 65535)?;
-    assert!(rt; is_quiet(alloc, &mut target, 1, 1)?);
-    let rows = [
-        ("0000000b 00000002 00 01 08", "0000000b 00000002 80 0000"),
-        (
-            "00000028 00000003 00 10 02 0000000000000001 000000000000001e 00000001 00000000 49 00000005",
-            "0000000b 00000003 80 0000",
-        ),
-        (
-            "00000024 00000004 00 10 01 0000000000000001 000000000000001e 00000001 00000000 49",
-            "00000014 00000004 80 0000 00000001 49 00000005",
-        ),
-    ];
-    for (input, output) in rows {
-        assert!(rt; answers(alloc, &mut target, input, output)?);
-    }
-    Ok(())
-}
-
-#[test]
-fn event_requests_that_are_refused(rt: HostRuntime) -> Result<(), Fail> {
-    let alloc = rt.alloc();
-    let mut target = ready(alloc, MACHINE_A, 65535)?;
-    let rows = [
-        (
-            "00000011 00000002 00 0f 01 14 03 00000000",
-            "0000000b 00000002 80 0063",
-        ),
-        (
-            "00000011 00000003 00 0f 01 7f 00 00000000",
-            "0000000b 00000003 80 0066",
-        ),
-        (
-            "00000011 00000004 00 0f 01 02 03 00000000",
-            "0000000b 00000004 80 0067",
-        ),
-        (
-            "00000011 00000005 00 0f 01 02 00 00000000",
-            "0000000b 00000005 80 0067",
-        ),
-        (
-            "0000002b 00000006 00 0f 01 02 00 00000001 07 01 000000000000000a 0000000000000014 000000000000000a",
-            "0000000b 00000006 80 0018",
-        ),
-        (
-            "00000030 00000007 00 0f 01 02 00 00000002 01 00000000 07 01 000000000000000a 0000000000000014 0000000000000003",
-            "0000000b 00000007 80 0200",
-        ),
-        (
-            "00000017 00000008 00 0f 01 06 00 00000001 05 00000001 2a",
-            "0000000b 00000008 80 0067",
-        ),
-    ];
-    for (input, output) in rows {
-        assert!(rt; answers(alloc, &mut target, input, output)?);
-    }
-    assert_eq!(rt; target.requests().len(), 0);
-    Ok(())
-}
-
-#[test]
-fn two_breakpoints_of_one_place_report_together(rt: HostRuntime) -> Result<(), Fail> {
-    let alloc = rt.alloc();
-    let mut target = ready(alloc, MACHINE_A, 65535)?;
-    let rows = [
-        (
-            "0000002b 00000002 00 0f 01 02 00 00000001 07 01 000000000000000a 0000000000000014 0000000000000003",
-            "0000000f 00000002 80 0000 00000001",
-        ),
-        (
-            "0000002b 00000003 00 0f 01 02 02 00000001 07 01 000000000000000a 0000000000000014 0000000000000003",
-            "0000000f 00000003 80 0000 00000002",
-        ),
-    ];
-    for (input, output) in rows {
-        assert!(rt; answers(alloc, &mut target, input, output)?);
-    }
-    assert!(rt; is_quiet(alloc, &mut target, 1, 1)?);
-    let composite =
-        "0000005c 00000002 00 40 64 02 00000002 02 00000001 0000000000000001 01 000000000000000a 0000000000000014 0000000000000003 02 00000002 0000000000000001 01 000000000000000a 0000000000000014 0000000000000003";
-    assert!(rt; reports(alloc, &mut target, 1, composite)?);
-    assert!(rt; counts_are(&target, Some(1), Some(1)));
-    Ok(())
-}
-
-#[test]
-fn a_breakpoint_that_counts_reports_once(rt: HostRuntime) -> Result<(), Fail> {
-    let alloc = rt.alloc();
-    let mut target = ready(alloc, MACHINE_A, 65535)?;
-    assert!(rt;
-        answers(
-            alloc,
-            &mut target,
-            "00000030 00000002 00 0f 01 02 00 00000002 07 01 000000000000000a 0000000000000014 0000000000000003 01 00000002",
-            "0000000f 00000002 80 0000 00000001",
-        )?
-    );
-    assert!(rt; is_quiet(alloc, &mut target, 1, 3)?);
-    let composite =
-        "00000036 00000002 00 40 64 00 00000001 02 00000001 0000000000000001 01 000000000000000a 0000000000000014 0000000000000003";
-    assert!(rt; reports(alloc, &mut target, 1, composite)?);
-    assert!(rt; is_quiet(alloc, &mut target, 1, 2)?);
-    assert_eq!(rt; target.requests().len(), 1);
-    let clear = "00000010 00000003 00 0f 02 02 00000001";
-    assert!(rt; answers(alloc, &mut target, clear, "0000000b 00000003 80 0000")?);
-    assert_eq!(rt; target.requests().len(), 0);
-    assert!(rt; answers(alloc, &mut target, clear, "0000000b 00000003 80 0000")?);
-    Ok(())
-}
-
-#[test]
-fn steps_by_line(rt: HostRuntime) -> Result<(), Fail> {
-    let alloc = rt.alloc();
-    let into = "00000022 00000002 00 0f 01 01 00 00000001 0a 0000000000000001 00000001 00000000";
-    let over = "00000022 00000002 00 0f 01 01 00 00000001 0a 0000000000000001 00000001 00000001";
-    let breakpoint =
-        "0000002b 00000003 00 0f 01 02 01 00000001 07 01 000000000000000a 0000000000000014 0000000000000003";
-    let set = "0000000f 00000002 80 0000 00000001";
-    let mut target = ready(alloc, MACHINE_A, 65535)?;
-    assert!(rt; answers(alloc, &mut target, into, set)?);
-    assert!(rt; is_quiet(alloc, &mut target, 1, 1)?);
-    let step =
-        "00000036 00000002 00 40 64 00 00000001 01 00000001 0000000000000001 01 000000000000000a 0000000000000014 0000000000000003";
-    assert!(rt; reports(alloc, &mut target, 1, step)?);
-    let mut target = ready(alloc, MACHINE_A, 65535)?;
-    assert!(rt; answers(alloc, &mut target, over, set)?);
-    assert!(rt; is_quiet(alloc, &mut target, 1, 7)?);
-    let mut target = ready(alloc, MACHINE_A, 65535)?;
-    assert!(rt; answers(alloc, &mut target, into, set)?);
-    assert!(rt;
-        answers(
-            alloc,
-            &mut target,
-            breakpoint,
-            "0000000f 00000003 80 0000 00000002"
-        )?
-    );
-    assert!(rt; is_quiet(alloc, &mut target, 1, 1)?);
-    let both =
-        "0000005c 00000002 00 40 64 01 00000002 01 00000001 0000000000000001 01 000000000000000a 0000000000000014 0000000000000003 02 00000002 0000000000000001 01 000000000000000a 0000000000000014 0000000000000003";
-    assert!(rt; reports(alloc, &mut target, 1, both)?);
-    assert!(rt; counts_are(&target, Some(1), Some(0)));
-    Ok(())
-}
-
-#[test]
-fn a_count_at_its_limit_freezes_all(rt: HostRuntime) -> Result<(), Fail> {
-    let alloc = rt.alloc();
-    let mut target = ready(alloc, MACHINE_A, 2)?;
-    let rows = [
-        ("0000000b 00000002 00 01 08", "0000000b 00000002 80 0000"),
-        ("0000000b 00000003 00 01 08", "0000000b 00000003 80 0000"),
-        ("0000000b 00000004 00 01 08", "0000000b 00000004 80 0071"),
-    ];
-    for (input, output) in rows {
-        assert!(rt; answers(alloc, &mut target, input, output)?);
-    }
-    assert!(rt; counts_are(&target, Some(2), Some(2)));
-    let resume = "00000013 00000005 00 0b 03 0000000000000001";
-    for _ in 0..2u32 {
-        assert!(rt; answers(alloc, &mut target, resume, "0000000b 00000005 80 0000")?);
-    }
-    assert!(rt; counts_are(&target, Some(0), Some(2)));
-    assert_eq!(rt; target.step(ObjectId(1)), Ok(Stepped::Frozen));
-    Ok(())
-}
-
-#[test]
-fn held_events_freeze_threads(rt: HostRuntime) -> Result<(), Fail> {
-    let alloc = rt.alloc();
-    let mut target = ready(alloc, MACHINE_A, 65535)?;
-    assert!(rt;
-        answers(
-            alloc,
-            &mut target,
-            "0000002b 00000002 00 0f 01 02 00 00000001 07 01 000000000000000a 0000000000000014 0000000000000003",
-            "0000000f 00000002 80 0000 00000001",
-        )?
-    );
-    assert!(rt; is_quiet(alloc, &mut target, 1, 1)?);
-    let hold = "0000000b 00000003 00 01 0f";
-    assert!(rt; answers(alloc, &mut target, hold, "0000000b 00000003 80 0000")?);
-    assert_eq!(rt; target.step(ObjectId(1)), Ok(Stepped::Frozen));
-    let release = "0000000b 00000004 00 01 10";
-    assert!(rt; answers(alloc, &mut target, release, "0000000b 00000004 80 0000")?);
-    let composite =
-        "00000036 00000002 00 40 64 00 00000001 02 00000001 0000000000000001 01 000000000000000a 0000000000000014 0000000000000003";
-    assert!(rt; reports(alloc, &mut target, 1, composite)?);
-    Ok(())
-}
-
-#[test]
-fn an_exit_ends_the_machine(rt: HostRuntime) -> Result<(), Fail> {
-    let alloc = rt.alloc();
-    let mut target = ready(alloc, MACHINE_A, 65535)?;
-    assert!(rt;
-        answers(
-            alloc,
-            &mut target,
-            "0000000f 00000002 00 01 0a 00000000",
-            "0000000b 00000002 80 0000 00000015 00000002 00 40 64 00 00000001 63 00000000",
-        )?
-    );
-    assert!(rt; !target.is_open());
-    assert!(rt; !target.accept());
-    assert!(rt; target.live().is_empty());
-    Ok(())
-}
-
-#[test]
-fn a_death_is_reported_before_the_end(rt: HostRuntime) -> Result<(), Fail> {
-    let alloc = rt.alloc();
-    let mut target = ready(alloc, MACHINE_A, 65535)?;
-    assert!(rt;
-        answers(
-            alloc,
-            &mut target,
-            "00000011 00000002 00 0f 01 07 01 00000000",
-            "0000000f 00000002 80 0000 00000001",
-        )?
-    );
-    assert_eq!(rt; target.step(ObjectId(2)), Ok(Stepped::Reported));
-    assert!(rt; counts_are(&target, Some(0), Some(1)));
-    assert_eq!(rt; target.step(ObjectId(2)), Ok(Stepped::Frozen));
-    taken(alloc, &mut target)?;
-    let resume = "00000013 00000003 00 0b 03 0000000000000002";
-    assert!(rt; answers(alloc, &mut target, resume, "0000000b 00000003 80 0000")?);
-    assert_eq!(rt; target.step(ObjectId(2)), Ok(Stepped::Ended));
-    assert!(rt; counts_are(&target, Some(0), None));
-    let asked = "00000013 00000004 00 0b 0c 0000000000000002";
-    assert!(rt; answers(alloc, &mut target, asked, "0000000b 00000004 80 000a")?);
-    Ok(())
-}
-
-#[test]
-fn the_last_end_is_the_machines(rt: HostRuntime) -> Result<(), Fail> {
-    let alloc = rt.alloc();
-    let mut target = ready(alloc, MACHINE_A, 65535)?;
-    assert_eq!(rt; target.step(ObjectId(2)), Ok(Stepped::Ended));
-    assert!(rt; is_quiet(alloc, &mut target, 1, 7)?);
-    assert!(rt; target.is_open());
-    assert_eq!(rt; target.step(ObjectId(1)), Ok(Stepped::Ended));
-    assert!(rt; !target.is_open());
-    let death = bytes(alloc, "00000015 00000002 00 40 64 00 00000001 63 00000000")?;
-    assert!(rt; taken(alloc, &mut target)?.as_slice() == death.as_slice());
-    assert!(rt; !target.accept());
     Ok(())
 }
 
