@@ -128,7 +128,7 @@ pub is_found : (w : Widths) (items : List ItemShape) (bytes : List ℕ) (r : Res
 is_found w items bytes (Ok v) fits e = data_found w items bytes (meanings v.items) fits e
 is_found w items bytes (Err f) fits e = tt
 
-is_blamed_by : (w : Widths) (items : List ItemShape) (bytes : List ℕ) (f : DataFault) → IsBytes bytes → Fails f (data_at w items bytes) → Blames (DataFaults w items) bytes f
+pub is_blamed_by : (w : Widths) (items : List ItemShape) (bytes : List ℕ) (f : DataFault) → IsBytes bytes → Fails f (data_at w items bytes) → Blames (DataFaults w items) bytes f
 is_blamed_by w items bytes (Short n) fits e = data_blamed w items bytes (Short n) fits e
 is_blamed_by w items bytes (Extra n) fits e = data_blamed w items bytes (Extra n) fits e
 is_blamed_by w items bytes BadTag fits e = data_blamed w items bytes BadTag fits e
@@ -137,6 +137,17 @@ is_blamed_by w items bytes NotUtf8 fits e = data_blamed w items bytes NotUtf8 fi
 is_blamed_by w items bytes BadSize fits e = data_blamed w items bytes BadSize fits e
 is_blamed_by w items bytes IdTooWide fits e = data_blamed w items bytes IdTooWide fits e
 is_blamed_by w items bytes NoMemory fits e = tt
+
+-- what judging answers is what reading would
+pub fails_as : {X : Type 0} (f : DataFault) (read : Result X DataFault) → read ≡ Err f → Fails f read
+fails_as (Short n) read e = e
+fails_as (Extra n) read e = e
+fails_as BadTag read e = e
+fails_as NegativeCount read e = e
+fails_as NotUtf8 read e = e
+fails_as BadSize read e = e
+fails_as IdTooWide read e = e
+fails_as NoMemory read e = tt
 
 pub is_blamed : (w : Widths) (items : List ItemShape) (bytes : List ℕ) (r : Result (Vec Datum) DataFault) → IsBytes bytes → Gives (λ v. meanings v.items) r (data_at w items bytes) → IfErr r (λ f. Blames (DataFaults w items) bytes f)
 is_blamed w items bytes (Ok v) fits e = tt

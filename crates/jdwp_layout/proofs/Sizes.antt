@@ -4,13 +4,7 @@ use Rattle.std.specs.List.{flat_map}
 use Rattle.std.proofs.lemmas.Bool.{lt-ltb, ltb-true, cases_Bool}
 use Rattle.std.proofs.lemmas.List.{drop_more, drop_all, length-append}
 use Rattle.jdwp_wire.specs.Reading.{in_usize}
-
--- a number that a usize does not hold
-pub past_usize : (n : ℕ) → (n < 2 ^ 64 → ⊥) → in_usize n ≡ None
-past_usize n past = elim (cases_Bool (ltb n (2 ^ 64))) [
-  | inl less ↦ absurd (past (ltb-true n (2 ^ 64) less))
-  | inr not ↦ rw not refl
-]
+pub use Rattle.jdwp_value.proofs.Elements.{past_usize}
 
 pub within_usize : (n : ℕ) → n < 2 ^ 64 → in_usize n ≡ Some n
 within_usize n lt = rw (lt-ltb n (2 ^ 64) lt) refl

@@ -1,8 +1,9 @@
 -- What has to be kept of data that are read. Where nothing of it stands in front, reading wants no memory.
-use Rattle.std.specs.Prelude.{◌≡◌, ℕ, ◌<◌, ◌^◌, List, ◌∷◌, ◌++◌, Option, Some, ◌⊎◌}
+use Rattle.std.specs.Prelude.{◌≡◌, ℕ, ◌≤◌, ◌<◌, List, ◌∷◌, ◌++◌, Option, Some, ◌⊎◌}
 use Rattle.byteorder.specs.Endian.{big_bytes}
 use Rattle.jdwp_wire.specs.Widths.{Widths}
 use Rattle.jdwp_wire.specs.Reading.{BeginsWith}
+use Rattle.jdwp_wire.specs.Numbers.{greatest_int}
 use Rattle.jdwp_wire.specs.Text.{TextIsKept}
 use Rattle.jdwp_wire.specs.Each.{FirstIsKept}
 use Rattle.jdwp_value.specs.Regions.{RegionIsKept}
@@ -34,7 +35,7 @@ abbrev pub EntriesAreKept : Widths → EntryShape → ℕ → List ℕ → Type 
 EntriesAreKept w entry n bytes = (0 < n) × (EntryIsKept w entry bytes ⊎ BeginsWith (EncodesEntry w entry) bytes)
 
 abbrev pub ListIsKept : Widths → EntryShape → List ℕ → Type 0
-ListIsKept w entry bytes = (n : ℕ) × (entries : List ℕ) × (n < 2 ^ 31) × (bytes ≡ big_bytes 4 n ++ entries) × EntriesAreKept w entry n entries
+ListIsKept w entry bytes = (n : ℕ) × (entries : List ℕ) × (n ≤ greatest_int) × (bytes ≡ big_bytes 4 n ++ entries) × EntriesAreKept w entry n entries
 
 abbrev pub ItemIsKept : Widths → ItemShape → List ℕ → Type 0
 ItemIsKept w (OneOf field) = FieldIsKept field

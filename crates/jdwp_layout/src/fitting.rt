@@ -15,11 +15,8 @@ use crate::datum::{Datum, Scalar};
 use crate::entry::{entry_size, scalar_size};
 use crate::item::{Entry, Field, Item, Layout, fields_of_event, fields_of_modifier};
 use jdwp_value::{ArrayRegion, Location, Value};
-use jdwp_wire::number::fits;
+use jdwp_wire::number::{GREATEST_INT, fits};
 use jdwp_wire::{DataFault, IdKind, IdSizes, Width, Wire};
-
-/// The greatest length or count.
-const MOST: usize = 0x7fff_ffff;
 
 /// Why `write` would refuse the data, want of memory aside; None where it would not.
 pub fn refusal(layout: &Layout, sizes: &IdSizes, values: &[Datum]) -> Option<DataFault>
@@ -104,7 +101,7 @@ fn refusal_of_item(item: Item, sizes: &IdSizes, value: &Datum) -> Option<DataFau
 fn refusal_of_list(entry: Entry, sizes: &IdSizes, entries: &[Vec<Scalar>]) -> Option<DataFault>
     ensures { result ≡ list_refusal (entry_refusal sizes.now (entry_shape entry)) (entry_meanings entries.now) }
 {
-    if entries.len() > MOST {
+    if entries.len() > GREATEST_INT as usize {
         return Some(DataFault::BadSize);
     }
     refusal_in_entries(entry, sizes, entries)
@@ -207,7 +204,7 @@ fn refusal_of_field(field: Field, sizes: &IdSizes, scalar: &Scalar) -> Option<Da
 fn refusal_of_count(count: usize) -> Option<DataFault>
     ensures { result ≡ count_refusal count }
 {
-    if count > MOST {
+    if count > GREATEST_INT as usize {
         Some(DataFault::BadSize)
     } else {
         None
@@ -251,7 +248,7 @@ fn refusal_of_region(sizes: &IdSizes, region: &ArrayRegion) -> Option<DataFault>
     ensures { result ≡ region_refusal sizes.now region.now }
 {
     let elements = region.elements();
-    if elements.len() > MOST {
+    if elements.len() > GREATEST_INT as usize {
         return Some(DataFault::BadSize);
     }
     refusal_in_values(sizes, elements)

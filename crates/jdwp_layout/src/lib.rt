@@ -5,8 +5,6 @@
 mod answer;
 mod command;
 mod command_sets;
-#[cfg(test)]
-mod data_tests;
 mod datum;
 mod entry;
 mod fitting;
@@ -15,8 +13,6 @@ mod laws;
 pub mod numbers;
 mod reading;
 mod row_macros;
-#[cfg(test)]
-mod table_tests;
 mod validation;
 mod writing;
 

@@ -14,6 +14,7 @@ ghost use Rattle.jdwp_layout.specs.Reads.{field_at, fields_at, fields_of_at, ent
 
 use crate::datum::{Datum, Scalar};
 use crate::item::{Entry, Field, Item, Layout, fields_of_event, fields_of_modifier};
+use crate::validation::validate;
 use jdwp_value::{
     ArrayRegion, FieldId, FrameId, Location, MethodId, ObjectId, ReferenceTypeId, TaggedId, Value,
 };
@@ -28,8 +29,8 @@ use std::alloc::Global;
 /// # Errors
 /// The first fault from the left: `Short` with the length of the slice where an item calls for more bytes than are
 /// left, `BadTag`, `NegativeCount` or `NotUtf8`; where each item is encoded and bytes are left over, `Extra` with the
-/// number of bytes used. `NoMemory` where an allocation was refused, and only where the first item stands in front, or
-/// something in it that has to be kept: a string, an entry of a list or an element of a region.
+/// number of bytes used. `NoMemory` where an allocation was refused, and only where the whole slice encodes data of at
+/// least one item: the data are judged before any of them is kept, so that want of memory hides no fault.
 pub fn read(
     alloc: Global,
     layout: &Layout,
@@ -48,9 +49,12 @@ pub fn read(
     // All of this as a function of the slice.
     ensures value { Gives (λ v. meanings v.items) result
         (data_at sizes.now (shape layout.now) bytes.now) }
-    // Memory is wanted only where something stands in front that has to be kept.
+    // Memory is wanted only where something stands in front that has to be kept, and never in place of a fault.
     ensures memory { IsErrOf result NoMemory → DataAreKept sizes.now (shape layout.now) bytes.now }
+    ensures hides { IsErrOf result NoMemory
+        → (xs : List DatumMeaning) × EncodesData sizes.now (shape layout.now) xs bytes.now }
 {
+    validate(layout, sizes, bytes)?;
     read_whole(alloc, layout.items, sizes, bytes)
 }
 

@@ -105,7 +105,7 @@ length-region w t vs region =
     omega (arith, all)
 
 -- a sum that a usize does not hold
-past_usize : (n : ℕ) → (n < 2 ^ 64 → ⊥) → in_usize n ≡ None
+pub past_usize : (n : ℕ) → (n < 2 ^ 64 → ⊥) → in_usize n ≡ None
 past_usize n past = elim (cases_Bool (ltb n (2 ^ 64))) [
   | inl less ↦ absurd (past (ltb-true n (2 ^ 64) less))
   | inr not ↦ rw not refl

@@ -1,6 +1,6 @@
 -- Array regions (JDWP specification, "Data Types", arrayregion): a tag, a count and the elements. Elements without
 -- references have no tags of their own; objects are tagged values, with the tags of objects alone.
-use Rattle.std.specs.Prelude.{◌≡◌, ℕ, ◌+◌, ◌^◌, ◌<◌, ◌==◌, List, ◌∷◌, ◌++◌, Bool, true, false, Option, if◌then◌else◌}
+use Rattle.std.specs.Prelude.{◌≡◌, ℕ, ◌+◌, ◌≤◌, ◌<◌, ◌==◌, List, ◌∷◌, ◌++◌, Bool, true, false, Option, if◌then◌else◌}
 use Rattle.std.specs.List.{list_all}
 use Rattle.byteorder.specs.Endian.{big_bytes}
 use Rattle.jdwp_wire.specs.declared.data_fault.DataFault.{DataFault}
@@ -8,7 +8,7 @@ use Rattle.jdwp_wire.specs.declared.data_fault.DataFault.TheVariants.{BadTag}
 use Rattle.jdwp_wire.specs.Widths.{Widths}
 use Rattle.jdwp_wire.specs.Reading.{Reader, Encoding, Faults, BeginsWith}
 use Rattle.jdwp_wire.specs.Sequence.{seq, FirstFault, mapped, unless, UnlessFault}
-use Rattle.jdwp_wire.specs.Numbers.{NumberFault}
+use Rattle.jdwp_wire.specs.Numbers.{greatest_int, NumberFault}
 use Rattle.jdwp_wire.specs.Listed.{list_at, EncodesList, list_canonical, ListFault, list_refusal}
 use Rattle.jdwp_value.specs.declared.tag.Tag.{Tag}
 use Rattle.jdwp_value.specs.declared.value.Value.{Value}
@@ -69,7 +69,7 @@ EncodesRegion w r code =
 -- a tag and a count stand in front, and behind them at least one element, which has to be kept
 abbrev pub RegionIsKept : Widths → List ℕ → Type 0
 RegionIsKept w bytes =
-    (t : Tag) × (n : ℕ) × (items : List ℕ) × (is_void t ≡ false) × (0 < n) × (n < 2 ^ 31) × (bytes ≡ tag_byte t ∷ (big_bytes 4 n ++ items)) × BeginsWith (EncodesElement w t) items
+    (t : Tag) × (n : ℕ) × (items : List ℕ) × (is_void t ≡ false) × (0 < n) × (n ≤ greatest_int) × (bytes ≡ tag_byte t ∷ (big_bytes 4 n ++ items)) × BeginsWith (EncodesElement w t) items
 
 abbrev pub region_canonical : Widths → Region → List ℕ
 region_canonical w r = tag_byte r.tag ∷ list_canonical (element_canonical w r.tag) r.elements

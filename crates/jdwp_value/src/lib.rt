@@ -12,6 +12,3 @@ pub use location::{Location, TypeTag};
 pub use region::ArrayRegion;
 pub use tag::{ObjectTag, Tag};
 pub use value::{TaggedId, Value, pass_untagged, put_untagged, take_untagged, untagged_size};
-
-#[cfg(test)]
-mod tests;

@@ -1,11 +1,10 @@
 -- Reading a list gives exactly what bytes encode.
-use Rattle.std.specs.Prelude.{◌≡◌, ℕ, ◌^◌, List, [], ◌∷◌, length, Option, None, refl}
+use Rattle.std.specs.Prelude.{◌≡◌, ℕ, List, [], ◌∷◌, length, Option, None, refl}
 use Rattle.std.proofs.Common.{arith}
-use Rattle.std.proofs.lemmas.Bool.{lt-ltb}
 use Rattle.byteorder.specs.Endian.{big_bytes}
 use Rattle.jdwp_wire.specs.declared.data_fault.DataFault.{DataFault}
 use Rattle.jdwp_wire.specs.Reading.{Reader, Encoding, Faults}
-use Rattle.jdwp_wire.specs.NumberLaws.{count_codes}
+use Rattle.jdwp_wire.specs.NumberLaws.{count_codes, counts}
 use Rattle.jdwp_wire.specs.Each.{EncodesAll}
 use Rattle.jdwp_wire.specs.EachLaws.{times_codes}
 use Rattle.jdwp_wire.specs.Listed.{list_at, EncodesList, ListFault, first_refusal, list_refusal}
@@ -27,4 +26,4 @@ each_unrefused encodes refusal law (x ∷ xs) code (front, back, one, others, e)
 
 pub list_unrefused : {X : Type 0} (encodes : Encoding X) (refusal : X → Option DataFault) → ((code : List ℕ) (x : X) → encodes x code → refusal x ≡ None)
     → (code : List ℕ) (xs : List X) → EncodesList encodes xs code → list_refusal refusal xs ≡ None
-list_unrefused encodes refusal law code xs (small, items, each, e) = rw (lt-ltb (length xs) (2 ^ 31) small, each_unrefused encodes refusal law xs items each) refl
+list_unrefused encodes refusal law code xs (small, items, each, e) = rw (counts (length xs) small, each_unrefused encodes refusal law xs items each) refl

@@ -1,5 +1,5 @@
 -- The readers of numbers give exactly what bytes encode.
-use Rattle.std.specs.Prelude.{◌≡◌, ℕ, ◌≤◌, ◌^◌, List, ◌++◌, length, take, drop, Bool, true, false, cond, Result, Ok, Err, None, refl}
+use Rattle.std.specs.Prelude.{◌≡◌, ℕ, suc, ◌≤◌, ◌<◌, ◌^◌, List, ◌++◌, length, take, drop, Bool, true, false, cond, Result, Ok, Err, None, refl}
 use Rattle.std.proofs.Common.{ap, sym, arith, subst, inl, inr, ltb}
 use Rattle.std.proofs.lemmas.Bool.{ltb-false, ltb-true, le-ltb, lt-ltb}
 use Rattle.std.proofs.lemmas.List.{take-append-drop, drop_at, length-append}
@@ -8,7 +8,7 @@ use Rattle.byteorder.specs.Numbers.{big_from-lt, big_number-reads_back, length-b
 use Rattle.jdwp_wire.specs.declared.data_fault.DataFault.{DataFault}
 use Rattle.jdwp_wire.specs.declared.data_fault.DataFault.TheVariants.{Short, NegativeCount}
 use Rattle.jdwp_wire.specs.BigEndian.{bytes_again}
-use Rattle.jdwp_wire.specs.Numbers.{EncodesNumber, NumberFault, number_at, EncodesCount, CountFault, count_at, id_refusal}
+use Rattle.jdwp_wire.specs.Numbers.{EncodesNumber, NumberFault, number_at, greatest_int, fits_int, EncodesCount, CountFault, count_at, id_refusal}
 use Rattle.jdwp_wire.specs.Codes.{Found, Again, Blamed, Judged, Codes, bind_ok, bind_err, guard_ok, must_ok, guard_err, ok_is, err_is}
 
 number_found : (width whole : ℕ) → Found (number_at width whole) (EncodesNumber width)
@@ -41,19 +41,25 @@ number_codes width whole = record { found = number_found width whole; again = nu
 
 -- ---- counts and lengths
 
+pub counts : (n : ℕ) → n ≤ greatest_int → fits_int n ≡ true
+counts n le = lt-ltb n (suc greatest_int) (omega arith)
+
+int_fits : (n : ℕ) → fits_int n ≡ true → n ≤ greatest_int
+int_fits n e = let lt = ltb-true n (suc greatest_int) e in omega arith
+
+abbrev counted : ℕ × List ℕ → Result (ℕ × List ℕ) DataFault
+counted n = cond (fits_int n.0) (Ok n) (Err NegativeCount)
+
 count_found : (whole : ℕ) → Found (count_at whole) EncodesCount
 count_found whole bytes n rest fits e =
-    let a = bind_ok (number_at 4 whole bytes) (λ n. cond (ltb n.0 (2 ^ 31)) (Ok n) (Err NegativeCount)) (n, rest) e in
-    let g = must_ok (ltb a.0.0 (2 ^ 31)) NegativeCount (Ok a.0) (n, rest) a.2 in
+    let a = bind_ok (number_at 4 whole bytes) counted (n, rest) e in
+    let g = must_ok (fits_int a.0.0) NegativeCount (Ok a.0) (n, rest) a.2 in
     let t = number_found 4 whole bytes a.0.0 a.0.1 fits a.1 in
-    let made : (code : List ℕ) × EncodesCount a.0.0 code × (bytes ≡ code ++ a.0.1) = (t.0, (ltb-true _ _ g.0, t.1.1), t.2) in
+    let made : (code : List ℕ) × EncodesCount a.0.0 code × (bytes ≡ code ++ a.0.1) = (t.0, (int_fits a.0.0 g.0, t.1.1), t.2) in
     subst (λ (p : ℕ × List ℕ). (code : List ℕ) × EncodesCount p.0 code × (bytes ≡ code ++ p.1)) (ok_is a.0 (n, rest) g.1) made
 
 count_again : (whole : ℕ) → Again (count_at whole) EncodesCount
-count_again whole code n rest (lt, e) = rw (number_again 4 whole code n rest (omega arith, e), lt-ltb n (2 ^ 31) lt) refl
-
-abbrev counted : ℕ × List ℕ → Result (ℕ × List ℕ) DataFault
-counted n = cond (ltb n.0 (2 ^ 31)) (Ok n) (Err NegativeCount)
+count_again whole code n rest (lt, e) = rw (number_again 4 whole code n rest (omega arith, e), counts n lt) refl
 
 negative : (b : Bool) (x : ℕ × List ℕ) (f : DataFault) → cond b (Ok x) (Err NegativeCount) ≡ Err f → (b ≡ false) × (f ≡ NegativeCount)
 negative true x f e = absurd cc
@@ -68,14 +74,14 @@ count_blamed : (whole : ℕ) → Blamed (count_at whole) (CountFault whole)
 count_blamed whole bytes f fits e = elim (bind_err (number_at 4 whole bytes) counted f e) [
   | inl first ↦ inl (number_blamed 4 whole bytes f fits first)
   | inr (x, ok, later) ↦
-      let n = negative (ltb x.0 (2 ^ 31)) x f later in
+      let n = negative (fits_int x.0) x f later in
       let is = number_is whole bytes x ok in
-      inr (n.1, is.0, subst (λ (m : ℕ). 2 ^ 31 ≤ m) is.1 (ltb-false _ _ n.0))
+      inr (n.1, is.0, subst (λ (m : ℕ). greatest_int < m) is.1 (let le = ltb-false x.0 (suc greatest_int) n.0 in omega arith))
 ]
 
 count_judged : (whole : ℕ) → Judged (count_at whole) (CountFault whole)
 count_judged whole bytes f (inl (is, short)) = rw (lt-ltb (length bytes) 4 short, is) refl
-count_judged whole bytes f (inr (is, long, big)) = rw (le-ltb (length bytes) 4 long, le-ltb (big_number 4 bytes) (2 ^ 31) big, is) refl
+count_judged whole bytes f (inr (is, long, big)) = rw (le-ltb (length bytes) 4 long, le-ltb (big_number 4 bytes) (suc greatest_int) (omega arith), is) refl
 
 pub count_codes : (whole : ℕ) → Codes (count_at whole) EncodesCount (CountFault whole)
 count_codes whole = record { found = count_found whole; again = count_again whole; blamed = count_blamed whole; judged = count_judged whole }

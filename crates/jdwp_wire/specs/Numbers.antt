@@ -1,5 +1,5 @@
 -- Unsigned numbers of a given width in bytes, the highest byte first (JDWP specification, "Data Types": all are big-endian).
-use Rattle.std.specs.Prelude.{◌≡◌, ℕ, ◌≤◌, ◌<◌, ◌^◌, length, drop, nat_lt, if◌then◌else◌, Option, Some, None, Ok, Err, ◌⊎◌}
+use Rattle.std.specs.Prelude.{◌≡◌, ℕ, suc, Bool, ◌≤◌, ◌<◌, ◌^◌, length, drop, nat_lt, if◌then◌else◌, Option, Some, None, Ok, Err, ◌⊎◌}
 use Rattle.byteorder.specs.Endian.{big_number, big_bytes}
 use Rattle.jdwp_wire.specs.declared.data_fault.DataFault.{DataFault}
 use Rattle.jdwp_wire.specs.declared.data_fault.DataFault.TheVariants.{Short, NegativeCount, BadSize, IdTooWide}
@@ -23,19 +23,23 @@ number_at width whole bytes = if nat_lt (length bytes) width then Err (Short who
 abbrev pub greatest_int : ℕ
 greatest_int = 2147483647
 
+-- whether an int holds a count or a length
+abbrev pub fits_int : ℕ → Bool
+fits_int n = nat_lt n (suc greatest_int)
+
 abbrev pub EncodesCount : Encoding ℕ
-EncodesCount n code = (n < 2 ^ 31) × (code ≡ big_bytes 4 n)
+EncodesCount n code = (n ≤ greatest_int) × (code ≡ big_bytes 4 n)
 
 abbrev pub CountFault : ℕ → Faults
 CountFault whole bytes f =
-    ((f ≡ Short whole) × (length bytes < 4)) ⊎ ((f ≡ NegativeCount) × (4 ≤ length bytes) × (2 ^ 31 ≤ big_number 4 bytes))
+    ((f ≡ Short whole) × (length bytes < 4)) ⊎ ((f ≡ NegativeCount) × (4 ≤ length bytes) × (greatest_int < big_number 4 bytes))
 
 abbrev pub count_at : ℕ → Reader ℕ
-count_at whole bytes = number_at 4 whole bytes >>= λ n. if nat_lt n.0 (2 ^ 31) then Ok n else Err NegativeCount
+count_at whole bytes = number_at 4 whole bytes >>= λ n. if fits_int n.0 then Ok n else Err NegativeCount
 
 -- why a count or a length can't be written
 abbrev pub count_refusal : ℕ → Option DataFault
-count_refusal n = if nat_lt n (2 ^ 31) then None else Some BadSize
+count_refusal n = if fits_int n then None else Some BadSize
 
 -- ---- an id
 

@@ -1,18 +1,18 @@
 -- A string: its length in bytes, and so many bytes of UTF-8 (JDWP specification, "Data Types").
-use Rattle.std.specs.Prelude.{◌≡◌, ℕ, ◌≤◌, ◌<◌, ◌^◌, List, ◌++◌, length, take, drop, nat_lt, if◌then◌else◌, Option, Ok, Err, ◌⊎◌}
+use Rattle.std.specs.Prelude.{◌≡◌, ℕ, ◌≤◌, ◌<◌, List, ◌++◌, length, take, drop, nat_lt, if◌then◌else◌, Option, Ok, Err, ◌⊎◌}
 use Rattle.std.specs.Str.{IsUtf8, is_utf8}
 use Rattle.byteorder.specs.Endian.{big_bytes}
 use Rattle.jdwp_wire.specs.declared.data_fault.DataFault.{DataFault}
 use Rattle.jdwp_wire.specs.declared.data_fault.DataFault.TheVariants.{Short, NotUtf8}
 use Rattle.jdwp_wire.specs.Reading.{Reader, Encoding, Faults, BeginsWith}
 use Rattle.jdwp_wire.specs.Sequence.{seq, FirstFault}
-use Rattle.jdwp_wire.specs.Numbers.{EncodesCount, CountFault, count_at, count_refusal}
+use Rattle.jdwp_wire.specs.Numbers.{greatest_int, EncodesCount, CountFault, count_at, count_refusal}
 
 abbrev pub text_canonical : List ℕ → List ℕ
 text_canonical s = big_bytes 4 (length s) ++ s
 
 abbrev pub EncodesText : Encoding (List ℕ)
-EncodesText s code = IsUtf8 s × (length s < 2 ^ 31) × (code ≡ text_canonical s)
+EncodesText s code = IsUtf8 s × (length s ≤ greatest_int) × (code ≡ text_canonical s)
 
 -- why n bytes of text don't stand here
 abbrev pub CharactersFault : ℕ → ℕ → Faults

@@ -1,5 +1,5 @@
 -- The reader of strings gives exactly what bytes encode.
-use Rattle.std.specs.Prelude.{◌≡◌, ℕ, ◌^◌, ◌≤◌, List, ◌++◌, length, take, drop, Bool, true, false, cond, None, Ok, Err, refl}
+use Rattle.std.specs.Prelude.{◌≡◌, ℕ, ◌≤◌, List, ◌++◌, length, take, drop, Bool, true, false, cond, None, Ok, Err, refl}
 use Rattle.std.specs.Str.{IsUtf8, is_utf8}
 use Rattle.std.proofs.Common.{sym, ◌∙◌, arith, subst, ltb, inl, inr}
 use Rattle.std.proofs.lemmas.Bool.{ltb-false, ltb-true, le-ltb, lt-ltb, false_from_ne_true}
@@ -9,7 +9,7 @@ use Rattle.byteorder.specs.Endian.{big_bytes}
 use Rattle.jdwp_wire.specs.declared.data_fault.DataFault.{DataFault}
 use Rattle.jdwp_wire.specs.declared.data_fault.DataFault.TheVariants.{Short, NotUtf8}
 use Rattle.jdwp_wire.specs.Reading.{Encoding}
-use Rattle.jdwp_wire.specs.NumberLaws.{count_codes}
+use Rattle.jdwp_wire.specs.NumberLaws.{count_codes, counts}
 use Rattle.jdwp_wire.specs.Text.{EncodesText, CharactersFault, TextFault, characters_at, text_at, text_refusal}
 use Rattle.jdwp_wire.specs.Codes.{Found, Again, Blamed, Judged, Codes, seq_codes, codes_as, guard_ok, must_ok, guard_err, ok_is, err_is}
 
@@ -17,7 +17,7 @@ use Rattle.jdwp_wire.specs.Codes.{Found, Again, Blamed, Judged, Codes, seq_codes
 abbrev Characters : ℕ → Encoding (List ℕ)
 Characters n s code = IsUtf8 s × (length s ≡ n) × (code ≡ s)
 
-not_utf8 : (bs : List ℕ) → (IsUtf8 bs → ⊥) → is_utf8 bs ≡ false
+pub not_utf8 : (bs : List ℕ) → (IsUtf8 bs → ⊥) → is_utf8 bs ≡ false
 not_utf8 bs bad = false_from_ne_true (is_utf8 bs) (λ e. bad (IsUtf8-from_is_utf8 bs e))
 
 is_not_utf8 : (bs : List ℕ) → is_utf8 bs ≡ false → IsUtf8 bs → ⊥
@@ -65,4 +65,4 @@ text_codes whole = codes_as EncodesText
     (seq_codes (count_codes whole) (characters_codes whole))
 
 pub text_unrefused : (code s : List ℕ) → EncodesText s code → text_refusal s ≡ None
-text_unrefused code s h = rw (lt-ltb (length s) (2 ^ 31) h.1) refl
+text_unrefused code s h = rw (counts (length s) h.1) refl

@@ -30,10 +30,3 @@ pub use no_memory::NoMemory;
 pub use packet::{Header, PacketKind, PacketRef};
 pub use wire::Wire;
 pub use writing::all_or_nothing;
-
-#[cfg(test)]
-mod data_tests;
-#[cfg(test)]
-mod example_tests;
-#[cfg(test)]
-mod tests;
