@@ -163,6 +163,16 @@ impl End {
         }
     }
 
+    /// What holds of every end: what came are bytes; one at which nothing waits is not paused; and one that is open, not paused and asks
+    /// for more has room for a byte. It does nothing.
+    pub fn invariants(&self)
+        ensures bytes { IsBytes self.now.incoming }
+        ensures flows { self.now.outgoing ≡ [] → ends.is_paused self.now ≡ false }
+        ensures room { front_of self.now ≡ More → ends.is_open self.now ≡ true → ends.is_paused self.now ≡ false → 0 < room_of self.now }
+    {
+        are_bytes(self.incoming.as_slice());
+    }
+
     /// Takes the message in front off, which takes so many bytes: it is handled.
     pub fn take_off(&mut self, used: usize)
         requires { (message : Message) × (front_of self.old ≡ Whole message used) }

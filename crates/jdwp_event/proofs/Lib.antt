@@ -3,3 +3,4 @@ pub mod Limits
 pub mod Rising
 pub mod CompositeKept
 pub mod ModifierPassed
+pub mod KindsAsked

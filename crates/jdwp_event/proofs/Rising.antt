@@ -110,7 +110,7 @@ filter_rising test (r ∷ rs) rising = if_has AreRising (test r) (r ∷ filter t
 
 -- ---- counted
 
-if_asked : (b : Bool) (r s : Request) → r.asked ≡ s.asked → (if b then r else s).asked ≡ s.asked
+pub if_asked : (b : Bool) (r s : Request) → r.asked ≡ s.asked → (if b then r else s).asked ≡ s.asked
 if_asked true r s e = e
 if_asked false r s e = refl
 

@@ -14,3 +14,4 @@ pub mod CompositeLaws
 pub mod ModifierBytes
 pub mod ModifierParts
 pub mod ModifierLaws
+pub mod KindsAsked

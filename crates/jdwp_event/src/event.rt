@@ -403,6 +403,21 @@ pub fn gather(
     ensures gathers { IfOk result (λ found. found ≡ gathered happening.now requests.now) }
     ensures memory { IfErr result (λ _. passing happening.now requests.now ≡ [] → ⊥) }
 {
+    if !requests.ask_for(happening.occurrence()) {
+        return Ok(None);
+    }
+    gather_passing(alloc, requests, happening)
+}
+
+/// The same, by a trial of each request.
+fn gather_passing(
+    alloc: Global,
+    requests: &Requests,
+    happening: &Happening,
+) -> Result<Option<Composite>, NoMemory>
+    ensures gathers { IfOk result (λ found. found ≡ gathered happening.now requests.now) }
+    ensures memory { IfErr result (λ _. passing happening.now requests.now ≡ [] → ⊥) }
+{
     let mut policy = Policy::None.byte();
     let mut events = Vec::new(alloc);
     for request in requests.as_slice() {

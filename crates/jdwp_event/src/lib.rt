@@ -5,6 +5,7 @@ mod event;
 mod filter;
 mod happening;
 mod kind;
+mod kinds_asked;
 mod laws;
 mod modifier;
 mod pattern;
@@ -22,10 +23,3 @@ pub use policy::{Policy, StepDepth, StepSize};
 pub use request::{Request, StepOrigin, matches};
 pub use request_id::RequestId;
 pub use requests::{Requests, count_down};
-
-#[cfg(test)]
-mod request_tests;
-#[cfg(test)]
-mod tests;
-#[cfg(test)]
-mod wire_tests;

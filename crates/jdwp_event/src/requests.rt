@@ -2,31 +2,36 @@
 ghost use Rattle.std.specs.Prelude.{◌≡◌, ◌≤◌, ◌==◌, length, take, drop, OnOk, IfErr, [], ◌∷◌, ◌++◌};
 ghost use Rattle.jdwp_event.specs.Requests.{Request};
 ghost use Rattle.jdwp_event.specs.Filters.{all_counted};
+ghost use Rattle.jdwp_event.specs.KindsAsked.{asks_for};
+ghost use Rattle.jdwp_event.specs.Occurrences.{occurrence_meaning};
 ghost use Rattle.jdwp_event.specs.RequestLists.{placed, without, without_breakpoints, AllBelow, StartsAbove};
 
-use crate::happening::Happening;
+use crate::happening::{Happening, Occurrence};
 use crate::kind::EventKind;
+use crate::kinds_asked::KindsAsked;
 use crate::request::Request;
 use jdwp_wire::NoMemory;
 use std::alloc::Global;
 use std::marker::Model;
 
-/// Event requests, by rising id.
+/// Event requests, by rising id, and which kinds of events they ask for.
 #[derive(Drop)]
 pub struct Requests {
     entries: Vec<Request>,
+    kinds: KindsAsked,
 }
 
 impl Model for Requests {
     ghost use Rattle.std.specs.Prelude.{List};
     ghost use Rattle.jdwp_event.specs.Requests.{Request};
     ghost use Rattle.jdwp_event.specs.RequestLists.{AreRising};
+    ghost use Rattle.jdwp_event.specs.KindsAsked.{AreAsked};
 
     ghost Value = { List Request };
 
     ghost view = { λ r. r.entries.items };
 
-    ghost invariant = { λ r. AreRising r.entries.items };
+    ghost invariant = { λ r. AreRising r.entries.items × AreAsked r.kinds r.entries.items };
 }
 
 impl Requests {
@@ -36,6 +41,7 @@ impl Requests {
     {
         Requests {
             entries: Vec::new(alloc),
+            kinds: KindsAsked::none(),
         }
     }
 
@@ -60,6 +66,13 @@ impl Requests {
         self.entries.as_slice()
     }
 
+    /// Whether a request is of a kind of what happened: one test, however many requests there are.
+    pub(crate) fn ask_for(&self, occurrence: &Occurrence) -> bool
+        ensures { result ≡ asks_for (occurrence_meaning occurrence.now) self.now }
+    {
+        self.kinds.has(occurrence)
+    }
+
     /// Adds a request under its id, in place of an older one of that id.
     ///
     /// # Errors
@@ -71,9 +84,11 @@ impl Requests {
         let place = place_for(&self.entries, request.id());
         if place < self.entries.len() && self.entries[place].id() == request.id() {
             self.entries[place] = request;
+            self.kinds = KindsAsked::asked_by(&self.entries);
             return Ok(());
         }
         self.entries.insert(place, request)?;
+        self.kinds = KindsAsked::asked_by(&self.entries);
         Ok(())
     }
 
@@ -84,6 +99,7 @@ impl Requests {
         self.entries.retain(|request| {
             !(request.kind() == kind && i64::from(request.id()) == i64::from(id))
         });
+        self.kinds = KindsAsked::asked_by(&self.entries);
     }
 
     /// Removes all requests of the kind BREAKPOINT.
@@ -92,6 +108,7 @@ impl Requests {
     {
         self.entries
             .retain(|request| request.kind() != EventKind::Breakpoint.byte());
+        self.kinds = KindsAsked::asked_by(&self.entries);
     }
 
     /// Removes all of them.
@@ -99,6 +116,7 @@ impl Requests {
         ensures { self.new ≡ [] }
     {
         self.entries.clear();
+        self.kinds = KindsAsked::none();
     }
 }
 
@@ -121,7 +139,9 @@ fn place_for(entries: &[Request], id: u32) -> usize
 pub fn count_down(requests: &mut Requests, happening: &Happening)
     ensures { requests.new ≡ all_counted happening.now requests.old }
 {
-    count_each(&mut requests.entries, happening);
+    if requests.ask_for(happening.occurrence()) {
+        count_each(&mut requests.entries, happening);
+    }
 }
 
 fn count_each(entries: &mut [Request], happening: &Happening)

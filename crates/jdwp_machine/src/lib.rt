@@ -7,7 +7,7 @@ mod machine;
 mod query;
 
 pub use laws::{ends_its_thread, starts_a_new_thread};
-pub use live::is_among;
+pub use live::{has_run_out, is_among};
 pub use machine::Machine;
 pub use query::Query;
 

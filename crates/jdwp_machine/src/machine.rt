@@ -1,5 +1,6 @@
 //! The machine that a target runs.
-ghost use Rattle.std.specs.Prelude.{◌≡◌, true, IfOk, OnOk, OnErr};
+ghost use Rattle.std.specs.Prelude.{◌≡◌, true, false, IfOk, OnOk, OnErr};
+ghost use Rattle.jdwp_event.specs.Occurrences.{runs_out};
 ghost use Rattle.jdwp_machine.specs.Meanings.{Meaning, has, numbers};
 ghost use Rattle.jdwp_machine.specs.Laws.{IsLawful};
 
@@ -33,12 +34,13 @@ pub trait Machine {
         requires { has (meaning.live self.now) thread.0 ≡ true }
         ensures { IfOk result (λ happening. happening ≡ meaning.next self.now thread.0) };
 
-    /// One step of a live thread that has not run out.
+    /// One step of a live thread that has not run out: `next` tells it, and `has_run_out` tests what it tells.
     ///
     /// # Errors
     /// `NoMemory` where an allocation was refused; then nothing has changed.
     fn step(&mut self, thread: ObjectId) -> Result<(), NoMemory>
-        requires { has (meaning.live self.old) thread.0 ≡ true }
+        requires lives { has (meaning.live self.old) thread.0 ≡ true }
+        requires runs { runs_out (meaning.next self.old thread.0) ≡ false }
         ensures ok { OnOk result (self.new ≡ meaning.stepped self.old thread.0) }
         ensures err { OnErr result (self.new ≡ self.old) };
 

@@ -24,8 +24,3 @@ pub use script::{
     Class, Elements, Field, FieldValue, Group, Line, Method, Object, Script, Sizes, Slot, Thread,
 };
 pub use step::{Call, Literal, Place, SlotValue, Step, Throw};
-
-#[cfg(test)]
-mod limit_tests;
-#[cfg(test)]
-mod tests;

@@ -2,7 +2,7 @@ use Rattle.std.proofs.Common.{◌≡◌, ◌++◌, map, drop}
 use Rattle.std.specs.Prelude.{max}
 use Rattle.jdwp_event.specs.Filters.{passing}
 use Rattle.jdwp_event.specs.Composites.{event_for, greatest_policy}
-use Rattle.jdwp_event.proofs.event.gather.Given as goal
+use Rattle.jdwp_event.proofs.event.gather_passing.Given as goal
 
 abbrev pub invariant-loop-request : goal.invariant-loop-request
 invariant-loop-request l = record {
