@@ -1,15 +1,15 @@
 -- Proofs about changes of what has an id in a list.
-use Rattle.std.proofs.Common.{◌≡◌, ℕ, zero, suc, ◌+◌, ◌<◌, ◌≤◌, ◌==◌, Bool, true, false, List, [], ◌∷◌, ◌++◌, length, map, take, drop, get_or, slice_set, refl, sym, ap, ◌∙◌, inl, inr, arith, if◌then◌else◌, Option, Some}
+use Rattle.std.proofs.Common.{◌≡◌, ℕ, zero, suc, ◌+◌, ◌<◌, ◌==◌, Bool, true, false, List, [], ◌∷◌, ◌++◌, length, map, take, drop, get_or, slice_set, refl, ap, ◌∙◌, inl, inr, arith, if◌then◌else◌, Some}
 use Rattle.std.proofs.lemmas.Bool.{eq-eqb}
 use Rattle.std.proofs.lemmas.List.{map-append, take_more}
 use Rattle.std.specs.List.{IsDistinct}
 use Rattle.jdwp_script.specs.Parts.{StepPart, Call, Go, Return, Throwing, Prepare, Start}
 use Rattle.jdwp_script_machine.specs.LookUps.{changed, first_changed}
 use Rattle.jdwp_script_machine.specs.States.{ThreadNow, ClassNow, State, thread_at}
-use Rattle.jdwp_script_machine.specs.Steps.{after_step, alive, with_started, with_prepared, frames_after, next_step, stepped, FRAME_LIMIT}
-use Rattle.jdwp_script_machine.specs.Sound.{thread_ids, IsSound}
+use Rattle.jdwp_script_machine.specs.Steps.{after_step, alive, with_started, with_prepared, next_step, stepped}
+use Rattle.jdwp_script_machine.specs.Sound.{thread_ids}
 use Rattle.jdwp_script_machine.specs.StateLaws.{either}
-use Rattle.jdwp_script_machine.specs.SoundLaws.{unchanged, stepped_step_sound}
+use Rattle.jdwp_script_machine.specs.SoundLaws.{unchanged}
 
 -- where no two have one id, the first that has it is the only one
 pub first_is_all : {A : Type 0} (key : A → ℕ) (n : ℕ) (change : A → A) (xs : List A) → IsDistinct (λ (a b : ℕ). a == b) (map key xs) → first_changed key n change xs ≡ changed key n change xs
@@ -57,9 +57,6 @@ pub stepped_is : (s : State) (t : ℕ) (e : ThreadNow) (step : StepPart) (thread
     → threads ≡ changed (λ (e : ThreadNow). e.id) t (after_step step) (with_started step s.threads) → classes ≡ with_prepared step s.classes
     → record { script = s.script; threads = threads; classes = classes } ≡ stepped s t
 stepped_is s t e step threads classes found next p q = rw (← found, ← next, p, q) refl
-
-pub stepped_is_sound : (s : State) (t : ℕ) (e : ThreadNow) (step : StepPart) → IsSound s → Some e ≡ thread_at s t → Some step ≡ next_step s.script e → length (frames_after step e.frames) ≤ FRAME_LIMIT → IsSound (stepped s t)
-stepped_is_sound s t e step sound found next room = rw (← found, ← next) (stepped_step_sound s t e step sound (sym found) (sym next) room)
 
 -- ---- what is written at a place
 

@@ -4,4 +4,5 @@ pub mod Machines
 pub mod Named
 pub mod Reaches
 pub mod Rising
+pub mod Sets
 pub mod StaticValues

@@ -1,5 +1,5 @@
 -- Proofs about the machine that a text is read as.
-use Rattle.std.proofs.Common.{◌≡◌, ℕ, ℤ, ◌≤◌, ◌==◌, ◌||◌, Bool, true, false, nat_lt, List, [], ◌∷◌, length, map, take, refl, sym, ap, ◌∙◌, inl, inr, arith, if◌then◌else◌, Option, Some, None, Result, Ok, Err}
+use Rattle.std.proofs.Common.{◌≡◌, ℕ, ℤ, ◌≤◌, ◌==◌, Bool, true, false, nat_lt, List, [], ◌∷◌, length, take, refl, sym, ap, ◌∙◌, inl, inr, if◌then◌else◌, Option, Some, None, Result}
 use Rattle.std.proofs.lemmas.Bool.{ltb-false}
 use Rattle.std.proofs.lemmas.List.{length-map}
 use Rattle.jdwp_wire.specs.Widths.{Widths, IsWidth, AreWidths}

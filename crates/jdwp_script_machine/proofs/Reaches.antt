@@ -1,16 +1,15 @@
 -- Proofs about the classes that a class reaches, found layer by layer.
-use Rattle.std.proofs.Common.{◌≡◌, ℕ, zero, suc, ◌+◌, ◌<◌, ◌==◌, ◌||◌, Bool, true, false, cond, List, [], ◌∷◌, ◌++◌, length, get_or, take, drop, map, Option, Some, None, refl, sym, ap, ◌∙◌, arith, ◌⊎◌, inl, inr}
+use Rattle.std.proofs.Common.{◌≡◌, ℕ, zero, suc, ◌+◌, ◌<◌, ◌≤◌, ◌-◌, subst, ◌==◌, ◌||◌, Bool, true, false, List, [], ◌∷◌, length, get_or, take, Option, Some, None, refl, sym, ap, ◌∙◌, ◌⊎◌, inl, inr}
+use Rattle.std.proofs.Math.Nat.{sub-add_cancel, suc-add, zero-add}
 use Rattle.std.proofs.lemmas.Bool.{eqb-true, eq-eqb, false≢true}
-use Rattle.std.proofs.lemmas.List.Folds.{list_any_more, list_any-append}
-use Rattle.std.specs.Ordering.{nat_cmp}
-use Rattle.std.specs.Cmp.{unsigned_tied}
-use Rattle.std.specs.BTreeSet.{BTreeSet, Updates}
-use Rattle.std.specs.BTreeMap.{is_at}
+use Rattle.std.proofs.lemmas.List.{nil_from_length}
+use Rattle.std.proofs.lemmas.List.Folds.{list_any_more}
+use Rattle.std.specs.BTreeSet.{BTreeSet}
 use Rattle.std.specs.List.{list_any}
-use Rattle.jdwp_value.specs.declared.id.ReferenceTypeId.{ReferenceTypeId}
 use Rattle.jdwp_script.specs.Parts.{ClassPart, ScriptPart}
 use Rattle.jdwp_script_machine.specs.Sites.{class_in, class_above, reaches_within}
-use Rattle.jdwp_script_machine.specs.Layers.{has, Holds, Gains, is_in, is_above, some_above}
+use Rattle.jdwp_script_machine.specs.Layers.{has, Gains, is_in, is_above, some_above}
+use Rattle.jdwp_script_machine.proofs.Sets.{gains_more, gains_none}
 
 -- ---- tests
 
@@ -147,9 +146,17 @@ module _ (script : ScriptPart) (from k : ℕ) (found found' : BTreeSet ℕ) (lay
   pub next_layered : IsLayered script from (suc k) found' next
   next_layered = record { reached = next_reached; within = next_within; closed = next_closed }
 
-or_none : (b : Bool) → (b || false) ≡ b
-or_none true = refl
-or_none false = refl
+-- with nothing in the last layer, more layers find no more
+settled : (script : ScriptPart) (from k : ℕ) (found : BTreeSet ℕ) → IsLayered script from k found [] → (n : ℕ) → IsLayered script from (n + k) found []
+settled script from k found h zero = subst (λ (n : ℕ). IsLayered script from n found []) (sym (zero-add k)) h
+settled script from k found h (suc n) =
+    subst (λ (m : ℕ). IsLayered script from m found []) (sym (suc-add n k))
+    (next_layered script from (n + k) found found [] [] (settled script from k found h n) (gains_none found (some_above script []) (λ _. refl)) (gains_none found (is_in []) (λ _. refl)))
+
+pub reached_at : (script : ScriptPart) (from k most : ℕ) (found : BTreeSet ℕ) (layer : List ℕ) → length layer ≡ 0 → k ≤ most → IsLayered script from k found layer → (x : ℕ) → has found x ≡ reaches_within script most x from
+reached_at script from k most found layer none le h x =
+    let last : IsLayered script from k found [] = subst (λ (ns : List ℕ). IsLayered script from k found ns) (nil_from_length layer none) h in
+    subst (λ (n : ℕ). has found x ≡ reaches_within script n x from) (sub-add_cancel le) ((settled script from k found last (most - k)).reached x)
 
 -- at the beginning
 pub first_layered : (script : ScriptPart) (from : ℕ) (none found : BTreeSet ℕ) (layer : List ℕ) → ((n : ℕ) → has none n ≡ false) → Gains none found (λ n. from == n) → Gains none found (is_in layer)
@@ -160,61 +167,13 @@ first_layered script from none found layer nothing gained listed = record {
   closed = λ x y there up. or_right (has found y) (is_in layer x) (sym (listed x ∙ ap (λ b. b || is_in layer x) (nothing x)) ∙ there);
 }
 
--- ---- sets
-
-cond_or : (a b : Bool) → cond a true b ≡ (b || a)
-cond_or true true = refl
-cond_or true false = refl
-cond_or false true = refl
-cond_or false false = refl
-
--- a set gains a number
-pub gains_one : (old new : BTreeSet ℕ) (k : ℕ) → Updates nat_cmp old new k true → Gains old new (λ n. k == n)
-gains_one old new k u n = u.0 n ∙ (rw (unsigned_tied k n) (cond_or (k == n) (has old n)))
-
-or_assoc : (a b c : Bool) → ((a || b) || c) ≡ (a || (b || c))
-or_assoc true b c = refl
-or_assoc false b c = refl
-
--- one gain after another
-pub gains_more : (old mid new : BTreeSet ℕ) (p q r : ℕ → Bool) → Gains old mid p → Gains mid new q → ((n : ℕ) → r n ≡ (p n || q n)) → Gains old new r
-gains_more old mid new p q r first then_ both n =
-    then_ n ∙ (ap (λ b. b || q n) (first n) ∙ (or_assoc (has old n) (p n) (q n) ∙ ap (λ b. has old n || b) (sym (both n))))
-
-pub gains_none : (old : BTreeSet ℕ) (p : ℕ → Bool) → ((n : ℕ) → p n ≡ false) → Gains old old p
-gains_none old p none n = sym (ap (λ b. has old n || b) (none n) ∙ or_none (has old n))
-
--- a list gains what the set gains
-pub lists_one : (before old new : BTreeSet ℕ) (ids : List ℕ) (k : ℕ) → Gains before old (is_in ids) → Gains old new (λ n. k == n) → Gains before new (is_in (ids ++ k ∷ []))
-lists_one before old new ids k first then_ =
-    gains_more before old new (is_in ids) (λ n. k == n) (is_in (ids ++ k ∷ [])) first then_
-    (λ n. list_any-append (λ m. m == n) ids (k ∷ []) ∙ ap (λ b. is_in ids n || b) (or_none (k == n)))
-
--- what a set has it doesn't gain
-pub lists_none : (before old new : BTreeSet ℕ) (ids : List ℕ) → Gains before old (is_in ids) → old.keys ≡ new.keys → Gains before new (is_in ids)
-lists_none before old new ids first same n = sym (ap (λ (s : List ℕ). list_any (is_at (nat_cmp n)) s) same) ∙ first n
+-- ---- what the code finds
 
 pub above_one : (script : ScriptPart) (before old new : BTreeSet ℕ) (layer : List ℕ) (i : ℕ) → i < length layer → Gains before old (some_above script (take i layer)) → Gains old new (is_above (class_in script (get_or layer i 0)))
     → Gains before new (some_above script (take (i + 1) layer))
 above_one script before old new layer i lt first then_ =
     gains_more before old new (some_above script (take i layer)) (is_above (class_in script (get_or layer i 0))) (some_above script (take (i + 1) layer)) first then_
     (λ n. list_any_more (λ (from : ℕ). is_above (class_in script from) n) layer i 0 lt)
-
-any_map : {A B : Type 0} (f : A → B) (p : B → Bool) (xs : List A) → list_any p (map f xs) ≡ list_any (λ x. p (f x)) xs
-any_map f p [] = refl
-any_map f p (x ∷ xs) = ap (λ b. p (f x) || b) (any_map f p xs)
-
--- the numbers of ids
-abbrev pub numbers_of : List ReferenceTypeId → List ℕ
-numbers_of ids = map (λ (id : ReferenceTypeId). id.0) ids
-
-pub ids_one : (before old new : BTreeSet ℕ) (ids : List ReferenceTypeId) (i : ℕ) (d : ReferenceTypeId) → i < length ids → Gains before old (is_in (numbers_of (take i ids))) → Gains old new (λ n. (get_or ids i d).0 == n)
-    → Gains before new (is_in (numbers_of (take (i + 1) ids)))
-ids_one before old new ids i d lt first then_ =
-    let number = λ (id : ReferenceTypeId). id.0 in
-    gains_more before old new (is_in (numbers_of (take i ids))) (λ n. (get_or ids i d).0 == n) (is_in (numbers_of (take (i + 1) ids))) first then_
-    (λ n. any_map number (λ m. m == n) (take (i + 1) ids)
-    ∙ (list_any_more (λ (id : ReferenceTypeId). id.0 == n) ids i d lt ∙ ap (λ b. b || ((get_or ids i d).0 == n)) (sym (any_map number (λ m. m == n) (take i ids)))))
 
 pub above_found : (script : ScriptPart) (id : ℕ) (class : ClassPart) (old mid new : BTreeSet ℕ) → Some class ≡ class_in script id → Gains old mid (λ n. class.superclass == n) → Gains mid new (is_in class.interfaces)
     → Gains old new (is_above (class_in script id))

@@ -21,7 +21,7 @@ use jdwp_wire::NoMemory;
 use std::alloc::Global;
 
 /// More frames a thread never has.
-pub(crate) const MOST_FRAMES: usize = 256;
+const MOST_FRAMES: usize = 256;
 /// The status of a class that is verified and prepared.
 const READY: i32 = 3;
 

@@ -29,6 +29,9 @@ pub(crate) fn reached_within(
     let mut layer = Vec::new(alloc);
     find(&mut found, &mut layer, from.0)?;
     for _layers in 0..most {
+        if layer.is_empty() {
+            return Ok(found);
+        }
         layer = next_layer(alloc, script, &mut found, &layer)?;
     }
     Ok(found)

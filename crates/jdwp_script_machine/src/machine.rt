@@ -85,7 +85,6 @@ impl ScriptMachine {
     }
 }
 
-/// `step` answers `NoMemory`, too, where a call would put a 257th frame, of which `next` says that the thread has run out.
 impl Machine for ScriptMachine {
     ghost meaning = { script_meaning };
 

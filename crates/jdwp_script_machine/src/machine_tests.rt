@@ -2,7 +2,7 @@
 use crate::ScriptMachine;
 use jdwp_event::{Happening, Occurrence, Place};
 use jdwp_layout::{Answer, Data, Datum, Scalar};
-use jdwp_machine::{Machine, Query, is_among};
+use jdwp_machine::{Machine, Query, has_run_out, is_among};
 use jdwp_script::{Member, ScriptFault};
 use jdwp_value::{FrameId, Location, MethodId, ObjectId, ReferenceTypeId, TypeTag, Value};
 use jdwp_wire::{ErrorCode, Limits};
@@ -79,10 +79,16 @@ fn next(machine: &ScriptMachine, thread: u64) -> Result<Happening, Fail> {
     }
 }
 
-/// A step of a thread that lives.
+/// A step of a thread that lives and has not run out.
 fn step(machine: &mut ScriptMachine, thread: u64) -> Result<(), Fail> {
     if !is_among(ObjectId(thread), machine.live()) {
         return Err(Fail::from("the thread does not live"));
+    }
+    let Ok(happening) = machine.next(ObjectId(thread)) else {
+        return Err(Fail::from("no memory"));
+    };
+    if has_run_out(&happening) {
+        return Err(Fail::from("the thread has run out"));
     }
     match machine.step(ObjectId(thread)) {
         Ok(()) => Ok(()),
@@ -163,8 +169,6 @@ fn machine_a_steps(rt: HostRuntime) -> Result<(), Fail> {
             _ => false,
         }
     );
-    step(&mut machine, 1)?;
-    assert!(rt; is_run_out(&next(&machine, 1)?, 1));
     step(&mut machine, 1)?;
     assert!(rt; is_run_out(&next(&machine, 1)?, 1));
     end(&mut machine, 1)?;

@@ -1,25 +1,27 @@
 //! The state in which a script begins.
-ghost use Rattle.std.specs.Prelude.{◌≡◌, map, IfOk};
+ghost use Rattle.std.specs.Prelude.{◌≡◌, ℕ, map, IfOk, OnOk};
 ghost use Rattle.std.specs.List.{list_any};
-ghost use Rattle.jdwp_script.specs.Meanings.{class_part, step_part, thread_part, script_part};
+ghost use Rattle.jdwp_script.specs.Meanings.{step_part, script_part};
 ghost use Rattle.jdwp_script_machine.specs.States.{some_step, starts_thread, prepares_class, opening_thread, opening_class, opening};
+ghost use Rattle.jdwp_script_machine.specs.Layers.{Holds, Gains};
 ghost use Rattle.jdwp_script_machine.specs.StateMeanings.{thread_now, class_now, state_now};
-ghost use Rattle.jdwp_script_machine.specs.Sought.{names};
+ghost use Rattle.jdwp_script_machine.specs.Sought.{names, is_that, thread_at_opening, class_at_opening};
 
 use crate::arranging::arranged;
 use crate::state::{ClassState, Life, MachineState, ThreadState};
-use jdwp_script::{Class, Script, Step, Thread};
+use jdwp_script::{Script, Step};
 use jdwp_value::{ObjectId, ReferenceTypeId};
 use jdwp_wire::NoMemory;
 use std::alloc::Global;
+use std::collections::BTreeSet;
 
 /// What is looked for in the steps of a script.
 #[derive(Clone, Copy)]
 pub(crate) enum Sought {
-    /// A start of this thread.
-    StartOf(ObjectId),
-    /// That this class is prepared.
-    PreparingOf(ReferenceTypeId),
+    /// The threads that are started.
+    Starts,
+    /// The classes that are prepared.
+    Prepares,
 }
 
 /// The state in which the script begins. A thread that a step starts waits for it, and a class that a step prepares is
@@ -31,8 +33,10 @@ pub(crate) fn opening(alloc: Global, script: Script) -> Result<MachineState, NoM
     ensures { IfOk result (λ s. state_now s ≡ opening (script_part script)) }
 {
     let script = arranged(alloc, script)?;
-    let threads = threads_of(alloc, &script)?;
-    let classes = classes_of(alloc, &script)?;
+    let started = named_in(alloc, &script, Sought::Starts)?;
+    let threads = threads_of(alloc, &script, &started)?;
+    let prepared = named_in(alloc, &script, Sought::Prepares)?;
+    let classes = classes_of(alloc, &script, &prepared)?;
     Ok(MachineState {
         script,
         threads,
@@ -40,98 +44,98 @@ pub(crate) fn opening(alloc: Global, script: Script) -> Result<MachineState, NoM
     })
 }
 
-fn threads_of(alloc: Global, script: &Script) -> Result<Vec<ThreadState>, NoMemory>
+fn threads_of(
+    alloc: Global,
+    script: &Script,
+    started: &BTreeSet<u64>,
+) -> Result<Vec<ThreadState>, NoMemory>
+    requires { Holds started.now (λ t. some_step (starts_thread t) (script_part script.now)) }
     ensures { IfOk result (λ es. map thread_now es.items ≡ map (opening_thread (script_part script.now)) (script_part script.now).threads) }
 {
     let mut threads = Vec::new(alloc);
     for thread in &script.threads {
-        threads.push(opening_thread(alloc, script, thread))?;
+        let is_started = started.contains(&thread.id.0);
+        threads.push(opening_thread(alloc, thread.id, is_started))?;
     }
     Ok(threads)
 }
 
-fn opening_thread(alloc: Global, script: &Script, thread: &Thread) -> ThreadState
-    ensures { thread_now result ≡ opening_thread (script_part script.now) (thread_part thread.now) }
+fn opening_thread(alloc: Global, id: ObjectId, is_started: bool) -> ThreadState
+    ensures { thread_now result ≡ thread_at_opening id.0 is_started }
 {
-    let life = if some_step(script, Sought::StartOf(thread.id)) {
-        Life::Waits
-    } else {
-        Life::Lives
-    };
     ThreadState {
-        id: thread.id,
-        life,
+        id,
+        life: if is_started { Life::Waits } else { Life::Lives },
         made: 0,
         frames: Vec::new(alloc),
     }
 }
 
-fn classes_of(alloc: Global, script: &Script) -> Result<Vec<ClassState>, NoMemory>
+fn classes_of(
+    alloc: Global,
+    script: &Script,
+    prepared: &BTreeSet<u64>,
+) -> Result<Vec<ClassState>, NoMemory>
+    requires { Holds prepared.now (λ c. some_step (prepares_class c) (script_part script.now)) }
     ensures { IfOk result (λ cs. map class_now cs.items ≡ map (opening_class (script_part script.now)) (script_part script.now).classes) }
 {
     let mut classes = Vec::new(alloc);
     for class in &script.classes {
-        classes.push(opening_class(script, class))?;
+        let is_prepared_later = prepared.contains(&class.id.0);
+        classes.push(opening_class(class.id, is_prepared_later))?;
     }
     Ok(classes)
 }
 
-fn opening_class(script: &Script, class: &Class) -> ClassState
-    ensures { class_now result ≡ opening_class (script_part script.now) (class_part class.now) }
+fn opening_class(id: ReferenceTypeId, is_prepared_later: bool) -> ClassState
+    ensures { class_now result ≡ class_at_opening id.0 is_prepared_later }
 {
     ClassState {
-        id: class.id,
-        is_prepared: !some_step(script, Sought::PreparingOf(class.id)),
+        id,
+        is_prepared: !is_prepared_later,
     }
 }
 
-/// Whether a step of some thread is the one that is looked for.
-fn some_step(script: &Script, sought: Sought) -> bool
-    ensures { result ≡ some_step (names sought) (script_part script.now) }
+/// The ids that steps of the script name so.
+fn named_in(alloc: Global, script: &Script, sought: Sought) -> Result<BTreeSet<u64>, NoMemory>
+    ensures { IfOk result (λ found. Holds found (λ n. some_step (names sought n) (script_part script.now))) }
 {
+    let mut found = BTreeSet::new(alloc);
     for thread in &script.threads {
-        if has_step(&thread.steps, sought) {
-            return true;
-        }
+        add_named(&mut found, &thread.steps, sought)?;
     }
-    false
+    Ok(found)
 }
 
-fn has_step(steps: &[Step], sought: Sought) -> bool
-    ensures { result ≡ list_any (names sought) (map step_part steps.now) }
+/// Adds the ids that the steps name so.
+fn add_named(found: &mut BTreeSet<u64>, steps: &[Step], sought: Sought) -> Result<(), NoMemory>
+    ensures { OnOk result (Gains found.old found.new (λ n. list_any (names sought n) (map step_part steps.now))) }
 {
     for step in steps {
-        if names(step, sought) {
-            return true;
+        add(found, named_by(step, sought))?;
+    }
+    Ok(())
+}
+
+fn add(found: &mut BTreeSet<u64>, id: Option<u64>) -> Result<(), NoMemory>
+    ensures { OnOk result (Gains found.old found.new (λ n. is_that n id)) }
+{
+    match id {
+        None => Ok(()),
+        Some(id) => {
+            found.insert(id)?;
+            Ok(())
         }
     }
-    false
 }
 
-/// Whether the step is the one that is looked for.
-fn names(step: &Step, sought: Sought) -> bool
-    ensures { result ≡ names sought (step_part step.now) }
+/// The id that a step names so.
+fn named_by(step: &Step, sought: Sought) -> Option<u64>
+    ensures { (n : ℕ) → names sought n (step_part step.now) ≡ is_that n result }
 {
-    match sought {
-        Sought::StartOf(thread) => starts(step, thread),
-        Sought::PreparingOf(class) => prepares(step, class),
-    }
-}
-
-fn starts(step: &Step, thread: ObjectId) -> bool
-    ensures { result ≡ starts_thread thread.0 (step_part step.now) }
-{
-    match step {
-        Step::Start(started) => started.0 == thread.0,
-        Step::Call(_) | Step::Go(_) | Step::Return(_) | Step::Throw(_) | Step::Prepare(_) => false,
-    }
-}
-
-fn prepares(step: &Step, class: ReferenceTypeId) -> bool
-    ensures { result ≡ prepares_class class.0 (step_part step.now) }
-{
-    match step {
-        Step::Prepare(prepared) => prepared.0 == class.0,
-        Step::Call(_) | Step::Go(_) | Step::Return(_) | Step::Throw(_) | Step::Start(_) => false,
+    match (sought, step) {
+        (Sought::Starts, Step::Start(thread)) => Some(thread.0),
+        (Sought::Prepares, Step::Prepare(class)) => Some(class.0),
+        _ => None,
     }
 }

@@ -1,15 +1,16 @@
 //! The step of a thread, and its end.
-ghost use Rattle.std.specs.Prelude.{◌≡◌, ℕ, ◌==◌, ◌<◌, ◌≤◌, ◌+◌, ◌^◌, false, length, map, drop, OnOk, OnErr, IfOk, IfSome};
+ghost use Rattle.std.specs.Prelude.{◌≡◌, ℕ, ◌==◌, ◌<◌, ◌+◌, ◌^◌, false, map, drop, OnOk, OnErr, IfOk, IfSome};
 ghost use Rattle.std.specs.List.{IsDistinct};
+ghost use Rattle.jdwp_event.specs.Occurrences.{runs_out};
 ghost use Rattle.jdwp_script.specs.Meanings.{call_part, step_part};
 ghost use Rattle.jdwp_script_machine.specs.LookUps.{with_id, changed, first_changed};
 ghost use Rattle.jdwp_script_machine.specs.States.{ThreadNow, ClassNow};
 ghost use Rattle.jdwp_script_machine.specs.StateMeanings.{frame_now, thread_now, class_now, state_now};
 ghost use Rattle.jdwp_script_machine.specs.StateMeanings.{slot_now as slot_state_now};
 ghost use Rattle.jdwp_script_machine.specs.Sound.{thread_ids, IsSound};
-ghost use Rattle.jdwp_script_machine.specs.Steps.{called, moved, frames_after, after_step, alive, with_started, ready, with_prepared, gone, stepped, ended, slot_now, FRAME_LIMIT};
+ghost use Rattle.jdwp_script_machine.specs.Steps.{called, moved, frames_after, after_step, alive, with_started, ready, with_prepared, gone, stepped, ended, slot_now, next};
 
-use crate::happening::{MOST_FRAMES, next_step};
+use crate::happening::next_step;
 use crate::look_ups::with_id;
 use crate::state::{ClassState, FrameState, Life, MachineState, SlotState, ThreadState};
 use jdwp_script::{Call, SlotValue, Step};
@@ -17,17 +18,17 @@ use jdwp_value::{ObjectId, ReferenceTypeId};
 use jdwp_wire::NoMemory;
 use std::alloc::Global;
 
-/// Makes the next step of a thread, if one is left.
+/// Makes the next step of a thread that has not run out.
 ///
 /// # Errors
-/// `NoMemory` where an allocation was refused, or where a call would put more frames than may be; then nothing has
-/// changed.
+/// `NoMemory` where an allocation was refused; then nothing has changed.
 pub(crate) fn step(
     alloc: Global,
     state: &mut MachineState,
     thread: ObjectId,
 ) -> Result<(), NoMemory>
-    requires { IsSound (state_now state.old) }
+    requires sound { IsSound (state_now state.old) }
+    requires runs { runs_out (next (state_now state.old) thread.0) ≡ false }
     ensures ok { OnOk result (state_now state.new ≡ stepped (state_now state.old) thread.0) }
     ensures err { OnErr result (state_now state.new ≡ state_now state.old) }
     ensures sound { IsSound (state_now state.new) }
@@ -38,22 +39,8 @@ pub(crate) fn step(
     let Some(step) = next_step(&state.script, entry) else {
         return Ok(());
     };
-    if is_full(&entry.frames, step) {
-        return Err(NoMemory);
-    }
     make(alloc, &mut state.threads, &mut state.classes, thread, step)?;
     Ok(())
-}
-
-/// Whether the step would put more frames than may be.
-#[tactic(auto, using(crate::specs::SoundLaws::moved_length, crate::specs::SoundLaws::dropped_length))]
-fn is_full(frames: &[FrameState], step: &Step) -> bool
-    ensures { result ≡ false → length frames.now ≤ FRAME_LIMIT → length (frames_after (step_part step.now) (map frame_now frames.now)) ≤ FRAME_LIMIT }
-{
-    match step {
-        Step::Call(_) => frames.len() >= MOST_FRAMES,
-        Step::Go(_) | Step::Return(_) | Step::Throw(_) | Step::Prepare(_) | Step::Start(_) => false,
-    }
 }
 
 /// Makes a step of a thread: in its frames, and in the thread that it starts or the class that it prepares.

@@ -1,4 +1,4 @@
-use Rattle.std.proofs.Common.{◌≡◌, ◌∙◌, map}
+use Rattle.std.proofs.Common.{◌∙◌, map}
 use Rattle.jdwp_script_machine.proofs.Rising.{put_all_none, put_one}
 use Rattle.jdwp_script_machine.proofs.arranging.rising.Goals as goal
 

@@ -1,4 +1,4 @@
-use Rattle.std.proofs.Common.{◌≡◌, ◌≤◌, length, map, refl, sym}
+use Rattle.std.proofs.Common.{refl, sym}
 use Rattle.std.proofs.lemmas.List.{length-map}
 use Rattle.jdwp_script_machine.specs.States.{ThreadNow}
 use Rattle.jdwp_script_machine.specs.StateMeanings.{thread_now, state_now}

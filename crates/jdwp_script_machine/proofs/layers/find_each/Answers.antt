@@ -1,4 +1,4 @@
-use Rattle.jdwp_script_machine.proofs.Reaches.{ids_one}
+use Rattle.jdwp_script_machine.proofs.Sets.{ids_one}
 use Rattle.jdwp_script_machine.proofs.layers.find_each.Goals as goal
 
 pub loop-id-preserved : goal.loop-id-preserved

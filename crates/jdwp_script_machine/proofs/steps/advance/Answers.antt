@@ -1,4 +1,4 @@
-use Rattle.std.proofs.Common.{◌≡◌, ◌∙◌, ◌<◌, List, length, map, refl, ap, arith}
+use Rattle.std.proofs.Common.{◌∙◌, ◌<◌, List, length, map, refl, ap, arith}
 use Rattle.std.proofs.lemmas.Result.{err_from_is_err_and}
 use Rattle.jdwp_script.specs.Meanings.{step_part}
 use Rattle.jdwp_script_machine.specs.declared.state.ThreadState.{ThreadState}

@@ -1,4 +1,4 @@
-use Rattle.std.proofs.Common.{◌≡◌, ◌∙◌, ap, map}
+use Rattle.std.proofs.Common.{◌∙◌, ap, map}
 use Rattle.jdwp_script.specs.Meanings.{step_part}
 use Rattle.jdwp_script_machine.specs.StateMeanings.{thread_now}
 use Rattle.jdwp_script_machine.specs.Steps.{with_started}

@@ -1,13 +1,13 @@
-use Rattle.std.proofs.Common.{◌≡◌, ◌≤◌, ◌∙◌, List, length, map, ap, sym, subst, arith}
-use Rattle.std.proofs.lemmas.List.{length-map, with_items_is}
+use Rattle.std.proofs.Common.{◌≡◌, ◌∙◌, List, length, map, ap, sym, subst, arith}
+use Rattle.std.proofs.lemmas.List.{with_items_is}
 use Rattle.jdwp_script.specs.Meanings.{step_part}
 use Rattle.jdwp_script_machine.specs.declared.state.ThreadState.{ThreadState}
 use Rattle.jdwp_script_machine.specs.declared.state.ClassState.{ClassState}
-use Rattle.jdwp_script_machine.specs.States.{ThreadNow, State}
+use Rattle.jdwp_script_machine.specs.States.{State}
 use Rattle.jdwp_script_machine.specs.StateMeanings.{thread_now, class_now, state_now}
-use Rattle.jdwp_script_machine.specs.Sound.{ThreadNowIsSound, IsSound}
-use Rattle.jdwp_script_machine.specs.SoundLaws.{all_found}
-use Rattle.jdwp_script_machine.proofs.Changes.{stepped_is, stepped_is_sound}
+use Rattle.jdwp_script_machine.specs.Sound.{IsSound}
+use Rattle.jdwp_script_machine.specs.SoundLaws.{stepped_sound}
+use Rattle.jdwp_script_machine.proofs.Changes.{stepped_is}
 use Rattle.jdwp_script_machine.proofs.steps.step.Goals as goal
 
 pub returns-clause-ok : goal.returns-clause-ok
@@ -22,9 +22,4 @@ returns-clause-ok c =
 
 pub returns-clause-sound : goal.returns-clause-sound
 returns-clause-sound c =
-    let s = state_now c.args.state.now in
-    let found = rw c.deref.ensures.value at c.in-Some.ensures in
-    let own = all_found (λ (e : ThreadNow). e.id) (ThreadNowIsSound s.script.sizes) s.threads c.args.thread.0 (thread_now c.in-Some.entry.now) c.requires.each_thread (sym found) in
-    let few = rw length-map at own.frames in
-    let room = rw c.deref-2.ensures.value at (c.is_full.ensures c.if-is_full.false) in
-    subst (λ (s : State). IsSound s) (sym (returns-clause-ok c)) (stepped_is_sound s c.args.thread.0 (thread_now c.in-Some.entry.now) (step_part c.in-Some-next_step.step.now) c.requires found c.in-Some-next_step.ensures.step (room few))
+    subst (λ (s : State). IsSound s) (sym (returns-clause-ok c)) (stepped_sound (state_now c.args.state.now) c.args.thread.0 c.requires.sound c.requires.runs)

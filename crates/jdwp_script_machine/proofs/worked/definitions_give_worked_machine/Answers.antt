@@ -1,5 +1,4 @@
 use Rattle.std.proofs.Common.{refl}
-use Rattle.jdwp_script_machine.specs.Worked.{StepsAreWorked, AnswersAreWorked, SlotsAreWorked}
 use Rattle.jdwp_script_machine.proofs.worked.definitions_give_worked_machine.Goals as goal
 
 pub returns-clause-steps : goal.returns-clause-steps

@@ -1,7 +1,7 @@
-use Rattle.std.proofs.Common.{◌≡◌, ◌∙◌, List, length, map, sym, ap, subst, arith}
+use Rattle.std.proofs.Common.{◌≡◌, ◌∙◌, length, sym, ap, subst, arith}
 use Rattle.std.proofs.lemmas.List.{length-map, with_items_is}
 use Rattle.jdwp_script_machine.specs.States.{State}
-use Rattle.jdwp_script_machine.specs.StateMeanings.{thread_now, state_now}
+use Rattle.jdwp_script_machine.specs.StateMeanings.{state_now}
 use Rattle.jdwp_script_machine.specs.Sound.{IsSound}
 use Rattle.jdwp_script_machine.specs.SoundLaws.{ended_sound}
 use Rattle.jdwp_script_machine.proofs.Machines.{machine_is}

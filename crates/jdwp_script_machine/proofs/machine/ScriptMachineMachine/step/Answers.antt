@@ -1,4 +1,4 @@
-use Rattle.std.proofs.Common.{◌≡◌, ◌∙◌, List, length, map, sym, ap, arith}
+use Rattle.std.proofs.Common.{◌≡◌, ◌∙◌, List, length, sym, ap, arith}
 use Rattle.std.proofs.lemmas.List.{length-map, with_items_is}
 use Rattle.jdwp_value.specs.declared.id.ObjectId.{ObjectId}
 use Rattle.jdwp_script.specs.Parts.{ScriptPart}
