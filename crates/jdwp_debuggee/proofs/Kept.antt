@@ -1,4 +1,5 @@
 -- what the code keeps stays
+use Rattle.jdwp_wire.specs.Numbers.{greatest_int}
 use Rattle.std.proofs.Common.{◌≡◌, ◌≤◌, ◌==◌, ◌+◌, ◌-◌, cond, ℕ, Bool, true, false, Option, Some, [], length, refl, sym, ◌∙◌, ap, subst, arith}
 use Rattle.jdwp_machine.specs.Meanings.{Meaning, has}
 use Rattle.jdwp_machine.specs.Laws.{IsLawful, AreDistinct}
@@ -15,9 +16,9 @@ use Rattle.jdwp_debuggee.specs.Steps.{raised_by}
 use Rattle.jdwp_debuggee.proofs.Happenings.{raised-by-most}
 use Rattle.jdwp_debuggee.proofs.Commands.{lowered-most, only-most, raised-most, sound_counts}
 
-pub most-of : {S : Type 0} (m : Meaning S) (d : Debuggee S) → IsKept m d → AllAtMost 2147483647 d.moment.state.threads
+pub most-of : {S : Type 0} (m : Meaning S) (d : Debuggee S) → IsKept m d → AllAtMost greatest_int d.moment.state.threads
 most-of m d k =
-    at-most-more d.settings.count_limit 2147483647 d.moment.state.threads k.limit.1
+    at-most-more d.settings.count_limit greatest_int d.moment.state.threads k.limit.1
     (all-at-most d.settings.count_limit d.moment.state.threads k.distinct k.sound.at_most)
 
 pub kept-new : {S : Type 0} (m : Meaning S) → IsLawful m → (settings : Settings) (s : S) → m.is_state s → IsCountLimit settings.count_limit → AreRoomy settings.limits → IsKept m (record { settings = settings; moment = record { state = new_state (m.live s); machine = s } })

@@ -1,4 +1,5 @@
 -- what the code keeps stays at Set and at Exit
+use Rattle.jdwp_wire.specs.Numbers.{greatest_int}
 use Rattle.std.proofs.Common.{◌≡◌, ◌≤◌, ◌<◌, ◌+◌, ℕ, Bool, true, false, ◌||◌, Option, Some, None, List, [], ◌∷◌, ◌++◌, length, drop, get_or, zero, suc, refl, sym, ◌∙◌, ap, subst, arith}
 use Rattle.std.specs.Prelude.{nat_le, nat_lt}
 use Rattle.std.proofs.lemmas.Bool.{eq-eqb}
@@ -57,7 +58,7 @@ set-few m settings now byte policy modifiers h =
     let d : nat_lt (length now.state.requests) settings.limits.requests ≡ true = and-left (nat_lt (length now.state.requests) settings.limits.requests) _ (unless-none _ _ c) in
     grind (arith, nat_tests)
 
-pub set-room : {S : Type 0} (m : Meaning S) (settings : Settings) (now : Moment S) (byte policy : ℕ) (modifiers : List ModifierMeaning) → set_refusal m settings now byte policy modifiers ≡ None → now.state.next_request ≤ 2147483647
+pub set-room : {S : Type 0} (m : Meaning S) (settings : Settings) (now : Moment S) (byte policy : ℕ) (modifiers : List ModifierMeaning) → set_refusal m settings now byte policy modifiers ≡ None → now.state.next_request ≤ greatest_int
 set-room m settings now byte policy modifiers h =
     let a = second-none (kind_refusal byte) _ h in
     let b = second-none _ _ a in
@@ -71,7 +72,7 @@ made m now byte policy modifiers = new_request (asked now.state byte policy modi
 
 pub kept-set : {S : Type 0} (m : Meaning S) (d : Debuggee S) (byte policy : ℕ) (entries : List (List ScalarMeaning)) → IsKept m d → set_refusal m d.settings d.moment byte policy (modifiers_of entries) ≡ None → IsKept m (at_moment (set_by m d.moment byte policy (modifiers_of entries) None).after d)
 kept-set m d byte policy entries k h =
-    let room : d.moment.state.next_request ≤ 2147483647 = set-room m d.settings d.moment byte policy (modifiers_of entries) h in
+    let room : d.moment.state.next_request ≤ greatest_int = set-room m d.settings d.moment byte policy (modifiers_of entries) h in
     record {
       sound = (set-does m d.settings d.moment byte policy entries None k.sound).sound;
       distinct = k.distinct;

@@ -1,4 +1,5 @@
 -- what the code keeps stays at a step
+use Rattle.jdwp_wire.specs.Numbers.{greatest_int}
 use Rattle.std.proofs.Common.{◌≡◌, ◌≤◌, ◌==◌, ℕ, Bool, true, false, not, ◌&&◌, Option, Some, None, List, [], ◌∷◌, length, suc, refl, sym, ◌∙◌, ap, subst, arith, is_some}
 use Rattle.std.specs.List.{filter}
 use Rattle.std.proofs.lemmas.Bool.{eqb-true, false_from_ne_true}
@@ -234,8 +235,8 @@ with-new-most None k ts a = a
 with-new-most (Some n) k [] a = (omega arith, tt)
 with-new-most (Some n) k (p ∷ ps) a = (a.0, with-new-most (Some n) k ps a.1)
 
-pub most-started : {S : Type 0} (m : Meaning S) (d : Debuggee S) (o : Option ℕ) → IsKept m d → AllAtMost 2147483647 (with_new o d.moment.state.threads)
-most-started m d o k = with-new-most o 2147483647 d.moment.state.threads (most-of m d k)
+pub most-started : {S : Type 0} (m : Meaning S) (d : Debuggee S) (o : Option ℕ) → IsKept m d → AllAtMost greatest_int (with_new o d.moment.state.threads)
+most-started m d o k = with-new-most o greatest_int d.moment.state.threads (most-of m d k)
 
 pub kept-marked : {S : Type 0} (m : Meaning S) → IsLawful m → (d : Debuggee S) (t : ℕ) (ts : List Thread) (rs : List Request) (b : Bool) → IsKept m d → may_step m d.settings d.moment t ≡ true → is_marked d.moment.state t ≡ true → ts ≡ filter (is_other t) d.moment.state.threads → b ≡ (length ts == 0) → rs ≡ unless_last b d.moment.state.requests
     → IsKept m (at_moment (record { state = record d.moment.state { threads = ts; requests = rs; alive = not b }; machine = m.ended d.moment.machine t }) d)

@@ -13,7 +13,7 @@ use Rattle.jdwp_debuggee.specs.Answers.{done}
 use Rattle.jdwp_debuggee.specs.Actions.{Action, Command, action_of}
 use Rattle.jdwp_debuggee.specs.Debuggees.{CarriesOut, Debuggee, at_moment}
 use Rattle.jdwp_debuggee.specs.CommandReads.{question_by}
-use Rattle.jdwp_debuggee.specs.Effects.{does, frames_by, thread_by}
+use Rattle.jdwp_debuggee.specs.Effects.{carried, frames_by, thread_by}
 use Rattle.jdwp_debuggee.specs.Settings.{Settings}
 use Rattle.jdwp_debuggee.specs.State.{Moment}
 use Rattle.jdwp_machine.specs.declared.query.Query.{Query}
@@ -46,8 +46,8 @@ pub written-done : {S : Type 0} (m : Meaning S) (s : S) (content : List DatumMea
 written-done m s content h = ap Data (nothing-fits (m.sizes s) content h)
 
 record Did-by {S : Type 0} (m : Meaning S) (c : Command) (a : Action) (old new : Debuggee S) (r : Reply) : Type 0 where
-  pub after : new ≡ at_moment (does m old.settings old.moment c a).after old
-  pub answers : reply_meaning r ≡ (does m old.settings old.moment c a).answer
+  pub after : new ≡ at_moment (carried m old.settings old.moment c a).after old
+  pub answers : reply_meaning r ≡ (carried m old.settings old.moment c a).answer
 
 -- what is answered without memory is short
 pub short-length : (w : Widths) (reply : Reply) → length (sent_bytes w (sent.Short reply)) ≤ 20
@@ -71,12 +71,12 @@ short-did {S = S} m c a old new r is k =
 -- ---- questions
 
 -- a question that was answered
-pub ask-did : {S : Type 0} (m : Meaning S) (c : Command) (a : Action) (d : Debuggee S) (x : Sent) → a ≡ action_of c → (does m d.settings d.moment c a).after ≡ d.moment
-    → IsSent (m.sizes d.moment.machine) (does m d.settings d.moment c a).answer x
+pub ask-did : {S : Type 0} (m : Meaning S) (c : Command) (a : Action) (d : Debuggee S) (x : Sent) → a ≡ action_of c → (carried m d.settings d.moment c a).after ≡ d.moment
+    → IsSent (m.sizes d.moment.machine) (carried m d.settings d.moment c a).answer x
     → (2048 ≤ d.settings.limits.packet → 11 + length (sent_bytes (m.sizes d.moment.machine) x) ≤ d.settings.limits.packet) → Did m c d d x
 ask-did {S = S} m c a d x is same sends fits =
-    let by : (b : Action) → a ≡ b → ((does m d.settings d.moment c b).after ≡ d.moment) × IsSent (m.sizes d.moment.machine) (does m d.settings d.moment c b).answer x =
-    λ b h. subst (λ (y : Action). ((does m d.settings d.moment c y).after ≡ d.moment) × IsSent (m.sizes d.moment.machine) (does m d.settings d.moment c y).answer x) h (same, sends) in
+    let by : (b : Action) → a ≡ b → ((carried m d.settings d.moment c b).after ≡ d.moment) × IsSent (m.sizes d.moment.machine) (carried m d.settings d.moment c b).answer x =
+    λ b h. subst (λ (y : Action). ((carried m d.settings d.moment c y).after ≡ d.moment) × IsSent (m.sizes d.moment.machine) (carried m d.settings d.moment c y).answer x) h (same, sends) in
     let p = by (action_of c) is in
     record {
       after = ap (λ (y : Moment S). at_moment y d) (sym p.0);

@@ -5,7 +5,7 @@ use Rattle.jdwp_layout.specs.declared.answer.Answer.{Answer}
 use Rattle.jdwp_machine.specs.Meanings.{Meaning}
 use Rattle.jdwp_machine.specs.Laws.{AreDistinct}
 use Rattle.jdwp_debuggee.specs.Actions.{Action, Command}
-use Rattle.jdwp_debuggee.specs.Effects.{does}
+use Rattle.jdwp_debuggee.specs.Effects.{carried}
 use Rattle.jdwp_debuggee.specs.Facts.{IsSound}
 use Rattle.jdwp_debuggee.specs.Settings.{Settings, IsCountLimit}
 use Rattle.jdwp_debuggee.specs.State.{State, Moment, count_of, ids}
@@ -40,5 +40,5 @@ pub record IsKept {S : Type 0} (m : Meaning S) (d : Debuggee S) : Type 0 where
 
 -- a command of this action was carried out: what became of the debuggee, and what is answered
 pub record CarriesOut {S : Type 0} (m : Meaning S) (action : Action) (old new : Debuggee S) (answer : Answer) : Type 0 where
-  pub after : (c : Command) → new ≡ at_moment (does m old.settings old.moment c action).after old
-  pub answers : (c : Command) → answer ≡ (does m old.settings old.moment c action).answer
+  pub after : (c : Command) → new ≡ at_moment (carried m old.settings old.moment c action).after old
+  pub answers : (c : Command) → answer ≡ (carried m old.settings old.moment c action).answer

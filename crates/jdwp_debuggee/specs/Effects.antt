@@ -161,6 +161,29 @@ does m settings now c Actions.AllThreads = answered now (bounded settings (m.siz
 does m settings now c Actions.IdSizes = answered now (sizes_answer (m.sizes now.machine))
 does m settings now c Actions.Ask = answered now (bounded settings (m.sizes now.machine) (m.query now.machine (query_of c)))
 
+-- ---- before the first handshake
+
+-- the actions by which a suspend count rises
+abbrev pub raises_counts : Action → Bool
+raises_counts Actions.Suspend = true
+raises_counts (Actions.SuspendThread t) = true
+raises_counts action = false
+
+-- whether it is too early for them
+abbrev pub is_early : State → Action → Bool
+is_early state action = raises_counts action && not state.handshaken
+
+abbrev pub carried_by : {S : Type 0} → Meaning S → Settings → Moment S → Command → Action → Bool → Effect S
+carried_by m settings now c action true = refused now INTERNAL
+carried_by m settings now c action false = does m settings now c action
+
+-- An action is carried out at any moment. VM_START, which follows the first handshake, may suspend every thread: until then no thread is
+-- suspended, and what would suspend one is refused with INTERNAL. No command comes before the handshake, so a session meets this nowhere.
+abbrev pub carried : {S : Type 0} → Meaning S → Settings → Moment S → Command → Action → Effect S
+carried m settings now c action = carried_by m settings now c action (is_early now.state action)
+
+-- ---- the effect of a command
+
 abbrev pub effect_by : {S : Type 0} → Meaning S → Settings → Moment S → Command → Bool → Effect S
 effect_by m settings now c false = refused now NOT_IMPLEMENTED
 effect_by m settings now c true = does m settings now c (action_of c)

@@ -1,5 +1,6 @@
 -- Which event requests are refused, and why (JDWP specification, "Protocol Details": EventRequest.Set). The tests are made in this
 -- order, and the first that fails is the answer.
+use Rattle.jdwp_wire.specs.Numbers.{greatest_int}
 use Rattle.std.specs.Prelude.{ℕ, ℤ, pos, ◌==◌, nat_le, nat_lt, int_lt, Bool, true, false, ◌||◌, ◌&&◌, not, List, [], ◌∷◌, length, Option, Some, None, if◌then◌else◌}
 use Rattle.std.specs.Ordering.{int_eq}
 use Rattle.std.specs.List.{list_any, filter}
@@ -54,7 +55,7 @@ kind_refusal byte = kind_refusal_by byte (kind_of_byte byte)
 
 -- the greatest id of a request, which is an int on the wire
 abbrev pub LAST_REQUEST : ℕ
-LAST_REQUEST = 2147483647
+LAST_REQUEST = greatest_int
 
 abbrev pub room_refusal : Settings → State → Option ErrorCode
 room_refusal settings state = unless (nat_lt (length state.requests) settings.limits.requests && nat_le state.next_request LAST_REQUEST) INTERNAL

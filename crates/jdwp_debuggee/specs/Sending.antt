@@ -18,7 +18,7 @@ use Rattle.jdwp_debuggee.specs.Actions
 use Rattle.jdwp_debuggee.specs.Actions.{Action, Command, action_of}
 use Rattle.jdwp_debuggee.specs.CommandReads.{Asking}
 use Rattle.jdwp_debuggee.specs.Debuggees.{Debuggee, at_moment}
-use Rattle.jdwp_debuggee.specs.Effects.{does}
+use Rattle.jdwp_debuggee.specs.Effects.{carried}
 use Rattle.jdwp_debuggee.specs.Replies.{reply_meaning}
 use Rattle.jdwp_debuggee.specs.declared.reply.Sent.{Sent}
 use Rattle.jdwp_debuggee.specs.declared.reply.Sent.TheVariants as sent
@@ -50,8 +50,8 @@ pub record IsSent (w : Widths) (answer : Answer) (sent : Sent) : Type 0 where
 
 -- A command was carried out: what became of the debuggee, and what is sent, which fits a packet.
 pub record Did {S : Type 0} (m : Meaning S) (c : Command) (old new : Debuggee S) (sent : Sent) : Type 0 where
-  pub after : new ≡ at_moment (does m old.settings old.moment c (action_of c)).after old
-  pub sends : IsSent (m.sizes old.moment.machine) (does m old.settings old.moment c (action_of c)).answer sent
+  pub after : new ≡ at_moment (carried m old.settings old.moment c (action_of c)).after old
+  pub sends : IsSent (m.sizes old.moment.machine) (carried m old.settings old.moment c (action_of c)).answer sent
   pub fits : 2048 ≤ old.settings.limits.packet → 11 + length (sent_bytes (m.sizes old.moment.machine) sent) ≤ old.settings.limits.packet
 
 -- the actions that want no memory

@@ -1,4 +1,5 @@
 -- What a debuggee is made with, and never changes.
+use Rattle.jdwp_wire.specs.Numbers.{greatest_int}
 use Rattle.std.specs.Prelude.{ℕ, ◌≤◌, Bool}
 use Rattle.jdwp_wire.specs.Limits.{Limits}
 
@@ -10,4 +11,4 @@ pub record Settings : Type 0 where
 
 -- a suspend count is a signed int on the wire
 abbrev pub IsCountLimit : ℕ → Type 0
-IsCountLimit n = (1 ≤ n) × (n ≤ 2147483647)
+IsCountLimit n = (1 ≤ n) × (n ≤ greatest_int)

@@ -1,5 +1,5 @@
 //! Commands that change the debuggee or ask it, each by its definition (JDWP specification, "Protocol Details").
-ghost use Rattle.std.specs.Prelude.{◌≡◌, true};
+ghost use Rattle.std.specs.Prelude.{◌≡◌};
 ghost use Rattle.jdwp_debuggee.specs.Actions as action;
 ghost use Rattle.jdwp_debuggee.specs.Debuggees.{CarriesOut};
 ghost use Rattle.jdwp_debuggee.specs.Replies.{reply_meaning};
@@ -12,12 +12,12 @@ use jdwp_value::ObjectId;
 use jdwp_wire::ErrorCode;
 
 impl<M: Machine> Debuggee<M> {
-    /// VirtualMachine.Suspend: every live thread's suspend count rises by one; `INTERNAL` where one stands at the count limit.
+    /// VirtualMachine.Suspend: every live thread's suspend count rises by one; `INTERNAL` where one stands at the count limit, and
+    /// before the first handshake.
     pub fn suspend(&mut self) -> Reply
-        requires { self.old.moment.state.handshaken ≡ true }
         ensures { CarriesOut M.meaning action.Suspend self.old self.new (reply_meaning result) }
     {
-        if self.threads.stands_at(self.settings.count_limit()) {
+        if !self.handshaken || self.threads.stands_at(self.settings.count_limit()) {
             return Reply::Refused(ErrorCode::INTERNAL);
         }
         self.threads.change(Change::Raise);
@@ -63,13 +63,13 @@ impl<M: Machine> Debuggee<M> {
         Reply::Sizes(self.machine.sizes())
     }
 
-    /// ThreadReference.Suspend: the thread's suspend count rises by one; `INVALID_THREAD` where it is not alive, `INTERNAL` where
-    /// it stands at the count limit.
+    /// ThreadReference.Suspend: the thread's suspend count rises by one; `INTERNAL` before the first handshake, `INVALID_THREAD`
+    /// where it is not alive, `INTERNAL` where it stands at the count limit.
     pub fn suspend_thread(&mut self, thread: ObjectId) -> Reply
-        requires { self.old.moment.state.handshaken ≡ true }
         ensures { CarriesOut M.meaning (action.SuspendThread thread.0) self.old self.new (reply_meaning result) }
     {
         match self.threads.count(thread) {
+            _ if !self.handshaken => Reply::Refused(ErrorCode::INTERNAL),
             None => Reply::Refused(ErrorCode::INVALID_THREAD),
             Some(count) if count == self.settings.count_limit() => {
                 Reply::Refused(ErrorCode::INTERNAL)

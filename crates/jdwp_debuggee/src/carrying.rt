@@ -35,7 +35,6 @@ impl Action {
 impl<M: Machine> Debuggee<M> {
     /// Carries out an action that wants no memory; None, and nothing changes, where it is none of those.
     fn carry_out_short(&mut self, action: &Action) -> Option<Reply>
-        requires { self.old.moment.state.handshaken ≡ true }
         ensures { MatchOption result
             ((is_short_action (action_meaning action.now) ≡ false) × (self.new ≡ self.old))
             (λ reply. (is_short_action (action_meaning action.now) ≡ true) × CarriesOut M.meaning (action_meaning action.now) self.old self.new (reply_meaning reply)) }
@@ -69,7 +68,6 @@ impl<M: Machine> Debuggee<M> {
     /// `NoMemory` where an allocation was refused, which those that `carry_out_short` carries out never answer; then nothing has
     /// changed.
     pub fn carry_out(&mut self, alloc: Global, action: Action) -> Result<Sent, NoMemory>
-        requires { self.old.moment.state.handshaken ≡ true }
         ensures ok { IfOk result (λ sent. (c : Command) → asking action ≡ asking_of c → Did M.meaning c self.old self.new sent) }
         ensures err { OnErr result (self.new ≡ self.old) }
         ensures memory { IfErr result (λ _. is_short_action (action_meaning action) ≡ false) }

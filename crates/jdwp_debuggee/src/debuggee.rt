@@ -1,5 +1,5 @@
 //! The debuggee: its threads, its event requests, and the machine that it runs.
-ghost use Rattle.std.specs.Prelude.{◌≡◌, false, None, IfOk};
+ghost use Rattle.std.specs.Prelude.{◌≡◌, ◌≤◌, ◌↔◌, false, None, IfNone, IfOk, IfSome, IsSome, OnSome};
 ghost use Rattle.jdwp_event.specs.Composites.{vm_start};
 ghost use Rattle.jdwp_event.specs.Constants.{policy_byte};
 ghost use Rattle.jdwp_machine.specs.Meanings.{numbers};
@@ -100,9 +100,10 @@ impl<M: Machine> Debuggee<M> {
         })
     }
 
-    /// The suspend count of a thread, or None where it is not alive.
+    /// The suspend count of a thread, 0 to the count limit, or None where it is not alive.
     pub fn count(&self, thread: ObjectId) -> Option<u32>
-        ensures { result ≡ spec.count_of self.now.moment.state thread.0 }
+        ensures value { result ≡ spec.count_of self.now.moment.state thread.0 }
+        ensures bound { IfSome result (λ count. count ≤ self.now.settings.count_limit) }
     {
         self.threads.count(thread)
     }
@@ -168,16 +169,21 @@ impl<M: Machine> Debuggee<M> {
         self.held = false;
     }
 
-    /// The first handshake of the target's life is completed. Answers what VM_START says; its policy ALL suspends every thread. The
-    /// id of its thread fits the width of object ids, and the event can be written and fits a packet.
-    pub fn handshake(&mut self) -> Start
-        requires { self.old.moment.state.handshaken ≡ false }
-        ensures state { self.new ≡ with_state (handshaken self.old.settings self.old.moment.state) self.old }
-        ensures says { vm_start (policy_byte result.policy) result.thread.0 ≡ start_event self.old.settings self.old.moment.state }
-        ensures packet { result.packet ≡ self.old.moment.state.next_packet }
-        ensures fits { id_refusal (M.meaning.sizes self.old.moment.machine).object result.thread.0 ≡ None }
-        ensures report { FitsPacket (M.meaning.sizes self.old.moment.machine) self.old.settings.limits.packet (start_event self.old.settings self.old.moment.state) }
+    /// A handshake is completed. The first of the target's life answers what VM_START says, whose policy ALL suspends every thread;
+    /// the id of its thread fits the width of object ids, and the event can be written and fits a packet. A later one is None, and
+    /// nothing changes.
+    pub fn handshake(&mut self) -> Option<Start>
+        ensures first { IsSome result ↔ self.old.moment.state.handshaken ≡ false }
+        ensures later { IfNone result (self.new ≡ self.old) }
+        ensures state { OnSome result (self.new ≡ with_state (handshaken self.old.settings self.old.moment.state) self.old) }
+        ensures says { IfSome result (λ start. vm_start (policy_byte start.policy) start.thread.0 ≡ start_event self.old.settings self.old.moment.state) }
+        ensures packet { IfSome result (λ start. start.packet ≡ self.old.moment.state.next_packet) }
+        ensures fits { IfSome result (λ start. id_refusal (M.meaning.sizes self.old.moment.machine).object start.thread.0 ≡ None) }
+        ensures report { OnSome result (FitsPacket (M.meaning.sizes self.old.moment.machine) self.old.settings.limits.packet (start_event self.old.settings self.old.moment.state)) }
     {
+        if self.handshaken {
+            return None;
+        }
         let start = Start {
             policy: start_policy(self.settings.start_all()),
             thread: self.threads.least(),
@@ -187,7 +193,7 @@ impl<M: Machine> Debuggee<M> {
             .change(Change::RaiseBy(start.policy.byte(), start.thread));
         self.handshaken = true;
         self.next_packet = self.next_packet.wrapping_add(1);
-        start
+        Some(start)
     }
 }
 

@@ -26,6 +26,3 @@ pub use reading::read_command;
 pub use reply::{Reply, Sent};
 pub use settings::Settings;
 pub use steps::StepDone;
-
-#[cfg(test)]
-mod reading_tests;

@@ -18,6 +18,7 @@ use jdwp_layout::numbers::{EVENT_REQUEST, REFERENCE_TYPE, SET_REQUEST, SIGNATURE
 use jdwp_layout::{Answer, Data, Datum, Scalar};
 use jdwp_machine::{Machine, Query};
 use jdwp_value::{Location, ObjectId, ReferenceTypeId};
+use jdwp_wire::number::GREATEST_INT;
 use jdwp_wire::{ErrorCode, NoMemory};
 use std::alloc::Global;
 
@@ -48,7 +49,7 @@ static WITHOUT_LOCATIONS: [EventKind; 6] = [
 ];
 
 /// The greatest id of a request, which is an int on the wire.
-const LAST_REQUEST: u32 = 2_147_483_647;
+const LAST_REQUEST: u32 = GREATEST_INT;
 
 /// What an event request asks for.
 #[derive(Clone, Copy)]

@@ -3,6 +3,7 @@ ghost use Rattle.std.specs.Prelude.{◌≡◌, ◌↔◌, IsSome, IfSome};
 ghost use Rattle.jdwp_debuggee.specs.Settings.{IsCountLimit};
 
 use jdwp_wire::Limits;
+use jdwp_wire::number::GREATEST_INT;
 use std::marker::Model;
 
 /// Whether all threads begin suspended, the greatest suspend count that a Suspend gives, and how much a session may hold.
@@ -33,7 +34,7 @@ impl Settings {
         ensures some { IsSome result ↔ IsCountLimit count_limit }
         ensures same { IfSome result (λ s. s ≡ record { start_all = start_all; count_limit = count_limit; limits = limits }) }
     {
-        if count_limit < 1 || count_limit > 2_147_483_647 {
+        if count_limit < 1 || count_limit > GREATEST_INT {
             return None;
         }
         Some(Settings {

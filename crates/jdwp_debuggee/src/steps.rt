@@ -1,5 +1,6 @@
 //! Steps of threads: what happens, what is sent, and who is suspended by it (JDWP specification, "Protocol Details": the command
 //! Composite of the set Event).
+ghost use Rattle.jdwp_wire.specs.Numbers.{greatest_int};
 ghost use Rattle.std.specs.Prelude.{◌≡◌, ◌≤◌, ◌==◌, true, false, length, IfOk, IfErr, OnOk, OnErr};
 ghost use Rattle.std.specs.List.{filter};
 ghost use Rattle.jdwp_event.specs.Composites.{gathered};
@@ -13,7 +14,7 @@ ghost use Rattle.jdwp_debuggee.specs.StepParts.{SendFits, Steps, StepsOrNot, is_
 use crate::debuggee::Debuggee;
 use crate::threads::{Change, Threads};
 use jdwp_event::{Composite, Happening, Occurrence, Requests, count_down, gather};
-use jdwp_machine::Machine;
+use jdwp_machine::{Machine, has_run_out};
 use jdwp_value::ObjectId;
 use jdwp_wire::NoMemory;
 use std::alloc::Global;
@@ -39,13 +40,6 @@ fn thread_started(happening: &Happening) -> Option<ObjectId>
     }
 }
 
-/// Whether the thread has run out.
-fn has_run_out(happening: &Happening) -> bool
-    ensures { result ≡ runs_out happening.now }
-{
-    matches!(happening.occurrence(), Occurrence::RanOut)
-}
-
 /// Adds a thread that starts.
 fn add_started(threads: &mut Threads, started: Option<ObjectId>) -> Result<(), NoMemory>
     ensures ok { OnOk result (threads.new ≡ with_new (number_of started) threads.old) }
@@ -59,7 +53,7 @@ fn add_started(threads: &mut Threads, started: Option<ObjectId>) -> Result<(), N
 
 /// Suspends the threads that the policy of what is sent suspends.
 fn suspend_for(threads: &mut Threads, sends: &Option<Composite>, event_thread: ObjectId)
-    requires { AllAtMost 2147483647 threads.old }
+    requires { AllAtMost greatest_int threads.old }
     ensures { threads.new ≡ raised_for sends.now event_thread.0 threads.old }
 {
     if let Some(composite) = sends {

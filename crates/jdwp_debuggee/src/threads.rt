@@ -1,4 +1,5 @@
 //! The live threads and their suspend counts.
+ghost use Rattle.jdwp_wire.specs.Numbers.{greatest_int};
 ghost use Rattle.std.specs.Prelude.{◌≡◌, ◌≤◌, ◌==◌, ◌++◌, ◌∷◌, [], map, length, take, false, OnOk, OnErr, IfOk};
 ghost use Rattle.std.specs.List.{list_any, filter};
 ghost use Rattle.jdwp_machine.specs.Meanings.{numbers};
@@ -42,7 +43,7 @@ pub(crate) enum Change {
 impl Change {
     /// The count of this thread after the change.
     fn apply(self, thread: ObjectId, count: u32) -> u32
-        requires { count ≤ 2147483647 }
+        requires { count ≤ greatest_int }
         ensures { result ≡ change_of self thread.0 count }
     {
         match self {
@@ -60,7 +61,7 @@ impl Change {
 
 impl ThreadEntry {
     fn change(&mut self, change: Change)
-        requires { self.old.suspend_count ≤ 2147483647 }
+        requires { self.old.suspend_count ≤ greatest_int }
         ensures { self.new ≡ recount (change_of change) self.old }
     {
         self.suspend_count = change.apply(self.id, self.suspend_count);
@@ -112,7 +113,7 @@ fn any_stands_at(entries: &[ThreadEntry], count: u32) -> bool
 
 /// Changes the suspend counts.
 fn change_counts(entries: &mut [ThreadEntry], change: Change)
-    requires { AllAtMost 2147483647 (threads_of entries.old) }
+    requires { AllAtMost greatest_int (threads_of entries.old) }
     ensures { entries.new ≡ recounted (change_of change) entries.old }
 {
     for entry in entries.iter_mut() {
@@ -250,7 +251,7 @@ impl Threads {
 
     /// Changes the suspend counts.
     pub(crate) fn change(&mut self, change: Change)
-        requires { AllAtMost 2147483647 self.old }
+        requires { AllAtMost greatest_int self.old }
         ensures { self.new ≡ changed (change_of change) self.old }
     {
         change_counts(self.entries.as_mut_slice(), change);

@@ -14,11 +14,11 @@ use Rattle.jdwp_target.specs.declared.target.Stepped.TheVariants.{Frozen, Quiet,
 use Rattle.jdwp_target.specs.Standings.{Act, Handles, Steps, Standing, after, handled, react}
 use Rattle.jdwp_target.specs.Targets.{Target, Ran, standing, with_handled, with_step}
 use Rattle.jdwp_target.specs.Turns.{StepsWhere, told_by_end, told_of_sends, told_of_step}
+use Rattle.jdwp_target.proofs.Closing.{act-why, both, may-alive, message-why}
 use Rattle.jdwp_target.proofs.TargetRuns.{handled-acts, handled-message, ran-handled, ran-stepped, stepped-acts}
 use Rattle.jdwp_engine.specs.Outcome.{EndsInDispose, MayStep}
 use Rattle.jdwp_engine.specs.Run.{deed, deeds, one_if}
 use Rattle.jdwp_engine.specs.Steps.{Advances, StepsIf, StepsOn}
-use Rattle.jdwp_engine.proofs.Closing.{both, may-alive, message-why, step-why}
 
 -- ---- deeds
 
@@ -81,7 +81,7 @@ step-advances m v t may opened = record {
     ran-stepped m v t r,
     one-more m v r (ran-stepped m v t r).acts (Steps t) (stepped-acts m v t r) (ap one_if may),
   );
-  closes = λ closed. step-why m (standing v) t (may_step m v.settings v.moment t) opened closed;
+  closes = λ closed. act-why m v.settings (standing v) (Steps t) opened closed;
 }
 
 -- one after the other

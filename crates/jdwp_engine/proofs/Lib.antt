@@ -1,5 +1,4 @@
 pub mod Advancing
-pub mod Closing
 pub mod Fronts
 pub mod Known
 pub mod Runs

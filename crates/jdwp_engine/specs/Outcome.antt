@@ -3,12 +3,11 @@ use Rattle.std.specs.Prelude.{◌≡◌, ◌≢◌, ◌⊎◌, ℕ, ◌<◌, ◌
 use Rattle.jdwp_wire.specs.FaultNumbers.{fault_number}
 use Rattle.jdwp_wire.specs.Streams.{Message, Handshake, Packet, NextMessage, Whole, More, Fault, next_message}
 use Rattle.jdwp_wire.specs.declared.frame.FrameFault.{FrameFault}
-use Rattle.jdwp_wire.specs.declared.packet.PacketKind.TheVariants as kind
-use Rattle.jdwp_layout.specs.CommandNumbers.{VIRTUAL_MACHINE, DISPOSE}
 use Rattle.jdwp_end.specs.Ends.{End, is_open}
 use Rattle.jdwp_end.specs.Runs.{Carries}
 use Rattle.jdwp_machine.specs.Meanings.{Meaning}
 use Rattle.jdwp_debuggee.specs.StepParts.{is_ready}
+use Rattle.jdwp_target.specs.Closings.{IsDispose}
 use Rattle.jdwp_target.specs.Targets.{Target, Ran, lost}
 use Rattle.jdwp_target.specs.Turns.{NeedsMemory}
 use Rattle.jdwp_engine.specs.declared.ended.Ended.{Ended}
@@ -20,11 +19,6 @@ use Rattle.jdwp_engine.specs.Story.{Story}
 -- handled, and else a packet.
 abbrev pub FrontIs : (NextMessage → Type 0) → End → Type 0
 FrontIs P end = (rest : List ℕ) × (end.session.fed ≡ end.session.handled ++ rest) × P (next_message end.limits.packet (nat_lt 0 end.session.turns) rest)
-
--- VirtualMachine.Dispose, without data
-abbrev pub IsDispose : Message → Type 0
-IsDispose Handshake = ⊥
-IsDispose (Packet header body) = (header.kind ≡ kind.Command VIRTUAL_MACHINE DISPOSE.number) × (body ≡ [])
 
 -- the last message handled was Dispose
 abbrev pub EndsInDispose : End → Type 0

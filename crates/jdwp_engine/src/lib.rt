@@ -7,10 +7,8 @@ mod ended;
 mod pipe;
 mod serving;
 mod streams;
-#[cfg(test)]
-mod tests;
 
 pub use ended::Ended;
 pub use pipe::Pipe;
-pub use serving::serve;
+pub use serving::{serve, write_all};
 pub use streams::Streams;

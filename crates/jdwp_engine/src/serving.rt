@@ -288,7 +288,7 @@ fn write_out<M: Machine + Drop, P: Pipe>(
 }
 
 /// Writes all of the bytes, or says that a write failed.
-fn write_all<P: Pipe>(pipe: &mut P, bytes: &[u8]) -> bool
+pub fn write_all<P: Pipe>(pipe: &mut P, bytes: &[u8]) -> bool
     ensures all { IsTrue result → P.story pipe.new ≡ with_written bytes.now (P.story pipe.old) }
     ensures fails { result ≡ false → FailsWrite (P.story pipe.old) (P.story pipe.new) bytes.now }
 {

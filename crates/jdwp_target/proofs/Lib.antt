@@ -4,3 +4,5 @@ pub mod RightTargets
 pub mod StepLemmas
 pub mod RightTurns
 pub mod LeastThread
+pub mod Numbered
+pub mod Closing

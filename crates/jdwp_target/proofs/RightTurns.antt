@@ -1,5 +1,5 @@
 -- Turns of a target over any machine.
-use Rattle.std.proofs.Common.{◌≡◌, ◌∙◌, ℕ, ◌+◌, ◌≤◌, List, [], ◌∷◌, ◌++◌, ◌==◌, length, Bool, true, false, ◌||◌, Some, None, Result, Ok, Err, pos, sym, ap, refl, subst, arith}
+use Rattle.std.proofs.Common.{◌≡◌, ◌∙◌, ℕ, ◌+◌, ◌≤◌, List, [], ◌∷◌, ◌++◌, ◌==◌, length, Bool, true, false, not, ◌&&◌, ◌||◌, Some, None, Result, Ok, Err, pos, sym, ap, refl, subst, arith}
 use Rattle.std.proofs.lemmas.List.{append-nil, length-append}
 use Rattle.byteorder.specs.Endian.{big_bytes}
 use Rattle.byteorder.specs.Numbers.{length-bytes_high_first}
@@ -30,7 +30,7 @@ use Rattle.jdwp_debuggee.specs.Actions
 use Rattle.jdwp_debuggee.specs.Actions.{Action, Command, Raw, action_of, is_implemented}
 use Rattle.jdwp_debuggee.specs.CommandReads.{Asking, action_meaning, asking, asking_of, asks, command_read, content_read, read_by, row_request, with_content}
 use Rattle.jdwp_debuggee.specs.Debuggees.{Debuggee, at_moment}
-use Rattle.jdwp_debuggee.specs.Effects.{Effect, does, effect_by, suspend_by, set_by, suspend_thread_by, suspend_thread_at, resume_thread_by, count_by, status_by, slots_by, slots_at, frames_by, thread_by}
+use Rattle.jdwp_debuggee.specs.Effects.{Effect, carried, carried_by, does, effect_by, raises_counts, suspend_by, set_by, suspend_thread_by, suspend_thread_at, resume_thread_by, count_by, status_by, slots_by, slots_at, frames_by, thread_by}
 use Rattle.jdwp_debuggee.specs.Facts.{is_dispose, is_exit}
 use Rattle.jdwp_debuggee.specs.Refusals.{set_refusal}
 use Rattle.jdwp_debuggee.specs.Sending.{Did, IsSent, answer_bytes, error_of}
@@ -198,35 +198,42 @@ pub record HasEnding (a : code.Action.Action) (done : Done) : Type 0 where
   pub dies : done.dies ≡ is_exit (action_meaning a)
   pub closes : done.closes ≡ (is_exit (action_meaning a) || is_dispose (action_meaning a))
 
+-- after the first handshake nothing is too early
+carried-shaken : {S : Type 0} (m : Meaning S) (settings : Settings) (now : Moment S) (c : Command) (a : Action) → now.state.handshaken ≡ true → carried m settings now c a ≡ does m settings now c a
+carried-shaken m settings now c a h =
+    ap (λ (b : Bool). carried_by m settings now c a (raises_counts a && not b)) h
+    ∙ elim (raises_counts a) as (λ (x : Bool). carried_by m settings now c a (x && not true) ≡ does m settings now c a) [ true ↦ refl | false ↦ refl ]
+
 did-done : {S : Type 0} (m : Meaning S) (d new : Debuggee S) (a : code.Action.Action) (c : Command) (done : Done) → is_implemented c ≡ true → action_meaning a ≡ action_of c
-    → HasEnding a done → Did m c d new done.sent → IsDone (m.sizes d.moment.machine) (effect_by m d.settings d.moment c (is_implemented c)) d new done
-did-done m d new a c done impl same ends did =
+    → HasEnding a done → d.moment.state.handshaken ≡ true → Did m c d new done.sent → IsDone (m.sizes d.moment.machine) (effect_by m d.settings d.moment c (is_implemented c)) d new done
+did-done m d new a c done impl same ends shaken did =
+    let on : carried m d.settings d.moment c (action_of c) ≡ does m d.settings d.moment c (action_of c) = carried-shaken m d.settings d.moment c (action_of c) shaken in
     let e = does m d.settings d.moment c (action_of c) in
     let x = ending m d.settings d.moment c (action_of c) in
     let exit : done.dies ≡ is_exit (action_of c) = ends.dies ∙ ap is_exit same in
     rw impl (record {
-      after = did.after;
-      sends = did.sends;
+      after = rw on at did.after;
+      sends = rw on at did.sends;
       fits = did.fits;
       dies = exit ∙ sym x.dies;
-      bare = λ is. ap length did.sends.bytes ∙ x.bare (m.sizes d.moment.machine) (sym exit ∙ is);
+      bare = λ is. ap length (rw on at did.sends).bytes ∙ x.bare (m.sizes d.moment.machine) (sym exit ∙ is);
       closes = ends.closes ∙ (ap (λ (y : Action). is_exit y || is_dispose y) same ∙ sym x.closes);
       handshaken = x.handshaken;
     })
 
 done-carried-by : {S : Type 0} (m : Meaning S) (d new : Debuggee S) (a : code.Action.Action) (done : Done) (read : Result Command ErrorCode)
-    → ((c : Command) → read ≡ Ok c → is_implemented c ≡ true) → Ok (asking a) ≡ asks read → HasEnding a done → ((c : Command) → asking a ≡ asking_of c → Did m c d new done.sent)
+    → ((c : Command) → read ≡ Ok c → is_implemented c ≡ true) → Ok (asking a) ≡ asks read → HasEnding a done → d.moment.state.handshaken ≡ true → ((c : Command) → asking a ≡ asking_of c → Did m c d new done.sent)
     → IsDone (m.sizes d.moment.machine) (effect_read m d read) d new done
-done-carried-by m d new a done (Ok c) impl e ends did =
+done-carried-by m d new a done (Ok c) impl e ends shaken did =
     let same : asking a ≡ asking_of c = asking-same (asking a) (asking_of c) e in
-    did-done m d new a c done (impl c refl) (ap (λ (x : Asking). x.action) same) ends (did c same)
-done-carried-by m d new a done (Err x) impl e ends did = absurd cc
+    did-done m d new a c done (impl c refl) (ap (λ (x : Asking). x.action) same) ends shaken (did c same)
+done-carried-by m d new a done (Err x) impl e ends shaken did = absurd cc
 
 pub done-carried : {S : Type 0} (m : Meaning S) (d new : Debuggee S) (set number : ℕ) (body : List ℕ) (a : code.Action.Action) (done : Done)
-    → Ok (asking a) ≡ asks (command_read (m.sizes d.moment.machine) set number body) → HasEnding a done → ((c : Command) → asking a ≡ asking_of c → Did m c d new done.sent)
+    → Ok (asking a) ≡ asks (command_read (m.sizes d.moment.machine) set number body) → HasEnding a done → d.moment.state.handshaken ≡ true → ((c : Command) → asking a ≡ asking_of c → Did m c d new done.sent)
     → IsDone (m.sizes d.moment.machine) (carried_out m d.settings d.moment (command_read (m.sizes d.moment.machine) set number body)) d new done
-done-carried m d new set number body a done e ends did =
-    done-carried-by m d new a done (command_read (m.sizes d.moment.machine) set number body) (implemented (m.sizes d.moment.machine) set number body) e ends did
+done-carried m d new set number body a done e ends shaken did =
+    done-carried-by m d new a done (command_read (m.sizes d.moment.machine) set number body) (implemented (m.sizes d.moment.machine) set number body) e ends shaken did
 
 -- Exit and Dispose close
 pub closes-by : (a : Action) (b : Bool) → (is_dispose a ≡ true → b ≡ true) → (is_exit a ≡ true → b ≡ true) → (is_dispose a ≡ false → is_exit a ≡ false → b ≡ false) → b ≡ (is_exit a || is_dispose a)

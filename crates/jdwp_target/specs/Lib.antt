@@ -6,3 +6,5 @@ pub mod Turns
 pub mod TurnParts
 pub mod StepParts
 pub mod Starts
+pub mod Lives
+pub mod Closings

@@ -1,5 +1,5 @@
 //! The debuggee's end of a session.
-ghost use Rattle.std.specs.Prelude.{◌≡◌, ◌≤◌, ◌<◌, ◌++◌, ◌↔◌, [], true, false, IfOk, IsTrue, length, take, drop, min};
+ghost use Rattle.std.specs.Prelude.{◌≡◌, ◌≤◌, ◌<◌, ◌++◌, ◌↔◌, [], true, false, IfOk, IfSome, IsTrue, length, take, drop, min};
 ghost use Rattle.jdwp_wire.specs.Bytes.{IsBytes};
 ghost use Rattle.jdwp_wire.specs.Streams.{More};
 ghost use Rattle.jdwp_end.specs.Ends as ends;
@@ -121,7 +121,8 @@ impl<M: Machine + Drop> Target<M> {
 
     /// The suspend count of a thread, 0 to the count limit of the settings; None where it is not alive.
     pub fn count(&self, thread: ObjectId) -> Option<u32>
-        ensures { result ≡ spec.count_of self.now.moment.state thread.0 }
+        ensures value { result ≡ spec.count_of self.now.moment.state thread.0 }
+        ensures bound { IfSome result (λ count. count ≤ self.now.settings.count_limit) }
     {
         self.debuggee.count(thread)
     }
@@ -208,6 +209,6 @@ impl<M: Machine + Drop> Target<M> {
         ensures flows { self.now.end.outgoing ≡ [] → ends.is_paused self.now.end ≡ false }
         ensures room { front_of self.now.end ≡ More → ends.is_open self.now.end ≡ true → ends.is_paused self.now.end ≡ false → 0 < room_of self.now.end }
     {
-        let _ = self.end.front();
+        self.end.invariants();
     }
 }

@@ -77,9 +77,8 @@ fn greet<M: Machine>(debuggee: &mut Debuggee<M>, end: &mut End)
     ensures end { end.new ≡ with_enqueued (stream (greets_by M.meaning debuggee.old.settings debuggee.old.moment debuggee.old.moment.state.handshaken).sends) end.old }
 {
     end.enqueue(&HANDSHAKE);
-    if !debuggee.is_handshaken() {
-        let sizes = debuggee.sizes();
-        let start = debuggee.handshake();
+    let sizes = debuggee.sizes();
+    if let Some(start) = debuggee.handshake() {
         enqueue_start(start, &sizes, end);
     }
 }

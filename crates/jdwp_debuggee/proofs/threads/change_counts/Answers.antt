@@ -1,3 +1,4 @@
+use Rattle.jdwp_wire.specs.Numbers.{greatest_int}
 use Rattle.std.proofs.Common.{◌≡◌, ◌<◌, ◌≤◌, false, length, get_or, set, sym, ◌∙◌, ap, subst, arith, List}
 use Rattle.std.proofs.lemmas.List.{get_or_default}
 use Rattle.std.proofs.lemmas.List.Edits.{map_over_more}
@@ -15,7 +16,7 @@ change-requires c =
     let es = c.args.entries.now in
     let inside : i < length es = c.loop-entry-test.true in
     let same : get_or c.loop-entry.entries i none ≡ get_or es i none = ap (λ (l : List ThreadEntry). get_or l i none) c.loop-entry.invariant ∙ changed-at (recount (change_of c.args.change)) es i none inside in
-    subst (λ (e : ThreadEntry). e.suspend_count ≤ 2147483647) (sym same) (at-most-at 2147483647 es i none c.requires inside)
+    subst (λ (e : ThreadEntry). e.suspend_count ≤ greatest_int) (sym same) (at-most-at greatest_int es i none c.requires inside)
 
 pub loop-entry-preserved : goal.loop-entry-preserved
 loop-entry-preserved c =

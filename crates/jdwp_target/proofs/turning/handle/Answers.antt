@@ -13,4 +13,4 @@ returns-in_ok-sent-in-Carries-clause-ok g c =
     let done : Done = record { sent = c.in_ok-sent-in-Carries.sent; dies = c.kills-dies.result; closes = c.closes-closes.result } in
     let closes = closes-by (action_meaning c.in-Carries.action) c.closes-closes.result c.closes-closes.ensures.dispose c.closes-closes.ensures.exit c.closes-closes.ensures.other in
     done-carried g.M.Machine.meaning c.args.debuggee.now c.carry_out.new.self c.args.set c.args.number c.args.body.now c.in-Carries.action done
-    (rw (c.in-Carries.is, c.sizes.ensures) at c.in_ok-error.ensures.value) (record { dies = c.kills-dies.ensures; closes = closes }) c.in_ok-sent-in-Carries.ensures.ok
+    (rw (c.in-Carries.is, c.sizes.ensures) at c.in_ok-error.ensures.value) (record { dies = c.kills-dies.ensures; closes = closes }) c.requires c.in_ok-sent-in-Carries.ensures.ok

@@ -1,4 +1,4 @@
-use Rattle.std.proofs.Common.{subst}
+use Rattle.std.proofs.Common.{◌≡◌, subst, rules, false}
 use Rattle.jdwp_debuggee.specs.Debuggees.{Debuggee, IsKept}
 use Rattle.jdwp_debuggee.proofs.Fitting.{start-fits}
 use Rattle.jdwp_debuggee.proofs.Kept.{kept-start-by, most-of}
@@ -9,7 +9,9 @@ pub change-requires : goal.change-requires
 change-requires g c = most-of g.M.Machine.meaning _ c.self.invariant
 
 pub invariant_of-self : goal.invariant_of-self
-invariant_of-self g c = rw c.change.ensures (kept-start-by g.M.Machine.meaning _ c.byte.result c.least.result.0 _ c.self.invariant (rw (← c.self.view_is) at c.requires))
+invariant_of-self g c =
+    let first : c.self.inside.handshaken ≡ false = search rules in
+    rw c.change.ensures (kept-start-by g.M.Machine.meaning _ c.byte.result c.least.result.0 _ c.self.invariant first)
 
 pub returns-clause-fits : goal.returns-clause-fits
 returns-clause-fits g c = rw (c.least.ensures, ← c.self.view_is) (least-fits g.M.Machine.meaning g.met.M.Machine.lawful _ _ c.self.invariant.sound)

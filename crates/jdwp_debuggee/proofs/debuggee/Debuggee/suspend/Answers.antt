@@ -1,4 +1,4 @@
-use Rattle.std.proofs.Common.{◌∙◌, sym}
+use Rattle.std.proofs.Common.{◌≡◌, ◌∙◌, sym, rules, true}
 use Rattle.jdwp_debuggee.proofs.Kept.{kept-raised, most-of}
 use Rattle.jdwp_debuggee.proofs.debuggee.Debuggee.suspend.Goals as goal
 
@@ -7,5 +7,6 @@ change-requires g c = most-of g.M.Machine.meaning _ c.self.invariant
 
 pub invariant_of-self : goal.invariant_of-self
 invariant_of-self g c =
+    let shaken : c.self.inside.handshaken ≡ true = search rules in
     let below = rw c.count_limit.ensures.value at (sym c.stands_at.ensures ∙ c.if-stands_at.false) in
-    rw c.change.ensures (kept-raised g.M.Machine.meaning _ c.self.invariant (rw (← c.self.view_is) at c.requires) below)
+    rw c.change.ensures (kept-raised g.M.Machine.meaning _ c.self.invariant shaken below)

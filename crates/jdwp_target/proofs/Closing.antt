@@ -23,8 +23,8 @@ use Rattle.jdwp_debuggee.specs.Facts.{is_dispose}
 use Rattle.jdwp_debuggee.specs.Settings.{Settings}
 use Rattle.jdwp_debuggee.specs.State.{Moment, State, Thread, count_of}
 use Rattle.jdwp_debuggee.specs.Steps.{Step, death_by, ended_by, happens, may_step, occurs, occurs_by, report_by, thread_ended}
-use Rattle.jdwp_target.specs.Standings.{Standing, carried_out, greets_by, handles, handles_packet, phase_after, replies_by, steps_apart, steps_at, steps_by, steps_in_session}
-use Rattle.jdwp_engine.specs.Outcome.{IsDispose}
+use Rattle.jdwp_target.specs.Closings.{Closes, IsDispose}
+use Rattle.jdwp_target.specs.Standings.{Act, Handles, Loses, Standing, Steps, carried_out, greets_by, handles, handles_packet, phase_after, react, replies_by, steps_apart, steps_at, steps_by, steps_in_session}
 
 -- ---- tests
 
@@ -294,3 +294,11 @@ step-why m now t false opened closed = absurd (let e = sym opened ∙ closed in 
 
 pub may-alive : {S : Type 0} (m : Meaning S) (settings : Settings) (now : Moment S) (t : ℕ) → may_step m settings now t ≡ true → now.state.alive ≡ true
 may-alive m settings now t e = (both _ _ (both _ _ e).1).0
+
+-- ---- what an act closes
+
+pub act-why : {S : Type 0} (m : Meaning S) (settings : Settings) (now : Standing S) (act : Act) → is_open_phase now.phase ≡ true → is_open_phase (react m settings now act).after.phase ≡ false
+    → Closes act (react m settings now act).after
+act-why m settings now (Handles message) opened closed = message-why m settings now.moment message closed
+act-why m settings now (Steps t) opened closed = step-why m now t _ opened closed
+act-why m settings now Loses opened closed = tt
