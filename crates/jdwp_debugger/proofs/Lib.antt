@@ -7,3 +7,4 @@ pub mod Admitting
 pub mod JudgingLemmas
 pub mod NewsLemmas
 pub mod TurningLemmas
+pub mod DebuggerRuns

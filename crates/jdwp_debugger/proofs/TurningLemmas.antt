@@ -3,11 +3,17 @@ use Rattle.std.proofs.Common.{◌≡◌, ℕ, ◌+◌, ◌<◌, ◌||◌, ◌&&�
 use Rattle.std.specs.Prelude.{◌==◌, nat_le}
 use Rattle.std.specs.Prelude.{Result, Ok, Err, OnOk, IfErr}
 use Rattle.jdwp_wire.specs.Frames as frames
-use Rattle.jdwp_wire.specs.Streams.{Handshake, Whole, More, Fault, after_handshake}
+use Rattle.std.specs.Result.{IsErrOf}
+use Rattle.jdwp_wire.specs.declared.packet.Header.{Header}
+use Rattle.jdwp_wire.specs.Widths.{Widths}
+use Rattle.jdwp_wire.specs.Streams.{Handshake, Packet, NextMessage, Whole, More, Fault, after_handshake}
 use Rattle.jdwp_end.specs.declared.phase.Phase.{Phase}
 use Rattle.jdwp_end.specs.declared.phase.Phase.TheVariants.{Closed, AwaitingHandshake, Established}
 use Rattle.jdwp_end.specs.Ends.{End, front_of, is_paused, next_at}
 use Rattle.jdwp_debugger.specs.declared.faults.DebuggerFault.{DebuggerFault}
+use Rattle.jdwp_debugger.specs.declared.faults.DebuggerFault.TheVariants as code
+use Rattle.jdwp_debugger.specs.declared.turning.Read.{Read}
+use Rattle.jdwp_debugger.specs.Debuggers.{Debugger}
 use Rattle.jdwp_layout.specs.declared.answer.Answer.{Answer}
 use Rattle.jdwp_layout.specs.declared.answer.Answer.TheVariants.{Data, Error}
 use Rattle.jdwp_event.specs.Composites.{CompositeMeaning, POLICY_NONE, POLICY_ALL}
@@ -15,13 +21,14 @@ use Rattle.jdwp_event.specs.Told.{composite_thread, is_vm_death}
 use Rattle.jdwp_debuggee.specs.Actions
 use Rattle.jdwp_debuggee.specs.Actions.{Action, Command, action_of}
 use Rattle.jdwp_debugger.specs.Acts.{act_of}
-use Rattle.jdwp_debugger.specs.DebuggerTurns.{FailsOnly, LearnedAll, reports}
+use Rattle.jdwp_debugger.specs.DebuggerTurns.{EntersAt, EntersOrFails, FailsAt, FailsOnly, FailsTo, HandlesAt, LearnedAll, MayTakeMemory, MayWantMemory, TurnsAt, WantsMemory, bad_where, none_known, reading_of, refusal_by, reports}
 use Rattle.jdwp_debugger.specs.Faults.{count_of_thread, has_bad_event, is_bad_event, is_of_two}
-use Rattle.jdwp_debugger.specs.FaultParts.{is_dispose_act}
+use Rattle.jdwp_debugger.specs.FaultParts.{IsData, is_dispose_act}
 use Rattle.jdwp_debugger.specs.KnownThreads.{count_in}
 use Rattle.jdwp_debugger.specs.Messages.{Message, Reply, Report}
 use Rattle.jdwp_debugger.specs.Mirror.{is_dispose, is_positive, learned}
 use Rattle.jdwp_debugger.specs.Mirrors.{Mirror, Learned}
+use Rattle.jdwp_debugger.specs.News.{News, Measures, Fails, says, widths_in}
 
 -- ---- events are judged by counts alone
 
@@ -115,3 +122,56 @@ handshake-unpaused false limit p bytes n h = handshake-next limit p bytes n h
 
 pub handshake-phase : (e : End) (n : ℕ) → front_of e ≡ Whole Handshake n → e.phase ≡ AwaitingHandshake
 handshake-phase e n h = handshake-unpaused (is_paused e) e.limits.packet e.phase e.incoming n h
+
+-- ---- what a turn answers
+
+pub widths-data : (a : Answer) (w : Widths) → widths_in a ≡ Some w → IsData a
+widths-data (Data content) w h = tt
+widths-data (Error e) w h = absurd (cc)
+
+-- what is said of a packet is what the turn reads of it
+pub handles : (header : Header) (body : List ℕ) (used : ℕ) (old new : Debugger) (n : News) (r : Result Read DebuggerFault) → says (reading_of old) header.id header.kind body ≡ Ok n
+    → (WantsMemory n → MayWantMemory header.kind) → EntersAt header body used n old r new → HandlesAt (Packet header body) used old r new
+handles header body used old new n (Ok r) said wants (unrefused, entered) = record { news = n; said = said; unrefused = unrefused; entered = entered }
+handles header body used old new n (Err code.NoMemory) said wants (memory, left) = (wants memory, left)
+handles header body used old new n (Err (code.Frame f)) said wants (refused, left) = (ap (refusal_by old.mirror) said ∙ refused, left)
+handles header body used old new n (Err code.UnknownReply) said wants (refused, left) = (ap (refusal_by old.mirror) said ∙ refused, left)
+handles header body used old new n (Err code.BadReply) said wants (refused, left) = (ap (refusal_by old.mirror) said ∙ refused, left)
+handles header body used old new n (Err code.TooManyParked) said wants (refused, left) = (ap (refusal_by old.mirror) said ∙ refused, left)
+handles header body used old new n (Err code.BadEvent) said wants (refused, left) = (ap (refusal_by old.mirror) said ∙ refused, left)
+
+-- a packet that says nothing
+pub fails : (header : Header) (body : List ℕ) (old new : Debugger) (f : DebuggerFault) → Fails f (says (reading_of old) header.id header.kind body)
+    → (f ≡ code.NoMemory → MayWantMemory header.kind) → FailsTo f old new → FailsAt header body old f new
+fails header body old new code.NoMemory said memory left = (memory refl, left)
+fails header body old new (code.Frame f) said memory left = (ap (refusal_by old.mirror) said, left)
+fails header body old new code.UnknownReply said memory left = (ap (refusal_by old.mirror) said, left)
+fails header body old new code.BadReply said memory left = (ap (refusal_by old.mirror) said, left)
+fails header body old new code.TooManyParked said memory left = (ap (refusal_by old.mirror) said, left)
+fails header body old new code.BadEvent said memory left = (ap (refusal_by old.mirror) said, left)
+
+-- composites that waited are refused where one of them is bad
+pub fails-measuring : (f : DebuggerFault) (old new : Debugger) (place : ℕ) (answer : Answer) (w : Widths) (cs : List CompositeMeaning) → FailsOnly f (has_bad_event none_known (reports cs)) → FailsTo f old new
+    → EntersOrFails (Measures place answer w cs) old f new
+fails-measuring code.NoMemory old new place answer w cs only left = (tt, left)
+fails-measuring code.BadEvent old new place answer w cs only left = (ap bad_where only, left)
+fails-measuring (code.Frame f) old new place answer w cs only left = absurd only
+fails-measuring code.UnknownReply old new place answer w cs only left = absurd only
+fails-measuring code.BadReply old new place answer w cs only left = absurd only
+fails-measuring code.TooManyParked old new place answer w cs only left = absurd only
+
+-- only what a turn may want memory for fails by want of memory
+memory-fault : (header : Header) (body : List ℕ) (old new : Debugger) (f : DebuggerFault) → FailsAt header body old f new → f ≡ code.NoMemory → MayWantMemory header.kind
+memory-fault header body old new code.NoMemory h e = h.0
+memory-fault header body old new (code.Frame f) h e = absurd (cc)
+memory-fault header body old new code.UnknownReply h e = absurd (cc)
+memory-fault header body old new code.BadReply h e = absurd (cc)
+memory-fault header body old new code.TooManyParked h e = absurd (cc)
+memory-fault header body old new code.BadEvent h e = absurd (cc)
+
+pub turn-memory : (front : NextMessage) (old new : Debugger) (r : Result Read DebuggerFault) → TurnsAt front old r new → IsErrOf r code.NoMemory → MayTakeMemory front
+turn-memory (Whole Handshake used) old new r t e = tt
+turn-memory (Whole (Packet header body) used) old new (Ok r) t e = absurd (cc)
+turn-memory (Whole (Packet header body) used) old new (Err f) t e = (let is : f ≡ code.NoMemory = cc in memory-fault header body old new f t is)
+turn-memory More old new r t e = absurd (let is = t.0 in cc)
+turn-memory (Fault fault) old new r t e = absurd (let is = t.0 in cc)

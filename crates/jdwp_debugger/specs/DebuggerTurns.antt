@@ -176,7 +176,7 @@ abbrev pub WantsMemory : News → Type 0
 WantsMemory (Waits bytes) = Unit {0}
 WantsMemory (Happens c) = Unit {0}
 WantsMemory (Answers place ticket answer) = IsData answer
-WantsMemory (Measures place answer w cs) = IsData answer
+WantsMemory (Measures place answer w cs) = Unit {0}
 
 -- what a packet says has room, and its place is that of a command
 abbrev pub Fits : Debugger → News → Type 0
@@ -223,3 +223,11 @@ abbrev pub TurnsAt : NextMessage → Debugger → Result Read DebuggerFault → 
 TurnsAt (Whole message used) old result new = HandlesAt message used old result new
 TurnsAt More old result new = (result ≡ Ok read.Nothing) × (new ≡ record old { last = [] })
 TurnsAt (Fault fault) old result new = (result ≡ Err (code.Frame fault)) × (new ≡ refused old)
+
+-- A turn may want memory at the handshake and at a packet that is no reply with an error: neither where the end is closed or paused or
+-- no message is whole, nor at a fault of the bytes.
+abbrev pub MayTakeMemory : NextMessage → Type 0
+MayTakeMemory (Whole streams.Handshake used) = Unit {0}
+MayTakeMemory (Whole (streams.Packet header body) used) = MayWantMemory header.kind
+MayTakeMemory More = ⊥
+MayTakeMemory (Fault fault) = ⊥

@@ -1,5 +1,6 @@
 -- What each packet means to a debugger, packet by packet in the standard's numbers (JDWP specification, "Protocol Details"). The
 -- definitions of the mirror and of refused packets are held against it.
+use Rattle.jdwp_wire.specs.Numbers.{greatest_int}
 use Rattle.std.specs.Prelude.{◌≡◌, ◌≢◌, ◌<◌, ◌≤◌, ℕ, ℤ, pos, negsuc, ◌+◌, ◌-◌, ◌==◌, Bool, true, false, List, [], ◌∷◌, map, length, Option, Some, None}
 use Rattle.std.specs.List.{list_any}
 use Rattle.jdwp_wire.specs.declared.error_code.ErrorCode.{ErrorCode}
@@ -23,7 +24,7 @@ abbrev pub of_thread : ℕ → ℕ → ℕ → List DatumMeaning → Command
 of_thread set number t content = of_numbers set number (Content (One (Object t) ∷ content))
 
 abbrev pub LIMIT : ℕ
-LIMIT = 2147483647
+LIMIT = greatest_int
 
 -- ---- VirtualMachine.Suspend (1, 8) and Resume (1, 9)
 

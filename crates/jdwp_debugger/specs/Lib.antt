@@ -14,3 +14,4 @@ pub mod FaultNumbers
 pub mod FaultParts
 pub mod News
 pub mod DebuggerTurns
+pub mod Runs

@@ -1,6 +1,7 @@
 -- What a debugger learns from the packets that it reads: the suspend counts of the threads that it knows, which of them it holds for
 -- suspended, and the event requests (JDWP specification, "Protocol Details": VirtualMachine, ThreadReference, StackFrame,
 -- EventRequest and Event). Nothing here asks whether the target is honest.
+use Rattle.jdwp_wire.specs.Numbers.{greatest_int}
 use Rattle.std.specs.Prelude.{ℕ, ℤ, pos, ◌+◌, ◌-◌, ◌==◌, min, Bool, true, false, ◌||◌, ◌&&◌, not, List, [], ◌∷◌, ◌++◌, map, Option, Some, None, is_some, if◌then◌else◌}
 use Rattle.std.specs.Ordering.{int_eq}
 use Rattle.std.specs.List.{list_any, filter}
@@ -52,7 +53,7 @@ is_invalid_thread e = e.0 == INVALID_THREAD.0
 
 -- where a count in the mirror stops; only that of a thread that has ended can get so far
 abbrev pub COUNT_MOST : ℕ
-COUNT_MOST = 2147483647
+COUNT_MOST = greatest_int
 
 abbrev pub more : ℕ → ℕ
 more n = min (n + 1) COUNT_MOST

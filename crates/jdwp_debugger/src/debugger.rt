@@ -1,10 +1,13 @@
 //! The debugger's end of a session.
-ghost use Rattle.std.specs.Prelude.{◌≡◌, ◌≤◌, ◌+◌, ◌++◌, ◌↔◌, IfErr, IfOk, IsTrue, None, drop, false, length, min, take};
+ghost use Rattle.std.specs.Prelude.{◌≡◌, ◌≤◌, ◌<◌, ◌+◌, ◌++◌, ◌↔◌, [], IfErr, IfOk, IsTrue, None, drop, false, length, min, take, true};
 ghost use Rattle.jdwp_end.specs.Ends as ends;
 ghost use Rattle.jdwp_end.specs.Ends.{front_of, most_outgoing, room_of};
+ghost use Rattle.jdwp_wire.specs.Bytes.{IsBytes};
 ghost use Rattle.jdwp_wire.specs.Limits.{standard_limits};
+ghost use Rattle.jdwp_wire.specs.Streams.{More};
 ghost use Rattle.jdwp_debugger.specs.Asking.{HasAsked, IsAdmitted, IsRefusal, MayLeave, is_busy, refusal_of_ask};
 ghost use Rattle.jdwp_debugger.specs.Debuggers.{at_place, attached, has_tickets, is_front, lost, new_debugger, seen_unanswered, tickets_of, unanswered, with_fed, with_taken};
+ghost use Rattle.jdwp_debugger.specs.Runs.{Ran};
 
 use crate::asking::{Admitted, Body, Refused};
 use crate::command::Command;
@@ -279,29 +282,16 @@ impl Debugger {
     {
         unanswered_at(&self.pending, place)
     }
-}
 
-#[cfg(test)]
-impl Debugger {
-    /// A debugger whose session is open and that knows the widths of ids. Its next id is 1.
-    pub(crate) fn ready(alloc: Global, sizes: IdSizes) -> Result<Debugger, NoMemory> {
-        let mut end = End::new(alloc, Limits::standard())?;
-        end.open();
-        end.feed(&HANDSHAKE);
-        if matches!(end.front(), Front::Handshake) {
-            end.take_off(HANDSHAKE.len());
-        } else {
-            return Err(NoMemory);
-        }
-        Ok(Debugger {
-            end,
-            mirror: Mirror::new(alloc),
-            sizes: Some(sizes),
-            parked: Vec::new(alloc),
-            pending: Vec::new(alloc),
-            next_id: 1,
-            tickets: 0,
-            last: Heads::new(),
-        })
+    /// What holds after every list of calls in a session, whatever bytes came: the whole run; that what came are bytes; that an end at
+    /// which nothing waits is not paused; and that an open end that is not paused and asks for more has room for a byte. It changes
+    /// nothing.
+    pub fn session(&self)
+        ensures ran { Ran self.now.end }
+        ensures bytes { IsBytes self.now.end.incoming }
+        ensures flows { self.now.end.outgoing ≡ [] → ends.is_paused self.now.end ≡ false }
+        ensures room { front_of self.now.end ≡ More → ends.is_open self.now.end ≡ true → ends.is_paused self.now.end ≡ false → 0 < room_of self.now.end }
+    {
+        self.end.invariants();
     }
 }

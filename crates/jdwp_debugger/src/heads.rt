@@ -1,6 +1,8 @@
 //! What the last turn read.
-ghost use Rattle.std.specs.Prelude.{◌≡◌, ◌<◌, ◌++◌, ◌∷◌, [], length};
+ghost use Rattle.std.specs.Prelude.{◌≡◌, ◌+◌, ◌<◌, ◌≤◌, ◌++◌, ◌∷◌, [], length};
+ghost use Rattle.jdwp_debugger.specs.DebuggerTurns.{heads_of};
 
+use crate::parked::Parked;
 use jdwp_wire::Header;
 use std::marker::Model;
 
@@ -66,5 +68,15 @@ impl Heads {
     {
         self.heads[self.count] = head;
         self.count += 1;
+    }
+
+    /// The composites that waited were read behind the others, in order.
+    pub fn push_waiting(&mut self, parked: &[Parked])
+        requires { length self.old + length parked.now ≤ 5 }
+        ensures { self.new ≡ self.old ++ heads_of parked.now }
+    {
+        for waiting in parked {
+            self.push(Head::Packet(waiting.header));
+        }
     }
 }

@@ -1,5 +1,6 @@
 //! What each packet means to a debugger, in the standard's numbers: the definitions say the same.
 ghost use Rattle.jdwp_debugger.specs.Laws.{AllAreCounted, OneIsCounted, ErrorsForget, ListsForget, EventsCount, RequestsAreKept, RefusesEvents, RefusesReplies};
+ghost use Rattle.jdwp_debugger.specs.Runs.{GoesOn};
 
 /// An OK reply to a Suspend or a Resume moves the counts that it is about and no other, never above 2,147,483,647; one to a Suspend of
 /// the whole machine holds nobody.
@@ -28,4 +29,11 @@ pub fn keeps_requests()
 pub fn refuses_packets()
     ensures events { RefusesEvents }
     ensures replies { RefusesReplies }
+{}
+
+/// Whatever bytes come, the packets that were read or that wait are the first whole ones of the bytes fed, none is read behind the first
+/// fault, and what was taken and what waits to leave are the bytes of the messages put, or where the connection was lost a beginning of
+/// them: this holds before the first session, and each call keeps it. It does nothing.
+pub fn goes_on_at_each_call()
+    ensures { GoesOn }
 {}

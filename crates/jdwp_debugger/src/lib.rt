@@ -25,7 +25,8 @@ pub use debugger::Debugger;
 pub use faults::DebuggerFault;
 pub use heads::Head;
 pub use laws::{
-    counts_by_commands, counts_by_events, forgets_ended_threads, keeps_requests, refuses_packets,
+    counts_by_commands, counts_by_events, forgets_ended_threads, goes_on_at_each_call,
+    keeps_requests, refuses_packets,
 };
 pub use lost::Lost;
 pub use mirror::Mirror;
@@ -33,8 +34,3 @@ pub use pending::Ticket;
 pub use requests::KeptRequest;
 pub use threads::Known;
 pub use turning::Read;
-
-#[cfg(test)]
-mod asking_tests;
-#[cfg(test)]
-mod mirror_tests;

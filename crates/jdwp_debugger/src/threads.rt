@@ -9,11 +9,12 @@ use crate::reply::{count_in_reply, is_listed};
 use jdwp_layout::Data;
 use jdwp_value::ObjectId;
 use jdwp_wire::NoMemory;
+use jdwp_wire::number::GREATEST_INT;
 use std::alloc::Global;
 use std::marker::Model;
 
 /// Where a count stops.
-const COUNT_MOST: u32 = 2_147_483_647;
+const COUNT_MOST: u32 = GREATEST_INT;
 
 /// The suspend policies that suspend a thread.
 const SUSPEND_EVENT_THREAD: u8 = 1;

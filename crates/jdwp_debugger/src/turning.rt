@@ -2,12 +2,13 @@
 ghost use Rattle.std.specs.Prelude.{◌≡◌, ◌<◌, ◌++◌, ◌∷◌, [], ℕ, List, IfOk, IfErr, OnOk, Err, None, Some, length, false, slice_get};
 ghost use Rattle.std.specs.List.{list_any};
 ghost use Rattle.std.specs.Result.{IsErrOf};
+ghost use Rattle.jdwp_wire.specs.Bytes.{IsBytes};
 ghost use Rattle.jdwp_wire.specs.Streams.{Handshake, Packet, Whole};
 ghost use Rattle.jdwp_end.specs.Ends.{front_of};
 ghost use Rattle.jdwp_debugger.specs.declared.faults.DebuggerFault.TheVariants as code;
 ghost use Rattle.jdwp_debugger.specs.declared.heads.Head.TheVariants as head;
 ghost use Rattle.jdwp_debugger.specs.DebuggerTurns as turns;
-ghost use Rattle.jdwp_debugger.specs.DebuggerTurns.{Enters, EntersAt, FailsOnly, FailsTo, Fits, HandlesAt, LearnedAll, MayWantMemory, TurnsAt, WantsMemory, closed, closed_where, command_at, measured_where, news_meaning, none_known, reading_of, refused, reports, told, with_read, with_sizes};
+ghost use Rattle.jdwp_debugger.specs.DebuggerTurns.{Enters, EntersAt, FailsOnly, FailsTo, Fits, HandlesAt, LearnedAll, MayTakeMemory, MayWantMemory, TurnsAt, WantsMemory, closed, closed_where, command_at, heads_of, measured_where, news_meaning, none_known, reading_of, refused, reports, told, with_read, with_sizes};
 ghost use Rattle.jdwp_debugger.specs.Faults.{has_bad_event};
 ghost use Rattle.jdwp_debugger.specs.FaultParts.{IsData, is_dispose_act};
 ghost use Rattle.jdwp_debugger.specs.KnownThreads.{count_in};
@@ -23,13 +24,15 @@ use crate::debugger::Debugger;
 use crate::faults::DebuggerFault;
 use crate::heads::Head;
 use crate::judging::{is_bad_composite, widths_in_answer};
+use crate::mirror::Mirror;
 use crate::news::{place_under, read_answer, read_composite, read_parked};
 use crate::parked::Parked;
 use crate::pending::{Asked, Ticket};
+use jdwp_end::Front;
 use jdwp_event::{Composite, EventKind};
 use jdwp_layout::Answer;
 use jdwp_layout::numbers::{COMPOSITE, EVENT, ID_SIZES, VIRTUAL_MACHINE};
-use jdwp_wire::{ErrorCode, Header, IdSizes, PacketKind, PacketRef};
+use jdwp_wire::{ErrorCode, HANDSHAKE, Header, IdSizes, PacketKind, PacketRef};
 use std::alloc::Global;
 
 /// How many composites may wait for the widths of ids.
@@ -65,6 +68,57 @@ pub(crate) enum News {
 }
 
 impl Debugger {
+    /// Handles the message in front, if one is whole and the end is neither closed nor paused.
+    ///
+    /// # Errors
+    /// `Frame` where the bytes in front begin no message; `UnknownReply`, `BadReply`, `TooManyParked` and `BadEvent` where the target may
+    /// not send the packet. Then the session is closed, and what was learned forgotten; the tickets wait for `lose`, and what waits to
+    /// leave may still be taken. `NoMemory` where an allocation was refused: nothing has changed. Nothing to handle, a fault of the
+    /// bytes and a reply with an error take no memory.
+    pub fn turn(&mut self, alloc: Global) -> Result<Read, DebuggerFault>
+        ensures turns { TurnsAt (front_of self.old.end) self.old result self.new }
+        ensures memory { IsErrOf result code.NoMemory → MayTakeMemory (front_of self.old.end) }
+    {
+        match self.end.front() {
+            Front::More => {
+                self.last.clear();
+                Ok(Read::Nothing)
+            }
+            Front::Fault(fault) => {
+                self.refuse();
+                Err(DebuggerFault::Frame(fault))
+            }
+            Front::Handshake => self.greet(alloc),
+            Front::Packet(packet, used) => {
+                let header = packet.header;
+                match self.read_packet(alloc, &packet) {
+                    Ok(news) => self.enter(alloc, header, used, news),
+                    Err(fault) => self.fail(fault),
+                }
+            }
+        }
+    }
+
+    /// Handles the handshake: IDSizes is put, under the next id, without a ticket. No command waits yet, so no other has the id.
+    fn greet(&mut self, alloc: Global) -> Result<Read, DebuggerFault>
+        requires front { front_of self.old.end ≡ Whole Handshake 14 }
+        requires bytes { IsBytes self.old.end.incoming }
+        ensures { HandlesAt Handshake 14 self.old result self.new }
+    {
+        let id = self.next_id;
+        self.pending.push(Asked {
+            id,
+            ticket: None,
+            command: Command::new(VIRTUAL_MACHINE, ID_SIZES, Vec::new(alloc)),
+        })?;
+        self.end.take_off(HANDSHAKE.len());
+        self.end.enqueue(&sizes_header(id).to_bytes());
+        self.next_id = id.wrapping_add(1);
+        self.last.clear();
+        self.last.push(Head::Hello);
+        Ok(Read::Hello)
+    }
+
     /// What a packet says by its bytes.
     fn read_packet(&self, alloc: Global, packet: &PacketRef<'_>) -> Result<News, DebuggerFault>
         ensures value { Tells news_meaning result (says (reading_of self.now) packet.now.header.id packet.now.header.kind packet.now.body.now) }
@@ -190,9 +244,41 @@ impl Debugger {
         Ok(News::Measures(place, answer, sizes, composites))
     }
 
+    /// Takes in what a packet with this header says, which takes so many bytes.
+    fn enter(
+        &mut self,
+        alloc: Global,
+        header: Header,
+        used: usize,
+        news: News,
+    ) -> Result<Read, DebuggerFault>
+        requires front { (body : List ℕ) × (front_of self.old.end ≡ Whole (Packet header body) used) }
+        requires bytes { IsBytes self.old.end.incoming }
+        requires fits { Fits self.old (news_meaning news) }
+        ensures { (body : List ℕ) → front_of self.old.end ≡ Whole (Packet header body) used → EntersAt header body used (news_meaning news) self.old result self.new }
+    {
+        match news {
+            News::Waits(body) => self.park(header, used, body),
+            News::Happens(composite) => self.see(header, used, composite),
+            News::Answers(place, ticket, answer) => {
+                self.take_answer(alloc, (header, used), place, ticket, answer)
+            }
+            News::Measures(place, answer, sizes, composites) => {
+                match self.learn_waited(alloc, place, &answer, &composites) {
+                    Ok(mirror) => {
+                        self.take_sizes(header, used, place, mirror, sizes, has_death(&composites));
+                        Ok(Read::Sizes(composites))
+                    }
+                    Err(fault) => self.fail(fault),
+                }
+            }
+        }
+    }
+
     /// A composite waits for the widths of ids.
     fn park(&mut self, header: Header, used: usize, body: Vec<u8>) -> Result<Read, DebuggerFault>
         requires front { (content : List ℕ) × (front_of self.old.end ≡ Whole (Packet header content) used) }
+        requires bytes { IsBytes self.old.end.incoming }
         requires few { length self.old.parked < 4 }
         ensures ok { IfOk result (λ r. (content : List ℕ) → front_of self.old.end ≡ Whole (Packet header content) used → Enters (Packet header content) used header (news.Waits body.items) self.old (told r) self.new) }
         ensures err { IfErr result (λ fault. (fault ≡ code.NoMemory) × (self.new ≡ self.old)) }
@@ -211,6 +297,7 @@ impl Debugger {
         composite: Composite,
     ) -> Result<Read, DebuggerFault>
         requires front { (content : List ℕ) × (front_of self.old.end ≡ Whole (Packet header content) used) }
+        requires bytes { IsBytes self.old.end.incoming }
         ensures { (content : List ℕ) → front_of self.old.end ≡ Whole (Packet header content) used → EntersAt header content used (news.Happens composite) self.old result self.new }
     {
         if is_bad_composite(&self.mirror, &composite) {
@@ -233,6 +320,7 @@ impl Debugger {
         answer: Answer,
     ) -> Result<Read, DebuggerFault>
         requires front { (content : List ℕ) × (front_of self.old.end ≡ Whole (Packet packet.0 content) packet.1) }
+        requires bytes { IsBytes self.old.end.incoming }
         requires place { place < length self.old.pending }
         ensures { (content : List ℕ) → front_of self.old.end ≡ Whole (Packet packet.0 content) packet.1 → EntersAt packet.0 content packet.1 (news.Answers place ticket.0 answer) self.old result self.new }
     {
@@ -245,9 +333,64 @@ impl Debugger {
         Ok(Read::Answered(ticket, answer))
     }
 
+    /// What is learned from the composites that waited, and then from the answer to the command at this place. Before them nothing
+    /// was learned.
+    fn learn_waited(
+        &self,
+        alloc: Global,
+        place: usize,
+        answer: &Answer,
+        composites: &[Composite],
+    ) -> Result<Mirror, DebuggerFault>
+        requires { place < length self.now.pending }
+        ensures ok { IfOk result (λ m. (has_bad_event none_known (reports composites.now) ≡ false) × LearnedAll empty_mirror (reports composites.now ++ Reply None (command_at place self.now.pending) answer.now ∷ []) m) }
+        ensures err { IfErr result (λ fault. FailsOnly fault (has_bad_event none_known (reports composites.now))) }
+    {
+        let mut mirror = Mirror::new(alloc);
+        learn_each(&mut mirror, composites)?;
+        mirror.learn_reply(alloc, &self.pending[place].command, answer)?;
+        Ok(mirror)
+    }
+
+    /// The widths of ids become known, and with them what was learned.
+    fn take_sizes(
+        &mut self,
+        header: Header,
+        used: usize,
+        place: usize,
+        mirror: Mirror,
+        sizes: IdSizes,
+        closes: bool,
+    )
+        requires front { (content : List ℕ) × (front_of self.old.end ≡ Whole (Packet header content) used) }
+        requires bytes { IsBytes self.old.end.incoming }
+        requires place { place < length self.old.pending }
+        ensures { (content : List ℕ) → front_of self.old.end ≡ Whole (Packet header content) used → self.new ≡ measured_where closes sizes (with_sizes (Packet header content) used header place mirror sizes self.old) }
+    {
+        self.note_with_waiting(header, used);
+        self.parked.clear();
+        let _ = self.pending.remove(place);
+        self.mirror = mirror;
+        self.sizes = Some(sizes);
+        self.close_measured(closes, sizes);
+    }
+
+    /// The composites that waited were read, and then a packet with this header, of so many bytes.
+    fn note_with_waiting(&mut self, header: Header, used: usize)
+        requires front { (content : List ℕ) × (front_of self.old.end ≡ Whole (Packet header content) used) }
+        requires bytes { IsBytes self.old.end.incoming }
+        ensures { (content : List ℕ) → front_of self.old.end ≡ Whole (Packet header content) used → self.new ≡ with_read (Packet header content) used (heads_of self.old.parked ++ head.Packet header ∷ []) self.old }
+    {
+        self.end.take_off(used);
+        self.last.clear();
+        self.last.push_waiting(&self.parked);
+        self.last.push(Head::Packet(header));
+    }
+
     /// A packet with this header, of so many bytes, was read.
     fn note(&mut self, header: Header, used: usize)
-        requires { (content : List ℕ) × (front_of self.old.end ≡ Whole (Packet header content) used) }
+        requires front { (content : List ℕ) × (front_of self.old.end ≡ Whole (Packet header content) used) }
+        requires bytes { IsBytes self.old.end.incoming }
         ensures { (content : List ℕ) → front_of self.old.end ≡ Whole (Packet header content) used → self.new ≡ with_read (Packet header content) used (head.Packet header ∷ []) self.old }
     {
         self.end.take_off(used);
@@ -290,6 +433,16 @@ impl Debugger {
         }
     }
 
+    /// The same as the widths of ids become known, which stay.
+    fn close_measured(&mut self, closes: bool, sizes: IdSizes)
+        ensures { self.new ≡ measured_where closes sizes self.old }
+    {
+        if closes {
+            self.close();
+            self.sizes = Some(sizes);
+        }
+    }
+
     /// The same at a message that is refused.
     fn refuse(&mut self)
         ensures { self.new ≡ refused self.old }
@@ -310,6 +463,26 @@ fn sizes_header(id: u32) -> Header
             set: VIRTUAL_MACHINE,
             number: ID_SIZES,
         },
+    }
+}
+
+/// Learns from composites, in order, each judged after those before it.
+///
+/// # Errors
+/// `BadEvent` where no target may send one of them; `NoMemory` where an allocation was refused.
+fn learn_each(mirror: &mut Mirror, composites: &[Composite]) -> Result<(), DebuggerFault>
+    ensures ok { OnOk result ((has_bad_event (count_in mirror.old.threads) (reports composites.now) ≡ false) × LearnedAll mirror.old (reports composites.now) mirror.new) }
+    ensures err { IfErr result (λ fault. FailsOnly fault (has_bad_event (count_in mirror.old.threads) (reports composites.now))) }
+{
+    match composites {
+        [] => Ok(()),
+        [first, rest @ ..] => {
+            if is_bad_composite(mirror, first) {
+                return Err(DebuggerFault::BadEvent);
+            }
+            mirror.learn_composite(first)?;
+            learn_each(mirror, rest)
+        }
     }
 }
 

@@ -1,0 +1,20 @@
+use Rattle.std.proofs.Common.{List, Result, Err, subst, sym}
+use Rattle.jdwp_event.specs.Composites.{CompositeMeaning}
+use Rattle.jdwp_debugger.specs.declared.faults.DebuggerFault.{DebuggerFault}
+use Rattle.jdwp_debugger.specs.declared.turning.News as declared
+use Rattle.jdwp_debugger.specs.declared.turning.Read.{Read}
+use Rattle.jdwp_debugger.specs.DebuggerTurns.{EntersAt, FailsOnly, news_meaning, none_known, reports}
+use Rattle.jdwp_debugger.specs.Faults.{has_bad_event}
+use Rattle.jdwp_debugger.proofs.TurningLemmas.{fails-measuring}
+use Rattle.jdwp_debugger.proofs.debugger.Debugger.enter.Goals as goal
+
+pub returns : goal.returns
+returns c = λ body front.
+    let old = c.args.self.now in
+    let new = c.fail.new.self in
+    let fault = c.in-Err.fault in
+    let m = c.in-Measures in
+    let bad = subst (λ (cs : List CompositeMeaning). FailsOnly fault (has_bad_event none_known (reports cs))) c.deref.ensures.value c.in-Err.ensures.err in
+    let failed = fails-measuring fault old new m.place m.answer m.sizes m.composites.items bad c.fail.ensures.left in
+    subst (λ (r : Result Read DebuggerFault). EntersAt c.args.header body c.args.used (news_meaning c.args.news) old r new) (sym c.fail.ensures.fault)
+    (subst (λ (n : declared.News). EntersAt c.args.header body c.args.used (news_meaning n) old (Err fault) new) (sym m.is) failed)

@@ -1,0 +1,11 @@
+use Rattle.std.proofs.Common.{◌≤◌, arith, length}
+use Rattle.jdwp_debugger.proofs.DebuggerRuns.{ran-taken}
+use Rattle.jdwp_debugger.proofs.debugger.Debugger.take.Goals as goal
+
+pub invariant_of-self : goal.invariant_of-self
+invariant_of-self c =
+    let s = c.self.inside in
+    let kept = c.self.invariant in
+    let le : c.take.result ≤ length s.end.outgoing = omega (arith, c.take.ensures.count) in
+    rw c.take.ensures.taken
+    (record { limits = kept.limits; few = kept.few; few_parked = kept.few_parked; begins = kept.begins; ran = ran-taken s.end c.take.result le kept.ran })
