@@ -1,0 +1,168 @@
+-- How a run of a plan goes on from one call to the next.
+use Rattle.std.proofs.Common.{◌≡◌, ◌≢◌, ◌∙◌, ℕ, ◌<◌, ◌≤◌, ◌+◌, ◌++◌, List, [], ◌∷◌, length, Bool, true, false, Result, Ok, Err, OnOk, IfErr, Option, Some, None, is_some, ◌||◌, ◌⊎◌, inl, inr, get_or, take, drop, sym, ap, refl, subst, append_assoc, arith}
+use Rattle.std.proofs.lemmas.Grind.{common_steps}
+use Rattle.std.proofs.lemmas.List.{append-nil, drop-drop, drop_more, length-append, take-append-drop, take_all, take_more}
+use Rattle.jdwp_end.specs.Ends.{is_open}
+use Rattle.jdwp_debugger.specs.Asking.{HasAsked, command_bytes}
+use Rattle.std.specs.Borrow.{Bor}
+use Rattle.jdwp_debuggee.specs.Actions.{Command}
+use Rattle.jdwp_debugger.specs.declared.pending.Asked.{Asked}
+use Rattle.jdwp_debugger.specs.declared.pending.Ticket.{Ticket}
+use Rattle.jdwp_debugger.specs.Debuggers.{Debugger, Unanswered, and_then, at_place, has_tickets, seen_unanswered, unanswered, with_fed, with_taken}
+use Rattle.jdwp_engine.specs.Run.{FailsRead, FailsWrite, with_read, with_written}
+use Rattle.jdwp_engine.specs.Story.{Story}
+use Rattle.jdwp_plan.specs.declared.plan_line.PlanLine.{PlanLine}
+use Rattle.jdwp_attach.specs.PlanRuns.{LineGoesOn}
+use Rattle.jdwp_attach.specs.Runs.{InOrder, IsGoing, IsReady, Prints, PrintsPart, ReadsMore, Standing, Tells, asks, asks_of, at}
+use Rattle.jdwp_attach.proofs.Turned.{Moves}
+
+-- ---- lines of a plan
+
+pub asks-append : (done : List PlanLine) (line : PlanLine) → asks (done ++ line ∷ []) ≡ asks done + asks_of line
+asks-append [] line = omega arith
+asks-append (first ∷ done) line = omega (arith, asks-append done line)
+
+pub line-more : (plan : List PlanLine) (i : ℕ) (line : PlanLine) → i < length plan → line ≡ get_or plan i line → take (i + 1) plan ≡ take i plan ++ line ∷ []
+line-more plan i line inside is = take_more plan i line inside ∙ ap (λ (x : PlanLine). take i plan ++ x ∷ []) (sym is)
+
+pub line-split : (plan : List PlanLine) (i : ℕ) (line : PlanLine) → i < length plan → line ≡ get_or plan i line → plan ≡ take i plan ++ line ∷ drop (i + 1) plan
+line-split plan i line inside is =
+    sym (take-append-drop i plan) ∙ ap (λ (x : List PlanLine). take i plan ++ x) (drop_more plan i line inside ∙ ap (λ (x : PlanLine). x ∷ drop (i + 1) plan) (sym is))
+
+-- a line that was carried out
+pub line-goes-on : (plan : List PlanLine) (i : ℕ) (line : PlanLine) (old new : Standing) → i < length plan → line ≡ get_or plan i line → LineGoesOn line old new
+    → (base : Standing) → IsGoing (take i plan) base old → IsGoing (take (i + 1) plan) base new
+line-goes-on plan i line old new inside is f base k = rw (line-more plan i line inside is) (f (take i plan) base k)
+
+-- all of them were
+pub all-go : (plan : List PlanLine) (i : ℕ) (base now : Standing) → length plan ≤ i → IsGoing (take i plan) base now → IsGoing plan base now
+all-go plan i base now past k = rw (take_all i plan past) at k
+
+-- ---- what is printed
+
+pub prints-none : (s : Story) → Prints s s
+prints-none s = ([], ap (λ (x : List ℕ). record s { written = x }) (sym (append-nil s.written)))
+
+pub prints-again : (a b c : Story) → Prints a b → Prints b c → Prints a c
+prints-again a b c (x, e) (y, f) = (x ++ y, rw (f, e) (ap (λ (z : List ℕ). record a { written = z }) (append_assoc a.written x y)))
+
+-- ---- bytes that leave
+
+pub taken-again : (old now new : Debugger) (done more : List ℕ) → now ≡ with_taken done old → new ≡ with_taken more now → new ≡ with_taken (done ++ more) old
+taken-again old now new done more e h = rw (h, e) (grind (arith, common_steps, append_assoc, drop-drop, length-append))
+
+-- ---- what goes on
+
+-- all that was put was written, and what was read was told
+pub moved-goes : (done done' : List PlanLine) (base : Standing) (s o : Story) (old mid : Debugger) (left left' turns tickets : ℕ) (s' o' : Story) (new : Debugger)
+    → IsGoing done base (at s o old left) → Moves old mid turns tickets → is_open mid.end ≡ true → asks done' ≡ asks done + tickets → left' + turns ≡ left
+    → new ≡ with_taken mid.end.outgoing mid → s' ≡ with_written mid.end.outgoing s → Prints o o'
+    → IsGoing done' base (at s' o' new left')
+moved-goes done done' base s o old mid left left' turns tickets s' o' new k p opened counts spent is written printed =
+    rw (is, written) (record {
+      ready = (opened, grind (arith, common_steps));
+      kept = p.kept ∙ k.kept;
+      asked = omega (arith, p.tickets_are, k.asked, counts);
+      read = grind (arith, common_steps, k.read, p.fed);
+      written = grind (arith, common_steps, k.written, k.ready.1, p.enqueued, p.outgoing, append_assoc);
+      failed_reads = k.failed_reads;
+      failed_writes = k.failed_writes;
+      ends = k.ends;
+      printed = prints-again base.out o o' k.printed printed;
+      turns = omega (arith, p.turns_are, k.turns, spent);
+    })
+
+-- bytes were read and fed, behind a turn that handled nothing
+pub read-goes : (done : List PlanLine) (base : Standing) (s o : Story) (old mid new : Debugger) (left left' : ℕ) (s' : Story)
+    → IsGoing done base (at s o old left) → mid ≡ record old { last = [] } → ReadsMore mid new s s' → left' + 1 ≡ left → IsGoing done base (at s' o new left')
+read-goes done base s o old mid new left left' s' k same (more, fed, read) spent =
+    rw (fed, read, same) (record {
+      ready = k.ready;
+      kept = k.kept;
+      asked = k.asked;
+      read = grind (arith, common_steps, k.read, append_assoc);
+      written = k.written;
+      failed_reads = k.failed_reads;
+      failed_writes = k.failed_writes;
+      ends = k.ends;
+      printed = k.printed;
+      turns = omega (arith, k.turns, spent);
+    })
+
+-- lines were printed
+pub printed-goes : (done : List PlanLine) (base : Standing) (s o o' : Story) (d : Debugger) (left : ℕ) → IsGoing done base (at s o d left) → Prints o o' → IsGoing done base (at s o' d left)
+printed-goes done base s o o' d left k printed = record {
+  ready = k.ready;
+  kept = k.kept;
+  asked = k.asked;
+  read = k.read;
+  written = k.written;
+  failed_reads = k.failed_reads;
+  failed_writes = k.failed_writes;
+  ends = k.ends;
+  printed = prints-again base.out o o' k.printed printed;
+  turns = k.turns;
+}
+
+-- ---- results
+
+pub on-ok : {A E P Q : Type 0} (r : Result A E) → (P → Q) → OnOk r P → OnOk r Q
+on-ok (Ok a) f p = f p
+on-ok (Err e) f p = p
+
+pub if-err : {A E : Type 0} {P Q : E → Type 0} (r : Result A E) → ((e : E) → P e → Q e) → IfErr r P → IfErr r Q
+if-err (Ok a) f p = p
+if-err (Err e) f p = f e p
+
+-- ---- lines
+
+-- a line that asks nothing
+pub line-goes : (done : List PlanLine) (line : PlanLine) (base now : Standing) → asks_of line ≡ 0 → IsGoing done base now → IsGoing (done ++ line ∷ []) base now
+line-goes done line base now none k = record {
+  ready = k.ready;
+  kept = k.kept;
+  asked = omega (arith, k.asked, none, asks-append done line);
+  read = k.read;
+  written = k.written;
+  failed_reads = k.failed_reads;
+  failed_writes = k.failed_writes;
+  ends = k.ends;
+  printed = k.printed;
+  turns = k.turns;
+}
+
+pub taken-ready : (mid new : Debugger) → is_open mid.end ≡ true → new ≡ with_taken mid.end.outgoing mid → IsReady new
+taken-ready mid new opened is = rw is (opened, grind (arith, common_steps))
+
+-- a command that was asked
+pub asked-moves : (command : Command) (old new : Debugger) → HasAsked command old new → Moves old new 0 1
+asked-moves command old new h =
+    rw h.is (record {
+      kept = refl;
+      fed = refl;
+      turns_are = omega arith;
+      tickets_are = refl;
+      bytes = command_bytes h.widths h.id command;
+      enqueued = refl;
+      outgoing = refl;
+    })
+
+pub asked-open : (command : Command) (old new : Debugger) → HasAsked command old new → is_open old.end ≡ true → is_open new.end ≡ true
+asked-open command old new h opened = rw h.is opened
+
+-- ---- commands that wait
+
+first-by : (k : Option Ticket) (c : Command) (us : List Unanswered) (b : Bool) → (at_place us 0 ≡ None → b ≡ false) → at_place (and_then k c us) 0 ≡ None → (is_some k || b) ≡ false
+first-by None c us b rest e = rest e
+first-by (Some k) c us b rest e = absurd cc
+
+first-none : (ps : List Asked) → at_place (unanswered ps) 0 ≡ None → has_tickets ps ≡ false
+first-none [] e = refl
+first-none (p ∷ ps) e = first-by p.ticket p.command (unanswered ps) (has_tickets ps) (first-none ps) e
+
+seen-none : (r : Option (Ticket × Bor Command)) (u : Option Unanswered) → is_some r ≡ false → seen_unanswered r ≡ u → u ≡ None
+seen-none None u none e = sym e
+seen-none (Some x) u none e = absurd cc
+
+pub none-waits : (ps : List Asked) (r : Option (Ticket × Bor Command)) → is_some r ≡ false → seen_unanswered r ≡ at_place (unanswered ps) 0 → has_tickets ps ≡ false
+none-waits ps r none e = first-none ps (seen-none r _ none e)

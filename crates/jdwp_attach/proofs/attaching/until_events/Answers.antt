@@ -1,0 +1,4 @@
+use Rattle.jdwp_attach.proofs.attaching.until_events.Goals as goal
+
+pub returns-in-Err-clause-ends : goal.returns-in-Err-clause-ends
+returns-in-Err-clause-ends g c = λ plan done base k. c.in-Err.ensures.ends plan done base (c.loop-run.invariant.goes done base k)

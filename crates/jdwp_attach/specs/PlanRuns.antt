@@ -1,0 +1,163 @@
+-- Why an engine that runs a debugger by a plan ends.
+use Rattle.std.specs.Prelude.{◌≡◌, ◌≢◌, ◌⊎◌, ℕ, ◌<◌, ◌+◌, true, false, List, [], ◌∷◌, ◌++◌, Option, Some, None, Result, Ok, Err, slice_get, ⊤}
+use Rattle.std.specs.List.{list_any}
+use Rattle.jdwp_wire.specs.declared.data_fault.DataFault.{DataFault}
+use Rattle.jdwp_wire.specs.FaultNumbers as frame
+use Rattle.jdwp_wire.specs.Streams.{More}
+use Rattle.jdwp_wire.specs.Widths.{Widths}
+use Rattle.jdwp_layout.specs.declared.answer.Answer.{Answer}
+use Rattle.jdwp_layout.specs.CommandTable.{row_at}
+use Rattle.jdwp_layout.specs.Meanings.{DatumMeaning}
+use Rattle.jdwp_layout.specs.Reads.{data_at}
+use Rattle.jdwp_layout.specs.Rows.{Row, RowShapes}
+use Rattle.jdwp_end.specs.Ends.{front_of, is_open}
+use Rattle.jdwp_debuggee.specs.Actions.{Command, Content, Raw}
+use Rattle.jdwp_debugger.specs.declared.asking.Refused as asking
+use Rattle.jdwp_debugger.specs.declared.asking.Refused.TheVariants as refusal
+use Rattle.jdwp_debugger.specs.declared.faults.DebuggerFault.{DebuggerFault}
+use Rattle.jdwp_debugger.specs.declared.faults.DebuggerFault.TheVariants as code
+use Rattle.jdwp_debugger.specs.declared.pending.Asked.{Asked}
+use Rattle.jdwp_debugger.specs.declared.turning.Read.{Read}
+use Rattle.jdwp_debugger.specs.Asking.{refusal_of_ask}
+use Rattle.jdwp_debugger.specs.Debuggers.{Debugger, has_tickets, lost, with_taken}
+use Rattle.jdwp_debugger.specs.DebuggerTurns.{Told, Nothing, Hello, Parked, Sizes, Answered, Seen, TurnsAt, reports, told}
+use Rattle.jdwp_debugger.specs.Messages.{Reply, Report}
+use Rattle.jdwp_debugger.specs.Mirror.{ends}
+use Rattle.jdwp_debugger.specs.RefusedNumbers.{refused_number}
+use Rattle.jdwp_engine.specs.declared.ended.Ended.{Ended}
+use Rattle.jdwp_engine.specs.declared.ended.Ended.TheVariants.{Done, LostByRead, LostByWrite, Refused, NoMemory, TurnLimit}
+use Rattle.jdwp_engine.specs.Story.{Story}
+use Rattle.jdwp_plan.specs.declared.plan_line.PlanLine.{PlanLine}
+use Rattle.jdwp_plan.specs.declared.plan_line.PlanLine.TheVariants as line
+use Rattle.jdwp_attach.specs.Runs.{Standing, InOrder, IsGoing, asks}
+
+-- ---- the commands of a plan
+
+-- the data of a command, where the request's layout reads them
+abbrev pub content_asked : ℕ → ℕ → Result (List DatumMeaning) DataFault → Option Command
+content_asked set number (Ok content) = Some (record { set = set; number = number; carried = Content content })
+content_asked set number (Err fault) = None
+
+abbrev pub shapes_asked : Widths → ℕ → ℕ → List ℕ → Option RowShapes → Option Command
+shapes_asked w set number bytes None = Some (record { set = set; number = number; carried = Raw bytes })
+shapes_asked w set number bytes (Some shapes) = content_asked set number (data_at w shapes.request bytes)
+
+abbrev pub row_asked : Widths → ℕ → ℕ → List ℕ → Option Row → Option Command
+row_asked w set number bytes None = Some (record { set = set; number = number; carried = Raw bytes })
+row_asked w set number bytes (Some row) = shapes_asked w set number bytes row.shapes
+
+-- The command that a line asks: its bytes are read by the layout of the request, or stay as they are where it has none. None where they
+-- do not read.
+abbrev pub command_asked : Widths → ℕ → ℕ → List ℕ → Option Command
+command_asked w set number bytes = row_asked w set number bytes (row_at set number)
+
+-- ---- why a run ends
+
+-- the debugger is as after a loss, and before it this held
+abbrev pub IsLostFrom : (Debugger → Type 0) → Debugger → Type 0
+IsLostFrom P d = (before : Debugger) × P before × (before.end.session.lost ≡ false) × (d ≡ lost before)
+
+-- this answers the command at a place, which was asked under the ticket, and ends the session
+pub record AnswersEnd (d : Debugger) (ticket : ℕ) (answer : Answer) : Type 0 where
+  pub place : ℕ
+  pub asked : Asked
+  pub there : slice_get d.pending place ≡ Some asked
+  pub under : asked.ticket ≡ Some (record { 0 = ticket })
+  pub ends : ends (Reply (Some ticket) asked.command answer) ≡ true
+
+-- what is told of what a turn read ends the session: an answer without an error to Dispose, or the death of the machine
+abbrev pub TellsEnd : Debugger → Told → Type 0
+TellsEnd d (Sizes composites) = list_any ends (reports composites) ≡ true
+TellsEnd d (Answered ticket answer) = AnswersEnd d ticket answer
+TellsEnd d (Seen composite) = ends (Report composite) ≡ true
+TellsEnd d Nothing = ⊥
+TellsEnd d Hello = ⊥
+TellsEnd d Parked = ⊥
+
+-- The last turn read what ends the session, and what waited to leave left.
+abbrev pub ReadsEnd : Debugger → Type 0
+ReadsEnd d =
+    (old : Debugger) × (read : Read) × (new : Debugger) × TurnsAt (front_of old.end) old (Ok read) new × TellsEnd old (told read) × (d ≡ with_taken new.end.outgoing new)
+
+-- Every command of the plan was asked and answered.
+abbrev pub IsFinished : List PlanLine → Debugger → Debugger → Type 0
+IsFinished plan base d = (d.tickets ≡ base.tickets + asks plan) × (has_tickets d.pending ≡ false)
+
+-- the number by which a program tells a fault: that of the bytes' own fault
+abbrev pub told_number : DebuggerFault → ℕ
+told_number (code.Frame fault) = frame.fault_number fault
+told_number code.UnknownReply = 42
+told_number code.BadReply = 43
+told_number code.TooManyParked = 44
+told_number code.BadEvent = 45
+told_number code.NoMemory = 46
+
+-- A turn refused what the target sent.
+abbrev pub RefusesTurn : ℕ → Debugger → Type 0
+RefusesTurn number d =
+    (old : Debugger) × (fault : DebuggerFault) × TurnsAt (front_of old.end) old (Err fault) d × (fault ≢ code.NoMemory) × (number ≡ told_number fault)
+
+-- the debugger refuses a command by a refusal of this number, or there is none since the bytes do not read
+abbrev pub RefusesCommand : Debugger → ℕ → Option Command → Type 0
+RefusesCommand d number None = number ≡ 36
+RefusesCommand d number (Some command) = (refused : asking.Refused) × (refusal_of_ask d command ≡ Some refused) × (number ≡ refused_number refused)
+
+-- the line asks this command with these bytes
+abbrev pub IsAsk : PlanLine → ℕ → ℕ → List ℕ → Type 0
+IsAsk (line.Ask set number bytes) s n carried = (set ≡ s) × (number ≡ n) × (bytes.items ≡ carried)
+IsAsk line.Answers s n carried = ⊥
+IsAsk (line.Events count) s n carried = ⊥
+IsAsk line.Mirror s n carried = ⊥
+
+-- It refused the command of a line of the plan; those of the lines before it were asked.
+pub record RefusesLine (plan : List PlanLine) (base : Debugger) (number : ℕ) (d : Debugger) : Type 0 where
+  pub done : List PlanLine
+  pub line : PlanLine
+  pub rest : List PlanLine
+  pub plan_is : plan ≡ done ++ line ∷ rest
+  pub asked : d.tickets ≡ base.tickets + asks done
+  pub set : ℕ
+  pub command : ℕ
+  pub carried : List ℕ
+  pub asks_it : IsAsk line set command carried
+  pub widths : Widths
+  pub known : d.sizes ≡ Some widths
+  pub refused : RefusesCommand d number (command_asked widths set command carried)
+
+-- no write failed
+abbrev pub IsWritten : Standing → Story → Story → Type 0
+IsWritten base pipe out = (pipe.failed_writes ≡ base.pipe.failed_writes) × (out.failed_writes ≡ base.out.failed_writes)
+
+-- Why a run of a plan may end so, what went through the pipes then, and what the debugger is: but for want of memory and the limit of turns
+-- it is as after a loss.
+abbrev pub MayEnd : List PlanLine → Ended → Standing → Story → Story → Debugger → Type 0
+MayEnd plan Done base pipe out d = IsLostFrom (λ before. ReadsEnd before ⊎ IsFinished plan base.debugger before) d × IsWritten base pipe out
+MayEnd plan LostByRead base pipe out d = (base.pipe.failed_reads + base.pipe.ends < pipe.failed_reads + pipe.ends) × IsLostFrom (λ before. front_of before.end ≡ More) d
+MayEnd plan LostByWrite base pipe out d = ((base.pipe.failed_writes < pipe.failed_writes) ⊎ (base.out.failed_writes < out.failed_writes)) × IsLostFrom (λ before. ⊤) d
+MayEnd plan (Refused number) base pipe out d = IsLostFrom (λ before. RefusesTurn number before ⊎ RefusesLine plan base.debugger number before) d
+MayEnd plan NoMemory base pipe out d = (d.end.session.lost ≡ false) × IsWritten base pipe out
+MayEnd plan TurnLimit base pipe out d =
+    (is_open d.end ≡ true) × (d.end.session.lost ≡ false) × IsWritten base pipe out × (d.end.session.turns + pipe.rooms ≡ base.pipe.rooms + base.left)
+
+-- A call that ends so, in every run that came to it.
+abbrev pub EndsSo : Standing → Standing → Ended → Type 0
+EndsSo old new ended =
+    (plan done : List PlanLine) (base : Standing) → IsGoing done base old → InOrder base new.pipe new.out new.debugger × MayEnd plan ended base new.pipe new.out new.debugger
+
+-- The same of a line of the plan, behind those that were carried out.
+abbrev pub LineEndsSo : PlanLine → Standing → Standing → Ended → Type 0
+LineEndsSo line old new ended =
+    (done rest : List PlanLine) (base : Standing) → IsGoing done base old → InOrder base new.pipe new.out new.debugger × MayEnd (done ++ line ∷ rest) ended base new.pipe new.out new.debugger
+
+-- A line that was carried out, in every run that came to it.
+abbrev pub LineGoesOn : PlanLine → Standing → Standing → Type 0
+LineGoesOn line old new = (done : List PlanLine) (base : Standing) → IsGoing done base old → IsGoing (done ++ line ∷ []) base new
+
+-- How a run ends at a turn that failed, and at a command that was refused: the debugger loses the connection, but for want of memory.
+abbrev pub EndsFailed : DebuggerFault → Debugger → Debugger → Ended → Type 0
+EndsFailed code.NoMemory old new ended = (ended ≡ NoMemory) × (new ≡ old)
+EndsFailed fault old new ended = (ended ≡ Refused (told_number fault)) × (new ≡ lost old)
+
+abbrev pub EndsRefused : asking.Refused → Debugger → Debugger → Ended → Type 0
+EndsRefused refusal.NoMemory old new ended = (ended ≡ NoMemory) × (new ≡ old)
+EndsRefused refused old new ended = (ended ≡ Refused (refused_number refused)) × (new ≡ lost old)

@@ -1,0 +1,135 @@
+//! The commands that a plan asks.
+ghost use Rattle.std.specs.Prelude.{◌≡◌, [], ◌∷◌, ◌++◌, ◌+◌, true, is_some, IfErr, IfOk, None, OnOk, Some};
+ghost use Rattle.jdwp_plan.specs.declared.plan_line.PlanLine.{PlanLine};
+ghost use Rattle.jdwp_attach.specs.declared.asking.Unread.TheVariants as unread;
+ghost use Rattle.jdwp_attach.specs.PlanRuns.{EndsRefused, IsAsk, LineEndsSo, LineGoesOn, command_asked};
+ghost use Rattle.jdwp_attach.specs.Runs.{IsReady, asks_of, at};
+ghost use Rattle.jdwp_engine.specs.Story.{Story};
+
+use crate::run::{Run, Waiting};
+use crate::turning::write_out;
+use jdwp_debugger::{Command, Debugger, Refused};
+use jdwp_engine::{Ended, Pipe};
+use jdwp_layout::{layout_of, read};
+use jdwp_wire::{DataFault, IdSizes};
+use std::alloc::{AllocError, Global};
+
+/// Why a line is no command.
+#[derive(Clone, Copy)]
+pub(crate) enum Unread {
+    /// The bytes do not read by the layout of the request.
+    BadData,
+    /// An allocation was refused.
+    NoMemory,
+}
+
+impl From<AllocError> for Unread {
+    ghost from_gives = { λ _ e. e ≡ unread.NoMemory };
+
+    fn from(_error: AllocError) -> Unread {
+        Unread::NoMemory
+    }
+}
+
+/// The command of a line: its bytes are read by the layout of the request, or stay as they are where it has none.
+///
+/// # Errors
+/// `BadData` where they do not read; `NoMemory` where an allocation was refused.
+fn command_of(
+    alloc: Global,
+    sizes: &IdSizes,
+    set: u8,
+    number: u8,
+    bytes: &[u8],
+) -> Result<Command, Unread>
+    ensures ok { IfOk result (λ command. command_asked sizes.now set number bytes.now ≡ Some command) }
+    ensures err { IfErr result (λ e. e ≡ Unread.BadData → command_asked sizes.now set number bytes.now ≡ None) }
+{
+    let layouts = match layout_of(set, number) {
+        Some(row) => row.layouts,
+        None => None,
+    };
+    match layouts {
+        Some(layouts) => match read(alloc, &layouts.request, sizes, bytes) {
+            Ok(items) => Ok(Command::new(set, number, items)),
+            Err(DataFault::NoMemory) => Err(Unread::NoMemory),
+            Err(_) => Err(Unread::BadData),
+        },
+        None => {
+            let mut carried = Vec::with_capacity(alloc, bytes.len())?;
+            carried.extend_from_slice(bytes)?;
+            Ok(Command::raw(set, number, carried))
+        }
+    }
+}
+
+/// The number of the refusal of data that do not read.
+const BAD_COMMAND: u16 = 36;
+
+/// Asks the command of a line, and writes its packet.
+///
+/// # Errors
+/// Why the run ends: `Refused(36)` where the bytes do not read by the layout of the request, else `Refused` with the number of the
+/// debugger's refusal.
+pub(crate) fn ask_line<P: Pipe>(
+    alloc: Global,
+    debugger: &mut Debugger,
+    pipe: &mut P,
+    run: &mut Run,
+    set: u8,
+    number: u8,
+    bytes: &[u8],
+) -> Result<(), Ended>
+    requires ready { IsReady debugger.old }
+    requires known { is_some debugger.old.sizes ≡ true }
+    ensures goes { OnOk result ((out : Story) (line : PlanLine) → asks_of line ≡ 1 → LineGoesOn line (at (P.story pipe.old) out debugger.old run.old.left) (at (P.story pipe.new) out debugger.new run.new.left)) }
+    ensures ready { OnOk result (IsReady debugger.new) }
+    ensures known { OnOk result (is_some debugger.new.sizes ≡ true) }
+    ensures ends { IfErr result (λ ended. (out : Story) (line : PlanLine) → IsAsk line set number bytes.now → LineEndsSo line (at (P.story pipe.old) out debugger.old run.old.left) (at (P.story pipe.new) out debugger.new run.new.left) ended) }
+{
+    let Some(sizes) = debugger.sizes() else {
+        unreachable!();
+    };
+    let command = match command_of(alloc, &sizes, set, number, bytes) {
+        Ok(command) => command,
+        Err(Unread::NoMemory) => return Err(Ended::NoMemory),
+        Err(Unread::BadData) => {
+            debugger.lose();
+            return Err(Ended::Refused(BAD_COMMAND));
+        }
+    };
+    let ticket = match debugger.ask(alloc, command) {
+        Ok(ticket) => ticket,
+        Err(refused) => return Err(end_refused(debugger, refused)),
+    };
+    if !write_out(debugger, pipe, &mut run.buffer) {
+        debugger.lose();
+        return Err(Ended::LostByWrite);
+    }
+    let waiting = Waiting {
+        ticket,
+        set,
+        number,
+    };
+    match run.waiting.push(waiting) {
+        Ok(()) => Ok(()),
+        Err(_) => Err(Ended::NoMemory),
+    }
+}
+
+/// How the run ends at a command that the debugger refused.
+fn end_refused(debugger: &mut Debugger, refused: Refused) -> Ended
+    ensures { EndsRefused refused debugger.old debugger.new result }
+{
+    match refused {
+        Refused::NoMemory => Ended::NoMemory,
+        Refused::Closed
+        | Refused::NotReady
+        | Refused::Busy
+        | Refused::BadCommand
+        | Refused::TooLong => {
+            debugger.lose();
+            Ended::Refused(refused.number())
+        }
+    }
+}

@@ -1,0 +1,284 @@
+//! The engine that runs a debugger on a pipe by a plan.
+ghost use Rattle.std.specs.Prelude.{◌≡◌, ◌||◌, [], ℕ, List, true, false, is_some, OnOk, IfErr, IsTrue};
+ghost use Rattle.jdwp_end.specs.Ends.{is_open};
+ghost use Rattle.jdwp_debugger.specs.Debuggers.{attached, has_tickets};
+ghost use Rattle.jdwp_plan.specs.declared.plan_line.PlanLine as declared;
+ghost use Rattle.jdwp_engine.specs.Story.{Story};
+ghost use Rattle.jdwp_attach.specs.PlanRuns.{EndsSo, LineEndsSo, LineGoesOn, MayEnd};
+ghost use Rattle.jdwp_attach.specs.Runs.{FailsFlush, GoesOn, InOrder, IsGoing, IsReady, Prints, Standing, at};
+
+use crate::asking::ask_line;
+use crate::printing::{Unprinted, print_mirror};
+use crate::run::{CHUNK, Run};
+use crate::turning::{turn_once, write_out};
+use jdwp_debugger::Debugger;
+use jdwp_engine::{Ended, Pipe};
+use jdwp_plan::PlanLine;
+use std::alloc::Global;
+
+/// Runs the debugger on the pipe for one session by the plan, for at most so many turns.
+///
+/// It begins with `attach`; a debugger whose session is open, or tickets of whose last session wait for `lose`, is `Refused(0)`, with
+/// nothing touched. It turns until the widths of ids are known. Then it carries out the lines of the plan: `ask` asks a command, `answers`
+/// turns until no command waits for its answer, `events` turns until so many composites were read in the session, and `mirror` prints what
+/// the debugger knows; no other line makes a turn. After the last line it turns until no command waits, and the debugger loses the
+/// connection. A turn that handles nothing is followed by one read of at most 4,096 bytes and of what the debugger has room for, which are
+/// fed. What waits to leave is written after each turn, and what it read is printed to `out` in the lines of `show`: the composites that
+/// waited for the widths of ids at the turn in which they are read. The run is done where the plan is finished, and at the turn that reads
+/// an answer without an error to Dispose or the death of the machine, whatever lines are left. Where the input ends, or a read or a write
+/// fails, those to `out` among them, the debugger loses the connection; the pipe and `out` are flushed at the end, whatever the end is.
+pub fn attach<P: Pipe, W: Pipe>(
+    alloc: Global,
+    debugger: &mut Debugger,
+    pipe: &mut P,
+    plan: &[PlanLine],
+    out: &mut W,
+    turns: u64,
+) -> Ended
+    ensures refused { (is_open debugger.old.end || has_tickets debugger.old.pending) ≡ true → (result ≡ Ended.Refused 0) × (debugger.new ≡ debugger.old) × (P.story pipe.new ≡ P.story pipe.old) × (W.story out.new ≡ W.story out.old) }
+    ensures in_order { (is_open debugger.old.end || has_tickets debugger.old.pending) ≡ false → InOrder (at (P.story pipe.old) (W.story out.old) (attached debugger.old) turns) (P.story pipe.new) (W.story out.new) debugger.new }
+    ensures ended { (is_open debugger.old.end || has_tickets debugger.old.pending) ≡ false → MayEnd plan.now result (at (P.story pipe.old) (W.story out.old) (attached debugger.old) turns) (P.story pipe.new) (W.story out.new) debugger.new }
+{
+    if !debugger.attach() {
+        return Ended::Refused(0);
+    }
+    let ended = run_session(alloc, debugger, pipe, plan, out, turns);
+    let flushed = flush_both(pipe, out);
+    if flushed {
+        ended
+    } else {
+        lose_what_is_kept(debugger, ended)
+    }
+}
+
+/// Flushes both, and says whether that succeeded.
+fn flush_both<P: Pipe, W: Pipe>(pipe: &mut P, out: &mut W) -> bool
+    ensures all { IsTrue result → (P.story pipe.new ≡ P.story pipe.old) × (W.story out.new ≡ W.story out.old) }
+    ensures fails { result ≡ false → FailsFlush (P.story pipe.old) (W.story out.old) (P.story pipe.new) (W.story out.new) }
+{
+    let left = pipe.flush().is_ok();
+    let printed = out.flush().is_ok();
+    left && printed
+}
+
+/// The last flush failed: a run that was not lost or refused before is lost now.
+fn lose_what_is_kept(debugger: &mut Debugger, ended: Ended) -> Ended
+    ensures { (plan : List declared.PlanLine) (base : Standing) (pipe out pipe' out' : Story) → InOrder base pipe out debugger.old → MayEnd plan ended base pipe out debugger.old → FailsFlush pipe out pipe' out' → InOrder base pipe' out' debugger.new × MayEnd plan result base pipe' out' debugger.new }
+{
+    match ended {
+        Ended::LostByRead | Ended::LostByWrite | Ended::Refused(_) => ended,
+        Ended::Done => Ended::LostByWrite,
+        Ended::NoMemory | Ended::TurnLimit => {
+            debugger.lose();
+            Ended::LostByWrite
+        }
+    }
+}
+
+/// Runs a session that was begun.
+fn run_session<P: Pipe, W: Pipe>(
+    alloc: Global,
+    debugger: &mut Debugger,
+    pipe: &mut P,
+    plan: &[PlanLine],
+    out: &mut W,
+    turns: u64,
+) -> Ended
+    requires { debugger.old ≡ attached debugger.old }
+    ensures in_order { InOrder (at (P.story pipe.old) (W.story out.old) debugger.old turns) (P.story pipe.new) (W.story out.new) debugger.new }
+    ensures ended { MayEnd plan.now result (at (P.story pipe.old) (W.story out.old) debugger.old turns) (P.story pipe.new) (W.story out.new) debugger.new }
+{
+    let mut run = Run {
+        left: turns,
+        composites: 0,
+        waiting: Vec::new(alloc),
+        buffer: [0; CHUNK],
+    };
+    match run_plan(alloc, debugger, pipe, plan, out, &mut run) {
+        Ok(()) => {
+            debugger.lose();
+            Ended::Done
+        }
+        Err(ended) => ended,
+    }
+}
+
+/// Runs a session that was begun until all commands of the plan were asked and answered.
+///
+/// # Errors
+/// Why the run ends before.
+fn run_plan<P: Pipe, W: Pipe>(
+    alloc: Global,
+    debugger: &mut Debugger,
+    pipe: &mut P,
+    plan: &[PlanLine],
+    out: &mut W,
+    run: &mut Run,
+) -> Result<(), Ended>
+    requires { debugger.old ≡ attached debugger.old }
+    ensures finished { OnOk result (IsGoing plan.now (at (P.story pipe.old) (W.story out.old) debugger.old run.old.left) (at (P.story pipe.new) (W.story out.new) debugger.new run.new.left)) }
+    ensures answered { OnOk result (has_tickets debugger.new.pending ≡ false) }
+    ensures ends { IfErr result (λ ended. InOrder (at (P.story pipe.old) (W.story out.old) debugger.old run.old.left) (P.story pipe.new) (W.story out.new) debugger.new × MayEnd plan.now ended (at (P.story pipe.old) (W.story out.old) debugger.old run.old.left) (P.story pipe.new) (W.story out.new) debugger.new) }
+{
+    if let Err(ended) = write_hello(debugger, pipe, &mut run.buffer) {
+        return Err(ended);
+    }
+    if let Err(ended) = until_sizes(alloc, debugger, pipe, out, run) {
+        return Err(ended);
+    }
+    for line in plan {
+        if let Err(ended) = carry_out(alloc, debugger, pipe, line, out, run) {
+            return Err(ended);
+        }
+    }
+    until_answered(alloc, debugger, pipe, out, run)
+}
+
+/// Writes the handshake, which waits to leave.
+///
+/// # Errors
+/// `LostByWrite` where a write failed.
+fn write_hello<P: Pipe>(
+    debugger: &mut Debugger,
+    pipe: &mut P,
+    buffer: &mut [u8; CHUNK],
+) -> Result<(), Ended>
+    requires { debugger.old ≡ attached debugger.old }
+    ensures goes { OnOk result ((out : Story) (left : ℕ) → IsGoing [] (at (P.story pipe.old) out debugger.old left) (at (P.story pipe.new) out debugger.new left)) }
+    ensures ready { OnOk result (IsReady debugger.new) }
+    ensures ends { IfErr result (λ ended. (plan : List declared.PlanLine) (out : Story) (left : ℕ) → InOrder (at (P.story pipe.old) out debugger.old left) (P.story pipe.new) out debugger.new × MayEnd plan ended (at (P.story pipe.old) out debugger.old left) (P.story pipe.new) out debugger.new) }
+{
+    if !write_out(debugger, pipe, buffer) {
+        debugger.lose();
+        return Err(Ended::LostByWrite);
+    }
+    Ok(())
+}
+
+/// Turns until the widths of ids are known.
+///
+/// # Errors
+/// Why the run ends before.
+fn until_sizes<P: Pipe, W: Pipe>(
+    alloc: Global,
+    debugger: &mut Debugger,
+    pipe: &mut P,
+    out: &mut W,
+    run: &mut Run,
+) -> Result<(), Ended>
+    requires ready { IsReady debugger.old }
+    ensures goes { OnOk result (GoesOn (at (P.story pipe.old) (W.story out.old) debugger.old run.old.left) (at (P.story pipe.new) (W.story out.new) debugger.new run.new.left)) }
+    ensures ready { OnOk result (IsReady debugger.new) }
+    ensures known { OnOk result (is_some debugger.new.sizes ≡ true) }
+    ensures ends { IfErr result (EndsSo (at (P.story pipe.old) (W.story out.old) debugger.old run.old.left) (at (P.story pipe.new) (W.story out.new) debugger.new run.new.left)) }
+{
+    while debugger.sizes().is_none() {
+        if let Err(ended) = turn_once(alloc, debugger, pipe, out, run) {
+            return Err(ended);
+        }
+    }
+    Ok(())
+}
+
+/// Carries out a line of the plan.
+///
+/// # Errors
+/// Why the run ends.
+fn carry_out<P: Pipe, W: Pipe>(
+    alloc: Global,
+    debugger: &mut Debugger,
+    pipe: &mut P,
+    line: &PlanLine,
+    out: &mut W,
+    run: &mut Run,
+) -> Result<(), Ended>
+    requires ready { IsReady debugger.old }
+    requires known { is_some debugger.old.sizes ≡ true }
+    ensures goes { OnOk result (LineGoesOn line.now (at (P.story pipe.old) (W.story out.old) debugger.old run.old.left) (at (P.story pipe.new) (W.story out.new) debugger.new run.new.left)) }
+    ensures ready { OnOk result (IsReady debugger.new) }
+    ensures known { OnOk result (is_some debugger.new.sizes ≡ true) }
+    ensures ends { IfErr result (LineEndsSo line.now (at (P.story pipe.old) (W.story out.old) debugger.old run.old.left) (at (P.story pipe.new) (W.story out.new) debugger.new run.new.left)) }
+{
+    match line {
+        PlanLine::Ask { set, number, data } => {
+            ask_line(alloc, debugger, pipe, run, *set, *number, data)
+        }
+        PlanLine::Answers => until_answered(alloc, debugger, pipe, out, run),
+        PlanLine::Events(count) => until_events(alloc, debugger, pipe, out, run, *count),
+        PlanLine::Mirror => tell_mirror(alloc, debugger, out),
+    }
+}
+
+/// Turns until no command waits for its answer.
+///
+/// # Errors
+/// Why the run ends before.
+fn until_answered<P: Pipe, W: Pipe>(
+    alloc: Global,
+    debugger: &mut Debugger,
+    pipe: &mut P,
+    out: &mut W,
+    run: &mut Run,
+) -> Result<(), Ended>
+    requires ready { IsReady debugger.old }
+    requires known { is_some debugger.old.sizes ≡ true }
+    ensures goes { OnOk result (GoesOn (at (P.story pipe.old) (W.story out.old) debugger.old run.old.left) (at (P.story pipe.new) (W.story out.new) debugger.new run.new.left)) }
+    ensures ready { OnOk result (IsReady debugger.new) }
+    ensures known { OnOk result (is_some debugger.new.sizes ≡ true) }
+    ensures answered { OnOk result (has_tickets debugger.new.pending ≡ false) }
+    ensures ends { IfErr result (EndsSo (at (P.story pipe.old) (W.story out.old) debugger.old run.old.left) (at (P.story pipe.new) (W.story out.new) debugger.new run.new.left)) }
+{
+    while debugger.unanswered(0).is_some() {
+        if let Err(ended) = turn_once(alloc, debugger, pipe, out, run) {
+            return Err(ended);
+        }
+    }
+    Ok(())
+}
+
+/// Turns until so many composites were read in the session.
+///
+/// # Errors
+/// Why the run ends before.
+fn until_events<P: Pipe, W: Pipe>(
+    alloc: Global,
+    debugger: &mut Debugger,
+    pipe: &mut P,
+    out: &mut W,
+    run: &mut Run,
+    count: u32,
+) -> Result<(), Ended>
+    requires ready { IsReady debugger.old }
+    requires known { is_some debugger.old.sizes ≡ true }
+    ensures goes { OnOk result (GoesOn (at (P.story pipe.old) (W.story out.old) debugger.old run.old.left) (at (P.story pipe.new) (W.story out.new) debugger.new run.new.left)) }
+    ensures ready { OnOk result (IsReady debugger.new) }
+    ensures known { OnOk result (is_some debugger.new.sizes ≡ true) }
+    ensures ends { IfErr result (EndsSo (at (P.story pipe.old) (W.story out.old) debugger.old run.old.left) (at (P.story pipe.new) (W.story out.new) debugger.new run.new.left)) }
+{
+    while run.composites < u64::from(count) {
+        if let Err(ended) = turn_once(alloc, debugger, pipe, out, run) {
+            return Err(ended);
+        }
+    }
+    Ok(())
+}
+
+/// Prints what the debugger knows.
+///
+/// # Errors
+/// Why the run ends.
+fn tell_mirror<W: Pipe>(alloc: Global, debugger: &mut Debugger, out: &mut W) -> Result<(), Ended>
+    requires { IsReady debugger.old }
+    ensures goes { OnOk result ((pipe : Story) (left : ℕ) → GoesOn (at pipe (W.story out.old) debugger.old left) (at pipe (W.story out.new) debugger.new left)) }
+    ensures kept { OnOk result (debugger.new ≡ debugger.old) }
+    ensures ends { IfErr result (λ ended. (pipe : Story) (left : ℕ) → EndsSo (at pipe (W.story out.old) debugger.old left) (at pipe (W.story out.new) debugger.new left) ended) }
+{
+    match print_mirror(alloc, debugger, out) {
+        Ok(()) => Ok(()),
+        Err(Unprinted::NoMemory) => Err(Ended::NoMemory),
+        Err(Unprinted::Failed) => {
+            debugger.lose();
+            Err(Ended::LostByWrite)
+        }
+    }
+}

@@ -1,0 +1,170 @@
+//! Lines that are printed.
+ghost use Rattle.std.specs.Prelude.{◌≡◌, IfErr, OnOk};
+ghost use Rattle.jdwp_attach.specs.declared.printing.Unprinted.TheVariants as why;
+ghost use Rattle.jdwp_attach.specs.Runs.{Prints, PrintsPart, IsUnprinted};
+
+use crate::lines::{HELLO, answered_line, request_line, seen_line, sizes_line, thread_line};
+use crate::run::{Run, Waiting};
+use jdwp_debugger::{Debugger, Head, Known, Read, Ticket};
+use jdwp_engine::{Pipe, write_all};
+use jdwp_event::Composite;
+use jdwp_layout::Answer;
+use jdwp_wire::NoMemory;
+use std::alloc::{AllocError, AllocFailed, Global};
+
+/// Why lines were not printed.
+#[derive(Clone, Copy)]
+pub(crate) enum Unprinted {
+    /// A write failed.
+    Failed,
+    /// An allocation was refused.
+    NoMemory,
+}
+
+impl From<NoMemory> for Unprinted {
+    ghost from_gives = { λ _ e. e ≡ why.NoMemory };
+
+    fn from(_error: NoMemory) -> Unprinted {
+        Unprinted::NoMemory
+    }
+}
+
+impl From<AllocError> for Unprinted {
+    ghost from_gives = { λ _ e. e ≡ why.NoMemory };
+
+    fn from(_error: AllocError) -> Unprinted {
+        Unprinted::NoMemory
+    }
+}
+
+impl<T: Drop> From<AllocFailed<T>> for Unprinted {
+    ghost from_gives = { λ _ e. e ≡ why.NoMemory };
+
+    fn from(_error: AllocFailed<T>) -> Unprinted {
+        Unprinted::NoMemory
+    }
+}
+
+/// Prints a text.
+fn print<W: Pipe>(out: &mut W, text: &str) -> Result<(), Unprinted>
+    ensures ok { OnOk result (Prints (W.story out.old) (W.story out.new)) }
+    ensures err { IfErr result (λ e. IsUnprinted e (W.story out.old) (W.story out.new)) }
+{
+    if write_all(out, text.as_bytes()) {
+        Ok(())
+    } else {
+        Err(Unprinted::Failed)
+    }
+}
+
+/// Prints what a turn read.
+pub(crate) fn print_read<W: Pipe>(
+    alloc: Global,
+    debugger: &Debugger,
+    out: &mut W,
+    run: &mut Run,
+    read: Read,
+) -> Result<(), Unprinted>
+    ensures ok { OnOk result (Prints (W.story out.old) (W.story out.new)) }
+    ensures err { IfErr result (λ e. IsUnprinted e (W.story out.old) (W.story out.new)) }
+    ensures left { run.new.left ≡ run.old.left }
+{
+    match read {
+        Read::Nothing | Read::Parked => Ok(()),
+        Read::Hello => print(out, HELLO),
+        Read::Sizes(composites) => print_sizes(alloc, debugger, out, run, composites),
+        Read::Answered(ticket, answer) => match take_waiting(run, ticket) {
+            Some(waiting) => print_answer(alloc, debugger, out, waiting, &answer),
+            None => Ok(()),
+        },
+        Read::Seen(composite) => {
+            run.composites = run.composites.saturating_add(1);
+            let line = seen_line(alloc, id_at(debugger.last(), 0), composite)?;
+            print(out, &line)
+        }
+    }
+}
+
+/// Prints the composites that waited for the widths of ids, and then the reply that had them.
+fn print_sizes<W: Pipe>(
+    alloc: Global,
+    debugger: &Debugger,
+    out: &mut W,
+    run: &mut Run,
+    composites: Vec<Composite>,
+) -> Result<(), Unprinted>
+    ensures ok { OnOk result (Prints (W.story out.old) (W.story out.new)) }
+    ensures err { IfErr result (λ e. IsUnprinted e (W.story out.old) (W.story out.new)) }
+    ensures left { run.new.left ≡ run.old.left }
+{
+    let heads = debugger.last();
+    let count = composites.len();
+    run.composites = run.composites.saturating_add(count as u64);
+    let mut text = String::new(alloc);
+    for (place, composite) in composites.into_iter().enumerate() {
+        text.push_str(&seen_line(alloc, id_at(heads, place), composite)?)?;
+    }
+    if let Some(sizes) = debugger.sizes() {
+        text.push_str(&sizes_line(alloc, id_at(heads, count), &sizes)?)?;
+    }
+    print(out, &text)
+}
+
+/// Prints the answer to a command.
+fn print_answer<W: Pipe>(
+    alloc: Global,
+    debugger: &Debugger,
+    out: &mut W,
+    waiting: Waiting,
+    answer: &Answer,
+) -> Result<(), Unprinted>
+    ensures ok { OnOk result (Prints (W.story out.old) (W.story out.new)) }
+    ensures err { IfErr result (λ e. IsUnprinted e (W.story out.old) (W.story out.new)) }
+{
+    let id = id_at(debugger.last(), 0);
+    let line = answered_line(alloc, id, waiting.set, waiting.number, answer)?;
+    print(out, &line)
+}
+
+/// Takes the command that was asked under this ticket off those that wait.
+fn take_waiting(run: &mut Run, ticket: Ticket) -> Option<Waiting>
+    ensures { run.new.left ≡ run.old.left }
+{
+    let place = run.waiting.iter().position(|w| w.ticket.0 == ticket.0)?;
+    Some(run.waiting.remove(place))
+}
+
+/// The packet id of one of the messages that a turn read, at its place; 0 where it has none.
+fn id_at(heads: &[Head], place: usize) -> u32 {
+    match heads.get(place) {
+        Some(Head::Packet(header)) => header.id,
+        Some(Head::Hello) | None => 0,
+    }
+}
+
+/// Prints what the debugger knows: the threads by rising id, and then the event requests by rising id.
+pub(crate) fn print_mirror<W: Pipe>(
+    alloc: Global,
+    debugger: &Debugger,
+    out: &mut W,
+) -> Result<(), Unprinted>
+    ensures ok { OnOk result (Prints (W.story out.old) (W.story out.new)) }
+    ensures err { IfErr result (λ e. IsUnprinted e (W.story out.old) (W.story out.new)) }
+{
+    let mut text = String::new(alloc);
+    let mut threads: Vec<Known> = Vec::new(alloc);
+    threads.extend_from_slice(debugger.mirror().known())?;
+    threads.sort_by_key(|thread| thread.id.0)?;
+    for thread in &threads {
+        text.push_str(&thread_line(alloc, thread)?)?;
+    }
+    let mut requests: Vec<(i32, u8, u8)> = Vec::new(alloc);
+    for request in debugger.mirror().requests() {
+        requests.push((request.id(), request.kind(), request.policy()))?;
+    }
+    requests.sort()?;
+    for (id, kind, policy) in &requests {
+        text.push_str(&request_line(alloc, *id, *kind, *policy)?)?;
+    }
+    print(out, &text)
+}

@@ -1,0 +1,3 @@
+pub mod FormLaws
+pub mod NumberLaws
+pub mod PlanLaws

@@ -1,0 +1,49 @@
+-- Lines one after the other.
+use Rattle.std.proofs.Common.{◌≡◌, ℕ, ◌+◌, ◌<◌, ◌≤◌, true, false, ◌||◌, Bor, List, [], ◌∷◌, ◌++◌, length, map, take, drop, get_or, Result, Ok, Err, refl, sym, ap, ◌∙◌}
+use Rattle.std.specs.List.{list_any}
+use Rattle.std.proofs.lemmas.List.{drop_more, take_more, map-append, take_all, take-append-drop}
+use Rattle.jdwp_plan.specs.declared.plan_fault.LineFault.{LineFault}
+use Rattle.jdwp_plan.specs.declared.plan_fault.LineFault.TheVariants.{Spacing}
+use Rattle.jdwp_plan.specs.declared.plan_fault.Refusal.{Refusal}
+use Rattle.jdwp_plan.specs.declared.plan_line.PlanLine.{PlanLine}
+use Rattle.jdwp_plan.specs.Lines.{Said, line_of, line_by, words_of, is_empty}
+use Rattle.jdwp_plan.specs.PlanLines.{Gives, said_by, texts}
+use Rattle.jdwp_plan.specs.Plans.{read_well}
+
+-- a line more that reads
+pub one_more : (texts : List (List ℕ)) (k : ℕ) (text : List ℕ) (plan : List PlanLine) (line : PlanLine) → k < length texts → text ≡ get_or texts k text → line_of text ≡ Ok (said_by line)
+    → map line_of (take k texts) ≡ map read_well (map said_by plan) → map line_of (take (k + 1) texts) ≡ map read_well (map said_by (plan ++ line ∷ []))
+one_more texts k text plan line inside here read before =
+    ap (λ (x : List (List ℕ)). map line_of x) (take_more texts k text inside ∙ ap (λ (x : List ℕ). take k texts ++ x ∷ []) (sym here))
+    ∙ map-append line_of (take k texts) (text ∷ [])
+    ∙ ap (λ (x : List (Result Said LineFault)). x ++ line_of text ∷ []) before
+    ∙ ap (λ (x : Result Said LineFault). map read_well (map said_by plan) ++ x ∷ []) read
+    ∙ sym (map-append read_well (map said_by plan) (said_by line ∷ []))
+    ∙ ap (λ (x : List Said). map read_well x) (sym (map-append said_by plan (line ∷ [])))
+
+-- a line with a fault
+pub one_faulty : (texts : List (List ℕ)) (k : ℕ) (text : List ℕ) (before : List Said) (fault : LineFault) → k < length texts → text ≡ get_or texts k text → line_of text ≡ Err fault
+    → map line_of (take k texts) ≡ map read_well before → map line_of texts ≡ map read_well before ++ Err fault ∷ map line_of (drop (k + 1) texts)
+one_faulty texts k text before fault inside here read so_far =
+    let at : drop k texts ≡ text ∷ drop (k + 1) texts = drop_more texts k text inside ∙ ap (λ (x : List ℕ). x ∷ drop (k + 1) texts) (sym here) in
+    ap (λ (x : List (List ℕ)). map line_of x) (sym (take-append-drop k texts) ∙ ap (λ (x : List (List ℕ)). take k texts ++ x) at)
+    ∙ map-append line_of (take k texts) (text ∷ drop (k + 1) texts)
+    ∙ ap (λ (x : List (Result Said LineFault)). x ++ line_of text ∷ map line_of (drop (k + 1) texts)) so_far
+    ∙ ap (λ (x : Result Said LineFault). map read_well before ++ x ∷ map line_of (drop (k + 1) texts)) read
+
+-- all lines were read
+pub all_read : (texts : List (List ℕ)) (k : ℕ) (plan : List Said) → length texts ≤ k → map line_of (take k texts) ≡ map read_well plan → map line_of texts ≡ map read_well plan
+all_read texts k plan past before = ap (λ (x : List (List ℕ)). map line_of x) (sym (take_all k texts past)) ∙ before
+
+-- words by what stands in memory
+pub any_empty : (words : List (Bor (List ℕ))) → list_any (λ word. is_empty word.now) words ≡ list_any is_empty (texts words)
+any_empty [] = refl
+any_empty (word ∷ words) = ap (λ b. is_empty word.now || b) (any_empty words)
+
+-- a line with an empty word
+pub misspaced : (line : List ℕ) → is_empty line ≡ false → list_any is_empty (words_of line) ≡ true → line_of line ≡ Err Spacing
+misspaced line some empty = rw (some, empty) refl
+
+-- a line with none
+pub well_spaced : (line : List ℕ) (result : Result PlanLine Refusal) → is_empty line ≡ false → list_any is_empty (words_of line) ≡ false → Gives said_by result (line_by (words_of line)) → Gives said_by result (line_of line)
+well_spaced line result some full read = rw (some, full) read

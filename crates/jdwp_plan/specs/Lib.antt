@@ -1,0 +1,4 @@
+pub mod Forms
+pub mod Lines
+pub mod PlanLines
+pub mod Plans

@@ -1,0 +1,29 @@
+-- What lines in memory say, and what a call answers of a line.
+use Rattle.std.specs.Prelude.{◌≡◌, ℕ, List, map, Result, Ok, Err}
+use Rattle.std.specs.Borrow.{Bor}
+use Rattle.std.specs.Global.{Vec}
+use Rattle.jdwp_plan.specs.declared.plan_fault.LineFault.{LineFault}
+use Rattle.jdwp_plan.specs.declared.plan_fault.Refusal.{Refusal}
+use Rattle.jdwp_plan.specs.declared.plan_fault.Refusal.TheVariants as refusal
+use Rattle.jdwp_plan.specs.declared.plan_line.PlanLine.{PlanLine}
+use Rattle.jdwp_plan.specs.declared.plan_line.PlanLine.TheVariants as line
+use Rattle.jdwp_plan.specs.Lines.{Said}
+use Rattle.jdwp_plan.specs.Lines.Said.{Ask, Answers, Events, Mirror}
+
+abbrev pub said_by : PlanLine → Said
+said_by (line.Ask set number bytes) = Ask set number bytes.items
+said_by line.Answers = Answers
+said_by (line.Events count) = Events count
+said_by line.Mirror = Mirror
+
+abbrev pub bytes_of : Vec ℕ → List ℕ
+bytes_of bytes = bytes.items
+
+abbrev pub texts : List (Bor (List ℕ)) → List (List ℕ)
+texts words = map (λ word. word.now) words
+
+-- A call answered what is to be read, or why nothing is; want of memory says nothing.
+abbrev pub Gives : {X Y : Type 0} → (X → Y) → Result X Refusal → Result Y LineFault → Type 0
+Gives meaning (Ok x) read = read ≡ Ok (meaning x)
+Gives meaning (Err (refusal.Fault fault)) read = read ≡ Err fault
+Gives meaning (Err refusal.NoMemory) read = Unit {0}
