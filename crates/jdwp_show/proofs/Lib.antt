@@ -1,4 +1,6 @@
 pub mod TextLemmas
+pub mod TellingLemmas
+pub mod DigitLemmas
 pub mod LineLemmas
 pub mod FoundLemmas
 pub mod FoundLaws

@@ -14,7 +14,7 @@ use Rattle.jdwp_show.specs.DataText.{listed, separator, quoted, string_text, dat
 abbrev later : {A : Type 0} → (A → List ℕ) → A → List ℕ
 later text y = codes ", " ++ text y
 
-listed-push : {A : Type 0} (text : A → List ℕ) (xs : List A) (x : A) → listed text (xs ++ x ∷ []) ≡ listed text xs ++ (separator (length xs) ++ text x)
+pub listed-push : {A : Type 0} (text : A → List ℕ) (xs : List A) (x : A) → listed text (xs ++ x ∷ []) ≡ listed text xs ++ (separator (length xs) ++ text x)
 listed-push text [] x = append-nil (text x)
 listed-push text (y ∷ ys) x =
     let some : eqb (suc (length ys)) 0 ≡ false = ne_eqb _ _ (λ e. omega arith) in

@@ -11,4 +11,5 @@ pub mod CaptureLines
 pub mod FaultNumbers
 pub mod Captures
 pub mod Streams
+pub mod Telling
 pub mod Pending

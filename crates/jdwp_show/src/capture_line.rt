@@ -3,6 +3,7 @@ ghost use Rattle.std.specs.Prelude.{◌≡◌, IfOk};
 ghost use Rattle.jdwp_show.specs.Lines.{capture_of, bad_line};
 ghost use Rattle.jdwp_show.specs.Captures.{IsCapture, IsRead, IsDecoded};
 
+use crate::hex_digits::decode_into;
 use jdwp_wire::NoMemory;
 use std::alloc::Global;
 
@@ -91,12 +92,13 @@ fn decode_onto(digits: &[u8], bytes: &mut Vec<u8>) -> Result<Option<usize>, NoMe
     if count == 0 {
         return Ok(None);
     }
-    bytes.resize(before + count, 0)?;
-    match hex::decode_to_slice(digits, &mut bytes[before..]) {
-        Ok(()) => Ok(Some(count)),
-        Err(_) => {
-            bytes.truncate(before);
-            Ok(None)
-        }
+    if digits.len() % 2 == 1 {
+        return Ok(None);
     }
+    bytes.resize(before + count, 0)?;
+    if !decode_into(digits, &mut bytes[before..]) {
+        bytes.truncate(before);
+        return Ok(None);
+    }
+    Ok(Some(count))
 }

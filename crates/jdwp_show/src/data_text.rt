@@ -45,7 +45,7 @@ pub(crate) fn push_raw(alloc: Global, text: &mut String, bytes: &[u8]) -> Result
 }
 
 /// Appends what stands before the thing of this index in a list.
-fn push_separator(text: &mut String, index: usize) -> Result<(), AllocError>
+pub(crate) fn push_separator(text: &mut String, index: usize) -> Result<(), AllocError>
     ensures { OnOk result (string_bytes text.new ≡ string_bytes text.old ++ separator index) }
 {
     if index > 0 {
@@ -73,7 +73,7 @@ fn push_all_entries(text: &mut String, entries: &[Vec<Scalar>]) -> Result<(), Al
 }
 
 /// An entry of one item has no round brackets.
-fn push_entry(text: &mut String, entry: &[Scalar]) -> Result<(), AllocError>
+pub(crate) fn push_entry(text: &mut String, entry: &[Scalar]) -> Result<(), AllocError>
     ensures { OnOk result (string_bytes text.new ≡ string_bytes text.old ++ entry_text (scalar_meanings entry.now)) }
 {
     if let [scalar] = entry {
@@ -122,7 +122,7 @@ pub(crate) fn push_number<I: Integer>(text: &mut String, number: I) -> Result<()
     text.push_str(buffer.format(number))
 }
 
-fn push_boolean(text: &mut String, truth: bool) -> Result<(), AllocError>
+pub(crate) fn push_boolean(text: &mut String, truth: bool) -> Result<(), AllocError>
     ensures { OnOk result (string_bytes text.new ≡ string_bytes text.old ++ boolean_text truth) }
 {
     if truth {
@@ -132,7 +132,7 @@ fn push_boolean(text: &mut String, truth: bool) -> Result<(), AllocError>
     }
 }
 
-fn push_id(text: &mut String, id: u64) -> Result<(), AllocError>
+pub(crate) fn push_id(text: &mut String, id: u64) -> Result<(), AllocError>
     ensures { OnOk result (string_bytes text.new ≡ string_bytes text.old ++ id_text id) }
 {
     text.push_str("#")?;
@@ -147,7 +147,7 @@ fn push_byte(text: &mut String, byte: u8) -> Result<(), AllocError>
     text.push(char::from(byte))
 }
 
-fn push_tagged(text: &mut String, object: &TaggedId) -> Result<(), AllocError>
+pub(crate) fn push_tagged(text: &mut String, object: &TaggedId) -> Result<(), AllocError>
     ensures { OnOk result (string_bytes text.new ≡ string_bytes text.old ++ tagged_text object.now) }
 {
     push_byte(text, object.tag.byte())?;
@@ -155,7 +155,7 @@ fn push_tagged(text: &mut String, object: &TaggedId) -> Result<(), AllocError>
 }
 
 /// The tag, the class, the method and the index; the null location has tag 0, and all else 0.
-fn push_location(text: &mut String, location: &Location) -> Result<(), AllocError>
+pub(crate) fn push_location(text: &mut String, location: &Location) -> Result<(), AllocError>
     ensures { OnOk result (string_bytes text.new ≡ string_bytes text.old ++ location_text location.now) }
 {
     match location {
@@ -188,7 +188,7 @@ fn push_type_tag(text: &mut String, tag: TypeTag) -> Result<(), AllocError>
 }
 
 /// The tag and the bits as an unsigned number; an object as its tagged id, and void as its tag alone.
-fn push_value(text: &mut String, value: &Value) -> Result<(), AllocError>
+pub(crate) fn push_value(text: &mut String, value: &Value) -> Result<(), AllocError>
     ensures { OnOk result (string_bytes text.new ≡ string_bytes text.old ++ value_text value.now) }
 {
     text.push_str(match value {
@@ -225,7 +225,7 @@ fn push_element(text: &mut String, value: &Value) -> Result<(), AllocError>
 }
 
 /// The tag, and the elements in square brackets.
-fn push_region(text: &mut String, region: &ArrayRegion) -> Result<(), AllocError>
+pub(crate) fn push_region(text: &mut String, region: &ArrayRegion) -> Result<(), AllocError>
     ensures { OnOk result (string_bytes text.new ≡ string_bytes text.old ++ region_text region.now) }
 {
     push_byte(text, region.tag().byte())?;
@@ -246,7 +246,7 @@ fn push_elements(text: &mut String, elements: &[Value]) -> Result<(), AllocError
 
 /// The text between double quotes, with a backslash before a double quote and a backslash, and `\xHH` for characters
 /// below 32 and 127.
-fn push_quoted(text: &mut String, string: &str) -> Result<(), AllocError>
+pub(crate) fn push_quoted(text: &mut String, string: &str) -> Result<(), AllocError>
     ensures { OnOk result (string_bytes text.new ≡ string_bytes text.old ++ string_text string.now) }
 {
     text.push_str("\"")?;

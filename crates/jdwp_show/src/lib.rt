@@ -6,6 +6,7 @@ mod capture_line;
 mod checking;
 mod data_text;
 mod found;
+mod hex_digits;
 mod items;
 mod judging;
 mod laws;
@@ -14,6 +15,7 @@ mod message_text;
 mod pending;
 mod rules;
 mod showing;
+mod telling;
 mod transcript;
 mod waiting;
 
@@ -25,10 +27,3 @@ pub use laws::{
 };
 pub use message_line::{composite_data_line, reply_line};
 pub use showing::{Shown, show};
-
-#[cfg(test)]
-mod check_tests;
-#[cfg(test)]
-mod row_tests;
-#[cfg(test)]
-mod show_tests;

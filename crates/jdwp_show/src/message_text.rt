@@ -1,14 +1,19 @@
 //! Messages as lines.
-ghost use Rattle.std.specs.Prelude.{◌≡◌, ◌++◌, OnOk};
+ghost use Rattle.std.specs.Prelude.{◌≡◌, ◌++◌, List, OnOk};
 ghost use Rattle.std.specs.String.{string_bytes};
+ghost use Rattle.jdwp_layout.specs.Meanings.{DatumMeaning};
+ghost use Rattle.jdwp_layout.specs.Reads.{data_at};
+ghost use Rattle.jdwp_layout.specs.Shapes.{shape};
 ghost use Rattle.jdwp_show.specs.Data.{shapes_of};
+ghost use Rattle.jdwp_show.specs.DataText.{data_text};
 ghost use Rattle.jdwp_show.specs.MessageLines.{body_text, request_in, reply_in, name_text, mark, hello_line, command_start, reply_start, found_shape};
 
 use crate::capture_line::Sender;
-use crate::data_text::{push_data, push_number, push_raw};
+use crate::data_text::{push_number, push_raw};
 use crate::pending::Command;
-use jdwp_layout::{Layout, layout_of, read};
-use jdwp_wire::{DataFault, ErrorCode, IdSizes, NoMemory};
+use crate::telling::tell_data;
+use jdwp_layout::{Layout, layout_of, validate};
+use jdwp_wire::{ErrorCode, IdSizes, NoMemory};
 use std::alloc::{AllocError, Global};
 
 /// Appends the mark of an end: `>` or `<`.
@@ -93,17 +98,29 @@ pub(crate) fn push_body(
     ensures { OnOk result (string_bytes text.new ≡ string_bytes text.old ++ body_text sizes (found_shape layout) body.now) }
 {
     if let (Some(sizes), Some(layout)) = (sizes, layout) {
-        match read(alloc, &layout, &sizes, body) {
-            Ok(data) => {
-                push_data(text, &data)?;
-                return Ok(());
-            }
-            Err(DataFault::NoMemory) => return Err(NoMemory),
-            Err(_) => {}
+        if validate(&layout, &sizes, body).is_ok() {
+            return push_read(alloc, text, &sizes, &layout, body);
         }
     }
     push_raw(alloc, text, body)?;
     Ok(())
+}
+
+/// Appends data that read by this layout.
+fn push_read(
+    alloc: Global,
+    text: &mut String,
+    sizes: &IdSizes,
+    layout: &Layout,
+    body: &[u8],
+) -> Result<(), NoMemory>
+    ensures { OnOk result ((items : List DatumMeaning) → data_at sizes.now (shape layout.now) body.now ≡ Ok items → string_bytes text.new ≡ string_bytes text.old ++ data_text items) }
+{
+    match tell_data(alloc, text, layout.items, sizes, body) {
+        Ok(()) => Ok(()),
+        // They read, so that only memory was wanting.
+        Err(_) => Err(NoMemory),
+    }
 }
 
 /// The layout of the data of a command, where they are read.

@@ -1,0 +1,40 @@
+//! Hex digits, read into bytes.
+ghost use Rattle.std.specs.Prelude.{◌≡◌, ◌*◌, ◌<◌, ◌↔◌, length, unwrap_or, nat_lt, is_some, true, false, MatchResult};
+ghost use Rattle.hex.specs.Hex.{decode_of, hex_digit_value};
+
+/// Writes the bytes of hex digits, two digits a byte, and answers whether all are digits.
+///
+/// No pair is skipped, whatever those before it are: so compilers take many at once.
+pub(crate) fn decode_into(digits: &[u8], bytes: &mut [u8]) -> bool
+    requires { length digits.now ≡ 2 * length bytes.old }
+    ensures { MatchResult (decode_of digits.now) (λ decoded. (result ≡ true) × (bytes.new ≡ decoded)) (λ e. result ≡ false) }
+{
+    let mut worst: u8 = 0;
+    for i in 0..bytes.len() {
+        let high = digit_value(digits[2 * i]);
+        let low = digit_value(digits[2 * i + 1]);
+        let pair = larger(high, low);
+        worst = larger(worst, pair);
+        bytes[i] = high % 16 * 16 + low % 16;
+    }
+    worst < 16
+}
+
+/// The value of a hex digit, and 255 for another character.
+fn digit_value(digit: u8) -> u8
+    ensures value { result ≡ unwrap_or (hex_digit_value digit) 255 }
+    ensures is_digit { is_some (hex_digit_value digit) ≡ nat_lt result 16 }
+{
+    match digit {
+        b'A'..=b'F' => digit - b'A' + 10,
+        b'a'..=b'f' => digit - b'a' + 10,
+        b'0'..=b'9' => digit - b'0',
+        _ => 255,
+    }
+}
+
+fn larger(one: u8, other: u8) -> u8
+    ensures { (result < 16) ↔ ((one < 16) × (other < 16)) }
+{
+    if one < other { other } else { one }
+}

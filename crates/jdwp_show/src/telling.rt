@@ -1,0 +1,246 @@
+//! Data of packets in words, told as they are read: nothing of a list is kept.
+ghost use Rattle.std.specs.Prelude.{◌≡◌, ◌++◌, OnOk};
+ghost use Rattle.std.specs.String.{string_bytes};
+ghost use Rattle.jdwp_wire.specs.Reading.{Gives};
+ghost use Rattle.jdwp_wire.specs.Each.{times_at};
+ghost use Rattle.jdwp_layout.specs.Shapes.{item_shape, entry_shape, shapes};
+ghost use Rattle.jdwp_layout.specs.Reads.{field_at, fields_at, entry_at, item_at, items_at, data_at};
+ghost use Rattle.jdwp_show.specs.DataText.{listed, scalar_text, entry_text, datum_text, data_text};
+ghost use Rattle.jdwp_show.specs.Telling.{told_behind, all_told_behind};
+
+use crate::data_text::{
+    push_boolean, push_entry, push_id, push_location, push_number, push_quoted, push_region,
+    push_separator, push_tagged, push_value,
+};
+use jdwp_layout::{Entry, Field, Item, read_entry};
+use jdwp_value::{
+    ArrayRegion, FieldId, FrameId, Location, MethodId, ObjectId, ReferenceTypeId, TaggedId, Value,
+};
+use jdwp_wire::number::take_count;
+use jdwp_wire::{DataFault, IdSizes, Wire};
+use std::alloc::Global;
+
+/// Appends the data that the whole slice encodes under these items, each after a space.
+///
+/// # Errors
+/// The first fault from the left, as `jdwp_layout::read` answers it, and `NoMemory` where an allocation was refused. The
+/// text may then have grown.
+pub(crate) fn tell_data(
+    alloc: Global,
+    text: &mut String,
+    items: &[Item],
+    sizes: &IdSizes,
+    bytes: &[u8],
+) -> Result<(), DataFault>
+    ensures { Gives (λ done. string_bytes text.new) result (all_told_behind (string_bytes text.old) (data_at sizes.now (shapes items.now) bytes.now)) }
+{
+    let rest = tell_items(alloc, text, items, bytes, bytes.len(), sizes)?;
+    if !rest.is_empty() {
+        return Err(DataFault::Extra(bytes.len().saturating_sub(rest.len())));
+    }
+    Ok(())
+}
+
+/// Appends what each item holds, at the front of the rest of a slice of `whole` bytes, and answers what follows it all.
+fn tell_items<'a>(
+    alloc: Global,
+    text: &mut String,
+    items: &[Item],
+    bytes: &'a [u8],
+    whole: usize,
+    sizes: &IdSizes,
+) -> Result<&'a [u8], DataFault>
+    ensures { Gives (λ rest. (string_bytes text.new, rest.now)) result (told_behind data_text (string_bytes text.old) (items_at sizes.now whole (shapes items.now) bytes.now)) }
+{
+    let mut rest = bytes;
+    for item in items {
+        text.push_str(" ")?;
+        let after = tell_item(alloc, text, *item, rest, whole, sizes)?;
+        rest = after;
+    }
+    Ok(rest)
+}
+
+fn tell_item<'a>(
+    alloc: Global,
+    text: &mut String,
+    item: Item,
+    rest: &'a [u8],
+    whole: usize,
+    sizes: &IdSizes,
+) -> Result<&'a [u8], DataFault>
+    ensures { Gives (λ after. (string_bytes text.new, after.now)) result (told_behind datum_text (string_bytes text.old) (item_at sizes.now whole (item_shape item) rest.now)) }
+{
+    match item {
+        Item::One(field) => tell_field(alloc, text, field, rest, whole, sizes),
+        Item::Many(entry) => {
+            let (count, rest) = take_count(rest, whole)?;
+            text.push_str("[")?;
+            let rest = tell_entries(alloc, text, count, entry, rest, whole, sizes)?;
+            text.push_str("]")?;
+            Ok(rest)
+        }
+        Item::Region => {
+            let (region, rest) = ArrayRegion::take_front(alloc, rest, whole, sizes)?;
+            push_region(text, &region)?;
+            Ok(rest)
+        }
+    }
+}
+
+/// Appends `count` entries.
+fn tell_entries<'a>(
+    alloc: Global,
+    text: &mut String,
+    count: usize,
+    entry: Entry,
+    bytes: &'a [u8],
+    whole: usize,
+    sizes: &IdSizes,
+) -> Result<&'a [u8], DataFault>
+    ensures { Gives (λ rest. (string_bytes text.new, rest.now)) result (told_behind (listed entry_text) (string_bytes text.old) (times_at (entry_at sizes.now whole (entry_shape entry)) count bytes.now)) }
+{
+    let mut rest = bytes;
+    for index in 0..count {
+        push_separator(text, index)?;
+        let after = tell_entry(alloc, text, entry, rest, whole, sizes)?;
+        rest = after;
+    }
+    Ok(rest)
+}
+
+fn tell_entry<'a>(
+    alloc: Global,
+    text: &mut String,
+    entry: Entry,
+    rest: &'a [u8],
+    whole: usize,
+    sizes: &IdSizes,
+) -> Result<&'a [u8], DataFault>
+    ensures { Gives (λ after. (string_bytes text.new, after.now)) result (told_behind entry_text (string_bytes text.old) (entry_at sizes.now whole (entry_shape entry) rest.now)) }
+{
+    if let Entry::Fields(fields) = entry {
+        return tell_fields(alloc, text, fields, rest, whole, sizes);
+    }
+    let (scalars, rest) = read_entry(alloc, entry, rest, whole, sizes)?;
+    push_entry(text, &scalars)?;
+    Ok(rest)
+}
+
+/// Appends an entry of these fields; of one field it has no round brackets.
+fn tell_fields<'a>(
+    alloc: Global,
+    text: &mut String,
+    fields: &[Field],
+    rest: &'a [u8],
+    whole: usize,
+    sizes: &IdSizes,
+) -> Result<&'a [u8], DataFault>
+    ensures { Gives (λ after. (string_bytes text.new, after.now)) result (told_behind entry_text (string_bytes text.old) (fields_at sizes.now whole fields.now rest.now)) }
+{
+    if fields.len() == 1 {
+        return tell_field(alloc, text, fields[0], rest, whole, sizes);
+    }
+    text.push_str("(")?;
+    let rest = tell_each(alloc, text, fields, rest, whole, sizes)?;
+    text.push_str(")")?;
+    Ok(rest)
+}
+
+fn tell_each<'a>(
+    alloc: Global,
+    text: &mut String,
+    fields: &[Field],
+    bytes: &'a [u8],
+    whole: usize,
+    sizes: &IdSizes,
+) -> Result<&'a [u8], DataFault>
+    ensures { Gives (λ rest. (string_bytes text.new, rest.now)) result (told_behind (listed scalar_text) (string_bytes text.old) (fields_at sizes.now whole fields.now bytes.now)) }
+{
+    let mut rest = bytes;
+    for (index, field) in fields.iter().enumerate() {
+        push_separator(text, index)?;
+        let after = tell_field(alloc, text, *field, rest, whole, sizes)?;
+        rest = after;
+    }
+    Ok(rest)
+}
+
+fn tell_field<'a>(
+    alloc: Global,
+    text: &mut String,
+    field: Field,
+    rest: &'a [u8],
+    whole: usize,
+    sizes: &IdSizes,
+) -> Result<&'a [u8], DataFault>
+    ensures { Gives (λ after. (string_bytes text.new, after.now)) result (told_behind scalar_text (string_bytes text.old) (field_at sizes.now whole field rest.now)) }
+{
+    match field {
+        Field::Byte => {
+            let (byte, rest) = u8::take_front(alloc, rest, whole, sizes)?;
+            push_number(text, byte)?;
+            Ok(rest)
+        }
+        Field::Boolean => {
+            let (truth, rest) = bool::take_front(alloc, rest, whole, sizes)?;
+            push_boolean(text, truth)?;
+            Ok(rest)
+        }
+        Field::Int => {
+            let (number, rest) = i32::take_front(alloc, rest, whole, sizes)?;
+            push_number(text, number)?;
+            Ok(rest)
+        }
+        Field::Long => {
+            let (number, rest) = i64::take_front(alloc, rest, whole, sizes)?;
+            push_number(text, number)?;
+            Ok(rest)
+        }
+        Field::String => {
+            let (string, rest) = String::take_front(alloc, rest, whole, sizes)?;
+            push_quoted(text, string.as_str())?;
+            Ok(rest)
+        }
+        Field::ObjectId => {
+            let (id, rest) = ObjectId::take_front(alloc, rest, whole, sizes)?;
+            push_id(text, id.0)?;
+            Ok(rest)
+        }
+        Field::ReferenceTypeId => {
+            let (id, rest) = ReferenceTypeId::take_front(alloc, rest, whole, sizes)?;
+            push_id(text, id.0)?;
+            Ok(rest)
+        }
+        Field::MethodId => {
+            let (id, rest) = MethodId::take_front(alloc, rest, whole, sizes)?;
+            push_id(text, id.0)?;
+            Ok(rest)
+        }
+        Field::FieldId => {
+            let (id, rest) = FieldId::take_front(alloc, rest, whole, sizes)?;
+            push_id(text, id.0)?;
+            Ok(rest)
+        }
+        Field::FrameId => {
+            let (id, rest) = FrameId::take_front(alloc, rest, whole, sizes)?;
+            push_id(text, id.0)?;
+            Ok(rest)
+        }
+        Field::Location => {
+            let (location, rest) = Location::take_front(alloc, rest, whole, sizes)?;
+            push_location(text, &location)?;
+            Ok(rest)
+        }
+        Field::Value => {
+            let (value, rest) = Value::take_front(alloc, rest, whole, sizes)?;
+            push_value(text, &value)?;
+            Ok(rest)
+        }
+        Field::TaggedId => {
+            let (tagged, rest) = TaggedId::take_front(alloc, rest, whole, sizes)?;
+            push_tagged(text, &tagged)?;
+            Ok(rest)
+        }
+    }
+}
