@@ -1,9 +1,12 @@
 //! The commands on their files.
+ghost use Rattle.std.specs.Prelude.{OnErr};
+ghost use Rattle.std.specs.Io.KnownBytes.{Keeps};
 ghost use Rattle.jdwp_program.specs.Outputs.{LeavesCaptureTold};
 
-use crate::words::ServeScript;
+use crate::words::{Attach, ServeScript};
 use jdwp_engine::{Ended, Streams};
-use jdwp_program::{Fault, FileCause, Told, check_capture, serve_script, show_capture, text_of};
+use jdwp_program::{Fault, FileCause, Told, attach_plan, check_capture, show_capture, text_of};
+use jdwp_serve::serve_script;
 use std::fs;
 use std::fs::OpenFile;
 use std::io::{BufWriter, Write};
@@ -59,6 +62,30 @@ pub fn serve_files<'a, R: Files + AllocGlobal>(
     };
     let mut pipe = Streams::new(reader, writer);
     Ok(serve_script(rt.alloc(), script, words.settings, &mut pipe, words.turns)?)
+}
+
+/// Runs a plan as the debugger of the session of a file, and prints what it reads. The file of what the debugger sends is made only once the
+/// others are read and open, and the plan is judged then.
+///
+/// # Errors
+/// `File` where one can't be read, opened or made, or the plan is not UTF-8; `Plan` where it is refused; `NoMemory`. Then nothing was
+/// printed.
+pub fn attach_files<'a, R: Files + AllocGlobal, O: Write>(
+    rt: &R,
+    words: &Attach<'a>,
+    out: &mut O,
+) -> Result<Ended, Fault<'a>>
+    ensures unprinted { OnErr result (Keeps (O.contents out.old) (O.contents out.new)) }
+{
+    let bytes = read(rt, words.plan)?;
+    let reader = open(rt, words.from)?;
+    let file = create(rt, words.to)?;
+    let plan = text_of(bytes.as_slice()).map_err(|cause| Fault::File(words.plan, cause))?;
+    let Ok(writer) = BufWriter::new(rt.alloc(), file) else {
+        return Err(Fault::NoMemory);
+    };
+    let mut pipe = Streams::new(reader, writer);
+    Ok(attach_plan(rt.alloc(), plan, &mut pipe, out, words.turns)?)
 }
 
 /// The bytes of a file.

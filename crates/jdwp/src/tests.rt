@@ -108,6 +108,38 @@ fn is_refused<R: Files + AllocGlobal>(
 }
 
 #[test]
+fn a_plan_of_a_file_is_run(rt: HostRuntime) -> Result<(), Fail> {
+    let (plan, from, to) = ("attach_plan", "attach_from", "attach_to");
+    fs::write(
+        &rt,
+        plan,
+        "ask 1 8\nask 11 12 0000000000000001\nask 1 6\nanswers\n",
+    )?;
+    fs::write(&rt, from, ANSWERS.as_slice())?;
+    let words = [
+        "attach", plan, "--from", from, "--to", to, "--turns", "1000",
+    ];
+    let ran = run_words(&rt, &words)?;
+    let told = "< hello
+< 1 Event.Composite 0 [(90, 0, #1)]
+< 1 reply VirtualMachine.IDSizes 0 8 8 8 8 8
+< 2 reply VirtualMachine.Suspend 0
+< 3 reply ThreadReference.SuspendCount 0 1
+< 4 reply VirtualMachine.Dispose 0
+";
+    assert_eq!(rt; ran.status, 0);
+    assert_eq!(rt; ran.out.as_slice(), told.as_bytes());
+    assert!(rt; ran.err.is_empty());
+    assert_eq!(rt; fs::read(&rt, to)?.as_slice(), SESSION.as_slice());
+    fs::write(&rt, plan, "ask 1 8\n\nanswers\n")?;
+    let refused = ["line 2 of the plan: an empty line"];
+    assert!(rt; is_refused(&rt, &words, &refused)?);
+    let plus = ["attach", plan, "--from", from, "--to", to, "--turns", "+5"];
+    assert!(rt; is_refused(&rt, &plus, &["error: ", "jdwp attach"])?);
+    Ok(())
+}
+
+#[test]
 fn a_session_of_a_file_is_answered(rt: HostRuntime) -> Result<(), Fail> {
     let (machine, from, to) = ("session_machine", "session_from", "session_to");
     fs::write(&rt, machine, MACHINE)?;

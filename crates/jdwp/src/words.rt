@@ -1,9 +1,14 @@
 //! What the words of the command line say.
+ghost use Rattle.std.specs.Prelude.{◌≡◌, IfOk};
+ghost use Rattle.jdwp.specs.Commands as commands;
+ghost use Rattle.jdwp.specs.Commands.{AttachesOnlyWhere};
+
 use clap::error::ErrorKind;
 use clap::{Arg, ArgAction, ArgMatches, Command, Error, value_parser};
 use jdwp_debuggee::Settings;
 use jdwp_program::{Fault, decimal, is_all};
 use jdwp_wire::Limits;
+use jdwp_wire::number::GREATEST_INT;
 use std::alloc::{AllocError, Global};
 use std::convert::AsStr;
 
@@ -12,6 +17,8 @@ use std::convert::AsStr;
 pub enum Words<'a> {
     /// `serve-script MACHINE`: a target serves one session, that of a file.
     ServeScript(ServeScript<'a>),
+    /// `attach PLAN`: a debugger runs a plan in one session, that of a file.
+    Attach(Attach<'a>),
     /// `show FILE`: a capture is shown in words.
     Show(&'a str),
     /// `check FILE`: a capture is judged.
@@ -33,12 +40,27 @@ pub struct ServeScript<'a> {
     pub turns: u32,
 }
 
+/// `attach PLAN --from F --to F [--turns N]`.
+#[derive(Clone, Copy, Debug, PartialEq, Eq)]
+pub struct Attach<'a> {
+    /// The file of the plan.
+    pub plan: &'a str,
+    /// The file that the target's bytes are read from.
+    pub from: &'a str,
+    /// The file that the debugger's bytes are written to.
+    pub to: &'a str,
+    /// How many turns the session has at most.
+    pub turns: u32,
+}
+
 /// Reads the words, the first of which is the program's name.
 ///
 /// # Errors
 /// `Words` where they are no command, an option is unknown, stands twice or has no such value, or help is asked for. `NoMemory` where an
 /// allocation was refused.
-pub fn read<'a, S: AsStr>(alloc: Global, words: &'a [S]) -> Result<Words<'a>, Fault<'a>> {
+pub fn read<'a, S: AsStr>(alloc: Global, words: &'a [S]) -> Result<Words<'a>, Fault<'a>>
+    ensures { IfOk result (AttachesOnlyWhere (commands.is_attach S.text words.now)) }
+{
     let matches = match command(alloc)?.try_get_matches_from(words) {
         Ok(matches) => matches,
         Err(error) => return Err(refused(alloc, &error)),
@@ -46,8 +68,19 @@ pub fn read<'a, S: AsStr>(alloc: Global, words: &'a [S]) -> Result<Words<'a>, Fa
     match matches.subcommand() {
         Some(("show", found)) => Ok(Words::Show(value(alloc, found, "file")?)),
         Some(("check", found)) => Ok(Words::Check(value(alloc, found, "file")?)),
-        Some((_, found)) => Ok(Words::ServeScript(read_serve_script(alloc, found)?)),
-        None => Err(bad_words(alloc, command(alloc)?, "a command is missing")?),
+        Some(("serve-script", found)) => Ok(Words::ServeScript(read_serve_script(alloc, found)?)),
+        Some((_, found)) if is_attach(words) => Ok(Words::Attach(read_attach(alloc, found)?)),
+        _ => Err(bad_words(alloc, command(alloc)?, "a command is missing")?),
+    }
+}
+
+/// Whether the word behind the program's name is `attach`.
+fn is_attach<S: AsStr>(words: &[S]) -> bool
+    ensures { result ≡ commands.is_attach S.text words.now }
+{
+    match words {
+        [_, command, ..] => command.as_str() == "attach",
+        _ => false,
     }
 }
 
@@ -56,7 +89,7 @@ fn read_serve_script<'a>(
     found: &ArgMatches<'a>,
 ) -> Result<ServeScript<'a>, Fault<'a>> {
     let start_all = is_all(value(alloc, found, "start")?);
-    let count_limit = number(alloc, found, "count-limit")?;
+    let count_limit = number(alloc, found, "count-limit", "serve-script")?;
     let limits = Limits::standard();
     match start_all.and_then(|start_all| Settings::new(start_all, count_limit, limits)) {
         Some(settings) => Ok(ServeScript {
@@ -64,10 +97,19 @@ fn read_serve_script<'a>(
             from: value(alloc, found, "from")?,
             to: value(alloc, found, "to")?,
             settings,
-            turns: number(alloc, found, "turns")?,
+            turns: number(alloc, found, "turns", "serve-script")?,
         }),
         None => Err(bad_words(alloc, serve_script(alloc)?, "the options don't read")?),
     }
+}
+
+fn read_attach<'a>(alloc: Global, found: &ArgMatches<'a>) -> Result<Attach<'a>, Fault<'a>> {
+    Ok(Attach {
+        plan: value(alloc, found, "plan")?,
+        from: value(alloc, found, "from")?,
+        to: value(alloc, found, "to")?,
+        turns: number(alloc, found, "turns", "attach")?,
+    })
 }
 
 /// The value of an argument that is required or has a default.
@@ -78,8 +120,13 @@ fn value<'a>(alloc: Global, found: &ArgMatches<'a>, name: &str) -> Result<&'a st
     }
 }
 
-/// The number that an option has. `+5` is none, though clap takes it.
-fn number<'a>(alloc: Global, found: &ArgMatches<'a>, name: &str) -> Result<u32, Fault<'a>> {
+/// The number that an option of this command has. `+5` is none, though clap takes it.
+fn number<'a>(
+    alloc: Global,
+    found: &ArgMatches<'a>,
+    name: &str,
+    of: &str,
+) -> Result<u32, Fault<'a>> {
     let text = value(alloc, found, name)?;
     match decimal(text) {
         Some(number) => Ok(number),
@@ -87,7 +134,10 @@ fn number<'a>(alloc: Global, found: &ArgMatches<'a>, name: &str) -> Result<u32, 
             let message = format!(in alloc;
                 "invalid value '{text}' for '--{name} <N>': a number is digits alone"
             )?;
-            let command = serve_script(alloc)?.bin_name("jdwp serve-script")?;
+            let command = match of {
+                "attach" => attach_command(alloc)?.bin_name("jdwp attach")?,
+                _ => serve_script(alloc)?.bin_name("jdwp serve-script")?,
+            };
             Err(bad_words(alloc, command, message.as_str())?)
         }
     }
@@ -131,7 +181,8 @@ fn command<'a>(alloc: Global) -> Result<Command<'a>, AllocError> {
         .subcommand_required(true)
         .subcommand(show)?
         .subcommand(check)?
-        .subcommand(serve_script(alloc)?)
+        .subcommand(serve_script(alloc)?)?
+        .subcommand(attach_command(alloc)?)
 }
 
 fn serve_script<'a>(alloc: Global) -> Result<Command<'a>, AllocError> {
@@ -158,7 +209,7 @@ fn serve_script<'a>(alloc: Global) -> Result<Command<'a>, AllocError> {
                 "N",
                 "The greatest suspend count that a Suspend gives",
             )
-            .value_parser(value_parser!(u32).range(1..=2147483647))
+            .value_parser(value_parser!(u32).range(1..=i64::from(GREATEST_INT)))
             .default_value("65535"),
         )?
         .arg(
@@ -167,6 +218,35 @@ fn serve_script<'a>(alloc: Global) -> Result<Command<'a>, AllocError> {
                 "turns",
                 "N",
                 "How many rounds the session has at most",
+            )
+            .value_parser(value_parser!(u32))
+            .default_value("100000"),
+        )
+}
+
+fn attach_command<'a>(alloc: Global) -> Result<Command<'a>, AllocError> {
+    Command::new(alloc, "attach")
+        .about("Runs a plan as the debugger of one session, from a file of the target's bytes")
+        .arg(file(
+            alloc,
+            "plan",
+            "PLAN",
+            "A text of lines `ask SET NUMBER [HEX]`, `answers`, `events N` and `mirror`",
+        ))?
+        .arg(option(alloc, "from", "FILE", "What the target sent, in bytes").required(true))?
+        .arg(option(
+            alloc,
+            "to",
+            "FILE",
+            "Where the debugger's bytes are written",
+        )
+        .required(true))?
+        .arg(
+            option(
+                alloc,
+                "turns",
+                "N",
+                "How many turns the session has at most",
             )
             .value_parser(value_parser!(u32))
             .default_value("100000"),

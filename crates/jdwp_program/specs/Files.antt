@@ -7,6 +7,8 @@ use Rattle.std.specs.declared.io.Error.{Error}
 use Rattle.std.specs.declared.io.ErrorKind.TheVariants as kind
 use Rattle.jdwp_script.specs.declared.fault.ScriptFault.{ScriptFault}
 use Rattle.jdwp_script.specs.declared.fault.ScriptFault.TheVariants as script
+use Rattle.jdwp_plan.specs.declared.plan_fault.PlanFault.{PlanFault}
+use Rattle.jdwp_plan.specs.declared.plan_fault.PlanFault.TheVariants as plan
 use Rattle.jdwp_program.specs.declared.captures.TellFault.{TellFault}
 use Rattle.jdwp_program.specs.declared.captures.TellFault.TheVariants as telling
 use Rattle.jdwp_program.specs.declared.fault.Fault.{Fault}
@@ -29,6 +31,7 @@ IsUnusable path error (fault.File named cause) = (named ≡ path) × (error_kind
 IsUnusable path error (fault.Words text) = ⊥
 IsUnusable path error fault.NotText = ⊥
 IsUnusable path error (fault.Script other) = ⊥
+IsUnusable path error (fault.Plan other) = ⊥
 IsUnusable path error (fault.Output other) = ⊥
 
 -- the bytes are not UTF-8, and this says at which of them no character begins
@@ -53,3 +56,8 @@ fault_of_script script.IdTwice = fault.Script script.IdTwice
 fault_of_script script.IdTooWide = fault.Script script.IdTooWide
 fault_of_script script.BadReference = fault.Script script.BadReference
 fault_of_script script.OverLimit = fault.Script script.OverLimit
+
+-- what is told of a plan's fault: want of memory alone, or the fault
+abbrev pub fault_of_plan : PlanFault → Fault
+fault_of_plan plan.NoMemory = fault.NoMemory
+fault_of_plan (plan.Line number other) = fault.Plan (plan.Line number other)

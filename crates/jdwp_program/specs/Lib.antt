@@ -1,7 +1,7 @@
+pub mod Attaching
 pub mod Captures
 pub mod Files
 pub mod Outputs
 pub mod Printing
-pub mod Serving
 pub mod Statuses
 pub mod Values

@@ -5,7 +5,7 @@ use Rattle.jdwp_engine.specs.declared.ended.Ended.TheVariants as ended
 use Rattle.jdwp_program.specs.declared.captures.Told.{Told}
 use Rattle.jdwp_program.specs.declared.captures.Told.TheVariants.{Faultless, Faulty, Unread}
 use Rattle.jdwp_program.specs.declared.fault.Fault.{Fault}
-use Rattle.jdwp_program.specs.declared.fault.Fault.TheVariants.{Words, NotText, File, Script, Output, NoMemory}
+use Rattle.jdwp_program.specs.declared.fault.Fault.TheVariants.{Words, NotText, File, Script, Plan, Output, NoMemory}
 use Rattle.jdwp_program.specs.declared.outcome.Outcome.{Outcome}
 use Rattle.jdwp_program.specs.declared.outcome.Outcome.TheVariants.{Session, Capture}
 
@@ -35,5 +35,6 @@ status_of_fault (Words text) = 1
 status_of_fault NotText = 1
 status_of_fault (File path cause) = 1
 status_of_fault (Script fault) = 1
+status_of_fault (Plan fault) = 1
 status_of_fault (Output error) = 2
 status_of_fault NoMemory = 3

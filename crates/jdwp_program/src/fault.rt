@@ -5,6 +5,7 @@ ghost use Rattle.jdwp_program.specs.Files.{IsNotText};
 ghost use Rattle.jdwp_program.specs.declared.fault.Fault.TheVariants as fault;
 
 use crate::captures::TellFault;
+use jdwp_plan::PlanFault;
 use jdwp_script::ScriptFault;
 use jdwp_wire::NoMemory;
 use std::alloc::AllocError;
@@ -27,6 +28,9 @@ pub enum Fault<'a> {
     /// The script of the machine is refused.
     #[error("{0}")]
     Script(ScriptFault),
+    /// The plan is refused.
+    #[error("{0}")]
+    Plan(PlanFault),
     /// The output can't be written.
     #[error("the output can't be written: {0}")]
     Output(io::Error),
@@ -79,7 +83,11 @@ impl<'a> Fault<'a> {
         ensures bound { result ≤ 4 }
     {
         match self {
-            Fault::Words(_) | Fault::NotText | Fault::File(_, _) | Fault::Script(_) => 1,
+            Fault::Words(_)
+            | Fault::NotText
+            | Fault::File(_, _)
+            | Fault::Script(_)
+            | Fault::Plan(_) => 1,
             Fault::Output(_) => 2,
             Fault::NoMemory => 3,
         }
@@ -108,6 +116,19 @@ impl<'a> From<ScriptFault> for Fault<'a> {
         match error {
             ScriptFault::NoMemory => Fault::NoMemory,
             error => Fault::Script(error),
+        }
+    }
+}
+
+impl<'a> From<PlanFault> for Fault<'a> {
+    ghost use Rattle.jdwp_program.specs.Files.{fault_of_plan};
+
+    ghost from_gives = { λ p f. f ≡ fault_of_plan p };
+
+    fn from(error: PlanFault) -> Fault<'a> {
+        match error {
+            PlanFault::NoMemory => Fault::NoMemory,
+            error => Fault::Plan(error),
         }
     }
 }

@@ -76,6 +76,15 @@ fn refusal(number: u16) -> &'static str {
         2 => "a packet length above the limit",
         3 => "packet flags other than 00 and 80",
         4 => "not the handshake",
+        31 => "the widths of ids are not known yet",
+        32 => "as many commands wait as may",
+        33 => "the session is closed",
+        34 => "a command longer than a packet may be",
+        36 => "no command of a target, or data that do not read in its layout",
+        42 => "a reply to no command that waits",
+        43 => "a reply whose data do not read",
+        44 => "more composites than may wait for the widths of ids",
+        45 => "a composite that no target sends, or another command",
         _ => "the bytes are refused",
     }
 }

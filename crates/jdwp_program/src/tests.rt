@@ -1,10 +1,9 @@
-//! What is told, and sessions, on readers and writers in memory.
+//! What is told, on writers in memory.
 use crate::{
     Fault, FileCause, Outcome, TellFault, Told, check_capture, decimal, is_all, report_fault,
-    report_outcome, serve_script, show_capture, text_of,
+    report_outcome, show_capture, text_of,
 };
-use jdwp_debuggee::Settings;
-use jdwp_engine::{Ended, Streams};
+use jdwp_engine::Ended;
 use jdwp_script::{Member, ScriptFault};
 use jdwp_wire::Limits;
 use std::alloc::Global;
@@ -20,7 +19,6 @@ struct Output {
     calls: usize,
     fails_at: usize,
     kind: ErrorKind,
-    flush_fails: bool,
 }
 
 impl Output {
@@ -31,7 +29,6 @@ impl Output {
             calls: 0,
             fails_at,
             kind,
-            flush_fails: false,
         }
     }
 }
@@ -51,9 +48,6 @@ impl Write for Output {
     }
 
     fn flush(&mut self) -> io::Result<()> {
-        if self.flush_fails {
-            return Err(io::Error::from(ErrorKind::BrokenPipe));
-        }
         Ok(())
     }
 }
@@ -347,83 +341,11 @@ fn numbers_are_digits_alone(rt: HostRuntime) {
     }
 }
 
-/// The handshake, IDSizes with id 1, Suspend with id 2, SuspendCount of thread 1 with id 3, Dispose with id 4.
-const SESSION: [u8; 66] = [
-    0x4a, 0x44, 0x57, 0x50, 0x2d, 0x48, 0x61, 0x6e, 0x64, 0x73, 0x68, 0x61, 0x6b, 0x65, //
-    0x00, 0x00, 0x00, 0x0b, 0x00, 0x00, 0x00, 0x01, 0x00, 0x01, 0x07, //
-    0x00, 0x00, 0x00, 0x0b, 0x00, 0x00, 0x00, 0x02, 0x00, 0x01, 0x08, //
-    0x00, 0x00, 0x00, 0x13, 0x00, 0x00, 0x00, 0x03, 0x00, 0x0b, 0x0c, 0x00, 0x00, 0x00, 0x00, 0x00,
-    0x00, 0x00, 0x01, //
-    0x00, 0x00, 0x00, 0x0b, 0x00, 0x00, 0x00, 0x04, 0x00, 0x01, 0x06, //
-];
-
-/// What is answered to it where no thread is suspended at the start.
-const ANSWERS: [u8; 111] = [
-    0x4a, 0x44, 0x57, 0x50, 0x2d, 0x48, 0x61, 0x6e, 0x64, 0x73, 0x68, 0x61, 0x6b, 0x65, //
-    0x00, 0x00, 0x00, 0x1d, 0x00, 0x00, 0x00, 0x01, 0x00, 0x40, 0x64, 0x00, 0x00, 0x00, 0x00, 0x01,
-    0x5a, 0x00, 0x00, 0x00, 0x00, 0x00, 0x00, 0x00, 0x00, 0x00, 0x00, 0x00, 0x01, //
-    0x00, 0x00, 0x00, 0x1f, 0x00, 0x00, 0x00, 0x01, 0x80, 0x00, 0x00, 0x00, 0x00, 0x00, 0x08, 0x00,
-    0x00, 0x00, 0x08, 0x00, 0x00, 0x00, 0x08, 0x00, 0x00, 0x00, 0x08, 0x00, 0x00, 0x00, 0x08, //
-    0x00, 0x00, 0x00, 0x0b, 0x00, 0x00, 0x00, 0x02, 0x80, 0x00, 0x00, //
-    0x00, 0x00, 0x00, 0x0f, 0x00, 0x00, 0x00, 0x03, 0x80, 0x00, 0x00, 0x00, 0x00, 0x00, 0x01, //
-    0x00, 0x00, 0x00, 0x0b, 0x00, 0x00, 0x00, 0x04, 0x80, 0x00, 0x00, //
-];
-
-/// Two threads: one calls a method, moves in it and returns, and the other has no step.
-const MACHINE: &str = r#"{"name":"A","sizes":[8,8,8,8,8],
-"groups":[{"id":5,"name":"main","parent":0}],
-"classes":[{"id":10,"tag":1,"signature":"LMain;","modifiers":1,
- "super":0,"interfaces":[],"source":"Main.java","fields":[],
- "methods":[{"id":20,"name":"run","signature":"()V","modifiers":1,
-  "args":0,"last":9,"lines":[[0,1],[3,2],[4,3]],"slots":[]}]}],
-"objects":[],
-"threads":[{"id":1,"name":"main","group":5,"steps":[
- ["call",30,10,20,0,[]],["go",3],["go",4],["go",3],["go",4],
- ["go",3],["return",["V",0]]]},
- {"id":2,"name":"work","group":5,"steps":[]}]}"#;
-
+/// A script that is refused is status 1, and one for which memory is wanted 3.
 #[test]
-fn a_session_is_served(rt: HostRuntime) -> Result<(), Fail> {
-    let alloc = rt.alloc();
-    let settings = Settings::new(false, 65535, Limits::standard()).ok_or("a count limit")?;
-    let rows: [(&[u8], u32, bool, Ended, usize); 5] = [
-        (&SESSION, 6, false, Ended::Done, 111),
-        (&SESSION, 5, false, Ended::TurnLimit, 100),
-        (&SESSION[..65], 9, false, Ended::LostByRead, 100),
-        // A flush stands before each read, and one at the end.
-        (&SESSION, 6, true, Ended::LostByRead, 0),
-        (&SESSION, 0, true, Ended::LostByWrite, 0),
-    ];
-    for (input, rounds, flush_fails, want, written) in rows {
-        let mut writer = Output::new(alloc, 1000, 0, ErrorKind::Other);
-        writer.flush_fails = flush_fails;
-        let mut pipe = Streams::new(input, writer);
-        let ended = serve_script(alloc, MACHINE, settings, &mut pipe, rounds)?;
-        let (_, writer) = pipe.into_parts();
-        assert_eq!(rt; ended, want);
-        assert!(rt; ANSWERS.starts_with(writer.bytes.as_slice()));
-        assert_eq!(rt; writer.bytes.len(), written);
-    }
-    Ok(())
-}
-
-/// A script that is refused is told by its fault, and nothing is read or written.
-#[test]
-fn a_script_is_refused(rt: HostRuntime) -> Result<(), Fail> {
-    let alloc = rt.alloc();
-    let settings = Settings::new(false, 65535, Limits::standard()).ok_or("a count limit")?;
-    let mut pipe = Streams::new(
-        SESSION.as_slice(),
-        Output::new(alloc, 1000, 0, ErrorKind::Other),
-    );
-    let ended = serve_script(alloc, "A", settings, &mut pipe, 6);
-    assert_eq!(rt; ended, Err(ScriptFault::NotJson));
-    let (rest, writer) = pipe.into_parts();
-    assert_eq!(rt; rest.len(), SESSION.len());
-    assert_eq!(rt; writer.calls, 0);
+fn refused_scripts_have_their_status(rt: HostRuntime) {
     let fault = Fault::from(ScriptFault::BadReference);
     assert_eq!(rt; fault.status(), 1);
     let fault = Fault::from(ScriptFault::NoMemory);
     assert_eq!(rt; fault.status(), 3);
-    Ok(())
 }

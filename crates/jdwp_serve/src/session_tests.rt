@@ -8,9 +8,9 @@ use std::alloc::Global;
 use std::test::Fail;
 
 /// A target over the machine of a script.
-type Target = jdwp_target::Target<ScriptMachine>;
+pub(crate) type Target = jdwp_target::Target<ScriptMachine>;
 
-const HANDSHAKE: &str = "4a4457502d48616e647368616b65";
+pub(crate) const HANDSHAKE: &str = "4a4457502d48616e647368616b65";
 
 const VM_START: &str = "0000001d 00000001 00 40 64 00 00000001 5a 00000000 0000000000000001";
 
@@ -91,7 +91,7 @@ fn target(alloc: Global, script: &str, start_all: bool, count_limit: u32) -> Res
 }
 
 /// The same, none of whose threads begins suspended, with the handshake done and its answer taken.
-fn ready(alloc: Global, script: &str, count_limit: u32) -> Result<Target, Fail> {
+pub(crate) fn ready(alloc: Global, script: &str, count_limit: u32) -> Result<Target, Fail> {
     let mut target = target(alloc, script, false, count_limit)?;
     target.accept();
     target.feed(&bytes(alloc, HANDSHAKE)?);
@@ -104,9 +104,13 @@ fn ready(alloc: Global, script: &str, count_limit: u32) -> Result<Target, Fail> 
 
 /// What is done with a target, and what comes of it.
 #[derive(Clone, Copy)]
-enum Act<'a> {
+pub(crate) enum Act<'a> {
     /// It is sent the first bytes, and sends the others, in turns until nothing is left to handle.
     Says(&'a str, &'a str),
+    /// EventRequest.Set with these data is refused with this error code.
+    Refuses(&'a str, u16),
+    /// EventRequest.Set with these data is answered with this request id.
+    Grants(&'a str, u32),
     /// A thread is stepped so many times; each step tells this, and all send these bytes.
     Steps(u64, u32, Stepped, &'a str),
     /// It is sent bytes that begin no message.
@@ -126,9 +130,15 @@ enum Act<'a> {
 }
 
 /// Whether this comes of it.
-fn comes(alloc: Global, target: &mut Target, act: &Act<'_>) -> Result<bool, Fail> {
+pub(crate) fn comes(alloc: Global, target: &mut Target, act: &Act<'_>) -> Result<bool, Fail> {
     match act {
         Act::Says(input, output) => says(alloc, target, input, output),
+        Act::Refuses(data, error) => Ok(
+            sets(alloc, target, data)?.as_slice() == refusal(alloc, *error)?.as_slice(),
+        ),
+        Act::Grants(data, id) => Ok(
+            sets(alloc, target, data)?.as_slice() == grant(alloc, *id)?.as_slice(),
+        ),
         Act::Steps(thread, times, told, output) => steps(
             alloc, target, *thread, *times, *told, output,
         ),
@@ -160,6 +170,32 @@ fn says(alloc: Global, target: &mut Target, input: &str, output: &str) -> Result
     sends(alloc, target, output)
 }
 
+/// What is sent for EventRequest.Set, under the id 2, with these data.
+fn sets(alloc: Global, target: &mut Target, data: &str) -> Result<Vec<u8>, Fail> {
+    let data = bytes(alloc, data)?;
+    let Ok(count) = u8::try_from(data.len()) else {
+        return Err(Fail::from("more data than the length here holds"));
+    };
+    target.feed(&[0, 0, 0, count.saturating_add(11), 0, 0, 0, 2, 0, 15, 1]);
+    target.feed(&data);
+    target.turn()?;
+    taken(alloc, target)
+}
+
+/// The reply to the command 2 that refuses it with this error code.
+fn refusal(alloc: Global, error: u16) -> Result<Vec<u8>, Fail> {
+    let mut reply = bytes(alloc, "0000000b 00000002 80")?;
+    reply.extend_from_slice(&error.to_be_bytes())?;
+    Ok(reply)
+}
+
+/// The reply to the command 2 that says this request id.
+fn grant(alloc: Global, id: u32) -> Result<Vec<u8>, Fail> {
+    let mut reply = bytes(alloc, "0000000f 00000002 80 0000")?;
+    reply.extend_from_slice(&id.to_be_bytes())?;
+    Ok(reply)
+}
+
 fn steps(
     alloc: Global,
     target: &mut Target,
@@ -183,7 +219,7 @@ fn sends(alloc: Global, target: &mut Target, output: &str) -> Result<bool, Fail>
 
 /// The place, from 0, of the first act of a session of which something else comes; None where all is as it is to be. The session
 /// begins with the handshake done and its answer taken, and no thread is suspended.
-fn goes_wrong_at(
+pub(crate) fn goes_wrong_at(
     alloc: Global,
     script: &str,
     count_limit: u32,
@@ -198,42 +234,50 @@ fn goes_wrong_at(
     Ok(None)
 }
 
-#[test]
-fn handshake_byte_by_byte(rt: HostRuntime) -> Result<(), Fail> {
-    let alloc = rt.alloc();
-    let mut target = target(alloc, MACHINE_A, false, 65535)?;
-    assert!(rt; !target.is_open());
-    assert!(rt; target.accept());
-    assert!(rt; !target.accept());
+/// Whether the handshake is answered once its last byte came.
+fn greets_byte_by_byte(alloc: Global, target: &mut Target) -> Result<bool, Fail> {
     let handshake = bytes(alloc, HANDSHAKE)?;
-    assert_eq!(rt; handshake.len(), 14);
     for (place, byte) in handshake.iter().enumerate() {
-        assert_eq!(rt; target.feed(&[*byte]), 1);
         let wanted = if place < 13 {
             Turn::Nothing
         } else {
             Turn::Hello
         };
-        assert_eq!(rt; target.turn(), Ok(wanted));
+        if target.feed(&[*byte]) != 1 || target.turn() != Ok(wanted) {
+            return Ok(false);
+        }
     }
     let mut wanted = handshake;
     wanted.extend_from_slice(&bytes(alloc, VM_START)?)?;
-    assert_eq!(rt; target.waiting(), 43);
-    assert!(rt; taken(alloc, &mut target)?.as_slice() == wanted.as_slice());
+    Ok(target.waiting() == 43 && taken(alloc, target)?.as_slice() == wanted.as_slice())
+}
+
+#[test]
+fn handshake_byte_by_byte(rt: HostRuntime) -> Result<(), Fail> {
+    let alloc = rt.alloc();
+    let mut target = target(alloc, MACHINE_A, false, 65535)?;
+    let begins = !target.is_open() && target.accept() && !target.accept();
+    assert!(rt; begins && greets_byte_by_byte(alloc, &mut target)?);
     Ok(())
+}
+
+/// Whether both threads are suspended once behind the handshake, and none steps.
+fn begins_suspended(alloc: Global, target: &mut Target) -> Result<bool, Fail> {
+    target.accept();
+    target.feed(&bytes(alloc, HANDSHAKE)?);
+    Ok(
+        target.turn() == Ok(Turn::Hello)
+            && target.count(ObjectId(1)) == Some(1)
+            && target.count(ObjectId(2)) == Some(1)
+            && target.step(ObjectId(1)) == Ok(Stepped::Frozen)
+            && target.waiting() == 43,
+    )
 }
 
 #[test]
 fn all_begin_suspended(rt: HostRuntime) -> Result<(), Fail> {
-    let alloc = rt.alloc();
-    let mut target = target(alloc, MACHINE_A, true, 65535)?;
-    target.accept();
-    target.feed(&bytes(alloc, HANDSHAKE)?);
-    assert_eq!(rt; target.turn(), Ok(Turn::Hello));
-    assert_eq!(rt; target.count(ObjectId(1)), Some(1));
-    assert_eq!(rt; target.count(ObjectId(2)), Some(1));
-    assert_eq!(rt; target.step(ObjectId(1)), Ok(Stepped::Frozen));
-    assert_eq!(rt; target.waiting(), 43);
+    let mut target = target(rt.alloc(), MACHINE_A, true, 65535)?;
+    assert!(rt; begins_suspended(rt.alloc(), &mut target)?);
     Ok(())
 }
 
@@ -646,58 +690,74 @@ fn the_last_end_is_the_machines(rt: HostRuntime) -> Result<(), Fail> {
     Ok(())
 }
 
-#[test]
-fn nothing_and_too_much(rt: HostRuntime) -> Result<(), Fail> {
-    let alloc = rt.alloc();
-    let mut target = ready(alloc, MACHINE_A, 65535)?;
-    assert_eq!(rt; target.feed(&[]), 0);
-    assert_eq!(rt; target.turn(), Ok(Turn::Nothing));
-    assert_eq!(rt; target.take(&mut []), 0);
+/// Whether no byte is taken and given for none, and 65,536 fit.
+fn takes_nothing_and_too_much(target: &mut Target) -> bool {
+    if target.feed(&[]) != 0 || target.turn() != Ok(Turn::Nothing) || target.take(&mut []) != 0 {
+        return false;
+    }
     let block = [0; 4096];
     for _ in 0..16u32 {
-        assert_eq!(rt; target.feed(&block), 4096);
+        if target.feed(&block) != 4096 {
+            return false;
+        }
     }
-    assert_eq!(rt; target.room(), 0);
-    assert_eq!(rt; target.feed(&[0]), 0);
+    target.room() == 0 && target.feed(&[0]) == 0
+}
+
+#[test]
+fn nothing_and_too_much(rt: HostRuntime) -> Result<(), Fail> {
+    let mut target = ready(rt.alloc(), MACHINE_A, 65535)?;
+    assert!(rt; takes_nothing_and_too_much(&mut target));
     Ok(())
+}
+
+/// Whether nothing is handled and no thread steps once 65,536 bytes and more wait to leave, and both go on where fewer do.
+fn pauses(alloc: Global, target: &mut Target) -> Result<bool, Fail> {
+    target.accept();
+    target.feed(&bytes(alloc, HANDSHAKE)?);
+    let greets = target.turn() == Ok(Turn::Hello);
+    let count = bytes(alloc, "00000013 00000003 00 0b 0c 0000000000000001")?;
+    for _ in 0..4367u32 {
+        target.feed(&count);
+        if target.turn() != Ok(Turn::Replied(3, ErrorCode::NONE)) {
+            return Ok(false);
+        }
+    }
+    target.feed(&count);
+    let mut few = [0; 13];
+    Ok(
+        greets
+            && target.turn() == Ok(Turn::Nothing)
+            && target.step(ObjectId(1)) == Ok(Stepped::Frozen)
+            && target.waiting() == 65548
+            && target.take(&mut few) == 13
+            && target.turn() == Ok(Turn::Replied(3, ErrorCode::NONE)),
+    )
 }
 
 #[test]
 fn pauses_where_a_packet_waits(rt: HostRuntime) -> Result<(), Fail> {
-    let alloc = rt.alloc();
-    let mut target = target(alloc, MACHINE_A, false, 65535)?;
-    target.accept();
-    target.feed(&bytes(alloc, HANDSHAKE)?);
-    assert_eq!(rt; target.turn(), Ok(Turn::Hello));
-    let count = bytes(alloc, "00000013 00000003 00 0b 0c 0000000000000001")?;
-    for _ in 0..4367u32 {
-        target.feed(&count);
-        assert_eq!(rt; target.turn(), Ok(Turn::Replied(3, ErrorCode::NONE)));
-    }
-    target.feed(&count);
-    assert_eq!(rt; target.turn(), Ok(Turn::Nothing));
-    assert_eq!(rt; target.step(ObjectId(1)), Ok(Stepped::Frozen));
-    assert_eq!(rt; target.waiting(), 65548);
-    let mut few = [0; 13];
-    assert_eq!(rt; target.take(&mut few), 13);
-    assert_eq!(rt; target.turn(), Ok(Turn::Replied(3, ErrorCode::NONE)));
+    let mut target = target(rt.alloc(), MACHINE_A, false, 65535)?;
+    assert!(rt; pauses(rt.alloc(), &mut target)?);
     Ok(())
 }
 
-#[test]
-fn a_packet_of_the_greatest_length(rt: HostRuntime) -> Result<(), Fail> {
-    let alloc = rt.alloc();
+/// Whether a packet of 65,536 bytes is answered, and a length of one more refused.
+fn takes_the_greatest_length(alloc: Global, target: &mut Target) -> Result<bool, Fail> {
     let mut text = bytes(alloc, "00010000 00000002 00 01 02 0000fff1")?;
     for _ in 0..65521u32 {
         text.push(b'x')?;
     }
-    let mut target = ready(alloc, MACHINE_A, 65535)?;
-    assert_eq!(rt; target.feed(text.as_slice()), 65536);
-    assert_eq!(rt; target.turn(), Ok(Turn::Replied(2, ErrorCode::NONE)));
-    let reply = bytes(alloc, "0000000f 00000002 80 0000 00000000")?;
-    assert!(rt; taken(alloc, &mut target)?.as_slice() == reply.as_slice());
+    let answers = target.feed(text.as_slice()) == 65536
+        && target.turn() == Ok(Turn::Replied(2, ErrorCode::NONE))
+        && sends(alloc, target, "0000000f 00000002 80 0000 00000000")?;
     target.feed(&bytes(alloc, "00010001")?);
-    let turn = target.turn();
-    assert!(rt; matches!(turn, Err(TargetFault::Frame(FrameFault::TooLong))));
+    Ok(answers && target.turn() == Err(TargetFault::Frame(FrameFault::TooLong)))
+}
+
+#[test]
+fn a_packet_of_the_greatest_length(rt: HostRuntime) -> Result<(), Fail> {
+    let mut target = ready(rt.alloc(), MACHINE_A, 65535)?;
+    assert!(rt; takes_the_greatest_length(rt.alloc(), &mut target)?);
     Ok(())
 }

@@ -1,5 +1,5 @@
 use Rattle.std.proofs.Common.{refl}
-use Rattle.jdwp_program.proofs.serving.serve_session.Goals as goal
+use Rattle.jdwp_serve.proofs.serving.serve_session.Goals as goal
 
 pub returns-clause-served : goal.returns-clause-served
 returns-clause-served g c =

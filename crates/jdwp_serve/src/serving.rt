@@ -6,7 +6,7 @@ ghost use Rattle.jdwp_script_machine.specs.Machines.{read_machine};
 ghost use Rattle.jdwp_script_machine.specs.ScriptMeaning.{script_meaning};
 ghost use Rattle.jdwp_script_machine.specs.States.{State};
 ghost use Rattle.jdwp_engine.specs.Streams.{story_of};
-ghost use Rattle.jdwp_program.specs.Serving.{ServesNew};
+ghost use Rattle.jdwp_serve.specs.Serving.{ServesNew};
 
 use jdwp_debuggee::Settings;
 use jdwp_engine::{Ended, Streams, serve};

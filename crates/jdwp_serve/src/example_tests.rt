@@ -29,6 +29,24 @@ fn converse(
     Ok(sent)
 }
 
+/// A session: the handshake, Suspend, and the connection is lost. Whether all of it goes as it is to.
+fn goes_well(alloc: Global, target: &mut Target<ScriptMachine>) -> Result<bool, Fail> {
+    let begins = target.accept();
+    let greeting = converse(alloc, target, b"JDWP-Handshake")?;
+    let greets = greeting.as_slice().starts_with(b"JDWP-Handshake") && greeting.len() == 14 + 29; // VM_START follows
+
+    let suspend = [0, 0, 0, 11, 0, 0, 0, 1, 0, 1, 8];
+    let reply = converse(alloc, target, &suspend)?;
+    let suspends = reply.as_slice() == [0, 0, 0, 11, 0, 0, 0, 1, 0x80, 0, 0].as_slice()
+        && target.count(ObjectId(1)) == Some(1)
+        && target.turn() == Ok(Turn::Nothing);
+
+    // The connection is lost: nobody stays suspended, and another session may begin.
+    target.lose();
+    let loses = target.count(ObjectId(1)) == Some(0) && target.accept();
+    Ok(begins && greets && suspends && loses)
+}
+
 #[test]
 fn a_session_by_hand(rt: HostRuntime) -> Result<(), Fail> {
     let Some(settings) = Settings::new(false, 100, Limits::standard()) else {
@@ -36,24 +54,6 @@ fn a_session_by_hand(rt: HostRuntime) -> Result<(), Fail> {
     };
     let machine = ScriptMachine::read(rt.alloc(), MACHINE_A)?;
     let mut target = Target::new(rt.alloc(), machine, settings)?;
-    assert!(rt; target.accept());
-
-    let greeting = converse(rt.alloc(), &mut target, b"JDWP-Handshake")?;
-    assert!(rt; greeting.as_slice().starts_with(b"JDWP-Handshake"));
-    assert_eq!(rt; greeting.len(), 14 + 29); // VM_START follows
-
-    let suspend = [0, 0, 0, 11, 0, 0, 0, 1, 0, 1, 8];
-    let reply = converse(rt.alloc(), &mut target, &suspend)?;
-    assert_eq!(rt;
-        reply.as_slice(),
-        [0, 0, 0, 11, 0, 0, 0, 1, 0x80, 0, 0].as_slice()
-    );
-    assert_eq!(rt; target.count(ObjectId(1)), Some(1));
-    assert_eq!(rt; target.turn(), Ok(Turn::Nothing));
-
-    // The connection is lost: nobody stays suspended, and another session may begin.
-    target.lose();
-    assert_eq!(rt; target.count(ObjectId(1)), Some(0));
-    assert!(rt; target.accept());
+    assert!(rt; goes_well(rt.alloc(), &mut target)?);
     Ok(())
 }
