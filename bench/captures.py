@@ -2,9 +2,10 @@
 """How fast the program judges and shows captures, and how much memory that takes.
 
 Makes captures of sessions as inspectors meet them: many short packets (SuspendCount of thread 1), or packets of 60,000 bytes (the replies to
-AllThreads, StringReference.Value and ArrayReference.GetValues in turn); each with one byte a line, or with long lines; lists of 50,000 bytes
-(the replies to Method.Bytecodes); and commands that all wait, under ids in order and under ids that collide in a hash map of fixed hashing
-(`colliding_ids.c`, where there is a `cc`). Runs `check` and `show` on them, and prints MB of text a second (the best of three runs), and the peak of memory in MB and for each byte of text. To reach: with long lines above 200 MB
+AllThreads, StringReference.Value and ArrayReference.GetValues in turn); each with one byte a line, or with long lines; lists (the replies to
+Method.Bytecodes, of 50,000 bytes, and to AllClasses, of 1,000 classes); and commands that all wait, under ids in order and under ids that collide in a hash map of fixed hashing
+(`colliding_ids.c`, where there is a `cc`). Runs `check` and `show` on them, and prints MB of text a second (the best of three runs), and the peak of memory in MB and for each byte of text; beside them, how fast `cat`
+gives the same file. All runs are pinned to one processor, where `taskset` is there. To reach: with long lines above 200 MB
 a second for `check` and above 100 for `show`, and memory within a small multiple of the text.
 
     bench/captures.py [PROGRAM] [MB..]
@@ -54,6 +55,11 @@ def large_exchange(number):
 def bytecodes_exchange(number):
     code = bytes(i % 256 for i in range(50_000))
     return command(number, (6, 3), struct.pack(">QQ", 1, 2)), reply(number, struct.pack(">I", len(code)) + code)
+
+
+def classes_exchange(number):
+    classes = b"".join(struct.pack(">BQI", 1, i, 24) + b"Ljava/lang/Class%07d;" % i + struct.pack(">I", 7) for i in range(1_000))
+    return command(number, (1, 3)), reply(number, struct.pack(">I", 1_000) + classes)
 
 
 def waiting_lines(ids):
@@ -115,13 +121,16 @@ def write_lines(path, lines):
 
 def run(words):
     """The status, the seconds and the peak of memory in bytes."""
+    pinned = ["taskset", "-c", str(min(os.sched_getaffinity(0)))] if shutil.which("taskset") else []
     start = time.perf_counter()
-    process = subprocess.Popen(words, stdout=subprocess.DEVNULL)
+    process = subprocess.Popen(pinned + words, stdout=subprocess.DEVNULL)
     _, status, usage = os.wait4(process.pid, 0)
     return status, time.perf_counter() - start, usage.ru_maxrss * 1024
 
 
 def measure(program, path, made, name):
+    seconds = min(run(["cat", path])[1] for _ in range(3))
+    print(f"{name}: cat {made / seconds / 1e6:.0f} MB/s", flush=True)
     for word in ("check", "show"):
         runs = [run([program, word, path]) for _ in range(3)]
         if any(status != 0 for status, _, _ in runs):
@@ -144,8 +153,9 @@ def main():
         for size, (packet, make), (form, lines) in itertools.product(sizes, packets.items(), forms.items()):
             made = write_capture(path, make, lines, size * 1_000_000)
             measure(program, path, made, f"{size} MB, {packet}, {form}")
-        made = write_capture(path, bytecodes_exchange, long_lines, sizes[0] * 1_000_000)
-        measure(program, path, made, f"{sizes[0]} MB, lists of bytes")
+        for name, make in ("bytes", bytecodes_exchange), ("classes", classes_exchange):
+            made = write_capture(path, make, long_lines, sizes[0] * 1_000_000)
+            measure(program, path, made, f"{sizes[0]} MB, lists of {name}")
         count = 295_000
         for name, ids in ("in order", range(1, count + 1)), ("that collide", colliding_ids(folder, count)):
             if ids:

@@ -2,7 +2,8 @@
 """How fast the program serves a long session from a file.
 
 Makes a session of the handshake, a million SuspendCount commands of thread 1 and Dispose, runs the program on it with every thread suspended, checks the answer and
-prints messages a second (on a file, the best of three runs) and the peak of memory (on a pipe, before Dispose). To reach: 5 million messages a second, and memory that doesn't grow with the session.
+prints messages a second (on a file, the best of three runs), the same by the processor time of the program, which other processes on the machine disturb less, and the peak of memory (on a pipe, before Dispose). To reach: 5 million messages a
+second, and memory that doesn't grow with the session.
 
     bench/serve.py [PROGRAM] [COMMANDS]
 
@@ -10,6 +11,7 @@ PROGRAM is crates/jdwp/out/jdwp where none is given; `rt run` in crates/jdwp bui
 """
 
 import os
+import resource
 import struct
 import subprocess
 import sys
@@ -50,21 +52,28 @@ def check(made, commands):
             sys.exit("the answer is wrong")
 
 
+def processor_time():
+    """The processor time of the programs that were run, in seconds."""
+    usage = resource.getrusage(resource.RUSAGE_CHILDREN)
+    return usage.ru_utime + usage.ru_stime
+
+
 def seconds_of(program, folder, commands):
-    """The seconds of the best of three runs on a file."""
+    """The seconds of the best of three runs on a file, and the least processor time of one."""
     given = os.path.join(folder, "from")
     with open(given, "wb") as file:
         file.write(session(commands))
     words, made = words_of(program, folder, given, commands)
-    times = []
+    times, busy = [], []
     for _ in range(3):
-        start = time.perf_counter()
+        start, used = time.perf_counter(), processor_time()
         status = subprocess.run(words).returncode
         times.append(time.perf_counter() - start)
+        busy.append(processor_time() - used)
         if status != 0:
             sys.exit(f"status {status}")
         check(made, commands)
-    return min(times)
+    return min(times), min(busy)
 
 
 def peak_of(program, folder, commands):
@@ -95,9 +104,10 @@ def main():
     commands = int(sys.argv[2]) if len(sys.argv) > 2 else 1_000_000
     with tempfile.TemporaryDirectory() as folder:
         for count in (1_000, commands):
-            seconds, peak = seconds_of(program, folder, count), peak_of(program, folder, count)
+            (seconds, busy), peak = seconds_of(program, folder, count), peak_of(program, folder, count)
             messages = count + 2
-            print(f"{messages} messages in {seconds:.3f} s: {messages / seconds / 1e6:.2f} million a second; peak of memory {peak} KiB")
+            rates = f"{messages / seconds / 1e6:.2f} million a second, {messages / busy / 1e6:.2f} million a second of processor time"
+            print(f"{messages} messages in {seconds:.3f} s: {rates}; peak of memory {peak} KiB")
 
 
 if __name__ == "__main__":

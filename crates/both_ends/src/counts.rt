@@ -1,0 +1,96 @@
+//! Suspend counts, asked in rounds (JDWP specification, "Protocol Details": ThreadReference.SuspendCount).
+use crate::exchange::{to_debugger, to_target};
+use anyhow::Context;
+use jdwp_debuggee::Settings;
+use jdwp_debugger::{Command, Debugger, Read};
+use jdwp_layout::numbers::{SUSPEND_COUNT, THREAD_REFERENCE};
+use jdwp_layout::{Datum, Scalar};
+use jdwp_script_machine::ScriptMachine;
+use jdwp_target::Turn;
+use jdwp_value::ObjectId;
+use jdwp_wire::Limits;
+use std::alloc::Global;
+
+/// A target over the machine of a script.
+type Target = jdwp_target::Target<ScriptMachine>;
+
+/// How many commands are asked at once, as many as may wait.
+const AT_ONCE: u32 = 64;
+
+/// How many bytes are moved at once, more than 64 such commands or replies take.
+const CHUNK: usize = 4_096;
+
+/// A machine of one thread that does nothing.
+const SCRIPT: &str = "{\"name\":\"one\",\"sizes\":[8,8,8,8,8],\
+\"groups\":[{\"id\":5,\"name\":\"main\",\"parent\":0}],\"classes\":[],\"objects\":[],\
+\"threads\":[{\"id\":1,\"name\":\"main\",\"group\":5,\"steps\":[]}]}";
+
+/// Asks 64 counts in each round of one session, and answers how many answers came.
+pub fn answered(alloc: Global, rounds: u32) -> anyhow::Result<u64> {
+    let mut target = target(alloc)?;
+    let mut debugger = Debugger::new(alloc)?;
+    ask_counts(alloc, &mut debugger, &mut target, rounds)
+}
+
+fn target(alloc: Global) -> anyhow::Result<Target> {
+    let settings = Settings::new(true, 65_535, Limits::standard()).context(
+        "a limit that there may be",
+    )?;
+    let machine = ScriptMachine::read(alloc, SCRIPT)?;
+    Ok(Target::new(alloc, machine, settings)?)
+}
+
+/// Begins a session, and asks 64 counts in each round.
+fn ask_counts(
+    alloc: Global,
+    debugger: &mut Debugger,
+    target: &mut Target,
+    rounds: u32,
+) -> anyhow::Result<u64> {
+    target.accept();
+    debugger.attach();
+    let mut buffer = [0; CHUNK];
+    for _ in 0..3u32 {
+        exchange(alloc, debugger, target, &mut buffer)?;
+    }
+    let mut answered = 0u64;
+    for _ in 0..rounds {
+        for _ in 0..AT_ONCE {
+            debugger.ask(alloc, count_of_the_thread(alloc)?)?;
+        }
+        let came = exchange(alloc, debugger, target, &mut buffer)?;
+        answered = answered.saturating_add(u64::from(came));
+    }
+    Ok(answered)
+}
+
+fn count_of_the_thread(alloc: Global) -> anyhow::Result<Command> {
+    let mut items = Vec::with_capacity(alloc, 1)?;
+    items.push(Datum::One(Scalar::ObjectId(ObjectId(1))))?;
+    Ok(Command::new(THREAD_REFERENCE, SUSPEND_COUNT, items))
+}
+
+/// The target handles what the debugger put, and the debugger what the target sent. How many answers came.
+fn exchange(
+    alloc: Global,
+    debugger: &mut Debugger,
+    target: &mut Target,
+    buffer: &mut [u8; CHUNK],
+) -> anyhow::Result<u32> {
+    to_target(debugger, target, buffer);
+    for _ in 0..=AT_ONCE {
+        if let Turn::Nothing = target.turn()? {
+            break;
+        }
+    }
+    to_debugger(target, debugger, buffer);
+    let mut answered = 0u32;
+    for _ in 0..=AT_ONCE {
+        match debugger.turn(alloc)? {
+            Read::Nothing => break,
+            Read::Answered(..) => answered = answered.saturating_add(1),
+            _ => {}
+        }
+    }
+    Ok(answered)
+}

@@ -1,0 +1,38 @@
+//! Examples: a type of one's own that packets carry; and, as tests, worked frames, data, layouts, event requests, captures and scripts.
+//!
+//! They stand apart from the crates that they try, which are then proved once less.
+#![tactic(auto)]
+
+#[cfg(test)]
+mod check_tests;
+mod code_range;
+#[cfg(test)]
+mod code_range_tests;
+#[cfg(test)]
+mod event_tests;
+#[cfg(test)]
+mod frame_tests;
+#[cfg(test)]
+mod happening_tests;
+#[cfg(test)]
+mod layout_tests;
+#[cfg(test)]
+mod limit_tests;
+#[cfg(test)]
+mod request_tests;
+#[cfg(test)]
+mod row_tests;
+#[cfg(test)]
+mod script_tests;
+#[cfg(test)]
+mod show_tests;
+#[cfg(test)]
+mod table_tests;
+#[cfg(test)]
+mod trace_tests;
+#[cfg(test)]
+mod value_tests;
+#[cfg(test)]
+mod wire_tests;
+
+pub use code_range::CodeRange;

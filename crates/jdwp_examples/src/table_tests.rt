@@ -1,0 +1,238 @@
+//! The table of commands, row by row.
+use jdwp_layout::{CommandRow, Entry, Field, Item, Layout, layout_of};
+use std::alloc::Global;
+use std::test::Fail;
+
+/// What each command carries: the set and the command, and its names, request and reply. A row with `*` is starred, and
+/// `-` is no data. B is a byte, Z a boolean, I an int, J a long, S a string, O an object id, R a reference type id, M a
+/// method id, F a field id, Fr a frame id, Loc a location, V a value, TO a tagged object id, and `n[..]` a list.
+static ROWS: [(u8, u8, &str); 94] = [
+    (1, 1, "VirtualMachine.Version - -> S I I S S"),
+    (1, 2, "VirtualMachine.ClassesBySignature S -> n[B R I]"),
+    (1, 3, "VirtualMachine.AllClasses - -> n[B R S I]"),
+    (1, 4, "VirtualMachine.AllThreads - -> n[O]"),
+    (1, 5, "VirtualMachine.TopLevelThreadGroups - -> n[O]"),
+    (1, 6, "VirtualMachine.Dispose - -> -"),
+    (1, 7, "VirtualMachine.IDSizes - -> I I I I I"),
+    (1, 8, "VirtualMachine.Suspend - -> -"),
+    (1, 9, "VirtualMachine.Resume - -> -"),
+    (1, 10, "VirtualMachine.Exit I -> -"),
+    (1, 11, "VirtualMachine.CreateString* S -> O"),
+    (1, 12, "VirtualMachine.Capabilities - -> Z Z Z Z Z Z Z"),
+    (1, 13, "VirtualMachine.ClassPaths raw"),
+    (1, 14, "VirtualMachine.DisposeObjects n[O I] -> -"),
+    (1, 15, "VirtualMachine.HoldEvents - -> -"),
+    (1, 16, "VirtualMachine.ReleaseEvents - -> -"),
+    (
+        1,
+        17,
+        "VirtualMachine.CapabilitiesNew - -> Z Z Z Z Z Z Z Z Z Z Z Z Z Z Z Z Z Z Z Z Z Z Z Z Z Z Z Z Z Z Z Z",
+    ),
+    (1, 18, "VirtualMachine.RedefineClasses raw"),
+    (1, 19, "VirtualMachine.SetDefaultStratum* S -> -"),
+    (
+        1,
+        20,
+        "VirtualMachine.AllClassesWithGeneric - -> n[B R S S I]",
+    ),
+    (1, 21, "VirtualMachine.InstanceCounts* n[R] -> n[J]"),
+    (1, 22, "VirtualMachine.AllModules* - -> n[O]"),
+    (2, 1, "ReferenceType.Signature R -> S"),
+    (2, 2, "ReferenceType.ClassLoader R -> O"),
+    (2, 3, "ReferenceType.Modifiers R -> I"),
+    (2, 4, "ReferenceType.Fields R -> n[F S S I]"),
+    (2, 5, "ReferenceType.Methods R -> n[M S S I]"),
+    (2, 6, "ReferenceType.GetValues R n[F] -> n[V]"),
+    (2, 7, "ReferenceType.SourceFile R -> S"),
+    (2, 8, "ReferenceType.NestedTypes* R -> n[B R]"),
+    (2, 9, "ReferenceType.Status R -> I"),
+    (2, 10, "ReferenceType.Interfaces R -> n[R]"),
+    (2, 11, "ReferenceType.ClassObject* R -> O"),
+    (2, 12, "ReferenceType.SourceDebugExtension* R -> S"),
+    (2, 13, "ReferenceType.SignatureWithGeneric R -> S S"),
+    (2, 14, "ReferenceType.FieldsWithGeneric R -> n[F S S S I]"),
+    (2, 15, "ReferenceType.MethodsWithGeneric R -> n[M S S S I]"),
+    (2, 16, "ReferenceType.Instances* R I -> n[TO]"),
+    (2, 17, "ReferenceType.ClassFileVersion* R -> I I"),
+    (2, 18, "ReferenceType.ConstantPool* R -> I n[B]"),
+    (2, 19, "ReferenceType.Module* R -> O"),
+    (3, 1, "ClassType.Superclass R -> R"),
+    (3, 2, "ClassType.SetValues raw"),
+    (3, 3, "ClassType.InvokeMethod raw"),
+    (3, 4, "ClassType.NewInstance raw"),
+    (4, 1, "ArrayType.NewInstance raw"),
+    (5, 1, "InterfaceType.InvokeMethod raw"),
+    (6, 1, "Method.LineTable R M -> J J n[J I]"),
+    (6, 2, "Method.VariableTable R M -> I n[J S S I I]"),
+    (6, 3, "Method.Bytecodes* R M -> n[B]"),
+    (6, 4, "Method.IsObsolete R M -> Z"),
+    (
+        6,
+        5,
+        "Method.VariableTableWithGeneric R M -> I n[J S S S I I]",
+    ),
+    (9, 1, "ObjectReference.ReferenceType O -> B R"),
+    (9, 2, "ObjectReference.GetValues O n[F] -> n[V]"),
+    (9, 3, "ObjectReference.SetValues raw"),
+    (9, 5, "ObjectReference.MonitorInfo* O -> O I n[O]"),
+    (9, 6, "ObjectReference.InvokeMethod raw"),
+    (9, 7, "ObjectReference.DisableCollection O -> -"),
+    (9, 8, "ObjectReference.EnableCollection O -> -"),
+    (9, 9, "ObjectReference.IsCollected O -> Z"),
+    (9, 10, "ObjectReference.ReferringObjects* O I -> n[TO]"),
+    (10, 1, "StringReference.Value O -> S"),
+    (11, 1, "ThreadReference.Name O -> S"),
+    (11, 2, "ThreadReference.Suspend O -> -"),
+    (11, 3, "ThreadReference.Resume O -> -"),
+    (11, 4, "ThreadReference.Status O -> I I"),
+    (11, 5, "ThreadReference.ThreadGroup O -> O"),
+    (11, 6, "ThreadReference.Frames O I I -> n[Fr Loc]"),
+    (11, 7, "ThreadReference.FrameCount O -> I"),
+    (11, 8, "ThreadReference.OwnedMonitors* O -> n[TO]"),
+    (11, 9, "ThreadReference.CurrentContendedMonitor* O -> TO"),
+    (11, 10, "ThreadReference.Stop* O O -> -"),
+    (11, 11, "ThreadReference.Interrupt* O -> -"),
+    (11, 12, "ThreadReference.SuspendCount O -> I"),
+    (
+        11,
+        13,
+        "ThreadReference.OwnedMonitorsStackDepthInfo* O -> n[TO I]",
+    ),
+    (11, 14, "ThreadReference.ForceEarlyReturn* O V -> -"),
+    (12, 1, "ThreadGroupReference.Name O -> S"),
+    (12, 2, "ThreadGroupReference.Parent O -> O"),
+    (12, 3, "ThreadGroupReference.Children O -> n[O] n[O]"),
+    (13, 1, "ArrayReference.Length O -> I"),
+    (13, 2, "ArrayReference.GetValues O I I -> region"),
+    (13, 3, "ArrayReference.SetValues raw"),
+    (14, 1, "ClassLoaderReference.VisibleClasses* O -> n[B R]"),
+    (15, 1, "EventRequest.Set B B n[modifier] -> I"),
+    (15, 2, "EventRequest.Clear B I -> -"),
+    (15, 3, "EventRequest.ClearAllBreakpoints - -> -"),
+    (16, 1, "StackFrame.GetValues O Fr n[I B] -> n[V]"),
+    (16, 2, "StackFrame.SetValues O Fr n[I V] -> -"),
+    (16, 3, "StackFrame.ThisObject O Fr -> TO"),
+    (16, 4, "StackFrame.PopFrames* O Fr -> -"),
+    (17, 1, "ClassObjectReference.ReflectedType* O -> B R"),
+    (18, 1, "ModuleReference.Name* O -> S"),
+    (18, 2, "ModuleReference.ClassLoader* O -> O"),
+    (64, 100, "Event.Composite B n[event] -> -"),
+];
+
+/// What the table has for a command.
+fn expected(set: u8, command: u8) -> Option<&'static str> {
+    for (row_set, row_command, line) in ROWS {
+        if row_set == set && row_command == command {
+            return Some(line);
+        }
+    }
+    None
+}
+
+fn field_letters(field: Field) -> &'static str {
+    match field {
+        Field::Byte => "B",
+        Field::Boolean => "Z",
+        Field::Int => "I",
+        Field::Long => "J",
+        Field::String => "S",
+        Field::ObjectId => "O",
+        Field::ReferenceTypeId => "R",
+        Field::MethodId => "M",
+        Field::FieldId => "F",
+        Field::FrameId => "Fr",
+        Field::Location => "Loc",
+        Field::Value => "V",
+        Field::TaggedId => "TO",
+    }
+}
+
+fn push_entry(entry: Entry, line: &mut String) -> Result<(), Fail> {
+    match entry {
+        Entry::Modifier => line.push_str("n[modifier]")?,
+        Entry::Event => line.push_str("n[event]")?,
+        Entry::Fields(fields) => {
+            line.push_str("n[")?;
+            let mut first = true;
+            for field in fields {
+                if !first {
+                    line.push_str(" ")?;
+                }
+                line.push_str(field_letters(*field))?;
+                first = false;
+            }
+            line.push_str("]")?;
+        }
+    }
+    Ok(())
+}
+
+fn push_layout(layout: &Layout, line: &mut String) -> Result<(), Fail> {
+    if layout.items.is_empty() {
+        line.push_str(" -")?;
+    }
+    for item in layout.items {
+        line.push_str(" ")?;
+        match *item {
+            Item::One(field) => line.push_str(field_letters(field))?,
+            Item::Many(entry) => push_entry(entry, line)?,
+            Item::Region => line.push_str("region")?,
+        }
+    }
+    Ok(())
+}
+
+/// The row in the form of the table above.
+fn line_of(alloc: Global, row: &CommandRow) -> Result<String, Fail> {
+    let mut line = String::new(alloc);
+    line.push_str(row.set_name)?;
+    line.push_str(".")?;
+    line.push_str(row.name)?;
+    if row.starred {
+        line.push_str("*")?;
+    }
+    match row.layouts {
+        None => line.push_str(" raw")?,
+        Some(layouts) => {
+            push_layout(&layouts.request, &mut line)?;
+            line.push_str(" ->")?;
+            push_layout(&layouts.reply, &mut line)?;
+        }
+    }
+    Ok(line)
+}
+
+#[test]
+fn every_row(rt: HostRuntime) -> Result<(), Fail> {
+    let mut rows: u32 = 0;
+    let mut starred: u32 = 0;
+    let mut raw: u32 = 0;
+    let mut of_target: u32 = 0;
+    for set in 0..256u32 {
+        for command in 0..256u32 {
+            match layout_of(set as u8, command as u8) {
+                None => assert_eq!(rt; expected(set as u8, command as u8), None),
+                Some(row) => {
+                    let line = line_of(rt.alloc(), row)?;
+                    assert_eq!(rt; Some(line.as_str()), expected(set as u8, command as u8));
+                    rows = rows.saturating_add(1);
+                    if row.starred {
+                        starred = starred.saturating_add(1);
+                    }
+                    if row.layouts.is_none() {
+                        raw = raw.saturating_add(1);
+                    }
+                    if set >= 64 {
+                        of_target = of_target.saturating_add(1);
+                    }
+                }
+            }
+        }
+    }
+    assert_eq!(rt; (rows, starred, raw, of_target), (94, 25, 10, 1));
+    assert_eq!(rt;
+        rows.saturating_sub(starred.saturating_add(raw).saturating_add(of_target)),
+        58
+    );
+    Ok(())
+}
