@@ -2,6 +2,7 @@
 use jdwp_show::{CaptureFault, Verdict, check};
 use jdwp_wire::{DataFault, FrameFault, NoMemory};
 use std::alloc::Global;
+use std::process::Abort;
 
 const HANDSHAKES: &str = "> 4a4457502d48616e647368616b65\n< 4a4457502d48616e647368616b65\n";
 
@@ -15,6 +16,20 @@ fn numbers(verdict: Verdict) -> (usize, u16, u16) {
         Verdict::Yes => (0, 0, 0),
         Verdict::No(line, fault) => (line, fault.number(), fault.printed_number()),
     }
+}
+
+/// Captures of both handshakes, this and each of these are judged so.
+fn are_judged(
+    rt: &impl Abort,
+    alloc: Global,
+    before: &str,
+    rows: &[(&str, (usize, u16, u16))],
+) -> Result<(), NoMemory> {
+    for (more, wanted) in rows {
+        let text = format!(in alloc; "{HANDSHAKES}{before}{more}")?;
+        assert_eq!(rt; numbers(check(alloc, text.as_str())?), *wanted);
+    }
+    Ok(())
 }
 
 #[test]
@@ -35,11 +50,7 @@ fn faults_in_their_lines(rt: HostRuntime) -> Result<(), NoMemory> {
         ("> 0000000a\n>\n", (4, 51, 51)),
         ("> 0000000b000000010001", (0, 0, 0)),
     ];
-    for (more, wanted) in rows {
-        let text = format!(in rt.alloc(); "{HANDSHAKES}{more}")?;
-        assert_eq!(rt; numbers(check(rt.alloc(), text.as_str())?), wanted);
-    }
-    Ok(())
+    are_judged(&rt, rt.alloc(), "", &rows)
 }
 
 #[test]
@@ -74,11 +85,7 @@ fn data_that_do_not_read(rt: HostRuntime) -> Result<(), NoMemory> {
             (0, 0, 0),
         ),
     ];
-    for (more, wanted) in rows {
-        let text = format!(in rt.alloc(); "{HANDSHAKES}{SIZES}{more}")?;
-        assert_eq!(rt; numbers(check(rt.alloc(), text.as_str())?), wanted);
-    }
-    Ok(())
+    are_judged(&rt, rt.alloc(), SIZES, &rows)
 }
 
 #[test]
@@ -112,32 +119,45 @@ fn widths_of_ids(rt: HostRuntime) -> Result<(), NoMemory> {
             (4, 55, 11),
         ),
     ];
-    for (more, wanted) in rows {
-        let text = format!(in rt.alloc(); "{HANDSHAKES}{more}")?;
-        assert_eq!(rt; numbers(check(rt.alloc(), text.as_str())?), wanted);
-    }
+    are_judged(&rt, rt.alloc(), "", &rows)
+}
+
+/// The capture of this text is judged so.
+fn is_judged(rt: &impl Abort, alloc: Global, text: &str, wanted: Verdict) -> Result<(), NoMemory> {
+    assert_eq!(rt; check(alloc, text)?, wanted);
     Ok(())
 }
 
 #[test]
 fn smallest_captures(rt: HostRuntime) -> Result<(), NoMemory> {
-    assert_eq!(rt; check(rt.alloc(), "")?, Verdict::Yes);
-    assert_eq!(rt; check(rt.alloc(), "> 4a44")?, Verdict::Yes);
-    let wanted = Verdict::No(1, CaptureFault::WrongWay);
-    assert_eq!(rt;
-        check(rt.alloc(), "< 4a4457502d48616e647368616b65")?,
-        wanted
-    );
-    let wanted = Verdict::No(1, CaptureFault::Frame(FrameFault::BadHandshake(1)));
-    assert_eq!(rt; check(rt.alloc(), "> 4a45")?, wanted);
-    for line in [
-        "", "\n", "> ", "> 4", "4a44", ">4a44", "> 4g", "= 4a", ">  4a", "> 4a 44",
-    ] {
-        let text = format!(in rt.alloc(); "{line}\n> 4a")?;
-        let wanted = Verdict::No(1, CaptureFault::BadLine);
-        assert_eq!(rt; check(rt.alloc(), text.as_str())?, wanted);
+    is_judged(&rt, rt.alloc(), "", Verdict::Yes)?;
+    is_judged(&rt, rt.alloc(), "> 4a44", Verdict::Yes)?;
+    let wrong_way = Verdict::No(1, CaptureFault::WrongWay);
+    is_judged(&rt, rt.alloc(), "< 4a4457502d48616e647368616b65", wrong_way)?;
+    let bad = Verdict::No(1, CaptureFault::Frame(FrameFault::BadHandshake(1)));
+    is_judged(&rt, rt.alloc(), "> 4a45", bad)
+}
+
+/// None of these lines is a line of a capture.
+fn are_no_lines(rt: &impl Abort, alloc: Global, lines: &[&str]) -> Result<(), NoMemory> {
+    for line in lines {
+        let text = format!(in alloc; "{line}\n> 4a")?;
+        is_judged(
+            rt,
+            alloc,
+            text.as_str(),
+            Verdict::No(1, CaptureFault::BadLine),
+        )?;
     }
     Ok(())
+}
+
+#[test]
+fn bad_lines(rt: HostRuntime) -> Result<(), NoMemory> {
+    let lines = [
+        "", "\n", "> ", "> 4", "4a44", ">4a44", "> 4g", "= 4a", ">  4a", "> 4a 44",
+    ];
+    are_no_lines(&rt, rt.alloc(), &lines)
 }
 
 /// A capture of these lines, the line at `place` cut in two behind its first `count` bytes.
@@ -197,54 +217,50 @@ fn cut_anywhere(rt: HostRuntime) -> Result<(), NoMemory> {
     Ok(())
 }
 
-#[test]
-fn numbers_of_faults(rt: HostRuntime) {
-    let rows: [(CaptureFault, u16, u16); 7] = [
-        (CaptureFault::BadLine, 51, 51),
-        (CaptureFault::Frame(FrameFault::TooLong), 52, 2),
-        (CaptureFault::IdInUse, 53, 53),
-        (CaptureFault::UnknownReply, 54, 54),
-        (CaptureFault::BadData(DataFault::BadTag), 55, 13),
-        (CaptureFault::ErrorWithData, 55, 55),
-        (CaptureFault::WrongWay, 56, 56),
-    ];
-    for (fault, number, printed) in rows {
-        assert_eq!(rt; fault.number(), number);
-        assert_eq!(rt; fault.printed_number(), printed);
-    }
+/// The fault's number, the number that is printed, and its text.
+fn is_told(
+    rt: &impl Abort,
+    alloc: Global,
+    fault: CaptureFault,
+    (number, printed): (u16, u16),
+    text: &str,
+) -> Result<(), NoMemory> {
+    assert_eq!(rt; fault.number(), number);
+    assert_eq!(rt; fault.printed_number(), printed);
+    assert_eq!(rt; fault.to_string(alloc)?.as_str(), text);
+    Ok(())
 }
 
 #[test]
-fn texts_of_faults(rt: HostRuntime) -> Result<(), NoMemory> {
-    let rows = [
-        (CaptureFault::BadLine, "fault 51: not a line of a capture"),
-        (
-            CaptureFault::Frame(FrameFault::BadHandshake(3)),
-            "fault 52: fault 4: not the handshake at byte 3",
-        ),
-        (
-            CaptureFault::IdInUse,
-            "fault 53: the id of a command that waits for its reply",
-        ),
-        (
-            CaptureFault::UnknownReply,
-            "fault 54: a reply to no command",
-        ),
-        (
-            CaptureFault::BadData(DataFault::BadTag),
-            "fault 55: fault 13: a bad tag",
-        ),
-        (
-            CaptureFault::ErrorWithData,
-            "fault 55: data in a reply with an error",
-        ),
-        (
-            CaptureFault::WrongWay,
-            "fault 56: a message of the other end",
-        ),
-    ];
-    for (fault, text) in rows {
-        assert_eq!(rt; fault.to_string(rt.alloc())?.as_str(), text);
-    }
-    Ok(())
+fn faults_of_lines_are_told(rt: HostRuntime) -> Result<(), NoMemory> {
+    let alloc = rt.alloc();
+    let text = "fault 51: not a line of a capture";
+    is_told(&rt, alloc, CaptureFault::BadLine, (51, 51), text)?;
+    let too_long = CaptureFault::Frame(FrameFault::TooLong);
+    let text = "fault 52: fault 2: a packet length above the limit";
+    is_told(&rt, alloc, too_long, (52, 2), text)?;
+    let handshake = CaptureFault::Frame(FrameFault::BadHandshake(3));
+    let text = "fault 52: fault 4: not the handshake at byte 3";
+    is_told(&rt, alloc, handshake, (52, 4), text)?;
+    let text = "fault 56: a message of the other end";
+    is_told(&rt, alloc, CaptureFault::WrongWay, (56, 56), text)
+}
+
+#[test]
+fn faults_of_packets_are_told(rt: HostRuntime) -> Result<(), NoMemory> {
+    let alloc = rt.alloc();
+    let text = "fault 53: the id of a command that waits for its reply";
+    is_told(&rt, alloc, CaptureFault::IdInUse, (53, 53), text)?;
+    let text = "fault 54: a reply to no command";
+    is_told(&rt, alloc, CaptureFault::UnknownReply, (54, 54), text)?;
+    let bad_tag = CaptureFault::BadData(DataFault::BadTag);
+    is_told(
+        &rt,
+        alloc,
+        bad_tag,
+        (55, 13),
+        "fault 55: fault 13: a bad tag",
+    )?;
+    let text = "fault 55: data in a reply with an error";
+    is_told(&rt, alloc, CaptureFault::ErrorWithData, (55, 55), text)
 }

@@ -283,16 +283,32 @@ fn composites_are_their_bytes(rt: HostRuntime) -> Result<(), Fail> {
     Ok(())
 }
 
+/// The composite that the data of this one make, as text.
+fn made_again(alloc: Global, composite: Composite) -> Result<String, Fail> {
+    let data = composite.into_data(alloc)?;
+    let again = Composite::of_data(alloc, data)?.ok_or("no composite")?;
+    Ok(format!(in alloc; "{again:?}")?)
+}
+
+fn is_composite(alloc: Global, items: Vec<Datum>) -> Result<bool, Fail> {
+    Ok(Composite::of_data(alloc, Data::new(items))?.is_some())
+}
+
 #[test]
 fn a_composite_is_made_of_its_data(rt: HostRuntime) -> Result<(), Fail> {
     let alloc = rt.alloc();
     let two = Composite::new(1, two_events(alloc)?);
     let wanted = format!(in alloc; "{two:?}")?;
-    let again = Composite::of_data(alloc, two.into_data(alloc)?)?.ok_or("no composite")?;
-    assert_eq!(rt; format!(in alloc; "{again:?}")?.as_str(), wanted.as_str());
-    let one = Data::new(vec![in alloc; Datum::One(Scalar::Byte(1))]?);
-    assert!(rt; Composite::of_data(alloc, one)?.is_none());
+    assert_eq!(rt; made_again(alloc, two)?.as_str(), wanted.as_str());
+    Ok(())
+}
+
+#[test]
+fn other_data_are_no_composite(rt: HostRuntime) -> Result<(), Fail> {
+    let alloc = rt.alloc();
+    let one = vec![in alloc; Datum::One(Scalar::Byte(1))]?;
+    assert!(rt; !is_composite(alloc, one)?);
     let int = vec![in alloc; Datum::One(Scalar::Int(1)), Datum::Many(Vec::new(alloc))]?;
-    assert!(rt; Composite::of_data(alloc, Data::new(int))?.is_none());
+    assert!(rt; !is_composite(alloc, int)?);
     Ok(())
 }

@@ -11,7 +11,7 @@ use std::alloc::Global;
 use std::process::Abort;
 use std::test::Fail;
 
-fn push_location(location: &Location, text: &mut String) -> Result<(), Fail> {
+pub(crate) fn push_location(location: &Location, text: &mut String) -> Result<(), Fail> {
     match *location {
         Location::Null => text.push_str("null")?,
         Location::At {
@@ -36,7 +36,7 @@ fn push_tagged_id(tagged: &TaggedId, text: &mut String) -> Result<(), Fail> {
     Ok(())
 }
 
-fn push_value(value: &Value, text: &mut String) -> Result<(), Fail> {
+pub(crate) fn push_value(value: &Value, text: &mut String) -> Result<(), Fail> {
     match *value {
         Value::Byte(bits) => write!(text, "B:{bits}")?,
         Value::Char(bits) => write!(text, "C:{bits}")?,
@@ -100,7 +100,7 @@ fn push_scalars(scalars: &[Scalar], text: &mut String) -> Result<(), Fail> {
 }
 
 /// The data as text, one space between two.
-fn text_of(alloc: Global, values: &[Datum]) -> Result<String, Fail> {
+pub(crate) fn text_of(alloc: Global, values: &[Datum]) -> Result<String, Fail> {
     let mut text = String::new(alloc);
     let mut first = true;
     for value in values {
@@ -177,7 +177,7 @@ fn accepted(
 }
 
 /// The bytes, but for spaces.
-fn bytes_of(alloc: Global, hex: &str) -> Result<Vec<u8>, Fail> {
+pub(crate) fn bytes_of(alloc: Global, hex: &str) -> Result<Vec<u8>, Fail> {
     let mut bytes = Vec::new(alloc);
     let mut high: Option<u32> = None;
     for character in hex.chars() {
@@ -194,7 +194,7 @@ fn bytes_of(alloc: Global, hex: &str) -> Result<Vec<u8>, Fail> {
     Ok(bytes)
 }
 
-fn request_of(set: u8, command: u8) -> Result<Layout, Fail> {
+pub(crate) fn request_of(set: u8, command: u8) -> Result<Layout, Fail> {
     let row = layout_of(set, command).ok_or("no row")?;
     let layouts = row.layouts.ok_or("a raw row")?;
     Ok(layouts.request)

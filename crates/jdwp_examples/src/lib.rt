@@ -1,4 +1,5 @@
-//! Examples: a type of one's own that packets carry; and, as tests, worked frames, data, layouts, event requests, captures and scripts.
+//! Examples: a type of one's own that packets carry; and, as tests, worked frames, data, layouts, event requests, captures, scripts and
+//! their machines.
 //!
 //! They stand apart from the crates that they try, which are then proved once less.
 #![tactic(auto)]
@@ -18,6 +19,8 @@ mod happening_tests;
 mod layout_tests;
 #[cfg(test)]
 mod limit_tests;
+#[cfg(test)]
+mod machine_tests;
 #[cfg(test)]
 mod request_tests;
 #[cfg(test)]

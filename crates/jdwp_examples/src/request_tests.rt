@@ -214,40 +214,60 @@ fn steps_pass_by_size_and_depth(rt: HostRuntime) -> Result<(), Fail> {
     Ok(())
 }
 
-#[test]
-fn a_step_over_a_call_begins_where_it_last_reported(rt: HostRuntime) -> Result<(), Fail> {
-    let alloc = rt.alloc();
+/// Requests of steps over calls in lines of thread 1, from line 1 in its only frame.
+fn steps_over(alloc: Global) -> Result<Requests, Fail> {
     let step = Modifier::Step {
         thread: ObjectId(1),
         size: 1,
         depth: 1,
     };
-    let mut requests = Requests::new(alloc);
     let modifiers = vec![in alloc; step]?;
     let origin = StepOrigin {
         frames: 1,
         line: Some(1),
     };
-    requests.insert(request(
-        alloc,
-        1,
-        EventKind::SingleStep,
-        Policy::None,
-        modifiers,
-        origin,
-    )?)?;
+    let kind = EventKind::SingleStep;
+    let mut requests = Requests::new(alloc);
+    requests.insert(request(alloc, 1, kind, Policy::None, modifiers, origin)?)?;
+    Ok(requests)
+}
+
+/// Whether a move to this line with so many frames is reported; then it is counted.
+fn reports_move(
+    alloc: Global,
+    requests: &mut Requests,
+    line: u32,
+    frames: u32,
+) -> Result<bool, Fail> {
+    let there = Happening::new(
+        ObjectId(1),
+        Occurrence::Moved(place(alloc, 4, Some(line), frames)?),
+    );
+    let is_reported = gather(alloc, requests, &there)?.is_some();
+    count_down(requests, &there);
+    Ok(is_reported)
+}
+
+/// The line from which the steps of the first request are measured.
+fn origin_line(requests: &Requests) -> Option<u32> {
+    match requests.as_slice().first() {
+        Some(request) => request.origin().line,
+        None => None,
+    }
+}
+
+#[test]
+fn a_step_over_a_call_begins_where_it_last_reported(rt: HostRuntime) -> Result<(), Fail> {
+    let mut requests = steps_over(rt.alloc())?;
     // line 2, into the call, out again on the same line, line 3
     let rows = [(2, 1, true), (7, 2, false), (2, 1, false), (3, 1, true)];
     for (line, frames, wanted) in rows {
-        let there = Happening::new(
-            ObjectId(1),
-            Occurrence::Moved(place(alloc, 4, Some(line), frames)?),
+        assert_eq!(rt;
+            reports_move(rt.alloc(), &mut requests, line, frames)?,
+            wanted
         );
-        assert_eq!(rt; gather(alloc, &requests, &there)?.is_some(), wanted);
-        count_down(&mut requests, &there);
     }
-    let request = requests.as_slice().first().ok_or("no request")?;
-    assert_eq!(rt; request.origin().line, Some(3));
+    assert_eq!(rt; origin_line(&requests), Some(3));
     Ok(())
 }
 
@@ -281,7 +301,7 @@ fn a_count_that_was_reached_is_counted_though_a_later_modifier_fails(
 }
 
 /// The data of a composite as hexadecimal digits.
-fn digits<R: Abort>(rt: &R, alloc: Global, composite: Composite) -> Result<String, Fail> {
+fn digits(rt: &impl Abort, alloc: Global, composite: Composite) -> Result<String, Fail> {
     let row = layout_of(64, 100).ok_or("no row")?;
     let layout = row.layouts.ok_or("a raw row")?.request;
     let sizes = IdSizes::new(8, 8, 8, 8, 8)?;
@@ -401,17 +421,26 @@ fn each_kind_has_its_data(rt: HostRuntime) -> Result<(), Fail> {
     Ok(())
 }
 
-#[test]
-fn an_exception_has_its_data(rt: HostRuntime) -> Result<(), Fail> {
-    let alloc = rt.alloc();
+/// The data of what one request of this kind under id 9, without modifiers, reports of this.
+fn reported(
+    rt: &impl Abort,
+    alloc: Global,
+    kind: EventKind,
+    what: Happening,
+) -> Result<String, Fail> {
     let mut requests = Requests::new(alloc);
     let none = Vec::new(alloc);
-    let id = RequestId::new(9).ok_or("no id")?;
-    requests.insert(Request::new(alloc, id, 4, 0, none, NOWHERE)?)?;
-    let happening = thrown(alloc, Location::Null)?;
-    let composite = gather(alloc, &requests, &happening)?.ok_or("nothing")?;
+    requests.insert(request(alloc, 9, kind, Policy::None, none, NOWHERE)?)?;
+    let composite = gather(alloc, &requests, &what)?.ok_or("nothing")?;
+    digits(rt, alloc, composite)
+}
+
+#[test]
+fn an_exception_has_its_data(rt: HostRuntime) -> Result<(), Fail> {
+    let happening = thrown(rt.alloc(), Location::Null)?;
+    let text = reported(&rt, rt.alloc(), EventKind::Exception, happening)?;
     assert_eq!(rt;
-        digits(&rt, alloc, composite)?.as_str(),
+        text.as_str(),
         "000000000104000000090000000000000001\
          01000000000000000a000000000000001400000000000000034c0000000000000007\
          00000000000000000000000000000000000000000000000000"

@@ -3,6 +3,8 @@ use jdwp_layout::{Datum, Scalar};
 use jdwp_show::{CaptureFault, composite_data_line, reply_line, show};
 use jdwp_value::ObjectId;
 use jdwp_wire::{ErrorCode, FrameFault, NoMemory};
+use std::alloc::Global;
+use std::process::Abort;
 
 const HANDSHAKES: &str = "> 4a4457502d48616e647368616b65\n< 4a4457502d48616e647368616b65\n";
 
@@ -13,6 +15,23 @@ const SIZES: &str =
 /// The two in words.
 const BEGINNING: &str =
     "> hello\n< hello\n> 1 VirtualMachine.IDSizes\n< 1 reply VirtualMachine.IDSizes 0 8 8 8 8 8\n";
+
+/// A capture that begins so and goes on with these lines is shown without a fault, and so it goes on in words.
+fn is_shown(rt: &impl Abort, alloc: Global, more: &str, wanted: &str) -> Result<(), NoMemory> {
+    let text = format!(in alloc; "{HANDSHAKES}{SIZES}{more}")?;
+    let shown = show(alloc, text.as_str())?;
+    let lines = format!(in alloc; "{BEGINNING}{wanted}")?;
+    assert_eq!(rt; shown.lines.as_str(), lines.as_str());
+    assert_eq!(rt; shown.fault, None);
+    Ok(())
+}
+
+fn are_shown(rt: &impl Abort, alloc: Global, rows: &[(&str, &str)]) -> Result<(), NoMemory> {
+    for (more, wanted) in rows {
+        is_shown(rt, alloc, more, wanted)?;
+    }
+    Ok(())
+}
 
 #[test]
 fn packets_in_words(rt: HostRuntime) -> Result<(), NoMemory> {
@@ -46,14 +65,7 @@ fn packets_in_words(rt: HostRuntime) -> Result<(), NoMemory> {
             "> 4 VirtualMachine.ClassesBySignature \"A\\\"\\\\\\x0a\\x7f\u{e9}\"\n",
         ),
     ];
-    for (more, wanted) in rows {
-        let text = format!(in rt.alloc(); "{HANDSHAKES}{SIZES}{more}")?;
-        let shown = show(rt.alloc(), text.as_str())?;
-        let lines = format!(in rt.alloc(); "{BEGINNING}{wanted}")?;
-        assert_eq!(rt; shown.lines.as_str(), lines.as_str());
-        assert_eq!(rt; shown.fault, None);
-    }
-    Ok(())
+    are_shown(&rt, rt.alloc(), &rows)
 }
 
 #[test]
@@ -74,14 +86,7 @@ fn values_and_regions(rt: HostRuntime) -> Result<(), NoMemory> {
             "> 4 ObjectReference.GetValues #5 [#10]\n< 4 reply ObjectReference.GetValues 0 [I:7, L#5, V]\n",
         ),
     ];
-    for (more, wanted) in rows {
-        let text = format!(in rt.alloc(); "{HANDSHAKES}{SIZES}{more}")?;
-        let shown = show(rt.alloc(), text.as_str())?;
-        let lines = format!(in rt.alloc(); "{BEGINNING}{wanted}")?;
-        assert_eq!(rt; shown.lines.as_str(), lines.as_str());
-        assert_eq!(rt; shown.fault, None);
-    }
-    Ok(())
+    are_shown(&rt, rt.alloc(), &rows)
 }
 
 #[test]
@@ -127,40 +132,48 @@ fn each_kind_of_text(rt: HostRuntime) -> Result<(), NoMemory> {
             "> 4 ArrayReference.GetValues #5 0 3\n< 4 reply ArrayReference.GetValues 0 Z[0, 1, 1]\n",
         ),
     ];
-    for (more, wanted) in rows {
-        let text = format!(in rt.alloc(); "{HANDSHAKES}{SIZES}{more}")?;
-        let shown = show(rt.alloc(), text.as_str())?;
-        let lines = format!(in rt.alloc(); "{BEGINNING}{wanted}")?;
-        assert_eq!(rt; shown.lines.as_str(), lines.as_str());
-        assert_eq!(rt; shown.fault, None);
-    }
+    are_shown(&rt, rt.alloc(), &rows)
+}
+
+/// The line of a reply under this id to this command.
+fn is_line(
+    rt: &impl Abort,
+    alloc: Global,
+    (id, set, number): (u32, u8, u8),
+    answer: (ErrorCode, &[Datum], &[u8]),
+    wanted: &str,
+) -> Result<(), NoMemory> {
+    let (error, data, bytes) = answer;
+    let line = reply_line(alloc, id, set, number, error, data, bytes)?;
+    assert_eq!(rt; line.as_str(), wanted);
     Ok(())
 }
 
 #[test]
-fn lines_of_one_message(rt: HostRuntime) -> Result<(), NoMemory> {
-    let none: [Datum; 0] = [];
+fn lines_of_replies(rt: HostRuntime) -> Result<(), NoMemory> {
+    let alloc = rt.alloc();
     let count = [Datum::One(Scalar::Int(-1))];
-    let line = reply_line(rt.alloc(), 3, 11, 12, ErrorCode::NONE, &count, &[])?;
-    assert_eq!(rt;
-        line.as_str(),
-        "< 3 reply ThreadReference.SuspendCount 0 -1"
-    );
-    let line = reply_line(rt.alloc(), 6, 1, 99, ErrorCode(99), &none, &[])?;
-    assert_eq!(rt; line.as_str(), "< 6 reply 1.99 99");
-    let line = reply_line(rt.alloc(), 7, 1, 13, ErrorCode::NONE, &none, &[0x07, 0xab])?;
-    assert_eq!(rt;
-        line.as_str(),
-        "< 7 reply VirtualMachine.ClassPaths 0 raw 07ab"
-    );
-    let mut event = Vec::new(rt.alloc());
-    event.push(Scalar::Byte(90))?;
-    event.push(Scalar::Int(0))?;
-    event.push(Scalar::ObjectId(ObjectId(1)))?;
-    let mut events = Vec::new(rt.alloc());
-    events.push(event)?;
+    let data = (ErrorCode::NONE, &count[..], &[][..]);
+    let wanted = "< 3 reply ThreadReference.SuspendCount 0 -1";
+    is_line(&rt, alloc, (3, 11, 12), data, wanted)?;
+    let unknown = (ErrorCode(99), &[][..], &[][..]);
+    is_line(&rt, alloc, (6, 1, 99), unknown, "< 6 reply 1.99 99")?;
+    let raw = (ErrorCode::NONE, &[][..], &[0x07, 0xab][..]);
+    let wanted = "< 7 reply VirtualMachine.ClassPaths 0 raw 07ab";
+    is_line(&rt, alloc, (7, 1, 13), raw, wanted)
+}
+
+#[test]
+fn line_of_a_composite(rt: HostRuntime) -> Result<(), NoMemory> {
+    let alloc = rt.alloc();
+    let event = vec![in alloc;
+        Scalar::Byte(90),
+        Scalar::Int(0),
+        Scalar::ObjectId(ObjectId(1)),
+    ]?;
+    let events = vec![in alloc; event]?;
     let data = [Datum::One(Scalar::Byte(0)), Datum::Many(events)];
-    let line = composite_data_line(rt.alloc(), 1, &data)?;
+    let line = composite_data_line(alloc, 1, &data)?;
     assert_eq!(rt; line.as_str(), "< 1 Event.Composite 0 [(90, 0, #1)]");
     Ok(())
 }

@@ -35,10 +35,3 @@ mod worked;
 pub use laws::{scripts_are_lawful, scripts_begin_soundly};
 pub use machine::ScriptMachine;
 pub use worked::definitions_give_worked_machine;
-
-#[cfg(test)]
-mod answer_tests;
-#[cfg(test)]
-mod class_tests;
-#[cfg(test)]
-mod machine_tests;
