@@ -1,4 +1,5 @@
 //! Modifiers, events and composites as bytes, row by row of the specification's listings, at two sets of widths.
+use crate::rows::row;
 use jdwp_event::{Composite, Event, Modifier};
 use jdwp_layout::{Data, Datum, Scalar};
 use jdwp_value::{
@@ -179,24 +180,24 @@ fn scalar(alloc: Global, letter: char) -> Result<(Scalar, &'static str, &'static
 fn events_are_their_bytes(rt: HostRuntime) -> Result<(), Fail> {
     let alloc = rt.alloc();
     let rows = [
-        (1u8, "IOL"),
-        (2, "IOL"),
-        (4, "IOLTL"),
-        (6, "IO"),
-        (7, "IO"),
-        (8, "IOBRSI"),
-        (9, "IS"),
-        (20, "IOLBRFT"),
-        (21, "IOLBRFTV"),
-        (40, "IOL"),
-        (41, "IOL"),
-        (42, "IOLV"),
-        (43, "IOTL"),
-        (44, "IOTL"),
-        (45, "IOTLJ"),
-        (46, "IOTLZ"),
-        (90, "IO"),
-        (99, "I"),
+        row((1u8, "IOL")),
+        row((2, "IOL")),
+        row((4, "IOLTL")),
+        row((6, "IO")),
+        row((7, "IO")),
+        row((8, "IOBRSI")),
+        row((9, "IS")),
+        row((20, "IOLBRFT")),
+        row((21, "IOLBRFTV")),
+        row((40, "IOL")),
+        row((41, "IOL")),
+        row((42, "IOLV")),
+        row((43, "IOTL")),
+        row((44, "IOTL")),
+        row((45, "IOTLJ")),
+        row((46, "IOTLZ")),
+        row((90, "IO")),
+        row((99, "I")),
     ];
     for (kind, letters) in rows {
         let mut fields = vec![in alloc; Scalar::Byte(kind)]?;

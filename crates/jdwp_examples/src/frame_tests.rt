@@ -1,4 +1,5 @@
 //! Worked examples of frames.
+use crate::rows::row;
 use jdwp_wire::{
     FrameFault, HANDSHAKE, Header, IdKind, IdSizes, Limits, Next, NextHello, PacketKind, Width,
     names_error_codes, next_hello, next_packet, next_packet_within,
@@ -27,12 +28,12 @@ fn the_handshake(rt: HostRuntime) {
 #[test]
 fn faults_as_soon_as_they_show(rt: HostRuntime) {
     let rows: [(&[u8], FrameFault, u16); 6] = [
-        (&[0, 0, 0, 10], FrameFault::ShortLength, 1),
-        (&[0, 0, 0, 0], FrameFault::ShortLength, 1),
-        (&[0, 1, 0, 1], FrameFault::TooLong, 2),
-        (&[0xff, 0xff, 0xff, 0xff], FrameFault::TooLong, 2),
-        (&[0, 0, 0, 11, 0, 0, 0, 1, 1], FrameFault::BadFlags, 3),
-        (&[0, 1, 0, 0, 0, 0, 0, 1, 0x7f], FrameFault::BadFlags, 3),
+        row((&[0, 0, 0, 10], FrameFault::ShortLength, 1)),
+        row((&[0, 0, 0, 0], FrameFault::ShortLength, 1)),
+        row((&[0, 1, 0, 1], FrameFault::TooLong, 2)),
+        row((&[0xff, 0xff, 0xff, 0xff], FrameFault::TooLong, 2)),
+        row((&[0, 0, 0, 11, 0, 0, 0, 1, 1], FrameFault::BadFlags, 3)),
+        row((&[0, 1, 0, 0, 0, 0, 0, 1, 0x7f], FrameFault::BadFlags, 3)),
     ];
     for (bytes, wanted, number) in rows {
         match next_packet(bytes) {
@@ -131,18 +132,18 @@ fn limits_of_sessions(rt: HostRuntime) -> Result<(), Fail> {
     let standard = Limits::standard();
     assert_eq!(rt; Limits::new(65536, 64, 64, 64), Some(standard));
     let rows = [
-        (2048, 64, 3, 64, true),
-        (2048, 64, 4, 64, false),
-        (2047, 64, 3, 64, false),
-        (1_048_576, 1024, 1024, 1024, true),
-        (1_048_577, 64, 64, 64, false),
-        (65536, 1025, 64, 64, false),
-        (65536, 0, 64, 64, false),
-        (1_048_576, 64, 1025, 64, false),
-        (65536, 64, 0, 64, false),
-        (65536, 64, 64, 1025, false),
-        (65536, 64, 64, 0, false),
-        (65536, 64, 4_294_967_295, 64, false),
+        row((2048, 64, 3, 64, true)),
+        row((2048, 64, 4, 64, false)),
+        row((2047, 64, 3, 64, false)),
+        row((1_048_576, 1024, 1024, 1024, true)),
+        row((1_048_577, 64, 64, 64, false)),
+        row((65536, 1025, 64, 64, false)),
+        row((65536, 0, 64, 64, false)),
+        row((1_048_576, 64, 1025, 64, false)),
+        row((65536, 64, 0, 64, false)),
+        row((65536, 64, 64, 1025, false)),
+        row((65536, 64, 64, 0, false)),
+        row((65536, 64, 4_294_967_295, 64, false)),
     ];
     for (packet, live, requests, pending, wanted) in rows {
         let limits = Limits::new(packet, live, requests, pending);

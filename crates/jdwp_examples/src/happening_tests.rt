@@ -1,3 +1,4 @@
+use crate::rows::row;
 use jdwp_event::{EventKind, Happening, Occurrence};
 use jdwp_value::ObjectId;
 use std::test::Fail;
@@ -5,28 +6,28 @@ use std::test::Fail;
 #[test]
 fn kinds_have_their_bytes(rt: HostRuntime) -> Result<(), Fail> {
     let rows = [
-        (1, EventKind::SingleStep),
-        (2, EventKind::Breakpoint),
-        (3, EventKind::FramePop),
-        (4, EventKind::Exception),
-        (5, EventKind::UserDefined),
-        (6, EventKind::ThreadStart),
-        (7, EventKind::ThreadDeath),
-        (8, EventKind::ClassPrepare),
-        (9, EventKind::ClassUnload),
-        (10, EventKind::ClassLoad),
-        (20, EventKind::FieldAccess),
-        (21, EventKind::FieldModification),
-        (30, EventKind::ExceptionCatch),
-        (40, EventKind::MethodEntry),
-        (41, EventKind::MethodExit),
-        (42, EventKind::MethodExitWithReturnValue),
-        (43, EventKind::MonitorContendedEnter),
-        (44, EventKind::MonitorContendedEntered),
-        (45, EventKind::MonitorWait),
-        (46, EventKind::MonitorWaited),
-        (90, EventKind::VmStart),
-        (99, EventKind::VmDeath),
+        row((1, EventKind::SingleStep)),
+        row((2, EventKind::Breakpoint)),
+        row((3, EventKind::FramePop)),
+        row((4, EventKind::Exception)),
+        row((5, EventKind::UserDefined)),
+        row((6, EventKind::ThreadStart)),
+        row((7, EventKind::ThreadDeath)),
+        row((8, EventKind::ClassPrepare)),
+        row((9, EventKind::ClassUnload)),
+        row((10, EventKind::ClassLoad)),
+        row((20, EventKind::FieldAccess)),
+        row((21, EventKind::FieldModification)),
+        row((30, EventKind::ExceptionCatch)),
+        row((40, EventKind::MethodEntry)),
+        row((41, EventKind::MethodExit)),
+        row((42, EventKind::MethodExitWithReturnValue)),
+        row((43, EventKind::MonitorContendedEnter)),
+        row((44, EventKind::MonitorContendedEntered)),
+        row((45, EventKind::MonitorWait)),
+        row((46, EventKind::MonitorWaited)),
+        row((90, EventKind::VmStart)),
+        row((99, EventKind::VmDeath)),
     ];
     for (byte, kind) in rows.iter() {
         assert_eq!(rt; kind.byte(), *byte);

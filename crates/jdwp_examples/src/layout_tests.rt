@@ -1,4 +1,5 @@
 //! Worked examples of data.
+use crate::rows::row;
 use jdwp_layout::{
     Data, Datum, Entry, Field, Item, Layout, Scalar, answers_first_fault, data_size,
     encodes_one_list, entry_size, fields_of_event, fields_of_modifier, layout_of, pass_entries,
@@ -212,62 +213,62 @@ fn examples(rt: HostRuntime) -> Result<(), Fail> {
     let sizes = IdSizes::new(8, 8, 8, 8, 8)?;
     for (set, command, hex, canonical, text) in [
         // Each byte but 0 is true, which is written as 1.
-        (
+        row((
             15,
             1,
             "04 00 00000001 08 0000000000000000 07 00",
             "04 00 00000001 08 0000000000000000 01 00",
             "4 0 [(8, #0, true, false)]",
-        ),
-        (
+        )),
+        row((
             15,
             1,
             "02 02 00000001 07 01 000000000000000a 0000000000000014 0000000000000003",
             "02 02 00000001 07 01 000000000000000a 0000000000000014 0000000000000003",
             "2 2 [(7, 1:#10:#20:3)]",
-        ),
-        (
+        )),
+        row((
             64,
             100,
             "02 00000002 02 00000001 0000000000000001 01 000000000000000a 0000000000000014 0000000000000003 02 00000002 0000000000000001 01 000000000000000a 0000000000000014 0000000000000003",
             "02 00000002 02 00000001 0000000000000001 01 000000000000000a 0000000000000014 0000000000000003 02 00000002 0000000000000001 01 000000000000000a 0000000000000014 0000000000000003",
             "2 [(2, 1, #1, 1:#10:#20:3), (2, 2, #1, 1:#10:#20:3)]",
-        ),
-        (
+        )),
+        row((
             64,
             100,
             "00 00000001 5a 00000000 0000000000000001",
             "00 00000001 5a 00000000 0000000000000001",
             "0 [(90, 0, #1)]",
-        ),
-        (
+        )),
+        row((
             64,
             100,
             "00 00000001 63 00000000",
             "00 00000001 63 00000000",
             "0 [(99, 0)]",
-        ),
-        (
+        )),
+        row((
             1,
             2,
             "00000006 4c4d61696e3b",
             "00000006 4c4d61696e3b",
             "\"LMain;\"",
-        ),
-        (
+        )),
+        row((
             16,
             2,
             "0000000000000001 000000000000001e 00000001 00000000 49 00000005",
             "0000000000000001 000000000000001e 00000001 00000000 49 00000005",
             "#1 #30 [(0, I:5)]",
-        ),
-        (
+        )),
+        row((
             11,
             6,
             "0000000000000001 00000000 ffffffff",
             "0000000000000001 00000000 ffffffff",
             "#1 0 -1",
-        ),
+        )),
     ] {
         let bytes = bytes_of(alloc, hex)?;
         let back = bytes_of(alloc, canonical)?;
@@ -289,33 +290,33 @@ fn replies(rt: HostRuntime) -> Result<(), Fail> {
     let alloc = rt.alloc();
     let sizes = IdSizes::new(8, 8, 8, 8, 8)?;
     for (set, command, hex, text) in [
-        (
+        row((
             1,
             7,
             "00000008 00000008 00000008 00000008 00000008",
             "8 8 8 8 8",
-        ),
-        (
+        )),
+        row((
             1,
             2,
             "00000001 01 000000000000000a 00000003",
             "[(1, #10, 3)]",
-        ),
-        (
+        )),
+        row((
             11,
             6,
             "00000001 000000000000001e 01 000000000000000a 0000000000000014 0000000000000000",
             "[(#30, 1:#10:#20:0)]",
-        ),
-        (13, 2, "49 00000002 00000001 00000002", "I[I:1, I:2]"),
-        (
+        )),
+        row((13, 2, "49 00000002 00000001 00000002", "I[I:1, I:2]")),
+        row((
             13,
             2,
             "4c 00000002 73 0000000000000005 4c 0000000000000000",
             "L[s#5, L#0]",
-        ),
-        (16, 1, "00000001 49 00000005", "[(I:5)]"),
-        (11, 12, "00000001", "1"),
+        )),
+        row((16, 1, "00000001 49 00000005", "[(I:5)]")),
+        row((11, 12, "00000001", "1")),
     ] {
         let bytes = bytes_of(alloc, hex)?;
         accepted(
@@ -336,40 +337,40 @@ fn faults(rt: HostRuntime) -> Result<(), Fail> {
     let alloc = rt.alloc();
     let sizes = IdSizes::new(8, 8, 8, 8, 8)?;
     for (set, command, hex, fault) in [
-        (1, 2, "ffffffff", DataFault::NegativeCount),
-        (1, 2, "00000001 ff", DataFault::NotUtf8),
+        row((1, 2, "ffffffff", DataFault::NegativeCount)),
+        row((1, 2, "00000001 ff", DataFault::NotUtf8)),
         // A count calls for its own bytes alone.
-        (15, 1, "04 00 7fffffff", DataFault::Short(6)),
-        (15, 1, "04 00 80000000", DataFault::NegativeCount),
+        row((15, 1, "04 00 7fffffff", DataFault::Short(6))),
+        row((15, 1, "04 00 80000000", DataFault::NegativeCount)),
         // A kind is judged before what follows it.
-        (15, 1, "04 00 00000001 0d", DataFault::BadTag),
-        (15, 1, "04 00 00000001 00", DataFault::BadTag),
-        (64, 100, "00 00000001 03", DataFault::BadTag),
-        (64, 100, "00 00000001 05", DataFault::BadTag),
-        (64, 100, "00 00000001 0a", DataFault::BadTag),
-        (64, 100, "00 00000001 1e", DataFault::BadTag),
+        row((15, 1, "04 00 00000001 0d", DataFault::BadTag)),
+        row((15, 1, "04 00 00000001 00", DataFault::BadTag)),
+        row((64, 100, "00 00000001 03", DataFault::BadTag)),
+        row((64, 100, "00 00000001 05", DataFault::BadTag)),
+        row((64, 100, "00 00000001 0a", DataFault::BadTag)),
+        row((64, 100, "00 00000001 1e", DataFault::BadTag)),
         // A type tag is judged before what follows it, and the null location once it is whole.
-        (15, 1, "02 00 00000001 07 04", DataFault::BadTag),
-        (
+        row((15, 1, "02 00 00000001 07 04", DataFault::BadTag)),
+        row((
             15,
             1,
             "02 00 00000001 07 00 0000000000000000 0000000000000000 0000000000000001",
             DataFault::BadTag,
-        ),
-        (
+        )),
+        row((
             15,
             1,
             "02 00 00000001 07 00 0000000000000000 0000000000000001 00000000000000",
             DataFault::Short(31),
-        ),
-        (
+        )),
+        row((
             16,
             2,
             "0000000000000001 000000000000001e 00000001 00000000 41 00000005",
             DataFault::BadTag,
-        ),
-        (1, 10, "00000000 00", DataFault::Extra(4)),
-        (1, 8, "00", DataFault::Extra(0)),
+        )),
+        row((1, 10, "00000000 00", DataFault::Extra(4))),
+        row((1, 8, "00", DataFault::Extra(0))),
     ] {
         let bytes = bytes_of(alloc, hex)?;
         let layout = request_of(set, command)?;
@@ -378,9 +379,9 @@ fn faults(rt: HostRuntime) -> Result<(), Fail> {
     }
     let regions = reply_of(13, 2)?;
     for (hex, fault) in [
-        ("49 7fffffff", DataFault::Short(5)),
-        ("56 00000000", DataFault::BadTag),
-        ("4c 00000001 49 00000001", DataFault::BadTag),
+        row(("49 7fffffff", DataFault::Short(5))),
+        row(("56 00000000", DataFault::BadTag)),
+        row(("4c 00000001 49 00000001", DataFault::BadTag)),
     ] {
         let bytes = bytes_of(alloc, hex)?;
         assert_eq!(rt; read(alloc, &regions, &sizes, &bytes).err(), Some(fault));
@@ -458,12 +459,12 @@ fn entries_one_by_one(rt: HostRuntime) -> Result<(), Fail> {
     let sizes = IdSizes::new(8, 8, 8, 8, 8)?;
     for (entry, hex) in [
         // An exception of any type, where it is caught and where it isn't; a place in a class; VM_DEATH.
-        (Entry::Modifier, "08 0000000000000000 01 01"),
-        (
+        row((Entry::Modifier, "08 0000000000000000 01 01")),
+        row((
             Entry::Modifier,
             "07 01 000000000000000a 0000000000000014 0000000000000003",
-        ),
-        (Entry::Event, "63 00000000"),
+        )),
+        row((Entry::Event, "63 00000000")),
     ] {
         let bytes = bytes_of(alloc, hex)?;
         let whole = bytes.len();
@@ -598,10 +599,10 @@ fn sample(alloc: Global, layout: &Layout, sizes: &IdSizes) -> Result<Vec<u8>, Fa
 fn every_layout(rt: HostRuntime) -> Result<(), Fail> {
     let alloc = rt.alloc();
     for (field, method, object, reference, frame) in [
-        (1, 2, 3, 4, 5),
-        (8, 7, 6, 5, 4),
-        (1, 1, 1, 1, 1),
-        (8, 8, 8, 8, 8),
+        row((1, 2, 3, 4, 5)),
+        row((8, 7, 6, 5, 4)),
+        row((1, 1, 1, 1, 1)),
+        row((8, 8, 8, 8, 8)),
     ] {
         let sizes = IdSizes::new(field, method, object, reference, frame)?;
         for set in 0..65u32 {

@@ -26,6 +26,8 @@ mod request_tests;
 #[cfg(test)]
 mod row_tests;
 #[cfg(test)]
+mod rows;
+#[cfg(test)]
 mod script_tests;
 #[cfg(test)]
 mod show_tests;

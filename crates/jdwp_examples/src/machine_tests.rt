@@ -1,5 +1,6 @@
 //! Machines of scripts: their threads, their steps, what they answer, and the faults of their texts.
 use crate::layout_tests::{bytes_of, push_location, push_value, request_of, text_of};
+use crate::rows::row;
 use crate::script_tests::{MACHINE_A, edited};
 use jdwp_event::{ClassSeen, Happening, Occurrence, Place};
 use jdwp_layout::{Answer, Data, read};
@@ -712,9 +713,9 @@ fn texts_that_are_refused(rt: HostRuntime) -> Result<(), Fail> {
         assert_eq!(rt; fault(alloc, text), Some(wanted));
     }
     for (old, new, wanted) in [
-        ("{\"id\":2,", "{\"id\":5,", ScriptFault::IdTwice),
-        ("[8,8,8,8,8]", "[0,8,8,8,8]", ScriptFault::IdTooWide),
-        ("[\"go\",3]", "[\"go\",10]", ScriptFault::BadReference),
+        row(("{\"id\":2,", "{\"id\":5,", ScriptFault::IdTwice)),
+        row(("[8,8,8,8,8]", "[0,8,8,8,8]", ScriptFault::IdTooWide)),
+        row(("[\"go\",3]", "[\"go\",10]", ScriptFault::BadReference)),
     ] {
         assert_eq!(rt; fault_with(alloc, old, new)?, Some(wanted));
     }

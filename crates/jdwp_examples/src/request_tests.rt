@@ -1,4 +1,5 @@
 //! Requests, what passes them and what is counted, by worked examples.
+use crate::rows::row;
 use jdwp_event::{
     ClassSeen, Composite, EventKind, Happening, Modifier, Occurrence, Place, Policy, PreparedClass,
     Request, RequestId, Requests, StepOrigin, ThrownException, count_down, gather, matches,
@@ -104,43 +105,43 @@ fn each_modifier_is_a_filter(rt: HostRuntime) -> Result<(), Fail> {
     let kind = EventKind::Breakpoint;
     let here = moved(alloc)?;
     let rows = [
-        (true, Modifier::Count(1)),
-        (false, Modifier::Count(2)),
-        (false, Modifier::Count(0)),
-        (false, Modifier::Count(-1)),
-        (false, Modifier::Conditional(1)),
-        (true, Modifier::ThreadOnly(ObjectId(1))),
-        (false, Modifier::ThreadOnly(ObjectId(2))),
-        (true, Modifier::ClassOnly(ReferenceTypeId(10))),
-        (true, Modifier::ClassOnly(ReferenceTypeId(11))),
-        (false, Modifier::ClassOnly(ReferenceTypeId(12))),
-        (true, Modifier::ClassMatch(text(alloc, "java.lang.Main")?)),
-        (true, Modifier::ClassMatch(text(alloc, "*.Main")?)),
-        (true, Modifier::ClassMatch(text(alloc, "java.*")?)),
-        (true, Modifier::ClassMatch(text(alloc, "*")?)),
-        (false, Modifier::ClassMatch(text(alloc, "*Main*")?)),
-        (false, Modifier::ClassMatch(text(alloc, "lang.*")?)),
-        (false, Modifier::ClassMatch(text(alloc, "java/lang/Main")?)),
-        (
+        row((true, Modifier::Count(1))),
+        row((false, Modifier::Count(2))),
+        row((false, Modifier::Count(0))),
+        row((false, Modifier::Count(-1))),
+        row((false, Modifier::Conditional(1))),
+        row((true, Modifier::ThreadOnly(ObjectId(1)))),
+        row((false, Modifier::ThreadOnly(ObjectId(2)))),
+        row((true, Modifier::ClassOnly(ReferenceTypeId(10)))),
+        row((true, Modifier::ClassOnly(ReferenceTypeId(11)))),
+        row((false, Modifier::ClassOnly(ReferenceTypeId(12)))),
+        row((true, Modifier::ClassMatch(text(alloc, "java.lang.Main")?))),
+        row((true, Modifier::ClassMatch(text(alloc, "*.Main")?))),
+        row((true, Modifier::ClassMatch(text(alloc, "java.*")?))),
+        row((true, Modifier::ClassMatch(text(alloc, "*")?))),
+        row((false, Modifier::ClassMatch(text(alloc, "*Main*")?))),
+        row((false, Modifier::ClassMatch(text(alloc, "lang.*")?))),
+        row((false, Modifier::ClassMatch(text(alloc, "java/lang/Main")?))),
+        row((
             false,
             Modifier::ClassMatch(text(alloc, "a.java.lang.Main")?),
-        ),
-        (true, Modifier::ClassExclude(text(alloc, "javax.*")?)),
-        (false, Modifier::ClassExclude(text(alloc, "java.*")?)),
-        (true, Modifier::LocationOnly(at(10, 20, 3))),
-        (false, Modifier::LocationOnly(at(10, 20, 4))),
-        (false, Modifier::LocationOnly(at(10, 21, 3))),
-        (false, Modifier::LocationOnly(at(11, 20, 3))),
-        (false, Modifier::LocationOnly(Location::Null)),
-        (
+        )),
+        row((true, Modifier::ClassExclude(text(alloc, "javax.*")?))),
+        row((false, Modifier::ClassExclude(text(alloc, "java.*")?))),
+        row((true, Modifier::LocationOnly(at(10, 20, 3)))),
+        row((false, Modifier::LocationOnly(at(10, 20, 4)))),
+        row((false, Modifier::LocationOnly(at(10, 21, 3)))),
+        row((false, Modifier::LocationOnly(at(11, 20, 3)))),
+        row((false, Modifier::LocationOnly(Location::Null))),
+        row((
             false,
             Modifier::FieldOnly {
                 class: ReferenceTypeId(10),
                 field: FieldId(1),
             },
-        ),
-        (false, Modifier::InstanceOnly(ObjectId(0))),
-        (false, Modifier::SourceNameMatch(text(alloc, "*")?)),
+        )),
+        row((false, Modifier::InstanceOnly(ObjectId(0)))),
+        row((false, Modifier::SourceNameMatch(text(alloc, "*")?))),
     ];
     for (wanted, modifier) in rows {
         assert_eq!(rt; passes(alloc, kind, modifier, &here)?, wanted);
@@ -154,12 +155,12 @@ fn exceptions_pass_by_class_and_by_whether_they_are_caught(rt: HostRuntime) -> R
     let caught = thrown(alloc, at(10, 20, 9))?;
     let uncaught = thrown(alloc, Location::Null)?;
     let rows = [
-        (0, true, false, true, false),
-        (0, false, true, false, true),
-        (30, true, true, true, true),
-        (31, true, true, true, true),
-        (10, true, true, false, false),
-        (30, false, false, false, false),
+        row((0, true, false, true, false)),
+        row((0, false, true, false, true)),
+        row((30, true, true, true, true)),
+        row((31, true, true, true, true)),
+        row((10, true, true, false, false)),
+        row((30, false, false, false, false)),
     ];
     for (class, first, second, wanted, other) in rows {
         let only = |class: u64| Modifier::ExceptionOnly {
@@ -179,18 +180,18 @@ fn steps_pass_by_size_and_depth(rt: HostRuntime) -> Result<(), Fail> {
     let alloc = rt.alloc();
     // from two frames at line 2: size, depth, frames now, line now
     let rows = [
-        (0, 0, 3, Some(2), true),
-        (1, 0, 3, Some(2), true),
-        (1, 0, 2, Some(2), false),
-        (1, 0, 2, Some(3), true),
-        (1, 0, 2, None, true),
-        (0, 1, 2, Some(2), true),
-        (0, 1, 3, Some(3), false),
-        (1, 1, 1, Some(2), true),
-        (0, 2, 2, Some(3), false),
-        (0, 2, 1, Some(3), true),
-        (2, 0, 1, Some(3), false),
-        (0, 3, 1, Some(3), false),
+        row((0, 0, 3, Some(2), true)),
+        row((1, 0, 3, Some(2), true)),
+        row((1, 0, 2, Some(2), false)),
+        row((1, 0, 2, Some(3), true)),
+        row((1, 0, 2, None, true)),
+        row((0, 1, 2, Some(2), true)),
+        row((0, 1, 3, Some(3), false)),
+        row((1, 1, 1, Some(2), true)),
+        row((0, 2, 2, Some(3), false)),
+        row((0, 2, 1, Some(3), true)),
+        row((2, 0, 1, Some(3), false)),
+        row((0, 3, 1, Some(3), false)),
     ];
     for (size, depth, frames, line, wanted) in rows {
         let step = Modifier::Step {
@@ -260,7 +261,12 @@ fn origin_line(requests: &Requests) -> Option<u32> {
 fn a_step_over_a_call_begins_where_it_last_reported(rt: HostRuntime) -> Result<(), Fail> {
     let mut requests = steps_over(rt.alloc())?;
     // line 2, into the call, out again on the same line, line 3
-    let rows = [(2, 1, true), (7, 2, false), (2, 1, false), (3, 1, true)];
+    let rows = [
+        row((2, 1, true)),
+        row((7, 2, false)),
+        row((2, 1, false)),
+        row((3, 1, true)),
+    ];
     for (line, frames, wanted) in rows {
         assert_eq!(rt;
             reports_move(rt.alloc(), &mut requests, line, frames)?,
@@ -283,7 +289,12 @@ fn a_count_that_was_reached_is_counted_though_a_later_modifier_fails(
     let modifiers = vec![in alloc; Modifier::ThreadOnly(ObjectId(1)), Modifier::Count(2)]?;
     requests.insert(request(alloc, 2, kind, Policy::None, modifiers, NOWHERE)?)?;
     // thread 2, thread 1, thread 1, thread 1
-    let rows = [(2, None), (1, Some(1)), (1, Some(2)), (1, None)];
+    let rows = [
+        row((2, None)),
+        row((1, Some(1))),
+        row((1, Some(2))),
+        row((1, None)),
+    ];
     for (thread, wanted) in rows {
         let here = Happening::new(
             ObjectId(thread),
@@ -342,10 +353,10 @@ fn requests_are_kept_by_rising_id(rt: HostRuntime) -> Result<(), Fail> {
     let mut requests = Requests::new(alloc);
     assert!(rt; requests.is_empty());
     let rows = [
-        (3, EventKind::Breakpoint),
-        (1, EventKind::ThreadStart),
-        (2, EventKind::Breakpoint),
-        (3, EventKind::ThreadDeath),
+        row((3, EventKind::Breakpoint)),
+        row((1, EventKind::ThreadStart)),
+        row((2, EventKind::Breakpoint)),
+        row((3, EventKind::ThreadDeath)),
     ];
     for (id, kind) in rows {
         let none = Vec::new(alloc);
@@ -386,26 +397,26 @@ fn each_kind_has_its_data(rt: HostRuntime) -> Result<(), Fail> {
     };
     let value = Value::Int(5);
     let rows = [
-        (1, Occurrence::Moved(place(alloc, 3, None, 1)?), there),
-        (2, Occurrence::Moved(place(alloc, 3, None, 1)?), there),
-        (40, Occurrence::Entered(place(alloc, 3, None, 1)?), there),
-        (
+        row((1, Occurrence::Moved(place(alloc, 3, None, 1)?), there)),
+        row((2, Occurrence::Moved(place(alloc, 3, None, 1)?), there)),
+        row((40, Occurrence::Entered(place(alloc, 3, None, 1)?), there)),
+        row((
             41,
             Occurrence::Left(place(alloc, 3, None, 1)?, value),
             there,
-        ),
-        (
+        )),
+        row((
             42,
             Occurrence::Left(place(alloc, 3, None, 1)?, value),
             "01000000000000000a000000000000001400000000000000034900000005",
-        ),
-        (
+        )),
+        row((
             8,
             Occurrence::Prepared(prepared),
             "02000000000000000a000000034c413b00000003",
-        ),
-        (6, Occurrence::Started, ""),
-        (7, Occurrence::RanOut, ""),
+        )),
+        row((6, Occurrence::Started, "")),
+        row((7, Occurrence::RanOut, "")),
     ];
     for (kind, occurrence, wanted) in rows {
         let mut requests = Requests::new(alloc);

@@ -1,4 +1,5 @@
 //! Captures of every command, modifier and event, at several widths of ids.
+use crate::rows::row;
 use jdwp_layout::{
     CommandRow, Entry, Field, Item, Layout, fields_of_event, fields_of_modifier, layout_of,
 };
@@ -237,10 +238,10 @@ fn shown_and_judged(
 fn every_row(rt: HostRuntime) -> Result<(), Fail> {
     let alloc = rt.alloc();
     for (field, method, object, reference, frame) in [
-        (1, 2, 3, 4, 5),
-        (8, 7, 6, 5, 4),
-        (1, 1, 1, 1, 1),
-        (8, 8, 8, 8, 8),
+        row((1, 2, 3, 4, 5)),
+        row((8, 7, 6, 5, 4)),
+        row((1, 1, 1, 1, 1)),
+        row((8, 8, 8, 8, 8)),
     ] {
         let sizes = IdSizes::new(field, method, object, reference, frame)?;
         let mut rows = 0u32;

@@ -1,4 +1,5 @@
 //! Scripts that are read and scripts that are refused.
+use crate::rows::row;
 use jdwp_script::{Literal, Member, Script, ScriptFault, Step};
 use jdwp_value::{ObjectTag, Tag, Value};
 use std::alloc::Global;
@@ -66,20 +67,20 @@ fn texts_that_are_no_scripts(rt: HostRuntime) -> Result<(), Fail> {
 fn small_edits_of_machine_a(rt: HostRuntime) -> Result<(), Fail> {
     let alloc = rt.alloc();
     for (old, new, wanted) in [
-        ("\"id\":2,", "\"id\":5,", Some(ScriptFault::IdTwice)),
-        ("[8,8,8,8,8]", "[0,8,8,8,8]", Some(ScriptFault::IdTooWide)),
-        (
+        row(("\"id\":2,", "\"id\":5,", Some(ScriptFault::IdTwice))),
+        row(("[8,8,8,8,8]", "[0,8,8,8,8]", Some(ScriptFault::IdTooWide))),
+        row((
             "[\"go\",3],[\"return\"",
             "[\"go\",10],[\"return\"",
             Some(ScriptFault::BadReference),
-        ),
-        ("\"name\":\"A\"", "\"name\":\"A\",\"more\":[1e3]", None),
-        ("\"name\":\"A\"", "\"name\":5,\"name\":\"A\"", None),
-        (
+        )),
+        row(("\"name\":\"A\"", "\"name\":\"A\",\"more\":[1e3]", None)),
+        row(("\"name\":\"A\"", "\"name\":5,\"name\":\"A\"", None)),
+        row((
             "\"name\":\"A\"",
             "\"name\":\"A\",\"name\":5",
             Some(ScriptFault::Missing(Member::Name)),
-        ),
+        )),
     ] {
         let text = edited(alloc, MACHINE_A, old, new)?;
         assert_eq!(rt; fault(alloc, text.as_str()), wanted, "{old} {new}");
@@ -91,166 +92,166 @@ fn small_edits_of_machine_a(rt: HostRuntime) -> Result<(), Fail> {
 fn bad_references(rt: HostRuntime) -> Result<(), Fail> {
     let alloc = rt.alloc();
     for (old, new, wanted) in [
-        ("\"id\":6,", "\"id\":0,", Some(ScriptFault::BadReference)),
-        (
+        row(("\"id\":6,", "\"id\":0,", Some(ScriptFault::BadReference))),
+        row((
             "\"id\":6,\"name\":\"pool\",\"parent\":5",
             "\"id\":6,\"name\":\"pool\",\"parent\":6",
             Some(ScriptFault::BadReference),
-        ),
-        (
+        )),
+        row((
             "\"super\":0,\"interfaces\":[],\"source\":null",
             "\"super\":11,\"interfaces\":[],\"source\":null",
             Some(ScriptFault::BadReference),
-        ),
-        (
+        )),
+        row((
             "\"interfaces\":[10]",
             "\"interfaces\":[11]",
             Some(ScriptFault::BadReference),
-        ),
-        (
+        )),
+        row((
             "\"interfaces\":[10]",
             "\"interfaces\":[0]",
             Some(ScriptFault::BadReference),
-        ),
-        (
+        )),
+        row((
             "\"id\":10,\"tag\"",
             "\"id\":0,\"tag\"",
             Some(ScriptFault::BadReference),
-        ),
-        (
+        )),
+        row((
             "[\"I\",7]",
             "[\"I\",4294967296]",
             Some(ScriptFault::BadReference),
-        ),
-        ("[\"I\",7]", "[\"B\",256]", Some(ScriptFault::BadReference)),
-        (
+        )),
+        row(("[\"I\",7]", "[\"B\",256]", Some(ScriptFault::BadReference))),
+        row((
             "[\"I\",7]",
             "[\"S\",65536]",
             Some(ScriptFault::BadReference),
-        ),
-        ("[\"I\",7]", "[\"Z\",2]", Some(ScriptFault::BadReference)),
-        ("[\"I\",7]", "[\"V\",1]", Some(ScriptFault::BadReference)),
-        ("[\"I\",7]", "[\"L\",99]", Some(ScriptFault::BadReference)),
-        ("\"id\":40,", "\"id\":0,", Some(ScriptFault::BadReference)),
-        ("\"id\":20,", "\"id\":0,", Some(ScriptFault::BadReference)),
-        ("[3,2]]", "[10,2]]", Some(ScriptFault::BadReference)),
-        ("[[0,1],", "[[3,1],", Some(ScriptFault::BadReference)),
-        (
+        )),
+        row(("[\"I\",7]", "[\"Z\",2]", Some(ScriptFault::BadReference))),
+        row(("[\"I\",7]", "[\"V\",1]", Some(ScriptFault::BadReference))),
+        row(("[\"I\",7]", "[\"L\",99]", Some(ScriptFault::BadReference))),
+        row(("\"id\":40,", "\"id\":0,", Some(ScriptFault::BadReference))),
+        row(("\"id\":20,", "\"id\":0,", Some(ScriptFault::BadReference))),
+        row(("[3,2]]", "[10,2]]", Some(ScriptFault::BadReference))),
+        row(("[[0,1],", "[[3,1],", Some(ScriptFault::BadReference))),
+        row((
             "\"id\":50,\"class\":11",
             "\"id\":50,\"class\":12",
             Some(ScriptFault::BadReference),
-        ),
-        ("\"id\":51,", "\"id\":0,", Some(ScriptFault::BadReference)),
-        (
+        )),
+        row(("\"id\":51,", "\"id\":0,", Some(ScriptFault::BadReference))),
+        row((
             "[40,[\"I\",1]]",
             "[42,[\"I\",1]]",
             Some(ScriptFault::BadReference),
-        ),
-        (
+        )),
+        row((
             "[41,[\"L\",51]]",
             "[40,[\"L\",51]]",
             Some(ScriptFault::BadReference),
-        ),
-        (
+        )),
+        row((
             "[41,[\"L\",51]]",
             "[41,[\"L\",52]]",
             Some(ScriptFault::BadReference),
-        ),
-        ("[50,0]", "[50,52]", Some(ScriptFault::BadReference)),
-        (
+        )),
+        row(("[50,0]", "[50,52]", Some(ScriptFault::BadReference))),
+        row((
             "\"group\":6",
             "\"group\":7",
             Some(ScriptFault::BadReference),
-        ),
-        (
+        )),
+        row((
             "\"id\":2,\"name\":\"work\"",
             "\"id\":0,\"name\":\"work\"",
             Some(ScriptFault::BadReference),
-        ),
-        (
+        )),
+        row((
             "[\"call\",30",
             "[\"call\",0",
             Some(ScriptFault::BadReference),
-        ),
-        (
+        )),
+        row((
             "30,11,20,50",
             "30,12,20,50",
             Some(ScriptFault::BadReference),
-        ),
-        (
+        )),
+        row((
             "30,11,20,50",
             "30,10,20,50",
             Some(ScriptFault::BadReference),
-        ),
-        (
+        )),
+        row((
             "30,11,20,50",
             "30,11,21,50",
             Some(ScriptFault::BadReference),
-        ),
-        ("30,11,20,50", "30,11,20,5", Some(ScriptFault::BadReference)),
-        (
+        )),
+        row(("30,11,20,50", "30,11,20,5", Some(ScriptFault::BadReference))),
+        row((
             "[[0,[\"L\",50]]]",
             "[[0,[\"L\",50]],[0,[\"I\",1]]]",
             Some(ScriptFault::BadReference),
-        ),
-        (
+        )),
+        row((
             "[[0,[\"L\",50]]]",
             "[[0,[\"L\",99]]]",
             Some(ScriptFault::BadReference),
-        ),
-        ("[\"go\",3]", "[\"go\",10]", Some(ScriptFault::BadReference)),
-        (
+        )),
+        row(("[\"go\",3]", "[\"go\",10]", Some(ScriptFault::BadReference))),
+        row((
             "[\"prepare\",11]",
             "[\"go\",0]",
             Some(ScriptFault::BadReference),
-        ),
-        (
+        )),
+        row((
             "[\"prepare\",11]",
             "[\"return\",[\"V\",0]]",
             Some(ScriptFault::BadReference),
-        ),
-        (
+        )),
+        row((
             "[\"prepare\",11]",
             "[\"throw\",50,null]",
             Some(ScriptFault::BadReference),
-        ),
-        (
+        )),
+        row((
             "[\"throw\",51",
             "[\"throw\",5",
             Some(ScriptFault::BadReference),
-        ),
-        ("[11,20,9]", "[11,20,10]", Some(ScriptFault::BadReference)),
-        ("[11,20,9]", "[10,20,9]", Some(ScriptFault::BadReference)),
-        (
+        )),
+        row(("[11,20,9]", "[11,20,10]", Some(ScriptFault::BadReference))),
+        row(("[11,20,9]", "[10,20,9]", Some(ScriptFault::BadReference))),
+        row((
             "[\"prepare\",11]",
             "[\"prepare\",12]",
             Some(ScriptFault::BadReference),
-        ),
-        (
+        )),
+        row((
             "[\"prepare\",11]",
             "[\"prepare\",11],[\"prepare\",11]",
             Some(ScriptFault::BadReference),
-        ),
-        (
+        )),
+        row((
             "[\"start\",2]",
             "[\"start\",3]",
             Some(ScriptFault::BadReference),
-        ),
-        (
+        )),
+        row((
             "[\"start\",2]",
             "[\"start\",2],[\"start\",2]",
             Some(ScriptFault::BadReference),
-        ),
-        (
+        )),
+        row((
             "[\"start\",2]",
             "[\"start\",2],[\"start\",1]",
             Some(ScriptFault::BadReference),
-        ),
-        (
+        )),
+        row((
             "[\"V\",0]]]",
             "[\"C\",65536]]]",
             Some(ScriptFault::BadReference),
-        ),
+        )),
     ] {
         let text = edited(alloc, MACHINE_B, old, new)?;
         assert_eq!(rt; fault(alloc, text.as_str()), wanted, "{old} {new}");
@@ -262,18 +263,18 @@ fn bad_references(rt: HostRuntime) -> Result<(), Fail> {
 fn ids_that_stand_twice(rt: HostRuntime) -> Result<(), Fail> {
     let alloc = rt.alloc();
     for (old, new, wanted) in [
-        ("\"id\":51,", "\"id\":5,", Some(ScriptFault::IdTwice)),
-        (
+        row(("\"id\":51,", "\"id\":5,", Some(ScriptFault::IdTwice))),
+        row((
             "\"id\":11,\"tag\"",
             "\"id\":10,\"tag\"",
             Some(ScriptFault::IdTwice),
-        ),
-        ("\"id\":41,", "\"id\":40,", Some(ScriptFault::IdTwice)),
-        (
+        )),
+        row(("\"id\":41,", "\"id\":40,", Some(ScriptFault::IdTwice))),
+        row((
             "[\"go\",3]",
             "[\"call\",30,11,20,0,[]]",
             Some(ScriptFault::IdTwice),
-        ),
+        )),
     ] {
         let text = edited(alloc, MACHINE_B, old, new)?;
         assert_eq!(rt; fault(alloc, text.as_str()), wanted, "{old} {new}");
@@ -285,201 +286,201 @@ fn ids_that_stand_twice(rt: HostRuntime) -> Result<(), Fail> {
 fn missing_members(rt: HostRuntime) -> Result<(), Fail> {
     let alloc = rt.alloc();
     for (old, new, wanted) in [
-        (
+        row((
             "\"last\":9",
             "\"last\":9.0",
             Some(ScriptFault::Missing(Member::Last)),
-        ),
-        (
+        )),
+        row((
             "\"last\":9",
             "\"last\":1e3",
             Some(ScriptFault::Missing(Member::Last)),
-        ),
-        (
+        )),
+        row((
             "\"last\":9",
             "\"last\":-0",
             Some(ScriptFault::Missing(Member::Last)),
-        ),
-        (
+        )),
+        row((
             "\"last\":9",
             "\"last\":18446744073709551616",
             Some(ScriptFault::Missing(Member::Last)),
-        ),
-        ("\"last\":9", "\"last\":18446744073709551615", None),
-        (
+        )),
+        row(("\"last\":9", "\"last\":18446744073709551615", None)),
+        row((
             "\"tag\":2",
             "\"tag\":4",
             Some(ScriptFault::Missing(Member::Tag)),
-        ),
-        (
+        )),
+        row((
             "\"tag\":2",
             "\"tag\":0",
             Some(ScriptFault::Missing(Member::Tag)),
-        ),
-        ("\"tag\":2", "\"tag\":3", None),
-        (
+        )),
+        row(("\"tag\":2", "\"tag\":3", None)),
+        row((
             "\"source\":null",
             "\"source\":5",
             Some(ScriptFault::Missing(Member::Source)),
-        ),
-        (
+        )),
+        row((
             "\"source\":null,",
             "",
             Some(ScriptFault::Missing(Member::Source)),
-        ),
-        (
+        )),
+        row((
             "[\"I\",7]",
             "[\"I\"]",
             Some(ScriptFault::Missing(Member::Value)),
-        ),
-        (
+        )),
+        row((
             "[\"I\",7]",
             "[\"Q\",7]",
             Some(ScriptFault::Missing(Member::Value)),
-        ),
-        (
+        )),
+        row((
             "[\"I\",7]",
             "[\"II\",7]",
             Some(ScriptFault::Missing(Member::Value)),
-        ),
-        (
+        )),
+        row((
             "[\"I\",7]",
             "[\"I\",-7]",
             Some(ScriptFault::Missing(Member::Value)),
-        ),
-        ("[3,2]]", "[3]]", Some(ScriptFault::Missing(Member::Lines))),
-        (
+        )),
+        row(("[3,2]]", "[3]]", Some(ScriptFault::Missing(Member::Lines)))),
+        row((
             "[3,2]]",
             "[3,2147483648]]",
             Some(ScriptFault::Missing(Member::Lines)),
-        ),
-        (
+        )),
+        row((
             "\"length\":10",
             "\"length\":2147483648",
             Some(ScriptFault::Missing(Member::Length)),
-        ),
-        ("\"length\":10", "\"length\":2147483647", None),
-        (
+        )),
+        row(("\"length\":10", "\"length\":2147483647", None)),
+        row((
             "[\"go\",3]",
             "[\"go\"]",
             Some(ScriptFault::Missing(Member::Steps)),
-        ),
-        (
+        )),
+        row((
             "[\"go\",3]",
             "[\"jump\",3]",
             Some(ScriptFault::Missing(Member::Steps)),
-        ),
-        (
+        )),
+        row((
             "[\"go\",3]",
             "[]",
             Some(ScriptFault::Missing(Member::Steps)),
-        ),
-        (
+        )),
+        row((
             "[\"go\",3]",
             "[\"go\",3,3]",
             Some(ScriptFault::Missing(Member::Steps)),
-        ),
-        (
+        )),
+        row((
             "[11,20,9]",
             "[11,20]",
             Some(ScriptFault::Missing(Member::Steps)),
-        ),
-        (
+        )),
+        row((
             "[[0,[\"L\",50]]]",
             "[[0]]",
             Some(ScriptFault::Missing(Member::Steps)),
-        ),
-        (
+        )),
+        row((
             "[\"L\",[50,0]]",
             "[\"V\",[]]",
             Some(ScriptFault::Missing(Member::Array)),
-        ),
-        (
+        )),
+        row((
             "[\"L\",[50,0]]",
             "[\"I\",[-1]]",
             Some(ScriptFault::Missing(Member::Array)),
-        ),
-        ("[\"L\",[50,0]]", "[\"I\",[]]", None),
-        (
+        )),
+        row(("[\"L\",[50,0]]", "[\"I\",[]]", None)),
+        row((
             "\"text\":\"hello\"",
             "\"text\":5",
             Some(ScriptFault::Missing(Member::Text)),
-        ),
-        (
+        )),
+        row((
             "[41,[\"L\",51]]",
             "[41]",
             Some(ScriptFault::Missing(Member::Fields)),
-        ),
-        (
+        )),
+        row((
             "[8,8,8,8,8]",
             "[8,8,8,8]",
             Some(ScriptFault::Missing(Member::Sizes)),
-        ),
-        (
+        )),
+        row((
             "[8,8,8,8,8]",
             "[8,8,8,8,2147483648]",
             Some(ScriptFault::Missing(Member::Sizes)),
-        ),
-        (
+        )),
+        row((
             "\"parent\":0",
             "\"parent\":null",
             Some(ScriptFault::Missing(Member::Parent)),
-        ),
-        (
+        )),
+        row((
             "\"group\":6",
             "\"group\":\"6\"",
             Some(ScriptFault::Missing(Member::Group)),
-        ),
-        (
+        )),
+        row((
             "\"slot\":0",
             "\"slots\":0",
             Some(ScriptFault::Missing(Member::Slot)),
-        ),
-        (
+        )),
+        row((
             "{\"id\":6,\"name\":\"pool\",\"parent\":5}",
             "6",
             Some(ScriptFault::Missing(Member::Id)),
-        ),
-        (
+        )),
+        row((
             "\"interfaces\":[10]",
             "\"interfaces\":[\"10\"]",
             Some(ScriptFault::Missing(Member::Interfaces)),
-        ),
-        (
+        )),
+        row((
             "\"args\":1",
             "\"args\":true",
             Some(ScriptFault::Missing(Member::Args)),
-        ),
-        (
+        )),
+        row((
             "\"from\":0",
             "\"from\":[0]",
             Some(ScriptFault::Missing(Member::From)),
-        ),
-        (
+        )),
+        row((
             "\"fields\":[],\"methods\"",
             "\"fields\":{},\"methods\"",
             Some(ScriptFault::Missing(Member::Fields)),
-        ),
-        (
+        )),
+        row((
             "\"methods\":[]",
             "\"methods\":null",
             Some(ScriptFault::Missing(Member::Methods)),
-        ),
-        (
+        )),
+        row((
             "\"signature\":\"I\"",
             "\"signature\":1",
             Some(ScriptFault::Missing(Member::Signature)),
-        ),
-        (
+        )),
+        row((
             "\"modifiers\":8",
             "\"modifiers\":4294967296",
             Some(ScriptFault::Missing(Member::Modifiers)),
-        ),
-        (
+        )),
+        row((
             "\"super\":0,\"interfaces\":[10]",
             "\"super\":-1,\"interfaces\":[10]",
             Some(ScriptFault::Missing(Member::Super)),
-        ),
+        )),
     ] {
         let text = edited(alloc, MACHINE_B, old, new)?;
         assert_eq!(rt; fault(alloc, text.as_str()), wanted, "{old} {new}");
@@ -491,10 +492,10 @@ fn missing_members(rt: HostRuntime) -> Result<(), Fail> {
 fn widths(rt: HostRuntime) -> Result<(), Fail> {
     let alloc = rt.alloc();
     for (old, new, wanted) in [
-        ("[8,8,8,8,8]", "[9,8,8,8,8]", Some(ScriptFault::IdTooWide)),
-        ("[8,8,8,8,8]", "[8,8,8,8,0]", Some(ScriptFault::IdTooWide)),
-        ("[8,8,8,8,8]", "[1,1,1,1,1]", None),
-        ("[\"L\",[50,0]]", "[\"I\",[4294967295]]", None),
+        row(("[8,8,8,8,8]", "[9,8,8,8,8]", Some(ScriptFault::IdTooWide))),
+        row(("[8,8,8,8,8]", "[8,8,8,8,0]", Some(ScriptFault::IdTooWide))),
+        row(("[8,8,8,8,8]", "[1,1,1,1,1]", None)),
+        row(("[\"L\",[50,0]]", "[\"I\",[4294967295]]", None)),
     ] {
         let text = edited(alloc, MACHINE_B, old, new)?;
         assert_eq!(rt; fault(alloc, text.as_str()), wanted, "{old} {new}");
@@ -506,97 +507,97 @@ fn widths(rt: HostRuntime) -> Result<(), Fail> {
 fn wide_ids_and_the_order_of_faults(rt: HostRuntime) -> Result<(), Fail> {
     let alloc = rt.alloc();
     for (sizes, old, new, wanted) in [
-        (
+        row((
             "[1,8,8,8,8]",
             "\"id\":40,",
             "\"id\":256,",
             Some(ScriptFault::IdTooWide),
-        ),
-        (
+        )),
+        row((
             "[8,1,8,8,8]",
             "30,11,20,50",
             "30,11,256,50",
             Some(ScriptFault::IdTooWide),
-        ),
-        (
+        )),
+        row((
             "[8,8,1,8,8]",
             "[\"I\",7]",
             "[\"L\",256]",
             Some(ScriptFault::IdTooWide),
-        ),
-        (
+        )),
+        row((
             "[8,8,1,8,8]",
             "[\"L\",[50,0]]",
             "[\"L\",[256]]",
             Some(ScriptFault::IdTooWide),
-        ),
-        ("[8,8,1,8,8]", "[\"L\",[50,0]]", "[\"J\",[256]]", None),
-        (
+        )),
+        row(("[8,8,1,8,8]", "[\"L\",[50,0]]", "[\"J\",[256]]", None)),
+        row((
             "[8,8,8,1,8]",
             "\"interfaces\":[10]",
             "\"interfaces\":[256]",
             Some(ScriptFault::IdTooWide),
-        ),
-        (
+        )),
+        row((
             "[8,8,8,1,8]",
             "[\"prepare\",11]",
             "[\"prepare\",256]",
             Some(ScriptFault::IdTooWide),
-        ),
-        (
+        )),
+        row((
             "[8,8,8,8,1]",
             "[\"call\",30",
             "[\"call\",256",
             Some(ScriptFault::IdTooWide),
-        ),
-        (
+        )),
+        row((
             "[8,8,1,8,8]",
             "[\"start\",2]",
             "[\"start\",256]",
             Some(ScriptFault::IdTooWide),
-        ),
-        (
+        )),
+        row((
             "[8,8,1,8,8]",
             "[\"throw\",51",
             "[\"throw\",256",
             Some(ScriptFault::IdTooWide),
-        ),
-        (
+        )),
+        row((
             "[8,8,1,8,8]",
             "\"group\":6",
             "\"group\":256",
             Some(ScriptFault::IdTooWide),
-        ),
-        (
+        )),
+        row((
             "[8,1,8,8,8]",
             "[11,20,9]",
             "[11,256,9]",
             Some(ScriptFault::IdTooWide),
-        ),
-        (
+        )),
+        row((
             "[0,8,8,8,8]",
             "\"last\":9",
             "\"last\":null",
             Some(ScriptFault::Missing(Member::Last)),
-        ),
-        (
+        )),
+        row((
             "[0,8,8,8,8]",
             "\"id\":51,",
             "\"id\":5,",
             Some(ScriptFault::IdTwice),
-        ),
-        (
+        )),
+        row((
             "[0,8,8,8,8]",
             "[\"go\",3]",
             "[\"go\",10]",
             Some(ScriptFault::IdTooWide),
-        ),
-        (
+        )),
+        row((
             "[\"8\"]",
             "\"name\":\"main\"",
             "\"name\":5",
             Some(ScriptFault::Missing(Member::Sizes)),
-        ),
+        )),
     ] {
         let text = edited(alloc, MACHINE_B, "[8,8,8,8,8]", sizes)?;
         let text = edited(alloc, text.as_str(), old, new)?;
@@ -724,17 +725,17 @@ fn literals(rt: HostRuntime) -> Result<(), Fail> {
 fn faults_in_words(rt: HostRuntime) -> Result<(), Fail> {
     let alloc = rt.alloc();
     for (fault, number, words) in [
-        (ScriptFault::NotJson, 21, "fault 21: the text is not JSON"),
-        (
+        row((ScriptFault::NotJson, 21, "fault 21: the text is not JSON")),
+        row((
             ScriptFault::Missing(Member::Last),
             22,
             "fault 22: the member last is missing or of another type",
-        ),
-        (ScriptFault::IdTwice, 23, "fault 23: an id stands twice"),
-        (ScriptFault::IdTooWide, 24, "fault 24: an id is too wide"),
-        (ScriptFault::BadReference, 25, "fault 25: a bad reference"),
-        (ScriptFault::OverLimit, 26, "fault 26: a limit is passed"),
-        (ScriptFault::NoMemory, 27, "fault 27: no memory"),
+        )),
+        row((ScriptFault::IdTwice, 23, "fault 23: an id stands twice")),
+        row((ScriptFault::IdTooWide, 24, "fault 24: an id is too wide")),
+        row((ScriptFault::BadReference, 25, "fault 25: a bad reference")),
+        row((ScriptFault::OverLimit, 26, "fault 26: a limit is passed")),
+        row((ScriptFault::NoMemory, 27, "fault 27: no memory")),
     ] {
         assert_eq!(rt; fault.number(), number);
         assert_eq!(rt; fault.to_string(alloc)?.as_str(), words);

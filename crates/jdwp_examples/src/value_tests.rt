@@ -1,4 +1,5 @@
 //! Worked examples of values.
+use crate::rows::row;
 use jdwp_value::{
     ArrayRegion, FieldId, FrameId, Location, MethodId, ObjectId, ObjectTag, ReferenceTypeId, Tag,
     TaggedId, TypeTag, Value, pass_untagged, put_untagged, take_untagged, untagged_size,
@@ -34,27 +35,27 @@ fn values(rt: HostRuntime) -> Result<(), Fail> {
         id: ObjectId(5),
     };
     let rows: [(&[u8], Value); 12] = [
-        (&[0x49, 0xff, 0xff, 0xff, 0xff], Value::Int(4294967295)),
-        (&[0x73, 5], Value::Object(text)),
-        (&[0x42, 200], Value::Byte(200)),
-        (&[0x43, 1, 2], Value::Char(258)),
-        (&[0x53, 0xff, 0xff], Value::Short(65535)),
-        (&[0x46, 0x3f, 0x80, 0, 0], Value::Float(0x3f80_0000)),
-        (
+        row((&[0x49, 0xff, 0xff, 0xff, 0xff], Value::Int(4294967295))),
+        row((&[0x73, 5], Value::Object(text))),
+        row((&[0x42, 200], Value::Byte(200))),
+        row((&[0x43, 1, 2], Value::Char(258))),
+        row((&[0x53, 0xff, 0xff], Value::Short(65535))),
+        row((&[0x46, 0x3f, 0x80, 0, 0], Value::Float(0x3f80_0000))),
+        row((
             &[0x44, 0x3f, 0xf0, 0, 0, 0, 0, 0, 0],
             Value::Double(0x3ff0_0000_0000_0000),
-        ),
-        (&[0x4a, 0, 0, 0, 0, 0, 0, 1, 0], Value::Long(256)),
-        (&[0x56], Value::Void),
-        (&[0x5a, 0], Value::Boolean(false)),
-        (&[0x5a, 1], Value::Boolean(true)),
-        (
+        )),
+        row((&[0x4a, 0, 0, 0, 0, 0, 0, 1, 0], Value::Long(256))),
+        row((&[0x56], Value::Void)),
+        row((&[0x5a, 0], Value::Boolean(false))),
+        row((&[0x5a, 1], Value::Boolean(true))),
+        row((
             &[0x4c, 0],
             Value::Object(TaggedId {
                 tag: ObjectTag::Object,
                 id: ObjectId(0),
             }),
-        ),
+        )),
     ];
     for (bytes, value) in rows {
         assert_eq!(rt;
@@ -423,19 +424,19 @@ fn values_without_their_tags(rt: HostRuntime) -> Result<(), Fail> {
         id: ObjectId(513),
     });
     let rows: [(&[u8], Value); 10] = [
-        (&[200], Value::Byte(200)),
-        (&[1, 2], Value::Char(258)),
-        (
+        row((&[200], Value::Byte(200))),
+        row((&[1, 2], Value::Char(258))),
+        row((
             &[0x3f, 0xf0, 0, 0, 0, 0, 0, 0],
             Value::Double(0x3ff0_0000_0000_0000),
-        ),
-        (&[0x3f, 0x80, 0, 0], Value::Float(0x3f80_0000)),
-        (&[0xff, 0xff, 0xff, 0xff], Value::Int(4_294_967_295)),
-        (&[0, 0, 0, 0, 0, 0, 1, 0], Value::Long(256)),
-        (&[0xff, 0xff], Value::Short(65_535)),
-        (&[], Value::Void),
-        (&[1], Value::Boolean(true)),
-        (&[0, 0, 0, 0, 0, 0, 2, 1], thread),
+        )),
+        row((&[0x3f, 0x80, 0, 0], Value::Float(0x3f80_0000))),
+        row((&[0xff, 0xff, 0xff, 0xff], Value::Int(4_294_967_295))),
+        row((&[0, 0, 0, 0, 0, 0, 1, 0], Value::Long(256))),
+        row((&[0xff, 0xff], Value::Short(65_535))),
+        row((&[], Value::Void)),
+        row((&[1], Value::Boolean(true))),
+        row((&[0, 0, 0, 0, 0, 0, 2, 1], thread)),
     ];
     for (bytes, value) in rows {
         let tag = value.tag();

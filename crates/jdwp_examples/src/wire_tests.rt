@@ -1,4 +1,5 @@
 //! Worked examples of data: bytes, booleans, ints, longs and strings.
+use crate::rows::row;
 use jdwp_wire::{BadSize, DataFault, FrameFault, IdSizes, NoMemory, Wire};
 use std::alloc::Global;
 use std::process::Abort;
@@ -74,12 +75,12 @@ fn strings(rt: HostRuntime) -> Result<(), Fail> {
     assert_eq!(rt; used, 7);
     let sizes = IdSizes::new(1, 1, 1, 1, 1)?;
     let rows: [(&[u8], DataFault, u16); 6] = [
-        (&[0x7f, 0xff, 0xff, 0xff], DataFault::Short(4), 11),
-        (&[0, 0, 0, 1, 0xff], DataFault::NotUtf8, 15),
-        (&[0xff, 0xff, 0xff, 0xff], DataFault::NegativeCount, 14),
-        (&[0, 0, 0, 2, 0x61], DataFault::Short(5), 11),
-        (&[0, 0, 0], DataFault::Short(3), 11),
-        (&[0, 0, 0, 2, 0xff], DataFault::Short(5), 11),
+        row((&[0x7f, 0xff, 0xff, 0xff], DataFault::Short(4), 11)),
+        row((&[0, 0, 0, 1, 0xff], DataFault::NotUtf8, 15)),
+        row((&[0xff, 0xff, 0xff, 0xff], DataFault::NegativeCount, 14)),
+        row((&[0, 0, 0, 2, 0x61], DataFault::Short(5), 11)),
+        row((&[0, 0, 0], DataFault::Short(3), 11)),
+        row((&[0, 0, 0, 2, 0xff], DataFault::Short(5), 11)),
     ];
     for (bytes, wanted, number) in rows {
         match taken::<String>(&rt, bytes)? {
@@ -124,22 +125,22 @@ fn laws_at_a_type(_rt: HostRuntime) {
 #[test]
 fn texts_of_faults(rt: HostRuntime) -> Result<(), Fail> {
     let rows = [
-        (DataFault::Short(5), 11, "fault 11: 5 bytes are too few"),
-        (
+        row((DataFault::Short(5), 11, "fault 11: 5 bytes are too few")),
+        row((
             DataFault::Extra(2),
             12,
             "fault 12: bytes are left over at 2",
-        ),
-        (DataFault::BadTag, 13, "fault 13: a bad tag"),
-        (DataFault::NegativeCount, 14, "fault 14: a negative count"),
-        (DataFault::NotUtf8, 15, "fault 15: a string is not UTF-8"),
-        (
+        )),
+        row((DataFault::BadTag, 13, "fault 13: a bad tag")),
+        row((DataFault::NegativeCount, 14, "fault 14: a negative count")),
+        row((DataFault::NotUtf8, 15, "fault 15: a string is not UTF-8")),
+        row((
             DataFault::BadSize,
             16,
             "fault 16: a length or count is too large",
-        ),
-        (DataFault::IdTooWide, 17, "fault 17: an id is too wide"),
-        (DataFault::NoMemory, 18, "fault 18: no memory"),
+        )),
+        row((DataFault::IdTooWide, 17, "fault 17: an id is too wide")),
+        row((DataFault::NoMemory, 18, "fault 18: no memory")),
     ];
     for (fault, number, text) in rows {
         assert_eq!(rt; fault.number(), number);
@@ -156,26 +157,26 @@ fn texts_of_faults(rt: HostRuntime) -> Result<(), Fail> {
 #[test]
 fn texts_of_frame_faults(rt: HostRuntime) -> Result<(), Fail> {
     let rows = [
-        (
+        row((
             FrameFault::ShortLength,
             1,
             "fault 1: a packet length below 11",
-        ),
-        (
+        )),
+        row((
             FrameFault::TooLong,
             2,
             "fault 2: a packet length above the limit",
-        ),
-        (
+        )),
+        row((
             FrameFault::BadFlags,
             3,
             "fault 3: packet flags other than 00 and 80",
-        ),
-        (
+        )),
+        row((
             FrameFault::BadHandshake(5),
             4,
             "fault 4: not the handshake at byte 5",
-        ),
+        )),
     ];
     for (fault, number, text) in rows {
         assert_eq!(rt; fault.number(), number);
