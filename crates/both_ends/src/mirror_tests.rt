@@ -339,6 +339,25 @@ fn threads_that_are_not_alive_are_forgotten(rt: HostRuntime) -> Result<(), Fail>
 }
 
 #[test]
+fn threads_behind_a_forgotten_one_are_found(rt: HostRuntime) -> Result<(), Fail> {
+    let acts = [
+        FIRST,
+        SECOND,
+        Act::Event(THREAD_START, EVENT_THREAD, 3),
+        Act::Event(THREAD_DEATH, NONE, 1),
+        Act::Shows(1, None, false),
+        Act::Shows(2, Some(0), false),
+        Act::Shows(3, Some(1), true),
+        Act::ThreadDone(2, 2),
+        Act::Knows(&[(2, 1, true), (3, 1, true)]),
+        FIRST,
+        Act::Knows(&[(2, 1, true), (3, 1, true), (1, 1, true)]),
+    ];
+    assert_eq!(rt; goes_wrong_at(rt.alloc(), &acts)?, None);
+    Ok(())
+}
+
+#[test]
 fn requests_are_kept_as_asked(rt: HostRuntime) -> Result<(), Fail> {
     let acts = [
         FIRST,

@@ -1,7 +1,6 @@
 -- Look-ups in what was changed, left out and added.
-use Rattle.std.proofs.Common.{◌≡◌, ℕ, ◌+◌, Bool, true, false, cond, ◌||◌, ◌&&◌, not, List, [], ◌∷◌, ◌++◌, map, refl, ◌∙◌, ap, sym, subst, Option, Some, None, is_some, if◌then◌else◌}
+use Rattle.std.proofs.Common.{◌≡◌, ℕ, Bool, true, false, ◌||◌, ◌&&◌, not, List, [], ◌∷◌, ◌++◌, refl, ◌∙◌, ap, sym, Option, Some, None, is_some, if◌then◌else◌}
 use Rattle.std.specs.Prelude.{◌==◌}
-use Rattle.std.specs.List.{filter}
 use Rattle.std.specs.Option.{option_map}
 use Rattle.std.proofs.lemmas.Bool.Decides.{nat_tests}
 use Rattle.std.proofs.Common.{arith}
@@ -9,7 +8,7 @@ use Rattle.jdwp_value.specs.declared.id.ObjectId.{ObjectId}
 use Rattle.jdwp_debugger.specs.declared.threads.Known.{Known}
 use Rattle.jdwp_debugger.specs.declared.threads.Lesson.{Lesson}
 use Rattle.jdwp_debugger.specs.Mirror.{is_positive}
-use Rattle.jdwp_debugger.specs.KnownThreads.{count_in, is_held_in, count_by, shown_by, taught_by, all_taught, without, only, unseen, with_thread, AreDistinct, HeldHaveCounts, AreSound}
+use Rattle.jdwp_debugger.specs.KnownThreads.{count_in, is_held_in, count_by, shown_by, taught_by, all_taught, without, only, unseen, AreDistinct, HeldHaveCounts, AreSound}
 
 pub same_from : (a b : ℕ) → (a == b) ≡ true → a ≡ b
 same_from a b e = grind (arith, nat_tests)
@@ -74,13 +73,16 @@ held-only test (k ∷ ks) t =
 
 -- ---- added
 
-pub count-pushed : (id : ObjectId) (ks : List Known) (t : ℕ) → count_in (ks ++ unseen id ∷ []) t ≡ (if is_some (count_in ks t) then count_in ks t else (if id.0 == t then Some 0 else None))
-count-pushed id [] t = refl
-count-pushed id (k ∷ ks) t =
-    elim (k.id.0 == t) as (λ b. (if b then Some k.count else count_in (ks ++ unseen id ∷ []) t) ≡ (if is_some (if b then Some k.count else count_in ks t) then (if b then Some k.count else count_in ks t) else (if id.0 == t then Some 0 else None))) [
+pub count-added : (ks : List Known) (k : Known) (t : ℕ) → count_in (ks ++ k ∷ []) t ≡ (if is_some (count_in ks t) then count_in ks t else (if k.id.0 == t then Some k.count else None))
+count-added [] k t = refl
+count-added (j ∷ ks) k t =
+    elim (j.id.0 == t) as (λ b. (if b then Some j.count else count_in (ks ++ k ∷ []) t) ≡ (if is_some (if b then Some j.count else count_in ks t) then (if b then Some j.count else count_in ks t) else (if k.id.0 == t then Some k.count else None))) [
       | true ↦ refl
-      | false ↦ count-pushed id ks t
+      | false ↦ count-added ks k t
     ]
+
+pub count-pushed : (id : ObjectId) (ks : List Known) (t : ℕ) → count_in (ks ++ unseen id ∷ []) t ≡ (if is_some (count_in ks t) then count_in ks t else (if id.0 == t then Some 0 else None))
+count-pushed id ks t = count-added ks (unseen id) t
 
 pub held-pushed : (id : ObjectId) (ks : List Known) (t : ℕ) → is_held_in (ks ++ unseen id ∷ []) t ≡ is_held_in ks t
 held-pushed id [] t = elim (id.0 == t) as (λ b. (if b then false else false) ≡ false) [ true ↦ refl | false ↦ refl ]
@@ -111,7 +113,7 @@ if_has : (P : List Known → Type 0) (b : Bool) (xs ys : List Known) → P xs �
 if_has P true xs ys p q = p
 if_has P false xs ys p q = q
 
-none_either : (b : Bool) (n : Option ℕ) → n ≡ None → (if b then n else None) ≡ None
+pub none_either : (b : Bool) (n : Option ℕ) → n ≡ None → (if b then n else None) ≡ None
 none_either true n e = e
 none_either false n e = refl
 
@@ -134,30 +136,30 @@ none_unless : (b : Bool) (n m : Option ℕ) → n ≡ None → m ≡ None → (i
 none_unless true n m e f = e
 none_unless false n m e f = f
 
-other_of : (b : Bool) (n : ℕ) (m : Option ℕ) → (if b then Some n else m) ≡ None → b ≡ false
+pub other_of : (b : Bool) (n : ℕ) (m : Option ℕ) → (if b then Some n else m) ≡ None → b ≡ false
 other_of true n m e = cc
 other_of false n m e = refl
 
-rest_of : (b : Bool) (n : ℕ) (m : Option ℕ) → (if b then Some n else m) ≡ None → m ≡ None
+pub rest_of : (b : Bool) (n : ℕ) (m : Option ℕ) → (if b then Some n else m) ≡ None → m ≡ None
 rest_of true n m e = cc
 rest_of false n m e = e
 
 pub turned : (a b : ℕ) → (a == b) ≡ false → (b == a) ≡ false
 turned a b e = grind (arith, nat_tests)
 
-distinct-pushed : (id : ObjectId) (ks : List Known) → count_in ks id.0 ≡ None → AreDistinct ks → AreDistinct (ks ++ unseen id ∷ [])
-distinct-pushed id [] e d = (refl, tt)
-distinct-pushed id (k ∷ ks) e d =
-    let other : (id.0 == k.id.0) ≡ false = turned k.id.0 id.0 (other_of (k.id.0 == id.0) k.count (count_in ks id.0) e) in
-    let unknown : count_in (ks ++ unseen id ∷ []) k.id.0 ≡ None = count-pushed id ks k.id.0 ∙ rw (d.0, other) refl in
-    (unknown, distinct-pushed id ks (rest_of (k.id.0 == id.0) k.count (count_in ks id.0) e) d.1)
+distinct-added : (ks : List Known) (k : Known) → count_in ks k.id.0 ≡ None → AreDistinct ks → AreDistinct (ks ++ k ∷ [])
+distinct-added [] k e d = (refl, tt)
+distinct-added (j ∷ ks) k e d =
+    let other : (k.id.0 == j.id.0) ≡ false = turned j.id.0 k.id.0 (other_of (j.id.0 == k.id.0) j.count (count_in ks k.id.0) e) in
+    let unknown : count_in (ks ++ k ∷ []) j.id.0 ≡ None = count-added ks k j.id.0 ∙ rw (d.0, other) refl in
+    (unknown, distinct-added ks k (rest_of (j.id.0 == k.id.0) j.count (count_in ks k.id.0) e) d.1)
 
-counted-pushed : (id : ObjectId) (ks : List Known) → HeldHaveCounts ks → HeldHaveCounts (ks ++ unseen id ∷ [])
-counted-pushed id [] h = (refl, tt)
-counted-pushed id (k ∷ ks) h = (h.0, counted-pushed id ks h.1)
+counted-added : (ks : List Known) (k : Known) → HeldHaveCounts ks → k.held ≡ (not (k.count == 0) && k.held) → HeldHaveCounts (ks ++ k ∷ [])
+counted-added [] k h e = (e, tt)
+counted-added (j ∷ ks) k h e = (h.0, counted-added ks k h.1 e)
 
-pub sound-pushed : (id : ObjectId) (ks : List Known) → count_in ks id.0 ≡ None → AreSound ks → AreSound (ks ++ unseen id ∷ [])
-sound-pushed id ks e s = record { distinct = distinct-pushed id ks e s.distinct; counted = counted-pushed id ks s.counted }
+pub sound-added : (ks : List Known) (k : Known) → count_in ks k.id.0 ≡ None → k.held ≡ (not (k.count == 0) && k.held) → AreSound ks → AreSound (ks ++ k ∷ [])
+sound-added ks k e h s = record { distinct = distinct-added ks k e s.distinct; counted = counted-added ks k s.counted h }
 
 -- what is held is known with a count above 0
 pub held-is : (ks : List Known) (t : ℕ) → HeldHaveCounts ks → is_held_in ks t ≡ (is_positive (count_in ks t) && is_held_in ks t)
@@ -167,7 +169,3 @@ held-is (k ∷ ks) t h =
       | true ↦ h.0
       | false ↦ held-is ks t h.1
     ]
-
-pub none_of : {A : Type 0} (n : Option A) → is_some n ≡ false → n ≡ None
-none_of None e = refl
-none_of (Some x) e = cc

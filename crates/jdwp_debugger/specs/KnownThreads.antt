@@ -1,5 +1,5 @@
 -- The threads that a mirror knows, as lists: look-ups by a thread's id, and what is changed, left out and added.
-use Rattle.std.specs.Prelude.{◌≡◌, ℕ, ◌+◌, ◌-◌, ◌==◌, ◌≤◌, min, Bool, true, false, ◌||◌, ◌&&◌, not, List, [], ◌∷◌, ◌++◌, map, Option, Some, None, is_some, if◌then◌else◌}
+use Rattle.std.specs.Prelude.{◌≡◌, ℕ, ◌==◌, Bool, true, false, ◌||◌, ◌&&◌, not, List, [], ◌∷◌, ◌++◌, map, Option, Some, None, is_some, if◌then◌else◌}
 use Rattle.std.specs.List.{filter}
 use Rattle.jdwp_value.specs.declared.id.ObjectId.{ObjectId}
 use Rattle.jdwp_debugger.specs.declared.threads.Known.{Known}
@@ -47,6 +47,14 @@ taught_by l k = record {
 
 abbrev pub all_taught : Lesson → List Known → List Known
 all_taught l ks = map (taught_by l) ks
+
+-- whether it changes no thread but its own
+abbrev pub keeps : Change → Bool
+keeps Keep = true
+keeps change = false
+
+abbrev pub is_of_one : Lesson → Bool
+is_of_one l = keeps l.others && not l.shows_all
 
 -- ---- which of them there are
 

@@ -3,6 +3,7 @@ pub mod Mirror
 pub mod Faults
 pub mod Laws
 pub mod KnownThreads
+pub mod Numbering
 pub mod Acts
 pub mod Commands
 pub mod Mirrors

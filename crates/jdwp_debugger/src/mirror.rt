@@ -128,17 +128,23 @@ impl Mirror {
     {
         match command.act() {
             Act::Request => self.requests.add(alloc, command.carried(), reply),
-            act => self.learn_others(act, command, reply),
+            act => self.learn_others(alloc, act, command, reply),
         }
     }
 
-    fn learn_others(&mut self, act: Act, command: &Command, reply: &Data) -> Result<(), NoMemory>
+    fn learn_others(
+        &mut self,
+        alloc: Global,
+        act: Act,
+        command: &Command,
+        reply: &Data,
+    ) -> Result<(), NoMemory>
         ensures threads { OnOk result (self.new.threads ≡ threads_after_others act (id_found (thread_of command.now)) reply.now self.old.threads) }
         ensures requests { OnOk result (self.new.requests ≡ requests_after_others act command.now.carried reply.now self.old.requests) }
         ensures err { OnErr result (self.new ≡ self.old) }
     {
         let thread = command.thread();
-        self.threads.make_ready(act, thread, reply)?;
+        self.threads.make_ready(alloc, act, thread, reply)?;
         self.threads.learn(Lesson::of_reply(act, thread, reply));
         self.requests.remove_by(act, command.carried());
         Ok(())

@@ -1,11 +1,17 @@
 //! What data of replies say, as far as a mirror learns from them.
-ghost use Rattle.std.specs.Prelude.{◌≡◌};
+ghost use Rattle.std.specs.Prelude.{◌≡◌, ℕ, IfOk};
+ghost use Rattle.std.specs.BTreeSet.{contains};
 ghost use Rattle.std.specs.List.{list_any};
+ghost use Rattle.std.specs.Ordering.{nat_cmp};
 ghost use Rattle.jdwp_layout.specs.Meanings.{entry_meanings, meanings, scalar_meanings};
+ghost use Rattle.jdwp_debugger.specs.KnownThreads.{is_of_id};
 ghost use Rattle.jdwp_debugger.specs.Mirror.{begins_with_object, counted, given_id, lists};
 
 use jdwp_layout::{Data, Datum, Scalar};
 use jdwp_value::ObjectId;
+use jdwp_wire::NoMemory;
+use std::alloc::Global;
+use std::collections::BTreeSet;
 
 /// The suspend count in a reply to ThreadReference.SuspendCount; None where it is no number from 0.
 pub fn count_in_reply(reply: &Data) -> Option<u32>
@@ -39,38 +45,43 @@ fn id_in_items(items: &[Datum]) -> Option<i32>
     }
 }
 
-/// Whether a reply to VirtualMachine.AllThreads lists a thread.
-pub fn is_listed(reply: &Data, id: ObjectId) -> bool
-    ensures { result ≡ lists reply.now id.0 }
+/// The ids of the threads that a reply to VirtualMachine.AllThreads lists.
+///
+/// # Errors
+/// `NoMemory` where an allocation was refused.
+pub fn listed_in(alloc: Global, reply: &Data) -> Result<BTreeSet<u64>, NoMemory>
+    ensures { IfOk result (λ listed. (t : ℕ) → contains nat_cmp listed t ≡ lists reply.now t) }
 {
-    is_listed_in(reply.items(), id)
+    listed_in_items(alloc, reply.items())
 }
 
-fn is_listed_in(items: &[Datum], id: ObjectId) -> bool
-    ensures { result ≡ lists (meanings items.now) id.0 }
+fn listed_in_items(alloc: Global, items: &[Datum]) -> Result<BTreeSet<u64>, NoMemory>
+    ensures { IfOk result (λ listed. (t : ℕ) → contains nat_cmp listed t ≡ lists (meanings items.now) t) }
 {
     match items {
-        [Datum::Many(entries)] => is_among(entries, id),
-        _ => false,
+        [Datum::Many(entries)] => listed_among(alloc, entries),
+        _ => Ok(BTreeSet::new(alloc)),
     }
 }
 
-fn is_among(entries: &[Vec<Scalar>], id: ObjectId) -> bool
-    ensures { result ≡ list_any (begins_with_object id.0) (entry_meanings entries.now) }
+fn listed_among(alloc: Global, entries: &[Vec<Scalar>]) -> Result<BTreeSet<u64>, NoMemory>
+    ensures { IfOk result (λ listed. (t : ℕ) → contains nat_cmp listed t ≡ list_any (begins_with_object t) (entry_meanings entries.now)) }
 {
+    let mut listed = BTreeSet::new(alloc);
     for entry in entries {
-        if begins_with(entry, id) {
-            return true;
+        if let Some(id) = first_object(entry) {
+            listed.insert(id.0)?;
         }
     }
-    false
+    Ok(listed)
 }
 
-fn begins_with(fields: &[Scalar], id: ObjectId) -> bool
-    ensures { result ≡ begins_with_object id.0 (scalar_meanings fields.now) }
+/// The object with which an entry begins.
+fn first_object(fields: &[Scalar]) -> Option<ObjectId>
+    ensures { (t : ℕ) → begins_with_object t (scalar_meanings fields.now) ≡ is_of_id result t }
 {
     match fields {
-        [Scalar::ObjectId(first), ..] => first.0 == id.0,
-        _ => false,
+        [Scalar::ObjectId(first), ..] => Some(*first),
+        _ => None,
     }
 }

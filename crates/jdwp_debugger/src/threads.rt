@@ -1,16 +1,20 @@
 //! The threads that a debugger knows.
-ghost use Rattle.std.specs.Prelude.{◌≡◌, IfErr, OnOk, OnErr, [], is_some};
-ghost use Rattle.jdwp_debugger.specs.KnownThreads.{AreSound, all_taught, change_of, count_in, is_held_in, is_of_id, only, taught_by, with_thread, without};
+ghost use Rattle.std.specs.Prelude.{◌≡◌, ◌==◌, ◌&&◌, ◌++◌, ◌∷◌, ◌<◌, IfOk, IfSome, None, OnErr, OnOk, [], length, not, true};
+ghost use Rattle.std.specs.BTreeSet.{contains};
+ghost use Rattle.std.specs.Ordering.{nat_cmp};
 ghost use Rattle.jdwp_debugger.specs.Acts.{lesson_of, lesson_of_event, own_change, others_change, ready_for, with_counted};
+ghost use Rattle.jdwp_debugger.specs.KnownThreads.{AreSound, all_taught, change_of, count_in, is_held_in, is_of_id, is_of_one, only, taught_by, with_thread, without};
 ghost use Rattle.jdwp_debugger.specs.Mirror.{counted, lists};
+ghost use Rattle.jdwp_debugger.specs.Numbering.{Rise, place_in};
 
 use crate::command::Act;
-use crate::reply::{count_in_reply, is_listed};
+use crate::reply::{count_in_reply, listed_in};
 use jdwp_layout::Data;
 use jdwp_value::ObjectId;
 use jdwp_wire::NoMemory;
 use jdwp_wire::number::GREATEST_INT;
 use std::alloc::Global;
+use std::collections::{BTreeMap, BTreeSet};
 use std::marker::Model;
 
 /// Where a count stops.
@@ -138,6 +142,13 @@ impl Lesson {
         }
     }
 
+    /// Whether it changes no thread but its own.
+    fn is_of_one(self) -> bool
+        ensures { result ≡ is_of_one self }
+    {
+        matches!(self.others, Change::Keep) && !self.shows_all
+    }
+
     fn teach(self, known: Known) -> Known
         ensures { result ≡ taught_by self known }
     {
@@ -152,10 +163,14 @@ impl Lesson {
     }
 }
 
-/// Known threads in the order in which they became known, each once.
+/// Known threads in the order in which they became known, each once, and found by their ids.
 #[derive(Drop)]
 pub(crate) struct Threads {
     entries: Vec<Known>,
+    /// The number under which each of them became known, in the same order: they rise.
+    numbers: Vec<u64>,
+    /// The number of each by its id.
+    index: BTreeMap<u64, u64>,
 }
 
 impl Model for Threads {
@@ -165,10 +180,11 @@ impl Model for Threads {
     ghost Value = { List Known };
 
     ghost use Rattle.jdwp_debugger.specs.KnownThreads.{AreSound};
+    ghost use Rattle.jdwp_debugger.specs.Numbering.{AreNumbered};
 
     ghost view = { λ t. t.entries.items };
 
-    ghost invariant = { λ t. AreSound t.entries.items };
+    ghost invariant = { λ t. AreSound t.entries.items × AreNumbered t.entries.items t.numbers.items t.index };
 }
 
 impl Threads {
@@ -178,6 +194,8 @@ impl Threads {
     {
         Threads {
             entries: Vec::new(alloc),
+            numbers: Vec::new(alloc),
+            index: BTreeMap::new(alloc),
         }
     }
 
@@ -193,14 +211,31 @@ impl Threads {
     pub fn count(&self, id: ObjectId) -> Option<u32>
         ensures { result ≡ count_in self.now id.0 }
     {
-        count_among(&self.entries, id)
+        match self.place(id) {
+            Some(place) => Some(self.entries[place].count),
+            None => None,
+        }
     }
 
     /// Whether a thread is held.
     pub fn is_held(&self, id: ObjectId) -> bool
         ensures { result ≡ is_held_in self.now id.0 }
     {
-        is_held_among(&self.entries, id)
+        match self.place(id) {
+            Some(place) => self.entries[place].held,
+            None => false,
+        }
+    }
+
+    /// Where a thread stands among them, or None where it is not known.
+    fn place(&self, id: ObjectId) -> Option<usize>
+        ensures place { result ≡ place_in self.now id.0 }
+        ensures within { IfSome result (λ place. place < length self.now) }
+    {
+        match self.index.get(&id.0) {
+            Some(number) => self.numbers.binary_search(number).ok(),
+            None => None,
+        }
     }
 
     /// Makes a thread known, with a count of 0, where it is not.
@@ -211,22 +246,57 @@ impl Threads {
         ensures ok { OnOk result (self.new ≡ with_thread id self.old) }
         ensures err { OnErr result (self.new ≡ self.old) }
     {
-        if count_among(&self.entries, id).is_some() {
+        if self.count(id).is_some() {
             return Ok(());
         }
-        self.entries.push(Known {
+        self.add(Known {
             id,
             count: 0,
             held: false,
-        })?;
+        })
+    }
+
+    /// Adds a thread that is not known, as the last.
+    ///
+    /// # Errors
+    /// `NoMemory` where an allocation was refused; nothing has changed.
+    fn add(&mut self, known: Known) -> Result<(), NoMemory>
+        requires unknown { count_in self.old known.id.0 ≡ None }
+        requires counted { known.held ≡ (not (known.count == 0) && known.held) }
+        ensures ok { OnOk result (self.new ≡ self.old ++ known ∷ []) }
+        ensures err { OnErr result (self.new ≡ self.old) }
+    {
+        let number = next_number(&self.numbers)?;
+        // Room first, so that nothing fails once the map has changed.
+        self.entries.reserve(1)?;
+        self.numbers.reserve(1)?;
+        self.index.insert(known.id.0, number)?;
+        self.numbers.push(number)?;
+        self.entries.push(known)?;
         Ok(())
     }
 
-    /// Changes counts, and holds what is shown alive.
+    /// Changes counts, and holds what is shown alive. It goes over all threads only where it changes others than its own.
     pub fn learn(&mut self, lesson: Lesson)
         ensures { self.new ≡ all_taught lesson self.old }
     {
-        teach_all(&mut self.entries, lesson);
+        if lesson.is_of_one() {
+            self.learn_one(lesson);
+        } else {
+            teach_all(&mut self.entries, lesson);
+        }
+    }
+
+    /// The same where it changes no thread but its own.
+    fn learn_one(&mut self, lesson: Lesson)
+        requires { is_of_one lesson ≡ true }
+        ensures { self.new ≡ all_taught lesson self.old }
+    {
+        if let Some(thread) = lesson.thread {
+            if let Some(place) = self.place(thread) {
+                self.entries[place] = lesson.teach(self.entries[place]);
+            }
+        }
     }
 
     /// What holds of all threads that are known. It does nothing.
@@ -242,6 +312,7 @@ impl Threads {
     /// `NoMemory` where an allocation was refused; nothing has changed.
     pub fn make_ready(
         &mut self,
+        alloc: Global,
         act: Act,
         thread: Option<ObjectId>,
         reply: &Data,
@@ -251,10 +322,7 @@ impl Threads {
     {
         match act {
             Act::SuspendCount => self.meet_counted(thread, reply),
-            Act::AllThreads => {
-                self.keep_listed(reply);
-                Ok(())
-            }
+            Act::AllThreads => self.keep_listed(alloc, reply),
             Act::Exit | Act::Dispose => {
                 self.clear();
                 Ok(())
@@ -273,18 +341,41 @@ impl Threads {
         }
     }
 
-    fn keep_listed(&mut self, reply: &Data)
-        ensures { self.new ≡ only (lists reply.now) self.old }
+    fn keep_listed(&mut self, alloc: Global, reply: &Data) -> Result<(), NoMemory>
+        ensures ok { OnOk result (self.new ≡ only (lists reply.now) self.old) }
+        ensures err { OnErr result (self.new ≡ self.old) }
     {
-        self.entries.retain(|known| is_listed(reply, known.id));
+        let listed = listed_in(alloc, reply)?;
+        self.keep_only(alloc, &listed)
     }
 
-    /// Forgets a thread.
+    /// Forgets all but those whose ids these are.
+    ///
+    /// # Errors
+    /// `NoMemory` where an allocation was refused; nothing has changed.
+    fn keep_only(&mut self, alloc: Global, ids: &BTreeSet<u64>) -> Result<(), NoMemory>
+        ensures ok { OnOk result (self.new ≡ only (contains nat_cmp ids.now) self.old) }
+        ensures err { OnErr result (self.new ≡ self.old) }
+    {
+        let mut kept = Threads::new(alloc);
+        for known in &self.entries {
+            if ids.contains(&known.id.0) {
+                kept.add(*known)?;
+            }
+        }
+        *self = kept;
+        Ok(())
+    }
+
+    /// Forgets a thread. Those behind it are moved in memory; their numbers stay.
     pub fn forget(&mut self, id: ObjectId)
         ensures { self.new ≡ without id.0 self.old }
     {
-        let id = id.0;
-        self.entries.retain(|known| known.id.0 != id);
+        if let Some(place) = self.place(id) {
+            let _ = self.index.remove(&id.0);
+            let _ = self.numbers.remove(place);
+            let _ = self.entries.remove(place);
+        }
     }
 
     /// Forgets all of them.
@@ -292,29 +383,25 @@ impl Threads {
         ensures { self.new ≡ [] }
     {
         self.entries.clear();
+        self.numbers.clear();
+        self.index.clear();
     }
 }
 
-fn count_among(entries: &[Known], id: ObjectId) -> Option<u32>
-    ensures { result ≡ count_in entries.now id.0 }
+/// A number above these.
+///
+/// # Errors
+/// `NoMemory` where the last of them is the greatest.
+fn next_number(numbers: &[u64]) -> Result<u64, NoMemory>
+    ensures { IfOk result (λ number. Rise 0 numbers.now → Rise 0 (numbers.now ++ number ∷ [])) }
 {
-    for known in entries {
-        if known.id.0 == id.0 {
-            return Some(known.count);
-        }
+    let Some(last) = numbers.last() else {
+        return Ok(0);
+    };
+    match last.checked_add(1) {
+        Some(number) => Ok(number),
+        None => Err(NoMemory),
     }
-    None
-}
-
-fn is_held_among(entries: &[Known], id: ObjectId) -> bool
-    ensures { result ≡ is_held_in entries.now id.0 }
-{
-    for known in entries {
-        if known.id.0 == id.0 {
-            return known.held;
-        }
-    }
-    false
 }
 
 fn teach_each(entries: &mut [Known], lesson: Lesson)
