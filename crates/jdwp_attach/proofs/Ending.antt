@@ -1,10 +1,12 @@
 -- Why a run of a plan ends, and what is left then.
-use Rattle.std.proofs.Common.{◌≡◌, ◌≢◌, ◌∙◌, ℕ, ◌<◌, ◌≤◌, ◌+◌, ◌++◌, List, [], ◌∷◌, length, Bool, true, false, Ok, Err, Some, None, Option, ◌⊎◌, inl, inr, get_or, take, drop, sym, ap, refl, subst, append_assoc, arith}
+use Rattle.std.proofs.Common.{◌≡◌, ◌≢◌, ◌∙◌, ℕ, ◌<◌, ◌≤◌, ◌+◌, ◌++◌, List, [], ◌∷◌, length, Bool, true, false, Ok, Err, Some, None, Option, is_some, ◌⊎◌, inl, inr, get_or, take, drop, sym, ap, refl, subst, append_assoc, arith}
 use Rattle.std.specs.Prelude.{⊤}
 use Rattle.std.proofs.lemmas.Grind.{common_steps}
 use Rattle.std.proofs.lemmas.List.{append-nil}
+use Rattle.jdwp_wire.specs.Handshake.{handshake_bytes}
 use Rattle.jdwp_wire.specs.Streams.{More}
 use Rattle.jdwp_end.specs.Ends.{front_of, is_open}
+use Rattle.jdwp_end.specs.Runs.{IsFront}
 use Rattle.jdwp_debugger.specs.declared.faults.DebuggerFault.{DebuggerFault}
 use Rattle.jdwp_debugger.specs.declared.faults.DebuggerFault.TheVariants as code
 use Rattle.jdwp_debugger.specs.declared.turning.Read.{Read}
@@ -13,7 +15,7 @@ use Rattle.jdwp_wire.specs.Widths.{Widths}
 use Rattle.jdwp_debuggee.specs.Actions.{Command}
 use Rattle.jdwp_debugger.specs.declared.asking.Refused as asking
 use Rattle.jdwp_debugger.specs.declared.asking.Refused.TheVariants as refusal
-use Rattle.jdwp_debugger.specs.Asking.{IsRefusal, refusal_of_ask}
+use Rattle.jdwp_debugger.specs.Asking.{HasAsked, IsRefusal, refusal_of_ask}
 use Rattle.jdwp_debugger.specs.RefusedNumbers.{refused_number}
 use Rattle.jdwp_debugger.specs.Debuggers.{Debugger, attached, has_tickets, lost, with_fed, with_taken}
 use Rattle.jdwp_debugger.specs.DebuggerTurns.{TurnsAt, refused}
@@ -22,35 +24,63 @@ use Rattle.jdwp_engine.specs.declared.ended.Ended.TheVariants.{Done, LostByRead,
 use Rattle.jdwp_engine.specs.Run.{FailsRead, FailsWrite, with_read, with_written}
 use Rattle.jdwp_engine.specs.Story.{Story}
 use Rattle.jdwp_plan.specs.declared.plan_line.PlanLine.{PlanLine}
-use Rattle.jdwp_attach.specs.PlanRuns.{EndsFailed, EndsRefused, EndsSo, IsAsk, IsFinished, IsLostFrom, LineEndsSo, MayEnd, ReadsEnd, RefusesCommand, RefusesLine, RefusesTurn, TellsEnd, command_asked, told_number}
-use Rattle.jdwp_attach.specs.Runs.{Closes, FailsFlush, Finishes, InOrder, IsGoing, LosesAtRead, LosesAtWrite, Prints, PrintsPart, Standing, Tells, asks, at}
-use Rattle.jdwp_attach.proofs.Moves.{line-split, moved-goes, prints-again}
+use Rattle.jdwp_attach.specs.PlanAsks.{AsksInOrder, IsBeginning, Stands, asks, command_asked}
+use Rattle.jdwp_attach.specs.PlanRuns.{EndsFailed, EndsRefused, EndsSo, IsAsk, IsFinished, IsLostFrom, LineEndsSo, MayEnd, ReadsEnd, RefusesCommand, RefusesLine, RefusesTurn, TellsEnd, told_number}
+use Rattle.jdwp_attach.specs.Runs.{Closes, FailsFlush, Finishes, InOrder, IsGoing, LosesAtRead, LosesAtWrite, Prints, PrintsPart, Standing, Tells, at}
+use Rattle.jdwp_attach.proofs.Moves.{asked-moves, begins-all, begins-behind, begins-line, begins-none, line-split, printed-goes, prints-again}
+use Rattle.jdwp_attach.proofs.Stages.{asks-append, one-asked, puts-same, stands-asked, stands-known, stands-puts}
 use Rattle.jdwp_attach.proofs.Turned.{Moves, Reads, fault-refused, memory-same, read-Whole}
 
 -- ---- in order
 
+-- as much was fed, put and taken, and as many commands were asked
+record Same (old new : Debugger) : Type 0 where
+  fed : new.end.session.fed ≡ old.end.session.fed
+  enqueued : new.end.session.enqueued ≡ old.end.session.enqueued
+  taken : new.end.session.taken ≡ old.end.session.taken
+  tickets : new.tickets ≡ old.tickets
+
+same-lost : (d : Debugger) → Same d (lost d)
+same-lost d = record { fed = refl; enqueued = refl; taken = refl; tickets = refl }
+
+same-by : (old new : Debugger) → new ≡ old → Same old new
+same-by old new is =
+    record {
+      fed = ap (λ (d : Debugger). d.end.session.fed) is;
+      enqueued = ap (λ (d : Debugger). d.end.session.enqueued) is;
+      taken = ap (λ (d : Debugger). d.end.session.taken) is;
+      tickets = ap (λ (d : Debugger). d.tickets) is;
+    }
+
+asks-same : (plan : List PlanLine) (base old new : Debugger) → new.tickets ≡ old.tickets → new.end.session.enqueued ≡ old.end.session.enqueued → AsksInOrder plan base old → AsksInOrder plan base new
+asks-same plan base old new same enqueued (done, begins, (tickets, puts)) = (done, begins, (same ∙ tickets, puts-same done base old new enqueued puts))
+
+pub going-asks : (plan done : List PlanLine) (base now : Standing) → IsBeginning done plan → IsGoing done base now → AsksInOrder plan base.debugger now.debugger
+going-asks plan done base now begins k = (done, begins, (k.asked, stands-puts done base.debugger now.debugger k.stands))
+
 -- nothing more went through the pipe to the target, and what the debugger was fed and what it put stayed
-stays-in-order : (done : List PlanLine) (base : Standing) (s o : Story) (old : Debugger) (left : ℕ) (s' o' : Story) (new : Debugger)
-    → IsGoing done base (at s o old left) → s'.read ≡ s.read → s'.written ≡ s.written → s'.failed_writes ≡ s.failed_writes → Prints o o'
-    → new.end.session.fed ≡ old.end.session.fed → new.end.session.enqueued ≡ old.end.session.enqueued
-    → InOrder base s' o' new
-stays-in-order done base s o old left s' o' new k read written failed printed fed enqueued =
-    let all : s'.written ≡ base.pipe.written ++ new.end.session.enqueued = grind (arith, common_steps, written, k.written, enqueued) in
+stays-in-order : (plan done : List PlanLine) (base : Standing) (s o : Story) (old : Debugger) (left : ℕ) (s' o' : Story) (new : Debugger)
+    → IsBeginning done plan → IsGoing done base (at s o old left) → s'.read ≡ s.read → s'.written ≡ s.written → s'.failed_writes ≡ s.failed_writes → Prints o o'
+    → Same old new → InOrder plan base s' o' new
+stays-in-order plan done base s o old left s' o' new begins k read written failed printed same =
+    let all : s'.written ≡ base.pipe.written ++ new.end.session.enqueued = grind (arith, common_steps, written, k.written, same.enqueued) in
+    let out : new.end.session.taken ≡ new.end.session.enqueued = same.taken ∙ k.taken ∙ sym same.enqueued in
     let p = prints-again base.out o o' k.printed printed in
     record {
-      read = grind (arith, common_steps, read, k.read, fed);
-      written = (new.end.session.enqueued, all, ([], sym (append-nil new.end.session.enqueued)));
-      whole = λ _. all;
+      read = grind (arith, common_steps, read, k.read, same.fed);
+      asked = asks-same plan base.debugger old new same.tickets same.enqueued (going-asks plan done base (at s o old left) begins k);
+      written = (new.end.session.enqueued, all, ([], sym (append-nil new.end.session.enqueued)), ([], out ∙ sym (append-nil new.end.session.enqueued)));
+      whole = λ _. (all, out);
       failed_writes = omega (arith, failed, k.failed_writes);
       printed = (p.0, ap (λ (x : Story). x.written) p.1);
       unread = ap (λ (x : Story). x.read) p.1;
       failed_prints = omega (arith, ap (λ (x : Story). x.failed_writes) p.1);
     }
 
-going-in-order : (done : List PlanLine) (base : Standing) (s o : Story) (d : Debugger) (left : ℕ) (new : Debugger) → IsGoing done base (at s o d left)
-    → new.end.session.fed ≡ d.end.session.fed → new.end.session.enqueued ≡ d.end.session.enqueued → InOrder base s o new
-going-in-order done base s o d left new k fed enqueued =
-    stays-in-order done base s o d left s o new k refl refl refl ([], ap (λ (x : List ℕ). record o { written = x }) (sym (append-nil o.written))) fed enqueued
+going-in-order : (plan done : List PlanLine) (base : Standing) (s o : Story) (d : Debugger) (left : ℕ) (new : Debugger) → IsBeginning done plan → IsGoing done base (at s o d left)
+    → Same d new → InOrder plan base s o new
+going-in-order plan done base s o d left new begins k same =
+    stays-in-order plan done base s o d left s o new begins k refl refl refl ([], ap (λ (x : List ℕ). record o { written = x }) (sym (append-nil o.written))) same
 
 -- no write failed so far
 printed-same : (a b : Story) → Prints a b → b.failed_writes ≡ a.failed_writes
@@ -59,28 +89,29 @@ printed-same a b p = ap (λ (x : Story). x.failed_writes) p.1
 -- ---- the limit of turns
 
 pub limit-ends : (s o : Story) (d : Debugger) (left : ℕ) → left ≡ 0 → EndsSo (at s o d left) (at s o d left) TurnLimit
-limit-ends s o d left none plan done base k = (
-  going-in-order done base s o d left d k refl refl,
+limit-ends s o d left none plan done base begins k = (
+  going-in-order plan done base s o d left d begins k (same-by d d refl),
   (k.ready.0, k.kept, (k.failed_writes, printed-same base.out o k.printed), omega (arith, k.turns, none)),
 )
 
 -- want of memory
-pub stays-memory : (plan done : List PlanLine) (base : Standing) (s o : Story) (d : Debugger) (left : ℕ) → IsGoing done base (at s o d left) → InOrder base s o d × MayEnd plan NoMemory base s o d
-stays-memory plan done base s o d left k = (going-in-order done base s o d left d k refl refl, (k.kept, (k.failed_writes, printed-same base.out o k.printed)))
+pub stays-memory : (plan done : List PlanLine) (base : Standing) (s o : Story) (d : Debugger) (left : ℕ) → IsBeginning done plan → IsGoing done base (at s o d left)
+    → InOrder plan base s o d × MayEnd plan NoMemory base s o d
+stays-memory plan done base s o d left begins k = (going-in-order plan done base s o d left d begins k (same-by d d refl), (k.kept, (k.failed_writes, printed-same base.out o k.printed)))
 
 -- ---- turns that failed
 
 turn-memory-ends : (s o : Story) (old new : Debugger) (left left' : ℕ) → TurnsAt (front_of old.end) old (Err code.NoMemory) new → EndsSo (at s o old left) (at s o new left') NoMemory
-turn-memory-ends s o old new left left' turned plan done base k =
-    rw (memory-same (front_of old.end) old new turned) (stays-memory plan done base s o old left k)
+turn-memory-ends s o old new left left' turned plan done base begins k =
+    rw (memory-same (front_of old.end) old new turned) (stays-memory plan done base s o old left begins k)
 
 turn-refused-ends : (s o : Story) (old mid new : Debugger) (left left' number : ℕ) (fault : DebuggerFault) → fault ≢ code.NoMemory → TurnsAt (front_of old.end) old (Err fault) mid → new ≡ lost mid
     → number ≡ told_number fault → EndsSo (at s o old left) (at s o new left') (Refused number)
-turn-refused-ends s o old mid new left left' number fault some turned is number-is plan done base k =
+turn-refused-ends s o old mid new left left' number fault some turned is number-is plan done base begins k =
     let same = fault-refused (front_of old.end) old mid fault some turned in
     let kept : mid.end.session.lost ≡ false = rw same k.kept in
     rw is (
-      going-in-order done base s o old left (lost mid) k (rw same refl) (rw same refl),
+      going-in-order plan done base s o old left (lost mid) begins k (record { fed = rw same refl; enqueued = rw same refl; taken = rw same refl; tickets = rw same refl }),
       (mid, inl (old, fault, turned, some, number-is), kept, refl),
     )
 
@@ -97,10 +128,12 @@ turn-ends s o old mid new left left' code.BadEvent ended turned h = rw h.0 (turn
 
 asked-refused : (done rest : List PlanLine) (line : PlanLine) (base : Standing) (s o : Story) (d new : Debugger) (left set number refused : ℕ) (bytes : List ℕ) (w : Widths)
     → IsGoing done base (at s o d left) → IsAsk line set number bytes → d.sizes ≡ Some w → RefusesCommand d refused (command_asked w set number bytes) → new ≡ lost d
-    → InOrder base s o new × MayEnd (done ++ line ∷ rest) (Refused refused) base s o new
+    → InOrder (done ++ line ∷ rest) base s o new × MayEnd (done ++ line ∷ rest) (Refused refused) base s o new
 asked-refused done rest line base s o d new left set number refused bytes w k asks-it known refuses is =
+    let knows = stands-known done base.debugger d (ap (λ (x : Option Widths). is_some x) known) k.stands in
+    let same : knows.0 ≡ w = let e = sym knows.1 ∙ known in cc in
     rw is (
-      going-in-order done base s o d left (lost d) k refl refl,
+      going-in-order (done ++ line ∷ rest) done base s o d left (lost d) (begins-line done rest line) k (same-lost d),
       (
         d,
         inr (record {
@@ -115,6 +148,7 @@ asked-refused done rest line base s o d new left set number refused bytes w k as
           asks_it = asks-it;
           widths = w;
           known = known;
+          put = rw (← same) knows.2;
           refused = refuses;
         }),
         k.kept,
@@ -136,7 +170,7 @@ pub refused-ends : (line : PlanLine) (s o : Story) (old mid new : Debugger) (lef
     → IsAsk line set number bytes → old.sizes ≡ Some w → command_asked w set number bytes ≡ Some command → (mid ≡ old) × IsRefusal r (refusal_of_ask old command) → EndsRefused r mid new ended
     → LineEndsSo line (at s o old left) (at s o new left') ended
 refused-ends line s o old mid new left left' set number bytes w command refusal.NoMemory ended a known c h e =
-    λ done rest base k. rw (e.0, e.1, h.0) (stays-memory (done ++ line ∷ rest) done base s o old left k)
+    λ done rest base k. rw (e.0, e.1, h.0) (stays-memory (done ++ line ∷ rest) done base s o old left (begins-line done rest line) k)
 refused-ends line s o old mid new left left' set number bytes w command refusal.Closed ended a known c h e =
     rw e.0 (refuses-some line s o old new left left' set number bytes w command refusal.Closed a known c h.1 (e.1 ∙ ap (λ (x : Debugger). lost x) h.0))
 refused-ends line s o old mid new left left' set number bytes w command refusal.NotReady ended a known c h e =
@@ -148,12 +182,26 @@ refused-ends line s o old mid new left left' set number bytes w command refusal.
 refused-ends line s o old mid new left left' set number bytes w command refusal.TooLong ended a known c h e =
     rw e.0 (refuses-some line s o old new left left' set number bytes w command refusal.TooLong a known c h.1 (e.1 ∙ ap (λ (x : Debugger). lost x) h.0))
 
+-- a command that was asked is that of the line behind those that were carried out
+pub asked-in-order : (done rest : List PlanLine) (line : PlanLine) (base : Standing) (s o : Story) (old mid : Debugger) (left set number : ℕ) (bytes : List ℕ) (w : Widths) (command : Command)
+    → IsAsk line set number bytes → old.sizes ≡ Some w → command_asked w set number bytes ≡ Some command → HasAsked command old mid → IsGoing done base (at s o old left)
+    → AsksInOrder (done ++ line ∷ rest) base.debugger mid
+asked-in-order done rest line base s o old mid left set number bytes w command asks-it known is asked k =
+    let one = one-asked line set number bytes asks-it in
+    let moves = asked-moves command old mid asked in
+    let stands = stands-asked done line base.debugger old mid set number bytes w command asks-it known is asked k.stands in (
+      done ++ line ∷ [],
+      begins-behind done rest line,
+      (omega (arith, moves.tickets_are, k.asked, asks-append done line, one), stands-puts (done ++ line ∷ []) base.debugger mid stands),
+    )
+
 -- ---- a read that failed
 
 pub read-ends : (s s' o : Story) (old mid new : Debugger) (left left' : ℕ) → front_of old.end ≡ More → mid ≡ record old { last = [] } → LosesAtRead mid new s s' → EndsSo (at s o old left) (at s' o new left') LostByRead
-read-ends s s' o old mid new left left' front same (is, f) plan done base k =
+read-ends s s' o old mid new left left' front same (is, f) plan done base begins k =
     rw (is, same) (
-      stays-in-order done base s o old left s' o (lost (record old { last = [] })) k f.read f.written f.failed_writes ([], ap (λ (x : List ℕ). record o { written = x }) (sym (append-nil o.written))) refl refl,
+      stays-in-order plan done base s o old left s' o (lost (record old { last = [] })) begins k f.read f.written f.failed_writes
+          ([], ap (λ (x : List ℕ). record o { written = x }) (sym (append-nil o.written))) (record { fed = refl; enqueued = refl; taken = refl; tickets = refl }),
       (omega (arith, f.fails, k.failed_reads, k.ends), (record old { last = [] }, front, k.kept, refl)),
     )
 
@@ -180,35 +228,41 @@ grows-part a b c p q =
     }
 
 -- all that was put was written
-written-in-order : (done : List PlanLine) (base : Standing) (s o : Story) (old mid : Debugger) (left turns tickets : ℕ) (s' o' : Story) (new : Debugger)
-    → IsGoing done base (at s o old left) → Moves old mid turns tickets → s' ≡ with_written mid.end.outgoing s → Grows base.out o'
-    → new.end.session.fed ≡ mid.end.session.fed → new.end.session.enqueued ≡ mid.end.session.enqueued → InOrder base s' o' new
-written-in-order done base s o old mid left turns tickets s' o' new k p written grows fed enqueued =
+written-in-order : (plan done : List PlanLine) (base : Standing) (s o : Story) (old mid : Debugger) (left turns tickets : ℕ) (s' o' : Story) (new : Debugger)
+    → IsGoing done base (at s o old left) → Moves old mid turns tickets → AsksInOrder plan base.debugger mid → s' ≡ with_written mid.end.outgoing s → Grows base.out o'
+    → Same (with_taken mid.end.outgoing mid) new → InOrder plan base s' o' new
+written-in-order plan done base s o old mid left turns tickets s' o' new k p asked written grows same =
     let all : s'.written ≡ base.pipe.written ++ new.end.session.enqueued =
-    grind (arith, common_steps, written, enqueued, k.written, k.ready.1, p.enqueued, p.outgoing, append_assoc)
+    grind (arith, common_steps, written, same.enqueued, k.written, k.ready.1, p.enqueued, p.outgoing, append_assoc)
+    in
+    let out : new.end.session.taken ≡ new.end.session.enqueued =
+    grind (arith, common_steps, same.taken, same.enqueued, k.taken, k.ready.1, p.taken, p.enqueued, p.outgoing)
     in
     record {
-      read = grind (arith, common_steps, written, fed, k.read, p.fed);
-      written = (new.end.session.enqueued, all, ([], sym (append-nil new.end.session.enqueued)));
-      whole = λ _. all;
+      read = grind (arith, common_steps, written, same.fed, k.read, p.fed);
+      asked = asks-same plan base.debugger mid new same.tickets same.enqueued asked;
+      written = (new.end.session.enqueued, all, ([], sym (append-nil new.end.session.enqueued)), ([], out ∙ sym (append-nil new.end.session.enqueued)));
+      whole = λ _. (all, out);
       failed_writes = omega (arith, k.failed_writes, ap (λ (x : Story). x.failed_writes) written);
       printed = grows.printed;
       unread = grows.unread;
       failed_prints = grows.failed;
     }
 
--- some of it was
-part-in-order : (done : List PlanLine) (base : Standing) (s o : Story) (old mid : Debugger) (left turns tickets : ℕ) (s' o' : Story) (new : Debugger)
-    → IsGoing done base (at s o old left) → Moves old mid turns tickets → FailsWrite s s' mid.end.outgoing → Grows base.out o'
-    → new.end.session.fed ≡ mid.end.session.fed → new.end.session.enqueued ≡ mid.end.session.enqueued → InOrder base s' o' new
-part-in-order done base s o old mid left turns tickets s' o' new k p f grows fed enqueued =
+-- some of it was taken, and some of that written
+part-in-order : (plan done : List PlanLine) (base : Standing) (s o : Story) (old mid : Debugger) (left turns tickets : ℕ) (s' o' : Story) (new : Debugger) (taken : List ℕ)
+    → IsGoing done base (at s o old left) → Moves old mid turns tickets → AsksInOrder plan base.debugger mid → IsFront taken mid.end.outgoing → FailsWrite s s' taken → Grows base.out o'
+    → Same (with_taken taken mid) new → InOrder plan base s' o' new
+part-in-order plan done base s o old mid left turns tickets s' o' new taken k p asked front f grows same =
     let w = f.written in
     record {
-      read = grind (arith, common_steps, f.read, fed, k.read, p.fed);
+      read = grind (arith, common_steps, f.read, same.fed, k.read, p.fed);
+      asked = asks-same plan base.debugger mid new same.tickets same.enqueued asked;
       written = (
         old.end.session.enqueued ++ w.0,
         grind (arith, common_steps, k.written, w.1, append_assoc),
-        (w.2.0, grind (arith, common_steps, enqueued, p.enqueued, p.outgoing, k.ready.1, w.2.1, append_assoc)),
+        (w.2.0 ++ front.0, grind (arith, common_steps, same.enqueued, p.enqueued, p.outgoing, k.ready.1, front.1, w.2.1, append_assoc)),
+        (w.2.0, grind (arith, common_steps, same.taken, p.taken, k.taken, w.2.1, append_assoc)),
       );
       whole = λ e. absurd (omega (arith, f.failed_writes, k.failed_writes, e));
       failed_writes = omega (arith, f.failed_writes, k.failed_writes);
@@ -217,63 +271,165 @@ part-in-order done base s o old mid left turns tickets s' o' new k p f grows fed
       failed_prints = grows.failed;
     }
 
+-- some of what waited was taken, and then the connection was lost
+lost-behind : (taken : List ℕ) (mid new : Debugger) → new ≡ lost (with_taken taken mid) → Same (with_taken taken mid) new
+lost-behind taken mid new is = rw is (same-lost (with_taken taken mid))
+
 prints-none : (o : Story) → Prints o o
 prints-none o = ([], ap (λ (x : List ℕ). record o { written = x }) (sym (append-nil o.written)))
 
 -- a write failed
 pub loses-ends : (plan done : List PlanLine) (base : Standing) (s o : Story) (old mid : Debugger) (left l1 l2 turns tickets : ℕ) (s' o' : Story) (new : Debugger)
-    → IsGoing done base (at s o old left) → Moves old mid turns tickets → LosesAtWrite (at s o mid l1) (at s' o' new l2)
-    → InOrder base s' o' new × MayEnd plan LostByWrite base s' o' new
-loses-ends plan done base s o old mid left l1 l2 turns tickets s' o' new k p f =
+    → IsGoing done base (at s o old left) → Moves old mid turns tickets → AsksInOrder plan base.debugger mid → LosesAtWrite (at s o mid l1) (at s' o' new l2)
+    → InOrder plan base s' o' new × MayEnd plan LostByWrite base s' o' new
+loses-ends plan done base s o old mid left l1 l2 turns tickets s' o' new k p asked f =
     let lost-it : IsLostFrom (λ before. ⊤) new = (with_taken f.taken mid, tt, p.kept ∙ k.kept, f.is) in
-    let fed : new.end.session.fed ≡ mid.end.session.fed = ap (λ (x : Debugger). x.end.session.fed) f.is in
-    let enqueued : new.end.session.enqueued ≡ mid.end.session.enqueued = ap (λ (x : Debugger). x.end.session.enqueued) f.is in
     elim f.fails [
-      | inl (w, same) ↦ (
-        part-in-order done base s o old mid left turns tickets s' o' new k p w (rw same (grows-prints base.out o o k.printed (prints-none o))) fed enqueued,
+      | inl (front, w, same) ↦ (
+        part-in-order plan done base s o old mid left turns tickets s' o' new f.taken k p asked front w (rw same (grows-prints base.out o o k.printed (prints-none o)))
+            (lost-behind f.taken mid new f.is),
         (inl (omega (arith, w.failed_writes, k.failed_writes)), lost-it),
       )
-      | inr (w, part) ↦ (
-        written-in-order done base s o old mid left turns tickets s' o' new k p w (grows-part base.out o o' k.printed part) fed enqueued,
+      | inr (all, w, part) ↦ (
+        written-in-order plan done base s o old mid left turns tickets s' o' new k p asked w (grows-part base.out o o' k.printed part) (lost-behind mid.end.outgoing mid new (rw all at f.is)),
         (inr (omega (arith, part.1.failed_writes, printed-same base.out o k.printed)), lost-it),
       )
     ]
 
-pub moved-ends : (s o : Story) (old mid : Debugger) (left l1 l2 turns tickets : ℕ) (s' o' : Story) (new : Debugger) (ended : Ended) → Moves old mid turns tickets
-    → (is_open mid.end ≡ false → ReadsEnd (with_taken mid.end.outgoing mid)) → Finishes ended (at s o mid l1) (at s' o' new l2) → EndsSo (at s o old left) (at s' o' new l2) ended
-moved-ends s o old mid left l1 l2 turns tickets s' o' new Done p why c plan done base k = (
-  written-in-order done base s o old mid left turns tickets s' o' new k p c.pipe (grows-prints base.out o o' k.printed c.out)
-      (ap (λ (x : Debugger). x.end.session.fed) c.debugger) (ap (λ (x : Debugger). x.end.session.enqueued) c.debugger),
+pub moved-ends : (plan done : List PlanLine) (base : Standing) (s o : Story) (old mid : Debugger) (left l1 l2 turns tickets : ℕ) (s' o' : Story) (new : Debugger) (ended : Ended)
+    → IsGoing done base (at s o old left) → Moves old mid turns tickets → AsksInOrder plan base.debugger mid → (is_open mid.end ≡ false → ReadsEnd (with_taken mid.end.outgoing mid))
+    → Finishes ended (at s o mid l1) (at s' o' new l2) → InOrder plan base s' o' new × MayEnd plan ended base s' o' new
+moved-ends plan done base s o old mid left l1 l2 turns tickets s' o' new Done k p asked why c = (
+  written-in-order plan done base s o old mid left turns tickets s' o' new k p asked c.pipe (grows-prints base.out o o' k.printed c.out) (lost-behind mid.end.outgoing mid new c.debugger),
   (
     (with_taken mid.end.outgoing mid, inl (why c.closed), p.kept ∙ k.kept, c.debugger),
     (ap (λ (x : Story). x.failed_writes) c.pipe ∙ k.failed_writes, printed-same o o' c.out ∙ printed-same base.out o k.printed),
   ),
 )
-moved-ends s o old mid left l1 l2 turns tickets s' o' new NoMemory p why t plan done base k = (
-  written-in-order done base s o old mid left turns tickets s' o' new k p t.pipe (grows-prints base.out o o' k.printed t.out)
-      (ap (λ (x : Debugger). x.end.session.fed) t.debugger) (ap (λ (x : Debugger). x.end.session.enqueued) t.debugger),
+moved-ends plan done base s o old mid left l1 l2 turns tickets s' o' new NoMemory k p asked why t = (
+  written-in-order plan done base s o old mid left turns tickets s' o' new k p asked t.pipe (grows-prints base.out o o' k.printed t.out) (same-by (with_taken mid.end.outgoing mid) new t.debugger),
   (
     ap (λ (x : Debugger). x.end.session.lost) t.debugger ∙ p.kept ∙ k.kept,
     (ap (λ (x : Story). x.failed_writes) t.pipe ∙ k.failed_writes, printed-same o o' t.out ∙ printed-same base.out o k.printed),
   ),
 )
-moved-ends s o old mid left l1 l2 turns tickets s' o' new LostByWrite p why f plan done base k =
-    loses-ends plan done base s o old mid left l1 l2 turns tickets s' o' new k p f
-moved-ends s o old mid left l1 l2 turns tickets s' o' new LostByRead p why f plan done base k = absurd f
-moved-ends s o old mid left l1 l2 turns tickets s' o' new (Refused number) p why f plan done base k = absurd f
-moved-ends s o old mid left l1 l2 turns tickets s' o' new TurnLimit p why f plan done base k = absurd f
+moved-ends plan done base s o old mid left l1 l2 turns tickets s' o' new LostByWrite k p asked why f =
+    loses-ends plan done base s o old mid left l1 l2 turns tickets s' o' new k p asked f
+moved-ends plan done base s o old mid left l1 l2 turns tickets s' o' new LostByRead k p asked why f = absurd f
+moved-ends plan done base s o old mid left l1 l2 turns tickets s' o' new (Refused number) k p asked why f = absurd f
+moved-ends plan done base s o old mid left l1 l2 turns tickets s' o' new TurnLimit k p asked why f = absurd f
+
+-- lines were printed, and then memory was wanting, or a write of them failed
+pub printed-memory : (s o o' : Story) (d new : Debugger) (left : ℕ) → Prints o o' → new ≡ d → EndsSo (at s o d left) (at s o' new left) NoMemory
+printed-memory s o o' d new left printed same plan done base begins k = rw same (stays-memory plan done base s o' d left begins (printed-goes done base s o o' d left k printed))
+
+pub printed-part : (s o o' : Story) (d new : Debugger) (left : ℕ) → PrintsPart o o' → new ≡ lost d → EndsSo (at s o d left) (at s o' new left) LostByWrite
+printed-part s o o' d new left part is plan done base begins k =
+    let r = going-in-order plan done base s o d left (lost d) begins k (same-lost d) in
+    let grows = grows-part base.out o o' k.printed part in
+    rw is (
+      record {
+        read = r.read;
+        asked = r.asked;
+        written = r.written;
+        whole = r.whole;
+        failed_writes = r.failed_writes;
+        printed = grows.printed;
+        unread = grows.unread;
+        failed_prints = grows.failed;
+      },
+      (inr (omega (arith, part.1.failed_writes, printed-same base.out o k.printed)), (d, tt, k.kept, refl)),
+    )
 
 -- ---- lines one after the other
 
 -- a line that ended the run
 pub line-ends : (plan : List PlanLine) (i : ℕ) (line : PlanLine) (old new : Standing) (ended : Ended) → i < length plan → line ≡ get_or plan i line → LineEndsSo line old new ended
-    → (base : Standing) → IsGoing (take i plan) base old → InOrder base new.pipe new.out new.debugger × MayEnd plan ended base new.pipe new.out new.debugger
+    → (base : Standing) → IsGoing (take i plan) base old → InOrder plan base new.pipe new.out new.debugger × MayEnd plan ended base new.pipe new.out new.debugger
 line-ends plan i line old new ended inside is f base k =
     rw (line-split plan i line inside is) (f (take i plan) (drop (i + 1) plan) base k)
 
 -- ---- the whole run
 
+-- all lines were carried out, and all that was asked was answered
+pub finished-ends : (plan : List PlanLine) (base : Standing) (s o : Story) (d new : Debugger) (left : ℕ) → IsGoing plan base (at s o d left) → is_some d.sizes ≡ true → has_tickets d.pending ≡ false
+    → new ≡ lost d → InOrder plan base s o new × MayEnd plan Done base s o new
+finished-ends plan base s o d new left k known answered is =
+    let knows = stands-known plan base.debugger d known k.stands in
+    rw is (
+      going-in-order plan plan base s o d left (lost d) (begins-all plan) k (same-lost d),
+      (
+        (d, inr (k.asked, answered, (knows.0, knows.1, knows.2)), k.kept, refl),
+        (k.failed_writes, printed-same base.out o k.printed),
+      ),
+    )
+
 -- from how the debugger stood as it attached
 pub lost-so : (plan : List PlanLine) (ended : Ended) (s o : Story) (d d' : Debugger) (turns : ℕ) (s' o' : Story) (new : Debugger) → d ≡ d'
-    → InOrder (at s o d turns) s' o' new × MayEnd plan ended (at s o d turns) s' o' new → InOrder (at s o d' turns) s' o' new × MayEnd plan ended (at s o d' turns) s' o' new
+    → InOrder plan (at s o d turns) s' o' new × MayEnd plan ended (at s o d turns) s' o' new → InOrder plan (at s o d' turns) s' o' new × MayEnd plan ended (at s o d' turns) s' o' new
 lost-so plan ended s o d d' turns s' o' new begun h = rw (← begun) h
+
+-- ---- the handshake
+
+hello-stands : (d : Debugger) → d ≡ attached d → Stands [] d (with_taken d.end.outgoing d)
+hello-stands d begun =
+    inl (
+      (refl, refl),
+      ap (λ (x : Debugger). x.end.phase) begun,
+      ap (λ (x : Debugger). x.sizes) begun,
+      ap (λ (x : Debugger). x.pending) begun,
+      refl,
+    )
+
+-- all of it was written
+pub hello-goes : (s o : Story) (d new : Debugger) (left : ℕ) (s' : Story) → d ≡ attached d → new ≡ with_taken d.end.outgoing d → s' ≡ with_written d.end.outgoing s
+    → IsGoing [] (at s o d left) (at s' o new left)
+hello-goes s o d new left s' begun is written =
+    let outgoing : d.end.outgoing ≡ handshake_bytes = ap (λ (x : Debugger). x.end.outgoing) begun in
+    let enqueued : d.end.session.enqueued ≡ handshake_bytes = ap (λ (x : Debugger). x.end.session.enqueued) begun in
+    let taken : d.end.session.taken ≡ [] = ap (λ (x : Debugger). x.end.session.taken) begun in
+    let fed : d.end.session.fed ≡ [] = ap (λ (x : Debugger). x.end.session.fed) begun in
+    let turns : d.end.session.turns ≡ 0 = ap (λ (x : Debugger). x.end.session.turns) begun in
+    rw (is, written) (record {
+      ready = (ap (λ (x : Debugger). is_open x.end) begun, grind (arith, common_steps));
+      kept = ap (λ (x : Debugger). x.end.session.lost) begun;
+      asked = omega arith;
+      stands = hello-stands d begun;
+      read = grind (arith, common_steps, fed);
+      written = grind (arith, common_steps, outgoing, enqueued);
+      taken = grind (arith, common_steps, taken, outgoing, enqueued);
+      failed_reads = refl;
+      failed_writes = refl;
+      ends = refl;
+      printed = prints-none o;
+      turns = omega (arith, turns);
+    })
+
+-- some of it was
+pub hello-ends : (plan : List PlanLine) (s o : Story) (d new : Debugger) (left : ℕ) (s' : Story) (taken : List ℕ) → d ≡ attached d → IsFront taken d.end.outgoing → FailsWrite s s' taken
+    → new ≡ lost (with_taken taken d) → InOrder plan (at s o d left) s' o new × MayEnd plan LostByWrite (at s o d left) s' o new
+hello-ends plan s o d new left s' taken begun front f is =
+    let w = f.written in
+    let outgoing : d.end.outgoing ≡ handshake_bytes = ap (λ (x : Debugger). x.end.outgoing) begun in
+    let enqueued : d.end.session.enqueued ≡ handshake_bytes = ap (λ (x : Debugger). x.end.session.enqueued) begun in
+    let none : d.end.session.taken ≡ [] = ap (λ (x : Debugger). x.end.session.taken) begun in
+    let fed : d.end.session.fed ≡ [] = ap (λ (x : Debugger). x.end.session.fed) begun in
+    let kept : d.end.session.lost ≡ false = ap (λ (x : Debugger). x.end.session.lost) begun in
+    rw is (
+      record {
+        read = grind (arith, common_steps, f.read, fed);
+        asked = ([], begins-none plan, (omega arith, inl (refl, refl)));
+        written = (
+          w.0,
+          w.1,
+          (w.2.0 ++ front.0, grind (arith, common_steps, enqueued, outgoing, front.1, w.2.1, append_assoc)),
+          (w.2.0, grind (arith, common_steps, none, w.2.1)),
+        );
+        whole = λ e. absurd (omega (arith, f.failed_writes, e));
+        failed_writes = omega (arith, f.failed_writes);
+        printed = ([], sym (append-nil o.written));
+        unread = refl;
+        failed_prints = omega arith;
+      },
+      (inl f.failed_writes, (with_taken taken d, tt, kept, refl)),
+    )

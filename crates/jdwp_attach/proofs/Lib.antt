@@ -1,3 +1,4 @@
 pub mod Ending
 pub mod Moves
+pub mod Stages
 pub mod Turned

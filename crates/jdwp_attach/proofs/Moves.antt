@@ -1,7 +1,7 @@
 -- How a run of a plan goes on from one call to the next.
-use Rattle.std.proofs.Common.{◌≡◌, ◌≢◌, ◌∙◌, ℕ, ◌<◌, ◌≤◌, ◌+◌, ◌++◌, List, [], ◌∷◌, length, Bool, true, false, Result, Ok, Err, OnOk, IfErr, Option, Some, None, is_some, ◌||◌, ◌⊎◌, inl, inr, get_or, take, drop, sym, ap, refl, subst, append_assoc, arith}
+use Rattle.std.proofs.Common.{◌≡◌, ◌≢◌, ◌∙◌, ℕ, ◌<◌, ◌≤◌, ◌+◌, ◌++◌, List, [], ◌∷◌, length, Bool, true, false, Result, Ok, Err, OnOk, IfErr, Option, Some, None, is_some, ◌||◌, ◌⊎◌, inl, inr, get_or, take, drop, min, sym, ap, refl, subst, append_assoc, arith}
 use Rattle.std.proofs.lemmas.Grind.{common_steps}
-use Rattle.std.proofs.lemmas.List.{append-nil, drop-drop, drop_more, length-append, take-append-drop, take_all, take_more}
+use Rattle.std.proofs.lemmas.List.{append-nil, drop-drop, drop_more, length-append, length-take, take-append-drop, take_all, take_at, take_more}
 use Rattle.jdwp_end.specs.Ends.{is_open}
 use Rattle.jdwp_debugger.specs.Asking.{HasAsked, command_bytes}
 use Rattle.std.specs.Borrow.{Bor}
@@ -12,15 +12,13 @@ use Rattle.jdwp_debugger.specs.Debuggers.{Debugger, Unanswered, and_then, at_pla
 use Rattle.jdwp_engine.specs.Run.{FailsRead, FailsWrite, with_read, with_written}
 use Rattle.jdwp_engine.specs.Story.{Story}
 use Rattle.jdwp_plan.specs.declared.plan_line.PlanLine.{PlanLine}
+use Rattle.jdwp_attach.specs.PlanAsks.{IsBeginning, Stands, asks, asks_of}
 use Rattle.jdwp_attach.specs.PlanRuns.{LineGoesOn}
-use Rattle.jdwp_attach.specs.Runs.{InOrder, IsGoing, IsReady, Prints, PrintsPart, ReadsMore, Standing, Tells, asks, asks_of, at}
+use Rattle.jdwp_attach.specs.Runs.{InOrder, IsGoing, IsReady, Prints, PrintsPart, ReadsMore, Standing, Tells, at}
+use Rattle.jdwp_attach.proofs.Stages.{asks-append, stands-line}
 use Rattle.jdwp_attach.proofs.Turned.{Moves}
 
 -- ---- lines of a plan
-
-pub asks-append : (done : List PlanLine) (line : PlanLine) → asks (done ++ line ∷ []) ≡ asks done + asks_of line
-asks-append [] line = omega arith
-asks-append (first ∷ done) line = omega (arith, asks-append done line)
 
 pub line-more : (plan : List PlanLine) (i : ℕ) (line : PlanLine) → i < length plan → line ≡ get_or plan i line → take (i + 1) plan ≡ take i plan ++ line ∷ []
 line-more plan i line inside is = take_more plan i line inside ∙ ap (λ (x : PlanLine). take i plan ++ x ∷ []) (sym is)
@@ -28,6 +26,19 @@ line-more plan i line inside is = take_more plan i line inside ∙ ap (λ (x : P
 pub line-split : (plan : List PlanLine) (i : ℕ) (line : PlanLine) → i < length plan → line ≡ get_or plan i line → plan ≡ take i plan ++ line ∷ drop (i + 1) plan
 line-split plan i line inside is =
     sym (take-append-drop i plan) ∙ ap (λ (x : List PlanLine). take i plan ++ x) (drop_more plan i line inside ∙ ap (λ (x : PlanLine). x ∷ drop (i + 1) plan) (sym is))
+
+-- a plan begins with none of its lines, and with all of them
+pub begins-none : (plan : List PlanLine) → IsBeginning [] plan
+begins-none plan = (plan, refl)
+
+pub begins-all : (plan : List PlanLine) → IsBeginning plan plan
+begins-all plan = ([], sym (append-nil plan))
+
+pub begins-line : (done rest : List PlanLine) (line : PlanLine) → IsBeginning done (done ++ line ∷ rest)
+begins-line done rest line = (line ∷ rest, refl)
+
+pub begins-behind : (done rest : List PlanLine) (line : PlanLine) → IsBeginning (done ++ line ∷ []) (done ++ line ∷ rest)
+begins-behind done rest line = (rest, sym (append_assoc done (line ∷ []) rest))
 
 -- a line that was carried out
 pub line-goes-on : (plan : List PlanLine) (i : ℕ) (line : PlanLine) (old new : Standing) → i < length plan → line ≡ get_or plan i line → LineGoesOn line old new
@@ -51,20 +62,28 @@ prints-again a b c (x, e) (y, f) = (x ++ y, rw (f, e) (ap (λ (z : List ℕ). re
 pub taken-again : (old now new : Debugger) (done more : List ℕ) → now ≡ with_taken done old → new ≡ with_taken more now → new ≡ with_taken (done ++ more) old
 taken-again old now new done more e h = rw (h, e) (grind (arith, common_steps, append_assoc, drop-drop, length-append))
 
+-- what was moved to the front of a buffer
+pub front-taken : (out buffer out' : List ℕ) (count : ℕ) → count ≡ min (length buffer) (length out) → out' ≡ take count out ++ drop count buffer → take count out' ≡ take count out
+front-taken out buffer out' count counts e =
+    let fits : length (take count out) ≡ count = omega (arith, counts, length-take count out) in
+    ap (λ (xs : List ℕ). take count xs) e ∙ take_at (take count out) (drop count buffer) count fits
+
 -- ---- what goes on
 
 -- all that was put was written, and what was read was told
 pub moved-goes : (done done' : List PlanLine) (base : Standing) (s o : Story) (old mid : Debugger) (left left' turns tickets : ℕ) (s' o' : Story) (new : Debugger)
-    → IsGoing done base (at s o old left) → Moves old mid turns tickets → is_open mid.end ≡ true → asks done' ≡ asks done + tickets → left' + turns ≡ left
+    → IsGoing done base (at s o old left) → Moves old mid turns tickets → Stands done' base.debugger mid → is_open mid.end ≡ true → asks done' ≡ asks done + tickets → left' + turns ≡ left
     → new ≡ with_taken mid.end.outgoing mid → s' ≡ with_written mid.end.outgoing s → Prints o o'
     → IsGoing done' base (at s' o' new left')
-moved-goes done done' base s o old mid left left' turns tickets s' o' new k p opened counts spent is written printed =
+moved-goes done done' base s o old mid left left' turns tickets s' o' new k p stands opened counts spent is written printed =
     rw (is, written) (record {
       ready = (opened, grind (arith, common_steps));
       kept = p.kept ∙ k.kept;
       asked = omega (arith, p.tickets_are, k.asked, counts);
+      stands = stands;
       read = grind (arith, common_steps, k.read, p.fed);
       written = grind (arith, common_steps, k.written, k.ready.1, p.enqueued, p.outgoing, append_assoc);
+      taken = grind (arith, common_steps, k.taken, k.ready.1, p.taken, p.enqueued, p.outgoing);
       failed_reads = k.failed_reads;
       failed_writes = k.failed_writes;
       ends = k.ends;
@@ -80,8 +99,10 @@ read-goes done base s o old mid new left left' s' k same (more, fed, read) spent
       ready = k.ready;
       kept = k.kept;
       asked = k.asked;
+      stands = k.stands;
       read = grind (arith, common_steps, k.read, append_assoc);
       written = k.written;
+      taken = k.taken;
       failed_reads = k.failed_reads;
       failed_writes = k.failed_writes;
       ends = k.ends;
@@ -95,8 +116,10 @@ printed-goes done base s o o' d left k printed = record {
   ready = k.ready;
   kept = k.kept;
   asked = k.asked;
+  stands = k.stands;
   read = k.read;
   written = k.written;
+  taken = k.taken;
   failed_reads = k.failed_reads;
   failed_writes = k.failed_writes;
   ends = k.ends;
@@ -110,6 +133,10 @@ pub on-ok : {A E P Q : Type 0} (r : Result A E) → (P → Q) → OnOk r P → O
 on-ok (Ok a) f p = f p
 on-ok (Err e) f p = p
 
+pub on-both : {A E P Q R : Type 0} (r : Result A E) → (P → Q → R) → OnOk r P → OnOk r Q → OnOk r R
+on-both (Ok a) f p q = f p q
+on-both (Err e) f p q = p
+
 pub if-err : {A E : Type 0} {P Q : E → Type 0} (r : Result A E) → ((e : E) → P e → Q e) → IfErr r P → IfErr r Q
 if-err (Ok a) f p = p
 if-err (Err e) f p = f e p
@@ -117,13 +144,15 @@ if-err (Err e) f p = f e p
 -- ---- lines
 
 -- a line that asks nothing
-pub line-goes : (done : List PlanLine) (line : PlanLine) (base now : Standing) → asks_of line ≡ 0 → IsGoing done base now → IsGoing (done ++ line ∷ []) base now
-line-goes done line base now none k = record {
+pub line-goes : (done : List PlanLine) (line : PlanLine) (base now : Standing) → asks_of line ≡ 0 → is_some now.debugger.sizes ≡ true → IsGoing done base now → IsGoing (done ++ line ∷ []) base now
+line-goes done line base now none known k = record {
   ready = k.ready;
   kept = k.kept;
   asked = omega (arith, k.asked, none, asks-append done line);
+  stands = stands-line done line base.debugger now.debugger none known k.stands;
   read = k.read;
   written = k.written;
+  taken = k.taken;
   failed_reads = k.failed_reads;
   failed_writes = k.failed_writes;
   ends = k.ends;
@@ -142,6 +171,7 @@ asked-moves command old new h =
       fed = refl;
       turns_are = omega arith;
       tickets_are = refl;
+      taken = refl;
       bytes = command_bytes h.widths h.id command;
       enqueued = refl;
       outgoing = refl;

@@ -35,6 +35,7 @@ pub record Moves (old new : Debugger) (turns tickets : ℕ) : Type 0 where
   pub turns_are : new.end.session.turns ≡ old.end.session.turns + turns
   pub tickets_are : new.tickets ≡ old.tickets + tickets
   pub bytes : List ℕ
+  pub taken : new.end.session.taken ≡ old.end.session.taken
   pub enqueued : new.end.session.enqueued ≡ old.end.session.enqueued ++ bytes
   pub outgoing : new.end.outgoing ≡ old.end.outgoing ++ bytes
 
@@ -95,6 +96,7 @@ greeted-moves used old = record {
   turns_are = refl;
   tickets_are = omega arith;
   bytes = header_bytes (sizes_header old.next_id);
+  taken = refl;
   enqueued = refl;
   outgoing = refl;
 }
@@ -105,6 +107,7 @@ record Handled (old new : Debugger) : Type 0 where
   fed : new.end.session.fed ≡ old.end.session.fed
   turns_are : new.end.session.turns ≡ old.end.session.turns + 1
   tickets_are : new.tickets ≡ old.tickets
+  taken : new.end.session.taken ≡ old.end.session.taken
   enqueued : new.end.session.enqueued ≡ old.end.session.enqueued
   outgoing : new.end.outgoing ≡ old.end.outgoing
 
@@ -115,16 +118,17 @@ handled-moves old new h = record {
   turns_are = h.turns_are;
   tickets_are = omega (arith, h.tickets_are);
   bytes = [];
+  taken = h.taken;
   enqueued = h.enqueued ∙ sym (append-nil old.end.session.enqueued);
   outgoing = h.outgoing ∙ sym (append-nil old.end.outgoing);
 }
 
 handled-where : (b : Bool) (old mid : Debugger) → Handled old mid → Handled old (closed_where b mid)
-handled-where true old mid h = record { kept = h.kept; fed = h.fed; turns_are = h.turns_are; tickets_are = h.tickets_are; enqueued = h.enqueued; outgoing = h.outgoing }
+handled-where true old mid h = record { kept = h.kept; fed = h.fed; turns_are = h.turns_are; tickets_are = h.tickets_are; taken = h.taken; enqueued = h.enqueued; outgoing = h.outgoing }
 handled-where false old mid h = h
 
 handled-measured : (b : Bool) (w : Widths) (old mid : Debugger) → Handled old mid → Handled old (measured_where b w mid)
-handled-measured true w old mid h = record { kept = h.kept; fed = h.fed; turns_are = h.turns_are; tickets_are = h.tickets_are; enqueued = h.enqueued; outgoing = h.outgoing }
+handled-measured true w old mid h = record { kept = h.kept; fed = h.fed; turns_are = h.turns_are; tickets_are = h.tickets_are; taken = h.taken; enqueued = h.enqueued; outgoing = h.outgoing }
 handled-measured false w old mid h = h
 
 closed-so : (b : Bool) (mid : Debugger) → is_open mid.end ≡ true → is_open (closed_where b mid).end ≡ false → b ≡ true
@@ -190,7 +194,7 @@ reply-at : (r : Reading) (e : ErrorCode) (bytes : List ℕ) (at : Option ℕ) (p
 reply-at r e bytes None place ticket answer h = absurd cc
 reply-at r e bytes (Some at) place ticket answer h = reply-of r e bytes at (slice_get r.pending at) place ticket answer refl h
 
-asked-of : (r : Reading) (id : ℕ) (k : PacketKind) (bytes : List ℕ) (place ticket : ℕ) (answer : Answer)
+pub asked-of : (r : Reading) (id : ℕ) (k : PacketKind) (bytes : List ℕ) (place ticket : ℕ) (answer : Answer)
     → says r id k bytes ≡ Ok (Answers place ticket answer) → (asked : Asked) × (slice_get r.pending place ≡ Some asked) × (asked.ticket ≡ Some (record { 0 = ticket }))
 asked-of r id (kind.Command set number) bytes place ticket answer e = absurd (command-not _ r.sizes r.parked bytes place ticket answer e)
 asked-of r id (kind.Reply error) bytes place ticket answer e = reply-at r error bytes (place_of id r.pending) place ticket answer e
@@ -201,13 +205,13 @@ packet-read : (header : Header) (body : List ℕ) (used : ℕ) (news : News) (ol
     → Enters (streams.Packet header body) used header news old t new → Reads old new (TellsEnd old t)
 packet-read header body used (Waits bytes) old new t said h =
     rw (h.0, h.1) (record {
-      moves = handled-moves old _ (record { kept = refl; fed = refl; turns_are = refl; tickets_are = refl; enqueued = refl; outgoing = refl });
+      moves = handled-moves old _ (record { kept = refl; fed = refl; turns_are = refl; tickets_are = refl; taken = refl; enqueued = refl; outgoing = refl });
       known = λ known opened. known;
       closes = λ closed. absurd (let e = closed in cc);
     })
 packet-read header body used (Happens c) old new t said h =
     rw (h.0, h.1.2) (record {
-      moves = handled-moves old _ (handled-where (ends (Report c)) old _ (record { kept = refl; fed = refl; turns_are = refl; tickets_are = refl; enqueued = refl; outgoing = refl }));
+      moves = handled-moves old _ (handled-where (ends (Report c)) old _ (record { kept = refl; fed = refl; turns_are = refl; tickets_are = refl; taken = refl; enqueued = refl; outgoing = refl }));
       known = λ known opened. known-where (ends (Report c)) _ known opened;
       closes = λ closed. closed-so (ends (Report c)) _ refl closed;
     })
@@ -216,7 +220,7 @@ packet-read header body used (Answers place ticket answer) old new t said h =
     let command : command_at place old.pending ≡ a.0.command = ap command_of a.1 in
     let b : Bool = ends (Reply (Some ticket) (command_at place old.pending) answer) in
     rw (h.0, h.1.2) (record {
-      moves = handled-moves old _ (handled-where b old _ (record { kept = refl; fed = refl; turns_are = refl; tickets_are = refl; enqueued = refl; outgoing = refl }));
+      moves = handled-moves old _ (handled-where b old _ (record { kept = refl; fed = refl; turns_are = refl; tickets_are = refl; taken = refl; enqueued = refl; outgoing = refl }));
       known = λ known opened. known-where b _ known opened;
       closes = λ closed. record {
         place = place;
@@ -229,10 +233,27 @@ packet-read header body used (Answers place ticket answer) old new t said h =
 packet-read header body used (Measures place answer w cs) old new t said h =
     let b : Bool = list_any ends (reports cs) in
     rw (h.0, h.1.2) (record {
-      moves = handled-moves old _ (handled-measured b w old _ (record { kept = refl; fed = refl; turns_are = refl; tickets_are = refl; enqueued = refl; outgoing = refl }));
+      moves = handled-moves old _ (handled-measured b w old _ (record { kept = refl; fed = refl; turns_are = refl; tickets_are = refl; taken = refl; enqueued = refl; outgoing = refl }));
       known = λ known opened. known-measured b w _ refl;
       closes = λ closed. measured-so b w _ refl closed;
     })
+
+-- what a packet put: nothing
+where-enqueued : (b : Bool) (mid : Debugger) → (closed_where b mid).end.session.enqueued ≡ mid.end.session.enqueued
+where-enqueued true mid = refl
+where-enqueued false mid = refl
+
+measured-enqueued : (b : Bool) (w : Widths) (mid : Debugger) → (measured_where b w mid).end.session.enqueued ≡ mid.end.session.enqueued
+measured-enqueued true w mid = refl
+measured-enqueued false w mid = refl
+
+pub packet-enqueued : (message : streams.Message) (used : ℕ) (header : Header) (news : News) (old new : Debugger) (t : Told) → Enters message used header news old t new
+    → new.end.session.enqueued ≡ old.end.session.enqueued
+packet-enqueued message used header (Waits bytes) old new t h = ap (λ (d : Debugger). d.end.session.enqueued) h.1
+packet-enqueued message used header (Happens c) old new t h = ap (λ (d : Debugger). d.end.session.enqueued) h.1.2 ∙ where-enqueued (ends (Report c)) _
+packet-enqueued message used header (Answers place ticket answer) old new t h =
+    ap (λ (d : Debugger). d.end.session.enqueued) h.1.2 ∙ where-enqueued (ends (Reply (Some ticket) (command_at place old.pending) answer)) _
+packet-enqueued message used header (Measures place answer w cs) old new t h = ap (λ (d : Debugger). d.end.session.enqueued) h.1.2 ∙ measured-enqueued (list_any ends (reports cs)) w _
 
 handled-read : (message : streams.Message) (used : ℕ) (old new : Debugger) (r : Read) → HandlesAt message used old (Ok r) new → Reads old new (TellsEnd old (told r))
 handled-read streams.Handshake used old new r h =

@@ -1,3 +1,4 @@
 pub mod Lines
+pub mod PlanAsks
 pub mod PlanRuns
 pub mod Runs

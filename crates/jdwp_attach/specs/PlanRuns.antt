@@ -1,17 +1,12 @@
 -- Why an engine that runs a debugger by a plan ends.
-use Rattle.std.specs.Prelude.{◌≡◌, ◌≢◌, ◌⊎◌, ℕ, ◌<◌, ◌+◌, true, false, List, [], ◌∷◌, ◌++◌, Option, Some, None, Result, Ok, Err, slice_get, ⊤}
+use Rattle.std.specs.Prelude.{◌≡◌, ◌≢◌, ◌⊎◌, ℕ, ◌<◌, ◌+◌, true, false, List, [], ◌∷◌, ◌++◌, Option, Some, None, Ok, Err, slice_get, ⊤}
 use Rattle.std.specs.List.{list_any}
-use Rattle.jdwp_wire.specs.declared.data_fault.DataFault.{DataFault}
 use Rattle.jdwp_wire.specs.FaultNumbers as frame
 use Rattle.jdwp_wire.specs.Streams.{More}
 use Rattle.jdwp_wire.specs.Widths.{Widths}
 use Rattle.jdwp_layout.specs.declared.answer.Answer.{Answer}
-use Rattle.jdwp_layout.specs.CommandTable.{row_at}
-use Rattle.jdwp_layout.specs.Meanings.{DatumMeaning}
-use Rattle.jdwp_layout.specs.Reads.{data_at}
-use Rattle.jdwp_layout.specs.Rows.{Row, RowShapes}
 use Rattle.jdwp_end.specs.Ends.{front_of, is_open}
-use Rattle.jdwp_debuggee.specs.Actions.{Command, Content, Raw}
+use Rattle.jdwp_debuggee.specs.Actions.{Command}
 use Rattle.jdwp_debugger.specs.declared.asking.Refused as asking
 use Rattle.jdwp_debugger.specs.declared.asking.Refused.TheVariants as refusal
 use Rattle.jdwp_debugger.specs.declared.faults.DebuggerFault.{DebuggerFault}
@@ -29,27 +24,8 @@ use Rattle.jdwp_engine.specs.declared.ended.Ended.TheVariants.{Done, LostByRead,
 use Rattle.jdwp_engine.specs.Story.{Story}
 use Rattle.jdwp_plan.specs.declared.plan_line.PlanLine.{PlanLine}
 use Rattle.jdwp_plan.specs.declared.plan_line.PlanLine.TheVariants as line
-use Rattle.jdwp_attach.specs.Runs.{Standing, InOrder, IsGoing, asks}
-
--- ---- the commands of a plan
-
--- the data of a command, where the request's layout reads them
-abbrev pub content_asked : ℕ → ℕ → Result (List DatumMeaning) DataFault → Option Command
-content_asked set number (Ok content) = Some (record { set = set; number = number; carried = Content content })
-content_asked set number (Err fault) = None
-
-abbrev pub shapes_asked : Widths → ℕ → ℕ → List ℕ → Option RowShapes → Option Command
-shapes_asked w set number bytes None = Some (record { set = set; number = number; carried = Raw bytes })
-shapes_asked w set number bytes (Some shapes) = content_asked set number (data_at w shapes.request bytes)
-
-abbrev pub row_asked : Widths → ℕ → ℕ → List ℕ → Option Row → Option Command
-row_asked w set number bytes None = Some (record { set = set; number = number; carried = Raw bytes })
-row_asked w set number bytes (Some row) = shapes_asked w set number bytes row.shapes
-
--- The command that a line asks: its bytes are read by the layout of the request, or stay as they are where it has none. None where they
--- do not read.
-abbrev pub command_asked : Widths → ℕ → ℕ → List ℕ → Option Command
-command_asked w set number bytes = row_asked w set number bytes (row_at set number)
+use Rattle.jdwp_attach.specs.PlanAsks.{HasPut, IsBeginning, asks, command_asked}
+use Rattle.jdwp_attach.specs.Runs.{Standing, InOrder, IsGoing}
 
 -- ---- why a run ends
 
@@ -79,9 +55,9 @@ abbrev pub ReadsEnd : Debugger → Type 0
 ReadsEnd d =
     (old : Debugger) × (read : Read) × (new : Debugger) × TurnsAt (front_of old.end) old (Ok read) new × TellsEnd old (told read) × (d ≡ with_taken new.end.outgoing new)
 
--- Every command of the plan was asked and answered.
+-- Every command of the plan was asked, in ids so wide as the debugger knows them, and answered.
 abbrev pub IsFinished : List PlanLine → Debugger → Debugger → Type 0
-IsFinished plan base d = (d.tickets ≡ base.tickets + asks plan) × (has_tickets d.pending ≡ false)
+IsFinished plan base d = (d.tickets ≡ base.tickets + asks plan) × (has_tickets d.pending ≡ false) × ((w : Widths) × (d.sizes ≡ Some w) × HasPut w plan base d)
 
 -- the number by which a program tells a fault: that of the bytes' own fault
 abbrev pub told_number : DebuggerFault → ℕ
@@ -122,6 +98,7 @@ pub record RefusesLine (plan : List PlanLine) (base : Debugger) (number : ℕ) (
   pub asks_it : IsAsk line set command carried
   pub widths : Widths
   pub known : d.sizes ≡ Some widths
+  pub put : HasPut widths done base d
   pub refused : RefusesCommand d number (command_asked widths set command carried)
 
 -- no write failed
@@ -139,15 +116,17 @@ MayEnd plan NoMemory base pipe out d = (d.end.session.lost ≡ false) × IsWritt
 MayEnd plan TurnLimit base pipe out d =
     (is_open d.end ≡ true) × (d.end.session.lost ≡ false) × IsWritten base pipe out × (d.end.session.turns + pipe.rooms ≡ base.pipe.rooms + base.left)
 
--- A call that ends so, in every run that came to it.
+-- A call that ends so, in every run of a plan that came to it.
 abbrev pub EndsSo : Standing → Standing → Ended → Type 0
 EndsSo old new ended =
-    (plan done : List PlanLine) (base : Standing) → IsGoing done base old → InOrder base new.pipe new.out new.debugger × MayEnd plan ended base new.pipe new.out new.debugger
+    (plan done : List PlanLine) (base : Standing) → IsBeginning done plan → IsGoing done base old
+    → InOrder plan base new.pipe new.out new.debugger × MayEnd plan ended base new.pipe new.out new.debugger
 
 -- The same of a line of the plan, behind those that were carried out.
 abbrev pub LineEndsSo : PlanLine → Standing → Standing → Ended → Type 0
 LineEndsSo line old new ended =
-    (done rest : List PlanLine) (base : Standing) → IsGoing done base old → InOrder base new.pipe new.out new.debugger × MayEnd (done ++ line ∷ rest) ended base new.pipe new.out new.debugger
+    (done rest : List PlanLine) (base : Standing) → IsGoing done base old
+    → InOrder (done ++ line ∷ rest) base new.pipe new.out new.debugger × MayEnd (done ++ line ∷ rest) ended base new.pipe new.out new.debugger
 
 -- A line that was carried out, in every run that came to it.
 abbrev pub LineGoesOn : PlanLine → Standing → Standing → Type 0

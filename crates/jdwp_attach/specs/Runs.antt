@@ -8,7 +8,7 @@ use Rattle.jdwp_engine.specs.declared.ended.Ended.TheVariants as ended
 use Rattle.jdwp_engine.specs.Run.{FailsRead, FailsWrite, with_read, with_written}
 use Rattle.jdwp_engine.specs.Story.{Story}
 use Rattle.jdwp_plan.specs.declared.plan_line.PlanLine.{PlanLine}
-use Rattle.jdwp_plan.specs.declared.plan_line.PlanLine.TheVariants as line
+use Rattle.jdwp_attach.specs.PlanAsks.{AsksInOrder, Stands, asks}
 use Rattle.jdwp_attach.specs.declared.printing.Unprinted.{Unprinted}
 use Rattle.jdwp_attach.specs.declared.printing.Unprinted.TheVariants.{Failed, NoMemory}
 
@@ -38,27 +38,18 @@ pub record Standing : Type 0 where
 abbrev pub at : Story → Story → Debugger → ℕ → Standing
 at pipe out debugger left = record { pipe = pipe; out = out; debugger = debugger; left = left }
 
--- how many of these lines ask a command
-abbrev pub asks_of : PlanLine → ℕ
-asks_of (line.Ask set number bytes) = 1
-asks_of line.Answers = 0
-asks_of (line.Events count) = 0
-asks_of line.Mirror = 0
-
-abbrev pub asks : List PlanLine → ℕ
-asks [] = 0
-asks (line ∷ lines) = asks_of line + asks lines
-
 -- the session is open, and nothing waits to leave
 abbrev pub IsReady : Debugger → Type 0
 IsReady d = (is_open d.end ≡ true) × (d.end.outgoing ≡ [])
 
--- From how the engine stood when the session began: the debugger was fed what was read, in order; what was written is a beginning of what
--- the debugger put, and all of it where no write failed; and lines were printed.
-pub record InOrder (base : Standing) (pipe out : Story) (d : Debugger) : Type 0 where
+-- From how the engine stood when the session began: the debugger was fed what was read, in order; the commands that it was asked are those
+-- of the plan's lines up to one of them, in their order; what was written is a beginning of what the debugger put, and of what was taken
+-- from it, and all of both where no write failed; and lines were printed.
+pub record InOrder (plan : List PlanLine) (base : Standing) (pipe out : Story) (d : Debugger) : Type 0 where
   pub read : pipe.read ≡ base.pipe.read ++ d.end.session.fed
-  pub written : (bytes : List ℕ) × (pipe.written ≡ base.pipe.written ++ bytes) × IsFront bytes d.end.session.enqueued
-  pub whole : pipe.failed_writes ≡ base.pipe.failed_writes → pipe.written ≡ base.pipe.written ++ d.end.session.enqueued
+  pub asked : AsksInOrder plan base.debugger d
+  pub written : (bytes : List ℕ) × (pipe.written ≡ base.pipe.written ++ bytes) × IsFront bytes d.end.session.enqueued × IsFront bytes d.end.session.taken
+  pub whole : pipe.failed_writes ≡ base.pipe.failed_writes → (pipe.written ≡ base.pipe.written ++ d.end.session.enqueued) × (d.end.session.taken ≡ d.end.session.enqueued)
   pub failed_writes : base.pipe.failed_writes ≤ pipe.failed_writes
   pub printed : (text : List ℕ) × (out.written ≡ base.out.written ++ text)
   pub unread : out.read ≡ base.out.read
@@ -70,8 +61,10 @@ pub record IsGoing (done : List PlanLine) (base now : Standing) : Type 0 where
   pub ready : IsReady now.debugger
   pub kept : now.debugger.end.session.lost ≡ false
   pub asked : now.debugger.tickets ≡ base.debugger.tickets + asks done
+  pub stands : Stands done base.debugger now.debugger
   pub read : now.pipe.read ≡ base.pipe.read ++ now.debugger.end.session.fed
   pub written : now.pipe.written ≡ base.pipe.written ++ now.debugger.end.session.enqueued
+  pub taken : now.debugger.end.session.taken ≡ now.debugger.end.session.enqueued
   pub failed_reads : now.pipe.failed_reads ≡ base.pipe.failed_reads
   pub failed_writes : now.pipe.failed_writes ≡ base.pipe.failed_writes
   pub ends : now.pipe.ends ≡ base.pipe.ends
@@ -96,14 +89,18 @@ LosesAtRead old new before after = (new ≡ lost old) × FailsRead before after
 abbrev pub WritesAll : Debugger → Debugger → Story → Story → Type 0
 WritesAll old new before after = (new ≡ with_taken old.end.outgoing old) × (after ≡ with_written old.end.outgoing before)
 
+-- some of what waited to leave was taken, some of that was written, and then a write failed
+abbrev pub FailsOut : Debugger → Debugger → Story → Story → Type 0
+FailsOut old new before after = (taken : List ℕ) × (new ≡ with_taken taken old) × IsFront taken old.end.outgoing × FailsWrite before after taken
+
 -- A write failed, of what waited to leave or of lines behind it, and the debugger lost the connection.
 pub record LosesAtWrite (old new : Standing) : Type 0 where
   pub taken : List ℕ
   pub is : new.debugger ≡ lost (with_taken taken old.debugger)
   pub left : new.left ≡ old.left
   pub fails :
-      (FailsWrite old.pipe new.pipe old.debugger.end.outgoing × (new.out ≡ old.out))
-      ⊎ ((new.pipe ≡ with_written old.debugger.end.outgoing old.pipe) × PrintsPart old.out new.out)
+      (IsFront taken old.debugger.end.outgoing × FailsWrite old.pipe new.pipe taken × (new.out ≡ old.out))
+      ⊎ ((taken ≡ old.debugger.end.outgoing) × (new.pipe ≡ with_written old.debugger.end.outgoing old.pipe) × PrintsPart old.out new.out)
 
 -- What a turn read was told, and what it put was written.
 pub record Tells (old new : Standing) : Type 0 where

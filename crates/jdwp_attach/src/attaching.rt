@@ -36,7 +36,7 @@ pub fn attach<P: Pipe, W: Pipe>(
     turns: u64,
 ) -> Ended
     ensures refused { (is_open debugger.old.end || has_tickets debugger.old.pending) ≡ true → (result ≡ Ended.Refused 0) × (debugger.new ≡ debugger.old) × (P.story pipe.new ≡ P.story pipe.old) × (W.story out.new ≡ W.story out.old) }
-    ensures in_order { (is_open debugger.old.end || has_tickets debugger.old.pending) ≡ false → InOrder (at (P.story pipe.old) (W.story out.old) (attached debugger.old) turns) (P.story pipe.new) (W.story out.new) debugger.new }
+    ensures in_order { (is_open debugger.old.end || has_tickets debugger.old.pending) ≡ false → InOrder plan.now (at (P.story pipe.old) (W.story out.old) (attached debugger.old) turns) (P.story pipe.new) (W.story out.new) debugger.new }
     ensures ended { (is_open debugger.old.end || has_tickets debugger.old.pending) ≡ false → MayEnd plan.now result (at (P.story pipe.old) (W.story out.old) (attached debugger.old) turns) (P.story pipe.new) (W.story out.new) debugger.new }
 {
     if !debugger.attach() {
@@ -63,7 +63,7 @@ fn flush_both<P: Pipe, W: Pipe>(pipe: &mut P, out: &mut W) -> bool
 
 /// The last flush failed: a run that was not lost or refused before is lost now.
 fn lose_what_is_kept(debugger: &mut Debugger, ended: Ended) -> Ended
-    ensures { (plan : List declared.PlanLine) (base : Standing) (pipe out pipe' out' : Story) → InOrder base pipe out debugger.old → MayEnd plan ended base pipe out debugger.old → FailsFlush pipe out pipe' out' → InOrder base pipe' out' debugger.new × MayEnd plan result base pipe' out' debugger.new }
+    ensures { (plan : List declared.PlanLine) (base : Standing) (pipe out pipe' out' : Story) → InOrder plan base pipe out debugger.old → MayEnd plan ended base pipe out debugger.old → FailsFlush pipe out pipe' out' → InOrder plan base pipe' out' debugger.new × MayEnd plan result base pipe' out' debugger.new }
 {
     match ended {
         Ended::LostByRead | Ended::LostByWrite | Ended::Refused(_) => ended,
@@ -85,7 +85,7 @@ fn run_session<P: Pipe, W: Pipe>(
     turns: u64,
 ) -> Ended
     requires { debugger.old ≡ attached debugger.old }
-    ensures in_order { InOrder (at (P.story pipe.old) (W.story out.old) debugger.old turns) (P.story pipe.new) (W.story out.new) debugger.new }
+    ensures in_order { InOrder plan.now (at (P.story pipe.old) (W.story out.old) debugger.old turns) (P.story pipe.new) (W.story out.new) debugger.new }
     ensures ended { MayEnd plan.now result (at (P.story pipe.old) (W.story out.old) debugger.old turns) (P.story pipe.new) (W.story out.new) debugger.new }
 {
     let mut run = Run {
@@ -117,8 +117,9 @@ fn run_plan<P: Pipe, W: Pipe>(
 ) -> Result<(), Ended>
     requires { debugger.old ≡ attached debugger.old }
     ensures finished { OnOk result (IsGoing plan.now (at (P.story pipe.old) (W.story out.old) debugger.old run.old.left) (at (P.story pipe.new) (W.story out.new) debugger.new run.new.left)) }
+    ensures known { OnOk result (is_some debugger.new.sizes ≡ true) }
     ensures answered { OnOk result (has_tickets debugger.new.pending ≡ false) }
-    ensures ends { IfErr result (λ ended. InOrder (at (P.story pipe.old) (W.story out.old) debugger.old run.old.left) (P.story pipe.new) (W.story out.new) debugger.new × MayEnd plan.now ended (at (P.story pipe.old) (W.story out.old) debugger.old run.old.left) (P.story pipe.new) (W.story out.new) debugger.new) }
+    ensures ends { IfErr result (λ ended. InOrder plan.now (at (P.story pipe.old) (W.story out.old) debugger.old run.old.left) (P.story pipe.new) (W.story out.new) debugger.new × MayEnd plan.now ended (at (P.story pipe.old) (W.story out.old) debugger.old run.old.left) (P.story pipe.new) (W.story out.new) debugger.new) }
 {
     if let Err(ended) = write_hello(debugger, pipe, &mut run.buffer) {
         return Err(ended);
@@ -146,7 +147,7 @@ fn write_hello<P: Pipe>(
     requires { debugger.old ≡ attached debugger.old }
     ensures goes { OnOk result ((out : Story) (left : ℕ) → IsGoing [] (at (P.story pipe.old) out debugger.old left) (at (P.story pipe.new) out debugger.new left)) }
     ensures ready { OnOk result (IsReady debugger.new) }
-    ensures ends { IfErr result (λ ended. (plan : List declared.PlanLine) (out : Story) (left : ℕ) → InOrder (at (P.story pipe.old) out debugger.old left) (P.story pipe.new) out debugger.new × MayEnd plan ended (at (P.story pipe.old) out debugger.old left) (P.story pipe.new) out debugger.new) }
+    ensures ends { IfErr result (λ ended. (plan : List declared.PlanLine) (out : Story) (left : ℕ) → InOrder plan (at (P.story pipe.old) out debugger.old left) (P.story pipe.new) out debugger.new × MayEnd plan ended (at (P.story pipe.old) out debugger.old left) (P.story pipe.new) out debugger.new) }
 {
     if !write_out(debugger, pipe, buffer) {
         debugger.lose();

@@ -288,7 +288,7 @@ const READY_LINES: &str = "< hello
 ";
 
 /// A plan that is carried out whole.
-const FINISHED: [Case<'static>; 4] = [
+const FINISHED: [Case<'static>; 5] = [
     Case {
         from: &READY,
         to: &[HANDSHAKE, ASKS_SIZES],
@@ -308,6 +308,27 @@ const FINISHED: [Case<'static>; 4] = [
 < 1 Event.Composite 2 [(90, 0, #1)]
 < 1 reply VirtualMachine.IDSizes 0 1 1 1 1 1
 thread 1 1 held
+",
+        ..CASE
+    },
+    // Four that waited are told in the order in which they came.
+    Case {
+        from: &[
+            HANDSHAKE,
+            "0000001d 00000001 00 40 64 00 00000001 5a 00000000 0000000000000001",
+            "0000001d 00000002 00 40 64 00 00000001 06 00000000 0000000000000002",
+            "0000001d 00000003 00 40 64 00 00000001 06 00000000 0000000000000003",
+            "0000001d 00000004 00 40 64 00 00000001 07 00000000 0000000000000002",
+            EIGHT,
+        ],
+        plan: &[Line::Events(4)],
+        to: &[HANDSHAKE, ASKS_SIZES],
+        lines: "< hello
+< 1 Event.Composite 0 [(90, 0, #1)]
+< 2 Event.Composite 0 [(6, 0, #2)]
+< 3 Event.Composite 0 [(6, 0, #3)]
+< 4 Event.Composite 0 [(7, 0, #2)]
+< 1 reply VirtualMachine.IDSizes 0 8 8 8 8 8
 ",
         ..CASE
     },
@@ -375,7 +396,7 @@ request 7 6 2
 ];
 
 /// A run that is refused: by what the target sent, or by the debugger at a line of the plan.
-const REFUSED: [Case<'static>; 6] = [
+const REFUSED: [Case<'static>; 10] = [
     // no handshake
     Case {
         from: &["4a4457502d48616e647368616b66"],
@@ -390,6 +411,61 @@ const REFUSED: [Case<'static>; 6] = [
         ended: Ended::Refused(42),
         to: &[HANDSHAKE, ASKS_SIZES],
         lines: READY_LINES,
+        ..CASE
+    },
+    // a bad reply: an error with data, behind an answer that was told
+    Case {
+        from: &[
+            HANDSHAKE,
+            EIGHT,
+            "0000000b 00000002 80 0000",
+            "0000000c 00000003 80 0071 00",
+        ],
+        plan: &[Line::Ask(1, 8, ""), Line::Ask(1, 9, ""), Line::Answers],
+        ended: Ended::Refused(43),
+        to: &[
+            HANDSHAKE,
+            ASKS_SIZES,
+            "0000000b 00000002 00 01 08",
+            "0000000b 00000003 00 01 09",
+        ],
+        lines: "< hello
+< 1 reply VirtualMachine.IDSizes 0 8 8 8 8 8
+< 2 reply VirtualMachine.Suspend 0
+",
+        ..CASE
+    },
+    // a bad reply: data that end before those of the layout, where the lines of the plan have ended
+    Case {
+        from: &[HANDSHAKE, EIGHT, "0000000e 00000002 80 0000 000000"],
+        plan: &[Line::Ask(11, 12, "0000000000000001")],
+        ended: Ended::Refused(43),
+        to: &[
+            HANDSHAKE,
+            ASKS_SIZES,
+            "00000013 00000002 00 0b 0c 0000000000000001",
+        ],
+        lines: READY_LINES,
+        ..CASE
+    },
+    // a bad reply: ids that are nine bytes wide
+    Case {
+        from: &[
+            HANDSHAKE,
+            "0000001f 00000001 80 0000 00000008 00000008 00000009 00000008 00000008",
+        ],
+        ended: Ended::Refused(43),
+        to: &[HANDSHAKE, ASKS_SIZES],
+        lines: "< hello\n",
+        ..CASE
+    },
+    // Four composites wait for the widths of ids, and a fifth is one too many: none of them is told.
+    Case {
+        from: &[HANDSHAKE, VM_START, VM_START, VM_START, VM_START, VM_START],
+        plan: &[Line::Ask(1, 8, "")],
+        ended: Ended::Refused(44),
+        to: &[HANDSHAKE, ASKS_SIZES],
+        lines: "< hello\n",
         ..CASE
     },
     // a command that is no composite

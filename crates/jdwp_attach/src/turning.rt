@@ -1,12 +1,11 @@
 //! Turns of a run.
-ghost use Rattle.std.specs.Prelude.{◌≡◌, ◌<◌, ◌≤◌, ◌+◌, [], ℕ, List, true, false, length, is_some, OnOk, IfErr, IsTrue};
+ghost use Rattle.std.specs.Prelude.{◌≡◌, ◌<◌, ◌≤◌, ◌+◌, [], true, false, length, is_some, OnOk, IfErr, IsTrue};
 ghost use Rattle.jdwp_end.specs.Ends.{front_of, is_open, room_of};
 ghost use Rattle.jdwp_wire.specs.Streams.{More};
-ghost use Rattle.jdwp_debugger.specs.Debuggers.{lost, with_fed, with_taken};
+ghost use Rattle.jdwp_debugger.specs.Debuggers.{lost, with_fed};
 ghost use Rattle.jdwp_debugger.specs.DebuggerTurns.{TurnsAt};
-ghost use Rattle.jdwp_engine.specs.Run.{FailsWrite};
 ghost use Rattle.jdwp_attach.specs.PlanRuns.{EndsFailed, EndsSo, told_number};
-ghost use Rattle.jdwp_attach.specs.Runs.{Finishes, GoesOn, IsReady, LosesAtRead, ReadsMore, Tells, WritesAll, at};
+ghost use Rattle.jdwp_attach.specs.Runs.{FailsOut, Finishes, GoesOn, IsReady, LosesAtRead, ReadsMore, Tells, WritesAll, at};
 
 use crate::printing::{Unprinted, print_read};
 use crate::run::{CHUNK, Run};
@@ -144,8 +143,7 @@ pub(crate) fn write_out<P: Pipe>(
     buffer: &mut [u8; CHUNK],
 ) -> bool
     ensures all { IsTrue result → WritesAll debugger.old debugger.new (P.story pipe.old) (P.story pipe.new) }
-    ensures fails { result ≡ false → FailsWrite (P.story pipe.old) (P.story pipe.new) debugger.old.end.outgoing }
-    ensures kept { (taken : List ℕ) × (debugger.new ≡ with_taken taken debugger.old) }
+    ensures fails { result ≡ false → FailsOut debugger.old debugger.new (P.story pipe.old) (P.story pipe.new) }
 {
     while debugger.waiting() > 0 {
         let count = debugger.take(buffer);

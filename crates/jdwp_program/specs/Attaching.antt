@@ -13,7 +13,8 @@ abbrev pub begun : ℕ → Story → Standing
 begun turns start = at start empty_story (attached (new_debugger standard_limits 1)) turns
 
 -- From the first story to the second a new debugger was run by this plan for at most so many turns, and the session ended so: it was fed
--- what was read, in order; what was written is what it put, or a beginning where a write failed; and the reason of this end stands.
+-- what was read, in order; it was asked what the plan's lines ask, in order, up to where the run went; what was written is what it put, or
+-- a beginning where a write failed; and the reason of this end stands.
 abbrev pub AttachesNew : List PlanLine → ℕ → Story → Story → Ended → Type 0
 AttachesNew plan turns start now ended =
-    (debugger : Debugger) × (lines : Story) × InOrder (begun turns start) now lines debugger × MayEnd plan ended (begun turns start) now lines debugger
+    (debugger : Debugger) × (lines : Story) × InOrder plan (begun turns start) now lines debugger × MayEnd plan ended (begun turns start) now lines debugger

@@ -106,6 +106,75 @@ fn ends_of_runs(rt: HostRuntime) {
     }
 }
 
+/// A reply with an error that has data, under the id 2.
+const BAD_REPLY: [u8; 12] = [
+    0x00, 0x00, 0x00, 0x0c, 0x00, 0x00, 0x00, 0x02, 0x80, 0x00, 0x71, 0x00,
+];
+
+/// VM_START of thread 1 that suspends nothing.
+const VM_START: [u8; 29] = [
+    0x00, 0x00, 0x00, 0x1d, 0x00, 0x00, 0x00, 0x01, 0x00, 0x40, 0x64, 0x00, 0x00, 0x00, 0x00, 0x01,
+    0x5a, 0x00, 0x00, 0x00, 0x00, 0x00, 0x00, 0x00, 0x00, 0x00, 0x00, 0x00, 0x01,
+];
+
+#[test]
+fn targets_that_are_refused(rt: HostRuntime) -> Result<(), Fail> {
+    // The first so many bytes of a session, and then others as often; what was sent and printed before is of the session, too.
+    let rows: [(&str, usize, &[u8], u32, u16, usize, usize, &str); 3] = [
+        // A bad reply, to Suspend.
+        (
+            "ask 1 8\nanswers",
+            74,
+            &BAD_REPLY,
+            1,
+            43,
+            36,
+            89,
+            "jdwp: fault 43: a reply whose data do not read\n",
+        ),
+        // Four composites wait for the widths of ids, and a fifth comes.
+        (
+            PLAN,
+            14,
+            &VM_START,
+            5,
+            44,
+            25,
+            8,
+            "jdwp: fault 44: more composites than may wait for the widths of ids\n",
+        ),
+        (
+            PLAN,
+            43,
+            &VM_START,
+            4,
+            44,
+            25,
+            8,
+            "jdwp: fault 44: more composites than may wait for the widths of ids\n",
+        ),
+    ];
+    for (plan, count, bad, times, number, sent, printed, told) in rows {
+        let mut from = Vec::new(rt.alloc());
+        from.extend_from_slice(FROM.as_slice().get(..count).unwrap_or(&[]))?;
+        for _ in 0..times {
+            from.extend_from_slice(bad)?;
+        }
+        let ran = run(rt.alloc(), plan, from.as_slice(), 1000);
+        let ended = Ended::Refused(number);
+        assert_eq!(rt; ran.result, Ok(ended), "{told}");
+        assert!(rt; is_part(ran.to.as_slice(), TO.as_slice(), sent), "{told}");
+        assert!(rt;
+            is_part(ran.lines.as_slice(), LINES.as_bytes(), printed),
+            "{told}"
+        );
+        let mut err = Cursor::new(Vec::new(rt.alloc()));
+        assert_eq!(rt; report_outcome(Outcome::Session(ended), &mut err), 1);
+        assert_eq!(rt; err.into_inner().as_slice(), told.as_bytes());
+    }
+    Ok(())
+}
+
 #[test]
 fn plans_with_a_fault_begin_no_session(rt: HostRuntime) {
     let ran = run(rt.alloc(), "ask 1 8\nanswer\n", FROM.as_slice(), 1000);

@@ -245,6 +245,26 @@ fn ends_are_told(rt: HostRuntime) -> Result<(), Fail> {
             "jdwp: fault 4: not the handshake\n",
         ),
         (
+            Outcome::Session(Ended::Refused(42)),
+            1,
+            "jdwp: fault 42: a reply to no command that waits\n",
+        ),
+        (
+            Outcome::Session(Ended::Refused(43)),
+            1,
+            "jdwp: fault 43: a reply whose data do not read\n",
+        ),
+        (
+            Outcome::Session(Ended::Refused(44)),
+            1,
+            "jdwp: fault 44: more composites than may wait for the widths of ids\n",
+        ),
+        (
+            Outcome::Session(Ended::Refused(45)),
+            1,
+            "jdwp: fault 45: a composite that no target sends, or another command\n",
+        ),
+        (
             Outcome::Session(Ended::LostByRead),
             2,
             "jdwp: the connection is lost at a read\n",

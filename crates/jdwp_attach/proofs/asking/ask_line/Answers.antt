@@ -1,9 +1,15 @@
-use Rattle.std.proofs.Common.{◌≡◌, ◌∙◌, ◌++◌, ◌∷◌, [], inl, sym, ap, refl, arith}
+use Rattle.std.proofs.Common.{◌≡◌, ◌∙◌, ◌++◌, ◌∷◌, ◌+◌, List, [], inl, sym, ap, refl, arith}
 use Rattle.jdwp_debugger.specs.Debuggers.{Debugger, lost}
 use Rattle.jdwp_engine.specs.declared.ended.Ended.TheVariants as ended
-use Rattle.jdwp_attach.proofs.Ending.{loses-ends, moved-ends, refused-ends, unread-ends}
-use Rattle.jdwp_attach.proofs.Moves.{asked-moves, asked-open, asks-append, moved-goes, prints-none}
+use Rattle.jdwp_attach.proofs.Ending.{asked-in-order, loses-ends, moved-ends, refused-ends, unread-ends}
+use Rattle.jdwp_attach.proofs.Moves.{asked-moves, asked-open, moved-goes, prints-none}
+use Rattle.jdwp_attach.proofs.Stages.{asks-append, one-asked, stands-asked}
 use Rattle.jdwp_attach.proofs.asking.ask_line.Goals as goal
+
+pub returns-in-Err-BadData-clause-ends : goal.returns-in-Err-BadData-clause-ends
+returns-in-Err-BadData-clause-ends g c = λ out line asks-it.
+    unread-ends line (g.P.Pipe.story c.args.pipe.now) out c.args.debugger.now c.lose.new.self c.args.run.now.left c.args.run.now.left c.args.set c.args.number c.args.bytes.now c.in-Some.sizes asks-it
+    (sym c.sizes.ensures ∙ c.in-Some.is) (c.in-Err-BadData.ensures.err c.in-Err-BadData.field-0-is) c.lose.ensures.lost
 
 pub returns-in-Err-clause-ends : goal.returns-in-Err-clause-ends
 returns-in-Err-clause-ends g c = λ out line asks-it.
@@ -17,22 +23,28 @@ returns-then-not-write_out-clause-ends g c = λ out line asks-it done rest base 
     let s = g.P.Pipe.story c.args.pipe.now in
     let s' = g.P.Pipe.story c.write_out.new.pipe in
     let asked = c.in-Ok-ask.ensures.ok.2 in
-    loses-ends (done ++ line ∷ rest) done base s out old mid c.args.run.now.left c.args.run.now.left c.args.run.now.left 0 1 s' out c.lose-then-not-write_out.new.self k (asked-moves c.in-Ok.command old mid asked)
+    let fails = c.if-not-write_out.ensures.fails refl in
+    let in-order = asked-in-order done rest line base s out old mid c.args.run.now.left c.args.set c.args.number c.args.bytes.now c.in-Some.sizes c.in-Ok.command asks-it
+    (sym c.sizes.ensures ∙ c.in-Some.is) c.in-Ok.ensures.ok asked k in
+    loses-ends (done ++ line ∷ rest) done base s out old mid c.args.run.now.left c.args.run.now.left c.args.run.now.left 0 1 s' out c.lose-then-not-write_out.new.self k (asked-moves c.in-Ok.command old mid asked) in-order
     (record {
-      taken = c.write_out.ensures.kept.0;
-      is = c.lose-then-not-write_out.ensures.lost ∙ ap (λ (x : Debugger). lost x) c.write_out.ensures.kept.1;
+      taken = fails.0;
+      is = c.lose-then-not-write_out.ensures.lost ∙ ap (λ (x : Debugger). lost x) fails.1;
       left = refl;
-      fails = inl (c.if-not-write_out.ensures.fails refl, refl);
+      fails = inl (fails.2, fails.3, refl);
     })
 
 pub returns-in-Ok-push-clause-goes : goal.returns-in-Ok-push-clause-goes
-returns-in-Ok-push-clause-goes g c = λ out line one done base k.
+returns-in-Ok-push-clause-goes g c = λ out line asks-it done base k.
     let old = c.args.debugger.now in
     let mid = c.ask.new.self in
     let s = g.P.Pipe.story c.args.pipe.now in
     let asked = c.in-Ok-ask.ensures.ok.2 in
     let w = c.if-not-write_out.ensures.all refl in
-    moved-goes done (done ++ line ∷ []) base s out old mid c.args.run.now.left c.args.run.now.left 0 1 (g.P.Pipe.story c.write_out.new.pipe) out c.write_out.new.debugger k (asked-moves c.in-Ok.command old mid asked)
+    let one = one-asked line c.args.set c.args.number c.args.bytes.now asks-it in
+    let stands = stands-asked done line base.debugger old mid c.args.set c.args.number c.args.bytes.now c.in-Some.sizes c.in-Ok.command asks-it
+    (sym c.sizes.ensures ∙ c.in-Some.is) c.in-Ok.ensures.ok asked k.stands in
+    moved-goes done (done ++ line ∷ []) base s out old mid c.args.run.now.left c.args.run.now.left 0 1 (g.P.Pipe.story c.write_out.new.pipe) out c.write_out.new.debugger k (asked-moves c.in-Ok.command old mid asked) stands
     (asked-open c.in-Ok.command old mid asked c.requires.ready.0) (omega (arith, asks-append done line, one)) (omega arith) w.0 w.1 (prints-none out)
 
 pub returns-in-Err-push-clause-ends : goal.returns-in-Err-push-clause-ends
@@ -43,5 +55,7 @@ returns-in-Err-push-clause-ends g c = λ out line asks-it done rest base k.
     let asked = c.in-Ok-ask.ensures.ok.2 in
     let opened = asked-open c.in-Ok.command old mid asked c.requires.ready.0 in
     let w = c.if-not-write_out.ensures.all refl in
-    moved-ends s out old mid c.args.run.now.left c.args.run.now.left c.args.run.now.left 0 1 (g.P.Pipe.story c.write_out.new.pipe) out c.write_out.new.debugger ended.NoMemory (asked-moves c.in-Ok.command old mid asked)
-    (λ closed. absurd (let e = sym opened ∙ closed in cc)) (record { debugger = w.0; pipe = w.1; out = prints-none out; left = refl }) (done ++ line ∷ rest) done base k
+    let in-order = asked-in-order done rest line base s out old mid c.args.run.now.left c.args.set c.args.number c.args.bytes.now c.in-Some.sizes c.in-Ok.command asks-it
+    (sym c.sizes.ensures ∙ c.in-Some.is) c.in-Ok.ensures.ok asked k in
+    moved-ends (done ++ line ∷ rest) done base s out old mid c.args.run.now.left c.args.run.now.left c.args.run.now.left 0 1 (g.P.Pipe.story c.write_out.new.pipe) out c.write_out.new.debugger ended.NoMemory k
+    (asked-moves c.in-Ok.command old mid asked) in-order (λ closed. absurd (let e = sym opened ∙ closed in cc)) (record { debugger = w.0; pipe = w.1; out = prints-none out; left = refl })

@@ -1,7 +1,7 @@
 use Rattle.std.proofs.Common.{◌≡◌, ◌≤◌, [], length, arith}
 use Rattle.jdwp_attach.specs.Runs.{IsGoing, Standing, at}
 use Rattle.jdwp_attach.proofs.Ending.{line-ends}
-use Rattle.jdwp_attach.proofs.Moves.{all-go, if-err, line-goes-on, on-ok}
+use Rattle.jdwp_attach.proofs.Moves.{all-go, begins-all, begins-none, if-err, line-goes-on, on-ok}
 use Rattle.jdwp_attach.proofs.attaching.run_plan.Goals as goal
 
 pub returns-in-Err-clause-ends : goal.returns-in-Err-clause-ends
@@ -10,7 +10,7 @@ returns-in-Err-clause-ends g c = c.in-Err.ensures.ends c.args.plan.now (g.W.Pipe
 pub returns-in-Err-until_sizes-clause-ends : goal.returns-in-Err-until_sizes-clause-ends
 returns-in-Err-until_sizes-clause-ends g c =
     let base = at (g.P.Pipe.story c.args.pipe.now) (g.W.Pipe.story c.args.out.now) c.args.debugger.now c.args.run.now.left in
-    c.in-Err-until_sizes.ensures.ends c.args.plan.now [] base (c.in_default.ensures.goes (g.W.Pipe.story c.args.out.now) c.args.run.now.left)
+    c.in-Err-until_sizes.ensures.ends c.args.plan.now [] base (begins-none c.args.plan.now) (c.in_default.ensures.goes (g.W.Pipe.story c.args.out.now) c.args.run.now.left)
 
 pub loop-line-init : goal.loop-line-init
 loop-line-init g c =
@@ -49,4 +49,4 @@ pub returns-clause-ends : goal.returns-clause-ends
 returns-clause-ends g c =
     let base = at (g.P.Pipe.story c.args.pipe.now) (g.W.Pipe.story c.args.out.now) c.args.debugger.now c.args.run.now.left in
     let now = at (g.P.Pipe.story c.loop-line.pipe) (g.W.Pipe.story c.loop-line.out) c.loop-line.debugger c.loop-line.run.left in
-    if-err c.until_answered.result (λ ended f. f c.args.plan.now c.args.plan.now base (all-go c.args.plan.now c.loop-line.line-index base now (omega (arith, c.loop-line-test.false)) c.loop-line.invariant.goes)) c.until_answered.ensures.ends
+    if-err c.until_answered.result (λ ended f. f c.args.plan.now c.args.plan.now base (begins-all c.args.plan.now) (all-go c.args.plan.now c.loop-line.line-index base now (omega (arith, c.loop-line-test.false)) c.loop-line.invariant.goes)) c.until_answered.ensures.ends

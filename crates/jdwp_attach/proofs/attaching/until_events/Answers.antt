@@ -1,4 +1,12 @@
 use Rattle.jdwp_attach.proofs.attaching.until_events.Goals as goal
 
+pub loop-run-preserved : goal.loop-run-preserved
+loop-run-preserved g c =
+    record {
+      goes = λ done base k. c.in_default.ensures.goes done base (c.loop-run.invariant.goes done base k);
+      ready = c.in_default.ensures.ready;
+      known = c.in_default.ensures.known c.loop-run.invariant.known;
+    }
+
 pub returns-in-Err-clause-ends : goal.returns-in-Err-clause-ends
-returns-in-Err-clause-ends g c = λ plan done base k. c.in-Err.ensures.ends plan done base (c.loop-run.invariant.goes done base k)
+returns-in-Err-clause-ends g c = λ plan done base begins k. c.in-Err.ensures.ends plan done base begins (c.loop-run.invariant.goes done base k)

@@ -1,9 +1,14 @@
-use Rattle.std.proofs.Common.{◌≡◌, ◌-◌, refl, arith}
+use Rattle.std.proofs.Common.{◌≡◌, ◌-◌, ◌+◌, refl, arith}
 use Rattle.jdwp_end.specs.Ends.{front_of}
-use Rattle.jdwp_attach.proofs.Ending.{moved-ends, read-ends, turn-ends}
+use Rattle.jdwp_attach.proofs.Ending.{limit-ends, moved-ends, read-ends, turn-ends}
 use Rattle.jdwp_attach.proofs.Moves.{if-err, moved-goes, on-ok, read-goes, taken-ready}
+use Rattle.jdwp_attach.proofs.Stages.{turned-puts, turned-stands}
 use Rattle.jdwp_attach.proofs.Turned.{nothing-More, read-Whole}
 use Rattle.jdwp_attach.proofs.turning.turn_once.Goals as goal
+
+pub returns-then-run-eq0-clause-ends : goal.returns-then-run-eq0-clause-ends
+returns-then-run-eq0-clause-ends g c =
+    limit-ends (g.P.Pipe.story c.args.pipe.now) (g.W.Pipe.story c.args.out.now) c.args.debugger.now c.args.run.now.left (omega (arith, c.if-run-eq0.true))
 
 pub returns-in-Err-clause-ends : goal.returns-in-Err-clause-ends
 returns-in-Err-clause-ends g c =
@@ -46,10 +51,13 @@ returns-in_default g c =
     let reads = read-Whole (front_of old.end) old mid c.in-Ok.turn c.in-Ok.ensures.turns c.in_default.not-Nothing in
     record {
       goes = on-ok c.tell.result (λ h done base k.
-          moved-goes done done base s o old mid c.args.run.now.left c.tell.new.run.left 1 0 s' o' new k reads.moves h.0 (omega arith) (omega (arith, h.1.left, c.if-run-eq0.false)) h.1.debugger h.1.pipe h.1.out) c.tell.ensures.goes;
+          moved-goes done done base s o old mid c.args.run.now.left c.tell.new.run.left 1 0 s' o' new k reads.moves
+          (turned-stands (front_of old.end) done base.debugger old mid c.in-Ok.turn refl c.in-Ok.ensures.turns c.in_default.not-Nothing h.0 k.stands) h.0 (omega arith) (omega (arith, h.1.left, c.if-run-eq0.false)) h.1.debugger h.1.pipe h.1.out) c.tell.ensures.goes;
       ready = on-ok c.tell.result (λ h. taken-ready mid new h.0 h.1.debugger) c.tell.ensures.goes;
       known = on-ok c.tell.result (λ h known. rw h.1.debugger (reads.known known h.0)) c.tell.ensures.goes;
       left = on-ok c.tell.result (λ h. omega (arith, h.1.left, c.if-run-eq0.false)) c.tell.ensures.goes;
-      ends = if-err c.tell.result (λ ended h.
-          moved-ends s o old mid c.args.run.now.left (c.args.run.now.left - 1) c.tell.new.run.left 1 0 s' o' new ended reads.moves (λ closed. (old, c.in-Ok.turn, mid, c.in-Ok.ensures.turns, reads.closes closed, refl)) h) c.tell.ensures.ends;
+      ends = if-err c.tell.result (λ ended h plan done base begins k.
+          moved-ends plan done base s o old mid c.args.run.now.left (c.args.run.now.left - 1) c.tell.new.run.left 1 0 s' o' new ended k reads.moves
+          (done, begins, (omega (arith, reads.moves.tickets_are, k.asked), turned-puts (front_of old.end) done base.debugger old mid c.in-Ok.turn refl c.in-Ok.ensures.turns c.in_default.not-Nothing k.stands))
+          (λ closed. (old, c.in-Ok.turn, mid, c.in-Ok.ensures.turns, reads.closes closed, refl)) h) c.tell.ensures.ends;
     }

@@ -1,0 +1,122 @@
+-- What a debugger puts for the lines of a plan: the packets of the commands that they ask.
+use Rattle.std.specs.Prelude.{◌≡◌, ◌⊎◌, ℕ, ◌+◌, ◌<◌, ◌^◌, true, List, [], ◌∷◌, ◌++◌, Option, Some, None, is_some, Result, Ok, Err}
+use Rattle.std.specs.List.{AllByRecursion}
+use Rattle.jdwp_wire.specs.declared.data_fault.DataFault.{DataFault}
+use Rattle.jdwp_wire.specs.Frames.{header_bytes}
+use Rattle.jdwp_wire.specs.Widths.{Widths}
+use Rattle.jdwp_layout.specs.CommandTable.{row_at}
+use Rattle.jdwp_layout.specs.Meanings.{DatumMeaning}
+use Rattle.jdwp_layout.specs.Reads.{data_at}
+use Rattle.jdwp_layout.specs.Rows.{Row, RowShapes}
+use Rattle.jdwp_end.specs.declared.phase.Phase.TheVariants.{AwaitingHandshake, Established}
+use Rattle.jdwp_debuggee.specs.Actions.{Command, Content, Raw}
+use Rattle.jdwp_debugger.specs.declared.pending.Asked.{Asked}
+use Rattle.jdwp_debugger.specs.Asking.{command_bytes, id_after}
+use Rattle.jdwp_debugger.specs.Debuggers.{Debugger}
+use Rattle.jdwp_debugger.specs.DebuggerTurns.{sizes_header}
+use Rattle.jdwp_plan.specs.declared.plan_line.PlanLine.{PlanLine}
+use Rattle.jdwp_plan.specs.declared.plan_line.PlanLine.TheVariants as line
+
+-- ---- the command of a line
+
+-- the data of a command, where the request's layout reads them
+abbrev pub content_asked : ℕ → ℕ → Result (List DatumMeaning) DataFault → Option Command
+content_asked set number (Ok content) = Some (record { set = set; number = number; carried = Content content })
+content_asked set number (Err fault) = None
+
+abbrev pub shapes_asked : Widths → ℕ → ℕ → List ℕ → Option RowShapes → Option Command
+shapes_asked w set number bytes None = Some (record { set = set; number = number; carried = Raw bytes })
+shapes_asked w set number bytes (Some shapes) = content_asked set number (data_at w shapes.request bytes)
+
+abbrev pub row_asked : Widths → ℕ → ℕ → List ℕ → Option Row → Option Command
+row_asked w set number bytes None = Some (record { set = set; number = number; carried = Raw bytes })
+row_asked w set number bytes (Some row) = shapes_asked w set number bytes row.shapes
+
+-- The command that a line asks: its bytes are read by the layout of the request, or stay as they are where it has none. None where they
+-- do not read.
+abbrev pub command_asked : Widths → ℕ → ℕ → List ℕ → Option Command
+command_asked w set number bytes = row_asked w set number bytes (row_at set number)
+
+-- ---- how many commands are asked
+
+-- how many of these lines ask a command
+abbrev pub asks_of : PlanLine → ℕ
+asks_of (line.Ask set number bytes) = 1
+asks_of line.Answers = 0
+asks_of (line.Events count) = 0
+asks_of line.Mirror = 0
+
+abbrev pub asks : List PlanLine → ℕ
+asks [] = 0
+asks (line ∷ lines) = asks_of line + asks lines
+
+-- ---- what is put
+
+-- The n-th id from the first on. After 2^32 of them an id may still wait for its reply, and is passed over.
+abbrev pub IsNthId : ℕ → ℕ → ℕ → Type 0
+IsNthId first n id = n < 2 ^ 32 → id ≡ id_after first n
+
+-- What is put for a line: the packet of the command that it asks, in ids so wide, under the n-th id; and nothing where it asks none.
+abbrev pub PutsLine : Widths → ℕ → ℕ → PlanLine → List ℕ → Type 0
+PutsLine w first n (line.Ask set number carried) bytes =
+    (id : ℕ) × (command : Command) × IsNthId first n id × (command_asked w set number carried.items ≡ Some command) × (bytes ≡ command_bytes w id command)
+PutsLine w first n line.Answers bytes = bytes ≡ []
+PutsLine w first n (line.Events count) bytes = bytes ≡ []
+PutsLine w first n line.Mirror bytes = bytes ≡ []
+
+-- the same of lines, one after the other, each under the next id
+abbrev pub PutsLines : Widths → ℕ → ℕ → List PlanLine → List ℕ → Type 0
+PutsLines w first n [] bytes = bytes ≡ []
+PutsLines w first n (line ∷ lines) bytes =
+    (front : List ℕ) × (rest : List ℕ) × PutsLine w first n line front × PutsLines w first (n + asks_of line) lines rest × (bytes ≡ front ++ rest)
+
+-- Behind what it had put as the session began, a debugger put IDSizes under the id that was next then, and behind it what these lines
+-- ask, under the ids that follow, and nothing else.
+abbrev pub HasPut : Widths → List PlanLine → Debugger → Debugger → Type 0
+HasPut w done base d =
+    (bytes : List ℕ) × PutsLines w base.next_id 1 done bytes × (d.end.session.enqueued ≡ base.end.session.enqueued ++ (header_bytes (sizes_header base.next_id) ++ bytes))
+
+-- no line was carried out, and nothing was put
+abbrev pub HasPutNone : List PlanLine → Debugger → Debugger → Type 0
+HasPutNone done base d = (done ≡ []) × (d.end.session.enqueued ≡ base.end.session.enqueued)
+
+-- What was asked since the session began is what these lines ask: as many tickets were given, and it is what was put, behind IDSizes. Before
+-- the target's handshake was read nothing is.
+abbrev pub HasAskedLines : List PlanLine → Debugger → Debugger → Type 0
+HasAskedLines done base d = (d.tickets ≡ base.tickets + asks done) × (HasPutNone done base d ⊎ ((w : Widths) × HasPut w done base d))
+
+-- the plan begins with these lines
+abbrev pub IsBeginning : List PlanLine → List PlanLine → Type 0
+IsBeginning done plan = (rest : List PlanLine) × (plan ≡ done ++ rest)
+
+-- What was asked since the session began is what the plan's lines up to one of them ask, in their order.
+abbrev pub AsksInOrder : List PlanLine → Debugger → Debugger → Type 0
+AsksInOrder plan base d = (done : List PlanLine) × IsBeginning done plan × HasAskedLines done base d
+
+-- ---- how far a session is
+
+-- the target's handshake was not read, and nothing was put
+abbrev pub AwaitsHello : List PlanLine → Debugger → Debugger → Type 0
+AwaitsHello done base d =
+    HasPutNone done base d × (d.end.phase ≡ AwaitingHandshake) × (d.sizes ≡ None) × (d.pending ≡ []) × (d.next_id ≡ base.next_id)
+
+-- it was, and IDSizes alone was put, which waits for its reply
+abbrev pub AwaitsSizes : List PlanLine → Debugger → Debugger → Type 0
+AwaitsSizes done base d =
+    (done ≡ []) × (d.end.session.enqueued ≡ base.end.session.enqueued ++ header_bytes (sizes_header base.next_id)) × (d.sizes ≡ None)
+    × ((asked : Asked) × (asked.ticket ≡ None) × (d.pending ≡ asked ∷ [])) × (d.next_id ≡ id_after base.next_id 1)
+
+-- so many ids were given from the first on: the next is the one behind them, and what waits for its reply has one of them
+abbrev pub CountsIds : ℕ → ℕ → Debugger → Type 0
+CountsIds first n d =
+    n < 2 ^ 32 → (d.next_id ≡ id_after first n) × AllByRecursion (λ (p : Asked). (k : ℕ) × (k < n) × (p.id ≡ id_after first k)) d.pending
+
+-- the widths of ids are known: what these lines ask was put, and each command that waits for its reply has a ticket
+abbrev pub KnowsSizes : List PlanLine → Debugger → Debugger → Type 0
+KnowsSizes done base d =
+    (w : Widths) × (d.sizes ≡ Some w) × HasPut w done base d × (d.end.phase ≡ Established) × AllByRecursion (λ (p : Asked). is_some p.ticket ≡ true) d.pending
+    × CountsIds base.next_id (asks done + 1) d
+
+-- one of the three
+abbrev pub Stands : List PlanLine → Debugger → Debugger → Type 0
+Stands done base d = AwaitsHello done base d ⊎ (AwaitsSizes done base d ⊎ KnowsSizes done base d)
