@@ -70,6 +70,12 @@ none_counted h (r ∷ rs) e =
     let other : is_of_kind h.occurrence r.asked.kind ≡ false = first_of_another r rs (kinds_of h.occurrence) e in
     rw other (ap (λ (xs : List Request). r ∷ xs) (none_counted h rs (others_of_another r rs (kinds_of h.occurrence) e)))
 
+pub none_match : (h : HappeningMeaning) (rs : List Request) → list_any (passes h) rs ≡ false → passing h rs ≡ []
+none_match h [] e = refl
+none_match h (r ∷ rs) e =
+    let both = or_parts (passes h r) (list_any (passes h) rs) e in
+    rw both.0 (none_match h rs both.1)
+
 -- ---- counting leaves the kinds
 
 kind_counted : (h : HappeningMeaning) (r : Request) → (counted h r).asked.kind ≡ r.asked.kind

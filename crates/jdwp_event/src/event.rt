@@ -1,6 +1,6 @@
 //! Events and composites (JDWP specification, "Protocol Details": the command Composite of the set Event).
 ghost use Rattle.std.specs.Prelude.{◌≡◌, ◌≤◌, ◌+◌, ◌<◌, ◌++◌, length, take, OnOk, IfOk, IfErr, [], vec_len, vec_capacity};
-ghost use Rattle.std.specs.List.{flat_map};
+ghost use Rattle.std.specs.List.{flat_map, list_any};
 ghost use Rattle.std.specs.Result.{IsErrOf};
 ghost use Rattle.jdwp_wire.specs.declared.data_fault.DataFault.TheVariants.{NoMemory as WantOfMemory};
 ghost use Rattle.jdwp_wire.specs.Reading.{Gives, passed, in_usize};
@@ -18,7 +18,7 @@ ghost use Rattle.jdwp_event.specs.CompositeBytes.{EncodesComposite, composite_ca
 ghost use Rattle.jdwp_event.specs.CompositeLaws.{composite_codes, composite_unrefused};
 ghost use Rattle.jdwp_event.specs.Occurrences.{occurrence_meaning};
 ghost use Rattle.jdwp_event.specs.Constants.{policy_byte};
-ghost use Rattle.jdwp_event.specs.Filters.{all_counted, passing};
+ghost use Rattle.jdwp_event.specs.Filters.{all_counted, passes, passing};
 ghost use Rattle.jdwp_event.specs.Composites.{composite_data, type_byte, details, event_for, gathered, vm_start, vm_death};
 
 use crate::happening::{Happening, Occurrence};
@@ -406,7 +406,17 @@ pub fn gather(
     if !requests.ask_for(happening.occurrence()) {
         return Ok(None);
     }
+    if !any_matches(requests.as_slice(), happening) {
+        return Ok(None);
+    }
     gather_passing(alloc, requests, happening)
+}
+
+/// Whether a request reports the happening: mostly none does, and this loop writes nothing.
+fn any_matches(requests: &[Request], happening: &Happening) -> bool
+    ensures { result ≡ list_any (passes happening.now) requests.now }
+{
+    requests.iter().any(|request| matches(request, happening))
 }
 
 /// Counts a happening as `count_down` does, where it is known what `gather` gives for it: where that is None and no request has a

@@ -68,12 +68,12 @@ impl Limit {
     }
 
     /// Whether the happening passes it, this time.
-    fn passes(&self, origin: StepOrigin, happening: &Happening) -> bool
-        ensures { result ≡ limit_passes (origin_meaning origin) happening.now self.now }
+    fn passes(&self, origin: &StepOrigin, happening: &Happening) -> bool
+        ensures { result ≡ limit_passes (origin_meaning origin.now) happening.now self.now }
     {
         match &self.modifier {
             Modifier::Count(_) => self.left == 1,
-            other => filter::passes(other, origin, happening),
+            other => filter::passes(other, *origin, happening),
         }
     }
 
@@ -96,8 +96,8 @@ impl Limit {
 }
 
 /// Whether the happening passes all modifiers, in order.
-fn passes_limits(limits: &[Limit], origin: StepOrigin, happening: &Happening) -> bool
-    ensures { result ≡ passes_all (origin_meaning origin) happening.now
+fn passes_limits(limits: &[Limit], origin: &StepOrigin, happening: &Happening) -> bool
+    ensures { result ≡ passes_all (origin_meaning origin.now) happening.now
         (asked_modifiers limits.now) (times_reached limits.now) }
 {
     for limit in limits {
@@ -115,7 +115,7 @@ fn count_limits(limits: &mut [Limit], origin: StepOrigin, happening: &Happening)
     ensures reached { limits.new ≡ limits_after (origin_meaning origin) happening.now limits.old }
 {
     for limit in limits.iter_mut() {
-        let passes = limit.passes(origin, happening);
+        let passes = limit.passes(&origin, happening);
         limit.reach();
         if !passes {
             return false;
@@ -276,5 +276,5 @@ pub fn matches(request: &Request, happening: &Happening) -> bool
     ensures { result ≡ passes happening.now request.now }
 {
     filter::is_kind(happening.occurrence(), request.kind)
-        && passes_limits(&request.limits, request.origin, happening)
+        && passes_limits(&request.limits, &request.origin, happening)
 }
