@@ -13,7 +13,7 @@ ghost use Rattle.jdwp_debuggee.specs.StepParts.{SendFits, Steps, StepsOrNot, is_
 
 use crate::debuggee::Debuggee;
 use crate::threads::{Change, Threads};
-use jdwp_event::{Composite, Happening, Occurrence, Requests, count_down, gather};
+use jdwp_event::{Composite, Happening, Occurrence, Requests, count_gathered, gather};
 use jdwp_machine::{Machine, has_run_out};
 use jdwp_value::ObjectId;
 use jdwp_wire::NoMemory;
@@ -194,7 +194,7 @@ impl<M: Machine> Debuggee<M> {
         requires sends { sends ≡ gathered happening.now self.old.moment.state.requests }
         ensures { Steps M.meaning thread.0 self.old self.new result }
     {
-        count_down(&mut self.requests, happening);
+        count_gathered(&mut self.requests, happening, &sends);
         if let Some(composite) = sends {
             self.threads
                 .change(Change::RaiseBy(composite.policy(), happening.thread()));
@@ -241,7 +241,7 @@ impl<M: Machine> Debuggee<M> {
             self.threads.truncate(count);
             return Err(error);
         }
-        count_down(&mut self.requests, happening);
+        count_gathered(&mut self.requests, happening, &sends);
         suspend_for(&mut self.threads, &sends, happening.thread());
         self.next_packet = id_after(self.next_packet, &sends);
         Ok(StepDone {

@@ -206,7 +206,10 @@ fn least_from(threads: &[ObjectId], least: u64) -> Option<ObjectId>
 {
     let mut found: Option<ObjectId> = None;
     for thread in threads {
-        if thread.0 >= least && found.is_none_or(|other| thread.0 < other.0) {
+        if thread.0 == least {
+            return Some(*thread);
+        }
+        if thread.0 > least && found.is_none_or(|other| thread.0 < other.0) {
             found = Some(*thread);
         }
     }

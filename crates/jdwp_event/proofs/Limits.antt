@@ -1,5 +1,5 @@
 -- The modifiers of a request, one after another.
-use Rattle.std.proofs.Common.{◌≡◌, ℕ, ◌+◌, ◌<◌, ◌≤◌, zero, suc, Bool, true, false, List, [], ◌∷◌, ◌++◌, length, map, take, drop, get_or, Some, None, refl, ap, sym, ◌∙◌, append-nil, arith, add-one, if◌then◌else◌}
+use Rattle.std.proofs.Common.{◌≡◌, ℕ, ◌<◌, ◌≤◌, zero, suc, Bool, true, false, List, [], ◌∷◌, ◌++◌, length, map, take, drop, get_or, Some, None, refl, ap, sym, ◌∙◌, append-nil, arith, add-one, if◌then◌else◌}
 use Rattle.std.proofs.Math.ListN.{set}
 use Rattle.std.proofs.lemmas.List.{drop_more}
 use Rattle.jdwp_event.specs.declared.modifier.Modifier.{Modifier}
@@ -7,7 +7,7 @@ use Rattle.jdwp_event.specs.Modifiers.{ModifierMeaning}
 use Rattle.jdwp_event.specs.ModifierMeanings.{modifier_meaning}
 use Rattle.jdwp_event.specs.Occurrences.{HappeningMeaning}
 use Rattle.jdwp_event.specs.Requests.{Origin, Request, new_request}
-use Rattle.jdwp_event.specs.Filters.{is_of_kind, place_of, passes_all, reached_after, origin_at, counted}
+use Rattle.jdwp_event.specs.Filters.{is_of_kind, place_of, passes_all, reached_after, origin_at, counted, once_more}
 use Rattle.jdwp_event.specs.RequestParts.{LimitMeaning, new_limit, limit_passes, limit_counted, limits_after, asked_modifiers, times_reached, modifier_at}
 
 -- a list with one element changed
@@ -34,7 +34,7 @@ times_if false xs ys zs e = refl
 
 pub times_after : (o : Origin) (h : HappeningMeaning) (ls : List LimitMeaning) → times_reached (limits_after o h ls) ≡ reached_after o h (asked_modifiers ls) (times_reached ls)
 times_after o h [] = refl
-times_after o h (l ∷ ls) = ap (λ (ns : List ℕ). (l.reached + 1) ∷ ns) (times_if (limit_passes o h l) (limits_after o h ls) ls _ (times_after o h ls))
+times_after o h (l ∷ ls) = ap (λ (ns : List ℕ). once_more l.modifier l.reached ∷ ns) (times_if (limit_passes o h l) (limits_after o h ls) ls _ (times_after o h ls))
 
 -- ---- a request
 

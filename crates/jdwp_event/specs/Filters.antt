@@ -176,11 +176,29 @@ passes_all origin h [] reached = true
 passes_all origin h (m ∷ ms) [] = false
 passes_all origin h (m ∷ ms) (r ∷ rs) = passes_modifier origin h m (r + 1) && passes_all origin h ms rs
 
--- how often each was reached, this time with it
+abbrev pub is_count : ModifierMeaning → Bool
+is_count (Count n) = true
+is_count (Conditional n) = false
+is_count (ThreadOnly thread) = false
+is_count (ClassOnly class) = false
+is_count (ClassMatch pattern) = false
+is_count (ClassExclude pattern) = false
+is_count (LocationOnly location) = false
+is_count (ExceptionOnly class caught uncaught) = false
+is_count (FieldOnly class field) = false
+is_count (Step thread size depth) = false
+is_count (InstanceOnly object) = false
+is_count (SourceNameMatch pattern) = false
+
+-- of a modifier that is reached once more: only a Count keeps how often
+abbrev pub once_more : ModifierMeaning → ℕ → ℕ
+once_more m times = if is_count m then times + 1 else times
+
+-- how often each Count was reached, this time with it
 abbrev pub reached_after : Origin → HappeningMeaning → List ModifierMeaning → List ℕ → List ℕ
 reached_after origin h [] reached = reached
 reached_after origin h (m ∷ ms) [] = []
-reached_after origin h (m ∷ ms) (r ∷ rs) = (r + 1) ∷ (if passes_modifier origin h m (r + 1) then reached_after origin h ms rs else rs)
+reached_after origin h (m ∷ ms) (r ∷ rs) = once_more m r ∷ (if passes_modifier origin h m (r + 1) then reached_after origin h ms rs else rs)
 
 -- A request passes a happening of its kind where all its modifiers do.
 abbrev pub passes : HappeningMeaning → Request → Bool
@@ -196,7 +214,7 @@ abbrev pub origin_at : Option PlaceMeaning → Origin → Origin
 origin_at None origin = origin
 origin_at (Some p) origin = record { frames = p.frames; line = p.line }
 
--- Where the kinds agree, each modifier that was reached is counted; a request that reports takes the new place as its origin.
+-- Where the kinds agree, each Count that was reached is counted; a request that reports takes the new place as its origin.
 abbrev pub counted : HappeningMeaning → Request → Request
 counted h r =
     if is_of_kind h.occurrence r.asked.kind

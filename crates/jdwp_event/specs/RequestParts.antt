@@ -12,7 +12,7 @@ use Rattle.jdwp_event.specs.declared.happening.Place.{Place}
 use Rattle.jdwp_event.specs.declared.happening.ThrownException.{ThrownException}
 use Rattle.jdwp_event.specs.Occurrences.{ClassMeaning, PlaceMeaning, ThrownMeaning, HappeningMeaning, class_meaning, place_meaning, thrown_meaning}
 use Rattle.jdwp_event.specs.Requests.{Origin}
-use Rattle.jdwp_event.specs.Filters.{passes_modifier, passes_depth, passes_size}
+use Rattle.jdwp_event.specs.Filters.{passes_modifier, passes_depth, passes_size, once_more}
 
 abbrev pub origin_meaning : StepOrigin → Origin
 origin_meaning o = record { frames = o.frames; line = o.line }
@@ -20,7 +20,7 @@ origin_meaning o = record { frames = o.frames; line = o.line }
 abbrev pub modifiers_meaning : Vec Modifier → List ModifierMeaning
 modifiers_meaning modifiers = map modifier_meaning modifiers.items
 
--- A modifier of a request, and how often it was reached.
+-- A modifier of a request, and how often it was reached where it is a Count.
 pub record LimitMeaning : Type 0 where
   pub modifier : ModifierMeaning
   pub reached : ℕ
@@ -51,7 +51,7 @@ abbrev pub limit_passes : Origin → HappeningMeaning → LimitMeaning → Bool
 limit_passes origin h l = passes_modifier origin h l.modifier (l.reached + 1)
 
 abbrev pub limit_counted : LimitMeaning → LimitMeaning
-limit_counted l = record { modifier = l.modifier; reached = l.reached + 1 }
+limit_counted l = record { modifier = l.modifier; reached = once_more l.modifier l.reached }
 
 abbrev pub asked_modifiers : List LimitMeaning → List ModifierMeaning
 asked_modifiers limits = map (λ (l : LimitMeaning). l.modifier) limits
@@ -59,7 +59,7 @@ asked_modifiers limits = map (λ (l : LimitMeaning). l.modifier) limits
 abbrev pub times_reached : List LimitMeaning → List ℕ
 times_reached limits = map (λ (l : LimitMeaning). l.reached) limits
 
--- what a happening leaves of them: each that it reaches is counted
+-- what a happening leaves of them: each Count that it reaches is counted
 abbrev pub limits_after : Origin → HappeningMeaning → List LimitMeaning → List LimitMeaning
 limits_after origin h [] = []
 limits_after origin h (l ∷ ls) = limit_counted l ∷ (if limit_passes origin h l then limits_after origin h ls else ls)

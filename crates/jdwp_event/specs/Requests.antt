@@ -14,7 +14,7 @@ pub record Origin : Type 0 where
   pub frames : ℕ
   pub line : Option ℕ
 
--- A request, how often each of its modifiers was reached, and from where its steps are measured.
+-- A request, how often each of its modifiers was reached where that is a Count and else 0, and from where its steps are measured.
 pub record Request : Type 0 where
   pub asked : Asked
   pub reached : List ℕ

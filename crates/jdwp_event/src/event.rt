@@ -1,6 +1,6 @@
 //! Events and composites (JDWP specification, "Protocol Details": the command Composite of the set Event).
 ghost use Rattle.std.specs.Prelude.{◌≡◌, ◌≤◌, ◌+◌, ◌<◌, ◌++◌, length, take, OnOk, IfOk, IfErr, [], vec_len, vec_capacity};
-ghost use Rattle.std.specs.List.{flat_map};
+ghost use Rattle.std.specs.List.{flat_map, list_any};
 ghost use Rattle.std.specs.Result.{IsErrOf};
 ghost use Rattle.jdwp_wire.specs.declared.data_fault.DataFault.TheVariants.{NoMemory as WantOfMemory};
 ghost use Rattle.jdwp_wire.specs.Reading.{Gives, passed, in_usize};
@@ -18,14 +18,14 @@ ghost use Rattle.jdwp_event.specs.CompositeBytes.{EncodesComposite, composite_ca
 ghost use Rattle.jdwp_event.specs.CompositeLaws.{composite_codes, composite_unrefused};
 ghost use Rattle.jdwp_event.specs.Occurrences.{occurrence_meaning};
 ghost use Rattle.jdwp_event.specs.Constants.{policy_byte};
-ghost use Rattle.jdwp_event.specs.Filters.{passing};
+ghost use Rattle.jdwp_event.specs.Filters.{all_counted, passes, passing};
 ghost use Rattle.jdwp_event.specs.Composites.{composite_data, type_byte, details, event_for, gathered, vm_start, vm_death};
 
 use crate::happening::{Happening, Occurrence};
 use crate::kind::EventKind;
 use crate::policy::Policy;
 use crate::request::{Request, matches};
-use crate::requests::Requests;
+use crate::requests::{Requests, count_down};
 use jdwp_layout::{
     Data, Datum, Entry, Scalar, entry_size, pass_entries, pass_entry, read_entry, write_entry,
 };
@@ -406,10 +406,31 @@ pub fn gather(
     if !requests.ask_for(happening.occurrence()) {
         return Ok(None);
     }
+    if !any_matches(requests.as_slice(), happening) {
+        return Ok(None);
+    }
     gather_passing(alloc, requests, happening)
 }
 
-/// The same, by a trial of each request.
+/// Whether a request reports the happening: mostly none does, and this loop writes nothing.
+fn any_matches(requests: &[Request], happening: &Happening) -> bool
+    ensures { result ≡ list_any (passes happening.now) requests.now }
+{
+    requests.iter().any(|request| matches(request, happening))
+}
+
+/// Counts a happening as `count_down` does, where it is known what `gather` gives for it: where that is None and no request has a
+/// Count, nothing is left to do, and no request is tried. Takes no memory.
+pub fn count_gathered(requests: &mut Requests, happening: &Happening, found: &Option<Composite>)
+    requires { found.now ≡ gathered happening.now requests.old }
+    ensures { requests.new ≡ all_counted happening.now requests.old }
+{
+    if found.is_some() || requests.have_count() {
+        count_down(requests, happening);
+    }
+}
+
+/// The composite of the happening, by a trial of each request.
 fn gather_passing(
     alloc: Global,
     requests: &Requests,

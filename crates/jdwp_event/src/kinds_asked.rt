@@ -1,4 +1,4 @@
-//! Which kinds of events requests ask for.
+//! Which kinds of events requests ask for, and whether a Count.
 ghost use Rattle.std.specs.Prelude.{◌≡◌, []};
 ghost use Rattle.jdwp_event.specs.EventKinds.{kind_byte};
 ghost use Rattle.jdwp_event.specs.Occurrences.{occurrence_meaning};
@@ -8,7 +8,7 @@ use crate::happening::Occurrence;
 use crate::kind::EventKind;
 use crate::request::Request;
 
-/// For each that may happen, whether a request is of a kind of it.
+/// For each that may happen, whether a request is of a kind of it; and whether a request has a Count.
 #[derive(Clone, Copy)]
 pub(crate) struct KindsAsked {
     moved: bool,
@@ -18,6 +18,7 @@ pub(crate) struct KindsAsked {
     prepared: bool,
     started: bool,
     ran_out: bool,
+    counts: bool,
 }
 
 impl KindsAsked {
@@ -35,6 +36,7 @@ impl KindsAsked {
             prepared: has_kind(requests, EventKind::ClassPrepare),
             started: has_kind(requests, EventKind::ThreadStart),
             ran_out: has_kind(requests, EventKind::ThreadDeath),
+            counts: any_has_count(requests),
         }
     }
 
@@ -50,6 +52,7 @@ impl KindsAsked {
             prepared: false,
             started: false,
             ran_out: false,
+            counts: false,
         }
     }
 
@@ -67,6 +70,13 @@ impl KindsAsked {
             Occurrence::RanOut => self.ran_out,
         }
     }
+
+    /// Whether a request has a Count.
+    pub(crate) fn has_count(self) -> bool
+        ensures { result ≡ self.counts }
+    {
+        self.counts
+    }
 }
 
 /// Whether a request is of this kind.
@@ -74,4 +84,11 @@ fn has_kind(requests: &[Request], kind: EventKind) -> bool
     ensures { result ≡ spec.has_kind (kind_byte kind) requests.now }
 {
     requests.iter().any(|request| kind.byte() == request.kind())
+}
+
+/// Whether a request has a Count.
+fn any_has_count(requests: &[Request]) -> bool
+    ensures { result ≡ spec.any_has_count requests.now }
+{
+    requests.iter().any(|request| request.has_count())
 }

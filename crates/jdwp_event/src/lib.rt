@@ -14,7 +14,7 @@ mod request;
 mod request_id;
 mod requests;
 
-pub use event::{Composite, Event, gather};
+pub use event::{Composite, Event, count_gathered, gather};
 pub use happening::{ClassSeen, Happening, Occurrence, Place, PreparedClass, ThrownException};
 pub use kind::EventKind;
 pub use laws::composites_have_their_layout;

@@ -1,10 +1,12 @@
 //! Event requests: what was asked for, and what has become of it (JDWP specification, "Protocol Details": the set EventRequest).
 ghost use Rattle.std.specs.Prelude.{◌≡◌, ◌≤◌, ◌<◌, length, IfOk};
+ghost use Rattle.std.specs.List.{list_any};
 ghost use Rattle.jdwp_wire.specs.Numbers.{greatest_int};
 ghost use Rattle.jdwp_event.specs.ModifierMeanings.{modifier_meaning, found_modifier_behind};
 ghost use Rattle.jdwp_event.specs.RequestParts.{origin_meaning, modifiers_meaning, new_limit, limit_passes, limit_counted, limits_after, asked_modifiers, times_reached, modifier_at};
 ghost use Rattle.jdwp_event.specs.Requests.{new_request};
-ghost use Rattle.jdwp_event.specs.Filters.{passes_all, passes, counted};
+ghost use Rattle.jdwp_event.specs.Filters.{is_count, passes_all, passes, counted};
+ghost use Rattle.jdwp_event.specs.KindsAsked.{has_count};
 
 use crate::filter;
 use crate::happening::Happening;
@@ -24,8 +26,8 @@ pub struct StepOrigin {
     pub line: Option<u32>,
 }
 
-/// A modifier of a request, and how often it was reached. What is kept of that is how many reachings a Count is still away
-/// from its last.
+/// A modifier of a request, and how often it was reached, where it is a Count. What is kept of that is how many reachings it is
+/// still away from its last.
 #[derive(Drop)]
 struct Limit {
     modifier: Modifier,
@@ -66,27 +68,36 @@ impl Limit {
     }
 
     /// Whether the happening passes it, this time.
-    fn passes(&self, origin: StepOrigin, happening: &Happening) -> bool
-        ensures { result ≡ limit_passes (origin_meaning origin) happening.now self.now }
+    fn passes(&self, origin: &StepOrigin, happening: &Happening) -> bool
+        ensures { result ≡ limit_passes (origin_meaning origin.now) happening.now self.now }
     {
         match &self.modifier {
             Modifier::Count(_) => self.left == 1,
-            other => filter::passes(other, origin, happening),
+            other => filter::passes(other, *origin, happening),
         }
     }
 
-    /// It was reached once more.
+    /// It was reached once more, which is counted where it is a Count.
     fn reach(&mut self)
         ensures { self.new ≡ limit_counted self.old }
     {
-        self.left = self.left.saturating_sub(1);
-        self.reached.push(&());
+        if let Modifier::Count(_) = &self.modifier {
+            self.left = self.left.saturating_sub(1);
+            self.reached.push(&());
+        }
+    }
+
+    /// Whether it is a Count.
+    fn is_count(&self) -> bool
+        ensures { result ≡ is_count self.now.modifier }
+    {
+        matches!(self.modifier, Modifier::Count(_))
     }
 }
 
 /// Whether the happening passes all modifiers, in order.
-fn passes_limits(limits: &[Limit], origin: StepOrigin, happening: &Happening) -> bool
-    ensures { result ≡ passes_all (origin_meaning origin) happening.now
+fn passes_limits(limits: &[Limit], origin: &StepOrigin, happening: &Happening) -> bool
+    ensures { result ≡ passes_all (origin_meaning origin.now) happening.now
         (asked_modifiers limits.now) (times_reached limits.now) }
 {
     for limit in limits {
@@ -97,14 +108,14 @@ fn passes_limits(limits: &[Limit], origin: StepOrigin, happening: &Happening) ->
     true
 }
 
-/// Counts each modifier that the happening reaches, and answers whether it passes all.
+/// Counts each Count that the happening reaches, and answers whether it passes all modifiers.
 fn count_limits(limits: &mut [Limit], origin: StepOrigin, happening: &Happening) -> bool
     ensures passed { result ≡ passes_all (origin_meaning origin) happening.now
         (asked_modifiers limits.old) (times_reached limits.old) }
     ensures reached { limits.new ≡ limits_after (origin_meaning origin) happening.now limits.old }
 {
     for limit in limits.iter_mut() {
-        let passes = limit.passes(origin, happening);
+        let passes = limit.passes(&origin, happening);
         limit.reach();
         if !passes {
             return false;
@@ -113,7 +124,19 @@ fn count_limits(limits: &mut [Limit], origin: StepOrigin, happening: &Happening)
     true
 }
 
-/// What was asked for under an id, how often each of its modifiers was reached, and from where its steps are measured.
+/// Whether one of them is a Count.
+fn any_count(limits: &[Limit]) -> bool
+    ensures { result ≡ list_any is_count (asked_modifiers limits.now) }
+{
+    for limit in limits {
+        if limit.is_count() {
+            return true;
+        }
+    }
+    false
+}
+
+/// What was asked for under an id, how often each Count among its modifiers was reached, and from where its steps are measured.
 ///
 /// The kind and the policy are kept as the bytes that were sent, since a peer may have taken others than the specification's.
 #[derive(Drop)]
@@ -222,7 +245,14 @@ impl Request {
         self.origin
     }
 
-    /// Counts a happening: where the kinds agree, each modifier that is reached, and a new origin where all pass.
+    /// Whether one of its modifiers is a Count.
+    pub(crate) fn has_count(&self) -> bool
+        ensures { result ≡ has_count self.now }
+    {
+        any_count(&self.limits)
+    }
+
+    /// Counts a happening: where the kinds agree, each Count that is reached, and a new origin where all pass.
     pub(crate) fn count(&mut self, happening: &Happening)
         ensures { self.new ≡ counted happening.now self.old }
     {
@@ -246,5 +276,5 @@ pub fn matches(request: &Request, happening: &Happening) -> bool
     ensures { result ≡ passes happening.now request.now }
 {
     filter::is_kind(happening.occurrence(), request.kind)
-        && passes_limits(&request.limits, request.origin, happening)
+        && passes_limits(&request.limits, &request.origin, happening)
 }

@@ -2,7 +2,7 @@
 ghost use Rattle.std.specs.Prelude.{◌≡◌, ◌≤◌, ◌==◌, length, take, drop, OnOk, IfErr, [], ◌∷◌, ◌++◌};
 ghost use Rattle.jdwp_event.specs.Requests.{Request};
 ghost use Rattle.jdwp_event.specs.Filters.{all_counted};
-ghost use Rattle.jdwp_event.specs.KindsAsked.{asks_for};
+ghost use Rattle.jdwp_event.specs.KindsAsked.{any_has_count, asks_for};
 ghost use Rattle.jdwp_event.specs.Occurrences.{occurrence_meaning};
 ghost use Rattle.jdwp_event.specs.RequestLists.{placed, without, without_breakpoints, AllBelow, StartsAbove};
 
@@ -73,6 +73,13 @@ impl Requests {
         self.kinds.has(occurrence)
     }
 
+    /// Whether a request has a Count: one test too.
+    pub(crate) fn have_count(&self) -> bool
+        ensures { result ≡ any_has_count self.now }
+    {
+        self.kinds.has_count()
+    }
+
     /// Adds a request under its id, in place of an older one of that id.
     ///
     /// # Errors
@@ -134,7 +141,7 @@ fn place_for(entries: &[Request], id: u32) -> usize
     entries.len()
 }
 
-/// Counts the happening in each request whose kind it has: each modifier that it reaches, whether or not a later one passes.
+/// Counts the happening in each request whose kind it has: each Count that it reaches, whether or not a later modifier passes.
 /// A request that reports it takes the place as the origin of its steps. Takes no memory.
 pub fn count_down(requests: &mut Requests, happening: &Happening)
     ensures { requests.new ≡ all_counted happening.now requests.old }

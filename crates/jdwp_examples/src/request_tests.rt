@@ -2,7 +2,8 @@
 use crate::rows::row;
 use jdwp_event::{
     ClassSeen, Composite, EventKind, Happening, Modifier, Occurrence, Place, Policy, PreparedClass,
-    Request, RequestId, Requests, StepOrigin, ThrownException, count_down, gather, matches,
+    Request, RequestId, Requests, StepOrigin, ThrownException, count_down, count_gathered, gather,
+    matches,
 };
 use jdwp_layout::{layout_of, write};
 use jdwp_value::{
@@ -305,7 +306,7 @@ fn a_count_that_was_reached_is_counted_though_a_later_modifier_fails(
         for request in requests.as_slice() {
             assert_eq!(rt; matches(request, &here), wanted == Some(request.id()));
         }
-        count_down(&mut requests, &here);
+        count_gathered(&mut requests, &here, &found);
     }
     assert_eq!(rt; requests.len(), 2);
     Ok(())

@@ -5,4 +5,5 @@ pub mod Named
 pub mod Reaches
 pub mod Rising
 pub mod Sets
+pub mod Standing
 pub mod StaticValues

@@ -1,9 +1,10 @@
 -- Sets of ids as the code keeps them, and what stands directly above a class.
-use Rattle.std.specs.Prelude.{◌≡◌, ℕ, ◌==◌, ◌||◌, Bool, List, Option}
+use Rattle.std.specs.Prelude.{◌≡◌, ℕ, ◌==◌, ◌&&◌, ◌||◌, not, Bool, true, List, map, length, Option, Some, None}
 use Rattle.std.specs.List.{list_any}
 use Rattle.std.specs.Ordering.{nat_cmp}
 use Rattle.std.specs.BTreeSet.{BTreeSet, contains}
 use Rattle.jdwp_script.specs.Parts.{ClassPart, ScriptPart}
+use Rattle.jdwp_script_machine.specs.LookUps.{is_some}
 use Rattle.jdwp_script_machine.specs.Sites.{class_in, class_above}
 
 abbrev pub has : BTreeSet ℕ → ℕ → Bool
@@ -27,3 +28,13 @@ is_above class to = class_above (λ n. n == to) class
 -- whether it is that of one of these
 abbrev pub some_above : ScriptPart → List ℕ → ℕ → Bool
 some_above script layer to = list_any (λ from. is_above (class_in script from) to) layer
+
+-- ---- a class that nothing stands above
+
+-- whether a class has no interfaces, and its superclass is none of the script
+abbrev pub stands_alone : ScriptPart → Option ClassPart → Bool
+stands_alone script None = true
+stands_alone script (Some c) = (length c.interfaces == 0) && not (is_some (class_in script c.superclass))
+
+abbrev pub class_ids : List ClassPart → List ℕ
+class_ids classes = map (λ (c : ClassPart). c.id) classes

@@ -1,9 +1,11 @@
 //! What a script has at a place: classes and what they reach, methods, lines, and the tags of objects.
-ghost use Rattle.std.specs.Prelude.{◌≡◌, IfOk, option_map};
+ghost use Rattle.std.specs.Prelude.{◌≡◌, ◌==◌, IfOk, filter, option_map};
 ghost use Rattle.jdwp_event.specs.Occurrences.{ids_of, class_meaning, place_meaning};
 ghost use Rattle.jdwp_script.specs.Meanings.{class_part, object_part, script_part};
 ghost use Rattle.jdwp_script_machine.specs.Found.{found, site_part, site_found};
-ghost use Rattle.jdwp_script_machine.specs.Sites.{tagged, reached, class_seen, line_of, site_in, site_location, site_place, found_location, tag_by_contents};
+ghost use Rattle.jdwp_script_machine.specs.Layers.{class_ids, stands_alone};
+ghost use Rattle.jdwp_script_machine.specs.LookUps.{is_some};
+ghost use Rattle.jdwp_script_machine.specs.Sites.{tagged, class_in, reached, class_seen, line_of, site_in, site_location, site_place, found_location, tag_by_contents};
 
 use crate::layers::reached_within;
 use crate::look_ups::with_id;
@@ -115,6 +117,61 @@ pub(crate) fn class_seen(
 /// # Errors
 /// `NoMemory` where an allocation was refused.
 pub(crate) fn reached(
+    alloc: Global,
+    script: &Script,
+    from: ReferenceTypeId,
+) -> Result<Vec<ReferenceTypeId>, NoMemory>
+    ensures { IfOk result (λ ids. ids_of ids ≡ reached (script_part script.now) from.0) }
+{
+    if stands_alone(script, from) {
+        classes_with_id(alloc, script, from)
+    } else {
+        reached_by_layers(alloc, script, from)
+    }
+}
+
+/// Whether no class of the script stands above this one, so that it reaches itself alone.
+fn stands_alone(script: &Script, from: ReferenceTypeId) -> bool
+    ensures { result ≡ stands_alone (script_part script.now) (class_in (script_part script.now) from.0) }
+{
+    match with_id(&script.classes, from.0) {
+        None => true,
+        Some(class) => class.interfaces.is_empty() && !has_class(script, class.superclass),
+    }
+}
+
+/// Whether the script has a class with this id.
+fn has_class(script: &Script, id: ReferenceTypeId) -> bool
+    ensures { result ≡ is_some (class_in (script_part script.now) id.0) }
+{
+    with_id(&script.classes, id.0).is_some()
+}
+
+/// The ids of the classes with this one.
+///
+/// # Errors
+/// `NoMemory` where an allocation was refused.
+fn classes_with_id(
+    alloc: Global,
+    script: &Script,
+    wanted: ReferenceTypeId,
+) -> Result<Vec<ReferenceTypeId>, NoMemory>
+    ensures { IfOk result (λ ids. ids_of ids ≡ filter (λ id. wanted.0 == id) (class_ids (script_part script.now).classes)) }
+{
+    let mut ids = Vec::new(alloc);
+    for class in &script.classes {
+        if class.id == wanted {
+            ids.push(class.id)?;
+        }
+    }
+    Ok(ids)
+}
+
+/// The classes that this one reaches, found layer by layer.
+///
+/// # Errors
+/// `NoMemory` where an allocation was refused.
+fn reached_by_layers(
     alloc: Global,
     script: &Script,
     from: ReferenceTypeId,

@@ -3,7 +3,7 @@ use Rattle.jdwp_value.specs.declared.id.ReferenceTypeId.{ReferenceTypeId}
 use Rattle.jdwp_script.specs.Parts.{ClassPart}
 use Rattle.jdwp_script.specs.Meanings.{class_part, script_part}
 use Rattle.jdwp_script_machine.specs.Sites.{reached, reaches_within}
-use Rattle.jdwp_script_machine.proofs.sites.reached.Given as goal
+use Rattle.jdwp_script_machine.proofs.sites.reached_by_layers.Given as goal
 
 abbrev pub invariant-loop-class : goal.invariant-loop-class
 invariant-loop-class l =
