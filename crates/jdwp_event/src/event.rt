@@ -419,11 +419,11 @@ fn any_matches(requests: &[Request], happening: &Happening) -> bool
     requests.iter().any(|request| matches(request, happening))
 }
 
-/// Counts a happening as `count_down` does, where it is known what `gather` gives for it: where that is None and no request has a
-/// Count, nothing is left to do, and no request is tried. Takes no memory.
+/// Counts a happening as `count_down` does, where it is known what `gather` gives for it (`found`): where that is None and no request
+/// has a Count, nothing is left to do, and no request is tried. Takes no memory.
 pub fn count_gathered(requests: &mut Requests, happening: &Happening, found: &Option<Composite>)
-    requires { found.now ≡ gathered happening.now requests.old }
-    ensures { requests.new ≡ all_counted happening.now requests.old }
+    ensures { found.now ≡ gathered happening.now requests.old
+        → requests.new ≡ all_counted happening.now requests.old }
 {
     if found.is_some() || requests.have_count() {
         count_down(requests, happening);

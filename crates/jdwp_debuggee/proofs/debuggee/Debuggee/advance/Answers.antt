@@ -14,5 +14,5 @@ invariant_of-self-2 g c =
     let threads : c.add_started.new.threads ≡ with_new (started c.args.happening.now) c.self.inside.threads = c.in_ok-add_started.ensures.ok ∙ ap (λ o. with_new o c.self.inside.threads) c.thread_started.ensures in
     let machine : c.step.new.self ≡ g.M.Machine.meaning.stepped c.self.inside.machine c.args.thread.0 = search rules in
     let sends = rw (← c.self.view_is) at c.requires.sends in
-    rw (c.suspend_for.ensures, threads, c.count_gathered.ensures, c.id_after-self-inside.ensures, c.thread.ensures, machine)
+    rw (c.suspend_for.ensures, threads, c.count_gathered.ensures sends, c.id_after-self-inside.ensures, c.thread.ensures, machine)
     (kept-report g.M.Machine.meaning g.met.M.Machine.lawful _ c.args.thread.0 c.args.happening.now c.args.sends c.self.invariant (rw (← c.self.view_is) at c.requires.may) (rw (← c.self.view_is) at c.requires.unmarked) (rw (← c.self.view_is) at c.requires.next) c.requires.runs_on sends)

@@ -9,7 +9,7 @@ change-requires g c = most-of g.M.Machine.meaning _ c.self.invariant
 pub invariant_of-self : goal.invariant_of-self
 invariant_of-self g c =
     let sends = rw (← c.self.view_is) at c.requires.sends in
-    rw (c.mark.ensures, c.change.ensures, c.count_gathered.ensures, c.policy.ensures, c.thread.ensures)
+    rw (c.mark.ensures, c.change.ensures, c.count_gathered.ensures sends, c.policy.ensures, c.thread.ensures)
     (kept-death g.M.Machine.meaning g.met.M.Machine.lawful _ c.args.thread.0 c.args.happening.now c.in-Some.composite c.self.invariant (rw (← c.self.view_is) at c.requires.may) (rw (← c.self.view_is) at c.requires.unmarked) (rw (← c.self.view_is) at c.requires.next) c.requires.runs_out (sym c.in-Some.is ∙ sends))
 
 pub invariant_of-self-2 : goal.invariant_of-self-2
@@ -18,4 +18,4 @@ invariant_of-self-2 g c =
     let none : c.args.sends ≡ None = search rules in
     rw c.end_thread-dies.ensures.machine
     (kept-silent g.M.Machine.meaning g.met.M.Machine.lawful _ c.args.thread.0 c.args.happening.now _ _ c.end_thread-dies.result c.self.invariant (rw (← c.self.view_is) at c.requires.may) (rw (← c.self.view_is) at c.requires.unmarked) (rw (← c.self.view_is) at c.requires.next) c.requires.runs_out (sym none ∙ sends)
-    c.end_thread-dies.ensures.threads c.end_thread-dies.ensures.last (rw c.count_gathered.ensures at c.end_thread-dies.ensures.requests))
+    c.end_thread-dies.ensures.threads c.end_thread-dies.ensures.last (rw (c.count_gathered.ensures sends) at c.end_thread-dies.ensures.requests))
