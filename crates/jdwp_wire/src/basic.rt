@@ -18,6 +18,9 @@ use crate::writing::all_or_nothing;
 use byteorder::{BigEndian, ByteOrder};
 use std::alloc::Global;
 
+/// How many bytes a boolean takes.
+const BOOLEAN_SIZE: usize = 1;
+
 /// A byte.
 impl Wire for u8 {
     ghost Meaning = { ℕ };
@@ -92,7 +95,7 @@ impl Wire for bool {
     ghost takes_memory = { λ _ _. ⊥ };
 
     fn size(&self, _sizes: &IdSizes) -> Option<usize> {
-        Some(1)
+        Some(BOOLEAN_SIZE)
     }
 
     fn put(&self, _sizes: &IdSizes, output: &mut Vec<u8>) -> Result<(), DataFault> {
