@@ -26,6 +26,6 @@ pub use laws::{
     answers_first_fault, encodes_one_list, reads_only_encoded, reads_what_is_encoded,
     writes_what_is_encoded,
 };
-pub use reading::read;
+pub use reading::{read, read_field};
 pub use validation::validate;
 pub use writing::write;

@@ -112,7 +112,7 @@ fn take_item<'a>(
 {
     match item {
         Item::One(field) => {
-            let (scalar, rest) = take_field(alloc, field, rest, whole, sizes)?;
+            let (scalar, rest) = read_field(alloc, field, rest, whole, sizes)?;
             Ok((Datum::One(scalar), rest))
         }
         Item::Many(entry) => {
@@ -221,15 +221,19 @@ fn take_fields<'a>(
 {
     let mut rest = bytes;
     for field in fields {
-        let (scalar, after) = take_field(alloc, *field, rest, whole, sizes)?;
+        let (scalar, after) = read_field(alloc, *field, rest, whole, sizes)?;
         scalars.push(scalar)?;
         rest = after;
     }
     Ok(rest)
 }
 
-/// What the field holds, and what follows it.
-fn take_field<'a>(
+/// What the field at the front of the rest of a slice of `whole` bytes holds, and what follows it.
+///
+/// # Errors
+/// The fault of the field: `Short` with `whole`, `BadTag`, `NegativeCount` or `NotUtf8`. `NoMemory` where an allocation was
+/// refused, and only where the field is a string, and one of at least one byte stands in front.
+pub fn read_field<'a>(
     alloc: Global,
     field: Field,
     rest: &'a [u8],

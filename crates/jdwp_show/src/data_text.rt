@@ -94,7 +94,7 @@ fn push_scalars(text: &mut String, entry: &[Scalar]) -> Result<(), AllocError>
     Ok(())
 }
 
-fn push_scalar(text: &mut String, scalar: &Scalar) -> Result<(), AllocError>
+pub(crate) fn push_scalar(text: &mut String, scalar: &Scalar) -> Result<(), AllocError>
     ensures { OnOk result (string_bytes text.new ≡ string_bytes text.old ++ scalar_text (scalar_meaning scalar.now)) }
 {
     match scalar {
@@ -122,7 +122,7 @@ pub(crate) fn push_number<I: Integer>(text: &mut String, number: I) -> Result<()
     text.push_str(buffer.format(number))
 }
 
-pub(crate) fn push_boolean(text: &mut String, truth: bool) -> Result<(), AllocError>
+fn push_boolean(text: &mut String, truth: bool) -> Result<(), AllocError>
     ensures { OnOk result (string_bytes text.new ≡ string_bytes text.old ++ boolean_text truth) }
 {
     if truth {
@@ -132,7 +132,7 @@ pub(crate) fn push_boolean(text: &mut String, truth: bool) -> Result<(), AllocEr
     }
 }
 
-pub(crate) fn push_id(text: &mut String, id: u64) -> Result<(), AllocError>
+fn push_id(text: &mut String, id: u64) -> Result<(), AllocError>
     ensures { OnOk result (string_bytes text.new ≡ string_bytes text.old ++ id_text id) }
 {
     text.push_str("#")?;
@@ -147,7 +147,7 @@ fn push_byte(text: &mut String, byte: u8) -> Result<(), AllocError>
     text.push(char::from(byte))
 }
 
-pub(crate) fn push_tagged(text: &mut String, object: &TaggedId) -> Result<(), AllocError>
+fn push_tagged(text: &mut String, object: &TaggedId) -> Result<(), AllocError>
     ensures { OnOk result (string_bytes text.new ≡ string_bytes text.old ++ tagged_text object.now) }
 {
     push_byte(text, object.tag.byte())?;
@@ -155,7 +155,7 @@ pub(crate) fn push_tagged(text: &mut String, object: &TaggedId) -> Result<(), Al
 }
 
 /// The tag, the class, the method and the index; the null location has tag 0, and all else 0.
-pub(crate) fn push_location(text: &mut String, location: &Location) -> Result<(), AllocError>
+fn push_location(text: &mut String, location: &Location) -> Result<(), AllocError>
     ensures { OnOk result (string_bytes text.new ≡ string_bytes text.old ++ location_text location.now) }
 {
     match location {
@@ -188,7 +188,7 @@ fn push_type_tag(text: &mut String, tag: TypeTag) -> Result<(), AllocError>
 }
 
 /// The tag and the bits as an unsigned number; an object as its tagged id, and void as its tag alone.
-pub(crate) fn push_value(text: &mut String, value: &Value) -> Result<(), AllocError>
+fn push_value(text: &mut String, value: &Value) -> Result<(), AllocError>
     ensures { OnOk result (string_bytes text.new ≡ string_bytes text.old ++ value_text value.now) }
 {
     text.push_str(match value {
@@ -246,7 +246,7 @@ fn push_elements(text: &mut String, elements: &[Value]) -> Result<(), AllocError
 
 /// The text between double quotes, with a backslash before a double quote and a backslash, and `\xHH` for characters
 /// below 32 and 127.
-pub(crate) fn push_quoted(text: &mut String, string: &str) -> Result<(), AllocError>
+fn push_quoted(text: &mut String, string: &str) -> Result<(), AllocError>
     ensures { OnOk result (string_bytes text.new ≡ string_bytes text.old ++ string_text string.now) }
 {
     text.push_str("\"")?;

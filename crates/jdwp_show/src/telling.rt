@@ -8,14 +8,9 @@ ghost use Rattle.jdwp_layout.specs.Reads.{field_at, fields_at, entry_at, item_at
 ghost use Rattle.jdwp_show.specs.DataText.{listed, scalar_text, entry_text, datum_text, data_text};
 ghost use Rattle.jdwp_show.specs.Telling.{told_behind, all_told_behind};
 
-use crate::data_text::{
-    push_boolean, push_entry, push_id, push_location, push_number, push_quoted, push_region,
-    push_separator, push_tagged, push_value,
-};
-use jdwp_layout::{Entry, Field, Item, read_entry};
-use jdwp_value::{
-    ArrayRegion, FieldId, FrameId, Location, MethodId, ObjectId, ReferenceTypeId, TaggedId, Value,
-};
+use crate::data_text::{push_entry, push_region, push_scalar, push_separator};
+use jdwp_layout::{Entry, Field, Item, read_entry, read_field};
+use jdwp_value::ArrayRegion;
 use jdwp_wire::number::take_count;
 use jdwp_wire::{DataFault, IdSizes, Wire};
 use std::alloc::Global;
@@ -176,71 +171,7 @@ fn tell_field<'a>(
 ) -> Result<&'a [u8], DataFault>
     ensures { Gives (λ after. (string_bytes text.new, after.now)) result (told_behind scalar_text (string_bytes text.old) (field_at sizes.now whole field rest.now)) }
 {
-    match field {
-        Field::Byte => {
-            let (byte, rest) = u8::take_front(alloc, rest, whole, sizes)?;
-            push_number(text, byte)?;
-            Ok(rest)
-        }
-        Field::Boolean => {
-            let (truth, rest) = bool::take_front(alloc, rest, whole, sizes)?;
-            push_boolean(text, truth)?;
-            Ok(rest)
-        }
-        Field::Int => {
-            let (number, rest) = i32::take_front(alloc, rest, whole, sizes)?;
-            push_number(text, number)?;
-            Ok(rest)
-        }
-        Field::Long => {
-            let (number, rest) = i64::take_front(alloc, rest, whole, sizes)?;
-            push_number(text, number)?;
-            Ok(rest)
-        }
-        Field::String => {
-            let (string, rest) = String::take_front(alloc, rest, whole, sizes)?;
-            push_quoted(text, string.as_str())?;
-            Ok(rest)
-        }
-        Field::ObjectId => {
-            let (id, rest) = ObjectId::take_front(alloc, rest, whole, sizes)?;
-            push_id(text, id.0)?;
-            Ok(rest)
-        }
-        Field::ReferenceTypeId => {
-            let (id, rest) = ReferenceTypeId::take_front(alloc, rest, whole, sizes)?;
-            push_id(text, id.0)?;
-            Ok(rest)
-        }
-        Field::MethodId => {
-            let (id, rest) = MethodId::take_front(alloc, rest, whole, sizes)?;
-            push_id(text, id.0)?;
-            Ok(rest)
-        }
-        Field::FieldId => {
-            let (id, rest) = FieldId::take_front(alloc, rest, whole, sizes)?;
-            push_id(text, id.0)?;
-            Ok(rest)
-        }
-        Field::FrameId => {
-            let (id, rest) = FrameId::take_front(alloc, rest, whole, sizes)?;
-            push_id(text, id.0)?;
-            Ok(rest)
-        }
-        Field::Location => {
-            let (location, rest) = Location::take_front(alloc, rest, whole, sizes)?;
-            push_location(text, &location)?;
-            Ok(rest)
-        }
-        Field::Value => {
-            let (value, rest) = Value::take_front(alloc, rest, whole, sizes)?;
-            push_value(text, &value)?;
-            Ok(rest)
-        }
-        Field::TaggedId => {
-            let (tagged, rest) = TaggedId::take_front(alloc, rest, whole, sizes)?;
-            push_tagged(text, &tagged)?;
-            Ok(rest)
-        }
-    }
+    let (scalar, rest) = read_field(alloc, field, rest, whole, sizes)?;
+    push_scalar(text, &scalar)?;
+    Ok(rest)
 }
