@@ -3,8 +3,8 @@ use crate::rows::row;
 use jdwp_layout::{
     Data, Datum, Entry, Field, Item, Layout, Scalar, answers_first_fault, data_size,
     encodes_one_list, entry_size, fields_of_event, fields_of_modifier, layout_of, pass_entries,
-    pass_entry, read, read_entry, reads_only_encoded, reads_what_is_encoded, refusal, validate,
-    write, write_entry, writes_what_is_encoded,
+    pass_entry, read, read_entry, read_field, reads_only_encoded, reads_what_is_encoded, refusal,
+    validate, write, write_entry, writes_what_is_encoded,
 };
 use jdwp_value::{ArrayRegion, Location, ObjectId, TaggedId, TypeTag, Value};
 use jdwp_wire::{DataFault, IdSizes};
@@ -493,6 +493,36 @@ fn entries_one_by_one(rt: HostRuntime) -> Result<(), Fail> {
     assert_eq!(rt;
         pass_entry(Entry::Event, &[99, 0], 2, &sizes).err(),
         Some(DataFault::Short(2))
+    );
+    Ok(())
+}
+
+/// Whether the field in front of these bytes holds this, with so many bytes behind it.
+fn holds(
+    alloc: Global,
+    field: Field,
+    hex: &str,
+    want: &Scalar,
+    behind: usize,
+) -> Result<bool, Fail> {
+    let sizes = IdSizes::new(8, 8, 8, 8, 8)?;
+    let bytes = bytes_of(alloc, hex)?;
+    let (scalar, rest) = read_field(alloc, field, &bytes, bytes.len(), &sizes)?;
+    Ok(scalar == *want && rest.len() == behind)
+}
+
+#[test]
+fn fields_one_by_one(rt: HostRuntime) -> Result<(), Fail> {
+    let alloc = rt.alloc();
+    assert!(rt; holds(alloc, Field::Boolean, "02 07", &Scalar::Boolean(true), 1)?);
+    assert!(rt; holds(alloc, Field::Int, "ffffffff", &Scalar::Int(-1), 0)?);
+    let thread = Scalar::ObjectId(ObjectId(9));
+    assert!(rt; holds(alloc, Field::ObjectId, "0000000000000009 0000", &thread, 2)?);
+    // One byte of an int.
+    let sizes = IdSizes::new(8, 8, 8, 8, 8)?;
+    assert_eq!(rt;
+        read_field(alloc, Field::Int, &[0], 1, &sizes).err(),
+        Some(DataFault::Short(1))
     );
     Ok(())
 }
