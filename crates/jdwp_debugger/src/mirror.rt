@@ -11,8 +11,9 @@ ghost use Rattle.jdwp_debugger.specs.Mirrors.{Learned, empty_mirror};
 
 use crate::command::{Act, Command};
 use crate::composite::{has_event_of, thread_in};
+use crate::known::KnownThreads;
 use crate::requests::{KeptRequest, KeptRequests};
-use crate::threads::{Known, Lesson, Threads};
+use crate::threads::{Lesson, Threads};
 use jdwp_event::{Composite, EventKind};
 use jdwp_layout::{Answer, Data};
 use jdwp_value::ObjectId;
@@ -62,11 +63,11 @@ impl Mirror {
     }
 
     /// The threads that are known, each once, in the order in which they became known.
-    pub fn known(&self) -> &[Known]
-        ensures all { result.now ≡ self.now.threads }
+    pub fn known(&self) -> KnownThreads<'_>
+        ensures all { result ≡ self.now.threads }
         ensures distinct { AreDistinct self.now.threads }
     {
-        self.threads.as_slice()
+        self.threads.iter()
     }
 
     /// The event requests, the last one asked last.
