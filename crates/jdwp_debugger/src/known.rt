@@ -1,8 +1,9 @@
 //! The threads that a debugger knows, one after another.
 ghost use Rattle.std.specs.Prelude.{◌≡◌, length};
 ghost use Rattle.std.specs.Iterator.{at_most};
-ghost use Rattle.std.specs.Map.Iter.{TakesFirst, deref};
+ghost use Rattle.std.specs.Map.Iter.{ShowsInOrder, TakesFirst, deref};
 ghost use Rattle.std.specs.BTreeMap.{values};
+ghost use Rattle.jdwp_debugger.specs.declared.threads.Known.{Known};
 
 use crate::threads::Known;
 use std::alloc::Global;
@@ -50,7 +51,8 @@ impl<'a> ExactSizeIterator for KnownThreads<'a> {
 impl<'a> KnownThreads<'a> {
     /// Those that stand in a map under the numbers with which they became known.
     pub(crate) fn of(entries: &'a BTreeMap<u64, Known>) -> KnownThreads<'a>
-        ensures { result ≡ values entries.now }
+        ensures all { result ≡ values entries.now }
+        ensures runs { ShowsInOrder (deref {X = Known}) }
     {
         KnownThreads {
             rest: entries.values(),

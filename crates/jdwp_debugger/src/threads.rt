@@ -4,7 +4,9 @@ ghost use Rattle.std.specs.BTreeMap.{IsOrdered, keys};
 ghost use Rattle.std.specs.BTreeSet.{contains};
 ghost use Rattle.std.specs.List.{All};
 ghost use Rattle.std.specs.Option.{option_copied};
+ghost use Rattle.std.specs.Map.Iter.{ShowsInOrder, deref};
 ghost use Rattle.std.specs.Ordering.{nat_cmp};
+ghost use Rattle.jdwp_debugger.specs.declared.threads.Known.{Known};
 ghost use Rattle.jdwp_debugger.specs.Acts.{lesson_of, lesson_of_event, own_change, others_change, ready_for, with_counted};
 ghost use Rattle.jdwp_debugger.specs.KnownThreads.{AreSound, all_taught, change_of, count_in, is_held_in, is_of_id, is_of_one, only, taught_by, with_thread, without};
 ghost use Rattle.jdwp_debugger.specs.Mirror.{counted, lists};
@@ -205,6 +207,7 @@ impl Threads {
     /// All of them, in the order in which they became known.
     pub fn iter(&self) -> KnownThreads<'_>
         ensures all { result ≡ self.now }
+        ensures runs { ShowsInOrder (deref {X = Known}) }
         ensures sound { AreSound self.now }
     {
         KnownThreads::of(&self.entries)
