@@ -2,8 +2,9 @@
 """How long a debugger takes to know many threads, and to forget them again.
 
 Makes what a target sends in a session: THREAD_START of so many threads, whose ids are spread over all 64 bits, and in a second session also THREAD_DEATH of each of them, the first
-one first; then runs `attach` on it, and prints the seconds (the best of three runs by the processor's time) for 25,000, 50,000 and 100,000 threads. Each message is printed, too,
-which is part of the time. To reach: twice the threads take about twice the time where threads start. Where they end, those behind are moved in memory.
+one first; then runs `attach` on it, and prints the seconds (the best of three runs by the processor's time) for 25,000, 50,000 and 100,000 threads: until all have started, and how
+much longer it takes until all have ended, too. Each message is printed, which is part of the time. To reach: twice the threads take about twice the time, and to end takes about as
+long as to start.
 
     bench/known_threads.py [PROGRAM] [THREADS..]
 
@@ -66,7 +67,7 @@ def main():
         for threads in counts:
             start = seconds_of(program, folder, threads, [THREAD_START])
             both = seconds_of(program, folder, threads, [THREAD_START, THREAD_DEATH])
-            print(f"{threads} threads: {start:.2f} s to start, {both:.2f} s to start and end")
+            print(f"{threads} threads: {start:.2f} s to start, {both - start:.2f} s more to end")
 
 
 if __name__ == "__main__":

@@ -211,7 +211,7 @@ fn clear(alloc: Global, kind: u8, id: i32) -> Result<Command, Fail> {
 }
 
 fn knows(mirror: &Mirror, wanted: &[(u64, u32, bool)]) -> bool {
-    for (known, (id, count, held)) in mirror.known().iter().zip(wanted) {
+    for (known, (id, count, held)) in mirror.known().zip(wanted) {
         if known.id.0 != *id || known.count != *count || known.held != *held {
             return false;
         }

@@ -1,5 +1,5 @@
 //! What turns do with a target's bytes.
-use jdwp_debugger::{Command, Debugger, DebuggerFault, Head, Known, Read, Ticket};
+use jdwp_debugger::{Command, Debugger, DebuggerFault, Head, KnownThreads, Read, Ticket};
 use jdwp_layout::{Datum, Scalar};
 use jdwp_value::ObjectId;
 use std::alloc::Global;
@@ -185,11 +185,11 @@ fn sends(alloc: Global, debugger: &mut Debugger, output: &str) -> Result<bool, F
     Ok(&buffer[..count] == bytes(alloc, output)?.as_slice())
 }
 
-fn are_known(known: &[Known], threads: &[(u64, u32, bool)]) -> bool {
+fn are_known(known: KnownThreads<'_>, threads: &[(u64, u32, bool)]) -> bool {
     if known.len() != threads.len() {
         return false;
     }
-    for (one, (id, count, held)) in known.iter().zip(threads) {
+    for (one, (id, count, held)) in known.zip(threads) {
         if one.id.0 != *id || one.count != *count || one.held != *held {
             return false;
         }

@@ -152,8 +152,7 @@ pub(crate) fn print_mirror<W: Pipe>(
     ensures err { IfErr result (λ e. IsUnprinted e (W.story out.old) (W.story out.new)) }
 {
     let mut text = String::new(alloc);
-    let mut threads: Vec<Known> = Vec::new(alloc);
-    threads.extend_from_slice(debugger.mirror().known())?;
+    let mut threads: Vec<Known> = debugger.mirror().known().copied().collect(alloc)?;
     threads.sort_by_key(|thread| thread.id.0)?;
     for thread in &threads {
         text.push_str(&thread_line(alloc, thread)?)?;

@@ -8,6 +8,7 @@ mod debugger;
 mod faults;
 mod heads;
 mod judging;
+mod known;
 mod laws;
 mod lost;
 mod mirror;
@@ -24,6 +25,7 @@ pub use command::{Carried, Command};
 pub use debugger::Debugger;
 pub use faults::DebuggerFault;
 pub use heads::Head;
+pub use known::KnownThreads;
 pub use laws::{
     counts_by_commands, counts_by_events, forgets_ended_threads, goes_on_at_each_call,
     keeps_requests, refuses_packets,

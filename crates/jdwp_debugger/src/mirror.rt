@@ -1,9 +1,11 @@
 //! What a debugger knows of a target by what it read.
 ghost use Rattle.std.specs.Prelude.{◌≡◌, OnErr, OnOk};
+ghost use Rattle.std.specs.Map.Iter.{ShowsInOrder, deref};
 ghost use Rattle.jdwp_debuggee.specs.Actions.{action_of, thread_of};
 ghost use Rattle.jdwp_event.specs.Told.{composite_thread};
 ghost use Rattle.jdwp_debugger.specs.Acts.{act_of, id_found, requests_after_act, requests_after_others, threads_after_data, threads_after_error, threads_after_event, threads_after_others};
 ghost use Rattle.jdwp_debugger.specs.FaultParts.{IsData};
+ghost use Rattle.jdwp_debugger.specs.declared.threads.Known.{Known};
 ghost use Rattle.jdwp_debugger.specs.KnownThreads.{AreDistinct, count_in, is_held_in};
 ghost use Rattle.jdwp_debugger.specs.Messages.{Reply, Report, Ticket};
 ghost use Rattle.jdwp_debugger.specs.Mirrors as mirrors;
@@ -11,8 +13,9 @@ ghost use Rattle.jdwp_debugger.specs.Mirrors.{Learned, empty_mirror};
 
 use crate::command::{Act, Command};
 use crate::composite::{has_event_of, thread_in};
+use crate::known::KnownThreads;
 use crate::requests::{KeptRequest, KeptRequests};
-use crate::threads::{Known, Lesson, Threads};
+use crate::threads::{Lesson, Threads};
 use jdwp_event::{Composite, EventKind};
 use jdwp_layout::{Answer, Data};
 use jdwp_value::ObjectId;
@@ -62,11 +65,12 @@ impl Mirror {
     }
 
     /// The threads that are known, each once, in the order in which they became known.
-    pub fn known(&self) -> &[Known]
-        ensures all { result.now ≡ self.now.threads }
+    pub fn known(&self) -> KnownThreads<'_>
+        ensures all { result ≡ self.now.threads }
+        ensures runs { ShowsInOrder (deref {X = Known}) }
         ensures distinct { AreDistinct self.now.threads }
     {
-        self.threads.as_slice()
+        self.threads.iter()
     }
 
     /// The event requests, the last one asked last.

@@ -1,13 +1,19 @@
 //! The threads that a debugger knows.
-ghost use Rattle.std.specs.Prelude.{◌≡◌, ◌==◌, ◌&&◌, ◌++◌, ◌∷◌, ◌<◌, IfOk, IfSome, None, OnErr, OnOk, [], length, not, true};
+ghost use Rattle.std.specs.Prelude.{◌≡◌, ◌==◌, ◌&&◌, ◌++◌, ◌∷◌, ◌<◌, IfOk, None, OnErr, OnOk, [], map, not, true};
+ghost use Rattle.std.specs.BTreeMap.{IsOrdered, keys};
 ghost use Rattle.std.specs.BTreeSet.{contains};
+ghost use Rattle.std.specs.List.{All};
+ghost use Rattle.std.specs.Option.{option_copied};
+ghost use Rattle.std.specs.Map.Iter.{ShowsInOrder, deref};
 ghost use Rattle.std.specs.Ordering.{nat_cmp};
+ghost use Rattle.jdwp_debugger.specs.declared.threads.Known.{Known};
 ghost use Rattle.jdwp_debugger.specs.Acts.{lesson_of, lesson_of_event, own_change, others_change, ready_for, with_counted};
 ghost use Rattle.jdwp_debugger.specs.KnownThreads.{AreSound, all_taught, change_of, count_in, is_held_in, is_of_id, is_of_one, only, taught_by, with_thread, without};
 ghost use Rattle.jdwp_debugger.specs.Mirror.{counted, lists};
-ghost use Rattle.jdwp_debugger.specs.Numbering.{Rise, place_in};
+ghost use Rattle.jdwp_debugger.specs.Numbering.{known_in};
 
 use crate::command::Act;
+use crate::known::KnownThreads;
 use crate::reply::{count_in_reply, listed_in};
 use jdwp_layout::Data;
 use jdwp_value::ObjectId;
@@ -166,15 +172,15 @@ impl Lesson {
 /// Known threads in the order in which they became known, each once, and found by their ids.
 #[derive(Drop)]
 pub(crate) struct Threads {
-    entries: Vec<Known>,
-    /// The number under which each of them became known, in the same order: they rise.
-    numbers: Vec<u64>,
+    /// Under the number with which each became known: these rise, so that the map has them in that order.
+    entries: BTreeMap<u64, Known>,
     /// The number of each by its id.
-    index: BTreeMap<u64, u64>,
+    numbers: BTreeMap<u64, u64>,
 }
 
 impl Model for Threads {
     ghost use Rattle.std.specs.Prelude.{List};
+    ghost use Rattle.std.specs.BTreeMap.{values};
     ghost use Rattle.jdwp_debugger.specs.declared.threads.Known.{Known};
 
     ghost Value = { List Known };
@@ -182,9 +188,9 @@ impl Model for Threads {
     ghost use Rattle.jdwp_debugger.specs.KnownThreads.{AreSound};
     ghost use Rattle.jdwp_debugger.specs.Numbering.{AreNumbered};
 
-    ghost view = { λ t. t.entries.items };
+    ghost view = { λ t. values t.entries };
 
-    ghost invariant = { λ t. AreSound t.entries.items × AreNumbered t.entries.items t.numbers.items t.index };
+    ghost invariant = { λ t. AreSound (values t.entries) × AreNumbered t.entries t.numbers };
 }
 
 impl Threads {
@@ -193,26 +199,26 @@ impl Threads {
         ensures { result ≡ [] }
     {
         Threads {
-            entries: Vec::new(alloc),
-            numbers: Vec::new(alloc),
-            index: BTreeMap::new(alloc),
+            entries: BTreeMap::new(alloc),
+            numbers: BTreeMap::new(alloc),
         }
     }
 
     /// All of them, in the order in which they became known.
-    pub fn as_slice(&self) -> &[Known]
-        ensures all { result.now ≡ self.now }
+    pub fn iter(&self) -> KnownThreads<'_>
+        ensures all { result ≡ self.now }
+        ensures runs { ShowsInOrder (deref {X = Known}) }
         ensures sound { AreSound self.now }
     {
-        self.entries.as_slice()
+        KnownThreads::of(&self.entries)
     }
 
     /// The count of a thread, or None where it is not known.
     pub fn count(&self, id: ObjectId) -> Option<u32>
         ensures { result ≡ count_in self.now id.0 }
     {
-        match self.place(id) {
-            Some(place) => Some(self.entries[place].count),
+        match self.find(id) {
+            Some(known) => Some(known.count),
             None => None,
         }
     }
@@ -221,19 +227,18 @@ impl Threads {
     pub fn is_held(&self, id: ObjectId) -> bool
         ensures { result ≡ is_held_in self.now id.0 }
     {
-        match self.place(id) {
-            Some(place) => self.entries[place].held,
+        match self.find(id) {
+            Some(known) => known.held,
             None => false,
         }
     }
 
-    /// Where a thread stands among them, or None where it is not known.
-    fn place(&self, id: ObjectId) -> Option<usize>
-        ensures place { result ≡ place_in self.now id.0 }
-        ensures within { IfSome result (λ place. place < length self.now) }
+    /// A thread among them, or None where it is not known.
+    fn find(&self, id: ObjectId) -> Option<&Known>
+        ensures { option_copied result ≡ known_in self.now id.0 }
     {
-        match self.index.get(&id.0) {
-            Some(number) => self.numbers.binary_search(number).ok(),
+        match self.numbers.get(&id.0) {
+            Some(number) => self.entries.get(number),
             None => None,
         }
     }
@@ -266,14 +271,16 @@ impl Threads {
         ensures ok { OnOk result (self.new ≡ self.old ++ known ∷ []) }
         ensures err { OnErr result (self.new ≡ self.old) }
     {
-        let number = next_number(&self.numbers)?;
-        // Room first, so that nothing fails once the map has changed.
-        self.entries.reserve(1)?;
-        self.numbers.reserve(1)?;
-        self.index.insert(known.id.0, number)?;
-        self.numbers.push(number)?;
-        self.entries.push(known)?;
-        Ok(())
+        let number = next_number(&self.entries)?;
+        self.numbers.insert(known.id.0, number)?;
+        match self.entries.insert(number, known) {
+            Ok(_) => Ok(()),
+            Err(_) => {
+                // Its number is taken back, so that nothing has changed.
+                let _ = self.numbers.remove(&known.id.0);
+                Err(NoMemory)
+            }
+        }
     }
 
     /// Changes counts, and holds what is shown alive. It goes over all threads only where it changes others than its own.
@@ -293,8 +300,10 @@ impl Threads {
         ensures { self.new ≡ all_taught lesson self.old }
     {
         if let Some(thread) = lesson.thread {
-            if let Some(place) = self.place(thread) {
-                self.entries[place] = lesson.teach(self.entries[place]);
+            if let Some(number) = self.numbers.get(&thread.0) {
+                if let Some(known) = self.entries.get_mut(number) {
+                    *known = lesson.teach(*known);
+                }
             }
         }
     }
@@ -346,35 +355,24 @@ impl Threads {
         ensures err { OnErr result (self.new ≡ self.old) }
     {
         let listed = listed_in(alloc, reply)?;
-        self.keep_only(alloc, &listed)
-    }
-
-    /// Forgets all but those whose ids these are.
-    ///
-    /// # Errors
-    /// `NoMemory` where an allocation was refused; nothing has changed.
-    fn keep_only(&mut self, alloc: Global, ids: &BTreeSet<u64>) -> Result<(), NoMemory>
-        ensures ok { OnOk result (self.new ≡ only (contains nat_cmp ids.now) self.old) }
-        ensures err { OnErr result (self.new ≡ self.old) }
-    {
-        let mut kept = Threads::new(alloc);
-        for known in &self.entries {
-            if ids.contains(&known.id.0) {
-                kept.add(*known)?;
-            }
-        }
-        *self = kept;
+        self.keep_only(&listed);
         Ok(())
     }
 
-    /// Forgets a thread. Those behind it are moved in memory; their numbers stay.
+    /// Forgets all but those whose ids these are.
+    fn keep_only(&mut self, ids: &BTreeSet<u64>)
+        ensures { self.new ≡ only (contains nat_cmp ids.now) self.old }
+    {
+        self.entries.retain(|_, known| ids.contains(&known.id.0));
+        self.numbers.retain(|id, _| ids.contains(id));
+    }
+
+    /// Forgets a thread.
     pub fn forget(&mut self, id: ObjectId)
         ensures { self.new ≡ without id.0 self.old }
     {
-        if let Some(place) = self.place(id) {
-            let _ = self.index.remove(&id.0);
-            let _ = self.numbers.remove(place);
-            let _ = self.entries.remove(place);
+        if let Some(number) = self.numbers.remove(&id.0) {
+            let _ = self.entries.remove(&number);
         }
     }
 
@@ -384,7 +382,6 @@ impl Threads {
     {
         self.entries.clear();
         self.numbers.clear();
-        self.index.clear();
     }
 }
 
@@ -392,10 +389,10 @@ impl Threads {
 ///
 /// # Errors
 /// `NoMemory` where the last of them is the greatest.
-fn next_number(numbers: &[u64]) -> Result<u64, NoMemory>
-    ensures { IfOk result (λ number. Rise 0 numbers.now → Rise 0 (numbers.now ++ number ∷ [])) }
+fn next_number(entries: &BTreeMap<u64, Known>) -> Result<u64, NoMemory>
+    ensures { IfOk result (λ number. All (λ n. n < number) (keys entries.now)) }
 {
-    let Some(last) = numbers.last() else {
+    let Some((last, _)) = entries.last_key_value() else {
         return Ok(0);
     };
     match last.checked_add(1) {
@@ -404,16 +401,13 @@ fn next_number(numbers: &[u64]) -> Result<u64, NoMemory>
     }
 }
 
-fn teach_each(entries: &mut [Known], lesson: Lesson)
-    ensures { entries.new ≡ all_taught lesson entries.old }
+fn teach_all(entries: &mut BTreeMap<u64, Known>, lesson: Lesson)
+    ensures entries { entries.new.entries ≡ map (λ e. (e.0, taught_by lesson e.1)) entries.old.entries }
+    ensures ordered { IsOrdered nat_cmp entries.new }
 {
-    for known in entries.iter_mut() {
+    // All are retained: this says of each what it becomes.
+    entries.retain(|_, known| {
         *known = lesson.teach(*known);
-    }
-}
-
-fn teach_all(entries: &mut Vec<Known>, lesson: Lesson)
-    ensures { entries.new.items ≡ all_taught lesson entries.old.items }
-{
-    teach_each(entries.as_mut_slice(), lesson);
+        true
+    });
 }

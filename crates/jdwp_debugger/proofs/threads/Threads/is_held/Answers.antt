@@ -1,13 +1,9 @@
 use Rattle.std.proofs.Common.{sym}
-use Rattle.jdwp_debugger.proofs.NumberingLemmas.{place-held, place-none-held}
+use Rattle.jdwp_debugger.proofs.NumberingLemmas.{known-held, unknown-held}
 use Rattle.jdwp_debugger.proofs.threads.Threads.is_held.Goals as goal
 
 pub returns-in-Some : goal.returns-in-Some
-returns-in-Some c =
-    let v = c.self.view_is in
-    let i = c.index.ensures in
-    let h = place-held c.args.self.now c.args.id.0 c.in-Some.place c.index.result.now (sym c.in-Some.ensures.place) in
-    cc
+returns-in-Some c = sym (known-held c.args.self.now c.args.id.0 c.in-Some.known.now (sym c.in-Some.ensures))
 
 pub returns-in-None : goal.returns-in-None
-returns-in-None c = sym (place-none-held c.args.self.now c.args.id.0 (sym c.in-None.ensures.place))
+returns-in-None c = sym (unknown-held c.args.self.now c.args.id.0 (sym c.in-None.ensures))
