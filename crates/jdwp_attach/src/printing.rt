@@ -5,7 +5,7 @@ ghost use Rattle.jdwp_attach.specs.Runs.{Prints, PrintsPart, IsUnprinted};
 
 use crate::lines::{HELLO, answered_line, request_line, seen_line, sizes_line, thread_line};
 use crate::run::{Run, Waiting};
-use jdwp_debugger::{Debugger, Head, Known, Read, Ticket};
+use jdwp_debugger::{Debugger, Head, Known, Mirror, Read, Ticket};
 use jdwp_engine::{Pipe, write_all};
 use jdwp_event::Composite;
 use jdwp_layout::Answer;
@@ -152,18 +152,30 @@ pub(crate) fn print_mirror<W: Pipe>(
     ensures err { IfErr result (λ e. IsUnprinted e (W.story out.old) (W.story out.new)) }
 {
     let mut text = String::new(alloc);
-    let mut threads: Vec<Known> = debugger.mirror().known().copied().collect(alloc)?;
+    put_threads(alloc, debugger.mirror(), &mut text)?;
+    put_requests(alloc, debugger.mirror(), &mut text)?;
+    print(out, &text)
+}
+
+/// Puts a line for each thread that a mirror knows, by rising id.
+fn put_threads(alloc: Global, mirror: &Mirror, text: &mut String) -> Result<(), NoMemory> {
+    let mut threads = mirror.known().copied().collect::<Vec<Known>>(alloc)?;
     threads.sort_by_key(|thread| thread.id.0)?;
     for thread in &threads {
         text.push_str(&thread_line(alloc, thread)?)?;
     }
+    Ok(())
+}
+
+/// Puts a line for each event request that it knows, by rising id.
+fn put_requests(alloc: Global, mirror: &Mirror, text: &mut String) -> Result<(), NoMemory> {
     let mut requests: Vec<(i32, u8, u8)> = Vec::new(alloc);
-    for request in debugger.mirror().requests() {
+    for request in mirror.requests() {
         requests.push((request.id(), request.kind(), request.policy()))?;
     }
     requests.sort()?;
     for (id, kind, policy) in &requests {
         text.push_str(&request_line(alloc, *id, *kind, *policy)?)?;
     }
-    print(out, &text)
+    Ok(())
 }
