@@ -5,10 +5,12 @@ use Rattle.std.specs.Ordering.{nat_cmp}
 use Rattle.std.specs.Option.{option_or}
 use Rattle.jdwp_wire.specs.Widths.{Widths}
 use Rattle.jdwp_show.specs.declared.capture_fault.CaptureFault.{CaptureFault}
+use Rattle.jdwp_show.specs.declared.capture_line.Sender.{Sender}
 use Rattle.jdwp_show.specs.declared.found.ItemRef.{ItemRef}
 use Rattle.jdwp_show.specs.declared.pending.Command.{Command}
 use Rattle.jdwp_show.specs.declared.pending.Pending.{Pending}
 use Rattle.jdwp_show.specs.declared.waiting.Waiting.{Waiting}
+use Rattle.jdwp_show.specs.Found.{Found}
 use Rattle.jdwp_show.specs.Items.{Item}
 use Rattle.jdwp_show.specs.Rules.{has_begun, waiting, is_debugger, is_handshake, waits_after_found, order_fault, data_fault}
 use Rattle.jdwp_show.specs.Streams.{thing}
@@ -36,3 +38,8 @@ pub record IsAfter (old : Pending) (item : ItemRef) (new : Pending) : Type 0 whe
 -- the rule that an item breaks, after the handshake or before it, where this command waits under its id
 abbrev pub rule_broken : Option Widths → Bool → Option Command → ItemRef → Option CaptureFault
 rule_broken widths begun waits item = option_or (order_fault begun waits item.sender (thing item.found)) (data_fault widths waits item.sender (thing item.found))
+
+-- What was found breaks no rule, where this command waits under its id, whether the debugger's handshake was before it or not.
+pub record Holds (widths : Option Widths) (waits : Option Command) (sender : Sender) (found : Found) : Type 0 where
+  pub begun : Bool
+  pub none_broken : option_or (order_fault begun waits sender found) (data_fault widths waits sender found) ≡ None
