@@ -1,5 +1,5 @@
 -- What is kept of the items so far.
-use Rattle.std.specs.Prelude.{◌≡◌, ℕ, ◌==◌, ◌||◌, ◌&&◌, List, Bool, Option, Some, None, if◌then◌else◌}
+use Rattle.std.specs.Prelude.{◌≡◌, ℕ, ◌+◌, ◌-◌, ◌||◌, ◌&&◌, nat_le, nat_lt, List, length, slice_index_or, Bool, Option, Some, None, if◌then◌else◌}
 use Rattle.std.specs.BTreeMap.{get}
 use Rattle.std.specs.Ordering.{nat_cmp}
 use Rattle.std.specs.Option.{option_or}
@@ -15,12 +15,20 @@ use Rattle.jdwp_show.specs.Items.{Item}
 use Rattle.jdwp_show.specs.Rules.{has_begun, waiting, is_debugger, is_handshake, waits_after_found, order_fault, data_fault}
 use Rattle.jdwp_show.specs.Streams.{thing}
 
-abbrev pub last_or : Option (ℕ × Command) → ℕ → Option Command → Option Command
-last_or None id others = others
-last_or (Some last) id others = if last.0 == id then Some last.1 else others
+-- where an id stands in a row of so many that begins with this one
+abbrev pub place_of : ℕ → ℕ → ℕ → Option ℕ
+place_of first count id = if nat_le first id && nat_lt id (first + count) then Some (id - first) else None
+
+abbrev pub place_in : Waiting → ℕ → Option ℕ
+place_in waiting id = place_of waiting.first (length waiting.row.items) id
+
+-- what stands at a place of the row, if there is one
+abbrev pub at_or : List (Option Command) → Option ℕ → Option Command → Option Command
+at_or row None others = others
+at_or row (Some place) others = slice_index_or row place None
 
 abbrev pub waits_in : Waiting → ℕ → Option Command
-waits_in waiting id = last_or waiting.last id (get nat_cmp waiting.others id)
+waits_in waiting id = at_or waiting.row.items (place_in waiting id) (get nat_cmp waiting.others id)
 
 abbrev pub waiting_in : Pending → ℕ → Option Command
 waiting_in pending id = waits_in pending.commands id
