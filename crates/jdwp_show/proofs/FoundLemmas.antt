@@ -167,12 +167,12 @@ whole_handshake bytes more taken come le within front =
 pub hello_length : (bytes : List ℕ) → HandshakeFrontOf bytes hello.Whole → 14 ≤ length bytes
 hello_length bytes (rest, e) = rw e (omega (arith, length-append HANDSHAKE rest))
 
-pub packet_length : (bytes : List ℕ) (h : Header) (body : List ℕ) (used : ℕ) → FrontOf 65536 bytes (frames.Whole h body used) → (0 < used) × (used ≤ length bytes)
+pub packet_length : (bytes : List ℕ) (h : Header) (body : List ℕ) (used : ℕ) → FrontOf 65536 bytes (frames.Whole h body used) → (0 < used) × (used ≤ length bytes) × (used ≡ 11 + length body)
 packet_length bytes h body used f =
     let w = whole_is 65536 bytes h body used (front_only 65536 bytes (frames.Whole h body used) (lit< tt) f) in
     let low = w.low in
     let there = w.there in
-    (omega arith, there)
+    (omega arith, there, omega (arith, ap (λ (x : List ℕ). length x) w.body-is, length-take (used - 11) (drop 11 bytes), length-drop 11 bytes))
 
 -- ---- what is found stays found when more bytes come
 

@@ -10,6 +10,10 @@ use Rattle.jdwp_show.specs.Lines.{Line, is_same, sent_by}
 use Rattle.jdwp_show.proofs.FoundLemmas.{found_grows}
 use Rattle.jdwp_show.proofs.LineLemmas.{sent_by-push}
 
+pub same_as_itself : (sender : Sender) → is_same sender sender ≡ true
+same_as_itself Debugger = refl
+same_as_itself Target = refl
+
 pub same_sender : (a b : Sender) → is_same a b ≡ true → a ≡ b
 same_sender Debugger Debugger e = refl
 same_sender Debugger Target e = absurd cc

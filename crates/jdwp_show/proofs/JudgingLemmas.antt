@@ -1,23 +1,23 @@
 -- Item by item over a capture: what is kept of those before, and the first answer.
-use Rattle.std.proofs.Common.{◌≡◌, ℕ, ◌+◌, ◌<◌, ◌≤◌, Bool, true, false, ◌||◌, ◌&&◌, List, [], ◌∷◌, ◌++◌, length, map, take, drop, get_or, Option, Some, None, is_some, option_map, refl, sym, ap, ◌∙◌}
+use Rattle.std.proofs.Common.{◌≡◌, ℕ, ◌+◌, Bool, true, false, ◌||◌, ◌&&◌, List, [], ◌∷◌, ◌++◌, Option, Some, None, is_some, option_map, refl, sym, ap, ◌∙◌, add-zero}
 use Rattle.std.specs.Option.{option_or}
-use Rattle.std.proofs.lemmas.List.{map-append, take_more, drop_more, drop_all}
 use Rattle.std.proofs.lemmas.List.Folds.{list_any-append}
 use Rattle.std.proofs.lemmas.List.Sums.{fold-append}
 use Rattle.jdwp_wire.specs.Streams.{Handshake, Packet}
 use Rattle.jdwp_wire.specs.Widths.{Widths}
 use Rattle.jdwp_show.specs.declared.capture_fault.CaptureFault.{CaptureFault}
-use Rattle.jdwp_show.specs.declared.capture_line.Sender.{Sender}
-use Rattle.jdwp_show.specs.declared.capture_line.Sender.TheVariants.{Debugger, Target}
 use Rattle.jdwp_show.specs.declared.found.ItemRef.{ItemRef}
 use Rattle.jdwp_show.specs.declared.pending.Command.{Command}
 use Rattle.jdwp_show.specs.declared.pending.Pending.{Pending}
+use Rattle.jdwp_show.specs.declared.walk.Walk.{Walk}
+use Rattle.jdwp_show.specs.CaptureLines.{lengths_of}
 use Rattle.jdwp_show.specs.Found.{Found, Sent, Faulty}
 use Rattle.jdwp_show.specs.Items.{Item}
-use Rattle.jdwp_show.specs.Pending.{waiting_in, IsPending, IsAfter, rule_broken}
+use Rattle.jdwp_show.specs.Pending.{waiting_in, IsPending, IsAfter, Holds, rule_broken}
 use Rattle.jdwp_show.specs.Rules.{has_begun, waiting, under, waiting_for, is_debugger, is_handshake, waits_after_found, order_fault, data_fault, order_fault_of, fault_of}
 use Rattle.jdwp_show.specs.Sessions.{first_after, first_answer, unanswered, told_each, told, told_or_ended, widths_answer}
 use Rattle.jdwp_show.specs.Streams.{thing, item_of}
+use Rattle.jdwp_show.specs.Walks.{stream_of, rest_of, IsSameWalk, HasEnded}
 
 or_nothing : (b : Bool) → (b || false) ≡ b
 or_nothing true = refl
@@ -64,50 +64,34 @@ told_kept p before item waits h is = ap (λ (w : Option Command). told w item.se
 
 -- ---- the loops
 
--- the items before the k-th, and those from it on
-abbrev pub earlier : List ItemRef → ℕ → List Item
-earlier items k = map item_of (take k items)
+-- after the items before the rest, none of which has an answer
+pub record Unanswered {A : Type 0} (ask : List Item → Item → Option A) (p : Pending) (all rest : List Item) : Type 0 where
+  pub before : List Item
+  pub kept : IsPending p before
+  pub left : first_answer ask all ≡ first_after ask before rest
 
-abbrev pub later : List ItemRef → ℕ → List Item
-later items k = map item_of (drop k items)
+pub unanswered_begin : {A : Type 0} (ask : List Item → Item → Option A) (p : Pending) (all : List Item) → p.begun ≡ false → ((id : ℕ) → waiting_in p id ≡ None) → Unanswered ask p all all
+unanswered_begin ask p all begun waits = record { before = []; kept = pending_none p begun waits; left = refl }
 
-pub earlier_more : (items : List ItemRef) (k : ℕ) (item : ItemRef) → k < length items → item ≡ get_or items k item → earlier items (k + 1) ≡ earlier items k ++ item_of item ∷ []
-earlier_more items k item inside here =
-    ap (λ (x : List ItemRef). map item_of x) (take_more items k item inside ∙ ap (λ (x : ItemRef). take k items ++ x ∷ []) (sym here)) ∙ map-append item_of (take k items) (item ∷ [])
-
-pub answer_more : {A : Type 0} (ask : List Item → Item → Option A) (items : List ItemRef) (k : ℕ) (item : ItemRef) → k < length items → item ≡ get_or items k item
-    → first_after ask (earlier items k) (later items k) ≡ option_or (ask (earlier items k) (item_of item)) (first_after ask (earlier items (k + 1)) (later items (k + 1)))
+asked : {A : Type 0} (ask : List Item → Item → Option A) (before rest : List Item) (item : Item) (later : List Item) → rest ≡ item ∷ later → first_after ask before rest ≡ option_or (ask before item) (first_after ask (before ++ item ∷ []) later)
 unfolding first_after
-answer_more ask items k item inside here =
-    let at : drop k items ≡ item ∷ drop (k + 1) items = drop_more items k item inside ∙ ap (λ (x : ItemRef). x ∷ drop (k + 1) items) (sym here) in
-    ap (λ (x : List ItemRef). first_after ask (earlier items k) (map item_of x)) at
-    ∙ ap (λ (x : List Item). option_or (ask (earlier items k) (item_of item)) (first_after ask x (later items (k + 1)))) (sym (earlier_more items k item inside here))
+asked ask before rest item later e = ap (λ (x : List Item). first_after ask before x) e
 
-pub answer_none : {A : Type 0} (ask : List Item → Item → Option A) (items : List ItemRef) (k : ℕ) → length items ≤ k → first_after ask (earlier items k) (later items k) ≡ None
-unfolding first_after
-answer_none ask items k past = ap (λ (x : List ItemRef). first_after ask (earlier items k) (map item_of x)) (drop_all k items past)
-
--- after k items without an answer
-pub record Unanswered {A : Type 0} (ask : List Item → Item → Option A) (p : Pending) (items : List ItemRef) (k : ℕ) : Type 0 where
-  pub kept : IsPending p (earlier items k)
-  pub left : first_answer ask (map item_of items) ≡ first_after ask (earlier items k) (later items k)
-
-pub unanswered_begin : {A : Type 0} (ask : List Item → Item → Option A) (p : Pending) (items : List ItemRef) → p.begun ≡ false → ((id : ℕ) → waiting_in p id ≡ None) → Unanswered ask p items 0
-unanswered_begin ask p items begun waits = record { kept = pending_none p begun waits; left = refl }
-
-pub unanswered_more : {A : Type 0} (ask : List Item → Item → Option A) (p q : Pending) (items : List ItemRef) (k : ℕ) (item : ItemRef) → k < length items → item ≡ get_or items k item
-    → ask (earlier items k) (item_of item) ≡ None → IsAfter p item q → Unanswered ask p items k → Unanswered ask q items (k + 1)
-unanswered_more ask p q items k item inside here none one h = record {
-  kept = rw (earlier_more items k item inside here) (pending_more p q (earlier items k) item h.kept one);
-  left = h.left ∙ answer_more ask items k item inside here ∙ rw none refl;
+pub unanswered_more : {A : Type 0} (ask : List Item → Item → Option A) (p q : Pending) (all rest later : List Item) (item : ItemRef) (h : Unanswered ask p all rest) → rest ≡ item_of item ∷ later → ask h.before (item_of item) ≡ None → IsAfter p item q
+    → Unanswered ask q all later
+unanswered_more ask p q all rest later item h e none one = record {
+  before = h.before ++ item_of item ∷ [];
+  kept = pending_more p q h.before item h.kept one;
+  left = h.left ∙ asked ask h.before rest (item_of item) later e ∙ rw none refl;
 }
 
-pub answered : {A : Type 0} (ask : List Item → Item → Option A) (p : Pending) (items : List ItemRef) (k : ℕ) (item : ItemRef) (answer : A) → k < length items → item ≡ get_or items k item
-    → ask (earlier items k) (item_of item) ≡ Some answer → Unanswered ask p items k → first_answer ask (map item_of items) ≡ Some answer
-answered ask p items k item answer inside here some h = h.left ∙ answer_more ask items k item inside here ∙ rw some refl
+pub answered : {A : Type 0} (ask : List Item → Item → Option A) (p : Pending) (all rest later : List Item) (item : ItemRef) (answer : A) (h : Unanswered ask p all rest) → rest ≡ item_of item ∷ later → ask h.before (item_of item) ≡ Some answer
+    → first_answer ask all ≡ Some answer
+answered ask p all rest later item answer h e some = h.left ∙ asked ask h.before rest (item_of item) later e ∙ rw some refl
 
-pub unanswered_end : {A : Type 0} (ask : List Item → Item → Option A) (p : Pending) (items : List ItemRef) (k : ℕ) → length items ≤ k → Unanswered ask p items k → first_answer ask (map item_of items) ≡ None
-unanswered_end ask p items k past h = h.left ∙ answer_none ask items k past
+pub unanswered_end : {A : Type 0} (ask : List Item → Item → Option A) (p : Pending) (all rest : List Item) → Unanswered ask p all rest → rest ≡ [] → first_answer ask all ≡ None
+unfolding first_after
+unanswered_end ask p all rest h e = h.left ∙ ap (λ (x : List Item). first_after ask h.before x) e
 
 -- the answers to the question of widths
 ended_by : (fault : Option CaptureFault) (w : Option Widths) → is_some fault ≡ true → told_or_ended fault w ≡ Some None
@@ -144,16 +128,6 @@ not_ended p before item waits h is holds =
 abbrev pub said_of : {A S : Type 0} → (List Item → Item → Option A) → (S → Option Command → Item → S) → S → List Item → List Item → S
 said_of ask says said before items = told_each says said before (unanswered ask before items)
 
--- after k items of which none has an answer: what is to be said in all is what the others add
-pub record Telling {A S : Type 0} (ask : List Item → Item → Option A) (says : S → Option Command → Item → S) (start : S) (items : List ItemRef) (k : ℕ) (said : S) : Type 0 where
-  pub going : said_of ask says start [] (map item_of items) ≡ said_of ask says said (earlier items k) (later items k)
-
-later_more : (items : List ItemRef) (k : ℕ) (item : ItemRef) → k < length items → item ≡ get_or items k item → later items k ≡ item_of item ∷ later items (k + 1)
-later_more items k item inside here = ap (λ (x : List ItemRef). map item_of x) (drop_more items k item inside ∙ ap (λ (x : ItemRef). x ∷ drop (k + 1) items) (sym here))
-
-pub telling_begin : {A S : Type 0} (ask : List Item → Item → Option A) (says : S → Option Command → Item → S) (start : S) (items : List ItemRef) → Telling ask says start items 0 start
-telling_begin ask says start items = record { going = refl }
-
 step_none : {A S : Type 0} (ask : List Item → Item → Option A) (says : S → Option Command → Item → S) (said : S) (before : List Item) (item : Item) (items : List Item) → ask before item ≡ None
     → said_of ask says said before (item ∷ items) ≡ said_of ask says (says said (waiting_for before item.found) item) (before ++ item ∷ []) items
 unfolding unanswered told_each
@@ -164,20 +138,40 @@ step_some : {A S : Type 0} (ask : List Item → Item → Option A) (says : S →
 unfolding unanswered told_each
 step_some ask says said before item items answer some = rw some refl
 
-pub telling_more : {A S : Type 0} (ask : List Item → Item → Option A) (says : S → Option Command → Item → S) (start said new : S) (items : List ItemRef) (k : ℕ) (item : ItemRef) (waits : Option Command) → k < length items → item ≡ get_or items k item
-    → ask (earlier items k) (item_of item) ≡ None → waits ≡ waiting_for (earlier items k) (thing item.found) → new ≡ says said waits (item_of item) → Telling ask says start items k said → Telling ask says start items (k + 1) new
-telling_more {S = S} ask says start said new items k item waits inside here none is more h = record {
-  going = h.going ∙ ap (λ (x : List Item). said_of ask says said (earlier items k) x) (later_more items k item inside here)
-      ∙ step_none ask says said (earlier items k) (item_of item) (later items (k + 1)) none
-      ∙ ap (λ (s : S). said_of ask says s (earlier items k ++ item_of item ∷ []) (later items (k + 1))) (ap (λ (w : Option Command). says said w (item_of item)) (sym is) ∙ sym more)
-      ∙ ap (λ (x : List Item). said_of ask says new x (later items (k + 1))) (sym (earlier_more items k item inside here));
+-- what is to be said in all is what the rest adds
+pub record Telling {A S : Type 0} (ask : List Item → Item → Option A) (says : S → Option Command → Item → S) (start : S) (p : Pending) (all rest : List Item) (said : S) : Type 0 where
+  pub unanswered : Unanswered ask p all rest
+  pub going : said_of ask says start [] all ≡ said_of ask says said unanswered.before rest
+
+pub telling_begin : {A S : Type 0} (ask : List Item → Item → Option A) (says : S → Option Command → Item → S) (start : S) (p : Pending) (all : List Item) → p.begun ≡ false → ((id : ℕ) → waiting_in p id ≡ None) → Telling ask says start p all all start
+unfolding unanswered_begin
+telling_begin ask says start p all begun waits = record { unanswered = unanswered_begin ask p all begun waits; going = refl }
+
+pub telling_more : {A S : Type 0} (ask : List Item → Item → Option A) (says : S → Option Command → Item → S) (start said new : S) (p q : Pending) (all rest later : List Item) (item : ItemRef) (waits : Option Command) (h : Telling ask says start p all rest said)
+    → rest ≡ item_of item ∷ later → ask h.unanswered.before (item_of item) ≡ None → IsAfter p item q → waits ≡ waiting_for h.unanswered.before (thing item.found) → new ≡ says said waits (item_of item) → Telling ask says start q all later new
+unfolding unanswered_more
+telling_more {S = S} ask says start said new p q all rest later item waits h e none one is more = record {
+  unanswered = unanswered_more ask p q all rest later item h.unanswered e none one;
+  going = h.going ∙ ap (λ (x : List Item). said_of ask says said h.unanswered.before x) e
+      ∙ step_none ask says said h.unanswered.before (item_of item) later none
+      ∙ ap (λ (s : S). said_of ask says s (h.unanswered.before ++ item_of item ∷ []) later) (ap (λ (w : Option Command). says said w (item_of item)) (sym is) ∙ sym more);
 }
 
-pub telling_stopped : {A S : Type 0} (ask : List Item → Item → Option A) (says : S → Option Command → Item → S) (start said : S) (items : List ItemRef) (k : ℕ) (item : ItemRef) (answer : A) → k < length items → item ≡ get_or items k item
-    → ask (earlier items k) (item_of item) ≡ Some answer → Telling ask says start items k said → said ≡ said_of ask says start [] (map item_of items)
-telling_stopped ask says start said items k item answer inside here some h =
-    sym (h.going ∙ ap (λ (x : List Item). said_of ask says said (earlier items k) x) (later_more items k item inside here) ∙ step_some ask says said (earlier items k) (item_of item) (later items (k + 1)) answer some)
+pub telling_stopped : {A S : Type 0} (ask : List Item → Item → Option A) (says : S → Option Command → Item → S) (start said : S) (p : Pending) (all rest later : List Item) (item : ItemRef) (answer : A) (h : Telling ask says start p all rest said)
+    → rest ≡ item_of item ∷ later → ask h.unanswered.before (item_of item) ≡ Some answer → said ≡ said_of ask says start [] all
+telling_stopped ask says start said p all rest later item answer h e some =
+    sym (h.going ∙ ap (λ (x : List Item). said_of ask says said h.unanswered.before x) e ∙ step_some ask says said h.unanswered.before (item_of item) later answer some)
 
-pub telling_ended : {A S : Type 0} (ask : List Item → Item → Option A) (says : S → Option Command → Item → S) (start said : S) (items : List ItemRef) (k : ℕ) → length items ≤ k → Telling ask says start items k said → said ≡ said_of ask says start [] (map item_of items)
+pub telling_ended : {A S : Type 0} (ask : List Item → Item → Option A) (says : S → Option Command → Item → S) (start said : S) (p : Pending) (all rest : List Item) (h : Telling ask says start p all rest said) → rest ≡ [] → said ≡ said_of ask says start [] all
 unfolding unanswered told_each
-telling_ended ask says start said items k past h = sym (h.going ∙ ap (λ (x : List ItemRef). said_of ask says said (earlier items k) (map item_of x)) (drop_all k items past))
+telling_ended ask says start said p all rest h e = sym (h.going ∙ ap (λ (x : List Item). said_of ask says said h.unanswered.before x) e)
+
+-- where no rule is broken
+pub holds : (w : Option Widths) (begun : Bool) (waits : Option Command) (item : ItemRef) → rule_broken w begun waits item ≡ None → Holds w waits item.sender (thing item.found)
+holds w begun waits item none = record { begun = begun; none_broken = none }
+
+pub has_ended : (start w : Walk) → IsSameWalk start w → rest_of w ≡ [] → HasEnded start w
+has_ended start w same none = record {
+  taken = λ sender. sym (add-zero (stream_of w sender).taken) ∙ ap (λ (x : List Item). (stream_of w sender).taken + lengths_of sender x) (sym none) ∙ same.taken sender;
+  bytes = same.bytes;
+}

@@ -1,16 +1,11 @@
 -- Each item stands in its line.
-use Rattle.std.proofs.Common.{◌≡◌, ℕ, ◌+◌, ◌≤◌, ◌⊎◌, inl, inr, Bool, true, List, [], ◌∷◌, ◌++◌, length, map, refl, sym, ap, subst, ◌∙◌, append_assoc, arith}
+use Rattle.std.proofs.Common.{◌≡◌, ℕ, ◌+◌, ◌⊎◌, inl, inr, true, List, [], ◌∷◌, ◌++◌, length, map, refl, sym, ap, subst, ◌∙◌, append_assoc, arith}
 use Rattle.std.proofs.lemmas.List.{length-append}
 use Rattle.jdwp_show.specs.declared.capture_line.Sender.{Sender}
-use Rattle.jdwp_show.specs.declared.capture_line.Sender.TheVariants.{Debugger, Target}
 use Rattle.jdwp_show.specs.Found.{Found, found, found_after, found_within}
 use Rattle.jdwp_show.specs.Items.{Item, item_at, completed, items_after, items_of, found_of, StandsIn}
 use Rattle.jdwp_show.specs.Lines.{Line, is_same, sent_by}
-use Rattle.jdwp_show.proofs.ItemLaws.{of_this_end, line_adds, found_of-append}
-
-same_as_itself : (sender : Sender) → is_same sender sender ≡ true
-same_as_itself Debugger = refl
-same_as_itself Target = refl
+use Rattle.jdwp_show.proofs.ItemLaws.{same_as_itself, of_this_end, line_adds, found_of-append}
 
 -- ---- an item of two lists, one behind the other
 

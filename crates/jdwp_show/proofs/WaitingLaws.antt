@@ -1,5 +1,5 @@
 -- The fold and the search find what the relations say.
-use Rattle.std.proofs.Common.{◌≡◌, ℕ, ◌⊎◌, inl, inr, Bool, true, false, eqb, cond, List, [], ◌∷◌, ◌++◌, Option, Some, None, fold, refl, sym, ap, subst, ◌∙◌}
+use Rattle.std.proofs.Common.{◌≡◌, ℕ, ◌⊎◌, inl, inr, true, false, eqb, List, [], ◌∷◌, Option, Some, None, fold, refl, sym, ap, subst, ◌∙◌}
 use Rattle.std.specs.List.{AllByRecursion}
 use Rattle.std.proofs.lemmas.Bool.{cases_Bool, eqb-true, eq-eqb}
 use Rattle.std.proofs.lemmas.List.Sums.{fold-append}
@@ -15,7 +15,7 @@ use Rattle.jdwp_show.specs.declared.pending.Command.{Command}
 use Rattle.jdwp_show.specs.Found.{Found, Sent, Faulty}
 use Rattle.jdwp_show.specs.Items.{Item}
 use Rattle.jdwp_show.specs.Rules.{waits_after_found, waiting}
-use Rattle.jdwp_show.specs.Waiting.{IsCommand, is_reply, speaks_of, IsSilent, Waits}
+use Rattle.jdwp_show.specs.Waiting.{IsCommand, speaks_of, IsSilent, Waits}
 
 abbrev next : ℕ → Option Command → Item → Option Command
 next id before item = waits_after_found id item.sender item.found before

@@ -1,14 +1,14 @@
 -- The search finds the widths of the relation.
-use Rattle.std.proofs.Common.{◌≡◌, List, [], ◌∷◌, ◌++◌, Option, Some, None, refl, sym, ap, ◌∙◌}
-use Rattle.std.specs.Option.{option_or, option_flatten}
+use Rattle.std.proofs.Common.{◌≡◌, List, [], Option, Some, None, refl, ap, ◌∙◌}
+use Rattle.std.specs.Option.{option_flatten}
 use Rattle.std.proofs.lemmas.Option.{same_Some}
 use Rattle.jdwp_wire.specs.Widths.{Widths}
 use Rattle.jdwp_show.specs.declared.capture_fault.CaptureFault.{CaptureFault}
 use Rattle.jdwp_show.specs.Items.{Item}
 use Rattle.jdwp_show.specs.Rules.{waiting_for, order_fault_of}
-use Rattle.jdwp_show.specs.Sessions.{first_after, first_answer, told, told_or_ended, widths_answer, widths_of}
+use Rattle.jdwp_show.specs.Sessions.{first_answer, told, told_or_ended, widths_answer, widths_of}
 use Rattle.jdwp_show.specs.Waiting.{GoesOn, TellsWidths}
-use Rattle.jdwp_show.proofs.SessionLaws.{Answered, answered_from, none_at, none_after, first_at}
+use Rattle.jdwp_show.proofs.SessionLaws.{answered_from, none_at, none_after, first_at}
 
 unasked : (fault : Option CaptureFault) (widths : Option Widths) → told_or_ended fault widths ≡ None → (fault ≡ None) × (widths ≡ None)
 unasked None None e = (refl, refl)

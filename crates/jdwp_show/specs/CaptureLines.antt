@@ -1,12 +1,11 @@
 -- A capture as lines: the messages before the first fault, and where there is none, how many bytes of each end belong to no whole message.
-use Rattle.std.specs.Prelude.{ℕ, ◌+◌, ◌-◌, ◌==◌, List, [], ◌∷◌, ◌++◌, length, Option, Some, None, if◌then◌else◌, codes, decimal}
+use Rattle.std.specs.Prelude.{ℕ, ◌-◌, ◌==◌, List, [], ◌∷◌, ◌++◌, length, Option, Some, None, if◌then◌else◌, codes, decimal}
 use Rattle.std.specs.List.{sum_by}
-use Rattle.jdwp_wire.specs.Streams.{Handshake, Packet}
 use Rattle.jdwp_wire.specs.Widths.{Widths}
 use Rattle.jdwp_show.specs.declared.capture_fault.CaptureFault.{CaptureFault}
 use Rattle.jdwp_show.specs.declared.capture_line.Sender.{Sender}
 use Rattle.jdwp_show.specs.declared.capture_line.Sender.TheVariants.{Debugger, Target}
-use Rattle.jdwp_show.specs.Found.{Found, Sent, Faulty}
+use Rattle.jdwp_show.specs.Found.{found_length}
 use Rattle.jdwp_show.specs.Items.{Item}
 use Rattle.jdwp_show.specs.Lines.{is_same, sent_by, capture_of}
 use Rattle.jdwp_show.specs.MessageLines.{mark, found_line}
@@ -26,12 +25,6 @@ abbrev pub message_lines : List ℕ → List ℕ
 message_lines text = lines_after (widths_of (items_in text)) [] (items_that_hold text)
 
 -- ---- what is left over
-
--- how many bytes it has
-abbrev pub found_length : Found → ℕ
-found_length (Sent Handshake) = 14
-found_length (Sent (Packet header body)) = 11 + length body
-found_length (Faulty fault) = 0
 
 -- how many bytes of this end belong to the item
 abbrev pub length_for : Sender → Item → ℕ

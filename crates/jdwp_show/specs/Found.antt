@@ -1,13 +1,19 @@
 -- What stands in the bytes of one end: its messages, and a frame fault where what follows them shows one.
-use Rattle.std.specs.Prelude.{◌≡◌, ℕ, zero, suc, List, [], ◌∷◌, ◌++◌, length, drop, map, Bool, true, false}
+use Rattle.std.specs.Prelude.{◌≡◌, ℕ, zero, suc, ◌+◌, List, [], ◌∷◌, ◌++◌, length, drop, map, Bool, true, false}
 use Rattle.jdwp_wire.specs.declared.frame.FrameFault.{FrameFault}
 use Rattle.jdwp_wire.specs.Limits.{standard_limits}
-use Rattle.jdwp_wire.specs.Streams.{Message, stream, IsConversation, NextMessage, Whole, More, Fault, next_message}
+use Rattle.jdwp_wire.specs.Streams.{Message, Handshake, Packet, stream, IsConversation, NextMessage, Whole, More, Fault, next_message}
 
 -- a message of the end, or a frame fault
 pub data Found : Type 0 where
   Sent : Message → Found
   Faulty : FrameFault → Found
+
+-- how many bytes it has
+abbrev pub found_length : Found → ℕ
+found_length (Sent Handshake) = 14
+found_length (Sent (Packet header body)) = 11 + length body
+found_length (Faulty fault) = 0
 
 -- what stands in front, and then what `rest` finds in the bytes behind it; nothing follows a fault
 abbrev pub found_at : NextMessage → List ℕ → (List ℕ → List Found) → List Found

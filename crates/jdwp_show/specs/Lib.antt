@@ -13,3 +13,4 @@ pub mod Captures
 pub mod Streams
 pub mod Telling
 pub mod Pending
+pub mod Walks

@@ -1,9 +1,9 @@
 -- A message as a line.
-use Rattle.std.specs.Prelude.{ℕ, ◌==◌, List, [], ◌∷◌, ◌++◌, Option, Some, None, option_map, Result, Ok, Err, if◌then◌else◌, codes, decimal}
+use Rattle.std.specs.Prelude.{ℕ, ◌==◌, List, [], ◌++◌, Option, Some, None, Result, Ok, Err, if◌then◌else◌, codes, decimal}
 use Rattle.jdwp_wire.specs.declared.data_fault.DataFault.{DataFault}
 use Rattle.jdwp_wire.specs.declared.packet.PacketKind.{PacketKind}
 use Rattle.jdwp_wire.specs.declared.packet.PacketKind.TheVariants as kind
-use Rattle.jdwp_wire.specs.Streams.{Message, Handshake, Packet}
+use Rattle.jdwp_wire.specs.Streams.{Handshake, Packet}
 use Rattle.jdwp_wire.specs.Widths.{Widths}
 use Rattle.jdwp_layout.specs.declared.item.Layout.{Layout}
 use Rattle.jdwp_layout.specs.Shapes.{ItemShape, shape}
@@ -14,7 +14,7 @@ use Rattle.jdwp_layout.specs.Reads.{data_at}
 use Rattle.jdwp_show.specs.declared.capture_line.Sender.{Sender}
 use Rattle.jdwp_show.specs.declared.capture_line.Sender.TheVariants.{Debugger, Target}
 use Rattle.jdwp_show.specs.declared.pending.Command.{Command}
-use Rattle.jdwp_show.specs.Data.{shapes_of}
+use Rattle.jdwp_show.specs.Data.{shapes_of, layout_fault}
 use Rattle.jdwp_show.specs.DataText.{data_text, raw_text}
 use Rattle.jdwp_show.specs.Found.{Found, Sent, Faulty}
 
@@ -29,6 +29,11 @@ abbrev pub body_text : Option Widths → Option (List ItemShape) → List ℕ �
 body_text None layout body = raw_text body
 body_text (Some widths) None body = raw_text body
 body_text (Some widths) (Some layout) body = read_text (data_at widths layout body) body
+
+-- the first fault of such data, where they are read
+abbrev pub body_fault : Option Widths → Option (List ItemShape) → List ℕ → Option DataFault
+body_fault widths None body = None
+body_fault widths (Some layout) body = layout_fault widths layout body
 
 abbrev pub request_in : Option RowShapes → Option (List ItemShape)
 request_in None = None

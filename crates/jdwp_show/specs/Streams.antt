@@ -1,12 +1,11 @@
 -- What has been found of the bytes of an end.
-use Rattle.std.specs.Prelude.{◌≡◌, ◌<◌, ◌+◌, ◌-◌, ◌⊎◌, ℕ, List, [], ◌∷◌, ◌++◌, take, drop, map, Bool, true, false, Option, Some, None}
+use Rattle.std.specs.Prelude.{◌≡◌, ◌+◌, ◌-◌, ℕ, List, [], ◌∷◌, ◌++◌, take, drop, Bool, true, false, Option, Some, None}
 use Rattle.jdwp_wire.specs.Streams.{Handshake, Packet}
-use Rattle.jdwp_show.specs.declared.capture_line.Sender.{Sender}
 use Rattle.jdwp_show.specs.declared.found.FoundRef.{FoundRef}
 use Rattle.jdwp_show.specs.declared.found.FoundRef.TheVariants as here
 use Rattle.jdwp_show.specs.declared.found.ItemRef.{ItemRef}
 use Rattle.jdwp_show.specs.declared.found.Stream.{Stream}
-use Rattle.jdwp_show.specs.Found.{Found, Sent, Faulty, found_after}
+use Rattle.jdwp_show.specs.Found.{Found, Sent, Faulty, found_after, found_length}
 use Rattle.jdwp_show.specs.Items.{Item, item_at}
 
 -- what was found, apart from where it lies in memory
@@ -40,20 +39,12 @@ pub record IsFresh (bytes : List ℕ) (s : Stream) : Type 0 where
 
 -- the next thing was found, or there is none
 abbrev pub IsNext : Stream → Option FoundRef → Stream → Type 0
-IsNext old (Some found) new = ((more : List ℕ) → coming old more ≡ thing found ∷ coming new more) × ((old.taken < new.taken) ⊎ ((old.faulty ≡ false) × (new.faulty ≡ true) × (new.taken ≡ old.taken))) × (new.bytes ≡ old.bytes) × (new.come ≡ old.come)
+IsNext old (Some found) new = ((more : List ℕ) → coming old more ≡ thing found ∷ coming new more) × (new.taken ≡ old.taken + found_length (thing found)) × (new.bytes ≡ old.bytes) × (new.come ≡ old.come)
 IsNext old None new = (coming old [] ≡ []) × (new ≡ old)
 
--- so many bytes more came, and what they complete was added
-pub record IsCompleted (old : Stream) (count line : ℕ) (sender : Sender) (before : List ItemRef) (new : Stream) (after : List ItemRef) : Type 0 where
-  pub added : map item_of after ≡ map item_of before ++ map (item_at line sender) (coming old (take count (drop old.come old.bytes.now)))
-  pub goes_on : (more : List ℕ) → coming old (take count (drop old.come old.bytes.now) ++ more) ≡ coming old (take count (drop old.come old.bytes.now)) ++ coming new more
+-- so many bytes more came
+pub record HasCome (old : Stream) (count : ℕ) (new : Stream) : Type 0 where
+  pub goes_on : (more : List ℕ) → coming new more ≡ coming old (take count (drop old.come old.bytes.now) ++ more)
   pub same_bytes : new.bytes ≡ old.bytes
+  pub same_taken : new.taken ≡ old.taken
   pub come : new.come ≡ old.come + count
-
--- Since the stream was as it was before, these things were found in it, and added to the items.
-pub record HasFound (line : ℕ) (sender : Sender) (old : Stream) (before : List ItemRef) (new : Stream) (after : List ItemRef) : Type 0 where
-  pub things : List Found
-  pub added : map item_of after ≡ map item_of before ++ map (item_at line sender) things
-  pub goes_on : (more : List ℕ) → coming old more ≡ things ++ coming new more
-  pub same_bytes : new.bytes ≡ old.bytes
-  pub come : new.come ≡ old.come

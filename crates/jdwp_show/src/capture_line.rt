@@ -1,7 +1,7 @@
 //! The lines of a capture, read into what each end sent.
-ghost use Rattle.std.specs.Prelude.{◌≡◌, IfOk};
-ghost use Rattle.jdwp_show.specs.Lines.{capture_of, bad_line};
-ghost use Rattle.jdwp_show.specs.Captures.{IsCapture, IsRead, IsDecoded};
+ghost use Rattle.std.specs.Prelude.{◌≡◌, IfOk, length};
+ghost use Rattle.jdwp_show.specs.Lines.{Line, line_of, capture_of, bad_line};
+ghost use Rattle.jdwp_show.specs.Captures.{IsCapture, IsRead, IsDecoded, length_of};
 
 use crate::hex_digits::decode_into;
 use jdwp_wire::NoMemory;
@@ -24,7 +24,8 @@ pub(crate) struct LineLength {
 /// What the lines before the first bad one say.
 #[derive(Drop)]
 pub(crate) struct Capture {
-    pub(crate) lines: Vec<LineLength>,
+    /// How many they are.
+    lines: usize,
     /// All that the debugger sent.
     pub(crate) debugger: Vec<u8>,
     /// All that the target sent.
@@ -33,22 +34,33 @@ pub(crate) struct Capture {
     pub(crate) bad_line: Option<usize>,
 }
 
+impl Capture {
+    /// How many lines were read.
+    pub(crate) fn line_count(&self) -> usize
+        ensures { result ≡ self.now.lines }
+    {
+        self.lines
+    }
+}
+
 /// Reads the lines of the text, up to the first that does not read.
 pub(crate) fn read_capture(alloc: Global, text: &str) -> Result<Capture, NoMemory>
     ensures capture { IfOk result (λ c. IsCapture c (capture_of text.now)) }
+    ensures lines { IfOk result (λ c. c.lines ≡ length (capture_of text.now)) }
     ensures bad_line { IfOk result (λ c. c.bad_line ≡ bad_line text.now) }
 {
     let mut capture = Capture {
-        lines: Vec::new(alloc),
+        lines: 0,
         debugger: Vec::new(alloc),
         target: Vec::new(alloc),
         bad_line: None,
     };
     for line in text.lines() {
         if !read_line(line.as_bytes(), &mut capture)? {
-            capture.bad_line = Some(capture.lines.len() + 1);
+            capture.bad_line = Some(capture.lines + 1);
             return Ok(capture);
         }
+        capture.lines += 1;
     }
     Ok(capture)
 }
@@ -62,43 +74,41 @@ fn read_line(line: &[u8], capture: &mut Capture) -> Result<bool, NoMemory>
     }
     let digits = &line[2..];
     match line[0] {
-        b'>' => match decode_onto(digits, &mut capture.debugger)? {
-            None => Ok(false),
-            Some(length) => {
-                let sender = Sender::Debugger;
-                capture.lines.push(LineLength { sender, length })?;
-                Ok(true)
-            }
-        },
-        b'<' => match decode_onto(digits, &mut capture.target)? {
-            None => Ok(false),
-            Some(length) => {
-                let sender = Sender::Target;
-                capture.lines.push(LineLength { sender, length })?;
-                Ok(true)
-            }
-        },
+        b'>' => decode_onto(digits, &mut capture.debugger),
+        b'<' => decode_onto(digits, &mut capture.target),
         _ => Ok(false),
     }
 }
 
-/// Appends the bytes of hex digits and answers how many; None where they are not the digits of at least one byte, and
-/// then nothing has changed.
-fn decode_onto(digits: &[u8], bytes: &mut Vec<u8>) -> Result<Option<usize>, NoMemory>
-    ensures { IfOk result (λ count. IsDecoded digits.now count bytes.old.items bytes.new.items) }
+/// Appends the bytes of hex digits; false where they are not the digits of at least one byte, and then nothing has
+/// changed.
+fn decode_onto(digits: &[u8], bytes: &mut Vec<u8>) -> Result<bool, NoMemory>
+    ensures { IfOk result (λ reads. IsDecoded digits.now reads bytes.old.items bytes.new.items) }
 {
     let before = bytes.len();
     let count = digits.len() / 2;
     if count == 0 {
-        return Ok(None);
+        return Ok(false);
     }
     if digits.len() % 2 == 1 {
-        return Ok(None);
+        return Ok(false);
     }
     bytes.resize(before + count, 0)?;
     if !decode_into(digits, &mut bytes[before..]) {
         bytes.truncate(before);
-        return Ok(None);
+        return Ok(false);
     }
-    Ok(Some(count))
+    Ok(true)
+}
+
+/// Which end sent the bytes of a line that reads, and how many they are.
+pub(crate) fn line_length(line: &[u8]) -> LineLength
+    ensures { (read : Line) → line_of line.now ≡ Some read → result ≡ length_of read }
+{
+    let sender = match line {
+        [b'>', ..] => Sender::Debugger,
+        _ => Sender::Target,
+    };
+    let length = line.len().saturating_sub(2) / 2;
+    LineLength { sender, length }
 }

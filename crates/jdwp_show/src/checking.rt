@@ -5,8 +5,8 @@ ghost use Rattle.jdwp_show.specs.Sessions.{BeginsSession, IsFirstFault, verdict}
 
 use crate::capture_fault::CaptureFault;
 use crate::capture_line::read_capture;
-use crate::items::find_items;
 use crate::judging::{NoObserver, find_broken, find_sizes};
+use crate::walk::Walk;
 use jdwp_wire::NoMemory;
 use std::alloc::Global;
 
@@ -47,9 +47,9 @@ fn judge(alloc: Global, text: &str) -> Result<Verdict, NoMemory>
     if let Some(line) = capture.bad_line {
         return Ok(Verdict::No(line, CaptureFault::BadLine));
     }
-    let items = find_items(alloc, &capture)?;
-    let sizes = find_sizes(alloc, &items)?;
-    match find_broken(alloc, &sizes, &items, &mut NoObserver)? {
+    let sizes = find_sizes(alloc, &mut Walk::new(text, &capture))?;
+    let mut walk = Walk::new(text, &capture);
+    match find_broken(alloc, &sizes, &mut walk, &mut NoObserver)? {
         None => Ok(Verdict::Yes),
         Some(broken) => Ok(Verdict::No(broken.line, broken.fault)),
     }

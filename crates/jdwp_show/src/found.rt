@@ -1,10 +1,8 @@
 //! What stands in the bytes of an end, and in which line it ends.
-ghost use Rattle.std.specs.Prelude.{◌≡◌, ◌≤◌, ◌+◌, length, OnOk};
+ghost use Rattle.std.specs.Prelude.{◌≡◌, ◌≤◌, ◌+◌, ◌-◌, length};
 
 use crate::capture_line::Sender;
-use jdwp_wire::{
-    FrameFault, HANDSHAKE, Next, NextHello, NoMemory, PacketRef, next_hello, next_packet,
-};
+use jdwp_wire::{FrameFault, HANDSHAKE, Next, NextHello, PacketRef, next_hello, next_packet};
 
 /// A message of an end, or the frame fault behind its messages.
 #[derive(Clone, Copy, Debug)]
@@ -36,7 +34,7 @@ pub(crate) struct Stream<'a> {
 }
 
 impl<'a> Stream<'a> {
-    ghost use Rattle.jdwp_show.specs.Streams.{IsFresh, IsNext, IsCompleted};
+    ghost use Rattle.jdwp_show.specs.Streams.{IsFresh, IsNext, HasCome};
 
     pub(crate) fn new(bytes: &'a [u8]) -> Stream<'a>
         ensures { IsFresh bytes.now result }
@@ -51,7 +49,7 @@ impl<'a> Stream<'a> {
     }
 
     /// What stands next, if it is whole or shows a fault.
-    fn next_found(&mut self) -> Option<FoundRef<'a>>
+    pub(crate) fn next_found(&mut self) -> Option<FoundRef<'a>>
         ensures { IsNext self.old result self.new }
     {
         if self.faulty {
@@ -85,25 +83,18 @@ impl<'a> Stream<'a> {
         }
     }
 
-    /// So many bytes more have come in this line: adds the items that they complete.
-    pub(crate) fn complete(
-        &mut self,
-        count: usize,
-        line: usize,
-        sender: Sender,
-        items: &mut Vec<ItemRef<'a>>,
-    ) -> Result<(), NoMemory>
+    /// So many bytes more have come.
+    pub(crate) fn come(&mut self, count: usize)
         requires { self.old.come + count ≤ length self.old.bytes.now }
-        ensures { OnOk result (IsCompleted self.old count line sender items.old.items self.new items.new.items) }
+        ensures { HasCome self.old count self.new }
     {
         self.come += count;
-        while let Some(found) = self.next_found() {
-            items.push(ItemRef {
-                line,
-                sender,
-                found,
-            })?;
-        }
-        Ok(())
+    }
+
+    /// How many bytes belong to nothing that was found.
+    pub(crate) fn left_over(&self) -> usize
+        ensures { result ≡ length self.now.bytes.now - self.now.taken }
+    {
+        self.bytes.len() - self.taken
     }
 }

@@ -1,15 +1,18 @@
 //! Going over the items of a capture: the widths of ids, and the first rule that is broken.
-ghost use Rattle.std.specs.Prelude.{◌≡◌, [], map, option_map, Option, IfOk, OnOk};
+ghost use Rattle.std.specs.Prelude.{◌≡◌, [], option_map, Option, None, IfOk, OnOk};
+ghost use Rattle.jdwp_wire.specs.Widths.{Widths};
 ghost use Rattle.jdwp_show.specs.declared.pending.Command.{Command};
 ghost use Rattle.jdwp_show.specs.Items.{Item};
 ghost use Rattle.jdwp_show.specs.Sessions.{widths_of, first_answer, unanswered, told_each, fault_answer};
-ghost use Rattle.jdwp_show.specs.Streams.{item_of};
-ghost use Rattle.jdwp_show.specs.Pending.{rule_broken};
+ghost use Rattle.jdwp_show.specs.Streams.{thing, item_of};
+ghost use Rattle.jdwp_show.specs.Pending.{Holds, rule_broken};
+ghost use Rattle.jdwp_show.specs.Walks.{rest_of, IsUnderWay, HasEnded};
 
 use crate::capture_fault::CaptureFault;
 use crate::found::ItemRef;
 use crate::pending::{Command, Pending};
 use crate::rules::{data_fault, order_fault, told};
+use crate::walk::Walk;
 use jdwp_wire::{IdSizes, NoMemory};
 use std::alloc::Global;
 
@@ -28,15 +31,21 @@ pub(crate) trait Observer {
 
     ghost said: { Self → Said };
 
-    /// What it says after one item more, under whose id this command waits.
-    ghost says: { Said → Option Command → Item → Said };
+    /// What it says under these widths after one item more, under whose id this command waits.
+    ghost says: { Option Widths → Said → Option Command → Item → Said };
 
-    /// An item more, and the command that waits under its id.
+    /// An item more, which breaks no rule under these widths, and the command that waits under its id.
     ///
     /// # Errors
     /// `NoMemory` where an allocation was refused.
-    fn observe(&mut self, waits: Option<Command>, item: &ItemRef) -> Result<(), NoMemory>
-        ensures { OnOk result (said self.new ≡ says (said self.old) waits (item_of item.now)) };
+    fn observe(
+        &mut self,
+        sizes: &Option<IdSizes>,
+        waits: Option<Command>,
+        item: &ItemRef,
+    ) -> Result<(), NoMemory>
+        requires { Holds sizes.now waits item.now.sender (thing item.now.found) }
+        ensures { OnOk result (said self.new ≡ says sizes.now (said self.old) waits (item_of item.now)) };
 }
 
 /// For the verdict alone.
@@ -48,29 +57,35 @@ impl Observer for NoObserver {
 
     ghost said = { λ observer. tt };
 
-    ghost says = { λ said waits item. tt };
+    ghost says = { λ widths said waits item. tt };
 
-    fn observe(&mut self, _waits: Option<Command>, _item: &ItemRef) -> Result<(), NoMemory> {
+    fn observe(
+        &mut self,
+        _sizes: &Option<IdSizes>,
+        _waits: Option<Command>,
+        _item: &ItemRef,
+    ) -> Result<(), NoMemory> {
         Ok(())
     }
 }
 
 /// The widths of ids that hold for these items: those of the first reply that tells them, before any item that breaks
 /// a rule of frames, ends or ids.
-pub(crate) fn find_sizes(alloc: Global, items: &[ItemRef]) -> Result<Option<IdSizes>, NoMemory>
-    ensures { IfOk result (λ sizes. sizes ≡ widths_of (map item_of items.now)) }
+pub(crate) fn find_sizes(alloc: Global, walk: &mut Walk) -> Result<Option<IdSizes>, NoMemory>
+    requires { IsUnderWay walk.old }
+    ensures { IfOk result (λ sizes. sizes ≡ widths_of (rest_of walk.old)) }
 {
     let mut pending = Pending::new(alloc);
-    for item in items {
-        let waits = pending.waiting_for(item);
-        if order_fault(pending.begun(), waits, item).is_some() {
+    while let Some(item) = walk.next() {
+        let waits = pending.waiting_for(&item);
+        if order_fault(pending.begun(), waits, &item).is_some() {
             return Ok(None);
         }
-        let sizes = told(waits, item);
+        let sizes = told(waits, &item);
         if sizes.is_some() {
             return Ok(sizes);
         }
-        pending.record(item)?;
+        pending.record(&item)?;
     }
     Ok(None)
 }
@@ -79,21 +94,23 @@ pub(crate) fn find_sizes(alloc: Global, items: &[ItemRef]) -> Result<Option<IdSi
 pub(crate) fn find_broken<O: Observer>(
     alloc: Global,
     sizes: &Option<IdSizes>,
-    items: &[ItemRef],
+    walk: &mut Walk,
     observer: &mut O,
 ) -> Result<Option<Broken>, NoMemory>
-    ensures broken { IfOk result (λ broken. option_map (λ b. (b.line, b.fault)) broken ≡ first_answer (fault_answer sizes.now) (map item_of items.now)) }
-    ensures told { OnOk result (O.said observer.new ≡ told_each O.says (O.said observer.old) [] (unanswered (fault_answer sizes.now) [] (map item_of items.now))) }
+    requires { IsUnderWay walk.old }
+    ensures broken { IfOk result (λ broken. option_map (λ b. (b.line, b.fault)) broken ≡ first_answer (fault_answer sizes.now) (rest_of walk.old)) }
+    ensures told { OnOk result (O.said observer.new ≡ told_each (O.says sizes.now) (O.said observer.old) [] (unanswered (fault_answer sizes.now) [] (rest_of walk.old))) }
+    ensures ended { IfOk result (λ broken. broken ≡ None → HasEnded walk.old walk.new) }
 {
     let mut pending = Pending::new(alloc);
-    for item in items {
-        let waits = pending.waiting_for(item);
-        if let Some(fault) = item_fault(sizes, pending.begun(), waits, item) {
+    while let Some(item) = walk.next() {
+        let waits = pending.waiting_for(&item);
+        if let Some(fault) = item_fault(sizes, pending.begun(), waits, &item) {
             let line = item.line;
             return Ok(Some(Broken { line, fault }));
         }
-        observer.observe(waits, item)?;
-        pending.record(item)?;
+        observer.observe(sizes, waits, &item)?;
+        pending.record(&item)?;
     }
     Ok(None)
 }

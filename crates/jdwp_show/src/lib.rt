@@ -7,7 +7,6 @@ mod checking;
 mod data_text;
 mod found;
 mod hex_digits;
-mod items;
 mod judging;
 mod laws;
 mod message_line;
@@ -18,6 +17,7 @@ mod showing;
 mod telling;
 mod transcript;
 mod waiting;
+mod walk;
 
 pub use capture_fault::CaptureFault;
 pub use checking::{Verdict, check};

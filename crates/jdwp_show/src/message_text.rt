@@ -1,12 +1,12 @@
 //! Messages as lines.
-ghost use Rattle.std.specs.Prelude.{◌≡◌, ◌++◌, List, OnOk};
+ghost use Rattle.std.specs.Prelude.{◌≡◌, ◌++◌, List, None, OnOk};
 ghost use Rattle.std.specs.String.{string_bytes};
 ghost use Rattle.jdwp_layout.specs.Meanings.{DatumMeaning};
 ghost use Rattle.jdwp_layout.specs.Reads.{data_at};
 ghost use Rattle.jdwp_layout.specs.Shapes.{shape};
 ghost use Rattle.jdwp_show.specs.Data.{shapes_of};
 ghost use Rattle.jdwp_show.specs.DataText.{data_text};
-ghost use Rattle.jdwp_show.specs.MessageLines.{body_text, request_in, reply_in, name_text, mark, hello_line, command_start, reply_start, found_shape};
+ghost use Rattle.jdwp_show.specs.MessageLines.{body_text, body_fault, request_in, reply_in, name_text, mark, hello_line, command_start, reply_start, found_shape};
 
 use crate::capture_line::Sender;
 use crate::data_text::{push_number, push_raw};
@@ -101,6 +101,24 @@ pub(crate) fn push_body(
         if validate(&layout, &sizes, body).is_ok() {
             return push_read(alloc, text, &sizes, &layout, body);
         }
+    }
+    push_raw(alloc, text, body)?;
+    Ok(())
+}
+
+/// Appends data by their layout, or as they are where it or the widths are not known. They are not at fault.
+pub(crate) fn push_sound_body(
+    alloc: Global,
+    text: &mut String,
+    sizes: Option<IdSizes>,
+    layout: Option<Layout>,
+    body: &[u8],
+) -> Result<(), NoMemory>
+    requires { body_fault sizes (found_shape layout) body.now ≡ None }
+    ensures { OnOk result (string_bytes text.new ≡ string_bytes text.old ++ body_text sizes (found_shape layout) body.now) }
+{
+    if let (Some(sizes), Some(layout)) = (sizes, layout) {
+        return push_read(alloc, text, &sizes, &layout, body);
     }
     push_raw(alloc, text, body)?;
     Ok(())

@@ -1,17 +1,16 @@
 //! A capture in words.
-ghost use Rattle.std.specs.Prelude.{◌≡◌, ℕ, ◌↔◌, ◌++◌, map, option_map, IfOk, OnOk};
+ghost use Rattle.std.specs.Prelude.{◌≡◌, ℕ, ◌↔◌, ◌++◌, option_map, IfOk, OnOk};
 ghost use Rattle.std.specs.String.{string_bytes};
-ghost use Rattle.jdwp_show.specs.CaptureLines.{last_lines, capture_lines};
-ghost use Rattle.jdwp_show.specs.Streams.{item_of};
+ghost use Rattle.jdwp_show.specs.CaptureLines.{capture_lines};
+ghost use Rattle.jdwp_show.specs.Walks.{rests_of};
 ghost use Rattle.jdwp_show.specs.declared.capture_fault.CaptureFault.{CaptureFault};
 ghost use Rattle.jdwp_show.specs.Sessions.{BeginsSession, IsFirstFault, first_fault, bad_or_broken};
 
 use crate::capture_fault::CaptureFault;
-use crate::capture_line::{Capture, Sender, read_capture};
-use crate::found::ItemRef;
-use crate::items::find_items;
+use crate::capture_line::{Sender, read_capture};
 use crate::judging::{Broken, find_broken, find_sizes};
-use crate::transcript::{Transcript, left_over, push_more};
+use crate::transcript::{Transcript, push_more};
+use crate::walk::Walk;
 use jdwp_wire::NoMemory;
 use std::alloc::Global;
 
@@ -51,13 +50,13 @@ fn tell(alloc: Global, text: &str) -> Result<Shown, NoMemory>
     ensures lines { IfOk result (λ shown. string_bytes shown.lines ≡ capture_lines text.now) }
 {
     let capture = read_capture(alloc, text)?;
-    let items = find_items(alloc, &capture)?;
-    let sizes = find_sizes(alloc, &items)?;
-    let mut transcript = Transcript::new(alloc, sizes);
-    let broken = find_broken(alloc, &sizes, &items, &mut transcript)?;
+    let sizes = find_sizes(alloc, &mut Walk::new(text, &capture))?;
+    let mut walk = Walk::new(text, &capture);
+    let mut transcript = Transcript::new(alloc);
+    let broken = find_broken(alloc, &sizes, &mut walk, &mut transcript)?;
     let mut lines = transcript.into_lines();
     let fault = first(capture.bad_line, broken);
-    push_rests(&mut lines, &fault, &capture, &items)?;
+    push_rests(&mut lines, &fault, &walk)?;
     Ok(Shown { lines, fault })
 }
 
@@ -65,18 +64,15 @@ fn tell(alloc: Global, text: &str) -> Result<Shown, NoMemory>
 fn push_rests(
     text: &mut String,
     fault: &Option<(usize, CaptureFault)>,
-    capture: &Capture,
-    items: &[ItemRef],
+    walk: &Walk,
 ) -> Result<(), NoMemory>
-    ensures { OnOk result (string_bytes text.new ≡ string_bytes text.old ++ last_lines fault.now capture.now.debugger.items capture.now.target.items (map item_of items.now)) }
+    ensures { OnOk result (string_bytes text.new ≡ string_bytes text.old ++ rests_of fault.now walk.now) }
 {
     if fault.is_some() {
         return Ok(());
     }
-    let debugger = left_over(items, Sender::Debugger, capture.debugger.len());
-    let target = left_over(items, Sender::Target, capture.target.len());
-    push_more(text, Sender::Debugger, debugger)?;
-    push_more(text, Sender::Target, target)
+    push_more(text, Sender::Debugger, walk.left_over(Sender::Debugger))?;
+    push_more(text, Sender::Target, walk.left_over(Sender::Target))
 }
 
 /// A line that does not read comes before all other faults.

@@ -1,27 +1,34 @@
 //! Commands by the ids under which they wait.
-ghost use Rattle.std.specs.Prelude.{◌≡◌, ℕ, OnOk, ◌==◌, if◌then◌else◌};
+ghost use Rattle.std.specs.Prelude.{◌≡◌, ◌+◌, ◌≤◌, ◌<◌, ◌^◌, ℕ, length, OnOk, ◌==◌, if◌then◌else◌};
+ghost use Rattle.std.specs.BTreeMap.{get};
+ghost use Rattle.std.specs.Ordering.{nat_cmp};
 
 use crate::pending::Command;
 use jdwp_wire::NoMemory;
 use std::alloc::Global;
-use std::collections::BTreeMap;
+use std::collections::{BTreeMap, VecDeque};
 
-/// Which commands wait under which ids. The last one stands by itself, since mostly a command is answered before the next
-/// one comes; the others are ordered by their ids, so that no choice of ids makes looking them up slow.
+/// Which commands wait under which ids. Mostly ids are asked in order, and answered so, too: those that follow one another
+/// stand in a row. The others are ordered, so that no choice of ids makes looking them up slow.
 #[derive(Drop)]
 pub(crate) struct Waiting {
-    last: Option<(u32, Command)>,
+    /// The id that the row begins with.
+    first: usize,
+    /// What waits under this id and those behind it.
+    row: VecDeque<Option<Command>>,
     others: BTreeMap<u32, Command>,
+    ghost are_ids: { first + length row.items ≤ 2 ^ 32 },
 }
 
 impl Waiting {
-    ghost use Rattle.jdwp_show.specs.Pending.{waits_in};
+    ghost use Rattle.jdwp_show.specs.Pending.{waits_in, place_in};
 
     pub(crate) fn new(alloc: Global) -> Waiting
         ensures { (id : ℕ) → waits_in result id ≡ None }
     {
         Waiting {
-            last: None,
+            first: 0,
+            row: VecDeque::new(alloc),
             others: BTreeMap::new(alloc),
         }
     }
@@ -30,9 +37,21 @@ impl Waiting {
     pub(crate) fn get(&self, id: u32) -> Option<Command>
         ensures { result ≡ waits_in self.now id }
     {
-        match self.last {
-            Some((other, command)) if other == id => Some(command),
-            _ => self.others.get(&id).copied(),
+        match self.place(id) {
+            Some(place) => self.row[place],
+            None => self.others.get(&id).copied(),
+        }
+    }
+
+    /// Where the id stands in the row.
+    fn place(&self, id: u32) -> Option<usize>
+        ensures { result ≡ place_in self.now id }
+    {
+        let id = id as usize;
+        if self.first <= id && id < self.first + self.row.len() {
+            Some(id - self.first)
+        } else {
+            None
         }
     }
 
@@ -40,10 +59,19 @@ impl Waiting {
     pub(crate) fn insert(&mut self, id: u32, command: Command) -> Result<(), NoMemory>
         ensures { OnOk result ((other : ℕ) → waits_in self.new other ≡ (if id == other then Some command else waits_in self.old other)) }
     {
-        if let Some((other, waits)) = self.last {
-            self.others.insert(other, waits)?;
+        if let Some(place) = self.place(id) {
+            self.row[place] = Some(command);
+            return Ok(());
         }
-        self.last = Some((id, command));
+        let next = id as usize;
+        if self.row.is_empty() {
+            self.first = next;
+        }
+        if next == self.first + self.row.len() {
+            self.row.push_back(Some(command))?;
+        } else {
+            self.others.insert(id, command)?;
+        }
         Ok(())
     }
 
@@ -51,11 +79,30 @@ impl Waiting {
     pub(crate) fn remove(&mut self, id: u32)
         ensures { (other : ℕ) → waits_in self.new other ≡ (if id == other then None else waits_in self.old other) }
     {
-        self.others.remove(&id);
-        if let Some((other, _)) = self.last {
-            if other == id {
-                self.last = None;
+        match self.place(id) {
+            Some(place) => {
+                self.row[place] = None;
+                self.shorten();
             }
+            None => forget(&mut self.others, id),
         }
     }
+
+    /// Takes from the front of the row the ids under which none waits.
+    fn shorten(&mut self)
+        ensures { (id : ℕ) → waits_in self.new id ≡ waits_in self.old id }
+    {
+        while let Some(None) = self.row.front() {
+            forget(&mut self.others, self.first as u32);
+            self.row.pop_front();
+            self.first += 1;
+        }
+    }
+}
+
+/// No command is there under the id.
+fn forget(commands: &mut BTreeMap<u32, Command>, id: u32)
+    ensures { (other : ℕ) → get nat_cmp commands.new other ≡ (if id == other then None else get nat_cmp commands.old other) }
+{
+    commands.remove(&id);
 }

@@ -1,12 +1,8 @@
-use Rattle.std.proofs.Common.{◌≡◌, ◌≤◌, ◌+◌, length, take, List, ℕ, refl, ap, ◌∙◌, arith}
+use Rattle.std.proofs.Common.{◌≤◌, ◌+◌, length, ℕ, refl, ap, sym, ◌∙◌, arith}
 use Rattle.std.proofs.lemmas.Iterator.Consumers.{YieldsList-turn, YieldsList-end}
 use Rattle.std.proofs.lemmas.Iterator.Splits.{YieldsList-from_lines}
-use Rattle.std.proofs.lemmas.List.{length_push, length-map, take_all}
-use Rattle.std.specs.List.{filter_map}
+use Rattle.std.proofs.lemmas.List.{length_push, take_all}
 use Rattle.std.specs.Str.Lines.{lines}
-use Rattle.jdwp_show.specs.declared.capture_line.LineLength.{LineLength}
-use Rattle.jdwp_show.specs.Captures.{length_of}
-use Rattle.jdwp_show.specs.Lines.{line_of}
 use Rattle.jdwp_show.proofs.LineLemmas.{filter_map_more, take_while_more, take_while_bad, same_capture, bad_number, no_bad_line, take_while_all}
 use Rattle.jdwp_show.proofs.capture_line.read_capture.Goals as goal
 
@@ -16,7 +12,15 @@ returns-then-not-branch-clause-capture c =
     let read = rw c.if-not-branch.true at c.in_ok-read_line.ensures in
     let bad = rw c.as_bytes.ensures.value at read.0 in
     let all = take_while_bad (lines c.args.text.now) (length c.loop-line.yielded) c.in-Some.line.now t.0 t.1 bad c.loop-line.invariant.all_read in
-    rw all (same_capture c.read_line.new.capture _ _ (read.1 _ c.loop-line.invariant.capture) refl refl refl)
+    rw all (same_capture c.read_line.new.capture _ _ (read.1 _ c.loop-line.invariant.capture) refl refl)
+
+pub returns-then-not-branch-clause-lines : goal.returns-then-not-branch-clause-lines
+returns-then-not-branch-clause-lines c =
+    let t = YieldsList-turn (YieldsList-from_lines c.args.text.now cc) c.loop-line.yielded _ c.loop-line.yielded_by _ _ c.in-Some.line c.in-Some.is c.next.ensures.steps in
+    let read = rw c.if-not-branch.true at c.in_ok-read_line.ensures in
+    let bad = rw c.as_bytes.ensures.value at read.0 in
+    let all = take_while_bad (lines c.args.text.now) (length c.loop-line.yielded) c.in-Some.line.now t.0 t.1 bad c.loop-line.invariant.all_read in
+    rw all (read.3 ∙ c.loop-line.invariant.count ∙ sym c.loop-line.invariant.all_said)
 
 pub returns-then-not-branch-clause-bad_line : goal.returns-then-not-branch-clause-bad_line
 returns-then-not-branch-clause-bad_line c =
@@ -24,10 +28,7 @@ returns-then-not-branch-clause-bad_line c =
     let read = rw c.if-not-branch.true at c.in_ok-read_line.ensures in
     let bad = rw c.as_bytes.ensures.value at read.0 in
     let all = take_while_bad (lines c.args.text.now) (length c.loop-line.yielded) c.in-Some.line.now t.0 t.1 bad c.loop-line.invariant.all_read in
-    let so_far = filter_map line_of (take (length c.loop-line.yielded) (lines c.args.text.now)) in
-    let kept = ap (λ (x : List LineLength). length x) (read.1 _ c.loop-line.invariant.capture).lengths ∙ length-map so_far length_of ∙ c.loop-line.invariant.count in
-    let count : c.len.result ≡ length c.loop-line.yielded = omega (arith, kept, c.len.ensures, c.read_line.new.capture.lines.ok.0) in
-    bad_number (lines c.args.text.now) (length c.loop-line.yielded) c.len.result t.0 all count
+    bad_number (lines c.args.text.now) (length c.loop-line.yielded) c.read_line.new.capture.lines t.0 all (read.3 ∙ c.loop-line.invariant.count)
 
 pub loop-line-preserved : goal.loop-line-preserved
 loop-line-preserved c =
@@ -37,8 +38,9 @@ loop-line-preserved c =
     let more = filter_map_more (lines c.args.text.now) (length c.loop-line.yielded) c.in-Some.line.now read.0 t.0 t.1 good in
     let one = length_push c.loop-line.yielded c.in-Some.line in
     record {
-      capture = rw (one, more) (read.2 _ c.loop-line.invariant.capture);
-      count = rw (one, more) (length_push _ read.0 ∙ ap (λ (k : ℕ). k + 1) c.loop-line.invariant.count);
+      capture = rw (one, more) (same_capture c.read_line.new.capture _ _ (read.2 _ c.loop-line.invariant.capture) refl refl);
+      count = rw one (ap (λ (k : ℕ). k + 1) (read.4 ∙ c.loop-line.invariant.count));
+      all_said = rw (one, more) (length_push _ read.0 ∙ ap (λ (k : ℕ). k + 1) c.loop-line.invariant.all_said);
       all_read = rw one (take_while_more (lines c.args.text.now) (length c.loop-line.yielded) c.in-Some.line.now read.0 t.0 t.1 good c.loop-line.invariant.all_read);
       good = read.3 ∙ c.loop-line.invariant.good;
     }
@@ -49,6 +51,13 @@ returns-clause-capture c =
     let past : length (lines c.args.text.now) ≤ length c.loop-line.yielded = omega (arith, t.1) in
     let all = take_while_all (lines c.args.text.now) (length c.loop-line.yielded) past c.loop-line.invariant.all_read in
     rw all (rw (take_all (length c.loop-line.yielded) (lines c.args.text.now) past) at c.loop-line.invariant.capture)
+
+pub returns-clause-lines : goal.returns-clause-lines
+returns-clause-lines c =
+    let t = YieldsList-end (YieldsList-from_lines c.args.text.now cc) c.loop-line.yielded _ c.loop-line.yielded_by _ _ c.in-None.is c.next.ensures.steps in
+    let past : length (lines c.args.text.now) ≤ length c.loop-line.yielded = omega (arith, t.1) in
+    let all = take_while_all (lines c.args.text.now) (length c.loop-line.yielded) past c.loop-line.invariant.all_read in
+    rw all (c.loop-line.invariant.count ∙ sym (rw (take_all (length c.loop-line.yielded) (lines c.args.text.now) past) at c.loop-line.invariant.all_said))
 
 pub returns-clause-bad_line : goal.returns-clause-bad_line
 returns-clause-bad_line c =

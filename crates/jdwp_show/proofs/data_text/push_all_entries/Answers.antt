@@ -1,7 +1,6 @@
-use Rattle.std.proofs.Common.{◌≤◌, ◌++◌, length, List, ℕ, sym, ap, ◌∙◌, arith}
-use Rattle.std.specs.String.{string_bytes}
+use Rattle.std.proofs.Common.{arith}
 use Rattle.jdwp_layout.specs.Meanings.{entry_meaning}
-use Rattle.jdwp_show.specs.DataText.{listed, entry_text}
+use Rattle.jdwp_show.specs.DataText.{entry_text}
 use Rattle.jdwp_show.proofs.TextLemmas.{listed_item, listed_end, grown}
 use Rattle.jdwp_show.proofs.data_text.push_all_entries.Goals as goal
 

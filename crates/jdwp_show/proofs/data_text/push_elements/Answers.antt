@@ -1,5 +1,4 @@
 use Rattle.std.proofs.Common.{arith}
-use Rattle.std.specs.String.{string_bytes}
 use Rattle.jdwp_show.specs.DataText.{element_text}
 use Rattle.jdwp_show.proofs.TextLemmas.{listed_more, grown}
 use Rattle.jdwp_show.proofs.data_text.push_elements.Goals as goal

@@ -1,7 +1,6 @@
-use Rattle.std.proofs.Common.{sym, ap, ◌∙◌, map-id}
+use Rattle.std.proofs.Common.{sym, ◌∙◌, map-id}
 use Rattle.std.proofs.lemmas.Iterator.{YieldsList-from_chars}
 use Rattle.std.proofs.lemmas.Iterator.Consumers.{YieldsList-end}
-use Rattle.jdwp_show.specs.DataText.{quoted}
 use Rattle.jdwp_show.proofs.TextLemmas.{more_quoted, all_quoted}
 use Rattle.jdwp_show.proofs.data_text.push_quoted.Goals as goal
 

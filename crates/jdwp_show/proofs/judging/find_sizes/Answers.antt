@@ -1,58 +1,54 @@
-use Rattle.std.proofs.Common.{◌≡◌, ◌<◌, ◌≤◌, length, get_or, None, Option, is_some, true, false, sym, ◌∙◌, ap, arith}
+use Rattle.std.proofs.Common.{◌≡◌, length, List, None, Option, is_some, true, false, sym, ◌∙◌, ap, arith}
 use Rattle.std.specs.Option.{option_flatten}
-use Rattle.std.proofs.lemmas.List.{get_or_default}
 use Rattle.jdwp_wire.specs.Widths.{Widths}
-use Rattle.jdwp_show.specs.declared.capture_line.Sender.TheVariants.{Debugger}
-use Rattle.jdwp_show.specs.declared.found.FoundRef.TheVariants.{Handshake}
-use Rattle.jdwp_show.specs.declared.found.ItemRef.{ItemRef}
-use Rattle.jdwp_show.specs.Pending.{waiting_in}
+use Rattle.jdwp_show.specs.Items.{Item}
 use Rattle.jdwp_show.specs.Rules.{order_fault}
 use Rattle.jdwp_show.specs.Sessions.{widths_answer, told}
 use Rattle.jdwp_show.specs.Streams.{thing}
-use Rattle.jdwp_show.proofs.JudgingLemmas.{earlier, ended, not_ended, sizes_none, sizes_some, unanswered_more, answered, unanswered_end}
+use Rattle.jdwp_show.specs.Walks.{rest_of}
+use Rattle.jdwp_show.proofs.JudgingLemmas.{ended, not_ended, sizes_none, sizes_some, unanswered_begin, unanswered_more, answered, unanswered_end}
 use Rattle.jdwp_show.proofs.judging.find_sizes.Goals as goal
 
-none_there : ItemRef
-none_there = record { line = 0; sender = Debugger; found = Handshake }
+pub loop-item-init : goal.loop-item-init
+loop-item-init c = record {
+  under_way = c.requires;
+  unanswered = unanswered_begin widths_answer c.new-pending.result (rest_of c.args.walk.now) c.new-pending.ensures.begun c.new-pending.ensures.waits;
+}
 
 pub returns-then-is_some : goal.returns-then-is_some
-unfolding none_there
 returns-then-is_some c =
-    let items = c.args.items.now in
-    let k = c.loop-item.item-index in
     let p = c.loop-item.pending in
-    let item = get_or items k none_there in
-    let inside : k < length items = omega arith in
+    let item = c.in-Some.item in
+    let h = c.loop-item.invariant.unanswered in
     let broken : is_some (order_fault p.begun c.waiting_for-waits.result item.sender (thing item.found)) ≡ true = cc in
-    sym (ap (λ (x : Option (Option Widths)). option_flatten x) (answered widths_answer p items k item None inside (get_or_default items k none_there item inside) (ended p (earlier items k) item c.waiting_for-waits.result c.loop-item.invariant.kept c.waiting_for-waits.ensures broken) c.loop-item.invariant))
+    sym (ap (λ (x : Option (Option Widths)). option_flatten x) (answered widths_answer p _ _ _ item None h c.in-Some.ensures.gives (ended p h.before item c.waiting_for-waits.result h.kept c.waiting_for-waits.ensures broken)))
 
 pub returns-then-is_some-2 : goal.returns-then-is_some-2
-unfolding none_there
 returns-then-is_some-2 c =
-    let items = c.args.items.now in
-    let k = c.loop-item.item-index in
     let p = c.loop-item.pending in
-    let item = get_or items k none_there in
-    let inside : k < length items = omega arith in
+    let item = c.in-Some.item in
+    let h = c.loop-item.invariant.unanswered in
     let holds : is_some (order_fault p.begun c.waiting_for-waits.result item.sender (thing item.found)) ≡ false = cc in
     let some : is_some (told c.waiting_for-waits.result item.sender (thing item.found)) ≡ true = cc in
-    let answer = sizes_some (told c.waiting_for-waits.result item.sender (thing item.found)) _ some (not_ended p (earlier items k) item c.waiting_for-waits.result c.loop-item.invariant.kept c.waiting_for-waits.ensures holds) in
-    c.told-sizes.ensures ∙ sym (ap (λ (x : Option (Option Widths)). option_flatten x) (answered widths_answer p items k item _ inside (get_or_default items k none_there item inside) answer c.loop-item.invariant))
+    let answer = sizes_some (told c.waiting_for-waits.result item.sender (thing item.found)) _ some (not_ended p h.before item c.waiting_for-waits.result h.kept c.waiting_for-waits.ensures holds) in
+    c.told-sizes.ensures ∙ sym (ap (λ (x : Option (Option Widths)). option_flatten x) (answered widths_answer p _ _ _ item _ h c.in-Some.ensures.gives answer))
 
 pub loop-item-preserved : goal.loop-item-preserved
-unfolding none_there
 loop-item-preserved c =
-    let items = c.args.items.now in
-    let k = c.loop-item.item-index in
     let p = c.loop-item.pending in
-    let item = get_or items k none_there in
-    let inside : k < length items = omega arith in
+    let item = c.in-Some.item in
+    let h = c.loop-item.invariant.unanswered in
     let holds : is_some (order_fault p.begun c.waiting_for-waits.result item.sender (thing item.found)) ≡ false = cc in
     let none : is_some (told c.waiting_for-waits.result item.sender (thing item.found)) ≡ false = cc in
-    let unasked = not_ended p (earlier items k) item c.waiting_for-waits.result c.loop-item.invariant.kept c.waiting_for-waits.ensures holds ∙ sizes_none _ none in
-    unanswered_more widths_answer p _ items k item inside (get_or_default items k none_there item inside) unasked c.in_ok-record.ensures c.loop-item.invariant
+    let unasked = not_ended p h.before item c.waiting_for-waits.result h.kept c.waiting_for-waits.ensures holds ∙ sizes_none _ none in
+    record {
+      under_way = c.in-Some.ensures.same.under_way c.loop-item.invariant.under_way;
+      unanswered = unanswered_more widths_answer p _ _ _ _ item h c.in-Some.ensures.gives unasked c.in_ok-record.ensures;
+    }
+
+pub loop-item-smaller : goal.loop-item-smaller
+loop-item-smaller c = omega (arith, ap (λ (x : List Item). length x) c.in-Some.ensures.gives)
 
 pub returns : goal.returns
 returns c =
-    let past : length c.args.items.now ≤ c.loop-item.item-index = omega arith in
-    sym (ap (λ (x : Option (Option Widths)). option_flatten x) (unanswered_end widths_answer c.loop-item.pending c.args.items.now c.loop-item.item-index past c.loop-item.invariant))
+    sym (ap (λ (x : Option (Option Widths)). option_flatten x) (unanswered_end widths_answer c.loop-item.pending _ _ c.loop-item.invariant.unanswered c.in_default.ensures.gives.0))

@@ -1,5 +1,4 @@
 use Rattle.std.proofs.Common.{◌<◌, length, refl, get_or, arith}
-use Rattle.std.specs.String.{string_bytes}
 use Rattle.std.proofs.lemmas.Result.{err_from_is_err_and}
 use Rattle.jdwp_wire.proofs.Passed.{each_at_place}
 use Rattle.jdwp_layout.specs.declared.item.Field.TheVariants as field

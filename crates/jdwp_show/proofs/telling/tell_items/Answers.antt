@@ -1,5 +1,4 @@
 use Rattle.std.proofs.Common.{◌<◌, ◌≤◌, length, get_or, refl, sym, codes, arith}
-use Rattle.std.specs.String.{string_bytes}
 use Rattle.std.proofs.lemmas.Result.{err_from_is_err_and}
 use Rattle.std.proofs.lemmas.List.{get_or-map, length-map}
 use Rattle.jdwp_layout.specs.declared.item.Item.TheVariants as item

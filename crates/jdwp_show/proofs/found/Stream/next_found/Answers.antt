@@ -1,4 +1,4 @@
-use Rattle.std.proofs.Common.{◌≤◌, ◌+◌, ◌-◌, refl, arith, inl, inr, drop}
+use Rattle.std.proofs.Common.{ℕ, ◌≤◌, ◌+◌, ◌-◌, refl, ap, arith, drop}
 use Rattle.std.proofs.lemmas.List.{length-take, length-drop}
 use Rattle.jdwp_show.proofs.FoundLemmas.{more_packets, more_handshake, faulty_packets, faulty_handshake, whole_packet, whole_handshake, hello_length, packet_length}
 use Rattle.jdwp_show.proofs.found.Stream.next_found.Goals as goal
@@ -10,7 +10,7 @@ pub returns-in-Fault : goal.returns-in-Fault
 returns-in-Fault c =
     let unfaulty = c.if-self.false in
     let fresh = c.if-not-self.true in
-    (λ more. rw (unfaulty, fresh) (faulty_handshake _ more _ c.in-Fault.ensures.front), inr (unfaulty, refl, refl), refl, refl)
+    (λ more. rw (unfaulty, fresh) (faulty_handshake _ more _ c.in-Fault.ensures.front), omega arith, refl, refl)
 
 pub returns-in-Whole : goal.returns-in-Whole
 returns-in-Whole c =
@@ -21,7 +21,7 @@ returns-in-Whole c =
     let there = s.there in
     let long = hello_length _ c.in-Whole.ensures.front in
     let le : s.taken + 14 ≤ s.come = omega (arith, length-take (s.come - s.taken) (drop s.taken s.bytes.now), length-drop s.taken s.bytes.now) in
-    (λ more. rw (unfaulty, fresh) (whole_handshake s.bytes.now more s.taken s.come le there c.in-Whole.ensures.front), inl (omega arith), refl, refl)
+    (λ more. rw (unfaulty, fresh) (whole_handshake s.bytes.now more s.taken s.come le there c.in-Whole.ensures.front), refl, refl, refl)
 
 pub returns-in-More-next_packet : goal.returns-in-More-next_packet
 returns-in-More-next_packet c = let unfaulty = c.if-self.false in let shaken = c.if-not-self.false in (rw (unfaulty, shaken) (more_packets _ c.in-More-next_packet.ensures.front), refl)
@@ -30,7 +30,7 @@ pub returns-in-Fault-next_packet : goal.returns-in-Fault-next_packet
 returns-in-Fault-next_packet c =
     let unfaulty = c.if-self.false in
     let shaken = c.if-not-self.false in
-    (λ more. rw (unfaulty, shaken) (faulty_packets _ more _ c.in-Fault-next_packet.ensures.front), inr (unfaulty, refl, refl), refl, refl)
+    (λ more. rw (unfaulty, shaken) (faulty_packets _ more _ c.in-Fault-next_packet.ensures.front), omega arith, refl, refl)
 
 pub returns-in-Whole-next_packet : goal.returns-in-Whole-next_packet
 returns-in-Whole-next_packet c =
@@ -42,4 +42,4 @@ returns-in-Whole-next_packet c =
     let used = c.in-Whole-next_packet.used in
     let long = packet_length _ _ _ used c.in-Whole-next_packet.ensures.front in
     let le : s.taken + used ≤ s.come = omega (arith, long.1, length-take (s.come - s.taken) (drop s.taken s.bytes.now), length-drop s.taken s.bytes.now) in
-    (λ more. rw (unfaulty, shaken) (whole_packet s.bytes.now more s.taken s.come used _ _ le there c.in-Whole-next_packet.ensures.front), inl (omega (arith, long.0)), refl, refl)
+    (λ more. rw (unfaulty, shaken) (whole_packet s.bytes.now more s.taken s.come used _ _ le there c.in-Whole-next_packet.ensures.front), ap (λ (n : ℕ). s.taken + n) long.2, refl, refl)
