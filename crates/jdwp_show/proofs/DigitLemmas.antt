@@ -1,13 +1,23 @@
 -- Hex digits, pair by pair, where none is skipped.
-use Rattle.std.proofs.Common.{◌≡◌, ℕ, ◌+◌, ◌*◌, ◌%◌, ◌<◌, ◌≤◌, true, false, ltb, List, length, take, drop, slice_index, slice_set, Option, Some, None, unwrap_or, is_some, Ok, Err, refl, sym, ap, ◌∙◌, arith, inl, inr}
+use Rattle.std.proofs.Common.{◌≡◌, ℕ, ◌+◌, ◌*◌, ◌%◌, ◌<◌, ◌≤◌, true, false, ltb, List, length, take, drop, slice_index, slice_set, Option, Some, None, unwrap_or, is_some, Ok, Err, refl, sym, ap, ◌∙◌, arith, inl, inr, zero, suc, [], get_or}
 use Rattle.std.specs.Prelude.{MatchResult}
 use Rattle.std.proofs.lemmas.Bool.{cases_lt, lt-ltb}
 use Rattle.std.proofs.lemmas.Bool.Decides.{nat_tests}
+use Rattle.std.proofs.lemmas.List.{get_or-take, get_or-drop}
+use Rattle.std.specs.Simd.{first_chunks}
 use Rattle.hex.specs.Hex.{decode_of, decode_pairs, hex_digit_value, pair_value}
 use Rattle.hex.specs.declared.error.FromHexError.{FromHexError}
 use Rattle.hex.specs.declared.error.FromHexError.TheVariants.{InvalidHexCharacter}
 use Rattle.hex.proofs.Pairs.{prepend, decode_step, decode_err, decode_done, decode_start}
 use Rattle.hex.proofs.HexLemmas.{decode_of-even}
+
+-- the digits of a pair
+pub digit_at : (k : ℕ) (s : List ℕ) (i j : ℕ) → i < k → j < 2 → get_or (get_or (first_chunks 2 k s) i []) j 0 ≡ get_or s (2 * i + j) 0
+digit_at zero s i j inside low = absurd (omega arith)
+digit_at (suc k) s zero j inside low = get_or-take 2 s j 0 low ∙ ap (λ (n : ℕ). get_or s n 0) (omega arith)
+digit_at (suc k) s (suc i) j inside low =
+    let here : 2 + (2 * i + j) ≡ 2 * suc i + j = omega arith in
+    digit_at k (drop 2 s) i j (omega arith) low ∙ get_or-drop 2 s (2 * i + j) 0 ∙ ap (λ (n : ℕ). get_or s n 0) here
 
 -- what is known of a digit of this value, 255 for what is none
 pub record IsValue (digit v : ℕ) : Type 0 where

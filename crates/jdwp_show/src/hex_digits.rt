@@ -4,15 +4,17 @@ ghost use Rattle.hex.specs.Hex.{decode_of, hex_digit_value};
 
 /// Writes the bytes of hex digits, two digits a byte, and answers whether all are digits.
 ///
-/// No pair is skipped, whatever those before it are: so compilers take many at once.
+/// No pair is skipped, whatever those before it are, and each is read as one number: so compilers take many at once.
 pub(crate) fn decode_into(digits: &[u8], bytes: &mut [u8]) -> bool
     requires { length digits.now ≡ 2 * length bytes.old }
     ensures { MatchResult (decode_of digits.now) (λ decoded. (result ≡ true) × (bytes.new ≡ decoded)) (λ e. result ≡ false) }
 {
     let mut worst: u8 = 0;
+    let (pairs, _) = digits.as_chunks::<2>();
     for i in 0..bytes.len() {
-        let high = digit_value(digits[2 * i]);
-        let low = digit_value(digits[2 * i + 1]);
+        let both = u16::from_le_bytes(pairs[i]);
+        let high = digit_value((both % 256) as u8);
+        let low = digit_value((both / 256) as u8);
         let pair = larger(high, low);
         worst = larger(worst, pair);
         bytes[i] = high % 16 * 16 + low % 16;

@@ -1,5 +1,5 @@
 //! Messages as lines.
-ghost use Rattle.std.specs.Prelude.{◌≡◌, ◌++◌, List, None, OnOk};
+ghost use Rattle.std.specs.Prelude.{◌≡◌, ◌++◌, List, None, OnOk, codes};
 ghost use Rattle.std.specs.String.{string_bytes};
 ghost use Rattle.jdwp_layout.specs.Meanings.{DatumMeaning};
 ghost use Rattle.jdwp_layout.specs.Reads.{data_at};
@@ -16,13 +16,13 @@ use jdwp_layout::{Layout, layout_of, validate};
 use jdwp_wire::{ErrorCode, IdSizes, NoMemory};
 use std::alloc::{AllocError, Global};
 
-/// Appends the mark of an end: `>` or `<`.
+/// Appends the mark of an end, `>` or `<`, and a space.
 pub(crate) fn push_mark(text: &mut String, sender: Sender) -> Result<(), AllocError>
-    ensures { OnOk result (string_bytes text.new ≡ string_bytes text.old ++ mark sender) }
+    ensures { OnOk result (string_bytes text.new ≡ string_bytes text.old ++ mark sender ++ codes " ") }
 {
     text.push_str(match sender {
-        Sender::Debugger => ">",
-        Sender::Target => "<",
+        Sender::Debugger => "> ",
+        Sender::Target => "< ",
     })
 }
 
@@ -31,7 +31,7 @@ pub(crate) fn push_hello(text: &mut String, sender: Sender) -> Result<(), AllocE
     ensures { OnOk result (string_bytes text.new ≡ string_bytes text.old ++ hello_line sender) }
 {
     push_mark(text, sender)?;
-    text.push_str(" hello")
+    text.push_str("hello")
 }
 
 /// Appends the names of a command set and a command, or their numbers where they are not known.
@@ -62,7 +62,6 @@ pub(crate) fn push_command_start(
     ensures { OnOk result (string_bytes text.new ≡ string_bytes text.old ++ command_start sender id command) }
 {
     push_mark(text, sender)?;
-    text.push_str(" ")?;
     push_number(text, id)?;
     text.push_str(" ")?;
     push_name(text, command)
@@ -79,7 +78,6 @@ pub(crate) fn push_reply_start(
     ensures { OnOk result (string_bytes text.new ≡ string_bytes text.old ++ reply_start sender id command error.0) }
 {
     push_mark(text, sender)?;
-    text.push_str(" ")?;
     push_number(text, id)?;
     text.push_str(" reply ")?;
     push_name(text, command)?;

@@ -122,7 +122,7 @@ pub(crate) fn push_more(text: &mut String, sender: Sender, count: usize) -> Resu
 {
     if count > 0 {
         push_mark(text, sender)?;
-        text.push_str(" more ")?;
+        text.push_str("more ")?;
         push_number(text, count)?;
         text.push_str("\n")?;
     }
