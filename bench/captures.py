@@ -2,11 +2,11 @@
 """How fast the program judges and shows captures, and how much memory that takes.
 
 Makes captures of sessions as inspectors meet them: many short packets (SuspendCount of thread 1), or packets of 60,000 bytes (the replies to
-AllThreads, StringReference.Value and ArrayReference.GetValues in turn); each with one byte a line, or with long lines; lists (the replies to
+AllThreads, StringReference.Value and ArrayReference.GetValues in turn); each with one byte a line, with one packet a line, or with long lines; lists (the replies to
 Method.Bytecodes, of 50,000 bytes, and to AllClasses, of 1,000 classes); and commands that all wait, under ids in order and under ids that collide in a hash map of fixed hashing
 (`colliding_ids.c`, where there is a `cc`). Runs `check` and `show` on them, and prints MB of text a second (the best of three runs), and the peak of memory in MB and for each byte of text; beside them, how fast `cat`
 gives the same file. All runs are pinned to one processor, where `taskset` is there. To reach: with long lines above 200 MB
-a second for `check` and above 100 for `show`, and memory within a small multiple of the text.
+a second for `check` and above 100 for `show`, and at most 3 bytes of memory a byte of text, however short the lines are.
 
     bench/captures.py [PROGRAM] [MB..]
 
@@ -93,6 +93,12 @@ def byte_lines(sides):
         yield "".join(f"> {byte:02x}\n" for byte in sent) + "".join(f"< {byte:02x}\n" for byte in answered)
 
 
+def packet_lines(sides):
+    """Each packet in a line of its own."""
+    for sent, answered in sides:
+        yield f"> {sent.hex()}\n< {answered.hex()}\n"
+
+
 def long_lines(sides):
     """The commands of some exchanges in one line, and their replies in the next."""
     sent, answered = bytearray(), bytearray()
@@ -147,7 +153,7 @@ def main():
         program = os.path.abspath(words.pop(0))
     sizes = [int(word) for word in words] or [10, 100]
     packets = {"short packets": short_exchange, "60,000-byte packets": large_exchange}
-    forms = {"one byte a line": byte_lines, "long lines": long_lines}
+    forms = {"one byte a line": byte_lines, "one packet a line": packet_lines, "long lines": long_lines}
     with tempfile.TemporaryDirectory() as folder:
         path = os.path.join(folder, "capture")
         for size, (packet, make), (form, lines) in itertools.product(sizes, packets.items(), forms.items()):
