@@ -36,7 +36,7 @@ fn digit_value(digit: u8) -> u8
     }
 }
 
-/// A letter as the small one; characters between it and other letters may become others that are no hex digits.
+/// A capital letter as the small one; no other character becomes a letter.
 fn small(digit: u8) -> u8
     ensures { result ≡ (if digit / 32 % 2 == 0 then digit + 32 else digit) }
 {
