@@ -49,6 +49,7 @@ impl<'a> Stream<'a> {
     }
 
     /// What stands next, if it is whole or shows a fault.
+    #[inline(always)]
     pub(crate) fn next_found(&mut self) -> Option<FoundRef<'a>>
         ensures { IsNext self.old result self.new }
     {

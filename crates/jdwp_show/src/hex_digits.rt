@@ -1,5 +1,5 @@
 //! Hex digits, read into bytes.
-ghost use Rattle.std.specs.Prelude.{◌≡◌, ◌*◌, ◌<◌, ◌↔◌, length, unwrap_or, nat_lt, is_some, true, false, MatchResult};
+ghost use Rattle.std.specs.Prelude.{◌≡◌, ◌+◌, ◌*◌, ◌/◌, ◌%◌, ◌<◌, ◌↔◌, ◌==◌, if◌then◌else◌, length, unwrap_or, nat_lt, is_some, true, false, MatchResult};
 ghost use Rattle.hex.specs.Hex.{decode_of, hex_digit_value};
 
 /// Writes the bytes of hex digits, two digits a byte, and answers whether all are digits.
@@ -27,11 +27,23 @@ fn digit_value(digit: u8) -> u8
     ensures value { result ≡ unwrap_or (hex_digit_value digit) 255 }
     ensures is_digit { is_some (hex_digit_value digit) ≡ nat_lt result 16 }
 {
-    match digit {
-        b'A'..=b'F' => digit - b'A' + 10,
-        b'a'..=b'f' => digit - b'a' + 10,
-        b'0'..=b'9' => digit - b'0',
-        _ => 255,
+    match small(digit) {
+        letter @ b'a'..=b'f' => letter - b'a' + 10,
+        _ => match digit {
+            b'0'..=b'9' => digit - b'0',
+            _ => 255,
+        },
+    }
+}
+
+/// A capital letter as the small one; no other character becomes a letter.
+fn small(digit: u8) -> u8
+    ensures { result ≡ (if digit / 32 % 2 == 0 then digit + 32 else digit) }
+{
+    if digit / 32 % 2 == 0 {
+        digit + 32
+    } else {
+        digit
     }
 }
 

@@ -116,6 +116,7 @@ pub(crate) fn find_broken<O: Observer>(
 }
 
 /// The rule that an item breaks.
+#[inline(always)]
 fn item_fault(
     sizes: &Option<IdSizes>,
     begun: bool,

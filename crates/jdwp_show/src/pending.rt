@@ -44,6 +44,7 @@ impl Pending {
     }
 
     /// The command that waits under the id of the item.
+    #[inline(always)]
     pub(crate) fn waiting_for(&self, item: &ItemRef) -> Option<Command>
         ensures { result ≡ under (waiting_in self.now) (thing item.now.found) }
     {
@@ -54,6 +55,7 @@ impl Pending {
     }
 
     /// One item more.
+    #[inline(always)]
     pub(crate) fn record(&mut self, item: &ItemRef) -> Result<(), NoMemory>
         ensures { OnOk result (IsAfter self.old item.now self.new) }
     {

@@ -34,6 +34,7 @@ impl Waiting {
     }
 
     /// The command that waits under the id.
+    #[inline(always)]
     pub(crate) fn get(&self, id: u32) -> Option<Command>
         ensures { result ≡ waits_in self.now id }
     {
@@ -44,6 +45,7 @@ impl Waiting {
     }
 
     /// Where the id stands in the row.
+    #[inline(always)]
     fn place(&self, id: u32) -> Option<usize>
         ensures { result ≡ place_in self.now id }
     {
@@ -56,6 +58,7 @@ impl Waiting {
     }
 
     /// The command waits under the id, and no other does.
+    #[inline(always)]
     pub(crate) fn insert(&mut self, id: u32, command: Command) -> Result<(), NoMemory>
         ensures { OnOk result ((other : ℕ) → waits_in self.new other ≡ (if id == other then Some command else waits_in self.old other)) }
     {
@@ -76,6 +79,7 @@ impl Waiting {
     }
 
     /// No command waits under the id.
+    #[inline(always)]
     pub(crate) fn remove(&mut self, id: u32)
         ensures { (other : ℕ) → waits_in self.new other ≡ (if id == other then None else waits_in self.old other) }
     {

@@ -44,6 +44,7 @@ impl<'a> Walk<'a> {
     }
 
     /// The next item.
+    #[inline(always)]
     pub(crate) fn next(&mut self) -> Option<ItemRef<'a>>
         requires { IsUnderWay self.old }
         ensures { IsStep self.old result self.new }
@@ -63,6 +64,7 @@ impl<'a> Walk<'a> {
     }
 
     /// What is next of what has come in this line.
+    #[inline(always)]
     fn next_found(&mut self) -> Option<FoundRef<'a>>
         ensures { IsTaken self.old result self.new }
     {
