@@ -5,8 +5,9 @@ Makes captures of sessions as inspectors meet them: many short packets (SuspendC
 AllThreads, StringReference.Value and ArrayReference.GetValues in turn); each with one byte a line, with one packet a line, or with long lines; lists (the replies to
 Method.Bytecodes, of 50,000 bytes, and to AllClasses, of 1,000 classes); and commands that all wait, under ids in order and under ids that collide in a hash map of fixed hashing
 (`colliding_ids.c`, where there is a `cc`). Runs `check` and `show` on them, and prints MB of text a second (the best of three runs), and the peak of memory in MB and for each byte of text; beside them, how fast `cat`
-gives the same file. All runs are pinned to one processor, where `taskset` is there. To reach: with long lines above 200 MB
-a second for `check` and above 100 for `show`, and at most 3 bytes of memory a byte of text, however short the lines are.
+gives the same file, and for short packets, where there is a `rustc`, how fast a plain program does the same (`plain_captures.rs`). All runs are
+pinned to one processor, where `taskset` is there. To reach: 0.6 of the plain program's speed in both, commands under ids that collide above 35 MB a
+second, and at most 3 bytes of memory a byte of text, however short the lines are.
 
     bench/captures.py [PROGRAM] [MB..]
 
@@ -125,19 +126,41 @@ def write_lines(path, lines):
         return sum(file.write(text) for text in lines)
 
 
+# Runs a program in a process of its own, so that the peak is the program's and not that of this one, which a child begins with.
+RUNNER = """
+import os, subprocess, sys, time
+start = time.perf_counter()
+process = subprocess.Popen(sys.argv[1:], stdout=subprocess.DEVNULL)
+_, status, usage = os.wait4(process.pid, 0)
+print(status, time.perf_counter() - start, usage.ru_maxrss * 1024)
+"""
+
+
 def run(words):
-    """The status, the seconds and the peak of memory in bytes."""
+    """The status, the seconds and the peak of memory in bytes (that of the process that starts it, some 10 MB, where the program takes less)."""
     pinned = ["taskset", "-c", str(min(os.sched_getaffinity(0)))] if shutil.which("taskset") else []
-    start = time.perf_counter()
-    process = subprocess.Popen(pinned + words, stdout=subprocess.DEVNULL)
-    _, status, usage = os.wait4(process.pid, 0)
-    return status, time.perf_counter() - start, usage.ru_maxrss * 1024
+    told = subprocess.run([sys.executable, "-S", "-c", RUNNER, *pinned, *words], check=True, capture_output=True, text=True)
+    status, seconds, peak = told.stdout.split()
+    return int(status), float(seconds), int(peak)
 
 
-def measure(program, path, made, name):
+def plain_program(folder):
+    """A plain program for the same job; none where it can't be built here."""
+    compiler = shutil.which("rustc")
+    if compiler is None:
+        return None
+    plain = os.path.join(folder, "plain_captures")
+    subprocess.run([compiler, "-O", "-o", plain, os.path.join(ROOT, "bench", "plain_captures.rs")], check=True)
+    return plain
+
+
+def measure(program, path, made, name, plain=None):
     seconds = min(run(["cat", path])[1] for _ in range(3))
     print(f"{name}: cat {made / seconds / 1e6:.0f} MB/s", flush=True)
     for word in ("check", "show"):
+        if plain:
+            seconds = min(run([plain, word, path])[1] for _ in range(3))
+            print(f"{name}: {word} by a plain program {made / seconds / 1e6:.0f} MB/s", flush=True)
         runs = [run([program, word, path]) for _ in range(3)]
         if any(status != 0 for status, _, _ in runs):
             sys.exit(f"{word} of {name}: status {runs[0][0]}")
@@ -156,9 +179,10 @@ def main():
     forms = {"one byte a line": byte_lines, "one packet a line": packet_lines, "long lines": long_lines}
     with tempfile.TemporaryDirectory() as folder:
         path = os.path.join(folder, "capture")
+        plain = plain_program(folder)
         for size, (packet, make), (form, lines) in itertools.product(sizes, packets.items(), forms.items()):
             made = write_capture(path, make, lines, size * 1_000_000)
-            measure(program, path, made, f"{size} MB, {packet}, {form}")
+            measure(program, path, made, f"{size} MB, {packet}, {form}", plain if make is short_exchange else None)
         for name, make in ("bytes", bytecodes_exchange), ("classes", classes_exchange):
             made = write_capture(path, make, long_lines, sizes[0] * 1_000_000)
             measure(program, path, made, f"{sizes[0]} MB, lists of {name}")
