@@ -77,15 +77,15 @@ pub(crate) fn find_sizes(alloc: Global, walk: &mut Walk) -> Result<Option<IdSize
 {
     let mut pending = Pending::new(alloc);
     while let Some(item) = walk.next() {
-        let waits = pending.waiting_for(&item);
-        if order_fault(pending.begun(), waits, &item).is_some() {
+        let begun = pending.begun();
+        let waits = pending.record(&item)?;
+        if order_fault(begun, waits, &item).is_some() {
             return Ok(None);
         }
         let sizes = told(waits, &item);
         if sizes.is_some() {
             return Ok(sizes);
         }
-        pending.record(&item)?;
     }
     Ok(None)
 }
@@ -104,13 +104,13 @@ pub(crate) fn find_broken<O: Observer>(
 {
     let mut pending = Pending::new(alloc);
     while let Some(item) = walk.next() {
-        let waits = pending.waiting_for(&item);
-        if let Some(fault) = item_fault(sizes, pending.begun(), waits, &item) {
+        let begun = pending.begun();
+        let waits = pending.record(&item)?;
+        if let Some(fault) = item_fault(sizes, begun, waits, &item) {
             let line = item.line;
             return Ok(Some(Broken { line, fault }));
         }
         observer.observe(sizes, waits, &item)?;
-        pending.record(&item)?;
     }
     Ok(None)
 }

@@ -1,5 +1,5 @@
 //! The commands of the debugger that wait for their replies.
-ghost use Rattle.std.specs.Prelude.{◌≡◌, ℕ, OnOk, None, false};
+ghost use Rattle.std.specs.Prelude.{◌≡◌, ℕ, IfOk, OnOk, None, false};
 
 use crate::capture_line::Sender;
 use crate::found::{FoundRef, ItemRef};
@@ -43,46 +43,34 @@ impl Pending {
         self.begun
     }
 
-    /// The command that waits under the id of the item.
+    /// One item more. Answers the command that waited under its id before.
     #[inline(always)]
-    pub(crate) fn waiting_for(&self, item: &ItemRef) -> Option<Command>
-        ensures { result ≡ under (waiting_in self.now) (thing item.now.found) }
+    pub(crate) fn record(&mut self, item: &ItemRef) -> Result<Option<Command>, NoMemory>
+        ensures waits { IfOk result (λ waits. waits ≡ under (waiting_in self.old) (thing item.now.found)) }
+        ensures after { OnOk result (IsAfter self.old item.now self.new) }
     {
         match item.found {
-            FoundRef::Packet(packet) => self.commands.get(packet.header.id),
-            FoundRef::Handshake | FoundRef::Fault(_) => None,
-        }
-    }
-
-    /// One item more.
-    #[inline(always)]
-    pub(crate) fn record(&mut self, item: &ItemRef) -> Result<(), NoMemory>
-        ensures { OnOk result (IsAfter self.old item.now self.new) }
-    {
-        match item.found {
-            FoundRef::Fault(_) => {}
-            FoundRef::Handshake => match item.sender {
-                Sender::Debugger => self.begun = true,
-                Sender::Target => {}
-            },
+            FoundRef::Fault(_) => Ok(None),
+            FoundRef::Handshake => {
+                match item.sender {
+                    Sender::Debugger => self.begun = true,
+                    Sender::Target => {}
+                }
+                Ok(None)
+            }
             FoundRef::Packet(packet) => {
                 let id = packet.header.id;
                 match packet.header.kind {
                     PacketKind::Command { set, number } => match item.sender {
-                        Sender::Debugger => {
-                            self.commands.insert(id, Command { set, number })?;
-                        }
-                        Sender::Target => {}
+                        Sender::Debugger => self.commands.insert(id, Command { set, number }),
+                        Sender::Target => Ok(self.commands.get(id)),
                     },
                     PacketKind::Reply { error: _ } => match item.sender {
-                        Sender::Debugger => {}
-                        Sender::Target => {
-                            self.commands.remove(id);
-                        }
+                        Sender::Debugger => Ok(self.commands.get(id)),
+                        Sender::Target => Ok(self.commands.remove(id)),
                     },
                 }
             }
         }
-        Ok(())
     }
 }

@@ -1,5 +1,5 @@
 //! Commands by the ids under which they wait.
-ghost use Rattle.std.specs.Prelude.{◌≡◌, ◌+◌, ◌≤◌, ◌<◌, ◌^◌, ℕ, length, OnOk, ◌==◌, if◌then◌else◌};
+ghost use Rattle.std.specs.Prelude.{◌≡◌, ◌+◌, ◌≤◌, ◌<◌, ◌^◌, ℕ, length, IfOk, OnOk, ◌==◌, if◌then◌else◌};
 ghost use Rattle.std.specs.BTreeMap.{get};
 ghost use Rattle.std.specs.Ordering.{nat_cmp};
 
@@ -57,36 +57,42 @@ impl Waiting {
         }
     }
 
-    /// The command waits under the id, and no other does.
+    /// The command waits under the id, and no other does. Answers the one that waited there before.
     #[inline(always)]
-    pub(crate) fn insert(&mut self, id: u32, command: Command) -> Result<(), NoMemory>
-        ensures { OnOk result ((other : ℕ) → waits_in self.new other ≡ (if id == other then Some command else waits_in self.old other)) }
+    pub(crate) fn insert(&mut self, id: u32, command: Command) -> Result<Option<Command>, NoMemory>
+        ensures before { IfOk result (λ before. before ≡ waits_in self.old id) }
+        ensures waits { OnOk result ((other : ℕ) → waits_in self.new other ≡ (if id == other then Some command else waits_in self.old other)) }
     {
         if let Some(place) = self.place(id) {
+            let before = self.row[place];
             self.row[place] = Some(command);
-            return Ok(());
+            return Ok(before);
         }
         let next = id as usize;
         if self.row.is_empty() {
             self.first = next;
         }
         if next == self.first + self.row.len() {
+            let before = self.others.get(&id).copied();
             self.row.push_back(Some(command))?;
+            Ok(before)
         } else {
-            self.others.insert(id, command)?;
+            Ok(self.others.insert(id, command)?)
         }
-        Ok(())
     }
 
-    /// No command waits under the id.
+    /// No command waits under the id. Answers the one that waited there before.
     #[inline(always)]
-    pub(crate) fn remove(&mut self, id: u32)
-        ensures { (other : ℕ) → waits_in self.new other ≡ (if id == other then None else waits_in self.old other) }
+    pub(crate) fn remove(&mut self, id: u32) -> Option<Command>
+        ensures before { result ≡ waits_in self.old id }
+        ensures waits { (other : ℕ) → waits_in self.new other ≡ (if id == other then None else waits_in self.old other) }
     {
         match self.place(id) {
             Some(place) => {
+                let before = self.row[place];
                 self.row[place] = None;
                 self.shorten();
+                before
             }
             None => forget(&mut self.others, id),
         }
@@ -97,16 +103,17 @@ impl Waiting {
         ensures { (id : ℕ) → waits_in self.new id ≡ waits_in self.old id }
     {
         while let Some(None) = self.row.front() {
-            forget(&mut self.others, self.first as u32);
+            let _ = forget(&mut self.others, self.first as u32);
             self.row.pop_front();
             self.first += 1;
         }
     }
 }
 
-/// No command is there under the id.
-fn forget(commands: &mut BTreeMap<u32, Command>, id: u32)
-    ensures { (other : ℕ) → get nat_cmp commands.new other ≡ (if id == other then None else get nat_cmp commands.old other) }
+/// No command is there under the id. Answers the one that was.
+fn forget(commands: &mut BTreeMap<u32, Command>, id: u32) -> Option<Command>
+    ensures before { result ≡ get nat_cmp commands.old id }
+    ensures others { (other : ℕ) → get nat_cmp commands.new other ≡ (if id == other then None else get nat_cmp commands.old other) }
 {
-    commands.remove(&id);
+    commands.remove(&id)
 }

@@ -20,9 +20,9 @@ returns-in-Some-item_fault g c =
     let item = c.in-Some.item in
     let t = c.loop-item.invariant.telling in
     let h = t.unanswered in
-    let waits = c.waiting_for-waits.result in
-    let rule = sym (rule_kept c.args.sizes.now c.loop-item.pending h.before item waits h.kept c.waiting_for-waits.ensures)
-    ∙ ap (λ (b : Bool). rule_broken c.args.sizes.now b waits item) (sym c.begun.ensures) ∙ sym c.item_fault.ensures ∙ c.in-Some-item_fault.is in
+    let waits = c.in_ok-waits.waits in
+    let rule = sym (rule_kept c.args.sizes.now c.loop-item.pending h.before item waits h.kept c.in_ok-waits.ensures.waits)
+    ∙ ap (λ (b : Bool). rule_broken c.args.sizes.now b waits item) (sym c.begun-begun.ensures) ∙ sym c.item_fault.ensures ∙ c.in-Some-item_fault.is in
     let some = ap (λ (x : Option CaptureFault). option_map {U = ℕ × CaptureFault} (λ f. (item.line, f)) x) rule in
     let fault = c.in-Some-item_fault.fault in
     record {
@@ -34,8 +34,8 @@ returns-in-Some-item_fault g c =
 pub observe-requires : goal.observe-requires
 observe-requires g c =
     let item = c.in-Some.item in
-    let waits = c.waiting_for-waits.result in
-    let rule = ap (λ (b : Bool). rule_broken c.args.sizes.now b waits item) (sym c.begun.ensures) ∙ sym c.item_fault.ensures ∙ c.in_default-item_fault.is in
+    let waits = c.in_ok-waits.waits in
+    let rule = ap (λ (b : Bool). rule_broken c.args.sizes.now b waits item) (sym c.begun-begun.ensures) ∙ sym c.item_fault.ensures ∙ c.in_default-item_fault.is in
     holds c.args.sizes.now c.loop-item.pending.begun waits item rule
 
 pub loop-item-preserved : goal.loop-item-preserved
@@ -43,15 +43,15 @@ loop-item-preserved g c =
     let item = c.in-Some.item in
     let t = c.loop-item.invariant.telling in
     let h = t.unanswered in
-    let waits = c.waiting_for-waits.result in
-    let rule = sym (rule_kept c.args.sizes.now c.loop-item.pending h.before item waits h.kept c.waiting_for-waits.ensures)
-    ∙ ap (λ (b : Bool). rule_broken c.args.sizes.now b waits item) (sym c.begun.ensures) ∙ sym c.item_fault.ensures ∙ c.in_default-item_fault.is in
+    let waits = c.in_ok-waits.waits in
+    let rule = sym (rule_kept c.args.sizes.now c.loop-item.pending h.before item waits h.kept c.in_ok-waits.ensures.waits)
+    ∙ ap (λ (b : Bool). rule_broken c.args.sizes.now b waits item) (sym c.begun-begun.ensures) ∙ sym c.item_fault.ensures ∙ c.in_default-item_fault.is in
     let none = ap (λ (x : Option CaptureFault). option_map {U = ℕ × CaptureFault} (λ f. (item.line, f)) x) rule in
     record {
       under_way = c.in-Some.ensures.same.under_way c.loop-item.invariant.under_way;
       same = same_again _ _ _ c.loop-item.invariant.same c.in-Some.ensures.same;
-      telling = telling_more (fault_answer c.args.sizes.now) (g.O.Observer.says c.args.sizes.now) _ _ _ _ _ _ _ _ item waits t c.in-Some.ensures.gives none c.in_ok-record.ensures
-          (under_kept c.loop-item.pending h.before item waits h.kept c.waiting_for-waits.ensures) c.in_ok-observe.ensures;
+      telling = telling_more (fault_answer c.args.sizes.now) (g.O.Observer.says c.args.sizes.now) _ _ _ _ _ _ _ _ item waits t c.in-Some.ensures.gives none c.in_ok-waits.ensures.after
+          (under_kept c.loop-item.pending h.before item waits h.kept c.in_ok-waits.ensures.waits) c.in_ok-observe.ensures;
     }
 
 pub loop-item-smaller : goal.loop-item-smaller

@@ -20,17 +20,17 @@ returns-then-is_some c =
     let p = c.loop-item.pending in
     let item = c.in-Some.item in
     let h = c.loop-item.invariant.unanswered in
-    let broken : is_some (order_fault p.begun c.waiting_for-waits.result item.sender (thing item.found)) ≡ true = cc in
-    sym (ap (λ (x : Option (Option Widths)). option_flatten x) (answered widths_answer p _ _ _ item None h c.in-Some.ensures.gives (ended p h.before item c.waiting_for-waits.result h.kept c.waiting_for-waits.ensures broken)))
+    let broken : is_some (order_fault p.begun c.in_ok-waits.waits item.sender (thing item.found)) ≡ true = cc in
+    sym (ap (λ (x : Option (Option Widths)). option_flatten x) (answered widths_answer p _ _ _ item None h c.in-Some.ensures.gives (ended p h.before item c.in_ok-waits.waits h.kept c.in_ok-waits.ensures.waits broken)))
 
 pub returns-then-is_some-2 : goal.returns-then-is_some-2
 returns-then-is_some-2 c =
     let p = c.loop-item.pending in
     let item = c.in-Some.item in
     let h = c.loop-item.invariant.unanswered in
-    let holds : is_some (order_fault p.begun c.waiting_for-waits.result item.sender (thing item.found)) ≡ false = cc in
-    let some : is_some (told c.waiting_for-waits.result item.sender (thing item.found)) ≡ true = cc in
-    let answer = sizes_some (told c.waiting_for-waits.result item.sender (thing item.found)) _ some (not_ended p h.before item c.waiting_for-waits.result h.kept c.waiting_for-waits.ensures holds) in
+    let holds : is_some (order_fault p.begun c.in_ok-waits.waits item.sender (thing item.found)) ≡ false = cc in
+    let some : is_some (told c.in_ok-waits.waits item.sender (thing item.found)) ≡ true = cc in
+    let answer = sizes_some (told c.in_ok-waits.waits item.sender (thing item.found)) _ some (not_ended p h.before item c.in_ok-waits.waits h.kept c.in_ok-waits.ensures.waits holds) in
     c.told-sizes.ensures ∙ sym (ap (λ (x : Option (Option Widths)). option_flatten x) (answered widths_answer p _ _ _ item _ h c.in-Some.ensures.gives answer))
 
 pub loop-item-preserved : goal.loop-item-preserved
@@ -38,12 +38,12 @@ loop-item-preserved c =
     let p = c.loop-item.pending in
     let item = c.in-Some.item in
     let h = c.loop-item.invariant.unanswered in
-    let holds : is_some (order_fault p.begun c.waiting_for-waits.result item.sender (thing item.found)) ≡ false = cc in
-    let none : is_some (told c.waiting_for-waits.result item.sender (thing item.found)) ≡ false = cc in
-    let unasked = not_ended p h.before item c.waiting_for-waits.result h.kept c.waiting_for-waits.ensures holds ∙ sizes_none _ none in
+    let holds : is_some (order_fault p.begun c.in_ok-waits.waits item.sender (thing item.found)) ≡ false = cc in
+    let none : is_some (told c.in_ok-waits.waits item.sender (thing item.found)) ≡ false = cc in
+    let unasked = not_ended p h.before item c.in_ok-waits.waits h.kept c.in_ok-waits.ensures.waits holds ∙ sizes_none _ none in
     record {
       under_way = c.in-Some.ensures.same.under_way c.loop-item.invariant.under_way;
-      unanswered = unanswered_more widths_answer p _ _ _ _ item h c.in-Some.ensures.gives unasked c.in_ok-record.ensures;
+      unanswered = unanswered_more widths_answer p _ _ _ _ item h c.in-Some.ensures.gives unasked c.in_ok-waits.ensures.after;
     }
 
 pub loop-item-smaller : goal.loop-item-smaller
