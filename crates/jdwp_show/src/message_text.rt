@@ -12,7 +12,7 @@ use crate::capture_line::Sender;
 use crate::data_text::{push_number, push_raw};
 use crate::pending::Command;
 use crate::telling::tell_data;
-use jdwp_layout::{Layout, layout_of, validate};
+use jdwp_layout::{Layout, layout_of};
 use jdwp_wire::{ErrorCode, IdSizes, NoMemory};
 use std::alloc::{AllocError, Global};
 
@@ -83,25 +83,6 @@ pub(crate) fn push_reply_start(
     push_name(text, command)?;
     text.push_str(" ")?;
     push_number(text, error.0)
-}
-
-/// Appends data by their layout, or as they are where it or the widths are not known, or the data do not read.
-pub(crate) fn push_body(
-    alloc: Global,
-    text: &mut String,
-    sizes: Option<IdSizes>,
-    layout: Option<Layout>,
-    body: &[u8],
-) -> Result<(), NoMemory>
-    ensures { OnOk result (string_bytes text.new ≡ string_bytes text.old ++ body_text sizes (found_shape layout) body.now) }
-{
-    if let (Some(sizes), Some(layout)) = (sizes, layout) {
-        if validate(&layout, &sizes, body).is_ok() {
-            return push_read(alloc, text, &sizes, &layout, body);
-        }
-    }
-    push_raw(alloc, text, body)?;
-    Ok(())
 }
 
 /// Appends data by their layout, or as they are where it or the widths are not known. They are not at fault.
