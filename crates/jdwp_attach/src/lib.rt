@@ -6,8 +6,6 @@ mod attaching;
 mod lines;
 mod printing;
 mod run;
-#[cfg(test)]
-mod tests;
 mod turning;
 
 pub use attaching::attach;

@@ -6,8 +6,6 @@ mod end;
 mod front;
 mod phase;
 mod session;
-#[cfg(test)]
-mod tests;
 
 pub use end::End;
 pub use front::Front;

@@ -10,6 +10,3 @@ pub use laws::{ends_its_thread, starts_a_new_thread};
 pub use live::{has_run_out, is_among};
 pub use machine::Machine;
 pub use query::Query;
-
-#[cfg(test)]
-mod tests;

@@ -5,8 +5,6 @@ mod laws;
 mod plan_fault;
 mod plan_line;
 mod reading;
-#[cfg(test)]
-mod tests;
 mod values;
 
 pub use laws::reads_each_form;

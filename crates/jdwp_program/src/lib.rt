@@ -9,7 +9,11 @@ mod attaching_tests;
 mod captures;
 mod fault;
 mod outcome;
+#[cfg(test)]
+mod plan_tests;
 mod printing;
+#[cfg(test)]
+mod session_tests;
 #[cfg(test)]
 mod tests;
 mod values;

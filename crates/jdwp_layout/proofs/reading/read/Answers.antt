@@ -1,4 +1,4 @@
-use Rattle.std.proofs.Common.{subst, arith}
+use Rattle.std.proofs.Common.{subst, arith, rules}
 use Rattle.jdwp_wire.specs.Reading.{Gives}
 use Rattle.jdwp_layout.specs.Shapes.{shape}
 use Rattle.jdwp_layout.specs.Meanings.{meanings}
@@ -28,3 +28,6 @@ returns-in_err-validate-clause-fault c =
     let items = shape c.args.layout.now in
     let bytes = c.args.bytes.now in
     rw (p.1, p.2) (is_blamed_by w items bytes c.in_err-validate.field-0.0 (λ i. omega (arith, c.type_inv.bytes i)) (fails_as c.in_err-validate.field-0.0 (data_at w items bytes) c.in_err-validate.ensures.value))
+
+pub returns-clause-hides : goal.returns-clause-hides
+returns-clause-hides c = search rules

@@ -2,6 +2,7 @@ use Rattle.std.proofs.Common.{◌≡◌, ◌∙◌, sym, arith, false, true, eqb
 use Rattle.std.proofs.lemmas.Bool.Decides.{nat_tests}
 use Rattle.jdwp_wire.specs.declared.frame.TheConstants.{HANDSHAKE}
 use Rattle.jdwp_wire.proofs.HandshakeSteps.{step_on, runs_out}
+use Rattle.std.proofs.lemmas.Grind.{common_steps}
 use Rattle.jdwp_wire.proofs.frame.compare_handshake.Goals as goal
 
 pub returns-then-place-bytes : goal.returns-then-place-bytes
@@ -19,3 +20,6 @@ loop-place-preserved c =
     let e : eqb (get_or c.args.bytes.now c.loop-place.place 0) (get_or HANDSHAKE c.loop-place.place 0) ≡ true = grind (arith, nat_tests) in
     let s = step_on c.loop-place.place HANDSHAKE c.args.bytes.now (omega arith) (omega arith) in
     sym (rw e at s) ∙ c.loop-place.invariant
+
+pub returns : goal.returns
+returns c = grind (arith, common_steps)

@@ -1,4 +1,4 @@
-use Rattle.std.proofs.Common.{arith}
+use Rattle.std.proofs.Common.{arith, rules}
 use Rattle.byteorder.specs.Numbers.{big_from-lt}
 use Rattle.jdwp_wire.proofs.number.take_number.Goals as goal
 
@@ -7,3 +7,6 @@ returns-clause-fits c =
     let e = c.read_uint-number.ensures in
     let lt = big_from-lt 0 c.args.width c.args.rest.now (λ i. omega (arith, c.type_inv.rest i)) in
     rw (e, c.bytes-count.ensures.value) lt
+
+pub returns-then-rest-count-clause-memory : goal.returns-then-rest-count-clause-memory
+returns-then-rest-count-clause-memory c = search rules

@@ -15,3 +15,9 @@ returns-in-More-next_packet_within-clause-room c =
     let fits : IsBytes c.args.self.now.incoming = search rules in
     let low : 2048 ≤ c.args.self.now.limits.packet = search rules in
     more-has-room c.args.self.now low fits
+
+pub returns-in-Whole-clause-front : goal.returns-in-Whole-clause-front
+returns-in-Whole-clause-front c = search rules
+
+pub returns-in-Fault-clause-front : goal.returns-in-Fault-clause-front
+returns-in-Fault-clause-front c = search rules

@@ -1,4 +1,4 @@
-use Rattle.std.proofs.Common.{arith}
+use Rattle.std.proofs.Common.{arith, rules}
 use Rattle.std.proofs.lemmas.Result.{err_from_is_err_and}
 use Rattle.jdwp_wire.specs.declared.data_fault.DataFault.TheVariants.{NoMemory}
 use Rattle.jdwp_wire.specs.Codes.{failed_too}
@@ -11,3 +11,6 @@ returns-in_err-events-clause-memory c = λ failed.
     let kept = c.in_err-events.ensures.memory (failed_too _ _ c.in_err-events.field-0.0 NoMemory (rw (p.1, p.2) at failed)) in
     composite_is_kept c.args.sizes.now c.args.whole c.args.rest.now c.in_ok-policy.policy c.in_ok-policy.rest.now c.in_ok-count.count c.in_ok-count.rest.now (λ i. omega (arith, c.type_inv.rest i)) c.in_ok-policy.ensures.value
     c.in_ok-count.ensures.value kept
+
+pub returns-clause-value : goal.returns-clause-value
+returns-clause-value c = search rules

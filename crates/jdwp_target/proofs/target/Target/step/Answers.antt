@@ -1,4 +1,4 @@
-use Rattle.std.proofs.Common.{◌≡◌, ◌∙◌, false, Some, sym}
+use Rattle.std.proofs.Common.{◌≡◌, ◌∙◌, false, Some, sym, rules}
 use Rattle.jdwp_end.specs.Ends.{is_paused}
 use Rattle.jdwp_debuggee.specs.StepParts as debuggee
 use Rattle.jdwp_target.proofs.StepLemmas.{death-leaves, dies-alone, reports-leave, right-stepped, stepped-debuggee, stepped-end}
@@ -30,3 +30,9 @@ invariant_of-self-2 g c =
     let one = stepped-debuggee m t s.debuggee c.step.new.self c.tell.new.debuggee s.end c.sizes-sizes.result c.next_packet-packet.result done step c.sizes-sizes.ensures c.next_packet-packet.ensures c.tell.ensures.debuggee in
     let two = stepped-end m t s.debuggee c.step.new.self s.end c.tell.new.end c.sizes-sizes.result c.next_packet-packet.result done step c.sizes-sizes.ensures c.next_packet-packet.ensures c.tell.ensures.end in
     rw (one, two) (right-stepped m t s.debuggee s.began.items s.phases.items s.end c.self.invariant)
+
+pub returns-in-Ok-None : goal.returns-in-Ok-None
+returns-in-Ok-None g c = search rules
+
+pub returns-then-is_paused : goal.returns-then-is_paused
+returns-then-is_paused g c = search rules

@@ -1,4 +1,4 @@
-use Rattle.std.proofs.Common.{◌≤◌, arith, length}
+use Rattle.std.proofs.Common.{◌≤◌, arith, length, rules}
 use Rattle.jdwp_target.proofs.RightTargets.{right-taken}
 use Rattle.jdwp_target.proofs.target.Target.take.Goals as goal
 
@@ -6,3 +6,6 @@ pub invariant_of-self : goal.invariant_of-self
 invariant_of-self g c =
     let le : c.take.result ≤ length c.self.inside.end.outgoing = omega (arith, c.take.ensures.count) in
     rw c.take.ensures.taken (right-taken g.M.Machine.meaning c.self.inside.debuggee c.self.inside.began.items c.self.inside.phases.items c.self.inside.end c.take.result le c.self.invariant)
+
+pub returns-clause-count : goal.returns-clause-count
+returns-clause-count g c = search rules

@@ -87,3 +87,6 @@ returns-in_ok-done-in-Packet g c =
           (told-command g.M.Machine.meaning t.debuggee.settings t.debuggee.moment header body c.in-Command.set c.in-Command.number c.error_of.result c.in-Command.is (c.error_of.ensures ∙ c.in_ok-done-in-Packet.ensures.ok.sends.error))
           (same ∙ handled-view g.M.Machine.meaning t.debuggee c.reply.new.debuggee t.began.items t.phases.items t.end c.reply.new.end (Packet header body) used c.self.invariant h);
     })
+
+pub returns-in_default : goal.returns-in_default
+returns-in_default g c = search rules
