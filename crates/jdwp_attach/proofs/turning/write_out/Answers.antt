@@ -1,7 +1,8 @@
-use Rattle.std.proofs.Common.{◌≡◌, ◌++◌, ◌∙◌, ℕ, List, [], drop, take, refl, sym, append_assoc, ap}
+use Rattle.std.proofs.Common.{◌≡◌, ◌++◌, ◌∙◌, ℕ, List, [], drop, take, refl, sym, append_assoc, ap, arith}
 use Rattle.std.proofs.lemmas.List.{append-nil, take-append-drop}
 use Rattle.jdwp_engine.proofs.Runs.{fails-after}
 use Rattle.jdwp_attach.proofs.Moves.{front-taken, taken-again}
+use Rattle.std.proofs.lemmas.Grind.{common_steps}
 use Rattle.jdwp_attach.proofs.turning.write_out.Goals as goal
 
 pub returns-then-not-write_all-clause-fails : goal.returns-then-not-write_all-clause-fails
@@ -19,3 +20,6 @@ returns-then-not-write_all-clause-fails g c = λ _.
       fails-after (g.P.Pipe.story c.args.pipe.now) (g.P.Pipe.story c.write_all.new.pipe) i.0 chunk [] (i.0 ++ more)
           (ap (λ (x : List ℕ). i.0 ++ x) (sym same) ∙ sym (append-nil (i.0 ++ chunk))) (rw i.3 at fails),
     )
+
+pub returns-clause-all : goal.returns-clause-all
+returns-clause-all g c = grind (arith, common_steps)

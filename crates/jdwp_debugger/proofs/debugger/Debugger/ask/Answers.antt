@@ -24,3 +24,6 @@ invariant_of-self-2 c =
       begins = λ e. let none = kept.begins e in let known = ap (λ (d : Debugger). d.sizes) c.self.view_is ∙ leaves.known in absurd cc;
       ran = ran-asked s.end leaves.widths id c.args.command opened kept.ran;
     })
+
+pub returns-clause-ok : goal.returns-clause-ok
+returns-clause-ok c = search rules

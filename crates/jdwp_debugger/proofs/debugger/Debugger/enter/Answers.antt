@@ -1,4 +1,4 @@
-use Rattle.std.proofs.Common.{List, Result, Err, subst, sym}
+use Rattle.std.proofs.Common.{List, Result, Err, subst, sym, rules}
 use Rattle.jdwp_event.specs.Composites.{CompositeMeaning}
 use Rattle.jdwp_debugger.specs.declared.faults.DebuggerFault.{DebuggerFault}
 use Rattle.jdwp_debugger.specs.declared.turning.News as declared
@@ -18,3 +18,6 @@ returns c = λ body front.
     let failed = fails-measuring fault old new m.place m.answer m.sizes m.composites.items bad c.fail.ensures.left in
     subst (λ (r : Result Read DebuggerFault). EntersAt c.args.header body c.args.used (news_meaning c.args.news) old r new) (sym c.fail.ensures.fault)
     (subst (λ (n : declared.News). EntersAt c.args.header body c.args.used (news_meaning n) old (Err fault) new) (sym m.is) failed)
+
+pub returns-in-Ok : goal.returns-in-Ok
+returns-in-Ok c = search rules

@@ -8,3 +8,6 @@ invariant_of-self c =
     let few : length c.clear-3.new.self.items ≤ 64 = search (rules, arith) in
     let few_parked : length c.clear-2.new.self.items ≤ 4 = search (rules, arith) in
     rw c.lose.ensures (record { limits = kept.limits; few = few; few_parked = few_parked; begins = λ e. absurd cc; ran = ran-lost c.self.inside.end kept.ran })
+
+pub returns-clause-tickets : goal.returns-clause-tickets
+returns-clause-tickets c = search rules

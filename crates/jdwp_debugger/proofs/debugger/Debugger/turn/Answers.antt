@@ -1,4 +1,4 @@
-use Rattle.std.proofs.Common.{◌≡◌, ◌∙◌, ap, sym, subst, Ok}
+use Rattle.std.proofs.Common.{◌≡◌, ◌∙◌, ap, sym, subst, Ok, rules}
 use Rattle.jdwp_wire.specs.Streams.{NextMessage, Packet, Whole}
 use Rattle.jdwp_end.specs.Ends.{front_of}
 use Rattle.jdwp_debugger.specs.Debuggers.{Debugger}
@@ -26,3 +26,6 @@ enter-requires-clause-front c = (
   c.in-Packet.packet.body.now,
   sym (ap (λ (d : Debugger). front_of d.end) c.self.view_is) ∙ sym c.in-Packet.ensures.front,
 )
+
+pub returns-in-Fault-clause-turns : goal.returns-in-Fault-clause-turns
+returns-in-Fault-clause-turns c = search rules
