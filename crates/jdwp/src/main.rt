@@ -1,12 +1,12 @@
 //! Ends of the Java Debug Wire Protocol, run on files.
 #![tactic(auto)]
 
-mod files;
-mod run;
+#[cfg(test)]
+mod asserts;
 #[cfg(test)]
 mod tests;
-mod words;
 
+use jdwp_files::run;
 use jdwp_program::{Fault, report_fault};
 use std::env;
 use std::io::ErrorKind;
@@ -25,5 +25,5 @@ fn main(rt: HostRuntime) -> ExitCode {
     let Ok(words) = arguments.collect::<Vec<String>>(rt.alloc()) else {
         return ExitCode::from(report_fault(&Fault::NoMemory, &mut err));
     };
-    ExitCode::from(run::run(&rt, words.as_slice(), &mut out, &mut err))
+    ExitCode::from(run(&rt, words.as_slice(), &mut out, &mut err))
 }

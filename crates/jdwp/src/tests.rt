@@ -1,8 +1,9 @@
 //! Runs of the program.
-use crate::run::run;
-use crate::words::{self, ServeScript, Words};
+use crate::asserts::{expect_same, expect_same_for};
 use jdwp_debuggee::Settings;
+use jdwp_files::run;
 use jdwp_wire::Limits;
+use jdwp_words::{ServeScript, Words};
 use std::io::{Cursor, ErrorKind, Write};
 use std::rt::Files;
 use std::test::Fail;
@@ -127,10 +128,10 @@ fn a_plan_of_a_file_is_run(rt: HostRuntime) -> Result<(), Fail> {
 < 3 reply ThreadReference.SuspendCount 0 1
 < 4 reply VirtualMachine.Dispose 0
 ";
-    assert_eq!(rt; ran.status, 0);
-    assert_eq!(rt; ran.out.as_slice(), told.as_bytes());
+    expect_same(&rt, &ran.status, &0);
+    expect_same(&rt, &ran.out.as_slice(), &told.as_bytes());
     assert!(rt; ran.err.is_empty());
-    assert_eq!(rt; fs::read(&rt, to)?.as_slice(), SESSION.as_slice());
+    expect_same(&rt, &fs::read(&rt, to)?.as_slice(), &SESSION.as_slice());
     fs::write(&rt, plan, "ask 1 8\n\nanswers\n")?;
     let refused = ["line 2 of the plan: an empty line"];
     assert!(rt; is_refused(&rt, &words, &refused)?);
@@ -154,8 +155,8 @@ fn a_session_of_a_file_is_answered(rt: HostRuntime) -> Result<(), Fail> {
         "--to",
         to,
     ];
-    assert_eq!(rt; status_of(&rt, &words)?, 0);
-    assert_eq!(rt; fs::read(&rt, to)?.as_slice(), ANSWERS.as_slice());
+    expect_same(&rt, &status_of(&rt, &words)?, &0);
+    expect_same(&rt, &fs::read(&rt, to)?.as_slice(), &ANSWERS.as_slice());
     let words = [
         "serve-script",
         "--to",
@@ -166,12 +167,12 @@ fn a_session_of_a_file_is_answered(rt: HostRuntime) -> Result<(), Fail> {
         "1",
         machine,
     ];
-    assert_eq!(rt; status_of(&rt, &words)?, 0);
+    expect_same(&rt, &status_of(&rt, &words)?, &0);
     // VM_START's policy is ALL, so every thread stands at the limit, and Suspend is refused.
     let mut want = ANSWERS;
     want[25] = 2;
     want[84] = 0x71;
-    assert_eq!(rt; fs::read(&rt, to)?.as_slice(), want.as_slice());
+    expect_same(&rt, &fs::read(&rt, to)?.as_slice(), &want.as_slice());
     for file in [machine, from, to] {
         fs::remove_file(&rt, file)?;
     }
@@ -235,12 +236,12 @@ fn each_end_has_its_status(rt: HostRuntime) -> Result<(), Fail> {
             turns,
         ];
         let ran = run_words(&rt, &words)?;
-        assert_eq!(rt; ran.status, status, "{turns} turns of {input:?}");
+        expect_same_for(&rt, &ran.status, &status, &(turns, input));
         assert!(rt; ran.out.is_empty());
         assert!(rt; ran.err.as_slice() == told.as_bytes(), "{told}");
         let bytes = fs::read(&rt, to)?;
         assert!(rt; ANSWERS.starts_with(bytes.as_slice()));
-        assert_eq!(rt; bytes.len(), written, "{turns} turns of {input:?}");
+        expect_same_for(&rt, &bytes.len(), &written, &(turns, input));
     }
     for file in [machine, from, to] {
         fs::remove_file(&rt, file)?;
@@ -303,7 +304,7 @@ fn other_words_are_refused(rt: HostRuntime) -> Result<(), Fail> {
     fs::write(&rt, "words_machine", MACHINE)?;
     fs::write(&rt, "words_from", SESSION.as_slice())?;
     for words in refused {
-        assert_eq!(rt; status_of(&rt, words)?, 1, "{words:?}");
+        expect_same_for(&rt, &status_of(&rt, words)?, &1, &words);
     }
     let base = [
         "serve-script",
@@ -347,7 +348,7 @@ fn other_words_are_refused(rt: HostRuntime) -> Result<(), Fail> {
         let mut words = Vec::new(rt.alloc());
         words.extend_from_slice(&base)?;
         words.extend_from_slice(option)?;
-        assert_eq!(rt; status_of(&rt, words.as_slice())?, 1, "{option:?}");
+        expect_same_for(&rt, &status_of(&rt, words.as_slice())?, &1, &option);
     }
     assert!(rt;
         fs::read(&rt, "words_to").is_err(),
@@ -363,7 +364,7 @@ fn other_words_are_refused(rt: HostRuntime) -> Result<(), Fail> {
         let mut words = Vec::new(rt.alloc());
         words.extend_from_slice(&base)?;
         words.extend_from_slice(option)?;
-        assert_eq!(rt; status_of(&rt, words.as_slice())?, 0, "{option:?}");
+        expect_same_for(&rt, &status_of(&rt, words.as_slice())?, &0, &option);
     }
     for file in ["words_machine", "words_from", "words_to"] {
         fs::remove_file(&rt, file)?;
@@ -402,16 +403,16 @@ fn captures_are_shown_and_checked(rt: HostRuntime) -> Result<(), Fail> {
     for (capture, shown, judged, status) in rows {
         fs::write(&rt, file, capture)?;
         let ran = run_words(&rt, &["show", file])?;
-        assert_eq!(rt; ran.status, status);
+        expect_same(&rt, &ran.status, &status);
         assert!(rt; ran.out.as_slice() == shown.as_bytes());
         assert!(rt; ran.err.is_empty());
         let ran = run_words(&rt, &["check", file])?;
-        assert_eq!(rt; ran.status, status);
+        expect_same(&rt, &ran.status, &status);
         assert!(rt; ran.out.as_slice() == judged.as_bytes());
         assert!(rt; ran.err.is_empty());
     }
-    assert_eq!(rt; status_of(&rt, &["show"])?, 1);
-    assert_eq!(rt; status_of(&rt, &["check", file, file])?, 1);
+    expect_same(&rt, &status_of(&rt, &["show"])?, &1);
+    expect_same(&rt, &status_of(&rt, &["check", file, file])?, &1);
     fs::remove_file(&rt, file)?;
     Ok(())
 }
@@ -458,8 +459,12 @@ fn an_output_that_breaks_is_status_2(rt: HostRuntime) -> Result<(), Fail> {
                 kind,
             };
             let mut err = Cursor::new(Vec::new(rt.alloc()));
-            assert_eq!(rt; run(&rt, &["jdwp", "show", file], &mut out, &mut err), 2);
-            assert_eq!(rt; out.bytes.len(), room);
+            expect_same(
+                &rt,
+                &run(&rt, &["jdwp", "show", file], &mut out, &mut err),
+                &2,
+            );
+            expect_same(&rt, &out.bytes.len(), &room);
             assert!(rt; SHOWN.as_bytes().starts_with(out.bytes.as_slice()));
             assert!(rt; err.get_ref().as_slice() == told.as_bytes());
         }
@@ -714,8 +719,8 @@ fn options_have_defaults(rt: HostRuntime) -> Result<(), Fail> {
             settings,
             turns,
         });
-        match words::read(alloc, words.as_slice()) {
-            Ok(found) => assert_eq!(rt; found, want, "{more:?}"),
+        match jdwp_words::read(alloc, words.as_slice()) {
+            Ok(found) => expect_same_for(&rt, &found, &want, &more),
             Err(_) => return Err(Fail::from("words that read")),
         }
     }

@@ -131,11 +131,7 @@ impl<M: Machine> Debuggee<M> {
         if self.threads.is_marked(thread) {
             return Ok(Some(self.end(thread)));
         }
-        let sends = gather(alloc, &self.requests, &happening)?;
-        if has_run_out(&happening) {
-            return Ok(Some(self.run_out(thread, &happening, sends)));
-        }
-        let done = self.advance(thread, &happening, sends)?;
+        let done = self.go_on(alloc, thread, &happening)?;
         Ok(Some(done))
     }
 
@@ -178,6 +174,26 @@ impl<M: Machine> Debuggee<M> {
             ends: true,
             dies,
         }
+    }
+
+    /// The step of a thread whose death was not reported, in which `happening` happens.
+    fn go_on(
+        &mut self,
+        alloc: Global,
+        thread: ObjectId,
+        happening: &Happening,
+    ) -> Result<StepDone, NoMemory>
+        requires may { may_step M.meaning self.old.settings self.old.moment thread.0 ≡ true }
+        requires unmarked { is_marked self.old.moment.state thread.0 ≡ false }
+        requires next { happening.now ≡ M.meaning.next self.old.moment.machine thread.0 }
+        ensures ok { IfOk result (λ done. Steps M.meaning thread.0 self.old self.new done) }
+        ensures err { OnErr result (self.new ≡ self.old) }
+    {
+        let sends = gather(alloc, &self.requests, happening)?;
+        if has_run_out(happening) {
+            return Ok(self.run_out(thread, happening, sends));
+        }
+        self.advance(thread, happening, sends)
     }
 
     /// The step of a thread that has run out: it ends, or its death is reported.

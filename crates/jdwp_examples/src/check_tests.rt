@@ -1,4 +1,5 @@
 //! Verdicts on whole captures.
+use crate::asserts::expect_same;
 use crate::rows::row;
 use jdwp_show::{CaptureFault, Verdict, check};
 use jdwp_wire::{DataFault, FrameFault, NoMemory};
@@ -28,7 +29,7 @@ fn are_judged(
 ) -> Result<(), NoMemory> {
     for (more, wanted) in rows {
         let text = format!(in alloc; "{HANDSHAKES}{before}{more}")?;
-        assert_eq!(rt; numbers(check(alloc, text.as_str())?), *wanted);
+        expect_same(rt, &numbers(check(alloc, text.as_str())?), &*wanted);
     }
     Ok(())
 }
@@ -125,7 +126,7 @@ fn widths_of_ids(rt: HostRuntime) -> Result<(), NoMemory> {
 
 /// The capture of this text is judged so.
 fn is_judged(rt: &impl Abort, alloc: Global, text: &str, wanted: Verdict) -> Result<(), NoMemory> {
-    assert_eq!(rt; check(alloc, text)?, wanted);
+    expect_same(rt, &check(alloc, text)?, &wanted);
     Ok(())
 }
 
@@ -208,12 +209,12 @@ fn cut_anywhere(rt: HostRuntime) -> Result<(), NoMemory> {
             let text = cut_at(rt.alloc(), &lines, place, count)?;
             let line = if place == 4 && count >= 9 { 5 } else { 6 };
             let wanted = Verdict::No(line, CaptureFault::Frame(FrameFault::BadFlags));
-            assert_eq!(rt; check(rt.alloc(), text.as_str())?, wanted);
+            expect_same(&rt, &check(rt.alloc(), text.as_str())?, &wanted);
         }
     }
     for count in 1..31usize {
         let text = cut_at(rt.alloc(), &lines[..4], 3, count)?;
-        assert_eq!(rt; check(rt.alloc(), text.as_str())?, Verdict::Yes);
+        expect_same(&rt, &check(rt.alloc(), text.as_str())?, &Verdict::Yes);
     }
     Ok(())
 }
@@ -226,9 +227,9 @@ fn is_told(
     (number, printed): (u16, u16),
     text: &str,
 ) -> Result<(), NoMemory> {
-    assert_eq!(rt; fault.number(), number);
-    assert_eq!(rt; fault.printed_number(), printed);
-    assert_eq!(rt; fault.to_string(alloc)?.as_str(), text);
+    expect_same(rt, &fault.number(), &number);
+    expect_same(rt, &fault.printed_number(), &printed);
+    expect_same(rt, &fault.to_string(alloc)?.as_str(), &text);
     Ok(())
 }
 

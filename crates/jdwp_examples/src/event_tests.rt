@@ -1,4 +1,5 @@
 //! Modifiers, events and composites as bytes, row by row of the specification's listings, at two sets of widths.
+use crate::asserts::expect_same;
 use crate::rows::row;
 use jdwp_event::{Composite, Event, Modifier};
 use jdwp_layout::{Data, Datum, Scalar};
@@ -45,13 +46,17 @@ fn goes_there_and_back<R: Abort, T: Wire + std::fmt::Debug + Drop>(
 ) -> Result<(), Fail> {
     let mut bytes = Vec::new(alloc);
     value.put(sizes, &mut bytes)?;
-    assert_eq!(rt; digits(alloc, &bytes)?.as_str(), hex);
-    assert_eq!(rt; value.size(sizes).ok_or("no size")?, bytes.len());
+    expect_same(rt, &digits(alloc, &bytes)?.as_str(), &hex);
+    expect_same(rt, &value.size(sizes).ok_or("no size")?, &bytes.len());
     let wanted = format!(in alloc; "{value:?}")?;
     let (read, used) = T::take(alloc, &bytes, sizes)?;
-    assert_eq!(rt; used, bytes.len());
-    assert_eq!(rt; format!(in alloc; "{read:?}")?.as_str(), wanted.as_str());
-    assert_eq!(rt; T::pass_front(&bytes, bytes.len(), sizes)?.len(), 0);
+    expect_same(rt, &used, &bytes.len());
+    expect_same(
+        rt,
+        &format!(in alloc; "{read:?}")?.as_str(),
+        &wanted.as_str(),
+    );
+    expect_same(rt, &T::pass_front(&bytes, bytes.len(), sizes)?.len(), &0);
     for length in 0..bytes.len() {
         let fault = T::take(alloc, &bytes[..length], sizes)
             .err()
@@ -229,7 +234,7 @@ fn what_is_no_event_is_refused(rt: HostRuntime) -> Result<(), Fail> {
     let mut bytes = vec![in alloc; 1u8]?;
     let fault = of_another.put(&wide()?, &mut bytes).err().ok_or("written")?;
     assert!(rt; fault == DataFault::BadSize);
-    assert_eq!(rt; bytes.as_slice(), [1u8].as_slice());
+    expect_same(&rt, &bytes.as_slice(), &[1u8].as_slice());
     Ok(())
 }
 
@@ -300,7 +305,7 @@ fn a_composite_is_made_of_its_data(rt: HostRuntime) -> Result<(), Fail> {
     let alloc = rt.alloc();
     let two = Composite::new(1, two_events(alloc)?);
     let wanted = format!(in alloc; "{two:?}")?;
-    assert_eq!(rt; made_again(alloc, two)?.as_str(), wanted.as_str());
+    expect_same(&rt, &made_again(alloc, two)?.as_str(), &wanted.as_str());
     Ok(())
 }
 

@@ -1,4 +1,5 @@
 //! Worked examples of frames.
+use crate::asserts::expect_same;
 use crate::rows::row;
 use jdwp_wire::{
     FrameFault, HANDSHAKE, Header, IdKind, IdSizes, Limits, Next, NextHello, PacketKind, Width,
@@ -9,19 +10,25 @@ use std::test::Fail;
 #[test]
 fn the_handshake(rt: HostRuntime) {
     let faulty = *b"JDWP-HandshakE";
-    assert_eq!(rt; next_hello(&[]), NextHello::More);
+    expect_same(&rt, &next_hello(&[]), &NextHello::More);
     for count in 0..14usize {
-        assert_eq!(rt; next_hello(&HANDSHAKE[..count]), NextHello::More);
+        expect_same(&rt, &next_hello(&HANDSHAKE[..count]), &NextHello::More);
     }
-    assert_eq!(rt; next_hello(&HANDSHAKE), NextHello::Whole);
-    assert_eq!(rt; next_hello(b"JDWP-Handshake and more"), NextHello::Whole);
-    assert_eq!(rt;
-        next_hello(&faulty),
-        NextHello::Fault(FrameFault::BadHandshake(13))
+    expect_same(&rt, &next_hello(&HANDSHAKE), &NextHello::Whole);
+    expect_same(
+        &rt,
+        &next_hello(b"JDWP-Handshake and more"),
+        &NextHello::Whole,
     );
-    assert_eq!(rt;
-        next_hello(b"GET / HTTP/1.1"),
-        NextHello::Fault(FrameFault::BadHandshake(0))
+    expect_same(
+        &rt,
+        &next_hello(&faulty),
+        &NextHello::Fault(FrameFault::BadHandshake(13)),
+    );
+    expect_same(
+        &rt,
+        &next_hello(b"GET / HTTP/1.1"),
+        &NextHello::Fault(FrameFault::BadHandshake(0)),
     );
 }
 
@@ -37,10 +44,10 @@ fn faults_as_soon_as_they_show(rt: HostRuntime) {
     ];
     for (bytes, wanted, number) in rows {
         match next_packet(bytes) {
-            Next::Fault(fault) => assert_eq!(rt; fault, wanted),
+            Next::Fault(fault) => expect_same(&rt, &fault, &wanted),
             _ => assert!(rt; false, "no fault"),
         }
-        assert_eq!(rt; wanted.number(), number);
+        expect_same(&rt, &wanted.number(), &number);
         if bytes.len() > 0 {
             match next_packet(&bytes[..bytes.len() - 1]) {
                 Next::More => {}
@@ -60,8 +67,8 @@ fn packets_and_their_headers(rt: HostRuntime) {
                 id: 7,
                 kind: PacketKind::Command { set: 1, number: 8 },
             };
-            assert_eq!(rt; used, 13);
-            assert_eq!(rt; packet.header, header);
+            expect_same(&rt, &used, &13);
+            expect_same(&rt, &packet.header, &header);
             assert!(rt; packet.body == [0xaa, 0xbb].as_slice());
             assert!(rt; header.to_bytes().as_slice() == &command[..11]);
         }
@@ -70,12 +77,13 @@ fn packets_and_their_headers(rt: HostRuntime) {
     let reply = [0, 0, 0, 11, 0, 0, 0, 3, 0x80, 0, 113];
     match next_packet(&reply) {
         Next::Whole(packet, used) => {
-            assert_eq!(rt; used, 11);
-            assert_eq!(rt;
-                packet.header.kind,
-                PacketKind::Reply {
-                    error: jdwp_wire::ErrorCode::INTERNAL
-                }
+            expect_same(&rt, &used, &11);
+            expect_same(
+                &rt,
+                &packet.header.kind,
+                &PacketKind::Reply {
+                    error: jdwp_wire::ErrorCode::INTERNAL,
+                },
             );
             assert!(rt; packet.body.is_empty());
             assert!(rt; packet.header.to_bytes().as_slice() == reply.as_slice());
@@ -113,24 +121,25 @@ fn widths_of_ids(rt: HostRuntime) {
 #[test]
 fn a_width_of_one_kind(rt: HostRuntime) -> Result<(), Fail> {
     for bytes in 1..=8u8 {
-        assert_eq!(rt;
-            Width::new(bytes).map(Width::bytes),
-            Some(usize::from(bytes))
+        expect_same(
+            &rt,
+            &Width::new(bytes).map(Width::bytes),
+            &Some(usize::from(bytes)),
         );
     }
     for bytes in [0, 9, 255] {
         assert!(rt; Width::new(bytes).is_none());
     }
     let sizes = IdSizes::new(1, 2, 3, 4, 8)?;
-    assert_eq!(rt; sizes.width(IdKind::ReferenceType).bytes(), 4);
-    assert_eq!(rt; sizes.width(IdKind::Frame).bytes(), 8);
+    expect_same(&rt, &sizes.width(IdKind::ReferenceType).bytes(), &4);
+    expect_same(&rt, &sizes.width(IdKind::Frame).bytes(), &8);
     Ok(())
 }
 
 #[test]
 fn limits_of_sessions(rt: HostRuntime) -> Result<(), Fail> {
     let standard = Limits::standard();
-    assert_eq!(rt; Limits::new(65536, 64, 64, 64), Some(standard));
+    expect_same(&rt, &Limits::new(65536, 64, 64, 64), &Some(standard));
     let rows = [
         row((2048, 64, 3, 64, true)),
         row((2048, 64, 4, 64, false)),
@@ -147,12 +156,12 @@ fn limits_of_sessions(rt: HostRuntime) -> Result<(), Fail> {
     ];
     for (packet, live, requests, pending, wanted) in rows {
         let limits = Limits::new(packet, live, requests, pending);
-        assert_eq!(rt; limits.is_some(), wanted);
+        expect_same(&rt, &limits.is_some(), &wanted);
         if let Some(limits) = limits {
-            assert_eq!(rt; limits.packet(), packet);
-            assert_eq!(rt; limits.live(), live);
-            assert_eq!(rt; limits.requests(), requests);
-            assert_eq!(rt; limits.pending(), pending);
+            expect_same(&rt, &limits.packet(), &packet);
+            expect_same(&rt, &limits.live(), &live);
+            expect_same(&rt, &limits.requests(), &requests);
+            expect_same(&rt, &limits.pending(), &pending);
         }
     }
     Ok(())
@@ -163,7 +172,7 @@ fn packets_within_limits(rt: HostRuntime) -> Result<(), Fail> {
     match Limits::new(2048, 64, 3, 64) {
         Some(limits) => {
             match next_packet_within(&[0, 0, 8, 1], &limits) {
-                Next::Fault(fault) => assert_eq!(rt; fault, FrameFault::TooLong),
+                Next::Fault(fault) => expect_same(&rt, &fault, &FrameFault::TooLong),
                 _ => assert!(rt; false, "no fault"),
             }
             match next_packet_within(&[0, 0, 8, 0], &limits) {

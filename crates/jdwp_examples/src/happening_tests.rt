@@ -1,3 +1,4 @@
+use crate::asserts::expect_same;
 use crate::rows::row;
 use jdwp_event::{EventKind, Happening, Occurrence};
 use jdwp_value::ObjectId;
@@ -30,8 +31,8 @@ fn kinds_have_their_bytes(rt: HostRuntime) -> Result<(), Fail> {
         row((99, EventKind::VmDeath)),
     ];
     for (byte, kind) in rows.iter() {
-        assert_eq!(rt; kind.byte(), *byte);
-        assert_eq!(rt; EventKind::of_byte(*byte).ok_or("no kind")?, *kind);
+        expect_same(&rt, &kind.byte(), &*byte);
+        expect_same(&rt, &EventKind::of_byte(*byte).ok_or("no kind")?, &*kind);
     }
     for byte in [0u8, 11, 19, 22, 29, 31, 39, 47, 89, 91, 98, 100, 127, 255] {
         assert!(rt; EventKind::of_byte(byte).is_none());
@@ -42,6 +43,6 @@ fn kinds_have_their_bytes(rt: HostRuntime) -> Result<(), Fail> {
 #[test]
 fn a_happening_names_its_thread(rt: HostRuntime) {
     let happening = Happening::new(ObjectId(7), Occurrence::Started);
-    assert_eq!(rt; happening.thread(), ObjectId(7));
+    expect_same(&rt, &happening.thread(), &ObjectId(7));
     assert!(rt; matches!(happening.occurrence(), Occurrence::Started));
 }

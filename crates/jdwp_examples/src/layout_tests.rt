@@ -1,4 +1,5 @@
 //! Worked examples of data.
+use crate::asserts::expect_same;
 use crate::rows::row;
 use jdwp_layout::{
     Data, Datum, Entry, Field, Item, Layout, Scalar, answers_first_fault, data_size,
@@ -143,36 +144,40 @@ fn accepted(
     let values = read(alloc, layout, sizes, bytes)?;
     if let Some(text) = text {
         let shown = text_of(alloc, &values)?;
-        assert_eq!(rt; shown.as_str(), text);
+        expect_same(rt, &shown.as_str(), &text);
     }
-    assert_eq!(rt; validate(layout, sizes, bytes), Ok(()));
+    expect_same(rt, &validate(layout, sizes, bytes), &Ok(()));
     let mut output = Vec::new(alloc);
     output.push(7)?;
     write(layout, sizes, &values, &mut output)?;
-    assert_eq!(rt; output.get(1..), Some(canonical));
-    assert_eq!(rt; data_size(&values, sizes), Some(canonical.len()));
-    assert_eq!(rt; refusal(layout, sizes, &values), None);
+    expect_same(rt, &output.get(1..), &Some(canonical));
+    expect_same(rt, &data_size(&values, sizes), &Some(canonical.len()));
+    expect_same(rt, &refusal(layout, sizes, &values), &None);
     for length in 0..bytes.len() {
         let (front, _) = bytes.split_at(length);
-        assert_eq!(rt;
-            read(alloc, layout, sizes, front).err(),
-            Some(DataFault::Short(length))
+        expect_same(
+            rt,
+            &read(alloc, layout, sizes, front).err(),
+            &Some(DataFault::Short(length)),
         );
-        assert_eq!(rt;
-            validate(layout, sizes, front),
-            Err(DataFault::Short(length))
+        expect_same(
+            rt,
+            &validate(layout, sizes, front),
+            &Err(DataFault::Short(length)),
         );
     }
     let mut more = Vec::new(alloc);
     more.extend_from_slice(bytes)?;
     more.push(0)?;
-    assert_eq!(rt;
-        read(alloc, layout, sizes, &more).err(),
-        Some(DataFault::Extra(bytes.len()))
+    expect_same(
+        rt,
+        &read(alloc, layout, sizes, &more).err(),
+        &Some(DataFault::Extra(bytes.len())),
     );
-    assert_eq!(rt;
-        validate(layout, sizes, &more),
-        Err(DataFault::Extra(bytes.len()))
+    expect_same(
+        rt,
+        &validate(layout, sizes, &more),
+        &Err(DataFault::Extra(bytes.len())),
     );
     Ok(())
 }
@@ -374,8 +379,12 @@ fn faults(rt: HostRuntime) -> Result<(), Fail> {
     ] {
         let bytes = bytes_of(alloc, hex)?;
         let layout = request_of(set, command)?;
-        assert_eq!(rt; read(alloc, &layout, &sizes, &bytes).err(), Some(fault));
-        assert_eq!(rt; validate(&layout, &sizes, &bytes), Err(fault));
+        expect_same(
+            &rt,
+            &read(alloc, &layout, &sizes, &bytes).err(),
+            &Some(fault),
+        );
+        expect_same(&rt, &validate(&layout, &sizes, &bytes), &Err(fault));
     }
     let regions = reply_of(13, 2)?;
     for (hex, fault) in [
@@ -384,8 +393,12 @@ fn faults(rt: HostRuntime) -> Result<(), Fail> {
         row(("4c 00000001 49 00000001", DataFault::BadTag)),
     ] {
         let bytes = bytes_of(alloc, hex)?;
-        assert_eq!(rt; read(alloc, &regions, &sizes, &bytes).err(), Some(fault));
-        assert_eq!(rt; validate(&regions, &sizes, &bytes), Err(fault));
+        expect_same(
+            &rt,
+            &read(alloc, &regions, &sizes, &bytes).err(),
+            &Some(fault),
+        );
+        expect_same(&rt, &validate(&regions, &sizes, &bytes), &Err(fault));
     }
     Ok(())
 }
@@ -399,35 +412,45 @@ fn refusals(rt: HostRuntime) -> Result<(), Fail> {
     let thread = request_of(11, 12)?;
     let set = request_of(15, 1)?;
     let wide = [Datum::One(Scalar::ObjectId(ObjectId(256)))];
-    assert_eq!(rt;
-        write(&thread, &sizes, &wide, &mut output),
-        Err(DataFault::IdTooWide)
+    expect_same(
+        &rt,
+        &write(&thread, &sizes, &wide, &mut output),
+        &Err(DataFault::IdTooWide),
     );
-    assert_eq!(rt; refusal(&thread, &sizes, &wide), Some(DataFault::IdTooWide));
+    expect_same(
+        &rt,
+        &refusal(&thread, &sizes, &wide),
+        &Some(DataFault::IdTooWide),
+    );
     let other_kind = [Datum::One(Scalar::Int(1))];
-    assert_eq!(rt;
-        write(&thread, &sizes, &other_kind, &mut output),
-        Err(DataFault::BadSize)
+    expect_same(
+        &rt,
+        &write(&thread, &sizes, &other_kind, &mut output),
+        &Err(DataFault::BadSize),
     );
-    assert_eq!(rt;
-        refusal(&thread, &sizes, &other_kind),
-        Some(DataFault::BadSize)
+    expect_same(
+        &rt,
+        &refusal(&thread, &sizes, &other_kind),
+        &Some(DataFault::BadSize),
     );
-    assert_eq!(rt;
-        write(&thread, &sizes, &[], &mut output),
-        Err(DataFault::BadSize)
+    expect_same(
+        &rt,
+        &write(&thread, &sizes, &[], &mut output),
+        &Err(DataFault::BadSize),
     );
     let one_more = [
         Datum::One(Scalar::ObjectId(ObjectId(1))),
         Datum::One(Scalar::Int(1)),
     ];
-    assert_eq!(rt;
-        write(&thread, &sizes, &one_more, &mut output),
-        Err(DataFault::BadSize)
+    expect_same(
+        &rt,
+        &write(&thread, &sizes, &one_more, &mut output),
+        &Err(DataFault::BadSize),
     );
-    assert_eq!(rt;
-        refusal(&thread, &sizes, &one_more),
-        Some(DataFault::BadSize)
+    expect_same(
+        &rt,
+        &refusal(&thread, &sizes, &one_more),
+        &Some(DataFault::BadSize),
     );
     let mut modifier = Vec::new(alloc);
     modifier.push(Scalar::Byte(13))?;
@@ -438,18 +461,20 @@ fn refusals(rt: HostRuntime) -> Result<(), Fail> {
         Datum::One(Scalar::Byte(0)),
         Datum::Many(modifiers),
     ];
-    assert_eq!(rt;
-        write(&set, &sizes, &unknown_kind, &mut output),
-        Err(DataFault::BadSize)
+    expect_same(
+        &rt,
+        &write(&set, &sizes, &unknown_kind, &mut output),
+        &Err(DataFault::BadSize),
     );
-    assert_eq!(rt;
-        refusal(&set, &sizes, &unknown_kind),
-        Some(DataFault::BadSize)
+    expect_same(
+        &rt,
+        &refusal(&set, &sizes, &unknown_kind),
+        &Some(DataFault::BadSize),
     );
-    assert_eq!(rt; output.as_slice(), [7].as_slice());
+    expect_same(&rt, &output.as_slice(), &[7].as_slice());
     let fits = [Datum::One(Scalar::ObjectId(ObjectId(255)))];
-    assert_eq!(rt; write(&thread, &sizes, &fits, &mut output), Ok(()));
-    assert_eq!(rt; output.as_slice(), [7, 255].as_slice());
+    expect_same(&rt, &write(&thread, &sizes, &fits, &mut output), &Ok(()));
+    expect_same(&rt, &output.as_slice(), &[7, 255].as_slice());
     Ok(())
 }
 
@@ -469,30 +494,34 @@ fn entries_one_by_one(rt: HostRuntime) -> Result<(), Fail> {
         let bytes = bytes_of(alloc, hex)?;
         let whole = bytes.len();
         let (scalars, rest) = read_entry(alloc, entry, &bytes, whole, &sizes)?;
-        assert_eq!(rt; rest.len(), 0);
-        assert_eq!(rt; entry_size(&scalars, &sizes), Some(whole));
-        assert_eq!(rt; pass_entry(entry, &bytes, whole, &sizes)?.len(), 0);
+        expect_same(&rt, &rest.len(), &0);
+        expect_same(&rt, &entry_size(&scalars, &sizes), &Some(whole));
+        expect_same(&rt, &pass_entry(entry, &bytes, whole, &sizes)?.len(), &0);
         let mut twice = Vec::new(alloc);
         write_entry(entry, &scalars, &sizes, &mut twice)?;
-        assert_eq!(rt; twice.as_slice(), bytes.as_slice());
+        expect_same(&rt, &twice.as_slice(), &bytes.as_slice());
         write_entry(entry, &scalars, &sizes, &mut twice)?;
-        assert_eq!(rt;
-            pass_entries(1, entry, &twice, twice.len(), &sizes)?,
-            bytes.as_slice()
+        expect_same(
+            &rt,
+            &pass_entries(1, entry, &twice, twice.len(), &sizes)?,
+            &bytes.as_slice(),
         );
-        assert_eq!(rt;
-            pass_entries(2, entry, &twice, twice.len(), &sizes)?.len(),
-            0
+        expect_same(
+            &rt,
+            &pass_entries(2, entry, &twice, twice.len(), &sizes)?.len(),
+            &0,
         );
     }
     // Two bytes of an exception's filter, and of a VM_DEATH.
-    assert_eq!(rt;
-        pass_entry(Entry::Modifier, &[8, 0], 2, &sizes).err(),
-        Some(DataFault::Short(2))
+    expect_same(
+        &rt,
+        &pass_entry(Entry::Modifier, &[8, 0], 2, &sizes).err(),
+        &Some(DataFault::Short(2)),
     );
-    assert_eq!(rt;
-        pass_entry(Entry::Event, &[99, 0], 2, &sizes).err(),
-        Some(DataFault::Short(2))
+    expect_same(
+        &rt,
+        &pass_entry(Entry::Event, &[99, 0], 2, &sizes).err(),
+        &Some(DataFault::Short(2)),
     );
     Ok(())
 }
@@ -520,9 +549,10 @@ fn fields_one_by_one(rt: HostRuntime) -> Result<(), Fail> {
     assert!(rt; holds(alloc, Field::ObjectId, "0000000000000009 0000", &thread, 2)?);
     // One byte of an int.
     let sizes = IdSizes::new(8, 8, 8, 8, 8)?;
-    assert_eq!(rt;
-        read_field(alloc, Field::Int, &[0], 1, &sizes).err(),
-        Some(DataFault::Short(1))
+    expect_same(
+        &rt,
+        &read_field(alloc, Field::Int, &[0], 1, &sizes).err(),
+        &Some(DataFault::Short(1)),
     );
     Ok(())
 }

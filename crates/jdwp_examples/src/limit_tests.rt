@@ -1,4 +1,5 @@
 //! Scripts at a limit, and one past it.
+use crate::asserts::{expect_same, expect_same_for};
 use crate::rows::row;
 use crate::script_tests::{MACHINE_A, MACHINE_B, edited, fault};
 use jdwp_script::{Script, ScriptFault};
@@ -45,7 +46,7 @@ type Outcome<'a> = (
 fn are_outcomes(rt: &impl Abort, alloc: Global, rows: &[Outcome]) -> Result<(), Fail> {
     for (old, front, piece, count, back, wanted) in rows {
         let found = outcome(alloc, old, front, piece, *count, back)?;
-        assert_eq!(rt; found, *wanted, "{old} {count}");
+        expect_same_for(rt, &found, &*wanted, &(old, count));
     }
     Ok(())
 }
@@ -338,7 +339,7 @@ fn live_threads_by_limits(rt: HostRuntime) -> Result<(), Fail> {
             Ok(_) => None,
             Err(fault) => Some(fault),
         };
-        assert_eq!(rt; found, wanted);
+        expect_same(&rt, &found, &wanted);
     }
     Ok(())
 }

@@ -1,4 +1,5 @@
 //! Machines of scripts: their threads, their steps, what they answer, and the faults of their texts.
+use crate::asserts::expect_same;
 use crate::layout_tests::{bytes_of, push_location, push_value, request_of, text_of};
 use crate::rows::row;
 use crate::script_tests::{MACHINE_A, edited};
@@ -225,7 +226,7 @@ fn is_shown(
     wanted: &str,
 ) -> Result<(), Fail> {
     let text = shown(alloc, machine, thread)?;
-    assert_eq!(rt; text.as_str(), wanted);
+    expect_same(rt, &text.as_str(), &wanted);
     Ok(())
 }
 
@@ -710,14 +711,14 @@ fn texts_that_are_refused(rt: HostRuntime) -> Result<(), Fail> {
     let alloc = rt.alloc();
     let name = ScriptFault::Missing(Member::Name);
     for (text, wanted) in [("{", ScriptFault::NotJson), ("{}", name)] {
-        assert_eq!(rt; fault(alloc, text), Some(wanted));
+        expect_same(&rt, &fault(alloc, text), &Some(wanted));
     }
     for (old, new, wanted) in [
         row(("{\"id\":2,", "{\"id\":5,", ScriptFault::IdTwice)),
         row(("[8,8,8,8,8]", "[0,8,8,8,8]", ScriptFault::IdTooWide)),
         row(("[\"go\",3]", "[\"go\",10]", ScriptFault::BadReference)),
     ] {
-        assert_eq!(rt; fault_with(alloc, old, new)?, Some(wanted));
+        expect_same(&rt, &fault_with(alloc, old, new)?, &Some(wanted));
     }
     Ok(())
 }

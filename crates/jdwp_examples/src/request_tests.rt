@@ -1,4 +1,5 @@
 //! Requests, what passes them and what is counted, by worked examples.
+use crate::asserts::expect_same;
 use crate::rows::row;
 use jdwp_event::{
     ClassSeen, Composite, EventKind, Happening, Modifier, Occurrence, Place, Policy, PreparedClass,
@@ -145,7 +146,7 @@ fn each_modifier_is_a_filter(rt: HostRuntime) -> Result<(), Fail> {
         row((false, Modifier::SourceNameMatch(text(alloc, "*")?))),
     ];
     for (wanted, modifier) in rows {
-        assert_eq!(rt; passes(alloc, kind, modifier, &here)?, wanted);
+        expect_same(&rt, &passes(alloc, kind, modifier, &here)?, &wanted);
     }
     Ok(())
 }
@@ -170,8 +171,8 @@ fn exceptions_pass_by_class_and_by_whether_they_are_caught(rt: HostRuntime) -> R
             uncaught: second,
         };
         let kind = EventKind::Exception;
-        assert_eq!(rt; passes(alloc, kind, only(class), &caught)?, wanted);
-        assert_eq!(rt; passes(alloc, kind, only(class), &uncaught)?, other);
+        expect_same(&rt, &passes(alloc, kind, only(class), &caught)?, &wanted);
+        expect_same(&rt, &passes(alloc, kind, only(class), &uncaught)?, &other);
     }
     Ok(())
 }
@@ -211,7 +212,7 @@ fn steps_pass_by_size_and_depth(rt: HostRuntime) -> Result<(), Fail> {
             ObjectId(1),
             Occurrence::Moved(place(alloc, 4, line, frames)?),
         );
-        assert_eq!(rt; matches(&request, &there), wanted);
+        expect_same(&rt, &matches(&request, &there), &wanted);
     }
     Ok(())
 }
@@ -269,12 +270,13 @@ fn a_step_over_a_call_begins_where_it_last_reported(rt: HostRuntime) -> Result<(
         row((3, 1, true)),
     ];
     for (line, frames, wanted) in rows {
-        assert_eq!(rt;
-            reports_move(rt.alloc(), &mut requests, line, frames)?,
-            wanted
+        expect_same(
+            &rt,
+            &reports_move(rt.alloc(), &mut requests, line, frames)?,
+            &wanted,
         );
     }
-    assert_eq!(rt; origin_line(&requests), Some(3));
+    expect_same(&rt, &origin_line(&requests), &Some(3));
     Ok(())
 }
 
@@ -302,13 +304,17 @@ fn a_count_that_was_reached_is_counted_though_a_later_modifier_fails(
             Occurrence::Moved(place(alloc, 3, Some(2), 1)?),
         );
         let found = gather(alloc, &requests, &here)?;
-        assert_eq!(rt; found.is_some(), wanted.is_some());
+        expect_same(&rt, &found.is_some(), &wanted.is_some());
         for request in requests.as_slice() {
-            assert_eq!(rt; matches(request, &here), wanted == Some(request.id()));
+            expect_same(
+                &rt,
+                &matches(request, &here),
+                &(wanted == Some(request.id())),
+            );
         }
         count_gathered(&mut requests, &here, &found);
     }
-    assert_eq!(rt; requests.len(), 2);
+    expect_same(&rt, &requests.len(), &2);
     Ok(())
 }
 
@@ -337,13 +343,14 @@ fn two_requests_report_together(rt: HostRuntime) -> Result<(), Fail> {
         requests.insert(request(alloc, id, kind, policy, modifiers, NOWHERE)?)?;
     }
     let composite = gather(alloc, &requests, &moved(alloc)?)?.ok_or("nothing")?;
-    assert_eq!(rt; composite.policy(), 2);
-    assert_eq!(rt; composite.events().len(), 2);
-    assert_eq!(rt;
-        digits(&rt, alloc, composite)?.as_str(),
-        "0200000002\
+    expect_same(&rt, &composite.policy(), &2);
+    expect_same(&rt, &composite.events().len(), &2);
+    expect_same(
+        &rt,
+        &digits(&rt, alloc, composite)?.as_str(),
+        &"0200000002\
          0200000001000000000000000101000000000000000a00000000000000140000000000000003\
-         0200000002000000000000000101000000000000000a00000000000000140000000000000003"
+         0200000002000000000000000101000000000000000a00000000000000140000000000000003",
     );
     Ok(())
 }
@@ -363,23 +370,23 @@ fn requests_are_kept_by_rising_id(rt: HostRuntime) -> Result<(), Fail> {
         let none = Vec::new(alloc);
         requests.insert(request(alloc, id, kind, Policy::None, none, NOWHERE)?)?;
     }
-    assert_eq!(rt; requests.len(), 3);
+    expect_same(&rt, &requests.len(), &3);
     for (request, (id, kind)) in requests
         .as_slice()
         .iter()
         .zip([(1, 6), (2, 2), (3, 7)].iter())
     {
-        assert_eq!(rt; request.id(), *id);
-        assert_eq!(rt; request.kind(), *kind);
+        expect_same(&rt, &request.id(), &*id);
+        expect_same(&rt, &request.kind(), &*kind);
     }
     requests.remove(2, 3);
-    assert_eq!(rt; requests.len(), 3);
+    expect_same(&rt, &requests.len(), &3);
     requests.remove(7, 3);
-    assert_eq!(rt; requests.len(), 2);
+    expect_same(&rt, &requests.len(), &2);
     requests.remove_breakpoints();
-    assert_eq!(rt; requests.len(), 1);
+    expect_same(&rt, &requests.len(), &1);
     let request = requests.as_slice().first().ok_or("no request")?;
-    assert_eq!(rt; request.id(), 1);
+    expect_same(&rt, &request.id(), &1);
     requests.clear();
     assert!(rt; requests.is_empty());
     Ok(())
@@ -428,7 +435,7 @@ fn each_kind_has_its_data(rt: HostRuntime) -> Result<(), Fail> {
         let composite = gather(alloc, &requests, &happening)?.ok_or("nothing")?;
         let mut all = String::new(alloc);
         write!(all, "0100000001{kind:02x}00000009{thread}{wanted}")?;
-        assert_eq!(rt; digits(&rt, alloc, composite)?.as_str(), all.as_str());
+        expect_same(&rt, &digits(&rt, alloc, composite)?.as_str(), &all.as_str());
     }
     Ok(())
 }
@@ -451,11 +458,12 @@ fn reported(
 fn an_exception_has_its_data(rt: HostRuntime) -> Result<(), Fail> {
     let happening = thrown(rt.alloc(), Location::Null)?;
     let text = reported(&rt, rt.alloc(), EventKind::Exception, happening)?;
-    assert_eq!(rt;
-        text.as_str(),
-        "000000000104000000090000000000000001\
+    expect_same(
+        &rt,
+        &text.as_str(),
+        &"000000000104000000090000000000000001\
          01000000000000000a000000000000001400000000000000034c0000000000000007\
-         00000000000000000000000000000000000000000000000000"
+         00000000000000000000000000000000000000000000000000",
     );
     Ok(())
 }
@@ -464,11 +472,16 @@ fn an_exception_has_its_data(rt: HostRuntime) -> Result<(), Fail> {
 fn the_machine_starts_and_dies(rt: HostRuntime) -> Result<(), Fail> {
     let alloc = rt.alloc();
     let start = Composite::vm_start(alloc, Policy::None, ObjectId(1))?;
-    assert_eq!(rt;
-        digits(&rt, alloc, start)?.as_str(),
-        "00000000015a000000000000000000000001"
+    expect_same(
+        &rt,
+        &digits(&rt, alloc, start)?.as_str(),
+        &"00000000015a000000000000000000000001",
     );
     let death = Composite::vm_death(alloc)?;
-    assert_eq!(rt; digits(&rt, alloc, death)?.as_str(), "00000000016300000000");
+    expect_same(
+        &rt,
+        &digits(&rt, alloc, death)?.as_str(),
+        &"00000000016300000000",
+    );
     Ok(())
 }

@@ -1,4 +1,5 @@
 //! Captures of every command, modifier and event, at several widths of ids.
+use crate::asserts::expect_same;
 use crate::rows::row;
 use jdwp_layout::{
     CommandRow, Entry, Field, Item, Layout, fields_of_event, fields_of_modifier, layout_of,
@@ -225,12 +226,12 @@ fn shown_and_judged(
         more.push(0)?;
         push_packet(alloc, &mut faulty, '<', &[0x80, 0, 0], &more)?;
         let fault = CaptureFault::BadData(DataFault::Extra(reply.bytes.len()));
-        assert_eq!(rt; check(alloc, faulty.as_str())?, Verdict::No(6, fault));
+        expect_same(rt, &check(alloc, faulty.as_str())?, &Verdict::No(6, fault));
     }
-    assert_eq!(rt; check(alloc, text.as_str())?, Verdict::Yes);
+    expect_same(rt, &check(alloc, text.as_str())?, &Verdict::Yes);
     let shown = show(alloc, text.as_str())?;
-    assert_eq!(rt; shown.lines.as_str(), words.as_str());
-    assert_eq!(rt; shown.fault, None);
+    expect_same(rt, &shown.lines.as_str(), &words.as_str());
+    expect_same(rt, &shown.fault, &None);
     Ok(())
 }
 
@@ -256,7 +257,7 @@ fn every_row(rt: HostRuntime) -> Result<(), Fail> {
                 }
             }
         }
-        assert_eq!(rt; rows, 94);
+        expect_same(&rt, &rows, &94);
     }
     Ok(())
 }

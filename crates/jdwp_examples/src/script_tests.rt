@@ -1,4 +1,5 @@
 //! Scripts that are read and scripts that are refused.
+use crate::asserts::{expect_same, expect_same_for};
 use crate::rows::row;
 use jdwp_script::{Literal, Member, Script, ScriptFault, Step};
 use jdwp_value::{ObjectTag, Tag, Value};
@@ -55,11 +56,11 @@ pub(crate) fn fault(alloc: Global, text: &str) -> Option<ScriptFault> {
 #[test]
 fn texts_that_are_no_scripts(rt: HostRuntime) -> Result<(), Fail> {
     let name = Some(ScriptFault::Missing(Member::Name));
-    assert_eq!(rt; fault(rt.alloc(), "{"), Some(ScriptFault::NotJson));
-    assert_eq!(rt; fault(rt.alloc(), ""), Some(ScriptFault::NotJson));
-    assert_eq!(rt; fault(rt.alloc(), "{}"), name);
-    assert_eq!(rt; fault(rt.alloc(), "[]"), name);
-    assert_eq!(rt; fault(rt.alloc(), "{\"name\":null}"), name);
+    expect_same(&rt, &fault(rt.alloc(), "{"), &Some(ScriptFault::NotJson));
+    expect_same(&rt, &fault(rt.alloc(), ""), &Some(ScriptFault::NotJson));
+    expect_same(&rt, &fault(rt.alloc(), "{}"), &name);
+    expect_same(&rt, &fault(rt.alloc(), "[]"), &name);
+    expect_same(&rt, &fault(rt.alloc(), "{\"name\":null}"), &name);
     Ok(())
 }
 
@@ -83,7 +84,7 @@ fn small_edits_of_machine_a(rt: HostRuntime) -> Result<(), Fail> {
         )),
     ] {
         let text = edited(alloc, MACHINE_A, old, new)?;
-        assert_eq!(rt; fault(alloc, text.as_str()), wanted, "{old} {new}");
+        expect_same_for(&rt, &fault(alloc, text.as_str()), &wanted, &(old, new));
     }
     Ok(())
 }
@@ -254,7 +255,7 @@ fn bad_references(rt: HostRuntime) -> Result<(), Fail> {
         )),
     ] {
         let text = edited(alloc, MACHINE_B, old, new)?;
-        assert_eq!(rt; fault(alloc, text.as_str()), wanted, "{old} {new}");
+        expect_same_for(&rt, &fault(alloc, text.as_str()), &wanted, &(old, new));
     }
     Ok(())
 }
@@ -277,7 +278,7 @@ fn ids_that_stand_twice(rt: HostRuntime) -> Result<(), Fail> {
         )),
     ] {
         let text = edited(alloc, MACHINE_B, old, new)?;
-        assert_eq!(rt; fault(alloc, text.as_str()), wanted, "{old} {new}");
+        expect_same_for(&rt, &fault(alloc, text.as_str()), &wanted, &(old, new));
     }
     Ok(())
 }
@@ -483,7 +484,7 @@ fn missing_members(rt: HostRuntime) -> Result<(), Fail> {
         )),
     ] {
         let text = edited(alloc, MACHINE_B, old, new)?;
-        assert_eq!(rt; fault(alloc, text.as_str()), wanted, "{old} {new}");
+        expect_same_for(&rt, &fault(alloc, text.as_str()), &wanted, &(old, new));
     }
     Ok(())
 }
@@ -498,7 +499,7 @@ fn widths(rt: HostRuntime) -> Result<(), Fail> {
         row(("[\"L\",[50,0]]", "[\"I\",[4294967295]]", None)),
     ] {
         let text = edited(alloc, MACHINE_B, old, new)?;
-        assert_eq!(rt; fault(alloc, text.as_str()), wanted, "{old} {new}");
+        expect_same_for(&rt, &fault(alloc, text.as_str()), &wanted, &(old, new));
     }
     Ok(())
 }
@@ -601,7 +602,7 @@ fn wide_ids_and_the_order_of_faults(rt: HostRuntime) -> Result<(), Fail> {
     ] {
         let text = edited(alloc, MACHINE_B, "[8,8,8,8,8]", sizes)?;
         let text = edited(alloc, text.as_str(), old, new)?;
-        assert_eq!(rt; fault(alloc, text.as_str()), wanted, "{old} {new}");
+        expect_same_for(&rt, &fault(alloc, text.as_str()), &wanted, &(old, new));
     }
     Ok(())
 }
@@ -632,25 +633,27 @@ fn machine_a_whole(rt: HostRuntime) -> Result<(), Fail> {
     let alloc = rt.alloc();
     let script = Script::read(alloc, MACHINE_A)?;
     let sizes = script.sizes;
-    assert_eq!(rt; script.name.as_str(), "A");
-    assert_eq!(rt;
-        (
+    expect_same(&rt, &script.name.as_str(), &"A");
+    expect_same(
+        &rt,
+        &(
             sizes.field,
             sizes.method,
             sizes.object,
             sizes.reference,
-            sizes.frame
+            sizes.frame,
         ),
-        (8, 8, 8, 8, 8)
+        &(8, 8, 8, 8, 8),
     );
-    assert_eq!(rt;
-        (
+    expect_same(
+        &rt,
+        &(
             script.groups.len(),
             script.classes.len(),
             script.objects.len(),
-            script.threads.len()
+            script.threads.len(),
         ),
-        (1, 1, 0, 2)
+        &(1, 1, 0, 2),
     );
     let mut text = String::new(alloc);
     for group in &script.groups {
@@ -700,9 +703,10 @@ fn machine_a_whole(rt: HostRuntime) -> Result<(), Fail> {
             word(step, &mut text)?;
         }
     }
-    assert_eq!(rt;
-        text.as_str(),
-        "group 5 main 0;class 10 Class LMain; 1 0 0 0 Some(\"Main.java\");method 20 run ()V 1 0 9 0;0 1;3 2;4 3;thread 1 main 5;call 30 10 20 0 0;go 3;go 4;go 3;go 4;go 3;return Literal { tag: Void, bits: 0 };thread 2 work 5;"
+    expect_same(
+        &rt,
+        &text.as_str(),
+        &"group 5 main 0;class 10 Class LMain; 1 0 0 0 Some(\"Main.java\");method 20 run ()V 1 0 9 0;0 1;3 2;4 3;thread 1 main 5;call 30 10 20 0 0;go 3;go 4;go 3;go 4;go 3;return Literal { tag: Void, bits: 0 };thread 2 work 5;",
     );
     Ok(())
 }
@@ -710,13 +714,18 @@ fn machine_a_whole(rt: HostRuntime) -> Result<(), Fail> {
 #[test]
 fn literals(rt: HostRuntime) -> Result<(), Fail> {
     let literal = |tag, bits| Literal { tag, bits }.value();
-    assert_eq!(rt; literal(Tag::Byte, 255), Value::Byte(255));
-    assert_eq!(rt; literal(Tag::Boolean, 1), Value::Boolean(true));
-    assert_eq!(rt; literal(Tag::Boolean, 0), Value::Boolean(false));
-    assert_eq!(rt; literal(Tag::Int, 4_294_967_295), Value::Int(4_294_967_295));
-    assert_eq!(rt;
-        literal(Tag::Object(ObjectTag::String), 7).tag(),
-        Tag::Object(ObjectTag::String)
+    expect_same(&rt, &literal(Tag::Byte, 255), &Value::Byte(255));
+    expect_same(&rt, &literal(Tag::Boolean, 1), &Value::Boolean(true));
+    expect_same(&rt, &literal(Tag::Boolean, 0), &Value::Boolean(false));
+    expect_same(
+        &rt,
+        &literal(Tag::Int, 4_294_967_295),
+        &Value::Int(4_294_967_295),
+    );
+    expect_same(
+        &rt,
+        &literal(Tag::Object(ObjectTag::String), 7).tag(),
+        &Tag::Object(ObjectTag::String),
     );
     Ok(())
 }
@@ -737,8 +746,8 @@ fn faults_in_words(rt: HostRuntime) -> Result<(), Fail> {
         row((ScriptFault::OverLimit, 26, "fault 26: a limit is passed")),
         row((ScriptFault::NoMemory, 27, "fault 27: no memory")),
     ] {
-        assert_eq!(rt; fault.number(), number);
-        assert_eq!(rt; fault.to_string(alloc)?.as_str(), words);
+        expect_same(&rt, &fault.number(), &number);
+        expect_same(&rt, &fault.to_string(alloc)?.as_str(), &words);
     }
     Ok(())
 }

@@ -1,4 +1,5 @@
 //! Captures in words.
+use crate::asserts::expect_same;
 use crate::rows::row;
 use jdwp_layout::{Datum, Scalar};
 use jdwp_show::{CaptureFault, composite_data_line, reply_line, show};
@@ -22,8 +23,8 @@ fn is_shown(rt: &impl Abort, alloc: Global, more: &str, wanted: &str) -> Result<
     let text = format!(in alloc; "{HANDSHAKES}{SIZES}{more}")?;
     let shown = show(alloc, text.as_str())?;
     let lines = format!(in alloc; "{BEGINNING}{wanted}")?;
-    assert_eq!(rt; shown.lines.as_str(), lines.as_str());
-    assert_eq!(rt; shown.fault, None);
+    expect_same(rt, &shown.lines.as_str(), &lines.as_str());
+    expect_same(rt, &shown.fault, &None);
     Ok(())
 }
 
@@ -146,7 +147,7 @@ fn is_line(
 ) -> Result<(), NoMemory> {
     let (error, data, bytes) = answer;
     let line = reply_line(alloc, id, set, number, error, data, bytes)?;
-    assert_eq!(rt; line.as_str(), wanted);
+    expect_same(rt, &line.as_str(), &wanted);
     Ok(())
 }
 
@@ -175,7 +176,7 @@ fn line_of_a_composite(rt: HostRuntime) -> Result<(), NoMemory> {
     let events = vec![in alloc; event]?;
     let data = [Datum::One(Scalar::Byte(0)), Datum::Many(events)];
     let line = composite_data_line(alloc, 1, &data)?;
-    assert_eq!(rt; line.as_str(), "< 1 Event.Composite 0 [(90, 0, #1)]");
+    expect_same(&rt, &line.as_str(), &"< 1 Event.Composite 0 [(90, 0, #1)]");
     Ok(())
 }
 
@@ -221,8 +222,8 @@ fn what_is_left(rt: HostRuntime) -> Result<(), NoMemory> {
     ];
     for (text, wanted, fault) in rows {
         let shown = show(rt.alloc(), text)?;
-        assert_eq!(rt; shown.lines.as_str(), wanted);
-        assert_eq!(rt; shown.fault, fault);
+        expect_same(&rt, &shown.lines.as_str(), &wanted);
+        expect_same(&rt, &shown.fault, &fault);
     }
     Ok(())
 }

@@ -1,4 +1,5 @@
 //! The table of commands, row by row.
+use crate::asserts::expect_same;
 use jdwp_layout::{CommandRow, Entry, Field, Item, Layout, layout_of};
 use std::alloc::Global;
 use std::test::Fail;
@@ -211,10 +212,14 @@ fn every_row(rt: HostRuntime) -> Result<(), Fail> {
     for set in 0..256u32 {
         for command in 0..256u32 {
             match layout_of(set as u8, command as u8) {
-                None => assert_eq!(rt; expected(set as u8, command as u8), None),
+                None => expect_same(&rt, &expected(set as u8, command as u8), &None),
                 Some(row) => {
                     let line = line_of(rt.alloc(), row)?;
-                    assert_eq!(rt; Some(line.as_str()), expected(set as u8, command as u8));
+                    expect_same(
+                        &rt,
+                        &Some(line.as_str()),
+                        &expected(set as u8, command as u8),
+                    );
                     rows = rows.saturating_add(1);
                     if row.starred {
                         starred = starred.saturating_add(1);
@@ -229,10 +234,11 @@ fn every_row(rt: HostRuntime) -> Result<(), Fail> {
             }
         }
     }
-    assert_eq!(rt; (rows, starred, raw, of_target), (94, 25, 10, 1));
-    assert_eq!(rt;
-        rows.saturating_sub(starred.saturating_add(raw).saturating_add(of_target)),
-        58
+    expect_same(&rt, &(rows, starred, raw, of_target), &(94, 25, 10, 1));
+    expect_same(
+        &rt,
+        &rows.saturating_sub(starred.saturating_add(raw).saturating_add(of_target)),
+        &58,
     );
     Ok(())
 }

@@ -1,6 +1,7 @@
 //! Histories, which only contracts read.
 ghost use Rattle.std.specs.Prelude.{◌≡◌, ◌∷◌, []};
 
+use crate::asserts::expect_same;
 use std::mem::size_of;
 use trace::{History, Trace};
 
@@ -28,6 +29,6 @@ fn one_to_three() -> History
 fn histories_hold_no_bytes(rt: HostRuntime) {
     let _items = one_and_two();
     let _bytes = one_to_three();
-    assert_eq!(rt; size_of::<Trace<u64>>(), 0);
-    assert_eq!(rt; size_of::<History>(), 0);
+    expect_same(&rt, &size_of::<Trace<u64>>(), &0);
+    expect_same(&rt, &size_of::<History>(), &0);
 }

@@ -1,4 +1,5 @@
 //! Worked examples of values.
+use crate::asserts::expect_same;
 use crate::rows::row;
 use jdwp_value::{
     ArrayRegion, FieldId, FrameId, Location, MethodId, ObjectId, ObjectTag, ReferenceTypeId, Tag,
@@ -21,9 +22,9 @@ fn written<T: Wire>(
 ) -> Result<Vec<u8>, Fail> {
     let mut bytes = Vec::new(alloc);
     value.put(sizes, &mut bytes)?;
-    assert_eq!(rt; value.size(sizes), Some(bytes.len()));
+    expect_same(rt, &value.size(sizes), &Some(bytes.len()));
     let rest = T::pass_front(bytes.as_slice(), bytes.len(), sizes)?;
-    assert_eq!(rt; rest.len(), 0);
+    expect_same(rt, &rest.len(), &0);
     Ok(bytes)
 }
 
@@ -58,29 +59,34 @@ fn values(rt: HostRuntime) -> Result<(), Fail> {
         )),
     ];
     for (bytes, value) in rows {
-        assert_eq!(rt;
-            Value::take(rt.alloc(), bytes, &sizes),
-            Ok((value, bytes.len()))
+        expect_same(
+            &rt,
+            &Value::take(rt.alloc(), bytes, &sizes),
+            &Ok((value, bytes.len())),
         );
         let put = written(&rt, rt.alloc(), &value, &sizes)?;
-        assert_eq!(rt; put.as_slice(), bytes);
-        assert_eq!(rt; value.tag().byte(), bytes[0]);
+        expect_same(&rt, &put.as_slice(), &bytes);
+        expect_same(&rt, &bytes.first().copied(), &Some(value.tag().byte()));
     }
-    assert_eq!(rt;
-        Value::take(rt.alloc(), &[0x5a, 0x80], &sizes),
-        Ok((Value::Boolean(true), 2))
+    expect_same(
+        &rt,
+        &Value::take(rt.alloc(), &[0x5a, 0x80], &sizes),
+        &Ok((Value::Boolean(true), 2)),
     );
-    assert_eq!(rt;
-        Value::take(rt.alloc(), &[1], &sizes),
-        Err(DataFault::BadTag)
+    expect_same(
+        &rt,
+        &Value::take(rt.alloc(), &[1], &sizes),
+        &Err(DataFault::BadTag),
     );
-    assert_eq!(rt;
-        Value::take(rt.alloc(), &[0x49, 1, 2], &sizes),
-        Err(DataFault::Short(3))
+    expect_same(
+        &rt,
+        &Value::take(rt.alloc(), &[0x49, 1, 2], &sizes),
+        &Err(DataFault::Short(3)),
     );
-    assert_eq!(rt;
-        Value::take(rt.alloc(), &[], &sizes),
-        Err(DataFault::Short(0))
+    expect_same(
+        &rt,
+        &Value::take(rt.alloc(), &[], &sizes),
+        &Err(DataFault::Short(0)),
     );
     Ok(())
 }
@@ -94,14 +100,14 @@ fn every_tag(rt: HostRuntime) -> Result<(), Fail> {
         match Tag::take(rt.alloc(), &[byte, 9], &sizes) {
             Ok((tag, used)) => {
                 assert!(rt; tags.contains(&byte));
-                assert_eq!(rt; used, 1);
-                assert_eq!(rt; tag.byte(), byte);
+                expect_same(&rt, &used, &1);
+                expect_same(&rt, &tag.byte(), &byte);
                 found = found.saturating_add(1);
             }
-            Err(fault) => assert_eq!(rt; fault, DataFault::BadTag),
+            Err(fault) => expect_same(&rt, &fault, &DataFault::BadTag),
         }
     }
-    assert_eq!(rt; found, 16);
+    expect_same(&rt, &found, &16);
     Ok(())
 }
 
@@ -109,13 +115,15 @@ fn every_tag(rt: HostRuntime) -> Result<(), Fail> {
 fn locations(rt: HostRuntime) -> Result<(), Fail> {
     let sizes = IdSizes::new(1, 1, 1, 1, 1)?;
     let null = [0u8; 11];
-    assert_eq!(rt;
-        Location::take(rt.alloc(), &null, &sizes),
-        Ok((Location::Null, 11))
+    expect_same(
+        &rt,
+        &Location::take(rt.alloc(), &null, &sizes),
+        &Ok((Location::Null, 11)),
     );
-    assert_eq!(rt;
-        written(&rt, rt.alloc(), &Location::Null, &sizes)?.as_slice(),
-        null.as_slice()
+    expect_same(
+        &rt,
+        &written(&rt, rt.alloc(), &Location::Null, &sizes)?.as_slice(),
+        &null.as_slice(),
     );
     let place = Location::At {
         tag: TypeTag::Class,
@@ -124,26 +132,35 @@ fn locations(rt: HostRuntime) -> Result<(), Fail> {
         index: 0x8000_0000_0000_0003,
     };
     let bytes = [1, 10, 20, 0x80, 0, 0, 0, 0, 0, 0, 3];
-    assert_eq!(rt; Location::take(rt.alloc(), &bytes, &sizes), Ok((place, 11)));
-    assert_eq!(rt;
-        written(&rt, rt.alloc(), &place, &sizes)?.as_slice(),
-        bytes.as_slice()
+    expect_same(
+        &rt,
+        &Location::take(rt.alloc(), &bytes, &sizes),
+        &Ok((place, 11)),
     );
-    assert_eq!(rt;
-        Location::take(rt.alloc(), &[4], &sizes),
-        Err(DataFault::BadTag)
+    expect_same(
+        &rt,
+        &written(&rt, rt.alloc(), &place, &sizes)?.as_slice(),
+        &bytes.as_slice(),
     );
-    assert_eq!(rt;
-        Location::take(rt.alloc(), &[0, 1], &sizes),
-        Err(DataFault::Short(2))
+    expect_same(
+        &rt,
+        &Location::take(rt.alloc(), &[4], &sizes),
+        &Err(DataFault::BadTag),
     );
-    assert_eq!(rt;
-        Location::take(rt.alloc(), &[0, 1, 0, 0, 0, 0, 0, 0, 0, 0, 0], &sizes),
-        Err(DataFault::BadTag)
+    expect_same(
+        &rt,
+        &Location::take(rt.alloc(), &[0, 1], &sizes),
+        &Err(DataFault::Short(2)),
     );
-    assert_eq!(rt;
-        Location::take(rt.alloc(), &[3, 1, 0, 0, 0, 0, 0, 0, 0, 0], &sizes),
-        Err(DataFault::Short(10))
+    expect_same(
+        &rt,
+        &Location::take(rt.alloc(), &[0, 1, 0, 0, 0, 0, 0, 0, 0, 0, 0], &sizes),
+        &Err(DataFault::BadTag),
+    );
+    expect_same(
+        &rt,
+        &Location::take(rt.alloc(), &[3, 1, 0, 0, 0, 0, 0, 0, 0, 0], &sizes),
+        &Err(DataFault::Short(10)),
     );
     Ok(())
 }
@@ -152,58 +169,70 @@ fn locations(rt: HostRuntime) -> Result<(), Fail> {
 fn ids_in_their_widths(rt: HostRuntime) -> Result<(), Fail> {
     let sizes = IdSizes::new(2, 4, 8, 3, 5)?;
     let bytes = [0u8, 0, 0, 0, 0, 0, 1, 2, 0xaa];
-    assert_eq!(rt;
-        FieldId::take(rt.alloc(), &bytes[6..], &sizes),
-        Ok((FieldId(258), 2))
+    expect_same(
+        &rt,
+        &FieldId::take(rt.alloc(), &bytes[6..], &sizes),
+        &Ok((FieldId(258), 2)),
     );
-    assert_eq!(rt;
-        MethodId::take(rt.alloc(), &bytes[4..], &sizes),
-        Ok((MethodId(258), 4))
+    expect_same(
+        &rt,
+        &MethodId::take(rt.alloc(), &bytes[4..], &sizes),
+        &Ok((MethodId(258), 4)),
     );
-    assert_eq!(rt;
-        ObjectId::take(rt.alloc(), &bytes, &sizes),
-        Ok((ObjectId(258), 8))
+    expect_same(
+        &rt,
+        &ObjectId::take(rt.alloc(), &bytes, &sizes),
+        &Ok((ObjectId(258), 8)),
     );
-    assert_eq!(rt;
-        ReferenceTypeId::take(rt.alloc(), &bytes[5..], &sizes),
-        Ok((ReferenceTypeId(258), 3))
+    expect_same(
+        &rt,
+        &ReferenceTypeId::take(rt.alloc(), &bytes[5..], &sizes),
+        &Ok((ReferenceTypeId(258), 3)),
     );
-    assert_eq!(rt;
-        FrameId::take(rt.alloc(), &bytes[3..], &sizes),
-        Ok((FrameId(258), 5))
+    expect_same(
+        &rt,
+        &FrameId::take(rt.alloc(), &bytes[3..], &sizes),
+        &Ok((FrameId(258), 5)),
     );
-    assert_eq!(rt;
-        written(&rt, rt.alloc(), &FieldId(258), &sizes)?.as_slice(),
-        &bytes[6..8]
+    expect_same(
+        &rt,
+        &written(&rt, rt.alloc(), &FieldId(258), &sizes)?.as_slice(),
+        &&bytes[6..8],
     );
-    assert_eq!(rt;
-        written(&rt, rt.alloc(), &MethodId(258), &sizes)?.as_slice(),
-        &bytes[4..8]
+    expect_same(
+        &rt,
+        &written(&rt, rt.alloc(), &MethodId(258), &sizes)?.as_slice(),
+        &&bytes[4..8],
     );
-    assert_eq!(rt;
-        written(&rt, rt.alloc(), &ObjectId(258), &sizes)?.as_slice(),
-        &bytes[..8]
+    expect_same(
+        &rt,
+        &written(&rt, rt.alloc(), &ObjectId(258), &sizes)?.as_slice(),
+        &&bytes[..8],
     );
-    assert_eq!(rt;
-        written(&rt, rt.alloc(), &ReferenceTypeId(258), &sizes)?.as_slice(),
-        &bytes[5..8]
+    expect_same(
+        &rt,
+        &written(&rt, rt.alloc(), &ReferenceTypeId(258), &sizes)?.as_slice(),
+        &&bytes[5..8],
     );
-    assert_eq!(rt;
-        written(&rt, rt.alloc(), &FrameId(258), &sizes)?.as_slice(),
-        &bytes[3..8]
+    expect_same(
+        &rt,
+        &written(&rt, rt.alloc(), &FrameId(258), &sizes)?.as_slice(),
+        &&bytes[3..8],
     );
     let tagged = TaggedId {
         tag: ObjectTag::Thread,
         id: ObjectId(258),
     };
     let put = written(&rt, rt.alloc(), &tagged, &sizes)?;
-    assert_eq!(rt;
-        TaggedId::take(rt.alloc(), put.as_slice(), &sizes),
-        Ok((tagged, 9))
+    expect_same(
+        &rt,
+        &TaggedId::take(rt.alloc(), put.as_slice(), &sizes),
+        &Ok((tagged, 9)),
     );
-    assert_eq!(rt;
-        TaggedId::take(rt.alloc(), &[0x49, 0, 0, 0, 1], &sizes),
-        Err(DataFault::BadTag)
+    expect_same(
+        &rt,
+        &TaggedId::take(rt.alloc(), &[0x49, 0, 0, 0, 1], &sizes),
+        &Err(DataFault::BadTag),
     );
     Ok(())
 }
@@ -218,32 +247,44 @@ fn several_widths(rt: HostRuntime) -> Result<(), Fail> {
         index: 7,
     };
     let bytes = [3, 0, 1, 2, 0, 0, 0, 1, 0, 0, 0, 0, 0, 0, 0, 7];
-    assert_eq!(rt; Location::take(rt.alloc(), &bytes, &sizes), Ok((place, 16)));
-    assert_eq!(rt;
-        written(&rt, rt.alloc(), &place, &sizes)?.as_slice(),
-        bytes.as_slice()
+    expect_same(
+        &rt,
+        &Location::take(rt.alloc(), &bytes, &sizes),
+        &Ok((place, 16)),
+    );
+    expect_same(
+        &rt,
+        &written(&rt, rt.alloc(), &place, &sizes)?.as_slice(),
+        &bytes.as_slice(),
     );
     let thread = Value::Object(TaggedId {
         tag: ObjectTag::Thread,
         id: ObjectId(513),
     });
     let bytes = [0x74, 0, 0, 0, 0, 0, 0, 2, 1];
-    assert_eq!(rt; Value::take(rt.alloc(), &bytes, &sizes), Ok((thread, 9)));
-    assert_eq!(rt;
-        written(&rt, rt.alloc(), &thread, &sizes)?.as_slice(),
-        bytes.as_slice()
+    expect_same(
+        &rt,
+        &Value::take(rt.alloc(), &bytes, &sizes),
+        &Ok((thread, 9)),
     );
-    assert_eq!(rt;
-        written(&rt, rt.alloc(), &Tag::Void, &sizes)?.as_slice(),
-        [0x56].as_slice()
+    expect_same(
+        &rt,
+        &written(&rt, rt.alloc(), &thread, &sizes)?.as_slice(),
+        &bytes.as_slice(),
+    );
+    expect_same(
+        &rt,
+        &written(&rt, rt.alloc(), &Tag::Void, &sizes)?.as_slice(),
+        &[0x56].as_slice(),
     );
     let bytes = [0x74, 0, 0, 0, 1, 0x74, 0, 0, 0, 0, 0, 0, 2, 1];
     let (region, used) = ArrayRegion::take(rt.alloc(), &bytes, &sizes)?;
-    assert_eq!(rt; used, 14);
-    assert_eq!(rt; region.elements(), [thread].as_slice());
-    assert_eq!(rt;
-        written(&rt, rt.alloc(), &region, &sizes)?.as_slice(),
-        bytes.as_slice()
+    expect_same(&rt, &used, &14);
+    expect_same(&rt, &region.elements(), &[thread].as_slice());
+    expect_same(
+        &rt,
+        &written(&rt, rt.alloc(), &region, &sizes)?.as_slice(),
+        &bytes.as_slice(),
     );
     Ok(())
 }
@@ -264,12 +305,25 @@ fn an_id_too_wide_leaves_the_bytes(rt: HostRuntime) -> Result<(), Fail> {
         tag: ObjectTag::Thread,
         id: wide,
     };
-    assert_eq!(rt; wide.put(&sizes, &mut bytes), Err(DataFault::IdTooWide));
-    assert_eq!(rt; place.put(&sizes, &mut bytes), Err(DataFault::IdTooWide));
-    assert_eq!(rt; tagged.put(&sizes, &mut bytes), Err(DataFault::IdTooWide));
-    assert_eq!(rt;
-        Value::Object(tagged).put(&sizes, &mut bytes),
-        Err(DataFault::IdTooWide)
+    expect_same(
+        &rt,
+        &wide.put(&sizes, &mut bytes),
+        &Err(DataFault::IdTooWide),
+    );
+    expect_same(
+        &rt,
+        &place.put(&sizes, &mut bytes),
+        &Err(DataFault::IdTooWide),
+    );
+    expect_same(
+        &rt,
+        &tagged.put(&sizes, &mut bytes),
+        &Err(DataFault::IdTooWide),
+    );
+    expect_same(
+        &rt,
+        &Value::Object(tagged).put(&sizes, &mut bytes),
+        &Err(DataFault::IdTooWide),
     );
     let mut elements = Vec::new(rt.alloc());
     elements.push(Value::Object(TaggedId {
@@ -278,9 +332,13 @@ fn an_id_too_wide_leaves_the_bytes(rt: HostRuntime) -> Result<(), Fail> {
     }))?;
     elements.push(Value::Object(tagged))?;
     let region = ArrayRegion::new(Tag::Object(ObjectTag::Object), elements).ok_or("no region")?;
-    assert_eq!(rt; region.put(&sizes, &mut bytes), Err(DataFault::IdTooWide));
-    assert_eq!(rt; region.size(&sizes), Some(9));
-    assert_eq!(rt; bytes.as_slice(), [7].as_slice());
+    expect_same(
+        &rt,
+        &region.put(&sizes, &mut bytes),
+        &Err(DataFault::IdTooWide),
+    );
+    expect_same(&rt, &region.size(&sizes), &Some(9));
+    expect_same(&rt, &bytes.as_slice(), &[7].as_slice());
     Ok(())
 }
 
@@ -306,12 +364,13 @@ fn regions(rt: HostRuntime) -> Result<(), Fail> {
     ];
     for (bytes, tag, elements) in rows {
         let (region, used) = ArrayRegion::take(rt.alloc(), bytes, &sizes)?;
-        assert_eq!(rt; used, bytes.len());
-        assert_eq!(rt; region.tag(), tag);
-        assert_eq!(rt; region.elements(), elements);
-        assert_eq!(rt;
-            written(&rt, rt.alloc(), &region, &sizes)?.as_slice(),
-            bytes
+        expect_same(&rt, &used, &bytes.len());
+        expect_same(&rt, &region.tag(), &tag);
+        expect_same(&rt, &region.elements(), &elements);
+        expect_same(
+            &rt,
+            &written(&rt, rt.alloc(), &region, &sizes)?.as_slice(),
+            &bytes,
         );
     }
     let faults: [(&[u8], DataFault); 6] = [
@@ -325,7 +384,7 @@ fn regions(rt: HostRuntime) -> Result<(), Fail> {
     for (bytes, wanted) in faults {
         match ArrayRegion::take(rt.alloc(), bytes, &sizes) {
             Ok(_) => assert!(rt; false, "no fault"),
-            Err(fault) => assert_eq!(rt; fault, wanted),
+            Err(fault) => expect_same(&rt, &fault, &wanted),
         }
     }
     let mut elements = Vec::new(rt.alloc());
@@ -349,11 +408,11 @@ fn faults_of_what_is_passed_by(rt: HostRuntime) -> Result<(), Fail> {
     for (bytes, wanted) in regions {
         match ArrayRegion::pass_front(bytes, bytes.len(), &sizes) {
             Ok(_) => assert!(rt; false, "no fault"),
-            Err(fault) => assert_eq!(rt; fault, wanted),
+            Err(fault) => expect_same(&rt, &fault, &wanted),
         }
         match ArrayRegion::take(rt.alloc(), bytes, &sizes) {
             Ok(_) => assert!(rt; false, "no fault"),
-            Err(fault) => assert_eq!(rt; fault, wanted),
+            Err(fault) => expect_same(&rt, &fault, &wanted),
         }
     }
     let locations: [(&[u8], DataFault); 3] = [
@@ -364,7 +423,7 @@ fn faults_of_what_is_passed_by(rt: HostRuntime) -> Result<(), Fail> {
     for (bytes, wanted) in locations {
         match Location::pass_front(bytes, bytes.len(), &sizes) {
             Ok(_) => assert!(rt; false, "no fault"),
-            Err(fault) => assert_eq!(rt; fault, wanted),
+            Err(fault) => expect_same(&rt, &fault, &wanted),
         }
     }
     Ok(())
@@ -379,9 +438,9 @@ fn a_long_region(rt: HostRuntime) -> Result<(), Fail> {
         bytes.extend_from_slice(&number.to_be_bytes())?;
     }
     let (region, used) = ArrayRegion::take(rt.alloc(), bytes.as_slice(), &sizes)?;
-    assert_eq!(rt; used, 160_005);
+    expect_same(&rt, &used, &160_005);
     assert_eq!(rt; region.elements().len(), 40_000);
-    assert_eq!(rt; region.elements()[39_999], Value::Int(39_999));
+    expect_same(&rt, &region.elements()[39_999], &Value::Int(39_999));
     let put = written(&rt, rt.alloc(), &region, &sizes)?;
     assert!(rt; put.as_slice() == bytes.as_slice());
     Ok(())
@@ -402,18 +461,19 @@ fn regions_are_compared_by_their_elements(rt: HostRuntime) -> Result<(), Fail> {
         let (other, _) = ArrayRegion::take(rt.alloc(), &bytes, &sizes)?;
         assert!(rt; region != other);
     }
-    assert_eq!(rt;
-        region.into_elements().as_slice(),
-        [Value::Short(1), Value::Short(2)].as_slice()
+    expect_same(
+        &rt,
+        &region.into_elements().as_slice(),
+        &[Value::Short(1), Value::Short(2)].as_slice(),
     );
     Ok(())
 }
 
 #[test]
 fn type_tags(rt: HostRuntime) {
-    assert_eq!(rt; TypeTag::Class.byte(), 1);
-    assert_eq!(rt; TypeTag::Interface.byte(), 2);
-    assert_eq!(rt; TypeTag::Array.byte(), 3);
+    expect_same(&rt, &TypeTag::Class.byte(), &1);
+    expect_same(&rt, &TypeTag::Interface.byte(), &2);
+    expect_same(&rt, &TypeTag::Array.byte(), &3);
 }
 
 #[test]
@@ -440,14 +500,18 @@ fn values_without_their_tags(rt: HostRuntime) -> Result<(), Fail> {
     ];
     for (bytes, value) in rows {
         let tag = value.tag();
-        assert_eq!(rt; untagged_size(tag, &sizes), bytes.len());
+        expect_same(&rt, &untagged_size(tag, &sizes), &bytes.len());
         let (found, rest) = take_untagged(tag, bytes, bytes.len(), &sizes)?;
-        assert_eq!(rt; found, value);
-        assert_eq!(rt; rest.len(), 0);
-        assert_eq!(rt; pass_untagged(tag, bytes, bytes.len(), &sizes)?.len(), 0);
+        expect_same(&rt, &found, &value);
+        expect_same(&rt, &rest.len(), &0);
+        expect_same(
+            &rt,
+            &pass_untagged(tag, bytes, bytes.len(), &sizes)?.len(),
+            &0,
+        );
         let mut put = Vec::new(rt.alloc());
         put_untagged(&value, &sizes, &mut put)?;
-        assert_eq!(rt; put.as_slice(), bytes);
+        expect_same(&rt, &put.as_slice(), &bytes);
     }
     Ok(())
 }

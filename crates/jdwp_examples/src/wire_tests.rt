@@ -1,4 +1,5 @@
 //! Worked examples of data: bytes, booleans, ints, longs and strings.
+use crate::asserts::expect_same;
 use crate::rows::row;
 use jdwp_wire::{BadSize, DataFault, FrameFault, IdSizes, NoMemory, Wire};
 use std::alloc::Global;
@@ -11,9 +12,9 @@ fn written<T: Wire>(rt: &impl Abort, alloc: Global, value: &T) -> Result<Vec<u8>
     let mut bytes = Vec::new(alloc);
     bytes.push(0xee)?;
     value.put(&sizes, &mut bytes)?;
-    assert_eq!(rt; value.size(&sizes), Some(bytes.len() - 1));
+    expect_same(rt, &value.size(&sizes), &Some(bytes.len() - 1));
     let rest = T::pass_front(&bytes.as_slice()[1..], bytes.len(), &sizes)?;
-    assert_eq!(rt; rest.len(), 0);
+    expect_same(rt, &rest.len(), &0);
     Ok(bytes)
 }
 
@@ -26,53 +27,71 @@ fn taken<T: Wire>(rt: &HostRuntime, bytes: &[u8]) -> Result<Result<(T, usize), D
 #[test]
 fn every_byte_but_zero_is_true(rt: HostRuntime) -> Result<(), Fail> {
     for byte in 1..=255u8 {
-        assert_eq!(rt; taken::<bool>(&rt, &[byte, 0])?, Ok((true, 1)));
+        expect_same(&rt, &taken::<bool>(&rt, &[byte, 0])?, &Ok((true, 1)));
     }
-    assert_eq!(rt; taken::<bool>(&rt, &[0, 1])?, Ok((false, 1)));
-    assert_eq!(rt; taken::<bool>(&rt, &[])?, Err(DataFault::Short(0)));
-    assert_eq!(rt;
-        written(&rt, rt.alloc(), &true)?.as_slice(),
-        [0xee, 1].as_slice()
+    expect_same(&rt, &taken::<bool>(&rt, &[0, 1])?, &Ok((false, 1)));
+    expect_same(&rt, &taken::<bool>(&rt, &[])?, &Err(DataFault::Short(0)));
+    expect_same(
+        &rt,
+        &written(&rt, rt.alloc(), &true)?.as_slice(),
+        &[0xee, 1].as_slice(),
     );
-    assert_eq!(rt;
-        written(&rt, rt.alloc(), &false)?.as_slice(),
-        [0xee, 0].as_slice()
+    expect_same(
+        &rt,
+        &written(&rt, rt.alloc(), &false)?.as_slice(),
+        &[0xee, 0].as_slice(),
     );
     Ok(())
 }
 
 #[test]
 fn numbers(rt: HostRuntime) -> Result<(), Fail> {
-    assert_eq!(rt;
-        written(&rt, rt.alloc(), &7u8)?.as_slice(),
-        [0xee, 7].as_slice()
+    expect_same(
+        &rt,
+        &written(&rt, rt.alloc(), &7u8)?.as_slice(),
+        &[0xee, 7].as_slice(),
     );
-    assert_eq!(rt; taken::<u8>(&rt, &[255])?, Ok((255, 1)));
-    assert_eq!(rt;
-        written(&rt, rt.alloc(), &-2i32)?.as_slice(),
-        [0xee, 0xff, 0xff, 0xff, 0xfe].as_slice()
+    expect_same(&rt, &taken::<u8>(&rt, &[255])?, &Ok((255, 1)));
+    expect_same(
+        &rt,
+        &written(&rt, rt.alloc(), &-2i32)?.as_slice(),
+        &[0xee, 0xff, 0xff, 0xff, 0xfe].as_slice(),
     );
-    assert_eq!(rt; taken::<i32>(&rt, &[0x80, 0, 0, 0, 9])?, Ok((i32::MIN, 4)));
-    assert_eq!(rt; taken::<i32>(&rt, &[0x80, 0, 0])?, Err(DataFault::Short(3)));
-    assert_eq!(rt;
-        written(&rt, rt.alloc(), &258i64)?.as_slice(),
-        [0xee, 0, 0, 0, 0, 0, 0, 1, 2].as_slice()
+    expect_same(
+        &rt,
+        &taken::<i32>(&rt, &[0x80, 0, 0, 0, 9])?,
+        &Ok((i32::MIN, 4)),
     );
-    assert_eq!(rt; taken::<i64>(&rt, &[0xff; 8])?, Ok((-1, 8)));
-    assert_eq!(rt; taken::<i64>(&rt, &[0xff; 7])?, Err(DataFault::Short(7)));
+    expect_same(
+        &rt,
+        &taken::<i32>(&rt, &[0x80, 0, 0])?,
+        &Err(DataFault::Short(3)),
+    );
+    expect_same(
+        &rt,
+        &written(&rt, rt.alloc(), &258i64)?.as_slice(),
+        &[0xee, 0, 0, 0, 0, 0, 0, 1, 2].as_slice(),
+    );
+    expect_same(&rt, &taken::<i64>(&rt, &[0xff; 8])?, &Ok((-1, 8)));
+    expect_same(
+        &rt,
+        &taken::<i64>(&rt, &[0xff; 7])?,
+        &Err(DataFault::Short(7)),
+    );
     Ok(())
 }
 
 #[test]
 fn strings(rt: HostRuntime) -> Result<(), Fail> {
     let text = String::from_str(rt.alloc(), "né")?;
-    assert_eq!(rt;
-        written(&rt, rt.alloc(), &text)?.as_slice(),
-        [0xee, 0, 0, 0, 3, 0x6e, 0xc3, 0xa9].as_slice()
+    expect_same(
+        &rt,
+        &written(&rt, rt.alloc(), &text)?.as_slice(),
+        &[0xee, 0, 0, 0, 3, 0x6e, 0xc3, 0xa9].as_slice(),
     );
     let (back, used) = taken::<String>(&rt, &[0, 0, 0, 3, 0x6e, 0xc3, 0xa9, 0x21])??;
-    assert_eq!(rt; back.as_str(), "né");
-    assert_eq!(rt; used, 7);
+    expect_same(&rt, &back.as_str(), &"né");
+    expect_same(&rt, &used, &7);
     let sizes = IdSizes::new(1, 1, 1, 1, 1)?;
     let rows: [(&[u8], DataFault, u16); 6] = [
         row((&[0x7f, 0xff, 0xff, 0xff], DataFault::Short(4), 11)),
@@ -85,17 +104,17 @@ fn strings(rt: HostRuntime) -> Result<(), Fail> {
     for (bytes, wanted, number) in rows {
         match taken::<String>(&rt, bytes)? {
             Ok(_) => assert!(rt; false, "no fault"),
-            Err(fault) => assert_eq!(rt; fault, wanted),
+            Err(fault) => expect_same(&rt, &fault, &wanted),
         }
         match String::pass_front(bytes, bytes.len(), &sizes) {
             Ok(_) => assert!(rt; false, "no fault"),
-            Err(fault) => assert_eq!(rt; fault, wanted),
+            Err(fault) => expect_same(&rt, &fault, &wanted),
         }
-        assert_eq!(rt; wanted.number(), number);
+        expect_same(&rt, &wanted.number(), &number);
     }
     let (none, used) = taken::<String>(&rt, &[0, 0, 0, 0, 9])??;
     assert!(rt; none.as_str().is_empty());
-    assert_eq!(rt; used, 4);
+    expect_same(&rt, &used, &4);
     Ok(())
 }
 
@@ -108,7 +127,7 @@ fn a_long_string(rt: HostRuntime) -> Result<(), Fail> {
     let bytes = written(&rt, rt.alloc(), &text)?;
     assert_eq!(rt; bytes.len(), 120_005);
     let (back, used) = taken::<String>(&rt, &bytes.as_slice()[1..])??;
-    assert_eq!(rt; used, 120_004);
+    expect_same(&rt, &used, &120_004);
     assert!(rt; back.as_str() == text.as_str());
     Ok(())
 }
@@ -143,13 +162,14 @@ fn texts_of_faults(rt: HostRuntime) -> Result<(), Fail> {
         row((DataFault::NoMemory, 18, "fault 18: no memory")),
     ];
     for (fault, number, text) in rows {
-        assert_eq!(rt; fault.number(), number);
-        assert_eq!(rt; fault.to_string(rt.alloc())?.as_str(), text);
+        expect_same(&rt, &fault.number(), &number);
+        expect_same(&rt, &fault.to_string(rt.alloc())?.as_str(), &text);
     }
-    assert_eq!(rt; NoMemory.to_string(rt.alloc())?.as_str(), "no memory");
-    assert_eq!(rt;
-        BadSize.to_string(rt.alloc())?.as_str(),
-        "an id has 1 to 8 bytes"
+    expect_same(&rt, &NoMemory.to_string(rt.alloc())?.as_str(), &"no memory");
+    expect_same(
+        &rt,
+        &BadSize.to_string(rt.alloc())?.as_str(),
+        &"an id has 1 to 8 bytes",
     );
     Ok(())
 }
@@ -179,8 +199,8 @@ fn texts_of_frame_faults(rt: HostRuntime) -> Result<(), Fail> {
         )),
     ];
     for (fault, number, text) in rows {
-        assert_eq!(rt; fault.number(), number);
-        assert_eq!(rt; fault.to_string(rt.alloc())?.as_str(), text);
+        expect_same(&rt, &fault.number(), &number);
+        expect_same(&rt, &fault.to_string(rt.alloc())?.as_str(), &text);
     }
     Ok(())
 }

@@ -4,18 +4,10 @@
 #![tactic(auto)]
 
 mod attaching;
-#[cfg(test)]
-mod attaching_tests;
 mod captures;
 mod fault;
 mod outcome;
-#[cfg(test)]
-mod plan_tests;
 mod printing;
-#[cfg(test)]
-mod session_tests;
-#[cfg(test)]
-mod tests;
 mod values;
 
 pub use attaching::{attach_plan, attach_session};

@@ -23,3 +23,9 @@ returns-then-not-write_all-clause-fails g c = λ _.
 
 pub returns-clause-all : goal.returns-clause-all
 returns-clause-all g c = grind (arith, common_steps)
+
+pub loop-debugger-smaller : goal.loop-debugger-smaller
+loop-debugger-smaller c = grind (arith, common_steps)
+
+pub loop-debugger-preserved : goal.loop-debugger-preserved
+loop-debugger-preserved c = grind (arith, common_steps)

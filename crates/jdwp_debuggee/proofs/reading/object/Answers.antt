@@ -4,3 +4,6 @@ use Rattle.jdwp_debuggee.proofs.reading.object.Goals as goal
 
 pub returns-in-Ok : goal.returns-in-Ok
 returns-in-Ok c = grind (arith, common_steps)
+
+pub returns-in-Ok-2 : goal.returns-in-Ok-2
+returns-in-Ok-2 c = grind (arith, common_steps)

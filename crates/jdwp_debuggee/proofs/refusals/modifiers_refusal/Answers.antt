@@ -1,4 +1,5 @@
-use Rattle.std.proofs.Common.{◌<◌, length, sym, ◌∙◌}
+use Rattle.std.proofs.lemmas.Grind.{common_steps}
+use Rattle.std.proofs.Common.{◌<◌, length, sym, ◌∙◌, arith}
 use Rattle.jdwp_debuggee.specs.RefusalParts.{moment_of}
 use Rattle.jdwp_debuggee.proofs.Refused.{passed_one, asked_later, not_some}
 use Rattle.jdwp_debuggee.proofs.refusals.modifiers_refusal.Goals as goal
@@ -13,3 +14,12 @@ loop-modifier-preserved g c =
           ∙ c.loop-modifier.invariant.same;
       left = λ later. c.loop-modifier.invariant.left (asked_later c.args.modifiers.now c.loop-modifier.modifier-index c.modifier-item.result within c.modifier-item.is later);
     }
+
+pub returns-in_err-refusal : goal.returns-in_err-refusal
+returns-in_err-refusal c = grind (arith, common_steps)
+
+pub returns-then-is_some : goal.returns-then-is_some
+returns-then-is_some c = grind (arith, common_steps)
+
+pub returns : goal.returns
+returns c = grind (arith, common_steps)

@@ -1,3 +1,4 @@
+use Rattle.std.proofs.lemmas.Grind.{common_steps}
 use Rattle.std.proofs.Common.{◌≡◌, ℕ, ◌+◌, ◌<◌, ◌∙◌, List, ◌++◌, [], ◌∷◌, Option, length, drop, sym, subst, ap, rules, arith, Ok}
 use Rattle.std.specs.Option.{option_map}
 use Rattle.jdwp_event.specs.Composites.{CompositeMeaning}
@@ -37,3 +38,6 @@ loop-waiting-preserved c =
     let first : required code.BadEvent (composite_in w p.body) ≡ Ok c.in_ok-composite.composite = ap (λ (bytes : List ℕ). required code.BadEvent (composite_in w bytes)) body ∙ c.in_ok-composite.ensures in
     let grown : c.push.new.self.items ≡ done ++ c.in_ok-composite.composite ∷ [] = search rules in
     all ∙ read-first done (composite_in w p.body) (composites_in w (drop (i + 1) ps)) c.in_ok-composite.composite first ∙ ap (λ (cs : List CompositeMeaning). option_map (behind cs) (composites_in w (drop (i + 1) ps))) (sym grown)
+
+pub returns : goal.returns
+returns c = grind (arith, common_steps)

@@ -1,4 +1,5 @@
-use Rattle.std.proofs.Common.{◌≡◌, ◌∙◌, ap, refl, sym, ℕ, ◌+◌, ◌<◌, ◌++◌, ◌∷◌, [], take, get_or, length, List, map, Option, Some, None}
+use Rattle.std.proofs.lemmas.Grind.{common_steps}
+use Rattle.std.proofs.Common.{◌≡◌, ◌∙◌, ap, refl, sym, ℕ, ◌+◌, ◌<◌, ◌++◌, ◌∷◌, [], take, get_or, length, List, map, Option, Some, None, arith}
 use Rattle.std.specs.Global.{Vec}
 use Rattle.std.proofs.lemmas.List.{take_more, map-append, append-nil}
 use Rattle.std.proofs.lemmas.List.Elements.{filter_map-append}
@@ -42,3 +43,6 @@ loop-entry-preserved c =
           let none = none-more (entry_meaning e) (w.in-None.ensures ∙ ap modifier_of same) in
           ap (λ (v : Vec Modifier). map modifier_meaning v.items) w.modifiers-is ∙ c.loop-entry.invariant ∙ sym (more ∙ ap (λ (ms : List ModifierMeaning). front ++ ms) none ∙ append-nil front)
     ]
+
+pub returns : goal.returns
+returns c = grind (arith, common_steps)

@@ -1,4 +1,5 @@
-use Rattle.std.proofs.Common.{◌++◌, ◌∙◌, ℕ, List, drop, take, refl}
+use Rattle.std.proofs.lemmas.Grind.{common_steps}
+use Rattle.std.proofs.Common.{◌++◌, ◌∙◌, ℕ, List, drop, take, refl, arith}
 use Rattle.jdwp_engine.proofs.Runs.{fails-after, taken-again, taken-front}
 use Rattle.jdwp_engine.proofs.serving.write_out.Goals as goal
 
@@ -16,3 +17,12 @@ returns-then-not-write_all-clause-kept g c =
     let i = c.loop-target.invariant in
     let more : List ℕ = take c.take-count.result c.loop-target.target.end.outgoing in
     (i.0 ++ more, taken-again c.args.target.now c.loop-target.target c.take-count.new.self i.0 more i.2 c.take-count.ensures.taken)
+
+pub loop-target-smaller : goal.loop-target-smaller
+loop-target-smaller c = grind (arith, common_steps)
+
+pub loop-target-preserved : goal.loop-target-preserved
+loop-target-preserved c = grind (arith, common_steps)
+
+pub returns : goal.returns
+returns c = grind (arith, common_steps)

@@ -1,3 +1,4 @@
+use Rattle.std.proofs.lemmas.Grind.{common_steps}
 use Rattle.std.proofs.Common.{ℕ, ◌+◌, ◌≤◌, List, length, sym, subst, ◌∙◌, arith, vec_capacity}
 use Rattle.std.specs.List.{flat_map}
 use Rattle.std.proofs.lemmas.Result.{err_from_is_err_and}
@@ -40,3 +41,9 @@ returns-in_err-put-clause-room c = λ room failed.
     let room_for_all = subst (λ (n : ℕ). n + length (flat_map canonical vs) ≤ vec_capacity c.args.output.now) c.args.output.now.ok.0 room in
     let next = room_more canonical c.args.output.now.items c.loop-event.output.items vs c.loop-event.event-index v (vec_capacity c.args.output.now) (vec_capacity c.loop-event.output) lt v-is before.written before.capacity room_for_all in
     c.in_err-put.ensures.room (subst (λ (n : ℕ). n + length (canonical v) ≤ vec_capacity c.loop-event.output) (sym c.loop-event.output.ok.0) next) (rw (p.1, p.2) at failed)
+
+pub returns-in_err-put-clause-err : goal.returns-in_err-put-clause-err
+returns-in_err-put-clause-err c = grind (arith, common_steps)
+
+pub returns-clause-ok : goal.returns-clause-ok
+returns-clause-ok c = grind (arith, common_steps)

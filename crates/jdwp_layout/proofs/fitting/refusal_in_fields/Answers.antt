@@ -1,4 +1,5 @@
-use Rattle.std.proofs.Common.{◌∷◌, ◌+◌, List, get_or, drop, sym, ap, ◌∙◌}
+use Rattle.std.proofs.lemmas.Grind.{common_steps}
+use Rattle.std.proofs.Common.{◌∷◌, ◌+◌, List, get_or, drop, sym, ap, ◌∙◌, arith}
 use Rattle.std.proofs.lemmas.List.{drop_more}
 use Rattle.jdwp_layout.specs.declared.item.Field.{Field}
 use Rattle.jdwp_layout.specs.declared.item.Field.TheVariants as field
@@ -16,3 +17,15 @@ returns-in-empty c =
     let more = ap (λ (fields : List Field). fields_refusal w fields left) (drop_more ks i field.Byte c.loop-field-test.true) in
     let none = ap (λ (xs : List ScalarMeaning). fields_refusal w (get_or ks i field.Byte ∷ drop (i + 1) ks) xs) (none_left scalar_meaning c.loop-field.left.now c.in-empty.len_below) in
     sym (more ∙ none) ∙ c.loop-field.invariant
+
+pub returns-then-is_some : goal.returns-then-is_some
+returns-then-is_some c = grind (arith, common_steps)
+
+pub loop-field-preserved : goal.loop-field-preserved
+loop-field-preserved c = grind (arith, common_steps)
+
+pub returns-then-is_empty : goal.returns-then-is_empty
+returns-then-is_empty c = grind (arith, common_steps)
+
+pub returns-else-is_empty : goal.returns-else-is_empty
+returns-else-is_empty c = grind (arith, common_steps)

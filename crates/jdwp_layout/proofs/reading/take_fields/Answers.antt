@@ -1,3 +1,4 @@
+use Rattle.std.proofs.lemmas.Grind.{common_steps}
 use Rattle.std.proofs.Common.{◌≡◌, ◌++◌, ◌∷◌, [], get_or, arith, inr}
 use Rattle.std.proofs.lemmas.List.{map_push}
 use Rattle.jdwp_wire.specs.Each.{with_front}
@@ -37,3 +38,9 @@ loop-field-preserved c =
       first = inr (first_kept FieldIsKept (EncodesField w) c.args.fields.now i k c.args.bytes.now c.loop-field.rest.now lt at
           (λ same. inr (begins law c.args.bytes.now c.loop-field.rest.now (scalar_meaning c.in_ok-scalar.scalar) c.in_ok-scalar.after.now (λ j. omega (arith, c.type_inv.bytes j)) c.in_ok-scalar.ensures.value same)) c.loop-field.invariant.first);
     }
+
+pub returns-in_err-scalar-clause-value : goal.returns-in_err-scalar-clause-value
+returns-in_err-scalar-clause-value c = grind (arith, common_steps)
+
+pub returns-clause-value : goal.returns-clause-value
+returns-clause-value c = grind (arith, common_steps)

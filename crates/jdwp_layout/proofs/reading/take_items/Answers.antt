@@ -1,3 +1,4 @@
+use Rattle.std.proofs.lemmas.Grind.{common_steps}
 use Rattle.std.proofs.Common.{◌≡◌, ◌++◌, ◌∷◌, [], ◌<◌, length, get_or, sym, arith, inr}
 use Rattle.std.proofs.lemmas.Result.{err_from_is_err_and}
 use Rattle.std.proofs.lemmas.List.{map_push, get_or-map, length-map}
@@ -48,3 +49,9 @@ returns-in_err-push-clause-memory c = λ failed.
     let below : i < length (shapes c.args.items.now) = rw (length-map c.args.items.now item_shape) lt in
     first_kept (ItemIsKept c.args.sizes.now) (EncodesItem c.args.sizes.now) (shapes c.args.items.now) i k c.args.bytes.now c.loop-item.rest.now below (sym (get_or-map item_shape c.args.items.now i d k lt))
     (λ same. inr (begins (item_codes c.args.sizes.now c.args.whole k).found c.args.bytes.now c.loop-item.rest.now (datum_meaning c.in_ok-datum.datum) c.in_ok-datum.after.now (λ j. omega (arith, c.type_inv.bytes j)) c.in_ok-datum.ensures.value same)) c.loop-item.invariant.first
+
+pub returns-in_err-datum-clause-memory : goal.returns-in_err-datum-clause-memory
+returns-in_err-datum-clause-memory c = grind (arith, common_steps)
+
+pub returns-clause-value : goal.returns-clause-value
+returns-clause-value c = grind (arith, common_steps)

@@ -1,3 +1,4 @@
+use Rattle.std.proofs.lemmas.Grind.{common_steps}
 use Rattle.std.proofs.Common.{◌≡◌, ◌+◌, ◌∷◌, drop, List, sym, ap, subst, ◌∙◌, arith}
 use Rattle.std.specs.Global.{Vec}
 use Rattle.std.proofs.lemmas.Result.{err_from_is_err_and}
@@ -46,3 +47,9 @@ loop-scalars-preserved c =
       progress = all_go_on (EncodesEntry w e) (entry_canonical w) (entry_refusal w e) xs c.args.output.now.items (entry_meaning v) (entry_meanings (drop (i + 1) vs)) now c.put_entry.new.output.items one.0 (entry_unrefused w e (entry_canonical w (entry_meaning v)) (entry_meaning v) one.0) one.1 p;
       capacity = (let a = c.loop-scalars.invariant.capacity in let b = c.in_ok-put_entry.ensures.capacity in omega (arith, a, b));
     }
+
+pub returns-in_err-put_entry-clause-room : goal.returns-in_err-put_entry-clause-room
+returns-in_err-put_entry-clause-room c = grind (arith, common_steps)
+
+pub returns-clause-ok : goal.returns-clause-ok
+returns-clause-ok c = grind (arith, common_steps)

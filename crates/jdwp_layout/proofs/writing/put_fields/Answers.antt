@@ -1,3 +1,4 @@
+use Rattle.std.proofs.lemmas.Grind.{common_steps}
 use Rattle.std.proofs.Common.{◌+◌, ◌-◌, ◌∷◌, length, get_or, take, drop, arith}
 use Rattle.std.proofs.lemmas.Result.{err_from_is_err_and}
 use Rattle.std.proofs.lemmas.List.{drop_more}
@@ -53,3 +54,12 @@ loop-field-preserved c =
       progress = each_go_on (EncodesField w) (scalar_canonical w) (field_refusal w) ks xs c.args.output.now.items k (drop (i + 1) c.args.fields.now) (scalar_meaning v) (scalar_meanings (take (length left - 1) (drop 1 left))) now c.put_field.new.output.items one.0 (field_unrefused w k (scalar_canonical w (scalar_meaning v)) (scalar_meaning v) one.0) one.1 p;
       capacity = (let a = c.loop-field.invariant.capacity in let b = c.in_ok-put_field-in-len1-up.ensures.capacity in omega (arith, a, b));
     }
+
+pub returns-in_err-put_field-in-len1-up-clause-room : goal.returns-in_err-put_field-in-len1-up-clause-room
+returns-in_err-put_field-in-len1-up-clause-room c = grind (arith, common_steps)
+
+pub returns-then-is_empty-clause-ok : goal.returns-then-is_empty-clause-ok
+returns-then-is_empty-clause-ok c = grind (arith, common_steps)
+
+pub returns-else-is_empty-clause-err : goal.returns-else-is_empty-clause-err
+returns-else-is_empty-clause-err c = grind (arith, common_steps)

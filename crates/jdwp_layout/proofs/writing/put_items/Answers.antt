@@ -1,3 +1,4 @@
+use Rattle.std.proofs.lemmas.Grind.{common_steps}
 use Rattle.std.proofs.Common.{◌+◌, ◌-◌, ◌∷◌, length, get_or, take, drop, arith}
 use Rattle.std.proofs.lemmas.Result.{err_from_is_err_and}
 use Rattle.std.proofs.lemmas.List.{drop_more}
@@ -56,3 +57,12 @@ loop-item-preserved c =
       progress = each_go_on (EncodesItem w) (datum_canonical w) (item_refusal w) ks xs c.args.output.now.items k (shapes (drop (i + 1) c.args.items.now)) (datum_meaning v) (meanings (take (length left - 1) (drop 1 left))) now c.put_item.new.output.items one.0 (item_unrefused w k (datum_canonical w (datum_meaning v)) (datum_meaning v) one.0) one.1 p;
       capacity = (let a = c.loop-item.invariant.capacity in let b = c.in_ok-put_item-in-len1-up.ensures.capacity in omega (arith, a, b));
     }
+
+pub returns-in_err-put_item-in-len1-up-clause-room : goal.returns-in_err-put_item-in-len1-up-clause-room
+returns-in_err-put_item-in-len1-up-clause-room c = grind (arith, common_steps)
+
+pub returns-then-not-is_empty-clause-err : goal.returns-then-not-is_empty-clause-err
+returns-then-not-is_empty-clause-err c = grind (arith, common_steps)
+
+pub returns-clause-ok : goal.returns-clause-ok
+returns-clause-ok c = grind (arith, common_steps)

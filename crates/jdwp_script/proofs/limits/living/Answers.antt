@@ -1,3 +1,4 @@
+use Rattle.std.proofs.lemmas.Grind.{common_steps}
 use Rattle.std.proofs.Common.{◌≡◌, ◌+◌, ℕ, List, [], map, drop, not, sym, ap, ◌∙◌, arith}
 use Rattle.std.specs.List.{count_by}
 use Rattle.std.proofs.lemmas.List.{drop_all}
@@ -16,3 +17,6 @@ returns c =
     let same = c.loop-thread.invariant.same in
     let all : c.loop-thread.count ≡ counted c.args.threads.now = omega (arith, none, same) in
     all ∙ living_count set (map thread_part c.args.threads.now) c.deref.result.now c.in_ok-started.ensures (c.deref.ensures.value ∙ c.in_ok-started_threads.ensures)
+
+pub loop-thread-preserved : goal.loop-thread-preserved
+loop-thread-preserved c = grind (arith, common_steps)

@@ -1,4 +1,5 @@
-use Rattle.std.proofs.Common.{◌≡◌, ◌++◌, ◌∷◌, [], ◌<◌, length, map}
+use Rattle.std.proofs.lemmas.Grind.{common_steps}
+use Rattle.std.proofs.Common.{◌≡◌, ◌++◌, ◌∷◌, [], ◌<◌, length, map, arith}
 use Rattle.std.proofs.lemmas.Result.{err_from_is_err_and}
 use Rattle.std.proofs.lemmas.List.{map_push, length-map}
 use Rattle.serde_json.specs.View.{view}
@@ -28,3 +29,6 @@ loop-value-preserved g c =
     let below : i < length ks = rw (length-map c.args.list.now view) lt in
     let e : map g.T.Part.meaning c.push.new.self.items ≡ map g.T.Part.meaning c.loop-value.parts.items ++ g.T.Part.meaning x ∷ [] = rw c.in_ok-push.ensures.items (map_push _ c.loop-value.parts.items x) in
     rw e (each_go_on read (map g.T.Part.meaning c.loop-value.parts.items) ks i (view v) (g.T.Part.meaning x) (each_of read ks) below (at_map view c.args.list.now i v lt c.value-item.is) c.in_ok-part.ensures c.loop-value.invariant)
+
+pub returns : goal.returns
+returns g c = grind (arith, common_steps)

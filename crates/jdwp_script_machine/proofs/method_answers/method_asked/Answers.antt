@@ -1,4 +1,5 @@
-use Rattle.std.proofs.Common.{◌≡◌, List, map, Some, ap, ◌∙◌}
+use Rattle.std.proofs.lemmas.Grind.{common_steps}
+use Rattle.std.proofs.Common.{◌≡◌, List, map, Some, ap, ◌∙◌, arith}
 use Rattle.jdwp_layout.specs.declared.datum.Datum.TheVariants as datum
 use Rattle.jdwp_layout.specs.declared.datum.Scalar.{Scalar}
 use Rattle.jdwp_layout.specs.declared.datum.Scalar.TheVariants as scalar
@@ -17,3 +18,6 @@ returns-in-Some-method_by_id c = λ answer.
     let among = λ (ms : List Method). with_id (λ (x : MethodPart). x.id) named.id.0 (map method_part ms) in
     method_named answer (class_part c.args.class.now) c.args.content.now c.in-Some.first.now c.in-Some.rest.now named.id (Some (method_part c.in-Some-method_by_id.method.now))
     c.in-Some.ensures.cases.0 first (c.in-Some-method_by_id.ensures ∙ ap among c.deref.ensures.value)
+
+pub returns-in_default : goal.returns-in_default
+returns-in_default c = grind (arith, common_steps)

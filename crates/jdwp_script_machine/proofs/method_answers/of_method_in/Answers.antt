@@ -1,4 +1,5 @@
-use Rattle.std.proofs.Common.{◌≡◌, IfOk, IfErr, IsTrue, sym, ◌∙◌, subst}
+use Rattle.std.proofs.lemmas.Grind.{common_steps}
+use Rattle.std.proofs.Common.{◌≡◌, IfOk, IfErr, IsTrue, sym, ◌∙◌, subst, arith}
 use Rattle.jdwp_layout.specs.declared.answer.Answer.{Answer}
 use Rattle.jdwp_script.specs.Meanings.{method_part}
 use Rattle.jdwp_script_machine.specs.Requests.{alone}
@@ -16,3 +17,6 @@ returns-in-Ok-default-empty c =
       value = subst (λ (x : Answer). IfOk c.method_answer_to.result (λ a. a ≡ x)) (sym same) c.method_answer_to.ensures.value;
       memory = subst (λ (x : Answer). IfErr c.method_answer_to.result (λ _. IsTrue (takes_memory x))) (sym same) c.method_answer_to.ensures.memory;
     }
+
+pub returns-in-Ok : goal.returns-in-Ok
+returns-in-Ok c = grind (arith, common_steps)

@@ -1,4 +1,5 @@
-use Rattle.std.proofs.Common.{◌∙◌, ap, Bool}
+use Rattle.std.proofs.lemmas.Grind.{common_steps}
+use Rattle.std.proofs.Common.{◌∙◌, ap, Bool, arith}
 use Rattle.jdwp_script.specs.declared.script.Thread.{Thread}
 use Rattle.jdwp_script.specs.Meanings.{thread_part, script_part}
 use Rattle.jdwp_script_machine.specs.States.{opening_thread}
@@ -17,3 +18,6 @@ loop-thread-preserved c =
     let waits = c.contains-is_started.ensures ∙ c.requires id in
     let here = c.opening_thread.ensures ∙ (ap (λ (b : Bool). thread_at_opening id b) waits ∙ ap (λ (x : Thread). opening_thread script (thread_part x)) is) in
     pushed thread_now (opening_thread script) thread_part c.loop-thread.threads.items c.push.new.self.items c.args.script.now.threads.items c.loop-thread.thread-index c.opening_thread.result c.thread-item.result lt c.loop-thread.invariant here c.in_ok-push.ensures.items
+
+pub returns : goal.returns
+returns c = grind (arith, common_steps)

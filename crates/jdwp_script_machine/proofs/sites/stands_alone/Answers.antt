@@ -1,3 +1,4 @@
+use Rattle.std.proofs.lemmas.Grind.{common_steps}
 use Rattle.std.proofs.Common.{◌≡◌, ◌∙◌, Some, ap, not, length, arith}
 use Rattle.std.proofs.lemmas.Bool.{eqb-true}
 use Rattle.std.proofs.lemmas.List.{length-map}
@@ -16,3 +17,6 @@ returns-then-is_empty c =
     let empty : vec_len ids ≡ 0 = eqb-true (vec_len ids) 0 (rw c.is_empty.ensures at c.if-is_empty.true) in
     let none : length ids.items ≡ 0 = omega (arith, empty, ids.ok.0) in
     alone_if script class (class_in script c.args.from.0) _ there (length-map ids.items _ ∙ none) (ap not c.has_class.ensures)
+
+pub returns-else-is_empty : goal.returns-else-is_empty
+returns-else-is_empty c = grind (arith, common_steps)

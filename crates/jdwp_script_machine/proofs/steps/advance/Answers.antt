@@ -1,3 +1,4 @@
+use Rattle.std.proofs.lemmas.Grind.{common_steps}
 use Rattle.std.proofs.Common.{◌∙◌, ◌<◌, List, length, map, refl, ap, arith}
 use Rattle.std.proofs.lemmas.Result.{err_from_is_err_and}
 use Rattle.jdwp_script.specs.Meanings.{step_part}
@@ -19,3 +20,12 @@ returns-then-entry-thread-clause-ok c =
     let lt : c.loop-entry.entry-index < length c.loop-entry.threads = omega arith in
     put_first thread_now (λ (e : ThreadNow). e.id) c.args.thread.0 (after_step (step_part c.args.step.now)) c.loop-entry.threads c.loop-entry.entry-index _ c.entry-item.result lt c.if-entry-thread.true (rw c.in_ok-change_frames.ensures.ok refl)
     ∙ c.loop-entry.invariant.first
+
+pub overflow_add-entry : goal.overflow_add-entry
+overflow_add-entry c = grind (arith, common_steps)
+
+pub loop-entry-preserved : goal.loop-entry-preserved
+loop-entry-preserved c = grind (arith, common_steps)
+
+pub returns : goal.returns
+returns c = grind (arith, common_steps)

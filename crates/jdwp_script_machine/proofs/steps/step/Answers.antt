@@ -1,3 +1,4 @@
+use Rattle.std.proofs.lemmas.Grind.{common_steps}
 use Rattle.std.proofs.Common.{◌≡◌, ◌∙◌, List, length, map, ap, sym, subst, arith}
 use Rattle.std.proofs.lemmas.List.{with_items_is}
 use Rattle.jdwp_script.specs.Meanings.{step_part}
@@ -23,3 +24,6 @@ returns-clause-ok c =
 pub returns-clause-sound : goal.returns-clause-sound
 returns-clause-sound c =
     subst (λ (s : State). IsSound s) (sym (returns-clause-ok c)) (stepped_sound (state_now c.args.state.now) c.args.thread.0 c.requires.sound c.requires.runs)
+
+pub returns-in_err-make : goal.returns-in_err-make
+returns-in_err-make c = grind (arith, common_steps)

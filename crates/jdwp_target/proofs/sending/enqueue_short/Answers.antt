@@ -1,4 +1,5 @@
-use Rattle.std.proofs.Common.{◌∙◌, ap, sym, refl, ℕ, pos, List}
+use Rattle.std.proofs.lemmas.Grind.{common_steps}
+use Rattle.std.proofs.Common.{◌∙◌, ap, sym, refl, ℕ, pos, List, arith}
 use Rattle.jdwp_end.specs.Ends.{with_enqueued}
 use Rattle.jdwp_wire.specs.Basic.{int_canonical}
 use Rattle.jdwp_wire.specs.Streams.{message_bytes}
@@ -24,3 +25,33 @@ returns-in-Sizes c =
     (two_enqueued _ _ _ _ _ _ _ object refl c.enqueue_int-in-Sizes-3.ensures
     (two_enqueued _ _ _ _ _ _ _ reference frame c.enqueue_int-in-Sizes-4.ensures c.enqueue_int-in-Sizes-5.ensures))))
     ∙ ap (λ (a : Reply). with_enqueued (message_bytes (reply_to c.args.sizes.now c.args.id (reply_meaning a))) c.args.end.now) (sym c.in-Sizes.is)
+
+pub enqueue_int-requires : goal.enqueue_int-requires
+enqueue_int-requires c = grind (arith, common_steps)
+
+pub enqueue_int-requires-in-Status : goal.enqueue_int-requires-in-Status
+enqueue_int-requires-in-Status c = grind (arith, common_steps)
+
+pub enqueue_int-requires-in-Status-2 : goal.enqueue_int-requires-in-Status-2
+enqueue_int-requires-in-Status-2 c = grind (arith, common_steps)
+
+pub enqueue_int-requires-in-Sizes : goal.enqueue_int-requires-in-Sizes
+enqueue_int-requires-in-Sizes c = grind (arith, common_steps)
+
+pub enqueue_int-requires-in-Sizes-2 : goal.enqueue_int-requires-in-Sizes-2
+enqueue_int-requires-in-Sizes-2 c = grind (arith, common_steps)
+
+pub enqueue_int-requires-in-Sizes-3 : goal.enqueue_int-requires-in-Sizes-3
+enqueue_int-requires-in-Sizes-3 c = grind (arith, common_steps)
+
+pub enqueue_int-requires-in-Sizes-4 : goal.enqueue_int-requires-in-Sizes-4
+enqueue_int-requires-in-Sizes-4 c = grind (arith, common_steps)
+
+pub enqueue_int-requires-in-Sizes-5 : goal.enqueue_int-requires-in-Sizes-5
+enqueue_int-requires-in-Sizes-5 c = grind (arith, common_steps)
+
+pub returns-in-Number : goal.returns-in-Number
+returns-in-Number c = grind (arith, common_steps)
+
+pub returns-after-count-eq0 : goal.returns-after-count-eq0
+returns-after-count-eq0 c = grind (arith, common_steps)

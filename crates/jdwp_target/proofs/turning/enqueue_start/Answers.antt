@@ -1,3 +1,4 @@
+use Rattle.std.proofs.lemmas.Grind.{common_steps}
 use Rattle.std.proofs.Common.{◌∙◌, ◌≡◌, ◌≤◌, ap, sym, refl, arith, ℕ, pos, ◌+◌, List, ◌∷◌, [], ◌++◌, length}
 use Rattle.byteorder.specs.Endian.{big_bytes}
 use Rattle.byteorder.specs.Numbers.{length-bytes_high_first}
@@ -45,3 +46,15 @@ returns c =
     (two_enqueued _ _ _ _ _ (90 ∷ []) (int_bytes 0 ++ thread) same_kind refl c.put-2.ensures
     (two_enqueued _ _ _ _ _ (int_bytes 0) thread refl refl c.enqueue_int-2.ensures c.put-3.ensures))))
     ∙ ap (λ (x : List ℕ). with_enqueued x c.args.end.now) (sym (start-bytes c.args.sizes.now c.args.start.packet policy c.args.start.thread.0))
+
+pub put-requires : goal.put-requires
+put-requires c = grind (arith, common_steps)
+
+pub enqueue_int-requires : goal.enqueue_int-requires
+enqueue_int-requires c = grind (arith, common_steps)
+
+pub put-requires-2 : goal.put-requires-2
+put-requires-2 c = grind (arith, common_steps)
+
+pub enqueue_int-requires-2 : goal.enqueue_int-requires-2
+enqueue_int-requires-2 c = grind (arith, common_steps)

@@ -1,4 +1,5 @@
-use Rattle.std.proofs.Common.{◌≡◌, ◌∙◌, ℕ, refl, ap, sym, rules, true, false}
+use Rattle.std.proofs.lemmas.Grind.{common_steps}
+use Rattle.std.proofs.Common.{◌≡◌, ◌∙◌, ℕ, refl, ap, sym, rules, true, false, arith}
 use Rattle.std.proofs.lemmas.List.{append-nil}
 use Rattle.jdwp_wire.specs.Handshake.{handshake_bytes}
 use Rattle.jdwp_wire.specs.Streams.{message_bytes}
@@ -27,3 +28,6 @@ pub returns-in_default-clause-end : goal.returns-in_default-clause-end
 returns-in_default-clause-end g c =
     let on : c.args.debuggee.now.moment.state.handshaken ≡ true = search rules in
     rw on c.enqueue.ensures
+
+pub enqueue_start-requires : goal.enqueue_start-requires
+enqueue_start-requires c = grind (arith, common_steps)

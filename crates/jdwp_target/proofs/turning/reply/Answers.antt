@@ -1,4 +1,5 @@
-use Rattle.std.proofs.Common.{◌≡◌, ◌∙◌, ◌∷◌, ap}
+use Rattle.std.proofs.lemmas.Grind.{common_steps}
+use Rattle.std.proofs.Common.{◌≡◌, ◌∙◌, ◌∷◌, ap, arith}
 use Rattle.jdwp_wire.specs.Streams.{stream}
 use Rattle.jdwp_end.specs.Ends.{End, with_enqueued}
 use Rattle.jdwp_end.specs.Ends as ends
@@ -24,3 +25,6 @@ returns-else-done-2-clause-end g c =
       | else-done w ↦ w.end-is ∙ put-alone c.args.end.now c.enqueue_reply.new.end c.args.sizes.now c.args.id c.args.debuggee.now.moment.state.next_packet c.args.done.now.sent c.args.done.now.dies w.if-done.false c.enqueue_reply.ensures
     ] in
     rw c.if-done-2.false put
+
+pub enqueue_death-requires : goal.enqueue_death-requires
+enqueue_death-requires c = grind (arith, common_steps)

@@ -10,3 +10,9 @@ returns-clause-ok c = grind (arith, common_steps)
 
 pub returns-clause-room : goal.returns-clause-room
 returns-clause-room c = grind (arith, common_steps)
+
+pub returns-in_err-push : goal.returns-in_err-push
+returns-in_err-push c = grind (arith, common_steps)
+
+pub returns-in_err-put : goal.returns-in_err-put
+returns-in_err-put c = grind (arith, common_steps)

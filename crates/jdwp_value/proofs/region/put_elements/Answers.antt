@@ -1,3 +1,4 @@
+use Rattle.std.proofs.lemmas.Grind.{common_steps}
 use Rattle.std.proofs.Common.{ℕ, ◌+◌, ◌≤◌, length, get_or, sym, subst, ◌∙◌, arith, vec_capacity}
 use Rattle.std.specs.List.{flat_map}
 use Rattle.std.proofs.lemmas.Result.{err_from_is_err_and}
@@ -41,3 +42,9 @@ returns-in_err-put_element-clause-room c = λ room failed.
     let room_for_all = subst (λ (n : ℕ). n + length all ≤ vec_capacity c.args.output.now) c.args.output.now.ok.0 room in
     let next = room_more canonical c.args.output.now.items c.loop-value.output.items c.args.values.now c.loop-value.value-index v (vec_capacity c.args.output.now) (vec_capacity c.loop-value.output) c.loop-value-test.true v-is before.written before.capacity room_for_all in
     c.in_err-put_element.ensures.room (subst (λ (n : ℕ). n + length (canonical v) ≤ vec_capacity c.loop-value.output) (sym c.loop-value.output.ok.0) next) (rw (p.1, p.2) at failed)
+
+pub put_element-requires : goal.put_element-requires
+put_element-requires c = grind (arith, common_steps)
+
+pub returns : goal.returns
+returns c = grind (arith, common_steps)

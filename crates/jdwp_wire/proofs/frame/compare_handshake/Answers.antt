@@ -1,4 +1,4 @@
-use Rattle.std.proofs.Common.{◌≡◌, ◌∙◌, sym, arith, false, true, eqb, get_or}
+use Rattle.std.proofs.Common.{◌≡◌, ◌∙◌, sym, arith, false, true, eqb, get_or, rules}
 use Rattle.std.proofs.lemmas.Bool.Decides.{nat_tests}
 use Rattle.jdwp_wire.specs.declared.frame.TheConstants.{HANDSHAKE}
 use Rattle.jdwp_wire.proofs.HandshakeSteps.{step_on, runs_out}
@@ -23,3 +23,6 @@ loop-place-preserved c =
 
 pub returns : goal.returns
 returns c = grind (arith, common_steps)
+
+pub loop-place-init : goal.loop-place-init
+loop-place-init c = search rules

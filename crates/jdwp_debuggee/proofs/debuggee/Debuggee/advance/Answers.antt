@@ -1,4 +1,5 @@
-use Rattle.std.proofs.Common.{rules, ◌≡◌, ◌∙◌, ap}
+use Rattle.std.proofs.lemmas.Grind.{common_steps}
+use Rattle.std.proofs.Common.{rules, ◌≡◌, ◌∙◌, ap, arith}
 use Rattle.jdwp_event.specs.Occurrences.{started}
 use Rattle.jdwp_debuggee.specs.StepParts.{with_new}
 use Rattle.jdwp_debuggee.proofs.KeptSteps.{kept-report, most-started}
@@ -16,3 +17,9 @@ invariant_of-self-2 g c =
     let sends = rw (← c.self.view_is) at c.requires.sends in
     rw (c.suspend_for.ensures, threads, c.count_gathered.ensures sends, c.id_after-self-inside.ensures, c.thread.ensures, machine)
     (kept-report g.M.Machine.meaning g.met.M.Machine.lawful _ c.args.thread.0 c.args.happening.now c.args.sends c.self.invariant (rw (← c.self.view_is) at c.requires.may) (rw (← c.self.view_is) at c.requires.unmarked) (rw (← c.self.view_is) at c.requires.next) c.requires.runs_on sends)
+
+pub invariant_of-self-in-Err : goal.invariant_of-self-in-Err
+invariant_of-self-in-Err c = grind (arith, common_steps)
+
+pub returns-in-Err : goal.returns-in-Err
+returns-in-Err c = grind (arith, common_steps)

@@ -3,12 +3,6 @@ use Rattle.jdwp_debuggee.specs.Debuggees.{Debuggee, IsKept}
 use Rattle.jdwp_debuggee.proofs.Fitting.{steps-fit}
 use Rattle.jdwp_debuggee.proofs.debuggee.Debuggee.step.Goals as goal
 
-pub returns-then-has_run_out-clause-fits : goal.returns-then-has_run_out-clause-fits
-returns-then-has_run_out-clause-fits g c =
-    let m = g.M.Machine.meaning in
-    let kept = subst (λ (d : Debuggee g.row.M.Denot). IsKept m d) c.self.view_is c.self.invariant in
-    steps-fit m g.met.M.Machine.lawful _ _ c.args.thread.0 _ kept c.run_out.ensures
-
 pub returns-clause-fits : goal.returns-clause-fits
 returns-clause-fits g c =
     let m = g.M.Machine.meaning in

@@ -1,4 +1,5 @@
-use Rattle.std.proofs.Common.{◌≡◌, ◌∙◌, ap, subst, sym}
+use Rattle.std.proofs.lemmas.Grind.{common_steps}
+use Rattle.std.proofs.Common.{◌≡◌, ◌∙◌, ap, subst, sym, arith}
 use Rattle.jdwp_wire.specs.Bytes.{IsBytes}
 use Rattle.jdwp_wire.specs.Streams.{Packet, Whole}
 use Rattle.jdwp_end.specs.Ends.{front_of, with_handled}
@@ -21,3 +22,6 @@ invariant_of-self c =
     let read : c.take_off.new.self ≡ with_handled (Packet header content) used s.end = c.take_off.ensures (Packet header content) front in
     rw read
     (record { limits = kept.limits; few = kept.few; few_parked = kept.few_parked; begins = λ e. absurd cc; ran = ran-read s.end header content used bytes front kept.ran })
+
+pub push-requires : goal.push-requires
+push-requires c = grind (arith, common_steps)

@@ -21,3 +21,9 @@ returns-in-Whole-clause-front c = search rules
 
 pub returns-in-Fault-clause-front : goal.returns-in-Fault-clause-front
 returns-in-Fault-clause-front c = search rules
+
+pub returns-in-More-next_packet_within-clause-front : goal.returns-in-More-next_packet_within-clause-front
+returns-in-More-next_packet_within-clause-front c = search rules
+
+pub returns-in-Fault-next_packet_within-clause-front : goal.returns-in-Fault-next_packet_within-clause-front
+returns-in-Fault-next_packet_within-clause-front c = search rules

@@ -1,3 +1,4 @@
+use Rattle.std.proofs.lemmas.Grind.{common_steps}
 use Rattle.std.proofs.Common.{◌≡◌, ◌∙◌, length, sym, ap, subst, arith}
 use Rattle.std.proofs.lemmas.List.{length-map, with_items_is}
 use Rattle.jdwp_script_machine.specs.States.{State}
@@ -18,3 +19,6 @@ invariant_of-self c =
     machine_is (state_now c.end.new.state) places _ c.list_living-self-inside.result c.self.inside.sizes (with_items_is c.self.inside.live places full)
     (subst (λ (r : State). IsSound r) (sym c.end.ensures) (ended_sound s c.args.thread.0 c.self.invariant.sound))
     (rw c.deref.ensures.value at c.list_living-self-inside.ensures.value) c.list_living-self-inside.ensures.within (kept ∙ (c.self.invariant.room ∙ sym few)) (c.self.invariant.sizes ∙ sym widths)
+
+pub list_living-self-inside-requires : goal.list_living-self-inside-requires
+list_living-self-inside-requires c = grind (arith, common_steps)

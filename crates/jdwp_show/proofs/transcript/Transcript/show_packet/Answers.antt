@@ -1,3 +1,4 @@
+use Rattle.std.proofs.lemmas.Grind.{common_steps}
 use Rattle.std.proofs.Common.{◌≡◌, eqb, true, refl, ap, ◌∙◌, Option, List, arith}
 use borrow.Author.Tests.{eq-eqb}
 use Rattle.jdwp_layout.specs.Shapes.{ItemShape}
@@ -22,3 +23,9 @@ show_body-requires-in-Some c =
           ∙ reply_sound c.args.sizes c.in-Some.command c.args.sender c.args.packet.now.header body c.in-Reply.error (rw c.in-Some.is at c.requires) c.in-Reply.is none)
       | in_default w ↦ rw w.layout-is refl
     ]
+
+pub returns-in_ok-push_command_start-in-Command : goal.returns-in_ok-push_command_start-in-Command
+returns-in_ok-push_command_start-in-Command c = grind (arith, common_steps)
+
+pub returns-after-error : goal.returns-after-error
+returns-after-error c = grind (arith, common_steps)

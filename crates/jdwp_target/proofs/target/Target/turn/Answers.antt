@@ -1,4 +1,5 @@
-use Rattle.std.proofs.Common.{◌≡◌, ◌∙◌, rules, refl}
+use Rattle.std.proofs.lemmas.Grind.{common_steps}
+use Rattle.std.proofs.Common.{◌≡◌, ◌∙◌, rules, refl, arith}
 use Rattle.jdwp_wire.specs.Streams.{Handshake, Packet, Whole}
 use Rattle.jdwp_end.specs.Ends.{front_of}
 use Rattle.jdwp_target.specs.Insides.{target_of}
@@ -90,3 +91,9 @@ returns-in_ok-done-in-Packet g c =
 
 pub returns-in_default : goal.returns-in_default
 returns-in_default g c = search rules
+
+pub greet-requires : goal.greet-requires
+greet-requires c = grind (arith, common_steps)
+
+pub handle-requires : goal.handle-requires
+handle-requires c = grind (arith, common_steps)

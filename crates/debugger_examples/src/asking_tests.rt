@@ -1,0 +1,310 @@
+//! What asking does, and why it is refused.
+use crate::asserts::expect_same;
+use jdwp_debugger::{Command, Debugger, Refused, Ticket};
+use jdwp_layout::{Datum, Scalar};
+use jdwp_value::ObjectId;
+use jdwp_wire::HANDSHAKE;
+use std::alloc::Global;
+use std::test::Fail;
+
+/// A debugger whose session is open and that knows the widths of ids, which are all this. Its next id is 1, nothing waits, and its last
+/// turn read nothing.
+fn ready(alloc: Global, width: u8) -> Result<Debugger, Fail> {
+    let mut debugger = Debugger::new(alloc)?;
+    debugger.attach();
+    debugger.feed(&HANDSHAKE);
+    debugger.turn(alloc)?;
+    debugger.feed(&[
+        0, 0, 0, 31, 0, 0, 0, 1, 0x80, 0, 0, 0, 0, 0, width, 0, 0, 0, width, 0, 0, 0, width, 0, 0,
+        0, width, 0, 0, 0, width,
+    ]);
+    debugger.turn(alloc)?;
+    debugger.turn(alloc)?;
+    let mut out = [0; 32];
+    debugger.take(&mut out);
+    debugger.set_next_id(1);
+    Ok(debugger)
+}
+
+/// A command without data.
+fn plain(alloc: Global, set: u8, number: u8) -> Command {
+    Command::new(set, number, Vec::new(alloc))
+}
+
+/// ThreadReference.SuspendCount.
+fn count_of(alloc: Global, thread: u64) -> Result<Command, Fail> {
+    let items = vec![in alloc; Datum::One(Scalar::ObjectId(ObjectId(thread)))]?;
+    Ok(Command::new(11, 12, items))
+}
+
+/// VirtualMachine.ClassesBySignature with a signature of so many bytes.
+fn class_of(alloc: Global, length: usize) -> Result<Command, Fail> {
+    let mut signature = String::new(alloc);
+    for _ in 0..length {
+        signature.push('x')?;
+    }
+    let items = vec![in alloc; Datum::One(Scalar::String(signature))]?;
+    Ok(Command::new(1, 2, items))
+}
+
+/// Bytes as the command's data.
+fn raw(alloc: Global, set: u8, number: u8, length: usize) -> Result<Command, Fail> {
+    let mut bytes = Vec::new(alloc);
+    for _ in 0..length {
+        bytes.push(0)?;
+    }
+    Ok(Command::raw(set, number, bytes))
+}
+
+/// A command that is asked.
+#[derive(Clone, Copy)]
+enum Asks {
+    /// One without data, of a set and a number.
+    Plain(u8, u8),
+    /// The suspend count of a thread.
+    Count(u64),
+    /// The classes of a signature of so many bytes.
+    Class(usize),
+    /// So many bytes as the data of a set and a number.
+    Raw(u8, u8, usize),
+}
+
+/// What is done with a debugger, and what comes of it.
+#[derive(Clone, Copy)]
+enum Act<'a> {
+    /// The next packet has this id.
+    Next(u32),
+    /// A command is asked under this ticket.
+    Gives(Asks, u64),
+    /// A command is refused.
+    Refuses(Asks, Refused),
+    /// 64 commands are asked.
+    Fills,
+    /// These bytes leave.
+    Leaves(&'a [u8]),
+    /// So many bytes wait.
+    Waits(usize),
+    /// Whether a session begins.
+    Attaches(bool),
+    /// The connection is lost, with these tickets.
+    Loses(&'a [Ticket]),
+}
+
+fn command(alloc: Global, asks: Asks) -> Result<Command, Fail> {
+    match asks {
+        Asks::Plain(set, number) => Ok(plain(alloc, set, number)),
+        Asks::Count(thread) => count_of(alloc, thread),
+        Asks::Class(length) => class_of(alloc, length),
+        Asks::Raw(set, number, length) => raw(alloc, set, number, length),
+    }
+}
+
+/// Whether this comes of it.
+fn comes(alloc: Global, debugger: &mut Debugger, act: &Act<'_>) -> Result<bool, Fail> {
+    match act {
+        Act::Next(id) => {
+            debugger.set_next_id(*id);
+            Ok(true)
+        }
+        Act::Gives(asks, ticket) => {
+            Ok(debugger.ask(alloc, command(alloc, *asks)?) == Ok(Ticket(*ticket)))
+        }
+        Act::Refuses(asks, refused) => {
+            Ok(debugger.ask(alloc, command(alloc, *asks)?) == Err(*refused))
+        }
+        Act::Fills => Ok(fills(alloc, debugger)),
+        Act::Leaves(bytes) => Ok(leaves(debugger, bytes)),
+        Act::Waits(count) => Ok(debugger.waiting() == *count),
+        Act::Attaches(attaches) => Ok(debugger.attach() == *attaches),
+        Act::Loses(tickets) => {
+            let unanswered = tickets.len();
+            let waits = unanswered == 0 || debugger.unanswered(unanswered - 1).is_some();
+            Ok(waits && debugger.lose().as_slice() == *tickets && debugger.unanswered(0).is_none())
+        }
+    }
+}
+
+fn fills(alloc: Global, debugger: &mut Debugger) -> bool {
+    for ticket in 1..65u64 {
+        if debugger.ask(alloc, plain(alloc, 1, 8)) != Ok(Ticket(ticket)) {
+            return false;
+        }
+    }
+    true
+}
+
+/// Whether what waits to leave is these bytes; they are taken.
+fn leaves(debugger: &mut Debugger, bytes: &[u8]) -> bool {
+    let mut out = [0; 64];
+    let count = debugger.take(&mut out);
+    &out[..count] == bytes
+}
+
+/// The place, from 0, of the first act of which something else comes; None where all is as it is to be.
+fn goes_wrong_at(
+    alloc: Global,
+    debugger: &mut Debugger,
+    acts: &[Act<'_>],
+) -> Result<Option<usize>, Fail> {
+    for (place, act) in acts.iter().enumerate() {
+        if !comes(alloc, debugger, act)? {
+            return Ok(Some(place));
+        }
+    }
+    Ok(None)
+}
+
+#[test]
+fn packets_leave_in_the_order_asked(rt: HostRuntime) -> Result<(), Fail> {
+    let acts = [
+        Act::Next(2),
+        Act::Gives(Asks::Plain(1, 8), 1),
+        Act::Gives(Asks::Count(1), 2),
+        Act::Leaves(&[
+            0, 0, 0, 11, 0, 0, 0, 2, 0, 1, 8, 0, 0, 0, 19, 0, 0, 0, 3, 0, 11, 12, 0, 0, 0, 0, 0, 0,
+            0, 1,
+        ]),
+    ];
+    let mut debugger = ready(rt.alloc(), 8)?;
+    expect_same(
+        &rt,
+        &goes_wrong_at(rt.alloc(), &mut debugger, &acts)?,
+        &None,
+    );
+    let is_unchanged = debugger.last().is_empty() && debugger.mirror().known().len() == 0;
+    assert!(rt; is_unchanged);
+    let acts = [
+        Act::Loses(&[Ticket(1), Ticket(2)]),
+        Act::Attaches(true),
+        Act::Leaves(&HANDSHAKE),
+    ];
+    expect_same(
+        &rt,
+        &goes_wrong_at(rt.alloc(), &mut debugger, &acts)?,
+        &None,
+    );
+    Ok(())
+}
+
+#[test]
+fn ids_wrap_and_skip_those_that_wait(rt: HostRuntime) -> Result<(), Fail> {
+    let acts = [
+        Act::Next(4_294_967_295),
+        Act::Gives(Asks::Plain(1, 8), 1),
+        Act::Gives(Asks::Plain(1, 8), 2),
+        Act::Gives(Asks::Plain(1, 8), 3),
+        Act::Leaves(&[
+            0, 0, 0, 11, 255, 255, 255, 255, 0, 1, 8, 0, 0, 0, 11, 0, 0, 0, 0, 0, 1, 8, 0, 0, 0,
+            11, 0, 0, 0, 1, 0, 1, 8,
+        ]),
+        Act::Next(4_294_967_295),
+        Act::Gives(Asks::Plain(1, 8), 4),
+        Act::Leaves(&[0, 0, 0, 11, 0, 0, 0, 2, 0, 1, 8]),
+    ];
+    let mut debugger = ready(rt.alloc(), 8)?;
+    expect_same(
+        &rt,
+        &goes_wrong_at(rt.alloc(), &mut debugger, &acts)?,
+        &None,
+    );
+    Ok(())
+}
+
+#[test]
+fn closed_and_unready_ends_ask_nothing(rt: HostRuntime) -> Result<(), Fail> {
+    let acts = [
+        Act::Refuses(Asks::Plain(1, 8), Refused::Closed),
+        Act::Attaches(true),
+        Act::Refuses(Asks::Plain(1, 99), Refused::NotReady),
+        Act::Waits(14),
+        Act::Loses(&[]),
+        Act::Refuses(Asks::Plain(1, 99), Refused::Closed),
+    ];
+    let mut debugger = Debugger::new(rt.alloc())?;
+    expect_same(
+        &rt,
+        &goes_wrong_at(rt.alloc(), &mut debugger, &acts)?,
+        &None,
+    );
+    Ok(())
+}
+
+#[test]
+fn only_so_many_commands_wait(rt: HostRuntime) -> Result<(), Fail> {
+    let acts = [
+        Act::Fills,
+        Act::Refuses(Asks::Plain(1, 99), Refused::Busy),
+        Act::Waits(64 * 11),
+    ];
+    let mut debugger = ready(rt.alloc(), 8)?;
+    expect_same(
+        &rt,
+        &goes_wrong_at(rt.alloc(), &mut debugger, &acts)?,
+        &None,
+    );
+    expect_same(&rt, &debugger.lose().as_slice().len(), &64);
+    Ok(())
+}
+
+#[test]
+fn only_so_many_bytes_wait(rt: HostRuntime) -> Result<(), Fail> {
+    let acts = [
+        Act::Refuses(Asks::Class(65_522), Refused::TooLong),
+        Act::Waits(0),
+        Act::Gives(Asks::Class(65_521), 1),
+        Act::Waits(65_536),
+        Act::Refuses(Asks::Plain(1, 8), Refused::Busy),
+    ];
+    let mut debugger = ready(rt.alloc(), 8)?;
+    expect_same(
+        &rt,
+        &goes_wrong_at(rt.alloc(), &mut debugger, &acts)?,
+        &None,
+    );
+    Ok(())
+}
+
+#[test]
+fn data_have_to_fit_the_command(rt: HostRuntime) -> Result<(), Fail> {
+    let acts = [
+        Act::Refuses(Asks::Plain(1, 99), Refused::BadCommand),
+        Act::Refuses(Asks::Plain(64, 100), Refused::BadCommand),
+        Act::Refuses(Asks::Plain(11, 12), Refused::BadCommand),
+        Act::Refuses(Asks::Count(256), Refused::BadCommand),
+        Act::Refuses(Asks::Raw(1, 8, 0), Refused::BadCommand),
+        Act::Refuses(Asks::Raw(11, 12, 70_000), Refused::BadCommand),
+        Act::Refuses(Asks::Plain(3, 3), Refused::BadCommand),
+        Act::Waits(0),
+        Act::Refuses(Asks::Raw(3, 3, 65_526), Refused::TooLong),
+        Act::Gives(Asks::Raw(3, 3, 2), 1),
+        Act::Gives(Asks::Count(255), 2),
+        Act::Leaves(&[
+            0, 0, 0, 13, 0, 0, 0, 1, 0, 3, 3, 0, 0, 0, 0, 0, 12, 0, 0, 0, 2, 0, 11, 12, 255,
+        ]),
+    ];
+    let mut debugger = ready(rt.alloc(), 1)?;
+    expect_same(
+        &rt,
+        &goes_wrong_at(rt.alloc(), &mut debugger, &acts)?,
+        &None,
+    );
+    Ok(())
+}
+
+#[test]
+fn refusals_have_their_numbers(rt: HostRuntime) -> Result<(), Fail> {
+    let numbers = [
+        (Refused::NotReady, 31),
+        (Refused::Busy, 32),
+        (Refused::Closed, 33),
+        (Refused::TooLong, 34),
+        (Refused::NoMemory, 35),
+        (Refused::BadCommand, 36),
+    ];
+    for (refused, number) in numbers {
+        expect_same(&rt, &refused.number(), &number);
+    }
+    let text = format!(in rt.alloc(); "{}", Refused::BadCommand)?;
+    expect_same(&rt, &text.as_str(), &"fault 36: a bad command");
+    Ok(())
+}

@@ -1,0 +1,90 @@
+//! An end with packets of at most 2,048 bytes.
+use crate::asserts::expect_same;
+use jdwp_end::{End, Front};
+use jdwp_wire::{FrameFault, HANDSHAKE, IdSizes, Limits};
+use std::alloc::Global;
+use std::test::Fail;
+
+/// A closed end.
+fn end(alloc: Global) -> Result<End, Fail> {
+    let Some(limits) = Limits::new(2048, 1, 1, 1) else {
+        return Err(Fail::from("the limits are in range"));
+    };
+    Ok(End::new(alloc, limits)?)
+}
+
+/// What there is to handle, without the packet: its id and how many bytes it takes.
+fn front_of(end: &End) -> Result<Option<(u32, usize)>, FrameFault> {
+    match end.front() {
+        Front::More => Ok(None),
+        Front::Fault(fault) => Err(fault),
+        Front::Handshake => Ok(Some((0, 14))),
+        Front::Packet(packet, used) => Ok(Some((packet.header.id, used))),
+    }
+}
+
+#[test]
+fn a_session_in_pieces(rt: HostRuntime) -> Result<(), Fail> {
+    let mut end = end(rt.alloc())?;
+    assert!(rt; !end.is_open());
+    expect_same(&rt, &end.feed(&HANDSHAKE), &0);
+    end.open();
+    assert!(rt; end.is_open());
+    expect_same(&rt, &end.room(), &2048);
+    expect_same(&rt, &end.feed(&HANDSHAKE[..13]), &13);
+    expect_same(&rt, &front_of(&end), &Ok(None));
+    expect_same(&rt, &end.feed(&HANDSHAKE[13..]), &1);
+    expect_same(&rt, &front_of(&end), &Ok(Some((0, 14))));
+    Ok(())
+}
+
+#[test]
+fn a_length_above_the_packet_limit(rt: HostRuntime) -> Result<(), Fail> {
+    for (length, wanted) in [
+        ([0, 0, 8, 0], Ok(None)),
+        ([0, 0, 8, 1], Err(FrameFault::TooLong)),
+    ] {
+        let mut end = established(rt.alloc())?;
+        end.feed(&length);
+        expect_same(&rt, &front_of(&end), &wanted);
+    }
+    Ok(())
+}
+
+/// An end at which the handshake was handled.
+fn established(alloc: Global) -> Result<End, Fail> {
+    let mut end = end(alloc)?;
+    end.open();
+    end.feed(&HANDSHAKE);
+    if let Front::Handshake = end.front() {
+        end.take_off(HANDSHAKE.len());
+    }
+    Ok(end)
+}
+
+#[test]
+fn what_is_enqueued_is_taken(rt: HostRuntime) -> Result<(), Fail> {
+    let alloc = rt.alloc();
+    let Ok(sizes) = IdSizes::new(8, 8, 8, 8, 8) else {
+        return Err(Fail::from("the widths are in range"));
+    };
+    let mut end = end(alloc)?;
+    end.open();
+    assert!(rt; !end.is_paused());
+    end.enqueue(&HANDSHAKE);
+    end.put(&7i32, &sizes);
+    expect_same(&rt, &end.waiting(), &18);
+    end.close();
+    assert!(rt; !end.is_open());
+    let mut out = [0; 16];
+    expect_same(&rt, &end.take(&mut out), &16);
+    assert!(rt; out.as_slice().starts_with(HANDSHAKE.as_slice()));
+    expect_same(&rt, &end.take(&mut out), &2);
+    assert!(rt; out.as_slice().starts_with([0u8, 7].as_slice()));
+    end.open();
+    end.enqueue(&HANDSHAKE);
+    end.lose();
+    expect_same(&rt, &end.waiting(), &0);
+    expect_same(&rt, &end.room(), &0);
+    Ok(())
+}

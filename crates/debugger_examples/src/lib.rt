@@ -1,0 +1,16 @@
+//! Worked sessions of a debugger, what its mirror learns packet by packet, commands as a target reads them, and what an end holds: tests of
+//! `jdwp_debugger`, `jdwp_debuggee` and `jdwp_end`, which call what anybody can call.
+#![tactic(auto)]
+
+#[cfg(test)]
+mod asking_tests;
+#[cfg(test)]
+mod asserts;
+#[cfg(test)]
+mod end_tests;
+#[cfg(test)]
+mod mirror_tests;
+#[cfg(test)]
+mod reading_tests;
+#[cfg(test)]
+mod turning_tests;

@@ -1,0 +1,708 @@
+//! What turns do with a target's bytes.
+use crate::asserts::expect_same;
+use jdwp_debugger::{Command, Debugger, DebuggerFault, Head, KnownThreads, Read, Ticket};
+use jdwp_layout::{Datum, Scalar};
+use jdwp_value::ObjectId;
+use std::alloc::Global;
+use std::test::Fail;
+
+const HELLO: &str = "4a4457502d48616e647368616b65";
+
+/// The reply to IDSizes under id 1, ids 8 bytes wide.
+const SIZES: &str = "0000001f 00000001 80 0000 00000008 00000008 00000008 00000008 00000008";
+
+/// VM_START of thread 1, policy NONE.
+const VM_START: &str = "0000001d 00000001 00 40 64 00 00000001 5a 00000000 0000000000000001";
+
+/// The bytes that hex digits spell; spaces are for reading.
+fn bytes(alloc: Global, hex: &str) -> Result<Vec<u8>, Fail> {
+    let mut bytes = Vec::new(alloc);
+    let mut high = None;
+    for digit in hex.chars() {
+        let Some(value) = digit.to_digit(16) else {
+            continue;
+        };
+        match high {
+            None => high = Some(value),
+            Some(first) => {
+                let Ok(byte) = u8::try_from(first.saturating_mul(16).saturating_add(value)) else {
+                    return Err(Fail::from("not a byte"));
+                };
+                bytes.push(byte)?;
+                high = None;
+            }
+        }
+    }
+    Ok(bytes)
+}
+
+/// What a turn tells.
+#[derive(Clone, Copy, Debug, PartialEq, Eq)]
+enum Tells {
+    Nothing,
+    Hello,
+    Parked,
+    /// The widths of ids, behind so many composites.
+    Sizes(usize),
+    /// The answer under this ticket.
+    Answered(u64),
+    Seen,
+    /// A fault of this number.
+    Fails(u16),
+}
+
+fn outcome(told: &Result<Read, DebuggerFault>) -> Tells {
+    match told {
+        Ok(Read::Nothing) => Tells::Nothing,
+        Ok(Read::Hello) => Tells::Hello,
+        Ok(Read::Parked) => Tells::Parked,
+        Ok(Read::Sizes(composites)) => Tells::Sizes(composites.len()),
+        Ok(Read::Answered(ticket, _)) => Tells::Answered(ticket.0),
+        Ok(Read::Seen(_)) => Tells::Seen,
+        Err(fault) => Tells::Fails(fault.number()),
+    }
+}
+
+/// A command.
+#[derive(Clone, Copy)]
+enum Wanted {
+    /// Of a set and a number, without data.
+    Plain(u8, u8),
+    /// VirtualMachine.Exit with this status.
+    Exit(i32),
+    /// ThreadReference's of a number, on a thread.
+    OfThread(u8, u64),
+    /// EventRequest.Set of a kind, with the policy ALL and no modifier.
+    Request(u8),
+    /// EventRequest.Clear of a kind and an id.
+    Clear(u8, i32),
+}
+
+fn command(alloc: Global, wanted: Wanted) -> Result<Command, Fail> {
+    Ok(match wanted {
+        Wanted::Plain(set, number) => Command::new(set, number, Vec::new(alloc)),
+        Wanted::Exit(status) => {
+            Command::new(1, 10, vec![in alloc; Datum::One(Scalar::Int(status))]?)
+        }
+        Wanted::OfThread(number, thread) => Command::new(
+            11,
+            number,
+            vec![in alloc; Datum::One(Scalar::ObjectId(ObjectId(thread)))]?,
+        ),
+        Wanted::Request(kind) => Command::new(
+            15,
+            1,
+            vec![in alloc;
+                Datum::One(Scalar::Byte(kind)),
+                Datum::One(Scalar::Byte(2)),
+                Datum::Many(Vec::new(alloc)),
+            ]?,
+        ),
+        Wanted::Clear(kind, id) => Command::new(
+            15,
+            2,
+            vec![in alloc; Datum::One(Scalar::Byte(kind)), Datum::One(Scalar::Int(id))]?,
+        ),
+    })
+}
+
+/// What is done with a debugger, and what comes of it.
+#[derive(Clone, Copy)]
+enum Act<'a> {
+    /// Whether a session begins.
+    Attaches(bool),
+    /// These bytes come, and a turn tells this; what it read are packets with these ids, or the handshake.
+    Reads(&'a str, Tells, &'a [u32]),
+    /// A command is asked under this ticket.
+    Asks(Wanted, u64),
+    /// The next id is to be this.
+    NextId(u32),
+    /// These bytes wait to leave; they are taken.
+    Sends(&'a str),
+    /// The known threads with their counts, and whether they are held.
+    Knows(&'a [(u64, u32, bool)]),
+    /// The ids and kinds of the event requests.
+    Requests(&'a [(i32, u8)]),
+    /// Whether the session is open, and whether the widths of ids are known.
+    Stands(bool, bool),
+    /// The tickets that are unanswered.
+    Waits(&'a [u64]),
+    /// The connection is lost, and with it the answers to these tickets.
+    Loses(&'a [u64]),
+}
+
+/// Whether this comes of it.
+fn comes(alloc: Global, debugger: &mut Debugger, act: &Act<'_>) -> Result<bool, Fail> {
+    match act {
+        Act::Attaches(attaches) => Ok(debugger.attach() == *attaches),
+        Act::Reads(input, told, ids) => {
+            debugger.feed(&bytes(alloc, input)?);
+            let turn = debugger.turn(alloc);
+            Ok(outcome(&turn) == *told && have_been_read(debugger.last(), *told, ids))
+        }
+        Act::Asks(wanted, ticket) => {
+            let command = command(alloc, *wanted)?;
+            Ok(debugger.ask(alloc, command) == Ok(Ticket(*ticket)))
+        }
+        Act::NextId(id) => {
+            debugger.set_next_id(*id);
+            Ok(true)
+        }
+        Act::Sends(output) => sends(alloc, debugger, output),
+        Act::Knows(threads) => Ok(are_known(debugger.mirror().known(), threads)),
+        Act::Requests(requests) => Ok(are_requested(debugger, requests)),
+        Act::Stands(open, measured) => {
+            Ok(debugger.is_open() == *open && debugger.sizes().is_some() == *measured)
+        }
+        Act::Waits(tickets) => Ok(are_unanswered(debugger, tickets)),
+        Act::Loses(tickets) => {
+            let lost = debugger.lose();
+            Ok(are_tickets(lost.as_slice(), tickets))
+        }
+    }
+}
+
+/// Whether a turn that tells this read the handshake, or packets with these ids.
+fn have_been_read(heads: &[Head], told: Tells, ids: &[u32]) -> bool {
+    if told == Tells::Hello {
+        return heads.len() == 1 && matches!(heads[0], Head::Hello);
+    }
+    if heads.len() != ids.len() {
+        return false;
+    }
+    for (head, id) in heads.iter().zip(ids) {
+        match head {
+            Head::Packet(header) if header.id == *id => {}
+            _ => return false,
+        }
+    }
+    true
+}
+
+/// Whether these bytes wait to leave, at most 256; they are taken.
+fn sends(alloc: Global, debugger: &mut Debugger, output: &str) -> Result<bool, Fail> {
+    let mut buffer = [0; 256];
+    let count = debugger.take(&mut buffer);
+    Ok(&buffer[..count] == bytes(alloc, output)?.as_slice())
+}
+
+fn are_known(known: KnownThreads<'_>, threads: &[(u64, u32, bool)]) -> bool {
+    if known.len() != threads.len() {
+        return false;
+    }
+    for (one, (id, count, held)) in known.zip(threads) {
+        if one.id.0 != *id || one.count != *count || one.held != *held {
+            return false;
+        }
+    }
+    true
+}
+
+fn are_requested(debugger: &Debugger, requests: &[(i32, u8)]) -> bool {
+    let kept = debugger.mirror().requests();
+    if kept.len() != requests.len() {
+        return false;
+    }
+    for (request, (id, kind)) in kept.iter().zip(requests) {
+        if request.id() != *id || request.kind() != *kind || request.policy() != 2 {
+            return false;
+        }
+    }
+    true
+}
+
+fn are_unanswered(debugger: &Debugger, tickets: &[u64]) -> bool {
+    for (place, ticket) in tickets.iter().enumerate() {
+        match debugger.unanswered(place) {
+            Some((waiting, _)) if waiting.0 == *ticket => {}
+            _ => return false,
+        }
+    }
+    debugger.unanswered(tickets.len()).is_none()
+}
+
+fn are_tickets(lost: &[Ticket], tickets: &[u64]) -> bool {
+    if lost.len() != tickets.len() {
+        return false;
+    }
+    for (one, ticket) in lost.iter().zip(tickets) {
+        if one.0 != *ticket {
+            return false;
+        }
+    }
+    true
+}
+
+/// The place, from 0, of the first of these acts of which something else comes, with a debugger whose first packet has this id; None
+/// where all is as it is to be.
+fn goes_wrong_at(alloc: Global, first_id: u32, acts: &[Act<'_>]) -> Result<Option<usize>, Fail> {
+    let mut debugger = Debugger::with_first_id(alloc, first_id)?;
+    for (place, act) in acts.iter().enumerate() {
+        if !comes(alloc, &mut debugger, act)? {
+            return Ok(Some(place));
+        }
+    }
+    Ok(None)
+}
+
+#[test]
+fn handshake_puts_id_sizes(rt: HostRuntime) -> Result<(), Fail> {
+    let acts = [
+        Act::Reads("", Tells::Nothing, &[]),
+        Act::Attaches(true),
+        Act::Attaches(false),
+        Act::Reads("4a4457502d48616e647368616b", Tells::Nothing, &[]),
+        Act::Reads("65", Tells::Hello, &[]),
+        Act::Sends("4a4457502d48616e647368616b65 0000000b 00000001 00 01 07"),
+        Act::Waits(&[]),
+        Act::Reads("", Tells::Nothing, &[]),
+    ];
+    expect_same(&rt, &goes_wrong_at(rt.alloc(), 1, &acts)?, &None);
+    Ok(())
+}
+
+/// VM_START with ids one byte wide comes before the widths are known.
+#[test]
+fn events_that_waited_are_read_with_the_widths(rt: HostRuntime) -> Result<(), Fail> {
+    let acts = [
+        Act::Attaches(true),
+        Act::Reads(HELLO, Tells::Hello, &[]),
+        Act::Reads(
+            "00000016 00000009 00 40 64 02 00000001 5a 00000000 01",
+            Tells::Parked,
+            &[],
+        ),
+        Act::Knows(&[]),
+        Act::Reads(
+            "0000001f 00000001 80 0000 00000001 00000001 00000001 00000001 00000001",
+            Tells::Sizes(1),
+            &[9, 1],
+        ),
+        Act::Knows(&[(1, 1, true)]),
+        Act::Stands(true, true),
+    ];
+    expect_same(&rt, &goes_wrong_at(rt.alloc(), 1, &acts)?, &None);
+    Ok(())
+}
+
+/// VM_DEATH waits, too: the session ends as the widths become known, which stay until it is lost.
+#[test]
+fn a_death_that_waited_ends_the_session(rt: HostRuntime) -> Result<(), Fail> {
+    let acts = [
+        Act::Attaches(true),
+        Act::Reads(HELLO, Tells::Hello, &[]),
+        Act::Reads(VM_START, Tells::Parked, &[]),
+        Act::Reads(
+            "00000015 00000002 00 40 64 00 00000001 63 00000000",
+            Tells::Parked,
+            &[],
+        ),
+        Act::Reads(SIZES, Tells::Sizes(2), &[1, 2, 1]),
+        Act::Knows(&[]),
+        Act::Stands(false, true),
+        Act::Loses(&[]),
+        Act::Stands(false, false),
+    ];
+    expect_same(&rt, &goes_wrong_at(rt.alloc(), 1, &acts)?, &None);
+    Ok(())
+}
+
+#[test]
+fn events_and_replies_change_counts(rt: HostRuntime) -> Result<(), Fail> {
+    let acts = [
+        Act::Attaches(true),
+        Act::Reads(HELLO, Tells::Hello, &[]),
+        Act::Reads(SIZES, Tells::Sizes(0), &[1]),
+        Act::Reads(
+            "0000001d 00000001 00 40 64 01 00000001 06 00000000 0000000000000001",
+            Tells::Seen,
+            &[1],
+        ),
+        Act::Reads(
+            "0000001d 00000002 00 40 64 00 00000001 06 00000000 0000000000000002",
+            Tells::Seen,
+            &[2],
+        ),
+        Act::Knows(&[(1, 1, true), (2, 0, false)]),
+        Act::Reads(
+            "0000001d 00000003 00 40 64 02 00000001 06 00000000 0000000000000002",
+            Tells::Seen,
+            &[3],
+        ),
+        Act::Knows(&[(1, 2, true), (2, 1, true)]),
+        Act::Reads(
+            "0000001a 00000004 00 40 64 02 00000001 09 00000000 00000001 41",
+            Tells::Seen,
+            &[4],
+        ),
+        Act::Knows(&[(1, 3, true), (2, 2, true)]),
+        Act::Asks(Wanted::Plain(1, 9), 1),
+        Act::Knows(&[(1, 3, true), (2, 2, true)]),
+        Act::Reads("0000000b 00000002 80 0000", Tells::Answered(1), &[2]),
+        Act::Knows(&[(1, 2, true), (2, 1, true)]),
+        Act::Asks(Wanted::Plain(1, 8), 2),
+        Act::Reads("0000000b 00000003 80 0000", Tells::Answered(2), &[3]),
+        Act::Knows(&[(1, 3, true), (2, 2, true)]),
+        Act::Asks(Wanted::OfThread(3, 2), 3),
+        Act::Asks(Wanted::OfThread(3, 2), 4),
+        Act::Reads("0000000b 00000005 80 0000", Tells::Answered(4), &[5]),
+        Act::Reads("0000000b 00000004 80 0000", Tells::Answered(3), &[4]),
+        Act::Knows(&[(1, 3, true), (2, 0, false)]),
+        Act::Asks(Wanted::OfThread(2, 2), 5),
+        Act::Reads("0000000b 00000006 80 0000", Tells::Answered(5), &[6]),
+        Act::Knows(&[(1, 3, true), (2, 1, true)]),
+    ];
+    expect_same(&rt, &goes_wrong_at(rt.alloc(), 1, &acts)?, &None);
+    Ok(())
+}
+
+#[test]
+fn replies_teach_and_forget_threads(rt: HostRuntime) -> Result<(), Fail> {
+    let acts = [
+        Act::Attaches(true),
+        Act::Reads(HELLO, Tells::Hello, &[]),
+        Act::Reads(VM_START, Tells::Parked, &[]),
+        Act::Reads(SIZES, Tells::Sizes(1), &[1, 1]),
+        Act::Knows(&[(1, 0, false)]),
+        Act::Asks(Wanted::OfThread(12, 3), 1),
+        Act::Reads(
+            "0000000f 00000002 80 0000 00000004",
+            Tells::Answered(1),
+            &[2],
+        ),
+        Act::Knows(&[(1, 0, false), (3, 4, true)]),
+        Act::Asks(Wanted::OfThread(1, 1), 2),
+        Act::Reads("0000000b 00000003 80 0071", Tells::Answered(2), &[3]),
+        Act::Knows(&[(1, 0, false), (3, 4, true)]),
+        Act::Asks(Wanted::OfThread(1, 1), 3),
+        Act::Reads("0000000b 00000004 80 000a", Tells::Answered(3), &[4]),
+        Act::Knows(&[(3, 4, true)]),
+        Act::Asks(Wanted::OfThread(12, 2), 4),
+        Act::Reads(
+            "0000000f 00000005 80 0000 00000000",
+            Tells::Answered(4),
+            &[5],
+        ),
+        Act::Asks(Wanted::Plain(1, 4), 5),
+        Act::Reads(
+            "00000017 00000006 80 0000 00000001 0000000000000002",
+            Tells::Answered(5),
+            &[6],
+        ),
+        Act::Knows(&[(2, 0, false)]),
+        Act::Reads(
+            "0000001d 00000002 00 40 64 00 00000001 07 00000000 0000000000000002",
+            Tells::Seen,
+            &[2],
+        ),
+        Act::Knows(&[]),
+    ];
+    expect_same(&rt, &goes_wrong_at(rt.alloc(), 1, &acts)?, &None);
+    Ok(())
+}
+
+#[test]
+fn requests_are_set_and_cleared(rt: HostRuntime) -> Result<(), Fail> {
+    let acts = [
+        Act::Attaches(true),
+        Act::Reads(HELLO, Tells::Hello, &[]),
+        Act::Reads(VM_START, Tells::Parked, &[]),
+        Act::Reads(SIZES, Tells::Sizes(1), &[1, 1]),
+        Act::Asks(Wanted::Request(2), 1),
+        Act::Asks(Wanted::Request(6), 2),
+        Act::Asks(Wanted::Request(7), 3),
+        Act::Requests(&[]),
+        Act::Reads(
+            "0000000f 00000002 80 0000 00000001",
+            Tells::Answered(1),
+            &[2],
+        ),
+        Act::Reads(
+            "0000000f 00000003 80 0000 00000002",
+            Tells::Answered(2),
+            &[3],
+        ),
+        Act::Requests(&[(1, 2), (2, 6)]),
+        Act::Reads(
+            "0000000f 00000004 80 0000 00000002",
+            Tells::Answered(3),
+            &[4],
+        ),
+        Act::Requests(&[(1, 2), (2, 7)]),
+        Act::Asks(Wanted::Clear(7, 2), 4),
+        Act::Reads("0000000b 00000005 80 0000", Tells::Answered(4), &[5]),
+        Act::Requests(&[(1, 2)]),
+        Act::Asks(Wanted::Plain(15, 3), 5),
+        Act::Reads("0000000b 00000006 80 0000", Tells::Answered(5), &[6]),
+        Act::Requests(&[]),
+        Act::Knows(&[(1, 0, false)]),
+    ];
+    expect_same(&rt, &goes_wrong_at(rt.alloc(), 1, &acts)?, &None);
+    Ok(())
+}
+
+#[test]
+fn ends_empty_the_mirror(rt: HostRuntime) -> Result<(), Fail> {
+    let acts = [
+        Act::Attaches(true),
+        Act::Reads(HELLO, Tells::Hello, &[]),
+        Act::Reads(VM_START, Tells::Parked, &[]),
+        Act::Reads(SIZES, Tells::Sizes(1), &[1, 1]),
+        Act::Asks(Wanted::Exit(3), 1),
+        Act::Reads("0000000b 00000002 80 0000", Tells::Answered(1), &[2]),
+        Act::Knows(&[]),
+        Act::Stands(true, true),
+        Act::Reads(
+            "00000015 00000002 00 40 64 00 00000001 63 00000000",
+            Tells::Seen,
+            &[2],
+        ),
+        Act::Stands(false, false),
+        Act::Attaches(true),
+        Act::NextId(1),
+        Act::Reads(HELLO, Tells::Hello, &[]),
+        Act::Reads(VM_START, Tells::Parked, &[]),
+        Act::Reads(SIZES, Tells::Sizes(1), &[1, 1]),
+        Act::Asks(Wanted::Plain(1, 6), 2),
+        Act::Asks(Wanted::Plain(1, 8), 3),
+        Act::Knows(&[(1, 0, false)]),
+        Act::Reads("0000000b 00000002 80 0000", Tells::Answered(2), &[2]),
+        Act::Knows(&[]),
+        Act::Stands(false, false),
+        Act::Waits(&[3]),
+        Act::Attaches(false),
+        Act::Loses(&[3]),
+        Act::Waits(&[]),
+    ];
+    expect_same(&rt, &goes_wrong_at(rt.alloc(), 1, &acts)?, &None);
+    Ok(())
+}
+
+/// An event that the target reported before it handled a Suspend is read before the reply to it.
+#[test]
+fn an_event_crosses_a_suspend(rt: HostRuntime) -> Result<(), Fail> {
+    let acts = [
+        Act::Attaches(true),
+        Act::Reads(HELLO, Tells::Hello, &[]),
+        Act::Reads(VM_START, Tells::Parked, &[]),
+        Act::Reads(SIZES, Tells::Sizes(1), &[1, 1]),
+        Act::Asks(Wanted::OfThread(12, 2), 1),
+        Act::Reads(
+            "0000000f 00000002 80 0000 00000000",
+            Tells::Answered(1),
+            &[2],
+        ),
+        Act::Asks(Wanted::Plain(1, 8), 2),
+        Act::Reads(
+            "00000036 00000002 00 40 64 01 00000001 02 00000001 0000000000000001
+             01 000000000000000a 0000000000000014 0000000000000003",
+            Tells::Seen,
+            &[2],
+        ),
+        Act::Knows(&[(1, 1, true), (2, 0, false)]),
+        Act::Reads("0000000b 00000003 80 0000", Tells::Answered(2), &[3]),
+        Act::Knows(&[(1, 2, true), (2, 1, false)]),
+    ];
+    expect_same(&rt, &goes_wrong_at(rt.alloc(), 1, &acts)?, &None);
+    Ok(())
+}
+
+/// A thread whose death is reported is suspended by the report; once it is resumed it ends.
+#[test]
+fn a_death_holds_its_thread(rt: HostRuntime) -> Result<(), Fail> {
+    let acts = [
+        Act::Attaches(true),
+        Act::Reads(HELLO, Tells::Hello, &[]),
+        Act::Reads(SIZES, Tells::Sizes(0), &[1]),
+        Act::Reads(
+            "0000001d 00000002 00 40 64 01 00000001 07 00000001 0000000000000002",
+            Tells::Seen,
+            &[2],
+        ),
+        Act::Knows(&[(2, 1, true)]),
+        Act::Asks(Wanted::OfThread(3, 2), 1),
+        Act::Reads("0000000b 00000002 80 0000", Tells::Answered(1), &[2]),
+        Act::Knows(&[(2, 0, false)]),
+        Act::Asks(Wanted::OfThread(12, 2), 2),
+        Act::Reads("0000000b 00000003 80 000a", Tells::Answered(2), &[3]),
+        Act::Knows(&[]),
+    ];
+    expect_same(&rt, &goes_wrong_at(rt.alloc(), 1, &acts)?, &None);
+    Ok(())
+}
+
+/// Ids go on modulo 2^32 and skip those that wait; replies in any order reach their tickets.
+#[test]
+fn replies_reach_their_tickets(rt: HostRuntime) -> Result<(), Fail> {
+    let acts = [
+        Act::Attaches(true),
+        Act::Reads(HELLO, Tells::Hello, &[]),
+        Act::Sends("4a4457502d48616e647368616b65 0000000b fffffffe 00 01 07"),
+        Act::Reads(
+            "0000001f fffffffe 80 0000 00000008 00000008 00000008 00000008 00000008",
+            Tells::Sizes(0),
+            &[4294967294],
+        ),
+        Act::Asks(Wanted::Plain(1, 8), 1),
+        Act::Asks(Wanted::Plain(1, 9), 2),
+        Act::Asks(Wanted::Plain(1, 8), 3),
+        Act::NextId(4294967295),
+        Act::Asks(Wanted::Plain(1, 9), 4),
+        Act::Sends(
+            "0000000b ffffffff 00 01 08 0000000b 00000000 00 01 09
+             0000000b 00000001 00 01 08 0000000b 00000002 00 01 09",
+        ),
+        Act::Waits(&[1, 2, 3, 4]),
+        Act::Reads("0000000b 00000001 80 0000", Tells::Answered(3), &[1]),
+        Act::Reads(
+            "0000000b ffffffff 80 0000",
+            Tells::Answered(1),
+            &[4294967295],
+        ),
+        Act::Reads("0000000b 00000002 80 0071", Tells::Answered(4), &[2]),
+        Act::Waits(&[2]),
+        Act::Reads("0000000b 00000000 80 0000", Tells::Answered(2), &[0]),
+        Act::Waits(&[]),
+    ];
+    expect_same(&rt, &goes_wrong_at(rt.alloc(), 4294967294, &acts)?, &None);
+    Ok(())
+}
+
+/// What is refused before the widths of ids are known.
+#[test]
+fn faults_before_the_widths_are_known(rt: HostRuntime) -> Result<(), Fail> {
+    let acts = [
+        Act::Attaches(true),
+        Act::Reads("4a4457502d48616e647368616b45", Tells::Fails(41), &[]),
+        Act::Stands(false, false),
+        Act::Sends(HELLO),
+        Act::Attaches(true),
+        Act::Reads(HELLO, Tells::Hello, &[]),
+        Act::Reads("0000000b 00000001 80 0071", Tells::Fails(43), &[]),
+        Act::Loses(&[]),
+        Act::Attaches(true),
+        Act::NextId(1),
+        Act::Reads(HELLO, Tells::Hello, &[]),
+        Act::Reads(
+            "0000001f 00000001 80 0000 00000009 00000008 00000008 00000008 00000008",
+            Tells::Fails(43),
+            &[],
+        ),
+        Act::Attaches(true),
+        Act::Reads(HELLO, Tells::Hello, &[]),
+        Act::Reads("0000000b 00000009 00 40 64", Tells::Parked, &[]),
+        Act::Reads(VM_START, Tells::Parked, &[]),
+        Act::Reads(VM_START, Tells::Parked, &[]),
+        Act::Reads(VM_START, Tells::Parked, &[]),
+        Act::Reads(VM_START, Tells::Fails(44), &[]),
+        Act::Stands(false, false),
+        Act::Attaches(true),
+        Act::NextId(1),
+        Act::Reads(HELLO, Tells::Hello, &[]),
+        Act::Reads(VM_START, Tells::Parked, &[]),
+        Act::Reads("0000000b 00000009 00 40 64", Tells::Parked, &[]),
+        Act::Reads("", Tells::Nothing, &[]),
+        Act::Stands(true, false),
+    ];
+    expect_same(&rt, &goes_wrong_at(rt.alloc(), 1, &acts)?, &None);
+    Ok(())
+}
+
+/// What is refused once they are known. Tickets wait for the loss.
+#[test]
+fn faults_once_the_widths_are_known(rt: HostRuntime) -> Result<(), Fail> {
+    let faulty = [
+        ("0000000b 00000009 80 0000", 42),
+        ("0000000f 00000002 80 0000 ffffffff", 43),
+        ("0000000b 00000002 80 0000", 43),
+        ("0000000c 00000002 80 000a 00", 43),
+        ("0000000b 00000002 00 40 64", 45),
+        ("00000010 00000002 00 40 64 00 00000000", 45),
+        (
+            "0000001d 00000002 00 40 64 03 00000001 06 00000000 0000000000000002",
+            45,
+        ),
+        (
+            "0000001d 00000002 00 40 64 00 00000001 06 00000000 0000000000000001",
+            45,
+        ),
+        (
+            "0000002a 00000002 00 40 64 00 00000002 06 00000000 0000000000000002
+             06 00000000 0000000000000003",
+            45,
+        ),
+        ("00000015 00000002 00 40 64 02 00000001 63 00000000", 45),
+        ("0000000b 00000002 00 01 08", 45),
+        ("0000000b 00000002 01 0000", 41),
+    ];
+    for (input, number) in faulty {
+        let acts = [
+            Act::Attaches(true),
+            Act::Reads(HELLO, Tells::Hello, &[]),
+            Act::Reads(SIZES, Tells::Sizes(0), &[1]),
+            Act::Reads(
+                "0000001d 00000001 00 40 64 02 00000001 06 00000000 0000000000000001",
+                Tells::Seen,
+                &[1],
+            ),
+            Act::Asks(Wanted::OfThread(12, 1), 1),
+            Act::Reads(input, Tells::Fails(number), &[]),
+            Act::Knows(&[]),
+            Act::Stands(false, false),
+            Act::Reads("", Tells::Nothing, &[]),
+            Act::Waits(&[1]),
+            Act::Loses(&[1]),
+        ];
+        expect_same(&rt, &goes_wrong_at(rt.alloc(), 1, &acts)?, &None);
+    }
+    Ok(())
+}
+
+/// How many turns tell something as these bytes come in two pieces, of which the first has so many. At most 16 turns are made behind each.
+fn turns_in_pieces(
+    alloc: Global,
+    debugger: &mut Debugger,
+    bytes: &[u8],
+    first: usize,
+) -> Result<u32, Fail> {
+    let first = first.min(bytes.len());
+    let mut count = 0u32;
+    for piece in [&bytes[..first], &bytes[first..]] {
+        debugger.feed(piece);
+        for _ in 0..16u32 {
+            if matches!(debugger.turn(alloc)?, Read::Nothing) {
+                break;
+            }
+            count = count.saturating_add(1);
+        }
+    }
+    Ok(count)
+}
+
+/// Whether a session goes as it is to go, where what comes is cut behind so many bytes.
+fn goes_in_pieces(alloc: Global, debugger: &mut Debugger, first: usize) -> Result<bool, Fail> {
+    debugger.attach();
+    let mut opening = bytes(alloc, HELLO)?;
+    opening.extend_from_slice(&bytes(alloc, VM_START)?)?;
+    opening.extend_from_slice(&bytes(alloc, SIZES)?)?;
+    if turns_in_pieces(alloc, debugger, &opening, first)? != 3 {
+        return Ok(false);
+    }
+    debugger.ask(alloc, command(alloc, Wanted::Plain(1, 8))?)?;
+    debugger.ask(alloc, command(alloc, Wanted::OfThread(12, 1))?)?;
+    let replies = bytes(
+        alloc,
+        "0000000b 00000002 80 0000 0000000f 00000003 80 0000 00000001",
+    )?;
+    let turns = turns_in_pieces(alloc, debugger, &replies, first)?;
+    Ok(turns == 2 && are_known(debugger.mirror().known(), &[(1, 1, true)]))
+}
+
+#[test]
+fn a_session_cut_anywhere(rt: HostRuntime) -> Result<(), Fail> {
+    for first in 0..75usize {
+        let mut debugger = Debugger::new(rt.alloc())?;
+        assert!(rt; goes_in_pieces(rt.alloc(), &mut debugger, first)?);
+    }
+    Ok(())
+}

@@ -1,0 +1,21 @@
+use Rattle.std.proofs.lemmas.Grind.{common_steps}
+use Rattle.std.proofs.Common.{arith}
+use Rattle.jdwp_layout.proofs.fitting.refusal_of_entry.Goals as goal
+
+pub returns-in-Byte : goal.returns-in-Byte
+returns-in-Byte c = grind (arith, common_steps)
+
+pub returns-in_default : goal.returns-in_default
+returns-in_default c = grind (arith, common_steps)
+
+pub returns-in_default-2 : goal.returns-in_default-2
+returns-in_default-2 c = grind (arith, common_steps)
+
+pub returns-in-Byte-scalars : goal.returns-in-Byte-scalars
+returns-in-Byte-scalars c = grind (arith, common_steps)
+
+pub returns-in_default-scalars : goal.returns-in_default-scalars
+returns-in_default-scalars c = grind (arith, common_steps)
+
+pub returns-in_default-scalars-2 : goal.returns-in_default-scalars-2
+returns-in_default-scalars-2 c = grind (arith, common_steps)

@@ -1,0 +1,12 @@
+use Rattle.std.proofs.lemmas.Grind.{common_steps}
+use Rattle.std.proofs.Common.{arith}
+use Rattle.jdwp_script_machine.proofs.array_answers.length_of.Goals as goal
+
+pub returns-then-not-is_empty : goal.returns-then-not-is_empty
+returns-then-not-is_empty c = grind (arith, common_steps)
+
+pub returns-in-Some : goal.returns-in-Some
+returns-in-Some c = grind (arith, common_steps)
+
+pub returns-in-None : goal.returns-in-None
+returns-in-None c = grind (arith, common_steps)

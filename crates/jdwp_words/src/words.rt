@@ -1,0 +1,307 @@
+//! What the words of the command line say.
+ghost use Rattle.std.specs.Prelude.{◌≡◌, IfOk};
+ghost use Rattle.jdwp_words.specs.Commands as commands;
+ghost use Rattle.jdwp_words.specs.Commands.{AttachesOnlyWhere};
+
+use clap::error::ErrorKind;
+use clap::{Arg, ArgAction, ArgMatches, Command, Error, value_parser};
+use jdwp_debuggee::Settings;
+use jdwp_program::{Fault, decimal, is_all};
+use jdwp_wire::Limits;
+use jdwp_wire::number::GREATEST_INT;
+use std::alloc::{AllocError, Global};
+use std::convert::AsStr;
+
+/// A command, with its files and options.
+#[derive(Clone, Copy, Debug, PartialEq, Eq)]
+pub enum Words<'a> {
+    /// `serve-script MACHINE`: a target serves one session, that of a file.
+    ServeScript(ServeScript<'a>),
+    /// `attach PLAN`: a debugger runs a plan in one session, that of a file.
+    Attach(Attach<'a>),
+    /// `show FILE`: a capture is shown in words.
+    Show(&'a str),
+    /// `check FILE`: a capture is judged.
+    Check(&'a str),
+}
+
+/// `serve-script MACHINE --from F --to F [--start all|none] [--count-limit N] [--turns N]`.
+#[derive(Clone, Copy, Debug, PartialEq, Eq)]
+pub struct ServeScript<'a> {
+    /// The file of the machine's script.
+    pub machine: &'a str,
+    /// The file that the debugger's bytes are read from.
+    pub from: &'a str,
+    /// The file that the target's bytes are written to.
+    pub to: &'a str,
+    /// Whether every thread is suspended when the target starts, and the greatest suspend count that a Suspend gives.
+    pub settings: Settings,
+    /// How many rounds the session has at most.
+    pub turns: u32,
+}
+
+/// `attach PLAN --from F --to F [--turns N]`.
+#[derive(Clone, Copy, Debug, PartialEq, Eq)]
+pub struct Attach<'a> {
+    /// The file of the plan.
+    pub plan: &'a str,
+    /// The file that the target's bytes are read from.
+    pub from: &'a str,
+    /// The file that the debugger's bytes are written to.
+    pub to: &'a str,
+    /// How many turns the session has at most.
+    pub turns: u32,
+}
+
+/// Reads the words, the first of which is the program's name.
+///
+/// # Errors
+/// `Words` where they are no command, an option is unknown, stands twice or has no such value, or help is asked for. `NoMemory` where an
+/// allocation was refused.
+pub fn read<'a, S: AsStr>(alloc: Global, words: &'a [S]) -> Result<Words<'a>, Fault<'a>>
+    ensures { IfOk result (AttachesOnlyWhere (commands.is_attach S.text words.now)) }
+{
+    let matches = match command(alloc)?.try_get_matches_from(words) {
+        Ok(matches) => matches,
+        Err(error) => return Err(refused(alloc, &error)),
+    };
+    match matches.subcommand() {
+        Some(("show", found)) => Ok(Words::Show(value(alloc, found, "file")?)),
+        Some(("check", found)) => Ok(Words::Check(value(alloc, found, "file")?)),
+        Some(("serve-script", found)) => Ok(Words::ServeScript(read_serve_script(alloc, found)?)),
+        Some((_, found)) if is_attach(words) => Ok(Words::Attach(read_attach(alloc, found)?)),
+        _ => Err(bad_words(alloc, command(alloc)?, "a command is missing")?),
+    }
+}
+
+/// Whether the word behind the program's name is `attach`.
+fn is_attach<S: AsStr>(words: &[S]) -> bool
+    ensures { result ≡ commands.is_attach S.text words.now }
+{
+    match words {
+        [_, command, ..] => command.as_str() == "attach",
+        _ => false,
+    }
+}
+
+fn read_serve_script<'a>(
+    alloc: Global,
+    found: &ArgMatches<'a>,
+) -> Result<ServeScript<'a>, Fault<'a>> {
+    let start_all = is_all(value(alloc, found, "start")?);
+    let count_limit = number(alloc, found, "count-limit", "serve-script")?;
+    let limits = Limits::standard();
+    match start_all.and_then(|start_all| Settings::new(start_all, count_limit, limits)) {
+        Some(settings) => Ok(ServeScript {
+            machine: value(alloc, found, "machine")?,
+            from: value(alloc, found, "from")?,
+            to: value(alloc, found, "to")?,
+            settings,
+            turns: number(alloc, found, "turns", "serve-script")?,
+        }),
+        None => Err(bad_words(alloc, serve_script(alloc)?, "the options don't read")?),
+    }
+}
+
+fn read_attach<'a>(alloc: Global, found: &ArgMatches<'a>) -> Result<Attach<'a>, Fault<'a>> {
+    Ok(Attach {
+        plan: value(alloc, found, "plan")?,
+        from: value(alloc, found, "from")?,
+        to: value(alloc, found, "to")?,
+        turns: number(alloc, found, "turns", "attach")?,
+    })
+}
+
+/// The value of an argument that is required or has a default.
+fn value<'a>(alloc: Global, found: &ArgMatches<'a>, name: &str) -> Result<&'a str, Fault<'a>> {
+    match found.get_str(name) {
+        Some(text) => Ok(text),
+        None => Err(bad_words(alloc, command(alloc)?, "a value is missing")?),
+    }
+}
+
+/// The number that an option of this command has. `+5` is none, though clap takes it.
+fn number<'a>(
+    alloc: Global,
+    found: &ArgMatches<'a>,
+    name: &str,
+    of: &str,
+) -> Result<u32, Fault<'a>> {
+    let text = value(alloc, found, name)?;
+    match decimal(text) {
+        Some(number) => Ok(number),
+        None => {
+            let message = format!(in alloc;
+                "invalid value '{text}' for '--{name} <N>': a number is digits alone"
+            )?;
+            let command = match of {
+                "attach" => attach_command(alloc)?.bin_name("jdwp attach")?,
+                _ => serve_script(alloc)?.bin_name("jdwp serve-script")?,
+            };
+            Err(bad_words(alloc, command, message.as_str())?)
+        }
+    }
+}
+
+/// Words that clap takes and the program doesn't, told with the usage of this command.
+fn bad_words<'a>(
+    alloc: Global,
+    mut command: Command<'_>,
+    message: &str,
+) -> Result<Fault<'a>, AllocError> {
+    let error = command.error(ErrorKind::ValueValidation, message)?;
+    Ok(refused(alloc, &error))
+}
+
+/// What clap says of words that it refuses, or of the help that they ask for.
+fn refused<'a>(alloc: Global, error: &Error) -> Fault<'a> {
+    if error.kind() == ErrorKind::OutOfMemory {
+        return Fault::NoMemory;
+    }
+    match error.to_string(alloc) {
+        Ok(mut text) => {
+            if text.as_str().ends_with('\n') {
+                text.pop();
+            }
+            Fault::Words(text)
+        }
+        Err(_) => Fault::NoMemory,
+    }
+}
+
+fn command<'a>(alloc: Global) -> Result<Command<'a>, AllocError> {
+    let command = Command::new(alloc, "jdwp")
+        .about("Ends of the Java Debug Wire Protocol (JDWP, Java SE 11)")
+        .subcommand_required(true);
+    with_ends(alloc, with_captures(alloc, command)?)
+}
+
+/// The command with those on captures below it.
+fn with_captures<'a>(alloc: Global, command: Command<'a>) -> Result<Command<'a>, AllocError> {
+    let show = Command::new(alloc, "show")
+        .about("Shows a capture of a session in words, a line for each message")
+        .arg(capture(alloc))?;
+    let check = Command::new(alloc, "check")
+        .about("Judges a capture of a session: yes, or its first fault")
+        .arg(capture(alloc))?;
+    command.subcommand(show)?.subcommand(check)
+}
+
+/// The command with those that run an end of a session below it.
+fn with_ends<'a>(alloc: Global, command: Command<'a>) -> Result<Command<'a>, AllocError> {
+    let serve_script = serve_script(alloc)?;
+    command
+        .subcommand(serve_script)?
+        .subcommand(attach_command(alloc)?)
+}
+
+fn serve_script<'a>(alloc: Global) -> Result<Command<'a>, AllocError> {
+    let command = Command::new(alloc, "serve-script")
+        .about("Serves the session of one debugger, from a file of its bytes")
+        .arg(file(
+            alloc,
+            "machine",
+            "MACHINE",
+            "The script of the machine to be debugged, in JSON",
+        ))?;
+    let command = with_files(
+        alloc,
+        command,
+        "What the debugger sent, in bytes",
+        "Where the target's bytes are written",
+    )?;
+    let command = with_settings(alloc, command)?;
+    with_turns(alloc, command, "How many rounds the session has at most")
+}
+
+fn attach_command<'a>(alloc: Global) -> Result<Command<'a>, AllocError> {
+    let command = Command::new(alloc, "attach")
+        .about("Runs a plan as the debugger of one session, from a file of the target's bytes")
+        .arg(file(
+            alloc,
+            "plan",
+            "PLAN",
+            "A text of lines `ask SET NUMBER [HEX]`, `answers`, `events N` and `mirror`",
+        ))?;
+    let command = with_files(
+        alloc,
+        command,
+        "What the target sent, in bytes",
+        "Where the debugger's bytes are written",
+    )?;
+    with_turns(alloc, command, "How many turns the session has at most")
+}
+
+/// The command with the files of a session.
+fn with_files<'a>(
+    alloc: Global,
+    command: Command<'a>,
+    from: &'a str,
+    to: &'a str,
+) -> Result<Command<'a>, AllocError> {
+    command
+        .arg(option(alloc, "from", "FILE", from).required(true))?
+        .arg(option(alloc, "to", "FILE", to).required(true))
+}
+
+/// The command with the settings of a target.
+fn with_settings<'a>(alloc: Global, command: Command<'a>) -> Result<Command<'a>, AllocError> {
+    let starts = ["all", "none"].as_slice();
+    command
+        .arg(
+            option(alloc, "start", "WHICH", "Which threads VM_START suspends")
+                .value_parser(starts)
+                .default_value("all"),
+        )?
+        .arg(
+            option(
+                alloc,
+                "count-limit",
+                "N",
+                "The greatest suspend count that a Suspend gives",
+            )
+            .value_parser(value_parser!(u32).range(1..=i64::from(GREATEST_INT)))
+            .default_value("65535"),
+        )
+}
+
+/// The command with the most turns of a session.
+fn with_turns<'a>(
+    alloc: Global,
+    command: Command<'a>,
+    help: &'a str,
+) -> Result<Command<'a>, AllocError> {
+    command.arg(
+        option(alloc, "turns", "N", help)
+            .value_parser(value_parser!(u32))
+            .default_value("100000"),
+    )
+}
+
+/// The file of a capture.
+fn capture<'a>(alloc: Global) -> Arg<'a> {
+    file(
+        alloc,
+        "file",
+        "FILE",
+        "A text of lines `> HEX` (from the debugger) and `< HEX` (from the target)",
+    )
+}
+
+/// A file by its place among the words.
+fn file<'a>(alloc: Global, name: &'a str, shown: &'a str, help: &'a str) -> Arg<'a> {
+    Arg::new(alloc, name)
+        .value_name(shown)
+        .help(help)
+        .required(true)
+        .action(ArgAction::Set)
+}
+
+/// An option with a value, which stands at most once.
+fn option<'a>(alloc: Global, name: &'a str, shown: &'a str, help: &'a str) -> Arg<'a> {
+    Arg::new(alloc, name)
+        .long(name)
+        .value_name(shown)
+        .help(help)
+        .action(ArgAction::Set)
+}

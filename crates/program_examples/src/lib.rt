@@ -1,0 +1,14 @@
+//! Plans, the sessions that they run, captures told, and faults with their statuses: tests of `jdwp_plan`, `jdwp_attach` and `jdwp_program`,
+//! which call what anybody can call.
+#![tactic(auto)]
+
+#[cfg(test)]
+mod asserts;
+#[cfg(test)]
+mod attaching_tests;
+#[cfg(test)]
+mod plan_tests;
+#[cfg(test)]
+mod program_tests;
+#[cfg(test)]
+mod session_tests;

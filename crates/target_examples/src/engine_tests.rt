@@ -1,0 +1,712 @@
+//! Sessions of a target on readers and writers that fail, stop or take part of what they are given.
+ghost use Rattle.std.specs.Prelude.{◌≡◌, ◌≤◌, IfOk, IfSome, true};
+
+use crate::asserts::{expect_same, expect_same_for};
+use crate::session_tests::MACHINE_A;
+use jdwp_debuggee::Settings;
+use jdwp_engine::{Ended, Streams, serve};
+use jdwp_script_machine::ScriptMachine;
+use jdwp_target::Target;
+use jdwp_value::ObjectId;
+use jdwp_wire::Limits;
+use std::alloc::Global;
+use std::io;
+use std::io::{BufWriter, ErrorKind, Read, Write};
+use std::test::Fail;
+
+/// What a stream does at one of its calls.
+#[derive(Clone, Copy, Debug, PartialEq, Eq)]
+enum Event {
+    /// The call fails.
+    Fails,
+    /// The call is interrupted.
+    Interrupted,
+    /// The call moves no byte.
+    Stops,
+}
+
+/// An event at a call, counted from 1.
+#[derive(Clone, Copy, Debug)]
+struct Plan {
+    call: u32,
+    event: Event,
+}
+
+/// No call is disturbed.
+const UNDISTURBED: Plan = Plan {
+    call: 0,
+    event: Event::Fails,
+};
+
+impl Plan {
+    /// What the call of this number answers, if it is disturbed.
+    fn at(self, call: u32) -> Option<io::Result<usize>>
+        ensures { IfSome result (λ r. IfOk r (λ n. n ≡ 0)) }
+    {
+        if call != self.call {
+            return None;
+        }
+        Some(match self.event {
+            Event::Fails => Err(io::Error::from(ErrorKind::ConnectionReset)),
+            Event::Interrupted => Err(io::Error::from(ErrorKind::Interrupted)),
+            Event::Stops => Ok(0),
+        })
+    }
+}
+
+/// Gives so many bytes a call at most, and keeps the least and the greatest number of bytes that it was asked for.
+#[derive(Drop)]
+struct Reader<'a> {
+    bytes: &'a [u8],
+    most: usize,
+    calls: u32,
+    plan: Plan,
+    least_asked: usize,
+    most_asked: usize,
+}
+
+impl<'a> Read for Reader<'a> {
+    fn read(&mut self, buffer: &mut [u8]) -> io::Result<usize> {
+        self.calls = self.calls.saturating_add(1);
+        self.least_asked = self.least_asked.min(buffer.len());
+        self.most_asked = self.most_asked.max(buffer.len());
+        if let Some(result) = self.plan.at(self.calls) {
+            return result;
+        }
+        let count = self.most.min(buffer.len()).min(self.bytes.len());
+        buffer[..count].copy_from_slice(&self.bytes[..count]);
+        self.bytes = &self.bytes[count..];
+        Ok(count)
+    }
+}
+
+/// Takes so many bytes a call at most.
+#[derive(Drop)]
+struct Writer {
+    bytes: Vec<u8>,
+    most: usize,
+    calls: u32,
+    plan: Plan,
+    flushes: u32,
+    flush_plan: Plan,
+}
+
+impl Write for Writer {
+    fn write(&mut self, bytes: &[u8]) -> io::Result<usize> {
+        self.calls = self.calls.saturating_add(1);
+        if let Some(result) = self.plan.at(self.calls) {
+            return result;
+        }
+        let count = self.most.min(bytes.len());
+        self.bytes.extend_from_slice(&bytes[..count])?;
+        Ok(count)
+    }
+
+    fn flush(&mut self) -> io::Result<()> {
+        self.flushes = self.flushes.saturating_add(1);
+        match self.flush_plan.at(self.flushes) {
+            Some(Err(error)) => Err(error),
+            Some(Ok(_)) | None => Ok(()),
+        }
+    }
+}
+
+fn reading(bytes: &[u8], most: usize, plan: Plan) -> Reader<'_> {
+    Reader {
+        bytes,
+        most,
+        calls: 0,
+        plan,
+        least_asked: usize::MAX,
+        most_asked: 0,
+    }
+}
+
+fn writing(alloc: Global, most: usize, plan: Plan) -> Writer {
+    Writer {
+        bytes: Vec::new(alloc),
+        most,
+        calls: 0,
+        plan,
+        flushes: 0,
+        flush_plan: UNDISTURBED,
+    }
+}
+
+fn closed_target(alloc: Global, start_all: bool) -> Result<Target<ScriptMachine>, Fail> {
+    let machine = ScriptMachine::read(alloc, MACHINE_A)?;
+    let Some(settings) = Settings::new(start_all, 65535, Limits::standard()) else {
+        return Err(Fail::from("the count limit is in range"));
+    };
+    Ok(Target::new(alloc, machine, settings)?)
+}
+
+/// A session that was served: how it ended, its reader and writer, and what it left of the target.
+#[derive(Drop)]
+struct AfterServing<'a, W> {
+    ended: Ended,
+    reader: Reader<'a>,
+    writer: W,
+    is_open: bool,
+    lives: usize,
+    count: Option<u32>,
+}
+
+/// Serves one session.
+fn serve_on<'a, W: Write + Drop>(
+    target: &mut Target<ScriptMachine>,
+    reader: Reader<'a>,
+    writer: W,
+    rounds: u64,
+) -> AfterServing<'a, W> {
+    let mut pipe = Streams::new(reader, writer);
+    let ended = serve(target, &mut pipe, rounds);
+    let (reader, writer) = pipe.into_parts();
+    AfterServing {
+        ended,
+        reader,
+        writer,
+        is_open: target.is_open(),
+        lives: target.live().len(),
+        count: target.count(ObjectId(1)),
+    }
+}
+
+/// Serves the first session of a target.
+fn served_on<'a, W: Write + Drop>(
+    alloc: Global,
+    start_all: bool,
+    reader: Reader<'a>,
+    writer: W,
+    rounds: u64,
+) -> Result<AfterServing<'a, W>, Fail> {
+    let mut target = closed_target(alloc, start_all)?;
+    Ok(serve_on(&mut target, reader, writer, rounds))
+}
+
+/// Serves one session, and answers how it ended and what was written.
+fn served(
+    alloc: Global,
+    start_all: bool,
+    reader: Reader<'_>,
+    writer: Writer,
+    rounds: u64,
+) -> Result<(Ended, Vec<u8>), Fail> {
+    let served = served_on(alloc, start_all, reader, writer, rounds)?;
+    Ok((served.ended, served.writer.bytes))
+}
+
+/// Serves the session on a target that is open already.
+fn served_while_open(alloc: Global) -> Result<AfterServing<'static, Writer>, Fail> {
+    let mut target = closed_target(alloc, false)?;
+    if !target.accept() {
+        return Err(Fail::from("no session begins"));
+    }
+    let reader = reading(&SESSION, 66, UNDISTURBED);
+    Ok(serve_on(
+        &mut target,
+        reader,
+        writing(alloc, 5000, UNDISTURBED),
+        ROUNDS,
+    ))
+}
+
+/// Serves the handshake for so many rounds, and the whole session behind it for none.
+fn served_twice(
+    alloc: Global,
+    rounds: u64,
+) -> Result<(AfterServing<'static, Writer>, AfterServing<'static, Writer>), Fail> {
+    let mut target = closed_target(alloc, false)?;
+    let reader = reading(&SESSION[..14], 66, UNDISTURBED);
+    let writer = writing(alloc, 5000, UNDISTURBED);
+    let first = serve_on(&mut target, reader, writer, rounds);
+    let reader = reading(&SESSION, 66, UNDISTURBED);
+    let writer = writing(alloc, 5000, UNDISTURBED);
+    Ok((first, serve_on(&mut target, reader, writer, 0)))
+}
+
+const ROUNDS: u64 = 1000;
+
+/// The handshake, IDSizes with id 1, Suspend with id 2, SuspendCount of thread 1 with id 3, Dispose with id 4.
+const SESSION: [u8; 66] = [
+    0x4a, 0x44, 0x57, 0x50, 0x2d, 0x48, 0x61, 0x6e, 0x64, 0x73, 0x68, 0x61, 0x6b, 0x65, //
+    0x00, 0x00, 0x00, 0x0b, 0x00, 0x00, 0x00, 0x01, 0x00, 0x01, 0x07, //
+    0x00, 0x00, 0x00, 0x0b, 0x00, 0x00, 0x00, 0x02, 0x00, 0x01, 0x08, //
+    0x00, 0x00, 0x00, 0x13, 0x00, 0x00, 0x00, 0x03, 0x00, 0x0b, 0x0c, 0x00, 0x00, 0x00, 0x00, 0x00,
+    0x00, 0x00, 0x01, //
+    0x00, 0x00, 0x00, 0x0b, 0x00, 0x00, 0x00, 0x04, 0x00, 0x01, 0x06, //
+];
+
+/// What a target that starts no thread suspended answers to it.
+const ANSWERS: [u8; 111] = [
+    0x4a, 0x44, 0x57, 0x50, 0x2d, 0x48, 0x61, 0x6e, 0x64, 0x73, 0x68, 0x61, 0x6b, 0x65, //
+    0x00, 0x00, 0x00, 0x1d, 0x00, 0x00, 0x00, 0x01, 0x00, 0x40, 0x64, 0x00, 0x00, 0x00, 0x00, 0x01,
+    0x5a, 0x00, 0x00, 0x00, 0x00, 0x00, 0x00, 0x00, 0x00, 0x00, 0x00, 0x00, 0x01, //
+    0x00, 0x00, 0x00, 0x1f, 0x00, 0x00, 0x00, 0x01, 0x80, 0x00, 0x00, 0x00, 0x00, 0x00, 0x08, 0x00,
+    0x00, 0x00, 0x08, 0x00, 0x00, 0x00, 0x08, 0x00, 0x00, 0x00, 0x08, 0x00, 0x00, 0x00, 0x08, //
+    0x00, 0x00, 0x00, 0x0b, 0x00, 0x00, 0x00, 0x02, 0x80, 0x00, 0x00, //
+    0x00, 0x00, 0x00, 0x0f, 0x00, 0x00, 0x00, 0x03, 0x80, 0x00, 0x00, 0x00, 0x00, 0x00, 0x01, //
+    0x00, 0x00, 0x00, 0x0b, 0x00, 0x00, 0x00, 0x04, 0x80, 0x00, 0x00, //
+];
+
+/// What a target that starts every thread suspended answers to it.
+const ANSWERS_SUSPENDED: [u8; 111] = [
+    0x4a, 0x44, 0x57, 0x50, 0x2d, 0x48, 0x61, 0x6e, 0x64, 0x73, 0x68, 0x61, 0x6b, 0x65, //
+    0x00, 0x00, 0x00, 0x1d, 0x00, 0x00, 0x00, 0x01, 0x00, 0x40, 0x64, 0x02, 0x00, 0x00, 0x00, 0x01,
+    0x5a, 0x00, 0x00, 0x00, 0x00, 0x00, 0x00, 0x00, 0x00, 0x00, 0x00, 0x00, 0x01, //
+    0x00, 0x00, 0x00, 0x1f, 0x00, 0x00, 0x00, 0x01, 0x80, 0x00, 0x00, 0x00, 0x00, 0x00, 0x08, 0x00,
+    0x00, 0x00, 0x08, 0x00, 0x00, 0x00, 0x08, 0x00, 0x00, 0x00, 0x08, 0x00, 0x00, 0x00, 0x08, //
+    0x00, 0x00, 0x00, 0x0b, 0x00, 0x00, 0x00, 0x02, 0x80, 0x00, 0x00, //
+    0x00, 0x00, 0x00, 0x0f, 0x00, 0x00, 0x00, 0x03, 0x80, 0x00, 0x00, 0x00, 0x00, 0x00, 0x02, //
+    0x00, 0x00, 0x00, 0x0b, 0x00, 0x00, 0x00, 0x04, 0x80, 0x00, 0x00, //
+];
+
+/// A target that starts every thread suspended answers however the session is cut. Where none is suspended the threads step once all
+/// that was read is handled, and so the session is read whole.
+#[test]
+fn a_session_is_answered(rt: HostRuntime) -> Result<(), Fail> {
+    let rows: [(bool, usize, &[u8]); 7] = [
+        (true, 1, &ANSWERS_SUSPENDED),
+        (true, 2, &ANSWERS_SUSPENDED),
+        (true, 13, &ANSWERS_SUSPENDED),
+        (true, 66, &ANSWERS_SUSPENDED),
+        (true, 5000, &ANSWERS_SUSPENDED),
+        (false, 66, &ANSWERS),
+        (false, 5000, &ANSWERS),
+    ];
+    for (start_all, most, answers) in rows {
+        let alloc = rt.alloc();
+        let (ended, bytes) = served(
+            alloc,
+            start_all,
+            reading(&SESSION, most, UNDISTURBED),
+            writing(alloc, most, UNDISTURBED),
+            ROUNDS,
+        )?;
+        expect_same_for(&rt, &ended, &Ended::Done, &(most));
+        expect_same_for(&rt, &bytes.as_slice(), &answers, &(most));
+    }
+    Ok(())
+}
+
+/// How many bytes are written once so many of the session's were read.
+fn written_after(read: usize) -> usize
+    ensures { result ≤ 111 }
+{
+    if read < 14 {
+        0
+    } else if read < 25 {
+        43
+    } else if read < 36 {
+        74
+    } else if read < 55 {
+        85
+    } else if read < 66 {
+        100
+    } else {
+        111
+    }
+}
+
+#[test]
+fn each_read_may_fail(rt: HostRuntime) -> Result<(), Fail> {
+    for call in 1u32..68 {
+        for event in [Event::Fails, Event::Stops] {
+            let alloc = rt.alloc();
+            let plan = Plan { call, event };
+            let (ended, bytes) = served(
+                alloc,
+                true,
+                reading(&SESSION, 1, plan),
+                writing(alloc, 5000, UNDISTURBED),
+                ROUNDS,
+            )?;
+            let want = if call < 67 {
+                Ended::LostByRead
+            } else {
+                Ended::Done
+            };
+            expect_same_for(&rt, &ended, &want, &(event, call));
+            let written = written_after(usize::try_from(call)?.saturating_sub(1));
+            expect_same_for(
+                &rt,
+                &bytes.as_slice(),
+                &&ANSWERS_SUSPENDED[..written],
+                &(event, call),
+            );
+        }
+    }
+    Ok(())
+}
+
+#[test]
+fn each_write_may_fail(rt: HostRuntime) -> Result<(), Fail> {
+    for (call, written) in [
+        (1u32, 0usize),
+        (2, 43),
+        (3, 74),
+        (4, 85),
+        (5, 100),
+        (6, 111),
+    ] {
+        for event in [Event::Fails, Event::Stops] {
+            let alloc = rt.alloc();
+            let plan = Plan { call, event };
+            let (ended, bytes) = served(
+                alloc,
+                true,
+                reading(&SESSION, 1, UNDISTURBED),
+                writing(alloc, 5000, plan),
+                ROUNDS,
+            )?;
+            let want = if call < 6 {
+                Ended::LostByWrite
+            } else {
+                Ended::Done
+            };
+            expect_same_for(&rt, &ended, &want, &(event, call));
+            expect_same_for(
+                &rt,
+                &bytes.as_slice(),
+                &&ANSWERS_SUSPENDED[..written],
+                &(event, call),
+            );
+        }
+    }
+    Ok(())
+}
+
+#[test]
+fn each_write_of_a_byte_may_fail(rt: HostRuntime) -> Result<(), Fail> {
+    for call in 1u32..113 {
+        let alloc = rt.alloc();
+        let plan = Plan {
+            call,
+            event: Event::Fails,
+        };
+        let (ended, bytes) = served(
+            alloc,
+            false,
+            reading(&SESSION, 66, UNDISTURBED),
+            writing(alloc, 1, plan),
+            ROUNDS,
+        )?;
+        let want = if call < 112 {
+            Ended::LostByWrite
+        } else {
+            Ended::Done
+        };
+        expect_same_for(&rt, &ended, &want, &(call));
+        let written = usize::try_from(call)?.saturating_sub(1).min(111);
+        expect_same_for(&rt, &bytes.as_slice(), &&ANSWERS[..written], &(call));
+    }
+    Ok(())
+}
+
+#[test]
+fn an_interrupted_call_is_repeated(rt: HostRuntime) -> Result<(), Fail> {
+    for call in [1u32, 2, 5] {
+        let alloc = rt.alloc();
+        let plan = Plan {
+            call,
+            event: Event::Interrupted,
+        };
+        let (ended, bytes) = served(
+            alloc,
+            true,
+            reading(&SESSION, 20, plan),
+            writing(alloc, 5000, plan),
+            ROUNDS,
+        )?;
+        expect_same_for(&rt, &ended, &Ended::Done, &(call));
+        expect_same_for(
+            &rt,
+            &bytes.as_slice(),
+            &ANSWERS_SUSPENDED.as_slice(),
+            &(call),
+        );
+    }
+    Ok(())
+}
+
+#[test]
+fn a_failed_flush_is_a_failed_read(rt: HostRuntime) -> Result<(), Fail> {
+    let alloc = rt.alloc();
+    let mut writer = writing(alloc, 5000, UNDISTURBED);
+    writer.flush_plan = Plan {
+        call: 1,
+        event: Event::Fails,
+    };
+    let (ended, bytes) = served(
+        alloc,
+        false,
+        reading(&SESSION, 66, UNDISTURBED),
+        writer,
+        ROUNDS,
+    )?;
+    expect_same(&rt, &ended, &Ended::LostByRead);
+    assert!(rt; bytes.is_empty());
+    Ok(())
+}
+
+/// Nothing waits in the writer's own buffer while the reader is asked for more.
+#[test]
+fn answers_leave_before_a_read(rt: HostRuntime) -> Result<(), Fail> {
+    for call in 1u32..67 {
+        let alloc = rt.alloc();
+        let plan = Plan {
+            call,
+            event: Event::Fails,
+        };
+        let writer = BufWriter::new(alloc, writing(alloc, 5000, UNDISTURBED))?;
+        let session = served_on(alloc, true, reading(&SESSION, 1, plan), writer, ROUNDS)?;
+        expect_same_for(&rt, &session.ended, &Ended::LostByRead, &(call));
+        let written = written_after(usize::try_from(call)?.saturating_sub(1));
+        expect_same_for(
+            &rt,
+            &session.writer.get_ref().bytes.as_slice(),
+            &&ANSWERS_SUSPENDED[..written],
+            &(call),
+        );
+    }
+    Ok(())
+}
+
+/// What was written leaves the writer's own buffer at the end, and in few writes.
+#[test]
+fn answers_leave_at_the_end_in_one_write(rt: HostRuntime) -> Result<(), Fail> {
+    let alloc = rt.alloc();
+    let writer = BufWriter::new(alloc, writing(alloc, 5000, UNDISTURBED))?;
+    let reader = reading(&SESSION, 66, UNDISTURBED);
+    let session = served_on(alloc, false, reader, writer, ROUNDS)?;
+    expect_same(&rt, &session.ended, &Ended::Done);
+    expect_same(
+        &rt,
+        &session.writer.get_ref().bytes.as_slice(),
+        &ANSWERS.as_slice(),
+    );
+    expect_same(&rt, &session.writer.get_ref().calls, &1);
+    Ok(())
+}
+
+/// The first flush stands before the one read, and the second at the end.
+#[test]
+fn a_failed_last_flush_is_a_failed_write(rt: HostRuntime) -> Result<(), Fail> {
+    for (call, want) in [(2u32, Ended::LostByWrite), (3, Ended::Done)] {
+        let alloc = rt.alloc();
+        let mut writer = writing(alloc, 5000, UNDISTURBED);
+        writer.flush_plan = Plan {
+            call,
+            event: Event::Fails,
+        };
+        let (ended, _) = served(
+            alloc,
+            false,
+            reading(&SESSION, 66, UNDISTURBED),
+            writer,
+            ROUNDS,
+        )?;
+        expect_same_for(&rt, &ended, &want, &(call));
+    }
+    Ok(())
+}
+
+/// A packet of 65,536 bytes behind the handshake: 4,096 bytes are asked for at once, and at the end the 14 for which there is room.
+#[test]
+fn reads_are_of_what_there_is_room_for(rt: HostRuntime) -> Result<(), Fail> {
+    let alloc = rt.alloc();
+    let mut input = Vec::new(alloc);
+    input.extend_from_slice(b"JDWP-Handshake\x00\x01\x00\x00\x00\x00\x00\x05\x00\x40\x64")?;
+    let block = [0; 4096];
+    for _ in 0..16u32 {
+        input.extend_from_slice(&block)?;
+    }
+    input.truncate(65550);
+    let session = served_on(
+        alloc,
+        true,
+        reading(&input, 5000, UNDISTURBED),
+        writing(alloc, 5000, UNDISTURBED),
+        19,
+    )?;
+    expect_same(&rt, &session.ended, &Ended::TurnLimit);
+    expect_same(&rt, &session.reader.most_asked, &4096);
+    expect_same(&rt, &session.reader.least_asked, &14);
+    assert!(rt;
+        session
+            .writer
+            .bytes
+            .as_slice()
+            .ends_with(b"\x00\x00\x00\x0b\x00\x00\x00\x05\x80\x00\x63")
+    );
+    Ok(())
+}
+
+#[test]
+fn an_open_target_is_refused(rt: HostRuntime) -> Result<(), Fail> {
+    let session = served_while_open(rt.alloc())?;
+    expect_same(&rt, &session.ended, &Ended::Refused(0));
+    assert!(rt; session.is_open);
+    expect_same(&rt, &session.reader.calls, &0);
+    expect_same(&rt, &session.writer.calls, &0);
+    expect_same(&rt, &session.writer.flushes, &0);
+    Ok(())
+}
+
+#[test]
+fn bytes_that_begin_no_message_are_refused(rt: HostRuntime) -> Result<(), Fail> {
+    let sessions: [(&[u8], u16, usize); 4] = [
+        (b"JDWP-HandshakE", 4, 0),
+        (b"JDWP-Handshake\x00\x00\x00\x0a", 1, 43),
+        (b"JDWP-Handshake\x00\x01\x00\x01", 2, 43),
+        (b"JDWP-Handshake\x00\x00\x00\x0b\x00\x00\x00\x01\x01", 3, 43),
+    ];
+    for (input, number, written) in sessions {
+        let alloc = rt.alloc();
+        let (ended, bytes) = served(
+            alloc,
+            false,
+            reading(input, 5000, UNDISTURBED),
+            writing(alloc, 5000, UNDISTURBED),
+            ROUNDS,
+        )?;
+        expect_same(&rt, &ended, &Ended::Refused(number));
+        expect_same_for(&rt, &bytes.as_slice(), &&ANSWERS[..written], &(number));
+    }
+    Ok(())
+}
+
+#[test]
+fn unknown_commands_are_answered(rt: HostRuntime) -> Result<(), Fail> {
+    let input =
+        b"JDWP-Handshake\x00\x00\x00\x0b\x00\x00\x00\x05\x00\x40\x64\x00\x00\x00\x0b\x00\x00\x00\x06\x00\x01\x63";
+    let alloc = rt.alloc();
+    let (ended, bytes) = served(
+        alloc,
+        true,
+        reading(input, 5000, UNDISTURBED),
+        writing(alloc, 5000, UNDISTURBED),
+        ROUNDS,
+    )?;
+    expect_same(&rt, &ended, &Ended::LostByRead);
+    assert!(rt; bytes.as_slice().starts_with(&ANSWERS_SUSPENDED[..43]));
+    let replies =
+        b"\x00\x00\x00\x0b\x00\x00\x00\x05\x80\x00\x63\x00\x00\x00\x0b\x00\x00\x00\x06\x80\x00\x63";
+    assert!(rt; bytes.as_slice().ends_with(replies));
+    expect_same(&rt, &bytes.len(), &65);
+    Ok(())
+}
+
+#[test]
+fn an_empty_input_is_lost(rt: HostRuntime) -> Result<(), Fail> {
+    let alloc = rt.alloc();
+    let (ended, bytes) = served(
+        alloc,
+        false,
+        reading(b"", 5000, UNDISTURBED),
+        writing(alloc, 5000, UNDISTURBED),
+        ROUNDS,
+    )?;
+    expect_same(&rt, &ended, &Ended::LostByRead);
+    assert!(rt; bytes.is_empty());
+    Ok(())
+}
+
+/// One read and five turns take six rounds.
+#[test]
+fn rounds_are_counted(rt: HostRuntime) -> Result<(), Fail> {
+    for (rounds, written) in [
+        (0u64, 0usize),
+        (1, 0),
+        (2, 43),
+        (3, 74),
+        (4, 85),
+        (5, 100),
+        (6, 111),
+    ] {
+        let alloc = rt.alloc();
+        let (ended, bytes) = served(
+            alloc,
+            false,
+            reading(&SESSION, 66, UNDISTURBED),
+            writing(alloc, 5000, UNDISTURBED),
+            rounds,
+        )?;
+        let want = if rounds < 6 {
+            Ended::TurnLimit
+        } else {
+            Ended::Done
+        };
+        expect_same_for(&rt, &ended, &want, &(rounds));
+        expect_same_for(&rt, &bytes.as_slice(), &&ANSWERS[..written], &(rounds));
+    }
+    Ok(())
+}
+
+#[test]
+fn a_loss_lowers_the_counts(rt: HostRuntime) -> Result<(), Fail> {
+    let alloc = rt.alloc();
+    let reader = reading(&SESSION[..36], 66, UNDISTURBED);
+    let writer = writing(alloc, 5000, UNDISTURBED);
+    let session = served_on(alloc, true, reader, writer, ROUNDS)?;
+    expect_same(&rt, &session.ended, &Ended::LostByRead);
+    assert!(rt; !session.is_open);
+    expect_same(&rt, &session.count, &Some(0));
+    Ok(())
+}
+
+/// VM_DEATH under the id 2.
+const VM_DEATH: &[u8] =
+    b"\x00\x00\x00\x15\x00\x00\x00\x02\x00\x40\x64\x00\x00\x00\x00\x01\x63\x00\x00\x00\x00";
+
+/// Where nothing is to be handled each live thread steps once a round: the read, the handshake, seven steps of thread 1 beside the end
+/// of thread 2, and the end of thread 1, with which the machine dies. From then on a session is done at once.
+#[test]
+fn threads_step_until_the_machine_dies(rt: HostRuntime) -> Result<(), Fail> {
+    for (rounds, want, written) in [(9u64, Ended::TurnLimit, 43usize), (10, Ended::Done, 64)] {
+        let (first, second) = served_twice(rt.alloc(), rounds)?;
+        expect_same_for(&rt, &first.ended, &want, &(rounds));
+        expect_same(&rt, &first.reader.calls, &1);
+        let bytes = first.writer.bytes.as_slice();
+        expect_same_for(&rt, &bytes.len(), &written, &(rounds));
+        assert!(rt; bytes.starts_with(&ANSWERS[..43]));
+        if want == Ended::Done {
+            assert!(rt; bytes.ends_with(VM_DEATH));
+            expect_same(&rt, &first.lives, &0);
+            expect_same(&rt, &second.ended, &Ended::Done);
+            expect_same(&rt, &second.reader.calls, &0);
+            expect_same(&rt, &second.writer.flushes, &0);
+        }
+    }
+    Ok(())
+}
+
+/// Breakpoints at index 3 are requested twice, with the policies NONE and ALL. Both Sets are handled before a thread steps; then thread 1
+/// calls and comes there, both requests report it in one composite, and nobody steps any more.
+#[test]
+fn what_steps_report_is_written(rt: HostRuntime) -> Result<(), Fail> {
+    let input = b"JDWP-Handshake\
+        \x00\x00\x00\x2b\x00\x00\x00\x02\x00\x0f\x01\x02\x00\x00\x00\x00\x01\x07\x01\
+        \x00\x00\x00\x00\x00\x00\x00\x0a\x00\x00\x00\x00\x00\x00\x00\x14\x00\x00\x00\x00\x00\x00\x00\x03\
+        \x00\x00\x00\x2b\x00\x00\x00\x03\x00\x0f\x01\x02\x02\x00\x00\x00\x01\x07\x01\
+        \x00\x00\x00\x00\x00\x00\x00\x0a\x00\x00\x00\x00\x00\x00\x00\x14\x00\x00\x00\x00\x00\x00\x00\x03";
+    let told = b"\x00\x00\x00\x0f\x00\x00\x00\x02\x80\x00\x00\x00\x00\x00\x01\
+        \x00\x00\x00\x0f\x00\x00\x00\x03\x80\x00\x00\x00\x00\x00\x02\
+        \x00\x00\x00\x5c\x00\x00\x00\x02\x00\x40\x64\x02\x00\x00\x00\x02\
+        \x02\x00\x00\x00\x01\x00\x00\x00\x00\x00\x00\x00\x01\x01\
+        \x00\x00\x00\x00\x00\x00\x00\x0a\x00\x00\x00\x00\x00\x00\x00\x14\x00\x00\x00\x00\x00\x00\x00\x03\
+        \x02\x00\x00\x00\x02\x00\x00\x00\x00\x00\x00\x00\x01\x01\
+        \x00\x00\x00\x00\x00\x00\x00\x0a\x00\x00\x00\x00\x00\x00\x00\x14\x00\x00\x00\x00\x00\x00\x00\x03";
+    let alloc = rt.alloc();
+    let (ended, bytes) = served(
+        alloc,
+        false,
+        reading(input, 5000, UNDISTURBED),
+        writing(alloc, 5000, UNDISTURBED),
+        ROUNDS,
+    )?;
+    expect_same(&rt, &ended, &Ended::LostByRead);
+    assert!(rt; bytes.as_slice().starts_with(&ANSWERS[..43]));
+    expect_same(&rt, &&bytes.as_slice()[43..], &told.as_slice());
+    Ok(())
+}

@@ -1,0 +1,16 @@
+//! Worked sessions of a target, byte for byte, and how `serve` runs them: tests of `jdwp_target`, `jdwp_engine` and `jdwp_serve`, which call
+//! what anybody can call.
+#![tactic(auto)]
+
+#[cfg(test)]
+mod asserts;
+#[cfg(test)]
+mod engine_tests;
+#[cfg(test)]
+mod example_tests;
+#[cfg(test)]
+mod request_tests;
+#[cfg(test)]
+mod serve_tests;
+#[cfg(test)]
+mod session_tests;

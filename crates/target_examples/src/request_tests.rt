@@ -1,0 +1,688 @@
+//! Event requests at a target over machine scripts: which are refused, and what is sent for those that stand.
+use crate::asserts::expect_same;
+use crate::session_tests::{Act, HANDSHAKE, MACHINE_A, Target, comes, goes_wrong_at, ready};
+use jdwp_target::Stepped;
+use std::alloc::Global;
+use std::test::Fail;
+
+/// A machine whose thread 1 enters a method, throws an exception that is caught and one that is not, prepares a class, starts thread 2
+/// and returns.
+const ALL_KINDS: &str = "{\"name\":\"kinds\",\"sizes\":[8,8,8,8,8],
+\"groups\":[{\"id\":5,\"name\":\"main\",\"parent\":0}],
+\"classes\":[
+ {\"id\":13,\"tag\":1,\"signature\":\"LBase;\",\"modifiers\":1,\"super\":0,\"interfaces\":[],\"source\":null,\"fields\":[],\"methods\":[]},
+ {\"id\":10,\"tag\":1,\"signature\":\"Lapp/Main;\",\"modifiers\":1,\"super\":13,\"interfaces\":[],\"source\":null,\"fields\":[],
+  \"methods\":[{\"id\":20,\"name\":\"run\",\"signature\":\"()I\",\"modifiers\":1,
+   \"args\":0,\"last\":9,\"lines\":[[0,1],[3,2],[4,3]],\"slots\":[]}]},
+ {\"id\":30,\"tag\":1,\"signature\":\"LFault;\",\"modifiers\":1,\"super\":0,\"interfaces\":[],\"source\":null,\"fields\":[],\"methods\":[]},
+ {\"id\":31,\"tag\":1,\"signature\":\"LOops;\",\"modifiers\":1,\"super\":30,\"interfaces\":[],\"source\":null,\"fields\":[],\"methods\":[]},
+ {\"id\":12,\"tag\":1,\"signature\":\"LLate;\",\"modifiers\":1,\"super\":0,\"interfaces\":[],\"source\":null,\"fields\":[],\"methods\":[]}],
+\"objects\":[{\"id\":40,\"class\":31,\"fields\":[],\"text\":null,\"array\":null}],
+\"threads\":[{\"id\":1,\"name\":\"main\",\"group\":5,\"steps\":[
+ [\"call\",50,10,20,0,[]],[\"throw\",40,[10,20,4]],[\"throw\",40,null],
+ [\"prepare\",12],[\"start\",2],[\"return\",[\"I\",5]]]},
+ {\"id\":2,\"name\":\"work\",\"group\":5,\"steps\":[]}]}";
+
+/// A machine whose thread 1 calls a second method from line 1 of the first, moves in it, returns and goes on.
+const A_CALL: &str = "{\"name\":\"call\",\"sizes\":[8,8,8,8,8],
+\"groups\":[{\"id\":5,\"name\":\"main\",\"parent\":0}],
+\"classes\":[{\"id\":10,\"tag\":1,\"signature\":\"LMain;\",\"modifiers\":1,
+ \"super\":0,\"interfaces\":[],\"source\":null,\"fields\":[],
+ \"methods\":[{\"id\":20,\"name\":\"run\",\"signature\":\"()V\",\"modifiers\":1,
+  \"args\":0,\"last\":9,\"lines\":[[0,1],[3,2],[4,3]],\"slots\":[]},
+  {\"id\":21,\"name\":\"help\",\"signature\":\"()V\",\"modifiers\":1,
+  \"args\":0,\"last\":9,\"lines\":[[0,7],[5,8]],\"slots\":[]}]}],
+\"objects\":[],
+\"threads\":[{\"id\":1,\"name\":\"main\",\"group\":5,\"steps\":[
+ [\"call\",30,10,20,0,[]],[\"call\",31,10,21,0,[]],[\"go\",5],[\"go\",6],[\"return\",[\"V\",0]],
+ [\"go\",1],[\"go\",3],[\"go\",4]]},
+ {\"id\":2,\"name\":\"work\",\"group\":5,\"steps\":[]}]}";
+
+/// A kind that there is not is 102, one that no request may have 99, and a policy that there is not 103, in this order.
+#[test]
+fn kinds_and_policies_that_are_refused(rt: HostRuntime) -> Result<(), Fail> {
+    let acts = [
+        Act::Refuses("00 00 00000000", 102),
+        Act::Refuses("0b 00 00000000", 102),
+        Act::Refuses("7f 03 00000000", 102),
+        Act::Refuses("03 00 00000000", 99),
+        Act::Refuses("05 00 00000000", 99),
+        Act::Refuses("09 00 00000000", 99),
+        Act::Refuses("0a 00 00000000", 99),
+        Act::Refuses("14 00 00000000", 99),
+        Act::Refuses("15 00 00000000", 99),
+        Act::Refuses("1e 00 00000000", 99),
+        Act::Refuses("2b 00 00000000", 99),
+        Act::Refuses("2c 00 00000000", 99),
+        Act::Refuses("2d 00 00000000", 99),
+        Act::Refuses("2e 00 00000000", 99),
+        Act::Refuses("5a 00 00000000", 99),
+        Act::Refuses("63 00 00000000", 99),
+        Act::Refuses("63 03 00000000", 99),
+        Act::Refuses("28 03 00000000", 103),
+        Act::Refuses("28 ff 00000000", 103),
+        Act::Refuses("28 03 00000001 02 00000001", 103),
+        Act::Requests(0),
+    ];
+    expect_same(
+        &rt,
+        &goes_wrong_at(rt.alloc(), MACHINE_A, 65535, &acts)?,
+        &None,
+    );
+    Ok(())
+}
+
+#[test]
+fn modifiers_that_are_refused(rt: HostRuntime) -> Result<(), Fail> {
+    let acts = [
+        Act::Refuses("28 00 00000001 02 00000001", 99),
+        Act::Refuses("28 00 00000001 09 000000000000000a 0000000000000001", 99),
+        Act::Refuses("28 00 00000001 0b 0000000000000001", 99),
+        Act::Refuses("28 00 00000001 0c 00000001 2a", 99),
+        Act::Refuses("28 00 00000001 01 00000000", 512),
+        Act::Refuses("28 00 00000001 01 ffffffff", 512),
+        Act::Refuses("28 00 00000001 03 0000000000000003", 10),
+        Act::Refuses("01 00 00000001 0a 0000000000000003 00000000 00000000", 10),
+        Act::Refuses(
+            "02 00 00000001 07 00 0000000000000000 0000000000000000 0000000000000000",
+            24,
+        ),
+        Act::Refuses("28 00 00000001 04 000000000000000b", 21),
+        Act::Refuses(
+            "02 00 00000001 07 01 000000000000000b 0000000000000014 0000000000000003",
+            21,
+        ),
+        Act::Refuses("04 00 00000001 08 000000000000000b 01 01", 21),
+        Act::Refuses(
+            "02 00 00000001 07 01 000000000000000a 0000000000000015 0000000000000003",
+            23,
+        ),
+        Act::Refuses(
+            "02 00 00000001 07 01 000000000000000a 0000000000000014 000000000000000a",
+            24,
+        ),
+        Act::Refuses("02 00 00000001 0a 0000000000000001 00000000 00000000", 103),
+        Act::Refuses("01 00 00000001 0a 0000000000000001 00000002 00000000", 103),
+        Act::Refuses("01 00 00000001 0a 0000000000000001 00000000 00000003", 103),
+        Act::Refuses("01 00 00000001 0a 0000000000000001 ffffffff 00000000", 103),
+        Act::Requests(0),
+    ];
+    expect_same(
+        &rt,
+        &goes_wrong_at(rt.alloc(), MACHINE_A, 65535, &acts)?,
+        &None,
+    );
+    Ok(())
+}
+
+#[test]
+fn modifiers_that_a_kind_does_not_allow(rt: HostRuntime) -> Result<(), Fail> {
+    let acts = [
+        Act::Refuses("06 00 00000001 04 000000000000000a", 103),
+        Act::Refuses("06 00 00000001 05 00000004 4d61696e", 103),
+        Act::Refuses("06 00 00000001 06 00000004 4d61696e", 103),
+        Act::Refuses(
+            "06 00 00000001 07 01 000000000000000a 0000000000000014 0000000000000003",
+            103,
+        ),
+        Act::Refuses("07 00 00000001 04 000000000000000a", 103),
+        Act::Refuses("07 00 00000001 05 00000004 4d61696e", 103),
+        Act::Refuses("07 00 00000001 06 00000004 4d61696e", 103),
+        Act::Refuses(
+            "07 00 00000001 07 01 000000000000000a 0000000000000014 0000000000000003",
+            103,
+        ),
+        Act::Refuses(
+            "08 00 00000001 07 01 000000000000000a 0000000000000014 0000000000000003",
+            103,
+        ),
+        Act::Refuses(
+            "28 00 00000001 07 01 000000000000000a 0000000000000014 0000000000000003",
+            103,
+        ),
+        Act::Refuses(
+            "29 00 00000001 07 01 000000000000000a 0000000000000014 0000000000000003",
+            103,
+        ),
+        Act::Refuses(
+            "2a 00 00000001 07 01 000000000000000a 0000000000000014 0000000000000003",
+            103,
+        ),
+        Act::Refuses("01 00 00000001 08 0000000000000000 01 01", 103),
+        Act::Refuses("02 00 00000001 08 0000000000000000 01 01", 103),
+        Act::Refuses("06 00 00000001 08 0000000000000000 01 01", 103),
+        Act::Refuses("07 00 00000001 08 0000000000000000 01 01", 103),
+        Act::Refuses("08 00 00000001 08 0000000000000000 01 01", 103),
+        Act::Refuses("28 00 00000001 08 0000000000000000 01 01", 103),
+        Act::Refuses("29 00 00000001 08 0000000000000000 01 01", 103),
+        Act::Refuses("2a 00 00000001 08 0000000000000000 01 01", 103),
+        Act::Requests(0),
+    ];
+    expect_same(
+        &rt,
+        &goes_wrong_at(rt.alloc(), MACHINE_A, 65535, &acts)?,
+        &None,
+    );
+    Ok(())
+}
+
+/// A BREAKPOINT has a LocationOnly, and a SINGLE_STEP exactly one Step.
+#[test]
+fn what_a_kind_must_have(rt: HostRuntime) -> Result<(), Fail> {
+    let acts = [
+        Act::Refuses("02 00 00000000", 103),
+        Act::Refuses("02 00 00000002 01 00000001 03 0000000000000001", 103),
+        Act::Refuses("01 00 00000000", 103),
+        Act::Refuses("01 00 00000001 03 0000000000000001", 103),
+        Act::Refuses(
+            "01 00 00000002 0a 0000000000000001 00000000 00000000 0a 0000000000000001 00000000 00000000",
+            103,
+        ),
+        Act::Requests(0),
+    ];
+    expect_same(
+        &rt,
+        &goes_wrong_at(rt.alloc(), MACHINE_A, 65535, &acts)?,
+        &None,
+    );
+    Ok(())
+}
+
+/// The modifiers are tested in the order sent, each in the order of its rules, and what the kind must have comes last.
+#[test]
+fn the_first_refusal_is_told(rt: HostRuntime) -> Result<(), Fail> {
+    let acts = [
+        Act::Refuses("02 00 00000002 02 00000001 01 00000000", 99),
+        Act::Refuses("02 00 00000002 01 00000000 02 00000001", 512),
+        Act::Refuses(
+            "02 00 00000002 03 0000000000000003 07 00 0000000000000000 0000000000000000 0000000000000000",
+            10,
+        ),
+        Act::Refuses(
+            "02 00 00000002 07 00 0000000000000000 0000000000000000 0000000000000000 03 0000000000000003",
+            24,
+        ),
+        Act::Refuses(
+            "02 00 00000001 07 01 000000000000000b 0000000000000015 000000000000000a",
+            21,
+        ),
+        Act::Refuses(
+            "02 00 00000001 07 01 000000000000000a 0000000000000015 000000000000000a",
+            23,
+        ),
+        Act::Refuses("06 00 00000001 04 000000000000000b", 21),
+        Act::Refuses(
+            "06 00 00000001 07 00 0000000000000000 0000000000000000 0000000000000000",
+            24,
+        ),
+        Act::Refuses("02 00 00000001 08 000000000000000b 01 01", 21),
+        Act::Refuses("02 00 00000001 0a 0000000000000003 00000002 00000000", 10),
+        Act::Refuses("02 00 00000001 01 00000000", 512),
+        Act::Refuses(
+            "01 00 00000002 0a 0000000000000001 00000002 00000000 0a 0000000000000003 00000000 00000000",
+            103,
+        ),
+        Act::Refuses(
+            "02 00 00000002 07 01 000000000000000a 0000000000000014 0000000000000003 01 00000000",
+            512,
+        ),
+        Act::Requests(0),
+    ];
+    expect_same(
+        &rt,
+        &goes_wrong_at(rt.alloc(), MACHINE_A, 65535, &acts)?,
+        &None,
+    );
+    Ok(())
+}
+
+/// By thread, by class (also one that is reached), by patterns of the name, and by counting.
+#[test]
+fn each_filter_of_a_method_entry(rt: HostRuntime) -> Result<(), Fail> {
+    let acts = [
+        Act::Grants("28 00 00000001 03 0000000000000001", 1),
+        Act::Grants("28 00 00000001 04 000000000000000a", 2),
+        Act::Grants("28 00 00000001 04 000000000000000d", 3),
+        Act::Grants("28 00 00000001 04 000000000000001e", 4),
+        Act::Grants("28 00 00000001 05 00000008 6170702e4d61696e", 5),
+        Act::Grants("28 00 00000001 05 00000005 6170702e2a", 6),
+        Act::Grants("28 00 00000001 05 00000006 2a2e4d61696e", 7),
+        Act::Grants("28 00 00000001 05 00000004 4d61696e", 8),
+        Act::Grants("28 00 00000001 06 00000005 6170702e2a", 9),
+        Act::Grants("28 00 00000001 06 00000006 6a6176612e2a", 10),
+        Act::Grants("28 00 00000001 01 00000001", 11),
+        Act::Grants("28 00 00000001 01 00000002", 12),
+        Act::Steps(
+            1,
+            1,
+            Stepped::Reported,
+            "00000140 00000002 00 40 64 00 00000008 28 00000001 0000000000000001 01 000000000000000a 0000000000000014 0000000000000000 28 00000002 0000000000000001 01 000000000000000a 0000000000000014 0000000000000000 28 00000003 0000000000000001 01 000000000000000a 0000000000000014 0000000000000000 28 00000005 0000000000000001 01 000000000000000a 0000000000000014 0000000000000000 28 00000006 0000000000000001 01 000000000000000a 0000000000000014 0000000000000000 28 00000007 0000000000000001 01 000000000000000a 0000000000000014 0000000000000000 28 0000000a 0000000000000001 01 000000000000000a 0000000000000014 0000000000000000 28 0000000b 0000000000000001 01 000000000000000a 0000000000000014 0000000000000000",
+        ),
+        Act::Requests(12),
+    ];
+    expect_same(
+        &rt,
+        &goes_wrong_at(rt.alloc(), ALL_KINDS, 65535, &acts)?,
+        &None,
+    );
+    Ok(())
+}
+
+#[test]
+fn exceptions_by_class_and_by_whether_they_are_caught(rt: HostRuntime) -> Result<(), Fail> {
+    let acts = [
+        Act::Grants("04 00 00000001 08 0000000000000000 01 00", 1),
+        Act::Grants("04 00 00000001 08 0000000000000000 00 01", 2),
+        Act::Grants("04 00 00000001 08 000000000000001f 01 01", 3),
+        Act::Grants("04 00 00000001 08 000000000000001e 01 01", 4),
+        Act::Grants("04 00 00000001 08 000000000000000d 01 01", 5),
+        Act::Grants("04 00 00000001 08 000000000000001e 00 00", 6),
+        Act::Steps(1, 1, Stepped::Quiet, ""),
+        Act::Steps(
+            1,
+            1,
+            Stepped::Reported,
+            "000000e8 00000002 00 40 64 00 00000003 04 00000001 0000000000000001 01 000000000000000a 0000000000000014 0000000000000000 4c 0000000000000028 01 000000000000000a 0000000000000014 0000000000000004 04 00000003 0000000000000001 01 000000000000000a 0000000000000014 0000000000000000 4c 0000000000000028 01 000000000000000a 0000000000000014 0000000000000004 04 00000004 0000000000000001 01 000000000000000a 0000000000000014 0000000000000000 4c 0000000000000028 01 000000000000000a 0000000000000014 0000000000000004",
+        ),
+        Act::Steps(
+            1,
+            1,
+            Stepped::Reported,
+            "000000e8 00000003 00 40 64 00 00000003 04 00000002 0000000000000001 01 000000000000000a 0000000000000014 0000000000000000 4c 0000000000000028 00 0000000000000000 0000000000000000 0000000000000000 04 00000003 0000000000000001 01 000000000000000a 0000000000000014 0000000000000000 4c 0000000000000028 00 0000000000000000 0000000000000000 0000000000000000 04 00000004 0000000000000001 01 000000000000000a 0000000000000014 0000000000000000 4c 0000000000000028 00 0000000000000000 0000000000000000 0000000000000000",
+        ),
+    ];
+    expect_same(
+        &rt,
+        &goes_wrong_at(rt.alloc(), ALL_KINDS, 65535, &acts)?,
+        &None,
+    );
+    Ok(())
+}
+
+/// Composites are numbered in the order sent, VM_START and VM_DEATH among them.
+#[test]
+fn each_kind_is_reported_once(rt: HostRuntime) -> Result<(), Fail> {
+    let acts = [
+        Act::Grants("28 00 00000000", 1),
+        Act::Grants("04 00 00000000", 2),
+        Act::Grants("08 00 00000000", 3),
+        Act::Grants("06 00 00000000", 4),
+        Act::Grants("29 00 00000000", 5),
+        Act::Grants("2a 00 00000000", 6),
+        Act::Grants("07 00 00000000", 7),
+        Act::Steps(
+            1,
+            1,
+            Stepped::Reported,
+            "00000036 00000002 00 40 64 00 00000001 28 00000001 0000000000000001 01 000000000000000a 0000000000000014 0000000000000000",
+        ),
+        Act::Steps(
+            1,
+            1,
+            Stepped::Reported,
+            "00000058 00000003 00 40 64 00 00000001 04 00000002 0000000000000001 01 000000000000000a 0000000000000014 0000000000000000 4c 0000000000000028 01 000000000000000a 0000000000000014 0000000000000004",
+        ),
+        Act::Steps(
+            1,
+            1,
+            Stepped::Reported,
+            "00000058 00000004 00 40 64 00 00000001 04 00000002 0000000000000001 01 000000000000000a 0000000000000014 0000000000000000 4c 0000000000000028 00 0000000000000000 0000000000000000 0000000000000000",
+        ),
+        Act::Steps(
+            1,
+            1,
+            Stepped::Reported,
+            "00000034 00000005 00 40 64 00 00000001 08 00000003 0000000000000001 01 000000000000000c 00000006 4c4c6174653b 00000003",
+        ),
+        Act::Lives(1),
+        Act::Steps(
+            1,
+            1,
+            Stepped::Reported,
+            "0000001d 00000006 00 40 64 00 00000001 06 00000004 0000000000000002",
+        ),
+        Act::Lives(2),
+        Act::Steps(
+            1,
+            1,
+            Stepped::Reported,
+            "00000061 00000007 00 40 64 00 00000002 29 00000005 0000000000000001 01 000000000000000a 0000000000000014 0000000000000000 2a 00000006 0000000000000001 01 000000000000000a 0000000000000014 0000000000000000 49 00000005",
+        ),
+        Act::Steps(
+            1,
+            1,
+            Stepped::Reported,
+            "0000001d 00000008 00 40 64 00 00000001 07 00000007 0000000000000001",
+        ),
+        Act::Lives(2),
+        Act::Steps(1, 1, Stepped::Ended, ""),
+        Act::Steps(
+            2,
+            1,
+            Stepped::Reported,
+            "0000001d 00000009 00 40 64 00 00000001 07 00000007 0000000000000002",
+        ),
+        Act::Steps(
+            2,
+            1,
+            Stepped::Ended,
+            "00000015 0000000a 00 40 64 00 00000001 63 00000000",
+        ),
+        Act::Open(false),
+        Act::Requests(0),
+    ];
+    expect_same(
+        &rt,
+        &goes_wrong_at(rt.alloc(), ALL_KINDS, 65535, &acts)?,
+        &None,
+    );
+    Ok(())
+}
+
+/// EVENT_THREAD suspends the thread that began, and not the one that began it.
+#[test]
+fn a_new_thread_is_suspended_by_its_start(rt: HostRuntime) -> Result<(), Fail> {
+    let acts = [
+        Act::Grants("06 01 00000000", 1),
+        Act::Steps(1, 4, Stepped::Quiet, ""),
+        Act::Counts(Some(0), None),
+        Act::Steps(
+            1,
+            1,
+            Stepped::Reported,
+            "0000001d 00000002 00 40 64 01 00000001 06 00000001 0000000000000002",
+        ),
+        Act::Counts(Some(0), Some(1)),
+    ];
+    expect_same(
+        &rt,
+        &goes_wrong_at(rt.alloc(), ALL_KINDS, 65535, &acts)?,
+        &None,
+    );
+    Ok(())
+}
+
+/// The new thread, too.
+#[test]
+fn all_are_suspended_by_a_start(rt: HostRuntime) -> Result<(), Fail> {
+    let acts = [
+        Act::Grants("06 02 00000000", 1),
+        Act::Steps(1, 4, Stepped::Quiet, ""),
+        Act::Steps(
+            1,
+            1,
+            Stepped::Reported,
+            "0000001d 00000002 00 40 64 02 00000001 06 00000001 0000000000000002",
+        ),
+        Act::Counts(Some(1), Some(1)),
+        Act::Steps(1, 1, Stepped::Frozen, ""),
+        Act::Steps(2, 1, Stepped::Frozen, ""),
+    ];
+    expect_same(
+        &rt,
+        &goes_wrong_at(rt.alloc(), ALL_KINDS, 65535, &acts)?,
+        &None,
+    );
+    Ok(())
+}
+
+/// Thread 1 goes to the indexes 3, 4, 3, 4 and 3. A Count is reached where the kind and the modifiers before it pass, and each counts for itself.
+#[test]
+fn a_count_is_counted_though_a_later_modifier_fails(rt: HostRuntime) -> Result<(), Fail> {
+    let acts = [
+        Act::Grants(
+            "02 00 00000002 01 00000002 07 01 000000000000000a 0000000000000014 0000000000000003",
+            1,
+        ),
+        Act::Grants(
+            "02 00 00000002 01 00000003 07 01 000000000000000a 0000000000000014 0000000000000003",
+            2,
+        ),
+        Act::Grants(
+            "02 00 00000003 07 01 000000000000000a 0000000000000014 0000000000000003 01 00000003 01 00000001",
+            3,
+        ),
+        Act::Grants(
+            "02 00 00000002 07 01 000000000000000a 0000000000000014 0000000000000003 01 00000003",
+            4,
+        ),
+        Act::Grants(
+            "02 00 00000003 07 01 000000000000000a 0000000000000014 0000000000000003 01 00000001 01 00000003",
+            5,
+        ),
+        Act::Grants(
+            "02 00 00000003 01 00000001 01 00000001 07 01 000000000000000a 0000000000000014 0000000000000003",
+            6,
+        ),
+        Act::Grants(
+            "02 00 00000002 07 01 000000000000000a 0000000000000014 0000000000000003 03 0000000000000002",
+            7,
+        ),
+        Act::Steps(1, 1, Stepped::Quiet, ""),
+        Act::Steps(
+            1,
+            1,
+            Stepped::Reported,
+            "00000036 00000002 00 40 64 00 00000001 02 00000006 0000000000000001 01 000000000000000a 0000000000000014 0000000000000003",
+        ),
+        Act::Steps(1, 1, Stepped::Quiet, ""),
+        Act::Steps(
+            1,
+            1,
+            Stepped::Reported,
+            "00000036 00000003 00 40 64 00 00000001 02 00000002 0000000000000001 01 000000000000000a 0000000000000014 0000000000000003",
+        ),
+        Act::Steps(1, 1, Stepped::Quiet, ""),
+        Act::Steps(
+            1,
+            1,
+            Stepped::Reported,
+            "0000005c 00000004 00 40 64 00 00000002 02 00000003 0000000000000001 01 000000000000000a 0000000000000014 0000000000000003 02 00000004 0000000000000001 01 000000000000000a 0000000000000014 0000000000000003",
+        ),
+        Act::Requests(7),
+    ];
+    expect_same(
+        &rt,
+        &goes_wrong_at(rt.alloc(), MACHINE_A, 65535, &acts)?,
+        &None,
+    );
+    Ok(())
+}
+
+/// Neither the call nor the way back to its line is reported; each report is where the next step begins.
+#[test]
+fn a_step_over_a_call(rt: HostRuntime) -> Result<(), Fail> {
+    let acts = [
+        Act::Steps(1, 1, Stepped::Quiet, ""),
+        Act::Grants("01 00 00000001 0a 0000000000000001 00000001 00000001", 1),
+        Act::Steps(1, 4, Stepped::Quiet, ""),
+        Act::Steps(1, 1, Stepped::Quiet, ""),
+        Act::Steps(
+            1,
+            1,
+            Stepped::Reported,
+            "00000036 00000002 00 40 64 00 00000001 01 00000001 0000000000000001 01 000000000000000a 0000000000000014 0000000000000003",
+        ),
+        Act::Steps(
+            1,
+            1,
+            Stepped::Reported,
+            "00000036 00000003 00 40 64 00 00000001 01 00000001 0000000000000001 01 000000000000000a 0000000000000014 0000000000000004",
+        ),
+    ];
+    expect_same(
+        &rt,
+        &goes_wrong_at(rt.alloc(), A_CALL, 65535, &acts)?,
+        &None,
+    );
+    Ok(())
+}
+
+/// The first place of a caller is reported, and then none, since it has no caller; a step by the least size reports each place.
+#[test]
+fn a_step_out_of_a_call(rt: HostRuntime) -> Result<(), Fail> {
+    let acts = [
+        Act::Steps(1, 2, Stepped::Quiet, ""),
+        Act::Grants("01 00 00000001 0a 0000000000000001 00000000 00000002", 1),
+        Act::Grants("01 00 00000001 0a 0000000000000001 00000000 00000000", 2),
+        Act::Steps(
+            1,
+            1,
+            Stepped::Reported,
+            "00000036 00000002 00 40 64 00 00000001 01 00000002 0000000000000001 01 000000000000000a 0000000000000015 0000000000000005",
+        ),
+        Act::Steps(
+            1,
+            1,
+            Stepped::Reported,
+            "00000036 00000003 00 40 64 00 00000001 01 00000002 0000000000000001 01 000000000000000a 0000000000000015 0000000000000006",
+        ),
+        Act::Steps(1, 1, Stepped::Quiet, ""),
+        Act::Steps(
+            1,
+            1,
+            Stepped::Reported,
+            "0000005c 00000004 00 40 64 00 00000002 01 00000001 0000000000000001 01 000000000000000a 0000000000000014 0000000000000001 01 00000002 0000000000000001 01 000000000000000a 0000000000000014 0000000000000001",
+        ),
+        Act::Steps(
+            1,
+            1,
+            Stepped::Reported,
+            "00000036 00000005 00 40 64 00 00000001 01 00000002 0000000000000001 01 000000000000000a 0000000000000014 0000000000000003",
+        ),
+    ];
+    expect_same(
+        &rt,
+        &goes_wrong_at(rt.alloc(), A_CALL, 65535, &acts)?,
+        &None,
+    );
+    Ok(())
+}
+
+/// No id is used again, not in a later session either; a Dispose ends all requests.
+#[test]
+fn requests_are_cleared_by_kind_and_id(rt: HostRuntime) -> Result<(), Fail> {
+    let acts = [
+        Act::Grants(
+            "02 00 00000001 07 01 000000000000000a 0000000000000014 0000000000000003",
+            1,
+        ),
+        Act::Grants("28 00 00000000", 2),
+        Act::Grants(
+            "02 00 00000001 07 01 000000000000000a 0000000000000014 0000000000000003",
+            3,
+        ),
+        Act::Says(
+            "00000010 00000009 00 0f 02 28 00000001",
+            "0000000b 00000009 80 0000",
+        ),
+        Act::Requests(3),
+        Act::Says(
+            "00000010 00000009 00 0f 02 02 00000002",
+            "0000000b 00000009 80 0000",
+        ),
+        Act::Requests(3),
+        Act::Says(
+            "00000010 00000009 00 0f 02 02 00000001",
+            "0000000b 00000009 80 0000",
+        ),
+        Act::Requests(2),
+        Act::Says("0000000b 00000009 00 0f 03", "0000000b 00000009 80 0000"),
+        Act::Requests(1),
+        Act::Grants(
+            "02 00 00000001 07 01 000000000000000a 0000000000000014 0000000000000003",
+            4,
+        ),
+        Act::Says("0000000b 00000009 00 01 06", "0000000b 00000009 80 0000"),
+        Act::Requests(0),
+        Act::Accepts(true),
+        Act::Says(HANDSHAKE, HANDSHAKE),
+        Act::Grants("28 00 00000000", 5),
+        Act::Steps(
+            1,
+            1,
+            Stepped::Reported,
+            "00000036 00000002 00 40 64 00 00000001 28 00000005 0000000000000001 01 000000000000000a 0000000000000014 0000000000000000",
+        ),
+    ];
+    expect_same(
+        &rt,
+        &goes_wrong_at(rt.alloc(), MACHINE_A, 65535, &acts)?,
+        &None,
+    );
+    Ok(())
+}
+
+/// The thread ends at its next step, though the session in which its death was reported is over; and events are held no longer.
+#[test]
+fn a_reported_death_outlasts_a_loss(rt: HostRuntime) -> Result<(), Fail> {
+    let acts = [
+        Act::Grants("07 01 00000000", 1),
+        Act::Says("0000000b 00000009 00 01 0f", "0000000b 00000009 80 0000"),
+        Act::Steps(2, 1, Stepped::Frozen, ""),
+        Act::Says("0000000b 00000009 00 01 10", "0000000b 00000009 80 0000"),
+        Act::Steps(
+            2,
+            1,
+            Stepped::Reported,
+            "0000001d 00000002 00 40 64 01 00000001 07 00000001 0000000000000002",
+        ),
+        Act::Counts(Some(0), Some(1)),
+        Act::Says("0000000b 00000009 00 01 0f", "0000000b 00000009 80 0000"),
+        Act::Loses,
+        Act::Requests(0),
+        Act::Counts(Some(0), Some(0)),
+        Act::Accepts(true),
+        Act::Says(HANDSHAKE, HANDSHAKE),
+        Act::Steps(2, 1, Stepped::Ended, ""),
+        Act::Counts(Some(0), None),
+        Act::Steps(1, 1, Stepped::Quiet, ""),
+    ];
+    expect_same(
+        &rt,
+        &goes_wrong_at(rt.alloc(), MACHINE_A, 65535, &acts)?,
+        &None,
+    );
+    Ok(())
+}
+
+/// Whether each act comes as it is to, behind 64 requests that are granted.
+fn grants_up_to_the_limit(
+    alloc: Global,
+    target: &mut Target,
+    acts: &[Act<'_>],
+) -> Result<bool, Fail> {
+    for id in 1..65u32 {
+        if !comes(alloc, target, &Act::Grants("28 00 00000000", id))? {
+            return Ok(false);
+        }
+    }
+    for act in acts {
+        if !comes(alloc, target, act)? {
+            return Ok(false);
+        }
+    }
+    Ok(true)
+}
+
+/// The 65th request is refused, and so is one that is wrong besides; a place that was cleared is free again, and no id is used twice.
+#[test]
+fn requests_up_to_the_limit(rt: HostRuntime) -> Result<(), Fail> {
+    let acts = [
+        Act::Requests(64),
+        Act::Refuses("28 00 00000000", 113),
+        Act::Refuses("28 03 00000000", 103),
+        Act::Refuses("28 00 00000001 01 00000000", 113),
+        Act::Requests(64),
+        Act::Says(
+            "00000010 00000009 00 0f 02 28 00000040",
+            "0000000b 00000009 80 0000",
+        ),
+        Act::Requests(63),
+        Act::Grants("28 00 00000000", 65),
+        Act::Refuses("28 00 00000000", 113),
+    ];
+    let mut target = ready(rt.alloc(), MACHINE_A, 65535)?;
+    assert!(rt; grants_up_to_the_limit(rt.alloc(), &mut target, &acts)?);
+    Ok(())
+}

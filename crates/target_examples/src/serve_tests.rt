@@ -1,0 +1,104 @@
+//! Sessions served over the machine of a script, from the bytes read to the bytes written.
+use crate::asserts::expect_same;
+use crate::session_tests::MACHINE_A;
+use jdwp_debuggee::Settings;
+use jdwp_engine::{Ended, Streams};
+use jdwp_script::ScriptFault;
+use jdwp_serve::serve_script;
+use jdwp_wire::Limits;
+use std::alloc::Global;
+use std::io;
+use std::io::{ErrorKind, Write};
+use std::test::Fail;
+
+/// Keeps what is written. Each flush fails where it says so.
+#[derive(Drop)]
+struct Output {
+    bytes: Vec<u8>,
+    calls: usize,
+    flush_fails: bool,
+}
+
+impl Output {
+    fn new(alloc: Global, flush_fails: bool) -> Output {
+        Output {
+            bytes: Vec::new(alloc),
+            calls: 0,
+            flush_fails,
+        }
+    }
+}
+
+impl Write for Output {
+    fn write(&mut self, bytes: &[u8]) -> io::Result<usize> {
+        self.calls = self.calls.saturating_add(1);
+        self.bytes.extend_from_slice(bytes)?;
+        Ok(bytes.len())
+    }
+
+    fn flush(&mut self) -> io::Result<()> {
+        if self.flush_fails {
+            return Err(io::Error::from(ErrorKind::BrokenPipe));
+        }
+        Ok(())
+    }
+}
+
+/// The handshake, IDSizes with id 1, Suspend with id 2, SuspendCount of thread 1 with id 3, Dispose with id 4.
+const SESSION: [u8; 66] = [
+    0x4a, 0x44, 0x57, 0x50, 0x2d, 0x48, 0x61, 0x6e, 0x64, 0x73, 0x68, 0x61, 0x6b, 0x65, //
+    0x00, 0x00, 0x00, 0x0b, 0x00, 0x00, 0x00, 0x01, 0x00, 0x01, 0x07, //
+    0x00, 0x00, 0x00, 0x0b, 0x00, 0x00, 0x00, 0x02, 0x00, 0x01, 0x08, //
+    0x00, 0x00, 0x00, 0x13, 0x00, 0x00, 0x00, 0x03, 0x00, 0x0b, 0x0c, 0x00, 0x00, 0x00, 0x00, 0x00,
+    0x00, 0x00, 0x01, //
+    0x00, 0x00, 0x00, 0x0b, 0x00, 0x00, 0x00, 0x04, 0x00, 0x01, 0x06, //
+];
+
+/// What is answered to it where no thread is suspended at the start.
+const ANSWERS: [u8; 111] = [
+    0x4a, 0x44, 0x57, 0x50, 0x2d, 0x48, 0x61, 0x6e, 0x64, 0x73, 0x68, 0x61, 0x6b, 0x65, //
+    0x00, 0x00, 0x00, 0x1d, 0x00, 0x00, 0x00, 0x01, 0x00, 0x40, 0x64, 0x00, 0x00, 0x00, 0x00, 0x01,
+    0x5a, 0x00, 0x00, 0x00, 0x00, 0x00, 0x00, 0x00, 0x00, 0x00, 0x00, 0x00, 0x01, //
+    0x00, 0x00, 0x00, 0x1f, 0x00, 0x00, 0x00, 0x01, 0x80, 0x00, 0x00, 0x00, 0x00, 0x00, 0x08, 0x00,
+    0x00, 0x00, 0x08, 0x00, 0x00, 0x00, 0x08, 0x00, 0x00, 0x00, 0x08, 0x00, 0x00, 0x00, 0x08, //
+    0x00, 0x00, 0x00, 0x0b, 0x00, 0x00, 0x00, 0x02, 0x80, 0x00, 0x00, //
+    0x00, 0x00, 0x00, 0x0f, 0x00, 0x00, 0x00, 0x03, 0x80, 0x00, 0x00, 0x00, 0x00, 0x00, 0x01, //
+    0x00, 0x00, 0x00, 0x0b, 0x00, 0x00, 0x00, 0x04, 0x80, 0x00, 0x00, //
+];
+
+#[test]
+fn a_session_is_served(rt: HostRuntime) -> Result<(), Fail> {
+    let alloc = rt.alloc();
+    let settings = Settings::new(false, 65535, Limits::standard()).ok_or("a count limit")?;
+    let rows: [(&[u8], u32, bool, Ended, usize); 5] = [
+        (&SESSION, 6, false, Ended::Done, 111),
+        (&SESSION, 5, false, Ended::TurnLimit, 100),
+        (&SESSION[..65], 9, false, Ended::LostByRead, 100),
+        // A flush stands before each read, and one at the end.
+        (&SESSION, 6, true, Ended::LostByRead, 0),
+        (&SESSION, 0, true, Ended::LostByWrite, 0),
+    ];
+    for (input, rounds, flush_fails, want, written) in rows {
+        let mut pipe = Streams::new(input, Output::new(alloc, flush_fails));
+        let ended = serve_script(alloc, MACHINE_A, settings, &mut pipe, rounds)?;
+        let (_, writer) = pipe.into_parts();
+        expect_same(&rt, &ended, &want);
+        assert!(rt; ANSWERS.starts_with(writer.bytes.as_slice()));
+        expect_same(&rt, &writer.bytes.len(), &written);
+    }
+    Ok(())
+}
+
+/// A script that is refused is told by its fault, and nothing is read or written.
+#[test]
+fn a_script_is_refused(rt: HostRuntime) -> Result<(), Fail> {
+    let alloc = rt.alloc();
+    let settings = Settings::new(false, 65535, Limits::standard()).ok_or("a count limit")?;
+    let mut pipe = Streams::new(SESSION.as_slice(), Output::new(alloc, false));
+    let ended = serve_script(alloc, "A", settings, &mut pipe, 6);
+    expect_same(&rt, &ended, &Err(ScriptFault::NotJson));
+    let (rest, writer) = pipe.into_parts();
+    expect_same(&rt, &rest.len(), &SESSION.len());
+    expect_same(&rt, &writer.calls, &0);
+    Ok(())
+}
