@@ -11,6 +11,12 @@ use std::test::Fail;
 /// turn read nothing.
 fn ready(alloc: Global, width: u8) -> Result<Debugger, Fail> {
     let mut debugger = Debugger::new(alloc)?;
+    begin(alloc, &mut debugger, width)?;
+    Ok(debugger)
+}
+
+/// Begins the session, up to the widths of ids, and takes what it puts.
+fn begin(alloc: Global, debugger: &mut Debugger, width: u8) -> Result<(), Fail> {
     debugger.attach();
     debugger.feed(&HANDSHAKE);
     debugger.turn(alloc)?;
@@ -23,7 +29,7 @@ fn ready(alloc: Global, width: u8) -> Result<Debugger, Fail> {
     let mut out = [0; 32];
     debugger.take(&mut out);
     debugger.set_next_id(1);
-    Ok(debugger)
+    Ok(())
 }
 
 /// A command without data.

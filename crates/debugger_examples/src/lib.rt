@@ -1,5 +1,5 @@
 //! Worked sessions of a debugger, what its mirror learns packet by packet, commands as a target reads them, and what an end holds: tests of
-//! `jdwp_debugger`, `jdwp_debuggee` and `jdwp_end`, which call what anybody can call.
+//! `jdwp_debugger`, `jdwp_mirror`, `jdwp_debuggee` and `jdwp_end`, which call what anybody can call.
 #![tactic(auto)]
 
 #[cfg(test)]
@@ -8,6 +8,8 @@ mod asking_tests;
 mod asserts;
 #[cfg(test)]
 mod end_tests;
+#[cfg(test)]
+mod judging_tests;
 #[cfg(test)]
 mod mirror_tests;
 #[cfg(test)]

@@ -21,13 +21,13 @@ const THREAD_DEATH: u8 = 7;
 const VM_DEATH: u8 = 99;
 
 /// A command of ThreadReference about a thread.
-fn of_thread(alloc: Global, number: u8, thread: u64) -> Result<Command, Fail> {
+pub(crate) fn of_thread(alloc: Global, number: u8, thread: u64) -> Result<Command, Fail> {
     let items = vec![in alloc; Datum::One(Scalar::ObjectId(ObjectId(thread)))]?;
     Ok(Command::new(11, number, items))
 }
 
 /// A command without data.
-fn plain(alloc: Global, set: u8, number: u8) -> Command {
+pub(crate) fn plain(alloc: Global, set: u8, number: u8) -> Command {
     Command::new(set, number, Vec::new(alloc))
 }
 
@@ -35,12 +35,12 @@ fn done(alloc: Global) -> Answer {
     Answer::Data(Data::new(Vec::new(alloc)))
 }
 
-fn with_int(alloc: Global, int: i32) -> Result<Answer, Fail> {
+pub(crate) fn with_int(alloc: Global, int: i32) -> Result<Answer, Fail> {
     Ok(Answer::Data(Data::new(vec![in alloc; Datum::One(Scalar::Int(int))]?)))
 }
 
 /// An event of a thread.
-fn event(alloc: Global, kind: u8, policy: u8, thread: u64) -> Result<Composite, Fail> {
+pub(crate) fn event(alloc: Global, kind: u8, policy: u8, thread: u64) -> Result<Composite, Fail> {
     let fields = vec![in alloc;
         Scalar::Byte(kind),
         Scalar::Int(0),
@@ -51,7 +51,7 @@ fn event(alloc: Global, kind: u8, policy: u8, thread: u64) -> Result<Composite, 
 }
 
 /// An event of no thread.
-fn event_of_none(alloc: Global, kind: u8) -> Result<Composite, Fail> {
+pub(crate) fn event_of_none(alloc: Global, kind: u8) -> Result<Composite, Fail> {
     let fields = vec![in alloc; Scalar::Byte(kind), Scalar::Int(0)]?;
     let events = vec![in alloc; Event::new(fields)]?;
     Ok(Composite::new(NONE, events))
@@ -110,66 +110,6 @@ fn comes(alloc: Global, mirror: &mut Mirror, act: &Act<'_>) -> Result<bool, Fail
             sees(mirror, &event(alloc, *kind, *policy, *thread)?)
         }
         Act::Death => sees(mirror, &event_of_none(alloc, VM_DEATH)?),
-        Act::Done(set, number) => {
-            learns(alloc, mirror, &plain(alloc, *set, *number), &done(alloc))
-        }
-        Act::Fails(set, number, error) => {
-            learns(
-                alloc,
-                mirror,
-                &plain(alloc, *set, *number),
-                &Answer::Error(*error),
-            )
-        }
-        Act::ThreadDone(number, thread) => {
-            learns(
-                alloc,
-                mirror,
-                &of_thread(alloc, *number, *thread)?,
-                &done(alloc),
-            )
-        }
-        Act::ThreadFails(number, thread, error) => {
-            learns(
-                alloc,
-                mirror,
-                &of_thread(alloc, *number, *thread)?,
-                &Answer::Error(*error),
-            )
-        }
-        Act::Count(thread, count) => {
-            learns(
-                alloc,
-                mirror,
-                &of_thread(alloc, 12, *thread)?,
-                &with_int(alloc, *count)?,
-            )
-        }
-        Act::Lists(one, other) => {
-            learns(
-                alloc,
-                mirror,
-                &plain(alloc, 1, 4),
-                &threads(alloc, *one, *other)?,
-            )
-        }
-        Act::Sets(kind, id) => {
-            learns(
-                alloc,
-                mirror,
-                &set_request(alloc, *kind)?,
-                &with_int(alloc, *id)?,
-            )
-        }
-        Act::SetFails(kind, error) => {
-            learns(
-                alloc,
-                mirror,
-                &set_request(alloc, *kind)?,
-                &Answer::Error(*error),
-            )
-        }
-        Act::Clears(kind, id) => { learns(alloc, mirror, &clear(alloc, *kind, *id)?, &done(alloc)) }
         Act::Empties => {
             mirror.clear();
             Ok(true)
@@ -179,6 +119,10 @@ fn comes(alloc: Global, mirror: &mut Mirror, act: &Act<'_>) -> Result<bool, Fail
             mirror.count(ObjectId(*thread)) == *count && mirror.is_held(ObjectId(*thread)) == *held,
         ),
         Act::Keeps(asked) => Ok(keeps(mirror, asked)),
+        _ => {
+            mirror.learn_reply(alloc, &asked(alloc, act)?, &answered(alloc, act)?)?;
+            Ok(true)
+        }
     }
 }
 
@@ -187,14 +131,31 @@ fn sees(mirror: &mut Mirror, composite: &Composite) -> Result<bool, Fail> {
     Ok(true)
 }
 
-fn learns(
-    alloc: Global,
-    mirror: &mut Mirror,
-    command: &Command,
-    answer: &Answer,
-) -> Result<bool, Fail> {
-    mirror.learn_reply(alloc, command, answer)?;
-    Ok(true)
+/// The command that is replied to.
+fn asked(alloc: Global, act: &Act<'_>) -> Result<Command, Fail> {
+    match act {
+        Act::Done(set, number) | Act::Fails(set, number, _) => Ok(plain(alloc, *set, *number)),
+        Act::ThreadDone(number, thread) | Act::ThreadFails(number, thread, _) => {
+            of_thread(alloc, *number, *thread)
+        }
+        Act::Count(thread, _) => of_thread(alloc, 12, *thread),
+        Act::Lists(_, _) => Ok(plain(alloc, 1, 4)),
+        Act::Sets(kind, _) | Act::SetFails(kind, _) => set_request(alloc, *kind),
+        Act::Clears(kind, id) => clear(alloc, *kind, *id),
+        _ => Err(Fail::from("no reply")),
+    }
+}
+
+/// The answer in the reply.
+fn answered(alloc: Global, act: &Act<'_>) -> Result<Answer, Fail> {
+    match act {
+        Act::Fails(_, _, error) | Act::ThreadFails(_, _, error) | Act::SetFails(_, error) => {
+            Ok(Answer::Error(*error))
+        }
+        Act::Count(_, int) | Act::Sets(_, int) => with_int(alloc, *int),
+        Act::Lists(one, other) => threads(alloc, *one, *other),
+        _ => Ok(done(alloc)),
+    }
 }
 
 /// The reply of AllThreads with two threads.
@@ -236,8 +197,17 @@ fn keeps(mirror: &Mirror, wanted: &[(i32, u8)]) -> bool {
 /// The place, from 0, of the first act of which something else comes, from an empty mirror on; None where all is as it is to be.
 fn goes_wrong_at(alloc: Global, acts: &[Act<'_>]) -> Result<Option<usize>, Fail> {
     let mut mirror = Mirror::new(alloc);
+    first_wrong(alloc, &mut mirror, acts)
+}
+
+/// The same of a mirror.
+fn first_wrong(
+    alloc: Global,
+    mirror: &mut Mirror,
+    acts: &[Act<'_>],
+) -> Result<Option<usize>, Fail> {
     for (place, act) in acts.iter().enumerate() {
-        if !comes(alloc, &mut mirror, act)? {
+        if !comes(alloc, mirror, act)? {
             return Ok(Some(place));
         }
     }

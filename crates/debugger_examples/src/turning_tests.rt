@@ -237,8 +237,17 @@ fn are_tickets(lost: &[Ticket], tickets: &[u64]) -> bool {
 /// where all is as it is to be.
 fn goes_wrong_at(alloc: Global, first_id: u32, acts: &[Act<'_>]) -> Result<Option<usize>, Fail> {
     let mut debugger = Debugger::with_first_id(alloc, first_id)?;
+    first_wrong(alloc, &mut debugger, acts)
+}
+
+/// The same of a debugger.
+fn first_wrong(
+    alloc: Global,
+    debugger: &mut Debugger,
+    acts: &[Act<'_>],
+) -> Result<Option<usize>, Fail> {
     for (place, act) in acts.iter().enumerate() {
-        if !comes(alloc, &mut debugger, act)? {
+        if !comes(alloc, debugger, act)? {
             return Ok(Some(place));
         }
     }

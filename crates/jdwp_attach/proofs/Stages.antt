@@ -31,9 +31,10 @@ use Rattle.jdwp_debugger.specs.declared.turning.Read.TheVariants as read
 use Rattle.jdwp_debugger.specs.Asking.{HasAsked, IsNextFree, asked as with_asked, command_bytes, id_after, is_outstanding}
 use Rattle.jdwp_debugger.specs.Debuggers.{Debugger, Parked as Waiting}
 use Rattle.jdwp_debugger.specs.DebuggerTurns.{Enters, TurnsAt, Told, closed_where, command_at, greeted, measured_where, reading_of, reports, sizes_header, told}
-use Rattle.jdwp_debugger.specs.Messages.{Reply, Report, id_sizes}
-use Rattle.jdwp_debugger.specs.Mirror.{ends}
-use Rattle.jdwp_debugger.specs.News.{EIGHT, News, Waits, Happens, Answers, Measures, Reading, answer_says, event_says, event_says_by, place_of, reply_at, reply_says, reply_to, says, sizes_say, unless_bad, answer_in, widths_by, widths_in, with_composites, composites_in}
+use Rattle.jdwp_mirror.specs.Messages.{Reply, Report, id_sizes}
+use Rattle.jdwp_mirror.specs.Mirror.{ends}
+use Rattle.jdwp_debugger.specs.News.{EIGHT, News, Waits, Happens, Answers, Measures, Reading, answer_says, event_says, event_says_by, place_of, reply_at, reply_says, reply_to, says, sizes_say, unless_bad, answer_in, widths_by, with_composites, composites_in}
+use Rattle.jdwp_mirror.specs.Widths.{widths_in}
 use Rattle.jdwp_plan.specs.declared.plan_line.PlanLine.{PlanLine}
 use Rattle.jdwp_plan.specs.declared.plan_line.PlanLine.TheVariants as line
 use Rattle.jdwp_attach.specs.PlanAsks.{CountsIds, HasPut, HasPutNone, IsNthId, KnowsSizes, PutsLine, PutsLines, Stands, asks, asks_of, command_asked}

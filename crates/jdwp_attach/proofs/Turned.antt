@@ -23,9 +23,10 @@ use Rattle.jdwp_debugger.specs.declared.turning.Read.TheVariants as read
 use Rattle.jdwp_debugger.specs.Debuggers.{Debugger, Parked as Waiting}
 use Rattle.jdwp_debugger.specs.DebuggerTurns.{Enters, HandlesAt, ReadsAt, Told, TurnsAt, closed, closed_where, command_at, command_of, greeted, measured_where, reading_of, refused, reports, sizes_header, told}
 use Rattle.jdwp_debugger.specs.DebuggerTurns as tell
-use Rattle.jdwp_debugger.specs.Messages.{Reply, Report}
-use Rattle.jdwp_debugger.specs.Mirror.{ends}
-use Rattle.jdwp_debugger.specs.News.{News, Waits, Happens, Answers, Measures, Reading, answer_says, event_says, event_says_by, place_of, reply_at, reply_says, reply_to, says, sizes_say, unless_bad, answer_in, widths_by, widths_in, with_composites, composites_in}
+use Rattle.jdwp_mirror.specs.Messages.{Reply, Report}
+use Rattle.jdwp_mirror.specs.Mirror.{ends}
+use Rattle.jdwp_debugger.specs.News.{News, Waits, Happens, Answers, Measures, Reading, answer_says, event_says, event_says_by, place_of, reply_at, reply_says, reply_to, says, sizes_say, unless_bad, answer_in, widths_by, with_composites, composites_in}
+use Rattle.jdwp_mirror.specs.Widths.{widths_in}
 use Rattle.jdwp_attach.specs.PlanRuns.{AnswersEnd, TellsEnd}
 
 -- Between two states of a debugger, so many messages were handled and so many commands asked, and bytes were put behind those that wait.

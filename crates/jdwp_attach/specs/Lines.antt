@@ -1,6 +1,6 @@
 -- The lines that tell what a debugger knows.
 use Rattle.std.specs.Prelude.{Bool, true, false, ℕ, List, ◌++◌, codes, decimal}
-use Rattle.jdwp_debugger.specs.declared.threads.Known.{Known}
+use Rattle.jdwp_mirror.specs.declared.threads.Known.{Known}
 
 -- `thread 1 2 held`: a thread that is known, with its suspend count
 abbrev pub held_word : Bool → List ℕ

@@ -16,8 +16,8 @@ use Rattle.jdwp_debugger.specs.declared.turning.Read.{Read}
 use Rattle.jdwp_debugger.specs.Asking.{refusal_of_ask}
 use Rattle.jdwp_debugger.specs.Debuggers.{Debugger, has_tickets, lost, with_taken}
 use Rattle.jdwp_debugger.specs.DebuggerTurns.{Told, Nothing, Hello, Parked, Sizes, Answered, Seen, TurnsAt, reports, told}
-use Rattle.jdwp_debugger.specs.Messages.{Reply, Report}
-use Rattle.jdwp_debugger.specs.Mirror.{ends}
+use Rattle.jdwp_mirror.specs.Messages.{Reply, Report}
+use Rattle.jdwp_mirror.specs.Mirror.{ends}
 use Rattle.jdwp_debugger.specs.RefusedNumbers.{refused_number}
 use Rattle.jdwp_engine.specs.declared.ended.Ended.{Ended}
 use Rattle.jdwp_engine.specs.declared.ended.Ended.TheVariants.{Done, LostByRead, LostByWrite, Refused, NoMemory, TurnLimit}

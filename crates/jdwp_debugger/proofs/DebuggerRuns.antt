@@ -25,8 +25,8 @@ use Rattle.jdwp_debugger.specs.declared.heads.Head.TheVariants as head
 use Rattle.jdwp_debugger.specs.declared.turning.Read.{Read}
 use Rattle.jdwp_debugger.specs.Debuggers.{Debugger}
 use Rattle.jdwp_debugger.specs.DebuggerTurns.{Enters, FailsAt, Told, TurnsAt, closed_where, command_at, greeted, measured_where, refused, reports, sizes_header, told, with_read, with_sizes}
-use Rattle.jdwp_debugger.specs.Messages.{Reply, Report}
-use Rattle.jdwp_debugger.specs.Mirror.{ends}
+use Rattle.jdwp_mirror.specs.Messages.{Reply, Report}
+use Rattle.jdwp_mirror.specs.Mirror.{ends}
 use Rattle.jdwp_debugger.specs.News.{News, Waits, Happens, Answers, Measures}
 use Rattle.jdwp_debugger.specs.Runs.{Act, Attaches, Greets, Reads, Asks, Ends, GoesOn, InOrder, MayCome, Ran, open_after, opens, put, put_by, read, read_by}
 

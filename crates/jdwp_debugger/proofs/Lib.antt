@@ -1,11 +1,6 @@
-pub mod KnownLemmas
-pub mod NumberingLemmas
-pub mod Abouts
-pub mod Learning
 pub mod Ids
 pub mod Losing
 pub mod Admitting
-pub mod JudgingLemmas
 pub mod NewsLemmas
 pub mod TurningLemmas
 pub mod DebuggerRuns

@@ -10,8 +10,9 @@ use Rattle.jdwp_debugger.specs.declared.faults.DebuggerFault.{DebuggerFault}
 use Rattle.jdwp_debugger.specs.declared.faults.DebuggerFault.TheVariants.{Frame, UnknownReply, BadReply, TooManyParked, BadEvent, NoMemory}
 use Rattle.jdwp_debugger.specs.declared.pending.Ticket.{Ticket}
 use Rattle.jdwp_debugger.specs.Debuggers.{Parked}
-use Rattle.jdwp_debugger.specs.Faults.{is_bad_reply}
-use Rattle.jdwp_debugger.specs.News.{Fails, News, answer_says, composite_in, composites_in, required, sizes_say, unless_bad, widths_in, with_composites, with_first}
+use Rattle.jdwp_mirror.specs.Faults.{is_bad_reply}
+use Rattle.jdwp_debugger.specs.News.{Fails, News, answer_says, composite_in, composites_in, required, sizes_say, unless_bad, with_composites, with_first}
+use Rattle.jdwp_mirror.specs.Widths.{widths_in}
 
 -- ---- answers
 

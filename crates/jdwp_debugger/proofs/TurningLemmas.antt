@@ -20,15 +20,16 @@ use Rattle.jdwp_event.specs.Composites.{CompositeMeaning, POLICY_NONE, POLICY_AL
 use Rattle.jdwp_event.specs.Told.{composite_thread, is_vm_death}
 use Rattle.jdwp_debuggee.specs.Actions
 use Rattle.jdwp_debuggee.specs.Actions.{Action, Command, action_of}
-use Rattle.jdwp_debugger.specs.Acts.{act_of}
+use Rattle.jdwp_mirror.specs.Acts.{act_of}
 use Rattle.jdwp_debugger.specs.DebuggerTurns.{EntersAt, EntersOrFails, FailsAt, FailsOnly, FailsTo, HandlesAt, LearnedAll, MayTakeMemory, MayWantMemory, TurnsAt, WantsMemory, bad_where, none_known, reading_of, refusal_by, reports}
-use Rattle.jdwp_debugger.specs.Faults.{count_of_thread, has_bad_event, is_bad_event, is_of_two}
-use Rattle.jdwp_debugger.specs.FaultParts.{IsData, is_dispose_act}
-use Rattle.jdwp_debugger.specs.KnownThreads.{count_in}
-use Rattle.jdwp_debugger.specs.Messages.{Message, Reply, Report}
-use Rattle.jdwp_debugger.specs.Mirror.{is_dispose, is_positive, learned}
-use Rattle.jdwp_debugger.specs.Mirrors.{Mirror, Learned}
-use Rattle.jdwp_debugger.specs.News.{News, Measures, Fails, says, widths_in}
+use Rattle.jdwp_mirror.specs.Faults.{count_of_thread, has_bad_event, is_bad_event, is_of_two}
+use Rattle.jdwp_mirror.specs.FaultParts.{IsData, is_dispose_act}
+use Rattle.jdwp_mirror.specs.KnownThreads.{count_in}
+use Rattle.jdwp_mirror.specs.Messages.{Message, Reply, Report}
+use Rattle.jdwp_mirror.specs.Mirror.{is_dispose, is_positive, learned}
+use Rattle.jdwp_mirror.specs.Mirrors.{Mirror, Learned}
+use Rattle.jdwp_debugger.specs.News.{News, Measures, Fails, says}
+use Rattle.jdwp_mirror.specs.Widths.{widths_in}
 
 -- ---- events are judged by counts alone
 

@@ -24,12 +24,12 @@ use Rattle.jdwp_debugger.specs.declared.turning.Read.{Read}
 use Rattle.jdwp_debugger.specs.declared.turning.Read.TheVariants as read
 use Rattle.jdwp_debugger.specs.Debuggers.{Debugger}
 use Rattle.jdwp_debugger.specs.Debuggers as debuggers
-use Rattle.jdwp_debugger.specs.Faults.{is_bad_event, has_bad_event}
-use Rattle.jdwp_debugger.specs.FaultParts.{IsData}
-use Rattle.jdwp_debugger.specs.KnownThreads.{count_in}
-use Rattle.jdwp_debugger.specs.Messages.{Message, Reply, Report, id_sizes}
-use Rattle.jdwp_debugger.specs.Mirror.{ends}
-use Rattle.jdwp_debugger.specs.Mirrors.{Mirror, Learned, empty_mirror}
+use Rattle.jdwp_mirror.specs.Faults.{is_bad_event, has_bad_event}
+use Rattle.jdwp_mirror.specs.FaultParts.{IsData}
+use Rattle.jdwp_mirror.specs.KnownThreads.{count_in}
+use Rattle.jdwp_mirror.specs.Messages.{Message, Reply, Report, id_sizes}
+use Rattle.jdwp_mirror.specs.Mirror.{ends}
+use Rattle.jdwp_mirror.specs.Mirrors.{Mirror, Learned, empty_mirror}
 use Rattle.jdwp_debugger.specs.News.{News, Waits, Happens, Answers, Measures, Reading, says}
 
 -- ---- what a turn tells

@@ -13,7 +13,7 @@ use Rattle.jdwp_debuggee.specs.Actions.{Command}
 use Rattle.jdwp_debugger.specs.declared.heads.Head.{Head}
 use Rattle.jdwp_debugger.specs.declared.pending.Asked.{Asked}
 use Rattle.jdwp_debugger.specs.declared.pending.Ticket.{Ticket}
-use Rattle.jdwp_debugger.specs.Mirrors.{Mirror, empty_mirror}
+use Rattle.jdwp_mirror.specs.Mirrors.{Mirror, empty_mirror}
 
 -- A composite that was read before the widths of ids were known: its header, and its data as they came.
 pub record Parked : Type 0 where

@@ -2,7 +2,7 @@
 use Rattle.std.specs.Prelude.{ℕ}
 use Rattle.jdwp_debugger.specs.declared.faults.DebuggerFault.{DebuggerFault}
 use Rattle.jdwp_debugger.specs.declared.faults.DebuggerFault.TheVariants.{Frame, UnknownReply, BadReply, TooManyParked, BadEvent, NoMemory}
-use Rattle.jdwp_debugger.specs.Faults
+use Rattle.jdwp_mirror.specs.Faults
 
 abbrev pub fault_number : DebuggerFault → ℕ
 fault_number (Frame fault) = 41

@@ -23,7 +23,8 @@ use Rattle.jdwp_debugger.specs.declared.faults.DebuggerFault.TheVariants.{Frame,
 use Rattle.jdwp_debugger.specs.declared.pending.Asked.{Asked}
 use Rattle.jdwp_debugger.specs.declared.pending.Ticket.{Ticket}
 use Rattle.jdwp_debugger.specs.Debuggers.{Parked}
-use Rattle.jdwp_debugger.specs.Faults.{PARKED_MOST, are_widths, is_bad_reply}
+use Rattle.jdwp_mirror.specs.Faults.{PARKED_MOST, is_bad_reply}
+use Rattle.jdwp_mirror.specs.Widths.{widths_in}
 
 -- ---- composites
 
@@ -85,24 +86,6 @@ unless_bad c None = None
 unless_bad c (Some answer) = if is_bad_reply c answer then None else Some answer
 
 -- ---- the widths of ids
-
-abbrev pub width_said : DatumMeaning → ℕ
-width_said (One (Int (pos n))) = n
-width_said item = 0
-
-abbrev pub widths_said : List DatumMeaning → Option Widths
-widths_said (a ∷ b ∷ c ∷ d ∷ e ∷ []) =
-    Some (record { field = width_said a; method = width_said b; object = width_said c; reference = width_said d; frame = width_said e })
-widths_said content = None
-
--- the widths that these data are
-abbrev pub widths_if : List DatumMeaning → Option Widths
-widths_if content = if are_widths content then widths_said content else None
-
--- the widths in the answer to IDSizes
-abbrev pub widths_in : Answer → Option Widths
-widths_in (Data content) = widths_if content
-widths_in (Error e) = None
 
 -- the widths by which replies are read; before they are known IDSizes alone waits for its reply, in which no id stands
 abbrev pub EIGHT : Widths

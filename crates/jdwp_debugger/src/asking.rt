@@ -7,8 +7,8 @@ ghost use Rattle.jdwp_layout.specs.Writes.{data_canonical, data_refusal};
 ghost use Rattle.jdwp_debugger.specs.Asking.{body_bytes, carried_bytes, command_bytes, is_for_target, packet_length};
 ghost use Rattle.jdwp_debugger.specs.RefusedNumbers.{refused_number};
 
-use crate::command::{Carried, Command};
 use jdwp_layout::{Datum, Layout, data_size, layout_of, refusal, write};
+use jdwp_mirror::{Carried, Command};
 use jdwp_wire::{Header, IdSizes, NoMemory, PacketKind};
 use std::alloc::{AllocFailed, Global};
 use thiserror::Error;

@@ -10,13 +10,12 @@ ghost use Rattle.jdwp_debugger.specs.Debuggers.{at_place, attached, has_tickets,
 ghost use Rattle.jdwp_debugger.specs.Runs.{Ran};
 
 use crate::asking::{Admitted, Body, Refused};
-use crate::command::Command;
 use crate::heads::{Head, Heads};
 use crate::lost::Lost;
-use crate::mirror::Mirror;
 use crate::parked::Parked;
 use crate::pending::{Asked, Ticket, have_tickets, next_free, unanswered_at};
 use jdwp_end::{End, Front};
+use jdwp_mirror::{Command, Mirror};
 use jdwp_wire::{HANDSHAKE, IdSizes, Limits, NoMemory, PACKET_LIMIT};
 use std::alloc::Global;
 use std::marker::Model;

@@ -8,16 +8,15 @@ ghost use Rattle.jdwp_layout.specs.Meanings.{Byte, DatumMeaning, entry_meanings,
 ghost use Rattle.jdwp_event.specs.Composites.{CompositeMeaning};
 ghost use Rattle.jdwp_debuggee.specs.ReadParts.{found_layout};
 ghost use Rattle.jdwp_debugger.specs.declared.faults.DebuggerFault.TheVariants as code;
-ghost use Rattle.jdwp_debugger.specs.FaultParts.{IsData};
+ghost use Rattle.jdwp_mirror.specs.FaultParts.{IsData};
 ghost use Rattle.jdwp_debugger.specs.News.{Fails, Tells, answer_in, composite_in, composites_in, content_in, data_by, place_of, raw_data, reply_shape, required, unless_bad, whole};
 
-use crate::command::Command;
 use crate::faults::DebuggerFault;
-use crate::judging::is_bad_answer;
 use crate::parked::Parked;
 use crate::pending::Asked;
 use jdwp_event::Composite;
 use jdwp_layout::{Answer, Data, Datum, Layout, Scalar, layout_of, read};
+use jdwp_mirror::{Command, is_bad_answer};
 use jdwp_wire::{DataFault, ErrorCode, IdSizes, NoMemory, Wire};
 use std::alloc::Global;
 

@@ -3,7 +3,7 @@ ghost use Rattle.std.specs.Prelude.{◌≡◌, ◌≤◌, length};
 ghost use Rattle.jdwp_debugger.specs.Asking.{IsNextFree, is_outstanding};
 ghost use Rattle.jdwp_debugger.specs.Debuggers.{at_place, has_tickets, seen_unanswered, unanswered};
 
-use crate::command::Command;
+use jdwp_mirror::Command;
 
 /// The name of a command that was asked. Tickets rise from 1 for the life of a debugger, and none is given twice.
 #[derive(Clone, Copy, Debug, PartialEq, Eq, PartialOrd, Ord, Hash)]

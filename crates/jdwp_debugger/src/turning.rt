@@ -9,22 +9,19 @@ ghost use Rattle.jdwp_debugger.specs.declared.faults.DebuggerFault.TheVariants a
 ghost use Rattle.jdwp_debugger.specs.declared.heads.Head.TheVariants as head;
 ghost use Rattle.jdwp_debugger.specs.DebuggerTurns as turns;
 ghost use Rattle.jdwp_debugger.specs.DebuggerTurns.{Enters, EntersAt, FailsOnly, FailsTo, Fits, HandlesAt, LearnedAll, MayTakeMemory, MayWantMemory, TurnsAt, WantsMemory, closed, closed_where, command_at, heads_of, measured_where, news_meaning, none_known, reading_of, refused, reports, told, with_read, with_sizes};
-ghost use Rattle.jdwp_debugger.specs.Faults.{has_bad_event};
-ghost use Rattle.jdwp_debugger.specs.FaultParts.{IsData, is_dispose_act};
-ghost use Rattle.jdwp_debugger.specs.KnownThreads.{count_in};
-ghost use Rattle.jdwp_debugger.specs.Messages.{Reply, Ticket as MessageTicket};
-ghost use Rattle.jdwp_debugger.specs.Mirror.{ends};
-ghost use Rattle.jdwp_debugger.specs.Mirrors.{empty_mirror};
+ghost use Rattle.jdwp_mirror.specs.Faults.{has_bad_event};
+ghost use Rattle.jdwp_mirror.specs.FaultParts.{IsData, is_dispose_act};
+ghost use Rattle.jdwp_mirror.specs.KnownThreads.{count_in};
+ghost use Rattle.jdwp_mirror.specs.Messages.{Reply, Ticket as MessageTicket};
+ghost use Rattle.jdwp_mirror.specs.Mirror.{ends};
+ghost use Rattle.jdwp_mirror.specs.Mirrors.{empty_mirror};
 ghost use Rattle.jdwp_debugger.specs.News as news;
-ghost use Rattle.jdwp_debugger.specs.News.{Tells, answer_says, event_says, reply_says, reply_to, says, sizes_say, widths_by, widths_in};
+ghost use Rattle.jdwp_debugger.specs.News.{Tells, answer_says, event_says, reply_says, reply_to, says, sizes_say, widths_by};
+ghost use Rattle.jdwp_mirror.specs.Widths.{widths_in};
 
-use crate::command::{Act, Command};
-use crate::composite::has_event_of;
 use crate::debugger::Debugger;
 use crate::faults::DebuggerFault;
 use crate::heads::Head;
-use crate::judging::{is_bad_composite, widths_in_answer};
-use crate::mirror::Mirror;
 use crate::news::{place_under, read_answer, read_composite, read_parked};
 use crate::parked::Parked;
 use crate::pending::{Asked, Ticket};
@@ -32,6 +29,7 @@ use jdwp_end::Front;
 use jdwp_event::{Composite, EventKind};
 use jdwp_layout::Answer;
 use jdwp_layout::numbers::{COMPOSITE, EVENT, ID_SIZES, VIRTUAL_MACHINE};
+use jdwp_mirror::{Act, Command, Mirror, has_event_of, is_bad_composite, widths_in_answer};
 use jdwp_wire::{ErrorCode, HANDSHAKE, Header, IdSizes, PacketKind, PacketRef};
 use std::alloc::Global;
 

@@ -1,13 +1,10 @@
-//! Examples: a type of one's own that packets carry; and, as tests, worked frames, data, layouts, event requests, captures, scripts and
-//! their machines.
+//! Examples: a type of one's own that packets carry; and, as tests, worked frames, values, the table of commands, and event requests.
 //!
 //! They stand apart from the crates that they try, which are then proved once less.
 #![tactic(auto)]
 
 #[cfg(test)]
 mod asserts;
-#[cfg(test)]
-mod check_tests;
 mod code_range;
 #[cfg(test)]
 mod code_range_tests;
@@ -18,21 +15,9 @@ mod frame_tests;
 #[cfg(test)]
 mod happening_tests;
 #[cfg(test)]
-mod layout_tests;
-#[cfg(test)]
-mod limit_tests;
-#[cfg(test)]
-mod machine_tests;
-#[cfg(test)]
 mod request_tests;
 #[cfg(test)]
-mod row_tests;
-#[cfg(test)]
 mod rows;
-#[cfg(test)]
-mod script_tests;
-#[cfg(test)]
-mod show_tests;
 #[cfg(test)]
 mod table_tests;
 #[cfg(test)]

@@ -11,9 +11,9 @@ use Rattle.jdwp_debuggee.specs.State.{Moment}
 use Rattle.jdwp_debuggee.specs.Actions.{Command}
 use Rattle.jdwp_debuggee.specs.Effects.{effect}
 use Rattle.jdwp_debuggee.specs.Steps.{occurs, may_step}
-use Rattle.jdwp_debugger.specs.Messages.{Ticket, Call, Greets, Asks, Handshake, Reply, Report}
-use Rattle.jdwp_debugger.specs.Mirror.{ends}
-use Rattle.jdwp_debugger.specs.Faults.{Fault, fault_of}
+use Rattle.jdwp_mirror.specs.Messages.{Ticket, Call, Greets, Asks, Handshake, Reply, Report}
+use Rattle.jdwp_mirror.specs.Mirror.{ends}
+use Rattle.jdwp_mirror.specs.Faults.{Fault, fault_of}
 use Rattle.jdwp_link.specs.Events
 use Rattle.jdwp_link.specs.Events.{LinkEvent, AskRefusal, Outcome}
 use Rattle.jdwp_link.specs.World.{Measure, Phase, Waiting, Open, is_closed, is_open, Packet, World, way_to_target, way_to_debugger}

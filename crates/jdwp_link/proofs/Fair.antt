@@ -23,9 +23,9 @@ use Rattle.jdwp_debuggee.specs.Facts.{IsSound, Tells, Does, Says}
 use Rattle.jdwp_debuggee.specs.Reports.{IsReport}
 use Rattle.jdwp_debuggee.proofs.ThreadLists.{count-changed}
 use Rattle.jdwp_debuggee.proofs.Reported.{sizes_effect}
-use Rattle.jdwp_debugger.specs.Messages.{Handshake, Reply, Report}
-use Rattle.jdwp_debugger.specs.Mirror.{counted, given_id, first_count, is_positive, is_thread}
-use Rattle.jdwp_debugger.specs.Faults.{is_bad_data, is_bad_error, is_bad_reply, is_of, is_of_two, count_of_thread, is_bad_event, has_bad_event}
+use Rattle.jdwp_mirror.specs.Messages.{Handshake, Reply, Report}
+use Rattle.jdwp_mirror.specs.Mirror.{counted, given_id, first_count, is_positive, is_thread}
+use Rattle.jdwp_mirror.specs.Faults.{is_bad_data, is_bad_error, is_bad_reply, is_of, is_of_two, count_of_thread, is_bad_event, has_bad_event}
 use Rattle.jdwp_link.specs.World.{Packet}
 use Rattle.jdwp_link.specs.Next.{messages_of, started}
 use Rattle.jdwp_link.specs.Seen.{mirror_count}

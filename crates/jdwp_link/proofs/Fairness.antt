@@ -19,8 +19,8 @@ use Rattle.jdwp_debuggee.specs.Facts.{Told, is_data, is_not_asked, is_no_asked_b
 use Rattle.jdwp_debuggee.specs.Reports.{HavePolicies, IsReport}
 use Rattle.jdwp_debuggee.proofs.AllFacts.{facts}
 use Rattle.jdwp_debuggee.proofs.Reported.{policy_accepted, step_reports}
-use Rattle.jdwp_debugger.specs.Messages.{Ticket, Call, Handshake, Reply, Report}
-use Rattle.jdwp_debugger.specs.Faults.{is_bad_reply}
+use Rattle.jdwp_mirror.specs.Messages.{Ticket, Call, Handshake, Reply, Report}
+use Rattle.jdwp_mirror.specs.Faults.{is_bad_reply}
 use Rattle.jdwp_link.specs.World.{Phase, Closed, Waiting, Open, Packet, World}
 use Rattle.jdwp_link.specs.Next.{started, greets_by, after_death, answers, dies_by, told, step_ends}
 use Rattle.jdwp_link.proofs.Keeps.{Inv}

@@ -11,11 +11,11 @@ use Rattle.jdwp_machine.specs.Laws.{IsLawful}
 use Rattle.jdwp_debuggee.specs.Settings.{Settings}
 use Rattle.jdwp_debuggee.specs.State.{Moment}
 use Rattle.jdwp_debuggee.specs.Actions.{Command}
-use Rattle.jdwp_debugger.specs.Messages.{Ticket, same_ticket, Call, Greets, Asks, Message, Handshake, Reply, Report}
+use Rattle.jdwp_mirror.specs.Messages.{Ticket, same_ticket, Call, Greets, Asks, Message, Handshake, Reply, Report}
 use Rattle.jdwp_debuggee.specs.Effects.{effect}
-use Rattle.jdwp_debugger.specs.Mirror.{COUNT_MOST, ends}
-use Rattle.jdwp_debugger.specs.Faults
-use Rattle.jdwp_debugger.specs.Faults.{Fault, or_else, when, is_of_ticket, is_waited_for, is_bad_reply, is_bad_event, has_bad_event, PARKED_MOST, fault_after_greeting, fault_before_greeting, fault_of}
+use Rattle.jdwp_mirror.specs.Mirror.{COUNT_MOST, ends}
+use Rattle.jdwp_mirror.specs.Faults
+use Rattle.jdwp_mirror.specs.Faults.{Fault, or_else, when, is_of_ticket, is_waited_for, is_bad_reply, is_bad_event, has_bad_event, PARKED_MOST, fault_after_greeting, fault_before_greeting, fault_of}
 use Rattle.jdwp_link.specs.Events
 use Rattle.jdwp_link.specs.Events.{LinkEvent, Outcome}
 use Rattle.jdwp_link.specs.World.{Measure, Phase, Closed, Waiting, Open, is_closed, is_open, Packet, World, way_to_target, way_to_debugger, opening}

@@ -23,10 +23,10 @@ use Rattle.jdwp_debuggee.proofs.ThreadLists.{count-changed}
 use Rattle.jdwp_debuggee.proofs.Commands.{sound_counts}
 use Rattle.jdwp_debuggee.proofs.Happenings.{raised-by-most}
 use Rattle.jdwp_debuggee.proofs.AllFacts.{facts}
-use Rattle.jdwp_debugger.specs.Messages.{Ticket, same_ticket, Call, Greets, Asks, Handshake, Reply, Report, id_sizes}
-use Rattle.jdwp_debugger.specs.Mirror.{all_kept, ends, COUNT_MOST}
-use Rattle.jdwp_debugger.specs.Faults
-use Rattle.jdwp_debugger.specs.Faults.{Fault, Reader, fault_of, fault_after_greeting}
+use Rattle.jdwp_mirror.specs.Messages.{Ticket, same_ticket, Call, Greets, Asks, Handshake, Reply, Report, id_sizes}
+use Rattle.jdwp_mirror.specs.Mirror.{all_kept, ends, COUNT_MOST}
+use Rattle.jdwp_mirror.specs.Faults
+use Rattle.jdwp_mirror.specs.Faults.{Fault, Reader, fault_of, fault_after_greeting}
 use Rattle.jdwp_link.specs.Events
 use Rattle.jdwp_link.specs.Events.{LinkEvent, AskRefusal, Outcome}
 use Rattle.jdwp_link.specs.World.{Measure, Phase, Closed, Waiting, Open, is_closed, is_open, Packet, World, way_to_target, way_to_debugger}

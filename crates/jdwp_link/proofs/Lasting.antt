@@ -16,10 +16,10 @@ use Rattle.jdwp_debuggee.specs.Effects.{Effect, effect}
 use Rattle.jdwp_debuggee.specs.Steps.{occurs, may_step, start_event}
 use Rattle.jdwp_debuggee.specs.Facts.{IsSound, Quiet, Does, Told}
 use Rattle.jdwp_debuggee.proofs.AllFacts.{facts}
-use Rattle.jdwp_debugger.specs.Messages.{Ticket, Call, Greets, Asks, Message, Handshake, Reply, Report}
-use Rattle.jdwp_debugger.specs.Mirror.{COUNT_MOST, ends}
-use Rattle.jdwp_debugger.specs.Faults
-use Rattle.jdwp_debugger.specs.Faults.{Fault, fault_of}
+use Rattle.jdwp_mirror.specs.Messages.{Ticket, Call, Greets, Asks, Message, Handshake, Reply, Report}
+use Rattle.jdwp_mirror.specs.Mirror.{COUNT_MOST, ends}
+use Rattle.jdwp_mirror.specs.Faults
+use Rattle.jdwp_mirror.specs.Faults.{Fault, fault_of}
 use Rattle.jdwp_link.specs.Events
 use Rattle.jdwp_link.specs.Events.{LinkEvent, AskRefusal, Outcome}
 use Rattle.jdwp_link.specs.World.{Measure, Phase, Closed, Waiting, Open, is_closed, is_open, Packet, World, way_to_target, way_to_debugger, opening}

@@ -10,7 +10,7 @@ use Rattle.jdwp_debuggee.specs.Steps.{occurs, start_event}
 use Rattle.jdwp_debuggee.specs.Facts.{Told}
 use Rattle.jdwp_debuggee.proofs.AllFacts.{facts}
 use Rattle.jdwp_debuggee.specs.Actions.{Command}
-use Rattle.jdwp_debugger.specs.Messages.{Ticket, Call, Greets, Asks, Message, Handshake, Reply, Report, id_sizes}
+use Rattle.jdwp_mirror.specs.Messages.{Ticket, Call, Greets, Asks, Message, Handshake, Reply, Report, id_sizes}
 use Rattle.jdwp_link.specs.World.{Phase, Closed, Waiting, Open, is_closed, is_open, Packet, World}
 use Rattle.jdwp_link.specs.Next.{started, greets_by, after_death, answers, dies_by, told, step_ends}
 use Rattle.jdwp_link.proofs.Session.{and-left, and-right}

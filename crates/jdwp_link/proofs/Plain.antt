@@ -13,7 +13,7 @@ use Rattle.jdwp_debuggee.specs.Answers.{inserted, rising, all_threads}
 use Rattle.jdwp_debuggee.specs.State.{State, ids, count_of}
 use Rattle.jdwp_debuggee.specs.Facts.{AreBelow}
 use Rattle.jdwp_debuggee.proofs.ThreadLists.{has-count}
-use Rattle.jdwp_debugger.specs.Mirror.{Kept, kept, all_kept, has_other_id, lists, begins_with_object, more, COUNT_MOST}
+use Rattle.jdwp_mirror.specs.Mirror.{Kept, kept, all_kept, has_other_id, lists, begins_with_object, more, COUNT_MOST}
 use Rattle.std.specs.Prelude.{nat_le}
 
 pub more-exact : (j : ℕ) → j + 1 ≤ COUNT_MOST → more j ≡ j + 1

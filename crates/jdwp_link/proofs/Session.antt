@@ -5,8 +5,8 @@ use Rattle.jdwp_machine.specs.Meanings.{Meaning}
 use Rattle.jdwp_debuggee.specs.State.{Moment, count_of, count_or_zero, or_zero}
 use Rattle.jdwp_debuggee.specs.Actions.{Command, action_of}
 use Rattle.jdwp_debuggee.specs.Facts.{Quiet, is_dispose}
-use Rattle.jdwp_debugger.specs.Messages.{Ticket, Call, Greets, Asks, Message, Handshake, Reply, Report}
-use Rattle.jdwp_debugger.specs.Mirror.{all_kept, learned, teaches, forgets, shows, is_positive, requests_after, ends}
+use Rattle.jdwp_mirror.specs.Messages.{Ticket, Call, Greets, Asks, Message, Handshake, Reply, Report}
+use Rattle.jdwp_mirror.specs.Mirror.{all_kept, learned, teaches, forgets, shows, is_positive, requests_after, ends}
 use Rattle.jdwp_link.specs.World.{Packet}
 use Rattle.jdwp_link.specs.Next.{entered, has_end}
 use Rattle.jdwp_link.specs.Seen.{mirror_count, mirror_held, mirror_requests, is_known, is_shown, is_held, unanswered, lowers, raises, has_dispose, composites_in}

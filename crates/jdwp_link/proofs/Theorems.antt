@@ -9,7 +9,7 @@ use Rattle.jdwp_debuggee.specs.Settings.{Settings}
 use Rattle.jdwp_debuggee.specs.State.{Moment, count_in, count_of, count_or_zero, or_zero, running, ids, new_state}
 use Rattle.jdwp_debuggee.specs.Answers.{inserted, rising, first_of}
 use Rattle.jdwp_debuggee.proofs.ThreadLists.{has-count, ids-running, count-running}
-use Rattle.jdwp_debugger.specs.Mirror.{all_kept, learned, is_positive}
+use Rattle.jdwp_mirror.specs.Mirror.{all_kept, learned, is_positive}
 use Rattle.jdwp_link.specs.World.{World, Packet, is_closed, opening}
 use Rattle.jdwp_link.specs.Next.{run}
 use Rattle.jdwp_link.specs.Seen.{mirror_count, mirror_held, mirror_requests, seen, is_known, is_shown, is_held, unanswered, lowers, raises, has_dispose, composites_in}

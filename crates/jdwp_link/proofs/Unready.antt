@@ -13,7 +13,7 @@ use Rattle.jdwp_debuggee.specs.Effects.{Effect, effect}
 use Rattle.jdwp_debuggee.specs.Steps.{occurs, start_event}
 use Rattle.jdwp_debuggee.specs.Facts.{Told, requests_moved}
 use Rattle.jdwp_debuggee.proofs.AllFacts.{facts}
-use Rattle.jdwp_debugger.specs.Messages.{Ticket, Call, Asks, Handshake, Reply, Report, id_sizes}
+use Rattle.jdwp_mirror.specs.Messages.{Ticket, Call, Asks, Handshake, Reply, Report, id_sizes}
 use Rattle.jdwp_link.specs.World.{Phase, Closed, Waiting, Open, is_closed, is_open, Packet, World}
 use Rattle.jdwp_link.specs.Next.{started, greets_by, after_death, answers, dies_by, told, step_ends}
 use Rattle.jdwp_link.specs.Seen.{composites_in}

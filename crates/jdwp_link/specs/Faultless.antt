@@ -5,9 +5,9 @@ use Rattle.jdwp_machine.specs.Meanings.{Meaning}
 use Rattle.jdwp_debuggee.specs.Settings.{Settings}
 use Rattle.jdwp_debuggee.specs.State.{Moment}
 use Rattle.jdwp_debuggee.specs.Actions.{Command}
-use Rattle.jdwp_debugger.specs.Messages.{Ticket, Call, Greets, Asks, Reply}
-use Rattle.jdwp_debugger.specs.Mirror.{ends}
-use Rattle.jdwp_debugger.specs.Faults.{fault_of}
+use Rattle.jdwp_mirror.specs.Messages.{Ticket, Call, Greets, Asks, Reply}
+use Rattle.jdwp_mirror.specs.Mirror.{ends}
+use Rattle.jdwp_mirror.specs.Faults.{fault_of}
 use Rattle.jdwp_link.specs.Events.{LinkEvent}
 use Rattle.jdwp_link.specs.World.{Measure, Phase, Waiting, Open, is_closed, Packet, World, opening}
 use Rattle.jdwp_link.specs.Next.{target_turn, has_end, reader, debugger_turn, run}

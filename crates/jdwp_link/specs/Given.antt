@@ -4,7 +4,7 @@ use Rattle.jdwp_layout.specs.declared.answer.Answer.{Answer}
 use Rattle.jdwp_machine.specs.Meanings.{Meaning}
 use Rattle.jdwp_debuggee.specs.Settings.{Settings}
 use Rattle.jdwp_debuggee.specs.Effects.{effect}
-use Rattle.jdwp_debugger.specs.Messages.{Call, Asks}
+use Rattle.jdwp_mirror.specs.Messages.{Call, Asks}
 use Rattle.jdwp_link.specs.Events
 use Rattle.jdwp_link.specs.Events.{LinkEvent, Outcome}
 use Rattle.jdwp_link.specs.World.{Measure, Phase, Open, is_closed, World, way_to_debugger, opening}

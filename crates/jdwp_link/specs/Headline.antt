@@ -4,7 +4,7 @@ use Rattle.jdwp_event.specs.Requests.{all_asked}
 use Rattle.jdwp_machine.specs.Meanings.{Meaning}
 use Rattle.jdwp_debuggee.specs.Settings.{Settings}
 use Rattle.jdwp_debuggee.specs.State.{Moment, count_of, count_or_zero}
-use Rattle.jdwp_debugger.specs.Mirror.{Kept, all_kept, COUNT_MOST}
+use Rattle.jdwp_mirror.specs.Mirror.{Kept, all_kept, COUNT_MOST}
 use Rattle.jdwp_link.specs.Events.{LinkEvent}
 use Rattle.jdwp_link.specs.World.{Measure, World, opening}
 use Rattle.jdwp_link.specs.Next.{run}

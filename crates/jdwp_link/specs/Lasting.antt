@@ -10,7 +10,7 @@ use Rattle.jdwp_debuggee.specs.Actions
 use Rattle.jdwp_debuggee.specs.Actions.{Command, Action, action_of}
 use Rattle.jdwp_debuggee.specs.Answers.{query_of}
 use Rattle.jdwp_debuggee.specs.Effects.{effect}
-use Rattle.jdwp_debugger.specs.Messages.{Ticket, Message, Handshake, Reply, Report}
+use Rattle.jdwp_mirror.specs.Messages.{Ticket, Message, Handshake, Reply, Report}
 use Rattle.jdwp_link.specs.Events.{LinkEvent}
 use Rattle.jdwp_link.specs.World.{Measure, Packet, World, opening}
 use Rattle.jdwp_link.specs.Next.{run}

@@ -11,9 +11,9 @@ use Rattle.jdwp_debuggee.specs.Actions.{Command}
 use Rattle.jdwp_debuggee.specs.Effects.{Effect, effect}
 use Rattle.jdwp_debuggee.specs.Steps
 use Rattle.jdwp_debuggee.specs.Steps.{occurs, may_step, start_event, handshaken}
-use Rattle.jdwp_debugger.specs.Messages.{Ticket, same_ticket, Call, Greets, Asks, Message, Handshake, Reply, Report, id_sizes}
-use Rattle.jdwp_debugger.specs.Mirror.{ends}
-use Rattle.jdwp_debugger.specs.Faults.{Fault, Reader, fault_of}
+use Rattle.jdwp_mirror.specs.Messages.{Ticket, same_ticket, Call, Greets, Asks, Message, Handshake, Reply, Report, id_sizes}
+use Rattle.jdwp_mirror.specs.Mirror.{ends}
+use Rattle.jdwp_mirror.specs.Faults.{Fault, Reader, fault_of}
 use Rattle.jdwp_link.specs.Events
 use Rattle.jdwp_link.specs.Events.{LinkEvent, AskRefusal, Outcome}
 use Rattle.jdwp_link.specs.World.{Measure, Phase, Closed, Waiting, Open, is_closed, is_open, Packet, World, way_to_target, way_to_debugger}

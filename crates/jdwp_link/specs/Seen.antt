@@ -5,8 +5,8 @@ use Rattle.jdwp_debuggee.specs.State.{Moment, count_or_zero}
 use Rattle.jdwp_debuggee.specs.Actions
 use Rattle.jdwp_debuggee.specs.Actions.{Command, Action, action_of}
 use Rattle.jdwp_debuggee.specs.Facts.{is_dispose}
-use Rattle.jdwp_debugger.specs.Messages.{Ticket, Handshake, Reply, Report}
-use Rattle.jdwp_debugger.specs.Mirror.{Kept, learned, teaches, forgets, shows, held_after, requests_after}
+use Rattle.jdwp_mirror.specs.Messages.{Ticket, Handshake, Reply, Report}
+use Rattle.jdwp_mirror.specs.Mirror.{Kept, learned, teaches, forgets, shows, held_after, requests_after}
 use Rattle.jdwp_link.specs.World.{Packet}
 
 -- ---- the mirror

@@ -10,7 +10,7 @@ use Rattle.jdwp_event.specs.Requests.{Asked, all_asked}
 use Rattle.jdwp_debuggee.specs.State.{count_of}
 use Rattle.jdwp_debuggee.specs.Actions.{Command, Content}
 use Rattle.jdwp_debuggee.specs.Answers.{done, int_answer}
-use Rattle.jdwp_debugger.specs.Messages.{Report}
+use Rattle.jdwp_mirror.specs.Messages.{Report}
 use Rattle.jdwp_link.specs.Events
 use Rattle.jdwp_link.specs.Events.{LinkEvent, Outcome}
 use Rattle.jdwp_link.specs.World.{Closed, Open, World, way_to_debugger}

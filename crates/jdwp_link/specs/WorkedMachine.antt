@@ -22,7 +22,7 @@ use Rattle.jdwp_machine.specs.Laws.{AreDistinct, begins_with}
 use Rattle.jdwp_debuggee.specs.Settings.{Settings}
 use Rattle.jdwp_debuggee.specs.Actions.{Command}
 use Rattle.jdwp_debuggee.specs.Answers.{content_of}
-use Rattle.jdwp_debugger.specs.Messages.{Call, Greets, Asks, Message, Handshake, Reply, Report}
+use Rattle.jdwp_mirror.specs.Messages.{Call, Greets, Asks, Message, Handshake, Reply, Report}
 use Rattle.jdwp_link.specs.Events.{AskRefusal}
 use Rattle.jdwp_link.specs.World.{Measure, World, opening}
 

@@ -4,7 +4,7 @@ use Rattle.std.specs.Prelude.{ℕ, ◌+◌, ◌-◌, Bool, true, false, List, []
 use Rattle.jdwp_machine.specs.Meanings.{Meaning}
 use Rattle.jdwp_debuggee.specs.State.{Moment, new_state}
 use Rattle.jdwp_debuggee.specs.Actions.{Command}
-use Rattle.jdwp_debugger.specs.Messages.{Ticket, Call, Message}
+use Rattle.jdwp_mirror.specs.Messages.{Ticket, Call, Message}
 use Rattle.jdwp_link.specs.Events.{AskRefusal}
 
 -- How many bytes messages have, and which commands can't be sent at all (BadCommand, TooLong). Whatever these are, all that is said of

@@ -94,13 +94,19 @@ fn target(alloc: Global, script: &str, start_all: bool, count_limit: u32) -> Res
 /// The same, none of whose threads begins suspended, with the handshake done and its answer taken.
 pub(crate) fn ready(alloc: Global, script: &str, count_limit: u32) -> Result<Target, Fail> {
     let mut target = target(alloc, script, false, count_limit)?;
+    greet(alloc, &mut target)?;
+    Ok(target)
+}
+
+/// Begins a session: the handshake, whose answer is taken.
+fn greet(alloc: Global, target: &mut Target) -> Result<(), Fail> {
     target.accept();
     target.feed(&bytes(alloc, HANDSHAKE)?);
     if target.turn() != Ok(Turn::Hello) {
         return Err(Fail::from("no handshake"));
     }
-    taken(alloc, &mut target)?;
-    Ok(target)
+    taken(alloc, target)?;
+    Ok(())
 }
 
 /// What is done with a target, and what comes of it.
@@ -227,8 +233,17 @@ pub(crate) fn goes_wrong_at(
     acts: &[Act<'_>],
 ) -> Result<Option<usize>, Fail> {
     let mut target = ready(alloc, script, count_limit)?;
+    first_wrong(alloc, &mut target, acts)
+}
+
+/// The same of a target whose session has begun.
+fn first_wrong(
+    alloc: Global,
+    target: &mut Target,
+    acts: &[Act<'_>],
+) -> Result<Option<usize>, Fail> {
     for (place, act) in acts.iter().enumerate() {
-        if !comes(alloc, &mut target, act)? {
+        if !comes(alloc, target, act)? {
             return Ok(Some(place));
         }
     }

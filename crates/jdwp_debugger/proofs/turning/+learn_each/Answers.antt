@@ -3,8 +3,8 @@ use Rattle.std.specs.Prelude.{OnOk, IfErr}
 use Rattle.jdwp_layout.proofs.Progress.{rest_is}
 use Rattle.jdwp_event.specs.Composites.{CompositeMeaning}
 use Rattle.jdwp_debugger.specs.DebuggerTurns.{FailsOnly, reports}
-use Rattle.jdwp_debugger.specs.Faults.{has_bad_event, is_bad_event}
-use Rattle.jdwp_debugger.specs.KnownThreads.{count_in}
+use Rattle.jdwp_mirror.specs.Faults.{has_bad_event, is_bad_event}
+use Rattle.jdwp_mirror.specs.KnownThreads.{count_in}
 use Rattle.jdwp_debugger.proofs.TurningLemmas.{AllLearned, all-learned, all-failed}
 use Rattle.jdwp_debugger.proofs.turning.+learn_each.Goals as goal
 

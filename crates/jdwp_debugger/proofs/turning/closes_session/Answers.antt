@@ -1,6 +1,6 @@
 use Rattle.std.proofs.Common.{◌∙◌, ap, sym}
-use Rattle.jdwp_debugger.specs.FaultParts.{is_dispose_act}
-use Rattle.jdwp_debugger.specs.Mirror.{ends_reply}
+use Rattle.jdwp_mirror.specs.FaultParts.{is_dispose_act}
+use Rattle.jdwp_mirror.specs.Mirror.{ends_reply}
 use Rattle.jdwp_debugger.proofs.TurningLemmas.{disposes}
 use Rattle.jdwp_debugger.proofs.turning.closes_session.Goals as goal
 

@@ -4,7 +4,7 @@ use Rattle.jdwp_debugger.specs.declared.faults.DebuggerFault.{DebuggerFault}
 use Rattle.jdwp_debugger.specs.declared.turning.News as declared
 use Rattle.jdwp_debugger.specs.declared.turning.Read.{Read}
 use Rattle.jdwp_debugger.specs.DebuggerTurns.{EntersAt, FailsOnly, news_meaning, none_known, reports}
-use Rattle.jdwp_debugger.specs.Faults.{has_bad_event}
+use Rattle.jdwp_mirror.specs.Faults.{has_bad_event}
 use Rattle.jdwp_debugger.proofs.TurningLemmas.{fails-measuring}
 use Rattle.jdwp_debugger.proofs.debugger.Debugger.enter.Goals as goal
 

@@ -3,10 +3,10 @@ use Rattle.std.proofs.lemmas.Option.{slice_get_read}
 use Rattle.jdwp_debuggee.specs.Actions.{Command}
 use Rattle.jdwp_debugger.specs.Debuggers.{Debugger}
 use Rattle.jdwp_debugger.specs.DebuggerTurns.{LearnedAll, command_at, command_of, reports}
-use Rattle.jdwp_debugger.specs.Faults.{has_bad_event}
-use Rattle.jdwp_debugger.specs.KnownThreads.{count_in}
-use Rattle.jdwp_debugger.specs.Messages.{Reply}
-use Rattle.jdwp_debugger.specs.Mirrors.{Mirror, Learned, empty_mirror}
+use Rattle.jdwp_mirror.specs.Faults.{has_bad_event}
+use Rattle.jdwp_mirror.specs.KnownThreads.{count_in}
+use Rattle.jdwp_mirror.specs.Messages.{Reply}
+use Rattle.jdwp_mirror.specs.Mirrors.{Mirror, Learned, empty_mirror}
 use Rattle.jdwp_debugger.proofs.TurningLemmas.{learned-then}
 use Rattle.jdwp_debugger.proofs.debugger.Debugger.learn_waited.Goals as goal
 

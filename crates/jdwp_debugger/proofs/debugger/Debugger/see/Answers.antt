@@ -4,11 +4,11 @@ use Rattle.jdwp_end.specs.Ends.{front_of}
 use Rattle.jdwp_debugger.specs.declared.heads.Head.TheVariants as head
 use Rattle.jdwp_debugger.specs.Debuggers.{Debugger}
 use Rattle.jdwp_debugger.specs.DebuggerTurns.{bad_where, closed_where, with_read}
-use Rattle.jdwp_debugger.specs.Faults.{is_bad_event}
-use Rattle.jdwp_debugger.specs.KnownThreads.{count_in}
-use Rattle.jdwp_debugger.specs.Messages.{Report}
-use Rattle.jdwp_debugger.specs.Mirror.{ends}
-use Rattle.jdwp_debugger.specs.Mirrors.{Mirror, Learned}
+use Rattle.jdwp_mirror.specs.Faults.{is_bad_event}
+use Rattle.jdwp_mirror.specs.KnownThreads.{count_in}
+use Rattle.jdwp_mirror.specs.Messages.{Report}
+use Rattle.jdwp_mirror.specs.Mirror.{ends}
+use Rattle.jdwp_mirror.specs.Mirrors.{Mirror, Learned}
 use Rattle.jdwp_debugger.proofs.debugger.Debugger.see.Goals as goal
 
 pub returns : goal.returns

@@ -9,9 +9,9 @@ use Rattle.jdwp_debugger.specs.declared.pending.Asked.{Asked}
 use Rattle.jdwp_debugger.specs.Debuggers.{Debugger}
 use Rattle.jdwp_debugger.specs.DebuggersKept.{view_of}
 use Rattle.jdwp_debugger.specs.DebuggerTurns.{closed_where, command_at, command_of, with_read}
-use Rattle.jdwp_debugger.specs.Messages.{Reply}
-use Rattle.jdwp_debugger.specs.Mirror.{ends}
-use Rattle.jdwp_debugger.specs.Mirrors.{Mirror, Learned}
+use Rattle.jdwp_mirror.specs.Messages.{Reply}
+use Rattle.jdwp_mirror.specs.Mirror.{ends}
+use Rattle.jdwp_mirror.specs.Mirrors.{Mirror, Learned}
 use Rattle.jdwp_debugger.proofs.debugger.Debugger.take_answer.Goals as goal
 
 pub returns : goal.returns

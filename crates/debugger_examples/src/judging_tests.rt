@@ -1,0 +1,58 @@
+//! What commands ask and packets tell, and which packets no target may send.
+use crate::asserts::expect_same;
+use crate::mirror_tests::{event, event_of_none, of_thread, plain, with_int};
+use jdwp_event::EventKind;
+use jdwp_layout::{Answer, Data, Datum, Scalar};
+use jdwp_mirror::{Act, Mirror, has_event_of, is_bad_answer, is_bad_composite, widths_in_answer};
+use jdwp_wire::IdSizes;
+use std::test::Fail;
+
+#[test]
+fn a_negative_count_is_bad(rt: HostRuntime) -> Result<(), Fail> {
+    let count = of_thread(rt.alloc(), 12, 1)?;
+    expect_same(
+        &rt,
+        &is_bad_answer(&count, &with_int(rt.alloc(), -1)?),
+        &true,
+    );
+    expect_same(
+        &rt,
+        &is_bad_answer(&count, &with_int(rt.alloc(), 2)?),
+        &false,
+    );
+    Ok(())
+}
+
+#[test]
+fn a_suspended_thread_reports_nothing(rt: HostRuntime) -> Result<(), Fail> {
+    let mut mirror = Mirror::new(rt.alloc());
+    // A thread starts, and is suspended by the event's policy.
+    let started = event(rt.alloc(), 6, 1, 1)?;
+    expect_same(&rt, &is_bad_composite(&mirror, &started), &false);
+    mirror.learn_composite(&started)?;
+    expect_same(&rt, &is_bad_composite(&mirror, &started), &true);
+    Ok(())
+}
+
+#[test]
+fn what_is_asked_and_told(rt: HostRuntime) -> Result<(), Fail> {
+    expect_same(&rt, &plain(rt.alloc(), 1, 6).act(), &Act::Dispose);
+    let death = event_of_none(rt.alloc(), 99)?;
+    expect_same(&rt, &has_event_of(&death, EventKind::VmDeath), &true);
+    expect_same(&rt, &has_event_of(&death, EventKind::ThreadDeath), &false);
+    Ok(())
+}
+
+#[test]
+fn widths_of_ids(rt: HostRuntime) -> Result<(), Fail> {
+    let widths = vec![in rt.alloc();
+        Datum::One(Scalar::Int(1)),
+        Datum::One(Scalar::Int(2)),
+        Datum::One(Scalar::Int(3)),
+        Datum::One(Scalar::Int(4)),
+        Datum::One(Scalar::Int(5)),
+    ]?;
+    let told = widths_in_answer(&Answer::Data(Data::new(widths)));
+    expect_same(&rt, &told, &IdSizes::new(1, 2, 3, 4, 5).ok());
+    Ok(())
+}

@@ -1,7 +1,0 @@
-use Rattle.std.proofs.Common.{◌≡◌, drop}
-use Rattle.jdwp_debugger.specs.Faults.{is_of_two}
-use Rattle.jdwp_debugger.specs.FaultParts.{is_of_two_behind}
-use Rattle.jdwp_debugger.proofs.judging.are_of_two.Given as goal
-
-abbrev pub invariant-loop-event : goal.invariant-loop-event
-invariant-loop-event l = is_of_two_behind l.before (drop l.event-index l.events) ≡ is_of_two l.events

@@ -1,5 +1,0 @@
-use Rattle.std.proofs.Common.{rules}
-use Rattle.jdwp_debugger.proofs.threads.Lesson.of_reply.Goals as goal
-
-pub returns-in-AllThreads : goal.returns-in-AllThreads
-returns-in-AllThreads c = search rules

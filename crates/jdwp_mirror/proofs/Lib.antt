@@ -1,0 +1,5 @@
+pub mod KnownLemmas
+pub mod NumberingLemmas
+pub mod Abouts
+pub mod Learning
+pub mod JudgingLemmas

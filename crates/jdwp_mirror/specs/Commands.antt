@@ -1,0 +1,10 @@
+-- What commands in memory say.
+use Rattle.std.specs.Prelude.{List, []}
+use Rattle.jdwp_layout.specs.Meanings.{DatumMeaning}
+use Rattle.jdwp_debuggee.specs.Actions
+use Rattle.jdwp_mirror.specs.declared.command.Carried.{Carried}
+use Rattle.jdwp_mirror.specs.declared.command.Carried.TheVariants as carried
+
+abbrev pub carried_meaning : Carried → Actions.Carried
+carried_meaning (carried.Content content) = Actions.Content content
+carried_meaning (carried.Raw bytes) = Actions.Raw bytes.items

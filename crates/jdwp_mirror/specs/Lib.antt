@@ -1,0 +1,11 @@
+pub mod Messages
+pub mod Mirror
+pub mod Faults
+pub mod Laws
+pub mod KnownThreads
+pub mod Numbering
+pub mod Acts
+pub mod Commands
+pub mod Mirrors
+pub mod FaultParts
+pub mod Widths

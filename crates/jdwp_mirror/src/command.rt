@@ -1,0 +1,247 @@
+//! Commands that a debugger asks.
+ghost use Rattle.std.specs.Prelude.{◌≡◌, ◌==◌, ◌&&◌};
+ghost use Rattle.jdwp_debuggee.specs.Actions as actions;
+ghost use Rattle.jdwp_debuggee.specs.Actions.{action_of, clear_action, first_object, object_in, set_action, thread_of};
+ghost use Rattle.jdwp_mirror.specs.Acts.{act_of, id_found, other_act_of, request_act_of, thread_act_of};
+ghost use Rattle.jdwp_mirror.specs.Commands.{carried_meaning};
+ghost use Rattle.jdwp_layout.specs.Meanings.{meanings};
+
+use jdwp_layout::{Data, Datum, Scalar};
+use jdwp_value::ObjectId;
+use std::marker::Model;
+
+/// What a command carries.
+#[derive(Drop)]
+pub enum Carried {
+    /// Data in the layout of the command's row.
+    Content(Data),
+    /// Bytes, in a row whose data are not read.
+    Raw(Vec<u8>),
+}
+
+/// A command: its set, its number and what it carries (JDWP specification, "Protocol Details").
+#[derive(Drop)]
+pub struct Command {
+    set: u8,
+    number: u8,
+    carried: Carried,
+}
+
+impl Model for Command {
+    ghost use Rattle.jdwp_debuggee.specs.Actions as actions;
+
+    ghost Value = { actions.Command };
+
+    ghost use Rattle.jdwp_mirror.specs.Commands.{carried_meaning};
+
+    ghost view = { λ c. record { set = c.set; number = c.number; carried = carried_meaning c.carried } };
+}
+
+/// What a command asks, as far as a mirror learns by its reply.
+#[derive(Clone, Copy, Debug, PartialEq, Eq)]
+pub enum Act {
+    /// VirtualMachine.Suspend.
+    Suspend,
+    /// VirtualMachine.Resume.
+    Resume,
+    /// VirtualMachine.Dispose.
+    Dispose,
+    /// VirtualMachine.Exit.
+    Exit,
+    /// EventRequest.Set with a kind, a policy and modifiers.
+    Request,
+    /// EventRequest.Clear with a kind and an id.
+    Clear,
+    /// EventRequest.ClearAllBreakpoints.
+    ClearBreakpoints,
+    /// ThreadReference.Suspend of a thread.
+    SuspendThread,
+    /// ThreadReference.Resume of a thread.
+    ResumeThread,
+    /// ThreadReference.SuspendCount of a thread.
+    SuspendCount,
+    /// VirtualMachine.AllThreads.
+    AllThreads,
+    /// VirtualMachine.IDSizes.
+    IdSizes,
+    /// Any other command: its reply teaches nothing.
+    Other,
+}
+
+impl Command {
+    /// A command that carries data.
+    pub fn new(set: u8, number: u8, items: Vec<Datum>) -> Command
+        ensures { result ≡ record { set = set; number = number; carried = actions.Content (meanings items.items) } }
+    {
+        Command {
+            set,
+            number,
+            carried: Carried::Content(Data::new(items)),
+        }
+    }
+
+    /// A command that carries bytes, of a row whose data are not read.
+    pub fn raw(set: u8, number: u8, bytes: Vec<u8>) -> Command
+        ensures { result ≡ record { set = set; number = number; carried = actions.Raw bytes.items } }
+    {
+        Command {
+            set,
+            number,
+            carried: Carried::Raw(bytes),
+        }
+    }
+
+    /// The command set.
+    pub fn set(&self) -> u8
+        ensures { result ≡ self.now.set }
+    {
+        self.set
+    }
+
+    /// The command's number in its set.
+    pub fn number(&self) -> u8
+        ensures { result ≡ self.now.number }
+    {
+        self.number
+    }
+
+    /// What it carries.
+    pub fn carried(&self) -> &Carried
+        ensures { carried_meaning result.now ≡ self.now.carried }
+    {
+        &self.carried
+    }
+
+    fn is(&self, set: u8, number: u8) -> bool
+        ensures { result ≡ ((self.now.set == set) && (self.now.number == number)) }
+    {
+        self.set == set && self.number == number
+    }
+
+    /// The thread that a command of ThreadReference or StackFrame is about; None for any other command.
+    pub(crate) fn thread(&self) -> Option<ObjectId>
+        ensures { result ≡ id_found (thread_of self.now) }
+    {
+        if self.set == 11 || self.set == 16 {
+            first_object_of(&self.carried)
+        } else {
+            None
+        }
+    }
+
+    /// What it asks, as far as a mirror learns by its reply.
+    pub fn act(&self) -> Act
+        ensures { result ≡ act_of (action_of self.now) }
+    {
+        match self.thread() {
+            Some(_) => self.thread_act(),
+            None => self.other_act(),
+        }
+    }
+
+    fn thread_act(&self) -> Act
+        ensures { result ≡ thread_act_of self.now }
+    {
+        if self.is(11, 2) {
+            Act::SuspendThread
+        } else if self.is(11, 3) {
+            Act::ResumeThread
+        } else if self.is(11, 12) {
+            Act::SuspendCount
+        } else {
+            Act::Other
+        }
+    }
+
+    fn other_act(&self) -> Act
+        ensures { result ≡ other_act_of self.now }
+    {
+        if self.is(1, 8) {
+            Act::Suspend
+        } else if self.is(1, 9) {
+            Act::Resume
+        } else if self.is(1, 6) {
+            Act::Dispose
+        } else if self.is(1, 10) {
+            Act::Exit
+        } else if self.is(1, 4) {
+            Act::AllThreads
+        } else if self.is(1, 7) {
+            Act::IdSizes
+        } else {
+            self.request_act()
+        }
+    }
+
+    fn request_act(&self) -> Act
+        ensures { result ≡ request_act_of self.now }
+    {
+        if self.is(15, 1) {
+            set_act(&self.carried)
+        } else if self.is(15, 2) {
+            clear_act(&self.carried)
+        } else if self.is(15, 3) {
+            Act::ClearBreakpoints
+        } else {
+            Act::Other
+        }
+    }
+}
+
+fn first_object_of(carried: &Carried) -> Option<ObjectId>
+    ensures { result ≡ id_found (object_in (carried_meaning carried.now)) }
+{
+    match carried {
+        Carried::Content(data) => first_object_in(data.items()),
+        Carried::Raw(_) => None,
+    }
+}
+
+fn first_object_in(items: &[Datum]) -> Option<ObjectId>
+    ensures { result ≡ id_found (first_object (meanings items.now)) }
+{
+    match items {
+        [Datum::One(Scalar::ObjectId(id)), ..] => Some(*id),
+        _ => None,
+    }
+}
+
+fn set_act(carried: &Carried) -> Act
+    ensures { result ≡ act_of (set_action (carried_meaning carried.now)) }
+{
+    match carried {
+        Carried::Content(data) => set_act_in(data.items()),
+        Carried::Raw(_) => Act::Other,
+    }
+}
+
+fn set_act_in(items: &[Datum]) -> Act
+    ensures { result ≡ act_of (set_action (actions.Content (meanings items.now))) }
+{
+    match items {
+        [
+            Datum::One(Scalar::Byte(_)),
+            Datum::One(Scalar::Byte(_)),
+            Datum::Many(_),
+        ] => Act::Request,
+        _ => Act::Other,
+    }
+}
+
+fn clear_act(carried: &Carried) -> Act
+    ensures { result ≡ act_of (clear_action (carried_meaning carried.now)) }
+{
+    match carried {
+        Carried::Content(data) => clear_act_in(data.items()),
+        Carried::Raw(_) => Act::Other,
+    }
+}
+
+fn clear_act_in(items: &[Datum]) -> Act
+    ensures { result ≡ act_of (clear_action (actions.Content (meanings items.now))) }
+{
+    match items {
+        [Datum::One(Scalar::Byte(_)), Datum::One(Scalar::Int(_))] => Act::Clear,
+        _ => Act::Other,
+    }
+}

@@ -1,0 +1,61 @@
+//! The threads that a debugger knows, one after another.
+ghost use Rattle.std.specs.Prelude.{◌≡◌, length};
+ghost use Rattle.std.specs.Iterator.{at_most};
+ghost use Rattle.std.specs.Map.Iter.{ShowsInOrder, TakesFirst, deref};
+ghost use Rattle.std.specs.BTreeMap.{values};
+ghost use Rattle.jdwp_mirror.specs.declared.threads.Known.{Known};
+
+use crate::threads::Known;
+use std::alloc::Global;
+use std::collections::BTreeMap;
+use std::collections::btree_map::Values;
+use std::marker::Model;
+
+/// Known threads in the order in which they became known: those that are left.
+#[derive(Drop)]
+pub struct KnownThreads<'a> {
+    rest: Values<'a, u64, Known>,
+}
+
+impl<'a> Model for KnownThreads<'a> {
+    ghost use Rattle.std.specs.Prelude.{List};
+    ghost use Rattle.jdwp_mirror.specs.declared.threads.Known.{Known};
+
+    ghost Value = { List Known };
+
+    ghost view = { λ k. k.rest };
+}
+
+impl<'a> Iterator for KnownThreads<'a> {
+    type Item = &'a Known;
+
+    ghost next_gives = { TakesFirst deref };
+
+    ghost remaining = { λ s. at_most (length s) };
+
+    fn next(&mut self) -> Option<&'a Known> {
+        self.rest.next()
+    }
+
+    fn size_hint(&self) -> (usize, Option<usize>) {
+        self.rest.size_hint()
+    }
+}
+
+impl<'a> ExactSizeIterator for KnownThreads<'a> {
+    fn len(&self) -> usize {
+        self.rest.len()
+    }
+}
+
+impl<'a> KnownThreads<'a> {
+    /// Those that stand in a map under the numbers with which they became known.
+    pub(crate) fn of(entries: &'a BTreeMap<u64, Known>) -> KnownThreads<'a>
+        ensures all { result ≡ values entries.now }
+        ensures runs { ShowsInOrder (deref {X = Known}) }
+    {
+        KnownThreads {
+            rest: entries.values(),
+        }
+    }
+}

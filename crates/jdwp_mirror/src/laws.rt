@@ -1,0 +1,31 @@
+//! What each packet means to a debugger, in the standard's numbers: the definitions say the same.
+ghost use Rattle.jdwp_mirror.specs.Laws.{AllAreCounted, OneIsCounted, ErrorsForget, ListsForget, EventsCount, RequestsAreKept, RefusesEvents, RefusesReplies};
+
+/// An OK reply to a Suspend or a Resume moves the counts that it is about and no other, never above 2,147,483,647; one to a Suspend of
+/// the whole machine holds nobody.
+pub fn counts_by_commands()
+    ensures all { AllAreCounted }
+    ensures one { OneIsCounted }
+{}
+
+/// INVALID_THREAD, a list of all threads, Exit and Dispose forget threads.
+pub fn forgets_ended_threads()
+    ensures errors { ErrorsForget }
+    ensures lists { ListsForget }
+{}
+
+/// An event suspends its thread, all threads or none, by its policy.
+pub fn counts_by_events()
+    ensures { EventsCount }
+{}
+
+/// Requests are kept as asked under the id in the reply, and go by their kind and id.
+pub fn keeps_requests()
+    ensures { RequestsAreKept }
+{}
+
+/// Packets that no target may send are refused.
+pub fn refuses_packets()
+    ensures events { RefusesEvents }
+    ensures replies { RefusesReplies }
+{}

@@ -1,0 +1,24 @@
+//! What a debugger learns from the packets that it reads: suspend counts, which threads it holds for suspended, and event requests; and
+//! which packets no target may send.
+#![tactic(auto)]
+
+mod command;
+mod composite;
+mod judging;
+mod known;
+mod laws;
+mod mirror;
+mod reply;
+mod requests;
+mod threads;
+
+pub use command::{Act, Carried, Command};
+pub use composite::has_event_of;
+pub use judging::{is_bad_answer, is_bad_composite, widths_in_answer};
+pub use known::KnownThreads;
+pub use laws::{
+    counts_by_commands, counts_by_events, forgets_ended_threads, keeps_requests, refuses_packets,
+};
+pub use mirror::Mirror;
+pub use requests::KeptRequest;
+pub use threads::Known;

@@ -1,0 +1,272 @@
+//! The event requests that a debugger knows.
+ghost use Rattle.std.specs.Prelude.{◌≡◌, ◌++◌, ◌∷◌, [], IfOk, List, OnErr, OnOk, map};
+ghost use Rattle.std.specs.List.{filter};
+ghost use Rattle.jdwp_event.specs.ModifierMeanings.{modifier_meaning};
+ghost use Rattle.jdwp_event.specs.Modifiers.{modifiers_of};
+ghost use Rattle.jdwp_event.specs.RequestParts.{modifiers_meaning};
+ghost use Rattle.jdwp_layout.specs.Meanings.{DatumMeaning, entry_meaning, entry_meanings, meanings, scalar_meaning, scalar_meanings};
+ghost use Rattle.jdwp_debuggee.specs.Actions as actions;
+ghost use Rattle.jdwp_debuggee.specs.Actions.{clear_action, set_action};
+ghost use Rattle.jdwp_mirror.specs.Acts.{requests_after_others};
+ghost use Rattle.jdwp_mirror.specs.Commands.{carried_meaning};
+ghost use Rattle.jdwp_mirror.specs.Mirror.{given_id, has_other_id, is_no_kept_breakpoint, is_not_kept, requests_after_data};
+
+use crate::command::{Act, Carried};
+use crate::reply::id_in_reply;
+use jdwp_event::{EventKind, Modifier};
+use jdwp_layout::{Data, Datum, Scalar};
+use jdwp_wire::NoMemory;
+use std::alloc::Global;
+use std::marker::Model;
+
+/// An event request that a target accepted: as asked, under the id in the reply.
+///
+/// The kind and the policy are the bytes that were asked, and the id is the int that was answered, since a peer may take others
+/// than the specification's.
+#[derive(Drop)]
+pub struct KeptRequest {
+    id: i32,
+    kind: u8,
+    policy: u8,
+    modifiers: Vec<Modifier>,
+}
+
+impl Model for KeptRequest {
+    ghost use Rattle.jdwp_mirror.specs.Mirror.{Kept};
+    ghost use Rattle.jdwp_event.specs.RequestParts.{modifiers_meaning};
+
+    ghost Value = { Kept };
+
+    ghost view = { λ r. record { id = r.id; kind = r.kind; policy = r.policy; modifiers = modifiers_meaning r.modifiers } };
+}
+
+impl KeptRequest {
+    pub(crate) fn new(id: i32, kind: u8, policy: u8, modifiers: Vec<Modifier>) -> KeptRequest
+        ensures { result ≡ record { id = id; kind = kind; policy = policy; modifiers = modifiers_meaning modifiers } }
+    {
+        KeptRequest {
+            id,
+            kind,
+            policy,
+            modifiers,
+        }
+    }
+
+    /// The id in the target's reply.
+    pub fn id(&self) -> i32
+        ensures { result ≡ self.now.id }
+    {
+        self.id
+    }
+
+    /// The byte of the event kind.
+    pub fn kind(&self) -> u8
+        ensures { result ≡ self.now.kind }
+    {
+        self.kind
+    }
+
+    /// The byte of the suspend policy.
+    pub fn policy(&self) -> u8
+        ensures { result ≡ self.now.policy }
+    {
+        self.policy
+    }
+
+    /// The modifiers, in the order asked.
+    pub fn modifiers(&self) -> &[Modifier]
+        ensures { map modifier_meaning result.now ≡ self.now.modifiers }
+    {
+        self.modifiers.as_slice()
+    }
+}
+
+/// Event requests, the last one asked last, each id once.
+#[derive(Drop)]
+pub(crate) struct KeptRequests {
+    entries: Vec<KeptRequest>,
+}
+
+impl Model for KeptRequests {
+    ghost use Rattle.std.specs.Prelude.{List};
+    ghost use Rattle.jdwp_mirror.specs.Mirror.{Kept};
+
+    ghost Value = { List Kept };
+
+    ghost view = { λ r. r.entries.items };
+}
+
+impl KeptRequests {
+    /// No requests.
+    pub fn new(alloc: Global) -> KeptRequests
+        ensures { result ≡ [] }
+    {
+        KeptRequests {
+            entries: Vec::new(alloc),
+        }
+    }
+
+    /// All of them, the last one asked last.
+    pub fn as_slice(&self) -> &[KeptRequest]
+        ensures { result.now ≡ self.now }
+    {
+        self.entries.as_slice()
+    }
+
+    /// Adds what a Set asked, under the id in its reply.
+    ///
+    /// # Errors
+    /// `NoMemory` where an allocation was refused; nothing has changed.
+    pub fn add(&mut self, alloc: Global, carried: &Carried, reply: &Data) -> Result<(), NoMemory>
+        ensures ok { OnOk result (self.new ≡ requests_after_data (set_action (carried_meaning carried.now)) reply.now self.old) }
+        ensures err { OnErr result (self.new ≡ self.old) }
+    {
+        match carried {
+            Carried::Content(asked) => self.add_asked(alloc, asked.items(), id_in_reply(reply)),
+            Carried::Raw(_) => Ok(()),
+        }
+    }
+
+    fn add_asked(&mut self, alloc: Global, asked: &[Datum], id: Option<i32>) -> Result<(), NoMemory>
+        ensures ok { OnOk result ((content : List DatumMeaning) → id ≡ given_id content → self.new ≡ requests_after_data (set_action (actions.Content (meanings asked.now))) content self.old) }
+        ensures err { OnErr result (self.new ≡ self.old) }
+    {
+        match (asked, id) {
+            (
+                [
+                    Datum::One(Scalar::Byte(kind)),
+                    Datum::One(Scalar::Byte(policy)),
+                    Datum::Many(entries),
+                ],
+                Some(id),
+            ) => {
+                let modifiers = modifiers_in(alloc, entries)?;
+                self.put(KeptRequest::new(id, *kind, *policy, modifiers))
+            }
+            _ => Ok(()),
+        }
+    }
+
+    /// Removes what a command asked to be removed.
+    pub fn remove_by(&mut self, act: Act, carried: &Carried)
+        ensures { (content : List DatumMeaning) → self.new ≡ requests_after_others act (carried_meaning carried.now) content self.old }
+    {
+        match act {
+            Act::Clear => self.remove_asked(carried),
+            Act::ClearBreakpoints => self.remove_breakpoints(),
+            Act::Exit | Act::Dispose => self.clear(),
+            _ => {}
+        }
+    }
+
+    fn remove_asked(&mut self, carried: &Carried)
+        ensures { (content : List DatumMeaning) → self.new ≡ requests_after_data (clear_action (carried_meaning carried.now)) content self.old }
+    {
+        match carried {
+            Carried::Content(asked) => self.remove_in(asked.items()),
+            Carried::Raw(_) => {}
+        }
+    }
+
+    fn remove_in(&mut self, asked: &[Datum])
+        ensures { (content : List DatumMeaning) → self.new ≡ requests_after_data (clear_action (actions.Content (meanings asked.now))) content self.old }
+    {
+        match asked {
+            [Datum::One(Scalar::Byte(kind)), Datum::One(Scalar::Int(id))] => {
+                self.remove(*kind, *id);
+            }
+            _ => {}
+        }
+    }
+
+    /// Adds a request, in place of an older one of its id.
+    ///
+    /// # Errors
+    /// `NoMemory` where an allocation was refused; nothing has changed.
+    pub fn put(&mut self, request: KeptRequest) -> Result<(), NoMemory>
+        ensures ok { OnOk result (self.new ≡ filter (has_other_id request.id) self.old ++ request ∷ []) }
+        ensures err { OnErr result (self.new ≡ self.old) }
+    {
+        self.entries.reserve(1)?;
+        let id = request.id();
+        self.entries.retain(|kept| kept.id() != id);
+        self.entries.push(request)?;
+        Ok(())
+    }
+
+    /// Removes the request of this kind and id, if there is one.
+    pub fn remove(&mut self, kind: u8, id: i32)
+        ensures { self.new ≡ filter (is_not_kept kind id) self.old }
+    {
+        self.entries
+            .retain(|kept| !(kept.kind() == kind && kept.id() == id));
+    }
+
+    /// Removes all requests of the kind BREAKPOINT.
+    pub fn remove_breakpoints(&mut self)
+        ensures { self.new ≡ filter is_no_kept_breakpoint self.old }
+    {
+        self.entries
+            .retain(|kept| kept.kind() != EventKind::Breakpoint.byte());
+    }
+
+    /// Removes all of them.
+    pub fn clear(&mut self)
+        ensures { self.new ≡ [] }
+    {
+        self.entries.clear();
+    }
+}
+
+/// The modifiers of the entries of a Set's list, in the order sent. An entry that is none is left out.
+///
+/// # Errors
+/// `NoMemory` where an allocation was refused.
+pub(crate) fn modifiers_in(
+    alloc: Global,
+    entries: &[Vec<Scalar>],
+) -> Result<Vec<Modifier>, NoMemory>
+    ensures { IfOk result (λ modifiers. modifiers_meaning modifiers ≡ modifiers_of (entry_meanings entries.now)) }
+{
+    let mut modifiers = Vec::with_capacity(alloc, entries.len())?;
+    for entry in entries {
+        let copy = copied(alloc, entry)?;
+        match Modifier::of_entry(copy) {
+            Some(modifier) => modifiers.push(modifier)?,
+            None => {}
+        }
+    }
+    Ok(modifiers)
+}
+
+fn copied(alloc: Global, entry: &[Scalar]) -> Result<Vec<Scalar>, NoMemory>
+    ensures { IfOk result (λ copy. entry_meaning copy ≡ scalar_meanings entry.now) }
+{
+    let mut copy = Vec::with_capacity(alloc, entry.len())?;
+    for field in entry {
+        let scalar = copied_scalar(alloc, field)?;
+        copy.push(scalar)?;
+    }
+    Ok(copy)
+}
+
+fn copied_scalar(alloc: Global, scalar: &Scalar) -> Result<Scalar, NoMemory>
+    ensures { IfOk result (λ copy. scalar_meaning copy ≡ scalar_meaning scalar.now) }
+{
+    let copy = match scalar {
+        Scalar::String(text) => Scalar::String(String::from_str(alloc, text)?),
+        Scalar::Byte(byte) => Scalar::Byte(*byte),
+        Scalar::Boolean(boolean) => Scalar::Boolean(*boolean),
+        Scalar::Int(int) => Scalar::Int(*int),
+        Scalar::Long(long) => Scalar::Long(*long),
+        Scalar::ObjectId(id) => Scalar::ObjectId(*id),
+        Scalar::ReferenceTypeId(id) => Scalar::ReferenceTypeId(*id),
+        Scalar::MethodId(id) => Scalar::MethodId(*id),
+        Scalar::FieldId(id) => Scalar::FieldId(*id),
+        Scalar::FrameId(id) => Scalar::FrameId(*id),
+        Scalar::Location(location) => Scalar::Location(*location),
+        Scalar::Value(value) => Scalar::Value(*value),
+        Scalar::TaggedId(tagged) => Scalar::TaggedId(*tagged),
+    };
+    Ok(copy)
+}

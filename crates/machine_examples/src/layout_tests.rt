@@ -1,0 +1,690 @@
+//! Worked examples of data.
+use crate::asserts::expect_same;
+use crate::rows::row;
+use jdwp_layout::{
+    Data, Datum, Entry, Field, Item, Layout, Scalar, answers_first_fault, data_size,
+    encodes_one_list, entry_size, fields_of_event, fields_of_modifier, layout_of, pass_entries,
+    pass_entry, read, read_entry, read_field, reads_only_encoded, reads_what_is_encoded, refusal,
+    validate, write, write_entry, writes_what_is_encoded,
+};
+use jdwp_value::{ArrayRegion, Location, ObjectId, TaggedId, TypeTag, Value};
+use jdwp_wire::{DataFault, IdSizes};
+use std::alloc::Global;
+use std::process::Abort;
+use std::test::Fail;
+
+pub(crate) fn push_location(location: &Location, text: &mut String) -> Result<(), Fail> {
+    match *location {
+        Location::Null => text.push_str("null")?,
+        Location::At {
+            tag,
+            class,
+            method,
+            index,
+        } => {
+            let tag = match tag {
+                TypeTag::Class => 1,
+                TypeTag::Interface => 2,
+                TypeTag::Array => 3,
+            };
+            write!(text, "{tag}:#{}:#{}:{index}", class.0, method.0)?;
+        }
+    }
+    Ok(())
+}
+
+fn push_tagged_id(tagged: &TaggedId, text: &mut String) -> Result<(), Fail> {
+    write!(text, "{}#{}", tagged.tag.byte() as char, tagged.id.0)?;
+    Ok(())
+}
+
+pub(crate) fn push_value(value: &Value, text: &mut String) -> Result<(), Fail> {
+    match *value {
+        Value::Byte(bits) => write!(text, "B:{bits}")?,
+        Value::Char(bits) => write!(text, "C:{bits}")?,
+        Value::Double(bits) => write!(text, "D:{bits}")?,
+        Value::Float(bits) => write!(text, "F:{bits}")?,
+        Value::Int(bits) => write!(text, "I:{bits}")?,
+        Value::Long(bits) => write!(text, "J:{bits}")?,
+        Value::Short(bits) => write!(text, "S:{bits}")?,
+        Value::Void => text.push_str("V")?,
+        Value::Boolean(truth) => write!(text, "Z:{truth}")?,
+        Value::Object(tagged) => push_tagged_id(&tagged, text)?,
+    }
+    Ok(())
+}
+
+fn push_region(region: &ArrayRegion, text: &mut String) -> Result<(), Fail> {
+    write!(text, "{}[", region.tag().byte() as char)?;
+    let mut first = true;
+    for value in region.elements() {
+        if !first {
+            text.push_str(", ")?;
+        }
+        push_value(value, text)?;
+        first = false;
+    }
+    text.push_str("]")?;
+    Ok(())
+}
+
+fn push_scalar(scalar: &Scalar, text: &mut String) -> Result<(), Fail> {
+    match scalar {
+        Scalar::Byte(byte) => write!(text, "{byte}")?,
+        Scalar::Boolean(truth) => write!(text, "{truth}")?,
+        Scalar::Int(number) => write!(text, "{number}")?,
+        Scalar::Long(number) => write!(text, "{number}")?,
+        Scalar::String(string) => write!(text, "\"{string}\"")?,
+        Scalar::ObjectId(id) => write!(text, "#{}", id.0)?,
+        Scalar::ReferenceTypeId(id) => write!(text, "#{}", id.0)?,
+        Scalar::MethodId(id) => write!(text, "#{}", id.0)?,
+        Scalar::FieldId(id) => write!(text, "#{}", id.0)?,
+        Scalar::FrameId(id) => write!(text, "#{}", id.0)?,
+        Scalar::Location(location) => push_location(location, text)?,
+        Scalar::Value(value) => push_value(value, text)?,
+        Scalar::TaggedId(tagged) => push_tagged_id(tagged, text)?,
+    }
+    Ok(())
+}
+
+fn push_scalars(scalars: &[Scalar], text: &mut String) -> Result<(), Fail> {
+    text.push_str("(")?;
+    let mut first = true;
+    for scalar in scalars {
+        if !first {
+            text.push_str(", ")?;
+        }
+        push_scalar(scalar, text)?;
+        first = false;
+    }
+    text.push_str(")")?;
+    Ok(())
+}
+
+/// The data as text, one space between two.
+pub(crate) fn text_of(alloc: Global, values: &[Datum]) -> Result<String, Fail> {
+    let mut text = String::new(alloc);
+    let mut first = true;
+    for value in values {
+        if !first {
+            text.push_str(" ")?;
+        }
+        first = false;
+        match value {
+            Datum::One(scalar) => push_scalar(scalar, &mut text)?,
+            Datum::Many(entries) => {
+                text.push_str("[")?;
+                let mut first_entry = true;
+                for scalars in entries {
+                    if !first_entry {
+                        text.push_str(", ")?;
+                    }
+                    push_scalars(scalars, &mut text)?;
+                    first_entry = false;
+                }
+                text.push_str("]")?;
+            }
+            Datum::Region(region) => push_region(region, &mut text)?,
+        }
+    }
+    Ok(text)
+}
+
+/// The bytes are read and judged with this fault.
+fn has_fault(
+    rt: &impl Abort,
+    alloc: Global,
+    layout: &Layout,
+    sizes: &IdSizes,
+    bytes: &[u8],
+    fault: DataFault,
+) {
+    expect_same(rt, &read(alloc, layout, sizes, bytes).err(), &Some(fault));
+    expect_same(rt, &validate(layout, sizes, bytes), &Err(fault));
+}
+
+/// The data are written as these bytes.
+fn written_as(
+    rt: &impl Abort,
+    alloc: Global,
+    layout: &Layout,
+    sizes: &IdSizes,
+    values: &[Datum],
+    bytes: &[u8],
+) -> Result<(), Fail> {
+    let mut output = Vec::new(alloc);
+    output.push(7)?;
+    write(layout, sizes, values, &mut output)?;
+    expect_same(rt, &output.get(1..), &Some(bytes));
+    expect_same(rt, &data_size(values, sizes), &Some(bytes.len()));
+    expect_same(rt, &refusal(layout, sizes, values), &None);
+    Ok(())
+}
+
+/// The slice is read as this text and written back as these bytes; each proper front is too short, and one byte more is
+/// too many.
+fn accepted(
+    rt: &impl Abort,
+    alloc: Global,
+    layout: &Layout,
+    sizes: &IdSizes,
+    bytes: &[u8],
+    canonical: &[u8],
+    text: Option<&str>,
+) -> Result<(), Fail> {
+    let values = read(alloc, layout, sizes, bytes)?;
+    if let Some(text) = text {
+        let shown = text_of(alloc, &values)?;
+        expect_same(rt, &shown.as_str(), &text);
+    }
+    expect_same(rt, &validate(layout, sizes, bytes), &Ok(()));
+    written_as(rt, alloc, layout, sizes, &values, canonical)?;
+    for length in 0..bytes.len() {
+        let (front, _) = bytes.split_at(length);
+        has_fault(rt, alloc, layout, sizes, front, DataFault::Short(length));
+    }
+    let mut more = Vec::new(alloc);
+    more.extend_from_slice(bytes)?;
+    more.push(0)?;
+    has_fault(
+        rt,
+        alloc,
+        layout,
+        sizes,
+        &more,
+        DataFault::Extra(bytes.len()),
+    );
+    Ok(())
+}
+
+/// The bytes, but for spaces.
+pub(crate) fn bytes_of(alloc: Global, hex: &str) -> Result<Vec<u8>, Fail> {
+    let mut bytes = Vec::new(alloc);
+    let mut high: Option<u32> = None;
+    for character in hex.chars() {
+        if let Some(digit) = character.to_digit(16) {
+            match high {
+                None => high = Some(digit),
+                Some(first) => {
+                    bytes.push((first.wrapping_mul(16).wrapping_add(digit) % 256) as u8)?;
+                    high = None;
+                }
+            }
+        }
+    }
+    Ok(bytes)
+}
+
+pub(crate) fn request_of(set: u8, command: u8) -> Result<Layout, Fail> {
+    let row = layout_of(set, command).ok_or("no row")?;
+    let layouts = row.layouts.ok_or("a raw row")?;
+    Ok(layouts.request)
+}
+
+fn reply_of(set: u8, command: u8) -> Result<Layout, Fail> {
+    let row = layout_of(set, command).ok_or("no row")?;
+    let layouts = row.layouts.ok_or("a raw row")?;
+    Ok(layouts.reply)
+}
+
+#[test]
+fn examples(rt: HostRuntime) -> Result<(), Fail> {
+    let alloc = rt.alloc();
+    let sizes = IdSizes::new(8, 8, 8, 8, 8)?;
+    for (set, command, hex, canonical, text) in [
+        // Each byte but 0 is true, which is written as 1.
+        row((
+            15,
+            1,
+            "04 00 00000001 08 0000000000000000 07 00",
+            "04 00 00000001 08 0000000000000000 01 00",
+            "4 0 [(8, #0, true, false)]",
+        )),
+        row((
+            15,
+            1,
+            "02 02 00000001 07 01 000000000000000a 0000000000000014 0000000000000003",
+            "02 02 00000001 07 01 000000000000000a 0000000000000014 0000000000000003",
+            "2 2 [(7, 1:#10:#20:3)]",
+        )),
+        row((
+            64,
+            100,
+            "02 00000002 02 00000001 0000000000000001 01 000000000000000a 0000000000000014 0000000000000003 02 00000002 0000000000000001 01 000000000000000a 0000000000000014 0000000000000003",
+            "02 00000002 02 00000001 0000000000000001 01 000000000000000a 0000000000000014 0000000000000003 02 00000002 0000000000000001 01 000000000000000a 0000000000000014 0000000000000003",
+            "2 [(2, 1, #1, 1:#10:#20:3), (2, 2, #1, 1:#10:#20:3)]",
+        )),
+        row((
+            64,
+            100,
+            "00 00000001 5a 00000000 0000000000000001",
+            "00 00000001 5a 00000000 0000000000000001",
+            "0 [(90, 0, #1)]",
+        )),
+        row((
+            64,
+            100,
+            "00 00000001 63 00000000",
+            "00 00000001 63 00000000",
+            "0 [(99, 0)]",
+        )),
+        row((
+            1,
+            2,
+            "00000006 4c4d61696e3b",
+            "00000006 4c4d61696e3b",
+            "\"LMain;\"",
+        )),
+        row((
+            16,
+            2,
+            "0000000000000001 000000000000001e 00000001 00000000 49 00000005",
+            "0000000000000001 000000000000001e 00000001 00000000 49 00000005",
+            "#1 #30 [(0, I:5)]",
+        )),
+        row((
+            11,
+            6,
+            "0000000000000001 00000000 ffffffff",
+            "0000000000000001 00000000 ffffffff",
+            "#1 0 -1",
+        )),
+    ] {
+        let bytes = bytes_of(alloc, hex)?;
+        let back = bytes_of(alloc, canonical)?;
+        accepted(
+            &rt,
+            alloc,
+            &request_of(set, command)?,
+            &sizes,
+            &bytes,
+            &back,
+            Some(text),
+        )?;
+    }
+    Ok(())
+}
+
+#[test]
+fn replies(rt: HostRuntime) -> Result<(), Fail> {
+    let alloc = rt.alloc();
+    let sizes = IdSizes::new(8, 8, 8, 8, 8)?;
+    for (set, command, hex, text) in [
+        row((
+            1,
+            7,
+            "00000008 00000008 00000008 00000008 00000008",
+            "8 8 8 8 8",
+        )),
+        row((
+            1,
+            2,
+            "00000001 01 000000000000000a 00000003",
+            "[(1, #10, 3)]",
+        )),
+        row((
+            11,
+            6,
+            "00000001 000000000000001e 01 000000000000000a 0000000000000014 0000000000000000",
+            "[(#30, 1:#10:#20:0)]",
+        )),
+        row((13, 2, "49 00000002 00000001 00000002", "I[I:1, I:2]")),
+        row((
+            13,
+            2,
+            "4c 00000002 73 0000000000000005 4c 0000000000000000",
+            "L[s#5, L#0]",
+        )),
+        row((16, 1, "00000001 49 00000005", "[(I:5)]")),
+        row((11, 12, "00000001", "1")),
+    ] {
+        let bytes = bytes_of(alloc, hex)?;
+        accepted(
+            &rt,
+            alloc,
+            &reply_of(set, command)?,
+            &sizes,
+            &bytes,
+            &bytes,
+            Some(text),
+        )?;
+    }
+    Ok(())
+}
+
+/// A request's data: its set and number, the bytes, and their first fault.
+static FAULTS: [(u8, u8, &str, DataFault); 16] = [
+    (1, 2, "ffffffff", DataFault::NegativeCount),
+    (1, 2, "00000001 ff", DataFault::NotUtf8),
+    // A count calls for its own bytes alone.
+    (15, 1, "04 00 7fffffff", DataFault::Short(6)),
+    (15, 1, "04 00 80000000", DataFault::NegativeCount),
+    // A kind is judged before what follows it.
+    (15, 1, "04 00 00000001 0d", DataFault::BadTag),
+    (15, 1, "04 00 00000001 00", DataFault::BadTag),
+    (64, 100, "00 00000001 03", DataFault::BadTag),
+    (64, 100, "00 00000001 05", DataFault::BadTag),
+    (64, 100, "00 00000001 0a", DataFault::BadTag),
+    (64, 100, "00 00000001 1e", DataFault::BadTag),
+    // A type tag is judged before what follows it, and the null location once it is whole.
+    (15, 1, "02 00 00000001 07 04", DataFault::BadTag),
+    (
+        15,
+        1,
+        "02 00 00000001 07 00 0000000000000000 0000000000000000 0000000000000001",
+        DataFault::BadTag,
+    ),
+    (
+        15,
+        1,
+        "02 00 00000001 07 00 0000000000000000 0000000000000001 00000000000000",
+        DataFault::Short(31),
+    ),
+    (
+        16,
+        2,
+        "0000000000000001 000000000000001e 00000001 00000000 41 00000005",
+        DataFault::BadTag,
+    ),
+    (1, 10, "00000000 00", DataFault::Extra(4)),
+    (1, 8, "00", DataFault::Extra(0)),
+];
+
+/// A region's data: the bytes, and their first fault.
+static REGION_FAULTS: [(&str, DataFault); 3] = [
+    ("49 7fffffff", DataFault::Short(5)),
+    ("56 00000000", DataFault::BadTag),
+    ("4c 00000001 49 00000001", DataFault::BadTag),
+];
+
+/// The bytes are read and judged with this fault.
+fn refused(
+    rt: &impl Abort,
+    alloc: Global,
+    layout: &Layout,
+    hex: &str,
+    fault: DataFault,
+) -> Result<(), Fail> {
+    let sizes = IdSizes::new(8, 8, 8, 8, 8)?;
+    has_fault(rt, alloc, layout, &sizes, &bytes_of(alloc, hex)?, fault);
+    Ok(())
+}
+
+#[test]
+fn faults(rt: HostRuntime) -> Result<(), Fail> {
+    for (set, command, hex, fault) in FAULTS {
+        refused(&rt, rt.alloc(), &request_of(set, command)?, hex, fault)?;
+    }
+    for (hex, fault) in REGION_FAULTS {
+        refused(&rt, rt.alloc(), &reply_of(13, 2)?, hex, fault)?;
+    }
+    Ok(())
+}
+
+/// The data can't be written, for this reason, and nothing is.
+fn not_written(
+    rt: &impl Abort,
+    layout: &Layout,
+    values: &[Datum],
+    output: &mut Vec<u8>,
+    fault: DataFault,
+) -> Result<(), Fail> {
+    let sizes = IdSizes::new(1, 1, 1, 1, 1)?;
+    expect_same(rt, &write(layout, &sizes, values, output), &Err(fault));
+    expect_same(rt, &refusal(layout, &sizes, values), &Some(fault));
+    expect_same(rt, &output.as_slice(), &[7].as_slice());
+    Ok(())
+}
+
+#[test]
+fn refusals(rt: HostRuntime) -> Result<(), Fail> {
+    let mut output = Vec::new(rt.alloc());
+    output.push(7)?;
+    let thread = request_of(11, 12)?;
+    let wide = [Datum::One(Scalar::ObjectId(ObjectId(256)))];
+    not_written(&rt, &thread, &wide, &mut output, DataFault::IdTooWide)?;
+    let other_kind = [Datum::One(Scalar::Int(1))];
+    not_written(&rt, &thread, &other_kind, &mut output, DataFault::BadSize)?;
+    not_written(&rt, &thread, &[], &mut output, DataFault::BadSize)?;
+    let one_more = [
+        Datum::One(Scalar::ObjectId(ObjectId(1))),
+        Datum::One(Scalar::Int(1)),
+    ];
+    not_written(&rt, &thread, &one_more, &mut output, DataFault::BadSize)
+}
+
+#[test]
+fn a_kind_of_modifier_that_there_is_not(rt: HostRuntime) -> Result<(), Fail> {
+    let alloc = rt.alloc();
+    let mut output = Vec::new(alloc);
+    output.push(7)?;
+    let mut modifier = Vec::new(alloc);
+    modifier.push(Scalar::Byte(13))?;
+    let mut modifiers = Vec::new(alloc);
+    modifiers.push(modifier)?;
+    let unknown_kind = [
+        Datum::One(Scalar::Byte(2)),
+        Datum::One(Scalar::Byte(0)),
+        Datum::Many(modifiers),
+    ];
+    let set = request_of(15, 1)?;
+    not_written(&rt, &set, &unknown_kind, &mut output, DataFault::BadSize)
+}
+
+#[test]
+fn the_greatest_id_of_one_byte(rt: HostRuntime) -> Result<(), Fail> {
+    let fits = [Datum::One(Scalar::ObjectId(ObjectId(255)))];
+    let sizes = IdSizes::new(1, 1, 1, 1, 1)?;
+    written_as(&rt, rt.alloc(), &request_of(11, 12)?, &sizes, &fits, &[255])
+}
+
+#[test]
+fn entries_one_by_one(rt: HostRuntime) -> Result<(), Fail> {
+    let alloc = rt.alloc();
+    let sizes = IdSizes::new(8, 8, 8, 8, 8)?;
+    for (entry, hex) in [
+        // An exception of any type, where it is caught and where it isn't; a place in a class; VM_DEATH.
+        row((Entry::Modifier, "08 0000000000000000 01 01")),
+        row((
+            Entry::Modifier,
+            "07 01 000000000000000a 0000000000000014 0000000000000003",
+        )),
+        row((Entry::Event, "63 00000000")),
+    ] {
+        let bytes = bytes_of(alloc, hex)?;
+        let whole = bytes.len();
+        let (scalars, rest) = read_entry(alloc, entry, &bytes, whole, &sizes)?;
+        expect_same(&rt, &rest.len(), &0);
+        expect_same(&rt, &entry_size(&scalars, &sizes), &Some(whole));
+        expect_same(&rt, &pass_entry(entry, &bytes, whole, &sizes)?.len(), &0);
+        let mut twice = Vec::new(alloc);
+        write_entry(entry, &scalars, &sizes, &mut twice)?;
+        expect_same(&rt, &twice.as_slice(), &bytes.as_slice());
+        write_entry(entry, &scalars, &sizes, &mut twice)?;
+        expect_same(
+            &rt,
+            &pass_entries(1, entry, &twice, twice.len(), &sizes)?,
+            &bytes.as_slice(),
+        );
+        expect_same(
+            &rt,
+            &pass_entries(2, entry, &twice, twice.len(), &sizes)?.len(),
+            &0,
+        );
+    }
+    // Two bytes of an exception's filter, and of a VM_DEATH.
+    expect_same(
+        &rt,
+        &pass_entry(Entry::Modifier, &[8, 0], 2, &sizes).err(),
+        &Some(DataFault::Short(2)),
+    );
+    expect_same(
+        &rt,
+        &pass_entry(Entry::Event, &[99, 0], 2, &sizes).err(),
+        &Some(DataFault::Short(2)),
+    );
+    Ok(())
+}
+
+/// Whether the field in front of these bytes holds this, with so many bytes behind it.
+fn holds(
+    alloc: Global,
+    field: Field,
+    hex: &str,
+    want: &Scalar,
+    behind: usize,
+) -> Result<bool, Fail> {
+    let sizes = IdSizes::new(8, 8, 8, 8, 8)?;
+    let bytes = bytes_of(alloc, hex)?;
+    let (scalar, rest) = read_field(alloc, field, &bytes, bytes.len(), &sizes)?;
+    Ok(scalar == *want && rest.len() == behind)
+}
+
+#[test]
+fn fields_one_by_one(rt: HostRuntime) -> Result<(), Fail> {
+    let alloc = rt.alloc();
+    assert!(rt; holds(alloc, Field::Boolean, "02 07", &Scalar::Boolean(true), 1)?);
+    assert!(rt; holds(alloc, Field::Int, "ffffffff", &Scalar::Int(-1), 0)?);
+    let thread = Scalar::ObjectId(ObjectId(9));
+    assert!(rt; holds(alloc, Field::ObjectId, "0000000000000009 0000", &thread, 2)?);
+    // One byte of an int.
+    let sizes = IdSizes::new(8, 8, 8, 8, 8)?;
+    expect_same(
+        &rt,
+        &read_field(alloc, Field::Int, &[0], 1, &sizes).err(),
+        &Some(DataFault::Short(1)),
+    );
+    Ok(())
+}
+
+#[test]
+fn data_are_kept_as_they_are(rt: HostRuntime) -> Result<(), Fail> {
+    let mut items = Vec::new(rt.alloc());
+    items.push(Datum::One(Scalar::Int(1)))?;
+    let data = Data::new(items);
+    assert!(rt; data.items() == [Datum::One(Scalar::Int(1))].as_slice());
+    let items = data.into_items();
+    assert!(rt; items.as_slice() == [Datum::One(Scalar::Int(1))].as_slice());
+    Ok(())
+}
+
+#[test]
+fn laws(_rt: HostRuntime) {
+    reads_what_is_encoded();
+    reads_only_encoded();
+    encodes_one_list();
+    writes_what_is_encoded();
+    answers_first_fault();
+}
+
+/// An id of so many bytes.
+fn push_id(width: u8, id: u8, bytes: &mut Vec<u8>) -> Result<(), Fail> {
+    for _ in 1..width {
+        bytes.push(0)?;
+    }
+    bytes.push(id)?;
+    Ok(())
+}
+
+fn push_sample(field: Field, sizes: &IdSizes, bytes: &mut Vec<u8>) -> Result<(), Fail> {
+    match field {
+        Field::Byte => bytes.push(7)?,
+        Field::Boolean => bytes.push(1)?,
+        Field::Int => bytes.extend_from_slice(&[0xff, 0xff, 0xff, 0xfe])?,
+        Field::Long => bytes.extend_from_slice(&[0x80, 0, 0, 0, 0, 0, 0, 3])?,
+        Field::String => bytes.extend_from_slice(&[0, 0, 0, 3, 0x68, 0xc3, 0xa9])?,
+        Field::ObjectId => push_id(sizes.object(), 5, bytes)?,
+        Field::ReferenceTypeId => push_id(sizes.reference(), 10, bytes)?,
+        Field::MethodId => push_id(sizes.method(), 20, bytes)?,
+        Field::FieldId => push_id(sizes.field(), 30, bytes)?,
+        Field::FrameId => push_id(sizes.frame(), 40, bytes)?,
+        Field::Location => {
+            bytes.push(2)?;
+            push_id(sizes.reference(), 10, bytes)?;
+            push_id(sizes.method(), 20, bytes)?;
+            push_id(8, 3, bytes)?;
+        }
+        Field::Value => bytes.extend_from_slice(&[0x49, 0, 0, 0, 9])?,
+        Field::TaggedId => {
+            bytes.push(0x4c)?;
+            push_id(sizes.object(), 5, bytes)?;
+        }
+    }
+    Ok(())
+}
+
+/// One entry of each kind.
+fn push_kinds(events: bool, sizes: &IdSizes, bytes: &mut Vec<u8>) -> Result<(), Fail> {
+    bytes.extend_from_slice(&[0, 0, 0, if events { 18 } else { 12 }])?;
+    for kind in 0..256u32 {
+        let fields = if events {
+            fields_of_event(kind as u8)
+        } else {
+            fields_of_modifier(kind as u8)
+        };
+        if let Some(fields) = fields {
+            bytes.push(kind as u8)?;
+            for field in fields {
+                push_sample(*field, sizes, bytes)?;
+            }
+        }
+    }
+    Ok(())
+}
+
+/// Bytes of the layout: each list has two entries, and a list of modifiers or events one of each kind.
+fn sample(alloc: Global, layout: &Layout, sizes: &IdSizes) -> Result<Vec<u8>, Fail> {
+    let mut bytes = Vec::new(alloc);
+    for item in layout.items {
+        match *item {
+            Item::One(field) => push_sample(field, sizes, &mut bytes)?,
+            Item::Many(Entry::Modifier) => push_kinds(false, sizes, &mut bytes)?,
+            Item::Many(Entry::Event) => push_kinds(true, sizes, &mut bytes)?,
+            Item::Many(Entry::Fields(fields)) => {
+                bytes.extend_from_slice(&[0, 0, 0, 2])?;
+                for _ in 0..2u32 {
+                    for field in fields {
+                        push_sample(*field, sizes, &mut bytes)?;
+                    }
+                }
+            }
+            Item::Region => bytes.extend_from_slice(&[0x53, 0, 0, 0, 2, 0, 1, 0, 2])?,
+        }
+    }
+    Ok(bytes)
+}
+
+/// Every row, modifier and event at several widths.
+#[test]
+fn every_layout(rt: HostRuntime) -> Result<(), Fail> {
+    let alloc = rt.alloc();
+    for (field, method, object, reference, frame) in [
+        row((1, 2, 3, 4, 5)),
+        row((8, 7, 6, 5, 4)),
+        row((1, 1, 1, 1, 1)),
+        row((8, 8, 8, 8, 8)),
+    ] {
+        let sizes = IdSizes::new(field, method, object, reference, frame)?;
+        for set in 0..65u32 {
+            for command in 0..101u32 {
+                if let Some(row) = layout_of(set as u8, command as u8) {
+                    if let Some(layouts) = row.layouts {
+                        let request = sample(alloc, &layouts.request, &sizes)?;
+                        accepted(
+                            &rt,
+                            alloc,
+                            &layouts.request,
+                            &sizes,
+                            &request,
+                            &request,
+                            None,
+                        )?;
+                        let reply = sample(alloc, &layouts.reply, &sizes)?;
+                        accepted(&rt, alloc, &layouts.reply, &sizes, &reply, &reply, None)?;
+                    }
+                }
+            }
+        }
+    }
+    Ok(())
+}

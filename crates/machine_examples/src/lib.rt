@@ -1,0 +1,16 @@
+//! Worked data of commands, machine scripts, and the machines that run them, whose answers are such data: tests of `jdwp_layout`,
+//! `jdwp_script` and `jdwp_script_machine`, which call what anybody can call.
+#![tactic(auto)]
+
+#[cfg(test)]
+mod asserts;
+#[cfg(test)]
+mod layout_tests;
+#[cfg(test)]
+mod limit_tests;
+#[cfg(test)]
+mod machine_tests;
+#[cfg(test)]
+mod rows;
+#[cfg(test)]
+mod script_tests;
