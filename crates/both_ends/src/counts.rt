@@ -28,8 +28,13 @@ const SCRIPT: &str = "{\"name\":\"one\",\"sizes\":[8,8,8,8,8],\
 /// Asks 64 counts in each round of one session, and answers how many answers came.
 pub fn answered(alloc: Global, rounds: u32) -> anyhow::Result<u64> {
     let mut target = target(alloc)?;
+    answered_by(alloc, &mut target, rounds)
+}
+
+/// The same of a new debugger and this target.
+fn answered_by(alloc: Global, target: &mut Target, rounds: u32) -> anyhow::Result<u64> {
     let mut debugger = Debugger::new(alloc)?;
-    ask_counts(alloc, &mut debugger, &mut target, rounds)
+    ask_counts(alloc, &mut debugger, target, rounds)
 }
 
 fn target(alloc: Global) -> anyhow::Result<Target> {

@@ -61,10 +61,20 @@ pub struct Attach<'a> {
 pub fn read<'a, S: AsStr>(alloc: Global, words: &'a [S]) -> Result<Words<'a>, Fault<'a>>
     ensures { IfOk result (AttachesOnlyWhere (commands.is_attach S.text words.now)) }
 {
-    let matches = match command(alloc)?.try_get_matches_from(words) {
-        Ok(matches) => matches,
-        Err(error) => return Err(refused(alloc, &error)),
-    };
+    match command(alloc)?.try_get_matches_from(words) {
+        Ok(matches) => read_matches(alloc, &matches, words),
+        Err(error) => Err(refused(alloc, &error)),
+    }
+}
+
+/// The command that clap found in the words.
+fn read_matches<'a, S: AsStr>(
+    alloc: Global,
+    matches: &ArgMatches<'a>,
+    words: &[S],
+) -> Result<Words<'a>, Fault<'a>>
+    ensures { IfOk result (AttachesOnlyWhere (commands.is_attach S.text words.now)) }
+{
     match matches.subcommand() {
         Some(("show", found)) => Ok(Words::Show(value(alloc, found, "file")?)),
         Some(("check", found)) => Ok(Words::Check(value(alloc, found, "file")?)),
@@ -130,17 +140,25 @@ fn number<'a>(
     let text = value(alloc, found, name)?;
     match decimal(text) {
         Some(number) => Ok(number),
-        None => {
-            let message = format!(in alloc;
-                "invalid value '{text}' for '--{name} <N>': a number is digits alone"
-            )?;
-            let command = match of {
-                "attach" => attach_command(alloc)?.bin_name("jdwp attach")?,
-                _ => serve_script(alloc)?.bin_name("jdwp serve-script")?,
-            };
-            Err(bad_words(alloc, command, message.as_str())?)
-        }
+        None => Err(bad_number(alloc, text, name, of)?),
     }
+}
+
+/// The value of an option of this command that is no number, told with the command's usage.
+fn bad_number<'a>(
+    alloc: Global,
+    text: &str,
+    name: &str,
+    of: &str,
+) -> Result<Fault<'a>, AllocError> {
+    let message = format!(in alloc;
+        "invalid value '{text}' for '--{name} <N>': a number is digits alone"
+    )?;
+    let command = match of {
+        "attach" => attach_command(alloc)?.bin_name("jdwp attach")?,
+        _ => serve_script(alloc)?.bin_name("jdwp serve-script")?,
+    };
+    bad_words(alloc, command, message.as_str())
 }
 
 /// Words that clap takes and the program doesn't, told with the usage of this command.
@@ -173,26 +191,30 @@ fn command<'a>(alloc: Global) -> Result<Command<'a>, AllocError> {
     let command = Command::new(alloc, "jdwp")
         .about("Ends of the Java Debug Wire Protocol (JDWP, Java SE 11)")
         .subcommand_required(true);
-    with_ends(alloc, with_captures(alloc, command)?)
+    let command = with(command, show(alloc))?;
+    let command = with(command, check(alloc))?;
+    let command = with(command, serve_script(alloc))?;
+    with(command, attach_command(alloc))
 }
 
-/// The command with those on captures below it.
-fn with_captures<'a>(alloc: Global, command: Command<'a>) -> Result<Command<'a>, AllocError> {
-    let show = Command::new(alloc, "show")
+/// The command with another one below it.
+fn with<'a>(
+    command: Command<'a>,
+    below: Result<Command<'a>, AllocError>,
+) -> Result<Command<'a>, AllocError> {
+    command.subcommand(below?)
+}
+
+fn show<'a>(alloc: Global) -> Result<Command<'a>, AllocError> {
+    Command::new(alloc, "show")
         .about("Shows a capture of a session in words, a line for each message")
-        .arg(capture(alloc))?;
-    let check = Command::new(alloc, "check")
-        .about("Judges a capture of a session: yes, or its first fault")
-        .arg(capture(alloc))?;
-    command.subcommand(show)?.subcommand(check)
+        .arg(capture(alloc))
 }
 
-/// The command with those that run an end of a session below it.
-fn with_ends<'a>(alloc: Global, command: Command<'a>) -> Result<Command<'a>, AllocError> {
-    let serve_script = serve_script(alloc)?;
-    command
-        .subcommand(serve_script)?
-        .subcommand(attach_command(alloc)?)
+fn check<'a>(alloc: Global) -> Result<Command<'a>, AllocError> {
+    Command::new(alloc, "check")
+        .about("Judges a capture of a session: yes, or its first fault")
+        .arg(capture(alloc))
 }
 
 fn serve_script<'a>(alloc: Global) -> Result<Command<'a>, AllocError> {
