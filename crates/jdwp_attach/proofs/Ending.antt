@@ -1,5 +1,5 @@
 -- Why a run of a plan ends, and what is left then.
-use Rattle.std.proofs.Common.{◌≡◌, ◌≢◌, ◌∙◌, ℕ, ◌<◌, ◌≤◌, ◌+◌, ◌++◌, List, [], ◌∷◌, length, Bool, true, false, Ok, Err, Some, None, Option, is_some, ◌⊎◌, inl, inr, get_or, take, drop, sym, ap, refl, subst, append_assoc, arith}
+use Rattle.std.proofs.Common.{◌≡◌, ◌≢◌, ◌∙◌, ℕ, ◌<◌, ◌≤◌, ◌+◌, ◌++◌, List, [], ◌∷◌, length, true, false, Err, Some, None, Option, is_some, inl, inr, get_or, take, drop, sym, ap, refl, subst, append_assoc, arith}
 use Rattle.std.specs.Prelude.{⊤}
 use Rattle.std.proofs.lemmas.Grind.{common_steps}
 use Rattle.std.proofs.lemmas.List.{append-nil}
@@ -9,27 +9,25 @@ use Rattle.jdwp_end.specs.Ends.{front_of, is_open}
 use Rattle.jdwp_end.specs.Runs.{IsFront}
 use Rattle.jdwp_debugger.specs.declared.faults.DebuggerFault.{DebuggerFault}
 use Rattle.jdwp_debugger.specs.declared.faults.DebuggerFault.TheVariants as code
-use Rattle.jdwp_debugger.specs.declared.turning.Read.{Read}
-use Rattle.jdwp_debugger.specs.declared.turning.Read.TheVariants as read
 use Rattle.jdwp_wire.specs.Widths.{Widths}
 use Rattle.jdwp_debuggee.specs.Actions.{Command}
 use Rattle.jdwp_debugger.specs.declared.asking.Refused as asking
 use Rattle.jdwp_debugger.specs.declared.asking.Refused.TheVariants as refusal
 use Rattle.jdwp_debugger.specs.Asking.{HasAsked, IsRefusal, refusal_of_ask}
 use Rattle.jdwp_debugger.specs.RefusedNumbers.{refused_number}
-use Rattle.jdwp_debugger.specs.Debuggers.{Debugger, attached, has_tickets, lost, with_fed, with_taken}
+use Rattle.jdwp_debugger.specs.Debuggers.{Debugger, attached, has_tickets, lost, with_taken}
 use Rattle.jdwp_debugger.specs.DebuggerTurns.{TurnsAt, refused}
 use Rattle.jdwp_engine.specs.declared.ended.Ended.{Ended}
 use Rattle.jdwp_engine.specs.declared.ended.Ended.TheVariants.{Done, LostByRead, LostByWrite, Refused, NoMemory, TurnLimit}
-use Rattle.jdwp_engine.specs.Run.{FailsRead, FailsWrite, with_read, with_written}
+use Rattle.jdwp_engine.specs.Run.{FailsWrite, with_written}
 use Rattle.jdwp_engine.specs.Story.{Story}
 use Rattle.jdwp_plan.specs.declared.plan_line.PlanLine.{PlanLine}
-use Rattle.jdwp_attach.specs.PlanAsks.{AsksInOrder, IsBeginning, Stands, asks, command_asked}
-use Rattle.jdwp_attach.specs.PlanRuns.{EndsFailed, EndsRefused, EndsSo, IsAsk, IsFinished, IsLostFrom, LineEndsSo, MayEnd, ReadsEnd, RefusesCommand, RefusesLine, RefusesTurn, TellsEnd, told_number}
-use Rattle.jdwp_attach.specs.Runs.{Closes, FailsFlush, Finishes, InOrder, IsGoing, LosesAtRead, LosesAtWrite, Prints, PrintsPart, Standing, Tells, at}
+use Rattle.jdwp_attach.specs.PlanAsks.{AsksInOrder, IsBeginning, Stands, command_asked}
+use Rattle.jdwp_attach.specs.PlanRuns.{EndsFailed, EndsRefused, EndsSo, IsAsk, IsLostFrom, LineEndsSo, MayEnd, ReadsEnd, RefusesCommand, told_number}
+use Rattle.jdwp_attach.specs.Runs.{Finishes, InOrder, IsGoing, LosesAtRead, LosesAtWrite, Prints, PrintsPart, Standing, at}
 use Rattle.jdwp_attach.proofs.Moves.{asked-moves, begins-all, begins-behind, begins-line, begins-none, line-split, printed-goes, prints-again}
 use Rattle.jdwp_attach.proofs.Stages.{asks-append, one-asked, puts-same, stands-asked, stands-known, stands-puts}
-use Rattle.jdwp_attach.proofs.Turned.{Moves, Reads, fault-refused, memory-same, read-Whole}
+use Rattle.jdwp_attach.proofs.Turned.{Moves, fault-refused, memory-same}
 
 -- ---- in order
 
@@ -156,10 +154,11 @@ asked-refused done rest line base s o d new left set number refused bytes w k as
       ),
     )
 
-pub unread-ends : (line : PlanLine) (s o : Story) (d new : Debugger) (left left' set number : ℕ) (bytes : List ℕ) (w : Widths) → IsAsk line set number bytes → d.sizes ≡ Some w
-    → command_asked w set number bytes ≡ None → new ≡ lost d → LineEndsSo line (at s o d left) (at s o new left') (Refused 36)
-unread-ends line s o d new left left' set number bytes w asks-it known unread is done rest base k =
-    asked-refused done rest line base s o d new left set number 36 bytes w k asks-it known (rw unread refl) is
+pub unread-ends : (line : PlanLine) (s o : Story) (d new : Debugger) (left left' set number : ℕ) (bytes : List ℕ) (w : Widths) (ended : Ended) → IsAsk line set number bytes → d.sizes ≡ Some w
+    → command_asked w set number bytes ≡ None → EndsRefused refusal.BadCommand d new ended → LineEndsSo line (at s o d left) (at s o new left') ended
+unread-ends line s o d new left left' set number bytes w ended asks-it known unread is =
+    subst (λ (e : Ended). LineEndsSo line (at s o d left) (at s o new left') e) (sym is.0)
+    (λ done rest base k. asked-refused done rest line base s o d new left set number (refused_number refusal.BadCommand) bytes w k asks-it known (rw unread refl) is.1)
 
 refuses-some : (line : PlanLine) (s o : Story) (d new : Debugger) (left left' set number : ℕ) (bytes : List ℕ) (w : Widths) (command : Command) (r : asking.Refused) → IsAsk line set number bytes
     → d.sizes ≡ Some w → command_asked w set number bytes ≡ Some command → refusal_of_ask d command ≡ Some r → new ≡ lost d → LineEndsSo line (at s o d left) (at s o new left') (Refused (refused_number r))

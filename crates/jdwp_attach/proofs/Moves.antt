@@ -1,5 +1,5 @@
 -- How a run of a plan goes on from one call to the next.
-use Rattle.std.proofs.Common.{◌≡◌, ◌≢◌, ◌∙◌, ℕ, ◌<◌, ◌≤◌, ◌+◌, ◌++◌, List, [], ◌∷◌, length, Bool, true, false, Result, Ok, Err, OnOk, IfErr, Option, Some, None, is_some, ◌||◌, ◌⊎◌, inl, inr, get_or, take, drop, min, sym, ap, refl, subst, append_assoc, arith}
+use Rattle.std.proofs.Common.{◌≡◌, ◌∙◌, ℕ, ◌<◌, ◌≤◌, ◌+◌, ◌++◌, List, [], ◌∷◌, length, Bool, true, false, Result, Ok, Err, OnOk, IfErr, Option, Some, None, is_some, ◌||◌, get_or, take, drop, min, sym, ap, refl, append_assoc, arith}
 use Rattle.std.proofs.lemmas.Grind.{common_steps}
 use Rattle.std.proofs.lemmas.List.{append-nil, drop-drop, drop_more, length-append, length-take, take-append-drop, take_all, take_at, take_more}
 use Rattle.jdwp_end.specs.Ends.{is_open}
@@ -8,13 +8,13 @@ use Rattle.std.specs.Borrow.{Bor}
 use Rattle.jdwp_debuggee.specs.Actions.{Command}
 use Rattle.jdwp_debugger.specs.declared.pending.Asked.{Asked}
 use Rattle.jdwp_debugger.specs.declared.pending.Ticket.{Ticket}
-use Rattle.jdwp_debugger.specs.Debuggers.{Debugger, Unanswered, and_then, at_place, has_tickets, seen_unanswered, unanswered, with_fed, with_taken}
-use Rattle.jdwp_engine.specs.Run.{FailsRead, FailsWrite, with_read, with_written}
+use Rattle.jdwp_debugger.specs.Debuggers.{Debugger, Unanswered, and_then, at_place, has_tickets, seen_unanswered, unanswered, with_taken}
+use Rattle.jdwp_engine.specs.Run.{with_written}
 use Rattle.jdwp_engine.specs.Story.{Story}
 use Rattle.jdwp_plan.specs.declared.plan_line.PlanLine.{PlanLine}
 use Rattle.jdwp_attach.specs.PlanAsks.{IsBeginning, Stands, asks, asks_of}
 use Rattle.jdwp_attach.specs.PlanRuns.{LineGoesOn}
-use Rattle.jdwp_attach.specs.Runs.{InOrder, IsGoing, IsReady, Prints, PrintsPart, ReadsMore, Standing, Tells, at}
+use Rattle.jdwp_attach.specs.Runs.{IsGoing, IsReady, Prints, ReadsMore, Standing, at}
 use Rattle.jdwp_attach.proofs.Stages.{asks-append, stands-line}
 use Rattle.jdwp_attach.proofs.Turned.{Moves}
 

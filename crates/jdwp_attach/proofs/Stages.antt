@@ -1,5 +1,5 @@
 -- How far a session of a run is, from turn to turn and from line to line.
-use Rattle.std.proofs.Common.{◌≡◌, ◌≢◌, ◌∙◌, ℕ, zero, suc, ◌+◌, ◌<◌, ◌^◌, ◌==◌, ◌||◌, ◌++◌, ◌∷◌, List, [], Bool, true, false, Option, Some, None, Result, Ok, Err, ◌⊎◌, inl, inr, is_some, slice_get, take, drop, if◌then◌else◌, ap, refl, subst, sym, append_assoc, arith}
+use Rattle.std.proofs.Common.{◌≡◌, ◌≢◌, ◌∙◌, ℕ, zero, suc, ◌+◌, ◌<◌, ◌^◌, ◌==◌, ◌||◌, ◌++◌, ◌∷◌, List, [], Bool, true, false, Option, Some, None, Ok, Err, ◌⊎◌, inl, inr, is_some, slice_get, if◌then◌else◌, ap, refl, subst, sym, append_assoc, arith}
 use Rattle.std.specs.Prelude.{remove}
 use Rattle.std.specs.List.{AllByRecursion, list_any}
 use Rattle.std.proofs.lemmas.Bool.{eqb-true}
@@ -22,7 +22,6 @@ use Rattle.jdwp_end.specs.declared.phase.Phase.{Phase}
 use Rattle.jdwp_end.specs.declared.phase.Phase.TheVariants.{AwaitingHandshake, Established}
 use Rattle.jdwp_end.specs.Ends.{End, front_of, is_open, is_paused, next_at, next_of}
 use Rattle.jdwp_debuggee.specs.Actions.{Command}
-use Rattle.jdwp_debugger.specs.declared.faults.DebuggerFault.{DebuggerFault}
 use Rattle.jdwp_debugger.specs.declared.faults.DebuggerFault.TheVariants as code
 use Rattle.jdwp_debugger.specs.declared.pending.Asked.{Asked}
 use Rattle.jdwp_debugger.specs.declared.pending.Ticket.{Ticket}
@@ -33,7 +32,7 @@ use Rattle.jdwp_debugger.specs.Debuggers.{Debugger, Parked as Waiting}
 use Rattle.jdwp_debugger.specs.DebuggerTurns.{Enters, TurnsAt, Told, closed_where, command_at, greeted, measured_where, reading_of, reports, sizes_header, told}
 use Rattle.jdwp_mirror.specs.Messages.{Reply, Report, id_sizes}
 use Rattle.jdwp_mirror.specs.Mirror.{ends}
-use Rattle.jdwp_debugger.specs.News.{EIGHT, News, Waits, Happens, Answers, Measures, Reading, answer_says, event_says, event_says_by, place_of, reply_at, reply_says, reply_to, says, sizes_say, unless_bad, answer_in, widths_by, with_composites, composites_in}
+use Rattle.jdwp_debugger.specs.News.{EIGHT, News, Waits, Happens, Answers, Measures, Reading, answer_says, event_says, event_says_by, place_of, reply_at, reply_to, says, sizes_say, unless_bad, answer_in, widths_by, with_composites, composites_in}
 use Rattle.jdwp_mirror.specs.Widths.{widths_in}
 use Rattle.jdwp_plan.specs.declared.plan_line.PlanLine.{PlanLine}
 use Rattle.jdwp_plan.specs.declared.plan_line.PlanLine.TheVariants as line

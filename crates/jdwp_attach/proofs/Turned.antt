@@ -1,8 +1,7 @@
 -- What a turn did, by what it answered.
-use Rattle.std.proofs.Common.{◌≡◌, ◌≢◌, ◌∙◌, ℕ, ◌+◌, ◌++◌, ◌∷◌, List, [], Bool, true, false, Option, Some, None, Result, Ok, Err, is_some, slice_get, if◌then◌else◌, ap, refl, sym, arith}
+use Rattle.std.proofs.Common.{◌≡◌, ◌≢◌, ◌∙◌, ℕ, ◌+◌, ◌++◌, List, [], Bool, true, false, Option, Some, None, Ok, Err, is_some, slice_get, if◌then◌else◌, ap, refl, sym, arith}
 use Rattle.std.proofs.lemmas.List.{append-nil}
 use Rattle.std.specs.List.{list_any}
-use Rattle.jdwp_wire.specs.declared.frame.FrameFault.{FrameFault}
 use Rattle.jdwp_wire.specs.declared.error_code.ErrorCode.{ErrorCode}
 use Rattle.jdwp_wire.specs.declared.packet.Header.{Header}
 use Rattle.jdwp_wire.specs.declared.packet.PacketKind.{PacketKind}
@@ -25,9 +24,9 @@ use Rattle.jdwp_debugger.specs.DebuggerTurns.{Enters, HandlesAt, ReadsAt, Told, 
 use Rattle.jdwp_debugger.specs.DebuggerTurns as tell
 use Rattle.jdwp_mirror.specs.Messages.{Reply, Report}
 use Rattle.jdwp_mirror.specs.Mirror.{ends}
-use Rattle.jdwp_debugger.specs.News.{News, Waits, Happens, Answers, Measures, Reading, answer_says, event_says, event_says_by, place_of, reply_at, reply_says, reply_to, says, sizes_say, unless_bad, answer_in, widths_by, with_composites, composites_in}
+use Rattle.jdwp_debugger.specs.News.{News, Waits, Happens, Answers, Measures, Reading, answer_says, event_says, event_says_by, place_of, reply_at, reply_to, says, sizes_say, unless_bad, answer_in, widths_by, with_composites, composites_in}
 use Rattle.jdwp_mirror.specs.Widths.{widths_in}
-use Rattle.jdwp_attach.specs.PlanRuns.{AnswersEnd, TellsEnd}
+use Rattle.jdwp_attach.specs.PlanRuns.{TellsEnd}
 
 -- Between two states of a debugger, so many messages were handled and so many commands asked, and bytes were put behind those that wait.
 pub record Moves (old new : Debugger) (turns tickets : ℕ) : Type 0 where

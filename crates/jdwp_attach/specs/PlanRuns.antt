@@ -18,6 +18,7 @@ use Rattle.jdwp_debugger.specs.Debuggers.{Debugger, has_tickets, lost, with_take
 use Rattle.jdwp_debugger.specs.DebuggerTurns.{Told, Nothing, Hello, Parked, Sizes, Answered, Seen, TurnsAt, reports, told}
 use Rattle.jdwp_mirror.specs.Messages.{Reply, Report}
 use Rattle.jdwp_mirror.specs.Mirror.{ends}
+use Rattle.jdwp_debugger.specs.FaultNumbers.{fault_number}
 use Rattle.jdwp_debugger.specs.RefusedNumbers.{refused_number}
 use Rattle.jdwp_engine.specs.declared.ended.Ended.{Ended}
 use Rattle.jdwp_engine.specs.declared.ended.Ended.TheVariants.{Done, LostByRead, LostByWrite, Refused, NoMemory, TurnLimit}
@@ -62,11 +63,7 @@ IsFinished plan base d = (d.tickets ≡ base.tickets + asks plan) × (has_ticket
 -- the number by which a program tells a fault: that of the bytes' own fault
 abbrev pub told_number : DebuggerFault → ℕ
 told_number (code.Frame fault) = frame.fault_number fault
-told_number code.UnknownReply = 42
-told_number code.BadReply = 43
-told_number code.TooManyParked = 44
-told_number code.BadEvent = 45
-told_number code.NoMemory = 46
+told_number fault = fault_number fault
 
 -- A turn refused what the target sent.
 abbrev pub RefusesTurn : ℕ → Debugger → Type 0
@@ -75,7 +72,7 @@ RefusesTurn number d =
 
 -- the debugger refuses a command by a refusal of this number, or there is none since the bytes do not read
 abbrev pub RefusesCommand : Debugger → ℕ → Option Command → Type 0
-RefusesCommand d number None = number ≡ 36
+RefusesCommand d number None = number ≡ refused_number refusal.BadCommand
 RefusesCommand d number (Some command) = (refused : asking.Refused) × (refusal_of_ask d command ≡ Some refused) × (number ≡ refused_number refused)
 
 -- the line asks this command with these bytes

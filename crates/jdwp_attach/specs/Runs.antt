@@ -1,5 +1,5 @@
 -- What an engine that runs a debugger did on its pipes.
-use Rattle.std.specs.Prelude.{◌≡◌, ◌⊎◌, ℕ, ◌<◌, ◌≤◌, ◌+◌, Bool, true, false, List, [], ◌∷◌, ◌++◌}
+use Rattle.std.specs.Prelude.{◌≡◌, ◌⊎◌, ℕ, ◌<◌, ◌≤◌, ◌+◌, true, false, List, [], ◌++◌}
 use Rattle.jdwp_end.specs.Ends.{is_open}
 use Rattle.jdwp_end.specs.Runs.{IsFront}
 use Rattle.jdwp_debugger.specs.Debuggers.{Debugger, lost, with_fed, with_taken}

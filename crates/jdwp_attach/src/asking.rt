@@ -64,9 +64,6 @@ fn command_of(
     }
 }
 
-/// The number of the refusal of data that do not read.
-const BAD_COMMAND: u16 = 36;
-
 /// Asks the command of a line, and writes its packet.
 ///
 /// # Errors
@@ -94,10 +91,7 @@ pub(crate) fn ask_line<P: Pipe>(
     let command = match command_of(alloc, &sizes, set, number, bytes) {
         Ok(command) => command,
         Err(Unread::NoMemory) => return Err(Ended::NoMemory),
-        Err(Unread::BadData) => {
-            debugger.lose();
-            return Err(Ended::Refused(BAD_COMMAND));
-        }
+        Err(Unread::BadData) => return Err(end_refused(debugger, Refused::BadCommand)),
     };
     let ticket = match debugger.ask(alloc, command) {
         Ok(ticket) => ticket,

@@ -14,9 +14,6 @@ use std::alloc::Global;
 /// What is told of the target's handshake.
 pub(crate) const HELLO: &str = "< hello\n";
 
-/// The error code of a reply without an error.
-const NO_ERROR: ErrorCode = ErrorCode(0);
-
 /// What is told of a composite under this packet id: `< ID Event.Composite DATA`.
 ///
 /// # Errors
@@ -57,9 +54,9 @@ fn data_line(
 ) -> Result<String, NoMemory> {
     if is_raw(set, number) {
         let bytes = bytes_in(alloc, items)?;
-        return reply_line(alloc, id, set, number, NO_ERROR, &[], &bytes);
+        return reply_line(alloc, id, set, number, ErrorCode::NONE, &[], &bytes);
     }
-    reply_line(alloc, id, set, number, NO_ERROR, items, &[])
+    reply_line(alloc, id, set, number, ErrorCode::NONE, items, &[])
 }
 
 /// Whether the data of the command are not read.
@@ -98,7 +95,15 @@ pub(crate) fn sizes_line(alloc: Global, id: u32, sizes: &IdSizes) -> Result<Stri
         Datum::One(Scalar::Int(i32::from(sizes.reference()))),
         Datum::One(Scalar::Int(i32::from(sizes.frame()))),
     ];
-    let mut line = reply_line(alloc, id, VIRTUAL_MACHINE, ID_SIZES, NO_ERROR, &items, &[])?;
+    let mut line = reply_line(
+        alloc,
+        id,
+        VIRTUAL_MACHINE,
+        ID_SIZES,
+        ErrorCode::NONE,
+        &items,
+        &[],
+    )?;
     line.push_str("\n")?;
     Ok(line)
 }

@@ -2,7 +2,7 @@
 use Rattle.std.specs.Prelude.{ℕ, ℤ, Bool, true, false, ◌==◌, ◌||◌, ◌&&◌, not, List, [], ◌∷◌, Option, Some, None, if◌then◌else◌}
 use Rattle.std.specs.List.{filter_map}
 use Rattle.jdwp_value.specs.declared.value.Value.{Value}
-use Rattle.jdwp_layout.specs.CommandNumbers.{is_command, THREAD_REFERENCE, STACK_FRAME, ALL_THREADS, DISPOSE, ID_SIZES, SUSPEND, RESUME, EXIT, HOLD_EVENTS, RELEASE_EVENTS, SUSPEND_THREAD, RESUME_THREAD, THREAD_STATUS, FRAMES, FRAME_COUNT, SUSPEND_COUNT, SET_REQUEST, CLEAR_REQUEST, CLEAR_ALL_BREAKPOINTS, SET_SLOTS}
+use Rattle.jdwp_layout.specs.CommandNumbers.{EVENT, is_command, THREAD_REFERENCE, STACK_FRAME, ALL_THREADS, DISPOSE, ID_SIZES, SUSPEND, RESUME, EXIT, HOLD_EVENTS, RELEASE_EVENTS, SUSPEND_THREAD, RESUME_THREAD, THREAD_STATUS, FRAMES, FRAME_COUNT, SUSPEND_COUNT, SET_REQUEST, CLEAR_REQUEST, CLEAR_ALL_BREAKPOINTS, SET_SLOTS}
 use Rattle.jdwp_layout.specs.CommandTable.{row_at}
 use Rattle.jdwp_layout.specs.Rows.{Row, RowShapes}
 use Rattle.jdwp_layout.specs.Meanings.{ScalarMeaning, Byte, Int, Object, Frame, Valued, DatumMeaning, One, Many}
@@ -123,4 +123,4 @@ carries_out None = false
 carries_out (Some row) = not row.starred && is_some_shapes row.shapes
 
 abbrev pub is_implemented : Command → Bool
-is_implemented c = carries_out (row_at c.set c.number) && not (c.set == 64)
+is_implemented c = carries_out (row_at c.set c.number) && not (c.set == EVENT)

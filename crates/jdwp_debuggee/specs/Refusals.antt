@@ -1,18 +1,19 @@
 -- Which event requests are refused, and why (JDWP specification, "Protocol Details": EventRequest.Set). The tests are made in this
 -- order, and the first that fails is the answer.
 use Rattle.jdwp_wire.specs.Numbers.{greatest_int}
-use Rattle.std.specs.Prelude.{ℕ, ℤ, pos, ◌==◌, nat_le, nat_lt, int_lt, Bool, true, false, ◌||◌, ◌&&◌, not, List, [], ◌∷◌, length, Option, Some, None, if◌then◌else◌}
-use Rattle.std.specs.Ordering.{int_eq}
+use Rattle.std.specs.Prelude.{ℕ, ℤ, pos, ◌==◌, nat_le, nat_lt, int_lt, Bool, true, false, ◌||◌, ◌&&◌, not, List, [], ◌∷◌, length, Option, Some, None, is_some, if◌then◌else◌}
 use Rattle.std.specs.List.{list_any, filter}
 use Rattle.jdwp_wire.specs.declared.error_code.ErrorCode.{ErrorCode}
 use Rattle.jdwp_wire.specs.ErrorCodes.{INVALID_THREAD, INVALID_CLASS, NOT_IMPLEMENTED, INVALID_EVENT_TYPE, ILLEGAL_ARGUMENT, INTERNAL, INVALID_COUNT}
 use Rattle.jdwp_value.specs.declared.location.Location.{Location}
 use Rattle.jdwp_layout.specs.declared.answer.Answer.{Answer}
 use Rattle.jdwp_layout.specs.declared.answer.Answer.TheVariants.{Data, Error}
-use Rattle.jdwp_layout.specs.CommandNumbers.{SIGNATURE, SET_REQUEST}
+use Rattle.jdwp_layout.specs.CommandNumbers.{SIGNATURE, SET_REQUEST, LOCATION_ONLY}
 use Rattle.jdwp_layout.specs.Meanings.{Byte, ReferenceType, Located, One, Many}
 use Rattle.jdwp_event.specs.declared.kind.EventKind.{EventKind}
 use Rattle.jdwp_event.specs.declared.kind.EventKind.TheVariants as kind
+use Rattle.jdwp_event.specs.Composites.{POLICY_NONE, POLICY_ALL}
+use Rattle.jdwp_event.specs.Constants.{size_of_number, depth_of_number}
 use Rattle.jdwp_event.specs.EventKinds.{kind_byte, kind_of_byte}
 use Rattle.jdwp_event.specs.Modifiers.{ModifierMeaning, Count, Conditional, ThreadOnly, ClassOnly, ClassMatch, ClassExclude, LocationOnly, ExceptionOnly, FieldOnly, Step, InstanceOnly, SourceNameMatch}
 use Rattle.jdwp_machine.specs.declared.query.Query.{Query}
@@ -85,7 +86,7 @@ abbrev pub location_query : Location → Query
 location_query location = record {
   set = SET_REQUEST.set;
   number = SET_REQUEST.number;
-  content = One (Byte 2) ∷ One (Byte 0) ∷ Many ((Byte 7 ∷ Located location ∷ []) ∷ []) ∷ [];
+  content = One (Byte (kind_byte kind.Breakpoint)) ∷ One (Byte POLICY_NONE) ∷ Many ((Byte LOCATION_ONLY ∷ Located location ∷ []) ∷ []) ∷ [];
 }
 
 abbrev pub location_refusal_by : Answer → Option ErrorCode
@@ -108,12 +109,12 @@ without_locations =
 abbrev pub not_in : List EventKind → ℕ → Option ErrorCode
 not_in kinds byte = unless (not (is_one_of kinds byte)) ILLEGAL_ARGUMENT
 
--- sizes: min 0, line 1; depths: into 0, over 1, out 2
+-- the sizes and depths of steps that there are
 abbrev pub is_size : ℤ → Bool
-is_size n = int_eq n (pos 0) || int_eq n (pos 1)
+is_size n = is_some (size_of_number n)
 
 abbrev pub is_depth : ℤ → Bool
-is_depth n = int_eq n (pos 0) || (int_eq n (pos 1) || int_eq n (pos 2))
+is_depth n = is_some (depth_of_number n)
 
 abbrev pub exception_refusal : {S : Type 0} → Meaning S → S → ℕ → Option ErrorCode
 exception_refusal m s class = if class == 0 then None else class_refusal m s class
@@ -162,7 +163,7 @@ shape_refusal byte modifiers =
 abbrev pub set_refusal : {S : Type 0} → Meaning S → Settings → Moment S → ℕ → ℕ → List ModifierMeaning → Option ErrorCode
 set_refusal m settings now byte policy modifiers =
     or_else (kind_refusal byte) (
-    or_else (unless (nat_le policy 2) ILLEGAL_ARGUMENT) (
+    or_else (unless (nat_le policy POLICY_ALL) ILLEGAL_ARGUMENT) (
     or_else (room_refusal settings now.state) (
     or_else (modifiers_refusal m now byte modifiers) (
     shape_refusal byte modifiers))))

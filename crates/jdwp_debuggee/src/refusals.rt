@@ -1,6 +1,7 @@
 //! Which event requests are refused, and why (JDWP specification, "Protocol Details": EventRequest.Set).
 ghost use Rattle.std.specs.Prelude.{◌≡◌, ◌==◌, ◌&&◌, ℕ, true, length, map, nat_le, not, IfOk, IfErr, Some, None};
 ghost use Rattle.std.specs.List.{list_any, filter};
+ghost use Rattle.jdwp_event.specs.Composites.{POLICY_ALL};
 ghost use Rattle.jdwp_event.specs.ModifierMeanings.{modifier_meaning};
 ghost use Rattle.jdwp_event.specs.RequestParts.{origin_meaning};
 ghost use Rattle.jdwp_wire.specs.ErrorCodes as codes;
@@ -14,7 +15,7 @@ ghost use Rattle.jdwp_debuggee.specs.RefusalParts.{moment_of, room_by, asks_mach
 use crate::origins::origin_of;
 use crate::threads::Threads;
 use jdwp_event::{EventKind, Modifier, Policy, StepDepth, StepOrigin, StepSize};
-use jdwp_layout::numbers::{EVENT_REQUEST, REFERENCE_TYPE, SET_REQUEST, SIGNATURE};
+use jdwp_layout::numbers::{EVENT_REQUEST, LOCATION_ONLY, REFERENCE_TYPE, SET_REQUEST, SIGNATURE};
 use jdwp_layout::{Answer, Data, Datum, Scalar};
 use jdwp_machine::{Machine, Query};
 use jdwp_value::{Location, ObjectId, ReferenceTypeId};
@@ -109,7 +110,7 @@ fn kind_refusal(byte: u8) -> Option<ErrorCode>
 
 /// A policy that the specification does not name.
 fn policy_refusal(byte: u8) -> Option<ErrorCode>
-    ensures { result ≡ spec.unless (nat_le byte 2) codes.ILLEGAL_ARGUMENT }
+    ensures { result ≡ spec.unless (nat_le byte POLICY_ALL) codes.ILLEGAL_ARGUMENT }
 {
     unless(Policy::of_byte(byte).is_some(), ErrorCode::ILLEGAL_ARGUMENT)
 }
@@ -169,7 +170,7 @@ fn ask_location(alloc: Global, location: Location) -> Result<Query, NoMemory>
     ensures { IfOk result (λ query. query ≡ spec.location_query location) }
 {
     let mut modifier = Vec::with_capacity(alloc, 2)?;
-    modifier.push(Scalar::Byte(7))?;
+    modifier.push(Scalar::Byte(LOCATION_ONLY))?;
     modifier.push(Scalar::Location(location))?;
     let mut modifiers = Vec::with_capacity(alloc, 1)?;
     modifiers.push(modifier)?;

@@ -1,7 +1,6 @@
 -- What holds of a command that may be asked.
-use Rattle.std.proofs.Common.{◌≡◌, ℕ, ◌+◌, ◌<◌, ◌≤◌, ◌||◌, nat_le, nat_lt, true, false, length, Some, None, ap, refl, arith}
+use Rattle.std.proofs.Common.{◌≡◌, ℕ, ◌+◌, ◌<◌, ◌≤◌, ◌^◌, ◌||◌, nat_le, nat_lt, true, false, length, Some, None, ap, refl, arith}
 use Rattle.std.proofs.lemmas.Bool.{le-ltb, leb-false, or_parts}
-use Rattle.jdwp_wire.specs.Limits.{Limits, standard_limits}
 use Rattle.jdwp_wire.specs.Reading.{in_usize}
 use Rattle.jdwp_wire.specs.Widths.{Widths}
 use Rattle.jdwp_layout.proofs.Sizes.{some_is}
@@ -16,25 +15,24 @@ unrefused : (d : Debugger) (c : Command) (w : Widths) → is_open d.end ≡ true
 unrefused d c w opens known busy good fits = rw (opens, known, busy, good, fits) refl
 
 pub admitted : (d : Debugger) (c : Command) (w : Widths) (b : Body) (n : ℕ) → is_open d.end ≡ true → d.sizes ≡ Some w → is_busy d ≡ false → is_for_target w c ≡ true
-    → d.end.limits ≡ standard_limits → body_bytes w b ≡ carried_bytes w c.carried → in_usize (length (body_bytes w b)) ≡ Some n → n ≤ 65525
+    → body_bytes w b ≡ carried_bytes w c.carried → in_usize (length (body_bytes w b)) ≡ Some n → n + 11 ≤ d.end.limits.packet → d.end.limits.packet < 2 ^ 32
     → IsAdmitted d c w b (n + 11)
-admitted d c w b n opens known busy good limits bytes counted most =
+admitted d c w b n opens known busy good bytes counted most small =
     let is : n ≡ length (body_bytes w b) = (some_is (length (body_bytes w b)) n counted).0 in
     let same : length (body_bytes w b) ≡ length (carried_bytes w c.carried) = ap length bytes in
-    let packet : d.end.limits.packet ≡ 65536 = ap (λ (l : Limits). l.packet) limits in
-    let pending : d.end.limits.pending ≡ 64 = ap (λ (l : Limits). l.pending) limits in
     let waits = or_parts (nat_le d.end.limits.pending (length d.pending)) (is_paused d.end || nat_le LAST_TICKET d.tickets) busy in
     let rest = or_parts (is_paused d.end) (nat_le LAST_TICKET d.tickets) waits.1 in
     let few : length d.pending < d.end.limits.pending = leb-false d.end.limits.pending (length d.pending) waits.0 in
     let room : length d.end.outgoing < d.end.limits.packet = leb-false d.end.limits.packet (length d.end.outgoing) rest.0 in
-    let fits : nat_lt d.end.limits.packet (packet_length w c) ≡ false = le-ltb d.end.limits.packet (packet_length w c) (omega (arith, is, same, most, packet)) in
+    let fits : nat_lt d.end.limits.packet (packet_length w c) ≡ false = le-ltb d.end.limits.packet (packet_length w c) (omega (arith, is, same, most)) in
     record {
       unrefused = unrefused d c w opens known busy good fits;
       known = known;
       bytes = bytes;
       size_is = omega (arith, is, same);
-      size_most = omega (arith, most);
-      few = omega (arith, few, pending);
-      room = omega (arith, room, packet);
+      size_most = most;
+      size_fits = omega (arith, most, small);
+      few = few;
+      room = room;
       left = leb-false LAST_TICKET d.tickets rest.1;
     }

@@ -1,5 +1,5 @@
 -- How a run of a debugger goes on with each call.
-use Rattle.std.proofs.Common.{◌≡◌, ◌∙◌, ℕ, ◌≤◌, ◌++◌, List, [], ◌∷◌, length, take, Bool, true, false, Option, Some, None, sym, ap, refl, subst, if◌then◌else◌}
+use Rattle.std.proofs.Common.{◌≡◌, ◌∙◌, ℕ, ◌≤◌, ◌++◌, List, [], ◌∷◌, length, take, Bool, true, false, Some, None, sym, ap, refl, subst, if◌then◌else◌}
 use Rattle.std.specs.Prelude.{Result, Ok, Err, remove}
 use Rattle.std.specs.List.{list_any}
 use Rattle.std.specs.List.{flat_map}

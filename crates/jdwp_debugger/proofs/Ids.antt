@@ -37,13 +37,13 @@ is_at_distance from n small below (p ∷ ps) found = by (p.id == id_after from n
 abbrev pub AreTaken : List Asked → ℕ → ℕ → Type 0
 AreTaken pending from count = (n : ℕ) → n < count → is_outstanding pending (id_after from n) ≡ true
 
-taken_are_few : (pending : List Asked) (from count : ℕ) → from < 2 ^ 32 → count ≤ 65 → AreTaken pending from count → count ≤ length pending
+taken_are_few : (pending : List Asked) (from count : ℕ) → from < 2 ^ 32 → count ≤ 2 ^ 31 → AreTaken pending from count → count ≤ length pending
 taken_are_few pending from count small few taken =
     let all = le-length_from_below (distances from pending) count (λ q below. is_at_distance from q small (omega (arith, below, few)) pending (taken q below)) in
     omega (arith, all, length-map pending (λ (p : Asked). distance from p.id))
 
 -- all of them are taken, and so the next is not
-pub next_is_free : (pending : List Asked) (from : ℕ) → from < 2 ^ 32 → length pending ≤ 64 → AreTaken pending from (length pending) → is_outstanding pending (id_after from (length pending)) ≡ false
+pub next_is_free : (pending : List Asked) (from : ℕ) → from < 2 ^ 32 → length pending < 2 ^ 31 → AreTaken pending from (length pending) → is_outstanding pending (id_after from (length pending)) ≡ false
 next_is_free pending from small few others = by (is_outstanding pending (id_after from (length pending))) refl
   where
     by : (b : Bool) → is_outstanding pending (id_after from (length pending)) ≡ b → is_outstanding pending (id_after from (length pending)) ≡ false

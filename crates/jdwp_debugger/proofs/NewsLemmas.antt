@@ -1,5 +1,5 @@
 -- What is read of packets is what they say.
-use Rattle.std.proofs.Common.{◌≡◌, ℕ, ◌+◌, ◌<◌, Bool, true, false, List, [], ◌∷◌, ◌++◌, append_assoc, drop, length, get_or, refl, sym, ap, ◌∙◌, subst, arith, Option, Some, None, Result, Ok, Err, if◌then◌else◌}
+use Rattle.std.proofs.Common.{◌≡◌, ℕ, ◌+◌, ◌<◌, Bool, true, false, List, [], ◌∷◌, ◌++◌, append_assoc, drop, length, get_or, refl, sym, ap, ◌∙◌, Option, Some, None, Ok, Err, if◌then◌else◌}
 use Rattle.std.specs.Option.{option_map}
 use Rattle.std.proofs.lemmas.List.{at_drop_more}
 use Rattle.jdwp_wire.specs.Widths.{Widths}
@@ -7,12 +7,11 @@ use Rattle.jdwp_layout.specs.declared.answer.Answer.{Answer}
 use Rattle.jdwp_event.specs.Composites.{CompositeMeaning}
 use Rattle.jdwp_debuggee.specs.Actions.{Command}
 use Rattle.jdwp_debugger.specs.declared.faults.DebuggerFault.{DebuggerFault}
-use Rattle.jdwp_debugger.specs.declared.faults.DebuggerFault.TheVariants.{Frame, UnknownReply, BadReply, TooManyParked, BadEvent, NoMemory}
+use Rattle.jdwp_debugger.specs.declared.faults.DebuggerFault.TheVariants.{BadReply, BadEvent, NoMemory}
 use Rattle.jdwp_debugger.specs.declared.pending.Ticket.{Ticket}
 use Rattle.jdwp_debugger.specs.Debuggers.{Parked}
 use Rattle.jdwp_mirror.specs.Faults.{is_bad_reply}
-use Rattle.jdwp_debugger.specs.News.{Fails, News, answer_says, composite_in, composites_in, required, sizes_say, unless_bad, with_composites, with_first}
-use Rattle.jdwp_mirror.specs.Widths.{widths_in}
+use Rattle.jdwp_debugger.specs.News.{Fails, answer_says, composite_in, composites_in, required, unless_bad, with_composites, with_first}
 
 -- ---- answers
 

@@ -1,5 +1,5 @@
 -- What turns leave is what is to be learned from what was read.
-use Rattle.std.proofs.Common.{◌≡◌, ℕ, ◌+◌, ◌<◌, ◌||◌, ◌&&◌, not, Bool, true, false, List, [], ◌∷◌, ◌++◌, map, length, refl, sym, ap, ◌∙◌, subst, arith, Option, Some, None, if◌then◌else◌}
+use Rattle.std.proofs.Common.{◌≡◌, ℕ, ◌||◌, ◌&&◌, not, Bool, true, false, List, [], ◌∷◌, ◌++◌, length, refl, sym, ap, ◌∙◌, subst, Option, Some, None, if◌then◌else◌}
 use Rattle.std.specs.Prelude.{◌==◌, nat_le}
 use Rattle.std.specs.Prelude.{Result, Ok, Err, OnOk, IfErr}
 use Rattle.jdwp_wire.specs.Frames as frames
@@ -25,7 +25,7 @@ use Rattle.jdwp_debugger.specs.DebuggerTurns.{EntersAt, EntersOrFails, FailsAt, 
 use Rattle.jdwp_mirror.specs.Faults.{count_of_thread, has_bad_event, is_bad_event, is_of_two}
 use Rattle.jdwp_mirror.specs.FaultParts.{IsData, is_dispose_act}
 use Rattle.jdwp_mirror.specs.KnownThreads.{count_in}
-use Rattle.jdwp_mirror.specs.Messages.{Message, Reply, Report}
+use Rattle.jdwp_mirror.specs.Messages.{Message, Report}
 use Rattle.jdwp_mirror.specs.Mirror.{is_dispose, is_positive, learned}
 use Rattle.jdwp_mirror.specs.Mirrors.{Mirror, Learned}
 use Rattle.jdwp_debugger.specs.News.{News, Measures, Fails, says}

@@ -6,6 +6,7 @@ use Rattle.jdwp_wire.specs.Widths.{Widths}
 use Rattle.jdwp_wire.specs.Frames.{packet_bytes}
 use Rattle.jdwp_wire.specs.declared.packet.Header.{Header}
 use Rattle.jdwp_wire.specs.declared.packet.PacketKind.TheVariants as packet
+use Rattle.jdwp_layout.specs.CommandNumbers.{EVENT}
 use Rattle.jdwp_layout.specs.CommandTable.{row_at}
 use Rattle.jdwp_layout.specs.Meanings.{meanings}
 use Rattle.jdwp_layout.specs.Rows.{Row, RowShapes}
@@ -31,9 +32,9 @@ abbrev pub fits_row : Widths → Option Row → Carried → Bool
 fits_row w None carried = false
 fits_row w (Some row) carried = fits_shapes w row.shapes carried
 
--- a command of a set that goes to the target, 0 to 63, with data that fit its row
+-- a command of a set that goes to the target, with data that fit its row
 abbrev pub is_for_target : Widths → Command → Bool
-is_for_target w c = nat_lt c.set 64 && fits_row w (row_at c.set c.number) c.carried
+is_for_target w c = nat_lt c.set EVENT && fits_row w (row_at c.set c.number) c.carried
 
 abbrev pub carried_bytes : Widths → Carried → List ℕ
 carried_bytes w (Content content) = data_canonical w content
@@ -117,15 +118,16 @@ pub record HasAsked (command : Command) (old : Debugger) (new : Debugger) : Type
   pub next : IsNextFree old.pending old.next_id id
   pub is : new ≡ asked widths id command old
 
--- A command that may be asked: what it carries in so wide ids, and that its packet of so many bytes has room.
+-- A command that may be asked: what it carries in so wide ids, and that its packet of so many bytes has room. Its length is told in four bytes.
 pub record IsAdmitted (d : Debugger) (command : Command) (widths : Widths) (carried : Body) (size : ℕ) : Type 0 where
   pub unrefused : refusal_of_ask d command ≡ None
   pub known : d.sizes ≡ Some widths
   pub bytes : body_bytes widths carried ≡ carried_bytes widths command.carried
   pub size_is : size ≡ packet_length widths command
-  pub size_most : size ≤ 65536
-  pub few : length d.pending < 64
-  pub room : length d.end.outgoing < 65536
+  pub size_most : size ≤ d.end.limits.packet
+  pub size_fits : size < 2 ^ 32
+  pub few : length d.pending < d.end.limits.pending
+  pub room : length d.end.outgoing < d.end.limits.packet
   pub left : d.tickets < LAST_TICKET
 
 -- The packet of a command that may be asked, and that it has room.
@@ -134,7 +136,7 @@ pub record MayLeave (d : Debugger) (command : Command) (id : ℕ) (bytes : List 
   pub widths : Widths
   pub known : d.sizes ≡ Some widths
   pub bytes_are : bytes ≡ command_bytes widths id command
-  pub size_most : length bytes ≤ 65536
-  pub few : length d.pending < 64
-  pub room : length d.end.outgoing < 65536
+  pub size_most : length bytes ≤ d.end.limits.packet
+  pub few : length d.pending < d.end.limits.pending
+  pub room : length d.end.outgoing < d.end.limits.packet
   pub left : d.tickets < LAST_TICKET

@@ -1,5 +1,5 @@
 -- What turns of a debugger answer, and what they leave.
-use Rattle.std.specs.Prelude.{◌≡◌, ℕ, ◌+◌, ◌%◌, ◌^◌, ◌<◌, Bool, true, false, List, [], ◌∷◌, ◌++◌, length, map, remove, slice_get, Option, Some, None, Result, Ok, Err, MatchResult, if◌then◌else◌}
+use Rattle.std.specs.Prelude.{◌≡◌, ℕ, ◌+◌, ◌%◌, ◌^◌, ◌<◌, Bool, true, false, List, [], ◌∷◌, ◌++◌, length, map, remove, slice_get, Option, Some, None, Result, Ok, Err, MatchResult}
 use Rattle.std.specs.List.{list_any}
 use Rattle.jdwp_wire.specs.declared.packet.Header.{Header}
 use Rattle.jdwp_wire.specs.declared.packet.PacketKind.{PacketKind}
@@ -24,7 +24,7 @@ use Rattle.jdwp_debugger.specs.declared.turning.Read.{Read}
 use Rattle.jdwp_debugger.specs.declared.turning.Read.TheVariants as read
 use Rattle.jdwp_debugger.specs.Debuggers.{Debugger}
 use Rattle.jdwp_debugger.specs.Debuggers as debuggers
-use Rattle.jdwp_mirror.specs.Faults.{is_bad_event, has_bad_event}
+use Rattle.jdwp_mirror.specs.Faults.{PARKED_MOST, is_bad_event, has_bad_event}
 use Rattle.jdwp_mirror.specs.FaultParts.{IsData}
 use Rattle.jdwp_mirror.specs.KnownThreads.{count_in}
 use Rattle.jdwp_mirror.specs.Messages.{Message, Reply, Report, id_sizes}
@@ -180,7 +180,7 @@ WantsMemory (Measures place answer w cs) = Unit {0}
 
 -- what a packet says has room, and its place is that of a command
 abbrev pub Fits : Debugger → News → Type 0
-Fits d (Waits bytes) = length d.parked < 4
+Fits d (Waits bytes) = length d.parked < PARKED_MOST
 Fits d (Happens c) = Unit {0}
 Fits d (Answers place ticket answer) = place < length d.pending
 Fits d (Measures place answer w cs) = place < length d.pending

@@ -5,6 +5,7 @@ use Rattle.jdwp_end.specs.declared.phase.Phase.TheVariants.{AwaitingHandshake}
 use Rattle.jdwp_debugger.specs.declared.debugger.Debugger.TheInside.{Inside}
 use Rattle.jdwp_debugger.specs.Debuggers.{Debugger}
 use Rattle.jdwp_debugger.specs.Runs.{Ran}
+use Rattle.jdwp_mirror.specs.Faults.{PARKED_MOST}
 
 abbrev pub view_of : Inside → Debugger
 view_of d =
@@ -14,11 +15,11 @@ view_of d =
 abbrev pub Begins : Inside → Type 0
 Begins d = (d.pending.items ≡ []) × (d.parked.items ≡ []) × (d.sizes ≡ None)
 
--- the limits are the standard's; no more than 64 commands wait for replies, and no more than four composites for the widths of ids; and
+-- the limits are the standard's; no more commands wait for replies than these allow, and no more composites for the widths of ids than may; and
 -- the run of the session is as it should be
 pub record IsRight (d : Inside) : Type 0 where
   pub limits : d.end.limits ≡ standard_limits
-  pub few : length d.pending.items ≤ 64
-  pub few_parked : length d.parked.items ≤ 4
+  pub few : length d.pending.items ≤ standard_limits.pending
+  pub few_parked : length d.parked.items ≤ PARKED_MOST
   pub begins : d.end.phase ≡ AwaitingHandshake → Begins d
   pub ran : Ran d.end

@@ -1,6 +1,6 @@
 -- What packets from a target say to a debugger by their bytes (JDWP specification, "Packets" and "Protocol Details"), or why they are
 -- refused: a reply by the layout of the command that it answers, a composite by its own.
-use Rattle.std.specs.Prelude.{◌≡◌, ℕ, pos, ◌==◌, Bool, true, false, List, [], ◌∷◌, map, length, slice_get, Option, Some, None, Result, Ok, Err, unwrap_or, if◌then◌else◌}
+use Rattle.std.specs.Prelude.{◌≡◌, ℕ, ◌==◌, Bool, List, [], ◌∷◌, map, length, slice_get, Option, Some, None, Result, Ok, Err, unwrap_or, if◌then◌else◌}
 use Rattle.std.specs.List.{position_from}
 use Rattle.jdwp_wire.specs.declared.data_fault.DataFault.{DataFault}
 use Rattle.jdwp_wire.specs.declared.error_code.ErrorCode.{ErrorCode}
@@ -9,9 +9,9 @@ use Rattle.jdwp_wire.specs.declared.packet.PacketKind.{PacketKind}
 use Rattle.jdwp_wire.specs.declared.packet.PacketKind.TheVariants as kind
 use Rattle.jdwp_layout.specs.declared.answer.Answer.{Answer}
 use Rattle.jdwp_layout.specs.declared.answer.Answer.TheVariants.{Data, Error}
-use Rattle.jdwp_layout.specs.CommandNumbers.{CommandNumber, EVENT, is_command}
+use Rattle.jdwp_layout.specs.CommandNumbers.{COMPOSITE, is_command}
 use Rattle.jdwp_layout.specs.CommandTable.{row_at}
-use Rattle.jdwp_layout.specs.Meanings.{ScalarMeaning, Byte, Int, DatumMeaning, One, Many}
+use Rattle.jdwp_layout.specs.Meanings.{Byte, DatumMeaning, Many}
 use Rattle.jdwp_layout.specs.Reads.{data_at}
 use Rattle.jdwp_layout.specs.Rows.{Row, RowShapes}
 use Rattle.jdwp_layout.specs.Shapes.{ItemShape}
@@ -19,7 +19,7 @@ use Rattle.jdwp_event.specs.Composites.{CompositeMeaning}
 use Rattle.jdwp_event.specs.CompositeBytes.{composite_at}
 use Rattle.jdwp_debuggee.specs.Actions.{Command}
 use Rattle.jdwp_debugger.specs.declared.faults.DebuggerFault.{DebuggerFault}
-use Rattle.jdwp_debugger.specs.declared.faults.DebuggerFault.TheVariants.{Frame, UnknownReply, BadReply, TooManyParked, BadEvent, NoMemory}
+use Rattle.jdwp_debugger.specs.declared.faults.DebuggerFault.TheVariants.{UnknownReply, BadReply, TooManyParked, BadEvent, NoMemory}
 use Rattle.jdwp_debugger.specs.declared.pending.Asked.{Asked}
 use Rattle.jdwp_debugger.specs.declared.pending.Ticket.{Ticket}
 use Rattle.jdwp_debugger.specs.Debuggers.{Parked}
@@ -27,10 +27,6 @@ use Rattle.jdwp_mirror.specs.Faults.{PARKED_MOST, is_bad_reply}
 use Rattle.jdwp_mirror.specs.Widths.{widths_in}
 
 -- ---- composites
-
--- Event.Composite
-abbrev pub COMPOSITE : CommandNumber
-COMPOSITE = record { set = EVENT; number = 100 }
 
 -- a value that is read, and nothing behind it
 abbrev pub whole : {X : Type 0} → Result (X × List ℕ) DataFault → Option X

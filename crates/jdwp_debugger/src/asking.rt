@@ -1,5 +1,5 @@
 //! Commands as they are asked: why they are not, and their packets.
-ghost use Rattle.std.specs.Prelude.{◌≡◌, ◌≤◌, ◌++◌, IfOk, MatchOption, None, OnOk, false, is_none, length, true};
+ghost use Rattle.std.specs.Prelude.{◌≡◌, ◌<◌, ◌^◌, ◌++◌, IfOk, MatchOption, None, OnOk, false, is_none, length, true};
 ghost use Rattle.jdwp_wire.specs.Reading.{in_usize};
 ghost use Rattle.jdwp_layout.specs.Meanings.{meanings};
 ghost use Rattle.jdwp_layout.specs.Shapes.{shape};
@@ -7,6 +7,7 @@ ghost use Rattle.jdwp_layout.specs.Writes.{data_canonical, data_refusal};
 ghost use Rattle.jdwp_debugger.specs.Asking.{body_bytes, carried_bytes, command_bytes, is_for_target, packet_length};
 ghost use Rattle.jdwp_debugger.specs.RefusedNumbers.{refused_number};
 
+use jdwp_layout::numbers::EVENT;
 use jdwp_layout::{Datum, Layout, data_size, layout_of, refusal, write};
 use jdwp_mirror::{Carried, Command};
 use jdwp_wire::{Header, IdSizes, NoMemory, PacketKind};
@@ -86,7 +87,7 @@ impl<'a> Body<'a> {
     pub fn of(command: &'a Command, sizes: &IdSizes) -> Option<Body<'a>>
         ensures { MatchOption result (is_for_target sizes.now command.now ≡ false) (λ b. (is_for_target sizes.now command.now ≡ true) × (body_bytes sizes.now b ≡ carried_bytes sizes.now command.now.carried)) }
     {
-        if command.set() >= 64 {
+        if command.set() >= EVENT {
             return None;
         }
         let row = layout_of(command.set(), command.number())?;
@@ -159,7 +160,7 @@ impl<'a> Admitted<'a> {
     pub fn packet(&self, alloc: Global, id: u32, command: &Command) -> Result<Vec<u8>, NoMemory>
         requires bytes { body_bytes self.now.sizes self.now.body ≡ carried_bytes self.now.sizes command.now.carried }
         requires size { self.now.size ≡ packet_length self.now.sizes command.now }
-        requires most { self.now.size ≤ 65536 }
+        requires fits { self.now.size < 2 ^ 32 }
         ensures bytes { IfOk result (λ packet. packet.items ≡ command_bytes self.now.sizes id command.now) }
         ensures length { IfOk result (λ packet. length packet.items ≡ self.now.size) }
     {

@@ -16,18 +16,12 @@ use crate::parked::Parked;
 use crate::pending::{Asked, Ticket, have_tickets, next_free, unanswered_at};
 use jdwp_end::{End, Front};
 use jdwp_mirror::{Command, Mirror};
-use jdwp_wire::{HANDSHAKE, IdSizes, Limits, NoMemory, PACKET_LIMIT};
+use jdwp_wire::{HANDSHAKE, IdSizes, Limits, NoMemory};
 use std::alloc::Global;
 use std::marker::Model;
 
-/// The most commands that wait for replies.
-const PENDING_MOST: usize = 64;
-
 /// The last ticket that there is.
 const LAST_TICKET: u64 = u64::MAX;
-
-/// The most bytes of a packet behind its header.
-const BODY_MOST: usize = PACKET_LIMIT - 11;
 
 /// A debugger: its end of a session, what it learned, and the commands that wait for replies.
 #[derive(Drop)]
@@ -170,8 +164,9 @@ impl Debugger {
             None => return Err(Refused::BadCommand),
             Some(body) => body,
         };
+        let most = self.end.limits().packet() as usize;
         match body.size(&sizes) {
-            Some(size) if size <= BODY_MOST => Ok(Admitted {
+            Some(size) if size <= most - 11 => Ok(Admitted {
                 sizes,
                 body,
                 size: size + 11,
@@ -184,7 +179,8 @@ impl Debugger {
     fn is_busy(&self) -> bool
         ensures { result ≡ is_busy self.now }
     {
-        self.pending.len() >= PENDING_MOST || self.end.is_paused() || self.tickets >= LAST_TICKET
+        let most = self.end.limits().pending() as usize;
+        self.pending.len() >= most || self.end.is_paused() || self.tickets >= LAST_TICKET
     }
 
     /// The connection is lost: the end is closed, both buffers are empty, and nothing is known. Answers the tickets that were neither answered

@@ -1,11 +1,12 @@
 //! What a loss leaves unanswered.
 ghost use Rattle.std.specs.Prelude.{◌≡◌, ◌≤◌, ◌<◌, ◌++◌, ◌∷◌, [], length};
+ghost use Rattle.jdwp_wire.specs.Limits.{standard_limits};
 ghost use Rattle.jdwp_debugger.specs.Debuggers.{tickets_of};
 
 use crate::pending::{Asked, Ticket};
 use std::marker::Model;
 
-/// The most commands that wait for replies.
+/// The most commands that wait for replies within the standard limits.
 const MOST: usize = 64;
 
 /// The tickets that were neither answered nor lost before, in the order asked: at most 64. It takes no memory.
@@ -17,20 +18,21 @@ pub struct Lost {
 
 impl Model for Lost {
     ghost use Rattle.std.specs.Prelude.{List, ◌≤◌, take};
+    ghost use Rattle.jdwp_wire.specs.Limits.{standard_limits};
     ghost use Rattle.jdwp_debugger.specs.declared.pending.Ticket.{Ticket};
 
     ghost Value = { List Ticket };
 
     ghost view = { λ l. take l.count l.tickets };
 
-    ghost invariant = { λ l. l.count ≤ 64 };
+    ghost invariant = { λ l. l.count ≤ standard_limits.pending };
 }
 
 impl Lost {
     /// The tickets of the commands that wait.
     #[tactic(auto, using(crate::proofs::Losing::given, crate::proofs::Losing::without))]
     pub(crate) fn of(pending: &[Asked]) -> Lost
-        requires { length pending.now ≤ 64 }
+        requires { length pending.now ≤ standard_limits.pending }
         ensures { result ≡ tickets_of pending.now }
     {
         let mut lost = Lost::none();
@@ -54,7 +56,7 @@ impl Lost {
 
     /// One more behind the others.
     fn push(&mut self, ticket: Ticket)
-        requires { length self.old < 64 }
+        requires { length self.old < standard_limits.pending }
         ensures { self.new ≡ self.old ++ ticket ∷ [] }
     {
         self.tickets[self.count] = ticket;

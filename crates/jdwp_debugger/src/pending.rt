@@ -1,5 +1,5 @@
 //! The commands that wait for replies.
-ghost use Rattle.std.specs.Prelude.{◌≡◌, ◌≤◌, length};
+ghost use Rattle.std.specs.Prelude.{◌≡◌, ◌<◌, ◌^◌, length};
 ghost use Rattle.jdwp_debugger.specs.Asking.{IsNextFree, is_outstanding};
 ghost use Rattle.jdwp_debugger.specs.Debuggers.{at_place, has_tickets, seen_unanswered, unanswered};
 
@@ -49,7 +49,7 @@ pub(crate) fn unanswered_at(pending: &[Asked], place: usize) -> Option<(Ticket, 
 
 /// The first id from this one on under which no command waits. 0 follows 4,294,967,295.
 pub(crate) fn next_free(pending: &[Asked], from: u32) -> u32
-    requires { length pending.now ≤ 64 }
+    requires { length pending.now < 2 ^ 31 }
     ensures { IsNextFree pending.now from result }
 {
     let mut id = from;

@@ -9,7 +9,7 @@ ghost use Rattle.jdwp_debugger.specs.declared.faults.DebuggerFault.TheVariants a
 ghost use Rattle.jdwp_debugger.specs.declared.heads.Head.TheVariants as head;
 ghost use Rattle.jdwp_debugger.specs.DebuggerTurns as turns;
 ghost use Rattle.jdwp_debugger.specs.DebuggerTurns.{Enters, EntersAt, FailsOnly, FailsTo, Fits, HandlesAt, LearnedAll, MayTakeMemory, MayWantMemory, TurnsAt, WantsMemory, closed, closed_where, command_at, heads_of, measured_where, news_meaning, none_known, reading_of, refused, reports, told, with_read, with_sizes};
-ghost use Rattle.jdwp_mirror.specs.Faults.{has_bad_event};
+ghost use Rattle.jdwp_mirror.specs.Faults.{PARKED_MOST, has_bad_event};
 ghost use Rattle.jdwp_mirror.specs.FaultParts.{IsData, is_dispose_act};
 ghost use Rattle.jdwp_mirror.specs.KnownThreads.{count_in};
 ghost use Rattle.jdwp_mirror.specs.Messages.{Reply, Ticket as MessageTicket};
@@ -277,7 +277,7 @@ impl Debugger {
     fn park(&mut self, header: Header, used: usize, body: Vec<u8>) -> Result<Read, DebuggerFault>
         requires front { (content : List ℕ) × (front_of self.old.end ≡ Whole (Packet header content) used) }
         requires bytes { IsBytes self.old.end.incoming }
-        requires few { length self.old.parked < 4 }
+        requires few { length self.old.parked < PARKED_MOST }
         ensures ok { IfOk result (λ r. (content : List ℕ) → front_of self.old.end ≡ Whole (Packet header content) used → Enters (Packet header content) used header (news.Waits body.items) self.old (told r) self.new) }
         ensures err { IfErr result (λ fault. (fault ≡ code.NoMemory) × (self.new ≡ self.old)) }
     {

@@ -53,6 +53,13 @@ impl End {
         })
     }
 
+    /// The limits within which it was made.
+    pub fn limits(&self) -> Limits
+        ensures { result ≡ self.now.limits }
+    {
+        self.limits
+    }
+
     /// Whether a session is open: begun, and not closed since.
     pub fn is_open(&self) -> bool
         ensures { result ≡ ends.is_open self.now }
@@ -73,7 +80,7 @@ impl End {
         ensures least { 2048 ≤ self.now.limits.packet }
         ensures most { self.now.limits.packet ≤ 1048576 }
     {
-        self.limits.packet() as usize <= self.outgoing.len()
+        self.outgoing.len() >= self.limits.packet() as usize
     }
 
     /// Begins a session: both buffers are empty, and the peer's handshake is waited for.

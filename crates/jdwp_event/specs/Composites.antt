@@ -1,23 +1,24 @@
 -- Composite events (JDWP specification, "Protocol Details": the command Composite of the set Event).
 use Rattle.std.specs.Prelude.{ℕ, pos, ◌==◌, max, List, [], ◌∷◌, map, Option, Some, None, if◌then◌else◌}
-use Rattle.jdwp_value.specs.declared.location.TypeTag.{TypeTag}
-use Rattle.jdwp_value.specs.declared.location.TypeTag.TheVariants as type
+use Rattle.jdwp_value.specs.Locations.{type_tag_byte}
 use Rattle.jdwp_layout.specs.Meanings.{ScalarMeaning, Byte, Int, Text, Object, ReferenceType, Located, Valued, Tagged, DatumMeaning, One, Many}
 use Rattle.jdwp_event.specs.declared.kind.EventKind.TheVariants as kind
+use Rattle.jdwp_event.specs.declared.policy.Policy.TheVariants as policy
+use Rattle.jdwp_event.specs.Constants.{policy_byte}
 use Rattle.jdwp_event.specs.EventKinds.{kind_byte}
 use Rattle.jdwp_event.specs.Occurrences.{OccurrenceMeaning, Moved, Entered, Left, Threw, Prepared, Started, RanOut, HappeningMeaning}
 use Rattle.jdwp_event.specs.Requests.{Request}
 use Rattle.jdwp_event.specs.Filters.{passing}
 
--- the suspend policies (JDWP specification, "SuspendPolicy Constants"); the greater number is the more suspending
+-- the suspend policies as bytes; the greater one is the more suspending
 abbrev pub POLICY_NONE : ℕ
-POLICY_NONE = 0
+POLICY_NONE = policy_byte policy.None
 
 abbrev pub POLICY_EVENT_THREAD : ℕ
-POLICY_EVENT_THREAD = 1
+POLICY_EVENT_THREAD = policy_byte policy.EventThread
 
 abbrev pub POLICY_ALL : ℕ
-POLICY_ALL = 2
+POLICY_ALL = policy_byte policy.All
 
 -- A composite: its policy, and its events, each with its kind as a byte, the id of its request, and what follows them.
 pub record CompositeMeaning : Type 0 where
@@ -28,19 +29,13 @@ pub record CompositeMeaning : Type 0 where
 abbrev pub composite_data : CompositeMeaning → List DatumMeaning
 composite_data c = One (Byte c.policy) ∷ Many c.events ∷ []
 
--- (JDWP specification, "TypeTag Constants")
-abbrev pub type_byte : TypeTag → ℕ
-type_byte type.Class = 1
-type_byte type.Interface = 2
-type_byte type.Array = 3
-
 -- what an event of a kind tells of an occurrence, behind its thread
 abbrev pub details : ℕ → OccurrenceMeaning → List ScalarMeaning
 details byte (Moved p) = Located p.location ∷ []
 details byte (Entered p) = Located p.location ∷ []
 details byte (Left p value) = Located p.location ∷ (if byte == kind_byte kind.MethodExitWithReturnValue then Valued value ∷ [] else [])
 details byte (Threw p t) = Located p.location ∷ Tagged t.exception ∷ Located t.caught_at ∷ []
-details byte (Prepared p) = Byte (type_byte p.tag) ∷ ReferenceType p.id ∷ Text p.class.signature ∷ Int p.status ∷ []
+details byte (Prepared p) = Byte (type_tag_byte p.tag) ∷ ReferenceType p.id ∷ Text p.class.signature ∷ Int p.status ∷ []
 details byte Started = []
 details byte RanOut = []
 

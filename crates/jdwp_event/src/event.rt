@@ -19,7 +19,7 @@ ghost use Rattle.jdwp_event.specs.CompositeLaws.{composite_codes, composite_unre
 ghost use Rattle.jdwp_event.specs.Occurrences.{occurrence_meaning};
 ghost use Rattle.jdwp_event.specs.Constants.{policy_byte};
 ghost use Rattle.jdwp_event.specs.Filters.{all_counted, passes, passing};
-ghost use Rattle.jdwp_event.specs.Composites.{composite_data, type_byte, details, event_for, gathered, vm_start, vm_death};
+ghost use Rattle.jdwp_event.specs.Composites.{composite_data, details, event_for, gathered, vm_start, vm_death};
 
 use crate::happening::{Happening, Occurrence};
 use crate::kind::EventKind;
@@ -29,7 +29,7 @@ use crate::requests::{Requests, count_down};
 use jdwp_layout::{
     Data, Datum, Entry, Scalar, entry_size, pass_entries, pass_entry, read_entry, write_entry,
 };
-use jdwp_value::{ObjectId, TypeTag};
+use jdwp_value::ObjectId;
 use jdwp_wire::number::{put_count, take_byte, take_count};
 use jdwp_wire::{DataFault, IdSizes, NoMemory, Wire, all_or_nothing};
 use std::alloc::Global;
@@ -494,7 +494,7 @@ fn add_details(
         }
         Occurrence::Prepared(prepared) => {
             let signature = String::from_str(alloc, &prepared.class.signature)?;
-            fields.push(Scalar::Byte(byte_of_tag(prepared.tag)))?;
+            fields.push(Scalar::Byte(prepared.tag.byte()))?;
             fields.push(Scalar::ReferenceTypeId(prepared.id))?;
             fields.push(Scalar::String(signature))?;
             fields.push(Scalar::Int(prepared.status))?;
@@ -502,14 +502,4 @@ fn add_details(
         Occurrence::Started | Occurrence::RanOut => {}
     }
     Ok(())
-}
-
-fn byte_of_tag(tag: TypeTag) -> u8
-    ensures { result ≡ type_byte tag }
-{
-    match tag {
-        TypeTag::Class => 1,
-        TypeTag::Interface => 2,
-        TypeTag::Array => 3,
-    }
 }

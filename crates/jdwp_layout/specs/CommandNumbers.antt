@@ -18,11 +18,26 @@ VIRTUAL_MACHINE = 1
 abbrev pub REFERENCE_TYPE : ℕ
 REFERENCE_TYPE = 2
 
+abbrev pub CLASS_TYPE : ℕ
+CLASS_TYPE = 3
+
 abbrev pub METHOD : ℕ
 METHOD = 6
 
+abbrev pub OBJECT_REFERENCE : ℕ
+OBJECT_REFERENCE = 9
+
+abbrev pub STRING_REFERENCE : ℕ
+STRING_REFERENCE = 10
+
 abbrev pub THREAD_REFERENCE : ℕ
 THREAD_REFERENCE = 11
+
+abbrev pub THREAD_GROUP_REFERENCE : ℕ
+THREAD_GROUP_REFERENCE = 12
+
+abbrev pub ARRAY_REFERENCE : ℕ
+ARRAY_REFERENCE = 13
 
 abbrev pub EVENT_REQUEST : ℕ
 EVENT_REQUEST = 15
@@ -30,13 +45,26 @@ EVENT_REQUEST = 15
 abbrev pub STACK_FRAME : ℕ
 STACK_FRAME = 16
 
+-- the set of what a target sends; those from 0 up to it go to the target
 abbrev pub EVENT : ℕ
 EVENT = 64
 
 -- ---- VirtualMachine
 
+abbrev pub VERSION : CommandNumber
+VERSION = record { set = VIRTUAL_MACHINE; number = 1 }
+
+abbrev pub CLASSES_BY_SIGNATURE : CommandNumber
+CLASSES_BY_SIGNATURE = record { set = VIRTUAL_MACHINE; number = 2 }
+
+abbrev pub ALL_CLASSES : CommandNumber
+ALL_CLASSES = record { set = VIRTUAL_MACHINE; number = 3 }
+
 abbrev pub ALL_THREADS : CommandNumber
 ALL_THREADS = record { set = VIRTUAL_MACHINE; number = 4 }
+
+abbrev pub TOP_LEVEL_THREAD_GROUPS : CommandNumber
+TOP_LEVEL_THREAD_GROUPS = record { set = VIRTUAL_MACHINE; number = 5 }
 
 abbrev pub DISPOSE : CommandNumber
 DISPOSE = record { set = VIRTUAL_MACHINE; number = 6 }
@@ -53,21 +81,107 @@ RESUME = record { set = VIRTUAL_MACHINE; number = 9 }
 abbrev pub EXIT : CommandNumber
 EXIT = record { set = VIRTUAL_MACHINE; number = 10 }
 
+abbrev pub CAPABILITIES : CommandNumber
+CAPABILITIES = record { set = VIRTUAL_MACHINE; number = 12 }
+
+abbrev pub DISPOSE_OBJECTS : CommandNumber
+DISPOSE_OBJECTS = record { set = VIRTUAL_MACHINE; number = 14 }
+
 abbrev pub HOLD_EVENTS : CommandNumber
 HOLD_EVENTS = record { set = VIRTUAL_MACHINE; number = 15 }
 
 abbrev pub RELEASE_EVENTS : CommandNumber
 RELEASE_EVENTS = record { set = VIRTUAL_MACHINE; number = 16 }
 
--- ---- ReferenceType and Method
+abbrev pub CAPABILITIES_NEW : CommandNumber
+CAPABILITIES_NEW = record { set = VIRTUAL_MACHINE; number = 17 }
+
+abbrev pub ALL_CLASSES_WITH_GENERIC : CommandNumber
+ALL_CLASSES_WITH_GENERIC = record { set = VIRTUAL_MACHINE; number = 20 }
+
+-- ---- ReferenceType
 
 abbrev pub SIGNATURE : CommandNumber
 SIGNATURE = record { set = REFERENCE_TYPE; number = 1 }
 
+abbrev pub CLASS_LOADER : CommandNumber
+CLASS_LOADER = record { set = REFERENCE_TYPE; number = 2 }
+
+abbrev pub MODIFIERS : CommandNumber
+MODIFIERS = record { set = REFERENCE_TYPE; number = 3 }
+
+abbrev pub FIELDS : CommandNumber
+FIELDS = record { set = REFERENCE_TYPE; number = 4 }
+
+abbrev pub METHODS : CommandNumber
+METHODS = record { set = REFERENCE_TYPE; number = 5 }
+
+abbrev pub GET_STATICS : CommandNumber
+GET_STATICS = record { set = REFERENCE_TYPE; number = 6 }
+
+abbrev pub SOURCE_FILE : CommandNumber
+SOURCE_FILE = record { set = REFERENCE_TYPE; number = 7 }
+
+abbrev pub CLASS_STATUS : CommandNumber
+CLASS_STATUS = record { set = REFERENCE_TYPE; number = 9 }
+
+abbrev pub INTERFACES : CommandNumber
+INTERFACES = record { set = REFERENCE_TYPE; number = 10 }
+
+abbrev pub SIGNATURE_WITH_GENERIC : CommandNumber
+SIGNATURE_WITH_GENERIC = record { set = REFERENCE_TYPE; number = 13 }
+
+abbrev pub FIELDS_WITH_GENERIC : CommandNumber
+FIELDS_WITH_GENERIC = record { set = REFERENCE_TYPE; number = 14 }
+
+abbrev pub METHODS_WITH_GENERIC : CommandNumber
+METHODS_WITH_GENERIC = record { set = REFERENCE_TYPE; number = 15 }
+
+-- ---- ClassType
+
+abbrev pub SUPERCLASS : CommandNumber
+SUPERCLASS = record { set = CLASS_TYPE; number = 1 }
+
+-- ---- Method
+
 abbrev pub LINE_TABLE : CommandNumber
 LINE_TABLE = record { set = METHOD; number = 1 }
 
+abbrev pub VARIABLE_TABLE : CommandNumber
+VARIABLE_TABLE = record { set = METHOD; number = 2 }
+
+abbrev pub IS_OBSOLETE : CommandNumber
+IS_OBSOLETE = record { set = METHOD; number = 4 }
+
+abbrev pub VARIABLE_TABLE_WITH_GENERIC : CommandNumber
+VARIABLE_TABLE_WITH_GENERIC = record { set = METHOD; number = 5 }
+
+-- ---- ObjectReference
+
+abbrev pub OBJECT_TYPE : CommandNumber
+OBJECT_TYPE = record { set = OBJECT_REFERENCE; number = 1 }
+
+abbrev pub GET_FIELDS : CommandNumber
+GET_FIELDS = record { set = OBJECT_REFERENCE; number = 2 }
+
+abbrev pub DISABLE_COLLECTION : CommandNumber
+DISABLE_COLLECTION = record { set = OBJECT_REFERENCE; number = 7 }
+
+abbrev pub ENABLE_COLLECTION : CommandNumber
+ENABLE_COLLECTION = record { set = OBJECT_REFERENCE; number = 8 }
+
+abbrev pub IS_COLLECTED : CommandNumber
+IS_COLLECTED = record { set = OBJECT_REFERENCE; number = 9 }
+
+-- ---- StringReference
+
+abbrev pub STRING_VALUE : CommandNumber
+STRING_VALUE = record { set = STRING_REFERENCE; number = 1 }
+
 -- ---- ThreadReference
+
+abbrev pub THREAD_NAME : CommandNumber
+THREAD_NAME = record { set = THREAD_REFERENCE; number = 1 }
 
 abbrev pub SUSPEND_THREAD : CommandNumber
 SUSPEND_THREAD = record { set = THREAD_REFERENCE; number = 2 }
@@ -78,6 +192,9 @@ RESUME_THREAD = record { set = THREAD_REFERENCE; number = 3 }
 abbrev pub THREAD_STATUS : CommandNumber
 THREAD_STATUS = record { set = THREAD_REFERENCE; number = 4 }
 
+abbrev pub THREAD_GROUP : CommandNumber
+THREAD_GROUP = record { set = THREAD_REFERENCE; number = 5 }
+
 abbrev pub FRAMES : CommandNumber
 FRAMES = record { set = THREAD_REFERENCE; number = 6 }
 
@@ -86,6 +203,25 @@ FRAME_COUNT = record { set = THREAD_REFERENCE; number = 7 }
 
 abbrev pub SUSPEND_COUNT : CommandNumber
 SUSPEND_COUNT = record { set = THREAD_REFERENCE; number = 12 }
+
+-- ---- ThreadGroupReference
+
+abbrev pub GROUP_NAME : CommandNumber
+GROUP_NAME = record { set = THREAD_GROUP_REFERENCE; number = 1 }
+
+abbrev pub GROUP_PARENT : CommandNumber
+GROUP_PARENT = record { set = THREAD_GROUP_REFERENCE; number = 2 }
+
+abbrev pub GROUP_CHILDREN : CommandNumber
+GROUP_CHILDREN = record { set = THREAD_GROUP_REFERENCE; number = 3 }
+
+-- ---- ArrayReference
+
+abbrev pub ARRAY_LENGTH : CommandNumber
+ARRAY_LENGTH = record { set = ARRAY_REFERENCE; number = 1 }
+
+abbrev pub GET_ELEMENTS : CommandNumber
+GET_ELEMENTS = record { set = ARRAY_REFERENCE; number = 2 }
 
 -- ---- EventRequest
 
@@ -114,13 +250,7 @@ THIS_OBJECT = record { set = STACK_FRAME; number = 3 }
 abbrev pub COMPOSITE : CommandNumber
 COMPOSITE = record { set = EVENT; number = 100 }
 
--- ---- what the first event of a target says (JDWP specification, "EventKind Constants", "SuspendPolicy Constants")
+-- ---- a kind of modifier that is spoken of as a byte (EventRequest.Set)
 
-abbrev pub VM_START : ℕ
-VM_START = 90
-
-abbrev pub SUSPEND_NONE : ℕ
-SUSPEND_NONE = 0
-
-abbrev pub SUSPEND_ALL : ℕ
-SUSPEND_ALL = 2
+abbrev pub LOCATION_ONLY : ℕ
+LOCATION_ONLY = 7

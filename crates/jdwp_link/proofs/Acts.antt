@@ -24,7 +24,7 @@ use Rattle.jdwp_mirror.specs.Mirror
 use Rattle.jdwp_mirror.specs.Mirror.{Kept, kept, all_kept, learned, learned_data, learned_error, learned_reply, learned_event, own_count, other_count, first_count, taught, counted, lists, is_thread, teaches, teaches_data, forgets, forgets_data, shows, shows_data, is_last_of_thread, is_invalid_thread, requests_after, requests_after_data, requests_after_reply, is_not_kept, is_no_kept_breakpoint, ends, more, less, COUNT_MOST}
 use Rattle.jdwp_link.specs.Seen.{lowers, lowers_by, raises, raises_by}
 use Rattle.jdwp_link.proofs.Plain.{more-exact, some-same, kept-append, kept-filter, kept-below, lists-alive}
-use Rattle.jdwp_link.proofs.Abouts.{about_action}
+use Rattle.jdwp_mirror.proofs.Abouts.{about_action}
 
 -- what an event does to a count
 abbrev pub event_raise : CompositeMeaning → ℕ → ℕ → ℕ

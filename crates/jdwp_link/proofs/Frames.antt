@@ -1,21 +1,20 @@
 -- what commands and steps leave of what is answered of a suspended thread's frames
-use Rattle.std.proofs.Common.{◌≡◌, ◌≢◌, ℕ, zero, suc, ◌==◌, ◌<◌, Bool, true, false, ◌||◌, ◌&&◌, cond, Option, Some, None, List, [], ◌∷◌, refl, sym, ◌∙◌, ap, subst, arith, is_some}
+use Rattle.std.proofs.Common.{◌≡◌, ◌≢◌, ℕ, zero, suc, ◌==◌, ◌<◌, Bool, true, false, ◌||◌, ◌&&◌, cond, Option, Some, None, List, ◌∷◌, refl, sym, ◌∙◌, ap, subst, arith}
 use Rattle.std.proofs.lemmas.Bool.{eqb-true, eq-eqb, false_from_ne_true}
 use Rattle.jdwp_wire.specs.ErrorCodes.{THREAD_NOT_SUSPENDED}
-use Rattle.jdwp_layout.specs.declared.answer.Answer.{Answer}
 use Rattle.jdwp_layout.specs.declared.answer.Answer.TheVariants.{Data, Error}
 use Rattle.jdwp_layout.specs.CommandNumbers.{CommandNumber, is_command, FRAMES, FRAME_COUNT, GET_SLOTS, THIS_OBJECT}
 use Rattle.jdwp_layout.specs.Meanings.{Object, DatumMeaning, One}
 use Rattle.jdwp_event.specs.Composites.{CompositeMeaning, gathered}
 use Rattle.jdwp_event.specs.Occurrences.{HappeningMeaning, runs_out}
 use Rattle.jdwp_machine.specs.declared.query.Query.{Query}
-use Rattle.jdwp_machine.specs.Meanings.{Meaning, has}
+use Rattle.jdwp_machine.specs.Meanings.{Meaning}
 use Rattle.jdwp_machine.specs.Laws.{IsLawful, asks_frames, begins_with}
 use Rattle.jdwp_debuggee.specs.Settings.{Settings}
 use Rattle.jdwp_debuggee.specs.State.{State, Moment, count_of, count_or_zero, or_zero, is_marked}
 use Rattle.jdwp_debuggee.specs.Actions
 use Rattle.jdwp_debuggee.specs.Actions.{Carried, Content, Raw, Command, Action, action_of, action_by, thread_of, first_object, object_in, is_implemented}
-use Rattle.jdwp_debuggee.specs.Answers.{query_of, content_of, bounded, frames_answer}
+use Rattle.jdwp_debuggee.specs.Answers.{query_of, content_of, bounded}
 use Rattle.jdwp_debuggee.specs.Effects.{effect, effect_by, does, frames_by, slots_by, slots_at}
 use Rattle.jdwp_debuggee.specs.Breadth.{keeps_machine}
 use Rattle.jdwp_debuggee.specs.Steps.{occurs, occurs_by, may_step, happens, ends, thread_ended, seen, death_by, report_by}

@@ -1,8 +1,7 @@
 -- what was read of a suspended thread's frames stays true
-use Rattle.std.proofs.Common.{◌≡◌, ℕ, ◌==◌, ◌+◌, ◌-◌, ◌<◌, ◌≤◌, inl, inr, Bool, true, false, ◌||◌, ◌&&◌, not, cond, Option, Some, None, List, [], ◌∷◌, ◌++◌, refl, sym, ◌∙◌, ap, subst, arith, append_assoc}
+use Rattle.std.proofs.Common.{◌≡◌, ℕ, ◌+◌, ◌-◌, ◌<◌, ◌≤◌, inl, inr, Bool, true, false, ◌||◌, ◌&&◌, not, cond, Option, Some, None, List, [], ◌∷◌, ◌++◌, refl, sym, ◌∙◌, ap, subst, arith, append_assoc}
 use Rattle.std.specs.Prelude.{nat_lt}
 use Rattle.std.proofs.lemmas.Bool.{cond_both}
-use Rattle.jdwp_layout.specs.declared.answer.Answer.{Answer}
 use Rattle.jdwp_layout.specs.declared.answer.Answer.TheVariants.{Data}
 use Rattle.jdwp_layout.specs.Meanings.{DatumMeaning}
 use Rattle.jdwp_event.specs.Composites.{CompositeMeaning, vm_death}
@@ -12,9 +11,9 @@ use Rattle.jdwp_machine.specs.Laws.{IsLawful}
 use Rattle.jdwp_debuggee.specs.Settings.{Settings}
 use Rattle.jdwp_debuggee.specs.State.{Moment, count_or_zero, or_zero}
 use Rattle.jdwp_debuggee.specs.Actions.{Command, action_of}
-use Rattle.jdwp_debuggee.specs.Effects.{Effect, effect}
+use Rattle.jdwp_debuggee.specs.Effects.{effect}
 use Rattle.jdwp_debuggee.specs.Steps.{occurs, may_step, start_event}
-use Rattle.jdwp_debuggee.specs.Facts.{IsSound, Quiet, Does, Told}
+use Rattle.jdwp_debuggee.specs.Facts.{IsSound, Does, Told}
 use Rattle.jdwp_debuggee.proofs.AllFacts.{facts}
 use Rattle.jdwp_mirror.specs.Messages.{Ticket, Call, Greets, Asks, Message, Handshake, Reply, Report}
 use Rattle.jdwp_mirror.specs.Mirror.{COUNT_MOST, ends}
@@ -23,12 +22,11 @@ use Rattle.jdwp_mirror.specs.Faults.{Fault, fault_of}
 use Rattle.jdwp_link.specs.Events
 use Rattle.jdwp_link.specs.Events.{LinkEvent, AskRefusal, Outcome}
 use Rattle.jdwp_link.specs.World.{Measure, Phase, Closed, Waiting, Open, is_closed, is_open, Packet, World, way_to_target, way_to_debugger, opening}
-use Rattle.jdwp_link.specs.Next.{attached, may_attach, attaches, ask_refusal, asks, ask_by, target_loses, started, greets_by, after_death, dying, dies_by, answers, target_takes, target_handles, target_turn_at, target_turn, closes_by, entered, has_end, composites_of, answered, reads_handshake, reads_reply, reads_composite, reads, reader, debugger_handles, debugger_takes, debugger_turn_at, debugger_turn, told, step_ends, steps, next, run}
+use Rattle.jdwp_link.specs.Next.{attached, may_attach, attaches, ask_refusal, ask_by, target_loses, started, greets_by, after_death, dying, dies_by, answers, target_handles, target_turn_at, target_turn, closes_by, entered, has_end, composites_of, answered, reads_reply, reads_composite, reads, reader, debugger_handles, debugger_takes, debugger_turn_at, debugger_turn, told, step_ends, steps, next, run}
 use Rattle.jdwp_link.specs.Seen.{seen, unanswered, lowers, has_dispose}
-use Rattle.jdwp_link.specs.Headline.{MayBegin, IsUnbroken}
 use Rattle.jdwp_link.specs.Lasting.{asks_frames_of, writes, answers_write, has_write, IsAnswer, IsLasting, StaysTrue, AlwaysStaysTrue}
-use Rattle.jdwp_link.proofs.Acts.{move_lowers, move, message_lowers}
-use Rattle.jdwp_link.proofs.Session.{Links, last, lowers_in, no_dispose_in, links_lower, alive_along, lowers_replies, unanswered_append, replies, commands, replies_append, dispose_front, no_dispose_replies, not-true, and-left, and-right}
+use Rattle.jdwp_link.proofs.Acts.{message_lowers}
+use Rattle.jdwp_link.proofs.Session.{Links, last, lowers_in, no_dispose_in, links_lower, alive_along, lowers_replies, unanswered_append, replies, commands, dispose_front, no_dispose_replies, not-true, and-left, and-right}
 use Rattle.jdwp_link.proofs.Keeps.{Inv, keeps, open-not-closed}
 use Rattle.jdwp_link.proofs.Theorems.{opening_inv, all-replies, seen-base}
 use Rattle.jdwp_link.proofs.Frames.{SameFrames, frames_refl, frames_trans, frames_action, frames_after, frames_same, frames_suspended, effect_frames, step_frames}

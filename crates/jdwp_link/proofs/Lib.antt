@@ -1,5 +1,4 @@
 pub mod Plain
-pub mod Abouts
 pub mod Acts
 pub mod Session
 pub mod Keeps

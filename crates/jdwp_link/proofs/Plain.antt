@@ -9,12 +9,12 @@ use Rattle.jdwp_layout.specs.Meanings.{Object, DatumMeaning, Many}
 use Rattle.jdwp_layout.specs.declared.answer.Answer.TheVariants.{Data}
 use Rattle.jdwp_event.specs.Requests.{Asked}
 use Rattle.jdwp_machine.specs.Meanings.{has}
-use Rattle.jdwp_debuggee.specs.Answers.{inserted, rising, all_threads}
+use Rattle.jdwp_debuggee.specs.Answers.{rising, all_threads}
 use Rattle.jdwp_debuggee.specs.State.{State, ids, count_of}
 use Rattle.jdwp_debuggee.specs.Facts.{AreBelow}
 use Rattle.jdwp_debuggee.proofs.ThreadLists.{has-count}
+use Rattle.jdwp_debuggee.proofs.ThreadsListed.{has-rising}
 use Rattle.jdwp_mirror.specs.Mirror.{Kept, kept, all_kept, has_other_id, lists, begins_with_object, more, COUNT_MOST}
-use Rattle.std.specs.Prelude.{nat_le}
 
 pub more-exact : (j : ℕ) → j + 1 ≤ COUNT_MOST → more j ≡ j + 1
 more-exact j h = min-eq_left h
@@ -50,23 +50,6 @@ kept-below n (r ∷ rs) h =
 listed-has : (xs : List ℕ) (t : ℕ) → list_any (begins_with_object t) (map (λ (x : ℕ). Object x ∷ []) xs) ≡ has xs t
 listed-has [] t = refl
 listed-has (x ∷ xs) t = ap (λ b. (x == t) || b) (listed-has xs t)
-
-swap : (a b c : Bool) → (a || (b || c)) ≡ (b || (a || c))
-swap true true c = refl
-swap true false c = refl
-swap false b c = refl
-
-has-inserted : (n : ℕ) (xs : List ℕ) (t : ℕ) → has (inserted n xs) t ≡ ((n == t) || has xs t)
-has-inserted n [] t = refl
-has-inserted n (x ∷ xs) t =
-    elim (nat_le n x) as (λ b. has (cond b (n ∷ x ∷ xs) (x ∷ inserted n xs)) t ≡ ((n == t) || ((x == t) || has xs t))) [
-      | true ↦ refl
-      | false ↦ ap (λ b. (x == t) || b) (has-inserted n xs t) ∙ swap (x == t) (n == t) (has xs t)
-    ]
-
-pub has-rising : (xs : List ℕ) (t : ℕ) → has (rising xs) t ≡ has xs t
-has-rising [] t = refl
-has-rising (x ∷ xs) t = has-inserted x (rising xs) t ∙ ap (λ b. (x == t) || b) (has-rising xs t)
 
 pub lists-alive : (state : State) (content : List DatumMeaning) (t : ℕ) → Data content ≡ all_threads state → lists content t ≡ is_some (count_of state t)
 lists-alive state content t e =

@@ -14,7 +14,7 @@ use Rattle.jdwp_link.specs.World.{World, Packet, is_closed, opening}
 use Rattle.jdwp_link.specs.Next.{run}
 use Rattle.jdwp_link.specs.Seen.{mirror_count, mirror_held, mirror_requests, seen, is_known, is_shown, is_held, unanswered, lowers, raises, has_dispose, composites_in}
 use Rattle.jdwp_link.specs.Headline.{MayBegin, Always, KnowsAndHolds, HasTheCounts, requests_then, HasTheRequests, HeldIsSuspended, HeldIsCovered, CountIsAtMost}
-use Rattle.jdwp_link.proofs.Plain.{has-rising}
+use Rattle.jdwp_debuggee.proofs.ThreadsListed.{has-rising}
 use Rattle.jdwp_link.proofs.Session.{last, links_lower, links_upper, lowers_in, raises_in, no_dispose_in, replies, commands, replies_append, unanswered_append, lowers_replies, raises_replies, composites_append, dispose_front, no_dispose_replies, and-left, and-right}
 use Rattle.jdwp_link.proofs.Keeps.{Inv, Session, IsLast, closed_side, closed-not-open, keeps_run}
 

@@ -1,5 +1,5 @@
 -- What the mirror's calls leave is what is to be learned from a packet.
-use Rattle.std.proofs.Common.{◌≡◌, ℕ, ◌+◌, Bool, true, false, ◌||◌, ◌&&◌, not, List, [], ◌∷◌, ◌++◌, map, refl, ◌∙◌, ap, sym, subst, arith, Option, Some, None, is_some, if◌then◌else◌}
+use Rattle.std.proofs.Common.{◌≡◌, ℕ, Bool, true, false, ◌||◌, ◌&&◌, not, List, [], ◌∷◌, ◌++◌, refl, ◌∙◌, ap, sym, subst, arith, Option, Some, None, is_some, if◌then◌else◌}
 use Rattle.std.specs.Prelude.{◌==◌}
 use Rattle.std.specs.Option.{option_map}
 use Rattle.std.proofs.lemmas.Bool.{cond_both}
@@ -19,7 +19,7 @@ use Rattle.jdwp_mirror.specs.declared.threads.Change.TheVariants.{Keep, Raise, L
 use Rattle.jdwp_mirror.specs.declared.threads.Known.{Known}
 use Rattle.jdwp_mirror.specs.declared.threads.Lesson.{Lesson}
 use Rattle.jdwp_mirror.specs.Messages.{Ticket, Reply, Report}
-use Rattle.jdwp_mirror.specs.Mirror.{Kept, counted, first_count, held_after, is_invalid_thread, is_last_of_thread, is_positive, is_thread, learned, learned_data, learned_error, learned_event, lists, more, less, other_count, requests_after_data, shows_data, taught}
+use Rattle.jdwp_mirror.specs.Mirror.{Kept, counted, first_count, is_invalid_thread, is_last_of_thread, is_positive, is_thread, learned_data, lists, more, less, other_count, requests_after_data, shows_data, taught}
 use Rattle.jdwp_mirror.specs.Mirrors.{Mirror, Learned, empty_mirror}
 use Rattle.jdwp_mirror.specs.Acts.{act_of, id_found, lesson_of, lesson_of_event, object_id, requests_after_act, set_to, threads_after_data, threads_after_error, threads_after_event, with_counted, with_found, without_found}
 use Rattle.jdwp_mirror.specs.KnownThreads.{AreSound, all_taught, change_of, count_by, count_in, is_held_in, is_of_id, only, shown_by, unseen, with_thread, without}

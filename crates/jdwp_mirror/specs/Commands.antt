@@ -1,6 +1,4 @@
 -- What commands in memory say.
-use Rattle.std.specs.Prelude.{List, []}
-use Rattle.jdwp_layout.specs.Meanings.{DatumMeaning}
 use Rattle.jdwp_debuggee.specs.Actions
 use Rattle.jdwp_mirror.specs.declared.command.Carried.{Carried}
 use Rattle.jdwp_mirror.specs.declared.command.Carried.TheVariants as carried

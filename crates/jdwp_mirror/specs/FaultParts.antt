@@ -1,5 +1,5 @@
 -- Parts of judging packets.
-use Rattle.std.specs.Prelude.{ℕ, ◌==◌, Bool, true, false, ◌||◌, ◌&&◌, not, List, [], ◌∷◌, length, Option, Some, None, is_some, if◌then◌else◌}
+use Rattle.std.specs.Prelude.{ℕ, ◌==◌, Bool, true, false, ◌||◌, ◌&&◌, not, List, length, Option, Some, None, is_some}
 use Rattle.jdwp_value.specs.declared.id.ObjectId.{ObjectId}
 use Rattle.jdwp_layout.specs.Meanings.{ScalarMeaning, DatumMeaning}
 use Rattle.jdwp_layout.specs.declared.answer.Answer.{Answer}

@@ -3,7 +3,7 @@ use Rattle.std.specs.Prelude.{ℕ, pos, List, [], ◌∷◌, Option, Some, None,
 use Rattle.jdwp_wire.specs.Widths.{Widths}
 use Rattle.jdwp_layout.specs.declared.answer.Answer.{Answer}
 use Rattle.jdwp_layout.specs.declared.answer.Answer.TheVariants.{Data, Error}
-use Rattle.jdwp_layout.specs.Meanings.{ScalarMeaning, Int, DatumMeaning, One}
+use Rattle.jdwp_layout.specs.Meanings.{Int, DatumMeaning, One}
 use Rattle.jdwp_mirror.specs.Faults.{are_widths}
 
 abbrev pub width_said : DatumMeaning → ℕ

@@ -11,13 +11,10 @@ use crate::command::{Act, Command};
 use crate::composite::{has_event_of, thread_in, thread_of_event};
 use crate::mirror::Mirror;
 use crate::reply::{count_in_reply, id_in_reply};
-use jdwp_event::{Composite, Event, EventKind};
+use jdwp_event::{Composite, Event, EventKind, Policy};
 use jdwp_layout::{Answer, Data, Datum, Scalar};
 use jdwp_value::ObjectId;
 use jdwp_wire::IdSizes;
-
-/// The greatest suspend policy, ALL.
-const SUSPEND_ALL: u8 = 2;
 
 /// Whether a reply says nothing that a debugger can use.
 pub fn is_bad_answer(command: &Command, answer: &Answer) -> bool
@@ -104,7 +101,7 @@ pub fn is_bad_composite(mirror: &Mirror, composite: &Composite) -> bool
     ensures { result ≡ is_bad_event (count_in mirror.now.threads) composite.now }
 {
     composite.events().is_empty()
-        || composite.policy() > SUSPEND_ALL
+        || composite.policy() > Policy::All.byte()
         || are_of_two(composite.events())
         || is_suspended(mirror, composite)
         || is_bad_death(composite)
@@ -125,7 +122,7 @@ fn is_bad_death(composite: &Composite) -> bool
     ensures { result ≡ parts.is_bad_death composite.now }
 {
     has_event_of(composite, EventKind::VmDeath)
-        && (composite.events().len() != 1 || composite.policy() != 0)
+        && (composite.events().len() != 1 || composite.policy() != Policy::None.byte())
 }
 
 /// Whether two of the events have different threads.

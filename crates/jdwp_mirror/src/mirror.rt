@@ -16,7 +16,7 @@ use crate::composite::{has_event_of, thread_in};
 use crate::known::KnownThreads;
 use crate::requests::{KeptRequest, KeptRequests};
 use crate::threads::{Lesson, Threads};
-use jdwp_event::{Composite, EventKind};
+use jdwp_event::{Composite, EventKind, Policy};
 use jdwp_layout::{Answer, Data};
 use jdwp_value::ObjectId;
 use jdwp_wire::{ErrorCode, NoMemory};
@@ -176,7 +176,9 @@ impl Mirror {
         ensures err { OnErr result (self.new ≡ self.old) }
     {
         let thread = thread_in(composite);
-        if has_event_of(composite, EventKind::ThreadDeath) && composite.policy() == 0 {
+        if has_event_of(composite, EventKind::ThreadDeath)
+            && composite.policy() == Policy::None.byte()
+        {
             if let Some(ended) = thread {
                 self.threads.forget(ended);
             }

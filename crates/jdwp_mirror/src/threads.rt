@@ -15,6 +15,7 @@ ghost use Rattle.jdwp_mirror.specs.Numbering.{known_in};
 use crate::command::Act;
 use crate::known::KnownThreads;
 use crate::reply::{count_in_reply, listed_in};
+use jdwp_event::Policy;
 use jdwp_layout::Data;
 use jdwp_value::ObjectId;
 use jdwp_wire::NoMemory;
@@ -25,11 +26,6 @@ use std::marker::Model;
 
 /// Where a count stops.
 const COUNT_MOST: u32 = GREATEST_INT;
-
-/// The suspend policies that suspend a thread.
-const SUSPEND_EVENT_THREAD: u8 = 1;
-
-const SUSPEND_ALL: u8 = 2;
 
 /// A thread that a debugger knows.
 #[derive(Clone, Copy, Debug, PartialEq, Eq)]
@@ -121,8 +117,8 @@ impl Lesson {
     pub fn of_event(thread: Option<ObjectId>, policy: u8) -> Lesson
         ensures { result ≡ lesson_of_event thread policy }
     {
-        let suspends_all = policy == SUSPEND_ALL;
-        let count = if suspends_all || policy == SUSPEND_EVENT_THREAD {
+        let suspends_all = policy == Policy::All.byte();
+        let count = if suspends_all || policy == Policy::EventThread.byte() {
             1
         } else {
             0

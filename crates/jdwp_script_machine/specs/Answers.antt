@@ -3,6 +3,7 @@ use Rattle.std.specs.Prelude.{ℕ, ◌==◌, if◌then◌else◌}
 use Rattle.jdwp_wire.specs.ErrorCodes.{NOT_IMPLEMENTED}
 use Rattle.jdwp_layout.specs.declared.answer.Answer.{Answer}
 use Rattle.jdwp_layout.specs.declared.answer.Answer.TheVariants.{Error}
+use Rattle.jdwp_layout.specs.CommandNumbers.{VIRTUAL_MACHINE, REFERENCE_TYPE, CLASS_TYPE, METHOD, OBJECT_REFERENCE, STRING_REFERENCE, THREAD_REFERENCE, THREAD_GROUP_REFERENCE, ARRAY_REFERENCE, EVENT_REQUEST, STACK_FRAME, SET_REQUEST}
 use Rattle.jdwp_machine.specs.declared.query.Query.{Query}
 use Rattle.jdwp_script_machine.specs.States.{State}
 use Rattle.jdwp_script_machine.specs.Requests.{Asks}
@@ -12,17 +13,17 @@ use Rattle.jdwp_script_machine.specs.ThreadAnswers.{frames_at, thread_answer_by,
 
 abbrev pub answer_at : State → ℕ → ℕ → Asks
 answer_at s set number content =
-    if set == 1 then virtual_machine_answer s number content else (
-    if set == 2 then reference_type_answer s number content else (
-    if set == 3 then class_type_answer s number content else (
-    if set == 6 then method_answer s number content else (
-    if set == 9 then object_answer s number content else (
-    if set == 10 then string_answer s number content else (
-    if set == 11 then thread_answer_by s.script (frames_at s) number content else (
-    if set == 12 then group_answer s number content else (
-    if set == 13 then array_answer s number content else (
-    if set == 15 then (if number == 1 then set_answer s.script content else Error NOT_IMPLEMENTED) else (
-    if set == 16 then stack_frame_answer_by s.script (frames_at s) number content else
+    if set == VIRTUAL_MACHINE then virtual_machine_answer s number content else (
+    if set == REFERENCE_TYPE then reference_type_answer s number content else (
+    if set == CLASS_TYPE then class_type_answer s number content else (
+    if set == METHOD then method_answer s number content else (
+    if set == OBJECT_REFERENCE then object_answer s number content else (
+    if set == STRING_REFERENCE then string_answer s number content else (
+    if set == THREAD_REFERENCE then thread_answer_by s.script (frames_at s) number content else (
+    if set == THREAD_GROUP_REFERENCE then group_answer s number content else (
+    if set == ARRAY_REFERENCE then array_answer s number content else (
+    if set == EVENT_REQUEST then (if number == SET_REQUEST.number then set_answer s.script content else Error NOT_IMPLEMENTED) else (
+    if set == STACK_FRAME then stack_frame_answer_by s.script (frames_at s) number content else
     Error NOT_IMPLEMENTED))))))))))
 
 abbrev pub answer : State → Query → Answer

@@ -3,10 +3,10 @@
 use Rattle.std.specs.Prelude.{ℕ, ℤ, pos, ◌==◌, false, List, [], ◌∷◌, map, filter, replicate, codes, bytes_eq, if◌then◌else◌, Option, Some, None}
 use Rattle.std.specs.Int.{w64, cast_signed}
 use Rattle.jdwp_wire.specs.ErrorCodes.{INVALID_FIELDID, ILLEGAL_ARGUMENT, NOT_IMPLEMENTED, ABSENT_INFORMATION}
-use Rattle.jdwp_value.specs.declared.location.TypeTag.{TypeTag}
-use Rattle.jdwp_value.specs.declared.location.TypeTag.TheVariants.{Class, Interface, Array}
+use Rattle.jdwp_value.specs.Locations.{type_tag_byte}
 use Rattle.jdwp_layout.specs.declared.answer.Answer.{Answer}
 use Rattle.jdwp_layout.specs.declared.answer.Answer.TheVariants.{Data, Error}
+use Rattle.jdwp_layout.specs.CommandNumbers.{VERSION, CLASSES_BY_SIGNATURE, ALL_CLASSES, TOP_LEVEL_THREAD_GROUPS, CAPABILITIES, DISPOSE_OBJECTS, CAPABILITIES_NEW, ALL_CLASSES_WITH_GENERIC, SIGNATURE, CLASS_LOADER, MODIFIERS, FIELDS, METHODS, GET_STATICS, SOURCE_FILE, CLASS_STATUS, INTERFACES, SIGNATURE_WITH_GENERIC, FIELDS_WITH_GENERIC, METHODS_WITH_GENERIC, SUPERCLASS, LINE_TABLE, VARIABLE_TABLE, IS_OBSOLETE, VARIABLE_TABLE_WITH_GENERIC}
 use Rattle.jdwp_layout.specs.Meanings.{ScalarMeaning, Byte, Boolean, Int, Long, Text, Object, ReferenceType, Method, OfField, Valued, One, Many}
 use Rattle.jdwp_script.specs.declared.script.Line.{Line}
 use Rattle.jdwp_script.specs.declared.step.Literal.{Literal}
@@ -23,24 +23,19 @@ abbrev pub version : ScriptPart → Answer
 version script =
     Data (One (Text (codes "scripted machine")) ∷ One (Int (pos 11)) ∷ One (Int (pos 0)) ∷ One (Text (codes "11")) ∷ One (Text script.name) ∷ [])
 
-abbrev pub type_byte : TypeTag → ℕ
-type_byte Class = 1
-type_byte Interface = 2
-type_byte Array = 3
-
 -- the status of a class: 3, verified and prepared, once it is prepared, and 0 before
 abbrev pub status : State → ClassPart → ℤ
 status s c = if is_prepared s c.id then pos 3 else pos 0
 
 abbrev pub class_entry : State → ClassPart → List ScalarMeaning
-class_entry s c = Byte (type_byte c.tag) ∷ ReferenceType c.id ∷ Int (status s c) ∷ []
+class_entry s c = Byte (type_tag_byte c.tag) ∷ ReferenceType c.id ∷ Int (status s c) ∷ []
 
 abbrev pub class_entry_signed : State → ClassPart → List ScalarMeaning
-class_entry_signed s c = Byte (type_byte c.tag) ∷ ReferenceType c.id ∷ Text c.signature ∷ Int (status s c) ∷ []
+class_entry_signed s c = Byte (type_tag_byte c.tag) ∷ ReferenceType c.id ∷ Text c.signature ∷ Int (status s c) ∷ []
 
 -- the same with a generic signature, which is empty
 abbrev pub class_entry_generic : State → ClassPart → List ScalarMeaning
-class_entry_generic s c = Byte (type_byte c.tag) ∷ ReferenceType c.id ∷ Text c.signature ∷ Text [] ∷ Int (status s c) ∷ []
+class_entry_generic s c = Byte (type_tag_byte c.tag) ∷ ReferenceType c.id ∷ Text c.signature ∷ Text [] ∷ Int (status s c) ∷ []
 
 -- ClassesBySignature: every class with this signature, by rising id
 abbrev pub classes_by_signature : State → Asks
@@ -76,14 +71,14 @@ disposed content = Error ILLEGAL_ARGUMENT
 
 abbrev pub virtual_machine_answer : State → ℕ → Asks
 virtual_machine_answer s number content =
-    if number == 1 then alone (version s.script) content else (
-    if number == 2 then classes_by_signature s content else (
-    if number == 3 then alone (all_classes s) content else (
-    if number == 5 then alone (top_groups s.script) content else (
-    if number == 12 then alone (incapable 7) content else (
-    if number == 14 then disposed content else (
-    if number == 17 then alone (incapable 32) content else (
-    if number == 20 then alone (all_classes_generic s) content else
+    if number == VERSION.number then alone (version s.script) content else (
+    if number == CLASSES_BY_SIGNATURE.number then classes_by_signature s content else (
+    if number == ALL_CLASSES.number then alone (all_classes s) content else (
+    if number == TOP_LEVEL_THREAD_GROUPS.number then alone (top_groups s.script) content else (
+    if number == CAPABILITIES.number then alone (incapable 7) content else (
+    if number == DISPOSE_OBJECTS.number then disposed content else (
+    if number == CAPABILITIES_NEW.number then alone (incapable 32) content else (
+    if number == ALL_CLASSES_WITH_GENERIC.number then alone (all_classes_generic s) content else
     Error NOT_IMPLEMENTED)))))))
 
 -- ---- ReferenceType
@@ -177,18 +172,18 @@ generic_methods_answer c = alone (Data (Many (map method_entry_generic c.methods
 
 abbrev pub reference_type_answer : State → ℕ → Asks
 reference_type_answer s number content =
-    if number == 1 then of_class s.script signature_answer content else (
-    if number == 2 then of_class s.script loader_answer content else (
-    if number == 3 then of_class s.script modifiers_answer content else (
-    if number == 4 then of_prepared_class s fields_answer content else (
-    if number == 5 then of_prepared_class s methods_answer content else (
-    if number == 6 then of_prepared_class s statics_answer content else (
-    if number == 7 then of_class s.script source_file_answer content else (
-    if number == 9 then of_class s.script (status_answer s) content else (
-    if number == 10 then of_prepared_class s interfaces_answer content else (
-    if number == 13 then of_class s.script generic_signature_answer content else (
-    if number == 14 then of_prepared_class s generic_fields_answer content else (
-    if number == 15 then of_prepared_class s generic_methods_answer content else
+    if number == SIGNATURE.number then of_class s.script signature_answer content else (
+    if number == CLASS_LOADER.number then of_class s.script loader_answer content else (
+    if number == MODIFIERS.number then of_class s.script modifiers_answer content else (
+    if number == FIELDS.number then of_prepared_class s fields_answer content else (
+    if number == METHODS.number then of_prepared_class s methods_answer content else (
+    if number == GET_STATICS.number then of_prepared_class s statics_answer content else (
+    if number == SOURCE_FILE.number then of_class s.script source_file_answer content else (
+    if number == CLASS_STATUS.number then of_class s.script (status_answer s) content else (
+    if number == INTERFACES.number then of_prepared_class s interfaces_answer content else (
+    if number == SIGNATURE_WITH_GENERIC.number then of_class s.script generic_signature_answer content else (
+    if number == FIELDS_WITH_GENERIC.number then of_prepared_class s generic_fields_answer content else (
+    if number == METHODS_WITH_GENERIC.number then of_prepared_class s generic_methods_answer content else
     Error NOT_IMPLEMENTED)))))))))))
 
 -- ---- ClassType
@@ -199,7 +194,7 @@ superclass_answer c = alone (Data (One (ReferenceType c.superclass) ∷ []))
 
 abbrev pub class_type_answer : State → ℕ → Asks
 class_type_answer s number content =
-    if number == 1 then of_class s.script superclass_answer content else
+    if number == SUPERCLASS.number then of_class s.script superclass_answer content else
     Error NOT_IMPLEMENTED
 
 -- ---- Method
@@ -236,8 +231,8 @@ generic_variable_table_answer c m = alone (Data (One (Int m.args) ∷ Many (map 
 
 abbrev pub method_answer : State → ℕ → Asks
 method_answer s number content =
-    if number == 1 then of_method s.script line_table_answer content else (
-    if number == 2 then of_method s.script variable_table_answer content else (
-    if number == 4 then of_method s.script obsolete_answer content else (
-    if number == 5 then of_method s.script generic_variable_table_answer content else
+    if number == LINE_TABLE.number then of_method s.script line_table_answer content else (
+    if number == VARIABLE_TABLE.number then of_method s.script variable_table_answer content else (
+    if number == IS_OBSOLETE.number then of_method s.script obsolete_answer content else (
+    if number == VARIABLE_TABLE_WITH_GENERIC.number then of_method s.script generic_variable_table_answer content else
     Error NOT_IMPLEMENTED)))

@@ -5,10 +5,12 @@ use Rattle.jdwp_wire.specs.ErrorCodes.{INVALID_CLASS, NOT_IMPLEMENTED, INVALID_S
 use Rattle.jdwp_value.specs.declared.tag.Tag.{Tag}
 use Rattle.jdwp_value.specs.declared.value.Value.{Value}
 use Rattle.jdwp_value.specs.declared.value.Value.TheVariants as value
+use Rattle.jdwp_value.specs.Locations.{type_tag_byte}
 use Rattle.jdwp_value.specs.Values.{is_object}
 use Rattle.jdwp_value.specs.Regions.{region_of}
 use Rattle.jdwp_layout.specs.declared.answer.Answer.{Answer}
 use Rattle.jdwp_layout.specs.declared.answer.Answer.TheVariants.{Data, Error}
+use Rattle.jdwp_layout.specs.CommandNumbers.{OBJECT_TYPE, GET_FIELDS, DISABLE_COLLECTION, ENABLE_COLLECTION, IS_COLLECTED, STRING_VALUE, ARRAY_LENGTH, GET_ELEMENTS, GROUP_NAME, GROUP_PARENT, GROUP_CHILDREN}
 use Rattle.jdwp_layout.specs.Meanings.{ScalarMeaning, Byte, Boolean, Int, Text, Object, ReferenceType, DatumMeaning, One, Many, Elements}
 use Rattle.jdwp_script.specs.declared.script.FieldValue.{FieldValue}
 use Rattle.jdwp_script.specs.declared.step.Literal.{Literal}
@@ -18,7 +20,7 @@ use Rattle.jdwp_script_machine.specs.LookUps.{with_id}
 use Rattle.jdwp_script_machine.specs.States.{ThreadNow, State, is_living}
 use Rattle.jdwp_script_machine.specs.Sites.{class_in, thread_in, tagged}
 use Rattle.jdwp_script_machine.specs.Requests.{Asks, alone, found_or, of_object, of_group, of_entries, of_part}
-use Rattle.jdwp_script_machine.specs.ClassAnswers.{type_byte, group_entry, groups_below, answer_entries, field_values}
+use Rattle.jdwp_script_machine.specs.ClassAnswers.{group_entry, groups_below, answer_entries, field_values}
 
 -- ---- ObjectReference
 
@@ -31,7 +33,7 @@ abbrev pub held_value : ObjectPart → ℕ → Option Literal
 held_value o field = held_by (with_id (λ (x : FieldValue). x.field.0) field o.fields)
 
 abbrev pub type_answer : ClassPart → Answer
-type_answer c = Data (One (Byte (type_byte c.tag)) ∷ One (ReferenceType c.id) ∷ [])
+type_answer c = Data (One (Byte (type_tag_byte c.tag)) ∷ One (ReferenceType c.id) ∷ [])
 
 abbrev pub object_type_answer : ScriptPart → ObjectPart → Asks
 object_type_answer script o = alone (found_or INVALID_CLASS type_answer (class_in script o.class))
@@ -48,11 +50,11 @@ collected_answer o = alone (Data (One (Boolean false) ∷ []))
 
 abbrev pub object_answer : State → ℕ → Asks
 object_answer s number content =
-    if number == 1 then of_object s.script (object_type_answer s.script) content else (
-    if number == 2 then of_object s.script held_answer content else (
-    if number == 7 then of_object s.script collection_answer content else (
-    if number == 8 then of_object s.script collection_answer content else (
-    if number == 9 then of_object s.script collected_answer content else
+    if number == OBJECT_TYPE.number then of_object s.script (object_type_answer s.script) content else (
+    if number == GET_FIELDS.number then of_object s.script held_answer content else (
+    if number == DISABLE_COLLECTION.number then of_object s.script collection_answer content else (
+    if number == ENABLE_COLLECTION.number then of_object s.script collection_answer content else (
+    if number == IS_COLLECTED.number then of_object s.script collected_answer content else
     Error NOT_IMPLEMENTED))))
 
 -- ---- StringReference
@@ -65,7 +67,7 @@ string_value_answer o = alone (found_or INVALID_STRING text_answer o.text)
 
 abbrev pub string_answer : State → ℕ → Asks
 string_answer s number content =
-    if number == 1 then of_object s.script string_value_answer content else
+    if number == STRING_VALUE.number then of_object s.script string_value_answer content else
     Error NOT_IMPLEMENTED
 
 -- ---- ArrayReference
@@ -96,8 +98,8 @@ elements_answer script o content = found_or INVALID_ARRAY (elements_asked script
 
 abbrev pub array_answer : State → ℕ → Asks
 array_answer s number content =
-    if number == 1 then of_object s.script array_length_answer content else (
-    if number == 2 then of_object s.script (elements_answer s.script) content else
+    if number == ARRAY_LENGTH.number then of_object s.script array_length_answer content else (
+    if number == GET_ELEMENTS.number then of_object s.script (elements_answer s.script) content else
     Error NOT_IMPLEMENTED)
 
 -- ---- ThreadGroupReference
@@ -130,7 +132,7 @@ children_answer s g = alone (Data (Many (map thread_entry (threads_below s g.id)
 
 abbrev pub group_answer : State → ℕ → Asks
 group_answer s number content =
-    if number == 1 then of_group s.script group_name_answer content else (
-    if number == 2 then of_group s.script parent_answer content else (
-    if number == 3 then of_group s.script (children_answer s) content else
+    if number == GROUP_NAME.number then of_group s.script group_name_answer content else (
+    if number == GROUP_PARENT.number then of_group s.script parent_answer content else (
+    if number == GROUP_CHILDREN.number then of_group s.script (children_answer s) content else
     Error NOT_IMPLEMENTED))

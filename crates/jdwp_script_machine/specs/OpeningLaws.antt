@@ -1,6 +1,6 @@
 -- Proofs that the machine of a script that passes no limit, has no id twice and none that is too wide begins in a sound
 -- state.
-use Rattle.std.proofs.Common.{◌≡◌, ℕ, suc, ◌+◌, ◌^◌, ◌<◌, ◌≤◌, ◌==◌, ◌||◌, ◌&&◌, Bool, true, false, not, cond, nat_lt, nat_le, if◌then◌else◌, List, [], ◌∷◌, ◌++◌, map, length, refl, sym, ◌∙◌, ap, arith, Option, Some, None, ◌⊎◌, inl, inr}
+use Rattle.std.proofs.Common.{◌≡◌, ℕ, suc, ◌^◌, ◌≤◌, ◌==◌, ◌||◌, ◌&&◌, Bool, true, false, not, nat_lt, nat_le, if◌then◌else◌, List, [], ◌∷◌, ◌++◌, map, length, refl, sym, ◌∙◌, ap, arith, Option, Some, None}
 use Rattle.std.proofs.lemmas.Bool.{ltb-false, false≢true}
 use Rattle.std.proofs.lemmas.List.{length-map}
 use Rattle.std.specs.List.{list_any, AllByRecursion, IsDistinct}
@@ -11,15 +11,15 @@ use Rattle.jdwp_value.specs.Values.{value_refusal, is_object}
 use Rattle.jdwp_script.specs.declared.script.FieldValue.{FieldValue}
 use Rattle.jdwp_script.specs.declared.step.SlotValue.{SlotValue}
 use Rattle.jdwp_script.specs.declared.step.Literal.{Literal}
-use Rattle.jdwp_script.specs.Literals.{literal_value, value_of_bits}
-use Rattle.jdwp_script.specs.Parts.{GroupPart, FieldPart, SlotPart, MethodPart, ClassPart, ElementsPart, ObjectPart, CallPart, StepPart, Call, Go, Return, Throwing, Prepare, Start, ThreadPart, ScriptPart}
+use Rattle.jdwp_script.specs.Literals.{value_of_bits}
+use Rattle.jdwp_script.specs.Parts.{GroupPart, FieldPart, SlotPart, MethodPart, ClassPart, ElementsPart, ObjectPart, StepPart, Call, Go, Return, Throwing, Prepare, Start, ThreadPart, ScriptPart}
 use Rattle.jdwp_script.specs.Limits.{over, is_long, if_there, is_in, field_passes, slot_passes, method_passes, class_passes, elements_pass, object_passes, step_passes, is_deep, thread_passes, living, passes_limit}
 use Rattle.jdwp_script.specs.Twice.{group_ids, object_ids, shared_ids, is_twice, class_ids, method_ids, field_ids, frame_ids, has_id_twice}
 use Rattle.jdwp_script.specs.Twice as twice
-use Rattle.jdwp_script.specs.TooWide.{is_wide, literal_wide, group_wide, field_wide, method_wide, class_wide, field_value_wide, elements_wide, object_wide, slot_value_wide, place_wide, step_wide, thread_wide, is_no_width, has_wide_id}
+use Rattle.jdwp_script.specs.TooWide.{is_wide, literal_wide, group_wide, field_wide, method_wide, class_wide, field_value_wide, elements_wide, object_wide, slot_value_wide, step_wide, thread_wide, is_no_width, has_wide_id}
 use Rattle.jdwp_script_machine.specs.LookUps.{put_in, rising}
-use Rattle.jdwp_script_machine.specs.States.{ThreadNow, class_arranged, arranged, opening_thread, opening_of, opening}
-use Rattle.jdwp_script_machine.specs.Sound.{IsShort, Fits, ValueFits, IfThere, FieldIsSound, SlotIsSound, MethodIsSound, ClassIsSound, ElementsAreSound, ObjectIsSound, GroupIsSound, CallIsSound, StepIsSound, ThreadIsSound, ScriptIsSound, ThreadNowIsSound, thread_ids, IsSound}
+use Rattle.jdwp_script_machine.specs.States.{class_arranged, arranged, opening_thread, opening_of, opening}
+use Rattle.jdwp_script_machine.specs.Sound.{IsShort, Fits, ValueFits, IfThere, FieldIsSound, SlotIsSound, MethodIsSound, ClassIsSound, ElementsAreSound, ObjectIsSound, GroupIsSound, StepIsSound, ThreadIsSound, ScriptIsSound, ThreadNowIsSound, thread_ids, IsSound}
 use Rattle.jdwp_script_machine.specs.StateLaws.{eqb_swap}
 
 -- ---- words

@@ -15,12 +15,16 @@ use Rattle.jdwp_layout.specs.declared.answer.Answer.TheVariants.{Data, Error}
 use Rattle.jdwp_layout.specs.declared.item.Field.TheVariants as field
 use Rattle.jdwp_layout.specs.Shapes.{Fields}
 use Rattle.jdwp_layout.specs.Writes.{entry_refusal}
+use Rattle.jdwp_layout.specs.CommandNumbers.{LOCATION_ONLY}
 use Rattle.jdwp_layout.specs.Meanings.{ScalarMeaning, Byte, Int, Object, Text, Located, Tagged, DatumMeaning, One, Many}
+use Rattle.jdwp_event.specs.declared.kind.EventKind.TheVariants as event
+use Rattle.jdwp_event.specs.Composites.{POLICY_NONE}
+use Rattle.jdwp_event.specs.EventKinds.{kind_byte}
 use Rattle.jdwp_script.specs.Parts.{MethodPart, ClassPart, ThreadPart, ScriptPart}
 use Rattle.jdwp_script_machine.specs.States.{SlotNow, FrameNow, State}
 use Rattle.jdwp_script_machine.specs.Sites.{class_in, method_in, tagged, site_in, found_location}
 use Rattle.jdwp_script_machine.specs.SlotWrites.{slot_value}
-use Rattle.jdwp_script_machine.specs.ThreadAnswers.{frames_at, thread_name_answer, thread_group_answer, frame_entry, frames_listed, frames_answer, frame_count_answer, thread_answer_by, entry_has_slot, entry_suits, with_entry, entry_slot, slot_entries, slots_asked, slots_answer, this_answer, stack_frame_answer_by, index_answer, location_in_class, location_answer, BREAKPOINT, NO_SUSPENSION, LOCATION_ONLY, set_answer}
+use Rattle.jdwp_script_machine.specs.ThreadAnswers.{frames_at, thread_name_answer, thread_group_answer, frame_entry, frames_listed, frames_answer, frame_count_answer, thread_answer_by, entry_has_slot, entry_suits, with_entry, entry_slot, slot_entries, slots_asked, slots_answer, this_answer, stack_frame_answer_by, index_answer, location_in_class, location_answer, set_answer}
 use Rattle.jdwp_script_machine.specs.Sound.{IsShort, MethodIsSound, ClassIsSound, ThreadIsSound, ScriptIsSound, SlotNowIsSound, FrameIsSound, IsSound}
 use Rattle.jdwp_script_machine.specs.SoundLaws.{all_found, zero_fits}
 use Rattle.jdwp_script_machine.specs.FitLaws.{short_text, entries_fit, counted_fits}
@@ -163,5 +167,5 @@ set_when s p false = no_command s 15 1
 
 pub set_answered : (s : State) (content : List DatumMeaning) → Good s 15 1 (set_answer s.script content)
 set_answered s (One (Byte kind) ∷ One (Byte policy) ∷ Many ((Byte modifier ∷ Located location ∷ []) ∷ []) ∷ []) =
-    set_when s location ((kind == BREAKPOINT) && ((policy == NO_SUSPENSION) && (modifier == LOCATION_ONLY)))
+    set_when s location ((kind == kind_byte event.Breakpoint) && ((policy == POLICY_NONE) && (modifier == LOCATION_ONLY)))
 set_answered s content = no_command s 15 1

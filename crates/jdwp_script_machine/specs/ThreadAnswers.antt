@@ -10,7 +10,11 @@ use Rattle.jdwp_value.specs.declared.value.Value.{Value}
 use Rattle.jdwp_value.specs.Tags.{tag_of_byte}
 use Rattle.jdwp_layout.specs.declared.answer.Answer.{Answer}
 use Rattle.jdwp_layout.specs.declared.answer.Answer.TheVariants.{Data, Error}
+use Rattle.jdwp_layout.specs.CommandNumbers.{THREAD_NAME, THREAD_GROUP, FRAMES, FRAME_COUNT, GET_SLOTS, THIS_OBJECT, LOCATION_ONLY}
 use Rattle.jdwp_layout.specs.Meanings.{ScalarMeaning, Byte, Int, Text, Object, Frame, Located, Valued, Tagged, One, Many}
+use Rattle.jdwp_event.specs.declared.kind.EventKind.TheVariants as event
+use Rattle.jdwp_event.specs.Composites.{POLICY_NONE}
+use Rattle.jdwp_event.specs.EventKinds.{kind_byte}
 use Rattle.jdwp_script.specs.Parts.{ClassPart, MethodPart, ThreadPart, ScriptPart}
 use Rattle.jdwp_script_machine.specs.States.{SlotNow, FrameNow, ThreadNow, State, thread_at}
 use Rattle.jdwp_script_machine.specs.Sites.{class_in, method_in, tagged, frame_location}
@@ -44,10 +48,10 @@ frame_count_answer fs = alone (Data (One (Int (pos (length fs))) ∷ []))
 
 abbrev pub thread_answer_by : ScriptPart → (ℕ → Option (List FrameNow)) → ℕ → Asks
 thread_answer_by script frames number content =
-    if number == 1 then of_thread script thread_name_answer content else (
-    if number == 5 then of_thread script thread_group_answer content else (
-    if number == 6 then of_frames frames (frames_answer script) content else (
-    if number == 7 then of_frames frames frame_count_answer content else
+    if number == THREAD_NAME.number then of_thread script thread_name_answer content else (
+    if number == THREAD_GROUP.number then of_thread script thread_group_answer content else (
+    if number == FRAMES.number then of_frames frames (frames_answer script) content else (
+    if number == FRAME_COUNT.number then of_frames frames frame_count_answer content else
     Error NOT_IMPLEMENTED)))
 
 -- ---- StackFrame
@@ -94,8 +98,8 @@ this_answer script f = alone (Data (One (Tagged (tagged script f.this)) ∷ []))
 
 abbrev pub stack_frame_answer_by : ScriptPart → (ℕ → Option (List FrameNow)) → ℕ → Asks
 stack_frame_answer_by script frames number content =
-    if number == 1 then of_frame frames slots_answer content else (
-    if number == 3 then of_frame frames (this_answer script) content else
+    if number == GET_SLOTS.number then of_frame frames slots_answer content else (
+    if number == THIS_OBJECT.number then of_frame frames (this_answer script) content else
     Error NOT_IMPLEMENTED)
 
 -- ---- the test of a location
@@ -106,24 +110,14 @@ index_answer index m = if nat_lt m.last index then Error INVALID_LOCATION else D
 abbrev pub location_in_class : ℕ → ℕ → ClassPart → Answer
 location_in_class method index c = found_or INVALID_METHODID (index_answer index) (method_in c method)
 
--- the numbers of a kind of event, a suspend policy and a kind of modifier
-abbrev pub BREAKPOINT : ℕ
-BREAKPOINT = 2
-
-abbrev pub NO_SUSPENSION : ℕ
-NO_SUSPENSION = 0
-
-abbrev pub LOCATION_ONLY : ℕ
-LOCATION_ONLY = 7
-
 -- the null location is none, a class and a method of it have to be there, and the index may not be above the last one
 abbrev pub location_answer : ScriptPart → Location → Answer
 location_answer script Null = Error INVALID_LOCATION
 location_answer script (At tag class method index) = found_or INVALID_CLASS (location_in_class method.0 index) (class_in script class.0)
 
--- A Set of a breakpoint (kind 2), policy NONE (0), with one modifier, LocationOnly (7), asks whether its location is one.
+-- A Set of a breakpoint, policy NONE, with one modifier, LocationOnly, asks whether its location is one.
 -- Other requests are not the machine's.
 abbrev pub set_answer : ScriptPart → Asks
 set_answer script (One (Byte kind) ∷ One (Byte policy) ∷ Many ((Byte modifier ∷ Located location ∷ []) ∷ []) ∷ []) =
-    if (kind == BREAKPOINT) && ((policy == NO_SUSPENSION) && (modifier == LOCATION_ONLY)) then location_answer script location else Error NOT_IMPLEMENTED
+    if (kind == kind_byte event.Breakpoint) && ((policy == POLICY_NONE) && (modifier == LOCATION_ONLY)) then location_answer script location else Error NOT_IMPLEMENTED
 set_answer script content = Error NOT_IMPLEMENTED

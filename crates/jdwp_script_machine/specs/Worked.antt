@@ -1,6 +1,6 @@
 -- A worked machine: two threads, of which the first calls a method, moves in it and returns, and the second has no step.
-use Rattle.std.specs.Prelude.{◌≡◌, ℕ, ℤ, zero, suc, pos, negsuc, List, [], ◌∷◌, codes, Option, Some, None}
-use Rattle.jdwp_wire.specs.ErrorCodes.{INVALID_CLASS, INVALID_METHODID, INVALID_LOCATION, INVALID_FRAMEID, TYPE_MISMATCH, INVALID_SLOT, INVALID_OBJECT, INVALID_INDEX, INVALID_LENGTH, NOT_IMPLEMENTED, ILLEGAL_ARGUMENT}
+use Rattle.std.specs.Prelude.{◌≡◌, ℕ, ℤ, zero, suc, pos, negsuc, List, [], ◌∷◌, codes, Some}
+use Rattle.jdwp_wire.specs.ErrorCodes.{INVALID_CLASS, INVALID_METHODID, INVALID_LOCATION, INVALID_FRAMEID, TYPE_MISMATCH, INVALID_SLOT, INVALID_INDEX, INVALID_LENGTH, NOT_IMPLEMENTED}
 use Rattle.jdwp_value.specs.declared.location.Location.{Location}
 use Rattle.jdwp_value.specs.declared.location.Location.TheVariants.{Null, At}
 use Rattle.jdwp_value.specs.declared.location.TypeTag.TheVariants.{Class}
@@ -11,10 +11,10 @@ use Rattle.jdwp_value.specs.declared.value.Value.TheVariants as value
 use Rattle.jdwp_value.specs.Values.{object_id}
 use Rattle.jdwp_layout.specs.declared.answer.Answer.{Answer}
 use Rattle.jdwp_layout.specs.declared.answer.Answer.TheVariants.{Data, Error}
-use Rattle.jdwp_layout.specs.Meanings.{ScalarMeaning, Byte, Boolean, Int, Long, Text, Object, ReferenceType, Method, Frame, Located, Valued, Tagged, DatumMeaning, One, Many}
+use Rattle.jdwp_layout.specs.Meanings.{Byte, Int, Long, Text, Object, ReferenceType, Method, Frame, Located, Valued, Tagged, One, Many}
 use Rattle.jdwp_event.specs.Occurrences.{HappeningMeaning, OccurrenceMeaning, PlaceMeaning, Moved, Entered, Left, RanOut}
 use Rattle.jdwp_script.specs.declared.step.SlotValue.{SlotValue}
-use Rattle.jdwp_script.specs.Parts.{GroupPart, MethodPart, ClassPart, StepPart, Call, Go, Return, ThreadPart, ScriptPart}
+use Rattle.jdwp_script.specs.Parts.{MethodPart, ClassPart, StepPart, Call, Go, Return}
 use Rattle.jdwp_script_machine.specs.States.{State, opening}
 use Rattle.jdwp_script_machine.specs.Steps.{next, stepped, ended}
 use Rattle.jdwp_script_machine.specs.SlotWrites.{write_answer, written}

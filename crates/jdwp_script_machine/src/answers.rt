@@ -1,6 +1,7 @@
 //! What commands are answered.
 ghost use Rattle.std.specs.Prelude.{◌≡◌, IfOk};
 ghost use Rattle.jdwp_layout.specs.Meanings.{meanings};
+ghost use Rattle.jdwp_layout.specs.CommandNumbers.{EVENT_REQUEST};
 ghost use Rattle.jdwp_script_machine.specs.StateMeanings.{state_now};
 ghost use Rattle.jdwp_script_machine.specs.Answers.{answer_at};
 
@@ -14,6 +15,11 @@ use crate::method_answers::method_answer;
 use crate::object_answers::{object_answer, string_answer};
 use crate::state::MachineState;
 use crate::thread_answers::thread_answer;
+use jdwp_layout::numbers::{
+    ARRAY_REFERENCE, CLASS_TYPE, EVENT_REQUEST, METHOD, OBJECT_REFERENCE, REFERENCE_TYPE,
+    SET_REQUEST, STACK_FRAME, STRING_REFERENCE, THREAD_GROUP_REFERENCE, THREAD_REFERENCE,
+    VIRTUAL_MACHINE,
+};
 use jdwp_layout::{Answer, Datum};
 use jdwp_wire::{ErrorCode, NoMemory};
 use std::alloc::Global;
@@ -32,17 +38,17 @@ pub(crate) fn answer_at(
     ensures { IfOk result (λ a. a ≡ answer_at (state_now state.now) set number (meanings content.now)) }
 {
     match set {
-        1 => virtual_machine_answer(alloc, state, number, content),
-        2 => reference_type_answer(alloc, state, number, content),
-        3 => class_type_answer(alloc, state, number, content),
-        6 => method_answer(alloc, state, number, content),
-        9 => object_answer(alloc, state, number, content),
-        10 => string_answer(alloc, state, number, content),
-        11 => thread_answer(alloc, state, number, content),
-        12 => group_answer(alloc, state, number, content),
-        13 => array_answer(alloc, state, number, content),
-        15 => event_request_answer(alloc, state, number, content),
-        16 => stack_frame_answer(alloc, state, number, content),
+        VIRTUAL_MACHINE => virtual_machine_answer(alloc, state, number, content),
+        REFERENCE_TYPE => reference_type_answer(alloc, state, number, content),
+        CLASS_TYPE => class_type_answer(alloc, state, number, content),
+        METHOD => method_answer(alloc, state, number, content),
+        OBJECT_REFERENCE => object_answer(alloc, state, number, content),
+        STRING_REFERENCE => string_answer(alloc, state, number, content),
+        THREAD_REFERENCE => thread_answer(alloc, state, number, content),
+        THREAD_GROUP_REFERENCE => group_answer(alloc, state, number, content),
+        ARRAY_REFERENCE => array_answer(alloc, state, number, content),
+        EVENT_REQUEST => event_request_answer(alloc, state, number, content),
+        STACK_FRAME => stack_frame_answer(alloc, state, number, content),
         _ => Ok(Answer::Error(ErrorCode::NOT_IMPLEMENTED)),
     }
 }
@@ -54,9 +60,9 @@ fn event_request_answer(
     number: u8,
     content: &[Datum],
 ) -> Result<Answer, NoMemory>
-    ensures { IfOk result (λ a. a ≡ answer_at (state_now state.now) 15 number (meanings content.now)) }
+    ensures { IfOk result (λ a. a ≡ answer_at (state_now state.now) EVENT_REQUEST number (meanings content.now)) }
 {
-    if number == 1 {
+    if number == SET_REQUEST {
         set_answer(alloc, &state.script, content)
     } else {
         Ok(Answer::Error(ErrorCode::NOT_IMPLEMENTED))

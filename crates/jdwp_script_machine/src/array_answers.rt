@@ -11,6 +11,7 @@ use crate::replies::{of_datum, of_scalar};
 use crate::requests::{part_of, range_of};
 use crate::sites::tagged;
 use crate::state::MachineState;
+use jdwp_layout::numbers::{ARRAY_LENGTH, GET_ELEMENTS};
 use jdwp_layout::{Answer, Datum, Scalar};
 use jdwp_script::{Elements, Literal, Object, Script};
 use jdwp_value::{ArrayRegion, ObjectId, Tag, Value};
@@ -31,8 +32,8 @@ pub(crate) fn array_answer(
     ensures { IfOk result (λ a. a ≡ array_answer (state_now state.now) number (meanings content.now)) }
 {
     match number {
-        1 => array_length(alloc, &state.script, content),
-        2 => array_values(alloc, &state.script, content),
+        ARRAY_LENGTH => array_length(alloc, &state.script, content),
+        GET_ELEMENTS => array_values(alloc, &state.script, content),
         _ => Ok(Answer::Error(ErrorCode::NOT_IMPLEMENTED)),
     }
 }

@@ -12,9 +12,12 @@ ghost use Rattle.jdwp_script_machine.specs.ClassQuestions.{class_answer_to, by_c
 use crate::class_entries::{GenericMemberEntry, InterfaceEntry, MemberEntry};
 use crate::class_look_ups::{class_by_id, is_prepared, status};
 use crate::entries::{Tell, empty_text, pair, single, single_text, text};
-use crate::numbers::{class_type, reference_type};
 use crate::state::MachineState;
 use crate::static_values::static_values;
+use jdwp_layout::numbers::{
+    CLASS_LOADER, CLASS_STATUS, FIELDS, FIELDS_WITH_GENERIC, GET_STATICS, INTERFACES, METHODS,
+    METHODS_WITH_GENERIC, MODIFIERS, SIGNATURE, SIGNATURE_WITH_GENERIC, SOURCE_FILE, SUPERCLASS,
+};
 use jdwp_layout::{Answer, Datum, Scalar};
 use jdwp_script::{Class, Script};
 use jdwp_value::ObjectId;
@@ -58,24 +61,20 @@ pub fn reference_type_answer(
     ensures memory { IfErr result (λ _. IsTrue (takes_memory (reference_type_answer (state_now state.now) number (meanings content.now)))) }
 {
     match number {
-        reference_type::SIGNATURE => of_class(alloc, state, ClassQuestion::Signature, content),
-        reference_type::CLASS_LOADER => of_class(alloc, state, ClassQuestion::Loader, content),
-        reference_type::MODIFIERS => of_class(alloc, state, ClassQuestion::Modifiers, content),
-        reference_type::FIELDS => of_prepared(alloc, state, ClassQuestion::Fields, content),
-        reference_type::METHODS => of_prepared(alloc, state, ClassQuestion::Methods, content),
-        reference_type::GET_VALUES => values_of_class(alloc, state, content),
-        reference_type::SOURCE_FILE => of_class(alloc, state, ClassQuestion::SourceFile, content),
-        reference_type::STATUS => of_class(alloc, state, ClassQuestion::Status, content),
-        reference_type::INTERFACES => {
-            of_prepared(alloc, state, ClassQuestion::Interfaces, content)
-        }
-        reference_type::SIGNATURE_WITH_GENERIC => {
+        SIGNATURE => of_class(alloc, state, ClassQuestion::Signature, content),
+        CLASS_LOADER => of_class(alloc, state, ClassQuestion::Loader, content),
+        MODIFIERS => of_class(alloc, state, ClassQuestion::Modifiers, content),
+        FIELDS => of_prepared(alloc, state, ClassQuestion::Fields, content),
+        METHODS => of_prepared(alloc, state, ClassQuestion::Methods, content),
+        GET_STATICS => values_of_class(alloc, state, content),
+        SOURCE_FILE => of_class(alloc, state, ClassQuestion::SourceFile, content),
+        CLASS_STATUS => of_class(alloc, state, ClassQuestion::Status, content),
+        INTERFACES => { of_prepared(alloc, state, ClassQuestion::Interfaces, content) }
+        SIGNATURE_WITH_GENERIC => {
             of_class(alloc, state, ClassQuestion::GenericSignature, content)
         }
-        reference_type::FIELDS_WITH_GENERIC => {
-            of_prepared(alloc, state, ClassQuestion::GenericFields, content)
-        }
-        reference_type::METHODS_WITH_GENERIC => {
+        FIELDS_WITH_GENERIC => { of_prepared(alloc, state, ClassQuestion::GenericFields, content) }
+        METHODS_WITH_GENERIC => {
             of_prepared(alloc, state, ClassQuestion::GenericMethods, content)
         }
         _ => Ok(Answer::Error(ErrorCode::NOT_IMPLEMENTED)),
@@ -99,7 +98,7 @@ pub fn class_type_answer(
     ensures memory { IfErr result (λ _. IsTrue (takes_memory (class_type_answer (state_now state.now) number (meanings content.now)))) }
 {
     match number {
-        class_type::SUPERCLASS => of_class(alloc, state, ClassQuestion::Superclass, content),
+        SUPERCLASS => of_class(alloc, state, ClassQuestion::Superclass, content),
         _ => Ok(Answer::Error(ErrorCode::NOT_IMPLEMENTED)),
     }
 }

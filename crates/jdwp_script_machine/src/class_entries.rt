@@ -5,27 +5,16 @@ ghost use Rattle.jdwp_script.specs.Meanings.{class_part, field_part, method_part
 ghost use Rattle.jdwp_script.specs.declared.script.Line as declared;
 ghost use Rattle.jdwp_layout.specs.Meanings.{scalar_meaning};
 ghost use Rattle.jdwp_script_machine.specs.StateMeanings.{state_now};
-ghost use Rattle.jdwp_script_machine.specs.ClassAnswers.{type_byte, class_entry_signed, class_entry_generic, field_entry, field_entry_generic, method_entry, method_entry_generic, interface_entry, index_long, line_entry, variable_entry, variable_entry_generic};
+ghost use Rattle.jdwp_script_machine.specs.ClassAnswers.{class_entry_signed, class_entry_generic, field_entry, field_entry_generic, method_entry, method_entry_generic, interface_entry, index_long, line_entry, variable_entry, variable_entry_generic};
 
 use crate::class_look_ups::status;
 use crate::entries::{Tell, empty_text, text};
 use crate::state::MachineState;
 use jdwp_layout::Scalar;
 use jdwp_script::{Class, Field, Line, Method, Slot};
-use jdwp_value::{ReferenceTypeId, TypeTag};
+use jdwp_value::ReferenceTypeId;
 use jdwp_wire::NoMemory;
 use std::alloc::Global;
-
-/// The byte of a type tag (JDWP specification, "TypeTag Constants").
-pub(crate) fn byte_of_tag(tag: TypeTag) -> u8
-    ensures { result ≡ type_byte tag }
-{
-    match tag {
-        TypeTag::Class => 1,
-        TypeTag::Interface => 2,
-        TypeTag::Array => 3,
-    }
-}
 
 /// A class in AllClasses.
 #[derive(Clone, Copy)]
@@ -42,7 +31,7 @@ impl<'a> Tell<Class> for ClassEntry<'a> {
 
     fn tell(&self, alloc: Global, class: &Class) -> Result<Vec<Scalar>, NoMemory> {
         let mut entry = Vec::with_capacity(alloc, 4)?;
-        entry.push(Scalar::Byte(byte_of_tag(class.tag)))?;
+        entry.push(Scalar::Byte(class.tag.byte()))?;
         entry.push(Scalar::ReferenceTypeId(class.id))?;
         entry.push(text(alloc, &class.signature)?)?;
         entry.push(Scalar::Int(status(self.state, class.id)))?;
@@ -65,7 +54,7 @@ impl<'a> Tell<Class> for GenericClassEntry<'a> {
 
     fn tell(&self, alloc: Global, class: &Class) -> Result<Vec<Scalar>, NoMemory> {
         let mut entry = Vec::with_capacity(alloc, 5)?;
-        entry.push(Scalar::Byte(byte_of_tag(class.tag)))?;
+        entry.push(Scalar::Byte(class.tag.byte()))?;
         entry.push(Scalar::ReferenceTypeId(class.id))?;
         entry.push(text(alloc, &class.signature)?)?;
         entry.push(empty_text(alloc))?;

@@ -14,6 +14,7 @@ use crate::requests::entries_of;
 use crate::sites::tagged;
 use crate::slots::{has_slot, slot_value, suits};
 use crate::state::{FrameState, MachineState, SlotState};
+use jdwp_layout::numbers::{GET_SLOTS, THIS_OBJECT};
 use jdwp_layout::{Answer, Datum, Scalar};
 use jdwp_script::Script;
 use jdwp_value::{Tag, Value};
@@ -34,8 +35,8 @@ pub(crate) fn stack_frame_answer(
     ensures { IfOk result (λ a. a ≡ stack_frame_answer_by (script_part state.now.script) (frames_at (state_now state.now)) number (meanings content.now)) }
 {
     match number {
-        1 => slot_values(alloc, state, content),
-        3 => this_object(alloc, state, content),
+        GET_SLOTS => slot_values(alloc, state, content),
+        THIS_OBJECT => this_object(alloc, state, content),
         _ => Ok(Answer::Error(ErrorCode::NOT_IMPLEMENTED)),
     }
 }

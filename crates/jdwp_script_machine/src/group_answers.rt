@@ -12,6 +12,7 @@ ghost use Rattle.jdwp_script_machine.specs.Lives.{lives_in};
 use crate::places::{group_of, thread_of};
 use crate::replies::{object_entry, of_pair, of_scalar};
 use crate::state::{Life, MachineState, ThreadState};
+use jdwp_layout::numbers::{GROUP_CHILDREN, GROUP_NAME, GROUP_PARENT};
 use jdwp_layout::{Answer, Datum, Scalar};
 use jdwp_script::{Group, Script};
 use jdwp_value::ObjectId;
@@ -32,9 +33,9 @@ pub(crate) fn group_answer(
     ensures { IfOk result (λ a. a ≡ group_answer (state_now state.now) number (meanings content.now)) }
 {
     match number {
-        1 => name(alloc, &state.script, content),
-        2 => parent(alloc, &state.script, content),
-        3 => children(alloc, state, content),
+        GROUP_NAME => name(alloc, &state.script, content),
+        GROUP_PARENT => parent(alloc, &state.script, content),
+        GROUP_CHILDREN => children(alloc, state, content),
         _ => Ok(Answer::Error(ErrorCode::NOT_IMPLEMENTED)),
     }
 }

@@ -18,7 +18,6 @@ mod look_ups;
 mod machine;
 mod machine_answers;
 mod method_answers;
-mod numbers;
 mod object_answers;
 mod opening;
 mod places;

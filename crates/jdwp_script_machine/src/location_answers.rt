@@ -6,13 +6,15 @@ ghost use Rattle.jdwp_script_machine.specs.ThreadAnswers.{index_answer, location
 
 use crate::places::{class_of, method_of};
 use crate::replies::of_scalar;
+use jdwp_event::{EventKind, Policy};
+use jdwp_layout::numbers::LOCATION_ONLY;
 use jdwp_layout::{Answer, Datum, Scalar};
 use jdwp_script::{Class, Method, Script};
 use jdwp_value::{Location, MethodId};
 use jdwp_wire::{ErrorCode, NoMemory};
 use std::alloc::Global;
 
-/// What is answered to a Set of a breakpoint (2) with the policy NONE (0) and one modifier, LocationOnly (7): 0 where the
+/// What is answered to a Set of a breakpoint with the policy NONE and one modifier, LocationOnly: 0 where the
 /// location is one of the script, and else why it is none. Other requests are not implemented here.
 ///
 /// # Errors
@@ -62,7 +64,10 @@ fn by_modifier(
 {
     match modifier {
         [Scalar::Byte(modifier), Scalar::Location(location)] => {
-            if kind == 2 && policy == 0 && *modifier == 7 {
+            if kind == EventKind::Breakpoint.byte()
+                && policy == Policy::None.byte()
+                && *modifier == LOCATION_ONLY
+            {
                 return location_answer(alloc, script, *location);
             }
             Ok(Answer::Error(ErrorCode::NOT_IMPLEMENTED))

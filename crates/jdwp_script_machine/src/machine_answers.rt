@@ -8,11 +8,14 @@ ghost use Rattle.jdwp_script_machine.specs.StateMeanings.{state_now};
 ghost use Rattle.jdwp_script_machine.specs.ClassAnswers.{version, class_entry, classes_by_signature, group_entry, groups_below, incapable, disposed, virtual_machine_answer};
 ghost use Rattle.jdwp_script_machine.specs.ClassQuestions.{machine_answer_to, takes_memory};
 
-use crate::class_entries::{ClassEntry, GenericClassEntry, byte_of_tag};
+use crate::class_entries::{ClassEntry, GenericClassEntry};
 use crate::class_look_ups::status;
 use crate::entries::{Tell, single, text};
-use crate::numbers::virtual_machine;
 use crate::state::MachineState;
+use jdwp_layout::numbers::{
+    ALL_CLASSES, ALL_CLASSES_WITH_GENERIC, CAPABILITIES, CAPABILITIES_NEW, CLASSES_BY_SIGNATURE,
+    DISPOSE_OBJECTS, TOP_LEVEL_THREAD_GROUPS, VERSION,
+};
 use jdwp_layout::{Answer, Data, Datum, Scalar};
 use jdwp_script::{Class, Script};
 use jdwp_value::ObjectId;
@@ -48,22 +51,16 @@ pub fn virtual_machine_answer(
     ensures memory { IfErr result (λ _. IsTrue (takes_memory (virtual_machine_answer (state_now state.now) number (meanings content.now)))) }
 {
     match number {
-        virtual_machine::VERSION => of_machine(alloc, state, MachineQuestion::Version, content),
-        virtual_machine::CLASSES_BY_SIGNATURE => classes_by_signature(alloc, state, content),
-        virtual_machine::ALL_CLASSES => {
-            of_machine(alloc, state, MachineQuestion::AllClasses, content)
-        }
-        virtual_machine::TOP_LEVEL_THREAD_GROUPS => {
+        VERSION => of_machine(alloc, state, MachineQuestion::Version, content),
+        CLASSES_BY_SIGNATURE => classes_by_signature(alloc, state, content),
+        ALL_CLASSES => { of_machine(alloc, state, MachineQuestion::AllClasses, content) }
+        TOP_LEVEL_THREAD_GROUPS => {
             of_machine(alloc, state, MachineQuestion::TopLevelThreadGroups, content)
         }
-        virtual_machine::CAPABILITIES => {
-            of_machine(alloc, state, MachineQuestion::Capabilities, content)
-        }
-        virtual_machine::DISPOSE_OBJECTS => Ok(disposed(alloc, content)),
-        virtual_machine::CAPABILITIES_NEW => {
-            of_machine(alloc, state, MachineQuestion::CapabilitiesNew, content)
-        }
-        virtual_machine::ALL_CLASSES_WITH_GENERIC => {
+        CAPABILITIES => { of_machine(alloc, state, MachineQuestion::Capabilities, content) }
+        DISPOSE_OBJECTS => Ok(disposed(alloc, content)),
+        CAPABILITIES_NEW => { of_machine(alloc, state, MachineQuestion::CapabilitiesNew, content) }
+        ALL_CLASSES_WITH_GENERIC => {
             of_machine(
                 alloc,
                 state,
@@ -197,7 +194,7 @@ fn class_entry(alloc: Global, state: &MachineState, class: &Class) -> Result<Vec
     ensures { IfOk result (λ e. scalar_meanings e.items ≡ class_entry (state_now state.now) (class_part class.now)) }
 {
     let mut entry = Vec::with_capacity(alloc, 3)?;
-    entry.push(Scalar::Byte(byte_of_tag(class.tag)))?;
+    entry.push(Scalar::Byte(class.tag.byte()))?;
     entry.push(Scalar::ReferenceTypeId(class.id))?;
     entry.push(Scalar::Int(status(state, class.id)))?;
     Ok(entry)

@@ -12,8 +12,8 @@ use crate::class_answers::class_asked;
 use crate::class_entries::{GenericVariableEntry, LineEntry, VariableEntry, long_of_index};
 use crate::class_look_ups::method_by_id;
 use crate::entries::{Tell, pair, single};
-use crate::numbers::method;
 use crate::state::MachineState;
+use jdwp_layout::numbers::{IS_OBSOLETE, LINE_TABLE, VARIABLE_TABLE, VARIABLE_TABLE_WITH_GENERIC};
 use jdwp_layout::{Answer, Data, Datum, Scalar};
 use jdwp_script::{Class, Method, Script};
 use jdwp_wire::{ErrorCode, NoMemory};
@@ -48,10 +48,10 @@ pub fn method_answer(
 {
     let script = &state.script;
     match number {
-        method::LINE_TABLE => of_method(alloc, script, MethodQuestion::LineTable, content),
-        method::VARIABLE_TABLE => of_method(alloc, script, MethodQuestion::VariableTable, content),
-        method::IS_OBSOLETE => of_method(alloc, script, MethodQuestion::IsObsolete, content),
-        method::VARIABLE_TABLE_WITH_GENERIC => {
+        LINE_TABLE => of_method(alloc, script, MethodQuestion::LineTable, content),
+        VARIABLE_TABLE => of_method(alloc, script, MethodQuestion::VariableTable, content),
+        IS_OBSOLETE => of_method(alloc, script, MethodQuestion::IsObsolete, content),
+        VARIABLE_TABLE_WITH_GENERIC => {
             of_method(alloc, script, MethodQuestion::GenericVariableTable, content)
         }
         _ => Ok(Answer::Error(ErrorCode::NOT_IMPLEMENTED)),

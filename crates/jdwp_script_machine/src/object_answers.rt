@@ -3,7 +3,7 @@ ghost use Rattle.std.specs.Prelude.{◌≡◌, IfOk};
 ghost use Rattle.jdwp_layout.specs.Meanings.{meanings, scalar_meanings, entry_meanings};
 ghost use Rattle.jdwp_script.specs.Meanings.{class_part, object_part, script_part};
 ghost use Rattle.jdwp_script_machine.specs.StateMeanings.{state_now};
-ghost use Rattle.jdwp_script_machine.specs.ClassAnswers.{type_byte, answer_entries, entry_value, field_values};
+ghost use Rattle.jdwp_script_machine.specs.ClassAnswers.{answer_entries, entry_value, field_values};
 ghost use Rattle.jdwp_script_machine.specs.Requests.{of_object};
 ghost use Rattle.jdwp_script_machine.specs.ObjectAnswers.{held_value, type_answer, object_type_answer, held_answer, collection_answer, collected_answer, object_answer, string_value_answer, string_answer};
 
@@ -11,9 +11,12 @@ use crate::places::{class_of, object_of};
 use crate::replies::{done, of_entries, of_pair, of_scalar, value_entry};
 use crate::requests::entries_of;
 use crate::state::MachineState;
+use jdwp_layout::numbers::{
+    DISABLE_COLLECTION, ENABLE_COLLECTION, GET_FIELDS, IS_COLLECTED, OBJECT_TYPE, STRING_VALUE,
+};
 use jdwp_layout::{Answer, Datum, Scalar};
 use jdwp_script::{Class, Literal, Object, Script};
-use jdwp_value::{FieldId, TypeTag};
+use jdwp_value::FieldId;
 use jdwp_wire::{ErrorCode, NoMemory};
 use std::alloc::Global;
 
@@ -32,10 +35,10 @@ pub(crate) fn object_answer(
 {
     let script = &state.script;
     match number {
-        1 => object_type(alloc, script, content),
-        2 => held_values(alloc, script, content),
-        7 | 8 => Ok(collection(alloc, script, content)),
-        9 => collected(alloc, script, content),
+        OBJECT_TYPE => object_type(alloc, script, content),
+        GET_FIELDS => held_values(alloc, script, content),
+        DISABLE_COLLECTION | ENABLE_COLLECTION => Ok(collection(alloc, script, content)),
+        IS_COLLECTED => collected(alloc, script, content),
         _ => Ok(Answer::Error(ErrorCode::NOT_IMPLEMENTED)),
     }
 }
@@ -75,19 +78,9 @@ fn type_of(
 fn class_told(alloc: Global, class: &Class) -> Result<Answer, NoMemory>
     ensures { IfOk result (λ a. a ≡ type_answer (class_part class.now)) }
 {
-    let tag = Scalar::Byte(byte_of_tag(class.tag));
+    let tag = Scalar::Byte(class.tag.byte());
     let id = Scalar::ReferenceTypeId(class.id);
     of_pair(alloc, Datum::One(tag), Datum::One(id))
-}
-
-fn byte_of_tag(tag: TypeTag) -> u8
-    ensures { result ≡ type_byte tag }
-{
-    match tag {
-        TypeTag::Class => 1,
-        TypeTag::Interface => 2,
-        TypeTag::Array => 3,
-    }
 }
 
 /// The values of fields of an object.
@@ -207,7 +200,7 @@ pub(crate) fn string_answer(
     ensures { IfOk result (λ a. a ≡ string_answer (state_now state.now) number (meanings content.now)) }
 {
     match number {
-        1 => string_value(alloc, &state.script, content),
+        STRING_VALUE => string_value(alloc, &state.script, content),
         _ => Ok(Answer::Error(ErrorCode::NOT_IMPLEMENTED)),
     }
 }

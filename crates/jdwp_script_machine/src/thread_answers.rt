@@ -11,6 +11,7 @@ use crate::replies::{of_entries, of_scalar};
 use crate::requests::{part_of, range_of};
 use crate::sites::location;
 use crate::state::{FrameState, MachineState};
+use jdwp_layout::numbers::{FRAME_COUNT, FRAMES, THREAD_GROUP, THREAD_NAME};
 use jdwp_layout::{Answer, Datum, Scalar};
 use jdwp_script::{Script, Thread};
 use jdwp_wire::{ErrorCode, NoMemory};
@@ -30,10 +31,10 @@ pub(crate) fn thread_answer(
     ensures { IfOk result (λ a. a ≡ thread_answer_by (script_part state.now.script) (frames_at (state_now state.now)) number (meanings content.now)) }
 {
     match number {
-        1 => name(alloc, &state.script, content),
-        5 => group(alloc, &state.script, content),
-        6 => frames(alloc, state, content),
-        7 => frame_count(alloc, state, content),
+        THREAD_NAME => name(alloc, &state.script, content),
+        THREAD_GROUP => group(alloc, &state.script, content),
+        FRAMES => frames(alloc, state, content),
+        FRAME_COUNT => frame_count(alloc, state, content),
         _ => Ok(Answer::Error(ErrorCode::NOT_IMPLEMENTED)),
     }
 }

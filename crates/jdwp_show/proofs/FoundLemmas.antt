@@ -15,6 +15,7 @@ use Rattle.jdwp_wire.specs.Frames as frames
 use Rattle.jdwp_wire.specs.FrameLaws.{front_only, whole_is}
 use Rattle.jdwp_wire.specs.Handshake.{HandshakeFrontOf, handshake_front}
 use Rattle.jdwp_wire.specs.HandshakeLaws.{handshake_front_is, handshake_front_only}
+use Rattle.jdwp_wire.specs.Limits.{standard_limits}
 use Rattle.jdwp_wire.specs.Streams.{Handshake, Packet, NextMessage, Whole, More, Fault, next_message, after_handshake, at_handshake}
 use Rattle.jdwp_show.specs.Found.{Found, Sent, Faulty, found_at, found_within, found_after}
 
@@ -25,10 +26,10 @@ IsThere bytes (Whole m n) = (0 < n) × (n ≤ length bytes)
 IsThere bytes More = Unit {0}
 IsThere bytes (Fault f) = Unit {0}
 
-there_front : (bytes : List ℕ) (f : Front) → front 65536 bytes ≡ f → IsThere bytes (after_handshake f)
+there_front : (bytes : List ℕ) (f : Front) → front standard_limits.packet bytes ≡ f → IsThere bytes (after_handshake f)
 unfolding IsThere
 there_front bytes (frames.Whole h body n) e =
-    let w = whole_is 65536 bytes h body n e in
+    let w = whole_is standard_limits.packet bytes h body n e in
     let low = w.low in
     let there = w.there in
     (omega arith, there)
@@ -41,8 +42,8 @@ there_hello bytes hello.Whole (rest, e) = (omega arith, rw e (omega (arith, leng
 there_hello bytes hello.More h = tt
 there_hello bytes (hello.Fault f) h = tt
 
-there : (handshaken : Bool) (bytes : List ℕ) → IsThere bytes (next_message 65536 handshaken bytes)
-there true bytes = there_front bytes (front 65536 bytes) refl
+there : (handshaken : Bool) (bytes : List ℕ) → IsThere bytes (next_message standard_limits.packet handshaken bytes)
+there true bytes = there_front bytes (front standard_limits.packet bytes) refl
 there false bytes = there_hello bytes (handshake_front bytes) (handshake_front_is bytes)
 
 nothing : (n : ℕ) (handshaken : Bool) → found_within n handshaken [] ≡ []
@@ -68,14 +69,14 @@ enough (suc n) zero handshaken bytes p q =
     let e : bytes ≡ [] = nil_from_length bytes (omega arith) in
     rw e (nothing (suc n) handshaken)
 enough (suc n) (suc k) handshaken bytes p q =
-    found_same bytes (next_message 65536 handshaken bytes) (found_within n true) (found_within k true) (λ rest less. enough n k true rest (omega arith) (omega arith)) (there handshaken bytes)
+    found_same bytes (next_message standard_limits.packet handshaken bytes) (found_within n true) (found_within k true) (λ rest less. enough n k true rest (omega arith) (omega arith)) (there handshaken bytes)
 
 -- one step
-pub found_step : (handshaken : Bool) (bytes : List ℕ) → found_after handshaken bytes ≡ found_at (next_message 65536 handshaken bytes) bytes (found_after true)
+pub found_step : (handshaken : Bool) (bytes : List ℕ) → found_after handshaken bytes ≡ found_at (next_message standard_limits.packet handshaken bytes) bytes (found_after true)
 unfolding found_after found_within
 found_step handshaken bytes =
     enough (length bytes) (suc (length bytes)) handshaken bytes (omega arith) (omega arith)
-    ∙ found_same bytes (next_message 65536 handshaken bytes) (found_within (length bytes) true) (found_after true) (λ rest less. enough (length bytes) (length rest) true rest (omega arith) (omega arith)) (there handshaken bytes)
+    ∙ found_same bytes (next_message standard_limits.packet handshaken bytes) (found_within (length bytes) true) (found_after true) (λ rest less. enough (length bytes) (length rest) true rest (omega arith) (omega arith)) (there handshaken bytes)
 
 -- ---- what is there stays there when more bytes come
 
@@ -90,7 +91,7 @@ length_stays bytes more le = big_from-append 4 bytes more le
 flags_stay : (bytes more : List ℕ) → 9 ≤ length bytes → flags_field (bytes ++ more) ≡ flags_field bytes
 flags_stay bytes more le = get_or_append_left bytes more 0 8 (omega arith)
 
-front_stays : (bytes more : List ℕ) (f : Front) → IsSettled f → FrontOf 65536 bytes f → FrontOf 65536 (bytes ++ more) f
+front_stays : (bytes more : List ℕ) (f : Front) → IsSettled f → FrontOf standard_limits.packet bytes f → FrontOf standard_limits.packet (bytes ++ more) f
 front_stays bytes more (frames.Whole h body n) s (packet, size, (rest, e)) = (packet, size, (rest ++ more, ap (λ (x : List ℕ). x ++ more) e ∙ append_assoc (packet_bytes h body) rest more))
 front_stays bytes more frames.More s h = absurd s
 front_stays bytes more (frames.Fault ShortLength) s (le, low) = (omega (arith, length-append bytes more), rw (length_stays bytes more le) low)
@@ -121,21 +122,21 @@ hello_stays bytes more (hello.Fault ShortLength) s h = absurd h
 hello_stays bytes more (hello.Fault TooLong) s h = absurd h
 hello_stays bytes more (hello.Fault BadFlags) s h = absurd h
 
-at_front : (bytes : List ℕ) (f : Front) → FrontOf 65536 bytes f → found_after true bytes ≡ found_at (after_handshake f) bytes (found_after true)
-at_front bytes f h = found_step true bytes ∙ ap (λ (x : Front). found_at (after_handshake x) bytes (found_after true)) (front_only 65536 bytes f (lit< tt) h)
+at_front : (bytes : List ℕ) (f : Front) → FrontOf standard_limits.packet bytes f → found_after true bytes ≡ found_at (after_handshake f) bytes (found_after true)
+at_front bytes f h = found_step true bytes ∙ ap (λ (x : Front). found_at (after_handshake x) bytes (found_after true)) (front_only standard_limits.packet bytes f (lit< tt) h)
 
 at_hello : (bytes : List ℕ) (f : NextHello) → HandshakeFrontOf bytes f → found_after false bytes ≡ found_at (at_handshake f) bytes (found_after true)
 at_hello bytes f h = found_step false bytes ∙ ap (λ (x : NextHello). found_at (at_handshake x) bytes (found_after true)) (handshake_front_only bytes f h)
 
 -- ---- the five cases of a step
 
-pub more_packets : (bytes : List ℕ) → FrontOf 65536 bytes frames.More → found_after true (bytes ++ []) ≡ []
+pub more_packets : (bytes : List ℕ) → FrontOf standard_limits.packet bytes frames.More → found_after true (bytes ++ []) ≡ []
 more_packets bytes h = ap (λ (x : List ℕ). found_after true x) (append-nil bytes) ∙ at_front bytes frames.More h
 
 pub more_handshake : (bytes : List ℕ) → HandshakeFrontOf bytes hello.More → found_after false (bytes ++ []) ≡ []
 more_handshake bytes h = ap (λ (x : List ℕ). found_after false x) (append-nil bytes) ∙ at_hello bytes hello.More h
 
-pub faulty_packets : (bytes more : List ℕ) (f : FrameFault) → FrontOf 65536 bytes (frames.Fault f) → found_after true (bytes ++ more) ≡ Faulty f ∷ []
+pub faulty_packets : (bytes more : List ℕ) (f : FrameFault) → FrontOf standard_limits.packet bytes (frames.Fault f) → found_after true (bytes ++ more) ≡ Faulty f ∷ []
 faulty_packets bytes more f h = at_front (bytes ++ more) (frames.Fault f) (front_stays bytes more (frames.Fault f) tt h)
 
 pub faulty_handshake : (bytes more : List ℕ) (f : FrameFault) → HandshakeFrontOf bytes (hello.Fault f) → found_after false (bytes ++ more) ≡ Faulty f ∷ []
@@ -147,7 +148,7 @@ left_less bytes taken come used le =
     let e : come - taken ≡ used + (come - (taken + used)) = omega arith in
     ap (λ (n : ℕ). drop used (take n (drop taken bytes))) e ∙ drop-take used (come - (taken + used)) (drop taken bytes) ∙ ap (λ (x : List ℕ). take (come - (taken + used)) x) (drop-drop used taken bytes)
 
-pub whole_packet : (bytes more : List ℕ) (taken come used : ℕ) (h : Header) (body : List ℕ) → taken + used ≤ come → come ≤ length bytes → FrontOf 65536 (take (come - taken) (drop taken bytes)) (frames.Whole h body used)
+pub whole_packet : (bytes more : List ℕ) (taken come used : ℕ) (h : Header) (body : List ℕ) → taken + used ≤ come → come ≤ length bytes → FrontOf standard_limits.packet (take (come - taken) (drop taken bytes)) (frames.Whole h body used)
     → found_after true (take (come - taken) (drop taken bytes) ++ more) ≡ Sent (Packet h body) ∷ found_after true (take (come - (taken + used)) (drop (taken + used) bytes) ++ more)
 whole_packet bytes more taken come used h body le within front =
     let left = take (come - taken) (drop taken bytes) in
@@ -167,9 +168,9 @@ whole_handshake bytes more taken come le within front =
 pub hello_length : (bytes : List ℕ) → HandshakeFrontOf bytes hello.Whole → 14 ≤ length bytes
 hello_length bytes (rest, e) = rw e (omega (arith, length-append HANDSHAKE rest))
 
-pub packet_length : (bytes : List ℕ) (h : Header) (body : List ℕ) (used : ℕ) → FrontOf 65536 bytes (frames.Whole h body used) → (0 < used) × (used ≤ length bytes) × (used ≡ 11 + length body)
+pub packet_length : (bytes : List ℕ) (h : Header) (body : List ℕ) (used : ℕ) → FrontOf standard_limits.packet bytes (frames.Whole h body used) → (0 < used) × (used ≤ length bytes) × (used ≡ 11 + length body)
 packet_length bytes h body used f =
-    let w = whole_is 65536 bytes h body used (front_only 65536 bytes (frames.Whole h body used) (lit< tt) f) in
+    let w = whole_is standard_limits.packet bytes h body used (front_only standard_limits.packet bytes (frames.Whole h body used) (lit< tt) f) in
     let low = w.low in
     let there = w.there in
     (omega arith, there, omega (arith, ap (λ (x : List ℕ). length x) w.body-is, length-take (used - 11) (drop 11 bytes), length-drop 11 bytes))
@@ -224,7 +225,7 @@ flagged_stays n bytes more low false true e f =
       | inr h ↦ inr (rw (e, long_stays 9 bytes more e, f, g) h)
     ]
 
-measured_stays : (n : ℕ) (bytes more : List ℕ) (low high : Bool) → ltb n 11 ≡ low → ltb 65536 n ≡ high → Stays (measured 65536 n) bytes more
+measured_stays : (n : ℕ) (bytes more : List ℕ) (low high : Bool) → ltb n 11 ≡ low → ltb standard_limits.packet n ≡ high → Stays (measured standard_limits.packet n) bytes more
 measured_stays n bytes more true high e f = inr (rw e refl)
 measured_stays n bytes more false true e f = inr (rw (e, f) refl)
 measured_stays n bytes more false false e f =
@@ -233,16 +234,16 @@ measured_stays n bytes more false false e f =
       | inr h ↦ inr (rw (e, f) h)
     ]
 
-packet_stays : (bytes more : List ℕ) (short : Bool) → ltb (length bytes) 4 ≡ short → Stays (front 65536) bytes more
+packet_stays : (bytes more : List ℕ) (short : Bool) → ltb (length bytes) 4 ≡ short → Stays (front standard_limits.packet) bytes more
 packet_stays bytes more true e = inl (rw e refl)
 packet_stays bytes more false e =
     let there : 4 ≤ length bytes = ltb-false _ _ e in
     let n = length_field bytes in
-    let now : front 65536 bytes ≡ measured 65536 n bytes = rw e refl in
-    let then : front 65536 (bytes ++ more) ≡ measured 65536 n (bytes ++ more) =
-    ap (λ (b : Bool). cond b frames.More (measured 65536 (length_field (bytes ++ more)) (bytes ++ more))) (long_stays 4 bytes more e)
-    ∙ ap (λ (k : ℕ). measured 65536 k (bytes ++ more)) (length_stays bytes more there) in
-    elim (measured_stays n bytes more (ltb n 11) (ltb 65536 n) refl refl) [
+    let now : front standard_limits.packet bytes ≡ measured standard_limits.packet n bytes = rw e refl in
+    let then : front standard_limits.packet (bytes ++ more) ≡ measured standard_limits.packet n (bytes ++ more) =
+    ap (λ (b : Bool). cond b frames.More (measured standard_limits.packet (length_field (bytes ++ more)) (bytes ++ more))) (long_stays 4 bytes more e)
+    ∙ ap (λ (k : ℕ). measured standard_limits.packet k (bytes ++ more)) (length_stays bytes more there) in
+    elim (measured_stays n bytes more (ltb n 11) (ltb standard_limits.packet n) refl refl) [
       | inl h ↦ inl (now ∙ h)
       | inr h ↦ inr (then ∙ h ∙ sym now)
     ]
@@ -252,7 +253,7 @@ handshake_stays bytes more hello.More h = inl refl
 handshake_stays bytes more hello.Whole h = inr (handshake_front_only (bytes ++ more) hello.Whole (hello_stays bytes more hello.Whole tt h))
 handshake_stays bytes more (hello.Fault f) h = inr (handshake_front_only (bytes ++ more) (hello.Fault f) (hello_stays bytes more (hello.Fault f) tt h))
 
-next_stays : (handshaken : Bool) (bytes more : List ℕ) → (next_message 65536 handshaken bytes ≡ More) ⊎ (next_message 65536 handshaken (bytes ++ more) ≡ next_message 65536 handshaken bytes)
+next_stays : (handshaken : Bool) (bytes more : List ℕ) → (next_message standard_limits.packet handshaken bytes ≡ More) ⊎ (next_message standard_limits.packet handshaken (bytes ++ more) ≡ next_message standard_limits.packet handshaken bytes)
 next_stays true bytes more = elim (packet_stays bytes more (ltb (length bytes) 4) refl) [
   | inl h ↦ inl (ap after_handshake h)
   | inr h ↦ inr (ap after_handshake h)
@@ -266,11 +267,11 @@ next_stays false bytes more = elim (handshake_stays bytes more (handshake_front 
 abbrev Grows : Bool → List ℕ → List ℕ → Type 0
 Grows handshaken bytes more = (things : List Found) × (found_after handshaken (bytes ++ more) ≡ found_after handshaken bytes ++ things)
 
-grows_more : (handshaken : Bool) (bytes more : List ℕ) → next_message 65536 handshaken bytes ≡ More → Grows handshaken bytes more
+grows_more : (handshaken : Bool) (bytes more : List ℕ) → next_message standard_limits.packet handshaken bytes ≡ More → Grows handshaken bytes more
 grows_more handshaken bytes more e =
     (found_after handshaken (bytes ++ more), ap (λ (x : List Found). x ++ found_after handshaken (bytes ++ more)) (sym (found_step handshaken bytes ∙ ap (λ (x : NextMessage). found_at x bytes (found_after true)) e)))
 
-grows_at : (handshaken : Bool) (bytes more : List ℕ) (m : NextMessage) → next_message 65536 handshaken bytes ≡ m → next_message 65536 handshaken (bytes ++ more) ≡ m → IsThere bytes m
+grows_at : (handshaken : Bool) (bytes more : List ℕ) (m : NextMessage) → next_message standard_limits.packet handshaken bytes ≡ m → next_message standard_limits.packet handshaken (bytes ++ more) ≡ m → IsThere bytes m
     → ((rest : List ℕ) → length rest < length bytes → Grows true rest more) → Grows handshaken bytes more
 unfolding IsThere
 grows_at handshaken bytes more (Whole m used) e f (some, within) later =
@@ -289,7 +290,7 @@ grows_at handshaken bytes more (Fault fault) e f h later =
 grows_step : (handshaken : Bool) (bytes more : List ℕ) → ((rest : List ℕ) → length rest < length bytes → Grows true rest more) → Grows handshaken bytes more
 grows_step handshaken bytes more later = elim (next_stays handshaken bytes more) [
   | inl e ↦ grows_more handshaken bytes more e
-  | inr e ↦ grows_at handshaken bytes more (next_message 65536 handshaken bytes) refl e (there handshaken bytes) later
+  | inr e ↦ grows_at handshaken bytes more (next_message standard_limits.packet handshaken bytes) refl e (there handshaken bytes) later
 ]
 
 grows_within : (n : ℕ) (handshaken : Bool) (bytes more : List ℕ) → length bytes ≤ n → Grows handshaken bytes more

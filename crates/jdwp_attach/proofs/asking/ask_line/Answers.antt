@@ -1,4 +1,4 @@
-use Rattle.std.proofs.Common.{◌≡◌, ◌∙◌, ◌++◌, ◌∷◌, ◌+◌, List, [], inl, sym, ap, refl, arith}
+use Rattle.std.proofs.Common.{◌∙◌, ◌++◌, ◌∷◌, [], inl, sym, ap, refl, arith}
 use Rattle.jdwp_debugger.specs.Debuggers.{Debugger, lost}
 use Rattle.jdwp_engine.specs.declared.ended.Ended.TheVariants as ended
 use Rattle.jdwp_attach.proofs.Ending.{asked-in-order, loses-ends, moved-ends, refused-ends, unread-ends}
@@ -8,13 +8,13 @@ use Rattle.jdwp_attach.proofs.asking.ask_line.Goals as goal
 
 pub returns-in-Err-BadData-clause-ends : goal.returns-in-Err-BadData-clause-ends
 returns-in-Err-BadData-clause-ends g c = λ out line asks-it.
-    unread-ends line (g.P.Pipe.story c.args.pipe.now) out c.args.debugger.now c.lose.new.self c.args.run.now.left c.args.run.now.left c.args.set c.args.number c.args.bytes.now c.in-Some.sizes asks-it
-    (sym c.sizes.ensures ∙ c.in-Some.is) (c.in-Err-BadData.ensures.err c.in-Err-BadData.field-0-is) c.lose.ensures.lost
+    unread-ends line (g.P.Pipe.story c.args.pipe.now) out c.args.debugger.now c.end_refused.new.debugger c.args.run.now.left c.args.run.now.left c.args.set c.args.number c.args.bytes.now c.in-Some.sizes c.end_refused.result asks-it
+    (sym c.sizes.ensures ∙ c.in-Some.is) (c.in-Err-BadData.ensures.err c.in-Err-BadData.field-0-is) c.end_refused.ensures
 
 pub returns-in-Err-clause-ends : goal.returns-in-Err-clause-ends
 returns-in-Err-clause-ends g c = λ out line asks-it.
-    refused-ends line (g.P.Pipe.story c.args.pipe.now) out c.args.debugger.now c.ask.new.self c.end_refused.new.debugger c.args.run.now.left c.args.run.now.left c.args.set c.args.number c.args.bytes.now c.in-Some.sizes c.in-Ok.command
-    c.in-Err.refused c.end_refused.result asks-it (sym c.sizes.ensures ∙ c.in-Some.is) c.in-Ok.ensures.ok c.in-Err.ensures.err c.end_refused.ensures
+    refused-ends line (g.P.Pipe.story c.args.pipe.now) out c.args.debugger.now c.ask.new.self c.end_refused-in-Err.new.debugger c.args.run.now.left c.args.run.now.left c.args.set c.args.number c.args.bytes.now c.in-Some.sizes c.in-Ok.command
+    c.in-Err.refused c.end_refused-in-Err.result asks-it (sym c.sizes.ensures ∙ c.in-Some.is) c.in-Ok.ensures.ok c.in-Err.ensures.err c.end_refused-in-Err.ensures
 
 pub returns-then-not-write_out-clause-ends : goal.returns-then-not-write_out-clause-ends
 returns-then-not-write_out-clause-ends g c = λ out line asks-it done rest base k.
@@ -26,10 +26,10 @@ returns-then-not-write_out-clause-ends g c = λ out line asks-it done rest base 
     let fails = c.if-not-write_out.ensures.fails refl in
     let in-order = asked-in-order done rest line base s out old mid c.args.run.now.left c.args.set c.args.number c.args.bytes.now c.in-Some.sizes c.in-Ok.command asks-it
     (sym c.sizes.ensures ∙ c.in-Some.is) c.in-Ok.ensures.ok asked k in
-    loses-ends (done ++ line ∷ rest) done base s out old mid c.args.run.now.left c.args.run.now.left c.args.run.now.left 0 1 s' out c.lose-then-not-write_out.new.self k (asked-moves c.in-Ok.command old mid asked) in-order
+    loses-ends (done ++ line ∷ rest) done base s out old mid c.args.run.now.left c.args.run.now.left c.args.run.now.left 0 1 s' out c.lose.new.self k (asked-moves c.in-Ok.command old mid asked) in-order
     (record {
       taken = fails.0;
-      is = c.lose-then-not-write_out.ensures.lost ∙ ap (λ (x : Debugger). lost x) fails.1;
+      is = c.lose.ensures.lost ∙ ap (λ (x : Debugger). lost x) fails.1;
       left = refl;
       fails = inl (fails.2, fails.3, refl);
     })

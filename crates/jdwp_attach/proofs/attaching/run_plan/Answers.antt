@@ -1,5 +1,5 @@
-use Rattle.std.proofs.Common.{◌≡◌, ◌≤◌, [], length, arith}
-use Rattle.jdwp_attach.specs.Runs.{IsGoing, Standing, at}
+use Rattle.std.proofs.Common.{[], arith}
+use Rattle.jdwp_attach.specs.Runs.{at}
 use Rattle.jdwp_attach.proofs.Ending.{line-ends}
 use Rattle.jdwp_attach.proofs.Moves.{all-go, begins-all, begins-none, if-err, line-goes-on, on-ok}
 use Rattle.jdwp_attach.proofs.attaching.run_plan.Goals as goal

@@ -1,4 +1,3 @@
-use Rattle.std.proofs.Common.{◌≡◌}
 use Rattle.jdwp_attach.specs.Runs.{at}
 use Rattle.jdwp_attach.proofs.Ending.{finished-ends}
 use Rattle.jdwp_attach.proofs.attaching.run_session.Goals as goal

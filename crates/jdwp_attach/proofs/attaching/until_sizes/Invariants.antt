@@ -1,4 +1,3 @@
-use Rattle.std.proofs.Common.{◌≡◌}
 use Rattle.jdwp_attach.specs.Runs.{GoesOn, IsReady, at}
 use Rattle.jdwp_attach.proofs.attaching.until_sizes.Given as goal
 

@@ -1,4 +1,4 @@
-use Rattle.std.proofs.Common.{◌≡◌, ◌-◌, ◌+◌, refl, arith}
+use Rattle.std.proofs.Common.{◌-◌, refl, arith}
 use Rattle.jdwp_end.specs.Ends.{front_of}
 use Rattle.jdwp_attach.proofs.Ending.{limit-ends, moved-ends, read-ends, turn-ends}
 use Rattle.jdwp_attach.proofs.Moves.{if-err, moved-goes, on-ok, read-goes, taken-ready}

@@ -1,6 +1,6 @@
-use Rattle.std.proofs.Common.{◌≡◌, ◌∙◌, sym, rules, Result, true, false}
+use Rattle.std.proofs.Common.{◌∙◌, sym, rules}
 use Rattle.jdwp_debugger.specs.declared.faults.DebuggerFault.TheVariants as code
-use Rattle.jdwp_debugger.specs.News.{Fails, Tells, answer_in, required, unless_bad}
+use Rattle.jdwp_debugger.specs.News.{Fails, answer_in, required, unless_bad}
 use Rattle.jdwp_debugger.proofs.NewsLemmas.{fails-unless_bad, refused-if_bad, read-if_good}
 use Rattle.jdwp_debugger.proofs.news.read_answer.Goals as goal
 

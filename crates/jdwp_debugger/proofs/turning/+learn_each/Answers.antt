@@ -1,4 +1,4 @@
-use Rattle.std.proofs.Common.{◌≡◌, ◌∙◌, ◌∷◌, List, false, ◌-◌, length, take, drop, sym, subst, rules}
+use Rattle.std.proofs.Common.{◌≡◌, ◌∙◌, ◌∷◌, List, false, ◌-◌, length, take, drop, sym, subst}
 use Rattle.std.specs.Prelude.{OnOk, IfErr}
 use Rattle.jdwp_layout.proofs.Progress.{rest_is}
 use Rattle.jdwp_event.specs.Composites.{CompositeMeaning}

@@ -1,4 +1,5 @@
 use Rattle.std.proofs.Common.{◌≡◌, ◌∙◌, ◌≤◌, ap, sym, rules, arith, length, true, List, ℕ}
+use Rattle.jdwp_wire.specs.Limits.{Limits, standard_limits}
 use Rattle.jdwp_end.specs.Ends.{is_open, with_enqueued}
 use Rattle.jdwp_debugger.specs.Asking.{command_bytes}
 use Rattle.jdwp_debugger.specs.Debuggers.{Debugger}
@@ -15,7 +16,8 @@ invariant_of-self-2 c =
     let asked : c.enqueue.new.self ≡ with_enqueued bytes s.end =
     c.enqueue.ensures ∙ ap (λ (b : List ℕ). with_enqueued b s.end) (c.deref-2.ensures.value ∙ leaves.bytes_are) in
     let opened : is_open s.end ≡ true = ap (λ (d : Debugger). is_open d.end) c.self.view_is ∙ asked-open c.args.self.now c.args.command leaves.unrefused in
-    let few : length c.push.new.self.items ≤ 64 = search (rules, arith) in
+    let most : c.args.self.now.end.limits.pending ≡ standard_limits.pending = ap (λ (d : Debugger). d.end.limits.pending) (sym c.self.view_is) ∙ ap (λ (l : Limits). l.pending) kept.limits in
+    let few : length c.push.new.self.items ≤ standard_limits.pending = search (rules, arith, most) in
     rw asked
     (record {
       limits = kept.limits;

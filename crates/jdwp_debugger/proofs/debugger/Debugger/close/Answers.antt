@@ -1,9 +1,10 @@
 use Rattle.std.proofs.Common.{◌≤◌, rules, arith, length}
+use Rattle.jdwp_mirror.specs.Faults.{PARKED_MOST}
 use Rattle.jdwp_debugger.proofs.DebuggerRuns.{ran-closed}
 use Rattle.jdwp_debugger.proofs.debugger.Debugger.close.Goals as goal
 
 pub invariant_of-self : goal.invariant_of-self
 invariant_of-self c =
     let kept = c.self.invariant in
-    let few_parked : length c.clear-2.new.self.items ≤ 4 = search (rules, arith) in
+    let few_parked : length c.clear-2.new.self.items ≤ PARKED_MOST = search (rules, arith) in
     rw c.close.ensures (record { limits = kept.limits; few = kept.few; few_parked = few_parked; begins = λ e. absurd cc; ran = ran-closed c.self.inside.end kept.ran })

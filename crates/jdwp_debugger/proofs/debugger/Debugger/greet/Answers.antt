@@ -1,4 +1,5 @@
 use Rattle.std.proofs.Common.{◌≡◌, ◌∙◌, ◌≤◌, [], ap, subst, sym, rules, arith, length}
+use Rattle.jdwp_wire.specs.Limits.{standard_limits}
 use Rattle.jdwp_wire.specs.Bytes.{IsBytes}
 use Rattle.jdwp_wire.specs.Frames.{header_bytes}
 use Rattle.jdwp_wire.specs.Streams.{Handshake, Whole}
@@ -18,7 +19,7 @@ invariant_of-self-2 c =
     let begins = kept.begins (handshake-phase s.end 14 front) in
     let taken : c.take_off.new.self ≡ with_handled Handshake 14 s.end = c.take_off.ensures Handshake front in
     let asked : c.enqueue.new.self ≡ with_enqueued (header_bytes (sizes_header s.next_id)) (with_handled Handshake 14 s.end) = search rules in
-    let few : length c.push.new.self.items ≤ 64 = search (rules, arith) in
+    let few : length c.push.new.self.items ≤ standard_limits.pending = search (rules, arith) in
     rw asked (record { limits = kept.limits; few = few; few_parked = kept.few_parked; begins = λ e. absurd cc; ran = ran-greeted s.end 14 s.next_id bytes front kept.ran })
 
 pub returns : goal.returns

@@ -1,4 +1,4 @@
-use Rattle.std.proofs.Common.{◌≡◌, ◌∙◌, ap, sym, subst, rules, Result, Ok}
+use Rattle.std.proofs.Common.{◌≡◌, sym, subst, rules, Result, Ok}
 use Rattle.jdwp_wire.specs.Widths.{Widths}
 use Rattle.jdwp_debugger.specs.declared.faults.DebuggerFault.{DebuggerFault}
 use Rattle.jdwp_debugger.specs.declared.faults.DebuggerFault.TheVariants as code

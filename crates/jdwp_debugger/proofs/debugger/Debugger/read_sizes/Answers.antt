@@ -1,7 +1,7 @@
-use Rattle.std.proofs.Common.{◌≡◌, ◌∙◌, ap, sym, subst, List, Option, rules}
+use Rattle.std.proofs.Common.{◌≡◌, ◌∙◌, ap, subst, List, Option, rules}
 use Rattle.jdwp_wire.specs.Widths.{Widths}
 use Rattle.jdwp_debugger.specs.Debuggers.{Debugger, Parked}
-use Rattle.jdwp_debugger.specs.News.{Fails, composites_in, sizes_say}
+use Rattle.jdwp_debugger.specs.News.{Fails, sizes_say}
 use Rattle.jdwp_mirror.specs.Widths.{widths_in}
 use Rattle.jdwp_debugger.proofs.NewsLemmas.{fails-waiting}
 use Rattle.jdwp_debugger.proofs.debugger.Debugger.read_sizes.Goals as goal

@@ -8,7 +8,7 @@ use Rattle.jdwp_mirror.specs.Faults.{is_bad_event}
 use Rattle.jdwp_mirror.specs.KnownThreads.{count_in}
 use Rattle.jdwp_mirror.specs.Messages.{Report}
 use Rattle.jdwp_mirror.specs.Mirror.{ends}
-use Rattle.jdwp_mirror.specs.Mirrors.{Mirror, Learned}
+use Rattle.jdwp_mirror.specs.Mirrors.{Learned}
 use Rattle.jdwp_debugger.proofs.debugger.Debugger.see.Goals as goal
 
 pub returns : goal.returns

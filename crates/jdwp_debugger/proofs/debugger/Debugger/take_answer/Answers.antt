@@ -1,4 +1,4 @@
-use Rattle.std.proofs.Common.{◌≡◌, ◌∙◌, ap, sym, subst, refl, rules, Bool, false, List, [], ◌∷◌, length, get_or, Some}
+use Rattle.std.proofs.Common.{◌≡◌, ◌∙◌, ap, sym, subst, refl, Bool, List, [], ◌∷◌, length, get_or, Some}
 use Rattle.std.specs.Prelude.{remove}
 use Rattle.std.proofs.lemmas.Option.{slice_get_read}
 use Rattle.jdwp_wire.specs.Streams.{Packet}
@@ -11,7 +11,7 @@ use Rattle.jdwp_debugger.specs.DebuggersKept.{view_of}
 use Rattle.jdwp_debugger.specs.DebuggerTurns.{closed_where, command_at, command_of, with_read}
 use Rattle.jdwp_mirror.specs.Messages.{Reply}
 use Rattle.jdwp_mirror.specs.Mirror.{ends}
-use Rattle.jdwp_mirror.specs.Mirrors.{Mirror, Learned}
+use Rattle.jdwp_mirror.specs.Mirrors.{Learned}
 use Rattle.jdwp_debugger.proofs.debugger.Debugger.take_answer.Goals as goal
 
 pub returns : goal.returns
