@@ -38,7 +38,7 @@ pub struct Known {
 }
 
 /// What becomes of a suspend count.
-#[derive(Clone, Copy, Debug, PartialEq, Eq)]
+#[derive(Clone, Copy)]
 pub(crate) enum Change {
     Keep,
     /// One more.
@@ -88,7 +88,7 @@ impl Change {
 }
 
 /// What a packet teaches of the threads that are known.
-#[derive(Clone, Copy, Debug, PartialEq, Eq)]
+#[derive(Clone, Copy)]
 pub(crate) struct Lesson {
     /// The thread that the packet is about, and shows alive.
     pub thread: Option<ObjectId>,

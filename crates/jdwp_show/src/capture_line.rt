@@ -8,14 +8,14 @@ use jdwp_wire::NoMemory;
 use std::alloc::Global;
 
 /// Which end sent the bytes of a line.
-#[derive(Clone, Copy, Debug, PartialEq, Eq)]
+#[derive(Clone, Copy)]
 pub(crate) enum Sender {
     Debugger,
     Target,
 }
 
 /// Which end sent a line, and how many bytes.
-#[derive(Clone, Copy, Debug)]
+#[derive(Clone, Copy)]
 pub(crate) struct LineLength {
     pub(crate) sender: Sender,
     pub(crate) length: usize,

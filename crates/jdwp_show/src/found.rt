@@ -5,7 +5,7 @@ use crate::capture_line::Sender;
 use jdwp_wire::{FrameFault, HANDSHAKE, Next, NextHello, PacketRef, next_hello, next_packet};
 
 /// A message of an end, or the frame fault behind its messages.
-#[derive(Clone, Copy, Debug)]
+#[derive(Clone, Copy)]
 pub(crate) enum FoundRef<'a> {
     Handshake,
     Packet(PacketRef<'a>),
@@ -13,7 +13,7 @@ pub(crate) enum FoundRef<'a> {
 }
 
 /// What was found, and where.
-#[derive(Clone, Copy, Debug)]
+#[derive(Clone, Copy)]
 pub(crate) struct ItemRef<'a> {
     /// The number, from 1, of the line in which its last byte stands.
     pub(crate) line: usize,

@@ -17,7 +17,7 @@ use jdwp_wire::{IdSizes, NoMemory};
 use std::alloc::Global;
 
 /// The first item that breaks a rule.
-#[derive(Clone, Copy, Debug)]
+#[derive(Clone, Copy)]
 pub(crate) struct Broken {
     /// The line in which it ends.
     pub(crate) line: usize,

@@ -8,7 +8,7 @@ use jdwp_wire::{NoMemory, PacketKind};
 use std::alloc::Global;
 
 /// A command of a command set.
-#[derive(Clone, Copy, Debug, PartialEq, Eq)]
+#[derive(Clone, Copy)]
 pub(crate) struct Command {
     pub(crate) set: u8,
     pub(crate) number: u8,
