@@ -1,6 +1,5 @@
 //! Verdicts on whole captures.
 use crate::asserts::expect_same;
-use crate::rows::row;
 use jdwp_show::{CaptureFault, Verdict, check};
 use jdwp_wire::{DataFault, FrameFault, NoMemory};
 use std::alloc::Global;
@@ -34,94 +33,100 @@ fn are_judged(
     Ok(())
 }
 
+/// Lines behind both handshakes, and how they are judged.
+static FAULTS: [(&str, (usize, u16, u16)); 11] = [
+    (
+        "> 0000000b00000001000108\n> 0000000b00000001000109\n",
+        (4, 53, 53),
+    ),
+    ("< 0000000b00000009800000\n", (3, 54, 54)),
+    ("> 0000000b00000001004064\n", (3, 56, 56)),
+    ("> 0000000b00000001800000\n", (3, 56, 56)),
+    ("< 0000000b00000001000101\n", (3, 56, 56)),
+    ("> 0000000a\n", (3, 52, 1)),
+    ("> 00010001", (3, 52, 2)),
+    ("< 0000000b0000000101", (3, 52, 3)),
+    ("> 0000000b0000000100010\n", (3, 51, 51)),
+    ("> 0000000a\n>\n", (4, 51, 51)),
+    ("> 0000000b000000010001", (0, 0, 0)),
+];
+
 #[test]
 fn faults_in_their_lines(rt: HostRuntime) -> Result<(), NoMemory> {
-    let rows: [(&str, (usize, u16, u16)); 11] = [
-        row((
-            "> 0000000b00000001000108\n> 0000000b00000001000109\n",
-            (4, 53, 53),
-        )),
-        row(("< 0000000b00000009800000\n", (3, 54, 54))),
-        row(("> 0000000b00000001004064\n", (3, 56, 56))),
-        row(("> 0000000b00000001800000\n", (3, 56, 56))),
-        row(("< 0000000b00000001000101\n", (3, 56, 56))),
-        row(("> 0000000a\n", (3, 52, 1))),
-        row(("> 00010001", (3, 52, 2))),
-        row(("< 0000000b0000000101", (3, 52, 3))),
-        row(("> 0000000b0000000100010\n", (3, 51, 51))),
-        row(("> 0000000a\n>\n", (4, 51, 51))),
-        row(("> 0000000b000000010001", (0, 0, 0))),
-    ];
-    are_judged(&rt, rt.alloc(), "", &rows)
+    are_judged(&rt, rt.alloc(), "", &FAULTS)
 }
+
+/// Lines behind the widths of ids, and how they are judged.
+static DATA: [(&str, (usize, u16, u16)); 9] = [
+    ("> 0000000c0000000200010800\n", (5, 55, 12)),
+    (
+        "> 0000000b00000002000108\n< 0000000c0000000280007100\n",
+        (6, 55, 55),
+    ),
+    ("> 0000000f00000007000102ffffffff\n", (5, 55, 14)),
+    // an unknown command, and one whose data no one reads
+    (
+        "> 0000000c0000000200016300\n< 0000000c0000000280000007\n",
+        (0, 0, 0),
+    ),
+    (
+        "> 0000000c0000000200010d00\n< 0000000c0000000280000007\n",
+        (0, 0, 0),
+    ),
+    // in one packet the end comes first, then the id, then the data
+    ("< 0000000c0000000280007100\n", (5, 54, 54)),
+    ("> 0000000c0000000200406400\n", (5, 56, 56)),
+    // an id is free again after its reply
+    (
+        "> 0000000b00000001000108\n< 0000000b00000001800000\n",
+        (0, 0, 0),
+    ),
+    // other widths in a later reply change nothing
+    (
+        "> 0000000b00000001000107\n< 0000001f000000018000000000000100000001000000010000000100000001\n> 0000001300000002000b0c0000000000000001\n",
+        (0, 0, 0),
+    ),
+];
 
 #[test]
 fn data_that_do_not_read(rt: HostRuntime) -> Result<(), NoMemory> {
-    let rows: [(&str, (usize, u16, u16)); 9] = [
-        row(("> 0000000c0000000200010800\n", (5, 55, 12))),
-        row((
-            "> 0000000b00000002000108\n< 0000000c0000000280007100\n",
-            (6, 55, 55),
-        )),
-        row(("> 0000000f00000007000102ffffffff\n", (5, 55, 14))),
-        // an unknown command, and one whose data no one reads
-        row((
-            "> 0000000c0000000200016300\n< 0000000c0000000280000007\n",
-            (0, 0, 0),
-        )),
-        row((
-            "> 0000000c0000000200010d00\n< 0000000c0000000280000007\n",
-            (0, 0, 0),
-        )),
-        // in one packet the end comes first, then the id, then the data
-        row(("< 0000000c0000000280007100\n", (5, 54, 54))),
-        row(("> 0000000c0000000200406400\n", (5, 56, 56))),
-        // an id is free again after its reply
-        row((
-            "> 0000000b00000001000108\n< 0000000b00000001800000\n",
-            (0, 0, 0),
-        )),
-        // other widths in a later reply change nothing
-        row((
-            "> 0000000b00000001000107\n< 0000001f000000018000000000000100000001000000010000000100000001\n> 0000001300000002000b0c0000000000000001\n",
-            (0, 0, 0),
-        )),
-    ];
-    are_judged(&rt, rt.alloc(), SIZES, &rows)
+    are_judged(&rt, rt.alloc(), SIZES, &DATA)
 }
+
+/// Lines behind both handshakes that tell widths of ids, and how they are judged.
+static WIDTHS: [(&str, (usize, u16, u16)); 6] = [
+    // objects of 2 bytes
+    (
+        "> 0000000b00000001000107\n< 0000001f000000018000000000000100000001000000020000000100000001\n> 0000000d00000002000b0c0001\n",
+        (0, 0, 0),
+    ),
+    (
+        "> 0000000b00000001000107\n< 0000001f000000018000000000000100000001000000020000000100000001\n> 0000001300000002000b0c0000000000000001\n",
+        (5, 55, 12),
+    ),
+    // told after the packet that needs them
+    (
+        "> 0000001300000002000b0c0000000000000001\n> 0000000b00000001000107\n< 0000001f000000018000000000000100000001000000020000000100000001\n",
+        (3, 55, 12),
+    ),
+    // never told: other data are not judged
+    (
+        "> 0000000d00000002000b0c0001\n< 0000000c0000000280000007\n",
+        (0, 0, 0),
+    ),
+    (
+        "> 0000000b00000001000107\n< 0000001f000000018000000000000900000001000000020000000100000001\n",
+        (4, 55, 16),
+    ),
+    (
+        "> 0000000b00000001000107\n< 0000000f0000000180000000000008\n",
+        (4, 55, 11),
+    ),
+];
 
 #[test]
 fn widths_of_ids(rt: HostRuntime) -> Result<(), NoMemory> {
-    let rows: [(&str, (usize, u16, u16)); 6] = [
-        // objects of 2 bytes
-        row((
-            "> 0000000b00000001000107\n< 0000001f000000018000000000000100000001000000020000000100000001\n> 0000000d00000002000b0c0001\n",
-            (0, 0, 0),
-        )),
-        row((
-            "> 0000000b00000001000107\n< 0000001f000000018000000000000100000001000000020000000100000001\n> 0000001300000002000b0c0000000000000001\n",
-            (5, 55, 12),
-        )),
-        // told after the packet that needs them
-        row((
-            "> 0000001300000002000b0c0000000000000001\n> 0000000b00000001000107\n< 0000001f000000018000000000000100000001000000020000000100000001\n",
-            (3, 55, 12),
-        )),
-        // never told: other data are not judged
-        row((
-            "> 0000000d00000002000b0c0001\n< 0000000c0000000280000007\n",
-            (0, 0, 0),
-        )),
-        row((
-            "> 0000000b00000001000107\n< 0000001f000000018000000000000900000001000000020000000100000001\n",
-            (4, 55, 16),
-        )),
-        row((
-            "> 0000000b00000001000107\n< 0000000f0000000180000000000008\n",
-            (4, 55, 11),
-        )),
-    ];
-    are_judged(&rt, rt.alloc(), "", &rows)
+    are_judged(&rt, rt.alloc(), "", &WIDTHS)
 }
 
 /// The capture of this text is judged so.
@@ -162,6 +167,18 @@ fn bad_lines(rt: HostRuntime) -> Result<(), NoMemory> {
     are_no_lines(&rt, rt.alloc(), &lines)
 }
 
+/// A line of a capture, if it has any byte.
+fn push_line(alloc: Global, text: &mut String, mark: char, bytes: &[u8]) -> Result<(), NoMemory> {
+    if bytes.is_empty() {
+        return Ok(());
+    }
+    text.push(mark)?;
+    text.push(' ')?;
+    text.push_str(hex::encode(alloc, bytes)?.as_str())?;
+    text.push('\n')?;
+    Ok(())
+}
+
 /// A capture of these lines, the line at `place` cut in two behind its first `count` bytes.
 fn cut_at(
     alloc: Global,
@@ -176,45 +193,50 @@ fn cut_at(
         } else {
             0
         };
-        for part in [&bytes[..first], &bytes[first..]] {
-            if !part.is_empty() {
-                let digits = hex::encode(alloc, part)?;
-                text.push(*mark)?;
-                text.push(' ')?;
-                text.push_str(digits.as_str())?;
-                text.push('\n')?;
-            }
-        }
+        push_line(alloc, &mut text, *mark, &bytes[..first])?;
+        push_line(alloc, &mut text, *mark, &bytes[first..])?;
     }
     Ok(text)
 }
 
+static LINES: [(char, &[u8]); 5] = [
+    ('>', b"JDWP-Handshake"),
+    ('<', b"JDWP-Handshake"),
+    ('>', &[0, 0, 0, 11, 0, 0, 0, 1, 0, 1, 7]),
+    (
+        '<',
+        &[
+            0, 0, 0, 31, 0, 0, 0, 1, 0x80, 0, 0, 0, 0, 0, 8, 0, 0, 0, 8, 0, 0, 0, 8, 0, 0, 0, 8, 0,
+            0, 0, 8,
+        ],
+    ),
+    // the flags are the ninth byte, and bytes follow them
+    ('>', &[0, 0, 0, 11, 0, 0, 0, 2, 1, 9, 9]),
+];
+
+/// A capture of these lines, cut at a place, is judged so.
+fn is_judged_cut(
+    rt: &impl Abort,
+    alloc: Global,
+    lines: &[(char, &[u8])],
+    (place, count): (usize, usize),
+    wanted: Verdict,
+) -> Result<(), NoMemory> {
+    let text = cut_at(alloc, lines, place, count)?;
+    is_judged(rt, alloc, text.as_str(), wanted)
+}
+
 #[test]
 fn cut_anywhere(rt: HostRuntime) -> Result<(), NoMemory> {
-    let reply = [
-        0, 0, 0, 31, 0, 0, 0, 1, 0x80, 0, 0, 0, 0, 0, 8, 0, 0, 0, 8, 0, 0, 0, 8, 0, 0, 0, 8, 0, 0,
-        0, 8,
-    ];
-    let lines: [(char, &[u8]); 5] = [
-        ('>', b"JDWP-Handshake"),
-        ('<', b"JDWP-Handshake"),
-        ('>', &[0, 0, 0, 11, 0, 0, 0, 1, 0, 1, 7]),
-        ('<', &reply),
-        // the flags are the ninth byte, and bytes follow them
-        ('>', &[0, 0, 0, 11, 0, 0, 0, 2, 1, 9, 9]),
-    ];
-    for place in 0..5usize {
-        let (_, bytes) = lines[place];
+    for (place, (_, bytes)) in LINES.iter().enumerate() {
         for count in 1..bytes.len() {
-            let text = cut_at(rt.alloc(), &lines, place, count)?;
             let line = if place == 4 && count >= 9 { 5 } else { 6 };
             let wanted = Verdict::No(line, CaptureFault::Frame(FrameFault::BadFlags));
-            expect_same(&rt, &check(rt.alloc(), text.as_str())?, &wanted);
+            is_judged_cut(&rt, rt.alloc(), &LINES, (place, count), wanted)?;
         }
     }
     for count in 1..31usize {
-        let text = cut_at(rt.alloc(), &lines[..4], 3, count)?;
-        expect_same(&rt, &check(rt.alloc(), text.as_str())?, &Verdict::Yes);
+        is_judged_cut(&rt, rt.alloc(), &LINES[..4], (3, count), Verdict::Yes)?;
     }
     Ok(())
 }

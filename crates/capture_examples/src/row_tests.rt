@@ -2,7 +2,7 @@
 use crate::asserts::expect_same;
 use crate::rows::row;
 use jdwp_layout::{
-    CommandRow, Entry, Field, Item, Layout, fields_of_event, fields_of_modifier, layout_of,
+    CommandRow, Entry, Field, Item, Layout, Layouts, fields_of_event, fields_of_modifier, layout_of,
 };
 use jdwp_show::{CaptureFault, Verdict, check, show};
 use jdwp_wire::{DataFault, IdSizes};
@@ -165,17 +165,23 @@ fn push_packet(
     kind: &[u8],
     data: &[u8],
 ) -> Result<(), Fail> {
+    let packet = packet(alloc, kind, data)?;
+    text.push(mark)?;
+    text.push(' ')?;
+    text.push_str(hex::encode(alloc, &packet)?.as_str())?;
+    text.push('\n')?;
+    Ok(())
+}
+
+/// The packet with the id 2.
+fn packet(alloc: Global, kind: &[u8], data: &[u8]) -> Result<Vec<u8>, Fail> {
     let length = data.len().saturating_add(11);
     let mut packet = Vec::new(alloc);
     packet.extend_from_slice(&[0, 0, (length / 256 % 256) as u8, (length % 256) as u8])?;
     packet.extend_from_slice(&[0, 0, 0, 2])?;
     packet.extend_from_slice(kind)?;
     packet.extend_from_slice(data)?;
-    text.push(mark)?;
-    text.push(' ')?;
-    text.push_str(hex::encode(alloc, &packet)?.as_str())?;
-    text.push('\n')?;
-    Ok(())
+    Ok(packet)
 }
 
 /// A capture that tells these widths.
@@ -202,8 +208,10 @@ fn push_request(
     words: &mut String,
     (set, number): (u8, u8),
     row: &CommandRow,
-    request: &Sample,
+    layouts: &Layouts,
+    sizes: &IdSizes,
 ) -> Result<(), Fail> {
+    let request = sample_of(alloc, &layouts.request, sizes)?;
     let mark = if set == 64 { '<' } else { '>' };
     push_packet(alloc, text, mark, &[0, set, number], &request.bytes)?;
     let (set_name, name, data) = (row.set_name, row.name, request.words.as_str());
@@ -225,6 +233,13 @@ fn push_reply(
     Ok(())
 }
 
+fn followed(alloc: Global, reply: &[u8]) -> Result<Vec<u8>, Fail> {
+    let mut more = Vec::new(alloc);
+    more.extend_from_slice(reply)?;
+    more.push(0)?;
+    Ok(more)
+}
+
 /// With a byte more the reply behind this text is a fault of its line.
 fn longer_reply_is_refused(
     rt: &impl Abort,
@@ -233,10 +248,13 @@ fn longer_reply_is_refused(
     reply: &[u8],
 ) -> Result<(), Fail> {
     let mut faulty = String::from_str(alloc, text)?;
-    let mut more = Vec::new(alloc);
-    more.extend_from_slice(reply)?;
-    more.push(0)?;
-    push_packet(alloc, &mut faulty, '<', &[0x80, 0, 0], &more)?;
+    push_packet(
+        alloc,
+        &mut faulty,
+        '<',
+        &[0x80, 0, 0],
+        &followed(alloc, reply)?,
+    )?;
     let fault = CaptureFault::BadData(DataFault::Extra(reply.len()));
     expect_same(rt, &check(alloc, faulty.as_str())?, &Verdict::No(6, fault));
     Ok(())
@@ -265,14 +283,31 @@ fn shown_and_judged(
     };
     let mut text = beginning(alloc, sizes)?;
     let mut words = beginning_words(alloc, sizes)?;
-    let request = sample_of(alloc, &layouts.request, sizes)?;
-    push_request(alloc, &mut text, &mut words, (set, number), row, &request)?;
+    let command = (set, number);
+    push_request(alloc, &mut text, &mut words, command, row, &layouts, sizes)?;
     if set != 64 {
         let reply = sample_of(alloc, &layouts.reply, sizes)?;
         longer_reply_is_refused(rt, alloc, text.as_str(), &reply.bytes)?;
         push_reply(alloc, &mut text, &mut words, row, &reply)?;
     }
     is_shown_as(rt, alloc, text.as_str(), words.as_str())
+}
+
+/// How many rows there are, each of which is shown and judged at these widths.
+fn every_row_at(rt: &impl Abort, alloc: Global, sizes: &IdSizes) -> Result<u32, Fail> {
+    let mut rows = 0u32;
+    for set in 0..65u32 {
+        for number in 0..101u32 {
+            if let Some(row) = layout_of(set as u8, number as u8) {
+                rows = rows.saturating_add(1);
+                // each capture begins with IDSizes
+                if set != 1 || number != 7 {
+                    shown_and_judged(rt, alloc, sizes, set as u8, number as u8, row)?;
+                }
+            }
+        }
+    }
+    Ok(rows)
 }
 
 #[test]
@@ -285,19 +320,7 @@ fn every_row(rt: HostRuntime) -> Result<(), Fail> {
         row((8, 8, 8, 8, 8)),
     ] {
         let sizes = IdSizes::new(field, method, object, reference, frame)?;
-        let mut rows = 0u32;
-        for set in 0..65u32 {
-            for number in 0..101u32 {
-                if let Some(row) = layout_of(set as u8, number as u8) {
-                    rows = rows.saturating_add(1);
-                    // each capture begins with IDSizes
-                    if set != 1 || number != 7 {
-                        shown_and_judged(&rt, alloc, &sizes, set as u8, number as u8, row)?;
-                    }
-                }
-            }
-        }
-        expect_same(&rt, &rows, &94);
+        expect_same(&rt, &every_row_at(&rt, alloc, &sizes)?, &94);
     }
     Ok(())
 }

@@ -5,6 +5,7 @@ use jdwp_layout::{Datum, Scalar};
 use jdwp_value::ObjectId;
 use jdwp_wire::HANDSHAKE;
 use std::alloc::Global;
+use std::process::Abort;
 use std::test::Fail;
 
 /// A debugger whose session is open and that knows the widths of ids, which are all this. Its next id is 1, nothing waits, and its last
@@ -77,7 +78,7 @@ enum Asks {
 
 /// What is done with a debugger, and what comes of it.
 #[derive(Clone, Copy)]
-enum Act<'a> {
+enum Act {
     /// The next packet has this id.
     Next(u32),
     /// A command is asked under this ticket.
@@ -87,13 +88,17 @@ enum Act<'a> {
     /// 64 commands are asked.
     Fills,
     /// These bytes leave.
-    Leaves(&'a [u8]),
+    Leaves(&'static [u8]),
     /// So many bytes wait.
     Waits(usize),
     /// Whether a session begins.
     Attaches(bool),
     /// The connection is lost, with these tickets.
-    Loses(&'a [Ticket]),
+    Loses(&'static [Ticket]),
+    /// The connection is lost, with so many tickets.
+    LosesSoMany(usize),
+    /// The last turn read nothing, and no thread is known.
+    KnowsNothing,
 }
 
 fn command(alloc: Global, asks: Asks) -> Result<Command, Fail> {
@@ -106,28 +111,38 @@ fn command(alloc: Global, asks: Asks) -> Result<Command, Fail> {
 }
 
 /// Whether this comes of it.
-fn comes(alloc: Global, debugger: &mut Debugger, act: &Act<'_>) -> Result<bool, Fail> {
+fn comes(alloc: Global, debugger: &mut Debugger, act: &Act) -> Result<bool, Fail> {
     match act {
         Act::Next(id) => {
             debugger.set_next_id(*id);
             Ok(true)
         }
-        Act::Gives(asks, ticket) => {
-            Ok(debugger.ask(alloc, command(alloc, *asks)?) == Ok(Ticket(*ticket)))
-        }
-        Act::Refuses(asks, refused) => {
-            Ok(debugger.ask(alloc, command(alloc, *asks)?) == Err(*refused))
-        }
+        Act::Gives(asks, ticket) => Ok(
+            asked(alloc, debugger, command(alloc, *asks)?) == Ok(Ticket(*ticket)),
+        ),
+        Act::Refuses(asks, refused) => Ok(
+            asked(alloc, debugger, command(alloc, *asks)?) == Err(*refused),
+        ),
         Act::Fills => Ok(fills(alloc, debugger)),
         Act::Leaves(bytes) => Ok(leaves(debugger, bytes)),
         Act::Waits(count) => Ok(debugger.waiting() == *count),
         Act::Attaches(attaches) => Ok(debugger.attach() == *attaches),
-        Act::Loses(tickets) => {
-            let unanswered = tickets.len();
-            let waits = unanswered == 0 || debugger.unanswered(unanswered - 1).is_some();
-            Ok(waits && debugger.lose().as_slice() == *tickets && debugger.unanswered(0).is_none())
+        Act::Loses(tickets) => Ok(loses(debugger, tickets)),
+        Act::LosesSoMany(count) => Ok(debugger.lose().as_slice().len() == *count),
+        Act::KnowsNothing => {
+            Ok(debugger.last().is_empty() && debugger.mirror().known().len() == 0)
         }
     }
+}
+
+fn asked(alloc: Global, debugger: &mut Debugger, command: Command) -> Result<Ticket, Refused> {
+    debugger.ask(alloc, command)
+}
+
+fn loses(debugger: &mut Debugger, tickets: &[Ticket]) -> bool {
+    let unanswered = tickets.len();
+    let waits = unanswered == 0 || debugger.unanswered(unanswered - 1).is_some();
+    waits && debugger.lose().as_slice() == tickets && debugger.unanswered(0).is_none()
 }
 
 fn fills(alloc: Global, debugger: &mut Debugger) -> bool {
@@ -147,10 +162,10 @@ fn leaves(debugger: &mut Debugger, bytes: &[u8]) -> bool {
 }
 
 /// The place, from 0, of the first act of which something else comes; None where all is as it is to be.
-fn goes_wrong_at(
+fn first_wrong(
     alloc: Global,
     debugger: &mut Debugger,
-    acts: &[Act<'_>],
+    acts: &[Act],
 ) -> Result<Option<usize>, Fail> {
     for (place, act) in acts.iter().enumerate() {
         if !comes(alloc, debugger, act)? {
@@ -160,141 +175,113 @@ fn goes_wrong_at(
     Ok(None)
 }
 
-#[test]
-fn packets_leave_in_the_order_asked(rt: HostRuntime) -> Result<(), Fail> {
-    let acts = [
-        Act::Next(2),
-        Act::Gives(Asks::Plain(1, 8), 1),
-        Act::Gives(Asks::Count(1), 2),
-        Act::Leaves(&[
-            0, 0, 0, 11, 0, 0, 0, 2, 0, 1, 8, 0, 0, 0, 19, 0, 0, 0, 3, 0, 11, 12, 0, 0, 0, 0, 0, 0,
-            0, 1,
-        ]),
-    ];
-    let mut debugger = ready(rt.alloc(), 8)?;
-    expect_same(
-        &rt,
-        &goes_wrong_at(rt.alloc(), &mut debugger, &acts)?,
-        &None,
-    );
-    let is_unchanged = debugger.last().is_empty() && debugger.mirror().known().len() == 0;
-    assert!(rt; is_unchanged);
-    let acts = [
-        Act::Loses(&[Ticket(1), Ticket(2)]),
-        Act::Attaches(true),
-        Act::Leaves(&HANDSHAKE),
-    ];
-    expect_same(
-        &rt,
-        &goes_wrong_at(rt.alloc(), &mut debugger, &acts)?,
-        &None,
-    );
+/// Of each act comes what it says, with a debugger that knows the widths of ids, which are all this.
+fn goes_as_told(rt: &impl Abort, alloc: Global, width: u8, acts: &[Act]) -> Result<(), Fail> {
+    let mut debugger = ready(alloc, width)?;
+    expect_same(rt, &first_wrong(alloc, &mut debugger, acts)?, &None);
     Ok(())
 }
+
+static PACKETS: [Act; 8] = [
+    Act::Next(2),
+    Act::Gives(Asks::Plain(1, 8), 1),
+    Act::Gives(Asks::Count(1), 2),
+    Act::Leaves(&[
+        0, 0, 0, 11, 0, 0, 0, 2, 0, 1, 8, 0, 0, 0, 19, 0, 0, 0, 3, 0, 11, 12, 0, 0, 0, 0, 0, 0, 0,
+        1,
+    ]),
+    Act::KnowsNothing,
+    Act::Loses(&[Ticket(1), Ticket(2)]),
+    Act::Attaches(true),
+    Act::Leaves(&HANDSHAKE),
+];
+
+#[test]
+fn packets_leave_in_the_order_asked(rt: HostRuntime) -> Result<(), Fail> {
+    goes_as_told(&rt, rt.alloc(), 8, &PACKETS)
+}
+
+static IDS_WRAP_AND_SKIP_THOSE_THAT_WAIT: [Act; 8] = [
+    Act::Next(4_294_967_295),
+    Act::Gives(Asks::Plain(1, 8), 1),
+    Act::Gives(Asks::Plain(1, 8), 2),
+    Act::Gives(Asks::Plain(1, 8), 3),
+    Act::Leaves(&[
+        0, 0, 0, 11, 255, 255, 255, 255, 0, 1, 8, 0, 0, 0, 11, 0, 0, 0, 0, 0, 1, 8, 0, 0, 0, 11, 0,
+        0, 0, 1, 0, 1, 8,
+    ]),
+    Act::Next(4_294_967_295),
+    Act::Gives(Asks::Plain(1, 8), 4),
+    Act::Leaves(&[0, 0, 0, 11, 0, 0, 0, 2, 0, 1, 8]),
+];
 
 #[test]
 fn ids_wrap_and_skip_those_that_wait(rt: HostRuntime) -> Result<(), Fail> {
-    let acts = [
-        Act::Next(4_294_967_295),
-        Act::Gives(Asks::Plain(1, 8), 1),
-        Act::Gives(Asks::Plain(1, 8), 2),
-        Act::Gives(Asks::Plain(1, 8), 3),
-        Act::Leaves(&[
-            0, 0, 0, 11, 255, 255, 255, 255, 0, 1, 8, 0, 0, 0, 11, 0, 0, 0, 0, 0, 1, 8, 0, 0, 0,
-            11, 0, 0, 0, 1, 0, 1, 8,
-        ]),
-        Act::Next(4_294_967_295),
-        Act::Gives(Asks::Plain(1, 8), 4),
-        Act::Leaves(&[0, 0, 0, 11, 0, 0, 0, 2, 0, 1, 8]),
-    ];
-    let mut debugger = ready(rt.alloc(), 8)?;
-    expect_same(
-        &rt,
-        &goes_wrong_at(rt.alloc(), &mut debugger, &acts)?,
-        &None,
-    );
-    Ok(())
+    goes_as_told(&rt, rt.alloc(), 8, &IDS_WRAP_AND_SKIP_THOSE_THAT_WAIT)
 }
+
+static CLOSED_AND_UNREADY: [Act; 6] = [
+    Act::Refuses(Asks::Plain(1, 8), Refused::Closed),
+    Act::Attaches(true),
+    Act::Refuses(Asks::Plain(1, 99), Refused::NotReady),
+    Act::Waits(14),
+    Act::Loses(&[]),
+    Act::Refuses(Asks::Plain(1, 99), Refused::Closed),
+];
 
 #[test]
 fn closed_and_unready_ends_ask_nothing(rt: HostRuntime) -> Result<(), Fail> {
-    let acts = [
-        Act::Refuses(Asks::Plain(1, 8), Refused::Closed),
-        Act::Attaches(true),
-        Act::Refuses(Asks::Plain(1, 99), Refused::NotReady),
-        Act::Waits(14),
-        Act::Loses(&[]),
-        Act::Refuses(Asks::Plain(1, 99), Refused::Closed),
-    ];
     let mut debugger = Debugger::new(rt.alloc())?;
-    expect_same(
-        &rt,
-        &goes_wrong_at(rt.alloc(), &mut debugger, &acts)?,
-        &None,
-    );
+    let found = first_wrong(rt.alloc(), &mut debugger, &CLOSED_AND_UNREADY)?;
+    expect_same(&rt, &found, &None);
     Ok(())
 }
+
+static FULL: [Act; 4] = [
+    Act::Fills,
+    Act::Refuses(Asks::Plain(1, 99), Refused::Busy),
+    Act::Waits(64 * 11),
+    Act::LosesSoMany(64),
+];
 
 #[test]
 fn only_so_many_commands_wait(rt: HostRuntime) -> Result<(), Fail> {
-    let acts = [
-        Act::Fills,
-        Act::Refuses(Asks::Plain(1, 99), Refused::Busy),
-        Act::Waits(64 * 11),
-    ];
-    let mut debugger = ready(rt.alloc(), 8)?;
-    expect_same(
-        &rt,
-        &goes_wrong_at(rt.alloc(), &mut debugger, &acts)?,
-        &None,
-    );
-    expect_same(&rt, &debugger.lose().as_slice().len(), &64);
-    Ok(())
+    goes_as_told(&rt, rt.alloc(), 8, &FULL)
 }
+
+static ONLY_SO_MANY_BYTES_WAIT: [Act; 5] = [
+    Act::Refuses(Asks::Class(65_522), Refused::TooLong),
+    Act::Waits(0),
+    Act::Gives(Asks::Class(65_521), 1),
+    Act::Waits(65_536),
+    Act::Refuses(Asks::Plain(1, 8), Refused::Busy),
+];
 
 #[test]
 fn only_so_many_bytes_wait(rt: HostRuntime) -> Result<(), Fail> {
-    let acts = [
-        Act::Refuses(Asks::Class(65_522), Refused::TooLong),
-        Act::Waits(0),
-        Act::Gives(Asks::Class(65_521), 1),
-        Act::Waits(65_536),
-        Act::Refuses(Asks::Plain(1, 8), Refused::Busy),
-    ];
-    let mut debugger = ready(rt.alloc(), 8)?;
-    expect_same(
-        &rt,
-        &goes_wrong_at(rt.alloc(), &mut debugger, &acts)?,
-        &None,
-    );
-    Ok(())
+    goes_as_told(&rt, rt.alloc(), 8, &ONLY_SO_MANY_BYTES_WAIT)
 }
+
+static DATA_HAVE_TO_FIT_THE_COMMAND: [Act; 12] = [
+    Act::Refuses(Asks::Plain(1, 99), Refused::BadCommand),
+    Act::Refuses(Asks::Plain(64, 100), Refused::BadCommand),
+    Act::Refuses(Asks::Plain(11, 12), Refused::BadCommand),
+    Act::Refuses(Asks::Count(256), Refused::BadCommand),
+    Act::Refuses(Asks::Raw(1, 8, 0), Refused::BadCommand),
+    Act::Refuses(Asks::Raw(11, 12, 70_000), Refused::BadCommand),
+    Act::Refuses(Asks::Plain(3, 3), Refused::BadCommand),
+    Act::Waits(0),
+    Act::Refuses(Asks::Raw(3, 3, 65_526), Refused::TooLong),
+    Act::Gives(Asks::Raw(3, 3, 2), 1),
+    Act::Gives(Asks::Count(255), 2),
+    Act::Leaves(&[
+        0, 0, 0, 13, 0, 0, 0, 1, 0, 3, 3, 0, 0, 0, 0, 0, 12, 0, 0, 0, 2, 0, 11, 12, 255,
+    ]),
+];
 
 #[test]
 fn data_have_to_fit_the_command(rt: HostRuntime) -> Result<(), Fail> {
-    let acts = [
-        Act::Refuses(Asks::Plain(1, 99), Refused::BadCommand),
-        Act::Refuses(Asks::Plain(64, 100), Refused::BadCommand),
-        Act::Refuses(Asks::Plain(11, 12), Refused::BadCommand),
-        Act::Refuses(Asks::Count(256), Refused::BadCommand),
-        Act::Refuses(Asks::Raw(1, 8, 0), Refused::BadCommand),
-        Act::Refuses(Asks::Raw(11, 12, 70_000), Refused::BadCommand),
-        Act::Refuses(Asks::Plain(3, 3), Refused::BadCommand),
-        Act::Waits(0),
-        Act::Refuses(Asks::Raw(3, 3, 65_526), Refused::TooLong),
-        Act::Gives(Asks::Raw(3, 3, 2), 1),
-        Act::Gives(Asks::Count(255), 2),
-        Act::Leaves(&[
-            0, 0, 0, 13, 0, 0, 0, 1, 0, 3, 3, 0, 0, 0, 0, 0, 12, 0, 0, 0, 2, 0, 11, 12, 255,
-        ]),
-    ];
-    let mut debugger = ready(rt.alloc(), 1)?;
-    expect_same(
-        &rt,
-        &goes_wrong_at(rt.alloc(), &mut debugger, &acts)?,
-        &None,
-    );
-    Ok(())
+    goes_as_told(&rt, rt.alloc(), 1, &DATA_HAVE_TO_FIT_THE_COMMAND)
 }
 
 #[test]

@@ -3,6 +3,7 @@ use crate::asserts::expect_same;
 use jdwp_end::{End, Front};
 use jdwp_wire::{FrameFault, HANDSHAKE, IdSizes, Limits};
 use std::alloc::Global;
+use std::process::Abort;
 use std::test::Fail;
 
 /// A closed end.
@@ -26,28 +27,39 @@ fn front_of(end: &End) -> Result<Option<(u32, usize)>, FrameFault> {
 #[test]
 fn a_session_in_pieces(rt: HostRuntime) -> Result<(), Fail> {
     let mut end = end(rt.alloc())?;
+    is_read_in_pieces(&rt, &mut end);
+    Ok(())
+}
+
+/// A closed end takes nothing; once it is open, the handshake stands in front as its last byte came.
+fn is_read_in_pieces(rt: &impl Abort, end: &mut End) {
     assert!(rt; !end.is_open());
-    expect_same(&rt, &end.feed(&HANDSHAKE), &0);
+    expect_same(rt, &end.feed(&HANDSHAKE), &0);
     end.open();
     assert!(rt; end.is_open());
-    expect_same(&rt, &end.room(), &2048);
-    expect_same(&rt, &end.feed(&HANDSHAKE[..13]), &13);
-    expect_same(&rt, &front_of(&end), &Ok(None));
-    expect_same(&rt, &end.feed(&HANDSHAKE[13..]), &1);
-    expect_same(&rt, &front_of(&end), &Ok(Some((0, 14))));
-    Ok(())
+    expect_same(rt, &end.room(), &2048);
+    expect_same(rt, &end.feed(&HANDSHAKE[..13]), &13);
+    expect_same(rt, &front_of(end), &Ok(None));
+    expect_same(rt, &end.feed(&HANDSHAKE[13..]), &1);
+    expect_same(rt, &front_of(end), &Ok(Some((0, 14))));
+}
+
+/// What is in front of an end at which the handshake was handled, once these bytes came.
+fn front_behind(
+    alloc: Global,
+    length: [u8; 4],
+) -> Result<Result<Option<(u32, usize)>, FrameFault>, Fail> {
+    let mut end = established(alloc)?;
+    end.feed(&length);
+    Ok(front_of(&end))
 }
 
 #[test]
 fn a_length_above_the_packet_limit(rt: HostRuntime) -> Result<(), Fail> {
-    for (length, wanted) in [
-        ([0, 0, 8, 0], Ok(None)),
-        ([0, 0, 8, 1], Err(FrameFault::TooLong)),
-    ] {
-        let mut end = established(rt.alloc())?;
-        end.feed(&length);
-        expect_same(&rt, &front_of(&end), &wanted);
-    }
+    let greatest = front_behind(rt.alloc(), [0, 0, 8, 0])?;
+    expect_same(&rt, &greatest, &Ok(None));
+    let one_more = front_behind(rt.alloc(), [0, 0, 8, 1])?;
+    expect_same(&rt, &one_more, &Err(FrameFault::TooLong));
     Ok(())
 }
 
@@ -62,29 +74,43 @@ fn established(alloc: Global) -> Result<End, Fail> {
     Ok(end)
 }
 
-#[test]
-fn what_is_enqueued_is_taken(rt: HostRuntime) -> Result<(), Fail> {
-    let alloc = rt.alloc();
+/// The handshake and an int wait to leave, and the end is closed.
+fn end_with_two(alloc: Global) -> Result<End, Fail> {
     let Ok(sizes) = IdSizes::new(8, 8, 8, 8, 8) else {
         return Err(Fail::from("the widths are in range"));
     };
     let mut end = end(alloc)?;
     end.open();
-    assert!(rt; !end.is_paused());
     end.enqueue(&HANDSHAKE);
     end.put(&7i32, &sizes);
-    expect_same(&rt, &end.waiting(), &18);
     end.close();
-    assert!(rt; !end.is_open());
+    Ok(end)
+}
+
+/// What is enqueued is taken though the end is closed.
+fn leaves(rt: &impl Abort, end: &mut End) {
+    assert!(rt; !end.is_open() && !end.is_paused());
+    expect_same(rt, &end.waiting(), &18);
     let mut out = [0; 16];
-    expect_same(&rt, &end.take(&mut out), &16);
+    expect_same(rt, &end.take(&mut out), &16);
     assert!(rt; out.as_slice().starts_with(HANDSHAKE.as_slice()));
-    expect_same(&rt, &end.take(&mut out), &2);
+    expect_same(rt, &end.take(&mut out), &2);
     assert!(rt; out.as_slice().starts_with([0u8, 7].as_slice()));
+}
+
+#[test]
+fn what_is_enqueued_is_taken(rt: HostRuntime) -> Result<(), Fail> {
+    let mut end = end_with_two(rt.alloc())?;
+    leaves(&rt, &mut end);
+    Ok(())
+}
+
+#[test]
+fn a_loss_keeps_nothing(rt: HostRuntime) -> Result<(), Fail> {
+    let mut end = end_with_two(rt.alloc())?;
     end.open();
     end.enqueue(&HANDSHAKE);
     end.lose();
-    expect_same(&rt, &end.waiting(), &0);
-    expect_same(&rt, &end.room(), &0);
+    expect_same(&rt, &(end.waiting(), end.room()), &(0, 0));
     Ok(())
 }

@@ -4,6 +4,7 @@ use jdwp_debugger::{Command, Debugger, DebuggerFault, Head, KnownThreads, Read, 
 use jdwp_layout::{Datum, Scalar};
 use jdwp_value::ObjectId;
 use std::alloc::Global;
+use std::process::Abort;
 use std::test::Fail;
 
 const HELLO: &str = "4a4457502d48616e647368616b65";
@@ -79,71 +80,71 @@ enum Wanted {
 }
 
 fn command(alloc: Global, wanted: Wanted) -> Result<Command, Fail> {
-    Ok(match wanted {
-        Wanted::Plain(set, number) => Command::new(set, number, Vec::new(alloc)),
-        Wanted::Exit(status) => {
-            Command::new(1, 10, vec![in alloc; Datum::One(Scalar::Int(status))]?)
+    match wanted {
+        Wanted::Plain(set, number) => Ok(Command::new(set, number, Vec::new(alloc))),
+        Wanted::Exit(status) => with_one(alloc, 1, 10, Scalar::Int(status)),
+        Wanted::OfThread(number, thread) => {
+            with_one(alloc, 11, number, Scalar::ObjectId(ObjectId(thread)))
         }
-        Wanted::OfThread(number, thread) => Command::new(
-            11,
-            number,
-            vec![in alloc; Datum::One(Scalar::ObjectId(ObjectId(thread)))]?,
-        ),
-        Wanted::Request(kind) => Command::new(
-            15,
-            1,
-            vec![in alloc;
-                Datum::One(Scalar::Byte(kind)),
-                Datum::One(Scalar::Byte(2)),
-                Datum::Many(Vec::new(alloc)),
-            ]?,
-        ),
-        Wanted::Clear(kind, id) => Command::new(
-            15,
-            2,
-            vec![in alloc; Datum::One(Scalar::Byte(kind)), Datum::One(Scalar::Int(id))]?,
-        ),
-    })
+        Wanted::Request(kind) => request(alloc, kind),
+        Wanted::Clear(kind, id) => clear(alloc, kind, id),
+    }
+}
+
+fn with_one(alloc: Global, set: u8, number: u8, scalar: Scalar) -> Result<Command, Fail> {
+    let items = vec![in alloc; Datum::One(scalar)]?;
+    Ok(Command::new(set, number, items))
+}
+
+fn request(alloc: Global, kind: u8) -> Result<Command, Fail> {
+    let items = vec![in alloc;
+        Datum::One(Scalar::Byte(kind)),
+        Datum::One(Scalar::Byte(2)),
+        Datum::Many(Vec::new(alloc)),
+    ]?;
+    Ok(Command::new(15, 1, items))
+}
+
+fn clear(alloc: Global, kind: u8, id: i32) -> Result<Command, Fail> {
+    let items = vec![in alloc; Datum::One(Scalar::Byte(kind)), Datum::One(Scalar::Int(id))]?;
+    Ok(Command::new(15, 2, items))
 }
 
 /// What is done with a debugger, and what comes of it.
 #[derive(Clone, Copy)]
-enum Act<'a> {
+enum Act {
     /// Whether a session begins.
     Attaches(bool),
     /// These bytes come, and a turn tells this; what it read are packets with these ids, or the handshake.
-    Reads(&'a str, Tells, &'a [u32]),
+    Reads(&'static str, Tells, &'static [u32]),
     /// A command is asked under this ticket.
     Asks(Wanted, u64),
     /// The next id is to be this.
     NextId(u32),
     /// These bytes wait to leave; they are taken.
-    Sends(&'a str),
+    Sends(&'static str),
     /// The known threads with their counts, and whether they are held.
-    Knows(&'a [(u64, u32, bool)]),
+    Knows(&'static [(u64, u32, bool)]),
     /// The ids and kinds of the event requests.
-    Requests(&'a [(i32, u8)]),
+    Requests(&'static [(i32, u8)]),
     /// Whether the session is open, and whether the widths of ids are known.
     Stands(bool, bool),
     /// The tickets that are unanswered.
-    Waits(&'a [u64]),
+    Waits(&'static [u64]),
     /// The connection is lost, and with it the answers to these tickets.
-    Loses(&'a [u64]),
+    Loses(&'static [u64]),
 }
 
 /// Whether this comes of it.
-fn comes(alloc: Global, debugger: &mut Debugger, act: &Act<'_>) -> Result<bool, Fail> {
+fn comes(alloc: Global, debugger: &mut Debugger, act: &Act) -> Result<bool, Fail> {
     match act {
         Act::Attaches(attaches) => Ok(debugger.attach() == *attaches),
         Act::Reads(input, told, ids) => {
             debugger.feed(&bytes(alloc, input)?);
-            let turn = debugger.turn(alloc);
-            Ok(outcome(&turn) == *told && have_been_read(debugger.last(), *told, ids))
+            let found = turned(alloc, debugger);
+            Ok(found == *told && have_been_read(debugger.last(), *told, ids))
         }
-        Act::Asks(wanted, ticket) => {
-            let command = command(alloc, *wanted)?;
-            Ok(debugger.ask(alloc, command) == Ok(Ticket(*ticket)))
-        }
+        Act::Asks(wanted, ticket) => is_asked(alloc, debugger, *wanted, *ticket),
         Act::NextId(id) => {
             debugger.set_next_id(*id);
             Ok(true)
@@ -155,11 +156,22 @@ fn comes(alloc: Global, debugger: &mut Debugger, act: &Act<'_>) -> Result<bool, 
             Ok(debugger.is_open() == *open && debugger.sizes().is_some() == *measured)
         }
         Act::Waits(tickets) => Ok(are_unanswered(debugger, tickets)),
-        Act::Loses(tickets) => {
-            let lost = debugger.lose();
-            Ok(are_tickets(lost.as_slice(), tickets))
-        }
+        Act::Loses(tickets) => Ok(are_tickets(debugger.lose().as_slice(), tickets)),
     }
+}
+
+fn turned(alloc: Global, debugger: &mut Debugger) -> Tells {
+    outcome(&debugger.turn(alloc))
+}
+
+fn is_asked(
+    alloc: Global,
+    debugger: &mut Debugger,
+    wanted: Wanted,
+    ticket: u64,
+) -> Result<bool, Fail> {
+    let command = command(alloc, wanted)?;
+    Ok(debugger.ask(alloc, command) == Ok(Ticket(ticket)))
 }
 
 /// Whether a turn that tells this read the handshake, or packets with these ids.
@@ -233,18 +245,11 @@ fn are_tickets(lost: &[Ticket], tickets: &[u64]) -> bool {
     true
 }
 
-/// The place, from 0, of the first of these acts of which something else comes, with a debugger whose first packet has this id; None
-/// where all is as it is to be.
-fn goes_wrong_at(alloc: Global, first_id: u32, acts: &[Act<'_>]) -> Result<Option<usize>, Fail> {
-    let mut debugger = Debugger::with_first_id(alloc, first_id)?;
-    first_wrong(alloc, &mut debugger, acts)
-}
-
-/// The same of a debugger.
+/// The place, from 0, of the first of these acts of which something else comes; None where all is as it is to be.
 fn first_wrong(
     alloc: Global,
     debugger: &mut Debugger,
-    acts: &[Act<'_>],
+    acts: &[Act],
 ) -> Result<Option<usize>, Fail> {
     for (place, act) in acts.iter().enumerate() {
         if !comes(alloc, debugger, act)? {
@@ -254,457 +259,482 @@ fn first_wrong(
     Ok(None)
 }
 
-#[test]
-fn handshake_puts_id_sizes(rt: HostRuntime) -> Result<(), Fail> {
-    let acts = [
-        Act::Reads("", Tells::Nothing, &[]),
-        Act::Attaches(true),
-        Act::Attaches(false),
-        Act::Reads("4a4457502d48616e647368616b", Tells::Nothing, &[]),
-        Act::Reads("65", Tells::Hello, &[]),
-        Act::Sends("4a4457502d48616e647368616b65 0000000b 00000001 00 01 07"),
-        Act::Waits(&[]),
-        Act::Reads("", Tells::Nothing, &[]),
-    ];
-    expect_same(&rt, &goes_wrong_at(rt.alloc(), 1, &acts)?, &None);
+/// Of each of these acts comes what it says, with a debugger whose first packet has this id.
+fn goes_as_told(rt: &impl Abort, alloc: Global, first_id: u32, acts: &[Act]) -> Result<(), Fail> {
+    let mut debugger = Debugger::with_first_id(alloc, first_id)?;
+    expect_same(rt, &first_wrong(alloc, &mut debugger, acts)?, &None);
     Ok(())
 }
+
+static HANDSHAKE_PUTS_ID_SIZES: [Act; 8] = [
+    Act::Reads("", Tells::Nothing, &[]),
+    Act::Attaches(true),
+    Act::Attaches(false),
+    Act::Reads("4a4457502d48616e647368616b", Tells::Nothing, &[]),
+    Act::Reads("65", Tells::Hello, &[]),
+    Act::Sends("4a4457502d48616e647368616b65 0000000b 00000001 00 01 07"),
+    Act::Waits(&[]),
+    Act::Reads("", Tells::Nothing, &[]),
+];
+
+#[test]
+fn handshake_puts_id_sizes(rt: HostRuntime) -> Result<(), Fail> {
+    goes_as_told(&rt, rt.alloc(), 1, &HANDSHAKE_PUTS_ID_SIZES)
+}
+
+static EVENTS_THAT_WAITED_ARE_READ_WITH_THE_WIDTHS: [Act; 7] = [
+    Act::Attaches(true),
+    Act::Reads(HELLO, Tells::Hello, &[]),
+    Act::Reads(
+        "00000016 00000009 00 40 64 02 00000001 5a 00000000 01",
+        Tells::Parked,
+        &[],
+    ),
+    Act::Knows(&[]),
+    Act::Reads(
+        "0000001f 00000001 80 0000 00000001 00000001 00000001 00000001 00000001",
+        Tells::Sizes(1),
+        &[9, 1],
+    ),
+    Act::Knows(&[(1, 1, true)]),
+    Act::Stands(true, true),
+];
 
 /// VM_START with ids one byte wide comes before the widths are known.
 #[test]
 fn events_that_waited_are_read_with_the_widths(rt: HostRuntime) -> Result<(), Fail> {
-    let acts = [
-        Act::Attaches(true),
-        Act::Reads(HELLO, Tells::Hello, &[]),
-        Act::Reads(
-            "00000016 00000009 00 40 64 02 00000001 5a 00000000 01",
-            Tells::Parked,
-            &[],
-        ),
-        Act::Knows(&[]),
-        Act::Reads(
-            "0000001f 00000001 80 0000 00000001 00000001 00000001 00000001 00000001",
-            Tells::Sizes(1),
-            &[9, 1],
-        ),
-        Act::Knows(&[(1, 1, true)]),
-        Act::Stands(true, true),
-    ];
-    expect_same(&rt, &goes_wrong_at(rt.alloc(), 1, &acts)?, &None);
-    Ok(())
+    goes_as_told(
+        &rt,
+        rt.alloc(),
+        1,
+        &EVENTS_THAT_WAITED_ARE_READ_WITH_THE_WIDTHS,
+    )
 }
+
+static A_DEATH_THAT_WAITED_ENDS_THE_SESSION: [Act; 9] = [
+    Act::Attaches(true),
+    Act::Reads(HELLO, Tells::Hello, &[]),
+    Act::Reads(VM_START, Tells::Parked, &[]),
+    Act::Reads(
+        "00000015 00000002 00 40 64 00 00000001 63 00000000",
+        Tells::Parked,
+        &[],
+    ),
+    Act::Reads(SIZES, Tells::Sizes(2), &[1, 2, 1]),
+    Act::Knows(&[]),
+    Act::Stands(false, true),
+    Act::Loses(&[]),
+    Act::Stands(false, false),
+];
 
 /// VM_DEATH waits, too: the session ends as the widths become known, which stay until it is lost.
 #[test]
 fn a_death_that_waited_ends_the_session(rt: HostRuntime) -> Result<(), Fail> {
-    let acts = [
-        Act::Attaches(true),
-        Act::Reads(HELLO, Tells::Hello, &[]),
-        Act::Reads(VM_START, Tells::Parked, &[]),
-        Act::Reads(
-            "00000015 00000002 00 40 64 00 00000001 63 00000000",
-            Tells::Parked,
-            &[],
-        ),
-        Act::Reads(SIZES, Tells::Sizes(2), &[1, 2, 1]),
-        Act::Knows(&[]),
-        Act::Stands(false, true),
-        Act::Loses(&[]),
-        Act::Stands(false, false),
-    ];
-    expect_same(&rt, &goes_wrong_at(rt.alloc(), 1, &acts)?, &None);
-    Ok(())
+    goes_as_told(&rt, rt.alloc(), 1, &A_DEATH_THAT_WAITED_ENDS_THE_SESSION)
 }
+
+static EVENTS_AND_REPLIES_CHANGE_COUNTS: [Act; 25] = [
+    Act::Attaches(true),
+    Act::Reads(HELLO, Tells::Hello, &[]),
+    Act::Reads(SIZES, Tells::Sizes(0), &[1]),
+    Act::Reads(
+        "0000001d 00000001 00 40 64 01 00000001 06 00000000 0000000000000001",
+        Tells::Seen,
+        &[1],
+    ),
+    Act::Reads(
+        "0000001d 00000002 00 40 64 00 00000001 06 00000000 0000000000000002",
+        Tells::Seen,
+        &[2],
+    ),
+    Act::Knows(&[(1, 1, true), (2, 0, false)]),
+    Act::Reads(
+        "0000001d 00000003 00 40 64 02 00000001 06 00000000 0000000000000002",
+        Tells::Seen,
+        &[3],
+    ),
+    Act::Knows(&[(1, 2, true), (2, 1, true)]),
+    Act::Reads(
+        "0000001a 00000004 00 40 64 02 00000001 09 00000000 00000001 41",
+        Tells::Seen,
+        &[4],
+    ),
+    Act::Knows(&[(1, 3, true), (2, 2, true)]),
+    Act::Asks(Wanted::Plain(1, 9), 1),
+    Act::Knows(&[(1, 3, true), (2, 2, true)]),
+    Act::Reads("0000000b 00000002 80 0000", Tells::Answered(1), &[2]),
+    Act::Knows(&[(1, 2, true), (2, 1, true)]),
+    Act::Asks(Wanted::Plain(1, 8), 2),
+    Act::Reads("0000000b 00000003 80 0000", Tells::Answered(2), &[3]),
+    Act::Knows(&[(1, 3, true), (2, 2, true)]),
+    Act::Asks(Wanted::OfThread(3, 2), 3),
+    Act::Asks(Wanted::OfThread(3, 2), 4),
+    Act::Reads("0000000b 00000005 80 0000", Tells::Answered(4), &[5]),
+    Act::Reads("0000000b 00000004 80 0000", Tells::Answered(3), &[4]),
+    Act::Knows(&[(1, 3, true), (2, 0, false)]),
+    Act::Asks(Wanted::OfThread(2, 2), 5),
+    Act::Reads("0000000b 00000006 80 0000", Tells::Answered(5), &[6]),
+    Act::Knows(&[(1, 3, true), (2, 1, true)]),
+];
 
 #[test]
 fn events_and_replies_change_counts(rt: HostRuntime) -> Result<(), Fail> {
-    let acts = [
-        Act::Attaches(true),
-        Act::Reads(HELLO, Tells::Hello, &[]),
-        Act::Reads(SIZES, Tells::Sizes(0), &[1]),
-        Act::Reads(
-            "0000001d 00000001 00 40 64 01 00000001 06 00000000 0000000000000001",
-            Tells::Seen,
-            &[1],
-        ),
-        Act::Reads(
-            "0000001d 00000002 00 40 64 00 00000001 06 00000000 0000000000000002",
-            Tells::Seen,
-            &[2],
-        ),
-        Act::Knows(&[(1, 1, true), (2, 0, false)]),
-        Act::Reads(
-            "0000001d 00000003 00 40 64 02 00000001 06 00000000 0000000000000002",
-            Tells::Seen,
-            &[3],
-        ),
-        Act::Knows(&[(1, 2, true), (2, 1, true)]),
-        Act::Reads(
-            "0000001a 00000004 00 40 64 02 00000001 09 00000000 00000001 41",
-            Tells::Seen,
-            &[4],
-        ),
-        Act::Knows(&[(1, 3, true), (2, 2, true)]),
-        Act::Asks(Wanted::Plain(1, 9), 1),
-        Act::Knows(&[(1, 3, true), (2, 2, true)]),
-        Act::Reads("0000000b 00000002 80 0000", Tells::Answered(1), &[2]),
-        Act::Knows(&[(1, 2, true), (2, 1, true)]),
-        Act::Asks(Wanted::Plain(1, 8), 2),
-        Act::Reads("0000000b 00000003 80 0000", Tells::Answered(2), &[3]),
-        Act::Knows(&[(1, 3, true), (2, 2, true)]),
-        Act::Asks(Wanted::OfThread(3, 2), 3),
-        Act::Asks(Wanted::OfThread(3, 2), 4),
-        Act::Reads("0000000b 00000005 80 0000", Tells::Answered(4), &[5]),
-        Act::Reads("0000000b 00000004 80 0000", Tells::Answered(3), &[4]),
-        Act::Knows(&[(1, 3, true), (2, 0, false)]),
-        Act::Asks(Wanted::OfThread(2, 2), 5),
-        Act::Reads("0000000b 00000006 80 0000", Tells::Answered(5), &[6]),
-        Act::Knows(&[(1, 3, true), (2, 1, true)]),
-    ];
-    expect_same(&rt, &goes_wrong_at(rt.alloc(), 1, &acts)?, &None);
-    Ok(())
+    goes_as_told(&rt, rt.alloc(), 1, &EVENTS_AND_REPLIES_CHANGE_COUNTS)
 }
+
+static REPLIES_TEACH_AND_FORGET_THREADS: [Act; 21] = [
+    Act::Attaches(true),
+    Act::Reads(HELLO, Tells::Hello, &[]),
+    Act::Reads(VM_START, Tells::Parked, &[]),
+    Act::Reads(SIZES, Tells::Sizes(1), &[1, 1]),
+    Act::Knows(&[(1, 0, false)]),
+    Act::Asks(Wanted::OfThread(12, 3), 1),
+    Act::Reads(
+        "0000000f 00000002 80 0000 00000004",
+        Tells::Answered(1),
+        &[2],
+    ),
+    Act::Knows(&[(1, 0, false), (3, 4, true)]),
+    Act::Asks(Wanted::OfThread(1, 1), 2),
+    Act::Reads("0000000b 00000003 80 0071", Tells::Answered(2), &[3]),
+    Act::Knows(&[(1, 0, false), (3, 4, true)]),
+    Act::Asks(Wanted::OfThread(1, 1), 3),
+    Act::Reads("0000000b 00000004 80 000a", Tells::Answered(3), &[4]),
+    Act::Knows(&[(3, 4, true)]),
+    Act::Asks(Wanted::OfThread(12, 2), 4),
+    Act::Reads(
+        "0000000f 00000005 80 0000 00000000",
+        Tells::Answered(4),
+        &[5],
+    ),
+    Act::Asks(Wanted::Plain(1, 4), 5),
+    Act::Reads(
+        "00000017 00000006 80 0000 00000001 0000000000000002",
+        Tells::Answered(5),
+        &[6],
+    ),
+    Act::Knows(&[(2, 0, false)]),
+    Act::Reads(
+        "0000001d 00000002 00 40 64 00 00000001 07 00000000 0000000000000002",
+        Tells::Seen,
+        &[2],
+    ),
+    Act::Knows(&[]),
+];
 
 #[test]
 fn replies_teach_and_forget_threads(rt: HostRuntime) -> Result<(), Fail> {
-    let acts = [
-        Act::Attaches(true),
-        Act::Reads(HELLO, Tells::Hello, &[]),
-        Act::Reads(VM_START, Tells::Parked, &[]),
-        Act::Reads(SIZES, Tells::Sizes(1), &[1, 1]),
-        Act::Knows(&[(1, 0, false)]),
-        Act::Asks(Wanted::OfThread(12, 3), 1),
-        Act::Reads(
-            "0000000f 00000002 80 0000 00000004",
-            Tells::Answered(1),
-            &[2],
-        ),
-        Act::Knows(&[(1, 0, false), (3, 4, true)]),
-        Act::Asks(Wanted::OfThread(1, 1), 2),
-        Act::Reads("0000000b 00000003 80 0071", Tells::Answered(2), &[3]),
-        Act::Knows(&[(1, 0, false), (3, 4, true)]),
-        Act::Asks(Wanted::OfThread(1, 1), 3),
-        Act::Reads("0000000b 00000004 80 000a", Tells::Answered(3), &[4]),
-        Act::Knows(&[(3, 4, true)]),
-        Act::Asks(Wanted::OfThread(12, 2), 4),
-        Act::Reads(
-            "0000000f 00000005 80 0000 00000000",
-            Tells::Answered(4),
-            &[5],
-        ),
-        Act::Asks(Wanted::Plain(1, 4), 5),
-        Act::Reads(
-            "00000017 00000006 80 0000 00000001 0000000000000002",
-            Tells::Answered(5),
-            &[6],
-        ),
-        Act::Knows(&[(2, 0, false)]),
-        Act::Reads(
-            "0000001d 00000002 00 40 64 00 00000001 07 00000000 0000000000000002",
-            Tells::Seen,
-            &[2],
-        ),
-        Act::Knows(&[]),
-    ];
-    expect_same(&rt, &goes_wrong_at(rt.alloc(), 1, &acts)?, &None);
-    Ok(())
+    goes_as_told(&rt, rt.alloc(), 1, &REPLIES_TEACH_AND_FORGET_THREADS)
 }
+
+static REQUESTS_ARE_SET_AND_CLEARED: [Act; 20] = [
+    Act::Attaches(true),
+    Act::Reads(HELLO, Tells::Hello, &[]),
+    Act::Reads(VM_START, Tells::Parked, &[]),
+    Act::Reads(SIZES, Tells::Sizes(1), &[1, 1]),
+    Act::Asks(Wanted::Request(2), 1),
+    Act::Asks(Wanted::Request(6), 2),
+    Act::Asks(Wanted::Request(7), 3),
+    Act::Requests(&[]),
+    Act::Reads(
+        "0000000f 00000002 80 0000 00000001",
+        Tells::Answered(1),
+        &[2],
+    ),
+    Act::Reads(
+        "0000000f 00000003 80 0000 00000002",
+        Tells::Answered(2),
+        &[3],
+    ),
+    Act::Requests(&[(1, 2), (2, 6)]),
+    Act::Reads(
+        "0000000f 00000004 80 0000 00000002",
+        Tells::Answered(3),
+        &[4],
+    ),
+    Act::Requests(&[(1, 2), (2, 7)]),
+    Act::Asks(Wanted::Clear(7, 2), 4),
+    Act::Reads("0000000b 00000005 80 0000", Tells::Answered(4), &[5]),
+    Act::Requests(&[(1, 2)]),
+    Act::Asks(Wanted::Plain(15, 3), 5),
+    Act::Reads("0000000b 00000006 80 0000", Tells::Answered(5), &[6]),
+    Act::Requests(&[]),
+    Act::Knows(&[(1, 0, false)]),
+];
 
 #[test]
 fn requests_are_set_and_cleared(rt: HostRuntime) -> Result<(), Fail> {
-    let acts = [
-        Act::Attaches(true),
-        Act::Reads(HELLO, Tells::Hello, &[]),
-        Act::Reads(VM_START, Tells::Parked, &[]),
-        Act::Reads(SIZES, Tells::Sizes(1), &[1, 1]),
-        Act::Asks(Wanted::Request(2), 1),
-        Act::Asks(Wanted::Request(6), 2),
-        Act::Asks(Wanted::Request(7), 3),
-        Act::Requests(&[]),
-        Act::Reads(
-            "0000000f 00000002 80 0000 00000001",
-            Tells::Answered(1),
-            &[2],
-        ),
-        Act::Reads(
-            "0000000f 00000003 80 0000 00000002",
-            Tells::Answered(2),
-            &[3],
-        ),
-        Act::Requests(&[(1, 2), (2, 6)]),
-        Act::Reads(
-            "0000000f 00000004 80 0000 00000002",
-            Tells::Answered(3),
-            &[4],
-        ),
-        Act::Requests(&[(1, 2), (2, 7)]),
-        Act::Asks(Wanted::Clear(7, 2), 4),
-        Act::Reads("0000000b 00000005 80 0000", Tells::Answered(4), &[5]),
-        Act::Requests(&[(1, 2)]),
-        Act::Asks(Wanted::Plain(15, 3), 5),
-        Act::Reads("0000000b 00000006 80 0000", Tells::Answered(5), &[6]),
-        Act::Requests(&[]),
-        Act::Knows(&[(1, 0, false)]),
-    ];
-    expect_same(&rt, &goes_wrong_at(rt.alloc(), 1, &acts)?, &None);
-    Ok(())
+    goes_as_told(&rt, rt.alloc(), 1, &REQUESTS_ARE_SET_AND_CLEARED)
 }
+
+static ENDS_EMPTY_THE_MIRROR: [Act; 25] = [
+    Act::Attaches(true),
+    Act::Reads(HELLO, Tells::Hello, &[]),
+    Act::Reads(VM_START, Tells::Parked, &[]),
+    Act::Reads(SIZES, Tells::Sizes(1), &[1, 1]),
+    Act::Asks(Wanted::Exit(3), 1),
+    Act::Reads("0000000b 00000002 80 0000", Tells::Answered(1), &[2]),
+    Act::Knows(&[]),
+    Act::Stands(true, true),
+    Act::Reads(
+        "00000015 00000002 00 40 64 00 00000001 63 00000000",
+        Tells::Seen,
+        &[2],
+    ),
+    Act::Stands(false, false),
+    Act::Attaches(true),
+    Act::NextId(1),
+    Act::Reads(HELLO, Tells::Hello, &[]),
+    Act::Reads(VM_START, Tells::Parked, &[]),
+    Act::Reads(SIZES, Tells::Sizes(1), &[1, 1]),
+    Act::Asks(Wanted::Plain(1, 6), 2),
+    Act::Asks(Wanted::Plain(1, 8), 3),
+    Act::Knows(&[(1, 0, false)]),
+    Act::Reads("0000000b 00000002 80 0000", Tells::Answered(2), &[2]),
+    Act::Knows(&[]),
+    Act::Stands(false, false),
+    Act::Waits(&[3]),
+    Act::Attaches(false),
+    Act::Loses(&[3]),
+    Act::Waits(&[]),
+];
 
 #[test]
 fn ends_empty_the_mirror(rt: HostRuntime) -> Result<(), Fail> {
-    let acts = [
-        Act::Attaches(true),
-        Act::Reads(HELLO, Tells::Hello, &[]),
-        Act::Reads(VM_START, Tells::Parked, &[]),
-        Act::Reads(SIZES, Tells::Sizes(1), &[1, 1]),
-        Act::Asks(Wanted::Exit(3), 1),
-        Act::Reads("0000000b 00000002 80 0000", Tells::Answered(1), &[2]),
-        Act::Knows(&[]),
-        Act::Stands(true, true),
-        Act::Reads(
-            "00000015 00000002 00 40 64 00 00000001 63 00000000",
-            Tells::Seen,
-            &[2],
-        ),
-        Act::Stands(false, false),
-        Act::Attaches(true),
-        Act::NextId(1),
-        Act::Reads(HELLO, Tells::Hello, &[]),
-        Act::Reads(VM_START, Tells::Parked, &[]),
-        Act::Reads(SIZES, Tells::Sizes(1), &[1, 1]),
-        Act::Asks(Wanted::Plain(1, 6), 2),
-        Act::Asks(Wanted::Plain(1, 8), 3),
-        Act::Knows(&[(1, 0, false)]),
-        Act::Reads("0000000b 00000002 80 0000", Tells::Answered(2), &[2]),
-        Act::Knows(&[]),
-        Act::Stands(false, false),
-        Act::Waits(&[3]),
-        Act::Attaches(false),
-        Act::Loses(&[3]),
-        Act::Waits(&[]),
-    ];
-    expect_same(&rt, &goes_wrong_at(rt.alloc(), 1, &acts)?, &None);
-    Ok(())
+    goes_as_told(&rt, rt.alloc(), 1, &ENDS_EMPTY_THE_MIRROR)
 }
+
+static AN_EVENT_CROSSES_A_SUSPEND: [Act; 11] = [
+    Act::Attaches(true),
+    Act::Reads(HELLO, Tells::Hello, &[]),
+    Act::Reads(VM_START, Tells::Parked, &[]),
+    Act::Reads(SIZES, Tells::Sizes(1), &[1, 1]),
+    Act::Asks(Wanted::OfThread(12, 2), 1),
+    Act::Reads(
+        "0000000f 00000002 80 0000 00000000",
+        Tells::Answered(1),
+        &[2],
+    ),
+    Act::Asks(Wanted::Plain(1, 8), 2),
+    Act::Reads(
+        "00000036 00000002 00 40 64 01 00000001 02 00000001 0000000000000001
+             01 000000000000000a 0000000000000014 0000000000000003",
+        Tells::Seen,
+        &[2],
+    ),
+    Act::Knows(&[(1, 1, true), (2, 0, false)]),
+    Act::Reads("0000000b 00000003 80 0000", Tells::Answered(2), &[3]),
+    Act::Knows(&[(1, 2, true), (2, 1, false)]),
+];
 
 /// An event that the target reported before it handled a Suspend is read before the reply to it.
 #[test]
 fn an_event_crosses_a_suspend(rt: HostRuntime) -> Result<(), Fail> {
-    let acts = [
-        Act::Attaches(true),
-        Act::Reads(HELLO, Tells::Hello, &[]),
-        Act::Reads(VM_START, Tells::Parked, &[]),
-        Act::Reads(SIZES, Tells::Sizes(1), &[1, 1]),
-        Act::Asks(Wanted::OfThread(12, 2), 1),
-        Act::Reads(
-            "0000000f 00000002 80 0000 00000000",
-            Tells::Answered(1),
-            &[2],
-        ),
-        Act::Asks(Wanted::Plain(1, 8), 2),
-        Act::Reads(
-            "00000036 00000002 00 40 64 01 00000001 02 00000001 0000000000000001
-             01 000000000000000a 0000000000000014 0000000000000003",
-            Tells::Seen,
-            &[2],
-        ),
-        Act::Knows(&[(1, 1, true), (2, 0, false)]),
-        Act::Reads("0000000b 00000003 80 0000", Tells::Answered(2), &[3]),
-        Act::Knows(&[(1, 2, true), (2, 1, false)]),
-    ];
-    expect_same(&rt, &goes_wrong_at(rt.alloc(), 1, &acts)?, &None);
-    Ok(())
+    goes_as_told(&rt, rt.alloc(), 1, &AN_EVENT_CROSSES_A_SUSPEND)
 }
+
+static A_DEATH_HOLDS_ITS_THREAD: [Act; 11] = [
+    Act::Attaches(true),
+    Act::Reads(HELLO, Tells::Hello, &[]),
+    Act::Reads(SIZES, Tells::Sizes(0), &[1]),
+    Act::Reads(
+        "0000001d 00000002 00 40 64 01 00000001 07 00000001 0000000000000002",
+        Tells::Seen,
+        &[2],
+    ),
+    Act::Knows(&[(2, 1, true)]),
+    Act::Asks(Wanted::OfThread(3, 2), 1),
+    Act::Reads("0000000b 00000002 80 0000", Tells::Answered(1), &[2]),
+    Act::Knows(&[(2, 0, false)]),
+    Act::Asks(Wanted::OfThread(12, 2), 2),
+    Act::Reads("0000000b 00000003 80 000a", Tells::Answered(2), &[3]),
+    Act::Knows(&[]),
+];
 
 /// A thread whose death is reported is suspended by the report; once it is resumed it ends.
 #[test]
 fn a_death_holds_its_thread(rt: HostRuntime) -> Result<(), Fail> {
+    goes_as_told(&rt, rt.alloc(), 1, &A_DEATH_HOLDS_ITS_THREAD)
+}
+
+static REPLIES_REACH_THEIR_TICKETS: [Act; 17] = [
+    Act::Attaches(true),
+    Act::Reads(HELLO, Tells::Hello, &[]),
+    Act::Sends("4a4457502d48616e647368616b65 0000000b fffffffe 00 01 07"),
+    Act::Reads(
+        "0000001f fffffffe 80 0000 00000008 00000008 00000008 00000008 00000008",
+        Tells::Sizes(0),
+        &[4294967294],
+    ),
+    Act::Asks(Wanted::Plain(1, 8), 1),
+    Act::Asks(Wanted::Plain(1, 9), 2),
+    Act::Asks(Wanted::Plain(1, 8), 3),
+    Act::NextId(4294967295),
+    Act::Asks(Wanted::Plain(1, 9), 4),
+    Act::Sends(
+        "0000000b ffffffff 00 01 08 0000000b 00000000 00 01 09
+             0000000b 00000001 00 01 08 0000000b 00000002 00 01 09",
+    ),
+    Act::Waits(&[1, 2, 3, 4]),
+    Act::Reads("0000000b 00000001 80 0000", Tells::Answered(3), &[1]),
+    Act::Reads(
+        "0000000b ffffffff 80 0000",
+        Tells::Answered(1),
+        &[4294967295],
+    ),
+    Act::Reads("0000000b 00000002 80 0071", Tells::Answered(4), &[2]),
+    Act::Waits(&[2]),
+    Act::Reads("0000000b 00000000 80 0000", Tells::Answered(2), &[0]),
+    Act::Waits(&[]),
+];
+
+/// Ids go on modulo 2^32 and skip those that wait; replies in any order reach their tickets.
+#[test]
+fn replies_reach_their_tickets(rt: HostRuntime) -> Result<(), Fail> {
+    goes_as_told(&rt, rt.alloc(), 4294967294, &REPLIES_REACH_THEIR_TICKETS)
+}
+
+static FAULTS_BEFORE_THE_WIDTHS_ARE_KNOWN: [Act; 27] = [
+    Act::Attaches(true),
+    Act::Reads("4a4457502d48616e647368616b45", Tells::Fails(41), &[]),
+    Act::Stands(false, false),
+    Act::Sends(HELLO),
+    Act::Attaches(true),
+    Act::Reads(HELLO, Tells::Hello, &[]),
+    Act::Reads("0000000b 00000001 80 0071", Tells::Fails(43), &[]),
+    Act::Loses(&[]),
+    Act::Attaches(true),
+    Act::NextId(1),
+    Act::Reads(HELLO, Tells::Hello, &[]),
+    Act::Reads(
+        "0000001f 00000001 80 0000 00000009 00000008 00000008 00000008 00000008",
+        Tells::Fails(43),
+        &[],
+    ),
+    Act::Attaches(true),
+    Act::Reads(HELLO, Tells::Hello, &[]),
+    Act::Reads("0000000b 00000009 00 40 64", Tells::Parked, &[]),
+    Act::Reads(VM_START, Tells::Parked, &[]),
+    Act::Reads(VM_START, Tells::Parked, &[]),
+    Act::Reads(VM_START, Tells::Parked, &[]),
+    Act::Reads(VM_START, Tells::Fails(44), &[]),
+    Act::Stands(false, false),
+    Act::Attaches(true),
+    Act::NextId(1),
+    Act::Reads(HELLO, Tells::Hello, &[]),
+    Act::Reads(VM_START, Tells::Parked, &[]),
+    Act::Reads("0000000b 00000009 00 40 64", Tells::Parked, &[]),
+    Act::Reads("", Tells::Nothing, &[]),
+    Act::Stands(true, false),
+];
+
+/// What is refused before the widths of ids are known.
+#[test]
+fn faults_before_the_widths_are_known(rt: HostRuntime) -> Result<(), Fail> {
+    goes_as_told(&rt, rt.alloc(), 1, &FAULTS_BEFORE_THE_WIDTHS_ARE_KNOWN)
+}
+
+/// What a target sends once the widths are known, and the number of the fault that it is.
+static FAULTY: [(&str, u16); 12] = [
+    ("0000000b 00000009 80 0000", 42),
+    ("0000000f 00000002 80 0000 ffffffff", 43),
+    ("0000000b 00000002 80 0000", 43),
+    ("0000000c 00000002 80 000a 00", 43),
+    ("0000000b 00000002 00 40 64", 45),
+    ("00000010 00000002 00 40 64 00 00000000", 45),
+    (
+        "0000001d 00000002 00 40 64 03 00000001 06 00000000 0000000000000002",
+        45,
+    ),
+    (
+        "0000001d 00000002 00 40 64 00 00000001 06 00000000 0000000000000001",
+        45,
+    ),
+    (
+        "0000002a 00000002 00 40 64 00 00000002 06 00000000 0000000000000002
+             06 00000000 0000000000000003",
+        45,
+    ),
+    ("00000015 00000002 00 40 64 02 00000001 63 00000000", 45),
+    ("0000000b 00000002 00 01 08", 45),
+    ("0000000b 00000002 01 0000", 41),
+];
+
+/// The session that comes to these bytes ends with this fault; the ticket waits for the loss.
+fn fails_with(
+    rt: &impl Abort,
+    alloc: Global,
+    input: &'static str,
+    number: u16,
+) -> Result<(), Fail> {
     let acts = [
         Act::Attaches(true),
         Act::Reads(HELLO, Tells::Hello, &[]),
         Act::Reads(SIZES, Tells::Sizes(0), &[1]),
         Act::Reads(
-            "0000001d 00000002 00 40 64 01 00000001 07 00000001 0000000000000002",
+            "0000001d 00000001 00 40 64 02 00000001 06 00000000 0000000000000001",
             Tells::Seen,
-            &[2],
+            &[1],
         ),
-        Act::Knows(&[(2, 1, true)]),
-        Act::Asks(Wanted::OfThread(3, 2), 1),
-        Act::Reads("0000000b 00000002 80 0000", Tells::Answered(1), &[2]),
-        Act::Knows(&[(2, 0, false)]),
-        Act::Asks(Wanted::OfThread(12, 2), 2),
-        Act::Reads("0000000b 00000003 80 000a", Tells::Answered(2), &[3]),
+        Act::Asks(Wanted::OfThread(12, 1), 1),
+        Act::Reads(input, Tells::Fails(number), &[]),
         Act::Knows(&[]),
-    ];
-    expect_same(&rt, &goes_wrong_at(rt.alloc(), 1, &acts)?, &None);
-    Ok(())
-}
-
-/// Ids go on modulo 2^32 and skip those that wait; replies in any order reach their tickets.
-#[test]
-fn replies_reach_their_tickets(rt: HostRuntime) -> Result<(), Fail> {
-    let acts = [
-        Act::Attaches(true),
-        Act::Reads(HELLO, Tells::Hello, &[]),
-        Act::Sends("4a4457502d48616e647368616b65 0000000b fffffffe 00 01 07"),
-        Act::Reads(
-            "0000001f fffffffe 80 0000 00000008 00000008 00000008 00000008 00000008",
-            Tells::Sizes(0),
-            &[4294967294],
-        ),
-        Act::Asks(Wanted::Plain(1, 8), 1),
-        Act::Asks(Wanted::Plain(1, 9), 2),
-        Act::Asks(Wanted::Plain(1, 8), 3),
-        Act::NextId(4294967295),
-        Act::Asks(Wanted::Plain(1, 9), 4),
-        Act::Sends(
-            "0000000b ffffffff 00 01 08 0000000b 00000000 00 01 09
-             0000000b 00000001 00 01 08 0000000b 00000002 00 01 09",
-        ),
-        Act::Waits(&[1, 2, 3, 4]),
-        Act::Reads("0000000b 00000001 80 0000", Tells::Answered(3), &[1]),
-        Act::Reads(
-            "0000000b ffffffff 80 0000",
-            Tells::Answered(1),
-            &[4294967295],
-        ),
-        Act::Reads("0000000b 00000002 80 0071", Tells::Answered(4), &[2]),
-        Act::Waits(&[2]),
-        Act::Reads("0000000b 00000000 80 0000", Tells::Answered(2), &[0]),
-        Act::Waits(&[]),
-    ];
-    expect_same(&rt, &goes_wrong_at(rt.alloc(), 4294967294, &acts)?, &None);
-    Ok(())
-}
-
-/// What is refused before the widths of ids are known.
-#[test]
-fn faults_before_the_widths_are_known(rt: HostRuntime) -> Result<(), Fail> {
-    let acts = [
-        Act::Attaches(true),
-        Act::Reads("4a4457502d48616e647368616b45", Tells::Fails(41), &[]),
         Act::Stands(false, false),
-        Act::Sends(HELLO),
-        Act::Attaches(true),
-        Act::Reads(HELLO, Tells::Hello, &[]),
-        Act::Reads("0000000b 00000001 80 0071", Tells::Fails(43), &[]),
-        Act::Loses(&[]),
-        Act::Attaches(true),
-        Act::NextId(1),
-        Act::Reads(HELLO, Tells::Hello, &[]),
-        Act::Reads(
-            "0000001f 00000001 80 0000 00000009 00000008 00000008 00000008 00000008",
-            Tells::Fails(43),
-            &[],
-        ),
-        Act::Attaches(true),
-        Act::Reads(HELLO, Tells::Hello, &[]),
-        Act::Reads("0000000b 00000009 00 40 64", Tells::Parked, &[]),
-        Act::Reads(VM_START, Tells::Parked, &[]),
-        Act::Reads(VM_START, Tells::Parked, &[]),
-        Act::Reads(VM_START, Tells::Parked, &[]),
-        Act::Reads(VM_START, Tells::Fails(44), &[]),
-        Act::Stands(false, false),
-        Act::Attaches(true),
-        Act::NextId(1),
-        Act::Reads(HELLO, Tells::Hello, &[]),
-        Act::Reads(VM_START, Tells::Parked, &[]),
-        Act::Reads("0000000b 00000009 00 40 64", Tells::Parked, &[]),
         Act::Reads("", Tells::Nothing, &[]),
-        Act::Stands(true, false),
+        Act::Waits(&[1]),
+        Act::Loses(&[1]),
     ];
-    expect_same(&rt, &goes_wrong_at(rt.alloc(), 1, &acts)?, &None);
-    Ok(())
+    goes_as_told(rt, alloc, 1, &acts)
 }
 
-/// What is refused once they are known. Tickets wait for the loss.
 #[test]
 fn faults_once_the_widths_are_known(rt: HostRuntime) -> Result<(), Fail> {
-    let faulty = [
-        ("0000000b 00000009 80 0000", 42),
-        ("0000000f 00000002 80 0000 ffffffff", 43),
-        ("0000000b 00000002 80 0000", 43),
-        ("0000000c 00000002 80 000a 00", 43),
-        ("0000000b 00000002 00 40 64", 45),
-        ("00000010 00000002 00 40 64 00 00000000", 45),
-        (
-            "0000001d 00000002 00 40 64 03 00000001 06 00000000 0000000000000002",
-            45,
-        ),
-        (
-            "0000001d 00000002 00 40 64 00 00000001 06 00000000 0000000000000001",
-            45,
-        ),
-        (
-            "0000002a 00000002 00 40 64 00 00000002 06 00000000 0000000000000002
-             06 00000000 0000000000000003",
-            45,
-        ),
-        ("00000015 00000002 00 40 64 02 00000001 63 00000000", 45),
-        ("0000000b 00000002 00 01 08", 45),
-        ("0000000b 00000002 01 0000", 41),
-    ];
-    for (input, number) in faulty {
-        let acts = [
-            Act::Attaches(true),
-            Act::Reads(HELLO, Tells::Hello, &[]),
-            Act::Reads(SIZES, Tells::Sizes(0), &[1]),
-            Act::Reads(
-                "0000001d 00000001 00 40 64 02 00000001 06 00000000 0000000000000001",
-                Tells::Seen,
-                &[1],
-            ),
-            Act::Asks(Wanted::OfThread(12, 1), 1),
-            Act::Reads(input, Tells::Fails(number), &[]),
-            Act::Knows(&[]),
-            Act::Stands(false, false),
-            Act::Reads("", Tells::Nothing, &[]),
-            Act::Waits(&[1]),
-            Act::Loses(&[1]),
-        ];
-        expect_same(&rt, &goes_wrong_at(rt.alloc(), 1, &acts)?, &None);
+    for &(input, number) in FAULTY.iter() {
+        fails_with(&rt, rt.alloc(), input, number)?;
     }
     Ok(())
 }
 
 /// How many turns tell something as these bytes come in two pieces, of which the first has so many. At most 16 turns are made behind each.
-fn turns_in_pieces(
-    alloc: Global,
-    debugger: &mut Debugger,
-    bytes: &[u8],
-    first: usize,
-) -> Result<u32, Fail> {
+fn turns_in_pieces(alloc: Global, debugger: &mut Debugger, bytes: &[u8], first: usize) -> u32 {
     let first = first.min(bytes.len());
     let mut count = 0u32;
     for piece in [&bytes[..first], &bytes[first..]] {
         debugger.feed(piece);
         for _ in 0..16u32 {
-            if matches!(debugger.turn(alloc)?, Read::Nothing) {
+            if turned(alloc, debugger) == Tells::Nothing {
                 break;
             }
             count = count.saturating_add(1);
         }
     }
-    Ok(count)
+    count
 }
+
+/// How many turns tell something as the bytes of these digits come in two pieces.
+fn turns(alloc: Global, debugger: &mut Debugger, hex: &str, first: usize) -> Result<u32, Fail> {
+    let bytes = bytes(alloc, hex)?;
+    Ok(turns_in_pieces(alloc, debugger, &bytes, first))
+}
+
+/// The handshake, VM_START and the reply to IDSizes.
+const OPENING: &str = "4a4457502d48616e647368616b65
+    0000001d 00000001 00 40 64 00 00000001 5a 00000000 0000000000000001
+    0000001f 00000001 80 0000 00000008 00000008 00000008 00000008 00000008";
+
+/// The reply to Suspend under id 2, and to SuspendCount under id 3.
+const REPLIES: &str = "0000000b 00000002 80 0000 0000000f 00000003 80 0000 00000001";
 
 /// Whether a session goes as it is to go, where what comes is cut behind so many bytes.
 fn goes_in_pieces(alloc: Global, debugger: &mut Debugger, first: usize) -> Result<bool, Fail> {
     debugger.attach();
-    let mut opening = bytes(alloc, HELLO)?;
-    opening.extend_from_slice(&bytes(alloc, VM_START)?)?;
-    opening.extend_from_slice(&bytes(alloc, SIZES)?)?;
-    if turns_in_pieces(alloc, debugger, &opening, first)? != 3 {
+    if turns(alloc, debugger, OPENING, first)? != 3 {
         return Ok(false);
     }
-    debugger.ask(alloc, command(alloc, Wanted::Plain(1, 8))?)?;
-    debugger.ask(alloc, command(alloc, Wanted::OfThread(12, 1))?)?;
-    let replies = bytes(
-        alloc,
-        "0000000b 00000002 80 0000 0000000f 00000003 80 0000 00000001",
-    )?;
-    let turns = turns_in_pieces(alloc, debugger, &replies, first)?;
-    Ok(turns == 2 && are_known(debugger.mirror().known(), &[(1, 1, true)]))
+    let asks = is_asked(alloc, debugger, Wanted::Plain(1, 8), 1)?
+        && is_asked(alloc, debugger, Wanted::OfThread(12, 1), 2)?;
+    let answered = turns(alloc, debugger, REPLIES, first)?;
+    Ok(asks && answered == 2 && are_known(debugger.mirror().known(), &[(1, 1, true)]))
 }
 
 #[test]

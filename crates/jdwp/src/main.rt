@@ -5,6 +5,8 @@
 mod asserts;
 #[cfg(test)]
 mod tests;
+#[cfg(test)]
+mod word_tests;
 
 use jdwp_files::run;
 use jdwp_program::{Fault, report_fault};

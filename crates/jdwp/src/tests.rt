@@ -1,16 +1,14 @@
 //! Runs of the program.
 use crate::asserts::{expect_same, expect_same_for};
-use jdwp_debuggee::Settings;
 use jdwp_files::run;
-use jdwp_wire::Limits;
-use jdwp_words::{ServeScript, Words};
 use std::io::{Cursor, ErrorKind, Write};
+use std::process::Abort;
 use std::rt::Files;
 use std::test::Fail;
 use std::{fs, io};
 
 /// The handshake, IDSizes with id 1, Suspend with id 2, SuspendCount of thread 1 with id 3, Dispose with id 4.
-const SESSION: [u8; 66] = [
+pub(crate) const SESSION: [u8; 66] = [
     0x4a, 0x44, 0x57, 0x50, 0x2d, 0x48, 0x61, 0x6e, 0x64, 0x73, 0x68, 0x61, 0x6b, 0x65, //
     0x00, 0x00, 0x00, 0x0b, 0x00, 0x00, 0x00, 0x01, 0x00, 0x01, 0x07, //
     0x00, 0x00, 0x00, 0x0b, 0x00, 0x00, 0x00, 0x02, 0x00, 0x01, 0x08, //
@@ -32,7 +30,7 @@ const ANSWERS: [u8; 111] = [
 ];
 
 /// Two threads: one calls a method, moves in it and returns, and the other has no step.
-const MACHINE: &str = r#"{"name":"A","sizes":[8,8,8,8,8],
+pub(crate) const MACHINE: &str = r#"{"name":"A","sizes":[8,8,8,8,8],
 "groups":[{"id":5,"name":"main","parent":0}],
 "classes":[{"id":10,"tag":1,"signature":"LMain;","modifiers":1,
  "super":0,"interfaces":[],"source":"Main.java","fields":[],
@@ -79,7 +77,7 @@ fn run_words<R: Files + AllocGlobal>(rt: &R, words: &[&str]) -> Result<Run, Fail
 }
 
 /// The exit status of the words, where what is told is told on standard error behind `jdwp: `.
-fn status_of<R: Files + AllocGlobal>(rt: &R, words: &[&str]) -> Result<u8, Fail> {
+pub(crate) fn status_of<R: Files + AllocGlobal>(rt: &R, words: &[&str]) -> Result<u8, Fail> {
     let ran = run_words(rt, words)?;
     if !ran.is_told() {
         return Err(Fail::from("words behind `jdwp: ` for each status but 0"));
@@ -88,7 +86,7 @@ fn status_of<R: Files + AllocGlobal>(rt: &R, words: &[&str]) -> Result<u8, Fail>
 }
 
 /// Whether the words are refused with status 1, and all of these texts stand on standard error, the first behind `jdwp: `.
-fn is_refused<R: Files + AllocGlobal>(
+pub(crate) fn is_refused<R: Files + AllocGlobal>(
     rt: &R,
     words: &[&str],
     texts: &[&str],
@@ -108,36 +106,78 @@ fn is_refused<R: Files + AllocGlobal>(
     Ok(is_refused)
 }
 
-#[test]
-fn a_plan_of_a_file_is_run(rt: HostRuntime) -> Result<(), Fail> {
-    let (plan, from, to) = ("attach_plan", "attach_from", "attach_to");
-    fs::write(
-        &rt,
-        plan,
-        "ask 1 8\nask 11 12 0000000000000001\nask 1 6\nanswers\n",
-    )?;
-    fs::write(&rt, from, ANSWERS.as_slice())?;
-    let words = [
-        "attach", plan, "--from", from, "--to", to, "--turns", "1000",
-    ];
-    let ran = run_words(&rt, &words)?;
-    let told = "< hello
+/// The words are run with this status, and these are printed.
+fn is_run<R: Files + AllocGlobal + Abort>(
+    rt: &R,
+    words: &[&str],
+    status: u8,
+    out: &str,
+    err: &str,
+) -> Result<(), Fail> {
+    let ran = run_words(rt, words)?;
+    expect_same_for(rt, &ran.status, &status, &err);
+    expect_same_for(rt, &ran.out.as_slice(), &out.as_bytes(), &err);
+    expect_same_for(rt, &ran.err.as_slice(), &err.as_bytes(), &err);
+    Ok(())
+}
+
+/// The file holds these bytes.
+fn holds<R: Files + AllocGlobal + Abort>(rt: &R, file: &str, bytes: &[u8]) -> Result<(), Fail> {
+    let found = fs::read(rt, file)?;
+    expect_same(rt, &found.as_slice(), &bytes);
+    Ok(())
+}
+
+pub(crate) fn remove<R: Files>(rt: &R, files: &[&str]) -> Result<(), Fail> {
+    for file in files {
+        fs::remove_file(rt, *file)?;
+    }
+    Ok(())
+}
+
+const PLAN: &str = "ask 1 8\nask 11 12 0000000000000001\nask 1 6\nanswers\n";
+
+/// What is printed as the plan is carried out.
+const PRINTED: &str = "< hello
 < 1 Event.Composite 0 [(90, 0, #1)]
 < 1 reply VirtualMachine.IDSizes 0 8 8 8 8 8
 < 2 reply VirtualMachine.Suspend 0
 < 3 reply ThreadReference.SuspendCount 0 1
 < 4 reply VirtualMachine.Dispose 0
 ";
-    expect_same(&rt, &ran.status, &0);
-    expect_same(&rt, &ran.out.as_slice(), &told.as_bytes());
-    assert!(rt; ran.err.is_empty());
-    expect_same(&rt, &fs::read(&rt, to)?.as_slice(), &SESSION.as_slice());
+
+#[test]
+fn a_plan_of_a_file_is_run(rt: HostRuntime) -> Result<(), Fail> {
+    let (plan, from, to) = ("attach_plan", "attach_from", "attach_to");
+    fs::write(&rt, plan, PLAN)?;
+    fs::write(&rt, from, ANSWERS.as_slice())?;
+    let words = [
+        "attach", plan, "--from", from, "--to", to, "--turns", "1000",
+    ];
+    is_run(&rt, &words, 0, PRINTED, "")?;
+    holds(&rt, to, &SESSION)?;
+    remove(&rt, &[plan, from, to])
+}
+
+#[test]
+fn a_plan_that_is_refused_is_told(rt: HostRuntime) -> Result<(), Fail> {
+    let (plan, from, to) = ("refused_plan", "plan_from", "plan_to");
     fs::write(&rt, plan, "ask 1 8\n\nanswers\n")?;
+    fs::write(&rt, from, ANSWERS.as_slice())?;
+    let words = ["attach", plan, "--from", from, "--to", to];
     let refused = ["line 2 of the plan: an empty line"];
     assert!(rt; is_refused(&rt, &words, &refused)?);
     let plus = ["attach", plan, "--from", from, "--to", to, "--turns", "+5"];
     assert!(rt; is_refused(&rt, &plus, &["error: ", "jdwp attach"])?);
     Ok(())
+}
+
+/// What is answered where every thread stands at the limit 1 at the start: VM_START's policy is ALL, and Suspend is refused.
+fn answers_at_the_limit() -> [u8; 111] {
+    let mut answers = ANSWERS;
+    answers[25] = 2;
+    answers[84] = 0x71;
+    answers
 }
 
 #[test]
@@ -156,7 +196,15 @@ fn a_session_of_a_file_is_answered(rt: HostRuntime) -> Result<(), Fail> {
         to,
     ];
     expect_same(&rt, &status_of(&rt, &words)?, &0);
-    expect_same(&rt, &fs::read(&rt, to)?.as_slice(), &ANSWERS.as_slice());
+    holds(&rt, to, &ANSWERS)?;
+    remove(&rt, &[machine, from, to])
+}
+
+#[test]
+fn a_session_at_the_count_limit_is_answered(rt: HostRuntime) -> Result<(), Fail> {
+    let (machine, from, to) = ("limit_machine", "limit_from", "limit_to");
+    fs::write(&rt, machine, MACHINE)?;
+    fs::write(&rt, from, SESSION.as_slice())?;
     let words = [
         "serve-script",
         "--to",
@@ -168,208 +216,100 @@ fn a_session_of_a_file_is_answered(rt: HostRuntime) -> Result<(), Fail> {
         machine,
     ];
     expect_same(&rt, &status_of(&rt, &words)?, &0);
-    // VM_START's policy is ALL, so every thread stands at the limit, and Suspend is refused.
-    let mut want = ANSWERS;
-    want[25] = 2;
-    want[84] = 0x71;
-    expect_same(&rt, &fs::read(&rt, to)?.as_slice(), &want.as_slice());
-    for file in [machine, from, to] {
-        fs::remove_file(&rt, file)?;
-    }
-    Ok(())
+    holds(&rt, to, &answers_at_the_limit())?;
+    remove(&rt, &[machine, from, to])
+}
+
+const LOST: &str = "jdwp: the connection is lost at a read\n";
+
+const LIMIT: &str = "jdwp: the turn limit is reached\n";
+
+/// The session without its last byte.
+const CUT_OFF: [u8; 65] = [
+    0x4a, 0x44, 0x57, 0x50, 0x2d, 0x48, 0x61, 0x6e, 0x64, 0x73, 0x68, 0x61, 0x6b, 0x65, //
+    0x00, 0x00, 0x00, 0x0b, 0x00, 0x00, 0x00, 0x01, 0x00, 0x01, 0x07, //
+    0x00, 0x00, 0x00, 0x0b, 0x00, 0x00, 0x00, 0x02, 0x00, 0x01, 0x08, //
+    0x00, 0x00, 0x00, 0x13, 0x00, 0x00, 0x00, 0x03, 0x00, 0x0b, 0x0c, 0x00, 0x00, 0x00, 0x00, 0x00,
+    0x00, 0x00, 0x01, //
+    0x00, 0x00, 0x00, 0x0b, 0x00, 0x00, 0x00, 0x04, 0x00, 0x01, //
+];
+
+/// What comes, the turns, the status, what is told, and how many bytes are written.
+static ENDS: [(&[u8], &str, u8, &str, usize); 10] = [
+    (
+        b"JDWP-HandshakE",
+        "9",
+        1,
+        "jdwp: fault 4: not the handshake\n",
+        0,
+    ),
+    (
+        b"JDWP-Handshake\x00\x00\x00\x0a",
+        "9",
+        1,
+        "jdwp: fault 1: a packet length below 11\n",
+        43,
+    ),
+    (
+        b"JDWP-Handshake\x00\x01\x00\x01",
+        "9",
+        1,
+        "jdwp: fault 2: a packet length above the limit\n",
+        43,
+    ),
+    (
+        b"JDWP-Handshake\x00\x00\x00\x0b\x00\x00\x00\x01\x01",
+        "9",
+        1,
+        "jdwp: fault 3: packet flags other than 00 and 80\n",
+        43,
+    ),
+    (b"", "9", 2, LOST, 0),
+    (&CUT_OFF, "9", 2, LOST, 100),
+    (&SESSION, "0", 4, LIMIT, 0),
+    (&SESSION, "5", 4, LIMIT, 100),
+    (&SESSION, "6", 0, "", 111),
+    (&SESSION, "4294967295", 0, "", 111),
+];
+
+fn ends_so<R: Files + AllocGlobal + Abort>(
+    rt: &R,
+    input: &[u8],
+    turns: &str,
+    status: u8,
+    told: &str,
+    written: usize,
+) -> Result<(), Fail> {
+    let (machine, from, to) = ("ends_machine", "ends_from", "ends_to");
+    fs::write(rt, from, input)?;
+    let words = [
+        "serve-script",
+        machine,
+        "--from",
+        from,
+        "--to",
+        to,
+        "--start",
+        "none",
+        "--turns",
+        turns,
+    ];
+    is_run(rt, &words, status, "", told)?;
+    holds(rt, to, &ANSWERS[..written.min(111)])
 }
 
 #[test]
 fn each_end_has_its_status(rt: HostRuntime) -> Result<(), Fail> {
-    let (machine, from, to) = ("ends_machine", "ends_from", "ends_to");
-    fs::write(&rt, machine, MACHINE)?;
-    let lost = "jdwp: the connection is lost at a read\n";
-    let limit = "jdwp: the turn limit is reached\n";
-    let ends: [(&[u8], &str, u8, &str, usize); 10] = [
-        (
-            b"JDWP-HandshakE",
-            "9",
-            1,
-            "jdwp: fault 4: not the handshake\n",
-            0,
-        ),
-        (
-            b"JDWP-Handshake\x00\x00\x00\x0a",
-            "9",
-            1,
-            "jdwp: fault 1: a packet length below 11\n",
-            43,
-        ),
-        (
-            b"JDWP-Handshake\x00\x01\x00\x01",
-            "9",
-            1,
-            "jdwp: fault 2: a packet length above the limit\n",
-            43,
-        ),
-        (
-            b"JDWP-Handshake\x00\x00\x00\x0b\x00\x00\x00\x01\x01",
-            "9",
-            1,
-            "jdwp: fault 3: packet flags other than 00 and 80\n",
-            43,
-        ),
-        (b"", "9", 2, lost, 0),
-        (&SESSION[..65], "9", 2, lost, 100),
-        (&SESSION, "0", 4, limit, 0),
-        (&SESSION, "5", 4, limit, 100),
-        (&SESSION, "6", 0, "", 111),
-        (&SESSION, "4294967295", 0, "", 111),
-    ];
-    for (input, turns, status, told, written) in ends {
-        fs::write(&rt, from, input)?;
-        let words = [
-            "serve-script",
-            machine,
-            "--from",
-            from,
-            "--to",
-            to,
-            "--start",
-            "none",
-            "--turns",
-            turns,
-        ];
-        let ran = run_words(&rt, &words)?;
-        expect_same_for(&rt, &ran.status, &status, &(turns, input));
-        assert!(rt; ran.out.is_empty());
-        assert!(rt; ran.err.as_slice() == told.as_bytes(), "{told}");
-        let bytes = fs::read(&rt, to)?;
-        assert!(rt; ANSWERS.starts_with(bytes.as_slice()));
-        expect_same_for(&rt, &bytes.len(), &written, &(turns, input));
+    fs::write(&rt, "ends_machine", MACHINE)?;
+    for &(input, turns, status, told, written) in ENDS.iter() {
+        ends_so(&rt, input, turns, status, told, written)?;
     }
-    for file in [machine, from, to] {
-        fs::remove_file(&rt, file)?;
-    }
-    Ok(())
+    remove(&rt, &["ends_machine", "ends_from", "ends_to"])
 }
 
-#[test]
-fn other_words_are_refused(rt: HostRuntime) -> Result<(), Fail> {
-    let refused: [&[&str]; 16] = [
-        &[],
-        &["--help"],
-        &["help"],
-        &["-h"],
-        &["--version"],
-        &["serve"],
-        &["serve-script"],
-        &["serve-script", "--help"],
-        &["serve-script", "words_machine"],
-        &["serve-script", "words_machine", "--from", "words_from"],
-        &["serve-script", "words_machine", "--to", "words_to"],
-        &["serve-script", "--from", "words_from", "--to", "words_to"],
-        &[
-            "serve-script",
-            "words_machine",
-            "words_from",
-            "--from",
-            "words_from",
-            "--to",
-            "words_to",
-        ],
-        &[
-            "serve-script",
-            "words_machine",
-            "--from",
-            "words_from",
-            "--to",
-        ],
-        &[
-            "serve-script",
-            "words_machine",
-            "--from",
-            "words_from",
-            "--from",
-            "words_from",
-            "--to",
-            "words_to",
-        ],
-        &[
-            "serve-script",
-            "words_machine",
-            "--from",
-            "words_from",
-            "--to",
-            "words_to",
-            "--to",
-            "words_to",
-        ],
-    ];
-    fs::write(&rt, "words_machine", MACHINE)?;
-    fs::write(&rt, "words_from", SESSION.as_slice())?;
-    for words in refused {
-        expect_same_for(&rt, &status_of(&rt, words)?, &1, &words);
-    }
-    let base = [
-        "serve-script",
-        "words_machine",
-        "--from",
-        "words_from",
-        "--to",
-        "words_to",
-    ];
-    let options: [&[&str]; 28] = [
-        &["--port", "5"],
-        &["--start"],
-        &["--start", ""],
-        &["--start", "some"],
-        &["--start", "ALL"],
-        &["--start", "all", "--start", "all"],
-        &["--count-limit"],
-        &["--count-limit", ""],
-        &["--count-limit", "0"],
-        &["--count-limit", "2147483648"],
-        &["--count-limit", "4294967297"],
-        &["--count-limit", "+5"],
-        &["--count-limit", "-5"],
-        &["--count-limit", " 5"],
-        &["--count-limit", "5 "],
-        &["--count-limit", "0x5"],
-        &["--count-limit", "5", "--count-limit", "5"],
-        &["--turns"],
-        &["--turns", ""],
-        &["--turns", "4294967296"],
-        &["--turns", "18446744073709551617"],
-        &["--turns", "+5"],
-        &["--turns=+5"],
-        &["--turns", "-5"],
-        &["--turns", "5.0"],
-        &["--turns", "1_000"],
-        &["--turns", "five"],
-        &["--turns", "5", "--turns", "5"],
-    ];
-    for option in options {
-        let mut words = Vec::new(rt.alloc());
-        words.extend_from_slice(&base)?;
-        words.extend_from_slice(option)?;
-        expect_same_for(&rt, &status_of(&rt, words.as_slice())?, &1, &option);
-    }
-    assert!(rt;
-        fs::read(&rt, "words_to").is_err(),
-        "refused words make no file"
-    );
-    let taken: [&[&str]; 4] = [
-        &["--start", "all"],
-        &["--start=none"],
-        &["--count-limit", "2147483647"],
-        &["--turns", "007"],
-    ];
-    for option in taken {
-        let mut words = Vec::new(rt.alloc());
-        words.extend_from_slice(&base)?;
-        words.extend_from_slice(option)?;
-        expect_same_for(&rt, &status_of(&rt, words.as_slice())?, &0, &option);
-    }
-    for file in ["words_machine", "words_from", "words_to"] {
-        fs::remove_file(&rt, file)?;
-    }
-    Ok(())
+/// Refused words make no file.
+pub(crate) fn is_not_made<R: Files + AllocGlobal + Abort>(rt: &R, file: &str) {
+    assert!(rt; fs::read(rt, file).is_err());
 }
 
 const CAPTURE: &str = "> 4a4457502d48616e647368616b65
@@ -388,32 +328,33 @@ const SHOWN: &str = "> hello
 < 3 reply ThreadReference.SuspendCount 0 1
 ";
 
+/// The capture is shown and judged so.
+fn is_told_of<R: Files + AllocGlobal + Abort>(
+    rt: &R,
+    capture: &str,
+    status: u8,
+    shown: &str,
+    judged: &str,
+) -> Result<(), Fail> {
+    let file = "capture";
+    fs::write(rt, file, capture)?;
+    is_run(rt, &["show", file], status, shown, "")?;
+    is_run(rt, &["check", file], status, judged, "")?;
+    remove(rt, &[file])
+}
+
 #[test]
 fn captures_are_shown_and_checked(rt: HostRuntime) -> Result<(), Fail> {
-    let file = "capture";
-    let rows = [
-        (CAPTURE, SHOWN, "yes\n", 0),
-        (
-            "> 4a4457502d48616e647368616b65\n> 0000000a\n",
-            "> hello\nline 2: fault 1\n",
-            "no: line 2: fault 1\n",
-            1,
-        ),
-    ];
-    for (capture, shown, judged, status) in rows {
-        fs::write(&rt, file, capture)?;
-        let ran = run_words(&rt, &["show", file])?;
-        expect_same(&rt, &ran.status, &status);
-        assert!(rt; ran.out.as_slice() == shown.as_bytes());
-        assert!(rt; ran.err.is_empty());
-        let ran = run_words(&rt, &["check", file])?;
-        expect_same(&rt, &ran.status, &status);
-        assert!(rt; ran.out.as_slice() == judged.as_bytes());
-        assert!(rt; ran.err.is_empty());
-    }
+    is_told_of(&rt, CAPTURE, 0, SHOWN, "yes\n")?;
+    is_told_of(
+        &rt,
+        "> 4a4457502d48616e647368616b65\n> 0000000a\n",
+        1,
+        "> hello\nline 2: fault 1\n",
+        "no: line 2: fault 1\n",
+    )?;
     expect_same(&rt, &status_of(&rt, &["show"])?, &1);
-    expect_same(&rt, &status_of(&rt, &["check", file, file])?, &1);
-    fs::remove_file(&rt, file)?;
+    expect_same(&rt, &status_of(&rt, &["check", "capture", "capture"])?, &1);
     Ok(())
 }
 
@@ -440,289 +381,164 @@ impl Write for Output {
     }
 }
 
+/// The capture is shown on an output that has so much room, and then fails so.
+fn breaks_at<R: Files + AllocGlobal + Abort>(rt: &R, kind: ErrorKind, room: usize, told: &str) {
+    let mut out = Output {
+        bytes: Vec::new(rt.alloc()),
+        room,
+        kind,
+    };
+    let mut err = Cursor::new(Vec::new(rt.alloc()));
+    let words = ["jdwp", "show", "breaks_capture"];
+    expect_same(rt, &run(rt, &words, &mut out, &mut err), &2);
+    expect_same(
+        rt,
+        &Some(out.bytes.as_slice()),
+        &SHOWN.as_bytes().get(..room),
+    );
+    expect_same(rt, &err.get_ref().as_slice(), &told.as_bytes());
+}
+
 #[test]
 fn an_output_that_breaks_is_status_2(rt: HostRuntime) -> Result<(), Fail> {
-    let file = "breaks_capture";
-    fs::write(&rt, file, CAPTURE)?;
-    let rows = [
-        (ErrorKind::BrokenPipe, ""),
-        (
-            ErrorKind::StorageFull,
-            "jdwp: the output can't be written: no storage space\n",
-        ),
-    ];
-    for (kind, told) in rows {
-        for room in [0, 1, 8, 100] {
-            let mut out = Output {
-                bytes: Vec::new(rt.alloc()),
-                room,
-                kind,
-            };
-            let mut err = Cursor::new(Vec::new(rt.alloc()));
-            expect_same(
-                &rt,
-                &run(&rt, &["jdwp", "show", file], &mut out, &mut err),
-                &2,
-            );
-            expect_same(&rt, &out.bytes.len(), &room);
-            assert!(rt; SHOWN.as_bytes().starts_with(out.bytes.as_slice()));
-            assert!(rt; err.get_ref().as_slice() == told.as_bytes());
-        }
+    fs::write(&rt, "breaks_capture", CAPTURE)?;
+    let full = "jdwp: the output can't be written: no storage space\n";
+    for room in [0, 1, 8, 100] {
+        breaks_at(&rt, ErrorKind::BrokenPipe, room, "");
+        breaks_at(&rt, ErrorKind::StorageFull, room, full);
     }
-    fs::remove_file(&rt, file)?;
+    remove(&rt, &["breaks_capture"])
+}
+
+/// A capture in this file can't be used, for this reason.
+fn is_no_capture<R: Files + AllocGlobal + Abort>(
+    rt: &R,
+    file: &str,
+    text: &str,
+) -> Result<(), Fail> {
+    assert!(rt; is_refused(rt, &["show", file], &[text])?);
+    assert!(rt; is_refused(rt, &["check", file], &[text])?);
     Ok(())
 }
 
 #[test]
+fn a_capture_that_can_not_be_used_is_named(rt: HostRuntime) -> Result<(), Fail> {
+    fs::create_dir(&rt, "no_folder")?;
+    fs::write(&rt, "no_text", b"> 4a\n> \xff".as_slice())?;
+    is_no_capture(&rt, "no_file", "no_file: no such file or folder\n")?;
+    is_no_capture(&rt, "no_folder", "no_folder: a folder, not a file\n")?;
+    let not_text = "no_text: not UTF-8 at byte 7, counted from 0\n";
+    is_no_capture(&rt, "no_text", not_text)?;
+    fs::remove_file(&rt, "no_text")?;
+    fs::remove_dir(&rt, "no_folder")?;
+    Ok(())
+}
+
+/// The machine, what comes, where what is sent goes, and what is told.
+static UNUSED: [(&str, &str, &str, &str); 6] = [
+    (
+        "named_absent",
+        "named_other",
+        "named_to",
+        "named_absent: no such file or folder\n",
+    ),
+    (
+        "named_folder",
+        "named_other",
+        "named_to",
+        "named_folder: a folder, not a file\n",
+    ),
+    (
+        "named_other",
+        "named_absent",
+        "named_to",
+        "named_absent: no such file or folder\n",
+    ),
+    (
+        "named_other",
+        "named_folder",
+        "named_to",
+        "named_folder: a folder, not a file\n",
+    ),
+    (
+        "named_other",
+        "named_other",
+        "named_folder",
+        "named_folder: a folder, not a file\n",
+    ),
+    (
+        "named_other",
+        "named_other",
+        "named_absent/to",
+        "named_absent/to: no such file or folder\n",
+    ),
+];
+
+#[test]
 fn a_file_that_can_not_be_used_is_named(rt: HostRuntime) -> Result<(), Fail> {
-    let (folder, absent, other) = ("named_folder", "named_absent", "named_other");
-    fs::create_dir(&rt, folder)?;
-    fs::write(&rt, other, b"> 4a\n> \xff".as_slice())?;
-    for command in ["show", "check"] {
-        assert!(rt;
-            is_refused(
-                &rt,
-                &[command, absent],
-                &["named_absent: no such file or folder\n"]
-            )?
-        );
-        assert!(rt;
-            is_refused(
-                &rt,
-                &[command, folder],
-                &["named_folder: a folder, not a file\n"]
-            )?
-        );
-        let not_text = "named_other: not UTF-8 at byte 7, counted from 0\n";
-        assert!(rt; is_refused(&rt, &[command, other], &[not_text])?);
-    }
-    let rows = [
-        (
-            [absent, other, "named_to"],
-            "named_absent: no such file or folder\n",
-        ),
-        (
-            [folder, other, "named_to"],
-            "named_folder: a folder, not a file\n",
-        ),
-        (
-            [other, absent, "named_to"],
-            "named_absent: no such file or folder\n",
-        ),
-        (
-            [other, folder, "named_to"],
-            "named_folder: a folder, not a file\n",
-        ),
-        (
-            [other, other, folder],
-            "named_folder: a folder, not a file\n",
-        ),
-        (
-            [other, other, "named_absent/to"],
-            "named_absent/to: no such file or folder\n",
-        ),
-    ];
-    for ([machine, from, to], text) in rows {
+    fs::create_dir(&rt, "named_folder")?;
+    fs::write(&rt, "named_other", b"> 4a\n> \xff".as_slice())?;
+    for &(machine, from, to, text) in UNUSED.iter() {
         let words = ["serve-script", machine, "--from", from, "--to", to];
         assert!(rt; is_refused(&rt, &words, &[text])?, "{text}");
-        assert!(rt;
-            fs::read(&rt, "named_to").is_err(),
-            "made though another can't be used"
-        );
+        is_not_made(&rt, "named_to");
     }
-    let words = ["serve-script", other, "--from", other, "--to", "named_to"];
-    let not_text = "named_other: not UTF-8 at byte 7, counted from 0\n";
-    assert!(rt; is_refused(&rt, &words, &[not_text])?);
-    fs::remove_file(&rt, "named_to")?;
-    fs::remove_file(&rt, other)?;
-    fs::remove_dir(&rt, folder)?;
+    fs::remove_file(&rt, "named_other")?;
+    fs::remove_dir(&rt, "named_folder")?;
     Ok(())
+}
+
+#[test]
+fn a_machine_that_is_no_text_is_named(rt: HostRuntime) -> Result<(), Fail> {
+    let (other, to) = ("text_other", "text_to");
+    fs::write(&rt, other, b"> 4a\n> \xff".as_slice())?;
+    let words = ["serve-script", other, "--from", other, "--to", to];
+    let not_text = "text_other: not UTF-8 at byte 7, counted from 0\n";
+    assert!(rt; is_refused(&rt, &words, &[not_text])?);
+    remove(&rt, &[to, other])
+}
+
+/// A part of the machine, what stands for it, and what is told.
+static SCRIPTS: [(&str, &str, &str); 5] = [
+    (
+        "\"name\":\"A\",",
+        "\"name\":\"A\"",
+        "fault 21: the text is not JSON\n",
+    ),
+    (
+        "\"last\":9,",
+        "",
+        "fault 22: the member last is missing or of another type\n",
+    ),
+    ("{\"id\":2,", "{\"id\":1,", "fault 23: an id stands twice\n"),
+    (
+        "[8,8,8,8,8]",
+        "[8,8,8,8,9]",
+        "fault 24: an id is too wide\n",
+    ),
+    ("\"super\":0", "\"super\":7", "fault 25: a bad reference\n"),
+];
+
+fn is_no_script<R: Files + AllocGlobal + Abort>(
+    rt: &R,
+    part: &str,
+    other: &str,
+    text: &str,
+) -> Result<(), Fail> {
+    let (machine, from, to) = ("refused_machine", "refused_from", "refused_to");
+    let script = MACHINE.replacen(rt.alloc(), part, other, 1)?;
+    fs::write(rt, machine, script.as_str())?;
+    let words = ["serve-script", machine, "--from", from, "--to", to];
+    assert!(rt; is_refused(rt, &words, &[text])?, "{text}");
+    holds(rt, to, &[])
 }
 
 /// A script that is refused is told by its fault's number and words, and by the name of a missing member; nothing is sent.
 #[test]
 fn a_script_that_is_refused_is_told(rt: HostRuntime) -> Result<(), Fail> {
-    let (alloc, machine, from, to) = (rt.alloc(), "refused_machine", "refused_from", "refused_to");
-    fs::write(&rt, from, SESSION.as_slice())?;
-    let rows = [
-        (
-            "\"name\":\"A\",",
-            "\"name\":\"A\"",
-            "fault 21: the text is not JSON\n",
-        ),
-        (
-            "\"last\":9,",
-            "",
-            "fault 22: the member last is missing or of another type\n",
-        ),
-        ("{\"id\":2,", "{\"id\":1,", "fault 23: an id stands twice\n"),
-        (
-            "[8,8,8,8,8]",
-            "[8,8,8,8,9]",
-            "fault 24: an id is too wide\n",
-        ),
-        ("\"super\":0", "\"super\":7", "fault 25: a bad reference\n"),
-    ];
-    for (part, other, text) in rows {
-        let script = MACHINE.replacen(alloc, part, other, 1)?;
-        fs::write(&rt, machine, script.as_str())?;
-        let words = ["serve-script", machine, "--from", from, "--to", to];
-        assert!(rt; is_refused(&rt, &words, &[text])?, "{text}");
-        assert!(rt; fs::read(&rt, to)?.is_empty());
+    fs::write(&rt, "refused_from", SESSION.as_slice())?;
+    for &(part, other, text) in SCRIPTS.iter() {
+        is_no_script(&rt, part, other, text)?;
     }
-    for file in [machine, from, to] {
-        fs::remove_file(&rt, file)?;
-    }
-    Ok(())
-}
-
-/// Words that are refused are told with the usage, and `--help` tells each command and option.
-#[test]
-fn words_help(rt: HostRuntime) -> Result<(), Fail> {
-    let rows: [(&[&str], &[&str]); 12] = [
-        (
-            &[],
-            &[
-                "error: 'jdwp' requires a subcommand but one was not provided",
-                "show, check, serve-script",
-                "Usage: ",
-            ],
-        ),
-        (
-            &["--help"],
-            &[
-                "Ends of the Java Debug Wire Protocol",
-                "Usage: ",
-                "\n  show ",
-                "\n  check ",
-                "\n  serve-script ",
-                "--help",
-            ],
-        ),
-        (
-            &["serve-script", "--help"],
-            &[
-                "Serves",
-                "Usage: ",
-                "<MACHINE>",
-                "--from <FILE>",
-                "--to <FILE>",
-                "--start <WHICH>",
-                "--count-limit <N>",
-                "--turns <N>",
-            ],
-        ),
-        (
-            &["show", "--help"],
-            &["Shows a capture", "Usage: ", "<FILE>"],
-        ),
-        (
-            &["shows"],
-            &["error: unrecognized subcommand 'shows'", "Usage: "],
-        ),
-        (&["show"], &["error: ", "<FILE>", "Usage: "]),
-        (
-            &["show", "f", "--port"],
-            &["error: unexpected argument '--port'", "Usage: "],
-        ),
-        (
-            &["serve-script", "m", "--from", "f"],
-            &["error: ", "--to <FILE>", "Usage: "],
-        ),
-        (
-            &[
-                "serve-script",
-                "m",
-                "--from",
-                "f",
-                "--to",
-                "t",
-                "--start",
-                "some",
-            ],
-            &[
-                "error: invalid value 'some' for '--start <WHICH>'",
-                "all, none",
-            ],
-        ),
-        (
-            &[
-                "serve-script",
-                "m",
-                "--from",
-                "f",
-                "--to",
-                "t",
-                "--count-limit",
-                "0",
-            ],
-            &["error: invalid value '0' for '--count-limit <N>': 0 is not in 1..=2147483647"],
-        ),
-        (
-            &[
-                "serve-script",
-                "m",
-                "--from",
-                "f",
-                "--to",
-                "t",
-                "--turns",
-                "five",
-            ],
-            &["error: invalid value 'five' for '--turns <N>'"],
-        ),
-        (
-            &[
-                "serve-script",
-                "m",
-                "--from",
-                "f",
-                "--to",
-                "t",
-                "--turns",
-                "+5",
-            ],
-            &[
-                "error: invalid value '+5' for '--turns <N>': a number is digits alone",
-                "Usage: jdwp serve-script ",
-            ],
-        ),
-    ];
-    for (words, texts) in rows {
-        assert!(rt; is_refused(&rt, words, texts)?, "{words:?}");
-    }
-    Ok(())
-}
-
-#[test]
-fn options_have_defaults(rt: HostRuntime) -> Result<(), Fail> {
-    let (alloc, machine, from, to) = (rt.alloc(), "m", "f", "t");
-    let base = ["jdwp", "serve-script", machine, "--from", from, "--to", to];
-    let rows: [(&[&str], bool, u32, u32); 5] = [
-        (&[], true, 65535, 100000),
-        (&["--start", "none"], false, 65535, 100000),
-        (&["--start=all"], true, 65535, 100000),
-        (&["--count-limit", "2147483647"], true, 2147483647, 100000),
-        (&["--turns", "007"], true, 65535, 7),
-    ];
-    for (more, start_all, count_limit, turns) in rows {
-        let mut words = Vec::new(alloc);
-        words.extend_from_slice(&base)?;
-        words.extend_from_slice(more)?;
-        let settings = Settings::new(start_all, count_limit, Limits::standard()).ok_or(
-            "a count limit",
-        )?;
-        let want = Words::ServeScript(ServeScript {
-            machine,
-            from,
-            to,
-            settings,
-            turns,
-        });
-        match jdwp_words::read(alloc, words.as_slice()) {
-            Ok(found) => expect_same_for(&rt, &found, &want, &more),
-            Err(_) => return Err(Fail::from("words that read")),
-        }
-    }
-    Ok(())
+    remove(&rt, &["refused_machine", "refused_from", "refused_to"])
 }

@@ -1,9 +1,8 @@
 //! Worked examples of frames.
 use crate::asserts::expect_same;
-use crate::rows::row;
 use jdwp_wire::{
-    FrameFault, HANDSHAKE, Header, IdKind, IdSizes, Limits, Next, NextHello, PacketKind, Width,
-    names_error_codes, next_hello, next_packet, next_packet_within,
+    ErrorCode, FrameFault, HANDSHAKE, Header, IdKind, IdSizes, Limits, Next, NextHello, PacketKind,
+    Width, names_error_codes, next_hello, next_packet, next_packet_within,
 };
 use std::test::Fail;
 
@@ -32,88 +31,86 @@ fn the_handshake(rt: HostRuntime) {
     );
 }
 
+/// What stands in front of the bytes, without the packet: its header, its body and how many bytes it takes.
+fn front(bytes: &[u8]) -> Result<Option<(Header, &[u8], usize)>, FrameFault> {
+    match next_packet(bytes) {
+        Next::More => Ok(None),
+        Next::Fault(fault) => Err(fault),
+        Next::Whole(packet, used) => Ok(Some((packet.header, packet.body, used))),
+    }
+}
+
+/// Bytes whose last shows a fault, and its number.
+static FAULTS: [(&[u8], FrameFault, u16); 6] = [
+    (&[0, 0, 0, 10], FrameFault::ShortLength, 1),
+    (&[0, 0, 0, 0], FrameFault::ShortLength, 1),
+    (&[0, 1, 0, 1], FrameFault::TooLong, 2),
+    (&[0xff, 0xff, 0xff, 0xff], FrameFault::TooLong, 2),
+    (&[0, 0, 0, 11, 0, 0, 0, 1, 1], FrameFault::BadFlags, 3),
+    (&[0, 1, 0, 0, 0, 0, 0, 1, 0x7f], FrameFault::BadFlags, 3),
+];
+
 #[test]
 fn faults_as_soon_as_they_show(rt: HostRuntime) {
-    let rows: [(&[u8], FrameFault, u16); 6] = [
-        row((&[0, 0, 0, 10], FrameFault::ShortLength, 1)),
-        row((&[0, 0, 0, 0], FrameFault::ShortLength, 1)),
-        row((&[0, 1, 0, 1], FrameFault::TooLong, 2)),
-        row((&[0xff, 0xff, 0xff, 0xff], FrameFault::TooLong, 2)),
-        row((&[0, 0, 0, 11, 0, 0, 0, 1, 1], FrameFault::BadFlags, 3)),
-        row((&[0, 1, 0, 0, 0, 0, 0, 1, 0x7f], FrameFault::BadFlags, 3)),
-    ];
-    for (bytes, wanted, number) in rows {
-        match next_packet(bytes) {
-            Next::Fault(fault) => expect_same(&rt, &fault, &wanted),
-            _ => assert!(rt; false, "no fault"),
-        }
+    for &(bytes, wanted, number) in FAULTS.iter() {
+        expect_same(&rt, &front(bytes), &Err(wanted));
         expect_same(&rt, &wanted.number(), &number);
-        if bytes.len() > 0 {
-            match next_packet(&bytes[..bytes.len() - 1]) {
-                Next::More => {}
-                _ => assert!(rt; false, "not more"),
-            }
+        if let Some((_, before)) = bytes.split_last() {
+            expect_same(&rt, &front(before), &Ok(None));
         }
     }
 }
 
 #[test]
-fn packets_and_their_headers(rt: HostRuntime) {
+fn a_command_and_its_header(rt: HostRuntime) {
     let command = [0, 0, 0, 13, 0, 0, 0, 7, 0, 1, 8, 0xaa, 0xbb, 0xcc];
-    match next_packet(&command) {
-        Next::Whole(packet, used) => {
-            let header = Header {
-                length: 13,
-                id: 7,
-                kind: PacketKind::Command { set: 1, number: 8 },
-            };
-            expect_same(&rt, &used, &13);
-            expect_same(&rt, &packet.header, &header);
-            assert!(rt; packet.body == [0xaa, 0xbb].as_slice());
-            assert!(rt; header.to_bytes().as_slice() == &command[..11]);
-        }
-        _ => assert!(rt; false, "no packet"),
-    }
-    let reply = [0, 0, 0, 11, 0, 0, 0, 3, 0x80, 0, 113];
-    match next_packet(&reply) {
-        Next::Whole(packet, used) => {
-            expect_same(&rt, &used, &11);
-            expect_same(
-                &rt,
-                &packet.header.kind,
-                &PacketKind::Reply {
-                    error: jdwp_wire::ErrorCode::INTERNAL,
-                },
-            );
-            assert!(rt; packet.body.is_empty());
-            assert!(rt; packet.header.to_bytes().as_slice() == reply.as_slice());
-        }
-        _ => assert!(rt; false, "no packet"),
-    }
+    let header = Header {
+        length: 13,
+        id: 7,
+        kind: PacketKind::Command { set: 1, number: 8 },
+    };
+    let wanted = Ok(Some((header, &command[11..13], 13)));
+    expect_same(&rt, &front(&command), &wanted);
+    expect_same(&rt, &header.to_bytes().as_slice(), &&command[..11]);
 }
 
 #[test]
-fn widths_of_ids(rt: HostRuntime) {
-    match IdSizes::new(1, 2, 3, 4, 8) {
-        Ok(sizes) => {
-            let widths = [
-                sizes.field(),
-                sizes.method(),
-                sizes.object(),
-                sizes.reference(),
-                sizes.frame(),
-            ];
-            assert!(rt; widths == [1, 2, 3, 4, 8]);
-        }
-        Err(_) => assert!(rt; false, "refused"),
-    }
+fn a_reply_and_its_header(rt: HostRuntime) {
+    let reply = [0, 0, 0, 11, 0, 0, 0, 3, 0x80, 0, 113];
+    let header = Header {
+        length: 11,
+        id: 3,
+        kind: PacketKind::Reply {
+            error: ErrorCode::INTERNAL,
+        },
+    };
+    let wanted = Ok(Some((header, &reply[11..], 11)));
+    expect_same(&rt, &front(&reply), &wanted);
+    expect_same(&rt, &header.to_bytes(), &reply);
+}
+
+#[test]
+fn widths_of_ids(rt: HostRuntime) -> Result<(), Fail> {
+    let sizes = IdSizes::new(1, 2, 3, 4, 8)?;
+    let widths = (
+        sizes.field(),
+        sizes.method(),
+        sizes.object(),
+        sizes.reference(),
+        sizes.frame(),
+    );
+    expect_same(&rt, &widths, &(1, 2, 3, 4, 8));
+    Ok(())
+}
+
+#[test]
+fn a_width_that_there_is_not(rt: HostRuntime) {
     for place in 0..5usize {
         for width in [0, 9, 4_294_967_295] {
             let mut widths = [8; 5];
             widths[place] = width;
-            assert!(rt;
-                IdSizes::new(widths[0], widths[1], widths[2], widths[3], widths[4]).is_err()
-            );
+            let [field, method, object, reference, frame] = widths;
+            assert!(rt; IdSizes::new(field, method, object, reference, frame).is_err());
         }
     }
 }
@@ -137,55 +134,52 @@ fn a_width_of_one_kind(rt: HostRuntime) -> Result<(), Fail> {
 }
 
 #[test]
-fn limits_of_sessions(rt: HostRuntime) -> Result<(), Fail> {
-    let standard = Limits::standard();
-    expect_same(&rt, &Limits::new(65536, 64, 64, 64), &Some(standard));
-    let rows = [
-        row((2048, 64, 3, 64, true)),
-        row((2048, 64, 4, 64, false)),
-        row((2047, 64, 3, 64, false)),
-        row((1_048_576, 1024, 1024, 1024, true)),
-        row((1_048_577, 64, 64, 64, false)),
-        row((65536, 1025, 64, 64, false)),
-        row((65536, 0, 64, 64, false)),
-        row((1_048_576, 64, 1025, 64, false)),
-        row((65536, 64, 0, 64, false)),
-        row((65536, 64, 64, 1025, false)),
-        row((65536, 64, 64, 0, false)),
-        row((65536, 64, 4_294_967_295, 64, false)),
-    ];
-    for (packet, live, requests, pending, wanted) in rows {
+fn the_standard_limits(rt: HostRuntime) {
+    let wanted = Some(Limits::standard());
+    expect_same(&rt, &Limits::new(65536, 64, 64, 64), &wanted);
+}
+
+/// The most bytes of a packet, live threads, requests and commands that wait, and whether there are such limits.
+static LIMITS: [(u32, u32, u32, u32, bool); 12] = [
+    (2048, 64, 3, 64, true),
+    (2048, 64, 4, 64, false),
+    (2047, 64, 3, 64, false),
+    (1_048_576, 1024, 1024, 1024, true),
+    (1_048_577, 64, 64, 64, false),
+    (65536, 1025, 64, 64, false),
+    (65536, 0, 64, 64, false),
+    (1_048_576, 64, 1025, 64, false),
+    (65536, 64, 0, 64, false),
+    (65536, 64, 64, 1025, false),
+    (65536, 64, 64, 0, false),
+    (65536, 64, 4_294_967_295, 64, false),
+];
+
+#[test]
+fn limits_of_sessions(rt: HostRuntime) {
+    for &(packet, live, requests, pending, wanted) in LIMITS.iter() {
         let limits = Limits::new(packet, live, requests, pending);
-        expect_same(&rt, &limits.is_some(), &wanted);
-        if let Some(limits) = limits {
-            expect_same(&rt, &limits.packet(), &packet);
-            expect_same(&rt, &limits.live(), &live);
-            expect_same(&rt, &limits.requests(), &requests);
-            expect_same(&rt, &limits.pending(), &pending);
-        }
+        let found = limits.map(|it| (it.packet(), it.live(), it.requests(), it.pending()));
+        let given = (packet, live, requests, pending);
+        expect_same(&rt, &found, &wanted.then_some(given));
     }
-    Ok(())
 }
 
 #[test]
 fn packets_within_limits(rt: HostRuntime) -> Result<(), Fail> {
-    match Limits::new(2048, 64, 3, 64) {
-        Some(limits) => {
-            match next_packet_within(&[0, 0, 8, 1], &limits) {
-                Next::Fault(fault) => expect_same(&rt, &fault, &FrameFault::TooLong),
-                _ => assert!(rt; false, "no fault"),
-            }
-            match next_packet_within(&[0, 0, 8, 0], &limits) {
-                Next::More => {}
-                _ => assert!(rt; false, "not more"),
-            }
-        }
-        None => assert!(rt; false, "no limits"),
-    }
-    match next_packet(&[0, 0, 8, 1]) {
-        Next::More => {}
-        _ => assert!(rt; false, "not more"),
-    }
-    names_error_codes();
+    let limits = Limits::new(2048, 64, 3, 64).ok_or("no limits")?;
+    assert!(rt;
+        matches!(
+            next_packet_within(&[0, 0, 8, 1], &limits),
+            Next::Fault(FrameFault::TooLong)
+        )
+    );
+    assert!(rt; matches!(next_packet_within(&[0, 0, 8, 0], &limits), Next::More));
+    assert!(rt; matches!(next_packet(&[0, 0, 8, 1]), Next::More));
     Ok(())
+}
+
+#[test]
+fn error_codes(_rt: HostRuntime) {
+    names_error_codes();
 }

@@ -17,13 +17,13 @@ mod happening_tests;
 #[cfg(test)]
 mod request_tests;
 #[cfg(test)]
-mod rows;
-#[cfg(test)]
 mod table_tests;
 #[cfg(test)]
 mod trace_tests;
 #[cfg(test)]
 mod value_tests;
+#[cfg(test)]
+mod wire_calls;
 #[cfg(test)]
 mod wire_tests;
 

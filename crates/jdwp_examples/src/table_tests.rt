@@ -2,6 +2,7 @@
 use crate::asserts::expect_same;
 use jdwp_layout::{CommandRow, Entry, Field, Item, Layout, layout_of};
 use std::alloc::Global;
+use std::process::Abort;
 use std::test::Fail;
 
 /// What each command carries: the set and the command, and its names, request and reply. A row with `*` is starred, and
@@ -122,12 +123,9 @@ static ROWS: [(u8, u8, &str); 94] = [
 
 /// What the table has for a command.
 fn expected(set: u8, command: u8) -> Option<&'static str> {
-    for (row_set, row_command, line) in ROWS {
-        if row_set == set && row_command == command {
-            return Some(line);
-        }
-    }
-    None
+    ROWS.iter()
+        .find(|row| row.0 == set && row.1 == command)
+        .map(|row| row.2)
 }
 
 fn field_letters(field: Field) -> &'static str {
@@ -186,59 +184,68 @@ fn push_layout(layout: &Layout, line: &mut String) -> Result<(), Fail> {
 /// The row in the form of the table above.
 fn line_of(alloc: Global, row: &CommandRow) -> Result<String, Fail> {
     let mut line = String::new(alloc);
-    line.push_str(row.set_name)?;
-    line.push_str(".")?;
-    line.push_str(row.name)?;
-    if row.starred {
-        line.push_str("*")?;
-    }
+    push_row(row, &mut line)?;
+    Ok(line)
+}
+
+fn push_row(row: &CommandRow, line: &mut String) -> Result<(), Fail> {
+    let star = if row.starred { "*" } else { "" };
+    write!(line, "{}.{}{star}", row.set_name, row.name)?;
     match row.layouts {
         None => line.push_str(" raw")?,
         Some(layouts) => {
-            push_layout(&layouts.request, &mut line)?;
+            push_layout(&layouts.request, line)?;
             line.push_str(" ->")?;
-            push_layout(&layouts.reply, &mut line)?;
+            push_layout(&layouts.reply, line)?;
         }
     }
-    Ok(line)
+    Ok(())
+}
+
+/// The command's line, if it has a row.
+fn found(alloc: Global, set: u8, command: u8) -> Result<Option<String>, Fail> {
+    match layout_of(set, command) {
+        Some(row) => Ok(Some(line_of(alloc, row)?)),
+        None => Ok(None),
+    }
+}
+
+fn is_as_expected(rt: &impl Abort, alloc: Global, set: u8, command: u8) -> Result<(), Fail> {
+    let line = found(alloc, set, command)?;
+    expect_same(rt, &line.as_deref(), &expected(set, command));
+    Ok(())
 }
 
 #[test]
 fn every_row(rt: HostRuntime) -> Result<(), Fail> {
-    let mut rows: u32 = 0;
-    let mut starred: u32 = 0;
-    let mut raw: u32 = 0;
-    let mut of_target: u32 = 0;
-    for set in 0..256u32 {
-        for command in 0..256u32 {
-            match layout_of(set as u8, command as u8) {
-                None => expect_same(&rt, &expected(set as u8, command as u8), &None),
-                Some(row) => {
-                    let line = line_of(rt.alloc(), row)?;
-                    expect_same(
-                        &rt,
-                        &Some(line.as_str()),
-                        &expected(set as u8, command as u8),
-                    );
-                    rows = rows.saturating_add(1);
-                    if row.starred {
-                        starred = starred.saturating_add(1);
-                    }
-                    if row.layouts.is_none() {
-                        raw = raw.saturating_add(1);
-                    }
-                    if set >= 64 {
-                        of_target = of_target.saturating_add(1);
-                    }
-                }
+    for set in 0..=255u8 {
+        for command in 0..=255u8 {
+            is_as_expected(&rt, rt.alloc(), set, command)?;
+        }
+    }
+    Ok(())
+}
+
+/// How many rows there are, how many of them are starred, how many are raw, how many are a target's commands, and how many are neither.
+fn counts() -> (u32, u32, u32, u32, u32) {
+    let (mut rows, mut starred, mut raw, mut of_target) = (0u32, 0u32, 0u32, 0u32);
+    let mut others = 0u32;
+    for set in 0..=255u8 {
+        for command in 0..=255u8 {
+            if let Some(row) = layout_of(set, command) {
+                rows = rows.saturating_add(1);
+                starred = starred.saturating_add(u32::from(row.starred));
+                raw = raw.saturating_add(u32::from(row.layouts.is_none()));
+                of_target = of_target.saturating_add(u32::from(set >= 64));
+                let is_other = !row.starred && row.layouts.is_some() && set < 64;
+                others = others.saturating_add(u32::from(is_other));
             }
         }
     }
-    expect_same(&rt, &(rows, starred, raw, of_target), &(94, 25, 10, 1));
-    expect_same(
-        &rt,
-        &rows.saturating_sub(starred.saturating_add(raw).saturating_add(of_target)),
-        &58,
-    );
-    Ok(())
+    (rows, starred, raw, of_target, others)
+}
+
+#[test]
+fn rows_are_counted(rt: HostRuntime) {
+    expect_same(&rt, &counts(), &(94, 25, 10, 1, 58));
 }

@@ -1,6 +1,6 @@
 //! Worked examples of values.
 use crate::asserts::expect_same;
-use crate::rows::row;
+use crate::wire_calls::{fails, is_not_passed, is_not_taken, is_written, reads};
 use jdwp_value::{
     ArrayRegion, FieldId, FrameId, Location, MethodId, ObjectId, ObjectTag, ReferenceTypeId, Tag,
     TaggedId, TypeTag, Value, pass_untagged, put_untagged, take_untagged, untagged_size,
@@ -10,84 +10,66 @@ use jdwp_wire::{
     reads_only_encoded, reads_what_is_encoded,
 };
 use std::alloc::Global;
+use std::fmt::Debug;
 use std::process::Abort;
 use std::test::Fail;
 
-/// What a value is as bytes, which `size` counts and `pass_front` passes by.
-fn written<T: Wire>(
-    rt: &impl Abort,
-    alloc: Global,
-    value: &T,
-    sizes: &IdSizes,
-) -> Result<Vec<u8>, Fail> {
-    let mut bytes = Vec::new(alloc);
-    value.put(sizes, &mut bytes)?;
-    expect_same(rt, &value.size(sizes), &Some(bytes.len()));
-    let rest = T::pass_front(bytes.as_slice(), bytes.len(), sizes)?;
-    expect_same(rt, &rest.len(), &0);
-    Ok(bytes)
+/// Bytes, and the value that they are, at widths of one byte.
+static VALUES: [(&[u8], Value); 12] = [
+    (&[0x49, 0xff, 0xff, 0xff, 0xff], Value::Int(4294967295)),
+    (
+        &[0x73, 5],
+        Value::Object(TaggedId {
+            tag: ObjectTag::String,
+            id: ObjectId(5),
+        }),
+    ),
+    (&[0x42, 200], Value::Byte(200)),
+    (&[0x43, 1, 2], Value::Char(258)),
+    (&[0x53, 0xff, 0xff], Value::Short(65535)),
+    (&[0x46, 0x3f, 0x80, 0, 0], Value::Float(0x3f80_0000)),
+    (
+        &[0x44, 0x3f, 0xf0, 0, 0, 0, 0, 0, 0],
+        Value::Double(0x3ff0_0000_0000_0000),
+    ),
+    (&[0x4a, 0, 0, 0, 0, 0, 0, 1, 0], Value::Long(256)),
+    (&[0x56], Value::Void),
+    (&[0x5a, 0], Value::Boolean(false)),
+    (&[0x5a, 1], Value::Boolean(true)),
+    (
+        &[0x4c, 0],
+        Value::Object(TaggedId {
+            tag: ObjectTag::Object,
+            id: ObjectId(0),
+        }),
+    ),
+];
+
+/// The bytes are this value, whose tag is the first of them.
+fn is_value(rt: &impl Abort, alloc: Global, bytes: &[u8], value: Value) -> Result<(), Fail> {
+    let sizes = IdSizes::new(1, 1, 1, 1, 1)?;
+    reads(rt, alloc, bytes, &sizes, value, bytes.len());
+    is_written(rt, alloc, &value, &sizes, bytes)?;
+    expect_same(rt, &bytes.first().copied(), &Some(value.tag().byte()));
+    Ok(())
 }
 
 #[test]
 fn values(rt: HostRuntime) -> Result<(), Fail> {
-    let sizes = IdSizes::new(1, 1, 1, 1, 1)?;
-    let text = TaggedId {
-        tag: ObjectTag::String,
-        id: ObjectId(5),
-    };
-    let rows: [(&[u8], Value); 12] = [
-        row((&[0x49, 0xff, 0xff, 0xff, 0xff], Value::Int(4294967295))),
-        row((&[0x73, 5], Value::Object(text))),
-        row((&[0x42, 200], Value::Byte(200))),
-        row((&[0x43, 1, 2], Value::Char(258))),
-        row((&[0x53, 0xff, 0xff], Value::Short(65535))),
-        row((&[0x46, 0x3f, 0x80, 0, 0], Value::Float(0x3f80_0000))),
-        row((
-            &[0x44, 0x3f, 0xf0, 0, 0, 0, 0, 0, 0],
-            Value::Double(0x3ff0_0000_0000_0000),
-        )),
-        row((&[0x4a, 0, 0, 0, 0, 0, 0, 1, 0], Value::Long(256))),
-        row((&[0x56], Value::Void)),
-        row((&[0x5a, 0], Value::Boolean(false))),
-        row((&[0x5a, 1], Value::Boolean(true))),
-        row((
-            &[0x4c, 0],
-            Value::Object(TaggedId {
-                tag: ObjectTag::Object,
-                id: ObjectId(0),
-            }),
-        )),
-    ];
-    for (bytes, value) in rows {
-        expect_same(
-            &rt,
-            &Value::take(rt.alloc(), bytes, &sizes),
-            &Ok((value, bytes.len())),
-        );
-        let put = written(&rt, rt.alloc(), &value, &sizes)?;
-        expect_same(&rt, &put.as_slice(), &bytes);
-        expect_same(&rt, &bytes.first().copied(), &Some(value.tag().byte()));
+    for &(bytes, value) in VALUES.iter() {
+        is_value(&rt, rt.alloc(), bytes, value)?;
     }
-    expect_same(
-        &rt,
-        &Value::take(rt.alloc(), &[0x5a, 0x80], &sizes),
-        &Ok((Value::Boolean(true), 2)),
-    );
-    expect_same(
-        &rt,
-        &Value::take(rt.alloc(), &[1], &sizes),
-        &Err(DataFault::BadTag),
-    );
-    expect_same(
-        &rt,
-        &Value::take(rt.alloc(), &[0x49, 1, 2], &sizes),
-        &Err(DataFault::Short(3)),
-    );
-    expect_same(
-        &rt,
-        &Value::take(rt.alloc(), &[], &sizes),
-        &Err(DataFault::Short(0)),
-    );
+    Ok(())
+}
+
+#[test]
+fn faults_of_values(rt: HostRuntime) -> Result<(), Fail> {
+    let sizes = IdSizes::new(1, 1, 1, 1, 1)?;
+    let truth = Value::Boolean(true);
+    reads(&rt, rt.alloc(), &[0x5a, 0x80], &sizes, truth, 2);
+    fails::<Value>(&rt, rt.alloc(), &[1], &sizes, DataFault::BadTag);
+    fails::<Value>(&rt, rt.alloc(), &[0x49, 1, 2], &sizes, DataFault::Short(3));
+    fails::<Value>(&rt, rt.alloc(), &[], &sizes, DataFault::Short(0));
     Ok(())
 }
 
@@ -111,20 +93,22 @@ fn every_tag(rt: HostRuntime) -> Result<(), Fail> {
     Ok(())
 }
 
+/// The value is read from these bytes and written as them.
+fn is_bytes<T: Wire + PartialEq + Debug + Drop + Copy>(
+    rt: &impl Abort,
+    alloc: Global,
+    value: T,
+    sizes: &IdSizes,
+    bytes: &[u8],
+) -> Result<(), Fail> {
+    reads(rt, alloc, bytes, sizes, value, bytes.len());
+    is_written(rt, alloc, &value, sizes, bytes)
+}
+
 #[test]
 fn locations(rt: HostRuntime) -> Result<(), Fail> {
     let sizes = IdSizes::new(1, 1, 1, 1, 1)?;
-    let null = [0u8; 11];
-    expect_same(
-        &rt,
-        &Location::take(rt.alloc(), &null, &sizes),
-        &Ok((Location::Null, 11)),
-    );
-    expect_same(
-        &rt,
-        &written(&rt, rt.alloc(), &Location::Null, &sizes)?.as_slice(),
-        &null.as_slice(),
-    );
+    is_bytes(&rt, rt.alloc(), Location::Null, &sizes, &[0; 11])?;
     let place = Location::At {
         tag: TypeTag::Class,
         class: ReferenceTypeId(10),
@@ -132,108 +116,62 @@ fn locations(rt: HostRuntime) -> Result<(), Fail> {
         index: 0x8000_0000_0000_0003,
     };
     let bytes = [1, 10, 20, 0x80, 0, 0, 0, 0, 0, 0, 3];
-    expect_same(
-        &rt,
-        &Location::take(rt.alloc(), &bytes, &sizes),
-        &Ok((place, 11)),
-    );
-    expect_same(
-        &rt,
-        &written(&rt, rt.alloc(), &place, &sizes)?.as_slice(),
-        &bytes.as_slice(),
-    );
-    expect_same(
-        &rt,
-        &Location::take(rt.alloc(), &[4], &sizes),
-        &Err(DataFault::BadTag),
-    );
-    expect_same(
-        &rt,
-        &Location::take(rt.alloc(), &[0, 1], &sizes),
-        &Err(DataFault::Short(2)),
-    );
-    expect_same(
-        &rt,
-        &Location::take(rt.alloc(), &[0, 1, 0, 0, 0, 0, 0, 0, 0, 0, 0], &sizes),
-        &Err(DataFault::BadTag),
-    );
-    expect_same(
-        &rt,
-        &Location::take(rt.alloc(), &[3, 1, 0, 0, 0, 0, 0, 0, 0, 0], &sizes),
-        &Err(DataFault::Short(10)),
-    );
+    is_bytes(&rt, rt.alloc(), place, &sizes, &bytes)
+}
+
+/// Bytes that are no location at widths of one byte, and their first fault.
+static NO_LOCATIONS: [(&[u8], DataFault); 4] = [
+    (&[4], DataFault::BadTag),
+    (&[0, 1], DataFault::Short(2)),
+    (&[0, 1, 0, 0, 0, 0, 0, 0, 0, 0, 0], DataFault::BadTag),
+    (&[3, 1, 0, 0, 0, 0, 0, 0, 0, 0], DataFault::Short(10)),
+];
+
+#[test]
+fn faults_of_locations(rt: HostRuntime) -> Result<(), Fail> {
+    let sizes = IdSizes::new(1, 1, 1, 1, 1)?;
+    for &(bytes, wanted) in NO_LOCATIONS.iter() {
+        fails::<Location>(&rt, rt.alloc(), bytes, &sizes, wanted);
+        is_not_passed::<Location>(&rt, bytes, &sizes, wanted)?;
+    }
     Ok(())
 }
 
 #[test]
 fn ids_in_their_widths(rt: HostRuntime) -> Result<(), Fail> {
     let sizes = IdSizes::new(2, 4, 8, 3, 5)?;
+    let bytes = [0u8, 0, 0, 0, 0, 0, 1, 2];
+    is_bytes(&rt, rt.alloc(), FieldId(258), &sizes, &bytes[6..])?;
+    is_bytes(&rt, rt.alloc(), MethodId(258), &sizes, &bytes[4..])?;
+    is_bytes(&rt, rt.alloc(), ObjectId(258), &sizes, &bytes)?;
+    is_bytes(&rt, rt.alloc(), ReferenceTypeId(258), &sizes, &bytes[5..])?;
+    is_bytes(&rt, rt.alloc(), FrameId(258), &sizes, &bytes[3..])
+}
+
+#[test]
+fn ids_before_another_byte(rt: HostRuntime) -> Result<(), Fail> {
+    let sizes = IdSizes::new(2, 4, 8, 3, 5)?;
     let bytes = [0u8, 0, 0, 0, 0, 0, 1, 2, 0xaa];
-    expect_same(
-        &rt,
-        &FieldId::take(rt.alloc(), &bytes[6..], &sizes),
-        &Ok((FieldId(258), 2)),
-    );
-    expect_same(
-        &rt,
-        &MethodId::take(rt.alloc(), &bytes[4..], &sizes),
-        &Ok((MethodId(258), 4)),
-    );
-    expect_same(
-        &rt,
-        &ObjectId::take(rt.alloc(), &bytes, &sizes),
-        &Ok((ObjectId(258), 8)),
-    );
-    expect_same(
-        &rt,
-        &ReferenceTypeId::take(rt.alloc(), &bytes[5..], &sizes),
-        &Ok((ReferenceTypeId(258), 3)),
-    );
-    expect_same(
-        &rt,
-        &FrameId::take(rt.alloc(), &bytes[3..], &sizes),
-        &Ok((FrameId(258), 5)),
-    );
-    expect_same(
-        &rt,
-        &written(&rt, rt.alloc(), &FieldId(258), &sizes)?.as_slice(),
-        &&bytes[6..8],
-    );
-    expect_same(
-        &rt,
-        &written(&rt, rt.alloc(), &MethodId(258), &sizes)?.as_slice(),
-        &&bytes[4..8],
-    );
-    expect_same(
-        &rt,
-        &written(&rt, rt.alloc(), &ObjectId(258), &sizes)?.as_slice(),
-        &&bytes[..8],
-    );
-    expect_same(
-        &rt,
-        &written(&rt, rt.alloc(), &ReferenceTypeId(258), &sizes)?.as_slice(),
-        &&bytes[5..8],
-    );
-    expect_same(
-        &rt,
-        &written(&rt, rt.alloc(), &FrameId(258), &sizes)?.as_slice(),
-        &&bytes[3..8],
-    );
+    reads(&rt, rt.alloc(), &bytes[6..], &sizes, FieldId(258), 2);
+    reads(&rt, rt.alloc(), &bytes[4..], &sizes, MethodId(258), 4);
+    reads(&rt, rt.alloc(), &bytes, &sizes, ObjectId(258), 8);
+    let class = ReferenceTypeId(258);
+    reads(&rt, rt.alloc(), &bytes[5..], &sizes, class, 3);
+    reads(&rt, rt.alloc(), &bytes[3..], &sizes, FrameId(258), 5);
+    Ok(())
+}
+
+#[test]
+fn tagged_ids(rt: HostRuntime) -> Result<(), Fail> {
+    let sizes = IdSizes::new(2, 4, 8, 3, 5)?;
     let tagged = TaggedId {
         tag: ObjectTag::Thread,
         id: ObjectId(258),
     };
-    let put = written(&rt, rt.alloc(), &tagged, &sizes)?;
-    expect_same(
-        &rt,
-        &TaggedId::take(rt.alloc(), put.as_slice(), &sizes),
-        &Ok((tagged, 9)),
-    );
-    expect_same(
-        &rt,
-        &TaggedId::take(rt.alloc(), &[0x49, 0, 0, 0, 1], &sizes),
-        &Err(DataFault::BadTag),
-    );
+    let bytes = [0x74, 0, 0, 0, 0, 0, 0, 1, 2];
+    is_bytes(&rt, rt.alloc(), tagged, &sizes, &bytes)?;
+    let value = [0x49, 0, 0, 0, 1];
+    fails::<TaggedId>(&rt, rt.alloc(), &value, &sizes, DataFault::BadTag);
     Ok(())
 }
 
@@ -247,225 +185,215 @@ fn several_widths(rt: HostRuntime) -> Result<(), Fail> {
         index: 7,
     };
     let bytes = [3, 0, 1, 2, 0, 0, 0, 1, 0, 0, 0, 0, 0, 0, 0, 7];
-    expect_same(
-        &rt,
-        &Location::take(rt.alloc(), &bytes, &sizes),
-        &Ok((place, 16)),
-    );
-    expect_same(
-        &rt,
-        &written(&rt, rt.alloc(), &place, &sizes)?.as_slice(),
-        &bytes.as_slice(),
-    );
-    let thread = Value::Object(TaggedId {
-        tag: ObjectTag::Thread,
-        id: ObjectId(513),
-    });
+    is_bytes(&rt, rt.alloc(), place, &sizes, &bytes)?;
     let bytes = [0x74, 0, 0, 0, 0, 0, 0, 2, 1];
-    expect_same(
-        &rt,
-        &Value::take(rt.alloc(), &bytes, &sizes),
-        &Ok((thread, 9)),
-    );
-    expect_same(
-        &rt,
-        &written(&rt, rt.alloc(), &thread, &sizes)?.as_slice(),
-        &bytes.as_slice(),
-    );
-    expect_same(
-        &rt,
-        &written(&rt, rt.alloc(), &Tag::Void, &sizes)?.as_slice(),
-        &[0x56].as_slice(),
-    );
+    is_bytes(&rt, rt.alloc(), THREAD, &sizes, &bytes)?;
+    is_bytes(&rt, rt.alloc(), Tag::Void, &sizes, &[0x56])
+}
+
+const THREAD: Value = Value::Object(TaggedId {
+    tag: ObjectTag::Thread,
+    id: ObjectId(513),
+});
+
+#[test]
+fn a_region_of_wide_ids(rt: HostRuntime) -> Result<(), Fail> {
+    let sizes = IdSizes::new(2, 4, 8, 3, 5)?;
     let bytes = [0x74, 0, 0, 0, 1, 0x74, 0, 0, 0, 0, 0, 0, 2, 1];
-    let (region, used) = ArrayRegion::take(rt.alloc(), &bytes, &sizes)?;
-    expect_same(&rt, &used, &14);
-    expect_same(&rt, &region.elements(), &[thread].as_slice());
-    expect_same(
-        &rt,
-        &written(&rt, rt.alloc(), &region, &sizes)?.as_slice(),
-        &bytes.as_slice(),
-    );
+    let thread = Tag::Object(ObjectTag::Thread);
+    is_region(&rt, rt.alloc(), &sizes, &bytes, thread, &[THREAD])
+}
+
+/// The bytes are a region of this tag and these elements.
+fn is_region(
+    rt: &impl Abort,
+    alloc: Global,
+    sizes: &IdSizes,
+    bytes: &[u8],
+    tag: Tag,
+    elements: &[Value],
+) -> Result<(), Fail> {
+    let region = region_of(rt, alloc, sizes, bytes)?;
+    expect_same(rt, &region.tag(), &tag);
+    expect_same(rt, &region.elements(), &elements);
+    is_written(rt, alloc, &region, sizes, bytes)
+}
+
+/// The region that these bytes are.
+fn region_of(
+    rt: &impl Abort,
+    alloc: Global,
+    sizes: &IdSizes,
+    bytes: &[u8],
+) -> Result<ArrayRegion, Fail> {
+    let (region, used) = ArrayRegion::take(alloc, bytes, sizes)?;
+    expect_same(rt, &used, &bytes.len());
+    Ok(region)
+}
+
+/// The value has an id that is too wide, and what was there is left.
+fn is_too_wide<T: Wire>(rt: &impl Abort, alloc: Global, value: &T) -> Result<(), Fail> {
+    let sizes = IdSizes::new(1, 1, 1, 1, 1)?;
+    let mut bytes = Vec::new(alloc);
+    bytes.push(7)?;
+    let put = value.put(&sizes, &mut bytes);
+    expect_same(rt, &put, &Err(DataFault::IdTooWide));
+    expect_same(rt, &bytes.as_slice(), &[7].as_slice());
     Ok(())
 }
 
+const WIDE: TaggedId = TaggedId {
+    tag: ObjectTag::Thread,
+    id: ObjectId(256),
+};
+
 #[test]
 fn an_id_too_wide_leaves_the_bytes(rt: HostRuntime) -> Result<(), Fail> {
-    let sizes = IdSizes::new(1, 1, 1, 1, 1)?;
-    let mut bytes = Vec::new(rt.alloc());
-    bytes.push(7)?;
-    let wide = ObjectId(256);
+    is_too_wide(&rt, rt.alloc(), &WIDE.id)?;
+    is_too_wide(&rt, rt.alloc(), &WIDE)?;
+    is_too_wide(&rt, rt.alloc(), &Value::Object(WIDE))?;
     let place = Location::At {
         tag: TypeTag::Class,
         class: ReferenceTypeId(1),
         method: MethodId(256),
         index: 0,
     };
-    let tagged = TaggedId {
-        tag: ObjectTag::Thread,
-        id: wide,
-    };
-    expect_same(
-        &rt,
-        &wide.put(&sizes, &mut bytes),
-        &Err(DataFault::IdTooWide),
-    );
-    expect_same(
-        &rt,
-        &place.put(&sizes, &mut bytes),
-        &Err(DataFault::IdTooWide),
-    );
-    expect_same(
-        &rt,
-        &tagged.put(&sizes, &mut bytes),
-        &Err(DataFault::IdTooWide),
-    );
-    expect_same(
-        &rt,
-        &Value::Object(tagged).put(&sizes, &mut bytes),
-        &Err(DataFault::IdTooWide),
-    );
-    let mut elements = Vec::new(rt.alloc());
-    elements.push(Value::Object(TaggedId {
+    is_too_wide(&rt, rt.alloc(), &place)
+}
+
+/// A region of two objects, of which the second has an id that is too wide.
+fn wide_region(alloc: Global) -> Result<ArrayRegion, Fail> {
+    let narrow = TaggedId {
         tag: ObjectTag::Object,
         id: ObjectId(1),
-    }))?;
-    elements.push(Value::Object(tagged))?;
-    let region = ArrayRegion::new(Tag::Object(ObjectTag::Object), elements).ok_or("no region")?;
-    expect_same(
-        &rt,
-        &region.put(&sizes, &mut bytes),
-        &Err(DataFault::IdTooWide),
-    );
+    };
+    let elements = vec![in alloc; Value::Object(narrow), Value::Object(WIDE)]?;
+    Ok(ArrayRegion::new(Tag::Object(ObjectTag::Object), elements).ok_or("no region")?)
+}
+
+#[test]
+fn an_element_too_wide_leaves_the_bytes(rt: HostRuntime) -> Result<(), Fail> {
+    let region = wide_region(rt.alloc())?;
+    is_too_wide(&rt, rt.alloc(), &region)?;
+    let sizes = IdSizes::new(1, 1, 1, 1, 1)?;
     expect_same(&rt, &region.size(&sizes), &Some(9));
-    expect_same(&rt, &bytes.as_slice(), &[7].as_slice());
     Ok(())
 }
+
+/// Bytes, and the tag and the elements of the region that they are, at widths of one byte.
+static REGIONS: [(&[u8], Tag, &[Value]); 3] = [
+    (
+        &[0x49, 0, 0, 0, 2, 0, 0, 0, 1, 0, 0, 0, 2],
+        Tag::Int,
+        &[Value::Int(1), Value::Int(2)],
+    ),
+    (
+        &[0x4c, 0, 0, 0, 1, 0x73, 5],
+        Tag::Object(ObjectTag::Object),
+        &[Value::Object(TaggedId {
+            tag: ObjectTag::String,
+            id: ObjectId(5),
+        })],
+    ),
+    (&[0x5a, 0, 0, 0, 0], Tag::Boolean, &[]),
+];
 
 #[test]
 fn regions(rt: HostRuntime) -> Result<(), Fail> {
     let sizes = IdSizes::new(1, 1, 1, 1, 1)?;
-    let text = Value::Object(TaggedId {
-        tag: ObjectTag::String,
-        id: ObjectId(5),
-    });
-    let rows: [(&[u8], Tag, &[Value]); 3] = [
-        (
-            &[0x49, 0, 0, 0, 2, 0, 0, 0, 1, 0, 0, 0, 2],
-            Tag::Int,
-            &[Value::Int(1), Value::Int(2)],
-        ),
-        (
-            &[0x4c, 0, 0, 0, 1, 0x73, 5],
-            Tag::Object(ObjectTag::Object),
-            &[text],
-        ),
-        (&[0x5a, 0, 0, 0, 0], Tag::Boolean, &[]),
-    ];
-    for (bytes, tag, elements) in rows {
-        let (region, used) = ArrayRegion::take(rt.alloc(), bytes, &sizes)?;
-        expect_same(&rt, &used, &bytes.len());
-        expect_same(&rt, &region.tag(), &tag);
-        expect_same(&rt, &region.elements(), &elements);
-        expect_same(
-            &rt,
-            &written(&rt, rt.alloc(), &region, &sizes)?.as_slice(),
-            &bytes,
-        );
+    for &(bytes, tag, elements) in REGIONS.iter() {
+        is_region(&rt, rt.alloc(), &sizes, bytes, tag, elements)?;
     }
-    let faults: [(&[u8], DataFault); 6] = [
-        (&[0x56, 0, 0, 0, 0], DataFault::BadTag),
-        (&[0x49, 0x7f, 0xff, 0xff, 0xff], DataFault::Short(5)),
-        (&[0x49, 0x80, 0, 0, 0], DataFault::NegativeCount),
-        (&[0x49, 0, 0, 0, 2, 0, 0, 0, 1, 0], DataFault::Short(10)),
-        (&[0x4c, 0, 0, 0, 1, 0x49, 0, 0, 0, 1], DataFault::BadTag),
-        (&[0x4c, 0, 0], DataFault::Short(3)),
-    ];
-    for (bytes, wanted) in faults {
-        match ArrayRegion::take(rt.alloc(), bytes, &sizes) {
-            Ok(_) => assert!(rt; false, "no fault"),
-            Err(fault) => expect_same(&rt, &fault, &wanted),
-        }
+    Ok(())
+}
+
+/// Bytes that are no region at widths of one byte, and their first fault.
+static NO_REGIONS: [(&[u8], DataFault); 9] = [
+    (&[0x56, 0, 0, 0, 0], DataFault::BadTag),
+    (&[0x49, 0x7f, 0xff, 0xff, 0xff], DataFault::Short(5)),
+    (&[0x49, 0x80, 0, 0, 0], DataFault::NegativeCount),
+    (&[0x49, 0, 0, 0, 2, 0, 0, 0, 1, 0], DataFault::Short(10)),
+    (&[0x4c, 0, 0, 0, 1, 0x49], DataFault::BadTag),
+    (&[0x4c, 0, 0, 0, 1, 0x49, 0, 0, 0, 1], DataFault::BadTag),
+    (&[0x4c, 0, 0, 0, 2, 0x73, 5], DataFault::Short(7)),
+    (&[0x4c, 0, 0], DataFault::Short(3)),
+    (&[0x49, 0, 0], DataFault::Short(3)),
+];
+
+#[test]
+fn faults_of_regions(rt: HostRuntime) -> Result<(), Fail> {
+    let sizes = IdSizes::new(1, 1, 1, 1, 1)?;
+    for &(bytes, wanted) in NO_REGIONS.iter() {
+        is_not_taken::<ArrayRegion>(&rt, rt.alloc(), bytes, &sizes, wanted)?;
+        is_not_passed::<ArrayRegion>(&rt, bytes, &sizes, wanted)?;
     }
-    let mut elements = Vec::new(rt.alloc());
-    elements.push(Value::Byte(1))?;
-    assert!(rt; ArrayRegion::new(Tag::Int, elements).is_none());
-    assert!(rt; ArrayRegion::new(Tag::Void, Vec::new(rt.alloc())).is_none());
     Ok(())
 }
 
 #[test]
-fn faults_of_what_is_passed_by(rt: HostRuntime) -> Result<(), Fail> {
-    let sizes = IdSizes::new(1, 1, 1, 1, 1)?;
-    let regions: [(&[u8], DataFault); 6] = [
-        (&[0x56, 0, 0, 0, 0], DataFault::BadTag),
-        (&[0x49, 0x7f, 0xff, 0xff, 0xff], DataFault::Short(5)),
-        (&[0x49, 0x80, 0, 0, 0], DataFault::NegativeCount),
-        (&[0x4c, 0, 0, 0, 1, 0x49], DataFault::BadTag),
-        (&[0x4c, 0, 0, 0, 2, 0x73, 5], DataFault::Short(7)),
-        (&[0x49, 0, 0], DataFault::Short(3)),
-    ];
-    for (bytes, wanted) in regions {
-        match ArrayRegion::pass_front(bytes, bytes.len(), &sizes) {
-            Ok(_) => assert!(rt; false, "no fault"),
-            Err(fault) => expect_same(&rt, &fault, &wanted),
-        }
-        match ArrayRegion::take(rt.alloc(), bytes, &sizes) {
-            Ok(_) => assert!(rt; false, "no fault"),
-            Err(fault) => expect_same(&rt, &fault, &wanted),
-        }
-    }
-    let locations: [(&[u8], DataFault); 3] = [
-        (&[4], DataFault::BadTag),
-        (&[0, 1], DataFault::Short(2)),
-        (&[0, 1, 0, 0, 0, 0, 0, 0, 0, 0, 0], DataFault::BadTag),
-    ];
-    for (bytes, wanted) in locations {
-        match Location::pass_front(bytes, bytes.len(), &sizes) {
-            Ok(_) => assert!(rt; false, "no fault"),
-            Err(fault) => expect_same(&rt, &fault, &wanted),
-        }
-    }
+fn elements_of_another_tag_are_no_region(rt: HostRuntime) -> Result<(), Fail> {
+    let elements = vec![in rt.alloc(); Value::Byte(1)]?;
+    assert!(rt; ArrayRegion::new(Tag::Int, elements).is_none());
     Ok(())
+}
+
+#[test]
+fn void_is_the_tag_of_no_region(rt: HostRuntime) {
+    assert!(rt; ArrayRegion::new(Tag::Void, Vec::new(rt.alloc())).is_none());
+}
+
+/// A region of 40,000 ints.
+fn long_region(alloc: Global) -> Result<Vec<u8>, Fail> {
+    let mut bytes = Vec::new(alloc);
+    bytes.extend_from_slice(&[0x49, 0, 0, 0x9c, 0x40])?;
+    for number in 0..40_000u32 {
+        bytes.extend_from_slice(&number.to_be_bytes())?;
+    }
+    Ok(bytes)
 }
 
 #[test]
 fn a_long_region(rt: HostRuntime) -> Result<(), Fail> {
     let sizes = IdSizes::new(8, 8, 8, 8, 8)?;
-    let mut bytes = Vec::new(rt.alloc());
-    bytes.extend_from_slice(&[0x49, 0, 0, 0x9c, 0x40])?;
-    for number in 0..40_000u32 {
-        bytes.extend_from_slice(&number.to_be_bytes())?;
-    }
-    let (region, used) = ArrayRegion::take(rt.alloc(), bytes.as_slice(), &sizes)?;
-    expect_same(&rt, &used, &160_005);
-    assert_eq!(rt; region.elements().len(), 40_000);
-    expect_same(&rt, &region.elements()[39_999], &Value::Int(39_999));
-    let put = written(&rt, rt.alloc(), &region, &sizes)?;
-    assert!(rt; put.as_slice() == bytes.as_slice());
+    let bytes = long_region(rt.alloc())?;
+    let region = region_of(&rt, rt.alloc(), &sizes, &bytes)?;
+    expect_same(&rt, &region.elements().len(), &40_000);
+    expect_same(&rt, &region.elements().last(), &Some(&Value::Int(39_999)));
+    is_written(&rt, rt.alloc(), &region, &sizes, &bytes)
+}
+
+/// The region of two shorts, or of other bytes of its length.
+fn small_region(alloc: Global, bytes: &[u8; 9]) -> Result<ArrayRegion, Fail> {
+    let sizes = IdSizes::new(1, 1, 1, 1, 1)?;
+    let (region, _) = ArrayRegion::take(alloc, bytes, &sizes)?;
+    Ok(region)
+}
+
+/// Whether regions of these bytes are equal.
+fn are_equal(alloc: Global, one: &[u8; 9], other: &[u8; 9]) -> Result<bool, Fail> {
+    let one = small_region(alloc, one)?;
+    let other = small_region(alloc, other)?;
+    Ok(one == other)
+}
+
+/// The shorts 1 and 2.
+const SHORTS: [u8; 9] = [0x53, 0, 0, 0, 2, 0, 1, 0, 2];
+
+#[test]
+fn regions_are_compared_by_their_elements(rt: HostRuntime) -> Result<(), Fail> {
+    assert!(rt; are_equal(rt.alloc(), &SHORTS, &SHORTS)?);
+    let last = [0x53, 0, 0, 0, 2, 0, 1, 0, 3];
+    assert!(rt; !are_equal(rt.alloc(), &SHORTS, &last)?);
+    let chars = [0x43, 0, 0, 0, 2, 0, 1, 0, 2];
+    assert!(rt; !are_equal(rt.alloc(), &SHORTS, &chars)?);
     Ok(())
 }
 
 #[test]
-fn regions_are_compared_by_their_elements(rt: HostRuntime) -> Result<(), Fail> {
-    let sizes = IdSizes::new(1, 1, 1, 1, 1)?;
-    let bytes = [0x53, 0, 0, 0, 2, 0, 1, 0, 2];
-    let (region, _) = ArrayRegion::take(rt.alloc(), &bytes, &sizes)?;
-    let (same, _) = ArrayRegion::take(rt.alloc(), &bytes, &sizes)?;
-    assert!(rt; region == same);
-    let others = [
-        [0x53, 0, 0, 0, 2, 0, 1, 0, 3],
-        [0x43, 0, 0, 0, 2, 0, 1, 0, 2],
-    ];
-    for bytes in others {
-        let (other, _) = ArrayRegion::take(rt.alloc(), &bytes, &sizes)?;
-        assert!(rt; region != other);
-    }
-    expect_same(
-        &rt,
-        &region.into_elements().as_slice(),
-        &[Value::Short(1), Value::Short(2)].as_slice(),
-    );
+fn a_region_gives_its_elements(rt: HostRuntime) -> Result<(), Fail> {
+    let elements = small_region(rt.alloc(), &SHORTS)?.into_elements();
+    let wanted = [Value::Short(1), Value::Short(2)];
+    expect_same(&rt, &elements.as_slice(), &wanted.as_slice());
     Ok(())
 }
 
@@ -476,41 +404,47 @@ fn type_tags(rt: HostRuntime) {
     expect_same(&rt, &TypeTag::Array.byte(), &3);
 }
 
+/// Bytes, and the value that they are behind its tag.
+static UNTAGGED: [(&[u8], Value); 10] = [
+    (&[200], Value::Byte(200)),
+    (&[1, 2], Value::Char(258)),
+    (
+        &[0x3f, 0xf0, 0, 0, 0, 0, 0, 0],
+        Value::Double(0x3ff0_0000_0000_0000),
+    ),
+    (&[0x3f, 0x80, 0, 0], Value::Float(0x3f80_0000)),
+    (&[0xff, 0xff, 0xff, 0xff], Value::Int(4_294_967_295)),
+    (&[0, 0, 0, 0, 0, 0, 1, 0], Value::Long(256)),
+    (&[0xff, 0xff], Value::Short(65_535)),
+    (&[], Value::Void),
+    (&[1], Value::Boolean(true)),
+    (&[0, 0, 0, 0, 0, 0, 2, 1], THREAD),
+];
+
+/// The value of this tag that these bytes are, which are also passed by.
+fn taken_untagged(rt: &impl Abort, tag: Tag, bytes: &[u8]) -> Result<Value, Fail> {
+    let sizes = IdSizes::new(2, 4, 8, 3, 5)?;
+    expect_same(rt, &untagged_size(tag, &sizes), &bytes.len());
+    let rest = pass_untagged(tag, bytes, bytes.len(), &sizes)?;
+    expect_same(rt, &rest.len(), &0);
+    let (found, rest) = take_untagged(tag, bytes, bytes.len(), &sizes)?;
+    expect_same(rt, &rest.len(), &0);
+    Ok(found)
+}
+
+/// The value without its tag as bytes.
+fn put_without_tag(alloc: Global, value: &Value) -> Result<Vec<u8>, Fail> {
+    let sizes = IdSizes::new(2, 4, 8, 3, 5)?;
+    let mut put = Vec::new(alloc);
+    put_untagged(value, &sizes, &mut put)?;
+    Ok(put)
+}
+
 #[test]
 fn values_without_their_tags(rt: HostRuntime) -> Result<(), Fail> {
-    let sizes = IdSizes::new(2, 4, 8, 3, 5)?;
-    let thread = Value::Object(TaggedId {
-        tag: ObjectTag::Thread,
-        id: ObjectId(513),
-    });
-    let rows: [(&[u8], Value); 10] = [
-        row((&[200], Value::Byte(200))),
-        row((&[1, 2], Value::Char(258))),
-        row((
-            &[0x3f, 0xf0, 0, 0, 0, 0, 0, 0],
-            Value::Double(0x3ff0_0000_0000_0000),
-        )),
-        row((&[0x3f, 0x80, 0, 0], Value::Float(0x3f80_0000))),
-        row((&[0xff, 0xff, 0xff, 0xff], Value::Int(4_294_967_295))),
-        row((&[0, 0, 0, 0, 0, 0, 1, 0], Value::Long(256))),
-        row((&[0xff, 0xff], Value::Short(65_535))),
-        row((&[], Value::Void)),
-        row((&[1], Value::Boolean(true))),
-        row((&[0, 0, 0, 0, 0, 0, 2, 1], thread)),
-    ];
-    for (bytes, value) in rows {
-        let tag = value.tag();
-        expect_same(&rt, &untagged_size(tag, &sizes), &bytes.len());
-        let (found, rest) = take_untagged(tag, bytes, bytes.len(), &sizes)?;
-        expect_same(&rt, &found, &value);
-        expect_same(&rt, &rest.len(), &0);
-        expect_same(
-            &rt,
-            &pass_untagged(tag, bytes, bytes.len(), &sizes)?.len(),
-            &0,
-        );
-        let mut put = Vec::new(rt.alloc());
-        put_untagged(&value, &sizes, &mut put)?;
+    for &(bytes, value) in UNTAGGED.iter() {
+        expect_same(&rt, &taken_untagged(&rt, value.tag(), bytes)?, &value);
+        let put = put_without_tag(rt.alloc(), &value)?;
         expect_same(&rt, &put.as_slice(), &bytes);
     }
     Ok(())

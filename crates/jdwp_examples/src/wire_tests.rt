@@ -1,8 +1,9 @@
 //! Worked examples of data: bytes, booleans, ints, longs and strings.
 use crate::asserts::expect_same;
-use crate::rows::row;
+use crate::wire_calls::{fails, is_not_passed, reads};
 use jdwp_wire::{BadSize, DataFault, FrameFault, IdSizes, NoMemory, Wire};
 use std::alloc::Global;
+use std::fmt::Display;
 use std::process::Abort;
 use std::test::Fail;
 
@@ -18,118 +19,116 @@ fn written<T: Wire>(rt: &impl Abort, alloc: Global, value: &T) -> Result<Vec<u8>
     Ok(bytes)
 }
 
-/// What stands at the front of the bytes.
-fn taken<T: Wire>(rt: &HostRuntime, bytes: &[u8]) -> Result<Result<(T, usize), DataFault>, Fail> {
-    let sizes = IdSizes::new(1, 1, 1, 1, 1)?;
-    Ok(T::take(rt.alloc(), bytes, &sizes))
+/// The value is written as these bytes, behind another byte.
+fn is_put_behind<T: Wire>(
+    rt: &impl Abort,
+    alloc: Global,
+    value: &T,
+    bytes: &[u8],
+) -> Result<(), Fail> {
+    let put = written(rt, alloc, value)?;
+    expect_same(rt, &put.as_slice(), &bytes);
+    Ok(())
 }
 
 #[test]
 fn every_byte_but_zero_is_true(rt: HostRuntime) -> Result<(), Fail> {
+    let sizes = IdSizes::new(1, 1, 1, 1, 1)?;
     for byte in 1..=255u8 {
-        expect_same(&rt, &taken::<bool>(&rt, &[byte, 0])?, &Ok((true, 1)));
+        reads::<bool>(&rt, rt.alloc(), &[byte, 0], &sizes, true, 1);
     }
-    expect_same(&rt, &taken::<bool>(&rt, &[0, 1])?, &Ok((false, 1)));
-    expect_same(&rt, &taken::<bool>(&rt, &[])?, &Err(DataFault::Short(0)));
-    expect_same(
-        &rt,
-        &written(&rt, rt.alloc(), &true)?.as_slice(),
-        &[0xee, 1].as_slice(),
-    );
-    expect_same(
-        &rt,
-        &written(&rt, rt.alloc(), &false)?.as_slice(),
-        &[0xee, 0].as_slice(),
-    );
+    reads::<bool>(&rt, rt.alloc(), &[0, 1], &sizes, false, 1);
+    fails::<bool>(&rt, rt.alloc(), &[], &sizes, DataFault::Short(0));
+    is_put_behind(&rt, rt.alloc(), &true, &[0xee, 1])?;
+    is_put_behind(&rt, rt.alloc(), &false, &[0xee, 0])?;
     Ok(())
 }
 
 #[test]
 fn numbers(rt: HostRuntime) -> Result<(), Fail> {
-    expect_same(
-        &rt,
-        &written(&rt, rt.alloc(), &7u8)?.as_slice(),
-        &[0xee, 7].as_slice(),
-    );
-    expect_same(&rt, &taken::<u8>(&rt, &[255])?, &Ok((255, 1)));
-    expect_same(
-        &rt,
-        &written(&rt, rt.alloc(), &-2i32)?.as_slice(),
-        &[0xee, 0xff, 0xff, 0xff, 0xfe].as_slice(),
-    );
-    expect_same(
-        &rt,
-        &taken::<i32>(&rt, &[0x80, 0, 0, 0, 9])?,
-        &Ok((i32::MIN, 4)),
-    );
-    expect_same(
-        &rt,
-        &taken::<i32>(&rt, &[0x80, 0, 0])?,
-        &Err(DataFault::Short(3)),
-    );
-    expect_same(
-        &rt,
-        &written(&rt, rt.alloc(), &258i64)?.as_slice(),
-        &[0xee, 0, 0, 0, 0, 0, 0, 1, 2].as_slice(),
-    );
-    expect_same(&rt, &taken::<i64>(&rt, &[0xff; 8])?, &Ok((-1, 8)));
-    expect_same(
-        &rt,
-        &taken::<i64>(&rt, &[0xff; 7])?,
-        &Err(DataFault::Short(7)),
-    );
+    let sizes = IdSizes::new(1, 1, 1, 1, 1)?;
+    is_put_behind(&rt, rt.alloc(), &7u8, &[0xee, 7])?;
+    reads::<u8>(&rt, rt.alloc(), &[255], &sizes, 255, 1);
+    is_put_behind(&rt, rt.alloc(), &-2i32, &[0xee, 0xff, 0xff, 0xff, 0xfe])?;
+    reads::<i32>(&rt, rt.alloc(), &[0x80, 0, 0, 0, 9], &sizes, i32::MIN, 4);
+    fails::<i32>(&rt, rt.alloc(), &[0x80, 0, 0], &sizes, DataFault::Short(3));
+    is_put_behind(&rt, rt.alloc(), &258i64, &[0xee, 0, 0, 0, 0, 0, 0, 1, 2])?;
+    reads::<i64>(&rt, rt.alloc(), &[0xff; 8], &sizes, -1, 8);
+    fails::<i64>(&rt, rt.alloc(), &[0xff; 7], &sizes, DataFault::Short(7));
+    Ok(())
+}
+
+/// The string at the front of the bytes, and how many it takes.
+fn reads_text(
+    rt: &impl Abort,
+    alloc: Global,
+    bytes: &[u8],
+    text: &str,
+    used: usize,
+) -> Result<(), Fail> {
+    let sizes = IdSizes::new(1, 1, 1, 1, 1)?;
+    let (found, count) = String::take(alloc, bytes, &sizes)?;
+    expect_same(rt, &found.as_str(), &text);
+    expect_same(rt, &count, &used);
     Ok(())
 }
 
 #[test]
 fn strings(rt: HostRuntime) -> Result<(), Fail> {
     let text = String::from_str(rt.alloc(), "né")?;
-    expect_same(
+    is_put_behind(
         &rt,
-        &written(&rt, rt.alloc(), &text)?.as_slice(),
-        &[0xee, 0, 0, 0, 3, 0x6e, 0xc3, 0xa9].as_slice(),
-    );
-    let (back, used) = taken::<String>(&rt, &[0, 0, 0, 3, 0x6e, 0xc3, 0xa9, 0x21])??;
-    expect_same(&rt, &back.as_str(), &"né");
-    expect_same(&rt, &used, &7);
+        rt.alloc(),
+        &text,
+        &[0xee, 0, 0, 0, 3, 0x6e, 0xc3, 0xa9],
+    )?;
+    reads_text(
+        &rt,
+        rt.alloc(),
+        &[0, 0, 0, 3, 0x6e, 0xc3, 0xa9, 0x21],
+        "né",
+        7,
+    )?;
+    reads_text(&rt, rt.alloc(), &[0, 0, 0, 0, 9], "", 4)
+}
+
+/// Bytes that are no string, their first fault, and its number.
+static NO_STRINGS: [(&[u8], DataFault, u16); 6] = [
+    (&[0x7f, 0xff, 0xff, 0xff], DataFault::Short(4), 11),
+    (&[0, 0, 0, 1, 0xff], DataFault::NotUtf8, 15),
+    (&[0xff, 0xff, 0xff, 0xff], DataFault::NegativeCount, 14),
+    (&[0, 0, 0, 2, 0x61], DataFault::Short(5), 11),
+    (&[0, 0, 0], DataFault::Short(3), 11),
+    (&[0, 0, 0, 2, 0xff], DataFault::Short(5), 11),
+];
+
+#[test]
+fn faults_of_strings(rt: HostRuntime) -> Result<(), Fail> {
     let sizes = IdSizes::new(1, 1, 1, 1, 1)?;
-    let rows: [(&[u8], DataFault, u16); 6] = [
-        row((&[0x7f, 0xff, 0xff, 0xff], DataFault::Short(4), 11)),
-        row((&[0, 0, 0, 1, 0xff], DataFault::NotUtf8, 15)),
-        row((&[0xff, 0xff, 0xff, 0xff], DataFault::NegativeCount, 14)),
-        row((&[0, 0, 0, 2, 0x61], DataFault::Short(5), 11)),
-        row((&[0, 0, 0], DataFault::Short(3), 11)),
-        row((&[0, 0, 0, 2, 0xff], DataFault::Short(5), 11)),
-    ];
-    for (bytes, wanted, number) in rows {
-        match taken::<String>(&rt, bytes)? {
-            Ok(_) => assert!(rt; false, "no fault"),
-            Err(fault) => expect_same(&rt, &fault, &wanted),
-        }
-        match String::pass_front(bytes, bytes.len(), &sizes) {
-            Ok(_) => assert!(rt; false, "no fault"),
-            Err(fault) => expect_same(&rt, &fault, &wanted),
-        }
+    for &(bytes, wanted, number) in NO_STRINGS.iter() {
+        fails::<String>(&rt, rt.alloc(), bytes, &sizes, wanted);
+        is_not_passed::<String>(&rt, bytes, &sizes, wanted)?;
         expect_same(&rt, &wanted.number(), &number);
     }
-    let (none, used) = taken::<String>(&rt, &[0, 0, 0, 0, 9])??;
-    assert!(rt; none.as_str().is_empty());
-    expect_same(&rt, &used, &4);
     Ok(())
+}
+
+/// A string of 120,000 bytes.
+fn long_string(alloc: Global) -> Result<String, Fail> {
+    let mut text = String::new(alloc);
+    for _ in 0..40_000 {
+        text.push_str("né")?;
+    }
+    Ok(text)
 }
 
 #[test]
 fn a_long_string(rt: HostRuntime) -> Result<(), Fail> {
-    let mut text = String::new(rt.alloc());
-    for _ in 0..40_000 {
-        text.push_str("né")?;
-    }
+    let text = long_string(rt.alloc())?;
     let bytes = written(&rt, rt.alloc(), &text)?;
-    assert_eq!(rt; bytes.len(), 120_005);
-    let (back, used) = taken::<String>(&rt, &bytes.as_slice()[1..])??;
-    expect_same(&rt, &used, &120_004);
-    assert!(rt; back.as_str() == text.as_str());
-    Ok(())
+    expect_same(&rt, &bytes.len(), &120_005);
+    let behind = bytes.get(1..).ok_or("no byte")?;
+    reads_text(&rt, rt.alloc(), behind, text.as_str(), 120_004)
 }
 
 #[test]
@@ -141,66 +140,72 @@ fn laws_at_a_type(_rt: HostRuntime) {
     jdwp_wire::begins_with_one_fault::<u8>();
 }
 
-#[test]
-fn texts_of_faults(rt: HostRuntime) -> Result<(), Fail> {
-    let rows = [
-        row((DataFault::Short(5), 11, "fault 11: 5 bytes are too few")),
-        row((
-            DataFault::Extra(2),
-            12,
-            "fault 12: bytes are left over at 2",
-        )),
-        row((DataFault::BadTag, 13, "fault 13: a bad tag")),
-        row((DataFault::NegativeCount, 14, "fault 14: a negative count")),
-        row((DataFault::NotUtf8, 15, "fault 15: a string is not UTF-8")),
-        row((
-            DataFault::BadSize,
-            16,
-            "fault 16: a length or count is too large",
-        )),
-        row((DataFault::IdTooWide, 17, "fault 17: an id is too wide")),
-        row((DataFault::NoMemory, 18, "fault 18: no memory")),
-    ];
-    for (fault, number, text) in rows {
-        expect_same(&rt, &fault.number(), &number);
-        expect_same(&rt, &fault.to_string(rt.alloc())?.as_str(), &text);
-    }
-    expect_same(&rt, &NoMemory.to_string(rt.alloc())?.as_str(), &"no memory");
-    expect_same(
-        &rt,
-        &BadSize.to_string(rt.alloc())?.as_str(),
-        &"an id has 1 to 8 bytes",
-    );
+/// Each fault of data, its number, and its text.
+static FAULTS: [(DataFault, u16, &str); 8] = [
+    (DataFault::Short(5), 11, "fault 11: 5 bytes are too few"),
+    (
+        DataFault::Extra(2),
+        12,
+        "fault 12: bytes are left over at 2",
+    ),
+    (DataFault::BadTag, 13, "fault 13: a bad tag"),
+    (DataFault::NegativeCount, 14, "fault 14: a negative count"),
+    (DataFault::NotUtf8, 15, "fault 15: a string is not UTF-8"),
+    (
+        DataFault::BadSize,
+        16,
+        "fault 16: a length or count is too large",
+    ),
+    (DataFault::IdTooWide, 17, "fault 17: an id is too wide"),
+    (DataFault::NoMemory, 18, "fault 18: no memory"),
+];
+
+/// What is told of it.
+fn is_told<T: Display>(rt: &impl Abort, alloc: Global, told: &T, text: &str) -> Result<(), Fail> {
+    let found = told.to_string(alloc)?;
+    expect_same(rt, &found.as_str(), &text);
     Ok(())
 }
 
 #[test]
+fn texts_of_faults(rt: HostRuntime) -> Result<(), Fail> {
+    for (fault, number, text) in FAULTS.iter() {
+        expect_same(&rt, &fault.number(), number);
+        is_told(&rt, rt.alloc(), fault, text)?;
+    }
+    is_told(&rt, rt.alloc(), &NoMemory, "no memory")?;
+    is_told(&rt, rt.alloc(), &BadSize, "an id has 1 to 8 bytes")
+}
+
+/// Each fault of a frame, its number, and its text.
+static FRAME_FAULTS: [(FrameFault, u16, &str); 4] = [
+    (
+        FrameFault::ShortLength,
+        1,
+        "fault 1: a packet length below 11",
+    ),
+    (
+        FrameFault::TooLong,
+        2,
+        "fault 2: a packet length above the limit",
+    ),
+    (
+        FrameFault::BadFlags,
+        3,
+        "fault 3: packet flags other than 00 and 80",
+    ),
+    (
+        FrameFault::BadHandshake(5),
+        4,
+        "fault 4: not the handshake at byte 5",
+    ),
+];
+
+#[test]
 fn texts_of_frame_faults(rt: HostRuntime) -> Result<(), Fail> {
-    let rows = [
-        row((
-            FrameFault::ShortLength,
-            1,
-            "fault 1: a packet length below 11",
-        )),
-        row((
-            FrameFault::TooLong,
-            2,
-            "fault 2: a packet length above the limit",
-        )),
-        row((
-            FrameFault::BadFlags,
-            3,
-            "fault 3: packet flags other than 00 and 80",
-        )),
-        row((
-            FrameFault::BadHandshake(5),
-            4,
-            "fault 4: not the handshake at byte 5",
-        )),
-    ];
-    for (fault, number, text) in rows {
-        expect_same(&rt, &fault.number(), &number);
-        expect_same(&rt, &fault.to_string(rt.alloc())?.as_str(), &text);
+    for (fault, number, text) in FRAME_FAULTS.iter() {
+        expect_same(&rt, &fault.number(), number);
+        is_told(&rt, rt.alloc(), fault, text)?;
     }
     Ok(())
 }

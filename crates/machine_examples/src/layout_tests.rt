@@ -101,6 +101,28 @@ fn push_scalars(scalars: &[Scalar], text: &mut String) -> Result<(), Fail> {
     Ok(())
 }
 
+fn push_entries(entries: &[Vec<Scalar>], text: &mut String) -> Result<(), Fail> {
+    text.push_str("[")?;
+    let mut first = true;
+    for scalars in entries {
+        if !first {
+            text.push_str(", ")?;
+        }
+        push_scalars(scalars, text)?;
+        first = false;
+    }
+    text.push_str("]")?;
+    Ok(())
+}
+
+fn push_datum(datum: &Datum, text: &mut String) -> Result<(), Fail> {
+    match datum {
+        Datum::One(scalar) => push_scalar(scalar, text),
+        Datum::Many(entries) => push_entries(entries, text),
+        Datum::Region(region) => push_region(region, text),
+    }
+}
+
 /// The data as text, one space between two.
 pub(crate) fn text_of(alloc: Global, values: &[Datum]) -> Result<String, Fail> {
     let mut text = String::new(alloc);
@@ -110,22 +132,7 @@ pub(crate) fn text_of(alloc: Global, values: &[Datum]) -> Result<String, Fail> {
             text.push_str(" ")?;
         }
         first = false;
-        match value {
-            Datum::One(scalar) => push_scalar(scalar, &mut text)?,
-            Datum::Many(entries) => {
-                text.push_str("[")?;
-                let mut first_entry = true;
-                for scalars in entries {
-                    if !first_entry {
-                        text.push_str(", ")?;
-                    }
-                    push_scalars(scalars, &mut text)?;
-                    first_entry = false;
-                }
-                text.push_str("]")?;
-            }
-            Datum::Region(region) => push_region(region, &mut text)?,
-        }
+        push_datum(value, &mut text)?;
     }
     Ok(text)
 }
@@ -161,6 +168,55 @@ fn written_as(
     Ok(())
 }
 
+/// The slice is read as this text and written back as these bytes.
+fn read_as(
+    rt: &impl Abort,
+    alloc: Global,
+    layout: &Layout,
+    sizes: &IdSizes,
+    bytes: &[u8],
+    canonical: &[u8],
+    text: Option<&str>,
+) -> Result<(), Fail> {
+    let values = read(alloc, layout, sizes, bytes)?;
+    expect_same(rt, &validate(layout, sizes, bytes), &Ok(()));
+    if let Some(text) = text {
+        is_shown(rt, alloc, &values, text)?;
+    }
+    written_as(rt, alloc, layout, sizes, &values, canonical)
+}
+
+fn is_shown(rt: &impl Abort, alloc: Global, values: &[Datum], text: &str) -> Result<(), Fail> {
+    let shown = text_of(alloc, values)?;
+    expect_same(rt, &shown.as_str(), &text);
+    Ok(())
+}
+
+/// Each proper front of the slice is too short, and one byte more is too many.
+fn ends_there(
+    rt: &impl Abort,
+    alloc: Global,
+    layout: &Layout,
+    sizes: &IdSizes,
+    bytes: &[u8],
+) -> Result<(), Fail> {
+    for length in 0..bytes.len() {
+        let (front, _) = bytes.split_at(length);
+        has_fault(rt, alloc, layout, sizes, front, DataFault::Short(length));
+    }
+    let more = followed_by_zero(alloc, bytes)?;
+    let extra = DataFault::Extra(bytes.len());
+    has_fault(rt, alloc, layout, sizes, &more, extra);
+    Ok(())
+}
+
+fn followed_by_zero(alloc: Global, bytes: &[u8]) -> Result<Vec<u8>, Fail> {
+    let mut more = Vec::new(alloc);
+    more.extend_from_slice(bytes)?;
+    more.push(0)?;
+    Ok(more)
+}
+
 /// The slice is read as this text and written back as these bytes; each proper front is too short, and one byte more is
 /// too many.
 fn accepted(
@@ -172,29 +228,8 @@ fn accepted(
     canonical: &[u8],
     text: Option<&str>,
 ) -> Result<(), Fail> {
-    let values = read(alloc, layout, sizes, bytes)?;
-    if let Some(text) = text {
-        let shown = text_of(alloc, &values)?;
-        expect_same(rt, &shown.as_str(), &text);
-    }
-    expect_same(rt, &validate(layout, sizes, bytes), &Ok(()));
-    written_as(rt, alloc, layout, sizes, &values, canonical)?;
-    for length in 0..bytes.len() {
-        let (front, _) = bytes.split_at(length);
-        has_fault(rt, alloc, layout, sizes, front, DataFault::Short(length));
-    }
-    let mut more = Vec::new(alloc);
-    more.extend_from_slice(bytes)?;
-    more.push(0)?;
-    has_fault(
-        rt,
-        alloc,
-        layout,
-        sizes,
-        &more,
-        DataFault::Extra(bytes.len()),
-    );
-    Ok(())
+    read_as(rt, alloc, layout, sizes, bytes, canonical, text)?;
+    ends_there(rt, alloc, layout, sizes, bytes)
 }
 
 /// The bytes, but for spaces.
@@ -227,127 +262,126 @@ fn reply_of(set: u8, command: u8) -> Result<Layout, Fail> {
     Ok(layouts.reply)
 }
 
+/// A request's data: its set and number, the bytes, as which bytes they are written, and as text.
+static EXAMPLES: [(u8, u8, &str, &str, &str); 8] = [
+    // Each byte but 0 is true, which is written as 1.
+    (
+        15,
+        1,
+        "04 00 00000001 08 0000000000000000 07 00",
+        "04 00 00000001 08 0000000000000000 01 00",
+        "4 0 [(8, #0, true, false)]",
+    ),
+    (
+        15,
+        1,
+        "02 02 00000001 07 01 000000000000000a 0000000000000014 0000000000000003",
+        "02 02 00000001 07 01 000000000000000a 0000000000000014 0000000000000003",
+        "2 2 [(7, 1:#10:#20:3)]",
+    ),
+    (
+        64,
+        100,
+        "02 00000002 02 00000001 0000000000000001 01 000000000000000a 0000000000000014 0000000000000003 02 00000002 0000000000000001 01 000000000000000a 0000000000000014 0000000000000003",
+        "02 00000002 02 00000001 0000000000000001 01 000000000000000a 0000000000000014 0000000000000003 02 00000002 0000000000000001 01 000000000000000a 0000000000000014 0000000000000003",
+        "2 [(2, 1, #1, 1:#10:#20:3), (2, 2, #1, 1:#10:#20:3)]",
+    ),
+    (
+        64,
+        100,
+        "00 00000001 5a 00000000 0000000000000001",
+        "00 00000001 5a 00000000 0000000000000001",
+        "0 [(90, 0, #1)]",
+    ),
+    (
+        64,
+        100,
+        "00 00000001 63 00000000",
+        "00 00000001 63 00000000",
+        "0 [(99, 0)]",
+    ),
+    (
+        1,
+        2,
+        "00000006 4c4d61696e3b",
+        "00000006 4c4d61696e3b",
+        "\"LMain;\"",
+    ),
+    (
+        16,
+        2,
+        "0000000000000001 000000000000001e 00000001 00000000 49 00000005",
+        "0000000000000001 000000000000001e 00000001 00000000 49 00000005",
+        "#1 #30 [(0, I:5)]",
+    ),
+    (
+        11,
+        6,
+        "0000000000000001 00000000 ffffffff",
+        "0000000000000001 00000000 ffffffff",
+        "#1 0 -1",
+    ),
+];
+
+/// The layout's data are accepted at widths of 8 bytes.
+fn is_accepted(
+    rt: &impl Abort,
+    alloc: Global,
+    layout: &Layout,
+    hex: &str,
+    canonical: &str,
+    text: &str,
+) -> Result<(), Fail> {
+    let sizes = IdSizes::new(8, 8, 8, 8, 8)?;
+    let bytes = bytes_of(alloc, hex)?;
+    let back = bytes_of(alloc, canonical)?;
+    accepted(rt, alloc, layout, &sizes, &bytes, &back, Some(text))
+}
+
 #[test]
 fn examples(rt: HostRuntime) -> Result<(), Fail> {
-    let alloc = rt.alloc();
-    let sizes = IdSizes::new(8, 8, 8, 8, 8)?;
-    for (set, command, hex, canonical, text) in [
-        // Each byte but 0 is true, which is written as 1.
-        row((
-            15,
-            1,
-            "04 00 00000001 08 0000000000000000 07 00",
-            "04 00 00000001 08 0000000000000000 01 00",
-            "4 0 [(8, #0, true, false)]",
-        )),
-        row((
-            15,
-            1,
-            "02 02 00000001 07 01 000000000000000a 0000000000000014 0000000000000003",
-            "02 02 00000001 07 01 000000000000000a 0000000000000014 0000000000000003",
-            "2 2 [(7, 1:#10:#20:3)]",
-        )),
-        row((
-            64,
-            100,
-            "02 00000002 02 00000001 0000000000000001 01 000000000000000a 0000000000000014 0000000000000003 02 00000002 0000000000000001 01 000000000000000a 0000000000000014 0000000000000003",
-            "02 00000002 02 00000001 0000000000000001 01 000000000000000a 0000000000000014 0000000000000003 02 00000002 0000000000000001 01 000000000000000a 0000000000000014 0000000000000003",
-            "2 [(2, 1, #1, 1:#10:#20:3), (2, 2, #1, 1:#10:#20:3)]",
-        )),
-        row((
-            64,
-            100,
-            "00 00000001 5a 00000000 0000000000000001",
-            "00 00000001 5a 00000000 0000000000000001",
-            "0 [(90, 0, #1)]",
-        )),
-        row((
-            64,
-            100,
-            "00 00000001 63 00000000",
-            "00 00000001 63 00000000",
-            "0 [(99, 0)]",
-        )),
-        row((
-            1,
-            2,
-            "00000006 4c4d61696e3b",
-            "00000006 4c4d61696e3b",
-            "\"LMain;\"",
-        )),
-        row((
-            16,
-            2,
-            "0000000000000001 000000000000001e 00000001 00000000 49 00000005",
-            "0000000000000001 000000000000001e 00000001 00000000 49 00000005",
-            "#1 #30 [(0, I:5)]",
-        )),
-        row((
-            11,
-            6,
-            "0000000000000001 00000000 ffffffff",
-            "0000000000000001 00000000 ffffffff",
-            "#1 0 -1",
-        )),
-    ] {
-        let bytes = bytes_of(alloc, hex)?;
-        let back = bytes_of(alloc, canonical)?;
-        accepted(
-            &rt,
-            alloc,
-            &request_of(set, command)?,
-            &sizes,
-            &bytes,
-            &back,
-            Some(text),
-        )?;
+    for &(set, command, hex, canonical, text) in EXAMPLES.iter() {
+        let layout = request_of(set, command)?;
+        is_accepted(&rt, rt.alloc(), &layout, hex, canonical, text)?;
     }
     Ok(())
 }
 
+/// A reply's data: its set and number, the bytes, and as text.
+static REPLIES: [(u8, u8, &str, &str); 7] = [
+    (
+        1,
+        7,
+        "00000008 00000008 00000008 00000008 00000008",
+        "8 8 8 8 8",
+    ),
+    (
+        1,
+        2,
+        "00000001 01 000000000000000a 00000003",
+        "[(1, #10, 3)]",
+    ),
+    (
+        11,
+        6,
+        "00000001 000000000000001e 01 000000000000000a 0000000000000014 0000000000000000",
+        "[(#30, 1:#10:#20:0)]",
+    ),
+    (13, 2, "49 00000002 00000001 00000002", "I[I:1, I:2]"),
+    (
+        13,
+        2,
+        "4c 00000002 73 0000000000000005 4c 0000000000000000",
+        "L[s#5, L#0]",
+    ),
+    (16, 1, "00000001 49 00000005", "[(I:5)]"),
+    (11, 12, "00000001", "1"),
+];
+
 #[test]
 fn replies(rt: HostRuntime) -> Result<(), Fail> {
-    let alloc = rt.alloc();
-    let sizes = IdSizes::new(8, 8, 8, 8, 8)?;
-    for (set, command, hex, text) in [
-        row((
-            1,
-            7,
-            "00000008 00000008 00000008 00000008 00000008",
-            "8 8 8 8 8",
-        )),
-        row((
-            1,
-            2,
-            "00000001 01 000000000000000a 00000003",
-            "[(1, #10, 3)]",
-        )),
-        row((
-            11,
-            6,
-            "00000001 000000000000001e 01 000000000000000a 0000000000000014 0000000000000000",
-            "[(#30, 1:#10:#20:0)]",
-        )),
-        row((13, 2, "49 00000002 00000001 00000002", "I[I:1, I:2]")),
-        row((
-            13,
-            2,
-            "4c 00000002 73 0000000000000005 4c 0000000000000000",
-            "L[s#5, L#0]",
-        )),
-        row((16, 1, "00000001 49 00000005", "[(I:5)]")),
-        row((11, 12, "00000001", "1")),
-    ] {
-        let bytes = bytes_of(alloc, hex)?;
-        accepted(
-            &rt,
-            alloc,
-            &reply_of(set, command)?,
-            &sizes,
-            &bytes,
-            &bytes,
-            Some(text),
-        )?;
+    for &(set, command, hex, text) in REPLIES.iter() {
+        is_accepted(&rt, rt.alloc(), &reply_of(set, command)?, hex, hex, text)?;
     }
     Ok(())
 }
@@ -412,63 +446,82 @@ fn refused(
 
 #[test]
 fn faults(rt: HostRuntime) -> Result<(), Fail> {
-    for (set, command, hex, fault) in FAULTS {
+    for &(set, command, hex, fault) in FAULTS.iter() {
         refused(&rt, rt.alloc(), &request_of(set, command)?, hex, fault)?;
     }
-    for (hex, fault) in REGION_FAULTS {
+    for &(hex, fault) in REGION_FAULTS.iter() {
         refused(&rt, rt.alloc(), &reply_of(13, 2)?, hex, fault)?;
     }
     Ok(())
 }
 
-/// The data can't be written, for this reason, and nothing is.
+/// The data can't be written at widths of one byte, for this reason, and nothing is.
 fn not_written(
     rt: &impl Abort,
+    alloc: Global,
     layout: &Layout,
     values: &[Datum],
-    output: &mut Vec<u8>,
     fault: DataFault,
 ) -> Result<(), Fail> {
     let sizes = IdSizes::new(1, 1, 1, 1, 1)?;
-    expect_same(rt, &write(layout, &sizes, values, output), &Err(fault));
+    let mut output = Vec::new(alloc);
+    output.push(7)?;
+    let written = write(layout, &sizes, values, &mut output);
+    expect_same(rt, &written, &Err(fault));
     expect_same(rt, &refusal(layout, &sizes, values), &Some(fault));
     expect_same(rt, &output.as_slice(), &[7].as_slice());
     Ok(())
 }
 
+/// The same of the data of a request for a thread's suspend count.
+fn no_thread(
+    rt: &impl Abort,
+    alloc: Global,
+    values: &[Datum],
+    fault: DataFault,
+) -> Result<(), Fail> {
+    not_written(rt, alloc, &request_of(11, 12)?, values, fault)
+}
+
 #[test]
 fn refusals(rt: HostRuntime) -> Result<(), Fail> {
-    let mut output = Vec::new(rt.alloc());
-    output.push(7)?;
-    let thread = request_of(11, 12)?;
-    let wide = [Datum::One(Scalar::ObjectId(ObjectId(256)))];
-    not_written(&rt, &thread, &wide, &mut output, DataFault::IdTooWide)?;
-    let other_kind = [Datum::One(Scalar::Int(1))];
-    not_written(&rt, &thread, &other_kind, &mut output, DataFault::BadSize)?;
-    not_written(&rt, &thread, &[], &mut output, DataFault::BadSize)?;
+    let alloc = rt.alloc();
+    no_thread(
+        &rt,
+        alloc,
+        &[Datum::One(Scalar::ObjectId(ObjectId(256)))],
+        DataFault::IdTooWide,
+    )?;
+    no_thread(
+        &rt,
+        alloc,
+        &[Datum::One(Scalar::Int(1))],
+        DataFault::BadSize,
+    )?;
+    no_thread(&rt, alloc, &[], DataFault::BadSize)?;
     let one_more = [
         Datum::One(Scalar::ObjectId(ObjectId(1))),
         Datum::One(Scalar::Int(1)),
     ];
-    not_written(&rt, &thread, &one_more, &mut output, DataFault::BadSize)
+    no_thread(&rt, alloc, &one_more, DataFault::BadSize)
+}
+
+/// A list of one modifier of this kind, with no field.
+fn modifiers_of(alloc: Global, kind: u8) -> Result<Datum, Fail> {
+    let modifier = vec![in alloc; Scalar::Byte(kind)]?;
+    Ok(Datum::Many(vec![in alloc; modifier]?))
 }
 
 #[test]
 fn a_kind_of_modifier_that_there_is_not(rt: HostRuntime) -> Result<(), Fail> {
     let alloc = rt.alloc();
-    let mut output = Vec::new(alloc);
-    output.push(7)?;
-    let mut modifier = Vec::new(alloc);
-    modifier.push(Scalar::Byte(13))?;
-    let mut modifiers = Vec::new(alloc);
-    modifiers.push(modifier)?;
     let unknown_kind = [
         Datum::One(Scalar::Byte(2)),
         Datum::One(Scalar::Byte(0)),
-        Datum::Many(modifiers),
+        modifiers_of(alloc, 13)?,
     ];
     let set = request_of(15, 1)?;
-    not_written(&rt, &set, &unknown_kind, &mut output, DataFault::BadSize)
+    not_written(&rt, alloc, &set, &unknown_kind, DataFault::BadSize)
 }
 
 #[test]
@@ -478,10 +531,53 @@ fn the_greatest_id_of_one_byte(rt: HostRuntime) -> Result<(), Fail> {
     written_as(&rt, rt.alloc(), &request_of(11, 12)?, &sizes, &fits, &[255])
 }
 
+/// The entry of these bytes, which `entry_size` counts.
+fn entry_of(
+    rt: &impl Abort,
+    alloc: Global,
+    entry: Entry,
+    bytes: &[u8],
+) -> Result<Vec<Scalar>, Fail> {
+    let sizes = IdSizes::new(8, 8, 8, 8, 8)?;
+    let (scalars, rest) = read_entry(alloc, entry, bytes, bytes.len(), &sizes)?;
+    expect_same(rt, &rest.len(), &0);
+    expect_same(rt, &entry_size(&scalars, &sizes), &Some(bytes.len()));
+    Ok(scalars)
+}
+
+/// The bytes of an entry, twice.
+fn written_twice(alloc: Global, entry: Entry, scalars: &[Scalar]) -> Result<Vec<u8>, Fail> {
+    let sizes = IdSizes::new(8, 8, 8, 8, 8)?;
+    let mut twice = Vec::new(alloc);
+    write_entry(entry, scalars, &sizes, &mut twice)?;
+    write_entry(entry, scalars, &sizes, &mut twice)?;
+    Ok(twice)
+}
+
+/// These bytes hold one entry, with these bytes behind it.
+fn is_passed(rt: &impl Abort, entry: Entry, bytes: &[u8], behind: &[u8]) -> Result<(), Fail> {
+    let sizes = IdSizes::new(8, 8, 8, 8, 8)?;
+    let rest = pass_entry(entry, bytes, bytes.len(), &sizes)?;
+    expect_same(rt, &rest, &behind);
+    let rest = pass_entries(1, entry, bytes, bytes.len(), &sizes)?;
+    expect_same(rt, &rest, &behind);
+    Ok(())
+}
+
+/// The bytes are an entry, and twice the bytes are two.
+fn is_an_entry(rt: &impl Abort, alloc: Global, entry: Entry, bytes: &[u8]) -> Result<(), Fail> {
+    let scalars = entry_of(rt, alloc, entry, bytes)?;
+    let twice = written_twice(alloc, entry, &scalars)?;
+    is_passed(rt, entry, bytes, &[])?;
+    is_passed(rt, entry, &twice, bytes)?;
+    let sizes = IdSizes::new(8, 8, 8, 8, 8)?;
+    let rest = pass_entries(2, entry, &twice, twice.len(), &sizes)?;
+    expect_same(rt, &rest.len(), &0);
+    Ok(())
+}
+
 #[test]
 fn entries_one_by_one(rt: HostRuntime) -> Result<(), Fail> {
-    let alloc = rt.alloc();
-    let sizes = IdSizes::new(8, 8, 8, 8, 8)?;
     for (entry, hex) in [
         // An exception of any type, where it is caught and where it isn't; a place in a class; VM_DEATH.
         row((Entry::Modifier, "08 0000000000000000 01 01")),
@@ -491,39 +587,24 @@ fn entries_one_by_one(rt: HostRuntime) -> Result<(), Fail> {
         )),
         row((Entry::Event, "63 00000000")),
     ] {
-        let bytes = bytes_of(alloc, hex)?;
-        let whole = bytes.len();
-        let (scalars, rest) = read_entry(alloc, entry, &bytes, whole, &sizes)?;
-        expect_same(&rt, &rest.len(), &0);
-        expect_same(&rt, &entry_size(&scalars, &sizes), &Some(whole));
-        expect_same(&rt, &pass_entry(entry, &bytes, whole, &sizes)?.len(), &0);
-        let mut twice = Vec::new(alloc);
-        write_entry(entry, &scalars, &sizes, &mut twice)?;
-        expect_same(&rt, &twice.as_slice(), &bytes.as_slice());
-        write_entry(entry, &scalars, &sizes, &mut twice)?;
-        expect_same(
-            &rt,
-            &pass_entries(1, entry, &twice, twice.len(), &sizes)?,
-            &bytes.as_slice(),
-        );
-        expect_same(
-            &rt,
-            &pass_entries(2, entry, &twice, twice.len(), &sizes)?.len(),
-            &0,
-        );
+        is_an_entry(&rt, rt.alloc(), entry, &bytes_of(rt.alloc(), hex)?)?;
     }
-    // Two bytes of an exception's filter, and of a VM_DEATH.
-    expect_same(
-        &rt,
-        &pass_entry(Entry::Modifier, &[8, 0], 2, &sizes).err(),
-        &Some(DataFault::Short(2)),
-    );
-    expect_same(
-        &rt,
-        &pass_entry(Entry::Event, &[99, 0], 2, &sizes).err(),
-        &Some(DataFault::Short(2)),
-    );
     Ok(())
+}
+
+/// The bytes end in the midst of an entry.
+fn is_cut_off(rt: &impl Abort, entry: Entry, bytes: &[u8]) -> Result<(), Fail> {
+    let sizes = IdSizes::new(8, 8, 8, 8, 8)?;
+    let found = pass_entry(entry, bytes, bytes.len(), &sizes).err();
+    expect_same(rt, &found, &Some(DataFault::Short(bytes.len())));
+    Ok(())
+}
+
+#[test]
+fn entries_that_are_cut_off(rt: HostRuntime) -> Result<(), Fail> {
+    // Two bytes of an exception's filter, and of a VM_DEATH.
+    is_cut_off(&rt, Entry::Modifier, &[8, 0])?;
+    is_cut_off(&rt, Entry::Event, &[99, 0])
 }
 
 /// Whether the field in front of these bytes holds this, with so many bytes behind it.
@@ -547,13 +628,15 @@ fn fields_one_by_one(rt: HostRuntime) -> Result<(), Fail> {
     assert!(rt; holds(alloc, Field::Int, "ffffffff", &Scalar::Int(-1), 0)?);
     let thread = Scalar::ObjectId(ObjectId(9));
     assert!(rt; holds(alloc, Field::ObjectId, "0000000000000009 0000", &thread, 2)?);
+    Ok(())
+}
+
+#[test]
+fn a_field_that_is_cut_off(rt: HostRuntime) -> Result<(), Fail> {
     // One byte of an int.
     let sizes = IdSizes::new(8, 8, 8, 8, 8)?;
-    expect_same(
-        &rt,
-        &read_field(alloc, Field::Int, &[0], 1, &sizes).err(),
-        &Some(DataFault::Short(1)),
-    );
+    let found = read_field(rt.alloc(), Field::Int, &[0], 1, &sizes).err();
+    expect_same(&rt, &found, &Some(DataFault::Short(1)));
     Ok(())
 }
 
@@ -654,10 +737,34 @@ fn sample(alloc: Global, layout: &Layout, sizes: &IdSizes) -> Result<Vec<u8>, Fa
     Ok(bytes)
 }
 
-/// Every row, modifier and event at several widths.
+/// A sample of the layout is accepted.
+fn sample_is_accepted(
+    rt: &impl Abort,
+    alloc: Global,
+    layout: &Layout,
+    sizes: &IdSizes,
+) -> Result<(), Fail> {
+    let bytes = sample(alloc, layout, sizes)?;
+    accepted(rt, alloc, layout, sizes, &bytes, &bytes, None)
+}
+
+/// Every row, modifier and event at these widths.
+fn every_layout_at(rt: &impl Abort, alloc: Global, sizes: &IdSizes) -> Result<(), Fail> {
+    for set in 0..65u32 {
+        for command in 0..101u32 {
+            if let Some(row) = layout_of(set as u8, command as u8) {
+                if let Some(layouts) = row.layouts {
+                    sample_is_accepted(rt, alloc, &layouts.request, sizes)?;
+                    sample_is_accepted(rt, alloc, &layouts.reply, sizes)?;
+                }
+            }
+        }
+    }
+    Ok(())
+}
+
 #[test]
 fn every_layout(rt: HostRuntime) -> Result<(), Fail> {
-    let alloc = rt.alloc();
     for (field, method, object, reference, frame) in [
         row((1, 2, 3, 4, 5)),
         row((8, 7, 6, 5, 4)),
@@ -665,26 +772,7 @@ fn every_layout(rt: HostRuntime) -> Result<(), Fail> {
         row((8, 8, 8, 8, 8)),
     ] {
         let sizes = IdSizes::new(field, method, object, reference, frame)?;
-        for set in 0..65u32 {
-            for command in 0..101u32 {
-                if let Some(row) = layout_of(set as u8, command as u8) {
-                    if let Some(layouts) = row.layouts {
-                        let request = sample(alloc, &layouts.request, &sizes)?;
-                        accepted(
-                            &rt,
-                            alloc,
-                            &layouts.request,
-                            &sizes,
-                            &request,
-                            &request,
-                            None,
-                        )?;
-                        let reply = sample(alloc, &layouts.reply, &sizes)?;
-                        accepted(&rt, alloc, &layouts.reply, &sizes, &reply, &reply, None)?;
-                    }
-                }
-            }
-        }
+        every_layout_at(&rt, rt.alloc(), &sizes)?;
     }
     Ok(())
 }

@@ -1,6 +1,5 @@
 //! Scripts at a limit, and one past it.
 use crate::asserts::{expect_same, expect_same_for};
-use crate::rows::row;
 use crate::script_tests::{MACHINE_A, MACHINE_B, edited, fault};
 use jdwp_script::{Script, ScriptFault};
 use jdwp_wire::Limits;
@@ -8,12 +7,19 @@ use std::alloc::Global;
 use std::process::Abort;
 use std::test::Fail;
 
-/// So many of the piece, one after another.
-fn repeated(alloc: Global, piece: &str, count: usize) -> Result<String, Fail> {
-    let mut text = String::new(alloc);
+/// The front, so many of the piece, one after another, and the back.
+fn replacement(
+    alloc: Global,
+    front: &str,
+    piece: &str,
+    count: usize,
+    back: &str,
+) -> Result<String, Fail> {
+    let mut text = String::from_str(alloc, front)?;
     for _ in 0..count {
         text.push_str(piece)?;
     }
+    text.push_str(back)?;
     Ok(text)
 }
 
@@ -26,22 +32,22 @@ fn outcome(
     count: usize,
     back: &str,
 ) -> Result<Option<ScriptFault>, Fail> {
-    let mut new = String::from_str(alloc, front)?;
-    new.push_str(repeated(alloc, piece, count)?.as_str())?;
-    new.push_str(back)?;
+    let new = replacement(alloc, front, piece, count, back)?;
     let text = edited(alloc, MACHINE_B, old, new.as_str())?;
     Ok(fault(alloc, text.as_str()))
 }
 
 /// What gives way, what comes for it: the front, the piece, how many of them, and the back; and the outcome.
-type Outcome<'a> = (
-    &'a str,
-    &'a str,
-    &'a str,
+type Outcome = (
+    &'static str,
+    &'static str,
+    &'static str,
     usize,
-    &'a str,
+    &'static str,
     Option<ScriptFault>,
 );
+
+const OVER: Option<ScriptFault> = Some(ScriptFault::OverLimit);
 
 fn are_outcomes(rt: &impl Abort, alloc: Global, rows: &[Outcome]) -> Result<(), Fail> {
     for (old, front, piece, count, back, wanted) in rows {
@@ -51,295 +57,298 @@ fn are_outcomes(rt: &impl Abort, alloc: Global, rows: &[Outcome]) -> Result<(), 
     Ok(())
 }
 
+/// Texts at their limit, and past it.
+static TEXTS: [Outcome; 13] = [
+    ("\"name\":\"B\"", "\"name\":\"", "x", 512, "\"", None),
+    ("\"name\":\"B\"", "\"name\":\"", "x", 513, "\"", OVER),
+    ("\"name\":\"pool\"", "\"name\":\"", "x", 513, "\"", OVER),
+    ("\"name\":\"count\"", "\"name\":\"", "x", 513, "\"", OVER),
+    (
+        "\"signature\":\"I\"",
+        "\"signature\":\"",
+        "x",
+        513,
+        "\"",
+        OVER,
+    ),
+    (
+        "\"signature\":\"LJob;\"",
+        "\"signature\":\"",
+        "x",
+        513,
+        "\"",
+        OVER,
+    ),
+    ("\"source\":null", "\"source\":\"", "x", 513, "\"", OVER),
+    ("\"name\":\"run\"", "\"name\":\"", "x", 513, "\"", OVER),
+    (
+        "\"signature\":\"()V\"",
+        "\"signature\":\"",
+        "x",
+        513,
+        "\"",
+        OVER,
+    ),
+    ("\"name\":\"this\"", "\"name\":\"", "x", 513, "\"", OVER),
+    ("\"name\":\"work\"", "\"name\":\"", "x", 513, "\"", OVER),
+    ("\"text\":\"hello\"", "\"text\":\"", "x", 65000, "\"", None),
+    ("\"text\":\"hello\"", "\"text\":\"", "x", 65001, "\"", OVER),
+];
+
 #[test]
 fn limits_of_texts(rt: HostRuntime) -> Result<(), Fail> {
-    let over = Some(ScriptFault::OverLimit);
-    let rows = [
-        row(("\"name\":\"B\"", "\"name\":\"", "x", 512, "\"", None)),
-        row(("\"name\":\"B\"", "\"name\":\"", "x", 513, "\"", over)),
-        row(("\"name\":\"pool\"", "\"name\":\"", "x", 513, "\"", over)),
-        row(("\"name\":\"count\"", "\"name\":\"", "x", 513, "\"", over)),
-        row((
-            "\"signature\":\"I\"",
-            "\"signature\":\"",
-            "x",
-            513,
-            "\"",
-            over,
-        )),
-        row((
-            "\"signature\":\"LJob;\"",
-            "\"signature\":\"",
-            "x",
-            513,
-            "\"",
-            over,
-        )),
-        row(("\"source\":null", "\"source\":\"", "x", 513, "\"", over)),
-        row(("\"name\":\"run\"", "\"name\":\"", "x", 513, "\"", over)),
-        row((
-            "\"signature\":\"()V\"",
-            "\"signature\":\"",
-            "x",
-            513,
-            "\"",
-            over,
-        )),
-        row(("\"name\":\"this\"", "\"name\":\"", "x", 513, "\"", over)),
-        row(("\"name\":\"work\"", "\"name\":\"", "x", 513, "\"", over)),
-        row(("\"text\":\"hello\"", "\"text\":\"", "x", 65000, "\"", None)),
-        row(("\"text\":\"hello\"", "\"text\":\"", "x", 65001, "\"", over)),
-    ];
-    are_outcomes(&rt, rt.alloc(), &rows)
+    are_outcomes(&rt, rt.alloc(), &TEXTS)
 }
+
+/// Groups, classes, objects, threads and live threads at their limit, and past it.
+static PARTS: [Outcome; 10] = [
+    (
+        "\"groups\":[",
+        "\"groups\":[",
+        "{\"id\":7,\"name\":\"\",\"parent\":0},",
+        1022,
+        "",
+        Some(ScriptFault::IdTwice),
+    ),
+    (
+        "\"groups\":[",
+        "\"groups\":[",
+        "{\"id\":7,\"name\":\"\",\"parent\":0},",
+        1023,
+        "",
+        OVER,
+    ),
+    (
+        "\"classes\":[",
+        "\"classes\":[",
+        "{\"id\":12,\"tag\":1,\"signature\":\"\",\"modifiers\":0,\"super\":0,\"interfaces\":[],\"source\":null,\"fields\":[],\"methods\":[]},",
+        1022,
+        "",
+        Some(ScriptFault::IdTwice),
+    ),
+    (
+        "\"classes\":[",
+        "\"classes\":[",
+        "{\"id\":12,\"tag\":1,\"signature\":\"\",\"modifiers\":0,\"super\":0,\"interfaces\":[],\"source\":null,\"fields\":[],\"methods\":[]},",
+        1023,
+        "",
+        OVER,
+    ),
+    (
+        "\"objects\":[",
+        "\"objects\":[",
+        "{\"id\":52,\"class\":11,\"fields\":[],\"text\":null,\"array\":null},",
+        1022,
+        "",
+        Some(ScriptFault::IdTwice),
+    ),
+    (
+        "\"objects\":[",
+        "\"objects\":[",
+        "{\"id\":52,\"class\":11,\"fields\":[],\"text\":null,\"array\":null},",
+        1023,
+        "",
+        OVER,
+    ),
+    (
+        "\"threads\":[",
+        "\"threads\":[",
+        "{\"id\":2,\"name\":\"\",\"group\":5,\"steps\":[]},",
+        1022,
+        "",
+        Some(ScriptFault::IdTwice),
+    ),
+    (
+        "\"threads\":[",
+        "\"threads\":[",
+        "{\"id\":2,\"name\":\"\",\"group\":5,\"steps\":[]},",
+        1023,
+        "",
+        OVER,
+    ),
+    (
+        "\"threads\":[",
+        "\"threads\":[",
+        "{\"id\":3,\"name\":\"\",\"group\":5,\"steps\":[]},",
+        63,
+        "",
+        Some(ScriptFault::IdTwice),
+    ),
+    (
+        "\"threads\":[",
+        "\"threads\":[",
+        "{\"id\":3,\"name\":\"\",\"group\":5,\"steps\":[]},",
+        64,
+        "",
+        OVER,
+    ),
+];
 
 #[test]
 fn limits_of_parts(rt: HostRuntime) -> Result<(), Fail> {
-    let over = Some(ScriptFault::OverLimit);
-    let rows = [
-        row((
-            "\"groups\":[",
-            "\"groups\":[",
-            "{\"id\":7,\"name\":\"\",\"parent\":0},",
-            1022,
-            "",
-            Some(ScriptFault::IdTwice),
-        )),
-        row((
-            "\"groups\":[",
-            "\"groups\":[",
-            "{\"id\":7,\"name\":\"\",\"parent\":0},",
-            1023,
-            "",
-            over,
-        )),
-        row((
-            "\"classes\":[",
-            "\"classes\":[",
-            "{\"id\":12,\"tag\":1,\"signature\":\"\",\"modifiers\":0,\"super\":0,\"interfaces\":[],\"source\":null,\"fields\":[],\"methods\":[]},",
-            1022,
-            "",
-            Some(ScriptFault::IdTwice),
-        )),
-        row((
-            "\"classes\":[",
-            "\"classes\":[",
-            "{\"id\":12,\"tag\":1,\"signature\":\"\",\"modifiers\":0,\"super\":0,\"interfaces\":[],\"source\":null,\"fields\":[],\"methods\":[]},",
-            1023,
-            "",
-            over,
-        )),
-        row((
-            "\"objects\":[",
-            "\"objects\":[",
-            "{\"id\":52,\"class\":11,\"fields\":[],\"text\":null,\"array\":null},",
-            1022,
-            "",
-            Some(ScriptFault::IdTwice),
-        )),
-        row((
-            "\"objects\":[",
-            "\"objects\":[",
-            "{\"id\":52,\"class\":11,\"fields\":[],\"text\":null,\"array\":null},",
-            1023,
-            "",
-            over,
-        )),
-        row((
-            "\"threads\":[",
-            "\"threads\":[",
-            "{\"id\":2,\"name\":\"\",\"group\":5,\"steps\":[]},",
-            1022,
-            "",
-            Some(ScriptFault::IdTwice),
-        )),
-        row((
-            "\"threads\":[",
-            "\"threads\":[",
-            "{\"id\":2,\"name\":\"\",\"group\":5,\"steps\":[]},",
-            1023,
-            "",
-            over,
-        )),
-        row((
-            "\"threads\":[",
-            "\"threads\":[",
-            "{\"id\":3,\"name\":\"\",\"group\":5,\"steps\":[]},",
-            63,
-            "",
-            Some(ScriptFault::IdTwice),
-        )),
-        row((
-            "\"threads\":[",
-            "\"threads\":[",
-            "{\"id\":3,\"name\":\"\",\"group\":5,\"steps\":[]},",
-            64,
-            "",
-            over,
-        )),
-    ];
-    are_outcomes(&rt, rt.alloc(), &rows)
+    are_outcomes(&rt, rt.alloc(), &PARTS)
 }
+
+/// Lists of a part at their limit, and past it.
+static LISTS: [Outcome; 14] = [
+    (
+        "\"fields\":[{",
+        "\"fields\":[",
+        "{\"id\":42,\"name\":\"\",\"signature\":\"\",\"modifiers\":0,\"value\":null},",
+        254,
+        "{",
+        Some(ScriptFault::IdTwice),
+    ),
+    (
+        "\"fields\":[{",
+        "\"fields\":[",
+        "{\"id\":42,\"name\":\"\",\"signature\":\"\",\"modifiers\":0,\"value\":null},",
+        255,
+        "{",
+        OVER,
+    ),
+    (
+        "\"methods\":[{",
+        "\"methods\":[",
+        "{\"id\":21,\"name\":\"\",\"signature\":\"\",\"modifiers\":0,\"args\":0,\"last\":0,\"lines\":[],\"slots\":[]},",
+        255,
+        "{",
+        Some(ScriptFault::IdTwice),
+    ),
+    (
+        "\"methods\":[{",
+        "\"methods\":[",
+        "{\"id\":21,\"name\":\"\",\"signature\":\"\",\"modifiers\":0,\"args\":0,\"last\":0,\"lines\":[],\"slots\":[]},",
+        256,
+        "{",
+        OVER,
+    ),
+    (
+        "\"lines\":[",
+        "\"lines\":[",
+        "[0,0],",
+        254,
+        "",
+        Some(ScriptFault::BadReference),
+    ),
+    ("\"lines\":[", "\"lines\":[", "[0,0],", 255, "", OVER),
+    (
+        "\"slots\":[",
+        "\"slots\":[",
+        "{\"from\":0,\"name\":\"\",\"signature\":\"\",\"length\":0,\"slot\":0},",
+        255,
+        "",
+        None,
+    ),
+    (
+        "\"slots\":[",
+        "\"slots\":[",
+        "{\"from\":0,\"name\":\"\",\"signature\":\"\",\"length\":0,\"slot\":0},",
+        256,
+        "",
+        OVER,
+    ),
+    (
+        "\"interfaces\":[10]",
+        "\"interfaces\":[",
+        "10,",
+        255,
+        "10]",
+        None,
+    ),
+    (
+        "\"interfaces\":[10]",
+        "\"interfaces\":[",
+        "10,",
+        256,
+        "10]",
+        OVER,
+    ),
+    (
+        "[[40,[\"I\",1]]",
+        "[",
+        "[40,[\"I\",1]],",
+        254,
+        "[40,[\"I\",1]]",
+        Some(ScriptFault::BadReference),
+    ),
+    (
+        "[[40,[\"I\",1]]",
+        "[",
+        "[40,[\"I\",1]],",
+        255,
+        "[40,[\"I\",1]]",
+        OVER,
+    ),
+    (
+        "[[0,[\"L\",50]]]",
+        "[",
+        "[0,[\"I\",1]],",
+        255,
+        "[0,[\"L\",50]]]",
+        Some(ScriptFault::BadReference),
+    ),
+    (
+        "[[0,[\"L\",50]]]",
+        "[",
+        "[0,[\"I\",1]],",
+        256,
+        "[0,[\"L\",50]]]",
+        OVER,
+    ),
+];
 
 #[test]
 fn limits_of_lists(rt: HostRuntime) -> Result<(), Fail> {
-    let over = Some(ScriptFault::OverLimit);
-    let rows = [
-        row((
-            "\"fields\":[{",
-            "\"fields\":[",
-            "{\"id\":42,\"name\":\"\",\"signature\":\"\",\"modifiers\":0,\"value\":null},",
-            254,
-            "{",
-            Some(ScriptFault::IdTwice),
-        )),
-        row((
-            "\"fields\":[{",
-            "\"fields\":[",
-            "{\"id\":42,\"name\":\"\",\"signature\":\"\",\"modifiers\":0,\"value\":null},",
-            255,
-            "{",
-            over,
-        )),
-        row((
-            "\"methods\":[{",
-            "\"methods\":[",
-            "{\"id\":21,\"name\":\"\",\"signature\":\"\",\"modifiers\":0,\"args\":0,\"last\":0,\"lines\":[],\"slots\":[]},",
-            255,
-            "{",
-            Some(ScriptFault::IdTwice),
-        )),
-        row((
-            "\"methods\":[{",
-            "\"methods\":[",
-            "{\"id\":21,\"name\":\"\",\"signature\":\"\",\"modifiers\":0,\"args\":0,\"last\":0,\"lines\":[],\"slots\":[]},",
-            256,
-            "{",
-            over,
-        )),
-        row((
-            "\"lines\":[",
-            "\"lines\":[",
-            "[0,0],",
-            254,
-            "",
-            Some(ScriptFault::BadReference),
-        )),
-        row(("\"lines\":[", "\"lines\":[", "[0,0],", 255, "", over)),
-        row((
-            "\"slots\":[",
-            "\"slots\":[",
-            "{\"from\":0,\"name\":\"\",\"signature\":\"\",\"length\":0,\"slot\":0},",
-            255,
-            "",
-            None,
-        )),
-        row((
-            "\"slots\":[",
-            "\"slots\":[",
-            "{\"from\":0,\"name\":\"\",\"signature\":\"\",\"length\":0,\"slot\":0},",
-            256,
-            "",
-            over,
-        )),
-        row((
-            "\"interfaces\":[10]",
-            "\"interfaces\":[",
-            "10,",
-            255,
-            "10]",
-            None,
-        )),
-        row((
-            "\"interfaces\":[10]",
-            "\"interfaces\":[",
-            "10,",
-            256,
-            "10]",
-            over,
-        )),
-        row((
-            "[[40,[\"I\",1]]",
-            "[",
-            "[40,[\"I\",1]],",
-            254,
-            "[40,[\"I\",1]]",
-            Some(ScriptFault::BadReference),
-        )),
-        row((
-            "[[40,[\"I\",1]]",
-            "[",
-            "[40,[\"I\",1]],",
-            255,
-            "[40,[\"I\",1]]",
-            over,
-        )),
-        row((
-            "[[0,[\"L\",50]]]",
-            "[",
-            "[0,[\"I\",1]],",
-            255,
-            "[0,[\"L\",50]]]",
-            Some(ScriptFault::BadReference),
-        )),
-        row((
-            "[[0,[\"L\",50]]]",
-            "[",
-            "[0,[\"I\",1]],",
-            256,
-            "[0,[\"L\",50]]]",
-            over,
-        )),
-    ];
-    are_outcomes(&rt, rt.alloc(), &rows)
+    are_outcomes(&rt, rt.alloc(), &LISTS)
 }
+
+/// Frames, steps and elements at their limit, and past it.
+static STEPS: [Outcome; 7] = [
+    (
+        "[\"go\",3]",
+        "",
+        "[\"call\",31,11,20,0,[]],",
+        255,
+        "[\"go\",3]",
+        Some(ScriptFault::IdTwice),
+    ),
+    (
+        "[\"go\",3]",
+        "",
+        "[\"call\",31,11,20,0,[]],",
+        256,
+        "[\"go\",3]",
+        OVER,
+    ),
+    (
+        "[\"prepare\",11]",
+        "",
+        "[\"return\",[\"V\",0]],[\"return\",[\"V\",0]],",
+        1,
+        "[\"prepare\",11]",
+        Some(ScriptFault::BadReference),
+    ),
+    ("[\"go\",3]", "", "[\"go\",3],", 65529, "[\"go\",3]", None),
+    ("[\"go\",3]", "", "[\"go\",3],", 65530, "[\"go\",3]", OVER),
+    ("[50,0]", "[", "0,", 4095, "50]", None),
+    ("[50,0]", "[", "0,", 4096, "50]", OVER),
+];
 
 #[test]
 fn limits_of_steps(rt: HostRuntime) -> Result<(), Fail> {
-    let over = Some(ScriptFault::OverLimit);
-    let rows = [
-        row((
-            "[\"go\",3]",
-            "",
-            "[\"call\",31,11,20,0,[]],",
-            255,
-            "[\"go\",3]",
-            Some(ScriptFault::IdTwice),
-        )),
-        row((
-            "[\"go\",3]",
-            "",
-            "[\"call\",31,11,20,0,[]],",
-            256,
-            "[\"go\",3]",
-            over,
-        )),
-        row((
-            "[\"prepare\",11]",
-            "",
-            "[\"return\",[\"V\",0]],[\"return\",[\"V\",0]],",
-            1,
-            "[\"prepare\",11]",
-            Some(ScriptFault::BadReference),
-        )),
-        row(("[\"go\",3]", "", "[\"go\",3],", 65529, "[\"go\",3]", None)),
-        row(("[\"go\",3]", "", "[\"go\",3],", 65530, "[\"go\",3]", over)),
-        row(("[50,0]", "[", "0,", 4095, "50]", None)),
-        row(("[50,0]", "[", "0,", 4096, "50]", over)),
-    ];
-    are_outcomes(&rt, rt.alloc(), &rows)
+    are_outcomes(&rt, rt.alloc(), &STEPS)
+}
+
+/// The fault of machine A where so many threads may live.
+fn fault_with(alloc: Global, live: u32) -> Result<Option<ScriptFault>, Fail> {
+    let limits = Limits::new(65_536, live, 64, 64).ok_or("no limits")?;
+    Ok(Script::read_with(alloc, MACHINE_A, &limits).err())
 }
 
 #[test]
 fn live_threads_by_limits(rt: HostRuntime) -> Result<(), Fail> {
-    let alloc = rt.alloc();
-    for (live, wanted) in [(1, Some(ScriptFault::OverLimit)), (2, None)] {
-        let limits = Limits::new(65_536, live, 64, 64).ok_or("no limits")?;
-        let found = match Script::read_with(alloc, MACHINE_A, &limits) {
-            Ok(_) => None,
-            Err(fault) => Some(fault),
-        };
-        expect_same(&rt, &found, &wanted);
-    }
+    expect_same(&rt, &fault_with(rt.alloc(), 1)?, &OVER);
+    expect_same(&rt, &fault_with(rt.alloc(), 2)?, &None);
     Ok(())
 }

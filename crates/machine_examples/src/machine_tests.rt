@@ -1,5 +1,5 @@
 //! Machines of scripts: their threads, their steps, what they answer, and the faults of their texts.
-use crate::asserts::expect_same;
+use crate::asserts::{expect_same, expect_same_for};
 use crate::layout_tests::{bytes_of, push_location, push_value, request_of, text_of};
 use crate::rows::row;
 use crate::script_tests::{MACHINE_A, edited};
@@ -275,51 +275,55 @@ fn machine_after(
     Ok(machine)
 }
 
+/// Machine A to its end.
+static STEPS_OF_A: [Act; 14] = [
+    Act::Lives(&[1, 2]),
+    Act::Shows(2, "2 has run out"),
+    Act::Steps(1, "1 enters 1:#10:#20:0 line 1 frames 1 LMain; 10"),
+    Act::Steps(1, "1 moves to 1:#10:#20:3 line 2 frames 1 LMain; 10"),
+    Act::Steps(1, "1 moves to 1:#10:#20:4 line 3 frames 1 LMain; 10"),
+    Act::Steps(1, "1 moves to 1:#10:#20:3 line 2 frames 1 LMain; 10"),
+    Act::Steps(1, "1 moves to 1:#10:#20:4 line 3 frames 1 LMain; 10"),
+    Act::Steps(1, "1 moves to 1:#10:#20:3 line 2 frames 1 LMain; 10"),
+    Act::Steps(1, "1 leaves 1:#10:#20:3 line 2 frames 1 LMain; 10 with V"),
+    Act::Shows(1, "1 has run out"),
+    Act::Ends(1),
+    Act::Lives(&[2]),
+    Act::Ends(2),
+    Act::Lives(&[]),
+];
+
 #[test]
 fn machine_a_steps(rt: HostRuntime) -> Result<(), Fail> {
-    let acts = [
-        Act::Lives(&[1, 2]),
-        Act::Shows(2, "2 has run out"),
-        Act::Steps(1, "1 enters 1:#10:#20:0 line 1 frames 1 LMain; 10"),
-        Act::Steps(1, "1 moves to 1:#10:#20:3 line 2 frames 1 LMain; 10"),
-        Act::Steps(1, "1 moves to 1:#10:#20:4 line 3 frames 1 LMain; 10"),
-        Act::Steps(1, "1 moves to 1:#10:#20:3 line 2 frames 1 LMain; 10"),
-        Act::Steps(1, "1 moves to 1:#10:#20:4 line 3 frames 1 LMain; 10"),
-        Act::Steps(1, "1 moves to 1:#10:#20:3 line 2 frames 1 LMain; 10"),
-        Act::Steps(1, "1 leaves 1:#10:#20:3 line 2 frames 1 LMain; 10 with V"),
-        Act::Shows(1, "1 has run out"),
-        Act::Ends(1),
-        Act::Lives(&[2]),
-        Act::Ends(2),
-        Act::Lives(&[]),
-    ];
-    let _machine = machine_after(&rt, rt.alloc(), MACHINE_A, &acts)?;
+    let _machine = machine_after(&rt, rt.alloc(), MACHINE_A, &STEPS_OF_A)?;
     Ok(())
 }
 
+/// A step of each kind.
+static EACH_STEP: [Act; 9] = [
+    Act::Lives(&[1]),
+    Act::Steps(1, "1 prepares 1 11 LMain; 11 12 status 3"),
+    Act::Steps(1, "2 starts"),
+    Act::Lives(&[1, 2]),
+    Act::Steps(1, "1 enters 1:#11:#20:0 no line frames 1 LMain; 11 12"),
+    Act::Steps(
+        1,
+        "1 throws 50 at 1:#11:#20:0 no line frames 1 LMain; 11 12 of 11 12 caught at 1:#11:#20:9",
+    ),
+    Act::Steps(
+        1,
+        "1 throws 50 at 1:#11:#20:0 no line frames 1 LMain; 11 12 of 11 12 caught at null",
+    ),
+    Act::Steps(
+        1,
+        "1 leaves 1:#11:#20:0 no line frames 1 LMain; 11 12 with I:7",
+    ),
+    Act::Shows(1, "1 has run out"),
+];
+
 #[test]
 fn steps_of_each_kind(rt: HostRuntime) -> Result<(), Fail> {
-    let acts = [
-        Act::Lives(&[1]),
-        Act::Steps(1, "1 prepares 1 11 LMain; 11 12 status 3"),
-        Act::Steps(1, "2 starts"),
-        Act::Lives(&[1, 2]),
-        Act::Steps(1, "1 enters 1:#11:#20:0 no line frames 1 LMain; 11 12"),
-        Act::Steps(
-            1,
-            "1 throws 50 at 1:#11:#20:0 no line frames 1 LMain; 11 12 of 11 12 caught at 1:#11:#20:9",
-        ),
-        Act::Steps(
-            1,
-            "1 throws 50 at 1:#11:#20:0 no line frames 1 LMain; 11 12 of 11 12 caught at null",
-        ),
-        Act::Steps(
-            1,
-            "1 leaves 1:#11:#20:0 no line frames 1 LMain; 11 12 with I:7",
-        ),
-        Act::Shows(1, "1 has run out"),
-    ];
-    let _machine = machine_after(&rt, rt.alloc(), EACH_KIND, &acts)?;
+    let _machine = machine_after(&rt, rt.alloc(), EACH_KIND, &EACH_STEP)?;
     Ok(())
 }
 
@@ -333,44 +337,19 @@ fn classes_reached_by_many_ways(rt: HostRuntime) -> Result<(), Fail> {
     Ok(())
 }
 
-/// A question: by which row its data are read, the data, and as which command it is asked; and the answer as text.
-#[derive(Clone, Copy)]
-struct Row {
-    row: (u8, u8),
-    data: &'static str,
-    command: (u8, u8),
-    answer: &'static str,
-}
+/// A command, its data, and the answer as text.
+type Asked = (u8, u8, &'static str, &'static str);
 
-/// A command with its data, and the answer.
-fn asked(set: u8, number: u8, data: &'static str, answer: &'static str) -> Row {
-    Row {
-        row: (set, number),
-        data,
-        command: (set, number),
-        answer,
-    }
-}
+/// By which row the data are read, the data, as which command they are asked, and the answer as text.
+type AskedAs = ((u8, u8), &'static str, (u8, u8), &'static str);
 
-/// A command with the data of another, and the answer.
-fn with_data_of(row: (u8, u8), data: &'static str, command: (u8, u8), answer: &'static str) -> Row {
-    Row {
-        row,
-        data,
-        command,
-        answer,
-    }
-}
-
-fn query_of(alloc: Global, asked: &Row) -> Result<Query, Fail> {
+fn query_of(alloc: Global, row: (u8, u8), data: &str, command: (u8, u8)) -> Result<Query, Fail> {
     let sizes = IdSizes::new(1, 1, 1, 1, 1)?;
-    let (set, number) = asked.row;
-    let bytes = bytes_of(alloc, asked.data)?;
-    let items = read(alloc, &request_of(set, number)?, &sizes, &bytes)?;
-    let (set, number) = asked.command;
+    let bytes = bytes_of(alloc, data)?;
+    let items = read(alloc, &request_of(row.0, row.1)?, &sizes, &bytes)?;
     Ok(Query {
-        set,
-        number,
+        set: command.0,
+        number: command.1,
         content: Data::new(items),
     })
 }
@@ -386,29 +365,56 @@ fn answer_text(alloc: Global, answer: &Answer) -> Result<String, Fail> {
     }
 }
 
-fn answer_of(alloc: Global, machine: &ScriptMachine, asked: &Row) -> Result<String, Fail> {
-    let query = query_of(alloc, asked)?;
+fn answer_of(
+    alloc: Global,
+    machine: &ScriptMachine,
+    row: (u8, u8),
+    data: &str,
+    command: (u8, u8),
+) -> Result<String, Fail> {
+    let query = query_of(alloc, row, data, command)?;
     match machine.query(&query) {
         Ok(answer) => answer_text(alloc, &answer),
         Err(_) => Err(Fail::from("no memory")),
     }
 }
 
+fn is_answered(
+    rt: &impl Abort,
+    alloc: Global,
+    machine: &ScriptMachine,
+    row: (u8, u8),
+    data: &str,
+    command: (u8, u8),
+    answer: &str,
+) -> Result<(), Fail> {
+    let text = answer_of(alloc, machine, row, data, command)?;
+    expect_same_for(rt, &text.as_str(), &answer, &(row, command));
+    Ok(())
+}
+
 fn are_answered(
     rt: &impl Abort,
     alloc: Global,
     machine: &ScriptMachine,
-    rows: &[Row],
+    rows: &[Asked],
 ) -> Result<(), Fail> {
-    for row in rows {
-        let text = answer_of(alloc, machine, row)?;
-        assert_eq!(rt;
-            text.as_str(),
-            row.answer,
-            "{} {}",
-            row.command.0,
-            row.command.1
-        );
+    for &(set, number, data, answer) in rows {
+        let command = (set, number);
+        is_answered(rt, alloc, machine, command, data, command, answer)?;
+    }
+    Ok(())
+}
+
+/// The same of commands that are asked with the data of others.
+fn are_answered_as(
+    rt: &impl Abort,
+    alloc: Global,
+    machine: &ScriptMachine,
+    rows: &[AskedAs],
+) -> Result<(), Fail> {
+    for &(row, data, command, answer) in rows {
+        is_answered(rt, alloc, machine, row, data, command, answer)?;
     }
     Ok(())
 }
@@ -419,92 +425,108 @@ fn objects(rt: &impl Abort, alloc: Global) -> Result<ScriptMachine, Fail> {
     machine_after(rt, alloc, OBJECTS, &acts)
 }
 
+static THREADS: [Asked; 13] = [
+    (11, 1, "01", "\"first\""),
+    (11, 5, "01", "#5"),
+    (11, 7, "01", "2"),
+    (11, 7, "03", "error 20"),
+    (
+        11,
+        6,
+        "01 00000000 ffffffff",
+        "[(#31, 1:#10:#20:3), (#30, 1:#10:#20:0)]",
+    ),
+    (
+        11,
+        6,
+        "01 00000000 00000002",
+        "[(#31, 1:#10:#20:3), (#30, 1:#10:#20:0)]",
+    ),
+    (11, 6, "01 00000001 00000001", "[(#30, 1:#10:#20:0)]"),
+    (11, 6, "01 00000002 ffffffff", "[]"),
+    (11, 6, "01 00000002 00000000", "[]"),
+    (11, 6, "01 00000003 00000000", "error 503"),
+    (11, 6, "01 ffffffff 00000001", "error 503"),
+    (11, 6, "01 00000001 00000002", "error 504"),
+    (11, 6, "01 00000000 fffffffe", "error 504"),
+];
+
+static THREADS_AS: [AskedAs; 2] = [
+    ((11, 6), "01 00000000 00000001", (11, 7), "error 103"),
+    ((11, 7), "01", (11, 8), "error 99"),
+];
+
 #[test]
 fn answers_of_threads(rt: HostRuntime) -> Result<(), Fail> {
-    let two = "[(#31, 1:#10:#20:3), (#30, 1:#10:#20:0)]";
-    let rows = [
-        asked(11, 1, "01", "\"first\""),
-        asked(11, 5, "01", "#5"),
-        asked(11, 7, "01", "2"),
-        asked(11, 7, "03", "error 20"),
-        with_data_of((11, 6), "01 00000000 00000001", (11, 7), "error 103"),
-        with_data_of((11, 7), "01", (11, 8), "error 99"),
-        asked(11, 6, "01 00000000 ffffffff", two),
-        asked(11, 6, "01 00000000 00000002", two),
-        asked(11, 6, "01 00000001 00000001", "[(#30, 1:#10:#20:0)]"),
-        asked(11, 6, "01 00000002 ffffffff", "[]"),
-        asked(11, 6, "01 00000002 00000000", "[]"),
-        asked(11, 6, "01 00000003 00000000", "error 503"),
-        asked(11, 6, "01 ffffffff 00000001", "error 503"),
-        asked(11, 6, "01 00000001 00000002", "error 504"),
-        asked(11, 6, "01 00000000 fffffffe", "error 504"),
-    ];
     let machine = objects(&rt, rt.alloc())?;
-    are_answered(&rt, rt.alloc(), &machine, &rows)
+    are_answered(&rt, rt.alloc(), &machine, &THREADS)?;
+    are_answered_as(&rt, rt.alloc(), &machine, &THREADS_AS)
 }
+
+static FRAMES: [Asked; 12] = [
+    (16, 1, "01 1f 00000001 00000000 49", "[(I:7)]"),
+    (16, 1, "01 1f 00000001 00000001 4a", "error 35"),
+    (16, 1, "01 1f 00000001 00000000 4a", "error 34"),
+    (16, 1, "01 1f 00000001 00000000 56", "error 34"),
+    (16, 1, "01 1f 00000001 00000000 01", "error 34"),
+    (16, 3, "01 1f", "s#51"),
+    (16, 3, "01 1e", "L#0"),
+    (16, 3, "01 20", "error 30"),
+    // the test of a breakpoint's location: the last index, one more, the null location, a class that there is not
+    (15, 1, "02 00 00000001 07 01 0a 14 0000000000000009", "0"),
+    (
+        15,
+        1,
+        "02 00 00000001 07 01 0a 14 000000000000000a",
+        "error 24",
+    ),
+    (
+        15,
+        1,
+        "02 00 00000001 07 00 00 00 0000000000000000",
+        "error 24",
+    ),
+    (
+        15,
+        1,
+        "02 00 00000001 07 01 0b 14 0000000000000000",
+        "error 21",
+    ),
+];
 
 #[test]
 fn answers_of_frames(rt: HostRuntime) -> Result<(), Fail> {
-    let rows = [
-        asked(16, 1, "01 1f 00000001 00000000 49", "[(I:7)]"),
-        asked(16, 1, "01 1f 00000001 00000001 4a", "error 35"),
-        asked(16, 1, "01 1f 00000001 00000000 4a", "error 34"),
-        asked(16, 1, "01 1f 00000001 00000000 56", "error 34"),
-        asked(16, 1, "01 1f 00000001 00000000 01", "error 34"),
-        asked(16, 3, "01 1f", "s#51"),
-        asked(16, 3, "01 1e", "L#0"),
-        asked(16, 3, "01 20", "error 30"),
-        // the test of a breakpoint's location: the last index, one more, the null location, a class that there is not
-        asked(15, 1, "02 00 00000001 07 01 0a 14 0000000000000009", "0"),
-        asked(
-            15,
-            1,
-            "02 00 00000001 07 01 0a 14 000000000000000a",
-            "error 24",
-        ),
-        asked(
-            15,
-            1,
-            "02 00 00000001 07 00 00 00 0000000000000000",
-            "error 24",
-        ),
-        asked(
-            15,
-            1,
-            "02 00 00000001 07 01 0b 14 0000000000000000",
-            "error 21",
-        ),
-    ];
     let machine = objects(&rt, rt.alloc())?;
-    are_answered(&rt, rt.alloc(), &machine, &rows)
+    are_answered(&rt, rt.alloc(), &machine, &FRAMES)
 }
+
+static OBJECTS_AND_GROUPS: [Asked; 20] = [
+    (9, 1, "32", "1 #10"),
+    (9, 2, "32 00000001 28", "[(I:7)]"),
+    (9, 2, "32 00000001 29", "error 25"),
+    (9, 7, "32", ""),
+    (9, 8, "01", "error 20"),
+    (9, 9, "32", "false"),
+    (10, 1, "33", "\"hello\""),
+    (10, 1, "32", "error 506"),
+    (13, 1, "34", "3"),
+    (13, 1, "32", "error 508"),
+    (13, 2, "34 00000000 00000003", "L[L#50, s#51, L#0]"),
+    (13, 2, "34 00000003 00000000", "L[]"),
+    (13, 2, "34 00000004 00000000", "error 503"),
+    (13, 2, "34 ffffffff 00000001", "error 503"),
+    (13, 2, "34 00000001 00000003", "error 504"),
+    (13, 2, "34 00000000 ffffffff", "error 504"),
+    (12, 1, "06", "\"pool\""),
+    (12, 2, "06", "#5"),
+    (12, 2, "01", "error 11"),
+    (12, 3, "05", "[(#1)] [(#6)]"),
+];
 
 #[test]
 fn answers_of_objects_and_groups(rt: HostRuntime) -> Result<(), Fail> {
-    let rows = [
-        asked(9, 1, "32", "1 #10"),
-        asked(9, 2, "32 00000001 28", "[(I:7)]"),
-        asked(9, 2, "32 00000001 29", "error 25"),
-        asked(9, 7, "32", ""),
-        asked(9, 8, "01", "error 20"),
-        asked(9, 9, "32", "false"),
-        asked(10, 1, "33", "\"hello\""),
-        asked(10, 1, "32", "error 506"),
-        asked(13, 1, "34", "3"),
-        asked(13, 1, "32", "error 508"),
-        asked(13, 2, "34 00000000 00000003", "L[L#50, s#51, L#0]"),
-        asked(13, 2, "34 00000003 00000000", "L[]"),
-        asked(13, 2, "34 00000004 00000000", "error 503"),
-        asked(13, 2, "34 ffffffff 00000001", "error 503"),
-        asked(13, 2, "34 00000001 00000003", "error 504"),
-        asked(13, 2, "34 00000000 ffffffff", "error 504"),
-        asked(12, 1, "06", "\"pool\""),
-        asked(12, 2, "06", "#5"),
-        asked(12, 2, "01", "error 11"),
-        asked(12, 3, "05", "[(#1)] [(#6)]"),
-    ];
     let machine = objects(&rt, rt.alloc())?;
-    are_answered(&rt, rt.alloc(), &machine, &rows)
+    are_answered(&rt, rt.alloc(), &machine, &OBJECTS_AND_GROUPS)
 }
 
 /// Slots that are written: of which frame of which thread, and the error, or 0.
@@ -536,13 +558,13 @@ fn are_written(
     alloc: Global,
     machine: &mut ScriptMachine,
     rows: &[Writing],
-    held: &'static str,
+    held: &str,
 ) -> Result<(), Fail> {
     for row in rows {
-        assert_eq!(rt; written(machine, row)?, row.error, "frame {}", row.frame);
+        expect_same_for(rt, &written(machine, row)?, &row.error, &row.frame);
     }
-    let rows = [asked(16, 1, "01 1f 00000001 00000000 49", held)];
-    are_answered(rt, alloc, machine, &rows)
+    let slot = "01 1f 00000001 00000000 49";
+    is_answered(rt, alloc, machine, (16, 1), slot, (16, 1), held)
 }
 
 fn newest(slots: &'static [(i32, Value)], error: u16) -> Writing {
@@ -579,118 +601,138 @@ fn slots_that_are_written(rt: HostRuntime) -> Result<(), Fail> {
     are_written(&rt, rt.alloc(), &mut machine, &taken, "[(I:8)]")
 }
 
+static WHOLE: [Asked; 9] = [
+    (1, 1, "", "\"scripted machine\" 11 0 \"11\" \"small\""),
+    (1, 2, "00000006 4c4d61696e3b", "[(1, #11, 3), (1, #12, 0)]"),
+    (1, 2, "00000005 4c4a6f623b", "[(2, #10, 3)]"),
+    (1, 2, "00000007 4c4f746865723b", "[]"),
+    (
+        1,
+        3,
+        "",
+        "[(2, #10, \"LJob;\", 3), (1, #11, \"LMain;\", 3), (1, #12, \"LMain;\", 0)]",
+    ),
+    (1, 5, "", "[(#5), (#7)]"),
+    (1, 12, "", "false false false false false false false"),
+    (1, 14, "00000000", ""),
+    (
+        1,
+        20,
+        "",
+        "[(2, #10, \"LJob;\", \"\", 3), (1, #11, \"LMain;\", \"\", 3), (1, #12, \"LMain;\", \"\", 0)]",
+    ),
+];
+
+static WHOLE_AS: [AskedAs; 5] = [
+    ((1, 1), "", (1, 2), "error 103"),
+    ((1, 2), "00000005 4c4a6f623b", (1, 1), "error 103"),
+    ((1, 1), "", (1, 4), "error 99"),
+    ((1, 1), "", (1, 14), "error 103"),
+    // a set that the machine is not asked about
+    ((1, 1), "", (4, 1), "error 99"),
+];
+
 #[test]
 fn answers_of_the_machine(rt: HostRuntime) -> Result<(), Fail> {
-    let rows = [
-        asked(1, 1, "", "\"scripted machine\" 11 0 \"11\" \"small\""),
-        with_data_of((1, 1), "", (1, 2), "error 103"),
-        asked(1, 2, "00000006 4c4d61696e3b", "[(1, #11, 3), (1, #12, 0)]"),
-        asked(1, 2, "00000005 4c4a6f623b", "[(2, #10, 3)]"),
-        asked(1, 2, "00000007 4c4f746865723b", "[]"),
-        with_data_of((1, 2), "00000005 4c4a6f623b", (1, 1), "error 103"),
-        asked(
-            1,
-            3,
-            "",
-            "[(2, #10, \"LJob;\", 3), (1, #11, \"LMain;\", 3), (1, #12, \"LMain;\", 0)]",
-        ),
-        with_data_of((1, 1), "", (1, 4), "error 99"),
-        asked(1, 5, "", "[(#5), (#7)]"),
-        asked(1, 12, "", "false false false false false false false"),
-        with_data_of((1, 1), "", (1, 14), "error 103"),
-        asked(1, 14, "00000000", ""),
-        asked(
-            1,
-            20,
-            "",
-            "[(2, #10, \"LJob;\", \"\", 3), (1, #11, \"LMain;\", \"\", 3), (1, #12, \"LMain;\", \"\", 0)]",
-        ),
-        // a set that the machine is not asked about
-        with_data_of((1, 1), "", (4, 1), "error 99"),
-    ];
     let machine = machine(rt.alloc(), CLASSES)?;
-    are_answered(&rt, rt.alloc(), &machine, &rows)
+    are_answered(&rt, rt.alloc(), &machine, &WHOLE)?;
+    are_answered_as(&rt, rt.alloc(), &machine, &WHOLE_AS)
 }
+
+static ANSWERS_OF_CLASSES: [Asked; 23] = [
+    (2, 1, "0b", "\"LMain;\""),
+    (2, 1, "0d", "error 21"),
+    (2, 2, "0b", "#0"),
+    (2, 3, "0a", "1537"),
+    (
+        2,
+        4,
+        "0b",
+        "[(#40, \"count\", \"I\", 8), (#41, \"next\", \"LMain;\", 0), (#42, \"done\", \"Z\", 9)]",
+    ),
+    (2, 4, "0c", "error 22"),
+    (2, 4, "0d", "error 21"),
+    (2, 5, "0b", "[(#21, \"run\", \"()V\", 1)]"),
+    (2, 5, "0c", "error 22"),
+    (2, 7, "0b", "\"Main.java\""),
+    (2, 7, "0a", "error 101"),
+    (2, 9, "0b", "3"),
+    (2, 9, "0c", "0"),
+    (2, 10, "0b", "[(#10)]"),
+    (2, 10, "0c", "error 22"),
+    (2, 13, "0b", "\"LMain;\" \"\""),
+    (
+        2,
+        14,
+        "0b",
+        "[(#40, \"count\", \"I\", \"\", 8), (#41, \"next\", \"LMain;\", \"\", 0), (#42, \"done\", \"Z\", \"\", 9)]",
+    ),
+    (2, 14, "0c", "error 22"),
+    (2, 15, "0a", "[(#20, \"act\", \"(I)V\", \"\", 1025)]"),
+    (2, 15, "0c", "error 22"),
+    (3, 1, "0b", "#0"),
+    (3, 1, "0c", "#11"),
+    (3, 1, "0d", "error 21"),
+];
+
+static ANSWERS_OF_CLASSES_AS: [AskedAs; 4] = [
+    ((1, 1), "", (2, 1), "error 103"),
+    ((2, 1), "0b", (2, 6), "error 103"),
+    ((2, 1), "0b", (2, 8), "error 99"),
+    ((3, 1), "0b", (3, 2), "error 99"),
+];
 
 #[test]
 fn answers_of_classes(rt: HostRuntime) -> Result<(), Fail> {
-    let rows = [
-        asked(2, 1, "0b", "\"LMain;\""),
-        asked(2, 1, "0d", "error 21"),
-        with_data_of((1, 1), "", (2, 1), "error 103"),
-        asked(2, 2, "0b", "#0"),
-        asked(2, 3, "0a", "1537"),
-        asked(
-            2,
-            4,
-            "0b",
-            "[(#40, \"count\", \"I\", 8), (#41, \"next\", \"LMain;\", 0), (#42, \"done\", \"Z\", 9)]",
-        ),
-        asked(2, 4, "0c", "error 22"),
-        asked(2, 4, "0d", "error 21"),
-        asked(2, 5, "0b", "[(#21, \"run\", \"()V\", 1)]"),
-        asked(2, 5, "0c", "error 22"),
-        with_data_of((2, 1), "0b", (2, 6), "error 103"),
-        asked(2, 7, "0b", "\"Main.java\""),
-        asked(2, 7, "0a", "error 101"),
-        with_data_of((2, 1), "0b", (2, 8), "error 99"),
-        asked(2, 9, "0b", "3"),
-        asked(2, 9, "0c", "0"),
-        asked(2, 10, "0b", "[(#10)]"),
-        asked(2, 10, "0c", "error 22"),
-        asked(2, 13, "0b", "\"LMain;\" \"\""),
-        asked(
-            2,
-            14,
-            "0b",
-            "[(#40, \"count\", \"I\", \"\", 8), (#41, \"next\", \"LMain;\", \"\", 0), (#42, \"done\", \"Z\", \"\", 9)]",
-        ),
-        asked(2, 14, "0c", "error 22"),
-        asked(2, 15, "0a", "[(#20, \"act\", \"(I)V\", \"\", 1025)]"),
-        asked(2, 15, "0c", "error 22"),
-        asked(3, 1, "0b", "#0"),
-        asked(3, 1, "0c", "#11"),
-        asked(3, 1, "0d", "error 21"),
-        with_data_of((3, 1), "0b", (3, 2), "error 99"),
-    ];
     let machine = machine(rt.alloc(), CLASSES)?;
-    are_answered(&rt, rt.alloc(), &machine, &rows)
+    are_answered(&rt, rt.alloc(), &machine, &ANSWERS_OF_CLASSES)?;
+    are_answered_as(&rt, rt.alloc(), &machine, &ANSWERS_OF_CLASSES_AS)
 }
+
+static STATIC_FIELDS: [Asked; 7] = [
+    (2, 6, "0b 00000002 2a 28", "[(Z:true), (I:7)]"),
+    (2, 6, "0b 00000002 28 28", "[(I:7), (I:7)]"),
+    (2, 6, "0b 00000002 28 29", "error 25"),
+    (2, 6, "0b 00000002 2b 28", "error 25"),
+    (2, 6, "0a 00000002 28 28", "error 25"),
+    (2, 6, "0c 00000002 28 28", "error 22"),
+    (2, 6, "0d 00000002 28 28", "error 21"),
+];
+
+static STATIC_FIELDS_AS: [AskedAs; 2] = [
+    ((2, 6), "0b 00000001 28", (2, 9), "error 103"),
+    ((2, 6), "0d 00000001 28", (2, 9), "error 21"),
+];
 
 #[test]
 fn values_of_static_fields(rt: HostRuntime) -> Result<(), Fail> {
-    let rows = [
-        asked(2, 6, "0b 00000002 2a 28", "[(Z:true), (I:7)]"),
-        asked(2, 6, "0b 00000002 28 28", "[(I:7), (I:7)]"),
-        asked(2, 6, "0b 00000002 28 29", "error 25"),
-        asked(2, 6, "0b 00000002 2b 28", "error 25"),
-        asked(2, 6, "0a 00000002 28 28", "error 25"),
-        asked(2, 6, "0c 00000002 28 28", "error 22"),
-        asked(2, 6, "0d 00000002 28 28", "error 21"),
-        with_data_of((2, 6), "0b 00000001 28", (2, 9), "error 103"),
-        with_data_of((2, 6), "0d 00000001 28", (2, 9), "error 21"),
-    ];
     let machine = machine(rt.alloc(), CLASSES)?;
-    are_answered(&rt, rt.alloc(), &machine, &rows)
+    are_answered(&rt, rt.alloc(), &machine, &STATIC_FIELDS)?;
+    are_answered_as(&rt, rt.alloc(), &machine, &STATIC_FIELDS_AS)
 }
+
+static METHODS: [Asked; 9] = [
+    (6, 1, "0b 15", "0 9 [(0, 5), (3, 6)]"),
+    (6, 1, "0a 14", "error 101"),
+    (6, 1, "0b 14", "error 23"),
+    (6, 1, "0d 15", "error 21"),
+    (6, 2, "0b 15", "1 [(2, \"this\", \"LMain;\", 8, 0)]"),
+    (6, 2, "0a 14", "2 []"),
+    (6, 4, "0b 15", "false"),
+    (6, 4, "0c 15", "error 23"),
+    (6, 5, "0b 15", "1 [(2, \"this\", \"LMain;\", \"\", 8, 0)]"),
+];
+
+static METHODS_AS: [AskedAs; 2] = [
+    ((2, 1), "0b", (6, 1), "error 103"),
+    ((6, 1), "0b 15", (6, 3), "error 99"),
+];
 
 #[test]
 fn answers_of_methods(rt: HostRuntime) -> Result<(), Fail> {
-    let rows = [
-        asked(6, 1, "0b 15", "0 9 [(0, 5), (3, 6)]"),
-        asked(6, 1, "0a 14", "error 101"),
-        asked(6, 1, "0b 14", "error 23"),
-        asked(6, 1, "0d 15", "error 21"),
-        with_data_of((2, 1), "0b", (6, 1), "error 103"),
-        asked(6, 2, "0b 15", "1 [(2, \"this\", \"LMain;\", 8, 0)]"),
-        asked(6, 2, "0a 14", "2 []"),
-        with_data_of((6, 1), "0b 15", (6, 3), "error 99"),
-        asked(6, 4, "0b 15", "false"),
-        asked(6, 4, "0c 15", "error 23"),
-        asked(6, 5, "0b 15", "1 [(2, \"this\", \"LMain;\", \"\", 8, 0)]"),
-    ];
     let machine = machine(rt.alloc(), CLASSES)?;
-    are_answered(&rt, rt.alloc(), &machine, &rows)
+    are_answered(&rt, rt.alloc(), &machine, &METHODS)?;
+    are_answered_as(&rt, rt.alloc(), &machine, &METHODS_AS)
 }
 
 fn fault(alloc: Global, text: &str) -> Option<ScriptFault> {

@@ -1,9 +1,9 @@
 //! Scripts that are read and scripts that are refused.
 use crate::asserts::{expect_same, expect_same_for};
-use crate::rows::row;
-use jdwp_script::{Literal, Member, Script, ScriptFault, Step};
+use jdwp_script::{Class, Literal, Member, Method, Script, ScriptFault, Step, Thread};
 use jdwp_value::{ObjectTag, Tag, Value};
 use std::alloc::Global;
+use std::process::Abort;
 use std::test::Fail;
 
 pub(crate) const MACHINE_A: &str = "{\"name\":\"A\",\"sizes\":[8,8,8,8,8],
@@ -53,6 +53,30 @@ pub(crate) fn fault(alloc: Global, text: &str) -> Option<ScriptFault> {
     }
 }
 
+/// What gives way, what comes for it, and the outcome: a fault, or none.
+type Edit = (&'static str, &'static str, Option<ScriptFault>);
+
+/// The script with `new` in place of the first `old` has this outcome.
+fn has_outcome(
+    rt: &impl Abort,
+    alloc: Global,
+    script: &str,
+    old: &str,
+    new: &str,
+    wanted: &Option<ScriptFault>,
+) -> Result<(), Fail> {
+    let text = edited(alloc, script, old, new)?;
+    expect_same_for(rt, &fault(alloc, text.as_str()), wanted, &(old, new));
+    Ok(())
+}
+
+fn are_outcomes(rt: &impl Abort, alloc: Global, script: &str, edits: &[Edit]) -> Result<(), Fail> {
+    for (old, new, wanted) in edits {
+        has_outcome(rt, alloc, script, old, new, wanted)?;
+    }
+    Ok(())
+}
+
 #[test]
 fn texts_that_are_no_scripts(rt: HostRuntime) -> Result<(), Fail> {
     let name = Some(ScriptFault::Missing(Member::Name));
@@ -64,551 +88,442 @@ fn texts_that_are_no_scripts(rt: HostRuntime) -> Result<(), Fail> {
     Ok(())
 }
 
+/// Machine A with a small edit: what gives way, what comes for it, and the outcome.
+static SMALL_EDITS: [Edit; 6] = [
+    ("\"id\":2,", "\"id\":5,", Some(ScriptFault::IdTwice)),
+    ("[8,8,8,8,8]", "[0,8,8,8,8]", Some(ScriptFault::IdTooWide)),
+    (
+        "[\"go\",3],[\"return\"",
+        "[\"go\",10],[\"return\"",
+        Some(ScriptFault::BadReference),
+    ),
+    ("\"name\":\"A\"", "\"name\":\"A\",\"more\":[1e3]", None),
+    ("\"name\":\"A\"", "\"name\":5,\"name\":\"A\"", None),
+    (
+        "\"name\":\"A\"",
+        "\"name\":\"A\",\"name\":5",
+        Some(ScriptFault::Missing(Member::Name)),
+    ),
+];
+
 #[test]
 fn small_edits_of_machine_a(rt: HostRuntime) -> Result<(), Fail> {
-    let alloc = rt.alloc();
-    for (old, new, wanted) in [
-        row(("\"id\":2,", "\"id\":5,", Some(ScriptFault::IdTwice))),
-        row(("[8,8,8,8,8]", "[0,8,8,8,8]", Some(ScriptFault::IdTooWide))),
-        row((
-            "[\"go\",3],[\"return\"",
-            "[\"go\",10],[\"return\"",
-            Some(ScriptFault::BadReference),
-        )),
-        row(("\"name\":\"A\"", "\"name\":\"A\",\"more\":[1e3]", None)),
-        row(("\"name\":\"A\"", "\"name\":5,\"name\":\"A\"", None)),
-        row((
-            "\"name\":\"A\"",
-            "\"name\":\"A\",\"name\":5",
-            Some(ScriptFault::Missing(Member::Name)),
-        )),
-    ] {
-        let text = edited(alloc, MACHINE_A, old, new)?;
-        expect_same_for(&rt, &fault(alloc, text.as_str()), &wanted, &(old, new));
-    }
-    Ok(())
+    are_outcomes(&rt, rt.alloc(), MACHINE_A, &SMALL_EDITS)
 }
+
+/// Edits of the script with something of each kind that make a bad reference: what gives way, and what comes for it.
+static BAD_REFERENCES: [(&str, &str); 44] = [
+    ("\"id\":6,", "\"id\":0,"),
+    (
+        "\"id\":6,\"name\":\"pool\",\"parent\":5",
+        "\"id\":6,\"name\":\"pool\",\"parent\":6",
+    ),
+    (
+        "\"super\":0,\"interfaces\":[],\"source\":null",
+        "\"super\":11,\"interfaces\":[],\"source\":null",
+    ),
+    ("\"interfaces\":[10]", "\"interfaces\":[11]"),
+    ("\"interfaces\":[10]", "\"interfaces\":[0]"),
+    ("\"id\":10,\"tag\"", "\"id\":0,\"tag\""),
+    ("[\"I\",7]", "[\"I\",4294967296]"),
+    ("[\"I\",7]", "[\"B\",256]"),
+    ("[\"I\",7]", "[\"S\",65536]"),
+    ("[\"I\",7]", "[\"Z\",2]"),
+    ("[\"I\",7]", "[\"V\",1]"),
+    ("[\"I\",7]", "[\"L\",99]"),
+    ("\"id\":40,", "\"id\":0,"),
+    ("\"id\":20,", "\"id\":0,"),
+    ("[3,2]]", "[10,2]]"),
+    ("[[0,1],", "[[3,1],"),
+    ("\"id\":50,\"class\":11", "\"id\":50,\"class\":12"),
+    ("\"id\":51,", "\"id\":0,"),
+    ("[40,[\"I\",1]]", "[42,[\"I\",1]]"),
+    ("[41,[\"L\",51]]", "[40,[\"L\",51]]"),
+    ("[41,[\"L\",51]]", "[41,[\"L\",52]]"),
+    ("[50,0]", "[50,52]"),
+    ("\"group\":6", "\"group\":7"),
+    ("\"id\":2,\"name\":\"work\"", "\"id\":0,\"name\":\"work\""),
+    ("[\"call\",30", "[\"call\",0"),
+    ("30,11,20,50", "30,12,20,50"),
+    ("30,11,20,50", "30,10,20,50"),
+    ("30,11,20,50", "30,11,21,50"),
+    ("30,11,20,50", "30,11,20,5"),
+    ("[[0,[\"L\",50]]]", "[[0,[\"L\",50]],[0,[\"I\",1]]]"),
+    ("[[0,[\"L\",50]]]", "[[0,[\"L\",99]]]"),
+    ("[\"go\",3]", "[\"go\",10]"),
+    ("[\"prepare\",11]", "[\"go\",0]"),
+    ("[\"prepare\",11]", "[\"return\",[\"V\",0]]"),
+    ("[\"prepare\",11]", "[\"throw\",50,null]"),
+    ("[\"throw\",51", "[\"throw\",5"),
+    ("[11,20,9]", "[11,20,10]"),
+    ("[11,20,9]", "[10,20,9]"),
+    ("[\"prepare\",11]", "[\"prepare\",12]"),
+    ("[\"prepare\",11]", "[\"prepare\",11],[\"prepare\",11]"),
+    ("[\"start\",2]", "[\"start\",3]"),
+    ("[\"start\",2]", "[\"start\",2],[\"start\",2]"),
+    ("[\"start\",2]", "[\"start\",2],[\"start\",1]"),
+    ("[\"V\",0]]]", "[\"C\",65536]]]"),
+];
 
 #[test]
 fn bad_references(rt: HostRuntime) -> Result<(), Fail> {
-    let alloc = rt.alloc();
-    for (old, new, wanted) in [
-        row(("\"id\":6,", "\"id\":0,", Some(ScriptFault::BadReference))),
-        row((
-            "\"id\":6,\"name\":\"pool\",\"parent\":5",
-            "\"id\":6,\"name\":\"pool\",\"parent\":6",
-            Some(ScriptFault::BadReference),
-        )),
-        row((
-            "\"super\":0,\"interfaces\":[],\"source\":null",
-            "\"super\":11,\"interfaces\":[],\"source\":null",
-            Some(ScriptFault::BadReference),
-        )),
-        row((
-            "\"interfaces\":[10]",
-            "\"interfaces\":[11]",
-            Some(ScriptFault::BadReference),
-        )),
-        row((
-            "\"interfaces\":[10]",
-            "\"interfaces\":[0]",
-            Some(ScriptFault::BadReference),
-        )),
-        row((
-            "\"id\":10,\"tag\"",
-            "\"id\":0,\"tag\"",
-            Some(ScriptFault::BadReference),
-        )),
-        row((
-            "[\"I\",7]",
-            "[\"I\",4294967296]",
-            Some(ScriptFault::BadReference),
-        )),
-        row(("[\"I\",7]", "[\"B\",256]", Some(ScriptFault::BadReference))),
-        row((
-            "[\"I\",7]",
-            "[\"S\",65536]",
-            Some(ScriptFault::BadReference),
-        )),
-        row(("[\"I\",7]", "[\"Z\",2]", Some(ScriptFault::BadReference))),
-        row(("[\"I\",7]", "[\"V\",1]", Some(ScriptFault::BadReference))),
-        row(("[\"I\",7]", "[\"L\",99]", Some(ScriptFault::BadReference))),
-        row(("\"id\":40,", "\"id\":0,", Some(ScriptFault::BadReference))),
-        row(("\"id\":20,", "\"id\":0,", Some(ScriptFault::BadReference))),
-        row(("[3,2]]", "[10,2]]", Some(ScriptFault::BadReference))),
-        row(("[[0,1],", "[[3,1],", Some(ScriptFault::BadReference))),
-        row((
-            "\"id\":50,\"class\":11",
-            "\"id\":50,\"class\":12",
-            Some(ScriptFault::BadReference),
-        )),
-        row(("\"id\":51,", "\"id\":0,", Some(ScriptFault::BadReference))),
-        row((
-            "[40,[\"I\",1]]",
-            "[42,[\"I\",1]]",
-            Some(ScriptFault::BadReference),
-        )),
-        row((
-            "[41,[\"L\",51]]",
-            "[40,[\"L\",51]]",
-            Some(ScriptFault::BadReference),
-        )),
-        row((
-            "[41,[\"L\",51]]",
-            "[41,[\"L\",52]]",
-            Some(ScriptFault::BadReference),
-        )),
-        row(("[50,0]", "[50,52]", Some(ScriptFault::BadReference))),
-        row((
-            "\"group\":6",
-            "\"group\":7",
-            Some(ScriptFault::BadReference),
-        )),
-        row((
-            "\"id\":2,\"name\":\"work\"",
-            "\"id\":0,\"name\":\"work\"",
-            Some(ScriptFault::BadReference),
-        )),
-        row((
-            "[\"call\",30",
-            "[\"call\",0",
-            Some(ScriptFault::BadReference),
-        )),
-        row((
-            "30,11,20,50",
-            "30,12,20,50",
-            Some(ScriptFault::BadReference),
-        )),
-        row((
-            "30,11,20,50",
-            "30,10,20,50",
-            Some(ScriptFault::BadReference),
-        )),
-        row((
-            "30,11,20,50",
-            "30,11,21,50",
-            Some(ScriptFault::BadReference),
-        )),
-        row(("30,11,20,50", "30,11,20,5", Some(ScriptFault::BadReference))),
-        row((
-            "[[0,[\"L\",50]]]",
-            "[[0,[\"L\",50]],[0,[\"I\",1]]]",
-            Some(ScriptFault::BadReference),
-        )),
-        row((
-            "[[0,[\"L\",50]]]",
-            "[[0,[\"L\",99]]]",
-            Some(ScriptFault::BadReference),
-        )),
-        row(("[\"go\",3]", "[\"go\",10]", Some(ScriptFault::BadReference))),
-        row((
-            "[\"prepare\",11]",
-            "[\"go\",0]",
-            Some(ScriptFault::BadReference),
-        )),
-        row((
-            "[\"prepare\",11]",
-            "[\"return\",[\"V\",0]]",
-            Some(ScriptFault::BadReference),
-        )),
-        row((
-            "[\"prepare\",11]",
-            "[\"throw\",50,null]",
-            Some(ScriptFault::BadReference),
-        )),
-        row((
-            "[\"throw\",51",
-            "[\"throw\",5",
-            Some(ScriptFault::BadReference),
-        )),
-        row(("[11,20,9]", "[11,20,10]", Some(ScriptFault::BadReference))),
-        row(("[11,20,9]", "[10,20,9]", Some(ScriptFault::BadReference))),
-        row((
-            "[\"prepare\",11]",
-            "[\"prepare\",12]",
-            Some(ScriptFault::BadReference),
-        )),
-        row((
-            "[\"prepare\",11]",
-            "[\"prepare\",11],[\"prepare\",11]",
-            Some(ScriptFault::BadReference),
-        )),
-        row((
-            "[\"start\",2]",
-            "[\"start\",3]",
-            Some(ScriptFault::BadReference),
-        )),
-        row((
-            "[\"start\",2]",
-            "[\"start\",2],[\"start\",2]",
-            Some(ScriptFault::BadReference),
-        )),
-        row((
-            "[\"start\",2]",
-            "[\"start\",2],[\"start\",1]",
-            Some(ScriptFault::BadReference),
-        )),
-        row((
-            "[\"V\",0]]]",
-            "[\"C\",65536]]]",
-            Some(ScriptFault::BadReference),
-        )),
-    ] {
-        let text = edited(alloc, MACHINE_B, old, new)?;
-        expect_same_for(&rt, &fault(alloc, text.as_str()), &wanted, &(old, new));
+    for (old, new) in BAD_REFERENCES.iter() {
+        has_outcome(
+            &rt,
+            rt.alloc(),
+            MACHINE_B,
+            old,
+            new,
+            &Some(ScriptFault::BadReference),
+        )?;
     }
     Ok(())
 }
+
+/// Edits by which an id stands twice.
+static IDS_TWICE: [Edit; 4] = [
+    ("\"id\":51,", "\"id\":5,", Some(ScriptFault::IdTwice)),
+    (
+        "\"id\":11,\"tag\"",
+        "\"id\":10,\"tag\"",
+        Some(ScriptFault::IdTwice),
+    ),
+    ("\"id\":41,", "\"id\":40,", Some(ScriptFault::IdTwice)),
+    (
+        "[\"go\",3]",
+        "[\"call\",30,11,20,0,[]]",
+        Some(ScriptFault::IdTwice),
+    ),
+];
 
 #[test]
 fn ids_that_stand_twice(rt: HostRuntime) -> Result<(), Fail> {
-    let alloc = rt.alloc();
-    for (old, new, wanted) in [
-        row(("\"id\":51,", "\"id\":5,", Some(ScriptFault::IdTwice))),
-        row((
-            "\"id\":11,\"tag\"",
-            "\"id\":10,\"tag\"",
-            Some(ScriptFault::IdTwice),
-        )),
-        row(("\"id\":41,", "\"id\":40,", Some(ScriptFault::IdTwice))),
-        row((
-            "[\"go\",3]",
-            "[\"call\",30,11,20,0,[]]",
-            Some(ScriptFault::IdTwice),
-        )),
-    ] {
-        let text = edited(alloc, MACHINE_B, old, new)?;
-        expect_same_for(&rt, &fault(alloc, text.as_str()), &wanted, &(old, new));
-    }
-    Ok(())
+    are_outcomes(&rt, rt.alloc(), MACHINE_B, &IDS_TWICE)
 }
+
+/// Edits of members.
+static MISSING_MEMBERS: [Edit; 43] = [
+    (
+        "\"last\":9",
+        "\"last\":9.0",
+        Some(ScriptFault::Missing(Member::Last)),
+    ),
+    (
+        "\"last\":9",
+        "\"last\":1e3",
+        Some(ScriptFault::Missing(Member::Last)),
+    ),
+    (
+        "\"last\":9",
+        "\"last\":-0",
+        Some(ScriptFault::Missing(Member::Last)),
+    ),
+    (
+        "\"last\":9",
+        "\"last\":18446744073709551616",
+        Some(ScriptFault::Missing(Member::Last)),
+    ),
+    ("\"last\":9", "\"last\":18446744073709551615", None),
+    (
+        "\"tag\":2",
+        "\"tag\":4",
+        Some(ScriptFault::Missing(Member::Tag)),
+    ),
+    (
+        "\"tag\":2",
+        "\"tag\":0",
+        Some(ScriptFault::Missing(Member::Tag)),
+    ),
+    ("\"tag\":2", "\"tag\":3", None),
+    (
+        "\"source\":null",
+        "\"source\":5",
+        Some(ScriptFault::Missing(Member::Source)),
+    ),
+    (
+        "\"source\":null,",
+        "",
+        Some(ScriptFault::Missing(Member::Source)),
+    ),
+    (
+        "[\"I\",7]",
+        "[\"I\"]",
+        Some(ScriptFault::Missing(Member::Value)),
+    ),
+    (
+        "[\"I\",7]",
+        "[\"Q\",7]",
+        Some(ScriptFault::Missing(Member::Value)),
+    ),
+    (
+        "[\"I\",7]",
+        "[\"II\",7]",
+        Some(ScriptFault::Missing(Member::Value)),
+    ),
+    (
+        "[\"I\",7]",
+        "[\"I\",-7]",
+        Some(ScriptFault::Missing(Member::Value)),
+    ),
+    ("[3,2]]", "[3]]", Some(ScriptFault::Missing(Member::Lines))),
+    (
+        "[3,2]]",
+        "[3,2147483648]]",
+        Some(ScriptFault::Missing(Member::Lines)),
+    ),
+    (
+        "\"length\":10",
+        "\"length\":2147483648",
+        Some(ScriptFault::Missing(Member::Length)),
+    ),
+    ("\"length\":10", "\"length\":2147483647", None),
+    (
+        "[\"go\",3]",
+        "[\"go\"]",
+        Some(ScriptFault::Missing(Member::Steps)),
+    ),
+    (
+        "[\"go\",3]",
+        "[\"jump\",3]",
+        Some(ScriptFault::Missing(Member::Steps)),
+    ),
+    (
+        "[\"go\",3]",
+        "[]",
+        Some(ScriptFault::Missing(Member::Steps)),
+    ),
+    (
+        "[\"go\",3]",
+        "[\"go\",3,3]",
+        Some(ScriptFault::Missing(Member::Steps)),
+    ),
+    (
+        "[11,20,9]",
+        "[11,20]",
+        Some(ScriptFault::Missing(Member::Steps)),
+    ),
+    (
+        "[[0,[\"L\",50]]]",
+        "[[0]]",
+        Some(ScriptFault::Missing(Member::Steps)),
+    ),
+    (
+        "[\"L\",[50,0]]",
+        "[\"V\",[]]",
+        Some(ScriptFault::Missing(Member::Array)),
+    ),
+    (
+        "[\"L\",[50,0]]",
+        "[\"I\",[-1]]",
+        Some(ScriptFault::Missing(Member::Array)),
+    ),
+    ("[\"L\",[50,0]]", "[\"I\",[]]", None),
+    (
+        "\"text\":\"hello\"",
+        "\"text\":5",
+        Some(ScriptFault::Missing(Member::Text)),
+    ),
+    (
+        "[41,[\"L\",51]]",
+        "[41]",
+        Some(ScriptFault::Missing(Member::Fields)),
+    ),
+    (
+        "[8,8,8,8,8]",
+        "[8,8,8,8]",
+        Some(ScriptFault::Missing(Member::Sizes)),
+    ),
+    (
+        "[8,8,8,8,8]",
+        "[8,8,8,8,2147483648]",
+        Some(ScriptFault::Missing(Member::Sizes)),
+    ),
+    (
+        "\"parent\":0",
+        "\"parent\":null",
+        Some(ScriptFault::Missing(Member::Parent)),
+    ),
+    (
+        "\"group\":6",
+        "\"group\":\"6\"",
+        Some(ScriptFault::Missing(Member::Group)),
+    ),
+    (
+        "\"slot\":0",
+        "\"slots\":0",
+        Some(ScriptFault::Missing(Member::Slot)),
+    ),
+    (
+        "{\"id\":6,\"name\":\"pool\",\"parent\":5}",
+        "6",
+        Some(ScriptFault::Missing(Member::Id)),
+    ),
+    (
+        "\"interfaces\":[10]",
+        "\"interfaces\":[\"10\"]",
+        Some(ScriptFault::Missing(Member::Interfaces)),
+    ),
+    (
+        "\"args\":1",
+        "\"args\":true",
+        Some(ScriptFault::Missing(Member::Args)),
+    ),
+    (
+        "\"from\":0",
+        "\"from\":[0]",
+        Some(ScriptFault::Missing(Member::From)),
+    ),
+    (
+        "\"fields\":[],\"methods\"",
+        "\"fields\":{},\"methods\"",
+        Some(ScriptFault::Missing(Member::Fields)),
+    ),
+    (
+        "\"methods\":[]",
+        "\"methods\":null",
+        Some(ScriptFault::Missing(Member::Methods)),
+    ),
+    (
+        "\"signature\":\"I\"",
+        "\"signature\":1",
+        Some(ScriptFault::Missing(Member::Signature)),
+    ),
+    (
+        "\"modifiers\":8",
+        "\"modifiers\":4294967296",
+        Some(ScriptFault::Missing(Member::Modifiers)),
+    ),
+    (
+        "\"super\":0,\"interfaces\":[10]",
+        "\"super\":-1,\"interfaces\":[10]",
+        Some(ScriptFault::Missing(Member::Super)),
+    ),
+];
 
 #[test]
 fn missing_members(rt: HostRuntime) -> Result<(), Fail> {
-    let alloc = rt.alloc();
-    for (old, new, wanted) in [
-        row((
-            "\"last\":9",
-            "\"last\":9.0",
-            Some(ScriptFault::Missing(Member::Last)),
-        )),
-        row((
-            "\"last\":9",
-            "\"last\":1e3",
-            Some(ScriptFault::Missing(Member::Last)),
-        )),
-        row((
-            "\"last\":9",
-            "\"last\":-0",
-            Some(ScriptFault::Missing(Member::Last)),
-        )),
-        row((
-            "\"last\":9",
-            "\"last\":18446744073709551616",
-            Some(ScriptFault::Missing(Member::Last)),
-        )),
-        row(("\"last\":9", "\"last\":18446744073709551615", None)),
-        row((
-            "\"tag\":2",
-            "\"tag\":4",
-            Some(ScriptFault::Missing(Member::Tag)),
-        )),
-        row((
-            "\"tag\":2",
-            "\"tag\":0",
-            Some(ScriptFault::Missing(Member::Tag)),
-        )),
-        row(("\"tag\":2", "\"tag\":3", None)),
-        row((
-            "\"source\":null",
-            "\"source\":5",
-            Some(ScriptFault::Missing(Member::Source)),
-        )),
-        row((
-            "\"source\":null,",
-            "",
-            Some(ScriptFault::Missing(Member::Source)),
-        )),
-        row((
-            "[\"I\",7]",
-            "[\"I\"]",
-            Some(ScriptFault::Missing(Member::Value)),
-        )),
-        row((
-            "[\"I\",7]",
-            "[\"Q\",7]",
-            Some(ScriptFault::Missing(Member::Value)),
-        )),
-        row((
-            "[\"I\",7]",
-            "[\"II\",7]",
-            Some(ScriptFault::Missing(Member::Value)),
-        )),
-        row((
-            "[\"I\",7]",
-            "[\"I\",-7]",
-            Some(ScriptFault::Missing(Member::Value)),
-        )),
-        row(("[3,2]]", "[3]]", Some(ScriptFault::Missing(Member::Lines)))),
-        row((
-            "[3,2]]",
-            "[3,2147483648]]",
-            Some(ScriptFault::Missing(Member::Lines)),
-        )),
-        row((
-            "\"length\":10",
-            "\"length\":2147483648",
-            Some(ScriptFault::Missing(Member::Length)),
-        )),
-        row(("\"length\":10", "\"length\":2147483647", None)),
-        row((
-            "[\"go\",3]",
-            "[\"go\"]",
-            Some(ScriptFault::Missing(Member::Steps)),
-        )),
-        row((
-            "[\"go\",3]",
-            "[\"jump\",3]",
-            Some(ScriptFault::Missing(Member::Steps)),
-        )),
-        row((
-            "[\"go\",3]",
-            "[]",
-            Some(ScriptFault::Missing(Member::Steps)),
-        )),
-        row((
-            "[\"go\",3]",
-            "[\"go\",3,3]",
-            Some(ScriptFault::Missing(Member::Steps)),
-        )),
-        row((
-            "[11,20,9]",
-            "[11,20]",
-            Some(ScriptFault::Missing(Member::Steps)),
-        )),
-        row((
-            "[[0,[\"L\",50]]]",
-            "[[0]]",
-            Some(ScriptFault::Missing(Member::Steps)),
-        )),
-        row((
-            "[\"L\",[50,0]]",
-            "[\"V\",[]]",
-            Some(ScriptFault::Missing(Member::Array)),
-        )),
-        row((
-            "[\"L\",[50,0]]",
-            "[\"I\",[-1]]",
-            Some(ScriptFault::Missing(Member::Array)),
-        )),
-        row(("[\"L\",[50,0]]", "[\"I\",[]]", None)),
-        row((
-            "\"text\":\"hello\"",
-            "\"text\":5",
-            Some(ScriptFault::Missing(Member::Text)),
-        )),
-        row((
-            "[41,[\"L\",51]]",
-            "[41]",
-            Some(ScriptFault::Missing(Member::Fields)),
-        )),
-        row((
-            "[8,8,8,8,8]",
-            "[8,8,8,8]",
-            Some(ScriptFault::Missing(Member::Sizes)),
-        )),
-        row((
-            "[8,8,8,8,8]",
-            "[8,8,8,8,2147483648]",
-            Some(ScriptFault::Missing(Member::Sizes)),
-        )),
-        row((
-            "\"parent\":0",
-            "\"parent\":null",
-            Some(ScriptFault::Missing(Member::Parent)),
-        )),
-        row((
-            "\"group\":6",
-            "\"group\":\"6\"",
-            Some(ScriptFault::Missing(Member::Group)),
-        )),
-        row((
-            "\"slot\":0",
-            "\"slots\":0",
-            Some(ScriptFault::Missing(Member::Slot)),
-        )),
-        row((
-            "{\"id\":6,\"name\":\"pool\",\"parent\":5}",
-            "6",
-            Some(ScriptFault::Missing(Member::Id)),
-        )),
-        row((
-            "\"interfaces\":[10]",
-            "\"interfaces\":[\"10\"]",
-            Some(ScriptFault::Missing(Member::Interfaces)),
-        )),
-        row((
-            "\"args\":1",
-            "\"args\":true",
-            Some(ScriptFault::Missing(Member::Args)),
-        )),
-        row((
-            "\"from\":0",
-            "\"from\":[0]",
-            Some(ScriptFault::Missing(Member::From)),
-        )),
-        row((
-            "\"fields\":[],\"methods\"",
-            "\"fields\":{},\"methods\"",
-            Some(ScriptFault::Missing(Member::Fields)),
-        )),
-        row((
-            "\"methods\":[]",
-            "\"methods\":null",
-            Some(ScriptFault::Missing(Member::Methods)),
-        )),
-        row((
-            "\"signature\":\"I\"",
-            "\"signature\":1",
-            Some(ScriptFault::Missing(Member::Signature)),
-        )),
-        row((
-            "\"modifiers\":8",
-            "\"modifiers\":4294967296",
-            Some(ScriptFault::Missing(Member::Modifiers)),
-        )),
-        row((
-            "\"super\":0,\"interfaces\":[10]",
-            "\"super\":-1,\"interfaces\":[10]",
-            Some(ScriptFault::Missing(Member::Super)),
-        )),
-    ] {
-        let text = edited(alloc, MACHINE_B, old, new)?;
-        expect_same_for(&rt, &fault(alloc, text.as_str()), &wanted, &(old, new));
-    }
-    Ok(())
+    are_outcomes(&rt, rt.alloc(), MACHINE_B, &MISSING_MEMBERS)
 }
+
+/// Edits of the widths, and of what has none.
+static WIDTHS: [Edit; 4] = [
+    ("[8,8,8,8,8]", "[9,8,8,8,8]", Some(ScriptFault::IdTooWide)),
+    ("[8,8,8,8,8]", "[8,8,8,8,0]", Some(ScriptFault::IdTooWide)),
+    ("[8,8,8,8,8]", "[1,1,1,1,1]", None),
+    ("[\"L\",[50,0]]", "[\"I\",[4294967295]]", None),
+];
 
 #[test]
 fn widths(rt: HostRuntime) -> Result<(), Fail> {
-    let alloc = rt.alloc();
-    for (old, new, wanted) in [
-        row(("[8,8,8,8,8]", "[9,8,8,8,8]", Some(ScriptFault::IdTooWide))),
-        row(("[8,8,8,8,8]", "[8,8,8,8,0]", Some(ScriptFault::IdTooWide))),
-        row(("[8,8,8,8,8]", "[1,1,1,1,1]", None)),
-        row(("[\"L\",[50,0]]", "[\"I\",[4294967295]]", None)),
-    ] {
-        let text = edited(alloc, MACHINE_B, old, new)?;
-        expect_same_for(&rt, &fault(alloc, text.as_str()), &wanted, &(old, new));
-    }
-    Ok(())
+    are_outcomes(&rt, rt.alloc(), MACHINE_B, &WIDTHS)
 }
+
+/// Widths, what gives way, what comes for it, and the outcome.
+static WIDE_IDS: [(&str, &str, &str, Option<ScriptFault>); 16] = [
+    (
+        "[1,8,8,8,8]",
+        "\"id\":40,",
+        "\"id\":256,",
+        Some(ScriptFault::IdTooWide),
+    ),
+    (
+        "[8,1,8,8,8]",
+        "30,11,20,50",
+        "30,11,256,50",
+        Some(ScriptFault::IdTooWide),
+    ),
+    (
+        "[8,8,1,8,8]",
+        "[\"I\",7]",
+        "[\"L\",256]",
+        Some(ScriptFault::IdTooWide),
+    ),
+    (
+        "[8,8,1,8,8]",
+        "[\"L\",[50,0]]",
+        "[\"L\",[256]]",
+        Some(ScriptFault::IdTooWide),
+    ),
+    ("[8,8,1,8,8]", "[\"L\",[50,0]]", "[\"J\",[256]]", None),
+    (
+        "[8,8,8,1,8]",
+        "\"interfaces\":[10]",
+        "\"interfaces\":[256]",
+        Some(ScriptFault::IdTooWide),
+    ),
+    (
+        "[8,8,8,1,8]",
+        "[\"prepare\",11]",
+        "[\"prepare\",256]",
+        Some(ScriptFault::IdTooWide),
+    ),
+    (
+        "[8,8,8,8,1]",
+        "[\"call\",30",
+        "[\"call\",256",
+        Some(ScriptFault::IdTooWide),
+    ),
+    (
+        "[8,8,1,8,8]",
+        "[\"start\",2]",
+        "[\"start\",256]",
+        Some(ScriptFault::IdTooWide),
+    ),
+    (
+        "[8,8,1,8,8]",
+        "[\"throw\",51",
+        "[\"throw\",256",
+        Some(ScriptFault::IdTooWide),
+    ),
+    (
+        "[8,8,1,8,8]",
+        "\"group\":6",
+        "\"group\":256",
+        Some(ScriptFault::IdTooWide),
+    ),
+    (
+        "[8,1,8,8,8]",
+        "[11,20,9]",
+        "[11,256,9]",
+        Some(ScriptFault::IdTooWide),
+    ),
+    (
+        "[0,8,8,8,8]",
+        "\"last\":9",
+        "\"last\":null",
+        Some(ScriptFault::Missing(Member::Last)),
+    ),
+    (
+        "[0,8,8,8,8]",
+        "\"id\":51,",
+        "\"id\":5,",
+        Some(ScriptFault::IdTwice),
+    ),
+    (
+        "[0,8,8,8,8]",
+        "[\"go\",3]",
+        "[\"go\",10]",
+        Some(ScriptFault::IdTooWide),
+    ),
+    (
+        "[\"8\"]",
+        "\"name\":\"main\"",
+        "\"name\":5",
+        Some(ScriptFault::Missing(Member::Sizes)),
+    ),
+];
 
 #[test]
 fn wide_ids_and_the_order_of_faults(rt: HostRuntime) -> Result<(), Fail> {
-    let alloc = rt.alloc();
-    for (sizes, old, new, wanted) in [
-        row((
-            "[1,8,8,8,8]",
-            "\"id\":40,",
-            "\"id\":256,",
-            Some(ScriptFault::IdTooWide),
-        )),
-        row((
-            "[8,1,8,8,8]",
-            "30,11,20,50",
-            "30,11,256,50",
-            Some(ScriptFault::IdTooWide),
-        )),
-        row((
-            "[8,8,1,8,8]",
-            "[\"I\",7]",
-            "[\"L\",256]",
-            Some(ScriptFault::IdTooWide),
-        )),
-        row((
-            "[8,8,1,8,8]",
-            "[\"L\",[50,0]]",
-            "[\"L\",[256]]",
-            Some(ScriptFault::IdTooWide),
-        )),
-        row(("[8,8,1,8,8]", "[\"L\",[50,0]]", "[\"J\",[256]]", None)),
-        row((
-            "[8,8,8,1,8]",
-            "\"interfaces\":[10]",
-            "\"interfaces\":[256]",
-            Some(ScriptFault::IdTooWide),
-        )),
-        row((
-            "[8,8,8,1,8]",
-            "[\"prepare\",11]",
-            "[\"prepare\",256]",
-            Some(ScriptFault::IdTooWide),
-        )),
-        row((
-            "[8,8,8,8,1]",
-            "[\"call\",30",
-            "[\"call\",256",
-            Some(ScriptFault::IdTooWide),
-        )),
-        row((
-            "[8,8,1,8,8]",
-            "[\"start\",2]",
-            "[\"start\",256]",
-            Some(ScriptFault::IdTooWide),
-        )),
-        row((
-            "[8,8,1,8,8]",
-            "[\"throw\",51",
-            "[\"throw\",256",
-            Some(ScriptFault::IdTooWide),
-        )),
-        row((
-            "[8,8,1,8,8]",
-            "\"group\":6",
-            "\"group\":256",
-            Some(ScriptFault::IdTooWide),
-        )),
-        row((
-            "[8,1,8,8,8]",
-            "[11,20,9]",
-            "[11,256,9]",
-            Some(ScriptFault::IdTooWide),
-        )),
-        row((
-            "[0,8,8,8,8]",
-            "\"last\":9",
-            "\"last\":null",
-            Some(ScriptFault::Missing(Member::Last)),
-        )),
-        row((
-            "[0,8,8,8,8]",
-            "\"id\":51,",
-            "\"id\":5,",
-            Some(ScriptFault::IdTwice),
-        )),
-        row((
-            "[0,8,8,8,8]",
-            "[\"go\",3]",
-            "[\"go\",10]",
-            Some(ScriptFault::IdTooWide),
-        )),
-        row((
-            "[\"8\"]",
-            "\"name\":\"main\"",
-            "\"name\":5",
-            Some(ScriptFault::Missing(Member::Sizes)),
-        )),
-    ] {
-        let text = edited(alloc, MACHINE_B, "[8,8,8,8,8]", sizes)?;
-        let text = edited(alloc, text.as_str(), old, new)?;
-        expect_same_for(&rt, &fault(alloc, text.as_str()), &wanted, &(old, new));
+    for (sizes, old, new, wanted) in WIDE_IDS.iter() {
+        let text = edited(rt.alloc(), MACHINE_B, "[8,8,8,8,8]", sizes)?;
+        has_outcome(&rt, rt.alloc(), text.as_str(), old, new, wanted)?;
     }
     Ok(())
 }
 
 /// A step in words.
-fn word(step: &Step, text: &mut String) -> Result<(), Fail> {
+fn step_words(step: &Step, text: &mut String) -> Result<(), Fail> {
     match step {
         Step::Call(call) => write!(
             text,
@@ -628,14 +543,100 @@ fn word(step: &Step, text: &mut String) -> Result<(), Fail> {
     Ok(())
 }
 
+/// A class in words, with its methods.
+fn class_words(class: &Class, text: &mut String) -> Result<(), Fail> {
+    write!(
+        text,
+        "class {} {:?} {} {} {} {} {} {:?};",
+        class.id.0,
+        class.tag,
+        class.signature,
+        class.modifiers,
+        class.superclass.0,
+        class.interfaces.len(),
+        class.fields.len(),
+        class.source
+    )?;
+    for method in &class.methods {
+        method_words(method, text)?;
+    }
+    Ok(())
+}
+
+/// A method in words, with its lines.
+fn method_words(method: &Method, text: &mut String) -> Result<(), Fail> {
+    write!(
+        text,
+        "method {} {} {} {} {} {} {};",
+        method.id.0,
+        method.name,
+        method.signature,
+        method.modifiers,
+        method.args,
+        method.last,
+        method.slots.len()
+    )?;
+    for line in &method.lines {
+        write!(text, "{} {};", line.index, line.line)?;
+    }
+    Ok(())
+}
+
+/// A thread in words, with its steps.
+fn thread_words(thread: &Thread, text: &mut String) -> Result<(), Fail> {
+    write!(
+        text,
+        "thread {} {} {};",
+        thread.id.0, thread.name, thread.group.0
+    )?;
+    for step in &thread.steps {
+        step_words(step, text)?;
+    }
+    Ok(())
+}
+
+/// A script's groups, classes and threads in words.
+fn words(script: &Script, text: &mut String) -> Result<(), Fail> {
+    for group in &script.groups {
+        write!(
+            text,
+            "group {} {} {};",
+            group.id.0, group.name, group.parent.0
+        )?;
+    }
+    for class in &script.classes {
+        class_words(class, text)?;
+    }
+    for thread in &script.threads {
+        thread_words(thread, text)?;
+    }
+    Ok(())
+}
+
+/// The script in words.
+fn read_as_words(alloc: Global, script: &str) -> Result<String, Fail> {
+    let mut text = String::new(alloc);
+    words(&Script::read(alloc, script)?, &mut text)?;
+    Ok(text)
+}
+
 #[test]
-fn machine_a_whole(rt: HostRuntime) -> Result<(), Fail> {
-    let alloc = rt.alloc();
-    let script = Script::read(alloc, MACHINE_A)?;
-    let sizes = script.sizes;
-    expect_same(&rt, &script.name.as_str(), &"A");
+fn machine_a_in_words(rt: HostRuntime) -> Result<(), Fail> {
+    let text = read_as_words(rt.alloc(), MACHINE_A)?;
     expect_same(
         &rt,
+        &text.as_str(),
+        &"group 5 main 0;class 10 Class LMain; 1 0 0 0 Some(\"Main.java\");method 20 run ()V 1 0 9 0;0 1;3 2;4 3;thread 1 main 5;call 30 10 20 0 0;go 3;go 4;go 3;go 4;go 3;return Literal { tag: Void, bits: 0 };thread 2 work 5;",
+    );
+    Ok(())
+}
+
+/// The name is A, each width 8, and the lists have these lengths.
+fn is_machine_a(rt: &impl Abort, script: &Script) {
+    let sizes = script.sizes;
+    expect_same(rt, &script.name.as_str(), &"A");
+    expect_same(
+        rt,
         &(
             sizes.field,
             sizes.method,
@@ -646,7 +647,7 @@ fn machine_a_whole(rt: HostRuntime) -> Result<(), Fail> {
         &(8, 8, 8, 8, 8),
     );
     expect_same(
-        &rt,
+        rt,
         &(
             script.groups.len(),
             script.classes.len(),
@@ -655,59 +656,11 @@ fn machine_a_whole(rt: HostRuntime) -> Result<(), Fail> {
         ),
         &(1, 1, 0, 2),
     );
-    let mut text = String::new(alloc);
-    for group in &script.groups {
-        write!(
-            text,
-            "group {} {} {};",
-            group.id.0, group.name, group.parent.0
-        )?;
-    }
-    for class in &script.classes {
-        write!(
-            text,
-            "class {} {:?} {} {} {} {} {} {:?};",
-            class.id.0,
-            class.tag,
-            class.signature,
-            class.modifiers,
-            class.superclass.0,
-            class.interfaces.len(),
-            class.fields.len(),
-            class.source
-        )?;
-        for method in &class.methods {
-            write!(
-                text,
-                "method {} {} {} {} {} {} {};",
-                method.id.0,
-                method.name,
-                method.signature,
-                method.modifiers,
-                method.args,
-                method.last,
-                method.slots.len()
-            )?;
-            for line in &method.lines {
-                write!(text, "{} {};", line.index, line.line)?;
-            }
-        }
-    }
-    for thread in &script.threads {
-        write!(
-            text,
-            "thread {} {} {};",
-            thread.id.0, thread.name, thread.group.0
-        )?;
-        for step in &thread.steps {
-            word(step, &mut text)?;
-        }
-    }
-    expect_same(
-        &rt,
-        &text.as_str(),
-        &"group 5 main 0;class 10 Class LMain; 1 0 0 0 Some(\"Main.java\");method 20 run ()V 1 0 9 0;0 1;3 2;4 3;thread 1 main 5;call 30 10 20 0 0;go 3;go 4;go 3;go 4;go 3;return Literal { tag: Void, bits: 0 };thread 2 work 5;",
-    );
+}
+
+#[test]
+fn machine_a_in_numbers(rt: HostRuntime) -> Result<(), Fail> {
+    is_machine_a(&rt, &Script::read(rt.alloc(), MACHINE_A)?);
     Ok(())
 }
 
@@ -730,24 +683,26 @@ fn literals(rt: HostRuntime) -> Result<(), Fail> {
     Ok(())
 }
 
+/// Each fault, its number, and its words.
+static FAULTS: [(ScriptFault, u16, &str); 7] = [
+    (ScriptFault::NotJson, 21, "fault 21: the text is not JSON"),
+    (
+        ScriptFault::Missing(Member::Last),
+        22,
+        "fault 22: the member last is missing or of another type",
+    ),
+    (ScriptFault::IdTwice, 23, "fault 23: an id stands twice"),
+    (ScriptFault::IdTooWide, 24, "fault 24: an id is too wide"),
+    (ScriptFault::BadReference, 25, "fault 25: a bad reference"),
+    (ScriptFault::OverLimit, 26, "fault 26: a limit is passed"),
+    (ScriptFault::NoMemory, 27, "fault 27: no memory"),
+];
+
 #[test]
 fn faults_in_words(rt: HostRuntime) -> Result<(), Fail> {
-    let alloc = rt.alloc();
-    for (fault, number, words) in [
-        row((ScriptFault::NotJson, 21, "fault 21: the text is not JSON")),
-        row((
-            ScriptFault::Missing(Member::Last),
-            22,
-            "fault 22: the member last is missing or of another type",
-        )),
-        row((ScriptFault::IdTwice, 23, "fault 23: an id stands twice")),
-        row((ScriptFault::IdTooWide, 24, "fault 24: an id is too wide")),
-        row((ScriptFault::BadReference, 25, "fault 25: a bad reference")),
-        row((ScriptFault::OverLimit, 26, "fault 26: a limit is passed")),
-        row((ScriptFault::NoMemory, 27, "fault 27: no memory")),
-    ] {
-        expect_same(&rt, &fault.number(), &number);
-        expect_same(&rt, &fault.to_string(alloc)?.as_str(), &words);
+    for (fault, number, words) in FAULTS.iter() {
+        expect_same(&rt, &fault.number(), number);
+        expect_same(&rt, &fault.to_string(rt.alloc())?.as_str(), words);
     }
     Ok(())
 }

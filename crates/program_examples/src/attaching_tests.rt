@@ -5,6 +5,7 @@ use jdwp_plan::{LineFault, PlanFault};
 use jdwp_program::{Fault, Outcome, attach_plan, report_fault, report_outcome};
 use std::alloc::Global;
 use std::io::Cursor;
+use std::process::Abort;
 use std::test::Fail;
 
 /// The handshake, VM_START of thread 1 that suspends nothing, and the replies to IDSizes, Suspend, SuspendCount of thread 1 and Dispose.
@@ -59,50 +60,48 @@ fn run(alloc: Global, plan: &str, from: &[u8], turns: u32) -> Ran {
     }
 }
 
-#[test]
-fn a_plan_is_run_to_its_end(rt: HostRuntime) {
-    let ran = run(rt.alloc(), PLAN, FROM.as_slice(), 1000);
-    expect_same(&rt, &ran.result, &Ok(Ended::Done));
-    expect_same(&rt, &ran.to.as_slice(), &TO.as_slice());
-    expect_same(&rt, &ran.lines.as_slice(), &LINES.as_bytes());
+/// Bytes are the first so many of others.
+fn is_part(rt: &impl Abort, bytes: &[u8], whole: &[u8], count: usize, place: usize) {
+    expect_same_for(rt, &Some(bytes), &whole.get(..count), &place);
 }
 
-/// Whether bytes are the first so many of others.
-fn is_part(bytes: &[u8], whole: &[u8], count: usize) -> bool {
-    match whole.get(..count) {
-        Some(part) => part == bytes,
-        None => false,
-    }
+/// The run ends so, and so many bytes of the session were sent and printed.
+fn has_run(rt: &impl Abort, ran: &Ran, ended: Ended, sent: usize, printed: usize) {
+    expect_same_for(rt, &ran.result, &Ok(ended), &sent);
+    is_part(rt, &ran.to, &TO, sent, sent);
+    is_part(rt, &ran.lines, LINES.as_bytes(), printed, sent);
 }
+
+#[test]
+fn a_plan_is_run_to_its_end(rt: HostRuntime) {
+    let ran = run(rt.alloc(), PLAN, &FROM, 1000);
+    has_run(&rt, &ran, Ended::Done, TO.len(), LINES.len());
+}
+
+/// The plan, how many of the target's bytes come, the turns, and the end; how many bytes are sent and printed.
+static ENDS: [(&str, usize, u32, Ended, usize, usize); 6] = [
+    // No turn is left: the handshake was written.
+    (PLAN, 111, 0, Ended::TurnLimit, 14, 0),
+    // The input ends before the reply to Dispose, before the widths of ids, and before the handshake.
+    (PLAN, 110, 1000, Ended::LostByRead, 66, 167),
+    (PLAN, 43, 1000, Ended::LostByRead, 25, 8),
+    (PLAN, 0, 1000, Ended::LostByRead, 14, 0),
+    // A command that no target has.
+    ("ask 1 99", 111, 1000, Ended::Refused(36), 25, 89),
+    // Data that the layout refuses.
+    ("ask 1 8 00", 111, 1000, Ended::Refused(36), 25, 89),
+];
 
 #[test]
 fn ends_of_runs(rt: HostRuntime) {
-    let rows: [(&str, usize, u32, Ended, usize, usize); 6] = [
-        // No turn is left: the handshake was written.
-        (PLAN, 111, 0, Ended::TurnLimit, 14, 0),
-        // The input ends before the reply to Dispose, before the widths of ids, and before the handshake.
-        (PLAN, 110, 1000, Ended::LostByRead, 66, 167),
-        (PLAN, 43, 1000, Ended::LostByRead, 25, 8),
-        (PLAN, 0, 1000, Ended::LostByRead, 14, 0),
-        // A command that no target has.
-        ("ask 1 99", 111, 1000, Ended::Refused(36), 25, 89),
-        // Data that the layout refuses.
-        ("ask 1 8 00", 111, 1000, Ended::Refused(36), 25, 89),
-    ];
-    for (place, (plan, count, turns, ended, sent, printed)) in rows.into_iter().enumerate() {
-        let from = match FROM.as_slice().get(..count) {
-            Some(from) => from,
-            None => FROM.as_slice(),
-        };
-        let ran = run(rt.alloc(), plan, from, turns);
-        expect_same_for(&rt, &ran.result, &Ok(ended), &(place));
-        assert!(rt;
-            is_part(ran.to.as_slice(), TO.as_slice(), sent),
-            "at {place}"
-        );
-        assert!(rt;
-            is_part(ran.lines.as_slice(), LINES.as_bytes(), printed),
-            "at {place}"
+    for &(plan, count, turns, ended, sent, printed) in ENDS.iter() {
+        let from = &FROM[..count.min(FROM.len())];
+        has_run(
+            &rt,
+            &run(rt.alloc(), plan, from, turns),
+            ended,
+            sent,
+            printed,
         );
     }
 }
@@ -118,81 +117,89 @@ const VM_START: [u8; 29] = [
     0x5a, 0x00, 0x00, 0x00, 0x00, 0x00, 0x00, 0x00, 0x00, 0x00, 0x00, 0x00, 0x01,
 ];
 
-#[test]
-fn targets_that_are_refused(rt: HostRuntime) -> Result<(), Fail> {
-    // The first so many bytes of a session, and then others as often; what was sent and printed before is of the session, too.
-    let rows: [(&str, usize, &[u8], u32, u16, usize, usize, &str); 3] = [
-        // A bad reply, to Suspend.
-        (
-            "ask 1 8\nanswers",
-            74,
-            &BAD_REPLY,
-            1,
-            43,
-            36,
-            89,
-            "jdwp: fault 43: a reply whose data do not read\n",
-        ),
-        // Four composites wait for the widths of ids, and a fifth comes.
-        (
-            PLAN,
-            14,
-            &VM_START,
-            5,
-            44,
-            25,
-            8,
-            "jdwp: fault 44: more composites than may wait for the widths of ids\n",
-        ),
-        (
-            PLAN,
-            43,
-            &VM_START,
-            4,
-            44,
-            25,
-            8,
-            "jdwp: fault 44: more composites than may wait for the widths of ids\n",
-        ),
-    ];
-    for (plan, count, bad, times, number, sent, printed, told) in rows {
-        let mut from = Vec::new(rt.alloc());
-        from.extend_from_slice(FROM.as_slice().get(..count).unwrap_or(&[]))?;
-        for _ in 0..times {
-            from.extend_from_slice(bad)?;
-        }
-        let ran = run(rt.alloc(), plan, from.as_slice(), 1000);
-        let ended = Ended::Refused(number);
-        assert_eq!(rt; ran.result, Ok(ended), "{told}");
-        assert!(rt; is_part(ran.to.as_slice(), TO.as_slice(), sent), "{told}");
-        assert!(rt;
-            is_part(ran.lines.as_slice(), LINES.as_bytes(), printed),
-            "{told}"
-        );
-        let mut err = Cursor::new(Vec::new(rt.alloc()));
-        expect_same(&rt, &report_outcome(Outcome::Session(ended), &mut err), &1);
-        expect_same(&rt, &err.into_inner().as_slice(), &told.as_bytes());
+/// The first so many bytes of a session, and others as often.
+fn followed(alloc: Global, count: usize, bad: &[u8], times: u32) -> Result<Vec<u8>, Fail> {
+    let mut from = Vec::new(alloc);
+    from.extend_from_slice(&FROM[..count.min(FROM.len())])?;
+    for _ in 0..times {
+        from.extend_from_slice(bad)?;
     }
+    Ok(from)
+}
+
+/// An end that is refused is told by the status 1 and this text.
+fn is_told(rt: &impl Abort, alloc: Global, number: u16, told: &str) {
+    let mut err = Cursor::new(Vec::new(alloc));
+    let outcome = Outcome::Session(Ended::Refused(number));
+    expect_same(rt, &report_outcome(outcome, &mut err), &1);
+    expect_same(rt, &err.into_inner().as_slice(), &told.as_bytes());
+}
+
+/// The run is refused by what the target sent; what was sent and printed before is of the session.
+fn is_refused(
+    rt: &impl Abort,
+    alloc: Global,
+    plan: &str,
+    from: &[u8],
+    number: u16,
+    sent: usize,
+    printed: usize,
+) {
+    let ran = run(alloc, plan, from, 1000);
+    has_run(rt, &ran, Ended::Refused(number), sent, printed);
+}
+
+#[test]
+fn a_bad_reply_is_refused(rt: HostRuntime) -> Result<(), Fail> {
+    // A bad reply, to Suspend.
+    let from = followed(rt.alloc(), 74, &BAD_REPLY, 1)?;
+    is_refused(&rt, rt.alloc(), "ask 1 8\nanswers", &from, 43, 36, 89);
+    let told = "jdwp: fault 43: a reply whose data do not read\n";
+    is_told(&rt, rt.alloc(), 43, told);
+    Ok(())
+}
+
+/// Four composites wait for the widths of ids, and a fifth comes, behind so many bytes of a session.
+fn is_one_too_many(rt: &impl Abort, alloc: Global, count: usize, times: u32) -> Result<(), Fail> {
+    let from = followed(alloc, count, &VM_START, times)?;
+    is_refused(rt, alloc, PLAN, &from, 44, 25, 8);
     Ok(())
 }
 
 #[test]
-fn plans_with_a_fault_begin_no_session(rt: HostRuntime) {
-    let ran = run(rt.alloc(), "ask 1 8\nanswer\n", FROM.as_slice(), 1000);
-    let fault = PlanFault::Line(2, LineFault::FirstWord);
-    expect_same(&rt, &ran.result, &Err(fault));
+fn composites_too_many_are_refused(rt: HostRuntime) -> Result<(), Fail> {
+    is_one_too_many(&rt, rt.alloc(), 14, 5)?;
+    is_one_too_many(&rt, rt.alloc(), 43, 4)?;
+    let told = "jdwp: fault 44: more composites than may wait for the widths of ids\n";
+    is_told(&rt, rt.alloc(), 44, told);
+    Ok(())
+}
+
+#[test]
+fn a_command_that_no_target_has_is_told(rt: HostRuntime) {
+    let told = "jdwp: fault 36: no command of a target, or data that do not read in its layout\n";
+    is_told(&rt, rt.alloc(), 36, told);
+}
+
+const BAD_WORD: PlanFault = PlanFault::Line(2, LineFault::FirstWord);
+
+/// The plan was refused, and nothing was sent or printed.
+fn has_not_begun(rt: &impl Abort, ran: &Ran) {
+    expect_same(rt, &ran.result, &Err(BAD_WORD));
     assert!(rt; ran.to.is_empty() && ran.lines.is_empty());
+}
+
+#[test]
+fn plans_with_a_fault_begin_no_session(rt: HostRuntime) {
+    let ran = run(rt.alloc(), "ask 1 8\nanswer\n", &FROM, 1000);
+    has_not_begun(&rt, &ran);
+}
+
+#[test]
+fn faults_of_plans_are_told(rt: HostRuntime) {
     let mut err = Cursor::new(Vec::new(rt.alloc()));
-    expect_same(&rt, &report_fault(&Fault::from(fault), &mut err), &1);
+    expect_same(&rt, &report_fault(&Fault::from(BAD_WORD), &mut err), &1);
     let told =
         "jdwp: line 2 of the plan: a first word that is not `ask`, `answers`, `events` or `mirror`\n";
-    expect_same(&rt, &err.into_inner().as_slice(), &told.as_bytes());
-    let mut err = Cursor::new(Vec::new(rt.alloc()));
-    expect_same(
-        &rt,
-        &report_outcome(Outcome::Session(Ended::Refused(36)), &mut err),
-        &1,
-    );
-    let told = "jdwp: fault 36: no command of a target, or data that do not read in its layout\n";
     expect_same(&rt, &err.into_inner().as_slice(), &told.as_bytes());
 }

@@ -2,12 +2,13 @@
 use crate::asserts::{expect_same, expect_same_for};
 use jdwp_plan::{LineFault, PlanFault, PlanLine, read_plan};
 use std::alloc::Global;
+use std::process::Abort;
 use std::test::Fail;
 
 /// What a line is to say.
 #[derive(Clone, Copy)]
-enum Form<'a> {
-    Ask(u8, u8, &'a [u8]),
+enum Form {
+    Ask(u8, u8, &'static [u8]),
     Answers,
     Events(u32),
     Mirror,
@@ -38,99 +39,93 @@ fn fault(alloc: Global, text: &str) -> Option<PlanFault> {
     read_plan(alloc, text).err()
 }
 
+/// Plans, and what their lines say.
+static PLANS: [(&str, &[Form]); 7] = [
+    ("", &[]),
+    ("mirror", &[Form::Mirror]),
+    (
+        "events 4294967295\nevents 0",
+        &[Form::Events(4294967295), Form::Events(0)],
+    ),
+    (
+        "ask 1 9\r\nevents 2\r\nmirror\r\n",
+        &[Form::Ask(1, 9, &[]), Form::Events(2), Form::Mirror],
+    ),
+    ("ask 0 255 aBc0", &[Form::Ask(0, 255, &[0xab, 0xc0])]),
+    ("ask 255 007 00", &[Form::Ask(255, 7, &[0])]),
+    (
+        "ask 1 8\nask 11 12 0000000000000001\nask 1 6\nanswers\n",
+        &[
+            Form::Ask(1, 8, &[]),
+            Form::Ask(11, 12, &[0, 0, 0, 0, 0, 0, 0, 1]),
+            Form::Ask(1, 6, &[]),
+            Form::Answers,
+        ],
+    ),
+];
+
 #[test]
 fn plans_are_read(rt: HostRuntime) -> Result<(), Fail> {
-    assert!(rt; says(rt.alloc(), "", &[])?);
-    assert!(rt; says(rt.alloc(), "mirror", &[Form::Mirror])?);
-    assert!(rt;
-        says(
-            rt.alloc(),
-            "events 4294967295\nevents 0",
-            &[Form::Events(4294967295), Form::Events(0)]
-        )?
-    );
-    assert!(rt;
-        says(
-            rt.alloc(),
-            "ask 1 9\r\nevents 2\r\nmirror\r\n",
-            &[Form::Ask(1, 9, &[]), Form::Events(2), Form::Mirror]
-        )?
-    );
-    assert!(rt;
-        says(
-            rt.alloc(),
-            "ask 0 255 aBc0",
-            &[Form::Ask(0, 255, &[0xab, 0xc0])]
-        )?
-    );
-    assert!(rt; says(rt.alloc(), "ask 255 007 00", &[Form::Ask(255, 7, &[0])])?);
+    for (text, forms) in PLANS.iter() {
+        expect_same_for(&rt, &says(rt.alloc(), text, forms)?, &true, text);
+    }
     Ok(())
 }
 
-#[test]
-fn a_worked_plan_is_read(rt: HostRuntime) -> Result<(), Fail> {
-    let text = "ask 1 8\nask 11 12 0000000000000001\nask 1 6\nanswers\n";
-    let forms = [
-        Form::Ask(1, 8, &[]),
-        Form::Ask(11, 12, &[0, 0, 0, 0, 0, 0, 0, 1]),
-        Form::Ask(1, 6, &[]),
-        Form::Answers,
-    ];
-    assert!(rt; says(rt.alloc(), text, &forms)?);
-    Ok(())
-}
+/// Plans with a fault: in which line, and which.
+static FAULTS: [(&str, usize, LineFault); 31] = [
+    ("\n", 1, LineFault::Blank),
+    ("mirror\n\nmirror", 2, LineFault::Blank),
+    (" ", 1, LineFault::Spacing),
+    ("mirror\n mirror", 2, LineFault::Spacing),
+    ("mirror \nmirror", 1, LineFault::Spacing),
+    ("ask  1 8", 1, LineFault::Spacing),
+    ("ask 1 8 ", 1, LineFault::Spacing),
+    ("look  1", 1, LineFault::Spacing),
+    ("# what is asked", 1, LineFault::FirstWord),
+    ("Ask 1 8", 1, LineFault::FirstWord),
+    ("asks 1 8", 1, LineFault::FirstWord),
+    ("ask\t1 8", 1, LineFault::FirstWord),
+    ("mirror\r", 1, LineFault::FirstWord),
+    ("ask", 1, LineFault::WordCount),
+    ("ask 1", 1, LineFault::WordCount),
+    ("ask 1 8 00 00", 1, LineFault::WordCount),
+    ("answers all", 1, LineFault::WordCount),
+    ("events", 1, LineFault::WordCount),
+    ("events 1 2", 1, LineFault::WordCount),
+    ("mirror now", 1, LineFault::WordCount),
+    ("ask 256 x", 1, LineFault::Set),
+    ("ask +1 8", 1, LineFault::Set),
+    ("ask 1 -8", 1, LineFault::Number),
+    ("ask 1 0x8 0", 1, LineFault::Number),
+    ("ask 1 8 0", 1, LineFault::OddDigits),
+    ("ask 1 8 x", 1, LineFault::OddDigits),
+    ("ask 1 8 0x", 1, LineFault::Digits),
+    ("ask 1 8 0\u{e9}0", 1, LineFault::Digits),
+    ("events 4294967296", 1, LineFault::Count),
+    ("events +1", 1, LineFault::Count),
+    ("answers\nmirror\nevents one\nask", 3, LineFault::Count),
+];
 
 #[test]
 fn faults_in_their_lines(rt: HostRuntime) {
-    let rows: [(&str, usize, LineFault); 31] = [
-        ("\n", 1, LineFault::Blank),
-        ("mirror\n\nmirror", 2, LineFault::Blank),
-        (" ", 1, LineFault::Spacing),
-        ("mirror\n mirror", 2, LineFault::Spacing),
-        ("mirror \nmirror", 1, LineFault::Spacing),
-        ("ask  1 8", 1, LineFault::Spacing),
-        ("ask 1 8 ", 1, LineFault::Spacing),
-        ("look  1", 1, LineFault::Spacing),
-        ("# what is asked", 1, LineFault::FirstWord),
-        ("Ask 1 8", 1, LineFault::FirstWord),
-        ("asks 1 8", 1, LineFault::FirstWord),
-        ("ask\t1 8", 1, LineFault::FirstWord),
-        ("mirror\r", 1, LineFault::FirstWord),
-        ("ask", 1, LineFault::WordCount),
-        ("ask 1", 1, LineFault::WordCount),
-        ("ask 1 8 00 00", 1, LineFault::WordCount),
-        ("answers all", 1, LineFault::WordCount),
-        ("events", 1, LineFault::WordCount),
-        ("events 1 2", 1, LineFault::WordCount),
-        ("mirror now", 1, LineFault::WordCount),
-        ("ask 256 x", 1, LineFault::Set),
-        ("ask +1 8", 1, LineFault::Set),
-        ("ask 1 -8", 1, LineFault::Number),
-        ("ask 1 0x8 0", 1, LineFault::Number),
-        ("ask 1 8 0", 1, LineFault::OddDigits),
-        ("ask 1 8 x", 1, LineFault::OddDigits),
-        ("ask 1 8 0x", 1, LineFault::Digits),
-        ("ask 1 8 0\u{e9}0", 1, LineFault::Digits),
-        ("events 4294967296", 1, LineFault::Count),
-        ("events +1", 1, LineFault::Count),
-        ("answers\nmirror\nevents one\nask", 3, LineFault::Count),
-    ];
-    for (text, line, wanted) in rows {
-        expect_same_for(
-            &rt,
-            &fault(rt.alloc(), text),
-            &Some(PlanFault::Line(line, wanted)),
-            &(text),
-        );
+    for &(text, line, wanted) in FAULTS.iter() {
+        let wanted = Some(PlanFault::Line(line, wanted));
+        expect_same_for(&rt, &fault(rt.alloc(), text), &wanted, &text);
     }
+}
+
+/// The fault in words.
+fn is_told(rt: &impl Abort, alloc: Global, fault: PlanFault, words: &str) -> Result<(), Fail> {
+    let told = format!(in alloc; "{}", fault)?;
+    expect_same(rt, &told.as_str(), &words);
+    Ok(())
 }
 
 #[test]
 fn faults_in_words(rt: HostRuntime) -> Result<(), Fail> {
-    let told = format!(in rt.alloc(); "{}", PlanFault::Line(3, LineFault::Count))?;
-    let wanted = "line 3 of the plan: a number of events that is not a number below 4294967296";
-    expect_same(&rt, &told.as_str(), &wanted);
-    let told = format!(in rt.alloc(); "{}", PlanFault::NoMemory)?;
-    expect_same(&rt, &told.as_str(), &"no memory");
-    Ok(())
+    let words = "line 3 of the plan: a number of events that is not a number below 4294967296";
+    let count = PlanFault::Line(3, LineFault::Count);
+    is_told(&rt, rt.alloc(), count, words)?;
+    is_told(&rt, rt.alloc(), PlanFault::NoMemory, "no memory")
 }

@@ -10,6 +10,7 @@ use jdwp_wire::Limits;
 use std::alloc::Global;
 use std::io;
 use std::io::{ErrorKind, Write};
+use std::process::Abort;
 use std::test::Fail;
 
 /// Takes so many bytes a call at most. The call of this number, counted from 1, fails, and so does each flush where it says so.
@@ -53,8 +54,6 @@ impl Write for Output {
     }
 }
 
-const HANDSHAKES: &str = "> 4a4457502d48616e647368616b65\n< 4a4457502d48616e647368616b65\n";
-
 const CAPTURE: &str = "> 4a4457502d48616e647368616b65
 < 4a4457502d48616e647368616b65
 > 0000000b00000001000107
@@ -71,43 +70,67 @@ const SHOWN: &str = "> hello
 < 3 reply ThreadReference.SuspendCount 0 1
 ";
 
+/// A capture, what is shown of it, what is judged of it, and what is told.
+static CAPTURES: [(&str, &str, &str, Told); 6] = [
+    (CAPTURE, SHOWN, "yes\n", Told::Faultless),
+    ("", "", "yes\n", Told::Faultless),
+    ("> 4a44", "> more 2\n", "yes\n", Told::Faultless),
+    (
+        "> 4a4",
+        "line 1: fault 51\n",
+        "no: line 1: fault 51\n",
+        Told::Faulty,
+    ),
+    (
+        "> 4a4457502d48616e647368616b65\n< 4a4457502d48616e647368616b65\n> 0000000a\n",
+        "> hello\n< hello\nline 3: fault 1\n",
+        "no: line 3: fault 1\n",
+        Told::Faulty,
+    ),
+    (
+        "> 4a4457502d48616e647368616b65\n< 4a4457502d48616e647368616b65\n> 0000000b00000001000108\n> 0000000b00000001000109\n",
+        "> hello\n< hello\n> 1 VirtualMachine.Suspend\nline 4: fault 53\n",
+        "no: line 4: fault 53\n",
+        Told::Faulty,
+    ),
+];
+
+/// An output that takes all.
+fn whole(alloc: Global) -> Output {
+    Output::new(alloc, 1000, 0, ErrorKind::Other)
+}
+
+fn is_shown(
+    rt: &impl Abort,
+    alloc: Global,
+    capture: &str,
+    shown: &str,
+    told: &Told,
+) -> Result<(), Fail> {
+    let mut out = whole(alloc);
+    expect_same(rt, &show_capture(alloc, capture, &mut out)?, told);
+    expect_same_for(rt, &out.bytes.as_slice(), &shown.as_bytes(), &capture);
+    Ok(())
+}
+
+fn is_judged(
+    rt: &impl Abort,
+    alloc: Global,
+    capture: &str,
+    judged: &str,
+    told: &Told,
+) -> Result<(), Fail> {
+    let mut out = whole(alloc);
+    expect_same(rt, &check_capture(alloc, capture, &mut out)?, told);
+    expect_same_for(rt, &out.bytes.as_slice(), &judged.as_bytes(), &capture);
+    Ok(())
+}
+
 #[test]
 fn captures_are_told(rt: HostRuntime) -> Result<(), Fail> {
-    let alloc = rt.alloc();
-    let short = format!(in alloc; "{HANDSHAKES}> 0000000a\n")?;
-    let twice = format!(in alloc;
-        "{HANDSHAKES}> 0000000b00000001000108\n> 0000000b00000001000109\n"
-    )?;
-    let rows = [
-        (CAPTURE, SHOWN, "yes\n", Told::Faultless),
-        ("", "", "yes\n", Told::Faultless),
-        ("> 4a44", "> more 2\n", "yes\n", Told::Faultless),
-        (
-            "> 4a4",
-            "line 1: fault 51\n",
-            "no: line 1: fault 51\n",
-            Told::Faulty,
-        ),
-        (
-            short.as_str(),
-            "> hello\n< hello\nline 3: fault 1\n",
-            "no: line 3: fault 1\n",
-            Told::Faulty,
-        ),
-        (
-            twice.as_str(),
-            "> hello\n< hello\n> 1 VirtualMachine.Suspend\nline 4: fault 53\n",
-            "no: line 4: fault 53\n",
-            Told::Faulty,
-        ),
-    ];
-    for (capture, shown, judged, told) in rows {
-        let mut out = Output::new(alloc, 1000, 0, ErrorKind::Other);
-        expect_same(&rt, &show_capture(alloc, capture, &mut out)?, &told);
-        assert!(rt; out.bytes.as_slice() == shown.as_bytes(), "{capture}");
-        let mut out = Output::new(alloc, 1000, 0, ErrorKind::Other);
-        expect_same(&rt, &check_capture(alloc, capture, &mut out)?, &told);
-        assert!(rt; out.bytes.as_slice() == judged.as_bytes(), "{capture}");
+    for (capture, shown, judged, told) in CAPTURES.iter() {
+        is_shown(&rt, rt.alloc(), capture, shown, told)?;
+        is_judged(&rt, rt.alloc(), capture, judged, told)?;
     }
     Ok(())
 }
@@ -123,242 +146,258 @@ fn end(told: Result<Told, TellFault>) -> &'static str {
     }
 }
 
+/// The capture is shown so, where an output that takes so many bytes a call breaks at this call.
+fn breaks(rt: &impl Abort, alloc: Global, most: usize, call: usize, kind: ErrorKind, want: &str) {
+    let before = most.saturating_mul(call.saturating_sub(1));
+    let is_broken = before < SHOWN.len() && want != "faultless";
+    let mut out = Output::new(alloc, most, call, kind);
+    let ended = end(show_capture(alloc, CAPTURE, &mut out));
+    expect_same(rt, &ended, &if is_broken { want } else { "faultless" });
+    let taken = if is_broken { before } else { SHOWN.len() };
+    expect_same(
+        rt,
+        &out.bytes.as_slice(),
+        &&SHOWN.as_bytes()[..taken.min(SHOWN.len())],
+    );
+}
+
 #[test]
-fn an_output_that_breaks(rt: HostRuntime) -> Result<(), Fail> {
-    let alloc = rt.alloc();
-    let rows = [
+fn an_output_that_breaks(rt: HostRuntime) {
+    for (kind, want) in [
         (ErrorKind::BrokenPipe, "unread"),
         (ErrorKind::StorageFull, "output"),
         (ErrorKind::WriteZero, "output"),
         (ErrorKind::Interrupted, "faultless"),
-    ];
-    for (kind, want) in rows {
+    ] {
         for most in [1, 7, 1000] {
             for call in 1..20usize {
-                let before = most * (call - 1);
-                let breaks = before < SHOWN.len();
-                let mut out = Output::new(alloc, most, call, kind);
-                let ended = end(show_capture(alloc, CAPTURE, &mut out));
-                expect_same(&rt, &ended, &if breaks { want } else { "faultless" });
-                let taken = if breaks && want != "faultless" {
-                    before
-                } else {
-                    SHOWN.len()
-                };
-                assert!(rt; out.bytes.as_slice() == &SHOWN.as_bytes()[..taken.min(SHOWN.len())]);
+                breaks(&rt, rt.alloc(), most, call, kind, want);
             }
         }
     }
-    Ok(())
+}
+
+/// The fault is told by this status and this text.
+fn is_told(rt: &impl Abort, alloc: Global, fault: Fault, status: u8, text: &str) {
+    let mut err = whole(alloc);
+    expect_same_for(rt, &report_fault(&fault, &mut err), &status, &text);
+    expect_same_for(rt, &err.bytes.as_slice(), &text.as_bytes(), &text);
+    // A standard error that breaks changes no status.
+    let mut err = Output::new(alloc, 1, 3, ErrorKind::BrokenPipe);
+    expect_same_for(rt, &report_fault(&fault, &mut err), &status, &text);
+}
+
+/// A fault of the file a/b is told by the status 1 and this text.
+fn is_told_of_file(rt: &impl Abort, alloc: Global, cause: FileCause, text: &str) {
+    is_told(rt, alloc, Fault::File("a/b", cause), 1, text);
 }
 
 #[test]
-fn faults_are_told(rt: HostRuntime) -> Result<(), Fail> {
+fn faults_of_files_are_told(rt: HostRuntime) {
     let alloc = rt.alloc();
+    let absent = "jdwp: a/b: no such file or folder\n";
+    is_told_of_file(&rt, alloc, FileCause::Absent, absent);
+    let not_allowed = "jdwp: a/b: not allowed\n";
+    is_told_of_file(&rt, alloc, FileCause::NotAllowed, not_allowed);
+    let folder = "jdwp: a/b: a folder, not a file\n";
+    is_told_of_file(&rt, alloc, FileCause::Folder, folder);
+    let no_text = "jdwp: a/b: not UTF-8 at byte 7, counted from 0\n";
+    is_told_of_file(&rt, alloc, FileCause::NotUtf8(7), no_text);
     let full = io::Error::from(ErrorKind::StorageFull);
-    let rows = [
-        (
-            Fault::Words("error: two\n\nlines".to_string(alloc)?),
-            1,
-            "jdwp: error: two\n\nlines\n",
-        ),
-        (Fault::NotText, 1, "jdwp: a word is not UTF-8\n"),
-        (
-            Fault::File("a/b", FileCause::Absent),
-            1,
-            "jdwp: a/b: no such file or folder\n",
-        ),
-        (
-            Fault::File("a/b", FileCause::NotAllowed),
-            1,
-            "jdwp: a/b: not allowed\n",
-        ),
-        (
-            Fault::File("a/b", FileCause::Folder),
-            1,
-            "jdwp: a/b: a folder, not a file\n",
-        ),
-        (
-            Fault::File("a/b", FileCause::NotUtf8(7)),
-            1,
-            "jdwp: a/b: not UTF-8 at byte 7, counted from 0\n",
-        ),
-        (
-            Fault::File("a/b", FileCause::Other(full)),
-            1,
-            "jdwp: a/b: no storage space\n",
-        ),
-        (
-            Fault::Script(ScriptFault::Missing(Member::Last)),
-            1,
-            "jdwp: fault 22: the member last is missing or of another type\n",
-        ),
-        (
-            Fault::Script(ScriptFault::BadReference),
-            1,
-            "jdwp: fault 25: a bad reference\n",
-        ),
-        (
-            Fault::Output(full),
-            2,
-            "jdwp: the output can't be written: no storage space\n",
-        ),
-        (Fault::NoMemory, 3, "jdwp: no memory\n"),
-    ];
-    for (fault, status, text) in rows {
-        let mut err = Output::new(alloc, 1000, 0, ErrorKind::Other);
-        expect_same_for(&rt, &report_fault(&fault, &mut err), &status, &text);
-        assert!(rt; err.bytes.as_slice() == text.as_bytes(), "{text}");
-        // A standard error that breaks changes no status.
-        let mut err = Output::new(alloc, 1, 3, ErrorKind::BrokenPipe);
-        expect_same_for(&rt, &report_fault(&fault, &mut err), &status, &text);
-    }
+    let no_space = "jdwp: a/b: no storage space\n";
+    is_told_of_file(&rt, alloc, FileCause::Other(full), no_space);
+}
+
+#[test]
+fn faults_of_scripts_are_told(rt: HostRuntime) {
+    let missing = Fault::Script(ScriptFault::Missing(Member::Last));
+    let text = "jdwp: fault 22: the member last is missing or of another type\n";
+    is_told(&rt, rt.alloc(), missing, 1, text);
+    let reference = Fault::Script(ScriptFault::BadReference);
+    let text = "jdwp: fault 25: a bad reference\n";
+    is_told(&rt, rt.alloc(), reference, 1, text);
+}
+
+#[test]
+fn faults_of_words_are_told(rt: HostRuntime) -> Result<(), Fail> {
+    let words = "error: two\n\nlines".to_string(rt.alloc())?;
+    let text = "jdwp: error: two\n\nlines\n";
+    is_told(&rt, rt.alloc(), Fault::Words(words), 1, text);
+    let text = "jdwp: a word is not UTF-8\n";
+    is_told(&rt, rt.alloc(), Fault::NotText, 1, text);
     Ok(())
 }
 
 #[test]
-fn ends_are_told(rt: HostRuntime) -> Result<(), Fail> {
-    let rows = [
-        (Outcome::Session(Ended::Done), 0, ""),
-        (
-            Outcome::Session(Ended::Refused(0)),
-            1,
-            "jdwp: fault 0: the session is open already\n",
-        ),
-        (
-            Outcome::Session(Ended::Refused(1)),
-            1,
-            "jdwp: fault 1: a packet length below 11\n",
-        ),
-        (
-            Outcome::Session(Ended::Refused(2)),
-            1,
-            "jdwp: fault 2: a packet length above the limit\n",
-        ),
-        (
-            Outcome::Session(Ended::Refused(3)),
-            1,
-            "jdwp: fault 3: packet flags other than 00 and 80\n",
-        ),
-        (
-            Outcome::Session(Ended::Refused(4)),
-            1,
-            "jdwp: fault 4: not the handshake\n",
-        ),
-        (
-            Outcome::Session(Ended::Refused(42)),
-            1,
-            "jdwp: fault 42: a reply to no command that waits\n",
-        ),
-        (
-            Outcome::Session(Ended::Refused(43)),
-            1,
-            "jdwp: fault 43: a reply whose data do not read\n",
-        ),
-        (
-            Outcome::Session(Ended::Refused(44)),
-            1,
-            "jdwp: fault 44: more composites than may wait for the widths of ids\n",
-        ),
-        (
-            Outcome::Session(Ended::Refused(45)),
-            1,
-            "jdwp: fault 45: a composite that no target sends, or another command\n",
-        ),
-        (
-            Outcome::Session(Ended::LostByRead),
-            2,
-            "jdwp: the connection is lost at a read\n",
-        ),
-        (
-            Outcome::Session(Ended::LostByWrite),
-            2,
-            "jdwp: the connection is lost at a write\n",
-        ),
-        (Outcome::Session(Ended::NoMemory), 3, "jdwp: no memory\n"),
-        (
-            Outcome::Session(Ended::TurnLimit),
-            4,
-            "jdwp: the turn limit is reached\n",
-        ),
-        (Outcome::Capture(Told::Faultless), 0, ""),
-        (Outcome::Capture(Told::Faulty), 1, ""),
-        (Outcome::Capture(Told::Unread), 2, ""),
-    ];
-    for (outcome, status, text) in rows {
-        let mut err = Output::new(rt.alloc(), 1000, 0, ErrorKind::Other);
-        assert_eq!(rt; report_outcome(outcome, &mut err), status, "{text}");
-        assert!(rt; err.bytes.as_slice() == text.as_bytes(), "{text}");
+fn faults_of_the_program_are_told(rt: HostRuntime) {
+    let full = io::Error::from(ErrorKind::StorageFull);
+    let text = "jdwp: the output can't be written: no storage space\n";
+    is_told(&rt, rt.alloc(), Fault::Output(full), 2, text);
+    is_told(&rt, rt.alloc(), Fault::NoMemory, 3, "jdwp: no memory\n");
+}
+
+/// How a run ends, its status, and what is told.
+static ENDS: [(Outcome, u8, &str); 17] = [
+    (Outcome::Session(Ended::Done), 0, ""),
+    (
+        Outcome::Session(Ended::Refused(0)),
+        1,
+        "jdwp: fault 0: the session is open already\n",
+    ),
+    (
+        Outcome::Session(Ended::Refused(1)),
+        1,
+        "jdwp: fault 1: a packet length below 11\n",
+    ),
+    (
+        Outcome::Session(Ended::Refused(2)),
+        1,
+        "jdwp: fault 2: a packet length above the limit\n",
+    ),
+    (
+        Outcome::Session(Ended::Refused(3)),
+        1,
+        "jdwp: fault 3: packet flags other than 00 and 80\n",
+    ),
+    (
+        Outcome::Session(Ended::Refused(4)),
+        1,
+        "jdwp: fault 4: not the handshake\n",
+    ),
+    (
+        Outcome::Session(Ended::Refused(42)),
+        1,
+        "jdwp: fault 42: a reply to no command that waits\n",
+    ),
+    (
+        Outcome::Session(Ended::Refused(43)),
+        1,
+        "jdwp: fault 43: a reply whose data do not read\n",
+    ),
+    (
+        Outcome::Session(Ended::Refused(44)),
+        1,
+        "jdwp: fault 44: more composites than may wait for the widths of ids\n",
+    ),
+    (
+        Outcome::Session(Ended::Refused(45)),
+        1,
+        "jdwp: fault 45: a composite that no target sends, or another command\n",
+    ),
+    (
+        Outcome::Session(Ended::LostByRead),
+        2,
+        "jdwp: the connection is lost at a read\n",
+    ),
+    (
+        Outcome::Session(Ended::LostByWrite),
+        2,
+        "jdwp: the connection is lost at a write\n",
+    ),
+    (Outcome::Session(Ended::NoMemory), 3, "jdwp: no memory\n"),
+    (
+        Outcome::Session(Ended::TurnLimit),
+        4,
+        "jdwp: the turn limit is reached\n",
+    ),
+    (Outcome::Capture(Told::Faultless), 0, ""),
+    (Outcome::Capture(Told::Faulty), 1, ""),
+    (Outcome::Capture(Told::Unread), 2, ""),
+];
+
+fn has_ended(rt: &impl Abort, alloc: Global, outcome: Outcome, status: u8, text: &str) {
+    let mut err = whole(alloc);
+    expect_same_for(rt, &report_outcome(outcome, &mut err), &status, &text);
+    expect_same_for(rt, &err.bytes.as_slice(), &text.as_bytes(), &text);
+}
+
+#[test]
+fn ends_are_told(rt: HostRuntime) {
+    for &(outcome, status, text) in ENDS.iter() {
+        has_ended(&rt, rt.alloc(), outcome, status, text);
     }
+}
+
+/// The error of a file is told so.
+fn is_cause(rt: &impl Abort, alloc: Global, kind: ErrorKind, text: &str) -> Result<(), Fail> {
+    let fault = Fault::of_file("f", io::Error::from(kind));
+    expect_same(rt, &fault.to_string(alloc)?.as_str(), &text);
     Ok(())
 }
 
 #[test]
 fn causes_of_files(rt: HostRuntime) -> Result<(), Fail> {
-    let rows = [
+    for (kind, text) in [
         (ErrorKind::NotFound, "f: no such file or folder"),
         (ErrorKind::PermissionDenied, "f: not allowed"),
         (ErrorKind::IsADirectory, "f: a folder, not a file"),
         (ErrorKind::StorageFull, "f: no storage space"),
         (ErrorKind::OutOfMemory, "no memory"),
-    ];
-    for (kind, text) in rows {
-        let fault = Fault::of_file("f", io::Error::from(kind));
-        expect_same(&rt, &fault.to_string(rt.alloc())?.as_str(), &text);
-    }
-    let texts: [(&[u8], Option<&str>, usize); 5] = [
-        (b"", Some(""), 0),
-        (b"> 4a\n", Some("> 4a\n"), 0),
-        ("\u{e9}".as_bytes(), Some("\u{e9}"), 0),
-        (b"> \xff", None, 2),
-        (b"> 4a\n\xc3", None, 5),
-    ];
-    for (bytes, text, place) in texts {
-        match text_of(bytes) {
-            Ok(found) => expect_same(&rt, &Some(found), &text),
-            Err(FileCause::NotUtf8(found)) => expect_same(&rt, &(None, found), &(text, place)),
-            Err(_) => return Err(Fail::from("another cause")),
-        }
+    ] {
+        is_cause(&rt, rt.alloc(), kind, text)?;
     }
     Ok(())
 }
 
+/// The text of bytes, or the place of the first that is of none.
+fn read_text(bytes: &[u8]) -> Result<Result<&str, usize>, Fail> {
+    match text_of(bytes) {
+        Ok(text) => Ok(Ok(text)),
+        Err(FileCause::NotUtf8(place)) => Ok(Err(place)),
+        Err(_) => Err(Fail::from("another cause")),
+    }
+}
+
+#[test]
+fn texts_of_files(rt: HostRuntime) -> Result<(), Fail> {
+    expect_same(&rt, &read_text(b"")?, &Ok(""));
+    expect_same(&rt, &read_text(b"> 4a\n")?, &Ok("> 4a\n"));
+    expect_same(&rt, &read_text("\u{e9}".as_bytes())?, &Ok("\u{e9}"));
+    expect_same(&rt, &read_text(b"> \xff")?, &Err(2));
+    expect_same(&rt, &read_text(b"> 4a\n\xc3")?, &Err(5));
+    Ok(())
+}
+
+/// A word, and the number that it is, if it is one.
+static NUMBERS: [(&str, Option<u32>); 19] = [
+    ("0", Some(0)),
+    ("7", Some(7)),
+    ("007", Some(7)),
+    ("65535", Some(65535)),
+    ("4294967295", Some(4294967295)),
+    ("4294967296", None),
+    ("18446744073709551617", None),
+    ("", None),
+    ("+", None),
+    ("+5", None),
+    ("-5", None),
+    ("-0", None),
+    (" 5", None),
+    ("5 ", None),
+    ("5.0", None),
+    ("0x5", None),
+    ("1_000", None),
+    ("five", None),
+    ("\u{663}", None),
+];
+
+/// A word, and whether it says that all threads start suspended, if it says one or the other.
+static STARTS: [(&str, Option<bool>); 6] = [
+    ("all", Some(true)),
+    ("none", Some(false)),
+    ("", None),
+    ("ALL", None),
+    ("some", None),
+    ("all ", None),
+];
+
 #[test]
 fn numbers_are_digits_alone(rt: HostRuntime) {
-    let rows = [
-        ("0", Some(0)),
-        ("7", Some(7)),
-        ("007", Some(7)),
-        ("65535", Some(65535)),
-        ("4294967295", Some(4294967295)),
-        ("4294967296", None),
-        ("18446744073709551617", None),
-        ("", None),
-        ("+", None),
-        ("+5", None),
-        ("-5", None),
-        ("-0", None),
-        (" 5", None),
-        ("5 ", None),
-        ("5.0", None),
-        ("0x5", None),
-        ("1_000", None),
-        ("five", None),
-        ("\u{663}", None),
-    ];
-    for (text, number) in rows {
-        expect_same_for(&rt, &decimal(text), &number, &text);
+    for (text, number) in NUMBERS.iter() {
+        expect_same_for(&rt, &decimal(text), number, text);
     }
-    let rows = [
-        ("all", Some(true)),
-        ("none", Some(false)),
-        ("", None),
-        ("ALL", None),
-        ("some", None),
-        ("all ", None),
-    ];
-    for (text, start) in rows {
-        expect_same_for(&rt, &is_all(text), &start, &text);
+    for (text, start) in STARTS.iter() {
+        expect_same_for(&rt, &is_all(text), start, text);
     }
 }
 

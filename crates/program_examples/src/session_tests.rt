@@ -9,6 +9,7 @@ use jdwp_plan::PlanLine;
 use std::alloc::Global;
 use std::io;
 use std::io::{ErrorKind, Read, Write};
+use std::process::Abort;
 use std::test::Fail;
 
 const HANDSHAKE: &str = "4a4457502d48616e647368616b65";
@@ -35,10 +36,10 @@ enum Line {
 
 /// What is done, and what comes of it.
 #[derive(Clone, Copy)]
-struct Case<'a> {
+struct Case {
     /// What the target sends, in hex.
-    from: &'a [&'a str],
-    plan: &'a [Line],
+    from: &'static [&'static str],
+    plan: &'static [Line],
     turns: u64,
     /// Which write to the target fails, from 1; 0 for none.
     write_fails: u32,
@@ -48,12 +49,12 @@ struct Case<'a> {
     flush_fails: bool,
     ended: Ended,
     /// What the debugger sends, in hex.
-    to: &'a [&'a str],
-    lines: &'a str,
+    to: &'static [&'static str],
+    lines: &'static str,
 }
 
 /// No write fails, and there are turns enough.
-const CASE: Case<'static> = Case {
+const CASE: Case = Case {
     from: &[],
     plan: &[],
     turns: 1000,
@@ -92,13 +93,13 @@ struct Writer {
 }
 
 impl Writer {
-    fn new(alloc: Global, most: usize) -> Writer {
+    fn failing(alloc: Global, most: usize, fails: u32, flush_fails: bool) -> Writer {
         Writer {
             bytes: Vec::new(alloc),
             most,
             calls: 0,
-            fails: 0,
-            flush_fails: false,
+            fails,
+            flush_fails,
         }
     }
 }
@@ -154,18 +155,22 @@ fn hex(alloc: Global, texts: &[&str]) -> Result<Vec<u8>, Fail> {
 fn plan(alloc: Global, lines: &[Line]) -> Result<Vec<PlanLine>, Fail> {
     let mut plan = Vec::new(alloc);
     for line in lines {
-        plan.push(match *line {
-            Line::Ask(set, number, data) => PlanLine::Ask {
-                set,
-                number,
-                data: hex(alloc, &[data])?,
-            },
-            Line::Answers => PlanLine::Answers,
-            Line::Events(count) => PlanLine::Events(count),
-            Line::Mirror => PlanLine::Mirror,
-        })?;
+        plan.push(plan_line(alloc, line)?)?;
     }
     Ok(plan)
+}
+
+fn plan_line(alloc: Global, line: &Line) -> Result<PlanLine, Fail> {
+    match *line {
+        Line::Ask(set, number, data) => Ok(PlanLine::Ask {
+            set,
+            number,
+            data: hex(alloc, &[data])?,
+        }),
+        Line::Answers => Ok(PlanLine::Answers),
+        Line::Events(count) => Ok(PlanLine::Events(count)),
+        Line::Mirror => Ok(PlanLine::Mirror),
+    }
 }
 
 /// What came of a run: how it ended, what the debugger sent, what was printed, and whether it may attach again.
@@ -207,29 +212,27 @@ fn run_on<'a, 'p>(
 }
 
 /// Runs a case in which so many bytes are read and written at once at most.
-fn run(alloc: Global, case: &Case<'_>, most: usize) -> Result<Outcome, Fail> {
+fn run(alloc: Global, case: &Case, most: usize) -> Result<Outcome, Fail> {
     let from = hex(alloc, case.from)?;
     let lines = plan(alloc, case.plan)?;
-    let mut target = Writer::new(alloc, most);
-    target.fails = case.write_fails;
-    let mut printer = Writer::new(alloc, most);
-    printer.fails = case.print_fails;
-    printer.flush_fails = case.flush_fails;
     let input = Reader { bytes: &from, most };
+    let target = Writer::failing(alloc, most, case.write_fails, false);
+    let printer = Writer::failing(alloc, most, case.print_fails, case.flush_fails);
     run_on(alloc, input, target, &lines, printer, case.turns)
 }
 
 /// Whether a case comes to what it says.
-fn passes(alloc: Global, case: &Case<'_>, most: usize) -> Result<bool, Fail> {
-    let outcome = run(alloc, case, most)?;
+fn passes(alloc: Global, case: &Case, most: usize) -> Result<bool, Fail> {
     let to = hex(alloc, case.to)?;
+    Ok(is_as_said(&run(alloc, case, most)?, case, &to))
+}
+
+fn is_as_said(outcome: &Outcome, case: &Case, to: &[u8]) -> bool {
     let stays_open = case.ended == Ended::TurnLimit;
-    Ok(
-        outcome.ended == case.ended
-            && outcome.to.as_slice() == to.as_slice()
-            && outcome.lines.as_slice() == case.lines.as_bytes()
-            && outcome.attaches_again != stays_open,
-    )
+    outcome.ended == case.ended
+        && outcome.to.as_slice() == to
+        && outcome.lines.as_slice() == case.lines.as_bytes()
+        && outcome.attaches_again != stays_open
 }
 
 /// What the target sends in a session of four commands.
@@ -251,7 +254,7 @@ const COMMANDS: [&str; 5] = [
     "0000000b 00000004 00 01 06",
 ];
 
-const SESSION: Case<'static> = Case {
+static SESSION: Case = Case {
     from: &ANSWERS,
     plan: &[
         Line::Ask(1, 8, ""),
@@ -272,12 +275,9 @@ const SESSION: Case<'static> = Case {
 
 #[test]
 fn session_is_told_line_by_line(rt: HostRuntime) -> Result<(), Fail> {
-    let alloc = rt.alloc();
-    let outcome = run(alloc, &SESSION, 4096)?;
-    expect_same(&rt, &outcome.to.len(), &66);
-    assert!(rt; passes(alloc, &SESSION, 4096)?);
-    assert!(rt; passes(alloc, &SESSION, 1)?);
-    assert!(rt; passes(alloc, &SESSION, 7)?);
+    assert!(rt; passes(rt.alloc(), &SESSION, 4096)?);
+    assert!(rt; passes(rt.alloc(), &SESSION, 1)?);
+    assert!(rt; passes(rt.alloc(), &SESSION, 7)?);
     Ok(())
 }
 
@@ -289,7 +289,7 @@ const READY_LINES: &str = "< hello
 ";
 
 /// A plan that is carried out whole.
-const FINISHED: [Case<'static>; 5] = [
+static FINISHED: [Case; 5] = [
     Case {
         from: &READY,
         to: &[HANDSHAKE, ASKS_SIZES],
@@ -397,7 +397,7 @@ request 7 6 2
 ];
 
 /// A run that is refused: by what the target sent, or by the debugger at a line of the plan.
-const REFUSED: [Case<'static>; 10] = [
+static REFUSED: [Case; 10] = [
     // no handshake
     Case {
         from: &["4a4457502d48616e647368616b66"],
@@ -508,7 +508,7 @@ const REFUSED: [Case<'static>; 10] = [
 ];
 
 /// A run that is lost, or that used all turns.
-const LOST: [Case<'static>; 9] = [
+static LOST: [Case; 9] = [
     Case {
         ended: Ended::LostByRead,
         to: &[HANDSHAKE],
@@ -579,7 +579,7 @@ const LOST: [Case<'static>; 9] = [
 #[test]
 fn plans_are_carried_out(rt: HostRuntime) -> Result<(), Fail> {
     let alloc = rt.alloc();
-    for case in &FINISHED {
+    for case in FINISHED.iter() {
         assert!(rt; passes(alloc, case, 4096)?);
         assert!(rt; passes(alloc, case, 1)?);
     }
@@ -589,7 +589,7 @@ fn plans_are_carried_out(rt: HostRuntime) -> Result<(), Fail> {
 #[test]
 fn faults_end_the_run(rt: HostRuntime) -> Result<(), Fail> {
     let alloc = rt.alloc();
-    for case in &REFUSED {
+    for case in REFUSED.iter() {
         assert!(rt; passes(alloc, case, 4096)?);
     }
     Ok(())
@@ -598,54 +598,59 @@ fn faults_end_the_run(rt: HostRuntime) -> Result<(), Fail> {
 #[test]
 fn losses_and_the_limit_end_the_run(rt: HostRuntime) -> Result<(), Fail> {
     let alloc = rt.alloc();
-    for case in &LOST {
+    for case in LOST.iter() {
         assert!(rt; passes(alloc, case, 4096)?);
     }
     Ok(())
 }
 
+static TOO_MANY: Case = Case {
+    from: &READY,
+    plan: &[Line::Ask(1, 8, ""); 65],
+    lines: READY_LINES,
+    ..CASE
+};
+
+/// The run is refused at its last command, and all others were sent.
+fn is_one_too_many(rt: &impl Abort, outcome: &Outcome) {
+    expect_same(rt, &outcome.ended, &Ended::Refused(32));
+    expect_same(rt, &outcome.to.len(), &(14 + 11 + 64 * 11));
+    expect_same(rt, &outcome.lines.as_slice(), &READY_LINES.as_bytes());
+    assert!(rt; outcome.attaches_again);
+}
+
 /// 64 commands may wait for their answers: one more is refused, and what was asked before it is written.
 #[test]
 fn command_too_many_is_refused(rt: HostRuntime) -> Result<(), Fail> {
-    let alloc = rt.alloc();
-    let case = Case {
-        from: &READY,
-        plan: &[Line::Ask(1, 8, ""); 65],
-        lines: READY_LINES,
-        ..CASE
-    };
-    let outcome = run(alloc, &case, 4096)?;
-    expect_same(&rt, &outcome.ended, &Ended::Refused(32));
-    expect_same(&rt, &outcome.to.len(), &(14 + 11 + 64 * 11));
-    expect_same(&rt, &outcome.lines.as_slice(), &case.lines.as_bytes());
-    assert!(rt; outcome.attaches_again);
+    is_one_too_many(&rt, &run(rt.alloc(), &TOO_MANY, 4096)?);
     Ok(())
+}
+
+/// Nothing comes, and what is written is kept.
+fn quiet(alloc: Global) -> Streams<Reader<'static>, Writer> {
+    let reader = Reader {
+        bytes: &[],
+        most: 1,
+    };
+    Streams::new(reader, Writer::failing(alloc, 1, 0, false))
+}
+
+/// How the run of a debugger without a plan ends, and whether nothing was sent.
+fn run_of_none(alloc: Global, debugger: &mut Debugger) -> (Ended, bool) {
+    let mut pipe = quiet(alloc);
+    let mut out = quiet(alloc);
+    let ended = attach(alloc, debugger, &mut pipe, &[], &mut out, 10);
+    let (_, to) = pipe.into_parts();
+    (ended, to.bytes.is_empty())
 }
 
 /// A debugger whose session is open is refused, and nothing is touched.
 #[test]
 fn open_debugger_is_refused(rt: HostRuntime) -> Result<(), Fail> {
-    let alloc = rt.alloc();
-    let mut debugger = Debugger::new(alloc)?;
+    let mut debugger = Debugger::new(rt.alloc())?;
     assert!(rt; debugger.attach());
-    let mut pipe = Streams::new(
-        Reader {
-            bytes: &[],
-            most: 1,
-        },
-        Writer::new(alloc, 1),
-    );
-    let mut out = Streams::new(
-        Reader {
-            bytes: &[],
-            most: 1,
-        },
-        Writer::new(alloc, 1),
-    );
-    let ended = attach(alloc, &mut debugger, &mut pipe, &[], &mut out, 10);
-    expect_same(&rt, &ended, &Ended::Refused(0));
-    let (_, to) = pipe.into_parts();
-    assert!(rt; to.bytes.is_empty());
+    let ran = run_of_none(rt.alloc(), &mut debugger);
+    expect_same(&rt, &ran, &(Ended::Refused(0), true));
     assert!(rt; debugger.is_open());
     Ok(())
 }

@@ -2,7 +2,7 @@
 ghost use Rattle.std.specs.Prelude.{◌≡◌, ◌≤◌, IfOk, IfSome, true};
 
 use crate::asserts::{expect_same, expect_same_for};
-use crate::session_tests::MACHINE_A;
+use crate::sessions::MACHINE_A;
 use jdwp_debuggee::Settings;
 use jdwp_engine::{Ended, Streams, serve};
 use jdwp_script_machine::ScriptMachine;
@@ -10,8 +10,10 @@ use jdwp_target::Target;
 use jdwp_value::ObjectId;
 use jdwp_wire::Limits;
 use std::alloc::Global;
+use std::fmt::Debug;
 use std::io;
 use std::io::{BufWriter, ErrorKind, Read, Write};
+use std::process::Abort;
 use std::test::Fail;
 
 /// What a stream does at one of its calls.
@@ -196,6 +198,24 @@ fn served(
     Ok((served.ended, served.writer.bytes))
 }
 
+/// A session that is served ends so, and these bytes are written.
+fn is_served<N: Debug>(
+    rt: &impl Abort,
+    alloc: Global,
+    start_all: bool,
+    reader: Reader<'_>,
+    writer: Writer,
+    rounds: u64,
+    want: Ended,
+    answers: &[u8],
+    note: &N,
+) -> Result<(), Fail> {
+    let (ended, bytes) = served(alloc, start_all, reader, writer, rounds)?;
+    expect_same_for(rt, &ended, &want, note);
+    expect_same_for(rt, &bytes.as_slice(), &answers, note);
+    Ok(())
+}
+
 /// Serves the session on a target that is open already.
 fn served_while_open(alloc: Global) -> Result<AfterServing<'static, Writer>, Fail> {
     let mut target = closed_target(alloc, false)?;
@@ -275,16 +295,17 @@ fn a_session_is_answered(rt: HostRuntime) -> Result<(), Fail> {
         (false, 5000, &ANSWERS),
     ];
     for (start_all, most, answers) in rows {
-        let alloc = rt.alloc();
-        let (ended, bytes) = served(
-            alloc,
+        is_served(
+            &rt,
+            rt.alloc(),
             start_all,
             reading(&SESSION, most, UNDISTURBED),
-            writing(alloc, most, UNDISTURBED),
+            writing(rt.alloc(), most, UNDISTURBED),
             ROUNDS,
+            Ended::Done,
+            answers,
+            &most,
         )?;
-        expect_same_for(&rt, &ended, &Ended::Done, &(most));
-        expect_same_for(&rt, &bytes.as_slice(), &answers, &(most));
     }
     Ok(())
 }
@@ -308,35 +329,60 @@ fn written_after(read: usize) -> usize
     }
 }
 
+/// The session where this comes at a call of the reader, which gives one byte a call.
+fn is_read_until(rt: &impl Abort, alloc: Global, call: u32, event: Event) -> Result<(), Fail> {
+    let written = written_after(usize::try_from(call)?.saturating_sub(1));
+    let want = if call < 67 {
+        Ended::LostByRead
+    } else {
+        Ended::Done
+    };
+    is_served(
+        rt,
+        alloc,
+        true,
+        reading(&SESSION, 1, Plan { call, event }),
+        writing(alloc, 5000, UNDISTURBED),
+        ROUNDS,
+        want,
+        &ANSWERS_SUSPENDED[..written],
+        &(event, call),
+    )
+}
+
 #[test]
 fn each_read_may_fail(rt: HostRuntime) -> Result<(), Fail> {
     for call in 1u32..68 {
-        for event in [Event::Fails, Event::Stops] {
-            let alloc = rt.alloc();
-            let plan = Plan { call, event };
-            let (ended, bytes) = served(
-                alloc,
-                true,
-                reading(&SESSION, 1, plan),
-                writing(alloc, 5000, UNDISTURBED),
-                ROUNDS,
-            )?;
-            let want = if call < 67 {
-                Ended::LostByRead
-            } else {
-                Ended::Done
-            };
-            expect_same_for(&rt, &ended, &want, &(event, call));
-            let written = written_after(usize::try_from(call)?.saturating_sub(1));
-            expect_same_for(
-                &rt,
-                &bytes.as_slice(),
-                &&ANSWERS_SUSPENDED[..written],
-                &(event, call),
-            );
-        }
+        is_read_until(&rt, rt.alloc(), call, Event::Fails)?;
+        is_read_until(&rt, rt.alloc(), call, Event::Stops)?;
     }
     Ok(())
+}
+
+/// The session where this comes at a call of the writer; so many bytes are written before it.
+fn is_written_until(
+    rt: &impl Abort,
+    alloc: Global,
+    call: u32,
+    event: Event,
+    written: usize,
+) -> Result<(), Fail> {
+    let want = if call < 6 {
+        Ended::LostByWrite
+    } else {
+        Ended::Done
+    };
+    is_served(
+        rt,
+        alloc,
+        true,
+        reading(&SESSION, 1, UNDISTURBED),
+        writing(alloc, 5000, Plan { call, event }),
+        ROUNDS,
+        want,
+        &ANSWERS_SUSPENDED[..written.min(111)],
+        &(event, call),
+    )
 }
 
 #[test]
@@ -349,29 +395,8 @@ fn each_write_may_fail(rt: HostRuntime) -> Result<(), Fail> {
         (5, 100),
         (6, 111),
     ] {
-        for event in [Event::Fails, Event::Stops] {
-            let alloc = rt.alloc();
-            let plan = Plan { call, event };
-            let (ended, bytes) = served(
-                alloc,
-                true,
-                reading(&SESSION, 1, UNDISTURBED),
-                writing(alloc, 5000, plan),
-                ROUNDS,
-            )?;
-            let want = if call < 6 {
-                Ended::LostByWrite
-            } else {
-                Ended::Done
-            };
-            expect_same_for(&rt, &ended, &want, &(event, call));
-            expect_same_for(
-                &rt,
-                &bytes.as_slice(),
-                &&ANSWERS_SUSPENDED[..written],
-                &(event, call),
-            );
-        }
+        is_written_until(&rt, rt.alloc(), call, Event::Fails, written)?;
+        is_written_until(&rt, rt.alloc(), call, Event::Stops, written)?;
     }
     Ok(())
 }
@@ -379,26 +404,24 @@ fn each_write_may_fail(rt: HostRuntime) -> Result<(), Fail> {
 #[test]
 fn each_write_of_a_byte_may_fail(rt: HostRuntime) -> Result<(), Fail> {
     for call in 1u32..113 {
-        let alloc = rt.alloc();
-        let plan = Plan {
-            call,
-            event: Event::Fails,
-        };
-        let (ended, bytes) = served(
-            alloc,
-            false,
-            reading(&SESSION, 66, UNDISTURBED),
-            writing(alloc, 1, plan),
-            ROUNDS,
-        )?;
+        let event = Event::Fails;
         let want = if call < 112 {
             Ended::LostByWrite
         } else {
             Ended::Done
         };
-        expect_same_for(&rt, &ended, &want, &(call));
         let written = usize::try_from(call)?.saturating_sub(1).min(111);
-        expect_same_for(&rt, &bytes.as_slice(), &&ANSWERS[..written], &(call));
+        is_served(
+            &rt,
+            rt.alloc(),
+            false,
+            reading(&SESSION, 66, UNDISTURBED),
+            writing(rt.alloc(), 1, Plan { call, event }),
+            ROUNDS,
+            want,
+            &ANSWERS[..written],
+            &call,
+        )?;
     }
     Ok(())
 }
@@ -406,68 +429,96 @@ fn each_write_of_a_byte_may_fail(rt: HostRuntime) -> Result<(), Fail> {
 #[test]
 fn an_interrupted_call_is_repeated(rt: HostRuntime) -> Result<(), Fail> {
     for call in [1u32, 2, 5] {
-        let alloc = rt.alloc();
-        let plan = Plan {
-            call,
-            event: Event::Interrupted,
-        };
-        let (ended, bytes) = served(
-            alloc,
-            true,
-            reading(&SESSION, 20, plan),
-            writing(alloc, 5000, plan),
-            ROUNDS,
-        )?;
-        expect_same_for(&rt, &ended, &Ended::Done, &(call));
-        expect_same_for(
+        let event = Event::Interrupted;
+        is_served(
             &rt,
-            &bytes.as_slice(),
-            &ANSWERS_SUSPENDED.as_slice(),
-            &(call),
-        );
+            rt.alloc(),
+            true,
+            reading(&SESSION, 20, Plan { call, event }),
+            writing(rt.alloc(), 5000, Plan { call, event }),
+            ROUNDS,
+            Ended::Done,
+            &ANSWERS_SUSPENDED,
+            &call,
+        )?;
     }
     Ok(())
 }
 
-#[test]
-fn a_failed_flush_is_a_failed_read(rt: HostRuntime) -> Result<(), Fail> {
-    let alloc = rt.alloc();
+/// A writer whose flush of this number fails.
+fn flushing_until(alloc: Global, call: u32) -> Writer {
     let mut writer = writing(alloc, 5000, UNDISTURBED);
     writer.flush_plan = Plan {
-        call: 1,
+        call,
         event: Event::Fails,
     };
-    let (ended, bytes) = served(
-        alloc,
+    writer
+}
+
+#[test]
+fn a_failed_flush_is_a_failed_read(rt: HostRuntime) -> Result<(), Fail> {
+    is_served(
+        &rt,
+        rt.alloc(),
         false,
         reading(&SESSION, 66, UNDISTURBED),
-        writer,
+        flushing_until(rt.alloc(), 1),
         ROUNDS,
-    )?;
-    expect_same(&rt, &ended, &Ended::LostByRead);
-    assert!(rt; bytes.is_empty());
+        Ended::LostByRead,
+        &[],
+        &1,
+    )
+}
+
+/// Serves a session whose writer keeps what it is given until it is flushed, and which these bytes leave.
+fn leaves(
+    rt: &impl Abort,
+    alloc: Global,
+    start_all: bool,
+    reader: Reader<'_>,
+    want: Ended,
+    answers: &[u8],
+    calls: u32,
+) -> Result<(), Fail> {
+    let writer = BufWriter::new(alloc, writing(alloc, 5000, UNDISTURBED))?;
+    let session = served_on(alloc, start_all, reader, writer, ROUNDS)?;
+    expect_same_for(rt, &session.ended, &want, &calls);
+    let writer = session.writer.get_ref();
+    expect_same_for(rt, &writer.bytes.as_slice(), &answers, &calls);
+    expect_same(rt, &writer.calls, &calls);
     Ok(())
+}
+
+/// How many writes leave before the reader's call of this number.
+fn writes_before(call: u32) -> u32 {
+    if call <= 14 {
+        0
+    } else if call <= 25 {
+        1
+    } else if call <= 36 {
+        2
+    } else if call <= 55 {
+        3
+    } else {
+        4
+    }
 }
 
 /// Nothing waits in the writer's own buffer while the reader is asked for more.
 #[test]
 fn answers_leave_before_a_read(rt: HostRuntime) -> Result<(), Fail> {
     for call in 1u32..67 {
-        let alloc = rt.alloc();
-        let plan = Plan {
-            call,
-            event: Event::Fails,
-        };
-        let writer = BufWriter::new(alloc, writing(alloc, 5000, UNDISTURBED))?;
-        let session = served_on(alloc, true, reading(&SESSION, 1, plan), writer, ROUNDS)?;
-        expect_same_for(&rt, &session.ended, &Ended::LostByRead, &(call));
+        let event = Event::Fails;
         let written = written_after(usize::try_from(call)?.saturating_sub(1));
-        expect_same_for(
+        leaves(
             &rt,
-            &session.writer.get_ref().bytes.as_slice(),
-            &&ANSWERS_SUSPENDED[..written],
-            &(call),
-        );
+            rt.alloc(),
+            true,
+            reading(&SESSION, 1, Plan { call, event }),
+            Ended::LostByRead,
+            &ANSWERS_SUSPENDED[..written],
+            writes_before(call),
+        )?;
     }
     Ok(())
 }
@@ -475,46 +526,31 @@ fn answers_leave_before_a_read(rt: HostRuntime) -> Result<(), Fail> {
 /// What was written leaves the writer's own buffer at the end, and in few writes.
 #[test]
 fn answers_leave_at_the_end_in_one_write(rt: HostRuntime) -> Result<(), Fail> {
-    let alloc = rt.alloc();
-    let writer = BufWriter::new(alloc, writing(alloc, 5000, UNDISTURBED))?;
     let reader = reading(&SESSION, 66, UNDISTURBED);
-    let session = served_on(alloc, false, reader, writer, ROUNDS)?;
-    expect_same(&rt, &session.ended, &Ended::Done);
-    expect_same(
-        &rt,
-        &session.writer.get_ref().bytes.as_slice(),
-        &ANSWERS.as_slice(),
-    );
-    expect_same(&rt, &session.writer.get_ref().calls, &1);
-    Ok(())
+    leaves(&rt, rt.alloc(), false, reader, Ended::Done, &ANSWERS, 1)
 }
 
 /// The first flush stands before the one read, and the second at the end.
 #[test]
 fn a_failed_last_flush_is_a_failed_write(rt: HostRuntime) -> Result<(), Fail> {
     for (call, want) in [(2u32, Ended::LostByWrite), (3, Ended::Done)] {
-        let alloc = rt.alloc();
-        let mut writer = writing(alloc, 5000, UNDISTURBED);
-        writer.flush_plan = Plan {
-            call,
-            event: Event::Fails,
-        };
-        let (ended, _) = served(
-            alloc,
+        is_served(
+            &rt,
+            rt.alloc(),
             false,
             reading(&SESSION, 66, UNDISTURBED),
-            writer,
+            flushing_until(rt.alloc(), call),
             ROUNDS,
+            want,
+            &ANSWERS,
+            &call,
         )?;
-        expect_same_for(&rt, &ended, &want, &(call));
     }
     Ok(())
 }
 
-/// A packet of 65,536 bytes behind the handshake: 4,096 bytes are asked for at once, and at the end the 14 for which there is room.
-#[test]
-fn reads_are_of_what_there_is_room_for(rt: HostRuntime) -> Result<(), Fail> {
-    let alloc = rt.alloc();
+/// The handshake, and a packet of 65,536 bytes.
+fn greatest_packet(alloc: Global) -> Result<Vec<u8>, Fail> {
     let mut input = Vec::new(alloc);
     input.extend_from_slice(b"JDWP-Handshake\x00\x01\x00\x00\x00\x00\x00\x05\x00\x40\x64")?;
     let block = [0; 4096];
@@ -522,34 +558,41 @@ fn reads_are_of_what_there_is_room_for(rt: HostRuntime) -> Result<(), Fail> {
         input.extend_from_slice(&block)?;
     }
     input.truncate(65550);
-    let session = served_on(
-        alloc,
-        true,
-        reading(&input, 5000, UNDISTURBED),
-        writing(alloc, 5000, UNDISTURBED),
-        19,
-    )?;
-    expect_same(&rt, &session.ended, &Ended::TurnLimit);
-    expect_same(&rt, &session.reader.most_asked, &4096);
-    expect_same(&rt, &session.reader.least_asked, &14);
-    assert!(rt;
-        session
-            .writer
-            .bytes
-            .as_slice()
-            .ends_with(b"\x00\x00\x00\x0b\x00\x00\x00\x05\x80\x00\x63")
-    );
+    Ok(input)
+}
+
+/// 4,096 bytes are asked for at once, and the last time 14, and the packet's command is not known.
+fn asks_for_what_has_room(rt: &impl Abort, session: &AfterServing<'_, Writer>) {
+    expect_same(rt, &session.ended, &Ended::TurnLimit);
+    expect_same(rt, &session.reader.most_asked, &4096);
+    expect_same(rt, &session.reader.least_asked, &14);
+    let reply = b"\x00\x00\x00\x0b\x00\x00\x00\x05\x80\x00\x63";
+    assert!(rt; session.writer.bytes.as_slice().ends_with(reply));
+}
+
+/// A packet of 65,536 bytes behind the handshake: 4,096 bytes are asked for at once, and at the end the 14 for which there is room.
+#[test]
+fn reads_are_of_what_there_is_room_for(rt: HostRuntime) -> Result<(), Fail> {
+    let alloc = rt.alloc();
+    let input = greatest_packet(alloc)?;
+    let reader = reading(&input, 5000, UNDISTURBED);
+    let session = served_on(alloc, true, reader, writing(alloc, 5000, UNDISTURBED), 19)?;
+    asks_for_what_has_room(&rt, &session);
     Ok(())
+}
+
+/// The session is refused, and neither the reader nor the writer is called.
+fn is_not_touched(rt: &impl Abort, session: &AfterServing<'_, Writer>) {
+    expect_same(rt, &session.ended, &Ended::Refused(0));
+    assert!(rt; session.is_open);
+    expect_same(rt, &session.reader.calls, &0);
+    expect_same(rt, &session.writer.calls, &0);
+    expect_same(rt, &session.writer.flushes, &0);
 }
 
 #[test]
 fn an_open_target_is_refused(rt: HostRuntime) -> Result<(), Fail> {
-    let session = served_while_open(rt.alloc())?;
-    expect_same(&rt, &session.ended, &Ended::Refused(0));
-    assert!(rt; session.is_open);
-    expect_same(&rt, &session.reader.calls, &0);
-    expect_same(&rt, &session.writer.calls, &0);
-    expect_same(&rt, &session.writer.flushes, &0);
+    is_not_touched(&rt, &served_while_open(rt.alloc())?);
     Ok(())
 }
 
@@ -562,18 +605,30 @@ fn bytes_that_begin_no_message_are_refused(rt: HostRuntime) -> Result<(), Fail> 
         (b"JDWP-Handshake\x00\x00\x00\x0b\x00\x00\x00\x01\x01", 3, 43),
     ];
     for (input, number, written) in sessions {
-        let alloc = rt.alloc();
-        let (ended, bytes) = served(
-            alloc,
+        is_served(
+            &rt,
+            rt.alloc(),
             false,
             reading(input, 5000, UNDISTURBED),
-            writing(alloc, 5000, UNDISTURBED),
+            writing(rt.alloc(), 5000, UNDISTURBED),
             ROUNDS,
+            Ended::Refused(number),
+            &ANSWERS[..written],
+            &number,
         )?;
-        expect_same(&rt, &ended, &Ended::Refused(number));
-        expect_same_for(&rt, &bytes.as_slice(), &&ANSWERS[..written], &(number));
     }
     Ok(())
+}
+
+/// What is written is the answer to the handshake, and these bytes.
+fn is_written(rt: &impl Abort, written: &[u8], greeting: &[u8], behind: &[u8]) {
+    assert!(rt; written.starts_with(greeting));
+    assert!(rt; written.ends_with(behind));
+    expect_same(
+        rt,
+        &Some(written.len()),
+        &greeting.len().checked_add(behind.len()),
+    );
 }
 
 #[test]
@@ -581,35 +636,29 @@ fn unknown_commands_are_answered(rt: HostRuntime) -> Result<(), Fail> {
     let input =
         b"JDWP-Handshake\x00\x00\x00\x0b\x00\x00\x00\x05\x00\x40\x64\x00\x00\x00\x0b\x00\x00\x00\x06\x00\x01\x63";
     let alloc = rt.alloc();
-    let (ended, bytes) = served(
-        alloc,
-        true,
-        reading(input, 5000, UNDISTURBED),
-        writing(alloc, 5000, UNDISTURBED),
-        ROUNDS,
-    )?;
+    let reader = reading(input, 5000, UNDISTURBED);
+    let writer = writing(alloc, 5000, UNDISTURBED);
+    let (ended, bytes) = served(alloc, true, reader, writer, ROUNDS)?;
     expect_same(&rt, &ended, &Ended::LostByRead);
-    assert!(rt; bytes.as_slice().starts_with(&ANSWERS_SUSPENDED[..43]));
     let replies =
         b"\x00\x00\x00\x0b\x00\x00\x00\x05\x80\x00\x63\x00\x00\x00\x0b\x00\x00\x00\x06\x80\x00\x63";
-    assert!(rt; bytes.as_slice().ends_with(replies));
-    expect_same(&rt, &bytes.len(), &65);
+    is_written(&rt, &bytes, &ANSWERS_SUSPENDED[..43], replies);
     Ok(())
 }
 
 #[test]
 fn an_empty_input_is_lost(rt: HostRuntime) -> Result<(), Fail> {
-    let alloc = rt.alloc();
-    let (ended, bytes) = served(
-        alloc,
+    is_served(
+        &rt,
+        rt.alloc(),
         false,
         reading(b"", 5000, UNDISTURBED),
-        writing(alloc, 5000, UNDISTURBED),
+        writing(rt.alloc(), 5000, UNDISTURBED),
         ROUNDS,
-    )?;
-    expect_same(&rt, &ended, &Ended::LostByRead);
-    assert!(rt; bytes.is_empty());
-    Ok(())
+        Ended::LostByRead,
+        &[],
+        &0,
+    )
 }
 
 /// One read and five turns take six rounds.
@@ -624,23 +673,31 @@ fn rounds_are_counted(rt: HostRuntime) -> Result<(), Fail> {
         (5, 100),
         (6, 111),
     ] {
-        let alloc = rt.alloc();
-        let (ended, bytes) = served(
-            alloc,
-            false,
-            reading(&SESSION, 66, UNDISTURBED),
-            writing(alloc, 5000, UNDISTURBED),
-            rounds,
-        )?;
         let want = if rounds < 6 {
             Ended::TurnLimit
         } else {
             Ended::Done
         };
-        expect_same_for(&rt, &ended, &want, &(rounds));
-        expect_same_for(&rt, &bytes.as_slice(), &&ANSWERS[..written], &(rounds));
+        is_served(
+            &rt,
+            rt.alloc(),
+            false,
+            reading(&SESSION, 66, UNDISTURBED),
+            writing(rt.alloc(), 5000, UNDISTURBED),
+            rounds,
+            want,
+            &ANSWERS[..written],
+            &rounds,
+        )?;
     }
     Ok(())
+}
+
+/// The session is lost, and no thread is suspended.
+fn is_let_go(rt: &impl Abort, session: &AfterServing<'_, Writer>) {
+    expect_same(rt, &session.ended, &Ended::LostByRead);
+    assert!(rt; !session.is_open);
+    expect_same(rt, &session.count, &Some(0));
 }
 
 #[test]
@@ -648,10 +705,7 @@ fn a_loss_lowers_the_counts(rt: HostRuntime) -> Result<(), Fail> {
     let alloc = rt.alloc();
     let reader = reading(&SESSION[..36], 66, UNDISTURBED);
     let writer = writing(alloc, 5000, UNDISTURBED);
-    let session = served_on(alloc, true, reader, writer, ROUNDS)?;
-    expect_same(&rt, &session.ended, &Ended::LostByRead);
-    assert!(rt; !session.is_open);
-    expect_same(&rt, &session.count, &Some(0));
+    is_let_go(&rt, &served_on(alloc, true, reader, writer, ROUNDS)?);
     Ok(())
 }
 
@@ -659,25 +713,37 @@ fn a_loss_lowers_the_counts(rt: HostRuntime) -> Result<(), Fail> {
 const VM_DEATH: &[u8] =
     b"\x00\x00\x00\x15\x00\x00\x00\x02\x00\x40\x64\x00\x00\x00\x00\x01\x63\x00\x00\x00\x00";
 
+/// The first session of a machine ends so, behind one read, and its bytes are these behind the greeting.
+fn ends_by_steps(rt: &impl Abort, first: &AfterServing<'_, Writer>, want: Ended, behind: &[u8]) {
+    expect_same(rt, &first.ended, &want);
+    expect_same(rt, &first.reader.calls, &1);
+    is_written(rt, &first.writer.bytes, &ANSWERS[..43], behind);
+}
+
+/// A session of a machine that died is done, and neither its reader nor its writer is called.
+fn is_done_at_once(rt: &impl Abort, second: &AfterServing<'_, Writer>) {
+    expect_same(rt, &second.ended, &Ended::Done);
+    expect_same(rt, &second.reader.calls, &0);
+    expect_same(rt, &second.writer.flushes, &0);
+}
+
 /// Where nothing is to be handled each live thread steps once a round: the read, the handshake, seven steps of thread 1 beside the end
 /// of thread 2, and the end of thread 1, with which the machine dies. From then on a session is done at once.
 #[test]
 fn threads_step_until_the_machine_dies(rt: HostRuntime) -> Result<(), Fail> {
-    for (rounds, want, written) in [(9u64, Ended::TurnLimit, 43usize), (10, Ended::Done, 64)] {
-        let (first, second) = served_twice(rt.alloc(), rounds)?;
-        expect_same_for(&rt, &first.ended, &want, &(rounds));
-        expect_same(&rt, &first.reader.calls, &1);
-        let bytes = first.writer.bytes.as_slice();
-        expect_same_for(&rt, &bytes.len(), &written, &(rounds));
-        assert!(rt; bytes.starts_with(&ANSWERS[..43]));
-        if want == Ended::Done {
-            assert!(rt; bytes.ends_with(VM_DEATH));
-            expect_same(&rt, &first.lives, &0);
-            expect_same(&rt, &second.ended, &Ended::Done);
-            expect_same(&rt, &second.reader.calls, &0);
-            expect_same(&rt, &second.writer.flushes, &0);
-        }
-    }
+    let (first, second) = served_twice(rt.alloc(), 10)?;
+    ends_by_steps(&rt, &first, Ended::Done, VM_DEATH);
+    expect_same(&rt, &first.lives, &0);
+    is_done_at_once(&rt, &second);
+    Ok(())
+}
+
+/// One round fewer, and thread 1 still lives.
+#[test]
+fn threads_step_once_a_round(rt: HostRuntime) -> Result<(), Fail> {
+    let (first, _) = served_twice(rt.alloc(), 9)?;
+    ends_by_steps(&rt, &first, Ended::TurnLimit, &[]);
+    expect_same(&rt, &first.lives, &1);
     Ok(())
 }
 
@@ -698,15 +764,10 @@ fn what_steps_report_is_written(rt: HostRuntime) -> Result<(), Fail> {
         \x02\x00\x00\x00\x02\x00\x00\x00\x00\x00\x00\x00\x01\x01\
         \x00\x00\x00\x00\x00\x00\x00\x0a\x00\x00\x00\x00\x00\x00\x00\x14\x00\x00\x00\x00\x00\x00\x00\x03";
     let alloc = rt.alloc();
-    let (ended, bytes) = served(
-        alloc,
-        false,
-        reading(input, 5000, UNDISTURBED),
-        writing(alloc, 5000, UNDISTURBED),
-        ROUNDS,
-    )?;
+    let reader = reading(input, 5000, UNDISTURBED);
+    let writer = writing(alloc, 5000, UNDISTURBED);
+    let (ended, bytes) = served(alloc, false, reader, writer, ROUNDS)?;
     expect_same(&rt, &ended, &Ended::LostByRead);
-    assert!(rt; bytes.as_slice().starts_with(&ANSWERS[..43]));
-    expect_same(&rt, &&bytes.as_slice()[43..], &told.as_slice());
+    is_written(&rt, &bytes, &ANSWERS[..43], told);
     Ok(())
 }

@@ -1,5 +1,5 @@
 //! A target driven by hand, without IO: bytes that came go in, messages are handled one by one, and what is to be sent comes out.
-use crate::session_tests::MACHINE_A;
+use crate::sessions::MACHINE_A;
 use jdwp_debuggee::Settings;
 use jdwp_script_machine::ScriptMachine;
 use jdwp_target::{Target, Turn};

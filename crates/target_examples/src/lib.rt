@@ -14,3 +14,5 @@ mod request_tests;
 mod serve_tests;
 #[cfg(test)]
 mod session_tests;
+#[cfg(test)]
+mod sessions;

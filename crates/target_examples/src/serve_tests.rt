@@ -1,6 +1,6 @@
 //! Sessions served over the machine of a script, from the bytes read to the bytes written.
 use crate::asserts::expect_same;
-use crate::session_tests::MACHINE_A;
+use crate::sessions::MACHINE_A;
 use jdwp_debuggee::Settings;
 use jdwp_engine::{Ended, Streams};
 use jdwp_script::ScriptFault;
@@ -66,10 +66,22 @@ const ANSWERS: [u8; 111] = [
     0x00, 0x00, 0x00, 0x0b, 0x00, 0x00, 0x00, 0x04, 0x80, 0x00, 0x00, //
 ];
 
+/// How the session of machine A ends, and what is written.
+fn served(
+    alloc: Global,
+    input: &[u8],
+    writer: Output,
+    rounds: u32,
+) -> Result<(Ended, Vec<u8>), Fail> {
+    let settings = Settings::new(false, 65535, Limits::standard()).ok_or("a count limit")?;
+    let mut pipe = Streams::new(input, writer);
+    let ended = serve_script(alloc, MACHINE_A, settings, &mut pipe, rounds)?;
+    let (_, writer) = pipe.into_parts();
+    Ok((ended, writer.bytes))
+}
+
 #[test]
 fn a_session_is_served(rt: HostRuntime) -> Result<(), Fail> {
-    let alloc = rt.alloc();
-    let settings = Settings::new(false, 65535, Limits::standard()).ok_or("a count limit")?;
     let rows: [(&[u8], u32, bool, Ended, usize); 5] = [
         (&SESSION, 6, false, Ended::Done, 111),
         (&SESSION, 5, false, Ended::TurnLimit, 100),
@@ -79,12 +91,10 @@ fn a_session_is_served(rt: HostRuntime) -> Result<(), Fail> {
         (&SESSION, 0, true, Ended::LostByWrite, 0),
     ];
     for (input, rounds, flush_fails, want, written) in rows {
-        let mut pipe = Streams::new(input, Output::new(alloc, flush_fails));
-        let ended = serve_script(alloc, MACHINE_A, settings, &mut pipe, rounds)?;
-        let (_, writer) = pipe.into_parts();
+        let writer = Output::new(rt.alloc(), flush_fails);
+        let (ended, bytes) = served(rt.alloc(), input, writer, rounds)?;
         expect_same(&rt, &ended, &want);
-        assert!(rt; ANSWERS.starts_with(writer.bytes.as_slice()));
-        expect_same(&rt, &writer.bytes.len(), &written);
+        expect_same(&rt, &bytes.as_slice(), &&ANSWERS[..written.min(111)]);
     }
     Ok(())
 }

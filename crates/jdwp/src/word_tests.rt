@@ -1,0 +1,309 @@
+//! Words that the program takes, and words that it refuses.
+use crate::asserts::expect_same_for;
+use crate::tests::{MACHINE, SESSION, is_not_made, is_refused, remove, status_of};
+use jdwp_debuggee::Settings;
+use jdwp_wire::Limits;
+use jdwp_words::{ServeScript, Words};
+use std::alloc::Global;
+use std::fs;
+use std::process::Abort;
+use std::rt::Files;
+use std::test::Fail;
+
+/// Words that are refused.
+static REFUSED: [&[&str]; 16] = [
+    &[],
+    &["--help"],
+    &["help"],
+    &["-h"],
+    &["--version"],
+    &["serve"],
+    &["serve-script"],
+    &["serve-script", "--help"],
+    &["serve-script", "words_machine"],
+    &["serve-script", "words_machine", "--from", "words_from"],
+    &["serve-script", "words_machine", "--to", "words_to"],
+    &["serve-script", "--from", "words_from", "--to", "words_to"],
+    &[
+        "serve-script",
+        "words_machine",
+        "words_from",
+        "--from",
+        "words_from",
+        "--to",
+        "words_to",
+    ],
+    &[
+        "serve-script",
+        "words_machine",
+        "--from",
+        "words_from",
+        "--to",
+    ],
+    &[
+        "serve-script",
+        "words_machine",
+        "--from",
+        "words_from",
+        "--from",
+        "words_from",
+        "--to",
+        "words_to",
+    ],
+    &[
+        "serve-script",
+        "words_machine",
+        "--from",
+        "words_from",
+        "--to",
+        "words_to",
+        "--to",
+        "words_to",
+    ],
+];
+
+/// Options that are refused behind words that are not.
+static OPTIONS: [&[&str]; 28] = [
+    &["--port", "5"],
+    &["--start"],
+    &["--start", ""],
+    &["--start", "some"],
+    &["--start", "ALL"],
+    &["--start", "all", "--start", "all"],
+    &["--count-limit"],
+    &["--count-limit", ""],
+    &["--count-limit", "0"],
+    &["--count-limit", "2147483648"],
+    &["--count-limit", "4294967297"],
+    &["--count-limit", "+5"],
+    &["--count-limit", "-5"],
+    &["--count-limit", " 5"],
+    &["--count-limit", "5 "],
+    &["--count-limit", "0x5"],
+    &["--count-limit", "5", "--count-limit", "5"],
+    &["--turns"],
+    &["--turns", ""],
+    &["--turns", "4294967296"],
+    &["--turns", "18446744073709551617"],
+    &["--turns", "+5"],
+    &["--turns=+5"],
+    &["--turns", "-5"],
+    &["--turns", "5.0"],
+    &["--turns", "1_000"],
+    &["--turns", "five"],
+    &["--turns", "5", "--turns", "5"],
+];
+
+/// Options that are taken.
+static TAKEN: [&[&str]; 4] = [
+    &["--start", "all"],
+    &["--start=none"],
+    &["--count-limit", "2147483647"],
+    &["--turns", "007"],
+];
+
+/// Words that are taken.
+const WORDS: [&str; 6] = [
+    "serve-script",
+    "words_machine",
+    "--from",
+    "words_from",
+    "--to",
+    "words_to",
+];
+
+/// The words, and this option behind them, have this status.
+fn has_status<R: Files + AllocGlobal + Abort>(
+    rt: &R,
+    option: &[&str],
+    status: u8,
+) -> Result<(), Fail> {
+    let mut words = Vec::new(rt.alloc());
+    words.extend_from_slice(&WORDS)?;
+    words.extend_from_slice(option)?;
+    expect_same_for(rt, &status_of(rt, words.as_slice())?, &status, &option);
+    Ok(())
+}
+
+#[test]
+fn other_words_are_refused(rt: HostRuntime) -> Result<(), Fail> {
+    fs::write(&rt, "words_machine", MACHINE)?;
+    fs::write(&rt, "words_from", SESSION.as_slice())?;
+    for words in REFUSED.iter() {
+        expect_same_for(&rt, &status_of(&rt, words)?, &1, words);
+    }
+    for option in OPTIONS.iter() {
+        has_status(&rt, option, 1)?;
+    }
+    is_not_made(&rt, "words_to");
+    for option in TAKEN.iter() {
+        has_status(&rt, option, 0)?;
+    }
+    remove(&rt, &["words_machine", "words_from", "words_to"])
+}
+
+/// Words that are refused, and texts that are told.
+static HELP: [(&[&str], &[&str]); 12] = [
+    (
+        &[],
+        &[
+            "error: 'jdwp' requires a subcommand but one was not provided",
+            "show, check, serve-script",
+            "Usage: ",
+        ],
+    ),
+    (
+        &["--help"],
+        &[
+            "Ends of the Java Debug Wire Protocol",
+            "Usage: ",
+            "\n  show ",
+            "\n  check ",
+            "\n  serve-script ",
+            "--help",
+        ],
+    ),
+    (
+        &["serve-script", "--help"],
+        &[
+            "Serves",
+            "Usage: ",
+            "<MACHINE>",
+            "--from <FILE>",
+            "--to <FILE>",
+            "--start <WHICH>",
+            "--count-limit <N>",
+            "--turns <N>",
+        ],
+    ),
+    (
+        &["show", "--help"],
+        &["Shows a capture", "Usage: ", "<FILE>"],
+    ),
+    (
+        &["shows"],
+        &["error: unrecognized subcommand 'shows'", "Usage: "],
+    ),
+    (&["show"], &["error: ", "<FILE>", "Usage: "]),
+    (
+        &["show", "f", "--port"],
+        &["error: unexpected argument '--port'", "Usage: "],
+    ),
+    (
+        &["serve-script", "m", "--from", "f"],
+        &["error: ", "--to <FILE>", "Usage: "],
+    ),
+    (
+        &[
+            "serve-script",
+            "m",
+            "--from",
+            "f",
+            "--to",
+            "t",
+            "--start",
+            "some",
+        ],
+        &[
+            "error: invalid value 'some' for '--start <WHICH>'",
+            "all, none",
+        ],
+    ),
+    (
+        &[
+            "serve-script",
+            "m",
+            "--from",
+            "f",
+            "--to",
+            "t",
+            "--count-limit",
+            "0",
+        ],
+        &["error: invalid value '0' for '--count-limit <N>': 0 is not in 1..=2147483647"],
+    ),
+    (
+        &[
+            "serve-script",
+            "m",
+            "--from",
+            "f",
+            "--to",
+            "t",
+            "--turns",
+            "five",
+        ],
+        &["error: invalid value 'five' for '--turns <N>'"],
+    ),
+    (
+        &[
+            "serve-script",
+            "m",
+            "--from",
+            "f",
+            "--to",
+            "t",
+            "--turns",
+            "+5",
+        ],
+        &[
+            "error: invalid value '+5' for '--turns <N>': a number is digits alone",
+            "Usage: jdwp serve-script ",
+        ],
+    ),
+];
+
+/// Words that are refused are told with the usage, and `--help` tells each command and option.
+#[test]
+fn words_help(rt: HostRuntime) -> Result<(), Fail> {
+    for (words, texts) in HELP.iter() {
+        assert!(rt; is_refused(&rt, words, texts)?, "{words:?}");
+    }
+    Ok(())
+}
+
+/// Options, whether all threads start suspended, the count limit, and the turns.
+static DEFAULTS: [(&[&str], bool, u32, u32); 5] = [
+    (&[], true, 65535, 100000),
+    (&["--start", "none"], false, 65535, 100000),
+    (&["--start=all"], true, 65535, 100000),
+    (&["--count-limit", "2147483647"], true, 2147483647, 100000),
+    (&["--turns", "007"], true, 65535, 7),
+];
+
+/// With these options behind them, the words are read so.
+fn are_read(
+    rt: &impl Abort,
+    alloc: Global,
+    more: &[&str],
+    start_all: bool,
+    count_limit: u32,
+    turns: u32,
+) -> Result<(), Fail> {
+    let (machine, from, to) = ("m", "f", "t");
+    let mut words = Vec::new(alloc);
+    words.extend_from_slice(&["jdwp", "serve-script", machine, "--from", from, "--to", to])?;
+    words.extend_from_slice(more)?;
+    let standard = Limits::standard();
+    let settings = Settings::new(start_all, count_limit, standard).ok_or("a count limit")?;
+    let want = Words::ServeScript(ServeScript {
+        machine,
+        from,
+        to,
+        settings,
+        turns,
+    });
+    match jdwp_words::read(alloc, words.as_slice()) {
+        Ok(found) => expect_same_for(rt, &found, &want, &more),
+        Err(_) => return Err(Fail::from("words that read")),
+    }
+    Ok(())
+}
+
+#[test]
+fn options_have_defaults(rt: HostRuntime) -> Result<(), Fail> {
+    for &(more, start_all, count_limit, turns) in DEFAULTS.iter() {
+        are_read(&rt, rt.alloc(), more, start_all, count_limit, turns)?;
+    }
+    Ok(())
+}

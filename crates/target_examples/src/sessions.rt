@@ -1,0 +1,264 @@
+//! Targets over machine scripts, what is done with them, and what is to come of it.
+use crate::asserts::expect_same;
+use jdwp_debuggee::Settings;
+use jdwp_script_machine::ScriptMachine;
+use jdwp_target::{Stepped, TargetFault, Turn};
+use jdwp_value::ObjectId;
+use jdwp_wire::{ErrorCode, FrameFault, Limits};
+use std::alloc::Global;
+use std::process::Abort;
+use std::test::Fail;
+
+/// A target over the machine of a script.
+pub(crate) type Target = jdwp_target::Target<ScriptMachine>;
+
+pub(crate) const HANDSHAKE: &str = "4a4457502d48616e647368616b65";
+
+/// The handshake, and VM_START behind it.
+const GREETING: &str =
+    "4a4457502d48616e647368616b65 0000001d 00000001 00 40 64 00 00000001 5a 00000000 0000000000000001";
+
+/// A machine of two threads, of which the first calls a method, moves in it and returns.
+pub(crate) const MACHINE_A: &str = "{\"name\":\"A\",\"sizes\":[8,8,8,8,8],
+\"groups\":[{\"id\":5,\"name\":\"main\",\"parent\":0}],
+\"classes\":[{\"id\":10,\"tag\":1,\"signature\":\"LMain;\",\"modifiers\":1,
+ \"super\":0,\"interfaces\":[],\"source\":\"Main.java\",\"fields\":[],
+ \"methods\":[{\"id\":20,\"name\":\"run\",\"signature\":\"()V\",\"modifiers\":1,
+  \"args\":0,\"last\":9,\"lines\":[[0,1],[3,2],[4,3]],\"slots\":[]}]}],
+\"objects\":[],
+\"threads\":[{\"id\":1,\"name\":\"main\",\"group\":5,\"steps\":[
+ [\"call\",30,10,20,0,[]],[\"go\",3],[\"go\",4],[\"go\",3],[\"go\",4],
+ [\"go\",3],[\"return\",[\"V\",0]]]},
+ {\"id\":2,\"name\":\"work\",\"group\":5,\"steps\":[]}]}";
+
+/// Machine A whose first call has a slot.
+pub(crate) const WITH_A_SLOT: &str = "{\"name\":\"A\",\"sizes\":[8,8,8,8,8],
+\"groups\":[{\"id\":5,\"name\":\"main\",\"parent\":0}],
+\"classes\":[{\"id\":10,\"tag\":1,\"signature\":\"LMain;\",\"modifiers\":1,
+ \"super\":0,\"interfaces\":[],\"source\":\"Main.java\",\"fields\":[],
+ \"methods\":[{\"id\":20,\"name\":\"run\",\"signature\":\"()V\",\"modifiers\":1,
+  \"args\":0,\"last\":9,\"lines\":[[0,1],[3,2],[4,3]],\"slots\":[]}]}],
+\"objects\":[],
+\"threads\":[{\"id\":1,\"name\":\"main\",\"group\":5,\"steps\":[
+ [\"call\",30,10,20,0,[[0,[\"I\",7]]]],[\"go\",3],[\"go\",4],[\"go\",3],[\"go\",4],
+ [\"go\",3],[\"return\",[\"V\",0]]]},
+ {\"id\":2,\"name\":\"work\",\"group\":5,\"steps\":[]}]}";
+
+/// The bytes that hex digits spell; spaces are for reading.
+pub(crate) fn bytes(alloc: Global, hex: &str) -> Result<Vec<u8>, Fail> {
+    let mut bytes = Vec::new(alloc);
+    let mut high = None;
+    for digit in hex.chars() {
+        let Some(value) = digit.to_digit(16) else {
+            continue;
+        };
+        match high {
+            None => high = Some(value),
+            Some(first) => {
+                let Ok(byte) = u8::try_from(first.saturating_mul(16).saturating_add(value)) else {
+                    return Err(Fail::from("not a byte"));
+                };
+                bytes.push(byte)?;
+                high = None;
+            }
+        }
+    }
+    Ok(bytes)
+}
+
+/// All that waits to leave.
+fn taken(alloc: Global, target: &mut Target) -> Result<Vec<u8>, Fail> {
+    let mut all = Vec::new(alloc);
+    let mut buffer = [0; 256];
+    for _ in 0..1024u32 {
+        let count = target.take(&mut buffer);
+        if count == 0 || count > 256 {
+            break;
+        }
+        all.extend_from_slice(&buffer[..count])?;
+    }
+    Ok(all)
+}
+
+/// A closed target over this script.
+pub(crate) fn target(
+    alloc: Global,
+    script: &str,
+    start_all: bool,
+    count_limit: u32,
+) -> Result<Target, Fail> {
+    let Some(settings) = Settings::new(start_all, count_limit, Limits::standard()) else {
+        return Err(Fail::from("the count limit is refused"));
+    };
+    let Ok(machine) = ScriptMachine::read(alloc, script) else {
+        return Err(Fail::from("the script is refused"));
+    };
+    match Target::new(alloc, machine, settings) {
+        Ok(target) => Ok(target),
+        Err(_) => Err(Fail::from("no memory")),
+    }
+}
+
+/// The same, none of whose threads begins suspended, with the handshake done and its answer taken.
+pub(crate) fn ready(alloc: Global, script: &str, count_limit: u32) -> Result<Target, Fail> {
+    let mut target = target(alloc, script, false, count_limit)?;
+    greet(alloc, &mut target)?;
+    Ok(target)
+}
+
+/// Begins a session: the handshake, whose answer is taken.
+fn greet(alloc: Global, target: &mut Target) -> Result<(), Fail> {
+    target.accept();
+    target.feed(&bytes(alloc, HANDSHAKE)?);
+    if target.turn() != Ok(Turn::Hello) {
+        return Err(Fail::from("no handshake"));
+    }
+    taken(alloc, target)?;
+    Ok(())
+}
+
+/// What is done with a target, and what comes of it.
+#[derive(Clone, Copy)]
+pub(crate) enum Act {
+    /// It is sent the first bytes, and sends the others, in turns until nothing is left to handle.
+    Says(&'static str, &'static str),
+    /// EventRequest.Set with these data is refused with this error code.
+    Refuses(&'static str, u16),
+    /// EventRequest.Set with these data is answered with this request id.
+    Grants(&'static str, u32),
+    /// A thread is stepped so many times; each step tells this, and all send these bytes.
+    Steps(u64, u32, Stepped, &'static str),
+    /// It is sent bytes that begin no message.
+    Fails(&'static str, FrameFault),
+    /// The suspend counts of threads 1 and 2.
+    Counts(Option<u32>, Option<u32>),
+    /// How many event requests there are.
+    Requests(usize),
+    /// How many threads live.
+    Lives(usize),
+    /// Whether the session is open.
+    Open(bool),
+    /// Whether a session begins.
+    Accepts(bool),
+    /// The connection is lost.
+    Loses,
+}
+
+/// Whether this comes of it.
+pub(crate) fn comes(alloc: Global, target: &mut Target, act: &Act) -> Result<bool, Fail> {
+    match act {
+        Act::Says(input, output) => says(alloc, target, input, output),
+        Act::Refuses(data, error) => {
+            sets(alloc, target, data)?;
+            is_sent(alloc, target, &refusal(alloc, *error)?)
+        }
+        Act::Grants(data, id) => {
+            sets(alloc, target, data)?;
+            is_sent(alloc, target, &grant(alloc, *id)?)
+        }
+        Act::Steps(thread, times, told, output) => steps(
+            alloc, target, *thread, *times, *told, output,
+        ),
+        Act::Fails(input, fault) => {
+            target.feed(&bytes(alloc, input)?);
+            Ok(target.turn() == Err(TargetFault::Frame(*fault)))
+        }
+        Act::Counts(first, second) => {
+            Ok(target.count(ObjectId(1)) == *first && target.count(ObjectId(2)) == *second)
+        }
+        Act::Requests(count) => Ok(target.requests().len() == *count),
+        Act::Lives(count) => Ok(target.live().len() == *count),
+        Act::Open(open) => Ok(target.is_open() == *open),
+        Act::Accepts(accepts) => Ok(target.accept() == *accepts),
+        Act::Loses => {
+            target.lose();
+            Ok(target.room() == 0 && target.waiting() == 0)
+        }
+    }
+}
+
+fn says(alloc: Global, target: &mut Target, input: &str, output: &str) -> Result<bool, Fail> {
+    target.feed(&bytes(alloc, input)?);
+    for _ in 0..16u32 {
+        if target.turn() == Ok(Turn::Nothing) {
+            break;
+        }
+    }
+    sends(alloc, target, output)
+}
+
+/// Sends EventRequest.Set, under the id 2, with these data.
+fn sets(alloc: Global, target: &mut Target, data: &str) -> Result<(), Fail> {
+    let data = bytes(alloc, data)?;
+    let Ok(count) = u8::try_from(data.len()) else {
+        return Err(Fail::from("more data than the length here holds"));
+    };
+    target.feed(&[0, 0, 0, count.saturating_add(11), 0, 0, 0, 2, 0, 15, 1]);
+    target.feed(&data);
+    target.turn()?;
+    Ok(())
+}
+
+/// The reply to the command 2 that refuses it with this error code.
+fn refusal(alloc: Global, error: u16) -> Result<Vec<u8>, Fail> {
+    let mut reply = bytes(alloc, "0000000b 00000002 80")?;
+    reply.extend_from_slice(&error.to_be_bytes())?;
+    Ok(reply)
+}
+
+/// The reply to the command 2 that says this request id.
+fn grant(alloc: Global, id: u32) -> Result<Vec<u8>, Fail> {
+    let mut reply = bytes(alloc, "0000000f 00000002 80 0000")?;
+    reply.extend_from_slice(&id.to_be_bytes())?;
+    Ok(reply)
+}
+
+fn steps(
+    alloc: Global,
+    target: &mut Target,
+    thread: u64,
+    times: u32,
+    told: Stepped,
+    output: &str,
+) -> Result<bool, Fail> {
+    for _ in 0..times {
+        if target.step(ObjectId(thread)) != Ok(told) {
+            return Ok(false);
+        }
+    }
+    sends(alloc, target, output)
+}
+
+/// Whether these bytes wait to leave; they are taken.
+pub(crate) fn sends(alloc: Global, target: &mut Target, output: &str) -> Result<bool, Fail> {
+    is_sent(alloc, target, &bytes(alloc, output)?)
+}
+
+/// The same of bytes.
+fn is_sent(alloc: Global, target: &mut Target, output: &[u8]) -> Result<bool, Fail> {
+    Ok(taken(alloc, target)?.as_slice() == output)
+}
+
+/// The place, from 0, of the first act of which something else comes; None where all is as it is to be.
+fn first_wrong(alloc: Global, target: &mut Target, acts: &[Act]) -> Result<Option<usize>, Fail> {
+    for (place, act) in acts.iter().enumerate() {
+        if !comes(alloc, target, act)? {
+            return Ok(Some(place));
+        }
+    }
+    Ok(None)
+}
+
+/// Of each act of a session comes what it says. The session begins with the handshake done and its answer taken, and no thread is
+/// suspended.
+pub(crate) fn goes_as_told(
+    rt: &impl Abort,
+    alloc: Global,
+    script: &str,
+    count_limit: u32,
+    acts: &[Act],
+) -> Result<(), Fail> {
+    let mut target = ready(alloc, script, count_limit)?;
+    expect_same(rt, &first_wrong(alloc, &mut target, acts)?, &None);
+    Ok(())
+}
