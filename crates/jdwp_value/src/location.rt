@@ -14,7 +14,7 @@ use jdwp_wire::{DataFault, IdKind, IdSizes, Width, Wire, all_or_nothing};
 use std::alloc::Global;
 
 /// What declares a method (JDWP specification, "TypeTag Constants").
-#[derive(Clone, Copy, Debug, PartialEq, Eq, PartialOrd, Ord, Hash)]
+#[derive(Clone, Copy, Debug, PartialEq, Eq)]
 pub enum TypeTag {
     /// 1
     Class,

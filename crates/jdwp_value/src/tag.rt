@@ -13,7 +13,7 @@ use jdwp_wire::{DataFault, IdSizes, Wire};
 use std::alloc::Global;
 
 /// What an object is, by its tag.
-#[derive(Clone, Copy, Debug, PartialEq, Eq, PartialOrd, Ord, Hash)]
+#[derive(Clone, Copy, Debug, PartialEq, Eq)]
 pub enum ObjectTag {
     /// `[`: an array.
     Array,
@@ -32,7 +32,7 @@ pub enum ObjectTag {
 }
 
 /// What a value is, by its tag: one of nine kinds without a reference, or one of seven kinds of objects.
-#[derive(Clone, Copy, Debug, PartialEq, Eq, PartialOrd, Ord, Hash)]
+#[derive(Clone, Copy, Debug, PartialEq, Eq)]
 pub enum Tag {
     /// `B`: 1 byte.
     Byte,

@@ -5,7 +5,7 @@ ghost use Rattle.jdwp_wire.specs.ErrorCodes as codes;
 /// The error code of a reply packet: 16 bits, 0 where the command succeeded.
 ///
 /// The constants have the names of the specification's page of constants. Any other code is passed on as it came.
-#[derive(Clone, Copy, Debug, PartialEq, Eq, PartialOrd, Ord, Hash)]
+#[derive(Clone, Copy, Debug, PartialEq, Eq)]
 pub struct ErrorCode(pub u16);
 
 impl ErrorCode {

@@ -54,7 +54,7 @@ impl Width {
 }
 
 /// A kind of id (JDWP specification, "Data Types").
-#[derive(Clone, Copy, Debug, PartialEq, Eq, PartialOrd, Ord, Hash)]
+#[derive(Clone, Copy, Debug, PartialEq, Eq)]
 pub enum IdKind {
     /// A field of a reference type.
     Field,
