@@ -151,14 +151,21 @@ fn bad_number<'a>(
     name: &str,
     of: &str,
 ) -> Result<Fault<'a>, AllocError> {
-    let message = format!(in alloc;
-        "invalid value '{text}' for '--{name} <N>': a number is digits alone"
-    )?;
-    let command = match of {
-        "attach" => attach_command(alloc)?.bin_name("jdwp attach")?,
-        _ => serve_script(alloc)?.bin_name("jdwp serve-script")?,
-    };
-    bad_words(alloc, command, message.as_str())
+    let message = number_message(alloc, text, name)?;
+    bad_words(alloc, named_in_full(alloc, of)?, message.as_str())
+}
+
+/// That this value of the option is no number.
+fn number_message(alloc: Global, text: &str, name: &str) -> Result<String, AllocError> {
+    format!(in alloc; "invalid value '{text}' for '--{name} <N>': a number is digits alone")
+}
+
+/// The command that has numbers among its options, with the program's name before its own.
+fn named_in_full<'a>(alloc: Global, name: &str) -> Result<Command<'a>, AllocError> {
+    match name {
+        "attach" => attach_command(alloc)?.bin_name("jdwp attach"),
+        _ => serve_script(alloc)?.bin_name("jdwp serve-script"),
+    }
 }
 
 /// Words that clap takes and the program doesn't, told with the usage of this command.
@@ -177,14 +184,17 @@ fn refused<'a>(alloc: Global, error: &Error) -> Fault<'a> {
         return Fault::NoMemory;
     }
     match error.to_string(alloc) {
-        Ok(mut text) => {
-            if text.as_str().ends_with('\n') {
-                text.pop();
-            }
-            Fault::Words(text)
-        }
+        Ok(text) => Fault::Words(without_line_end(text)),
         Err(_) => Fault::NoMemory,
     }
+}
+
+/// The text without the end of its last line.
+fn without_line_end(mut text: String) -> String {
+    if text.as_str().ends_with('\n') {
+        text.pop();
+    }
+    text
 }
 
 fn command<'a>(alloc: Global) -> Result<Command<'a>, AllocError> {
@@ -312,17 +322,17 @@ fn capture<'a>(alloc: Global) -> Arg<'a> {
 
 /// A file by its place among the words.
 fn file<'a>(alloc: Global, name: &'a str, shown: &'a str, help: &'a str) -> Arg<'a> {
-    Arg::new(alloc, name)
-        .value_name(shown)
-        .help(help)
-        .required(true)
-        .action(ArgAction::Set)
+    argument(alloc, name, shown, help).required(true)
 }
 
 /// An option with a value, which stands at most once.
 fn option<'a>(alloc: Global, name: &'a str, shown: &'a str, help: &'a str) -> Arg<'a> {
+    argument(alloc, name, shown, help).long(name)
+}
+
+/// An argument with one value.
+fn argument<'a>(alloc: Global, name: &'a str, shown: &'a str, help: &'a str) -> Arg<'a> {
     Arg::new(alloc, name)
-        .long(name)
         .value_name(shown)
         .help(help)
         .action(ArgAction::Set)
