@@ -41,13 +41,3 @@ types_more old new cs i c total lt is some known all u so_far =
     ap (λ ns. types_lost (has old) (map class_part ns)) (front_of cs i c lt is) ∙ or_three (c.id.0 == 0) (is_lost (has old) c.superclass.0) (lacks old c.interfaces.items) (types_lost (or_id c.id.0 (has old)) rest) some known all in
     let gained : types_lost (has new) rest ≡ types_lost (or_id c.id.0 (has old)) rest = λ j. types_lost (λ q. has_more old new c.id.0 u q j) rest in
     gained ∙ sym one ∙ so_far
-
-pub lacks_here : (set : BTreeSet ℕ) (ids : List ReferenceTypeId) (i : ℕ) (d : ReferenceTypeId) (total : Bool) → i < length ids → has set (get_or ids i d).0 ≡ false → lacks set (drop i ids) ≡ total → true ≡ total
-lacks_here set ids i d total lt absent so_far =
-    let one : lacks set (drop i ids) ≡ true = ap (lacks set) (drop_more ids i d lt) ∙ ap (λ b. not b || lacks set (drop (i + 1) ids)) absent in
-    sym one ∙ so_far
-
-pub lacks_next : (set : BTreeSet ℕ) (ids : List ReferenceTypeId) (i : ℕ) (d : ReferenceTypeId) (total : Bool) → i < length ids → has set (get_or ids i d).0 ≡ true → lacks set (drop i ids) ≡ total → lacks set (drop (i + 1) ids) ≡ total
-lacks_next set ids i d total lt had so_far =
-    let one : lacks set (drop i ids) ≡ lacks set (drop (i + 1) ids) = ap (lacks set) (drop_more ids i d lt) ∙ ap (λ b. not b || lacks set (drop (i + 1) ids)) had in
-    sym one ∙ so_far

@@ -2,3 +2,4 @@ pub mod Lists
 pub mod Sets
 pub mod Maps
 pub mod Before
+pub mod Faults

@@ -1,9 +1,10 @@
 -- Sets of ids, and ids that stand twice.
-use Rattle.std.proofs.Common.{◌≡◌, ℕ, zero, suc, ◌+◌, ◌-◌, ◌≤◌, ◌<◌, Bool, true, false, cond, not, ◌||◌, ◌==◌, List, [], ◌∷◌, ◌++◌, length, get_or, take, drop, refl, sym, ap, ◌∙◌, arith}
+use Rattle.std.proofs.Common.{◌≡◌, ℕ, zero, suc, ◌+◌, ◌-◌, ◌≤◌, ◌<◌, Bool, true, false, cond, not, ◌||◌, ◌==◌, List, [], ◌∷◌, ◌++◌, length, get_or, take, drop, map, refl, sym, ap, ◌∙◌, arith}
 use Rattle.std.specs.Ordering.{nat_cmp}
 use Rattle.std.specs.Cmp.{unsigned_tied}
 use Rattle.std.specs.BTreeSet.{BTreeSet, Updates}
-use Rattle.std.specs.List.{count_by}
+use Rattle.std.specs.List.{count_by, flat_map}
+use Rattle.std.proofs.lemmas.List.Concat.{flat_map_single}
 use Rattle.std.proofs.lemmas.List.Folds.{list_any_more}
 use Rattle.std.proofs.lemmas.List.Sums.{length-filter}
 use Rattle.std.proofs.lemmas.List.{drop_more, drop_all}
@@ -81,8 +82,15 @@ pub three_lists : (a b c d g o t g' o' t' : List ℕ) → a ≡ [] → b ≡ a +
 three_lists a b c d g o t g' o' t' none first second third is_g is_o is_t = rw (third, second, first, none, is_g, is_o, is_t) refl
 
 -- threads that no step starts, counted by a set of those that are started
-pub living_count : (set : BTreeSet ℕ) (threads : List ThreadPart) (ids : List ℕ) → Holds set (is_in ids) → ids ≡ started threads → count_by (λ t. not (has set t.id)) threads ≡ length (living threads)
-living_count set threads ids h e =
-    let same : (n : ℕ) → has set n ≡ is_in (started threads) n = λ n. h n ∙ ap (λ ns. is_in ns n) e in
+pub living_count : (set : BTreeSet ℕ) (threads : List ThreadPart) → Holds set (is_in (started threads)) → count_by (λ t. not (has set t.id)) threads ≡ length (living threads)
+living_count set threads same =
     let counted : count_by (λ t. not (has set t.id)) threads ≡ count_by (λ t. not (is_in (started threads) t.id)) threads = λ i. count_by (λ (t : ThreadPart). not (same t.id i)) threads in
     counted ∙ sym (length-filter (λ t. not (is_in (started threads) t.id)) threads)
+
+-- ids gathered from parts that have one each
+pub id_each : {T P : Type 0} (meaning : T → P) (id : P → ℕ) (items parts : List T) → parts ≡ items → flat_map (λ p. id p ∷ []) (map meaning parts) ≡ map id (map meaning items)
+id_each {T} {P} meaning id items parts same = ap (λ (ps : List T). flat_map (λ (p : P). id p ∷ []) (map meaning ps)) same ∙ flat_map_single id (map meaning items)
+
+-- a set of ids is one of the same ids
+pub holds_same : (set : BTreeSet ℕ) (ids others : List ℕ) → ids ≡ others → Holds set (is_in ids) → Holds set (is_in others)
+holds_same set ids others same h n = h n ∙ ap (λ ns. is_in ns n) same

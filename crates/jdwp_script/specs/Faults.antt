@@ -31,6 +31,10 @@ abbrev pub json : Option Data → Result Data ScriptFault
 json None = Err NotJson
 json (Some d) = Ok d
 
+-- the script that a text describes, whatever faults it has
+abbrev pub described : List ℕ → Result ScriptPart ScriptFault
+described text = json (read text) >>= script
+
 -- the script that a text is, or its first fault
 abbrev pub read_script : ℕ → List ℕ → Result ScriptPart ScriptFault
 read_script live text = json (read text) >>= λ d. script d >>= λ s. unless (first_fault live s) s

@@ -81,6 +81,10 @@ tuple n m d = entries m d >>= λ ds. if length ds == n then Ok ds else Err (Miss
 abbrev pub entry : {X : Type 0} → Reader X → Member → List Data → ℕ → Result X ScriptFault
 entry read m ds place = found m (slice_get ds place) >>= read m
 
+-- the second entry of a list of two
+abbrev pub second : {X : Type 0} → Reader X → Reader X
+second read m d = tuple 2 m d >>= λ ds. entry read m ds 1
+
 -- ---- members
 
 -- what the member of an object is; nothing but an object has members

@@ -1,8 +1,14 @@
-//! The ids that the parts of a script list, gathered in one list.
-ghost use Rattle.std.specs.Prelude.{◌≡◌, ℕ, List, ◌++◌, map, OnOk};
+//! The ids that the parts of a script list.
+ghost use Rattle.std.specs.Prelude.{◌≡◌, ℕ, List, ◌++◌, map, IfOk, OnOk};
 ghost use Rattle.std.specs.List.{flat_map};
+ghost use Rattle.jdwp_script.specs.Limits.{is_in};
+ghost use Rattle.jdwp_script.specs.IdSets.{Holds};
+ghost use Rattle.jdwp_script.specs.Twice.{is_twice};
 
+use crate::id_set::{set_of, stands_twice};
 use jdwp_wire::NoMemory;
+use std::alloc::Global;
+use std::collections::BTreeSet;
 
 /// Gathers the ids of one kind from the parts of a script.
 pub(crate) trait Gather<T> {
@@ -26,5 +32,28 @@ pub(crate) trait Gather<T> {
             self.gather(part, ids)?;
         }
         Ok(())
+    }
+
+    /// The ids that the parts list.
+    final fn listed(&self, alloc: Global, parts: &[T]) -> Result<Vec<u64>, NoMemory>
+        ensures { IfOk result (λ v. v.items ≡ flat_map gathers (map meaning parts.now)) }
+    {
+        let mut ids = Vec::new(alloc);
+        self.gather_each(parts, &mut ids)?;
+        Ok(ids)
+    }
+
+    /// The set of the ids that the parts list.
+    final fn id_set(&self, alloc: Global, parts: &[T]) -> Result<BTreeSet<u64>, NoMemory>
+        ensures { IfOk result (λ set. Holds set (is_in (flat_map gathers (map meaning parts.now)))) }
+    {
+        set_of(alloc, &self.listed(alloc, parts)?)
+    }
+
+    /// Whether the parts list an id twice.
+    final fn has_twice(&self, alloc: Global, parts: &[T]) -> Result<bool, NoMemory>
+        ensures { IfOk result (λ twice. twice ≡ is_twice (flat_map gathers (map meaning parts.now))) }
+    {
+        stands_twice(alloc, &self.listed(alloc, parts)?)
     }
 }

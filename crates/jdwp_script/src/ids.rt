@@ -1,11 +1,11 @@
 //! The ids that a script gives away, and those that its steps name.
-ghost use Rattle.std.specs.Prelude.{◌≡◌, ℕ, List, [], ◌∷◌, map, IfOk};
+ghost use Rattle.std.specs.Prelude.{◌≡◌, ℕ, List, [], ◌∷◌, ◌++◌, map, IfOk, OnOk};
 ghost use Rattle.std.specs.List.{flat_map};
 ghost use Rattle.jdwp_script.specs.Parts.{GroupPart, FieldPart, MethodPart, ClassPart, ObjectPart, StepPart, ThreadPart};
 ghost use Rattle.jdwp_script.specs.Meanings.{group_part, field_part, method_part, class_part, object_part, step_part, thread_part, script_part};
-ghost use Rattle.jdwp_script.specs.Limits.{started_by, started};
-ghost use Rattle.jdwp_script.specs.References.{prepared_by, prepared};
-ghost use Rattle.jdwp_script.specs.Twice.{group_ids, object_ids, thread_ids, shared_ids, class_ids, field_ids, method_ids, frame_of, frame_ids, has_id_twice};
+ghost use Rattle.jdwp_script.specs.Limits.{started_by};
+ghost use Rattle.jdwp_script.specs.References.{prepared_by};
+ghost use Rattle.jdwp_script.specs.Twice.{shared_ids, frame_of, has_id_twice};
 
 use crate::gather::Gather;
 use crate::id_set::stands_twice;
@@ -13,6 +13,14 @@ use crate::script::{Class, Field, Group, Method, Object, Script, Thread};
 use crate::step::Step;
 use jdwp_wire::NoMemory;
 use std::alloc::Global;
+
+/// Appends an id.
+fn append(ids: &mut Vec<u64>, id: u64) -> Result<(), NoMemory>
+    ensures { OnOk result (ids.new.items ≡ ids.old.items ++ id ∷ []) }
+{
+    ids.push(id)?;
+    Ok(())
+}
 
 /// The ids of groups, objects, threads and classes.
 pub(crate) struct Ids;
@@ -25,8 +33,7 @@ impl Gather<Group> for Ids {
     ghost gathers = { λ g. g.id ∷ [] };
 
     fn gather(&self, group: &Group, ids: &mut Vec<u64>) -> Result<(), NoMemory> {
-        ids.push(group.id.0)?;
-        Ok(())
+        append(ids, group.id.0)
     }
 }
 
@@ -38,8 +45,7 @@ impl Gather<Object> for Ids {
     ghost gathers = { λ o. o.id ∷ [] };
 
     fn gather(&self, object: &Object, ids: &mut Vec<u64>) -> Result<(), NoMemory> {
-        ids.push(object.id.0)?;
-        Ok(())
+        append(ids, object.id.0)
     }
 }
 
@@ -51,8 +57,7 @@ impl Gather<Thread> for Ids {
     ghost gathers = { λ t. t.id ∷ [] };
 
     fn gather(&self, thread: &Thread, ids: &mut Vec<u64>) -> Result<(), NoMemory> {
-        ids.push(thread.id.0)?;
-        Ok(())
+        append(ids, thread.id.0)
     }
 }
 
@@ -64,8 +69,7 @@ impl Gather<Class> for Ids {
     ghost gathers = { λ c. c.id ∷ [] };
 
     fn gather(&self, class: &Class, ids: &mut Vec<u64>) -> Result<(), NoMemory> {
-        ids.push(class.id.0)?;
-        Ok(())
+        append(ids, class.id.0)
     }
 }
 
@@ -80,8 +84,7 @@ impl Gather<Field> for FieldIds {
     ghost gathers = { λ f. f.id ∷ [] };
 
     fn gather(&self, field: &Field, ids: &mut Vec<u64>) -> Result<(), NoMemory> {
-        ids.push(field.id.0)?;
-        Ok(())
+        append(ids, field.id.0)
     }
 }
 
@@ -90,7 +93,7 @@ impl Gather<Class> for FieldIds {
 
     ghost meaning = { class_part };
 
-    ghost gathers = { λ c. flat_map (λ f. f.id ∷ []) c.fields };
+    ghost gathers = { λ c. map (λ f. f.id) c.fields };
 
     fn gather(&self, class: &Class, ids: &mut Vec<u64>) -> Result<(), NoMemory> {
         self.gather_each(&class.fields, ids)
@@ -108,8 +111,7 @@ impl Gather<Method> for MethodIds {
     ghost gathers = { λ m. m.id ∷ [] };
 
     fn gather(&self, method: &Method, ids: &mut Vec<u64>) -> Result<(), NoMemory> {
-        ids.push(method.id.0)?;
-        Ok(())
+        append(ids, method.id.0)
     }
 }
 
@@ -118,7 +120,7 @@ impl Gather<Class> for MethodIds {
 
     ghost meaning = { class_part };
 
-    ghost gathers = { λ c. flat_map (λ m. m.id ∷ []) c.methods };
+    ghost gathers = { λ c. map (λ m. m.id) c.methods };
 
     fn gather(&self, class: &Class, ids: &mut Vec<u64>) -> Result<(), NoMemory> {
         self.gather_each(&class.methods, ids)
@@ -137,9 +139,10 @@ impl Gather<Step> for FrameIds {
 
     fn gather(&self, step: &Step, ids: &mut Vec<u64>) -> Result<(), NoMemory> {
         if let Step::Call(call) = step {
-            ids.push(call.frame.0)?;
+            append(ids, call.frame.0)
+        } else {
+            Ok(())
         }
-        Ok(())
     }
 }
 
@@ -167,9 +170,10 @@ impl Gather<Step> for StartedIds {
 
     fn gather(&self, step: &Step, ids: &mut Vec<u64>) -> Result<(), NoMemory> {
         if let Step::Start(thread) = step {
-            ids.push(thread.0)?;
+            append(ids, thread.0)
+        } else {
+            Ok(())
         }
-        Ok(())
     }
 }
 
@@ -197,9 +201,10 @@ impl Gather<Step> for PreparedIds {
 
     fn gather(&self, step: &Step, ids: &mut Vec<u64>) -> Result<(), NoMemory> {
         if let Step::Prepare(class) = step {
-            ids.push(class.0)?;
+            append(ids, class.0)
+        } else {
+            Ok(())
         }
-        Ok(())
     }
 }
 
@@ -215,33 +220,6 @@ impl Gather<Thread> for PreparedIds {
     }
 }
 
-/// The ids of the groups.
-pub(crate) fn group_ids(alloc: Global, groups: &[Group]) -> Result<Vec<u64>, NoMemory>
-    ensures { IfOk result (λ v. v.items ≡ group_ids (map group_part groups.now)) }
-{
-    let mut ids = Vec::new(alloc);
-    Ids.gather_each(groups, &mut ids)?;
-    Ok(ids)
-}
-
-/// The ids of the objects.
-pub(crate) fn object_ids(alloc: Global, objects: &[Object]) -> Result<Vec<u64>, NoMemory>
-    ensures { IfOk result (λ v. v.items ≡ object_ids (map object_part objects.now)) }
-{
-    let mut ids = Vec::new(alloc);
-    Ids.gather_each(objects, &mut ids)?;
-    Ok(ids)
-}
-
-/// The ids of the threads.
-pub(crate) fn thread_ids(alloc: Global, threads: &[Thread]) -> Result<Vec<u64>, NoMemory>
-    ensures { IfOk result (λ v. v.items ≡ thread_ids (map thread_part threads.now)) }
-{
-    let mut ids = Vec::new(alloc);
-    Ids.gather_each(threads, &mut ids)?;
-    Ok(ids)
-}
-
 /// The ids of the groups, the objects and the threads.
 pub(crate) fn shared_ids(alloc: Global, script: &Script) -> Result<Vec<u64>, NoMemory>
     ensures { IfOk result (λ v. v.items ≡ shared_ids (script_part script.now)) }
@@ -253,69 +231,16 @@ pub(crate) fn shared_ids(alloc: Global, script: &Script) -> Result<Vec<u64>, NoM
     Ok(ids)
 }
 
-/// The ids of the classes.
-pub(crate) fn class_ids(alloc: Global, classes: &[Class]) -> Result<Vec<u64>, NoMemory>
-    ensures { IfOk result (λ v. v.items ≡ class_ids (map class_part classes.now)) }
-{
-    let mut ids = Vec::new(alloc);
-    Ids.gather_each(classes, &mut ids)?;
-    Ok(ids)
-}
-
-/// The ids of the fields of the classes.
-pub(crate) fn field_ids(alloc: Global, classes: &[Class]) -> Result<Vec<u64>, NoMemory>
-    ensures { IfOk result (λ v. v.items ≡ field_ids (map class_part classes.now)) }
-{
-    let mut ids = Vec::new(alloc);
-    FieldIds.gather_each(classes, &mut ids)?;
-    Ok(ids)
-}
-
-/// The ids of the methods of the classes.
-pub(crate) fn method_ids(alloc: Global, classes: &[Class]) -> Result<Vec<u64>, NoMemory>
-    ensures { IfOk result (λ v. v.items ≡ method_ids (map class_part classes.now)) }
-{
-    let mut ids = Vec::new(alloc);
-    MethodIds.gather_each(classes, &mut ids)?;
-    Ok(ids)
-}
-
-/// The ids of the frames that the threads' steps put there.
-pub(crate) fn frame_ids(alloc: Global, threads: &[Thread]) -> Result<Vec<u64>, NoMemory>
-    ensures { IfOk result (λ v. v.items ≡ frame_ids (map thread_part threads.now)) }
-{
-    let mut ids = Vec::new(alloc);
-    FrameIds.gather_each(threads, &mut ids)?;
-    Ok(ids)
-}
-
-/// The ids of the threads that steps start.
-pub(crate) fn started_threads(alloc: Global, threads: &[Thread]) -> Result<Vec<u64>, NoMemory>
-    ensures { IfOk result (λ v. v.items ≡ started (map thread_part threads.now)) }
-{
-    let mut ids = Vec::new(alloc);
-    StartedIds.gather_each(threads, &mut ids)?;
-    Ok(ids)
-}
-
-/// The ids of the classes that steps prepare.
-pub(crate) fn prepared_classes(alloc: Global, threads: &[Thread]) -> Result<Vec<u64>, NoMemory>
-    ensures { IfOk result (λ v. v.items ≡ prepared (map thread_part threads.now)) }
-{
-    let mut ids = Vec::new(alloc);
-    PreparedIds.gather_each(threads, &mut ids)?;
-    Ok(ids)
-}
-
 /// Whether two things of one kind have one id.
 pub(crate) fn has_id_twice(alloc: Global, script: &Script) -> Result<bool, NoMemory>
     ensures { IfOk result (λ twice. twice ≡ has_id_twice (script_part script.now)) }
 {
-    Ok(
-        stands_twice(alloc, &shared_ids(alloc, script)?)?
-            || stands_twice(alloc, &class_ids(alloc, &script.classes)?)?
-            || stands_twice(alloc, &method_ids(alloc, &script.classes)?)?
-            || stands_twice(alloc, &field_ids(alloc, &script.classes)?)?
-            || stands_twice(alloc, &frame_ids(alloc, &script.threads)?)?,
-    )
+    if stands_twice(alloc, &shared_ids(alloc, script)?)?
+        || Ids.has_twice(alloc, &script.classes)?
+        || MethodIds.has_twice(alloc, &script.classes)?
+        || FieldIds.has_twice(alloc, &script.classes)?
+    {
+        return Ok(true);
+    }
+    FrameIds.has_twice(alloc, &script.threads)
 }

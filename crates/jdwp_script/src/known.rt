@@ -4,8 +4,9 @@ ghost use Rattle.jdwp_script.specs.Meanings.{method_part, class_part, script_par
 ghost use Rattle.jdwp_script.specs.IdSets.{known_ids, last_by};
 ghost use Rattle.jdwp_script.specs.References.{known_in, with_methods, with_classes, no_methods};
 
+use crate::gather::Gather;
 use crate::id_set::set_of;
-use crate::ids::{class_ids, field_ids, group_ids, object_ids, shared_ids, thread_ids};
+use crate::ids::{FieldIds, Ids, shared_ids};
 use crate::script::{Class, Method, Script};
 use jdwp_value::{MethodId, ReferenceTypeId};
 use jdwp_wire::NoMemory;
@@ -34,11 +35,11 @@ impl KnownIds {
         ensures { IfOk result (λ k. known_ids k ≡ known_in (script_part script.now)) }
     {
         Ok(KnownIds {
-            groups: set_of(alloc, &group_ids(alloc, &script.groups)?)?,
-            classes: set_of(alloc, &class_ids(alloc, &script.classes)?)?,
-            fields: set_of(alloc, &field_ids(alloc, &script.classes)?)?,
-            objects: set_of(alloc, &object_ids(alloc, &script.objects)?)?,
-            threads: set_of(alloc, &thread_ids(alloc, &script.threads)?)?,
+            groups: Ids.id_set(alloc, &script.groups)?,
+            classes: Ids.id_set(alloc, &script.classes)?,
+            fields: FieldIds.id_set(alloc, &script.classes)?,
+            objects: Ids.id_set(alloc, &script.objects)?,
+            threads: Ids.id_set(alloc, &script.threads)?,
             shared: set_of(alloc, &shared_ids(alloc, script)?)?,
             lasts: lasts_of(alloc, &script.classes)?,
         })

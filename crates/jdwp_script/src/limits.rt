@@ -4,8 +4,8 @@ ghost use Rattle.jdwp_script.specs.Parts.{GroupPart, FieldPart, SlotPart, Method
 ghost use Rattle.jdwp_script.specs.Meanings.{group_part, field_part, slot_part, method_part, class_part, object_part, step_part, thread_part, script_part};
 ghost use Rattle.jdwp_script.specs.Limits.{is_long, if_there, over, elements_pass, group_passes, field_passes, slot_passes, method_passes, class_passes, object_passes, step_passes, thread_passes, is_deep, living, passes_limit};
 
-use crate::id_set::set_of;
-use crate::ids::started_threads;
+use crate::gather::Gather;
+use crate::ids::StartedIds;
 use crate::judge::Judge;
 use crate::script::{Class, Field, Group, Method, Object, Script, Slot, Thread};
 use crate::step::Step;
@@ -196,7 +196,7 @@ fn is_deep(steps: &[Step]) -> bool
 pub(crate) fn living(alloc: Global, threads: &[Thread]) -> Result<usize, NoMemory>
     ensures { IfOk result (λ n. n ≡ length (living (map thread_part threads.now))) }
 {
-    let started = set_of(alloc, &started_threads(alloc, threads)?)?;
+    let started = StartedIds.id_set(alloc, threads)?;
     let mut count = 0usize;
     for thread in threads {
         if !started.contains(&thread.id.0) {

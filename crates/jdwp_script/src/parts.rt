@@ -24,18 +24,6 @@ use jdwp_value::{FieldId, MethodId, ObjectId, ReferenceTypeId, Tag, TypeTag};
 use serde_json::Value;
 use std::alloc::Global;
 
-impl Part for ObjectId {
-    ghost Meaning = { ℕ };
-
-    ghost meaning = { λ id. id.0 };
-
-    ghost reads = { whole };
-
-    fn read(alloc: Global, value: &Value, member: Member) -> Result<ObjectId, ScriptFault> {
-        Ok(ObjectId(u64::read(alloc, value, member)?))
-    }
-}
-
 impl Part for ReferenceTypeId {
     ghost Meaning = { ℕ };
 
@@ -45,30 +33,6 @@ impl Part for ReferenceTypeId {
 
     fn read(alloc: Global, value: &Value, member: Member) -> Result<ReferenceTypeId, ScriptFault> {
         Ok(ReferenceTypeId(u64::read(alloc, value, member)?))
-    }
-}
-
-impl Part for MethodId {
-    ghost Meaning = { ℕ };
-
-    ghost meaning = { λ id. id.0 };
-
-    ghost reads = { whole };
-
-    fn read(alloc: Global, value: &Value, member: Member) -> Result<MethodId, ScriptFault> {
-        Ok(MethodId(u64::read(alloc, value, member)?))
-    }
-}
-
-impl Part for FieldId {
-    ghost Meaning = { ℕ };
-
-    ghost meaning = { λ id. id.0 };
-
-    ghost reads = { whole };
-
-    fn read(alloc: Global, value: &Value, member: Member) -> Result<FieldId, ScriptFault> {
-        Ok(FieldId(u64::read(alloc, value, member)?))
     }
 }
 
@@ -138,9 +102,9 @@ impl Part for Group {
 
     fn read(alloc: Global, value: &Value, _member: Member) -> Result<Group, ScriptFault> {
         Ok(Group {
-            id: member(alloc, value, Member::Id)?,
+            id: ObjectId(member(alloc, value, Member::Id)?),
             name: member(alloc, value, Member::Name)?,
-            parent: member(alloc, value, Member::Parent)?,
+            parent: ObjectId(member(alloc, value, Member::Parent)?),
         })
     }
 }
@@ -154,7 +118,7 @@ impl Part for Field {
 
     fn read(alloc: Global, value: &Value, _member: Member) -> Result<Field, ScriptFault> {
         Ok(Field {
-            id: member(alloc, value, Member::Id)?,
+            id: FieldId(member(alloc, value, Member::Id)?),
             name: member(alloc, value, Member::Name)?,
             signature: member(alloc, value, Member::Signature)?,
             modifiers: member(alloc, value, Member::Modifiers)?,
@@ -207,7 +171,7 @@ impl Part for Method {
 
     fn read(alloc: Global, value: &Value, _member: Member) -> Result<Method, ScriptFault> {
         Ok(Method {
-            id: member(alloc, value, Member::Id)?,
+            id: MethodId(member(alloc, value, Member::Id)?),
             name: member(alloc, value, Member::Name)?,
             signature: member(alloc, value, Member::Signature)?,
             modifiers: member(alloc, value, Member::Modifiers)?,
@@ -228,11 +192,11 @@ impl Part for Class {
 
     fn read(alloc: Global, value: &Value, _member: Member) -> Result<Class, ScriptFault> {
         Ok(Class {
-            id: member(alloc, value, Member::Id)?,
+            id: ReferenceTypeId(member(alloc, value, Member::Id)?),
             tag: member(alloc, value, Member::Tag)?,
             signature: member(alloc, value, Member::Signature)?,
             modifiers: member(alloc, value, Member::Modifiers)?,
-            superclass: member(alloc, value, Member::Super)?,
+            superclass: ReferenceTypeId(member(alloc, value, Member::Super)?),
             interfaces: member(alloc, value, Member::Interfaces)?,
             source: member(alloc, value, Member::Source)?,
             fields: member(alloc, value, Member::Fields)?,
@@ -252,7 +216,7 @@ impl Part for FieldValue {
     fn read(alloc: Global, value: &Value, member: Member) -> Result<FieldValue, ScriptFault> {
         let list = tuple(value, 2, member)?;
         Ok(FieldValue {
-            field: entry(alloc, list, 0, member)?,
+            field: FieldId(entry(alloc, list, 0, member)?),
             value: entry(alloc, list, 1, member)?,
         })
     }
@@ -288,8 +252,8 @@ impl Part for Object {
 
     fn read(alloc: Global, value: &Value, _member: Member) -> Result<Object, ScriptFault> {
         Ok(Object {
-            id: member(alloc, value, Member::Id)?,
-            class: member(alloc, value, Member::Class)?,
+            id: ObjectId(member(alloc, value, Member::Id)?),
+            class: ReferenceTypeId(member(alloc, value, Member::Class)?),
             fields: member(alloc, value, Member::Fields)?,
             text: member(alloc, value, Member::Text)?,
             array: member(alloc, value, Member::Array)?,
@@ -306,9 +270,9 @@ impl Part for Thread {
 
     fn read(alloc: Global, value: &Value, _member: Member) -> Result<Thread, ScriptFault> {
         Ok(Thread {
-            id: member(alloc, value, Member::Id)?,
+            id: ObjectId(member(alloc, value, Member::Id)?),
             name: member(alloc, value, Member::Name)?,
-            group: member(alloc, value, Member::Group)?,
+            group: ObjectId(member(alloc, value, Member::Group)?),
             steps: member(alloc, value, Member::Steps)?,
         })
     }

@@ -1,11 +1,9 @@
 //! Reading a script.
-ghost use Rattle.std.specs.Prelude.{◌≡◌, None, IfOk};
+ghost use Rattle.std.specs.Prelude.{◌≡◌, None, IfOk, OnOk, IfErr};
 ghost use Rattle.jdwp_wire.specs.Limits.{standard_limits};
-ghost use Rattle.serde_json.specs.View.{view};
-ghost use Rattle.serde_json.specs.Read.{read};
 ghost use Rattle.jdwp_script.specs.Meanings.{script_part};
-ghost use Rattle.jdwp_script.specs.Reading.{Gives};
-ghost use Rattle.jdwp_script.specs.Faults.{first_fault, json, read_script};
+ghost use Rattle.jdwp_script.specs.Reading.{Gives, Fails};
+ghost use Rattle.jdwp_script.specs.Faults.{first_fault, unless, described, read_script};
 
 use crate::fault::ScriptFault;
 use crate::ids::has_id_twice;
@@ -14,7 +12,7 @@ use crate::parts::script;
 use crate::references::has_bad_reference;
 use crate::script::Script;
 use crate::too_wide::has_wide_id;
-use jdwp_wire::{Limits, NoMemory};
+use jdwp_wire::Limits;
 use serde_json::Value;
 use std::alloc::Global;
 
@@ -41,21 +39,18 @@ impl Script {
         // A script that is read has no fault.
         ensures sound { IfOk result (λ s. first_fault limits.now.live (script_part s) ≡ None) }
     {
-        let value = json(alloc, text)?;
-        let script = script(alloc, &value)?;
-        match first_fault(alloc, &script, limits.live() as usize)? {
-            Some(fault) => Err(fault),
-            None => Ok(script),
-        }
+        let script = described(alloc, text)?;
+        check(alloc, &script, limits.live() as usize)?;
+        Ok(script)
     }
 }
 
-/// The JSON value that the text is.
-fn json(alloc: Global, text: &str) -> Result<Value, ScriptFault>
-    ensures { Gives view result (json (read text.now)) }
+/// The script that the text describes, whatever faults it has.
+fn described(alloc: Global, text: &str) -> Result<Script, ScriptFault>
+    ensures { Gives script_part result (described text.now) }
 {
     match Value::from_str(alloc, text) {
-        Ok(value) => Ok(value),
+        Ok(value) => script(alloc, &value),
         Err(error) => {
             if error.is_memory() {
                 Err(ScriptFault::NoMemory)
@@ -66,21 +61,25 @@ fn json(alloc: Global, text: &str) -> Result<Value, ScriptFault>
     }
 }
 
-/// The first fault of the script, where `live` threads may live at the beginning.
-fn first_fault(alloc: Global, script: &Script, live: usize) -> Result<Option<ScriptFault>, NoMemory>
-    ensures { IfOk result (λ fault. fault ≡ first_fault live (script_part script.now)) }
+/// Refuses a script that has a fault, where `live` threads may live at the beginning.
+///
+/// # Errors
+/// The first fault of the script, or `NoMemory`.
+fn check(alloc: Global, script: &Script, live: usize) -> Result<(), ScriptFault>
+    ensures none { OnOk result (first_fault live (script_part script.now) ≡ None) }
+    ensures first { IfErr result (λ fault. Fails fault (unless (first_fault live (script_part script.now)) (script_part script.now))) }
 {
     if passes_limit(alloc, script, live)? {
-        return Ok(Some(ScriptFault::OverLimit));
+        return Err(ScriptFault::OverLimit);
     }
     if has_id_twice(alloc, script)? {
-        return Ok(Some(ScriptFault::IdTwice));
+        return Err(ScriptFault::IdTwice);
     }
     if has_wide_id(script) {
-        return Ok(Some(ScriptFault::IdTooWide));
+        return Err(ScriptFault::IdTooWide);
     }
     if has_bad_reference(alloc, script)? {
-        return Ok(Some(ScriptFault::BadReference));
+        return Err(ScriptFault::BadReference);
     }
-    Ok(None)
+    Ok(())
 }

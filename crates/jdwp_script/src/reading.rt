@@ -4,7 +4,7 @@ ghost use Rattle.serde_json.specs.Data.{Data};
 ghost use Rattle.serde_json.specs.View.{view};
 ghost use Rattle.jdwp_script.specs.declared.fault.ScriptFault.{ScriptFault};
 ghost use Rattle.jdwp_script.specs.declared.member.Member.{Member};
-ghost use Rattle.jdwp_script.specs.Reading.{Reader, Gives, whole, small, int, text, or_null, list_of, entries, tuple, entry, member_of, each_of};
+ghost use Rattle.jdwp_script.specs.Reading.{Reader, Gives, whole, small, int, text, or_null, list_of, entries, tuple, entry, member_of};
 
 use crate::fault::ScriptFault;
 use crate::member::Member;
@@ -124,24 +124,13 @@ impl<T: Part + Drop> Part for Vec<T> {
 
     fn read(alloc: Global, value: &Value, member: Member) -> Result<Vec<T>, ScriptFault> {
         let list = entries(value, member)?;
-        read_each(alloc, list, member)
+        let mut parts = Vec::with_capacity(alloc, list.len())?;
+        for element in list {
+            let part = T::read(alloc, element, member)?;
+            parts.push(part)?;
+        }
+        Ok(parts)
     }
-}
-
-/// Each of these values.
-fn read_each<T: Part + Drop>(
-    alloc: Global,
-    list: &[Value],
-    member: Member,
-) -> Result<Vec<T>, ScriptFault>
-    ensures { Gives (λ v. map T.meaning v.items) result (each_of (T.reads member) (map view list.now)) }
-{
-    let mut parts = Vec::with_capacity(alloc, list.len())?;
-    for value in list {
-        let part = T::read(alloc, value, member)?;
-        parts.push(part)?;
-    }
-    Ok(parts)
 }
 
 /// The entries of the list that the value is.

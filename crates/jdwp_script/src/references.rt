@@ -1,11 +1,10 @@
 //! Whether an id is 0 or unknown, or something stands where it may not.
-ghost use Rattle.std.specs.Prelude.{◌≡◌, [], not, nat_le, map, None, IfOk, OnOk};
+ghost use Rattle.std.specs.Prelude.{◌≡◌, ℕ, [], not, nat_le, map, None, IfOk, OnOk};
 ghost use Rattle.std.specs.List.{list_any};
 ghost use Rattle.jdwp_script.specs.declared.script.FieldValue.{FieldValue};
 ghost use Rattle.jdwp_script.specs.declared.step.Literal.{Literal};
 ghost use Rattle.jdwp_script.specs.declared.step.Place.{Place};
 ghost use Rattle.jdwp_script.specs.declared.step.SlotValue.{SlotValue};
-ghost use Rattle.jdwp_value.specs.declared.id.ReferenceTypeId.{ReferenceTypeId};
 ghost use Rattle.jdwp_script.specs.Literals.{fits_tag};
 ghost use Rattle.jdwp_script.specs.Limits.{if_there};
 ghost use Rattle.jdwp_script.specs.Parts.{FieldPart, MethodPart, ClassPart, ElementsPart, ObjectPart, CallPart};
@@ -13,8 +12,8 @@ ghost use Rattle.jdwp_script.specs.Meanings.{group_part, field_part, method_part
 ghost use Rattle.jdwp_script.specs.IdSets.{has, known_ids};
 ghost use Rattle.jdwp_script.specs.References.{nothing, is_lost, literal_lost, groups_lost, types_lost, field_lost, lines_lost, method_lost, class_lost, field_value_lost, same_field, field_twice, elements_lost, object_lost, is_past, slot_value_lost, same_slot, slot_twice, call_lost, place_lost, step_lost, frames_left, steps_lost, thread_lost, is_lost_among, has_bad_reference};
 
-use crate::id_set::stands_twice;
-use crate::ids::{prepared_classes, started_threads};
+use crate::gather::Gather;
+use crate::ids::{PreparedIds, StartedIds};
 use crate::judge::Judge;
 use crate::known::KnownIds;
 use crate::limits::living;
@@ -83,7 +82,7 @@ fn types_lost(alloc: Global, classes: &[Class]) -> Result<bool, NoMemory>
     for class in classes {
         if class.id.0 == 0
             || is_lost(&before, class.superclass.0)
-            || lacks_one(&before, &class.interfaces)
+            || before.has_bad(&class.interfaces)
         {
             return Ok(true);
         }
@@ -92,16 +91,17 @@ fn types_lost(alloc: Global, classes: &[Class]) -> Result<bool, NoMemory>
     Ok(false)
 }
 
-/// Whether a set has not all of these ids.
-fn lacks_one(set: &BTreeSet<u64>, ids: &[ReferenceTypeId]) -> bool
-    ensures { result ≡ list_any (λ n. not (has set.now n)) (map (λ (id : ReferenceTypeId). id.0) ids.now) }
-{
-    for id in ids {
-        if !set.contains(&id.0) {
-            return true;
-        }
+/// Finds ids that the set has not.
+impl Judge<ReferenceTypeId> for BTreeSet<u64> {
+    ghost Meaning = { ℕ };
+
+    ghost meaning = { λ id. id.0 };
+
+    ghost judges = { λ set n. not (has set n) };
+
+    fn is_bad(&self, id: &ReferenceTypeId) -> bool {
+        !self.contains(&id.0)
     }
-    false
 }
 
 impl Judge<Field> for KnownIds {
@@ -406,8 +406,8 @@ fn is_lost_among(alloc: Global, known: &KnownIds, script: &Script) -> Result<boo
             || known.has_bad(&script.classes)
             || known.has_bad(&script.objects)
             || threads_lost(alloc, known, &script.threads)?
-            || stands_twice(alloc, &started_threads(alloc, &script.threads)?)?
-            || stands_twice(alloc, &prepared_classes(alloc, &script.threads)?)?
+            || StartedIds.has_twice(alloc, &script.threads)?
+            || PreparedIds.has_twice(alloc, &script.threads)?
             || living(alloc, &script.threads)? == 0,
     )
 }

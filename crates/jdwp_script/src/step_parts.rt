@@ -1,9 +1,8 @@
 //! Steps as JSON values: each is a list that begins with a word.
-ghost use Rattle.std.specs.Prelude.{◌≡◌, ℕ};
-ghost use Rattle.jdwp_value.specs.declared.id.FrameId.{FrameId};
+ghost use Rattle.std.specs.Prelude.{◌≡◌};
 ghost use Rattle.jdwp_script.specs.Parts.{StepPart};
 ghost use Rattle.jdwp_script.specs.Meanings.{step_part};
-ghost use Rattle.jdwp_script.specs.Reading.{Reader, Gives, whole};
+ghost use Rattle.jdwp_script.specs.Reading.{Reader, Gives, second};
 ghost use Rattle.jdwp_script.specs.Scripts as scripts;
 ghost use Rattle.jdwp_script.specs.declared.step.Place.{Place};
 ghost use Rattle.jdwp_script.specs.declared.step.SlotValue.{SlotValue};
@@ -13,21 +12,9 @@ use crate::fault::ScriptFault;
 use crate::member::Member;
 use crate::reading::{Part, entries, entry, tuple};
 use crate::step::{Call, Place, SlotValue, Step, Throw};
-use jdwp_value::FrameId;
+use jdwp_value::{FrameId, MethodId, ObjectId, ReferenceTypeId};
 use serde_json::Value;
 use std::alloc::Global;
-
-impl Part for FrameId {
-    ghost Meaning = { ℕ };
-
-    ghost meaning = { λ id. id.0 };
-
-    ghost reads = { whole };
-
-    fn read(alloc: Global, value: &Value, member: Member) -> Result<FrameId, ScriptFault> {
-        Ok(FrameId(u64::read(alloc, value, member)?))
-    }
-}
 
 /// A slot and a value.
 impl Part for SlotValue {
@@ -57,8 +44,8 @@ impl Part for Place {
     fn read(alloc: Global, value: &Value, member: Member) -> Result<Place, ScriptFault> {
         let list = tuple(value, 3, member)?;
         Ok(Place {
-            class: entry(alloc, list, 0, member)?,
-            method: entry(alloc, list, 1, member)?,
+            class: ReferenceTypeId(entry(alloc, list, 0, member)?),
+            method: MethodId(entry(alloc, list, 1, member)?),
             index: entry(alloc, list, 2, member)?,
         })
     }
@@ -82,11 +69,15 @@ impl Part for Step {
         };
         match word {
             "call" => call(alloc, value, member),
-            "go" => go(alloc, value, member),
-            "return" => returned(alloc, value, member),
+            // ["go", index]
+            "go" => Ok(Step::Go(second(alloc, value, member)?)),
+            // ["return", value]
+            "return" => Ok(Step::Return(second(alloc, value, member)?)),
             "throw" => throw(alloc, value, member),
-            "prepare" => prepare(alloc, value, member),
-            "start" => start(alloc, value, member),
+            // ["prepare", class]
+            "prepare" => Ok(Step::Prepare(second(alloc, value, member)?)),
+            // ["start", thread]
+            "start" => Ok(Step::Start(ObjectId(second(alloc, value, member)?))),
             _ => Err(ScriptFault::Missing(member)),
         }
     }
@@ -98,28 +89,12 @@ fn call(alloc: Global, value: &Value, member: Member) -> Result<Step, ScriptFaul
 {
     let list = tuple(value, 6, member)?;
     Ok(Step::Call(Call {
-        frame: entry(alloc, list, 1, member)?,
-        class: entry(alloc, list, 2, member)?,
-        method: entry(alloc, list, 3, member)?,
-        this: entry(alloc, list, 4, member)?,
+        frame: FrameId(entry(alloc, list, 1, member)?),
+        class: ReferenceTypeId(entry(alloc, list, 2, member)?),
+        method: MethodId(entry(alloc, list, 3, member)?),
+        this: ObjectId(entry(alloc, list, 4, member)?),
         slots: entry(alloc, list, 5, member)?,
     }))
-}
-
-/// `["go", index]`
-fn go(alloc: Global, value: &Value, member: Member) -> Result<Step, ScriptFault>
-    ensures { Gives step_part result (scripts.go_step member (view value.now)) }
-{
-    let list = tuple(value, 2, member)?;
-    Ok(Step::Go(entry(alloc, list, 1, member)?))
-}
-
-/// `["return", value]`
-fn returned(alloc: Global, value: &Value, member: Member) -> Result<Step, ScriptFault>
-    ensures { Gives step_part result (scripts.return_step member (view value.now)) }
-{
-    let list = tuple(value, 2, member)?;
-    Ok(Step::Return(entry(alloc, list, 1, member)?))
 }
 
 /// `["throw", object, [class, method, index]]`, or with `null` in place of where it is caught
@@ -128,23 +103,15 @@ fn throw(alloc: Global, value: &Value, member: Member) -> Result<Step, ScriptFau
 {
     let list = tuple(value, 3, member)?;
     Ok(Step::Throw(Throw {
-        object: entry(alloc, list, 1, member)?,
+        object: ObjectId(entry(alloc, list, 1, member)?),
         caught: entry(alloc, list, 2, member)?,
     }))
 }
 
-/// `["prepare", class]`
-fn prepare(alloc: Global, value: &Value, member: Member) -> Result<Step, ScriptFault>
-    ensures { Gives step_part result (scripts.prepare_step member (view value.now)) }
+/// What stands behind the word, in a list of two.
+fn second<T: Part>(alloc: Global, value: &Value, member: Member) -> Result<T, ScriptFault>
+    ensures { Gives T.meaning result (second T.reads member (view value.now)) }
 {
     let list = tuple(value, 2, member)?;
-    Ok(Step::Prepare(entry(alloc, list, 1, member)?))
-}
-
-/// `["start", thread]`
-fn start(alloc: Global, value: &Value, member: Member) -> Result<Step, ScriptFault>
-    ensures { Gives step_part result (scripts.start_step member (view value.now)) }
-{
-    let list = tuple(value, 2, member)?;
-    Ok(Step::Start(entry(alloc, list, 1, member)?))
+    entry(alloc, list, 1, member)
 }

@@ -1,5 +1,5 @@
 use Rattle.std.proofs.lemmas.Grind.{common_steps}
-use Rattle.std.proofs.Common.{◌≡◌, ◌+◌, ℕ, List, [], map, drop, not, sym, ap, ◌∙◌, arith}
+use Rattle.std.proofs.Common.{◌≡◌, List, map, drop, not, ap, ◌∙◌, arith}
 use Rattle.std.specs.List.{count_by}
 use Rattle.std.proofs.lemmas.List.{drop_all}
 use Rattle.jdwp_script.specs.declared.script.Thread.{Thread}
@@ -16,7 +16,7 @@ returns c =
     let none : counted (drop c.loop-thread.thread-index c.args.threads.now) ≡ 0 = ap counted (drop_all c.loop-thread.thread-index c.args.threads.now c.loop-thread-test.false) in
     let same = c.loop-thread.invariant.same in
     let all : c.loop-thread.count ≡ counted c.args.threads.now = omega (arith, none, same) in
-    all ∙ living_count set (map thread_part c.args.threads.now) c.deref.result.now c.in_ok-started.ensures (c.deref.ensures.value ∙ c.in_ok-started_threads.ensures)
+    all ∙ living_count set (map thread_part c.args.threads.now) c.in_ok-started.ensures
 
 pub loop-thread-preserved : goal.loop-thread-preserved
 loop-thread-preserved c = grind (arith, common_steps)

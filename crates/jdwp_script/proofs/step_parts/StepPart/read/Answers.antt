@@ -11,17 +11,5 @@ returns-in_default-as_str c = grind (arith, common_steps)
 pub returns-in-call : goal.returns-in-call
 returns-in-call c = grind (arith, common_steps)
 
-pub returns-in-go : goal.returns-in-go
-returns-in-go c = grind (arith, common_steps)
-
-pub returns-in-return : goal.returns-in-return
-returns-in-return c = grind (arith, common_steps)
-
 pub returns-in-throw : goal.returns-in-throw
 returns-in-throw c = grind (arith, common_steps)
-
-pub returns-in-prepare : goal.returns-in-prepare
-returns-in-prepare c = grind (arith, common_steps)
-
-pub returns-in-start : goal.returns-in-start
-returns-in-start c = grind (arith, common_steps)
