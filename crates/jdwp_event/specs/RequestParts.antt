@@ -9,8 +9,7 @@ use Rattle.jdwp_event.specs.ModifierMeanings.{modifier_meaning}
 use Rattle.jdwp_value.specs.declared.id.ReferenceTypeId.{ReferenceTypeId}
 use Rattle.jdwp_event.specs.declared.happening.ClassSeen.{ClassSeen}
 use Rattle.jdwp_event.specs.declared.happening.Place.{Place}
-use Rattle.jdwp_event.specs.declared.happening.ThrownException.{ThrownException}
-use Rattle.jdwp_event.specs.Occurrences.{ClassMeaning, PlaceMeaning, ThrownMeaning, HappeningMeaning, class_meaning, place_meaning, thrown_meaning}
+use Rattle.jdwp_event.specs.Occurrences.{ClassMeaning, PlaceMeaning, HappeningMeaning, class_meaning, place_meaning}
 use Rattle.jdwp_event.specs.Requests.{Origin}
 use Rattle.jdwp_event.specs.Filters.{passes_modifier, passes_depth, passes_size, once_more}
 
@@ -82,10 +81,6 @@ seen_class (Some c) = Some (class_meaning c.now)
 abbrev pub seen_place : Option (Bor Place) → Option PlaceMeaning
 seen_place None = None
 seen_place (Some p) = Some (place_meaning p.now)
-
-abbrev pub seen_thrown : Option (Bor ThrownException) → Option ThrownMeaning
-seen_thrown None = None
-seen_thrown (Some t) = Some (thrown_meaning t.now)
 
 -- a step of the thread to a place
 abbrev pub passes_step_at : Origin → ℤ → ℤ → Option PlaceMeaning → Bool

@@ -1,5 +1,5 @@
 //! Events and composites (JDWP specification, "Protocol Details": the command Composite of the set Event).
-ghost use Rattle.std.specs.Prelude.{◌≡◌, ◌≤◌, ◌+◌, ◌<◌, ◌++◌, length, take, OnOk, IfOk, IfErr, [], vec_len, vec_capacity};
+ghost use Rattle.std.specs.Prelude.{◌≡◌, ◌≤◌, ◌+◌, ◌<◌, ◌++◌, length, take, IfOk, IfErr, [], vec_len, vec_capacity};
 ghost use Rattle.std.specs.List.{flat_map, list_any};
 ghost use Rattle.std.specs.Result.{IsErrOf};
 ghost use Rattle.jdwp_wire.specs.declared.data_fault.DataFault.TheVariants.{NoMemory as WantOfMemory};
@@ -8,7 +8,7 @@ ghost use Rattle.jdwp_wire.specs.Writing.{Appends, LeavesInFront, HasRoom};
 ghost use Rattle.jdwp_wire.specs.Each.{times_at, EncodesAll};
 ghost use Rattle.jdwp_wire.specs.Listed.{first_refusal};
 ghost use Rattle.jdwp_layout.specs.Shapes.{Events};
-ghost use Rattle.jdwp_layout.specs.Meanings.{ScalarMeaning, entry_meaning, entry_meanings, scalar_meanings};
+ghost use Rattle.jdwp_layout.specs.Meanings.{ScalarMeaning, entry_meaning, scalar_meanings};
 ghost use Rattle.jdwp_layout.specs.Grammar.{EncodesEntry, EntryFault};
 ghost use Rattle.jdwp_layout.specs.Keeping.{EntryIsKept, EntriesAreKept};
 ghost use Rattle.jdwp_layout.specs.Reads.{entry_at};
@@ -16,11 +16,11 @@ ghost use Rattle.jdwp_layout.specs.Writes.{entry_canonical, entry_refusal};
 ghost use Rattle.jdwp_layout.specs.EntryLaws.{entry_codes, entry_unrefused};
 ghost use Rattle.jdwp_event.specs.CompositeBytes.{EncodesComposite, composite_canonical, composite_refusal, CompositeFault, composite_at, CompositeIsKept, composite_of, with_policy};
 ghost use Rattle.jdwp_event.specs.CompositeLaws.{composite_codes, composite_unrefused};
-ghost use Rattle.jdwp_event.specs.Occurrences.{occurrence_meaning};
 ghost use Rattle.jdwp_event.specs.Constants.{policy_byte};
 ghost use Rattle.jdwp_event.specs.Filters.{all_counted, passes, passing};
-ghost use Rattle.jdwp_event.specs.Composites.{composite_data, details, event_for, gathered, vm_start, vm_death};
+ghost use Rattle.jdwp_event.specs.Composites.{composite_data, event_for, gathered, vm_start, vm_death};
 
+use crate::filter::place_seen;
 use crate::happening::{Happening, Occurrence};
 use crate::kind::EventKind;
 use crate::policy::Policy;
@@ -158,15 +158,11 @@ impl Composite {
     pub fn vm_start(alloc: Global, policy: Policy, thread: ObjectId) -> Result<Composite, NoMemory>
         ensures { IfOk result (λ c. c ≡ vm_start (policy_byte policy) thread.0) }
     {
-        let mut fields = Vec::with_capacity(alloc, 3)?;
-        fields.push(Scalar::Byte(EventKind::VmStart.byte()))?;
-        fields.push(Scalar::Int(0))?;
-        fields.push(Scalar::ObjectId(thread))?;
-        let mut events = Vec::with_capacity(alloc, 1)?;
-        events.push(Event { fields })?;
+        let kind = Scalar::Byte(EventKind::VmStart.byte());
+        let fields = vec![in alloc; kind, Scalar::Int(0), Scalar::ObjectId(thread)]?;
         Ok(Composite {
             policy: policy.byte(),
-            events,
+            events: vec![in alloc; Event { fields }]?,
         })
     }
 
@@ -177,14 +173,11 @@ impl Composite {
     pub fn vm_death(alloc: Global) -> Result<Composite, NoMemory>
         ensures { IfOk result (λ c. c ≡ vm_death) }
     {
-        let mut fields = Vec::with_capacity(alloc, 2)?;
-        fields.push(Scalar::Byte(EventKind::VmDeath.byte()))?;
-        fields.push(Scalar::Int(0))?;
-        let mut events = Vec::with_capacity(alloc, 1)?;
-        events.push(Event { fields })?;
+        let kind = Scalar::Byte(EventKind::VmDeath.byte());
+        let fields = vec![in alloc; kind, Scalar::Int(0)]?;
         Ok(Composite {
             policy: Policy::None.byte(),
-            events,
+            events: vec![in alloc; Event { fields }]?,
         })
     }
 
@@ -197,12 +190,10 @@ impl Composite {
     {
         let mut entries = Vec::with_capacity(alloc, self.events.len())?;
         for event in self.events {
-            entries.push(event.fields)?;
+            entries.push_reserved(event.fields);
         }
-        let mut items = Vec::with_capacity(alloc, 2)?;
-        items.push(Datum::One(Scalar::Byte(self.policy)))?;
-        items.push(Datum::Many(entries))?;
-        Ok(Data::new(items))
+        let policy = Datum::One(Scalar::Byte(self.policy));
+        Ok(Data::new(vec![in alloc; policy, Datum::Many(entries)]?))
     }
 
     /// The composite of data in the layout of its row; None exactly where they are not a byte and a list.
@@ -213,18 +204,20 @@ impl Composite {
         ensures { IfOk result (λ found. found ≡ composite_of carried) }
     {
         let mut items = carried.into_items();
-        if items.len() != 2 {
+        let Some(Datum::Many(entries)) = items.pop() else {
             return Ok(None);
+        };
+        let [Datum::One(Scalar::Byte(policy))] = items.as_slice() else {
+            return Ok(None);
+        };
+        let mut events = Vec::with_capacity(alloc, entries.len())?;
+        for fields in entries {
+            events.push_reserved(Event { fields });
         }
-        let events = items.pop();
-        let policy = items.pop();
-        match (policy, events) {
-            (Some(Datum::One(Scalar::Byte(policy))), Some(Datum::Many(entries))) => {
-                let events = events_of(alloc, entries)?;
-                Ok(Some(Composite { policy, events }))
-            }
-            _ => Ok(None),
-        }
+        Ok(Some(Composite {
+            policy: *policy,
+            events,
+        }))
     }
 
     /// The byte of the suspend policy.
@@ -306,17 +299,6 @@ impl Wire for Composite {
     ghost judged = { λ w whole. (composite_codes w whole).judged };
 
     ghost unrefused = { composite_unrefused };
-}
-
-/// The events of the entries of a composite's list.
-fn events_of(alloc: Global, entries: Vec<Vec<Scalar>>) -> Result<Vec<Event>, NoMemory>
-    ensures { IfOk result (λ events. events.items ≡ entry_meanings entries.items) }
-{
-    let mut events = Vec::with_capacity(alloc, entries.len())?;
-    for fields in entries {
-        events.push(Event { fields })?;
-    }
-    Ok(events)
 }
 
 /// How many bytes the events take; None past `usize`.
@@ -416,7 +398,12 @@ pub fn gather(
 fn any_matches(requests: &[Request], happening: &Happening) -> bool
     ensures { result ≡ list_any (passes happening.now) requests.now }
 {
-    requests.iter().any(|request| matches(request, happening))
+    for request in requests {
+        if matches(request, happening) {
+            return true;
+        }
+    }
+    false
 }
 
 /// Counts a happening as `count_down` does, where it is known what `gather` gives for it (`found`): where that is None and no request
@@ -458,48 +445,31 @@ fn gather_passing(
 fn report(alloc: Global, request: &Request, happening: &Happening) -> Result<Event, NoMemory>
     ensures { IfOk result (λ e. e ≡ event_for happening.now request.now) }
 {
+    let kind = request.kind();
+    let occurrence = happening.occurrence();
     let mut fields = Vec::with_capacity(alloc, 7)?;
-    fields.push(Scalar::Byte(request.kind()))?;
-    fields.push(Scalar::Int(request.id() as i32))?;
-    fields.push(Scalar::ObjectId(happening.thread()))?;
-    add_details(alloc, request.kind(), happening.occurrence(), &mut fields)?;
-    Ok(Event { fields })
-}
-
-/// Adds what an event of this kind tells behind its thread.
-fn add_details(
-    alloc: Global,
-    kind: u8,
-    occurrence: &Occurrence,
-    fields: &mut Vec<Scalar>,
-) -> Result<(), NoMemory>
-    ensures { OnOk result
-        (entry_meaning fields.new
-        ≡ entry_meaning fields.old ++ details kind (occurrence_meaning occurrence.now)) }
-{
+    fields.push_reserved(Scalar::Byte(kind));
+    fields.push_reserved(Scalar::Int(request.id() as i32));
+    fields.push_reserved(Scalar::ObjectId(happening.thread()));
+    if let Some(place) = place_seen(occurrence) {
+        fields.push_reserved(Scalar::Location(place.location));
+    }
     match occurrence {
-        Occurrence::Moved(place) | Occurrence::Entered(place) => {
-            fields.push(Scalar::Location(place.location))?;
+        Occurrence::Left(_, value) if kind == EventKind::MethodExitWithReturnValue.byte() => {
+            fields.push_reserved(Scalar::Value(*value));
         }
-        Occurrence::Left(place, value) => {
-            fields.push(Scalar::Location(place.location))?;
-            if kind == EventKind::MethodExitWithReturnValue.byte() {
-                fields.push(Scalar::Value(*value))?;
-            }
-        }
-        Occurrence::Threw(place, thrown) => {
-            fields.push(Scalar::Location(place.location))?;
-            fields.push(Scalar::TaggedId(thrown.exception))?;
-            fields.push(Scalar::Location(thrown.caught_at))?;
+        Occurrence::Threw(_, thrown) => {
+            fields.push_reserved(Scalar::TaggedId(thrown.exception));
+            fields.push_reserved(Scalar::Location(thrown.caught_at));
         }
         Occurrence::Prepared(prepared) => {
             let signature = String::from_str(alloc, &prepared.class.signature)?;
-            fields.push(Scalar::Byte(prepared.tag.byte()))?;
-            fields.push(Scalar::ReferenceTypeId(prepared.id))?;
-            fields.push(Scalar::String(signature))?;
-            fields.push(Scalar::Int(prepared.status))?;
+            fields.push_reserved(Scalar::Byte(prepared.tag.byte()));
+            fields.push_reserved(Scalar::ReferenceTypeId(prepared.id));
+            fields.push_reserved(Scalar::String(signature));
+            fields.push_reserved(Scalar::Int(prepared.status));
         }
-        Occurrence::Started | Occurrence::RanOut => {}
+        _ => {}
     }
-    Ok(())
+    Ok(Event { fields })
 }

@@ -1,11 +1,11 @@
 //! Whether a happening passes a modifier (JDWP specification, "Protocol Details": the modifiers of EventRequest.Set).
 ghost use Rattle.std.specs.Prelude.{◌≡◌, ℕ};
-ghost use Rattle.jdwp_event.specs.Occurrences.{occurrence_meaning, class_meaning, place_meaning, thrown_meaning};
+ghost use Rattle.jdwp_event.specs.Occurrences.{occurrence_meaning, class_meaning, place_meaning};
 ghost use Rattle.jdwp_event.specs.ModifierMeanings.{modifier_meaning, IsNoCount};
-ghost use Rattle.jdwp_event.specs.RequestParts.{origin_meaning, seen_class, seen_place, seen_thrown, ids_meaning, passes_step_at};
-ghost use Rattle.jdwp_event.specs.Filters.{is_of_kind, place_of, class_of, thrown_of, reaches_class, passes_modifier, passes_class_only, passes_pattern, passes_exclusion, same_location, passes_location, is_caught, passes_exception, passes_depth, passes_size, passes_step, same_line};
+ghost use Rattle.jdwp_event.specs.RequestParts.{origin_meaning, seen_class, seen_place, ids_meaning, passes_step_at};
+ghost use Rattle.jdwp_event.specs.Filters.{is_of_kind, place_of, class_of, thrown_of, reaches_class, passes_modifier, passes_class_only, passes_pattern, passes_exclusion, passes_location, is_caught, passes_exception, passes_depth, passes_size, passes_step};
 
-use crate::happening::{ClassSeen, Happening, Occurrence, Place, ThrownException};
+use crate::happening::{ClassSeen, Happening, Occurrence, Place};
 use crate::kind::EventKind;
 use crate::modifier::Modifier;
 use crate::pattern;
@@ -30,7 +30,7 @@ pub(crate) fn passes(modifier: &Modifier, origin: StepOrigin, happening: &Happen
             class,
             caught,
             uncaught,
-        } => is_exception(*class, *caught, *uncaught, thrown_seen(occurrence)),
+        } => is_exception(*class, *caught, *uncaught, occurrence),
         Modifier::Step {
             thread,
             size,
@@ -89,16 +89,6 @@ fn class_seen(occurrence: &Occurrence) -> Option<&ClassSeen>
     }
 }
 
-/// The exception that was thrown, if one was.
-fn thrown_seen(occurrence: &Occurrence) -> Option<&ThrownException>
-    ensures { seen_thrown result ≡ thrown_of (occurrence_meaning occurrence.now) }
-{
-    match occurrence {
-        Occurrence::Threw(_, thrown) => Some(thrown),
-        _ => None,
-    }
-}
-
 fn is_in_class(class: ReferenceTypeId, seen: Option<&ClassSeen>) -> bool
     ensures { result ≡ passes_class_only class.0 (seen_class seen.entry) }
 {
@@ -138,20 +128,14 @@ fn fits_no_name(pattern: &str, seen: Option<&ClassSeen>) -> bool
     }
 }
 
-fn is_at(location: &Location, seen: Option<&Place>) -> bool
-    ensures { result ≡ passes_location location.now (seen_place seen.entry) }
-{
-    match seen {
-        None => false,
-        Some(place) => is_same_place(location, &place.location),
-    }
-}
-
 /// Whether class, method and index are equal.
-fn is_same_place(wanted: &Location, seen: &Location) -> bool
-    ensures { result ≡ same_location wanted.now seen.now }
+fn is_at(wanted: &Location, seen: Option<&Place>) -> bool
+    ensures { result ≡ passes_location wanted.now (seen_place seen.entry) }
 {
-    match (wanted, seen) {
+    let Some(place) = seen else {
+        return false;
+    };
+    match (wanted, &place.location) {
         (
             Location::At {
                 class,
@@ -174,19 +158,20 @@ fn is_exception(
     class: ReferenceTypeId,
     caught: bool,
     uncaught: bool,
-    seen: Option<&ThrownException>,
+    occurrence: &Occurrence,
 ) -> bool
-    ensures { result ≡ passes_exception class.0 caught uncaught (seen_thrown seen.entry) }
+    ensures { result ≡ passes_exception class.0 caught uncaught
+        (thrown_of (occurrence_meaning occurrence.now)) }
 {
-    match seen {
-        None => false,
-        Some(thrown) => {
+    match occurrence {
+        Occurrence::Threw(_, thrown) => {
             let wanted = match thrown.caught_at {
                 Location::At { .. } => caught,
                 Location::Null => uncaught,
             };
             wanted && (class == ReferenceTypeId(0) || is_among(class, &thrown.reaches))
         }
+        _ => false,
     }
 }
 
@@ -218,20 +203,7 @@ fn is_of_size(size: i32, origin: StepOrigin, place: &Place) -> bool
 {
     match StepSize::of_number(size) {
         Some(StepSize::Min) => true,
-        Some(StepSize::Line) => {
-            !is_same_line(place.line, origin.line) || place.frames != origin.frames
-        }
+        Some(StepSize::Line) => place.line != origin.line || place.frames != origin.frames,
         None => false,
-    }
-}
-
-/// Whether both lines are unknown, or the same.
-fn is_same_line(one: Option<u32>, other: Option<u32>) -> bool
-    ensures { result ≡ same_line one other }
-{
-    match (one, other) {
-        (None, None) => true,
-        (Some(one), Some(other)) => one == other,
-        _ => false,
     }
 }

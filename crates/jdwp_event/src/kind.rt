@@ -5,28 +5,28 @@ ghost use Rattle.jdwp_event.specs.EventKinds.{kind_byte, kind_of_byte};
 /// What kind of event a request asks for, and an event is.
 #[derive(Clone, Copy, Debug, PartialEq, Eq)]
 pub enum EventKind {
-    SingleStep,
-    Breakpoint,
-    FramePop,
-    Exception,
-    UserDefined,
-    ThreadStart,
-    ThreadDeath,
-    ClassPrepare,
-    ClassUnload,
-    ClassLoad,
-    FieldAccess,
-    FieldModification,
-    ExceptionCatch,
-    MethodEntry,
-    MethodExit,
-    MethodExitWithReturnValue,
-    MonitorContendedEnter,
-    MonitorContendedEntered,
-    MonitorWait,
-    MonitorWaited,
-    VmStart,
-    VmDeath,
+    SingleStep = 1,
+    Breakpoint = 2,
+    FramePop = 3,
+    Exception = 4,
+    UserDefined = 5,
+    ThreadStart = 6,
+    ThreadDeath = 7,
+    ClassPrepare = 8,
+    ClassUnload = 9,
+    ClassLoad = 10,
+    FieldAccess = 20,
+    FieldModification = 21,
+    ExceptionCatch = 30,
+    MethodEntry = 40,
+    MethodExit = 41,
+    MethodExitWithReturnValue = 42,
+    MonitorContendedEnter = 43,
+    MonitorContendedEntered = 44,
+    MonitorWait = 45,
+    MonitorWaited = 46,
+    VmStart = 90,
+    VmDeath = 99,
 }
 
 impl EventKind {
@@ -34,30 +34,7 @@ impl EventKind {
     pub fn byte(self) -> u8
         ensures { result ≡ kind_byte self }
     {
-        match self {
-            EventKind::SingleStep => 1,
-            EventKind::Breakpoint => 2,
-            EventKind::FramePop => 3,
-            EventKind::Exception => 4,
-            EventKind::UserDefined => 5,
-            EventKind::ThreadStart => 6,
-            EventKind::ThreadDeath => 7,
-            EventKind::ClassPrepare => 8,
-            EventKind::ClassUnload => 9,
-            EventKind::ClassLoad => 10,
-            EventKind::FieldAccess => 20,
-            EventKind::FieldModification => 21,
-            EventKind::ExceptionCatch => 30,
-            EventKind::MethodEntry => 40,
-            EventKind::MethodExit => 41,
-            EventKind::MethodExitWithReturnValue => 42,
-            EventKind::MonitorContendedEnter => 43,
-            EventKind::MonitorContendedEntered => 44,
-            EventKind::MonitorWait => 45,
-            EventKind::MonitorWaited => 46,
-            EventKind::VmStart => 90,
-            EventKind::VmDeath => 99,
-        }
+        self as u8
     }
 
     /// The kind of a byte; None where no kind has it.

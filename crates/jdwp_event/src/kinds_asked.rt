@@ -83,12 +83,22 @@ impl KindsAsked {
 fn has_kind(requests: &[Request], kind: EventKind) -> bool
     ensures { result ≡ spec.has_kind (kind_byte kind) requests.now }
 {
-    requests.iter().any(|request| kind.byte() == request.kind())
+    for request in requests {
+        if kind.byte() == request.kind() {
+            return true;
+        }
+    }
+    false
 }
 
 /// Whether a request has a Count.
 fn any_has_count(requests: &[Request]) -> bool
     ensures { result ≡ spec.any_has_count requests.now }
 {
-    requests.iter().any(|request| request.has_count())
+    for request in requests {
+        if request.has_count() {
+            return true;
+        }
+    }
+    false
 }

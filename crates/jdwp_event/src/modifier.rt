@@ -1,5 +1,5 @@
 //! Modifiers of event requests (JDWP specification, "Protocol Details": the command Set of the set EventRequest).
-ghost use Rattle.std.specs.Prelude.{◌≡◌, ◌≢◌, ◌≤◌, ◌+◌, ◌∷◌, [], length, OnOk, IfOk, IfErr, Some, vec_len, vec_capacity};
+ghost use Rattle.std.specs.Prelude.{◌≡◌, ◌≢◌, ◌≤◌, ◌<◌, ◌+◌, ◌∷◌, [], length, OnOk, IfOk, IfErr, Some, vec_len, vec_capacity};
 ghost use Rattle.std.specs.Result.{IsErrOf};
 ghost use Rattle.std.specs.String.{string_bytes};
 ghost use Rattle.jdwp_wire.specs.declared.data_fault.DataFault.TheVariants.{NoMemory as WantOfMemory};
@@ -70,17 +70,12 @@ impl Modifier {
     pub fn of_entry(mut entry: Vec<Scalar>) -> Option<Modifier>
         ensures { found_modifier result ≡ modifier_of (entry_meaning entry) }
     {
-        if entry.len() == 2 {
-            let field = entry.pop();
-            let kind = entry.pop();
-            return match (kind, field) {
-                (Some(Scalar::Byte(kind)), Some(field)) => of_one(kind, field),
-                _ => None,
-            };
-        }
         match entry.as_slice() {
-            [Scalar::Byte(kind), first, second] => of_two(*kind, first, second),
-            [Scalar::Byte(kind), first, second, third] => of_three(*kind, first, second, third),
+            [Scalar::Byte(kind), _] => {
+                let kind = *kind;
+                of_one(kind, entry.take_last())
+            }
+            [Scalar::Byte(kind), fields @ ..] if fields.len() > 1 => of_more(*kind, fields),
             _ => None,
         }
     }
@@ -285,33 +280,38 @@ fn of_one(kind: u8, field: Scalar) -> Option<Modifier>
     }
 }
 
-/// The modifier of a kind with two fields.
-fn of_two(kind: u8, first: &Scalar, second: &Scalar) -> Option<Modifier>
-    ensures { found_modifier result
-        ≡ modifier_of_kind kind (scalar_meaning first.now ∷ scalar_meaning second.now ∷ []) }
+/// The modifier of a kind with more than one field.
+fn of_more(kind: u8, fields: &[Scalar]) -> Option<Modifier>
+    requires { 1 < length fields.now }
+    ensures { found_modifier result ≡ modifier_of_kind kind (scalar_meanings fields.now) }
 {
-    match (kind, first, second) {
-        (9, Scalar::ReferenceTypeId(class), Scalar::FieldId(field)) => Some(Modifier::FieldOnly {
+    match (kind, fields) {
+        (
+            8,
+            [
+                Scalar::ReferenceTypeId(class),
+                Scalar::Boolean(caught),
+                Scalar::Boolean(uncaught),
+            ],
+        ) => Some(Modifier::ExceptionOnly {
             class: *class,
-            field: *field,
+            caught: *caught,
+            uncaught: *uncaught,
         }),
-        _ => None,
-    }
-}
-
-/// The modifier of a kind with three fields.
-fn of_three(kind: u8, first: &Scalar, second: &Scalar, third: &Scalar) -> Option<Modifier>
-    ensures { found_modifier result ≡ modifier_of_kind kind
-        (scalar_meaning first.now ∷ scalar_meaning second.now ∷ scalar_meaning third.now ∷ []) }
-{
-    match (kind, first, second, third) {
-        (8, Scalar::ReferenceTypeId(class), Scalar::Boolean(caught), Scalar::Boolean(uncaught)) =>
-            Some(Modifier::ExceptionOnly {
+        (9, [Scalar::ReferenceTypeId(class), Scalar::FieldId(field)]) => {
+            Some(Modifier::FieldOnly {
                 class: *class,
-                caught: *caught,
-                uncaught: *uncaught,
-            }),
-        (10, Scalar::ObjectId(thread), Scalar::Int(size), Scalar::Int(depth)) => {
+                field: *field,
+            })
+        }
+        (
+            10,
+            [
+                Scalar::ObjectId(thread),
+                Scalar::Int(size),
+                Scalar::Int(depth),
+            ],
+        ) => {
             Some(Modifier::Step {
                 thread: *thread,
                 size: *size,

@@ -2,7 +2,7 @@
 //! EventRequest.Set).
 ghost use Rattle.std.specs.Prelude.{◌≡◌, map};
 ghost use Rattle.std.specs.Str.{bytes_eq};
-ghost use Rattle.jdwp_event.specs.Filters.{dotted, bare_name, class_name, begins_in, ends_in, ends_with_star, ends_with_semicolon, fits_plain, fits_pattern};
+ghost use Rattle.jdwp_event.specs.Filters.{dotted, bare_name, class_name, begins_in, ends_in, ends_with_star, fits_plain, fits_pattern};
 
 /// Whether the class of this signature has a name that fits the pattern: `*x` fits names that end in x, `x*` names that begin
 /// with x, and another pattern an equal name. The name is the signature without `L` and `;`, and with dots.
@@ -27,32 +27,21 @@ fn fits_other(pattern: &[u8], name: &[u8]) -> bool
     }
 }
 
-/// The name in a signature, with slashes.
-fn bare(signature: &[u8]) -> &[u8]
-    ensures { result.now ≡ bare_name signature.now }
-{
-    match signature {
-        [b'L', rest @ ..] => {
-            if ends_in_semicolon(rest) {
-                &rest[..rest.len() - 1]
-            } else {
-                rest
-            }
-        }
-        _ => signature,
-    }
-}
-
 fn ends_in_star(text: &[u8]) -> bool
     ensures { result ≡ ends_with_star text.now }
 {
     !text.is_empty() && text[text.len() - 1] == b'*'
 }
 
-fn ends_in_semicolon(text: &[u8]) -> bool
-    ensures { result ≡ ends_with_semicolon text.now }
+/// The name in a signature, with slashes.
+fn bare(signature: &[u8]) -> &[u8]
+    ensures { result.now ≡ bare_name signature.now }
 {
-    !text.is_empty() && text[text.len() - 1] == b';'
+    match signature {
+        [b'L', name @ .., b';'] => name,
+        [b'L', name @ ..] => name,
+        _ => signature,
+    }
 }
 
 /// Whether a name with slashes begins in this, with dots.

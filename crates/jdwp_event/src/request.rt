@@ -1,11 +1,10 @@
 //! Event requests: what was asked for, and what has become of it (JDWP specification, "Protocol Details": the set EventRequest).
 ghost use Rattle.std.specs.Prelude.{◌≡◌, ◌≤◌, ◌<◌, length, IfOk};
-ghost use Rattle.std.specs.List.{list_any};
 ghost use Rattle.jdwp_wire.specs.Numbers.{greatest_int};
 ghost use Rattle.jdwp_event.specs.ModifierMeanings.{modifier_meaning, found_modifier_behind};
 ghost use Rattle.jdwp_event.specs.RequestParts.{origin_meaning, modifiers_meaning, new_limit, limit_passes, limit_counted, limits_after, asked_modifiers, times_reached, modifier_at};
 ghost use Rattle.jdwp_event.specs.Requests.{new_request};
-ghost use Rattle.jdwp_event.specs.Filters.{is_count, passes_all, passes, counted};
+ghost use Rattle.jdwp_event.specs.Filters.{passes_all, passes, counted};
 ghost use Rattle.jdwp_event.specs.KindsAsked.{has_count};
 
 use crate::filter;
@@ -86,26 +85,6 @@ impl Limit {
             self.reached.push(&());
         }
     }
-
-    /// Whether it is a Count.
-    fn is_count(&self) -> bool
-        ensures { result ≡ is_count self.now.modifier }
-    {
-        matches!(self.modifier, Modifier::Count(_))
-    }
-}
-
-/// Whether the happening passes all modifiers, in order.
-fn passes_limits(limits: &[Limit], origin: &StepOrigin, happening: &Happening) -> bool
-    ensures { result ≡ passes_all (origin_meaning origin.now) happening.now
-        (asked_modifiers limits.now) (times_reached limits.now) }
-{
-    for limit in limits {
-        if !limit.passes(origin, happening) {
-            return false;
-        }
-    }
-    true
 }
 
 /// Counts each Count that the happening reaches, and answers whether it passes all modifiers.
@@ -122,18 +101,6 @@ fn count_limits(limits: &mut [Limit], origin: StepOrigin, happening: &Happening)
         }
     }
     true
-}
-
-/// Whether one of them is a Count.
-fn any_count(limits: &[Limit]) -> bool
-    ensures { result ≡ list_any is_count (asked_modifiers limits.now) }
-{
-    for limit in limits {
-        if limit.is_count() {
-            return true;
-        }
-    }
-    false
 }
 
 /// What was asked for under an id, how often each Count among its modifiers was reached, and from where its steps are measured.
@@ -249,7 +216,12 @@ impl Request {
     pub(crate) fn has_count(&self) -> bool
         ensures { result ≡ has_count self.now }
     {
-        any_count(&self.limits)
+        for limit in &self.limits {
+            if matches!(limit.modifier, Modifier::Count(_)) {
+                return true;
+            }
+        }
+        false
     }
 
     /// Counts a happening: where the kinds agree, each Count that is reached, and a new origin where all pass.
@@ -275,6 +247,13 @@ impl Request {
 pub fn matches(request: &Request, happening: &Happening) -> bool
     ensures { result ≡ passes happening.now request.now }
 {
-    filter::is_kind(happening.occurrence(), request.kind)
-        && passes_limits(&request.limits, &request.origin, happening)
+    if !filter::is_kind(happening.occurrence(), request.kind) {
+        return false;
+    }
+    for limit in &request.limits {
+        if !limit.passes(&request.origin, happening) {
+            return false;
+        }
+    }
+    true
 }

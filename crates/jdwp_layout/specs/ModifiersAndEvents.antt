@@ -1,6 +1,7 @@
 -- Which fields follow the kind byte of a modifier and of an event
 -- (JDWP specification, "Protocol Details": the command Set of the set EventRequest, and the command Composite of the set Event).
 use Rattle.std.specs.Prelude.{ℕ, ◌==◌, ◌||◌, if◌then◌else◌, List, [], ◌∷◌, Option, Some, None}
+use Rattle.jdwp_layout.specs.Shapes.{EntryShape, Fields, Modifiers, Events}
 use Rattle.jdwp_layout.specs.declared.item.Field.{Field}
 use Rattle.jdwp_layout.specs.declared.item.Field.TheVariants.{Byte, Boolean, Int, Long, String, ObjectId, ReferenceTypeId, FieldId, Location, Value, TaggedId}
 
@@ -53,3 +54,9 @@ event_fields kind =
     -- VM_DEATH
     if kind == 99 then Some (Int ∷ []) else (
     None))))))))))))
+
+-- those of an entry that has a kind byte
+abbrev pub kind_fields : EntryShape → ℕ → Option (List Field)
+kind_fields (Fields fields) kind = None
+kind_fields Modifiers kind = modifier_fields kind
+kind_fields Events kind = event_fields kind

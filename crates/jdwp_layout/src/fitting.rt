@@ -3,7 +3,7 @@ ghost use Rattle.std.specs.Prelude.{◌≡◌, length};
 ghost use Rattle.std.specs.List.{flat_map};
 ghost use Rattle.jdwp_wire.specs.Reading.{in_usize};
 ghost use Rattle.jdwp_wire.specs.Numbers.{count_refusal, id_refusal};
-ghost use Rattle.jdwp_wire.specs.Listed.{first_refusal, list_refusal};
+ghost use Rattle.jdwp_wire.specs.Listed.{list_refusal};
 ghost use Rattle.jdwp_value.specs.Locations.{location_refusal};
 ghost use Rattle.jdwp_value.specs.Values.{value_refusal};
 ghost use Rattle.jdwp_value.specs.Regions.{region_refusal};
@@ -13,7 +13,7 @@ ghost use Rattle.jdwp_layout.specs.Writes.{data_canonical, data_refusal, datum_c
 
 use crate::datum::{Datum, Scalar};
 use crate::entry::{entry_size, scalar_size};
-use crate::item::{Entry, Field, Item, Layout, fields_of_event, fields_of_modifier};
+use crate::item::{Entry, Field, Item, Layout, fields_of_kind};
 use jdwp_value::{ArrayRegion, Location, Value};
 use jdwp_wire::number::{GREATEST_INT, fits};
 use jdwp_wire::{DataFault, IdKind, IdSizes, Width, Wire};
@@ -104,12 +104,6 @@ fn refusal_of_list(entry: Entry, sizes: &IdSizes, entries: &[Vec<Scalar>]) -> Op
     if entries.len() > GREATEST_INT as usize {
         return Some(DataFault::BadSize);
     }
-    refusal_in_entries(entry, sizes, entries)
-}
-
-fn refusal_in_entries(entry: Entry, sizes: &IdSizes, entries: &[Vec<Scalar>]) -> Option<DataFault>
-    ensures { result ≡ first_refusal (entry_refusal sizes.now (entry_shape entry)) (entry_meanings entries.now) }
-{
     for scalars in entries {
         let refused = refusal_of_entry(entry, sizes, scalars);
         if refused.is_some() {
@@ -124,15 +118,9 @@ fn refusal_of_entry(entry: Entry, sizes: &IdSizes, scalars: &[Scalar]) -> Option
 {
     match entry {
         Entry::Fields(fields) => refusal_in_fields(fields, sizes, scalars),
-        Entry::Modifier => match scalars {
+        Entry::Modifier | Entry::Event => match scalars {
             [Scalar::Byte(kind), rest @ ..] => {
-                refusal_of_kind(fields_of_modifier(*kind), sizes, rest)
-            }
-            _ => Some(DataFault::BadSize),
-        },
-        Entry::Event => match scalars {
-            [Scalar::Byte(kind), rest @ ..] => {
-                refusal_of_kind(fields_of_event(*kind), sizes, rest)
+                refusal_of_kind(fields_of_kind(entry, *kind), sizes, rest)
             }
             _ => Some(DataFault::BadSize),
         },
@@ -251,13 +239,7 @@ fn refusal_of_region(sizes: &IdSizes, region: &ArrayRegion) -> Option<DataFault>
     if elements.len() > GREATEST_INT as usize {
         return Some(DataFault::BadSize);
     }
-    refusal_in_values(sizes, elements)
-}
-
-fn refusal_in_values(sizes: &IdSizes, values: &[Value]) -> Option<DataFault>
-    ensures { result ≡ first_refusal (value_refusal sizes.now) values.now }
-{
-    for value in values {
+    for value in elements {
         let refused = refusal_of_value(sizes, value);
         if refused.is_some() {
             return refused;

@@ -1,7 +1,7 @@
 //! Layouts: what stands in the data of a packet, in which order.
 ghost use Rattle.std.specs.Prelude.{◌≡◌};
-ghost use Rattle.jdwp_layout.specs.ModifiersAndEvents.{modifier_fields, event_fields};
-ghost use Rattle.jdwp_layout.specs.Shapes.{found_fields};
+ghost use Rattle.jdwp_layout.specs.ModifiersAndEvents.{modifier_fields, event_fields, kind_fields};
+ghost use Rattle.jdwp_layout.specs.Shapes.{entry_shape, found_fields};
 
 /// One value (JDWP specification, "Data Types").
 #[derive(Clone, Copy, Debug, PartialEq, Eq)]
@@ -185,5 +185,16 @@ pub fn fields_of_event(kind: u8) -> Option<&'static [Field]>
         46 => Some(&WAITED),
         99 => Some(&DEATH),
         _ => None,
+    }
+}
+
+/// The fields after the kind byte of an entry that has one; None where no such entry has this kind.
+pub(crate) fn fields_of_kind(entry: Entry, kind: u8) -> Option<&'static [Field]>
+    ensures { found_fields result ≡ kind_fields (entry_shape entry) kind }
+{
+    match entry {
+        Entry::Fields(_) => None,
+        Entry::Modifier => fields_of_modifier(kind),
+        Entry::Event => fields_of_event(kind),
     }
 }

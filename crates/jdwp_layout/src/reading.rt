@@ -13,7 +13,7 @@ ghost use Rattle.jdwp_layout.specs.Keeping.{FieldIsKept, FieldsAreKept, EntryIsK
 ghost use Rattle.jdwp_layout.specs.Reads.{field_at, fields_at, fields_of_at, entry_at, item_at, items_at, data_at};
 
 use crate::datum::{Datum, Scalar};
-use crate::item::{Entry, Field, Item, Layout, fields_of_event, fields_of_modifier};
+use crate::item::{Entry, Field, Item, Layout, fields_of_kind};
 use crate::validation::validate;
 use jdwp_value::{
     ArrayRegion, FieldId, FrameId, Location, MethodId, ObjectId, ReferenceTypeId, TaggedId, Value,
@@ -169,13 +169,9 @@ pub fn take_entry<'a>(
             let rest = take_fields(alloc, fields, &mut scalars, rest, whole, sizes)?;
             Ok((scalars, rest))
         }
-        Entry::Modifier => {
+        Entry::Modifier | Entry::Event => {
             let (kind, rest) = u8::take_front(alloc, rest, whole, sizes)?;
-            take_fields_of(alloc, kind, fields_of_modifier(kind), rest, whole, sizes)
-        }
-        Entry::Event => {
-            let (kind, rest) = u8::take_front(alloc, rest, whole, sizes)?;
-            take_fields_of(alloc, kind, fields_of_event(kind), rest, whole, sizes)
+            take_fields_of(alloc, kind, fields_of_kind(entry, kind), rest, whole, sizes)
         }
     }
 }

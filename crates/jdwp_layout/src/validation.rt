@@ -11,7 +11,7 @@ ghost use Rattle.jdwp_layout.specs.Grammar.{EncodesData, DataFaults};
 ghost use Rattle.jdwp_layout.specs.Reads.{field_at, fields_at, fields_of_at, entry_at, item_at, items_at, data_at};
 ghost use Rattle.jdwp_layout.specs.Skips.{Judges};
 
-use crate::item::{Entry, Field, Item, Layout, fields_of_event, fields_of_modifier};
+use crate::item::{Entry, Field, Item, Layout, fields_of_kind};
 use jdwp_value::{
     ArrayRegion, FieldId, FrameId, Location, MethodId, ObjectId, ReferenceTypeId, TaggedId, Value,
 };
@@ -119,13 +119,9 @@ pub fn skip_entry<'a>(
 {
     match entry {
         Entry::Fields(fields) => skip_fields(fields, rest, whole, sizes),
-        Entry::Modifier => {
+        Entry::Modifier | Entry::Event => {
             let (kind, rest) = take_byte(rest, whole)?;
-            skip_fields_of(kind, fields_of_modifier(kind), rest, whole, sizes)
-        }
-        Entry::Event => {
-            let (kind, rest) = take_byte(rest, whole)?;
-            skip_fields_of(kind, fields_of_event(kind), rest, whole, sizes)
+            skip_fields_of(kind, fields_of_kind(entry, kind), rest, whole, sizes)
         }
     }
 }

@@ -13,7 +13,7 @@ ghost use Rattle.jdwp_layout.specs.Grammar.{EncodesField, EncodesFields, Encodes
 ghost use Rattle.jdwp_layout.specs.Writes.{scalar_canonical, entry_canonical, datum_canonical, data_canonical, field_refusal, fields_refusal, fields_of_refusal, kind_refusal, entry_refusal, item_refusal, data_refusal};
 
 use crate::datum::{Datum, Scalar};
-use crate::item::{Entry, Field, Item, Layout, fields_of_event, fields_of_modifier};
+use crate::item::{Entry, Field, Item, Layout, fields_of_kind};
 use jdwp_wire::number::put_count;
 use jdwp_wire::{DataFault, IdSizes, Wire, all_or_nothing};
 
@@ -161,24 +161,10 @@ pub fn put_entry(
 {
     match entry {
         Entry::Fields(fields) => put_fields(fields, scalars, sizes, output),
-        Entry::Modifier => match scalars {
-            [Scalar::Byte(kind), rest @ ..] => put_fields_of(
-                *kind,
-                fields_of_modifier(*kind),
-                rest,
-                sizes,
-                output,
-            ),
-            _ => Err(DataFault::BadSize),
-        },
-        Entry::Event => match scalars {
-            [Scalar::Byte(kind), rest @ ..] => put_fields_of(
-                *kind,
-                fields_of_event(*kind),
-                rest,
-                sizes,
-                output,
-            ),
+        Entry::Modifier | Entry::Event => match scalars {
+            [Scalar::Byte(kind), rest @ ..] => {
+                put_fields_of(*kind, fields_of_kind(entry, *kind), rest, sizes, output)
+            }
             _ => Err(DataFault::BadSize),
         },
     }

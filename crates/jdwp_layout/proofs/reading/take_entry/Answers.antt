@@ -1,9 +1,14 @@
-use Rattle.std.proofs.Common.{sym, ◌∙◌}
-use Rattle.jdwp_layout.specs.ModifiersAndEvents.{event_fields}
+use Rattle.std.proofs.Common.{sym, ◌∙◌, inl, inr}
+use Rattle.jdwp_layout.specs.ModifiersAndEvents.{modifier_fields, event_fields}
 use Rattle.jdwp_layout.proofs.Keeps.{kind_is_kept}
 use Rattle.jdwp_layout.proofs.reading.take_entry.Goals as goal
 
-pub returns-in_ok-kind-in-Event-clause-memory : goal.returns-in_ok-kind-in-Event-clause-memory
-returns-in_ok-kind-in-Event-clause-memory c = λ failed.
-    let found = c.take_fields_of-in-Event.ensures.memory failed in
-    rw c.in-Event.is (kind_is_kept event_fields c.args.whole c.in_ok-kind-in-Event.kind found.0 c.args.rest.now c.in_ok-kind-in-Event.rest.now (sym c.fields_of_event.ensures ∙ found.1) c.in_ok-kind-in-Event.ensures.value)
+pub returns-in_ok-kind-in-Modifier-clause-memory : goal.returns-in_ok-kind-in-Modifier-clause-memory
+returns-in_ok-kind-in-Modifier-clause-memory c = λ failed.
+    let found = c.take_fields_of.ensures.memory failed in
+    let fields = c.fields_of_kind.ensures in
+    let kind = c.in_ok-kind-in-Modifier in
+    elim c.in-Modifier.is [
+      | inl e ↦ rw e (kind_is_kept modifier_fields c.args.whole kind.kind found.0 c.args.rest.now kind.rest.now (sym (rw e at fields) ∙ found.1) kind.ensures.value)
+      | inr e ↦ rw e (kind_is_kept event_fields c.args.whole kind.kind found.0 c.args.rest.now kind.rest.now (sym (rw e at fields) ∙ found.1) kind.ensures.value)
+    ]

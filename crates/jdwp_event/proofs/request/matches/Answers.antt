@@ -1,6 +1,6 @@
 use Rattle.std.proofs.lemmas.Grind.{common_steps}
 use Rattle.std.proofs.Common.{arith}
-use Rattle.jdwp_event.proofs.request.passes_limits.Goals as goal
+use Rattle.jdwp_event.proofs.request.matches.Goals as goal
 
 pub returns-then-not-passes : goal.returns-then-not-passes
 returns-then-not-passes c = grind (arith, common_steps)
