@@ -234,8 +234,7 @@ fn region_of(
 /// The value has an id that is too wide, and what was there is left.
 fn is_too_wide<T: Wire>(rt: &impl Abort, alloc: Global, value: &T) -> Result<(), Fail> {
     let sizes = IdSizes::new(1, 1, 1, 1, 1)?;
-    let mut bytes = Vec::new(alloc);
-    bytes.push(7)?;
+    let mut bytes = vec![in alloc; 7]?;
     let put = value.put(&sizes, &mut bytes);
     expect_same(rt, &put, &Err(DataFault::IdTooWide));
     expect_same(rt, &bytes.as_slice(), &[7].as_slice());

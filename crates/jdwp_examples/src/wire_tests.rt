@@ -10,8 +10,7 @@ use std::test::Fail;
 /// What a value is as bytes, which `size` counts and `pass_front` passes by.
 fn written<T: Wire>(rt: &impl Abort, alloc: Global, value: &T) -> Result<Vec<u8>, Fail> {
     let sizes = IdSizes::new(1, 1, 1, 1, 1)?;
-    let mut bytes = Vec::new(alloc);
-    bytes.push(0xee)?;
+    let mut bytes = vec![in alloc; 0xee]?;
     value.put(&sizes, &mut bytes)?;
     expect_same(rt, &value.size(&sizes), &Some(bytes.len() - 1));
     let rest = T::pass_front(&bytes.as_slice()[1..], bytes.len(), &sizes)?;

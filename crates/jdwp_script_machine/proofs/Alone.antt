@@ -1,6 +1,7 @@
--- Data that are nothing more, and data that are.
-use Rattle.std.proofs.Common.{◌≡◌, ◌≤◌, ◌<◌, List, [], ◌∷◌, length, refl, arith}
+-- Data that are nothing more, and data that are; and what is answered of what was asked.
+use Rattle.std.proofs.Common.{◌≡◌, ◌≤◌, ◌<◌, List, [], ◌∷◌, length, Result, IfOk, refl, sym, subst, ◌∙◌, arith}
 use Rattle.jdwp_wire.specs.ErrorCodes.{ILLEGAL_ARGUMENT}
+use Rattle.jdwp_wire.specs.declared.no_memory.NoMemory.{NoMemory}
 use Rattle.jdwp_layout.specs.declared.answer.Answer.{Answer}
 use Rattle.jdwp_layout.specs.declared.answer.Answer.TheVariants.{Error}
 use Rattle.jdwp_layout.specs.declared.datum.Datum.{Datum}
@@ -14,3 +15,10 @@ alone_none answer (x ∷ xs) h = absurd (omega arith)
 pub alone_more : (answer : Answer) (content : List Datum) → 1 ≤ length content → alone answer (meanings content) ≡ Error ILLEGAL_ARGUMENT
 alone_more answer [] h = absurd (omega arith)
 alone_more answer (x ∷ xs) h = refl
+
+pub answers_asked : (result : Result Answer NoMemory) (asked answer : Answer) → asked ≡ answer → IfOk result (λ a. a ≡ answer) → IfOk result (λ a. a ≡ asked)
+answers_asked result asked answer h told = subst (λ (x : Answer). IfOk result (λ a. a ≡ x)) (sym h) told
+
+pub answers_alone : (result : Result Answer NoMemory) (asked answer : Answer) (content : List Datum) → asked ≡ alone answer (meanings content) → length content < 1
+    → IfOk result (λ a. a ≡ answer) → IfOk result (λ a. a ≡ asked)
+answers_alone result asked answer content h k told = answers_asked result asked answer (h ∙ alone_none answer content k) told

@@ -54,31 +54,7 @@ method_answer_to method.VariableTable m = Data (One (Int m.args) ∷ Many (map v
 method_answer_to method.IsObsolete m = Data (One (Boolean false) ∷ [])
 method_answer_to method.GenericVariableTable m = Data (One (Int m.args) ∷ Many (map variable_entry_generic m.slots) ∷ [])
 
--- ---- what look-ups find
-
-abbrev pub found_class : Option (Bor Class) → Option ClassPart
-found_class None = None
-found_class (Some c) = Some (class_part c.now)
-
-abbrev pub found_method : Option (Bor Method) → Option MethodPart
-found_method None = None
-found_method (Some m) = Some (method_part m.now)
-
-abbrev pub found_field : Option (Bor Field) → Option FieldPart
-found_field None = None
-found_field (Some f) = Some (field_part f.now)
-
--- ---- what data name first
-
--- what is answered of the class that was found and of the data that are left, or else the refusal
-abbrev pub by_class : (ClassPart → Asks) → Result (Bor Class × Bor (List Datum)) ErrorCode → Answer
-by_class answer (Ok found) = answer (class_part found.0.now) (meanings found.1.now)
-by_class answer (Err error) = Error error
-
--- the same of a method of the class
-abbrev pub by_method : (MethodPart → Asks) → Result (Bor Method × Bor (List Datum)) ErrorCode → Answer
-by_method answer (Ok found) = answer (method_part found.0.now) (meanings found.1.now)
-by_method answer (Err error) = Error error
+-- ---- what data are left
 
 -- what is answered of the entries that are asked; other data are an illegal argument
 abbrev pub by_entries : (List (List ScalarMeaning) → Answer) → Option (Bor (List (Vec Scalar))) → Answer

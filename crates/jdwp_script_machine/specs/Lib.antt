@@ -9,6 +9,7 @@ pub mod Steps
 pub mod SlotWrites
 pub mod Changes
 pub mod Requests
+pub mod Asked
 pub mod Parts
 pub mod PartLaws
 pub mod ClassAnswers

@@ -127,8 +127,11 @@ abbrev pub threads_below : State → ℕ → List ThreadNow
 threads_below s group = filter (λ (e : ThreadNow). if is_living e.life then is_in_group s.script group e.id else false) s.threads
 
 -- the threads and the groups right below, each by rising id
+abbrev pub children : State → ℕ → Answer
+children s group = Data (Many (map thread_entry (threads_below s group)) ∷ Many (map group_entry (groups_below s.script group)) ∷ [])
+
 abbrev pub children_answer : State → GroupPart → Asks
-children_answer s g = alone (Data (Many (map thread_entry (threads_below s g.id)) ∷ Many (map group_entry (groups_below s.script g.id)) ∷ []))
+children_answer s g = alone (children s g.id)
 
 abbrev pub group_answer : State → ℕ → Asks
 group_answer s number content =

@@ -43,8 +43,11 @@ frames_listed script fs = Data (Many (map (frame_entry script) fs) ∷ [])
 abbrev pub frames_answer : ScriptPart → List FrameNow → Asks
 frames_answer script fs = of_part true (frames_listed script) fs
 
+abbrev pub count_answer : List FrameNow → Answer
+count_answer fs = Data (One (Int (pos (length fs))) ∷ [])
+
 abbrev pub frame_count_answer : List FrameNow → Asks
-frame_count_answer fs = alone (Data (One (Int (pos (length fs))) ∷ []))
+frame_count_answer fs = alone (count_answer fs)
 
 abbrev pub thread_answer_by : ScriptPart → (ℕ → Option (List FrameNow)) → ℕ → Asks
 thread_answer_by script frames number content =

@@ -39,10 +39,9 @@ pub(crate) fn arranged(alloc: Global, script: Script) -> Result<Script, NoMemory
 fn classes_arranged(alloc: Global, classes: Vec<Class>) -> Result<Vec<Class>, NoMemory>
     ensures { IfOk result (λ r. map class_part r.items ≡ map class_arranged (map class_part classes.items)) }
 {
-    let mut arranged = Vec::new(alloc);
+    let mut arranged = Vec::with_capacity(alloc, classes.len())?;
     for class in classes {
-        let class = class_arranged(alloc, class)?;
-        arranged.push(class)?;
+        arranged.push_reserved(class_arranged(alloc, class)?);
     }
     Ok(arranged)
 }

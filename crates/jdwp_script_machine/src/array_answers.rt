@@ -1,12 +1,13 @@
 //! What is answered of arrays (JDWP specification, "ArrayReference").
 ghost use Rattle.std.specs.Prelude.{◌≡◌, map, false, IfOk};
+ghost use Rattle.jdwp_wire.specs.ErrorCodes.{INVALID_ARRAY};
 ghost use Rattle.jdwp_layout.specs.Meanings.{meanings};
 ghost use Rattle.jdwp_script.specs.Meanings.{elements_part, object_part, script_part};
 ghost use Rattle.jdwp_script_machine.specs.StateMeanings.{state_now};
-ghost use Rattle.jdwp_script_machine.specs.Requests.{of_object, part_of};
+ghost use Rattle.jdwp_script_machine.specs.Requests.{found_or, of_object, part_of};
 ghost use Rattle.jdwp_script_machine.specs.ObjectAnswers.{element, length_answer, array_length_answer, region_answer, elements_asked, elements_answer, array_answer};
 
-use crate::places::object_of;
+use crate::asked::object_asked;
 use crate::replies::{of_datum, of_scalar};
 use crate::requests::{part_of, range_of};
 use crate::sites::tagged;
@@ -42,22 +43,17 @@ pub(crate) fn array_answer(
 fn array_length(alloc: Global, script: &Script, content: &[Datum]) -> Result<Answer, NoMemory>
     ensures { IfOk result (λ a. a ≡ of_object (script_part script.now) array_length_answer (meanings content.now)) }
 {
-    match content {
-        [Datum::One(Scalar::ObjectId(id)), rest @ ..] => match object_of(script, *id) {
-            Some(object) => length_of(alloc, object, rest),
-            None => Ok(Answer::Error(ErrorCode::INVALID_OBJECT)),
-        },
-        _ => Ok(Answer::Error(ErrorCode::ILLEGAL_ARGUMENT)),
+    match object_asked(script, content) {
+        Ok((object, [])) => length_of(alloc, object),
+        Ok(_) => Ok(Answer::Error(ErrorCode::ILLEGAL_ARGUMENT)),
+        Err(error) => Ok(Answer::Error(error)),
     }
 }
 
-/// The length of this object, where it is an array and nothing more is asked.
-fn length_of(alloc: Global, object: &Object, rest: &[Datum]) -> Result<Answer, NoMemory>
-    ensures { IfOk result (λ a. a ≡ array_length_answer (object_part object.now) (meanings rest.now)) }
+/// The length of this object, where it is an array.
+fn length_of(alloc: Global, object: &Object) -> Result<Answer, NoMemory>
+    ensures { IfOk result (λ a. a ≡ found_or INVALID_ARRAY length_answer (object_part object.now).array) }
 {
-    if !rest.is_empty() {
-        return Ok(Answer::Error(ErrorCode::ILLEGAL_ARGUMENT));
-    }
     match &object.array {
         Some(elements) => count_of(alloc, elements),
         None => Ok(Answer::Error(ErrorCode::INVALID_ARRAY)),
@@ -78,12 +74,9 @@ fn count_of(alloc: Global, elements: &Elements) -> Result<Answer, NoMemory>
 fn array_values(alloc: Global, script: &Script, content: &[Datum]) -> Result<Answer, NoMemory>
     ensures { IfOk result (λ a. a ≡ of_object (script_part script.now) (elements_answer (script_part script.now)) (meanings content.now)) }
 {
-    match content {
-        [Datum::One(Scalar::ObjectId(id)), rest @ ..] => match object_of(script, *id) {
-            Some(object) => values_of(alloc, script, object, rest),
-            None => Ok(Answer::Error(ErrorCode::INVALID_OBJECT)),
-        },
-        _ => Ok(Answer::Error(ErrorCode::ILLEGAL_ARGUMENT)),
+    match object_asked(script, content) {
+        Ok((object, rest)) => values_of(alloc, script, object, rest),
+        Err(error) => Ok(Answer::Error(error)),
     }
 }
 
@@ -158,7 +151,7 @@ fn elements_of(
 {
     let mut values = Vec::with_capacity(alloc, bits.len())?;
     for each in bits {
-        values.push(element(script, tag, *each))?;
+        values.push_reserved(element(script, tag, *each));
     }
     Ok(values)
 }

@@ -1,17 +1,19 @@
 //! What is answered of classes (JDWP specification, "ReferenceType" and "ClassType").
-ghost use Rattle.std.specs.Prelude.{◌≡◌, ℕ, List, option_map, map, IfOk, IfErr, IsTrue};
+ghost use Rattle.std.specs.Prelude.{◌≡◌, ◌∷◌, [], ℕ, List, option_map, map, IfOk, IfErr, IsTrue};
 ghost use Rattle.std.specs.String.{string_bytes};
-ghost use Rattle.jdwp_layout.specs.Meanings.{meanings};
+ghost use Rattle.jdwp_layout.specs.Meanings.{One, Text, meanings};
 ghost use Rattle.jdwp_script.specs.Parts.{ClassPart};
 ghost use Rattle.jdwp_script.specs.Meanings.{class_part, script_part};
 ghost use Rattle.jdwp_script_machine.specs.Requests.{Asks, alone, of_class, of_prepared_class};
 ghost use Rattle.jdwp_script_machine.specs.StateMeanings.{state_now};
 ghost use Rattle.jdwp_script_machine.specs.ClassAnswers.{source_answer, statics_answer, reference_type_answer, class_type_answer};
-ghost use Rattle.jdwp_script_machine.specs.ClassQuestions.{class_answer_to, by_class, takes_memory};
+ghost use Rattle.jdwp_script_machine.specs.ClassQuestions.{class_answer_to, takes_memory};
 
+use crate::asked::{class_asked, prepared_asked};
 use crate::class_entries::{GenericMemberEntry, InterfaceEntry, MemberEntry};
-use crate::class_look_ups::{class_by_id, is_prepared, status};
-use crate::entries::{Tell, empty_text, pair, single, single_text, text};
+use crate::class_look_ups::status;
+use crate::entries::{Tell, empty_text, text};
+use crate::replies::{of_pair, of_scalar, of_text};
 use crate::state::MachineState;
 use crate::static_values::static_values;
 use jdwp_layout::numbers::{
@@ -103,44 +105,6 @@ pub fn class_type_answer(
     }
 }
 
-/// The class that the data name first and the data that are left, or else the refusal.
-pub(crate) fn class_asked<'a>(
-    script: &'a Script,
-    content: &'a [Datum],
-) -> Result<(&'a Class, &'a [Datum]), ErrorCode>
-    ensures { (answer : ClassPart → Asks) → of_class (script_part script.now) answer (meanings content.now) ≡ by_class answer result }
-{
-    let Some((first, rest)) = content.split_first() else {
-        return Err(ErrorCode::ILLEGAL_ARGUMENT);
-    };
-    let Datum::One(Scalar::ReferenceTypeId(id)) = first else {
-        return Err(ErrorCode::ILLEGAL_ARGUMENT);
-    };
-    match class_by_id(&script.classes, *id) {
-        Some(class) => Ok((class, rest)),
-        None => Err(ErrorCode::INVALID_CLASS),
-    }
-}
-
-/// The same of a class that has to be prepared.
-fn prepared_asked<'a>(
-    state: &'a MachineState,
-    content: &'a [Datum],
-) -> Result<(&'a Class, &'a [Datum]), ErrorCode>
-    ensures { (answer : ClassPart → Asks) → of_prepared_class (state_now state.now) answer (meanings content.now) ≡ by_class answer result }
-{
-    match class_asked(&state.script, content) {
-        Ok((class, rest)) => {
-            if is_prepared(state, class.id) {
-                Ok((class, rest))
-            } else {
-                Err(ErrorCode::CLASS_NOT_PREPARED)
-            }
-        }
-        Err(error) => Err(error),
-    }
-}
-
 /// The answer to the question of the class that the data name, and nothing more.
 fn of_class(
     alloc: Global,
@@ -205,30 +169,27 @@ fn class_answer_to(
     ensures memory { IfErr result (λ _. IsTrue (takes_memory (class_answer_to (state_now state.now) question (class_part class.now)))) }
 {
     match question {
-        ClassQuestion::Signature => single_text(alloc, &class.signature),
-        ClassQuestion::Loader => single(alloc, Datum::One(Scalar::ObjectId(ObjectId(0)))),
-        ClassQuestion::Modifiers => single(alloc, Datum::One(Scalar::Int(class.modifiers))),
-        ClassQuestion::Fields => single(alloc, MemberEntry.tell_each(alloc, &class.fields)?),
-        ClassQuestion::Methods => single(alloc, MemberEntry.tell_each(alloc, &class.methods)?),
+        ClassQuestion::Signature => of_text(alloc, &class.signature),
+        ClassQuestion::Loader => of_scalar(alloc, Scalar::ObjectId(ObjectId(0))),
+        ClassQuestion::Modifiers => of_scalar(alloc, Scalar::Int(class.modifiers)),
+        ClassQuestion::Fields => MemberEntry.answer_each(alloc, &class.fields),
+        ClassQuestion::Methods => MemberEntry.answer_each(alloc, &class.methods),
         ClassQuestion::SourceFile => source_file(alloc, class),
-        ClassQuestion::Status => { single(alloc, Datum::One(Scalar::Int(status(state, class.id)))) }
-        ClassQuestion::Interfaces => {
-            single(alloc, InterfaceEntry.tell_each(alloc, &class.interfaces)?)
-        }
-        ClassQuestion::GenericSignature => {
-            let signature = Datum::One(text(alloc, &class.signature)?);
-            pair(alloc, signature, Datum::One(empty_text(alloc)))
-        }
-        ClassQuestion::GenericFields => {
-            single(alloc, GenericMemberEntry.tell_each(alloc, &class.fields)?)
-        }
-        ClassQuestion::GenericMethods => {
-            single(alloc, GenericMemberEntry.tell_each(alloc, &class.methods)?)
-        }
-        ClassQuestion::Superclass => {
-            single(alloc, Datum::One(Scalar::ReferenceTypeId(class.superclass)))
-        }
+        ClassQuestion::Status => of_scalar(alloc, Scalar::Int(status(state, class.id))),
+        ClassQuestion::Interfaces => InterfaceEntry.answer_each(alloc, &class.interfaces),
+        ClassQuestion::GenericSignature => generic_signature(alloc, class),
+        ClassQuestion::GenericFields => GenericMemberEntry.answer_each(alloc, &class.fields),
+        ClassQuestion::GenericMethods => GenericMemberEntry.answer_each(alloc, &class.methods),
+        ClassQuestion::Superclass => of_scalar(alloc, Scalar::ReferenceTypeId(class.superclass)),
     }
+}
+
+/// The class's signature, and its generic signature, which is empty.
+fn generic_signature(alloc: Global, class: &Class) -> Result<Answer, NoMemory>
+    ensures { IfOk result (λ a. a ≡ Answer.Data (One (Text (string_bytes class.now.signature)) ∷ One (Text []) ∷ [])) }
+{
+    let signature = text(alloc, &class.signature)?;
+    of_pair(alloc, Datum::One(signature), Datum::One(empty_text(alloc)))
 }
 
 /// The name of the class's source file.
@@ -238,7 +199,7 @@ fn source_file(alloc: Global, class: &Class) -> Result<Answer, NoMemory>
     ensures memory { IfErr result (λ _. IsTrue (takes_memory (source_answer (option_map string_bytes class.now.source)))) }
 {
     match &class.source {
-        Some(source) => single_text(alloc, source),
+        Some(source) => of_text(alloc, source),
         None => Ok(Answer::Error(ErrorCode::ABSENT_INFORMATION)),
     }
 }

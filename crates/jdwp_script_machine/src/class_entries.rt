@@ -1,9 +1,9 @@
 //! The entries of lists of classes, fields, methods, interfaces, lines and variables.
-ghost use Rattle.std.specs.Prelude.{◌≡◌, ℕ};
+ghost use Rattle.std.specs.Prelude.{◌≡◌, ℕ, IfOk};
 ghost use Rattle.jdwp_script.specs.Parts.{ClassPart, FieldPart, MethodPart, SlotPart};
 ghost use Rattle.jdwp_script.specs.Meanings.{class_part, field_part, method_part, slot_part};
 ghost use Rattle.jdwp_script.specs.declared.script.Line as declared;
-ghost use Rattle.jdwp_layout.specs.Meanings.{scalar_meaning};
+ghost use Rattle.jdwp_layout.specs.Meanings.{Text, scalar_meaning};
 ghost use Rattle.jdwp_script_machine.specs.StateMeanings.{state_now};
 ghost use Rattle.jdwp_script_machine.specs.ClassAnswers.{class_entry_signed, class_entry_generic, field_entry, field_entry_generic, method_entry, method_entry_generic, interface_entry, index_long, line_entry, variable_entry, variable_entry_generic};
 
@@ -30,12 +30,13 @@ impl<'a> Tell<Class> for ClassEntry<'a> {
     ghost tells = { λ self c. class_entry_signed (state_now self.state.now) c };
 
     fn tell(&self, alloc: Global, class: &Class) -> Result<Vec<Scalar>, NoMemory> {
-        let mut entry = Vec::with_capacity(alloc, 4)?;
-        entry.push(Scalar::Byte(class.tag.byte()))?;
-        entry.push(Scalar::ReferenceTypeId(class.id))?;
-        entry.push(text(alloc, &class.signature)?)?;
-        entry.push(Scalar::Int(status(self.state, class.id)))?;
-        Ok(entry)
+        let signature = text(alloc, &class.signature)?;
+        Ok(vec![in alloc;
+            Scalar::Byte(class.tag.byte()),
+            Scalar::ReferenceTypeId(class.id),
+            signature,
+            Scalar::Int(status(self.state, class.id)),
+        ]?)
     }
 }
 
@@ -53,14 +54,24 @@ impl<'a> Tell<Class> for GenericClassEntry<'a> {
     ghost tells = { λ self c. class_entry_generic (state_now self.state.now) c };
 
     fn tell(&self, alloc: Global, class: &Class) -> Result<Vec<Scalar>, NoMemory> {
-        let mut entry = Vec::with_capacity(alloc, 5)?;
-        entry.push(Scalar::Byte(class.tag.byte()))?;
-        entry.push(Scalar::ReferenceTypeId(class.id))?;
-        entry.push(text(alloc, &class.signature)?)?;
-        entry.push(empty_text(alloc))?;
-        entry.push(Scalar::Int(status(self.state, class.id)))?;
-        Ok(entry)
+        let signature = text(alloc, &class.signature)?;
+        Ok(vec![in alloc;
+            Scalar::Byte(class.tag.byte()),
+            Scalar::ReferenceTypeId(class.id),
+            signature,
+            empty_text(alloc),
+            Scalar::Int(status(self.state, class.id)),
+        ]?)
     }
+}
+
+/// A name and a signature, as fields.
+fn named(alloc: Global, name: &str, signature: &str) -> Result<(Scalar, Scalar), NoMemory>
+    ensures { IfOk result (λ p. scalar_meaning p.0 ≡ Text name.now × scalar_meaning p.1 ≡ Text signature.now) }
+{
+    let name = text(alloc, name)?;
+    let signature = text(alloc, signature)?;
+    Ok((name, signature))
 }
 
 /// A field or a method in Fields and Methods.
@@ -74,12 +85,13 @@ impl Tell<Field> for MemberEntry {
     ghost tells = { λ _ f. field_entry f };
 
     fn tell(&self, alloc: Global, field: &Field) -> Result<Vec<Scalar>, NoMemory> {
-        let mut entry = Vec::with_capacity(alloc, 4)?;
-        entry.push(Scalar::FieldId(field.id))?;
-        entry.push(text(alloc, &field.name)?)?;
-        entry.push(text(alloc, &field.signature)?)?;
-        entry.push(Scalar::Int(field.modifiers))?;
-        Ok(entry)
+        let (name, signature) = named(alloc, &field.name, &field.signature)?;
+        Ok(vec![in alloc;
+            Scalar::FieldId(field.id),
+            name,
+            signature,
+            Scalar::Int(field.modifiers),
+        ]?)
     }
 }
 
@@ -91,12 +103,13 @@ impl Tell<Method> for MemberEntry {
     ghost tells = { λ _ m. method_entry m };
 
     fn tell(&self, alloc: Global, method: &Method) -> Result<Vec<Scalar>, NoMemory> {
-        let mut entry = Vec::with_capacity(alloc, 4)?;
-        entry.push(Scalar::MethodId(method.id))?;
-        entry.push(text(alloc, &method.name)?)?;
-        entry.push(text(alloc, &method.signature)?)?;
-        entry.push(Scalar::Int(method.modifiers))?;
-        Ok(entry)
+        let (name, signature) = named(alloc, &method.name, &method.signature)?;
+        Ok(vec![in alloc;
+            Scalar::MethodId(method.id),
+            name,
+            signature,
+            Scalar::Int(method.modifiers),
+        ]?)
     }
 }
 
@@ -111,13 +124,14 @@ impl Tell<Field> for GenericMemberEntry {
     ghost tells = { λ _ f. field_entry_generic f };
 
     fn tell(&self, alloc: Global, field: &Field) -> Result<Vec<Scalar>, NoMemory> {
-        let mut entry = Vec::with_capacity(alloc, 5)?;
-        entry.push(Scalar::FieldId(field.id))?;
-        entry.push(text(alloc, &field.name)?)?;
-        entry.push(text(alloc, &field.signature)?)?;
-        entry.push(empty_text(alloc))?;
-        entry.push(Scalar::Int(field.modifiers))?;
-        Ok(entry)
+        let (name, signature) = named(alloc, &field.name, &field.signature)?;
+        Ok(vec![in alloc;
+            Scalar::FieldId(field.id),
+            name,
+            signature,
+            empty_text(alloc),
+            Scalar::Int(field.modifiers),
+        ]?)
     }
 }
 
@@ -129,13 +143,14 @@ impl Tell<Method> for GenericMemberEntry {
     ghost tells = { λ _ m. method_entry_generic m };
 
     fn tell(&self, alloc: Global, method: &Method) -> Result<Vec<Scalar>, NoMemory> {
-        let mut entry = Vec::with_capacity(alloc, 5)?;
-        entry.push(Scalar::MethodId(method.id))?;
-        entry.push(text(alloc, &method.name)?)?;
-        entry.push(text(alloc, &method.signature)?)?;
-        entry.push(empty_text(alloc))?;
-        entry.push(Scalar::Int(method.modifiers))?;
-        Ok(entry)
+        let (name, signature) = named(alloc, &method.name, &method.signature)?;
+        Ok(vec![in alloc;
+            Scalar::MethodId(method.id),
+            name,
+            signature,
+            empty_text(alloc),
+            Scalar::Int(method.modifiers),
+        ]?)
     }
 }
 
@@ -150,9 +165,7 @@ impl Tell<ReferenceTypeId> for InterfaceEntry {
     ghost tells = { λ _ i. interface_entry i };
 
     fn tell(&self, alloc: Global, id: &ReferenceTypeId) -> Result<Vec<Scalar>, NoMemory> {
-        let mut entry = Vec::with_capacity(alloc, 1)?;
-        entry.push(Scalar::ReferenceTypeId(*id))?;
-        Ok(entry)
+        Ok(vec![in alloc; Scalar::ReferenceTypeId(*id)]?)
     }
 }
 
@@ -174,10 +187,7 @@ impl Tell<Line> for LineEntry {
     ghost tells = { λ _ l. line_entry l };
 
     fn tell(&self, alloc: Global, line: &Line) -> Result<Vec<Scalar>, NoMemory> {
-        let mut entry = Vec::with_capacity(alloc, 2)?;
-        entry.push(long_of_index(line.index))?;
-        entry.push(Scalar::Int(line.line))?;
-        Ok(entry)
+        Ok(vec![in alloc; long_of_index(line.index), Scalar::Int(line.line)]?)
     }
 }
 
@@ -192,13 +202,14 @@ impl Tell<Slot> for VariableEntry {
     ghost tells = { λ _ x. variable_entry x };
 
     fn tell(&self, alloc: Global, slot: &Slot) -> Result<Vec<Scalar>, NoMemory> {
-        let mut entry = Vec::with_capacity(alloc, 5)?;
-        entry.push(long_of_index(slot.from))?;
-        entry.push(text(alloc, &slot.name)?)?;
-        entry.push(text(alloc, &slot.signature)?)?;
-        entry.push(Scalar::Int(slot.length))?;
-        entry.push(Scalar::Int(slot.slot))?;
-        Ok(entry)
+        let (name, signature) = named(alloc, &slot.name, &slot.signature)?;
+        Ok(vec![in alloc;
+            long_of_index(slot.from),
+            name,
+            signature,
+            Scalar::Int(slot.length),
+            Scalar::Int(slot.slot),
+        ]?)
     }
 }
 
@@ -213,13 +224,14 @@ impl Tell<Slot> for GenericVariableEntry {
     ghost tells = { λ _ x. variable_entry_generic x };
 
     fn tell(&self, alloc: Global, slot: &Slot) -> Result<Vec<Scalar>, NoMemory> {
-        let mut entry = Vec::with_capacity(alloc, 6)?;
-        entry.push(long_of_index(slot.from))?;
-        entry.push(text(alloc, &slot.name)?)?;
-        entry.push(text(alloc, &slot.signature)?)?;
-        entry.push(empty_text(alloc))?;
-        entry.push(Scalar::Int(slot.length))?;
-        entry.push(Scalar::Int(slot.slot))?;
-        Ok(entry)
+        let (name, signature) = named(alloc, &slot.name, &slot.signature)?;
+        Ok(vec![in alloc;
+            long_of_index(slot.from),
+            name,
+            signature,
+            empty_text(alloc),
+            Scalar::Int(slot.length),
+            Scalar::Int(slot.slot),
+        ]?)
     }
 }

@@ -1,8 +1,9 @@
-//! Data of replies, put together: texts, single items, and lists with an entry for each thing.
+//! Data of replies, put together: texts, and lists with an entry for each thing.
 ghost use Rattle.std.specs.Prelude.{◌≡◌, [], ◌∷◌, map, IfOk};
-ghost use Rattle.jdwp_layout.specs.Meanings.{One, Many, Text, scalar_meaning, datum_meaning, entry_meaning};
+ghost use Rattle.jdwp_layout.specs.Meanings.{Many, Text, scalar_meaning, datum_meaning, entry_meaning};
 
-use jdwp_layout::{Answer, Data, Datum, Scalar};
+use crate::replies::of_datum;
+use jdwp_layout::{Answer, Datum, Scalar};
 use jdwp_wire::NoMemory;
 use std::alloc::Global;
 
@@ -27,12 +28,18 @@ pub(crate) trait Tell<T> {
     final fn tell_each(&self, alloc: Global, things: &[T]) -> Result<Datum, NoMemory>
         ensures { IfOk result (λ datum. datum_meaning datum ≡ Many (map (tells self.now) (map meaning things.now))) }
     {
-        let mut entries = Vec::new(alloc);
+        let mut entries = Vec::with_capacity(alloc, things.len())?;
         for thing in things {
-            let entry = self.tell(alloc, thing)?;
-            entries.push(entry)?;
+            entries.push_reserved(self.tell(alloc, thing)?);
         }
         Ok(Datum::Many(entries))
+    }
+
+    /// The answer that is the list with the entry of each thing, in order.
+    final fn answer_each(&self, alloc: Global, things: &[T]) -> Result<Answer, NoMemory>
+        ensures { IfOk result (λ answer. answer ≡ Answer.Data (Many (map (tells self.now) (map meaning things.now)) ∷ [])) }
+    {
+        of_datum(alloc, self.tell_each(alloc, things)?)
     }
 }
 
@@ -48,30 +55,4 @@ pub(crate) fn empty_text(alloc: Global) -> Scalar
     ensures { scalar_meaning result ≡ Text [] }
 {
     Scalar::String(String::new(alloc))
-}
-
-/// The answer that is this item alone.
-pub(crate) fn single(alloc: Global, item: Datum) -> Result<Answer, NoMemory>
-    ensures { IfOk result (λ answer. answer ≡ Answer.Data (datum_meaning item ∷ [])) }
-{
-    let mut items = Vec::with_capacity(alloc, 1)?;
-    items.push(item)?;
-    Ok(Answer::Data(Data::new(items)))
-}
-
-/// The answer that is these two items.
-pub(crate) fn pair(alloc: Global, first: Datum, second: Datum) -> Result<Answer, NoMemory>
-    ensures { IfOk result (λ answer. answer ≡ Answer.Data (datum_meaning first ∷ datum_meaning second ∷ [])) }
-{
-    let mut items = Vec::with_capacity(alloc, 2)?;
-    items.push(first)?;
-    items.push(second)?;
-    Ok(Answer::Data(Data::new(items)))
-}
-
-/// The answer that is this text alone.
-pub(crate) fn single_text(alloc: Global, content: &str) -> Result<Answer, NoMemory>
-    ensures { IfOk result (λ answer. answer ≡ Answer.Data (One (Text content.now) ∷ [])) }
-{
-    single(alloc, Datum::One(text(alloc, content)?))
 }

@@ -4,11 +4,11 @@ ghost use Rattle.std.specs.List.{list_all};
 ghost use Rattle.jdwp_layout.specs.Meanings.{meanings, scalar_meanings, entry_meanings};
 ghost use Rattle.jdwp_script.specs.Meanings.{script_part};
 ghost use Rattle.jdwp_script_machine.specs.StateMeanings.{slot_now, frame_now, state_now};
-ghost use Rattle.jdwp_script_machine.specs.Requests.{of_frame, of_frame_in};
+ghost use Rattle.jdwp_script_machine.specs.Requests.{of_frame};
 ghost use Rattle.jdwp_script_machine.specs.ThreadAnswers.{frames_at, entry_has_slot, entry_slot, slot_entries, slots_answer, this_answer, stack_frame_answer_by};
 ghost use Rattle.jdwp_script_machine.specs.SlotQuestions.{suits_byte, entry_asks, slots_told};
 
-use crate::places::{frame_of, frames_of};
+use crate::asked::frame_asked;
 use crate::replies::{of_entries, of_scalar, value_entry};
 use crate::requests::entries_of;
 use crate::sites::tagged;
@@ -16,7 +16,6 @@ use crate::slots::{has_slot, slot_value, suits};
 use crate::state::{FrameState, MachineState, SlotState};
 use jdwp_layout::numbers::{GET_SLOTS, THIS_OBJECT};
 use jdwp_layout::{Answer, Datum, Scalar};
-use jdwp_script::Script;
 use jdwp_value::{Tag, Value};
 use jdwp_wire::{ErrorCode, NoMemory};
 use std::alloc::Global;
@@ -45,25 +44,9 @@ pub(crate) fn stack_frame_answer(
 fn slot_values(alloc: Global, state: &MachineState, content: &[Datum]) -> Result<Answer, NoMemory>
     ensures { IfOk result (λ a. a ≡ of_frame (frames_at (state_now state.now)) slots_answer (meanings content.now)) }
 {
-    match content {
-        [Datum::One(Scalar::ObjectId(id)), rest @ ..] => match frames_of(state, *id) {
-            Some(frames) => values_in(alloc, frames, rest),
-            None => Ok(Answer::Error(ErrorCode::INVALID_OBJECT)),
-        },
-        _ => Ok(Answer::Error(ErrorCode::ILLEGAL_ARGUMENT)),
-    }
-}
-
-/// The values of slots of one of these frames.
-fn values_in(alloc: Global, frames: &[FrameState], content: &[Datum]) -> Result<Answer, NoMemory>
-    ensures { IfOk result (λ a. a ≡ of_frame_in slots_answer (map frame_now frames.now) (meanings content.now)) }
-{
-    match content {
-        [Datum::One(Scalar::FrameId(id)), rest @ ..] => match frame_of(frames, *id) {
-            Some(frame) => values_of(alloc, frame, rest),
-            None => Ok(Answer::Error(ErrorCode::INVALID_FRAMEID)),
-        },
-        _ => Ok(Answer::Error(ErrorCode::ILLEGAL_ARGUMENT)),
+    match frame_asked(state, content) {
+        Ok((frame, rest)) => values_of(alloc, frame, rest),
+        Err(error) => Ok(Answer::Error(error)),
     }
 }
 
@@ -163,8 +146,7 @@ fn values_listed(
     let mut found = Vec::with_capacity(alloc, entries.len())?;
     for entry in entries {
         if let Some(value) = entry_slot(slots, entry) {
-            let value = value_entry(alloc, value)?;
-            found.push(value)?;
+            found.push_reserved(value_entry(alloc, value)?);
         }
     }
     Ok(found)
@@ -183,44 +165,12 @@ fn entry_slot(slots: &[SlotState], entry: &[Scalar]) -> Option<Value>
 fn this_object(alloc: Global, state: &MachineState, content: &[Datum]) -> Result<Answer, NoMemory>
     ensures { IfOk result (λ a. a ≡ of_frame (frames_at (state_now state.now)) (this_answer (script_part state.now.script)) (meanings content.now)) }
 {
-    match content {
-        [Datum::One(Scalar::ObjectId(id)), rest @ ..] => match frames_of(state, *id) {
-            Some(frames) => this_in(alloc, &state.script, frames, rest),
-            None => Ok(Answer::Error(ErrorCode::INVALID_OBJECT)),
-        },
-        _ => Ok(Answer::Error(ErrorCode::ILLEGAL_ARGUMENT)),
-    }
-}
-
-/// The `this` of one of these frames.
-fn this_in(
-    alloc: Global,
-    script: &Script,
-    frames: &[FrameState],
-    content: &[Datum],
-) -> Result<Answer, NoMemory>
-    ensures { IfOk result (λ a. a ≡ of_frame_in (this_answer (script_part script.now)) (map frame_now frames.now) (meanings content.now)) }
-{
-    match content {
-        [Datum::One(Scalar::FrameId(id)), rest @ ..] => match frame_of(frames, *id) {
-            Some(frame) => this_of(alloc, script, frame, rest),
-            None => Ok(Answer::Error(ErrorCode::INVALID_FRAMEID)),
-        },
-        _ => Ok(Answer::Error(ErrorCode::ILLEGAL_ARGUMENT)),
-    }
-}
-
-/// The `this` of this frame, where nothing more is asked.
-fn this_of(
-    alloc: Global,
-    script: &Script,
-    frame: &FrameState,
-    rest: &[Datum],
-) -> Result<Answer, NoMemory>
-    ensures { IfOk result (λ a. a ≡ this_answer (script_part script.now) (frame_now frame.now) (meanings rest.now)) }
-{
-    match rest {
-        [] => of_scalar(alloc, Scalar::TaggedId(tagged(script, frame.this))),
-        _ => Ok(Answer::Error(ErrorCode::ILLEGAL_ARGUMENT)),
+    match frame_asked(state, content) {
+        Ok((frame, [])) => {
+            let this = tagged(&state.script, frame.this);
+            of_scalar(alloc, Scalar::TaggedId(this))
+        }
+        Ok(_) => Ok(Answer::Error(ErrorCode::ILLEGAL_ARGUMENT)),
+        Err(error) => Ok(Answer::Error(error)),
     }
 }

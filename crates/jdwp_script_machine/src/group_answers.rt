@@ -1,20 +1,21 @@
 //! What is answered of thread groups (JDWP specification, "ThreadGroupReference").
 ghost use Rattle.std.specs.Prelude.{◌≡◌, map, IfOk};
 ghost use Rattle.jdwp_layout.specs.Meanings.{meanings, entry_meanings};
-ghost use Rattle.jdwp_script.specs.Meanings.{group_part, script_part};
+ghost use Rattle.jdwp_script.specs.Meanings.{script_part};
 ghost use Rattle.jdwp_script_machine.specs.States.{is_living};
 ghost use Rattle.jdwp_script_machine.specs.StateMeanings.{life_now, thread_now, state_now};
 ghost use Rattle.jdwp_script_machine.specs.Requests.{of_group};
 ghost use Rattle.jdwp_script_machine.specs.ClassAnswers.{group_entry, groups_below};
-ghost use Rattle.jdwp_script_machine.specs.ObjectAnswers.{group_name_answer, parent_answer, is_in_group, thread_entry, threads_below, children_answer, group_answer};
+ghost use Rattle.jdwp_script_machine.specs.ObjectAnswers.{group_name_answer, parent_answer, is_in_group, thread_entry, threads_below, children, children_answer, group_answer};
 ghost use Rattle.jdwp_script_machine.specs.Lives.{lives_in};
 
-use crate::places::{group_of, thread_of};
-use crate::replies::{object_entry, of_pair, of_scalar};
+use crate::asked::group_asked;
+use crate::places::thread_of;
+use crate::replies::{object_entry, of_pair, of_scalar, of_text};
 use crate::state::{Life, MachineState, ThreadState};
 use jdwp_layout::numbers::{GROUP_CHILDREN, GROUP_NAME, GROUP_PARENT};
 use jdwp_layout::{Answer, Datum, Scalar};
-use jdwp_script::{Group, Script};
+use jdwp_script::Script;
 use jdwp_value::ObjectId;
 use jdwp_wire::{ErrorCode, NoMemory};
 use std::alloc::Global;
@@ -44,76 +45,41 @@ pub(crate) fn group_answer(
 fn name(alloc: Global, script: &Script, content: &[Datum]) -> Result<Answer, NoMemory>
     ensures { IfOk result (λ a. a ≡ of_group (script_part script.now) group_name_answer (meanings content.now)) }
 {
-    match content {
-        [Datum::One(Scalar::ObjectId(id)), rest @ ..] => match group_of(script, *id) {
-            Some(group) => name_of(alloc, group, rest),
-            None => Ok(Answer::Error(ErrorCode::INVALID_THREAD_GROUP)),
-        },
-        _ => Ok(Answer::Error(ErrorCode::ILLEGAL_ARGUMENT)),
+    match group_asked(script, content) {
+        Ok((group, [])) => of_text(alloc, &group.name),
+        Ok(_) => Ok(Answer::Error(ErrorCode::ILLEGAL_ARGUMENT)),
+        Err(error) => Ok(Answer::Error(error)),
     }
-}
-
-/// The name of this group, where nothing more is asked.
-fn name_of(alloc: Global, group: &Group, rest: &[Datum]) -> Result<Answer, NoMemory>
-    ensures { IfOk result (λ a. a ≡ group_name_answer (group_part group.now) (meanings rest.now)) }
-{
-    if !rest.is_empty() {
-        return Ok(Answer::Error(ErrorCode::ILLEGAL_ARGUMENT));
-    }
-    let name = String::from_str(alloc, &group.name)?;
-    of_scalar(alloc, Scalar::String(name))
 }
 
 /// The parent of a group.
 fn parent(alloc: Global, script: &Script, content: &[Datum]) -> Result<Answer, NoMemory>
     ensures { IfOk result (λ a. a ≡ of_group (script_part script.now) parent_answer (meanings content.now)) }
 {
-    match content {
-        [Datum::One(Scalar::ObjectId(id)), rest @ ..] => match group_of(script, *id) {
-            Some(group) => parent_of(alloc, group, rest),
-            None => Ok(Answer::Error(ErrorCode::INVALID_THREAD_GROUP)),
-        },
-        _ => Ok(Answer::Error(ErrorCode::ILLEGAL_ARGUMENT)),
+    match group_asked(script, content) {
+        Ok((group, [])) => of_scalar(alloc, Scalar::ObjectId(group.parent)),
+        Ok(_) => Ok(Answer::Error(ErrorCode::ILLEGAL_ARGUMENT)),
+        Err(error) => Ok(Answer::Error(error)),
     }
-}
-
-/// The parent of this group, where nothing more is asked.
-fn parent_of(alloc: Global, group: &Group, rest: &[Datum]) -> Result<Answer, NoMemory>
-    ensures { IfOk result (λ a. a ≡ parent_answer (group_part group.now) (meanings rest.now)) }
-{
-    if !rest.is_empty() {
-        return Ok(Answer::Error(ErrorCode::ILLEGAL_ARGUMENT));
-    }
-    of_scalar(alloc, Scalar::ObjectId(group.parent))
 }
 
 /// The threads and the groups right below a group.
 fn children(alloc: Global, state: &MachineState, content: &[Datum]) -> Result<Answer, NoMemory>
     ensures { IfOk result (λ a. a ≡ of_group (script_part state.now.script) (children_answer (state_now state.now)) (meanings content.now)) }
 {
-    match content {
-        [Datum::One(Scalar::ObjectId(id)), rest @ ..] => match group_of(&state.script, *id) {
-            Some(group) => children_of(alloc, state, group, rest),
-            None => Ok(Answer::Error(ErrorCode::INVALID_THREAD_GROUP)),
-        },
-        _ => Ok(Answer::Error(ErrorCode::ILLEGAL_ARGUMENT)),
+    match group_asked(&state.script, content) {
+        Ok((group, [])) => children_of(alloc, state, group.id),
+        Ok(_) => Ok(Answer::Error(ErrorCode::ILLEGAL_ARGUMENT)),
+        Err(error) => Ok(Answer::Error(error)),
     }
 }
 
-/// The threads and the groups right below this group, where nothing more is asked.
-fn children_of(
-    alloc: Global,
-    state: &MachineState,
-    group: &Group,
-    rest: &[Datum],
-) -> Result<Answer, NoMemory>
-    ensures { IfOk result (λ a. a ≡ children_answer (state_now state.now) (group_part group.now) (meanings rest.now)) }
+/// The threads and the groups right below this group.
+fn children_of(alloc: Global, state: &MachineState, group: ObjectId) -> Result<Answer, NoMemory>
+    ensures { IfOk result (λ a. a ≡ children (state_now state.now) group.0) }
 {
-    if !rest.is_empty() {
-        return Ok(Answer::Error(ErrorCode::ILLEGAL_ARGUMENT));
-    }
-    let threads = threads_below(alloc, state, group.id)?;
-    let groups = groups_below(alloc, &state.script, group.id)?;
+    let threads = threads_below(alloc, state, group)?;
+    let groups = groups_below(alloc, &state.script, group)?;
     of_pair(alloc, Datum::Many(threads), Datum::Many(groups))
 }
 
@@ -161,8 +127,8 @@ fn is_in_group(script: &Script, group: ObjectId, thread: ObjectId) -> bool
     }
 }
 
-/// The entries of the groups right below a group.
-fn groups_below(
+/// The entries of the groups whose parent is this; with 0, of those that have none.
+pub(crate) fn groups_below(
     alloc: Global,
     script: &Script,
     parent: ObjectId,

@@ -4,6 +4,7 @@
 mod answers;
 mod arranging;
 mod array_answers;
+mod asked;
 mod class_answers;
 mod class_entries;
 mod class_look_ups;

@@ -5,12 +5,14 @@ ghost use Rattle.jdwp_script.specs.Parts.{ClassPart};
 ghost use Rattle.jdwp_script.specs.Meanings.{class_part, script_part};
 ghost use Rattle.jdwp_script_machine.specs.Requests.{alone};
 ghost use Rattle.jdwp_script_machine.specs.StateMeanings.{state_now};
-ghost use Rattle.jdwp_script_machine.specs.ClassAnswers.{version, class_entry, classes_by_signature, group_entry, groups_below, incapable, disposed, virtual_machine_answer};
+ghost use Rattle.jdwp_script_machine.specs.ClassAnswers.{version, class_entry, classes_by_signature, incapable, disposed, virtual_machine_answer};
 ghost use Rattle.jdwp_script_machine.specs.ClassQuestions.{machine_answer_to, takes_memory};
 
 use crate::class_entries::{ClassEntry, GenericClassEntry};
 use crate::class_look_ups::status;
-use crate::entries::{Tell, single, text};
+use crate::entries::{Tell, text};
+use crate::group_answers::groups_below;
+use crate::replies::{of_datum, of_entries};
 use crate::state::MachineState;
 use jdwp_layout::numbers::{
     ALL_CLASSES, ALL_CLASSES_WITH_GENERIC, CAPABILITIES, CAPABILITIES_NEW, CLASSES_BY_SIGNATURE,
@@ -102,18 +104,14 @@ fn machine_answer_to(
     let script = &state.script;
     match question {
         MachineQuestion::Version => version(alloc, script),
-        MachineQuestion::AllClasses => {
-            let entry = ClassEntry { state };
-            single(alloc, entry.tell_each(alloc, &script.classes)?)
-        }
+        MachineQuestion::AllClasses => { ClassEntry { state }.answer_each(alloc, &script.classes) }
         MachineQuestion::TopLevelThreadGroups => {
-            single(alloc, groups_below(alloc, script, ObjectId(0))?)
+            of_entries(alloc, groups_below(alloc, script, ObjectId(0))?)
         }
         MachineQuestion::Capabilities => incapable(alloc, 7),
         MachineQuestion::CapabilitiesNew => incapable(alloc, 32),
         MachineQuestion::AllClassesWithGeneric => {
-            let entry = GenericClassEntry { state };
-            single(alloc, entry.tell_each(alloc, &script.classes)?)
+            GenericClassEntry { state }.answer_each(alloc, &script.classes)
         }
     }
 }
@@ -124,12 +122,16 @@ fn version(alloc: Global, script: &Script) -> Result<Answer, NoMemory>
     // A refusal takes no memory.
     ensures memory { IfErr result (λ _. IsTrue (takes_memory (version (script_part script.now)))) }
 {
-    let mut items = Vec::with_capacity(alloc, 5)?;
-    items.push(Datum::One(text(alloc, "scripted machine")?))?;
-    items.push(Datum::One(Scalar::Int(11)))?;
-    items.push(Datum::One(Scalar::Int(0)))?;
-    items.push(Datum::One(text(alloc, "11")?))?;
-    items.push(Datum::One(text(alloc, &script.name)?))?;
+    let description = text(alloc, "scripted machine")?;
+    let version = text(alloc, "11")?;
+    let name = text(alloc, &script.name)?;
+    let items = vec![in alloc;
+        Datum::One(description),
+        Datum::One(Scalar::Int(11)),
+        Datum::One(Scalar::Int(0)),
+        Datum::One(version),
+        Datum::One(name),
+    ]?;
     Ok(Answer::Data(Data::new(items)))
 }
 
@@ -141,7 +143,7 @@ fn incapable(alloc: Global, count: usize) -> Result<Answer, NoMemory>
 {
     let mut items = Vec::with_capacity(alloc, count)?;
     for _ in 0..count {
-        items.push(Datum::One(Scalar::Boolean(false)))?;
+        items.push_reserved(Datum::One(Scalar::Boolean(false)));
     }
     Ok(Answer::Data(Data::new(items)))
 }
@@ -169,7 +171,7 @@ fn classes_by_signature(
     match content {
         [Datum::One(Scalar::String(signature))] => {
             let classes = classes_with(alloc, state, signature)?;
-            single(alloc, classes)
+            of_datum(alloc, classes)
         }
         _ => Ok(Answer::Error(ErrorCode::ILLEGAL_ARGUMENT)),
     }
@@ -193,28 +195,9 @@ fn classes_with(alloc: Global, state: &MachineState, signature: &str) -> Result<
 fn class_entry(alloc: Global, state: &MachineState, class: &Class) -> Result<Vec<Scalar>, NoMemory>
     ensures { IfOk result (λ e. scalar_meanings e.items ≡ class_entry (state_now state.now) (class_part class.now)) }
 {
-    let mut entry = Vec::with_capacity(alloc, 3)?;
-    entry.push(Scalar::Byte(class.tag.byte()))?;
-    entry.push(Scalar::ReferenceTypeId(class.id))?;
-    entry.push(Scalar::Int(status(state, class.id)))?;
-    Ok(entry)
-}
-
-/// The list of the groups whose parent is this; with 0, of those that have none.
-pub(crate) fn groups_below(
-    alloc: Global,
-    script: &Script,
-    parent: ObjectId,
-) -> Result<Datum, NoMemory>
-    ensures { IfOk result (λ d. datum_meaning d ≡ Many (map group_entry (groups_below (script_part script.now) parent.0))) }
-{
-    let mut entries = Vec::new(alloc);
-    for group in &script.groups {
-        if group.parent == parent {
-            let mut entry = Vec::with_capacity(alloc, 1)?;
-            entry.push(Scalar::ObjectId(group.id))?;
-            entries.push(entry)?;
-        }
-    }
-    Ok(Datum::Many(entries))
+    Ok(vec![in alloc;
+        Scalar::Byte(class.tag.byte()),
+        Scalar::ReferenceTypeId(class.id),
+        Scalar::Int(status(state, class.id)),
+    ]?)
 }

@@ -6,12 +6,12 @@ ghost use Rattle.jdwp_script.specs.Meanings.{class_part, method_part, script_par
 ghost use Rattle.jdwp_script_machine.specs.Requests.{Asks, alone, of_method_in, of_method};
 ghost use Rattle.jdwp_script_machine.specs.StateMeanings.{state_now};
 ghost use Rattle.jdwp_script_machine.specs.ClassAnswers.{lines_answer, method_answer};
-ghost use Rattle.jdwp_script_machine.specs.ClassQuestions.{method_answer_to, by_method, takes_memory};
+ghost use Rattle.jdwp_script_machine.specs.ClassQuestions.{method_answer_to, takes_memory};
 
-use crate::class_answers::class_asked;
+use crate::asked::{class_asked, method_asked};
 use crate::class_entries::{GenericVariableEntry, LineEntry, VariableEntry, long_of_index};
-use crate::class_look_ups::method_by_id;
-use crate::entries::{Tell, pair, single};
+use crate::entries::Tell;
+use crate::replies::{of_pair, of_scalar};
 use crate::state::MachineState;
 use jdwp_layout::numbers::{IS_OBSOLETE, LINE_TABLE, VARIABLE_TABLE, VARIABLE_TABLE_WITH_GENERIC};
 use jdwp_layout::{Answer, Data, Datum, Scalar};
@@ -55,25 +55,6 @@ pub fn method_answer(
             of_method(alloc, script, MethodQuestion::GenericVariableTable, content)
         }
         _ => Ok(Answer::Error(ErrorCode::NOT_IMPLEMENTED)),
-    }
-}
-
-/// The method of the class that the data name first and the data that are left, or else the refusal.
-fn method_asked<'a>(
-    class: &'a Class,
-    content: &'a [Datum],
-) -> Result<(&'a Method, &'a [Datum]), ErrorCode>
-    ensures { (answer : ClassPart → MethodPart → Asks) → of_method_in answer (class_part class.now) (meanings content.now) ≡ by_method (answer (class_part class.now)) result }
-{
-    let Some((first, rest)) = content.split_first() else {
-        return Err(ErrorCode::ILLEGAL_ARGUMENT);
-    };
-    let Datum::One(Scalar::MethodId(id)) = first else {
-        return Err(ErrorCode::ILLEGAL_ARGUMENT);
-    };
-    match method_by_id(&class.methods, *id) {
-        Some(method) => Ok((method, rest)),
-        None => Err(ErrorCode::INVALID_METHODID),
     }
 }
 
@@ -126,11 +107,11 @@ fn method_answer_to(
     match question {
         MethodQuestion::LineTable => line_table(alloc, method),
         MethodQuestion::VariableTable => {
-            pair(alloc, args, VariableEntry.tell_each(alloc, &method.slots)?)
+            of_pair(alloc, args, VariableEntry.tell_each(alloc, &method.slots)?)
         }
-        MethodQuestion::IsObsolete => single(alloc, Datum::One(Scalar::Boolean(false))),
+        MethodQuestion::IsObsolete => of_scalar(alloc, Scalar::Boolean(false)),
         MethodQuestion::GenericVariableTable => {
-            pair(
+            of_pair(
                 alloc,
                 args,
                 GenericVariableEntry.tell_each(alloc, &method.slots)?,
@@ -149,9 +130,7 @@ fn line_table(alloc: Global, method: &Method) -> Result<Answer, NoMemory>
         return Ok(Answer::Error(ErrorCode::ABSENT_INFORMATION));
     }
     let lines = LineEntry.tell_each(alloc, &method.lines)?;
-    let mut items = Vec::with_capacity(alloc, 3)?;
-    items.push(Datum::One(Scalar::Long(0)))?;
-    items.push(Datum::One(long_of_index(method.last)))?;
-    items.push(lines)?;
-    Ok(Answer::Data(Data::new(items)))
+    let first = Datum::One(Scalar::Long(0));
+    let last = Datum::One(long_of_index(method.last));
+    Ok(Answer::Data(Data::new(vec![in alloc; first, last, lines]?)))
 }

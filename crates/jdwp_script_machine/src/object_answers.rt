@@ -4,11 +4,14 @@ ghost use Rattle.jdwp_layout.specs.Meanings.{meanings, scalar_meanings, entry_me
 ghost use Rattle.jdwp_script.specs.Meanings.{class_part, object_part, script_part};
 ghost use Rattle.jdwp_script_machine.specs.StateMeanings.{state_now};
 ghost use Rattle.jdwp_script_machine.specs.ClassAnswers.{answer_entries, entry_value, field_values};
-ghost use Rattle.jdwp_script_machine.specs.Requests.{of_object};
-ghost use Rattle.jdwp_script_machine.specs.ObjectAnswers.{held_value, type_answer, object_type_answer, held_answer, collection_answer, collected_answer, object_answer, string_value_answer, string_answer};
+ghost use Rattle.jdwp_wire.specs.ErrorCodes.{INVALID_CLASS, INVALID_STRING};
+ghost use Rattle.jdwp_script_machine.specs.Sites.{class_in};
+ghost use Rattle.jdwp_script_machine.specs.Requests.{found_or, of_object};
+ghost use Rattle.jdwp_script_machine.specs.ObjectAnswers.{held_value, type_answer, object_type_answer, held_answer, collection_answer, collected_answer, object_answer, text_answer, string_value_answer, string_answer};
 
-use crate::places::{class_of, object_of};
-use crate::replies::{done, of_entries, of_pair, of_scalar, value_entry};
+use crate::asked::object_asked;
+use crate::places::class_of;
+use crate::replies::{done, of_entries, of_pair, of_scalar, of_text, value_entry};
 use crate::requests::entries_of;
 use crate::state::MachineState;
 use jdwp_layout::numbers::{
@@ -47,27 +50,17 @@ pub(crate) fn object_answer(
 fn object_type(alloc: Global, script: &Script, content: &[Datum]) -> Result<Answer, NoMemory>
     ensures { IfOk result (λ a. a ≡ of_object (script_part script.now) (object_type_answer (script_part script.now)) (meanings content.now)) }
 {
-    match content {
-        [Datum::One(Scalar::ObjectId(id)), rest @ ..] => match object_of(script, *id) {
-            Some(object) => type_of(alloc, script, object, rest),
-            None => Ok(Answer::Error(ErrorCode::INVALID_OBJECT)),
-        },
-        _ => Ok(Answer::Error(ErrorCode::ILLEGAL_ARGUMENT)),
+    match object_asked(script, content) {
+        Ok((object, [])) => type_of(alloc, script, object),
+        Ok(_) => Ok(Answer::Error(ErrorCode::ILLEGAL_ARGUMENT)),
+        Err(error) => Ok(Answer::Error(error)),
     }
 }
 
-/// The type of this object, where nothing more is asked.
-fn type_of(
-    alloc: Global,
-    script: &Script,
-    object: &Object,
-    rest: &[Datum],
-) -> Result<Answer, NoMemory>
-    ensures { IfOk result (λ a. a ≡ object_type_answer (script_part script.now) (object_part object.now) (meanings rest.now)) }
+/// The type of this object.
+fn type_of(alloc: Global, script: &Script, object: &Object) -> Result<Answer, NoMemory>
+    ensures { IfOk result (λ a. a ≡ found_or INVALID_CLASS type_answer (class_in (script_part script.now) (object_part object.now).class)) }
 {
-    if !rest.is_empty() {
-        return Ok(Answer::Error(ErrorCode::ILLEGAL_ARGUMENT));
-    }
     match class_of(script, object.class) {
         Some(class) => class_told(alloc, class),
         None => Ok(Answer::Error(ErrorCode::INVALID_CLASS)),
@@ -87,12 +80,9 @@ fn class_told(alloc: Global, class: &Class) -> Result<Answer, NoMemory>
 fn held_values(alloc: Global, script: &Script, content: &[Datum]) -> Result<Answer, NoMemory>
     ensures { IfOk result (λ a. a ≡ of_object (script_part script.now) held_answer (meanings content.now)) }
 {
-    match content {
-        [Datum::One(Scalar::ObjectId(id)), rest @ ..] => match object_of(script, *id) {
-            Some(object) => held_by(alloc, object, rest),
-            None => Ok(Answer::Error(ErrorCode::INVALID_OBJECT)),
-        },
-        _ => Ok(Answer::Error(ErrorCode::ILLEGAL_ARGUMENT)),
+    match object_asked(script, content) {
+        Ok((object, rest)) => held_by(alloc, object, rest),
+        Err(error) => Ok(Answer::Error(error)),
     }
 }
 
@@ -149,18 +139,10 @@ fn held_value(object: &Object, id: FieldId) -> Option<Literal>
 fn collection(alloc: Global, script: &Script, content: &[Datum]) -> Answer
     ensures { result ≡ of_object (script_part script.now) collection_answer (meanings content.now) }
 {
-    match content {
-        [Datum::One(Scalar::ObjectId(id)), rest @ ..] => match object_of(script, *id) {
-            Some(object) => {
-                if rest.is_empty() {
-                    done(alloc)
-                } else {
-                    Answer::Error(ErrorCode::ILLEGAL_ARGUMENT)
-                }
-            }
-            None => Answer::Error(ErrorCode::INVALID_OBJECT),
-        },
-        _ => Answer::Error(ErrorCode::ILLEGAL_ARGUMENT),
+    match object_asked(script, content) {
+        Ok((_, [])) => done(alloc),
+        Ok(_) => Answer::Error(ErrorCode::ILLEGAL_ARGUMENT),
+        Err(error) => Answer::Error(error),
     }
 }
 
@@ -168,23 +150,11 @@ fn collection(alloc: Global, script: &Script, content: &[Datum]) -> Answer
 fn collected(alloc: Global, script: &Script, content: &[Datum]) -> Result<Answer, NoMemory>
     ensures { IfOk result (λ a. a ≡ of_object (script_part script.now) collected_answer (meanings content.now)) }
 {
-    match content {
-        [Datum::One(Scalar::ObjectId(id)), rest @ ..] => match object_of(script, *id) {
-            Some(object) => collected_of(alloc, object, rest),
-            None => Ok(Answer::Error(ErrorCode::INVALID_OBJECT)),
-        },
-        _ => Ok(Answer::Error(ErrorCode::ILLEGAL_ARGUMENT)),
+    match object_asked(script, content) {
+        Ok((_, [])) => of_scalar(alloc, Scalar::Boolean(false)),
+        Ok(_) => Ok(Answer::Error(ErrorCode::ILLEGAL_ARGUMENT)),
+        Err(error) => Ok(Answer::Error(error)),
     }
-}
-
-/// Whether this object was collected, where nothing more is asked.
-fn collected_of(alloc: Global, _object: &Object, rest: &[Datum]) -> Result<Answer, NoMemory>
-    ensures { IfOk result (λ a. a ≡ collected_answer (object_part _object.now) (meanings rest.now)) }
-{
-    if !rest.is_empty() {
-        return Ok(Answer::Error(ErrorCode::ILLEGAL_ARGUMENT));
-    }
-    of_scalar(alloc, Scalar::Boolean(false))
 }
 
 /// What is answered of a string to the command of this number: its text.
@@ -209,27 +179,19 @@ pub(crate) fn string_answer(
 fn string_value(alloc: Global, script: &Script, content: &[Datum]) -> Result<Answer, NoMemory>
     ensures { IfOk result (λ a. a ≡ of_object (script_part script.now) string_value_answer (meanings content.now)) }
 {
-    match content {
-        [Datum::One(Scalar::ObjectId(id)), rest @ ..] => match object_of(script, *id) {
-            Some(object) => text_of(alloc, object, rest),
-            None => Ok(Answer::Error(ErrorCode::INVALID_OBJECT)),
-        },
-        _ => Ok(Answer::Error(ErrorCode::ILLEGAL_ARGUMENT)),
+    match object_asked(script, content) {
+        Ok((object, [])) => text_of(alloc, object),
+        Ok(_) => Ok(Answer::Error(ErrorCode::ILLEGAL_ARGUMENT)),
+        Err(error) => Ok(Answer::Error(error)),
     }
 }
 
-/// The text of this object, where it is a string and nothing more is asked.
-fn text_of(alloc: Global, object: &Object, rest: &[Datum]) -> Result<Answer, NoMemory>
-    ensures { IfOk result (λ a. a ≡ string_value_answer (object_part object.now) (meanings rest.now)) }
+/// The text of this object, where it is a string.
+fn text_of(alloc: Global, object: &Object) -> Result<Answer, NoMemory>
+    ensures { IfOk result (λ a. a ≡ found_or INVALID_STRING text_answer (object_part object.now).text) }
 {
-    if !rest.is_empty() {
-        return Ok(Answer::Error(ErrorCode::ILLEGAL_ARGUMENT));
-    }
     match &object.text {
-        Some(text) => {
-            let text = String::from_str(alloc, text)?;
-            of_scalar(alloc, Scalar::String(text))
-        }
+        Some(content) => of_text(alloc, content),
         None => Ok(Answer::Error(ErrorCode::INVALID_STRING)),
     }
 }

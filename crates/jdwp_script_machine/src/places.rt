@@ -1,6 +1,8 @@
-//! What ids name: classes, methods, objects, groups, threads and frames.
+//! What ids name: classes, methods, fields, objects, groups, threads and frames.
 ghost use Rattle.std.specs.Prelude.{◌≡◌, map, option_map};
-ghost use Rattle.jdwp_script.specs.Meanings.{method_part, class_part, object_part, group_part, thread_part, script_part};
+ghost use Rattle.jdwp_script.specs.Parts.{FieldPart};
+ghost use Rattle.jdwp_script.specs.Meanings.{field_part, method_part, class_part, object_part, group_part, thread_part, script_part};
+ghost use Rattle.jdwp_script_machine.specs.LookUps.{with_id};
 ghost use Rattle.jdwp_script_machine.specs.Found.{found};
 ghost use Rattle.jdwp_script_machine.specs.StateMeanings.{frame_now, thread_now, state_now};
 ghost use Rattle.jdwp_script_machine.specs.SlotWrites.{frame_in};
@@ -10,8 +12,8 @@ ghost use Rattle.jdwp_script_machine.specs.ThreadAnswers.{frames_at};
 
 use crate::look_ups::with_id;
 use crate::state::{FrameState, MachineState, ThreadState};
-use jdwp_script::{Class, Group, Method, Object, Script, Thread};
-use jdwp_value::{FrameId, MethodId, ObjectId, ReferenceTypeId};
+use jdwp_script::{Class, Field, Group, Method, Object, Script, Thread};
+use jdwp_value::{FieldId, FrameId, MethodId, ObjectId, ReferenceTypeId};
 
 /// The class of this id.
 pub(crate) fn class_of(script: &Script, id: ReferenceTypeId) -> Option<&Class>
@@ -25,6 +27,13 @@ pub(crate) fn method_of(class: &Class, id: MethodId) -> Option<&Method>
     ensures { option_map method_part (found result) ≡ method_in (class_part class.now) id.0 }
 {
     with_id(&class.methods, id.0)
+}
+
+/// The field of this id that a class has.
+pub(crate) fn field_of(class: &Class, id: FieldId) -> Option<&Field>
+    ensures { option_map field_part (found result) ≡ with_id (λ (f : FieldPart). f.id) id.0 (class_part class.now).fields }
+{
+    with_id(&class.fields, id.0)
 }
 
 /// The object of this id.

@@ -1,7 +1,8 @@
 //! The data of answers.
 ghost use Rattle.std.specs.Prelude.{◌≡◌, [], ◌∷◌, IfOk};
-ghost use Rattle.jdwp_layout.specs.Meanings.{One, Many, Valued, Object, scalar_meaning, entry_meaning, entry_meanings, datum_meaning};
+ghost use Rattle.jdwp_layout.specs.Meanings.{One, Many, Text, Valued, Object, scalar_meaning, entry_meaning, entry_meanings, datum_meaning};
 
+use crate::entries::text;
 use jdwp_layout::{Answer, Data, Datum, Scalar};
 use jdwp_value::{ObjectId, Value};
 use jdwp_wire::NoMemory;
@@ -21,6 +22,13 @@ pub(crate) fn of_scalar(alloc: Global, scalar: Scalar) -> Result<Answer, NoMemor
     of_datum(alloc, Datum::One(scalar))
 }
 
+/// A text.
+pub(crate) fn of_text(alloc: Global, content: &str) -> Result<Answer, NoMemory>
+    ensures { IfOk result (λ a. a ≡ Answer.Data (One (Text content.now) ∷ [])) }
+{
+    of_scalar(alloc, text(alloc, content)?)
+}
+
 /// The entries of a list.
 pub(crate) fn of_entries(alloc: Global, entries: Vec<Vec<Scalar>>) -> Result<Answer, NoMemory>
     ensures { IfOk result (λ a. a ≡ Answer.Data (Many (entry_meanings entries.items) ∷ [])) }
@@ -32,35 +40,26 @@ pub(crate) fn of_entries(alloc: Global, entries: Vec<Vec<Scalar>>) -> Result<Ans
 pub(crate) fn of_datum(alloc: Global, datum: Datum) -> Result<Answer, NoMemory>
     ensures { IfOk result (λ a. a ≡ Answer.Data (datum_meaning datum ∷ [])) }
 {
-    let mut items = Vec::with_capacity(alloc, 1)?;
-    items.push(datum)?;
-    Ok(Answer::Data(Data::new(items)))
+    Ok(Answer::Data(Data::new(vec![in alloc; datum]?)))
 }
 
 /// Two items.
 pub(crate) fn of_pair(alloc: Global, first: Datum, second: Datum) -> Result<Answer, NoMemory>
     ensures { IfOk result (λ a. a ≡ Answer.Data (datum_meaning first ∷ datum_meaning second ∷ [])) }
 {
-    let mut items = Vec::with_capacity(alloc, 2)?;
-    items.push(first)?;
-    items.push(second)?;
-    Ok(Answer::Data(Data::new(items)))
+    Ok(Answer::Data(Data::new(vec![in alloc; first, second]?)))
 }
 
 /// The entry of a value.
 pub(crate) fn value_entry(alloc: Global, value: Value) -> Result<Vec<Scalar>, NoMemory>
     ensures { IfOk result (λ entry. entry_meaning entry ≡ Valued value ∷ []) }
 {
-    let mut entry = Vec::with_capacity(alloc, 1)?;
-    entry.push(Scalar::Value(value))?;
-    Ok(entry)
+    Ok(vec![in alloc; Scalar::Value(value)]?)
 }
 
 /// The entry of an object.
 pub(crate) fn object_entry(alloc: Global, id: ObjectId) -> Result<Vec<Scalar>, NoMemory>
     ensures { IfOk result (λ entry. entry_meaning entry ≡ Object id.0 ∷ []) }
 {
-    let mut entry = Vec::with_capacity(alloc, 1)?;
-    entry.push(Scalar::ObjectId(id))?;
-    Ok(entry)
+    Ok(vec![in alloc; Scalar::ObjectId(id)]?)
 }

@@ -7,8 +7,8 @@ ghost use Rattle.jdwp_script_machine.specs.Requests.{of_entries};
 ghost use Rattle.jdwp_script_machine.specs.ClassAnswers.{static_value, entry_value, field_values, answer_entries, statics_answer};
 ghost use Rattle.jdwp_script_machine.specs.ClassQuestions.{by_entries, takes_memory};
 
-use crate::class_look_ups::field_by_id;
-use crate::entries::single;
+use crate::places::field_of;
+use crate::replies::{of_entries, value_entry};
 use jdwp_layout::{Answer, Datum, Scalar};
 use jdwp_script::{Class, Literal};
 use jdwp_value::FieldId;
@@ -77,14 +77,13 @@ fn values_of(alloc: Global, class: &Class, entries: &[Vec<Scalar>]) -> Result<An
     for entry in entries {
         match static_asked(class, entry) {
             Some(literal) => {
-                let mut value = Vec::with_capacity(alloc, 1)?;
-                value.push(Scalar::Value(literal.value()))?;
+                let value = value_entry(alloc, literal.value())?;
                 values.push(value)?;
             }
             None => return Ok(Answer::Error(ErrorCode::INVALID_FIELDID)),
         }
     }
-    single(alloc, Datum::Many(values))
+    of_entries(alloc, values)
 }
 
 /// The value of the static field that the entry names.
@@ -101,7 +100,7 @@ fn static_asked(class: &Class, entry: &[Scalar]) -> Option<Literal>
 fn static_value(class: &Class, id: FieldId) -> Option<Literal>
     ensures { result ≡ static_value (class_part class.now) id.0 }
 {
-    match field_by_id(&class.fields, id) {
+    match field_of(class, id) {
         Some(field) => field.value,
         None => None,
     }

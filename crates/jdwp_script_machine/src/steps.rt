@@ -138,12 +138,12 @@ fn called(alloc: Global, call: &Call) -> Result<FrameState, NoMemory>
 fn slots_of(alloc: Global, values: &[SlotValue]) -> Result<Vec<SlotState>, NoMemory>
     ensures { IfOk result (λ slots. map slot_state_now slots.items ≡ map slot_now values.now) }
 {
-    let mut slots = Vec::new(alloc);
+    let mut slots = Vec::with_capacity(alloc, values.len())?;
     for value in values {
-        slots.push(SlotState {
+        slots.push_reserved(SlotState {
             slot: value.slot,
             value: value.value.value(),
-        })?;
+        });
     }
     Ok(slots)
 }

@@ -1,19 +1,19 @@
 //! What is answered of threads (JDWP specification, "ThreadReference").
 ghost use Rattle.std.specs.Prelude.{◌≡◌, map, true, IfOk};
 ghost use Rattle.jdwp_layout.specs.Meanings.{meanings, entry_meaning};
-ghost use Rattle.jdwp_script.specs.Meanings.{thread_part, script_part};
+ghost use Rattle.jdwp_script.specs.Meanings.{script_part};
 ghost use Rattle.jdwp_script_machine.specs.StateMeanings.{frame_now, state_now};
 ghost use Rattle.jdwp_script_machine.specs.Requests.{of_thread, of_frames, part_of};
-ghost use Rattle.jdwp_script_machine.specs.ThreadAnswers.{frames_at, thread_name_answer, thread_group_answer, frame_entry, frames_listed, frames_answer, frame_count_answer, thread_answer_by};
+ghost use Rattle.jdwp_script_machine.specs.ThreadAnswers.{frames_at, thread_name_answer, thread_group_answer, frame_entry, frames_listed, frames_answer, count_answer, frame_count_answer, thread_answer_by};
 
-use crate::places::{frames_of, thread_of};
-use crate::replies::{of_entries, of_scalar};
+use crate::asked::{frames_asked, thread_asked};
+use crate::replies::{of_entries, of_scalar, of_text};
 use crate::requests::{part_of, range_of};
 use crate::sites::location;
 use crate::state::{FrameState, MachineState};
 use jdwp_layout::numbers::{FRAME_COUNT, FRAMES, THREAD_GROUP, THREAD_NAME};
 use jdwp_layout::{Answer, Datum, Scalar};
-use jdwp_script::{Script, Thread};
+use jdwp_script::Script;
 use jdwp_wire::{ErrorCode, NoMemory};
 use std::alloc::Global;
 
@@ -43,59 +43,31 @@ pub(crate) fn thread_answer(
 fn name(alloc: Global, script: &Script, content: &[Datum]) -> Result<Answer, NoMemory>
     ensures { IfOk result (λ a. a ≡ of_thread (script_part script.now) thread_name_answer (meanings content.now)) }
 {
-    match content {
-        [Datum::One(Scalar::ObjectId(id)), rest @ ..] => match thread_of(script, *id) {
-            Some(thread) => name_of(alloc, thread, rest),
-            None => Ok(Answer::Error(ErrorCode::INVALID_OBJECT)),
-        },
-        _ => Ok(Answer::Error(ErrorCode::ILLEGAL_ARGUMENT)),
+    match thread_asked(script, content) {
+        Ok((thread, [])) => of_text(alloc, &thread.name),
+        Ok(_) => Ok(Answer::Error(ErrorCode::ILLEGAL_ARGUMENT)),
+        Err(error) => Ok(Answer::Error(error)),
     }
-}
-
-/// The name of this thread, where nothing more is asked.
-fn name_of(alloc: Global, thread: &Thread, rest: &[Datum]) -> Result<Answer, NoMemory>
-    ensures { IfOk result (λ a. a ≡ thread_name_answer (thread_part thread.now) (meanings rest.now)) }
-{
-    if !rest.is_empty() {
-        return Ok(Answer::Error(ErrorCode::ILLEGAL_ARGUMENT));
-    }
-    let name = String::from_str(alloc, &thread.name)?;
-    of_scalar(alloc, Scalar::String(name))
 }
 
 /// The group of a thread.
 fn group(alloc: Global, script: &Script, content: &[Datum]) -> Result<Answer, NoMemory>
     ensures { IfOk result (λ a. a ≡ of_thread (script_part script.now) thread_group_answer (meanings content.now)) }
 {
-    match content {
-        [Datum::One(Scalar::ObjectId(id)), rest @ ..] => match thread_of(script, *id) {
-            Some(thread) => group_of(alloc, thread, rest),
-            None => Ok(Answer::Error(ErrorCode::INVALID_OBJECT)),
-        },
-        _ => Ok(Answer::Error(ErrorCode::ILLEGAL_ARGUMENT)),
+    match thread_asked(script, content) {
+        Ok((thread, [])) => of_scalar(alloc, Scalar::ObjectId(thread.group)),
+        Ok(_) => Ok(Answer::Error(ErrorCode::ILLEGAL_ARGUMENT)),
+        Err(error) => Ok(Answer::Error(error)),
     }
-}
-
-/// The group of this thread, where nothing more is asked.
-fn group_of(alloc: Global, thread: &Thread, rest: &[Datum]) -> Result<Answer, NoMemory>
-    ensures { IfOk result (λ a. a ≡ thread_group_answer (thread_part thread.now) (meanings rest.now)) }
-{
-    if !rest.is_empty() {
-        return Ok(Answer::Error(ErrorCode::ILLEGAL_ARGUMENT));
-    }
-    of_scalar(alloc, Scalar::ObjectId(thread.group))
 }
 
 /// Some frames of a thread.
 fn frames(alloc: Global, state: &MachineState, content: &[Datum]) -> Result<Answer, NoMemory>
     ensures { IfOk result (λ a. a ≡ of_frames (frames_at (state_now state.now)) (frames_answer (script_part state.now.script)) (meanings content.now)) }
 {
-    match content {
-        [Datum::One(Scalar::ObjectId(id)), rest @ ..] => match frames_of(state, *id) {
-            Some(frames) => some_of(alloc, &state.script, frames, rest),
-            None => Ok(Answer::Error(ErrorCode::INVALID_OBJECT)),
-        },
-        _ => Ok(Answer::Error(ErrorCode::ILLEGAL_ARGUMENT)),
+    match frames_asked(state, content) {
+        Ok((frames, rest)) => some_of(alloc, &state.script, frames, rest),
+        Err(error) => Ok(Answer::Error(error)),
     }
 }
 
@@ -138,8 +110,7 @@ fn listed(alloc: Global, script: &Script, frames: &[FrameState]) -> Result<Answe
 {
     let mut entries = Vec::with_capacity(alloc, frames.len())?;
     for frame in frames {
-        let entry = entry_of(alloc, script, frame)?;
-        entries.push(entry)?;
+        entries.push_reserved(entry_of(alloc, script, frame)?);
     }
     of_entries(alloc, entries)
 }
@@ -148,35 +119,27 @@ fn listed(alloc: Global, script: &Script, frames: &[FrameState]) -> Result<Answe
 fn entry_of(alloc: Global, script: &Script, frame: &FrameState) -> Result<Vec<Scalar>, NoMemory>
     ensures { IfOk result (λ e. entry_meaning e ≡ frame_entry (script_part script.now) (frame_now frame.now)) }
 {
-    let mut entry = Vec::with_capacity(alloc, 2)?;
-    entry.push(Scalar::FrameId(frame.id))?;
     let place = location(script, frame.class, frame.method, frame.index);
-    entry.push(Scalar::Location(place))?;
-    Ok(entry)
+    Ok(vec![in alloc; Scalar::FrameId(frame.id), Scalar::Location(place)]?)
 }
 
 /// How many frames a thread has.
 fn frame_count(alloc: Global, state: &MachineState, content: &[Datum]) -> Result<Answer, NoMemory>
     ensures { IfOk result (λ a. a ≡ of_frames (frames_at (state_now state.now)) frame_count_answer (meanings content.now)) }
 {
-    match content {
-        [Datum::One(Scalar::ObjectId(id)), rest @ ..] => match frames_of(state, *id) {
-            Some(frames) => count_of(alloc, frames, rest),
-            None => Ok(Answer::Error(ErrorCode::INVALID_OBJECT)),
-        },
-        _ => Ok(Answer::Error(ErrorCode::ILLEGAL_ARGUMENT)),
+    match frames_asked(state, content) {
+        Ok((frames, [])) => count_of(alloc, frames),
+        Ok(_) => Ok(Answer::Error(ErrorCode::ILLEGAL_ARGUMENT)),
+        Err(error) => Ok(Answer::Error(error)),
     }
 }
 
-/// How many these frames are, where nothing more is asked.
-fn count_of(alloc: Global, frames: &[FrameState], rest: &[Datum]) -> Result<Answer, NoMemory>
-    ensures { IfOk result (λ a. a ≡ frame_count_answer (map frame_now frames.now) (meanings rest.now)) }
+/// How many these frames are.
+fn count_of(alloc: Global, frames: &[FrameState]) -> Result<Answer, NoMemory>
+    ensures { IfOk result (λ a. a ≡ count_answer (map frame_now frames.now)) }
 {
-    match rest {
-        [] => match i32::try_from(frames.len()) {
-            Ok(count) => of_scalar(alloc, Scalar::Int(count)),
-            Err(_) => Err(NoMemory),
-        },
-        _ => Ok(Answer::Error(ErrorCode::ILLEGAL_ARGUMENT)),
+    match i32::try_from(frames.len()) {
+        Ok(count) => of_scalar(alloc, Scalar::Int(count)),
+        Err(_) => Err(NoMemory),
     }
 }

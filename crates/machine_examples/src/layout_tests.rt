@@ -159,8 +159,7 @@ fn written_as(
     values: &[Datum],
     bytes: &[u8],
 ) -> Result<(), Fail> {
-    let mut output = Vec::new(alloc);
-    output.push(7)?;
+    let mut output = vec![in alloc; 7]?;
     write(layout, sizes, values, &mut output)?;
     expect_same(rt, &output.get(1..), &Some(bytes));
     expect_same(rt, &data_size(values, sizes), &Some(bytes.len()));
@@ -464,8 +463,7 @@ fn not_written(
     fault: DataFault,
 ) -> Result<(), Fail> {
     let sizes = IdSizes::new(1, 1, 1, 1, 1)?;
-    let mut output = Vec::new(alloc);
-    output.push(7)?;
+    let mut output = vec![in alloc; 7]?;
     let written = write(layout, &sizes, values, &mut output);
     expect_same(rt, &written, &Err(fault));
     expect_same(rt, &refusal(layout, &sizes, values), &Some(fault));
@@ -642,9 +640,7 @@ fn a_field_that_is_cut_off(rt: HostRuntime) -> Result<(), Fail> {
 
 #[test]
 fn data_are_kept_as_they_are(rt: HostRuntime) -> Result<(), Fail> {
-    let mut items = Vec::new(rt.alloc());
-    items.push(Datum::One(Scalar::Int(1)))?;
-    let data = Data::new(items);
+    let data = Data::new(vec![in rt.alloc(); Datum::One(Scalar::Int(1))]?);
     assert!(rt; data.items() == [Datum::One(Scalar::Int(1))].as_slice());
     let items = data.into_items();
     assert!(rt; items.as_slice() == [Datum::One(Scalar::Int(1))].as_slice());

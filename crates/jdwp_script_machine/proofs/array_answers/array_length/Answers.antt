@@ -1,9 +1,8 @@
-use Rattle.std.proofs.lemmas.Grind.{common_steps}
-use Rattle.std.proofs.Common.{arith}
+use Rattle.jdwp_script_machine.specs.ObjectAnswers.{array_length_answer}
+use Rattle.jdwp_script_machine.proofs.Alone.{answers_alone}
 use Rattle.jdwp_script_machine.proofs.array_answers.array_length.Goals as goal
 
-pub returns-in-Some : goal.returns-in-Some
-returns-in-Some c = grind (arith, common_steps)
-
-pub returns-in_default : goal.returns-in_default
-returns-in_default c = grind (arith, common_steps)
+pub returns-in-Ok-default-empty : goal.returns-in-Ok-default-empty
+returns-in-Ok-default-empty c =
+    let found = c.in-Ok-default-empty in
+    answers_alone c.length_of.result _ _ found.field-0-1.now (found.ensures array_length_answer) found.len_below c.length_of.ensures

@@ -1,9 +1,7 @@
-use Rattle.std.proofs.lemmas.Grind.{common_steps}
-use Rattle.std.proofs.Common.{arith}
+use Rattle.jdwp_script.specs.Meanings.{script_part}
+use Rattle.jdwp_script_machine.specs.ObjectAnswers.{elements_answer}
+use Rattle.jdwp_script_machine.proofs.Alone.{answers_asked}
 use Rattle.jdwp_script_machine.proofs.array_answers.array_values.Goals as goal
 
-pub returns-in-Some : goal.returns-in-Some
-returns-in-Some c = grind (arith, common_steps)
-
-pub returns-in_default : goal.returns-in_default
-returns-in_default c = grind (arith, common_steps)
+pub returns-in-Ok : goal.returns-in-Ok
+returns-in-Ok c = answers_asked c.values_of.result _ _ (c.in-Ok.ensures (elements_answer (script_part c.args.script.now))) c.values_of.ensures

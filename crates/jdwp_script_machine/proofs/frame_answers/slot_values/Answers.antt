@@ -1,9 +1,6 @@
-use Rattle.std.proofs.lemmas.Grind.{common_steps}
-use Rattle.std.proofs.Common.{arith}
+use Rattle.jdwp_script_machine.specs.ThreadAnswers.{slots_answer}
+use Rattle.jdwp_script_machine.proofs.Alone.{answers_asked}
 use Rattle.jdwp_script_machine.proofs.frame_answers.slot_values.Goals as goal
 
-pub returns-in-Some : goal.returns-in-Some
-returns-in-Some c = grind (arith, common_steps)
-
-pub returns-in_default : goal.returns-in_default
-returns-in_default c = grind (arith, common_steps)
+pub returns-in-Ok : goal.returns-in-Ok
+returns-in-Ok c = answers_asked c.values_of.result _ _ (c.in-Ok.ensures slots_answer) c.values_of.ensures

@@ -1,9 +1,7 @@
-use Rattle.std.proofs.lemmas.Grind.{common_steps}
-use Rattle.std.proofs.Common.{arith}
+use Rattle.jdwp_script.specs.Meanings.{script_part}
+use Rattle.jdwp_script_machine.specs.ThreadAnswers.{frames_answer}
+use Rattle.jdwp_script_machine.proofs.Alone.{answers_asked}
 use Rattle.jdwp_script_machine.proofs.thread_answers.frames.Goals as goal
 
-pub returns-in-Some : goal.returns-in-Some
-returns-in-Some c = grind (arith, common_steps)
-
-pub returns-in_default : goal.returns-in_default
-returns-in_default c = grind (arith, common_steps)
+pub returns-in-Ok : goal.returns-in-Ok
+returns-in-Ok c = answers_asked c.some_of.result _ _ (c.in-Ok.ensures (frames_answer (script_part c.args.state.now.script))) c.some_of.ensures
