@@ -1,6 +1,6 @@
 -- what is reported can be written, and fits a packet
 use Rattle.std.proofs.Common.{◌≡◌, ℕ, pos, ◌+◌, ◌*◌, ◌≤◌, ◌^◌, ◌==◌, ◌⊎◌, inl, inr, true, false, ◌||◌, cond, nat_lt, Option, Some, None, List, [], ◌∷◌, length, map, refl, sym, ap, subst, arith}
-use Rattle.std.specs.Prelude.{IfSome}
+use Rattle.std.specs.Prelude.{IfOk, IfSome, Result, Ok, Err}
 use Rattle.std.specs.List.{filter, flat_map}
 use Rattle.std.proofs.lemmas.Bool.{eqb-true, lt-ltb}
 use Rattle.std.proofs.lemmas.List.{append-nil, length-append}
@@ -28,7 +28,7 @@ use Rattle.jdwp_machine.specs.Meanings.{Meaning}
 use Rattle.jdwp_debuggee.specs.Answers.{least_thread}
 use Rattle.jdwp_debuggee.specs.Debuggees.{AreRoomy, Debuggee, IsKept}
 use Rattle.jdwp_debuggee.specs.Sending.{FitsPacket}
-use Rattle.jdwp_debuggee.specs.StepParts.{SendFits, Steps}
+use Rattle.jdwp_debuggee.specs.StepParts.{SendFits, Steps, StepsOrNot}
 use Rattle.jdwp_debuggee.specs.Steps.{may_step, occurs, start_event, start_policy}
 use Rattle.jdwp_debuggee.specs.declared.steps.StepDone.{StepDone}
 use Rattle.jdwp_debuggee.proofs.KeptSteps.{live-may}
@@ -199,6 +199,12 @@ step-fits m law d t k may =
 -- what a step that was made sends
 pub steps-fit : {S : Type 0} (m : Meaning S) → IsLawful m → (d new : Debuggee S) (t : ℕ) (done : StepDone) → IsKept m d → Steps m t d new done → SendFits (m.sizes d.moment.machine) d.settings.limits.packet (Some done)
 steps-fit m law d new t done k s = subst (λ (o : Option CompositeMeaning). IfSome o (FitsPacket (m.sizes d.moment.machine) d.settings.limits.packet)) (sym s.sends) (step-fits m law d t k s.may)
+
+-- what a step sends that was made, if one was, fits a packet
+pub sends-fit : {S E : Type 0} (m : Meaning S) → IsLawful m → (d new : Debuggee S) (t : ℕ) (r : Result (Option StepDone) E) → IsKept m d → IfOk r (λ done. StepsOrNot m t d new done) → IfOk r (λ done. SendFits (m.sizes d.moment.machine) d.settings.limits.packet done)
+sends-fit m law d new t (Err e) k s = tt
+sends-fit m law d new t (Ok None) k s = tt
+sends-fit m law d new t (Ok (Some done)) k s = steps-fit m law d new t done k s
 
 -- ---- what the target reports by itself
 

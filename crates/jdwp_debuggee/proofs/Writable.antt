@@ -9,17 +9,19 @@ use Rattle.jdwp_layout.specs.Writes.{data_refusal}
 use Rattle.jdwp_machine.specs.Meanings.{Meaning}
 use Rattle.jdwp_machine.specs.Laws.{FitsRow, FitsShapes, MayAnswer}
 use Rattle.jdwp_wire.specs.Widths.{Widths}
-use Rattle.jdwp_debuggee.specs.Answers.{done}
+use Rattle.std.specs.Prelude.{IfOk, IfErr, OnErr, Result, Ok, Err}
+use Rattle.jdwp_debuggee.specs.Answers.{done, query_of}
+use Rattle.jdwp_debuggee.specs.Actions as action
 use Rattle.jdwp_debuggee.specs.Actions.{Action, Command, action_of}
 use Rattle.jdwp_debuggee.specs.Debuggees.{CarriesOut, Debuggee, at_moment}
-use Rattle.jdwp_debuggee.specs.CommandReads.{question_by}
-use Rattle.jdwp_debuggee.specs.Effects.{carried, frames_by, thread_by}
+use Rattle.jdwp_debuggee.specs.CommandReads.{Asking, asking_of, question_by}
+use Rattle.jdwp_debuggee.specs.Effects.{carried, does, frames_by, thread_by}
 use Rattle.jdwp_debuggee.specs.Settings.{Settings}
-use Rattle.jdwp_debuggee.specs.State.{Moment}
+use Rattle.jdwp_debuggee.specs.State.{Moment, count_of}
 use Rattle.jdwp_machine.specs.declared.query.Query.{Query}
 use Rattle.jdwp_debuggee.specs.declared.reply.Sent.{Sent}
 use Rattle.jdwp_debuggee.specs.Replies.{reply_meaning}
-use Rattle.jdwp_debuggee.specs.Sending.{AreWritable, Did, IsSent, IsWritable, answer_bytes, error_of, row_reply, sent_bytes, shapes_reply}
+use Rattle.jdwp_debuggee.specs.Sending.{AreWritable, Did, IsSent, IsWritable, answer_bytes, error_of, row_reply, sent_bytes, sent_short, shapes_reply}
 use Rattle.jdwp_debuggee.specs.declared.reply.Reply.{Reply}
 use Rattle.jdwp_debuggee.specs.declared.reply.Reply.TheVariants as reply
 use Rattle.jdwp_debuggee.specs.declared.reply.Sent.TheVariants as sent
@@ -68,6 +70,21 @@ short-did {S = S} m c a old new r is k =
       fits = λ h. let l = short-length (m.sizes old.moment.machine) r in omega (arith, h, l);
     }
 
+-- the same where memory may have been refused
+pub short-sent : {S E : Type 0} (m : Meaning S) (a : Action) (q : Option Query) (old new : Debuggee S) (r : Result Reply E)
+    → IfOk r (λ reply. CarriesOut m a old new (reply_meaning reply)) → IfOk (sent_short r) (λ x. (c : Command) → record { action = a; question = q } ≡ asking_of c → Did m c old new x)
+short-sent m a q old new (Err e) k = tt
+short-sent m a q old new (Ok reply) k = λ c e. short-did m c a old new reply (ap (λ (y : Asking). y.action) e) k
+
+-- what is sent where memory was refused is what was replied
+pub short-stays : {E : Type 0} (P : Type 0) (r : Result Reply E) → OnErr r P → OnErr (sent_short r) P
+short-stays P (Err e) h = h
+short-stays P (Ok reply) h = tt
+
+pub short-fails : {E : Type 0} (P : Type 0) (r : Result Reply E) → P → IfErr (sent_short r) (λ _. P)
+short-fails P (Err e) h = h
+short-fails P (Ok reply) h = tt
+
 -- ---- questions
 
 -- a question that was answered
@@ -95,3 +112,25 @@ frames-stay m settings now c (Some n) = refl
 pub thread-stays : {S : Type 0} (m : Meaning S) (settings : Settings) (now : Moment S) (c : Command) (count : Option ℕ) → (thread_by m settings now c count).after ≡ now
 thread-stays m settings now c None = refl
 thread-stays m settings now c (Some n) = refl
+
+-- a question about a thread's frames was answered
+pub frames-did : {S E : Type 0} (m : Meaning S) (d : Debuggee S) (t : ℕ) (q : Query) (r : Result Sent E)
+    → IfOk r (λ x. (c : Command) → query_of c ≡ q → IsSent (m.sizes d.moment.machine) (does m d.settings d.moment c (action.AskFrames t)).answer x)
+    → IfOk r (λ x. 2048 ≤ d.settings.limits.packet → 11 + length (sent_bytes (m.sizes d.moment.machine) x) ≤ d.settings.limits.packet)
+    → IfOk r (λ x. (c : Command) → record { action = action.AskFrames t; question = Some q } ≡ asking_of c → Did m c d d x)
+frames-did m d t q (Err e) v f = tt
+frames-did m d t q (Ok x) v f = λ c e.
+    let is : action.AskFrames t ≡ action_of c = ap (λ (y : Asking). y.action) e in
+    let same = same-question (action.AskFrames t) (action_of c) q (query_of c) is refl (ap (λ (y : Asking). y.question) e) in
+    ask-did m c (action.AskFrames t) d x is (frames-stay m d.settings d.moment c (count_of d.moment.state t)) (v c same) f
+
+-- another question about a thread was answered
+pub thread-did : {S E : Type 0} (m : Meaning S) (d : Debuggee S) (t : ℕ) (q : Query) (r : Result Sent E)
+    → IfOk r (λ x. (c : Command) → query_of c ≡ q → IsSent (m.sizes d.moment.machine) (does m d.settings d.moment c (action.AskThread t)).answer x)
+    → IfOk r (λ x. 2048 ≤ d.settings.limits.packet → 11 + length (sent_bytes (m.sizes d.moment.machine) x) ≤ d.settings.limits.packet)
+    → IfOk r (λ x. (c : Command) → record { action = action.AskThread t; question = Some q } ≡ asking_of c → Did m c d d x)
+thread-did m d t q (Err e) v f = tt
+thread-did m d t q (Ok x) v f = λ c e.
+    let is : action.AskThread t ≡ action_of c = ap (λ (y : Asking). y.action) e in
+    let same = same-question (action.AskThread t) (action_of c) q (query_of c) is refl (ap (λ (y : Asking). y.question) e) in
+    ask-did m c (action.AskThread t) d x is (thread-stays m d.settings d.moment c (count_of d.moment.state t)) (v c same) f

@@ -1,11 +1,8 @@
 -- Parts of the tests of an event request: what they see of a moment, and which of them ask the machine.
-use Rattle.std.specs.Prelude.{ℕ, Bool, true, false, ◌==◌, ◌&&◌, not, nat_lt, nat_le, List, [], Option, Some, None}
-use Rattle.jdwp_wire.specs.declared.error_code.ErrorCode.{ErrorCode}
-use Rattle.jdwp_wire.specs.ErrorCodes.{INTERNAL}
+use Rattle.std.specs.Prelude.{ℕ, Bool, true, false, ◌==◌, not, List, [], Option, Some, None}
 use Rattle.jdwp_value.specs.declared.id.ObjectId.{ObjectId}
 use Rattle.jdwp_event.specs.Modifiers.{ModifierMeaning, Count, Conditional, ThreadOnly, ClassOnly, ClassMatch, ClassExclude, LocationOnly, ExceptionOnly, FieldOnly, Step, InstanceOnly, SourceNameMatch}
 use Rattle.jdwp_debuggee.specs.State.{Thread, Moment}
-use Rattle.jdwp_debuggee.specs.Refusals.{unless, LAST_REQUEST}
 
 -- a moment with these threads, of which nothing else is seen
 abbrev pub moment_of : {S : Type 0} → List Thread → S → Moment S
@@ -18,10 +15,6 @@ moment_of threads machine = record {
 abbrev pub found_thread : Option ObjectId → Option ℕ
 found_thread None = None
 found_thread (Some thread) = Some thread.0
-
--- whether there is room for a request: so many requests, of which there may be so many, and this next id
-abbrev pub room_by : ℕ → ℕ → ℕ → Option ErrorCode
-room_by count limit next = unless (nat_lt count limit && nat_le next LAST_REQUEST) INTERNAL
 
 -- whether the machine is asked about a modifier
 abbrev pub asks_machine : ModifierMeaning → Bool

@@ -1,7 +1,7 @@
 -- Which event requests are refused, and why (JDWP specification, "Protocol Details": EventRequest.Set). The tests are made in this
 -- order, and the first that fails is the answer.
 use Rattle.jdwp_wire.specs.Numbers.{greatest_int}
-use Rattle.std.specs.Prelude.{ℕ, ℤ, pos, ◌==◌, nat_le, nat_lt, int_lt, Bool, true, false, ◌||◌, ◌&&◌, not, List, [], ◌∷◌, length, Option, Some, None, is_some, if◌then◌else◌}
+use Rattle.std.specs.Prelude.{ℕ, ℤ, pos, ◌==◌, nat_le, nat_lt, int_lt, Bool, true, false, ◌&&◌, not, List, [], ◌∷◌, length, Option, Some, None, is_some, if◌then◌else◌}
 use Rattle.std.specs.List.{list_any, filter}
 use Rattle.jdwp_wire.specs.declared.error_code.ErrorCode.{ErrorCode}
 use Rattle.jdwp_wire.specs.ErrorCodes.{INVALID_THREAD, INVALID_CLASS, NOT_IMPLEMENTED, INVALID_EVENT_TYPE, ILLEGAL_ARGUMENT, INTERNAL, INVALID_COUNT}

@@ -20,6 +20,7 @@ use Rattle.jdwp_debuggee.specs.CommandReads.{Asking}
 use Rattle.jdwp_debuggee.specs.Debuggees.{Debuggee, at_moment}
 use Rattle.jdwp_debuggee.specs.Effects.{carried}
 use Rattle.jdwp_debuggee.specs.Replies.{reply_meaning}
+use Rattle.jdwp_debuggee.specs.declared.reply.Reply.{Reply}
 use Rattle.jdwp_debuggee.specs.declared.reply.Sent.{Sent}
 use Rattle.jdwp_debuggee.specs.declared.reply.Sent.TheVariants as sent
 
@@ -42,6 +43,11 @@ sent_error (sent.Written bytes) = NONE
 abbrev pub sent_bytes : Widths → Sent → List ℕ
 sent_bytes w (sent.Short reply) = answer_bytes w (reply_meaning reply)
 sent_bytes w (sent.Written bytes) = bytes.items
+
+-- a reply that takes no memory is sent, where there is one
+abbrev pub sent_short : {E : Type 0} → Result Reply E → Result Sent E
+sent_short (Ok reply) = Ok (sent.Short reply)
+sent_short (Err e) = Err e
 
 -- this is sent for an answer
 pub record IsSent (w : Widths) (answer : Answer) (sent : Sent) : Type 0 where

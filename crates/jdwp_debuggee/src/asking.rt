@@ -9,7 +9,7 @@ ghost use Rattle.jdwp_debuggee.specs.ReadParts.{found_layout};
 ghost use Rattle.jdwp_debuggee.specs.Replies.{reply_meaning};
 ghost use Rattle.jdwp_debuggee.specs.Sending.{IsSent, IsWritable, row_reply, sent_bytes};
 ghost use Rattle.jdwp_layout.specs.CommandTable.{row_at};
-ghost use Rattle.jdwp_layout.specs.Meanings.{Object, entry_meanings};
+ghost use Rattle.jdwp_layout.specs.Meanings.{Many, Object};
 
 use crate::debuggee::Debuggee;
 use crate::reply::{Reply, Sent};
@@ -168,10 +168,8 @@ impl<M: Machine> Debuggee<M> {
         if self.threads.len() > self.settings.limits().packet() as usize {
             return Ok(Sent::Short(Reply::Refused(ErrorCode::INTERNAL)));
         }
-        let entries = listed(alloc, &self.threads.rising(alloc)?)?;
-        let mut items = Vec::new(alloc);
-        items.push(Datum::Many(entries))?;
-        let answer = Answer::Data(Data::new(items));
+        let rising = self.threads.rising(alloc)?;
+        let answer = Answer::Data(listed(alloc, &rising)?);
         let sizes = self.machine.sizes();
         sent(
             alloc,
@@ -184,15 +182,15 @@ impl<M: Machine> Debuggee<M> {
     }
 }
 
-/// These threads, as the entries of a list.
-fn listed(alloc: Global, threads: &[u64]) -> Result<Vec<Vec<Scalar>>, NoMemory>
-    ensures { IfOk result (λ entries. entry_meanings entries.items ≡ map (λ (t : ℕ). Object t ∷ []) threads.now) }
+/// The data of a list of these threads.
+fn listed(alloc: Global, threads: &[u64]) -> Result<Data, NoMemory>
+    ensures { IfOk result (λ content. content ≡ Many (map (λ (t : ℕ). Object t ∷ []) threads.now) ∷ []) }
 {
     let mut entries = Vec::new(alloc);
     for thread in threads {
-        let mut entry = Vec::new(alloc);
-        entry.push(Scalar::ObjectId(ObjectId(*thread)))?;
+        let entry = vec![in alloc; Scalar::ObjectId(ObjectId(*thread))]?;
         entries.push(entry)?;
     }
-    Ok(entries)
+    let items = vec![in alloc; Datum::Many(entries)]?;
+    Ok(Data::new(items))
 }

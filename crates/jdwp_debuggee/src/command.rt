@@ -111,16 +111,6 @@ fn slot_of(entry: &[Scalar]) -> Option<(i32, Value)>
     }
 }
 
-/// Adds the slot of an entry, if it is one.
-fn add_slot(slots: &mut Vec<(i32, Value)>, entry: &[Scalar]) -> Result<(), NoMemory>
-    ensures { OnOk result (slots.new.items ≡ slots.old.items ++ filter_map actions.slot_of (scalar_meanings entry.now ∷ [])) }
-{
-    if let Some(slot) = slot_of(entry) {
-        slots.push(slot)?;
-    }
-    Ok(())
-}
-
 /// The slots of the entries of a StackFrame.SetValues, with their values.
 #[tactic(auto, using(std::proofs::lemmas::Grind::common_steps, crate::proofs::Read::slots_more))]
 fn slots_of(alloc: Global, entries: &[Vec<Scalar>]) -> Result<Vec<(i32, Value)>, NoMemory>
@@ -128,7 +118,9 @@ fn slots_of(alloc: Global, entries: &[Vec<Scalar>]) -> Result<Vec<(i32, Value)>,
 {
     let mut slots = Vec::new(alloc);
     for entry in entries {
-        add_slot(&mut slots, entry)?;
+        if let Some(slot) = slot_of(entry) {
+            slots.push(slot)?;
+        }
     }
     Ok(slots)
 }

@@ -8,6 +8,7 @@ mod command;
 mod debuggee;
 mod laws;
 mod origins;
+mod questions;
 mod reading;
 mod refusals;
 mod reply;

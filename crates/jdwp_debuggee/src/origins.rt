@@ -3,45 +3,17 @@
 ghost use Rattle.std.specs.Prelude.{◌≡◌, ◌<◌, ◌^◌, ◌∷◌, List, None, IfOk, length};
 ghost use Rattle.jdwp_layout.specs.Meanings.{ScalarMeaning, scalar_meanings, entry_meanings};
 ghost use Rattle.jdwp_event.specs.RequestParts.{origin_meaning};
-ghost use Rattle.jdwp_debuggee.specs.Origins.{frames_query, lines_query, line_at, line_by, line_in, newest_line, origin_by, origin_of};
+ghost use Rattle.jdwp_debuggee.specs.Origins.{line_at, line_by, newest_line, origin_by, origin_of};
 ghost use Rattle.jdwp_debuggee.specs.OriginParts.{HasFewFrames};
 
+use crate::questions::ask;
 use jdwp_event::StepOrigin;
 use jdwp_layout::numbers::{FRAMES, LINE_TABLE, METHOD, THREAD_REFERENCE};
-use jdwp_layout::{Answer, Data, Datum, Scalar};
-use jdwp_machine::{Machine, Query};
-use jdwp_value::{Location, MethodId, ObjectId, ReferenceTypeId};
+use jdwp_layout::{Answer, Datum, Scalar};
+use jdwp_machine::Machine;
+use jdwp_value::{Location, ObjectId};
 use jdwp_wire::NoMemory;
 use std::alloc::Global;
-
-/// All frames of a thread: from 0, and -1 means the rest.
-fn ask_frames(alloc: Global, thread: ObjectId) -> Result<Query, NoMemory>
-    ensures { IfOk result (λ query. query ≡ frames_query thread.0) }
-{
-    let mut items = Vec::with_capacity(alloc, 3)?;
-    items.push(Datum::One(Scalar::ObjectId(thread)))?;
-    items.push(Datum::One(Scalar::Int(0)))?;
-    items.push(Datum::One(Scalar::Int(-1)))?;
-    Ok(Query {
-        set: THREAD_REFERENCE,
-        number: FRAMES,
-        content: Data::new(items),
-    })
-}
-
-/// The lines of a method.
-fn ask_lines(alloc: Global, class: ReferenceTypeId, method: MethodId) -> Result<Query, NoMemory>
-    ensures { IfOk result (λ query. query ≡ lines_query class.0 method.0) }
-{
-    let mut items = Vec::with_capacity(alloc, 2)?;
-    items.push(Datum::One(Scalar::ReferenceTypeId(class)))?;
-    items.push(Datum::One(Scalar::MethodId(method)))?;
-    Ok(Query {
-        set: METHOD,
-        number: LINE_TABLE,
-        content: Data::new(items),
-    })
-}
 
 /// The line after one more entry of a line table.
 fn line_after(index: u64, entry: &[Scalar], line: Option<u32>) -> Option<u32>
@@ -73,37 +45,15 @@ fn line_in_answer(index: u64, answer: &Answer) -> Option<u32>
     let Answer::Data(content) = answer else {
         return None;
     };
-    match content.items() {
-        [
-            Datum::One(Scalar::Long(_)),
-            Datum::One(Scalar::Long(_)),
-            Datum::Many(entries),
-        ] => { find_line(index, entries) }
-        _ => None,
+    if let [
+        Datum::One(Scalar::Long(_)),
+        Datum::One(Scalar::Long(_)),
+        Datum::Many(entries),
+    ] = content.items()
+    {
+        return find_line(index, entries);
     }
-}
-
-/// The line of a location, where one is known.
-fn line_of<M: Machine>(
-    alloc: Global,
-    machine: &M,
-    location: &Location,
-) -> Result<Option<u32>, NoMemory>
-    ensures { IfOk result (λ line. line ≡ line_in M.meaning machine.now location.now) }
-{
-    match location {
-        Location::Null => Ok(None),
-        Location::At {
-            class,
-            method,
-            index,
-            ..
-        } => {
-            let query = ask_lines(alloc, *class, *method)?;
-            let answer = machine.query(&query)?;
-            Ok(line_in_answer(*index, &answer))
-        }
-    }
+    None
 }
 
 /// The line of the newest frame, where one is known.
@@ -117,10 +67,26 @@ fn line_of_newest<M: Machine>(
     let [newest, ..] = frames else {
         return Ok(None);
     };
-    match newest.as_slice() {
-        [Scalar::FrameId(_), Scalar::Location(place)] => line_of(alloc, machine, place),
-        _ => Ok(None),
+    if let [
+        Scalar::FrameId(_),
+        Scalar::Location(
+            Location::At {
+                class,
+                method,
+                index,
+                ..
+            },
+        ),
+    ] = newest.as_slice()
+    {
+        let items = vec![in alloc;
+            Datum::One(Scalar::ReferenceTypeId(*class)),
+            Datum::One(Scalar::MethodId(*method)),
+        ]?;
+        let answer = ask(machine, METHOD, LINE_TABLE, items)?;
+        return Ok(line_in_answer(*index, &answer));
     }
+    Ok(None)
 }
 
 /// Where a thread is, by the answer of ThreadReference.Frames.
@@ -161,8 +127,13 @@ pub(crate) fn origin_of<M: Machine>(
 ) -> Result<StepOrigin, NoMemory>
     ensures { IfOk result (λ origin. origin_meaning origin ≡ origin_of M.meaning machine.now thread.0) }
 {
-    let query = ask_frames(alloc, thread)?;
+    // All of its frames: from 0, and -1 means the rest.
+    let items = vec![in alloc;
+        Datum::One(Scalar::ObjectId(thread)),
+        Datum::One(Scalar::Int(0)),
+        Datum::One(Scalar::Int(-1)),
+    ]?;
     let _live = machine.live();
-    let answer = machine.query(&query)?;
+    let answer = ask(machine, THREAD_REFERENCE, FRAMES, items)?;
     origin_in_answer(alloc, machine, &answer)
 }

@@ -6,18 +6,19 @@ ghost use Rattle.jdwp_event.specs.ModifierMeanings.{modifier_meaning};
 ghost use Rattle.jdwp_event.specs.RequestParts.{origin_meaning};
 ghost use Rattle.jdwp_wire.specs.ErrorCodes as codes;
 ghost use Rattle.jdwp_event.specs.declared.kind.EventKind.TheVariants as kind;
-ghost use Rattle.jdwp_debuggee.specs.Settings.{Settings};
-ghost use Rattle.jdwp_debuggee.specs.State.{Moment, count_in};
+ghost use Rattle.jdwp_debuggee.specs.State.{count_in};
 ghost use Rattle.jdwp_debuggee.specs.Effects as effects;
 ghost use Rattle.jdwp_debuggee.specs.Refusals as spec;
-ghost use Rattle.jdwp_debuggee.specs.RefusalParts.{moment_of, room_by, asks_machine, found_thread};
+ghost use Rattle.jdwp_debuggee.specs.RefusalParts.{moment_of, asks_machine, found_thread};
 
+use crate::debuggee::Debuggee;
 use crate::origins::origin_of;
+use crate::questions::ask;
 use crate::threads::Threads;
 use jdwp_event::{EventKind, Modifier, Policy, StepDepth, StepOrigin, StepSize};
 use jdwp_layout::numbers::{EVENT_REQUEST, LOCATION_ONLY, REFERENCE_TYPE, SET_REQUEST, SIGNATURE};
-use jdwp_layout::{Answer, Data, Datum, Scalar};
-use jdwp_machine::{Machine, Query};
+use jdwp_layout::{Answer, Datum, Scalar};
+use jdwp_machine::Machine;
 use jdwp_value::{Location, ObjectId, ReferenceTypeId};
 use jdwp_wire::number::GREATEST_INT;
 use jdwp_wire::{ErrorCode, NoMemory};
@@ -52,28 +53,6 @@ static WITHOUT_LOCATIONS: [EventKind; 6] = [
 /// The greatest id of a request, which is an int on the wire.
 const LAST_REQUEST: u32 = GREATEST_INT;
 
-/// What an event request asks for.
-#[derive(Clone, Copy)]
-pub(crate) struct Asked<'a> {
-    /// The byte of the event kind.
-    pub kind: u8,
-    /// The byte of the suspend policy.
-    pub policy: u8,
-    /// The modifiers, in the order sent.
-    pub modifiers: &'a [Modifier],
-}
-
-/// How much room there is for another event request.
-#[derive(Clone, Copy)]
-pub(crate) struct Room {
-    /// How many requests there are.
-    pub count: usize,
-    /// How many there may be.
-    pub limit: u32,
-    /// The id of the next one.
-    pub next: u32,
-}
-
 /// The error, unless the test holds.
 fn unless(holds: bool, error: ErrorCode) -> Option<ErrorCode>
     ensures { result ≡ spec.unless holds error }
@@ -95,7 +74,12 @@ fn or_else(first: Option<ErrorCode>, second: Option<ErrorCode>) -> Option<ErrorC
 fn is_one_of(kinds: &[EventKind], byte: u8) -> bool
     ensures { result ≡ spec.is_one_of kinds.now byte }
 {
-    kinds.iter().any(|kind| byte == kind.byte())
+    for kind in kinds {
+        if byte == kind.byte() {
+            return true;
+        }
+    }
+    false
 }
 
 /// A kind byte of no kind, and a kind that is not implemented.
@@ -115,18 +99,6 @@ fn policy_refusal(byte: u8) -> Option<ErrorCode>
     unless(Policy::of_byte(byte).is_some(), ErrorCode::ILLEGAL_ARGUMENT)
 }
 
-impl Room {
-    /// Whether as many requests stand as may, or no id is left.
-    fn refusal(self) -> Option<ErrorCode>
-        ensures { result ≡ room_by self.count self.limit self.next }
-    {
-        unless(
-            self.count < self.limit as usize && self.next <= LAST_REQUEST,
-            ErrorCode::INTERNAL,
-        )
-    }
-}
-
 /// A thread that is not alive.
 fn thread_refusal(threads: &Threads, thread: ObjectId) -> Option<ErrorCode>
     ensures { result ≡ spec.unless (spec.is_some_count (count_in threads.now thread.0)) codes.INVALID_THREAD }
@@ -134,85 +106,45 @@ fn thread_refusal(threads: &Threads, thread: ObjectId) -> Option<ErrorCode>
     unless(threads.is_live(thread), ErrorCode::INVALID_THREAD)
 }
 
-/// The question for a class's signature.
-fn ask_signature(alloc: Global, class: ReferenceTypeId) -> Result<Query, NoMemory>
-    ensures { IfOk result (λ query. query ≡ spec.signature_query class.0) }
-{
-    let mut items = Vec::with_capacity(alloc, 1)?;
-    items.push(Datum::One(Scalar::ReferenceTypeId(class)))?;
-    Ok(Query {
-        set: REFERENCE_TYPE,
-        number: SIGNATURE,
-        content: Data::new(items),
-    })
-}
-
-/// A class that the machine does not know.
+/// A class that the machine does not know, or else the next refusal.
 fn class_refusal<M: Machine>(
     alloc: Global,
     machine: &M,
     class: ReferenceTypeId,
+    next: Option<ErrorCode>,
 ) -> Result<Option<ErrorCode>, NoMemory>
-    ensures { IfOk result (λ refusal. refusal ≡ spec.class_refusal M.meaning machine.now class.0) }
+    ensures { IfOk result (λ refusal. refusal ≡ spec.or_else (spec.class_refusal M.meaning machine.now class.0) next) }
 {
-    let query = ask_signature(alloc, class)?;
-    match machine.query(&query)? {
-        Answer::Data(_) => Ok(None),
-        Answer::Error(error) => Ok(unless(
-            error.0 != ErrorCode::INVALID_CLASS.0,
-            ErrorCode::INVALID_CLASS,
-        )),
+    let items = vec![in alloc; Datum::One(Scalar::ReferenceTypeId(class))]?;
+    match ask(machine, REFERENCE_TYPE, SIGNATURE, items)? {
+        Answer::Error(error) if error.0 == ErrorCode::INVALID_CLASS.0 => {
+            Ok(Some(ErrorCode::INVALID_CLASS))
+        }
+        Answer::Data(_) | Answer::Error(_) => Ok(next),
     }
 }
 
-/// The question for a place: a Set of a breakpoint there.
-fn ask_location(alloc: Global, location: Location) -> Result<Query, NoMemory>
-    ensures { IfOk result (λ query. query ≡ spec.location_query location) }
-{
-    let mut modifier = Vec::with_capacity(alloc, 2)?;
-    modifier.push(Scalar::Byte(LOCATION_ONLY))?;
-    modifier.push(Scalar::Location(location))?;
-    let mut modifiers = Vec::with_capacity(alloc, 1)?;
-    modifiers.push(modifier)?;
-    let mut items = Vec::with_capacity(alloc, 3)?;
-    items.push(Datum::One(Scalar::Byte(EventKind::Breakpoint.byte())))?;
-    items.push(Datum::One(Scalar::Byte(Policy::None.byte())))?;
-    items.push(Datum::Many(modifiers))?;
-    Ok(Query {
-        set: EVENT_REQUEST,
-        number: SET_REQUEST,
-        content: Data::new(items),
-    })
-}
-
-/// A place that is none, as the machine answers.
+/// A place that is none, as the machine answers, or else the next refusal.
 fn location_refusal<M: Machine>(
     alloc: Global,
     machine: &M,
     location: Location,
+    next: Option<ErrorCode>,
 ) -> Result<Option<ErrorCode>, NoMemory>
-    ensures { IfOk result (λ refusal. refusal ≡ spec.location_refusal M.meaning machine.now location) }
+    ensures { IfOk result (λ refusal. refusal ≡ spec.or_else (spec.location_refusal M.meaning machine.now location) next) }
 {
-    let query = ask_location(alloc, location)?;
-    match machine.query(&query)? {
-        Answer::Data(_) => Ok(None),
+    // The question is a Set of a breakpoint there.
+    let modifier = vec![in alloc; Scalar::Byte(LOCATION_ONLY), Scalar::Location(location)]?;
+    let modifiers = vec![in alloc; modifier]?;
+    let items = vec![in alloc;
+        Datum::One(Scalar::Byte(EventKind::Breakpoint.byte())),
+        Datum::One(Scalar::Byte(Policy::None.byte())),
+        Datum::Many(modifiers),
+    ]?;
+    match ask(machine, EVENT_REQUEST, SET_REQUEST, items)? {
+        Answer::Data(_) => Ok(next),
         Answer::Error(error) => Ok(Some(error)),
     }
-}
-
-/// A class of exceptions that the machine does not know; 0 is any.
-fn exception_refusal<M: Machine>(
-    alloc: Global,
-    machine: &M,
-    class: ReferenceTypeId,
-) -> Result<Option<ErrorCode>, NoMemory>
-    ensures value { IfOk result (λ refusal. refusal ≡ spec.exception_refusal M.meaning machine.now class.0) }
-    ensures memory { IfErr result (λ _. not (class.0 == 0) ≡ true) }
-{
-    if class.0 == 0 {
-        return Ok(None);
-    }
-    class_refusal(alloc, machine, class)
 }
 
 /// A modifier that says nothing in requests of these kinds.
@@ -249,18 +181,19 @@ fn modifier_refusal<M: Machine>(
         Modifier::Count(count) => Ok(unless(*count >= 1, ErrorCode::INVALID_COUNT)),
         Modifier::ThreadOnly(thread) => Ok(thread_refusal(threads, *thread)),
         Modifier::ClassOnly(class) => {
-            let refusal = class_refusal(alloc, machine, *class)?;
-            Ok(or_else(refusal, not_in(&OF_THREADS, byte)))
+            class_refusal(alloc, machine, *class, not_in(&OF_THREADS, byte))
         }
         Modifier::ClassMatch(_) | Modifier::ClassExclude(_) => Ok(not_in(&OF_THREADS, byte)),
         Modifier::LocationOnly(location) => {
-            let refusal = location_refusal(alloc, machine, *location)?;
-            Ok(or_else(refusal, not_in(&WITHOUT_LOCATIONS, byte)))
+            location_refusal(alloc, machine, *location, not_in(&WITHOUT_LOCATIONS, byte))
         }
         Modifier::ExceptionOnly { class, .. } => {
-            let refusal = exception_refusal(alloc, machine, *class)?;
             let is_exception = byte == EventKind::Exception.byte();
-            Ok(or_else(refusal, unless(is_exception, ErrorCode::ILLEGAL_ARGUMENT)))
+            let next = unless(is_exception, ErrorCode::ILLEGAL_ARGUMENT);
+            if class.0 == 0 {
+                return Ok(next);
+            }
+            class_refusal(alloc, machine, *class, next)
         }
         Modifier::Step {
             thread,
@@ -277,15 +210,16 @@ fn modifier_refusal<M: Machine>(
     }
 }
 
-/// The refusal of the first modifier that is refused in a request of this kind.
+/// The refusal of the first modifier that is refused in a request of this kind, or else the next refusal.
 fn modifiers_refusal<M: Machine>(
     alloc: Global,
     machine: &M,
     threads: &Threads,
     byte: u8,
     modifiers: &[Modifier],
+    next: Option<ErrorCode>,
 ) -> Result<Option<ErrorCode>, NoMemory>
-    ensures value { IfOk result (λ refusal. refusal ≡ spec.modifiers_refusal M.meaning (moment_of threads.now machine.now) byte (map modifier_meaning modifiers.now)) }
+    ensures value { IfOk result (λ refusal. refusal ≡ spec.or_else (spec.modifiers_refusal M.meaning (moment_of threads.now machine.now) byte (map modifier_meaning modifiers.now)) next) }
     ensures memory { IfErr result (λ _. list_any asks_machine (map modifier_meaning modifiers.now) ≡ true) }
 {
     for modifier in modifiers {
@@ -294,7 +228,7 @@ fn modifiers_refusal<M: Machine>(
             return Ok(refusal);
         }
     }
-    Ok(None)
+    Ok(next)
 }
 
 /// Whether there is a LocationOnly.
@@ -335,31 +269,33 @@ fn shape_refusal(byte: u8, modifiers: &[Modifier]) -> Option<ErrorCode>
     }
 }
 
-/// Why an event request is refused; None where it is not. The tests are made in this order, and the first that fails is the answer:
-/// the kind (`INVALID_EVENT_TYPE`, `NOT_IMPLEMENTED`), the policy (`ILLEGAL_ARGUMENT`), room (`INTERNAL`), each modifier in the order
-/// sent, and what a request of the kind must have (`ILLEGAL_ARGUMENT`).
-///
-/// # Errors
-/// `NoMemory` where an allocation was refused, and only where the machine is asked about a modifier.
-pub(crate) fn set_refusal<M: Machine>(
-    alloc: Global,
-    machine: &M,
-    threads: &Threads,
-    room: Room,
-    asked: &Asked<'_>,
-) -> Result<Option<ErrorCode>, NoMemory>
-    ensures value { (settings : Settings) (now : Moment M) → now.machine ≡ machine.now → now.state.threads ≡ threads.now → length now.state.requests ≡ room.count → settings.limits.requests ≡ room.limit → now.state.next_request ≡ room.next → IfOk result (λ refusal. refusal ≡ spec.set_refusal M.meaning settings now asked.now.kind asked.now.policy (map modifier_meaning asked.now.modifiers.now)) }
-    ensures memory { IfErr result (λ _. list_any asks_machine (map modifier_meaning asked.now.modifiers.now) ≡ true) }
-{
-    let first = or_else(
-        kind_refusal(asked.kind),
-        or_else(policy_refusal(asked.policy), room.refusal()),
-    );
-    if first.is_some() {
-        return Ok(first);
+impl<M: Machine> Debuggee<M> {
+    /// Why an event request is refused; None where it is not. The tests are made in this order, and the first that fails is the
+    /// answer: the kind (`INVALID_EVENT_TYPE`, `NOT_IMPLEMENTED`), the policy (`ILLEGAL_ARGUMENT`), room (`INTERNAL`), each modifier
+    /// in the order sent, and what a request of the kind must have (`ILLEGAL_ARGUMENT`).
+    ///
+    /// # Errors
+    /// `NoMemory` where an allocation was refused, and only where the machine is asked about a modifier.
+    pub(crate) fn set_refusal(
+        &self,
+        alloc: Global,
+        kind: u8,
+        policy: u8,
+        modifiers: &[Modifier],
+    ) -> Result<Option<ErrorCode>, NoMemory>
+        ensures value { IfOk result (λ refusal. refusal ≡ spec.set_refusal M.meaning self.now.settings self.now.moment kind policy (map modifier_meaning modifiers.now)) }
+        ensures memory { IfErr result (λ _. list_any asks_machine (map modifier_meaning modifiers.now) ≡ true) }
+    {
+        let has_room = self.requests.len() < self.settings.limits().requests() as usize
+            && self.next_request <= LAST_REQUEST;
+        let room = unless(has_room, ErrorCode::INTERNAL);
+        let first = or_else(kind_refusal(kind), or_else(policy_refusal(policy), room));
+        if first.is_some() {
+            return Ok(first);
+        }
+        let last = shape_refusal(kind, modifiers);
+        modifiers_refusal(alloc, &self.machine, &self.threads, kind, modifiers, last)
     }
-    let second = modifiers_refusal(alloc, machine, threads, asked.kind, asked.modifiers)?;
-    Ok(or_else(second, shape_refusal(asked.kind, asked.modifiers)))
 }
 
 /// The thread of the first Step.

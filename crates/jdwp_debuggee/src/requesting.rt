@@ -1,22 +1,20 @@
 //! The commands that take memory: EventRequest.Set, and VirtualMachine.Exit, after which the machine is dead.
-ghost use Rattle.std.specs.Prelude.{◌≡◌, map, IfOk, OnErr};
-ghost use Rattle.jdwp_event.specs.ModifierMeanings.{modifier_meaning};
+ghost use Rattle.std.specs.Prelude.{◌≡◌, IfOk, OnErr};
 ghost use Rattle.jdwp_layout.specs.Meanings.{entry_meanings};
 ghost use Rattle.jdwp_machine.specs.Meanings.{numbers};
 ghost use Rattle.jdwp_debuggee.specs.Actions as action;
 ghost use Rattle.jdwp_debuggee.specs.Debuggees.{CarriesOut};
 ghost use Rattle.jdwp_debuggee.specs.Effects.{all_ended};
-ghost use Rattle.jdwp_debuggee.specs.Refusals as refusals;
 ghost use Rattle.jdwp_debuggee.specs.Replies.{reply_meaning};
 
 use crate::debuggee::Debuggee;
-use crate::refusals::{Asked, Room, first_origin, set_refusal};
+use crate::refusals::first_origin;
 use crate::reply::Reply;
 use jdwp_event::{Modifier, Request, RequestId};
 use jdwp_layout::Scalar;
 use jdwp_machine::Machine;
 use jdwp_value::ObjectId;
-use jdwp_wire::{ErrorCode, NoMemory};
+use jdwp_wire::NoMemory;
 use std::alloc::Global;
 
 /// Ends all live threads, in the machine's order.
@@ -63,7 +61,7 @@ impl<M: Machine> Debuggee<M> {
         ensures err { OnErr result (self.new ≡ self.old) }
     {
         let modifiers = Modifier::of_entries(alloc, entries)?;
-        if let Some(error) = self.refusal_of(alloc, kind, policy, modifiers.as_slice())? {
+        if let Some(error) = self.set_refusal(alloc, kind, policy, modifiers.as_slice())? {
             return Ok(Reply::Refused(error));
         }
         let origin = first_origin(alloc, &self.machine, modifiers.as_slice())?;
@@ -73,28 +71,5 @@ impl<M: Machine> Debuggee<M> {
         self.requests.insert(request)?;
         self.next_request = id + 1;
         Ok(Reply::Number(id))
-    }
-
-    /// Why an event request is refused; None where it is not.
-    fn refusal_of(
-        &self,
-        alloc: Global,
-        kind: u8,
-        policy: u8,
-        modifiers: &[Modifier],
-    ) -> Result<Option<ErrorCode>, NoMemory>
-        ensures { IfOk result (λ refusal. refusal ≡ refusals.set_refusal M.meaning self.now.settings self.now.moment kind policy (map modifier_meaning modifiers.now)) }
-    {
-        let room = Room {
-            count: self.requests.len(),
-            limit: self.settings.limits().requests(),
-            next: self.next_request,
-        };
-        let asked = Asked {
-            kind,
-            policy,
-            modifiers,
-        };
-        set_refusal(alloc, &self.machine, &self.threads, room, &asked)
     }
 }

@@ -125,14 +125,7 @@ impl<M: Machine> Debuggee<M> {
             return Ok(None);
         }
         let happening = self.machine.next(thread)?;
-        if self.is_full(&happening) {
-            return Ok(None);
-        }
-        if self.threads.is_marked(thread) {
-            return Ok(Some(self.end(thread)));
-        }
-        let done = self.go_on(alloc, thread, &happening)?;
-        Ok(Some(done))
+        self.step_into(alloc, thread, &happening)
     }
 
     /// Whether a thread may step but for a thread too many that would start.
@@ -176,24 +169,34 @@ impl<M: Machine> Debuggee<M> {
         }
     }
 
-    /// The step of a thread whose death was not reported, in which `happening` happens.
-    fn go_on(
+    /// The step of a thread that is ready, in which `happening` happens, unless one thread more than there may be would start.
+    fn step_into(
         &mut self,
         alloc: Global,
         thread: ObjectId,
         happening: &Happening,
-    ) -> Result<StepDone, NoMemory>
-        requires may { may_step M.meaning self.old.settings self.old.moment thread.0 ≡ true }
-        requires unmarked { is_marked self.old.moment.state thread.0 ≡ false }
+    ) -> Result<Option<StepDone>, NoMemory>
+        requires ready { is_ready self.old.settings self.old.moment.state thread.0 ≡ true }
         requires next { happening.now ≡ M.meaning.next self.old.moment.machine thread.0 }
-        ensures ok { IfOk result (λ done. Steps M.meaning thread.0 self.old self.new done) }
+        ensures ok { IfOk result (λ done. StepsOrNot M.meaning thread.0 self.old self.new done) }
         ensures err { OnErr result (self.new ≡ self.old) }
     {
+        if self.is_full(happening) {
+            return Ok(None);
+        }
+        if self.threads.is_marked(thread) {
+            return Ok(Some(self.end(thread)));
+        }
         let sends = gather(alloc, &self.requests, happening)?;
         if has_run_out(happening) {
-            return Ok(self.run_out(thread, happening, sends));
+            return Ok(Some(self.run_out(thread, happening, sends)));
         }
-        self.advance(thread, happening, sends)
+        self.advance(thread, happening, &sends)?;
+        Ok(Some(StepDone {
+            sends,
+            ends: false,
+            dies: false,
+        }))
     }
 
     /// The step of a thread that has run out: it ends, or its death is reported.
@@ -236,19 +239,19 @@ impl<M: Machine> Debuggee<M> {
         }
     }
 
-    /// Any other step.
+    /// Any other step, by which `sends` is sent.
     fn advance(
         &mut self,
         thread: ObjectId,
         happening: &Happening,
-        sends: Option<Composite>,
-    ) -> Result<StepDone, NoMemory>
+        sends: &Option<Composite>,
+    ) -> Result<(), NoMemory>
         requires may { may_step M.meaning self.old.settings self.old.moment thread.0 ≡ true }
         requires unmarked { is_marked self.old.moment.state thread.0 ≡ false }
         requires next { happening.now ≡ M.meaning.next self.old.moment.machine thread.0 }
         requires runs_on { runs_out happening.now ≡ false }
-        requires sends { sends ≡ gathered happening.now self.old.moment.state.requests }
-        ensures ok { IfOk result (λ done. Steps M.meaning thread.0 self.old self.new done) }
+        requires sends { sends.now ≡ gathered happening.now self.old.moment.state.requests }
+        ensures ok { OnOk result (Steps M.meaning thread.0 self.old self.new (record { sends = sends.now; ends = false; dies = false })) }
         ensures err { OnErr result (self.new ≡ self.old) }
     {
         let count = self.threads.len();
@@ -257,13 +260,9 @@ impl<M: Machine> Debuggee<M> {
             self.threads.truncate(count);
             return Err(error);
         }
-        count_gathered(&mut self.requests, happening, &sends);
-        suspend_for(&mut self.threads, &sends, happening.thread());
-        self.next_packet = id_after(self.next_packet, &sends);
-        Ok(StepDone {
-            sends,
-            ends: false,
-            dies: false,
-        })
+        count_gathered(&mut self.requests, happening, sends);
+        suspend_for(&mut self.threads, sends, happening.thread());
+        self.next_packet = id_after(self.next_packet, sends);
+        Ok(())
     }
 }

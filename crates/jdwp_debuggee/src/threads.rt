@@ -3,7 +3,7 @@ ghost use Rattle.jdwp_wire.specs.Numbers.{greatest_int};
 ghost use Rattle.std.specs.Prelude.{◌≡◌, ◌≤◌, ◌==◌, ◌++◌, ◌∷◌, [], map, length, take, false, OnOk, OnErr, IfOk};
 ghost use Rattle.std.specs.List.{list_any, filter};
 ghost use Rattle.jdwp_machine.specs.Meanings.{numbers};
-ghost use Rattle.jdwp_debuggee.specs.Entries.{AllAtMost, all_marked, change_of, least_of, map_thread, mark_of, recount, recounted, stands_at, threads_of};
+ghost use Rattle.jdwp_debuggee.specs.Entries.{AllAtMost, all_marked, change_of, least_of, map_thread, recounted, stands_at, threads_of};
 ghost use Rattle.jdwp_debuggee.specs.State as spec;
 ghost use Rattle.jdwp_debuggee.specs.State.{changed, is_marked_by, is_other, marked, running, thread_in};
 ghost use Rattle.jdwp_debuggee.specs.Refusals.{is_some_count};
@@ -59,23 +59,6 @@ impl Change {
     }
 }
 
-impl ThreadEntry {
-    fn change(&mut self, change: Change)
-        requires { self.old.suspend_count ≤ greatest_int }
-        ensures { self.new ≡ recount (change_of change) self.old }
-    {
-        self.suspend_count = change.apply(self.id, self.suspend_count);
-    }
-
-    fn mark(&mut self, thread: ObjectId)
-        ensures { self.new ≡ mark_of thread.0 self.old }
-    {
-        if self.id.0 == thread.0 {
-            self.death_reported = true;
-        }
-    }
-}
-
 /// The live threads.
 #[derive(Drop)]
 pub(crate) struct Threads {
@@ -108,7 +91,12 @@ fn find(entries: &[ThreadEntry], thread: ObjectId) -> Option<ThreadEntry>
 fn any_stands_at(entries: &[ThreadEntry], count: u32) -> bool
     ensures { result ≡ list_any (λ (entry : ThreadEntry). entry.suspend_count == count) entries.now }
 {
-    entries.iter().any(|entry| entry.suspend_count == count)
+    for entry in entries {
+        if entry.suspend_count == count {
+            return true;
+        }
+    }
+    false
 }
 
 /// Changes the suspend counts.
@@ -117,7 +105,7 @@ fn change_counts(entries: &mut [ThreadEntry], change: Change)
     ensures { entries.new ≡ recounted (change_of change) entries.old }
 {
     for entry in entries.iter_mut() {
-        entry.change(change);
+        entry.suspend_count = change.apply(entry.id, entry.suspend_count);
     }
 }
 
@@ -126,7 +114,9 @@ fn mark_one(entries: &mut [ThreadEntry], thread: ObjectId)
     ensures { entries.new ≡ all_marked thread.0 entries.old }
 {
     for entry in entries.iter_mut() {
-        entry.mark(thread);
+        if entry.id.0 == thread.0 {
+            entry.death_reported = true;
+        }
     }
 }
 

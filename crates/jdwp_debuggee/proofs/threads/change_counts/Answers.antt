@@ -1,5 +1,5 @@
 use Rattle.jdwp_wire.specs.Numbers.{greatest_int}
-use Rattle.std.proofs.Common.{◌≡◌, ◌<◌, ◌≤◌, false, length, get_or, set, sym, ◌∙◌, ap, subst, arith, List}
+use Rattle.std.proofs.Common.{◌≡◌, ℕ, ◌<◌, ◌≤◌, false, length, get_or, set, sym, ◌∙◌, ap, subst, arith, List}
 use Rattle.std.proofs.lemmas.List.{get_or_default}
 use Rattle.std.proofs.lemmas.List.Edits.{map_over_more}
 use Rattle.jdwp_debuggee.specs.Entries.{change_of, recount}
@@ -10,8 +10,8 @@ use Rattle.jdwp_debuggee.proofs.threads.change_counts.Goals as goal
 abbrev none : ThreadEntry
 none = record { id = record { 0 = 0 }; suspend_count = 0; death_reported = false }
 
-pub change-requires : goal.change-requires
-change-requires c =
+pub apply-entry-requires : goal.apply-entry-requires
+apply-entry-requires c =
     let i = c.loop-entry.entry-index in
     let es = c.args.entries.now in
     let inside : i < length es = c.loop-entry-test.true in
@@ -24,5 +24,5 @@ loop-entry-preserved c =
     let es = c.args.entries.now in
     let x = get_or c.loop-entry.entries i none in
     let here : i < length c.loop-entry.entries = omega arith in
-    ap (λ (e : ThreadEntry). set c.loop-entry.entries i e) c.change.ensures
+    ap (λ (n : ℕ). let y : ThreadEntry = record { id = x.id; suspend_count = n; death_reported = x.death_reported } in set c.loop-entry.entries i y) c.apply-entry.ensures
     ∙ map_over_more (recount (change_of c.args.change)) es c.loop-entry.entries i x c.loop-entry-test.true c.loop-entry.invariant (get_or_default c.loop-entry.entries i none x here)

@@ -16,7 +16,7 @@ invariant_of-self-2 g c =
     let machine : c.step.new.self ≡ g.M.Machine.meaning.stepped c.self.inside.machine c.args.thread.0 = search rules in
     let sends = rw (← c.self.view_is) at c.requires.sends in
     rw (c.suspend_for.ensures, threads, c.count_gathered.ensures sends, c.id_after-self-inside.ensures, c.thread.ensures, machine)
-    (kept-report g.M.Machine.meaning g.met.M.Machine.lawful _ c.args.thread.0 c.args.happening.now c.args.sends c.self.invariant (rw (← c.self.view_is) at c.requires.may) (rw (← c.self.view_is) at c.requires.unmarked) (rw (← c.self.view_is) at c.requires.next) c.requires.runs_on sends)
+    (kept-report g.M.Machine.meaning g.met.M.Machine.lawful _ c.args.thread.0 c.args.happening.now c.args.sends.now c.self.invariant (rw (← c.self.view_is) at c.requires.may) (rw (← c.self.view_is) at c.requires.unmarked) (rw (← c.self.view_is) at c.requires.next) c.requires.runs_on sends)
 
 pub invariant_of-self-in-Err : goal.invariant_of-self-in-Err
 invariant_of-self-in-Err c = grind (arith, common_steps)

@@ -31,7 +31,7 @@ pub sent-requires : goal.sent-requires
 sent-requires g c =
     let m = g.M.Machine.meaning in
     let d = c.self.inside in
-    let content : c.new.result ≡ listed (rising (ids d.threads)) = search rules in
+    let content : c.in_ok-listed.field-0 ≡ listed (rising (ids d.threads)) = search rules in
     let count = length-rising (ids d.threads) in
     let same = length-map d.threads (λ (entry : Thread). entry.id) in
     let few : length (rising (ids d.threads)) < 2 ^ 31 = omega (arith, count, same, c.packet.ensures.within, c.len.ensures, c.if-len-packet.false) in
@@ -41,5 +41,5 @@ pub returns-clause-value : goal.returns-clause-value
 returns-clause-value g c =
     let m = g.M.Machine.meaning in
     let d = c.self.inside in
-    let content : c.new.result ≡ listed (rising (ids d.threads)) = search rules in
+    let content : c.in_ok-listed.field-0 ≡ listed (rising (ids d.threads)) = search rules in
     subst (λ (x : Debuggee g.row.M.Denot). IfOk c.sent.result (λ y. IsSent (m.sizes x.moment.machine) (bounded x.settings (m.sizes x.moment.machine) (all_threads x.moment.state)) y)) c.self.view_is (rw (c.sizes-sizes.ensures, content) at c.sent.ensures.value)

@@ -16,7 +16,7 @@ invariant_of-self-2 g c =
     let modifiers = modifiers_of (entry_meanings c.args.entries.items) in
     let free =
     ap (λ (d : Debuggee g.row.M.Denot). set_refusal m d.settings d.moment c.args.kind c.args.policy modifiers) c.self.view_is
-    ∙ (ap (λ l. set_refusal m c.args.self.now.settings c.args.self.now.moment c.args.kind c.args.policy l) (sym same) ∙ (sym c.in_ok-error.ensures ∙ none)) in
+    ∙ (ap (λ l. set_refusal m c.args.self.now.settings c.args.self.now.moment c.args.kind c.args.policy l) (sym same) ∙ (sym c.in_ok-error.ensures.value ∙ none)) in
     let origin = rw same-2 at c.in_ok-origin.ensures in
     let number : c.unwrap-asked_id.result ≡ c.self.inside.next_request = search rules in
     let request = rw (c.in_ok-modifiers.ensures, origin, number) at c.in_ok-request.ensures in
@@ -31,7 +31,7 @@ returns-clause-ok g c =
     let modifiers = modifiers_of (entry_meanings c.args.entries.items) in
     let free =
     ap (λ (d : Debuggee g.row.M.Denot). set_refusal m d.settings d.moment c.args.kind c.args.policy modifiers) c.self.view_is
-    ∙ (ap (λ l. set_refusal m c.args.self.now.settings c.args.self.now.moment c.args.kind c.args.policy l) (sym same) ∙ (sym c.in_ok-error.ensures ∙ none)) in
+    ∙ (ap (λ l. set_refusal m c.args.self.now.settings c.args.self.now.moment c.args.kind c.args.policy l) (sym same) ∙ (sym c.in_ok-error.ensures.value ∙ none)) in
     let origin = rw same-2 at c.in_ok-origin.ensures in
     let number : c.unwrap-asked_id.result ≡ c.self.inside.next_request = search rules in
     let request = rw (c.in_ok-modifiers.ensures, origin, number) at c.in_ok-request.ensures in
