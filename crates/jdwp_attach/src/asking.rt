@@ -56,11 +56,7 @@ fn command_of(
             Err(DataFault::NoMemory) => Err(Unread::NoMemory),
             Err(_) => Err(Unread::BadData),
         },
-        None => {
-            let mut carried = Vec::with_capacity(alloc, bytes.len())?;
-            carried.extend_from_slice(bytes)?;
-            Ok(Command::raw(set, number, carried))
-        }
+        None => Ok(Command::raw(set, number, Vec::from_slice(alloc, bytes)?)),
     }
 }
 

@@ -170,9 +170,7 @@ fn raw_items(alloc: Global, bytes: &[u8]) -> Result<Vec<Datum>, NoMemory>
     ensures { IfOk result (λ items. meanings items.items ≡ raw_data bytes.now) }
 {
     let entries = raw_entries(alloc, bytes)?;
-    let mut items = Vec::with_capacity(alloc, 1)?;
-    items.push(Datum::Many(entries))?;
-    Ok(items)
+    Ok(vec![in alloc; Datum::Many(entries)]?)
 }
 
 fn raw_entries(alloc: Global, bytes: &[u8]) -> Result<Vec<Vec<Scalar>>, NoMemory>
@@ -180,9 +178,7 @@ fn raw_entries(alloc: Global, bytes: &[u8]) -> Result<Vec<Vec<Scalar>>, NoMemory
 {
     let mut entries = Vec::with_capacity(alloc, bytes.len())?;
     for byte in bytes {
-        let mut fields = Vec::with_capacity(alloc, 1)?;
-        fields.push(Scalar::Byte(*byte))?;
-        entries.push(fields)?;
+        entries.push(vec![in alloc; Scalar::Byte(*byte)]?)?;
     }
     Ok(entries)
 }

@@ -147,8 +147,7 @@ impl Debugger {
             if self.parked.len() == PARKED_MOST {
                 return Err(DebuggerFault::TooManyParked);
             }
-            let mut body = Vec::with_capacity(alloc, bytes.len())?;
-            body.extend_from_slice(bytes)?;
+            let body = Vec::from_slice(alloc, bytes)?;
             return Ok(News::Waits(body));
         };
         let composite = read_composite(alloc, &sizes, bytes)?;

@@ -190,7 +190,7 @@ impl KeptRequests {
         self.entries.reserve(1)?;
         let id = request.id();
         self.entries.retain(|kept| kept.id() != id);
-        self.entries.push(request)?;
+        self.entries.push_reserved(request);
         Ok(())
     }
 
@@ -244,8 +244,7 @@ fn copied(alloc: Global, entry: &[Scalar]) -> Result<Vec<Scalar>, NoMemory>
 {
     let mut copy = Vec::with_capacity(alloc, entry.len())?;
     for field in entry {
-        let scalar = copied_scalar(alloc, field)?;
-        copy.push(scalar)?;
+        copy.push_reserved(copied_scalar(alloc, field)?);
     }
     Ok(copy)
 }
