@@ -1,8 +1,8 @@
 //! Suspend counts, asked in rounds (JDWP specification, "Protocol Details": ThreadReference.SuspendCount).
-use crate::exchange::{to_debugger, to_target};
 use anyhow::Context;
 use jdwp_debuggee::Settings;
 use jdwp_debugger::{Command, Debugger, Read};
+use jdwp_exchange::{to_debugger, to_target};
 use jdwp_layout::numbers::{SUSPEND_COUNT, THREAD_REFERENCE};
 use jdwp_layout::{Datum, Scalar};
 use jdwp_script_machine::ScriptMachine;
@@ -70,8 +70,7 @@ fn ask_counts(
 }
 
 fn count_of_the_thread(alloc: Global) -> anyhow::Result<Command> {
-    let mut items = Vec::with_capacity(alloc, 1)?;
-    items.push(Datum::One(Scalar::ObjectId(ObjectId(1))))?;
+    let items = vec![in alloc; Datum::One(Scalar::ObjectId(ObjectId(1)))]?;
     Ok(Command::new(THREAD_REFERENCE, SUSPEND_COUNT, items))
 }
 

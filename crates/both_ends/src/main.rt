@@ -4,7 +4,6 @@
 #![tactic(auto)]
 
 mod counts;
-mod exchange;
 
 use counts::answered;
 use std::env;

@@ -1,6 +1,6 @@
 //! Bytes that go from one end straight to the other.
 ghost use Rattle.std.specs.Prelude.{◌≡◌, length};
-ghost use Rattle.both_ends.specs.Exchange.{fitting, moved};
+ghost use Rattle.jdwp_exchange.specs.Exchange.{moved};
 ghost use Rattle.jdwp_debugger.specs.Debuggers as debuggers;
 ghost use Rattle.jdwp_target.specs.Targets as targets;
 
@@ -14,10 +14,11 @@ pub fn to_target<M: Machine + Drop>(
     target: &mut Target<M>,
     buffer: &mut [u8],
 )
-    ensures taken { debugger.new ≡ debuggers.with_taken (moved (length buffer.old) debugger.old.end) debugger.old }
-    ensures fed { target.new ≡ targets.with_fed (fitting target.old.end (moved (length buffer.old) debugger.old.end)) target.old }
+    ensures taken { debugger.new ≡ debuggers.with_taken (moved (length buffer.old) debugger.old.end target.old.end) debugger.old }
+    ensures fed { target.new ≡ targets.with_fed (moved (length buffer.old) debugger.old.end target.old.end) target.old }
 {
-    let count = debugger.take(buffer);
+    let most = buffer.len().min(target.room());
+    let count = debugger.take(&mut buffer[..most]);
     target.feed(&buffer[..count]);
 }
 
@@ -27,9 +28,10 @@ pub fn to_debugger<M: Machine + Drop>(
     debugger: &mut Debugger,
     buffer: &mut [u8],
 )
-    ensures taken { target.new ≡ targets.with_taken (moved (length buffer.old) target.old.end) target.old }
-    ensures fed { debugger.new ≡ debuggers.with_fed (fitting debugger.old.end (moved (length buffer.old) target.old.end)) debugger.old }
+    ensures taken { target.new ≡ targets.with_taken (moved (length buffer.old) target.old.end debugger.old.end) target.old }
+    ensures fed { debugger.new ≡ debuggers.with_fed (moved (length buffer.old) target.old.end debugger.old.end) debugger.old }
 {
-    let count = target.take(buffer);
+    let most = buffer.len().min(debugger.room());
+    let count = target.take(&mut buffer[..most]);
     debugger.feed(&buffer[..count]);
 }
