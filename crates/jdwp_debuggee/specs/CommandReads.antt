@@ -12,7 +12,7 @@ use Rattle.jdwp_layout.specs.Rows.{Row, RowShapes}
 use Rattle.jdwp_layout.specs.Shapes.{ItemShape}
 use Rattle.jdwp_machine.specs.declared.query.Query.{Query}
 use Rattle.jdwp_debuggee.specs.Actions
-use Rattle.jdwp_debuggee.specs.Actions.{Carried, Content, Raw, Command, Action, action_of, is_implemented}
+use Rattle.jdwp_debuggee.specs.Actions.{Content, Raw, Command, Action, action_of, is_implemented}
 use Rattle.jdwp_debuggee.specs.Answers.{query_of}
 use Rattle.jdwp_debuggee.specs.declared.command as code
 use Rattle.jdwp_debuggee.specs.declared.command.Action.TheVariants as action

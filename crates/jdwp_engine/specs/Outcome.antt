@@ -1,7 +1,7 @@
 -- When an engine that runs a target may end as it did.
 use Rattle.std.specs.Prelude.{◌≡◌, ◌≢◌, ◌⊎◌, ℕ, ◌<◌, ◌+◌, nat_lt, true, false, List, [], ◌∷◌, ◌++◌}
 use Rattle.jdwp_wire.specs.FaultNumbers.{fault_number}
-use Rattle.jdwp_wire.specs.Streams.{Message, Handshake, Packet, NextMessage, Whole, More, Fault, next_message}
+use Rattle.jdwp_wire.specs.Streams.{Message, NextMessage, Whole, More, Fault, next_message}
 use Rattle.jdwp_wire.specs.declared.frame.FrameFault.{FrameFault}
 use Rattle.jdwp_end.specs.Ends.{End, is_open}
 use Rattle.jdwp_end.specs.Runs.{Carries}

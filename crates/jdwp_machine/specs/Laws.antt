@@ -15,8 +15,8 @@ use Rattle.jdwp_layout.specs.CommandNumbers.{is_command, FRAMES, FRAME_COUNT, GE
 use Rattle.jdwp_layout.specs.CommandTable.{row_at}
 use Rattle.jdwp_layout.specs.Rows.{Row, RowShapes}
 use Rattle.jdwp_layout.specs.Writes.{data_refusal}
-use Rattle.jdwp_layout.specs.Meanings.{ScalarMeaning, Byte, Int, Object, Located, DatumMeaning, One, Many}
-use Rattle.jdwp_event.specs.Occurrences.{HappeningMeaning, OccurrenceMeaning, Moved, Entered, Left, Threw, Prepared, Started, RanOut, ClassMeaning, started, runs_out}
+use Rattle.jdwp_layout.specs.Meanings.{Byte, Int, Object, Located, DatumMeaning, One, Many}
+use Rattle.jdwp_event.specs.Occurrences.{OccurrenceMeaning, Moved, Entered, Left, Threw, Prepared, Started, RanOut, started, runs_out}
 use Rattle.jdwp_machine.specs.declared.query.Query.{Query}
 use Rattle.jdwp_machine.specs.Meanings.{Meaning, has}
 

@@ -1,6 +1,6 @@
 -- When an id does not fit its width, or a width is outside 1 to 8. Each id counts, whether it is given away or named,
 -- and so does the object of a value.
-use Rattle.std.specs.Prelude.{ℕ, ◌^◌, ◌&&◌, ◌||◌, List, Bool, false, not, nat_lt, Option}
+use Rattle.std.specs.Prelude.{ℕ, ◌^◌, ◌&&◌, ◌||◌, Bool, false, not, nat_lt}
 use Rattle.std.specs.List.{list_any}
 use Rattle.jdwp_wire.specs.Widths.{Widths}
 use Rattle.jdwp_value.specs.Values.{is_object}

@@ -2,7 +2,7 @@
 -- frames are each of their own.
 use Rattle.std.specs.Prelude.{ℕ, ◌||◌, List, [], ◌∷◌, ◌++◌, Bool, false, map}
 use Rattle.std.specs.List.{flat_map}
-use Rattle.jdwp_script.specs.Parts.{GroupPart, FieldPart, MethodPart, ClassPart, ObjectPart, StepPart, Call, Go, Return, Throwing, Prepare, Start, ThreadPart, ScriptPart}
+use Rattle.jdwp_script.specs.Parts.{GroupPart, ClassPart, ObjectPart, StepPart, Call, Go, Return, Throwing, Prepare, Start, ThreadPart, ScriptPart}
 use Rattle.jdwp_script.specs.Limits.{is_in}
 
 -- ---- the ids that a script gives away

@@ -1,19 +1,13 @@
 -- The answers about classes and methods by what is asked, and what the code's look-ups and readings of data find.
-use Rattle.std.specs.Prelude.{false, true, Bool, List, [], ◌∷◌, map, Option, Some, None, Result, Ok, Err}
+use Rattle.std.specs.Prelude.{false, true, Bool, List, [], ◌∷◌, map, Option, Some, None}
 use Rattle.std.specs.Borrow.{Bor}
 use Rattle.std.specs.Global.{Vec}
-use Rattle.jdwp_wire.specs.declared.error_code.ErrorCode.{ErrorCode}
 use Rattle.jdwp_wire.specs.ErrorCodes.{ILLEGAL_ARGUMENT}
 use Rattle.jdwp_layout.specs.declared.answer.Answer.{Answer}
 use Rattle.jdwp_layout.specs.declared.answer.Answer.TheVariants.{Data, Error}
-use Rattle.jdwp_layout.specs.declared.datum.Datum.{Datum}
 use Rattle.jdwp_layout.specs.declared.datum.Scalar.{Scalar}
-use Rattle.jdwp_layout.specs.Meanings.{ScalarMeaning, Boolean, Int, Text, Object, ReferenceType, One, Many, meanings, entry_meanings}
-use Rattle.jdwp_script.specs.declared.script.Class.{Class}
-use Rattle.jdwp_script.specs.declared.script.Method.{Method}
-use Rattle.jdwp_script.specs.declared.script.Field.{Field}
-use Rattle.jdwp_script.specs.Parts.{FieldPart, MethodPart, ClassPart}
-use Rattle.jdwp_script.specs.Meanings.{class_part, method_part, field_part}
+use Rattle.jdwp_layout.specs.Meanings.{ScalarMeaning, Boolean, Int, Text, Object, ReferenceType, One, Many, entry_meanings}
+use Rattle.jdwp_script.specs.Parts.{MethodPart, ClassPart}
 use Rattle.jdwp_script_machine.specs.declared.class_answers.ClassQuestion.{ClassQuestion}
 use Rattle.jdwp_script_machine.specs.declared.class_answers.ClassQuestion.TheVariants as class
 use Rattle.jdwp_script_machine.specs.declared.method_answers.MethodQuestion.{MethodQuestion}
@@ -21,7 +15,6 @@ use Rattle.jdwp_script_machine.specs.declared.method_answers.MethodQuestion.TheV
 use Rattle.jdwp_script_machine.specs.declared.machine_answers.MachineQuestion.{MachineQuestion}
 use Rattle.jdwp_script_machine.specs.declared.machine_answers.MachineQuestion.TheVariants as machine
 use Rattle.jdwp_script_machine.specs.States.{State}
-use Rattle.jdwp_script_machine.specs.Requests.{Asks}
 use Rattle.jdwp_script_machine.specs.ClassAnswers.{version, all_classes, all_classes_generic, top_groups, incapable, field_entry, field_entry_generic, method_entry, method_entry_generic, interface_entry, status, source_answer, lines_answer, variable_entry, variable_entry_generic}
 
 -- ---- what is answered by what is asked

@@ -1,5 +1,5 @@
 -- What closes a session (JDWP specification, "Protocol Details": VirtualMachine.Dispose, VirtualMachine.Exit and the event VM_DEATH).
-use Rattle.std.specs.Prelude.{◌≡◌, ◌⊎◌, Bool, true, false, [], ⊤}
+use Rattle.std.specs.Prelude.{◌≡◌, ◌⊎◌, true, false, [], ⊤}
 use Rattle.jdwp_wire.specs.Streams.{Message, Handshake, Packet}
 use Rattle.jdwp_wire.specs.declared.packet.PacketKind.TheVariants as kind
 use Rattle.jdwp_layout.specs.CommandNumbers.{VIRTUAL_MACHINE, DISPOSE}

@@ -1,4 +1,4 @@
-use Rattle.std.proofs.Common.{◌≡◌, take}
+use Rattle.std.proofs.Common.{take}
 use Rattle.jdwp_script.specs.Limits.{is_in}
 use Rattle.jdwp_script.specs.IdSets.{Holds}
 use Rattle.jdwp_script.proofs.id_set.set_of.Given as goal

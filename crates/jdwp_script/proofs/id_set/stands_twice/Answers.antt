@@ -1,4 +1,4 @@
-use Rattle.std.proofs.Common.{◌≡◌, ◌-◌, ◌≤◌, ◌<◌, length, sym, ◌∙◌, arith}
+use Rattle.std.proofs.Common.{◌-◌, sym, ◌∙◌, arith}
 use Rattle.jdwp_script.proofs.Sets.{twice_here, once_here, holds_here}
 use Rattle.jdwp_script.proofs.id_set.stands_twice.Goals as goal
 

@@ -1,4 +1,4 @@
-use Rattle.std.proofs.Common.{List, ℕ, [], ◌∷◌, map, sym, ap, ◌∙◌}
+use Rattle.std.proofs.Common.{List, [], ◌∷◌, map, ap, ◌∙◌}
 use Rattle.std.specs.List.{flat_map}
 use Rattle.std.proofs.lemmas.List.Concat.{flat_map_single}
 use Rattle.jdwp_script.specs.declared.script.Group.{Group}

@@ -1,4 +1,4 @@
-use Rattle.std.proofs.Common.{◌≡◌, List, map, Ok, ap, sym, ◌∙◌}
+use Rattle.std.proofs.Common.{List, map, Ok, ap}
 use Rattle.serde_json.specs.Data.{Data}
 use Rattle.serde_json.specs.View.{view}
 use Rattle.jdwp_script.proofs.Lists.{listed-items_of}
