@@ -53,6 +53,27 @@ pub struct Attach<'a> {
     pub turns: u32,
 }
 
+/// The name of a command.
+#[derive(Clone, Copy)]
+enum Name {
+    Show,
+    Check,
+    ServeScript,
+    Attach,
+}
+
+impl Name {
+    /// The name behind that of the program.
+    fn in_full(self) -> &'static str {
+        match self {
+            Name::Show => "jdwp show",
+            Name::Check => "jdwp check",
+            Name::ServeScript => "jdwp serve-script",
+            Name::Attach => "jdwp attach",
+        }
+    }
+}
+
 /// Reads the words, the first of which is the program's name.
 ///
 /// # Errors
@@ -80,7 +101,7 @@ fn read_matches<'a, S: AsStr>(
         Some(("check", found)) => Ok(Words::Check(value(alloc, found, "file")?)),
         Some(("serve-script", found)) => Ok(Words::ServeScript(read_serve_script(alloc, found)?)),
         Some((_, found)) if is_attach(words) => Ok(Words::Attach(read_attach(alloc, found)?)),
-        _ => Err(bad_words(alloc, command(alloc)?, "a command is missing")?),
+        _ => Err(bad_words(alloc, command(alloc), "a command is missing")),
     }
 }
 
@@ -98,19 +119,28 @@ fn read_serve_script<'a>(
     alloc: Global,
     found: &ArgMatches<'a>,
 ) -> Result<ServeScript<'a>, Fault<'a>> {
-    let start_all = is_all(value(alloc, found, "start")?);
-    let count_limit = number(alloc, found, "count-limit", "serve-script")?;
-    let limits = Limits::standard();
-    match start_all.and_then(|start_all| Settings::new(start_all, count_limit, limits)) {
-        Some(settings) => Ok(ServeScript {
-            machine: value(alloc, found, "machine")?,
-            from: value(alloc, found, "from")?,
-            to: value(alloc, found, "to")?,
-            settings,
-            turns: number(alloc, found, "turns", "serve-script")?,
-        }),
-        None => Err(bad_words(alloc, serve_script(alloc)?, "the options don't read")?),
+    Ok(ServeScript {
+        settings: read_settings(alloc, found)?,
+        machine: value(alloc, found, "machine")?,
+        from: value(alloc, found, "from")?,
+        to: value(alloc, found, "to")?,
+        turns: number(alloc, found, "turns", Name::ServeScript)?,
+    })
+}
+
+/// The settings of the target.
+fn read_settings<'a>(alloc: Global, found: &ArgMatches<'a>) -> Result<Settings, Fault<'a>> {
+    let start = value(alloc, found, "start")?;
+    let count_limit = number(alloc, found, "count-limit", Name::ServeScript)?;
+    match settings(start, count_limit) {
+        Some(settings) => Ok(settings),
+        None => Err(bad_words(alloc, serve_script(alloc), "the options don't read")),
     }
+}
+
+/// The settings that these are; None where they are no settings.
+fn settings(start: &str, count_limit: u32) -> Option<Settings> {
+    Settings::new(is_all(start)?, count_limit, Limits::standard())
 }
 
 fn read_attach<'a>(alloc: Global, found: &ArgMatches<'a>) -> Result<Attach<'a>, Fault<'a>> {
@@ -118,7 +148,7 @@ fn read_attach<'a>(alloc: Global, found: &ArgMatches<'a>) -> Result<Attach<'a>, 
         plan: value(alloc, found, "plan")?,
         from: value(alloc, found, "from")?,
         to: value(alloc, found, "to")?,
-        turns: number(alloc, found, "turns", "attach")?,
+        turns: number(alloc, found, "turns", Name::Attach)?,
     })
 }
 
@@ -126,7 +156,7 @@ fn read_attach<'a>(alloc: Global, found: &ArgMatches<'a>) -> Result<Attach<'a>, 
 fn value<'a>(alloc: Global, found: &ArgMatches<'a>, name: &str) -> Result<&'a str, Fault<'a>> {
     match found.get_str(name) {
         Some(text) => Ok(text),
-        None => Err(bad_words(alloc, command(alloc)?, "a value is missing")?),
+        None => Err(bad_words(alloc, command(alloc), "a value is missing")),
     }
 }
 
@@ -135,24 +165,21 @@ fn number<'a>(
     alloc: Global,
     found: &ArgMatches<'a>,
     name: &str,
-    of: &str,
+    of: Name,
 ) -> Result<u32, Fault<'a>> {
     let text = value(alloc, found, name)?;
     match decimal(text) {
         Some(number) => Ok(number),
-        None => Err(bad_number(alloc, text, name, of)?),
+        None => Err(bad_number(alloc, text, name, of)),
     }
 }
 
 /// The value of an option of this command that is no number, told with the command's usage.
-fn bad_number<'a>(
-    alloc: Global,
-    text: &str,
-    name: &str,
-    of: &str,
-) -> Result<Fault<'a>, AllocError> {
-    let message = number_message(alloc, text, name)?;
-    bad_words(alloc, named_in_full(alloc, of)?, message.as_str())
+fn bad_number<'a>(alloc: Global, text: &str, name: &str, of: Name) -> Fault<'a> {
+    match number_message(alloc, text, name) {
+        Ok(message) => bad_words(alloc, named_in_full(alloc, of), message.as_str()),
+        Err(_) => Fault::NoMemory,
+    }
 }
 
 /// That this value of the option is no number.
@@ -160,22 +187,26 @@ fn number_message(alloc: Global, text: &str, name: &str) -> Result<String, Alloc
     format!(in alloc; "invalid value '{text}' for '--{name} <N>': a number is digits alone")
 }
 
-/// The command that has numbers among its options, with the program's name before its own.
-fn named_in_full<'a>(alloc: Global, name: &str) -> Result<Command<'a>, AllocError> {
-    match name {
-        "attach" => attach_command(alloc)?.bin_name("jdwp attach"),
-        _ => serve_script(alloc)?.bin_name("jdwp serve-script"),
-    }
+/// The command with the program's name before its own.
+fn named_in_full<'a>(alloc: Global, name: Name) -> Result<Command<'a>, AllocError> {
+    named(alloc, name)?.bin_name(name.in_full())
 }
 
 /// Words that clap takes and the program doesn't, told with the usage of this command.
 fn bad_words<'a>(
     alloc: Global,
-    mut command: Command<'_>,
+    command: Result<Command<'_>, AllocError>,
     message: &str,
-) -> Result<Fault<'a>, AllocError> {
-    let error = command.error(ErrorKind::ValueValidation, message)?;
-    Ok(refused(alloc, &error))
+) -> Fault<'a> {
+    match told(command, message) {
+        Ok(error) => refused(alloc, &error),
+        Err(_) => Fault::NoMemory,
+    }
+}
+
+/// What clap would say of them.
+fn told(command: Result<Command<'_>, AllocError>, message: &str) -> Result<Error, AllocError> {
+    command?.error(ErrorKind::ValueValidation, message)
 }
 
 /// What clap says of words that it refuses, or of the help that they ask for.
@@ -198,21 +229,30 @@ fn without_line_end(mut text: String) -> String {
 }
 
 fn command<'a>(alloc: Global) -> Result<Command<'a>, AllocError> {
-    let command = Command::new(alloc, "jdwp")
+    let commands = commands(alloc)?;
+    Command::new(alloc, "jdwp")
         .about("Ends of the Java Debug Wire Protocol (JDWP, Java SE 11)")
-        .subcommand_required(true);
-    let command = with(command, show(alloc))?;
-    let command = with(command, check(alloc))?;
-    let command = with(command, serve_script(alloc))?;
-    with(command, attach_command(alloc))
+        .subcommand_required(true)
+        .subcommands(commands)
 }
 
-/// The command with another one below it.
-fn with<'a>(
-    command: Command<'a>,
-    below: Result<Command<'a>, AllocError>,
-) -> Result<Command<'a>, AllocError> {
-    command.subcommand(below?)
+/// The commands of the program, in the order in which help tells them.
+fn commands<'a>(alloc: Global) -> Result<Vec<Command<'a>>, AllocError> {
+    let mut commands = Vec::new(alloc);
+    for name in [Name::Show, Name::Check, Name::ServeScript, Name::Attach] {
+        commands.push(named(alloc, name)?)?;
+    }
+    Ok(commands)
+}
+
+/// The command of this name.
+fn named<'a>(alloc: Global, name: Name) -> Result<Command<'a>, AllocError> {
+    match name {
+        Name::Show => show(alloc),
+        Name::Check => check(alloc),
+        Name::ServeScript => serve_script(alloc),
+        Name::Attach => attach_command(alloc),
+    }
 }
 
 fn show<'a>(alloc: Global) -> Result<Command<'a>, AllocError> {
@@ -228,86 +268,73 @@ fn check<'a>(alloc: Global) -> Result<Command<'a>, AllocError> {
 }
 
 fn serve_script<'a>(alloc: Global) -> Result<Command<'a>, AllocError> {
-    let command = Command::new(alloc, "serve-script")
+    let arguments = vec![in alloc;
+        machine(alloc),
+        from(alloc, "What the debugger sent, in bytes"),
+        to(alloc, "Where the target's bytes are written"),
+        start(alloc),
+        count_limit(alloc),
+        turns(alloc, "How many rounds the session has at most"),
+    ]?;
+    Command::new(alloc, "serve-script")
         .about("Serves the session of one debugger, from a file of its bytes")
-        .arg(file(
-            alloc,
-            "machine",
-            "MACHINE",
-            "The script of the machine to be debugged, in JSON",
-        ))?;
-    let command = with_files(
-        alloc,
-        command,
-        "What the debugger sent, in bytes",
-        "Where the target's bytes are written",
-    )?;
-    let command = with_settings(alloc, command)?;
-    with_turns(alloc, command, "How many rounds the session has at most")
+        .args(arguments)
 }
 
 fn attach_command<'a>(alloc: Global) -> Result<Command<'a>, AllocError> {
-    let command = Command::new(alloc, "attach")
+    let arguments = vec![in alloc;
+        plan(alloc),
+        from(alloc, "What the target sent, in bytes"),
+        to(alloc, "Where the debugger's bytes are written"),
+        turns(alloc, "How many turns the session has at most"),
+    ]?;
+    Command::new(alloc, "attach")
         .about("Runs a plan as the debugger of one session, from a file of the target's bytes")
-        .arg(file(
-            alloc,
-            "plan",
-            "PLAN",
-            "A text of lines `ask SET NUMBER [HEX]`, `answers`, `events N` and `mirror`",
-        ))?;
-    let command = with_files(
-        alloc,
-        command,
-        "What the target sent, in bytes",
-        "Where the debugger's bytes are written",
-    )?;
-    with_turns(alloc, command, "How many turns the session has at most")
+        .args(arguments)
 }
 
-/// The command with the files of a session.
-fn with_files<'a>(
-    alloc: Global,
-    command: Command<'a>,
-    from: &'a str,
-    to: &'a str,
-) -> Result<Command<'a>, AllocError> {
-    command
-        .arg(option(alloc, "from", "FILE", from).required(true))?
-        .arg(option(alloc, "to", "FILE", to).required(true))
+/// The file of a script.
+fn machine<'a>(alloc: Global) -> Arg<'a> {
+    let help = "The script of the machine to be debugged, in JSON";
+    file(alloc, "machine", "MACHINE", help)
 }
 
-/// The command with the settings of a target.
-fn with_settings<'a>(alloc: Global, command: Command<'a>) -> Result<Command<'a>, AllocError> {
-    let starts = ["all", "none"].as_slice();
-    command
-        .arg(
-            option(alloc, "start", "WHICH", "Which threads VM_START suspends")
-                .value_parser(starts)
-                .default_value("all"),
-        )?
-        .arg(
-            option(
-                alloc,
-                "count-limit",
-                "N",
-                "The greatest suspend count that a Suspend gives",
-            )
-            .value_parser(value_parser!(u32).range(1..=i64::from(GREATEST_INT)))
-            .default_value("65535"),
-        )
+/// The file of a plan.
+fn plan<'a>(alloc: Global) -> Arg<'a> {
+    let help = "A text of lines `ask SET NUMBER [HEX]`, `answers`, `events N` and `mirror`";
+    file(alloc, "plan", "PLAN", help)
 }
 
-/// The command with the most turns of a session.
-fn with_turns<'a>(
-    alloc: Global,
-    command: Command<'a>,
-    help: &'a str,
-) -> Result<Command<'a>, AllocError> {
-    command.arg(
-        option(alloc, "turns", "N", help)
-            .value_parser(value_parser!(u32))
-            .default_value("100000"),
-    )
+/// The file that a session's bytes are read from.
+fn from<'a>(alloc: Global, help: &'a str) -> Arg<'a> {
+    option(alloc, "from", "FILE", help).required(true)
+}
+
+/// The file that a session's bytes are written to.
+fn to<'a>(alloc: Global, help: &'a str) -> Arg<'a> {
+    option(alloc, "to", "FILE", help).required(true)
+}
+
+/// Which threads begin suspended.
+fn start<'a>(alloc: Global) -> Arg<'a> {
+    option(alloc, "start", "WHICH", "Which threads VM_START suspends")
+        .value_parser(["all", "none"].as_slice())
+        .default_value("all")
+}
+
+/// The greatest suspend count that a Suspend gives.
+fn count_limit<'a>(alloc: Global) -> Arg<'a> {
+    let help = "The greatest suspend count that a Suspend gives";
+    option(alloc, "count-limit", "N", help)
+        .value_parser(value_parser!(u32).range(1..=i64::from(GREATEST_INT)))
+        .default_value("65535")
+}
+
+/// The most turns of a session.
+fn turns<'a>(alloc: Global, help: &'a str) -> Arg<'a> {
+    option(alloc, "turns", "N", help)
+        .value_parser(value_parser!(u32))
+        .default_value("100000")
 }
 
 /// The file of a capture.
