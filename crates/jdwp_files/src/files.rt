@@ -7,9 +7,10 @@ use jdwp_engine::{Ended, Streams};
 use jdwp_program::{Fault, FileCause, Told, attach_plan, check_capture, show_capture, text_of};
 use jdwp_serve::serve_script;
 use jdwp_words::{Attach, ServeScript};
+use std::alloc::Global;
 use std::fs;
 use std::fs::OpenFile;
-use std::io::{BufWriter, Write};
+use std::io::{BufWriter, Read, Write};
 use std::rt::Files;
 
 /// Shows the capture of a file.
@@ -24,8 +25,20 @@ pub fn show_file<'a, R: Files + AllocGlobal, O: Write>(
     ensures { LeavesCaptureTold result (O.contents out.old) (O.contents out.new) }
 {
     let bytes = read(rt, file)?;
-    let capture = text_of(bytes.as_slice()).map_err(|cause| Fault::File(file, cause))?;
-    Ok(show_capture(rt.alloc(), capture, out)?)
+    show_bytes(rt.alloc(), file, &bytes, out)
+}
+
+/// Shows the capture of these bytes of the file.
+fn show_bytes<'a, O: Write>(
+    alloc: Global,
+    file: &'a str,
+    bytes: &[u8],
+    out: &mut O,
+) -> Result<Told, Fault<'a>>
+    ensures { LeavesCaptureTold result (O.contents out.old) (O.contents out.new) }
+{
+    let capture = text(file, bytes)?;
+    Ok(show_capture(alloc, capture, out)?)
 }
 
 /// Judges the capture of a file.
@@ -40,8 +53,20 @@ pub fn check_file<'a, R: Files + AllocGlobal, O: Write>(
     ensures { LeavesCaptureTold result (O.contents out.old) (O.contents out.new) }
 {
     let bytes = read(rt, file)?;
-    let capture = text_of(bytes.as_slice()).map_err(|cause| Fault::File(file, cause))?;
-    Ok(check_capture(rt.alloc(), capture, out)?)
+    check_bytes(rt.alloc(), file, &bytes, out)
+}
+
+/// Judges the capture of these bytes of the file.
+fn check_bytes<'a, O: Write>(
+    alloc: Global,
+    file: &'a str,
+    bytes: &[u8],
+    out: &mut O,
+) -> Result<Told, Fault<'a>>
+    ensures { LeavesCaptureTold result (O.contents out.old) (O.contents out.new) }
+{
+    let capture = text(file, bytes)?;
+    Ok(check_capture(alloc, capture, out)?)
 }
 
 /// Serves the session of a file over the machine of a script. The output's file is made only once the others are read and open, and the
@@ -54,14 +79,19 @@ pub fn serve_files<'a, R: Files + AllocGlobal>(
     words: &ServeScript<'a>,
 ) -> Result<Ended, Fault<'a>> {
     let bytes = read(rt, words.machine)?;
-    let reader = open(rt, words.from)?;
-    let file = create(rt, words.to)?;
-    let script = text_of(bytes.as_slice()).map_err(|cause| Fault::File(words.machine, cause))?;
-    let Ok(writer) = BufWriter::new(rt.alloc(), file) else {
-        return Err(Fault::NoMemory);
-    };
-    let mut pipe = Streams::new(reader, writer);
-    Ok(serve_script(rt.alloc(), script, words.settings, &mut pipe, words.turns)?)
+    let mut pipe = streams(rt, words.from, words.to)?;
+    serve_bytes(rt.alloc(), words, &bytes, &mut pipe)
+}
+
+/// Serves the session over the machine of the script of these bytes.
+fn serve_bytes<'a, I: Read, O: Write>(
+    alloc: Global,
+    words: &ServeScript<'a>,
+    bytes: &[u8],
+    pipe: &mut Streams<I, O>,
+) -> Result<Ended, Fault<'a>> {
+    let script = text(words.machine, bytes)?;
+    Ok(serve_script(alloc, script, words.settings, pipe, words.turns)?)
 }
 
 /// Runs a plan as the debugger of the session of a file, and prints what it reads. The file of what the debugger sends is made only once the
@@ -78,14 +108,53 @@ pub fn attach_files<'a, R: Files + AllocGlobal, O: Write>(
     ensures unprinted { OnErr result (Keeps (O.contents out.old) (O.contents out.new)) }
 {
     let bytes = read(rt, words.plan)?;
-    let reader = open(rt, words.from)?;
-    let file = create(rt, words.to)?;
-    let plan = text_of(bytes.as_slice()).map_err(|cause| Fault::File(words.plan, cause))?;
-    let Ok(writer) = BufWriter::new(rt.alloc(), file) else {
-        return Err(Fault::NoMemory);
-    };
-    let mut pipe = Streams::new(reader, writer);
-    Ok(attach_plan(rt.alloc(), plan, &mut pipe, out, words.turns)?)
+    let mut pipe = streams(rt, words.from, words.to)?;
+    attach_bytes(rt.alloc(), words, &bytes, &mut pipe, out)
+}
+
+/// Runs the plan of these bytes.
+fn attach_bytes<'a, I: Read, W: Write, O: Write>(
+    alloc: Global,
+    words: &Attach<'a>,
+    bytes: &[u8],
+    pipe: &mut Streams<I, W>,
+    out: &mut O,
+) -> Result<Ended, Fault<'a>>
+    ensures { OnErr result (Keeps (O.contents out.old) (O.contents out.new)) }
+{
+    let plan = text(words.plan, bytes)?;
+    Ok(attach_plan(alloc, plan, pipe, out, words.turns)?)
+}
+
+/// The files of a session: one to read from, and then a new one to write to.
+fn streams<'a, R: Files + AllocGlobal>(
+    rt: &R,
+    from: &'a str,
+    to: &'a str,
+) -> Result<Streams<R::File, BufWriter<R::File>>, Fault<'a>> {
+    let reader = open(rt, from)?;
+    let writer = writer(rt, to)?;
+    Ok(Streams::new(reader, writer))
+}
+
+/// A new file to write to, with what waits to be written.
+fn writer<'a, R: Files + AllocGlobal>(
+    rt: &R,
+    path: &'a str,
+) -> Result<BufWriter<R::File>, Fault<'a>> {
+    let file = create(rt, path)?;
+    match BufWriter::new(rt.alloc(), file) {
+        Ok(writer) => Ok(writer),
+        Err(_) => Err(Fault::NoMemory),
+    }
+}
+
+/// The bytes of a file as text.
+fn text<'a, 'b>(file: &'a str, bytes: &'b [u8]) -> Result<&'b str, Fault<'a>> {
+    match text_of(bytes) {
+        Ok(text) => Ok(text),
+        Err(cause) => Err(Fault::File(file, cause)),
+    }
 }
 
 /// The bytes of a file.
