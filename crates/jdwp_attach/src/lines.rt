@@ -20,7 +20,12 @@ pub(crate) const HELLO: &str = "< hello\n";
 /// `NoMemory` where an allocation was refused.
 pub(crate) fn seen_line(alloc: Global, id: u32, composite: Composite) -> Result<String, NoMemory> {
     let data = composite.into_data(alloc)?;
-    let mut line = composite_data_line(alloc, id, data.items())?;
+    ended(composite_data_line(alloc, id, data.items()))
+}
+
+/// The line with its newline.
+fn ended(line: Result<String, NoMemory>) -> Result<String, NoMemory> {
+    let mut line = line?;
     line.push_str("\n")?;
     Ok(line)
 }
@@ -36,12 +41,10 @@ pub(crate) fn answered_line(
     number: u8,
     answer: &Answer,
 ) -> Result<String, NoMemory> {
-    let mut line = match answer {
-        Answer::Error(error) => reply_line(alloc, id, set, number, *error, &[], &[])?,
-        Answer::Data(data) => data_line(alloc, id, set, number, data.items())?,
-    };
-    line.push_str("\n")?;
-    Ok(line)
+    match answer {
+        Answer::Error(error) => ended(reply_line(alloc, id, set, number, *error, &[], &[])),
+        Answer::Data(data) => ended(data_line(alloc, id, set, number, data.items())),
+    }
 }
 
 /// The line of an answer without an error, without its newline.
@@ -88,24 +91,25 @@ fn bytes_in(alloc: Global, items: &[Datum]) -> Result<Vec<u8>, NoMemory> {
 /// # Errors
 /// `NoMemory` where an allocation was refused.
 pub(crate) fn sizes_line(alloc: Global, id: u32, sizes: &IdSizes) -> Result<String, NoMemory> {
+    ended(sizes_reply(alloc, id, sizes))
+}
+
+/// The line of the reply, without its newline.
+fn sizes_reply(alloc: Global, id: u32, sizes: &IdSizes) -> Result<String, NoMemory> {
+    let (set, number) = (VIRTUAL_MACHINE, ID_SIZES);
     let items = [
-        Datum::One(Scalar::Int(i32::from(sizes.field()))),
-        Datum::One(Scalar::Int(i32::from(sizes.method()))),
-        Datum::One(Scalar::Int(i32::from(sizes.object()))),
-        Datum::One(Scalar::Int(i32::from(sizes.reference()))),
-        Datum::One(Scalar::Int(i32::from(sizes.frame()))),
+        width(sizes.field()),
+        width(sizes.method()),
+        width(sizes.object()),
+        width(sizes.reference()),
+        width(sizes.frame()),
     ];
-    let mut line = reply_line(
-        alloc,
-        id,
-        VIRTUAL_MACHINE,
-        ID_SIZES,
-        ErrorCode::NONE,
-        &items,
-        &[],
-    )?;
-    line.push_str("\n")?;
-    Ok(line)
+    reply_line(alloc, id, set, number, ErrorCode::NONE, &items, &[])
+}
+
+/// The width of ids of one kind, as data.
+fn width(bytes: u8) -> Datum {
+    Datum::One(Scalar::Int(i32::from(bytes)))
 }
 
 /// What is told of a thread that is known: `thread T COUNT held`, or `free`.

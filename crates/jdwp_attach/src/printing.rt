@@ -73,16 +73,38 @@ pub(crate) fn print_read<W: Pipe>(
         Read::Nothing | Read::Parked => Ok(()),
         Read::Hello => print(out, HELLO),
         Read::Sizes(composites) => print_sizes(alloc, debugger, out, run, composites),
-        Read::Answered(ticket, answer) => match take_waiting(run, ticket) {
-            Some(waiting) => print_answer(alloc, debugger, out, waiting, &answer),
-            None => Ok(()),
-        },
-        Read::Seen(composite) => {
-            run.composites = run.composites.saturating_add(1);
-            let line = seen_line(alloc, id_at(debugger.last(), 0), composite)?;
-            print(out, &line)
-        }
+        Read::Answered(ticket, answer) => print_answered(
+            alloc, debugger, out, run, ticket, &answer,
+        ),
+        Read::Seen(composite) => print_seen(alloc, debugger, out, run, composite),
     }
+}
+
+/// Prints a text, where there was memory for it.
+fn print_made<W: Pipe>(out: &mut W, text: Result<String, NoMemory>) -> Result<(), Unprinted>
+    ensures ok { OnOk result (Prints (W.story out.old) (W.story out.new)) }
+    ensures err { IfErr result (λ e. IsUnprinted e (W.story out.old) (W.story out.new)) }
+{
+    match text {
+        Ok(text) => print(out, &text),
+        Err(_) => Err(Unprinted::NoMemory),
+    }
+}
+
+/// Prints a composite.
+fn print_seen<W: Pipe>(
+    alloc: Global,
+    debugger: &Debugger,
+    out: &mut W,
+    run: &mut Run,
+    composite: Composite,
+) -> Result<(), Unprinted>
+    ensures ok { OnOk result (Prints (W.story out.old) (W.story out.new)) }
+    ensures err { IfErr result (λ e. IsUnprinted e (W.story out.old) (W.story out.new)) }
+    ensures left { run.new.left ≡ run.old.left }
+{
+    run.composites = run.composites.saturating_add(1);
+    print_made(out, seen_line(alloc, id_at(debugger.last(), 0), composite))
 }
 
 /// Prints the composites that waited for the widths of ids, and then the reply that had them.
@@ -97,33 +119,65 @@ fn print_sizes<W: Pipe>(
     ensures err { IfErr result (λ e. IsUnprinted e (W.story out.old) (W.story out.new)) }
     ensures left { run.new.left ≡ run.old.left }
 {
-    let heads = debugger.last();
-    let count = composites.len();
-    run.composites = run.composites.saturating_add(count as u64);
-    let mut text = String::new(alloc);
-    for (place, composite) in composites.into_iter().enumerate() {
-        text.push_str(&seen_line(alloc, id_at(heads, place), composite)?)?;
-    }
-    if let Some(sizes) = debugger.sizes() {
-        text.push_str(&sizes_line(alloc, id_at(heads, count), &sizes)?)?;
-    }
-    print(out, &text)
+    run.composites = run.composites.saturating_add(composites.len() as u64);
+    print_made(out, sizes_text(alloc, debugger, composites))
 }
 
-/// Prints the answer to a command.
-fn print_answer<W: Pipe>(
+/// The lines of the composites that waited for the widths of ids, and then of the reply that had them.
+fn sizes_text(
+    alloc: Global,
+    debugger: &Debugger,
+    composites: Vec<Composite>,
+) -> Result<String, NoMemory> {
+    let heads = debugger.last();
+    let count = composites.len();
+    let mut text = seen_lines(alloc, heads, composites)?;
+    if let Some(sizes) = debugger.sizes() {
+        put(&mut text, sizes_line(alloc, id_at(heads, count), &sizes))?;
+    }
+    Ok(text)
+}
+
+/// A line for each composite.
+fn seen_lines(
+    alloc: Global,
+    heads: &[Head],
+    composites: Vec<Composite>,
+) -> Result<String, NoMemory> {
+    let mut text = String::new(alloc);
+    for (place, composite) in composites.into_iter().enumerate() {
+        put(&mut text, seen_line(alloc, id_at(heads, place), composite))?;
+    }
+    Ok(text)
+}
+
+/// Puts a line, where there was memory for it.
+fn put(text: &mut String, line: Result<String, NoMemory>) -> Result<(), NoMemory> {
+    text.push_str(&line?)?;
+    Ok(())
+}
+
+/// Prints the answer to the command that was asked under this ticket.
+fn print_answered<W: Pipe>(
     alloc: Global,
     debugger: &Debugger,
     out: &mut W,
-    waiting: Waiting,
+    run: &mut Run,
+    ticket: Ticket,
     answer: &Answer,
 ) -> Result<(), Unprinted>
     ensures ok { OnOk result (Prints (W.story out.old) (W.story out.new)) }
     ensures err { IfErr result (λ e. IsUnprinted e (W.story out.old) (W.story out.new)) }
+    ensures left { run.new.left ≡ run.old.left }
 {
+    let Some(waiting) = take_waiting(run, ticket) else {
+        return Ok(());
+    };
     let id = id_at(debugger.last(), 0);
-    let line = answered_line(alloc, id, waiting.set, waiting.number, answer)?;
-    print(out, &line)
+    print_made(
+        out,
+        answered_line(alloc, id, waiting.set, waiting.number, answer),
+    )
 }
 
 /// Takes the command that was asked under this ticket off those that wait.
@@ -151,10 +205,15 @@ pub(crate) fn print_mirror<W: Pipe>(
     ensures ok { OnOk result (Prints (W.story out.old) (W.story out.new)) }
     ensures err { IfErr result (λ e. IsUnprinted e (W.story out.old) (W.story out.new)) }
 {
+    print_made(out, mirror_text(alloc, debugger.mirror()))
+}
+
+/// A line for each thread that a mirror knows, and then for each event request.
+fn mirror_text(alloc: Global, mirror: &Mirror) -> Result<String, NoMemory> {
     let mut text = String::new(alloc);
-    put_threads(alloc, debugger.mirror(), &mut text)?;
-    put_requests(alloc, debugger.mirror(), &mut text)?;
-    print(out, &text)
+    put_threads(alloc, mirror, &mut text)?;
+    put_requests(alloc, mirror, &mut text)?;
+    Ok(text)
 }
 
 /// Puts a line for each thread that a mirror knows, by rising id.
@@ -162,7 +221,7 @@ fn put_threads(alloc: Global, mirror: &Mirror, text: &mut String) -> Result<(), 
     let mut threads = mirror.known().copied().collect::<Vec<Known>>(alloc)?;
     threads.sort_by_key(|thread| thread.id.0)?;
     for thread in &threads {
-        text.push_str(&thread_line(alloc, thread)?)?;
+        put(text, thread_line(alloc, thread))?;
     }
     Ok(())
 }
@@ -175,7 +234,7 @@ fn put_requests(alloc: Global, mirror: &Mirror, text: &mut String) -> Result<(),
     }
     requests.sort()?;
     for (id, kind, policy) in &requests {
-        text.push_str(&request_line(alloc, *id, *kind, *policy)?)?;
+        put(text, request_line(alloc, *id, *kind, *policy))?;
     }
     Ok(())
 }
