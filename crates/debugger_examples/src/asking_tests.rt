@@ -8,15 +8,8 @@ use std::alloc::Global;
 use std::process::Abort;
 use std::test::Fail;
 
-/// A debugger whose session is open and that knows the widths of ids, which are all this. Its next id is 1, nothing waits, and its last
+/// Begins the session, up to the widths of ids, which are all this, and takes what it puts. The next id is 1, nothing waits, and the last
 /// turn read nothing.
-fn ready(alloc: Global, width: u8) -> Result<Debugger, Fail> {
-    let mut debugger = Debugger::new(alloc)?;
-    begin(alloc, &mut debugger, width)?;
-    Ok(debugger)
-}
-
-/// Begins the session, up to the widths of ids, and takes what it puts.
 fn begin(alloc: Global, debugger: &mut Debugger, width: u8) -> Result<(), Fail> {
     debugger.attach();
     debugger.feed(&HANDSHAKE);
@@ -117,12 +110,8 @@ fn comes(alloc: Global, debugger: &mut Debugger, act: &Act) -> Result<bool, Fail
             debugger.set_next_id(*id);
             Ok(true)
         }
-        Act::Gives(asks, ticket) => Ok(
-            asked(alloc, debugger, command(alloc, *asks)?) == Ok(Ticket(*ticket)),
-        ),
-        Act::Refuses(asks, refused) => Ok(
-            asked(alloc, debugger, command(alloc, *asks)?) == Err(*refused),
-        ),
+        Act::Gives(asks, ticket) => is_answered(alloc, debugger, *asks, Ok(Ticket(*ticket))),
+        Act::Refuses(asks, refused) => is_answered(alloc, debugger, *asks, Err(*refused)),
         Act::Fills => Ok(fills(alloc, debugger)),
         Act::Leaves(bytes) => Ok(leaves(debugger, bytes)),
         Act::Waits(count) => Ok(debugger.waiting() == *count),
@@ -135,8 +124,14 @@ fn comes(alloc: Global, debugger: &mut Debugger, act: &Act) -> Result<bool, Fail
     }
 }
 
-fn asked(alloc: Global, debugger: &mut Debugger, command: Command) -> Result<Ticket, Refused> {
-    debugger.ask(alloc, command)
+fn is_answered(
+    alloc: Global,
+    debugger: &mut Debugger,
+    asks: Asks,
+    wanted: Result<Ticket, Refused>,
+) -> Result<bool, Fail> {
+    let command = command(alloc, asks)?;
+    Ok(debugger.ask(alloc, command) == wanted)
 }
 
 fn loses(debugger: &mut Debugger, tickets: &[Ticket]) -> bool {
@@ -161,12 +156,17 @@ fn leaves(debugger: &mut Debugger, bytes: &[u8]) -> bool {
     &out[..count] == bytes
 }
 
-/// The place, from 0, of the first act of which something else comes; None where all is as it is to be.
+/// The place, from 0, of the first act of which something else comes; None where all is as it is to be. If a width is given, the session
+/// is begun before, with ids of this width.
 fn first_wrong(
     alloc: Global,
     debugger: &mut Debugger,
+    width: Option<u8>,
     acts: &[Act],
 ) -> Result<Option<usize>, Fail> {
+    if let Some(width) = width {
+        begin(alloc, debugger, width)?;
+    }
     for (place, act) in acts.iter().enumerate() {
         if !comes(alloc, debugger, act)? {
             return Ok(Some(place));
@@ -175,10 +175,24 @@ fn first_wrong(
     Ok(None)
 }
 
-/// Of each act comes what it says, with a debugger that knows the widths of ids, which are all this.
-fn goes_as_told(rt: &impl Abort, alloc: Global, width: u8, acts: &[Act]) -> Result<(), Fail> {
-    let mut debugger = ready(alloc, width)?;
-    expect_same(rt, &first_wrong(alloc, &mut debugger, acts)?, &None);
+/// The same of a new debugger.
+fn first_wrong_of_new(
+    alloc: Global,
+    width: Option<u8>,
+    acts: &[Act],
+) -> Result<Option<usize>, Fail> {
+    let mut debugger = Debugger::new(alloc)?;
+    first_wrong(alloc, &mut debugger, width, acts)
+}
+
+/// Of each act comes what it says, with a debugger that knows the widths of ids, which are all this, or that is closed.
+fn goes_as_told(
+    rt: &impl Abort,
+    alloc: Global,
+    width: Option<u8>,
+    acts: &[Act],
+) -> Result<(), Fail> {
+    expect_same(rt, &first_wrong_of_new(alloc, width, acts)?, &None);
     Ok(())
 }
 
@@ -198,7 +212,7 @@ static PACKETS: [Act; 8] = [
 
 #[test]
 fn packets_leave_in_the_order_asked(rt: HostRuntime) -> Result<(), Fail> {
-    goes_as_told(&rt, rt.alloc(), 8, &PACKETS)
+    goes_as_told(&rt, rt.alloc(), Some(8), &PACKETS)
 }
 
 static IDS_WRAP_AND_SKIP_THOSE_THAT_WAIT: [Act; 8] = [
@@ -217,7 +231,7 @@ static IDS_WRAP_AND_SKIP_THOSE_THAT_WAIT: [Act; 8] = [
 
 #[test]
 fn ids_wrap_and_skip_those_that_wait(rt: HostRuntime) -> Result<(), Fail> {
-    goes_as_told(&rt, rt.alloc(), 8, &IDS_WRAP_AND_SKIP_THOSE_THAT_WAIT)
+    goes_as_told(&rt, rt.alloc(), Some(8), &IDS_WRAP_AND_SKIP_THOSE_THAT_WAIT)
 }
 
 static CLOSED_AND_UNREADY: [Act; 6] = [
@@ -231,10 +245,7 @@ static CLOSED_AND_UNREADY: [Act; 6] = [
 
 #[test]
 fn closed_and_unready_ends_ask_nothing(rt: HostRuntime) -> Result<(), Fail> {
-    let mut debugger = Debugger::new(rt.alloc())?;
-    let found = first_wrong(rt.alloc(), &mut debugger, &CLOSED_AND_UNREADY)?;
-    expect_same(&rt, &found, &None);
-    Ok(())
+    goes_as_told(&rt, rt.alloc(), None, &CLOSED_AND_UNREADY)
 }
 
 static FULL: [Act; 4] = [
@@ -246,7 +257,7 @@ static FULL: [Act; 4] = [
 
 #[test]
 fn only_so_many_commands_wait(rt: HostRuntime) -> Result<(), Fail> {
-    goes_as_told(&rt, rt.alloc(), 8, &FULL)
+    goes_as_told(&rt, rt.alloc(), Some(8), &FULL)
 }
 
 static ONLY_SO_MANY_BYTES_WAIT: [Act; 5] = [
@@ -259,7 +270,7 @@ static ONLY_SO_MANY_BYTES_WAIT: [Act; 5] = [
 
 #[test]
 fn only_so_many_bytes_wait(rt: HostRuntime) -> Result<(), Fail> {
-    goes_as_told(&rt, rt.alloc(), 8, &ONLY_SO_MANY_BYTES_WAIT)
+    goes_as_told(&rt, rt.alloc(), Some(8), &ONLY_SO_MANY_BYTES_WAIT)
 }
 
 static DATA_HAVE_TO_FIT_THE_COMMAND: [Act; 12] = [
@@ -281,21 +292,23 @@ static DATA_HAVE_TO_FIT_THE_COMMAND: [Act; 12] = [
 
 #[test]
 fn data_have_to_fit_the_command(rt: HostRuntime) -> Result<(), Fail> {
-    goes_as_told(&rt, rt.alloc(), 1, &DATA_HAVE_TO_FIT_THE_COMMAND)
+    goes_as_told(&rt, rt.alloc(), Some(1), &DATA_HAVE_TO_FIT_THE_COMMAND)
 }
+
+/// The number of each refusal.
+static NUMBERS: [(Refused, u16); 6] = [
+    (Refused::NotReady, 31),
+    (Refused::Busy, 32),
+    (Refused::Closed, 33),
+    (Refused::TooLong, 34),
+    (Refused::NoMemory, 35),
+    (Refused::BadCommand, 36),
+];
 
 #[test]
 fn refusals_have_their_numbers(rt: HostRuntime) -> Result<(), Fail> {
-    let numbers = [
-        (Refused::NotReady, 31),
-        (Refused::Busy, 32),
-        (Refused::Closed, 33),
-        (Refused::TooLong, 34),
-        (Refused::NoMemory, 35),
-        (Refused::BadCommand, 36),
-    ];
-    for (refused, number) in numbers {
-        expect_same(&rt, &refused.number(), &number);
+    for (refused, number) in NUMBERS.iter() {
+        expect_same(&rt, &refused.number(), number);
     }
     let text = format!(in rt.alloc(); "{}", Refused::BadCommand)?;
     expect_same(&rt, &text.as_str(), &"fault 36: a bad command");

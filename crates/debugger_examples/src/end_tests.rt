@@ -26,8 +26,7 @@ fn front_of(end: &End) -> Result<Option<(u32, usize)>, FrameFault> {
 
 #[test]
 fn a_session_in_pieces(rt: HostRuntime) -> Result<(), Fail> {
-    let mut end = end(rt.alloc())?;
-    is_read_in_pieces(&rt, &mut end);
+    is_read_in_pieces(&rt, &mut end(rt.alloc())?);
     Ok(())
 }
 
@@ -100,8 +99,7 @@ fn leaves(rt: &impl Abort, end: &mut End) {
 
 #[test]
 fn what_is_enqueued_is_taken(rt: HostRuntime) -> Result<(), Fail> {
-    let mut end = end_with_two(rt.alloc())?;
-    leaves(&rt, &mut end);
+    leaves(&rt, &mut end_with_two(rt.alloc())?);
     Ok(())
 }
 

@@ -1,7 +1,7 @@
 //! What commands ask and packets tell, and which packets no target may send.
 use crate::asserts::expect_same;
 use crate::mirror_tests::{event, event_of_none, of_thread, plain, with_int};
-use jdwp_event::EventKind;
+use jdwp_event::{Composite, EventKind};
 use jdwp_layout::{Answer, Data, Datum, Scalar};
 use jdwp_mirror::{Act, Mirror, has_event_of, is_bad_answer, is_bad_composite, widths_in_answer};
 use jdwp_wire::IdSizes;
@@ -26,11 +26,17 @@ fn a_negative_count_is_bad(rt: HostRuntime) -> Result<(), Fail> {
 fn a_suspended_thread_reports_nothing(rt: HostRuntime) -> Result<(), Fail> {
     // A thread starts, and is suspended by the event's policy.
     let started = event(rt.alloc(), 6, 1, 1)?;
-    let mut mirror = Mirror::new(rt.alloc());
-    expect_same(&rt, &is_bad_composite(&mirror, &started), &false);
-    mirror.learn_composite(&started)?;
-    expect_same(&rt, &is_bad_composite(&mirror, &started), &true);
+    let found = is_bad_then_again(rt.alloc(), &started)?;
+    expect_same(&rt, &found, &(false, true));
     Ok(())
+}
+
+/// Whether the composite is bad at an empty mirror, and once this has learnt it.
+fn is_bad_then_again(alloc: Global, composite: &Composite) -> Result<(bool, bool), Fail> {
+    let mut mirror = Mirror::new(alloc);
+    let first = is_bad_composite(&mirror, composite);
+    mirror.learn_composite(composite)?;
+    Ok((first, is_bad_composite(&mirror, composite)))
 }
 
 #[test]

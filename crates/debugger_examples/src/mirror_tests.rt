@@ -60,10 +60,11 @@ pub(crate) fn event_of_none(alloc: Global, kind: u8) -> Result<Composite, Fail> 
 
 /// EventRequest.Set of a kind, with a Count of 3.
 fn set_request(alloc: Global, kind: u8) -> Result<Command, Fail> {
+    let modifiers = three_times(alloc)?;
     let items = vec![in alloc;
         Datum::One(Scalar::Byte(kind)),
         Datum::One(Scalar::Byte(ALL)),
-        three_times(alloc)?,
+        modifiers,
     ]?;
     Ok(Command::new(15, 1, items))
 }
@@ -112,10 +113,8 @@ enum Act {
 /// Whether it learns or shows this.
 fn comes(alloc: Global, mirror: &mut Mirror, act: &Act) -> Result<bool, Fail> {
     match act {
-        Act::Event(kind, policy, thread) => {
-            sees(mirror, &event(alloc, *kind, *policy, *thread)?)
-        }
-        Act::Death => sees(mirror, &event_of_none(alloc, VM_DEATH)?),
+        Act::Event(kind, policy, thread) => { sees(mirror, event(alloc, *kind, *policy, *thread)) }
+        Act::Death => sees(mirror, event_of_none(alloc, VM_DEATH)),
         Act::Empties => {
             mirror.clear();
             Ok(true)
@@ -125,12 +124,12 @@ fn comes(alloc: Global, mirror: &mut Mirror, act: &Act) -> Result<bool, Fail> {
             mirror.count(ObjectId(*thread)) == *count && mirror.is_held(ObjectId(*thread)) == *held,
         ),
         Act::Keeps(asked) => Ok(keeps(mirror, asked)),
-        _ => hears(alloc, mirror, &asked(alloc, act)?, &answered(alloc, act)?),
+        _ => hears(alloc, mirror, &asked(alloc, act)?, answered(alloc, act)),
     }
 }
 
-fn sees(mirror: &mut Mirror, composite: &Composite) -> Result<bool, Fail> {
-    mirror.learn_composite(composite)?;
+fn sees(mirror: &mut Mirror, composite: Result<Composite, Fail>) -> Result<bool, Fail> {
+    mirror.learn_composite(&composite?)?;
     Ok(true)
 }
 
@@ -138,9 +137,9 @@ fn hears(
     alloc: Global,
     mirror: &mut Mirror,
     command: &Command,
-    answer: &Answer,
+    answer: Result<Answer, Fail>,
 ) -> Result<bool, Fail> {
-    mirror.learn_reply(alloc, command, answer)?;
+    mirror.learn_reply(alloc, command, &answer?)?;
     Ok(true)
 }
 
@@ -173,11 +172,17 @@ fn answered(alloc: Global, act: &Act) -> Result<Answer, Fail> {
 
 /// The reply of AllThreads with two threads.
 fn threads(alloc: Global, one: u64, other: u64) -> Result<Answer, Fail> {
-    let mut listed = Vec::new(alloc);
-    for thread in [one, other] {
-        listed.push(entry(alloc, thread)?)?;
-    }
+    let first = entry(alloc, one)?;
+    let listed = listed(alloc, first, entry(alloc, other))?;
     Ok(Answer::Data(Data::new(vec![in alloc; Datum::Many(listed)]?)))
+}
+
+fn listed(
+    alloc: Global,
+    first: Vec<Scalar>,
+    second: Result<Vec<Scalar>, Fail>,
+) -> Result<Vec<Vec<Scalar>>, Fail> {
+    Ok(vec![in alloc; first, second?]?)
 }
 
 fn entry(alloc: Global, thread: u64) -> Result<Vec<Scalar>, Fail> {
@@ -222,10 +227,15 @@ fn first_wrong(alloc: Global, mirror: &mut Mirror, acts: &[Act]) -> Result<Optio
     Ok(None)
 }
 
+/// The same of an empty mirror.
+fn first_wrong_of_new(alloc: Global, acts: &[Act]) -> Result<Option<usize>, Fail> {
+    let mut mirror = Mirror::new(alloc);
+    first_wrong(alloc, &mut mirror, acts)
+}
+
 /// Of each act comes what it says, from an empty mirror on.
 fn goes_as_told(rt: &impl Abort, alloc: Global, acts: &[Act]) -> Result<(), Fail> {
-    let mut mirror = Mirror::new(alloc);
-    expect_same(rt, &first_wrong(alloc, &mut mirror, acts)?, &None);
+    expect_same(rt, &first_wrong_of_new(alloc, acts)?, &None);
     Ok(())
 }
 

@@ -139,11 +139,7 @@ enum Act {
 fn comes(alloc: Global, debugger: &mut Debugger, act: &Act) -> Result<bool, Fail> {
     match act {
         Act::Attaches(attaches) => Ok(debugger.attach() == *attaches),
-        Act::Reads(input, told, ids) => {
-            debugger.feed(&bytes(alloc, input)?);
-            let found = turned(alloc, debugger);
-            Ok(found == *told && have_been_read(debugger.last(), *told, ids))
-        }
+        Act::Reads(input, told, ids) => reads(alloc, debugger, input, *told, ids),
         Act::Asks(wanted, ticket) => is_asked(alloc, debugger, *wanted, *ticket),
         Act::NextId(id) => {
             debugger.set_next_id(*id);
@@ -158,6 +154,18 @@ fn comes(alloc: Global, debugger: &mut Debugger, act: &Act) -> Result<bool, Fail
         Act::Waits(tickets) => Ok(are_unanswered(debugger, tickets)),
         Act::Loses(tickets) => Ok(are_tickets(debugger.lose().as_slice(), tickets)),
     }
+}
+
+fn reads(
+    alloc: Global,
+    debugger: &mut Debugger,
+    input: &str,
+    told: Tells,
+    ids: &[u32],
+) -> Result<bool, Fail> {
+    debugger.feed(&bytes(alloc, input)?);
+    let found = turned(alloc, debugger);
+    Ok(found == told && have_been_read(debugger.last(), told, ids))
 }
 
 fn turned(alloc: Global, debugger: &mut Debugger) -> Tells {
@@ -259,10 +267,15 @@ fn first_wrong(
     Ok(None)
 }
 
+/// The same of a debugger whose first packet has this id.
+fn first_wrong_of_new(alloc: Global, first_id: u32, acts: &[Act]) -> Result<Option<usize>, Fail> {
+    let mut debugger = Debugger::with_first_id(alloc, first_id)?;
+    first_wrong(alloc, &mut debugger, acts)
+}
+
 /// Of each of these acts comes what it says, with a debugger whose first packet has this id.
 fn goes_as_told(rt: &impl Abort, alloc: Global, first_id: u32, acts: &[Act]) -> Result<(), Fail> {
-    let mut debugger = Debugger::with_first_id(alloc, first_id)?;
-    expect_same(rt, &first_wrong(alloc, &mut debugger, acts)?, &None);
+    expect_same(rt, &first_wrong_of_new(alloc, first_id, acts)?, &None);
     Ok(())
 }
 
@@ -737,11 +750,16 @@ fn goes_in_pieces(alloc: Global, debugger: &mut Debugger, first: usize) -> Resul
     Ok(asks && answered == 2 && are_known(debugger.mirror().known(), &[(1, 1, true)]))
 }
 
+/// The same of a new debugger.
+fn goes_in_pieces_from_new(alloc: Global, first: usize) -> Result<bool, Fail> {
+    let mut debugger = Debugger::new(alloc)?;
+    goes_in_pieces(alloc, &mut debugger, first)
+}
+
 #[test]
 fn a_session_cut_anywhere(rt: HostRuntime) -> Result<(), Fail> {
     for first in 0..75usize {
-        let mut debugger = Debugger::new(rt.alloc())?;
-        assert!(rt; goes_in_pieces(rt.alloc(), &mut debugger, first)?);
+        expect_same(&rt, &goes_in_pieces_from_new(rt.alloc(), first)?, &true);
     }
     Ok(())
 }

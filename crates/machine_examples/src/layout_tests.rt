@@ -1,5 +1,6 @@
 //! Worked examples of data.
 use crate::asserts::expect_same;
+use crate::data_words::text_of;
 use crate::rows::row;
 use jdwp_layout::{
     Data, Datum, Entry, Field, Item, Layout, Scalar, answers_first_fault, data_size,
@@ -7,135 +8,11 @@ use jdwp_layout::{
     pass_entry, read, read_entry, read_field, reads_only_encoded, reads_what_is_encoded, refusal,
     validate, write, write_entry, writes_what_is_encoded,
 };
-use jdwp_value::{ArrayRegion, Location, ObjectId, TaggedId, TypeTag, Value};
+use jdwp_value::ObjectId;
 use jdwp_wire::{DataFault, IdSizes};
 use std::alloc::Global;
 use std::process::Abort;
 use std::test::Fail;
-
-pub(crate) fn push_location(location: &Location, text: &mut String) -> Result<(), Fail> {
-    match *location {
-        Location::Null => text.push_str("null")?,
-        Location::At {
-            tag,
-            class,
-            method,
-            index,
-        } => {
-            let tag = match tag {
-                TypeTag::Class => 1,
-                TypeTag::Interface => 2,
-                TypeTag::Array => 3,
-            };
-            write!(text, "{tag}:#{}:#{}:{index}", class.0, method.0)?;
-        }
-    }
-    Ok(())
-}
-
-fn push_tagged_id(tagged: &TaggedId, text: &mut String) -> Result<(), Fail> {
-    write!(text, "{}#{}", tagged.tag.byte() as char, tagged.id.0)?;
-    Ok(())
-}
-
-pub(crate) fn push_value(value: &Value, text: &mut String) -> Result<(), Fail> {
-    match *value {
-        Value::Byte(bits) => write!(text, "B:{bits}")?,
-        Value::Char(bits) => write!(text, "C:{bits}")?,
-        Value::Double(bits) => write!(text, "D:{bits}")?,
-        Value::Float(bits) => write!(text, "F:{bits}")?,
-        Value::Int(bits) => write!(text, "I:{bits}")?,
-        Value::Long(bits) => write!(text, "J:{bits}")?,
-        Value::Short(bits) => write!(text, "S:{bits}")?,
-        Value::Void => text.push_str("V")?,
-        Value::Boolean(truth) => write!(text, "Z:{truth}")?,
-        Value::Object(tagged) => push_tagged_id(&tagged, text)?,
-    }
-    Ok(())
-}
-
-fn push_region(region: &ArrayRegion, text: &mut String) -> Result<(), Fail> {
-    write!(text, "{}[", region.tag().byte() as char)?;
-    let mut first = true;
-    for value in region.elements() {
-        if !first {
-            text.push_str(", ")?;
-        }
-        push_value(value, text)?;
-        first = false;
-    }
-    text.push_str("]")?;
-    Ok(())
-}
-
-fn push_scalar(scalar: &Scalar, text: &mut String) -> Result<(), Fail> {
-    match scalar {
-        Scalar::Byte(byte) => write!(text, "{byte}")?,
-        Scalar::Boolean(truth) => write!(text, "{truth}")?,
-        Scalar::Int(number) => write!(text, "{number}")?,
-        Scalar::Long(number) => write!(text, "{number}")?,
-        Scalar::String(string) => write!(text, "\"{string}\"")?,
-        Scalar::ObjectId(id) => write!(text, "#{}", id.0)?,
-        Scalar::ReferenceTypeId(id) => write!(text, "#{}", id.0)?,
-        Scalar::MethodId(id) => write!(text, "#{}", id.0)?,
-        Scalar::FieldId(id) => write!(text, "#{}", id.0)?,
-        Scalar::FrameId(id) => write!(text, "#{}", id.0)?,
-        Scalar::Location(location) => push_location(location, text)?,
-        Scalar::Value(value) => push_value(value, text)?,
-        Scalar::TaggedId(tagged) => push_tagged_id(tagged, text)?,
-    }
-    Ok(())
-}
-
-fn push_scalars(scalars: &[Scalar], text: &mut String) -> Result<(), Fail> {
-    text.push_str("(")?;
-    let mut first = true;
-    for scalar in scalars {
-        if !first {
-            text.push_str(", ")?;
-        }
-        push_scalar(scalar, text)?;
-        first = false;
-    }
-    text.push_str(")")?;
-    Ok(())
-}
-
-fn push_entries(entries: &[Vec<Scalar>], text: &mut String) -> Result<(), Fail> {
-    text.push_str("[")?;
-    let mut first = true;
-    for scalars in entries {
-        if !first {
-            text.push_str(", ")?;
-        }
-        push_scalars(scalars, text)?;
-        first = false;
-    }
-    text.push_str("]")?;
-    Ok(())
-}
-
-fn push_datum(datum: &Datum, text: &mut String) -> Result<(), Fail> {
-    match datum {
-        Datum::One(scalar) => push_scalar(scalar, text),
-        Datum::Many(entries) => push_entries(entries, text),
-        Datum::Region(region) => push_region(region, text),
-    }
-}
-
-/// The data as text, one space between two.
-pub(crate) fn text_of(alloc: Global, values: &[Datum]) -> Result<String, Fail> {
-    let mut text = String::new(alloc);
-    let mut first = true;
-    for value in values {
-        if !first {
-            text.push_str(" ")?;
-        }
-        first = false;
-        push_datum(value, &mut text)?;
-    }
-    Ok(text)
-}
 
 /// The bytes are read and judged with this fault.
 fn has_fault(
@@ -177,12 +54,25 @@ fn read_as(
     canonical: &[u8],
     text: Option<&str>,
 ) -> Result<(), Fail> {
-    let values = read(alloc, layout, sizes, bytes)?;
     expect_same(rt, &validate(layout, sizes, bytes), &Ok(()));
+    let values = read(alloc, layout, sizes, bytes)?;
+    shown_and_written_as(rt, alloc, layout, sizes, &values, canonical, text)
+}
+
+/// The data are this text, and are written as these bytes.
+fn shown_and_written_as(
+    rt: &impl Abort,
+    alloc: Global,
+    layout: &Layout,
+    sizes: &IdSizes,
+    values: &[Datum],
+    canonical: &[u8],
+    text: Option<&str>,
+) -> Result<(), Fail> {
     if let Some(text) = text {
-        is_shown(rt, alloc, &values, text)?;
+        is_shown(rt, alloc, values, text)?;
     }
-    written_as(rt, alloc, layout, sizes, &values, canonical)
+    written_as(rt, alloc, layout, sizes, values, canonical)
 }
 
 fn is_shown(rt: &impl Abort, alloc: Global, values: &[Datum], text: &str) -> Result<(), Fail> {
@@ -513,12 +403,13 @@ fn modifiers_of(alloc: Global, kind: u8) -> Result<Datum, Fail> {
 #[test]
 fn a_kind_of_modifier_that_there_is_not(rt: HostRuntime) -> Result<(), Fail> {
     let alloc = rt.alloc();
+    let set = request_of(15, 1)?;
+    let modifiers = modifiers_of(alloc, 13)?;
     let unknown_kind = [
         Datum::One(Scalar::Byte(2)),
         Datum::One(Scalar::Byte(0)),
-        modifiers_of(alloc, 13)?,
+        modifiers,
     ];
-    let set = request_of(15, 1)?;
     not_written(&rt, alloc, &set, &unknown_kind, DataFault::BadSize)
 }
 
@@ -543,7 +434,12 @@ fn entry_of(
     Ok(scalars)
 }
 
-/// The bytes of an entry, twice.
+/// The bytes of the entry that these bytes are, twice.
+fn twice(rt: &impl Abort, alloc: Global, entry: Entry, bytes: &[u8]) -> Result<Vec<u8>, Fail> {
+    let scalars = entry_of(rt, alloc, entry, bytes)?;
+    written_twice(alloc, entry, &scalars)
+}
+
 fn written_twice(alloc: Global, entry: Entry, scalars: &[Scalar]) -> Result<Vec<u8>, Fail> {
     let sizes = IdSizes::new(8, 8, 8, 8, 8)?;
     let mut twice = Vec::new(alloc);
@@ -564,28 +460,34 @@ fn is_passed(rt: &impl Abort, entry: Entry, bytes: &[u8], behind: &[u8]) -> Resu
 
 /// The bytes are an entry, and twice the bytes are two.
 fn is_an_entry(rt: &impl Abort, alloc: Global, entry: Entry, bytes: &[u8]) -> Result<(), Fail> {
-    let scalars = entry_of(rt, alloc, entry, bytes)?;
-    let twice = written_twice(alloc, entry, &scalars)?;
     is_passed(rt, entry, bytes, &[])?;
-    is_passed(rt, entry, &twice, bytes)?;
+    let twice = twice(rt, alloc, entry, bytes)?;
+    are_two(rt, entry, &twice, bytes)
+}
+
+/// These bytes are twice an entry of those bytes.
+fn are_two(rt: &impl Abort, entry: Entry, twice: &[u8], bytes: &[u8]) -> Result<(), Fail> {
+    is_passed(rt, entry, twice, bytes)?;
     let sizes = IdSizes::new(8, 8, 8, 8, 8)?;
-    let rest = pass_entries(2, entry, &twice, twice.len(), &sizes)?;
+    let rest = pass_entries(2, entry, twice, twice.len(), &sizes)?;
     expect_same(rt, &rest.len(), &0);
     Ok(())
 }
 
+/// An exception of any type, where it is caught and where it isn't; a place in a class; VM_DEATH.
+static ENTRIES: [(Entry, &str); 3] = [
+    (Entry::Modifier, "08 0000000000000000 01 01"),
+    (
+        Entry::Modifier,
+        "07 01 000000000000000a 0000000000000014 0000000000000003",
+    ),
+    (Entry::Event, "63 00000000"),
+];
+
 #[test]
 fn entries_one_by_one(rt: HostRuntime) -> Result<(), Fail> {
-    for (entry, hex) in [
-        // An exception of any type, where it is caught and where it isn't; a place in a class; VM_DEATH.
-        row((Entry::Modifier, "08 0000000000000000 01 01")),
-        row((
-            Entry::Modifier,
-            "07 01 000000000000000a 0000000000000014 0000000000000003",
-        )),
-        row((Entry::Event, "63 00000000")),
-    ] {
-        is_an_entry(&rt, rt.alloc(), entry, &bytes_of(rt.alloc(), hex)?)?;
+    for (entry, hex) in ENTRIES.iter() {
+        is_an_entry(&rt, rt.alloc(), *entry, &bytes_of(rt.alloc(), hex)?)?;
     }
     Ok(())
 }
@@ -605,27 +507,44 @@ fn entries_that_are_cut_off(rt: HostRuntime) -> Result<(), Fail> {
     is_cut_off(&rt, Entry::Event, &[99, 0])
 }
 
-/// Whether the field in front of these bytes holds this, with so many bytes behind it.
-fn holds(
-    alloc: Global,
-    field: Field,
-    hex: &str,
-    want: &Scalar,
-    behind: usize,
-) -> Result<bool, Fail> {
+/// The field in front of these bytes, and how many bytes are behind it.
+fn field_of(alloc: Global, field: Field, hex: &str) -> Result<(Scalar, usize), Fail> {
     let sizes = IdSizes::new(8, 8, 8, 8, 8)?;
     let bytes = bytes_of(alloc, hex)?;
     let (scalar, rest) = read_field(alloc, field, &bytes, bytes.len(), &sizes)?;
-    Ok(scalar == *want && rest.len() == behind)
+    Ok((scalar, rest.len()))
 }
 
 #[test]
 fn fields_one_by_one(rt: HostRuntime) -> Result<(), Fail> {
     let alloc = rt.alloc();
-    assert!(rt; holds(alloc, Field::Boolean, "02 07", &Scalar::Boolean(true), 1)?);
-    assert!(rt; holds(alloc, Field::Int, "ffffffff", &Scalar::Int(-1), 0)?);
+    is_field(
+        &rt,
+        alloc,
+        Field::Boolean,
+        "02 07",
+        (Scalar::Boolean(true), 1),
+    )?;
+    is_field(&rt, alloc, Field::Int, "ffffffff", (Scalar::Int(-1), 0))?;
     let thread = Scalar::ObjectId(ObjectId(9));
-    assert!(rt; holds(alloc, Field::ObjectId, "0000000000000009 0000", &thread, 2)?);
+    is_field(
+        &rt,
+        alloc,
+        Field::ObjectId,
+        "0000000000000009 0000",
+        (thread, 2),
+    )
+}
+
+/// The field in front of these bytes holds this, with so many bytes behind it.
+fn is_field(
+    rt: &impl Abort,
+    alloc: Global,
+    field: Field,
+    hex: &str,
+    want: (Scalar, usize),
+) -> Result<(), Fail> {
+    expect_same(rt, &field_of(alloc, field, hex)?, &want);
     Ok(())
 }
 
@@ -641,10 +560,14 @@ fn a_field_that_is_cut_off(rt: HostRuntime) -> Result<(), Fail> {
 #[test]
 fn data_are_kept_as_they_are(rt: HostRuntime) -> Result<(), Fail> {
     let data = Data::new(vec![in rt.alloc(); Datum::One(Scalar::Int(1))]?);
-    assert!(rt; data.items() == [Datum::One(Scalar::Int(1))].as_slice());
-    let items = data.into_items();
-    assert!(rt; items.as_slice() == [Datum::One(Scalar::Int(1))].as_slice());
+    assert!(rt; are_one(data.items()));
+    assert!(rt; are_one(&data.into_items()));
     Ok(())
+}
+
+/// Whether the data are the int 1.
+fn are_one(items: &[Datum]) -> bool {
+    matches!(items, [Datum::One(Scalar::Int(1))])
 }
 
 #[test]
@@ -667,27 +590,44 @@ fn push_id(width: u8, id: u8, bytes: &mut Vec<u8>) -> Result<(), Fail> {
 
 fn push_sample(field: Field, sizes: &IdSizes, bytes: &mut Vec<u8>) -> Result<(), Fail> {
     match field {
-        Field::Byte => bytes.push(7)?,
-        Field::Boolean => bytes.push(1)?,
-        Field::Int => bytes.extend_from_slice(&[0xff, 0xff, 0xff, 0xfe])?,
-        Field::Long => bytes.extend_from_slice(&[0x80, 0, 0, 0, 0, 0, 0, 3])?,
-        Field::String => bytes.extend_from_slice(&[0, 0, 0, 3, 0x68, 0xc3, 0xa9])?,
-        Field::ObjectId => push_id(sizes.object(), 5, bytes)?,
-        Field::ReferenceTypeId => push_id(sizes.reference(), 10, bytes)?,
-        Field::MethodId => push_id(sizes.method(), 20, bytes)?,
-        Field::FieldId => push_id(sizes.field(), 30, bytes)?,
-        Field::FrameId => push_id(sizes.frame(), 40, bytes)?,
-        Field::Location => {
-            bytes.push(2)?;
-            push_id(sizes.reference(), 10, bytes)?;
-            push_id(sizes.method(), 20, bytes)?;
-            push_id(8, 3, bytes)?;
-        }
-        Field::Value => bytes.extend_from_slice(&[0x49, 0, 0, 0, 9])?,
-        Field::TaggedId => {
-            bytes.push(0x4c)?;
-            push_id(sizes.object(), 5, bytes)?;
-        }
+        Field::Byte => push_bytes(&[7], bytes),
+        Field::Boolean => push_bytes(&[1], bytes),
+        Field::Int => push_bytes(&[0xff, 0xff, 0xff, 0xfe], bytes),
+        Field::Long => push_bytes(&[0x80, 0, 0, 0, 0, 0, 0, 3], bytes),
+        Field::String => push_bytes(&[0, 0, 0, 3, 0x68, 0xc3, 0xa9], bytes),
+        Field::ObjectId => push_id(sizes.object(), 5, bytes),
+        Field::ReferenceTypeId => push_id(sizes.reference(), 10, bytes),
+        Field::MethodId => push_id(sizes.method(), 20, bytes),
+        Field::FieldId => push_id(sizes.field(), 30, bytes),
+        Field::FrameId => push_id(sizes.frame(), 40, bytes),
+        Field::Location => push_place(sizes, bytes),
+        Field::Value => push_bytes(&[0x49, 0, 0, 0, 9], bytes),
+        Field::TaggedId => push_object(sizes, bytes),
+    }
+}
+
+fn push_bytes(more: &[u8], bytes: &mut Vec<u8>) -> Result<(), Fail> {
+    bytes.extend_from_slice(more)?;
+    Ok(())
+}
+
+/// A location in an interface.
+fn push_place(sizes: &IdSizes, bytes: &mut Vec<u8>) -> Result<(), Fail> {
+    push_bytes(&[2], bytes)?;
+    push_id(sizes.reference(), 10, bytes)?;
+    push_id(sizes.method(), 20, bytes)?;
+    push_id(8, 3, bytes)
+}
+
+/// An object behind its tag.
+fn push_object(sizes: &IdSizes, bytes: &mut Vec<u8>) -> Result<(), Fail> {
+    push_bytes(&[0x4c], bytes)?;
+    push_id(sizes.object(), 5, bytes)
+}
+
+fn push_fields(fields: &[Field], sizes: &IdSizes, bytes: &mut Vec<u8>) -> Result<(), Fail> {
+    for field in fields {
+        push_sample(*field, sizes, bytes)?;
     }
     Ok(())
 }
@@ -703,32 +643,34 @@ fn push_kinds(events: bool, sizes: &IdSizes, bytes: &mut Vec<u8>) -> Result<(), 
         };
         if let Some(fields) = fields {
             bytes.push(kind as u8)?;
-            for field in fields {
-                push_sample(*field, sizes, bytes)?;
-            }
+            push_fields(fields, sizes, bytes)?;
         }
     }
     Ok(())
+}
+
+/// A list of two entries.
+fn push_two(fields: &[Field], sizes: &IdSizes, bytes: &mut Vec<u8>) -> Result<(), Fail> {
+    push_bytes(&[0, 0, 0, 2], bytes)?;
+    push_fields(fields, sizes, bytes)?;
+    push_fields(fields, sizes, bytes)
+}
+
+fn push_item(item: Item, sizes: &IdSizes, bytes: &mut Vec<u8>) -> Result<(), Fail> {
+    match item {
+        Item::One(field) => push_sample(field, sizes, bytes),
+        Item::Many(Entry::Modifier) => push_kinds(false, sizes, bytes),
+        Item::Many(Entry::Event) => push_kinds(true, sizes, bytes),
+        Item::Many(Entry::Fields(fields)) => push_two(fields, sizes, bytes),
+        Item::Region => push_bytes(&[0x53, 0, 0, 0, 2, 0, 1, 0, 2], bytes),
+    }
 }
 
 /// Bytes of the layout: each list has two entries, and a list of modifiers or events one of each kind.
 fn sample(alloc: Global, layout: &Layout, sizes: &IdSizes) -> Result<Vec<u8>, Fail> {
     let mut bytes = Vec::new(alloc);
     for item in layout.items {
-        match *item {
-            Item::One(field) => push_sample(field, sizes, &mut bytes)?,
-            Item::Many(Entry::Modifier) => push_kinds(false, sizes, &mut bytes)?,
-            Item::Many(Entry::Event) => push_kinds(true, sizes, &mut bytes)?,
-            Item::Many(Entry::Fields(fields)) => {
-                bytes.extend_from_slice(&[0, 0, 0, 2])?;
-                for _ in 0..2u32 {
-                    for field in fields {
-                        push_sample(*field, sizes, &mut bytes)?;
-                    }
-                }
-            }
-            Item::Region => bytes.extend_from_slice(&[0x53, 0, 0, 0, 2, 0, 1, 0, 2])?,
-        }
+        push_item(*item, sizes, &mut bytes)?;
     }
     Ok(bytes)
 }

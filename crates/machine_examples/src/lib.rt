@@ -5,6 +5,8 @@
 #[cfg(test)]
 mod asserts;
 #[cfg(test)]
+mod data_words;
+#[cfg(test)]
 mod layout_tests;
 #[cfg(test)]
 mod limit_tests;

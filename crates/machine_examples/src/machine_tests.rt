@@ -1,9 +1,9 @@
 //! Machines of scripts: their threads, their steps, what they answer, and the faults of their texts.
 use crate::asserts::{expect_same, expect_same_for};
-use crate::layout_tests::{bytes_of, push_location, push_value, request_of, text_of};
-use crate::rows::row;
+use crate::data_words::{push_location, push_value, text_of};
+use crate::layout_tests::{bytes_of, request_of};
 use crate::script_tests::{MACHINE_A, edited};
-use jdwp_event::{ClassSeen, Happening, Occurrence, Place};
+use jdwp_event::{ClassSeen, Happening, Occurrence, Place, PreparedClass, ThrownException};
 use jdwp_layout::{Answer, Data, read};
 use jdwp_machine::{Machine, Query, has_run_out, is_among};
 use jdwp_script::{Member, ScriptFault};
@@ -102,6 +102,12 @@ enum Act {
     Goes(u64),
     /// The thread ends.
     Ends(u64),
+    /// A command with its data is answered by this text.
+    Answers(u8, u8, &'static str, &'static str),
+    /// The data are read as those of one command, asked as those of another, and answered by this text.
+    AnswersAs((u8, u8), &'static str, (u8, u8), &'static str),
+    /// Slots of a frame of a thread are written, with this error, or with 0.
+    Writes(u64, u64, &'static [(i32, Value)], u16),
 }
 
 fn machine(alloc: Global, text: &str) -> Result<ScriptMachine, Fail> {
@@ -123,7 +129,9 @@ fn push_class(class: &ClassSeen, text: &mut String) -> Result<(), Fail> {
     push_ids(&class.reaches, text)
 }
 
-fn push_place(place: &Place, text: &mut String) -> Result<(), Fail> {
+/// The place behind these words.
+fn push_place(words: &str, place: &Place, text: &mut String) -> Result<(), Fail> {
+    text.push_str(words)?;
     push_location(&place.location, text)?;
     match place.line {
         Some(line) => write!(text, " line {line}")?,
@@ -135,36 +143,35 @@ fn push_place(place: &Place, text: &mut String) -> Result<(), Fail> {
 
 fn push_occurrence(occurrence: &Occurrence, text: &mut String) -> Result<(), Fail> {
     match occurrence {
-        Occurrence::Moved(place) => {
-            text.push_str(" moves to ")?;
-            push_place(place, text)?;
-        }
-        Occurrence::Entered(place) => {
-            text.push_str(" enters ")?;
-            push_place(place, text)?;
-        }
-        Occurrence::Left(place, value) => {
-            text.push_str(" leaves ")?;
-            push_place(place, text)?;
-            text.push_str(" with ")?;
-            push_value(value, text)?;
-        }
-        Occurrence::Threw(place, thrown) => {
-            write!(text, " throws {} at ", thrown.exception.id.0)?;
-            push_place(place, text)?;
-            text.push_str(" of")?;
-            push_ids(&thrown.reaches, text)?;
-            text.push_str(" caught at ")?;
-            push_location(&thrown.caught_at, text)?;
-        }
-        Occurrence::Prepared(class) => {
-            write!(text, " prepares {} {}", class.tag.byte(), class.id.0)?;
-            push_class(&class.class, text)?;
-            write!(text, " status {}", class.status)?;
-        }
-        Occurrence::Started => text.push_str(" starts")?,
-        Occurrence::RanOut => text.push_str(" has run out")?,
+        Occurrence::Moved(place) => push_place(" moves to ", place, text),
+        Occurrence::Entered(place) => push_place(" enters ", place, text),
+        Occurrence::Left(place, value) => push_leaving(place, value, text),
+        Occurrence::Threw(place, thrown) => push_throw(place, thrown, text),
+        Occurrence::Prepared(class) => push_prepared(class, text),
+        Occurrence::Started => Ok(text.push_str(" starts")?),
+        Occurrence::RanOut => Ok(text.push_str(" has run out")?),
     }
+}
+
+fn push_leaving(place: &Place, value: &Value, text: &mut String) -> Result<(), Fail> {
+    push_place(" leaves ", place, text)?;
+    text.push_str(" with ")?;
+    push_value(value, text)
+}
+
+fn push_throw(place: &Place, thrown: &ThrownException, text: &mut String) -> Result<(), Fail> {
+    write!(text, " throws {}", thrown.exception.id.0)?;
+    push_place(" at ", place, text)?;
+    text.push_str(" of")?;
+    push_ids(&thrown.reaches, text)?;
+    text.push_str(" caught at ")?;
+    push_location(&thrown.caught_at, text)
+}
+
+fn push_prepared(class: &PreparedClass, text: &mut String) -> Result<(), Fail> {
+    write!(text, " prepares {} {}", class.tag.byte(), class.id.0)?;
+    push_class(&class.class, text)?;
+    write!(text, " status {}", class.status)?;
     Ok(())
 }
 
@@ -180,11 +187,18 @@ fn next_of(machine: &ScriptMachine, thread: u64) -> Result<Happening, Fail> {
 
 /// The next step of a thread that lives, as text.
 fn shown(alloc: Global, machine: &ScriptMachine, thread: u64) -> Result<String, Fail> {
-    let happening = next_of(machine, thread)?;
     let mut text = String::new(alloc);
-    write!(text, "{}", happening.thread().0)?;
-    push_occurrence(happening.occurrence(), &mut text)?;
+    push_next(machine, thread, &mut text)?;
     Ok(text)
+}
+
+fn push_next(machine: &ScriptMachine, thread: u64, text: &mut String) -> Result<(), Fail> {
+    push_happening(&next_of(machine, thread)?, text)
+}
+
+fn push_happening(happening: &Happening, text: &mut String) -> Result<(), Fail> {
+    write!(text, "{}", happening.thread().0)?;
+    push_occurrence(happening.occurrence(), text)
 }
 
 /// A step of a thread that lives and has not run out.
@@ -248,6 +262,16 @@ fn carry_out(
         }
         Act::Goes(thread) => step(machine, thread),
         Act::Ends(thread) => end(machine, thread),
+        Act::Answers(set, number, data, answer) => {
+            let command = (set, number);
+            is_answered(rt, alloc, machine, command, data, command, answer)
+        }
+        Act::AnswersAs(row, data, command, answer) => {
+            is_answered(rt, alloc, machine, row, data, command, answer)
+        }
+        Act::Writes(thread, frame, slots, error) => {
+            is_written(rt, machine, thread, frame, slots, error)
+        }
     }
 }
 
@@ -263,16 +287,10 @@ fn run(
     Ok(())
 }
 
-/// The machine of the text, once these acts were done and found as they are said.
-fn machine_after(
-    rt: &impl Abort,
-    alloc: Global,
-    text: &str,
-    acts: &[Act],
-) -> Result<ScriptMachine, Fail> {
+/// Of each act comes what it says, from the beginning of this machine on.
+fn goes_as_told(rt: &impl Abort, alloc: Global, text: &str, acts: &[Act]) -> Result<(), Fail> {
     let mut machine = machine(alloc, text)?;
-    run(rt, alloc, &mut machine, acts)?;
-    Ok(machine)
+    run(rt, alloc, &mut machine, acts)
 }
 
 /// Machine A to its end.
@@ -295,8 +313,7 @@ static STEPS_OF_A: [Act; 14] = [
 
 #[test]
 fn machine_a_steps(rt: HostRuntime) -> Result<(), Fail> {
-    let _machine = machine_after(&rt, rt.alloc(), MACHINE_A, &STEPS_OF_A)?;
-    Ok(())
+    goes_as_told(&rt, rt.alloc(), MACHINE_A, &STEPS_OF_A)
 }
 
 /// A step of each kind.
@@ -323,25 +340,19 @@ static EACH_STEP: [Act; 9] = [
 
 #[test]
 fn steps_of_each_kind(rt: HostRuntime) -> Result<(), Fail> {
-    let _machine = machine_after(&rt, rt.alloc(), EACH_KIND, &EACH_STEP)?;
-    Ok(())
+    goes_as_told(&rt, rt.alloc(), EACH_KIND, &EACH_STEP)
 }
+
+/// The one step of the machine of the diamonds.
+static A_CALL: [Act; 1] = [Act::Shows(
+    1,
+    "1 enters 1:#11:#20:0 no line frames 1 LMain; 11 12 13 14 15 16",
+)];
 
 #[test]
 fn classes_reached_by_many_ways(rt: HostRuntime) -> Result<(), Fail> {
-    let acts = [Act::Shows(
-        1,
-        "1 enters 1:#11:#20:0 no line frames 1 LMain; 11 12 13 14 15 16",
-    )];
-    let _machine = machine_after(&rt, rt.alloc(), DIAMONDS, &acts)?;
-    Ok(())
+    goes_as_told(&rt, rt.alloc(), DIAMONDS, &A_CALL)
 }
-
-/// A command, its data, and the answer as text.
-type Asked = (u8, u8, &'static str, &'static str);
-
-/// By which row the data are read, the data, as which command they are asked, and the answer as text.
-type AskedAs = ((u8, u8), &'static str, (u8, u8), &'static str);
 
 fn query_of(alloc: Global, row: (u8, u8), data: &str, command: (u8, u8)) -> Result<Query, Fail> {
     let sizes = IdSizes::new(1, 1, 1, 1, 1)?;
@@ -393,100 +404,71 @@ fn is_answered(
     Ok(())
 }
 
-fn are_answered(
-    rt: &impl Abort,
-    alloc: Global,
-    machine: &ScriptMachine,
-    rows: &[Asked],
-) -> Result<(), Fail> {
-    for &(set, number, data, answer) in rows {
-        let command = (set, number);
-        is_answered(rt, alloc, machine, command, data, command, answer)?;
-    }
-    Ok(())
-}
-
-/// The same of commands that are asked with the data of others.
-fn are_answered_as(
-    rt: &impl Abort,
-    alloc: Global,
-    machine: &ScriptMachine,
-    rows: &[AskedAs],
-) -> Result<(), Fail> {
-    for &(row, data, command, answer) in rows {
-        is_answered(rt, alloc, machine, row, data, command, answer)?;
-    }
-    Ok(())
-}
-
-/// The machine of the objects, whose first thread has two frames and whose second has ended.
-fn objects(rt: &impl Abort, alloc: Global) -> Result<ScriptMachine, Fail> {
-    let acts = [Act::Goes(1), Act::Goes(1), Act::Goes(1), Act::Ends(2)];
-    machine_after(rt, alloc, OBJECTS, &acts)
-}
-
-static THREADS: [Asked; 13] = [
-    (11, 1, "01", "\"first\""),
-    (11, 5, "01", "#5"),
-    (11, 7, "01", "2"),
-    (11, 7, "03", "error 20"),
-    (
+static THREADS: [Act; 19] = [
+    Act::Goes(1),
+    Act::Goes(1),
+    Act::Goes(1),
+    Act::Ends(2),
+    Act::Answers(11, 1, "01", "\"first\""),
+    Act::Answers(11, 5, "01", "#5"),
+    Act::Answers(11, 7, "01", "2"),
+    Act::Answers(11, 7, "03", "error 20"),
+    Act::Answers(
         11,
         6,
         "01 00000000 ffffffff",
         "[(#31, 1:#10:#20:3), (#30, 1:#10:#20:0)]",
     ),
-    (
+    Act::Answers(
         11,
         6,
         "01 00000000 00000002",
         "[(#31, 1:#10:#20:3), (#30, 1:#10:#20:0)]",
     ),
-    (11, 6, "01 00000001 00000001", "[(#30, 1:#10:#20:0)]"),
-    (11, 6, "01 00000002 ffffffff", "[]"),
-    (11, 6, "01 00000002 00000000", "[]"),
-    (11, 6, "01 00000003 00000000", "error 503"),
-    (11, 6, "01 ffffffff 00000001", "error 503"),
-    (11, 6, "01 00000001 00000002", "error 504"),
-    (11, 6, "01 00000000 fffffffe", "error 504"),
-];
-
-static THREADS_AS: [AskedAs; 2] = [
-    ((11, 6), "01 00000000 00000001", (11, 7), "error 103"),
-    ((11, 7), "01", (11, 8), "error 99"),
+    Act::Answers(11, 6, "01 00000001 00000001", "[(#30, 1:#10:#20:0)]"),
+    Act::Answers(11, 6, "01 00000002 ffffffff", "[]"),
+    Act::Answers(11, 6, "01 00000002 00000000", "[]"),
+    Act::Answers(11, 6, "01 00000003 00000000", "error 503"),
+    Act::Answers(11, 6, "01 ffffffff 00000001", "error 503"),
+    Act::Answers(11, 6, "01 00000001 00000002", "error 504"),
+    Act::Answers(11, 6, "01 00000000 fffffffe", "error 504"),
+    Act::AnswersAs((11, 6), "01 00000000 00000001", (11, 7), "error 103"),
+    Act::AnswersAs((11, 7), "01", (11, 8), "error 99"),
 ];
 
 #[test]
 fn answers_of_threads(rt: HostRuntime) -> Result<(), Fail> {
-    let machine = objects(&rt, rt.alloc())?;
-    are_answered(&rt, rt.alloc(), &machine, &THREADS)?;
-    are_answered_as(&rt, rt.alloc(), &machine, &THREADS_AS)
+    goes_as_told(&rt, rt.alloc(), OBJECTS, &THREADS)
 }
 
-static FRAMES: [Asked; 12] = [
-    (16, 1, "01 1f 00000001 00000000 49", "[(I:7)]"),
-    (16, 1, "01 1f 00000001 00000001 4a", "error 35"),
-    (16, 1, "01 1f 00000001 00000000 4a", "error 34"),
-    (16, 1, "01 1f 00000001 00000000 56", "error 34"),
-    (16, 1, "01 1f 00000001 00000000 01", "error 34"),
-    (16, 3, "01 1f", "s#51"),
-    (16, 3, "01 1e", "L#0"),
-    (16, 3, "01 20", "error 30"),
+static FRAMES: [Act; 16] = [
+    Act::Goes(1),
+    Act::Goes(1),
+    Act::Goes(1),
+    Act::Ends(2),
+    Act::Answers(16, 1, "01 1f 00000001 00000000 49", "[(I:7)]"),
+    Act::Answers(16, 1, "01 1f 00000001 00000001 4a", "error 35"),
+    Act::Answers(16, 1, "01 1f 00000001 00000000 4a", "error 34"),
+    Act::Answers(16, 1, "01 1f 00000001 00000000 56", "error 34"),
+    Act::Answers(16, 1, "01 1f 00000001 00000000 01", "error 34"),
+    Act::Answers(16, 3, "01 1f", "s#51"),
+    Act::Answers(16, 3, "01 1e", "L#0"),
+    Act::Answers(16, 3, "01 20", "error 30"),
     // the test of a breakpoint's location: the last index, one more, the null location, a class that there is not
-    (15, 1, "02 00 00000001 07 01 0a 14 0000000000000009", "0"),
-    (
+    Act::Answers(15, 1, "02 00 00000001 07 01 0a 14 0000000000000009", "0"),
+    Act::Answers(
         15,
         1,
         "02 00 00000001 07 01 0a 14 000000000000000a",
         "error 24",
     ),
-    (
+    Act::Answers(
         15,
         1,
         "02 00 00000001 07 00 00 00 0000000000000000",
         "error 24",
     ),
-    (
+    Act::Answers(
         15,
         1,
         "02 00 00000001 07 01 0b 14 0000000000000000",
@@ -496,46 +478,39 @@ static FRAMES: [Asked; 12] = [
 
 #[test]
 fn answers_of_frames(rt: HostRuntime) -> Result<(), Fail> {
-    let machine = objects(&rt, rt.alloc())?;
-    are_answered(&rt, rt.alloc(), &machine, &FRAMES)
+    goes_as_told(&rt, rt.alloc(), OBJECTS, &FRAMES)
 }
 
-static OBJECTS_AND_GROUPS: [Asked; 20] = [
-    (9, 1, "32", "1 #10"),
-    (9, 2, "32 00000001 28", "[(I:7)]"),
-    (9, 2, "32 00000001 29", "error 25"),
-    (9, 7, "32", ""),
-    (9, 8, "01", "error 20"),
-    (9, 9, "32", "false"),
-    (10, 1, "33", "\"hello\""),
-    (10, 1, "32", "error 506"),
-    (13, 1, "34", "3"),
-    (13, 1, "32", "error 508"),
-    (13, 2, "34 00000000 00000003", "L[L#50, s#51, L#0]"),
-    (13, 2, "34 00000003 00000000", "L[]"),
-    (13, 2, "34 00000004 00000000", "error 503"),
-    (13, 2, "34 ffffffff 00000001", "error 503"),
-    (13, 2, "34 00000001 00000003", "error 504"),
-    (13, 2, "34 00000000 ffffffff", "error 504"),
-    (12, 1, "06", "\"pool\""),
-    (12, 2, "06", "#5"),
-    (12, 2, "01", "error 11"),
-    (12, 3, "05", "[(#1)] [(#6)]"),
+static OBJECTS_AND_GROUPS: [Act; 24] = [
+    Act::Goes(1),
+    Act::Goes(1),
+    Act::Goes(1),
+    Act::Ends(2),
+    Act::Answers(9, 1, "32", "1 #10"),
+    Act::Answers(9, 2, "32 00000001 28", "[(I:7)]"),
+    Act::Answers(9, 2, "32 00000001 29", "error 25"),
+    Act::Answers(9, 7, "32", ""),
+    Act::Answers(9, 8, "01", "error 20"),
+    Act::Answers(9, 9, "32", "false"),
+    Act::Answers(10, 1, "33", "\"hello\""),
+    Act::Answers(10, 1, "32", "error 506"),
+    Act::Answers(13, 1, "34", "3"),
+    Act::Answers(13, 1, "32", "error 508"),
+    Act::Answers(13, 2, "34 00000000 00000003", "L[L#50, s#51, L#0]"),
+    Act::Answers(13, 2, "34 00000003 00000000", "L[]"),
+    Act::Answers(13, 2, "34 00000004 00000000", "error 503"),
+    Act::Answers(13, 2, "34 ffffffff 00000001", "error 503"),
+    Act::Answers(13, 2, "34 00000001 00000003", "error 504"),
+    Act::Answers(13, 2, "34 00000000 ffffffff", "error 504"),
+    Act::Answers(12, 1, "06", "\"pool\""),
+    Act::Answers(12, 2, "06", "#5"),
+    Act::Answers(12, 2, "01", "error 11"),
+    Act::Answers(12, 3, "05", "[(#1)] [(#6)]"),
 ];
 
 #[test]
 fn answers_of_objects_and_groups(rt: HostRuntime) -> Result<(), Fail> {
-    let machine = objects(&rt, rt.alloc())?;
-    are_answered(&rt, rt.alloc(), &machine, &OBJECTS_AND_GROUPS)
-}
-
-/// Slots that are written: of which frame of which thread, and the error, or 0.
-#[derive(Clone, Copy)]
-struct Writing {
-    thread: u64,
-    frame: u64,
-    slots: &'static [(i32, Value)],
-    error: u16,
+    goes_as_told(&rt, rt.alloc(), OBJECTS, &OBJECTS_AND_GROUPS)
 }
 
 const OBJECT_60: Value = Value::Object(TaggedId {
@@ -543,196 +518,167 @@ const OBJECT_60: Value = Value::Object(TaggedId {
     id: ObjectId(60),
 });
 
-fn written(machine: &mut ScriptMachine, written: &Writing) -> Result<u16, Fail> {
-    let thread = ObjectId(written.thread);
-    match machine.write_slots(thread, FrameId(written.frame), written.slots) {
+/// The error by which slots that are written are refused, or 0.
+fn written(
+    machine: &mut ScriptMachine,
+    thread: u64,
+    frame: u64,
+    slots: &[(i32, Value)],
+) -> Result<u16, Fail> {
+    match machine.write_slots(ObjectId(thread), FrameId(frame), slots) {
         Ok(Answer::Data(_)) => Ok(0),
         Ok(Answer::Error(error)) => Ok(error.0),
         Err(_) => Err(Fail::from("no memory")),
     }
 }
 
-/// The slots are written or refused, and then slot 0 of the newest frame holds this.
-fn are_written(
+fn is_written(
     rt: &impl Abort,
-    alloc: Global,
     machine: &mut ScriptMachine,
-    rows: &[Writing],
-    held: &str,
+    thread: u64,
+    frame: u64,
+    slots: &[(i32, Value)],
+    error: u16,
 ) -> Result<(), Fail> {
-    for row in rows {
-        expect_same_for(rt, &written(machine, row)?, &row.error, &row.frame);
-    }
-    let slot = "01 1f 00000001 00000000 49";
-    is_answered(rt, alloc, machine, (16, 1), slot, (16, 1), held)
+    let found = written(machine, thread, frame, slots)?;
+    expect_same_for(rt, &found, &error, &frame);
+    Ok(())
 }
 
-fn newest(slots: &'static [(i32, Value)], error: u16) -> Writing {
-    Writing {
-        thread: 1,
-        frame: 31,
-        slots,
-        error,
-    }
-}
-
-fn elsewhere(thread: u64, frame: u64, error: u16) -> Writing {
-    Writing {
-        thread,
-        frame,
-        slots: &[(0, Value::Int(5))],
-        error,
-    }
-}
+/// Slots of the newest frame, of others, and what slot 0 of the newest holds then.
+static SLOTS: [Act; 13] = [
+    Act::Goes(1),
+    Act::Goes(1),
+    Act::Goes(1),
+    Act::Ends(2),
+    Act::Writes(1, 32, &[(0, Value::Int(5))], 30),
+    Act::Writes(2, 31, &[(0, Value::Int(5))], 30),
+    Act::Writes(3, 31, &[(0, Value::Int(5))], 20),
+    Act::Writes(1, 31, &[(0, Value::Int(6)), (1, Value::Int(5))], 35),
+    Act::Writes(1, 31, &[(0, Value::Int(6)), (0, Value::Long(5))], 34),
+    Act::Writes(1, 31, &[(0, Value::Int(6)), (2, OBJECT_60)], 20),
+    Act::Answers(16, 1, "01 1f 00000001 00000000 49", "[(I:7)]"),
+    Act::Writes(1, 31, &[(0, Value::Int(5)), (0, Value::Int(8))], 0),
+    Act::Answers(16, 1, "01 1f 00000001 00000000 49", "[(I:8)]"),
+];
 
 #[test]
 fn slots_that_are_written(rt: HostRuntime) -> Result<(), Fail> {
-    let mut machine = objects(&rt, rt.alloc())?;
-    let refused = [
-        elsewhere(1, 32, 30),
-        elsewhere(2, 31, 30),
-        elsewhere(3, 31, 20),
-        newest(&[(0, Value::Int(6)), (1, Value::Int(5))], 35),
-        newest(&[(0, Value::Int(6)), (0, Value::Long(5))], 34),
-        newest(&[(0, Value::Int(6)), (2, OBJECT_60)], 20),
-    ];
-    are_written(&rt, rt.alloc(), &mut machine, &refused, "[(I:7)]")?;
-    let taken = [newest(&[(0, Value::Int(5)), (0, Value::Int(8))], 0)];
-    are_written(&rt, rt.alloc(), &mut machine, &taken, "[(I:8)]")
+    goes_as_told(&rt, rt.alloc(), OBJECTS, &SLOTS)
 }
 
-static WHOLE: [Asked; 9] = [
-    (1, 1, "", "\"scripted machine\" 11 0 \"11\" \"small\""),
-    (1, 2, "00000006 4c4d61696e3b", "[(1, #11, 3), (1, #12, 0)]"),
-    (1, 2, "00000005 4c4a6f623b", "[(2, #10, 3)]"),
-    (1, 2, "00000007 4c4f746865723b", "[]"),
-    (
+static WHOLE: [Act; 14] = [
+    Act::Answers(1, 1, "", "\"scripted machine\" 11 0 \"11\" \"small\""),
+    Act::Answers(1, 2, "00000006 4c4d61696e3b", "[(1, #11, 3), (1, #12, 0)]"),
+    Act::Answers(1, 2, "00000005 4c4a6f623b", "[(2, #10, 3)]"),
+    Act::Answers(1, 2, "00000007 4c4f746865723b", "[]"),
+    Act::Answers(
         1,
         3,
         "",
         "[(2, #10, \"LJob;\", 3), (1, #11, \"LMain;\", 3), (1, #12, \"LMain;\", 0)]",
     ),
-    (1, 5, "", "[(#5), (#7)]"),
-    (1, 12, "", "false false false false false false false"),
-    (1, 14, "00000000", ""),
-    (
+    Act::Answers(1, 5, "", "[(#5), (#7)]"),
+    Act::Answers(1, 12, "", "false false false false false false false"),
+    Act::Answers(1, 14, "00000000", ""),
+    Act::Answers(
         1,
         20,
         "",
         "[(2, #10, \"LJob;\", \"\", 3), (1, #11, \"LMain;\", \"\", 3), (1, #12, \"LMain;\", \"\", 0)]",
     ),
-];
-
-static WHOLE_AS: [AskedAs; 5] = [
-    ((1, 1), "", (1, 2), "error 103"),
-    ((1, 2), "00000005 4c4a6f623b", (1, 1), "error 103"),
-    ((1, 1), "", (1, 4), "error 99"),
-    ((1, 1), "", (1, 14), "error 103"),
+    Act::AnswersAs((1, 1), "", (1, 2), "error 103"),
+    Act::AnswersAs((1, 2), "00000005 4c4a6f623b", (1, 1), "error 103"),
+    Act::AnswersAs((1, 1), "", (1, 4), "error 99"),
+    Act::AnswersAs((1, 1), "", (1, 14), "error 103"),
     // a set that the machine is not asked about
-    ((1, 1), "", (4, 1), "error 99"),
+    Act::AnswersAs((1, 1), "", (4, 1), "error 99"),
 ];
 
 #[test]
 fn answers_of_the_machine(rt: HostRuntime) -> Result<(), Fail> {
-    let machine = machine(rt.alloc(), CLASSES)?;
-    are_answered(&rt, rt.alloc(), &machine, &WHOLE)?;
-    are_answered_as(&rt, rt.alloc(), &machine, &WHOLE_AS)
+    goes_as_told(&rt, rt.alloc(), CLASSES, &WHOLE)
 }
 
-static ANSWERS_OF_CLASSES: [Asked; 23] = [
-    (2, 1, "0b", "\"LMain;\""),
-    (2, 1, "0d", "error 21"),
-    (2, 2, "0b", "#0"),
-    (2, 3, "0a", "1537"),
-    (
+static ANSWERS_OF_CLASSES: [Act; 27] = [
+    Act::Answers(2, 1, "0b", "\"LMain;\""),
+    Act::Answers(2, 1, "0d", "error 21"),
+    Act::Answers(2, 2, "0b", "#0"),
+    Act::Answers(2, 3, "0a", "1537"),
+    Act::Answers(
         2,
         4,
         "0b",
         "[(#40, \"count\", \"I\", 8), (#41, \"next\", \"LMain;\", 0), (#42, \"done\", \"Z\", 9)]",
     ),
-    (2, 4, "0c", "error 22"),
-    (2, 4, "0d", "error 21"),
-    (2, 5, "0b", "[(#21, \"run\", \"()V\", 1)]"),
-    (2, 5, "0c", "error 22"),
-    (2, 7, "0b", "\"Main.java\""),
-    (2, 7, "0a", "error 101"),
-    (2, 9, "0b", "3"),
-    (2, 9, "0c", "0"),
-    (2, 10, "0b", "[(#10)]"),
-    (2, 10, "0c", "error 22"),
-    (2, 13, "0b", "\"LMain;\" \"\""),
-    (
+    Act::Answers(2, 4, "0c", "error 22"),
+    Act::Answers(2, 4, "0d", "error 21"),
+    Act::Answers(2, 5, "0b", "[(#21, \"run\", \"()V\", 1)]"),
+    Act::Answers(2, 5, "0c", "error 22"),
+    Act::Answers(2, 7, "0b", "\"Main.java\""),
+    Act::Answers(2, 7, "0a", "error 101"),
+    Act::Answers(2, 9, "0b", "3"),
+    Act::Answers(2, 9, "0c", "0"),
+    Act::Answers(2, 10, "0b", "[(#10)]"),
+    Act::Answers(2, 10, "0c", "error 22"),
+    Act::Answers(2, 13, "0b", "\"LMain;\" \"\""),
+    Act::Answers(
         2,
         14,
         "0b",
         "[(#40, \"count\", \"I\", \"\", 8), (#41, \"next\", \"LMain;\", \"\", 0), (#42, \"done\", \"Z\", \"\", 9)]",
     ),
-    (2, 14, "0c", "error 22"),
-    (2, 15, "0a", "[(#20, \"act\", \"(I)V\", \"\", 1025)]"),
-    (2, 15, "0c", "error 22"),
-    (3, 1, "0b", "#0"),
-    (3, 1, "0c", "#11"),
-    (3, 1, "0d", "error 21"),
-];
-
-static ANSWERS_OF_CLASSES_AS: [AskedAs; 4] = [
-    ((1, 1), "", (2, 1), "error 103"),
-    ((2, 1), "0b", (2, 6), "error 103"),
-    ((2, 1), "0b", (2, 8), "error 99"),
-    ((3, 1), "0b", (3, 2), "error 99"),
+    Act::Answers(2, 14, "0c", "error 22"),
+    Act::Answers(2, 15, "0a", "[(#20, \"act\", \"(I)V\", \"\", 1025)]"),
+    Act::Answers(2, 15, "0c", "error 22"),
+    Act::Answers(3, 1, "0b", "#0"),
+    Act::Answers(3, 1, "0c", "#11"),
+    Act::Answers(3, 1, "0d", "error 21"),
+    Act::AnswersAs((1, 1), "", (2, 1), "error 103"),
+    Act::AnswersAs((2, 1), "0b", (2, 6), "error 103"),
+    Act::AnswersAs((2, 1), "0b", (2, 8), "error 99"),
+    Act::AnswersAs((3, 1), "0b", (3, 2), "error 99"),
 ];
 
 #[test]
 fn answers_of_classes(rt: HostRuntime) -> Result<(), Fail> {
-    let machine = machine(rt.alloc(), CLASSES)?;
-    are_answered(&rt, rt.alloc(), &machine, &ANSWERS_OF_CLASSES)?;
-    are_answered_as(&rt, rt.alloc(), &machine, &ANSWERS_OF_CLASSES_AS)
+    goes_as_told(&rt, rt.alloc(), CLASSES, &ANSWERS_OF_CLASSES)
 }
 
-static STATIC_FIELDS: [Asked; 7] = [
-    (2, 6, "0b 00000002 2a 28", "[(Z:true), (I:7)]"),
-    (2, 6, "0b 00000002 28 28", "[(I:7), (I:7)]"),
-    (2, 6, "0b 00000002 28 29", "error 25"),
-    (2, 6, "0b 00000002 2b 28", "error 25"),
-    (2, 6, "0a 00000002 28 28", "error 25"),
-    (2, 6, "0c 00000002 28 28", "error 22"),
-    (2, 6, "0d 00000002 28 28", "error 21"),
-];
-
-static STATIC_FIELDS_AS: [AskedAs; 2] = [
-    ((2, 6), "0b 00000001 28", (2, 9), "error 103"),
-    ((2, 6), "0d 00000001 28", (2, 9), "error 21"),
+static STATIC_FIELDS: [Act; 9] = [
+    Act::Answers(2, 6, "0b 00000002 2a 28", "[(Z:true), (I:7)]"),
+    Act::Answers(2, 6, "0b 00000002 28 28", "[(I:7), (I:7)]"),
+    Act::Answers(2, 6, "0b 00000002 28 29", "error 25"),
+    Act::Answers(2, 6, "0b 00000002 2b 28", "error 25"),
+    Act::Answers(2, 6, "0a 00000002 28 28", "error 25"),
+    Act::Answers(2, 6, "0c 00000002 28 28", "error 22"),
+    Act::Answers(2, 6, "0d 00000002 28 28", "error 21"),
+    Act::AnswersAs((2, 6), "0b 00000001 28", (2, 9), "error 103"),
+    Act::AnswersAs((2, 6), "0d 00000001 28", (2, 9), "error 21"),
 ];
 
 #[test]
 fn values_of_static_fields(rt: HostRuntime) -> Result<(), Fail> {
-    let machine = machine(rt.alloc(), CLASSES)?;
-    are_answered(&rt, rt.alloc(), &machine, &STATIC_FIELDS)?;
-    are_answered_as(&rt, rt.alloc(), &machine, &STATIC_FIELDS_AS)
+    goes_as_told(&rt, rt.alloc(), CLASSES, &STATIC_FIELDS)
 }
 
-static METHODS: [Asked; 9] = [
-    (6, 1, "0b 15", "0 9 [(0, 5), (3, 6)]"),
-    (6, 1, "0a 14", "error 101"),
-    (6, 1, "0b 14", "error 23"),
-    (6, 1, "0d 15", "error 21"),
-    (6, 2, "0b 15", "1 [(2, \"this\", \"LMain;\", 8, 0)]"),
-    (6, 2, "0a 14", "2 []"),
-    (6, 4, "0b 15", "false"),
-    (6, 4, "0c 15", "error 23"),
-    (6, 5, "0b 15", "1 [(2, \"this\", \"LMain;\", \"\", 8, 0)]"),
-];
-
-static METHODS_AS: [AskedAs; 2] = [
-    ((2, 1), "0b", (6, 1), "error 103"),
-    ((6, 1), "0b 15", (6, 3), "error 99"),
+static METHODS: [Act; 11] = [
+    Act::Answers(6, 1, "0b 15", "0 9 [(0, 5), (3, 6)]"),
+    Act::Answers(6, 1, "0a 14", "error 101"),
+    Act::Answers(6, 1, "0b 14", "error 23"),
+    Act::Answers(6, 1, "0d 15", "error 21"),
+    Act::Answers(6, 2, "0b 15", "1 [(2, \"this\", \"LMain;\", 8, 0)]"),
+    Act::Answers(6, 2, "0a 14", "2 []"),
+    Act::Answers(6, 4, "0b 15", "false"),
+    Act::Answers(6, 4, "0c 15", "error 23"),
+    Act::Answers(6, 5, "0b 15", "1 [(2, \"this\", \"LMain;\", \"\", 8, 0)]"),
+    Act::AnswersAs((2, 1), "0b", (6, 1), "error 103"),
+    Act::AnswersAs((6, 1), "0b 15", (6, 3), "error 99"),
 ];
 
 #[test]
 fn answers_of_methods(rt: HostRuntime) -> Result<(), Fail> {
-    let machine = machine(rt.alloc(), CLASSES)?;
-    are_answered(&rt, rt.alloc(), &machine, &METHODS)?;
-    are_answered_as(&rt, rt.alloc(), &machine, &METHODS_AS)
+    goes_as_told(&rt, rt.alloc(), CLASSES, &METHODS)
 }
 
 fn fault(alloc: Global, text: &str) -> Option<ScriptFault> {
@@ -748,19 +694,21 @@ fn fault_with(alloc: Global, old: &str, new: &str) -> Result<Option<ScriptFault>
     Ok(fault(alloc, text.as_str()))
 }
 
+/// What gives way in machine A, what comes for it, and the fault.
+static EDITS: [(&str, &str, ScriptFault); 3] = [
+    ("{\"id\":2,", "{\"id\":5,", ScriptFault::IdTwice),
+    ("[8,8,8,8,8]", "[0,8,8,8,8]", ScriptFault::IdTooWide),
+    ("[\"go\",3]", "[\"go\",10]", ScriptFault::BadReference),
+];
+
 #[test]
 fn texts_that_are_refused(rt: HostRuntime) -> Result<(), Fail> {
-    let alloc = rt.alloc();
     let name = ScriptFault::Missing(Member::Name);
-    for (text, wanted) in [("{", ScriptFault::NotJson), ("{}", name)] {
-        expect_same(&rt, &fault(alloc, text), &Some(wanted));
-    }
-    for (old, new, wanted) in [
-        row(("{\"id\":2,", "{\"id\":5,", ScriptFault::IdTwice)),
-        row(("[8,8,8,8,8]", "[0,8,8,8,8]", ScriptFault::IdTooWide)),
-        row(("[\"go\",3]", "[\"go\",10]", ScriptFault::BadReference)),
-    ] {
-        expect_same(&rt, &fault_with(alloc, old, new)?, &Some(wanted));
+    let not_json = ScriptFault::NotJson;
+    expect_same(&rt, &fault(rt.alloc(), "{"), &Some(not_json));
+    expect_same(&rt, &fault(rt.alloc(), "{}"), &Some(name));
+    for (old, new, wanted) in EDITS.iter() {
+        expect_same(&rt, &fault_with(rt.alloc(), old, new)?, &Some(*wanted));
     }
     Ok(())
 }

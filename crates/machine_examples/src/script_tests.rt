@@ -40,10 +40,7 @@ pub(crate) const MACHINE_B: &str = "{\"name\":\"B\",\"sizes\":[8,8,8,8,8],
 /// The script with `new` in place of the first `old`.
 pub(crate) fn edited(alloc: Global, script: &str, old: &str, new: &str) -> Result<String, Fail> {
     let (front, back) = script.split_once(old).ok_or("the text is not there")?;
-    let mut text = String::from_str(alloc, front)?;
-    text.push_str(new)?;
-    text.push_str(back)?;
-    Ok(text)
+    Ok(format!(in alloc; "{front}{new}{back}")?)
 }
 
 pub(crate) fn fault(alloc: Global, text: &str) -> Option<ScriptFault> {
@@ -516,15 +513,27 @@ static WIDE_IDS: [(&str, &str, &str, Option<ScriptFault>); 16] = [
 #[test]
 fn wide_ids_and_the_order_of_faults(rt: HostRuntime) -> Result<(), Fail> {
     for (sizes, old, new, wanted) in WIDE_IDS.iter() {
-        let text = edited(rt.alloc(), MACHINE_B, "[8,8,8,8,8]", sizes)?;
-        has_outcome(&rt, rt.alloc(), text.as_str(), old, new, wanted)?;
+        has_outcome_at(&rt, rt.alloc(), sizes, old, new, wanted)?;
     }
     Ok(())
 }
 
+/// The script with something of each kind has this outcome with these widths and this edit.
+fn has_outcome_at(
+    rt: &impl Abort,
+    alloc: Global,
+    sizes: &str,
+    old: &str,
+    new: &str,
+    wanted: &Option<ScriptFault>,
+) -> Result<(), Fail> {
+    let text = edited(alloc, MACHINE_B, "[8,8,8,8,8]", sizes)?;
+    has_outcome(rt, alloc, text.as_str(), old, new, wanted)
+}
+
 /// A step in words.
 fn step_words(step: &Step, text: &mut String) -> Result<(), Fail> {
-    match step {
+    let written = match step {
         Step::Call(call) => write!(
             text,
             "call {} {} {} {} {};",
@@ -533,14 +542,14 @@ fn step_words(step: &Step, text: &mut String) -> Result<(), Fail> {
             call.method.0,
             call.this.0,
             call.slots.len()
-        )?,
-        Step::Go(index) => write!(text, "go {index};")?,
-        Step::Return(value) => write!(text, "return {value:?};")?,
-        Step::Throw(throw) => write!(text, "throw {} {:?};", throw.object.0, throw.caught)?,
-        Step::Prepare(class) => write!(text, "prepare {};", class.0)?,
-        Step::Start(thread) => write!(text, "start {};", thread.0)?,
-    }
-    Ok(())
+        ),
+        Step::Go(index) => write!(text, "go {index};"),
+        Step::Return(value) => write!(text, "return {value:?};"),
+        Step::Throw(throw) => write!(text, "throw {} {:?};", throw.object.0, throw.caught),
+        Step::Prepare(class) => write!(text, "prepare {};", class.0),
+        Step::Start(thread) => write!(text, "start {};", thread.0),
+    };
+    Ok(written?)
 }
 
 /// A class in words, with its methods.

@@ -2,13 +2,9 @@
 ghost use Rattle.std.specs.Prelude.{◌≡◌, ◌≤◌, IfOk, IfSome, true};
 
 use crate::asserts::{expect_same, expect_same_for};
-use crate::sessions::MACHINE_A;
-use jdwp_debuggee::Settings;
+use crate::sessions::{MACHINE_A, Target, target};
 use jdwp_engine::{Ended, Streams, serve};
-use jdwp_script_machine::ScriptMachine;
-use jdwp_target::Target;
 use jdwp_value::ObjectId;
-use jdwp_wire::Limits;
 use std::alloc::Global;
 use std::fmt::Debug;
 use std::io;
@@ -135,14 +131,6 @@ fn writing(alloc: Global, most: usize, plan: Plan) -> Writer {
     }
 }
 
-fn closed_target(alloc: Global, start_all: bool) -> Result<Target<ScriptMachine>, Fail> {
-    let machine = ScriptMachine::read(alloc, MACHINE_A)?;
-    let Some(settings) = Settings::new(start_all, 65535, Limits::standard()) else {
-        return Err(Fail::from("the count limit is in range"));
-    };
-    Ok(Target::new(alloc, machine, settings)?)
-}
-
 /// A session that was served: how it ended, its reader and writer, and what it left of the target.
 #[derive(Drop)]
 struct AfterServing<'a, W> {
@@ -156,7 +144,7 @@ struct AfterServing<'a, W> {
 
 /// Serves one session.
 fn serve_on<'a, W: Write + Drop>(
-    target: &mut Target<ScriptMachine>,
+    target: &mut Target,
     reader: Reader<'a>,
     writer: W,
     rounds: u64,
@@ -182,7 +170,7 @@ fn served_on<'a, W: Write + Drop>(
     writer: W,
     rounds: u64,
 ) -> Result<AfterServing<'a, W>, Fail> {
-    let mut target = closed_target(alloc, start_all)?;
+    let mut target = target(alloc, MACHINE_A, start_all, 65535)?;
     Ok(serve_on(&mut target, reader, writer, rounds))
 }
 
@@ -216,39 +204,52 @@ fn is_served<N: Debug>(
     Ok(())
 }
 
-/// Serves the session on a target that is open already.
-fn served_while_open(alloc: Global) -> Result<AfterServing<'static, Writer>, Fail> {
-    let mut target = closed_target(alloc, false)?;
+/// Opens a target, and serves the session on it.
+fn serve_while_open(
+    alloc: Global,
+    target: &mut Target,
+) -> Result<AfterServing<'static, Writer>, Fail> {
     if !target.accept() {
         return Err(Fail::from("no session begins"));
     }
     let reader = reading(&SESSION, 66, UNDISTURBED);
-    Ok(serve_on(
-        &mut target,
-        reader,
-        writing(alloc, 5000, UNDISTURBED),
-        ROUNDS,
-    ))
+    let writer = writing(alloc, 5000, UNDISTURBED);
+    Ok(serve_on(target, reader, writer, ROUNDS))
+}
+
+/// Serves the session on a target that is open already.
+fn served_while_open(alloc: Global) -> Result<AfterServing<'static, Writer>, Fail> {
+    let mut target = target(alloc, MACHINE_A, false, 65535)?;
+    serve_while_open(alloc, &mut target)
 }
 
 /// Serves the handshake for so many rounds, and the whole session behind it for none.
+fn serve_twice(
+    alloc: Global,
+    target: &mut Target,
+    rounds: u64,
+) -> (AfterServing<'static, Writer>, AfterServing<'static, Writer>) {
+    let reader = reading(&SESSION[..14], 66, UNDISTURBED);
+    let writer = writing(alloc, 5000, UNDISTURBED);
+    let first = serve_on(target, reader, writer, rounds);
+    let reader = reading(&SESSION, 66, UNDISTURBED);
+    let writer = writing(alloc, 5000, UNDISTURBED);
+    (first, serve_on(target, reader, writer, 0))
+}
+
+/// The same of a new target.
 fn served_twice(
     alloc: Global,
     rounds: u64,
 ) -> Result<(AfterServing<'static, Writer>, AfterServing<'static, Writer>), Fail> {
-    let mut target = closed_target(alloc, false)?;
-    let reader = reading(&SESSION[..14], 66, UNDISTURBED);
-    let writer = writing(alloc, 5000, UNDISTURBED);
-    let first = serve_on(&mut target, reader, writer, rounds);
-    let reader = reading(&SESSION, 66, UNDISTURBED);
-    let writer = writing(alloc, 5000, UNDISTURBED);
-    Ok((first, serve_on(&mut target, reader, writer, 0)))
+    let mut target = target(alloc, MACHINE_A, false, 65535)?;
+    Ok(serve_twice(alloc, &mut target, rounds))
 }
 
 const ROUNDS: u64 = 1000;
 
 /// The handshake, IDSizes with id 1, Suspend with id 2, SuspendCount of thread 1 with id 3, Dispose with id 4.
-const SESSION: [u8; 66] = [
+static SESSION: [u8; 66] = [
     0x4a, 0x44, 0x57, 0x50, 0x2d, 0x48, 0x61, 0x6e, 0x64, 0x73, 0x68, 0x61, 0x6b, 0x65, //
     0x00, 0x00, 0x00, 0x0b, 0x00, 0x00, 0x00, 0x01, 0x00, 0x01, 0x07, //
     0x00, 0x00, 0x00, 0x0b, 0x00, 0x00, 0x00, 0x02, 0x00, 0x01, 0x08, //
@@ -258,7 +259,7 @@ const SESSION: [u8; 66] = [
 ];
 
 /// What a target that starts no thread suspended answers to it.
-const ANSWERS: [u8; 111] = [
+static ANSWERS: [u8; 111] = [
     0x4a, 0x44, 0x57, 0x50, 0x2d, 0x48, 0x61, 0x6e, 0x64, 0x73, 0x68, 0x61, 0x6b, 0x65, //
     0x00, 0x00, 0x00, 0x1d, 0x00, 0x00, 0x00, 0x01, 0x00, 0x40, 0x64, 0x00, 0x00, 0x00, 0x00, 0x01,
     0x5a, 0x00, 0x00, 0x00, 0x00, 0x00, 0x00, 0x00, 0x00, 0x00, 0x00, 0x00, 0x01, //
@@ -270,7 +271,7 @@ const ANSWERS: [u8; 111] = [
 ];
 
 /// What a target that starts every thread suspended answers to it.
-const ANSWERS_SUSPENDED: [u8; 111] = [
+static ANSWERS_SUSPENDED: [u8; 111] = [
     0x4a, 0x44, 0x57, 0x50, 0x2d, 0x48, 0x61, 0x6e, 0x64, 0x73, 0x68, 0x61, 0x6b, 0x65, //
     0x00, 0x00, 0x00, 0x1d, 0x00, 0x00, 0x00, 0x01, 0x00, 0x40, 0x64, 0x02, 0x00, 0x00, 0x00, 0x01,
     0x5a, 0x00, 0x00, 0x00, 0x00, 0x00, 0x00, 0x00, 0x00, 0x00, 0x00, 0x00, 0x01, //
@@ -281,37 +282,48 @@ const ANSWERS_SUSPENDED: [u8; 111] = [
     0x00, 0x00, 0x00, 0x0b, 0x00, 0x00, 0x00, 0x04, 0x80, 0x00, 0x00, //
 ];
 
+/// Whether every thread starts suspended, and how many bytes a call moves at most.
+static CUTS: [(bool, usize); 7] = [
+    (true, 1),
+    (true, 2),
+    (true, 13),
+    (true, 66),
+    (true, 5000),
+    (false, 66),
+    (false, 5000),
+];
+
+/// What a target answers to the session, where every thread starts suspended or none does.
+fn answers_of(start_all: bool) -> &'static [u8] {
+    if start_all {
+        &ANSWERS_SUSPENDED
+    } else {
+        &ANSWERS
+    }
+}
+
 /// A target that starts every thread suspended answers however the session is cut. Where none is suspended the threads step once all
 /// that was read is handled, and so the session is read whole.
 #[test]
 fn a_session_is_answered(rt: HostRuntime) -> Result<(), Fail> {
-    let rows: [(bool, usize, &[u8]); 7] = [
-        (true, 1, &ANSWERS_SUSPENDED),
-        (true, 2, &ANSWERS_SUSPENDED),
-        (true, 13, &ANSWERS_SUSPENDED),
-        (true, 66, &ANSWERS_SUSPENDED),
-        (true, 5000, &ANSWERS_SUSPENDED),
-        (false, 66, &ANSWERS),
-        (false, 5000, &ANSWERS),
-    ];
-    for (start_all, most, answers) in rows {
+    for (start_all, most) in CUTS.iter() {
         is_served(
             &rt,
             rt.alloc(),
-            start_all,
-            reading(&SESSION, most, UNDISTURBED),
-            writing(rt.alloc(), most, UNDISTURBED),
+            *start_all,
+            reading(&SESSION, *most, UNDISTURBED),
+            writing(rt.alloc(), *most, UNDISTURBED),
             ROUNDS,
             Ended::Done,
-            answers,
-            &most,
+            answers_of(*start_all),
+            most,
         )?;
     }
     Ok(())
 }
 
 /// How many bytes are written once so many of the session's were read.
-fn written_after(read: usize) -> usize
+fn written_after(read: u32) -> usize
     ensures { result ≤ 111 }
 {
     if read < 14 {
@@ -331,7 +343,7 @@ fn written_after(read: usize) -> usize
 
 /// The session where this comes at a call of the reader, which gives one byte a call.
 fn is_read_until(rt: &impl Abort, alloc: Global, call: u32, event: Event) -> Result<(), Fail> {
-    let written = written_after(usize::try_from(call)?.saturating_sub(1));
+    let written = written_after(call.saturating_sub(1));
     let want = if call < 67 {
         Ended::LostByRead
     } else {
@@ -385,18 +397,14 @@ fn is_written_until(
     )
 }
 
+/// Calls of the writer, and how many bytes are written before each.
+static WRITES: [(u32, usize); 6] = [(1, 0), (2, 43), (3, 74), (4, 85), (5, 100), (6, 111)];
+
 #[test]
 fn each_write_may_fail(rt: HostRuntime) -> Result<(), Fail> {
-    for (call, written) in [
-        (1u32, 0usize),
-        (2, 43),
-        (3, 74),
-        (4, 85),
-        (5, 100),
-        (6, 111),
-    ] {
-        is_written_until(&rt, rt.alloc(), call, Event::Fails, written)?;
-        is_written_until(&rt, rt.alloc(), call, Event::Stops, written)?;
+    for (call, written) in WRITES.iter() {
+        is_written_until(&rt, rt.alloc(), *call, Event::Fails, *written)?;
+        is_written_until(&rt, rt.alloc(), *call, Event::Stops, *written)?;
     }
     Ok(())
 }
@@ -481,12 +489,28 @@ fn leaves(
     calls: u32,
 ) -> Result<(), Fail> {
     let writer = BufWriter::new(alloc, writing(alloc, 5000, UNDISTURBED))?;
-    let session = served_on(alloc, start_all, reader, writer, ROUNDS)?;
+    has_left(
+        rt,
+        &served_on(alloc, start_all, reader, writer, ROUNDS)?,
+        want,
+        answers,
+        calls,
+    );
+    Ok(())
+}
+
+/// The session ended so, and these bytes left the writer in so many calls.
+fn has_left(
+    rt: &impl Abort,
+    session: &AfterServing<'_, BufWriter<Writer>>,
+    want: Ended,
+    answers: &[u8],
+    calls: u32,
+) {
     expect_same_for(rt, &session.ended, &want, &calls);
     let writer = session.writer.get_ref();
     expect_same_for(rt, &writer.bytes.as_slice(), &answers, &calls);
     expect_same(rt, &writer.calls, &calls);
-    Ok(())
 }
 
 /// How many writes leave before the reader's call of this number.
@@ -509,7 +533,7 @@ fn writes_before(call: u32) -> u32 {
 fn answers_leave_before_a_read(rt: HostRuntime) -> Result<(), Fail> {
     for call in 1u32..67 {
         let event = Event::Fails;
-        let written = written_after(usize::try_from(call)?.saturating_sub(1));
+        let written = written_after(call.saturating_sub(1));
         leaves(
             &rt,
             rt.alloc(),
@@ -596,15 +620,17 @@ fn an_open_target_is_refused(rt: HostRuntime) -> Result<(), Fail> {
     Ok(())
 }
 
+/// What is read, the number of its fault, and how many bytes are written before.
+static NO_MESSAGES: [(&[u8], u16, usize); 4] = [
+    (b"JDWP-HandshakE", 4, 0),
+    (b"JDWP-Handshake\x00\x00\x00\x0a", 1, 43),
+    (b"JDWP-Handshake\x00\x01\x00\x01", 2, 43),
+    (b"JDWP-Handshake\x00\x00\x00\x0b\x00\x00\x00\x01\x01", 3, 43),
+];
+
 #[test]
 fn bytes_that_begin_no_message_are_refused(rt: HostRuntime) -> Result<(), Fail> {
-    let sessions: [(&[u8], u16, usize); 4] = [
-        (b"JDWP-HandshakE", 4, 0),
-        (b"JDWP-Handshake\x00\x00\x00\x0a", 1, 43),
-        (b"JDWP-Handshake\x00\x01\x00\x01", 2, 43),
-        (b"JDWP-Handshake\x00\x00\x00\x0b\x00\x00\x00\x01\x01", 3, 43),
-    ];
-    for (input, number, written) in sessions {
+    for (input, number, written) in NO_MESSAGES.iter() {
         is_served(
             &rt,
             rt.alloc(),
@@ -612,9 +638,9 @@ fn bytes_that_begin_no_message_are_refused(rt: HostRuntime) -> Result<(), Fail> 
             reading(input, 5000, UNDISTURBED),
             writing(rt.alloc(), 5000, UNDISTURBED),
             ROUNDS,
-            Ended::Refused(number),
-            &ANSWERS[..written],
-            &number,
+            Ended::Refused(*number),
+            &ANSWERS[..(*written).min(111)],
+            number,
         )?;
     }
     Ok(())
@@ -661,33 +687,31 @@ fn an_empty_input_is_lost(rt: HostRuntime) -> Result<(), Fail> {
     )
 }
 
+/// The rounds, how the session ends behind them, and how many bytes are written.
+static ROUND_LIMITS: [(u64, Ended, usize); 7] = [
+    (0, Ended::TurnLimit, 0),
+    (1, Ended::TurnLimit, 0),
+    (2, Ended::TurnLimit, 43),
+    (3, Ended::TurnLimit, 74),
+    (4, Ended::TurnLimit, 85),
+    (5, Ended::TurnLimit, 100),
+    (6, Ended::Done, 111),
+];
+
 /// One read and five turns take six rounds.
 #[test]
 fn rounds_are_counted(rt: HostRuntime) -> Result<(), Fail> {
-    for (rounds, written) in [
-        (0u64, 0usize),
-        (1, 0),
-        (2, 43),
-        (3, 74),
-        (4, 85),
-        (5, 100),
-        (6, 111),
-    ] {
-        let want = if rounds < 6 {
-            Ended::TurnLimit
-        } else {
-            Ended::Done
-        };
+    for (rounds, want, written) in ROUND_LIMITS.iter() {
         is_served(
             &rt,
             rt.alloc(),
             false,
             reading(&SESSION, 66, UNDISTURBED),
             writing(rt.alloc(), 5000, UNDISTURBED),
+            *rounds,
+            *want,
+            &ANSWERS[..(*written).min(111)],
             rounds,
-            want,
-            &ANSWERS[..written],
-            &rounds,
         )?;
     }
     Ok(())

@@ -1,7 +1,6 @@
 //! Event requests at a target over machine scripts: which are refused, and what is sent for those that stand.
-use crate::sessions::{Act, HANDSHAKE, MACHINE_A, Target, comes, goes_as_told, ready};
+use crate::sessions::{Act, HANDSHAKE, MACHINE_A, goes_as_told};
 use jdwp_target::Stepped;
-use std::alloc::Global;
 use std::test::Fail;
 
 /// A machine whose thread 1 enters a method, throws an exception that is caught and one that is not, prepares a class, starts thread 2
@@ -657,22 +656,8 @@ fn a_reported_death_outlasts_a_loss(rt: HostRuntime) -> Result<(), Fail> {
     )
 }
 
-/// Whether each act comes as it is to, behind 64 requests that are granted.
-fn grants_up_to_the_limit(alloc: Global, target: &mut Target, acts: &[Act]) -> Result<bool, Fail> {
-    for id in 1..65u32 {
-        if !comes(alloc, target, &Act::Grants("28 00 00000000", id))? {
-            return Ok(false);
-        }
-    }
-    for act in acts {
-        if !comes(alloc, target, act)? {
-            return Ok(false);
-        }
-    }
-    Ok(true)
-}
-
-static BEHIND_THE_LIMIT: [Act; 9] = [
+static REQUESTS_UP_TO_THE_LIMIT: [Act; 10] = [
+    Act::GrantsSoMany("28 00 00000000", 64),
     Act::Requests(64),
     Act::Refuses("28 00 00000000", 113),
     Act::Refuses("28 03 00000000", 103),
@@ -690,7 +675,5 @@ static BEHIND_THE_LIMIT: [Act; 9] = [
 /// The 65th request is refused, and so is one that is wrong besides; a place that was cleared is free again, and no id is used twice.
 #[test]
 fn requests_up_to_the_limit(rt: HostRuntime) -> Result<(), Fail> {
-    let mut target = ready(rt.alloc(), MACHINE_A, 65535)?;
-    assert!(rt; grants_up_to_the_limit(rt.alloc(), &mut target, &BEHIND_THE_LIMIT)?);
-    Ok(())
+    goes_as_told(&rt, rt.alloc(), MACHINE_A, 65535, &REQUESTS_UP_TO_THE_LIMIT)
 }

@@ -1,21 +1,57 @@
 //! Sessions of a target over machine scripts, byte for byte.
+use crate::asserts::expect_same;
 use crate::sessions::{
-    Act, HANDSHAKE, MACHINE_A, Target, WITH_A_SLOT, bytes, goes_as_told, ready, sends, target,
+    Act, GREETING, HANDSHAKE, MACHINE_A, Target, WITH_A_SLOT, bytes, goes_as_told, greet, sends,
+    target,
 };
 use jdwp_target::{Stepped, TargetFault, Turn};
 use jdwp_value::ObjectId;
 use jdwp_wire::{ErrorCode, FrameFault};
 use std::alloc::Global;
+use std::process::Abort;
 use std::test::Fail;
 
-/// The handshake, and VM_START behind it.
-const GREETING: &str =
-    "4a4457502d48616e647368616b65 0000001d 00000001 00 40 64 00 00000001 5a 00000000 0000000000000001";
+/// What is tried of a target from its beginning on.
+#[derive(Clone, Copy)]
+enum Trial {
+    /// It begins one session, whose handshake comes byte by byte.
+    GreetsByteByByte,
+    /// All threads begin suspended.
+    BeginsSuspended,
+    /// It is given nothing, and more than it has room for.
+    TakesNothingAndTooMuch,
+    /// More waits to leave than a packet has.
+    Pauses,
+    /// A packet of the greatest length comes.
+    TakesTheGreatestLength,
+}
 
-/// Whether the handshake is answered once its last byte came, and followed by VM_START.
+/// Whether it goes as it is to.
+fn goes(alloc: Global, target: &mut Target, trial: Trial) -> Result<bool, Fail> {
+    match trial {
+        Trial::GreetsByteByByte => greets_byte_by_byte(alloc, target),
+        Trial::BeginsSuspended => begins_suspended(target),
+        Trial::TakesNothingAndTooMuch => takes_nothing_and_too_much(alloc, target),
+        Trial::Pauses => pauses(alloc, target),
+        Trial::TakesTheGreatestLength => takes_the_greatest_length(alloc, target),
+    }
+}
+
+/// The same of a target of machine A.
+fn goes_with_a(alloc: Global, start_all: bool, trial: Trial) -> Result<bool, Fail> {
+    let mut target = target(alloc, MACHINE_A, start_all, 65535)?;
+    goes(alloc, &mut target, trial)
+}
+
+fn goes_well(rt: &impl Abort, alloc: Global, start_all: bool, trial: Trial) -> Result<(), Fail> {
+    expect_same(rt, &goes_with_a(alloc, start_all, trial)?, &true);
+    Ok(())
+}
+
+/// Whether the handshake is answered once its last byte came, and followed by VM_START; no second session begins.
 fn greets_byte_by_byte(alloc: Global, target: &mut Target) -> Result<bool, Fail> {
-    let handshake = bytes(alloc, HANDSHAKE)?;
-    if !answers_the_last(target, &handshake) || target.waiting() != 43 {
+    let begins = !target.is_open() && target.accept() && !target.accept();
+    if !begins || !answers_the_last(target, b"JDWP-Handshake") || target.waiting() != 43 {
         return Ok(false);
     }
     sends(alloc, target, GREETING)
@@ -38,17 +74,13 @@ fn answers_the_last(target: &mut Target, bytes: &[u8]) -> bool {
 
 #[test]
 fn handshake_byte_by_byte(rt: HostRuntime) -> Result<(), Fail> {
-    let alloc = rt.alloc();
-    let mut target = target(alloc, MACHINE_A, false, 65535)?;
-    let begins = !target.is_open() && target.accept() && !target.accept();
-    assert!(rt; begins && greets_byte_by_byte(alloc, &mut target)?);
-    Ok(())
+    goes_well(&rt, rt.alloc(), false, Trial::GreetsByteByByte)
 }
 
 /// Whether both threads are suspended once behind the handshake, and none steps.
-fn begins_suspended(alloc: Global, target: &mut Target) -> Result<bool, Fail> {
+fn begins_suspended(target: &mut Target) -> Result<bool, Fail> {
     target.accept();
-    target.feed(&bytes(alloc, HANDSHAKE)?);
+    target.feed(b"JDWP-Handshake");
     Ok(
         target.turn() == Ok(Turn::Hello)
             && target.count(ObjectId(1)) == Some(1)
@@ -60,9 +92,7 @@ fn begins_suspended(alloc: Global, target: &mut Target) -> Result<bool, Fail> {
 
 #[test]
 fn all_begin_suspended(rt: HostRuntime) -> Result<(), Fail> {
-    let mut target = target(rt.alloc(), MACHINE_A, true, 65535)?;
-    assert!(rt; begins_suspended(rt.alloc(), &mut target)?);
-    Ok(())
+    goes_well(&rt, rt.alloc(), true, Trial::BeginsSuspended)
 }
 
 static SHORT_COMMANDS: [Act; 12] = [
@@ -535,30 +565,29 @@ fn the_last_end_is_the_machines(rt: HostRuntime) -> Result<(), Fail> {
 }
 
 /// Whether no byte is taken and given for none, and 65,536 fit.
-fn takes_nothing_and_too_much(target: &mut Target) -> bool {
+fn takes_nothing_and_too_much(alloc: Global, target: &mut Target) -> Result<bool, Fail> {
+    greet(alloc, target)?;
     if target.feed(&[]) != 0 || target.turn() != Ok(Turn::Nothing) || target.take(&mut []) != 0 {
-        return false;
+        return Ok(false);
     }
     let block = [0; 4096];
     for _ in 0..16u32 {
         if target.feed(&block) != 4096 {
-            return false;
+            return Ok(false);
         }
     }
-    target.room() == 0 && target.feed(&[0]) == 0
+    Ok(target.room() == 0 && target.feed(&[0]) == 0)
 }
 
 #[test]
 fn nothing_and_too_much(rt: HostRuntime) -> Result<(), Fail> {
-    let mut target = ready(rt.alloc(), MACHINE_A, 65535)?;
-    assert!(rt; takes_nothing_and_too_much(&mut target));
-    Ok(())
+    goes_well(&rt, rt.alloc(), false, Trial::TakesNothingAndTooMuch)
 }
 
 /// Whether nothing is handled and no thread steps once 65,536 bytes and more wait to leave, and both go on where fewer do.
 fn pauses(alloc: Global, target: &mut Target) -> Result<bool, Fail> {
     target.accept();
-    target.feed(&bytes(alloc, HANDSHAKE)?);
+    target.feed(b"JDWP-Handshake");
     let greets = target.turn() == Ok(Turn::Hello);
     let count = bytes(alloc, "00000013 00000003 00 0b 0c 0000000000000001")?;
     Ok(greets && answers_each(target, &count) && waits_for_room(target))
@@ -588,13 +617,12 @@ fn waits_for_room(target: &mut Target) -> bool {
 
 #[test]
 fn pauses_where_a_packet_waits(rt: HostRuntime) -> Result<(), Fail> {
-    let mut target = target(rt.alloc(), MACHINE_A, false, 65535)?;
-    assert!(rt; pauses(rt.alloc(), &mut target)?);
-    Ok(())
+    goes_well(&rt, rt.alloc(), false, Trial::Pauses)
 }
 
 /// Whether a packet of 65,536 bytes is answered, and a length of one more refused.
 fn takes_the_greatest_length(alloc: Global, target: &mut Target) -> Result<bool, Fail> {
+    greet(alloc, target)?;
     let fits = target.feed(&greatest(alloc)?) == 65536
         && target.turn() == Ok(Turn::Replied(2, ErrorCode::NONE));
     let answers = sends(alloc, target, "0000000f 00000002 80 0000 00000000")?;
@@ -613,7 +641,5 @@ fn greatest(alloc: Global) -> Result<Vec<u8>, Fail> {
 
 #[test]
 fn a_packet_of_the_greatest_length(rt: HostRuntime) -> Result<(), Fail> {
-    let mut target = ready(rt.alloc(), MACHINE_A, 65535)?;
-    assert!(rt; takes_the_greatest_length(rt.alloc(), &mut target)?);
-    Ok(())
+    goes_well(&rt, rt.alloc(), false, Trial::TakesTheGreatestLength)
 }

@@ -15,7 +15,7 @@ pub(crate) type Target = jdwp_target::Target<ScriptMachine>;
 pub(crate) const HANDSHAKE: &str = "4a4457502d48616e647368616b65";
 
 /// The handshake, and VM_START behind it.
-const GREETING: &str =
+pub(crate) const GREETING: &str =
     "4a4457502d48616e647368616b65 0000001d 00000001 00 40 64 00 00000001 5a 00000000 0000000000000001";
 
 /// A machine of two threads, of which the first calls a method, moves in it and returns.
@@ -99,17 +99,10 @@ pub(crate) fn target(
     }
 }
 
-/// The same, none of whose threads begins suspended, with the handshake done and its answer taken.
-pub(crate) fn ready(alloc: Global, script: &str, count_limit: u32) -> Result<Target, Fail> {
-    let mut target = target(alloc, script, false, count_limit)?;
-    greet(alloc, &mut target)?;
-    Ok(target)
-}
-
 /// Begins a session: the handshake, whose answer is taken.
-fn greet(alloc: Global, target: &mut Target) -> Result<(), Fail> {
+pub(crate) fn greet(alloc: Global, target: &mut Target) -> Result<(), Fail> {
     target.accept();
-    target.feed(&bytes(alloc, HANDSHAKE)?);
+    target.feed(b"JDWP-Handshake");
     if target.turn() != Ok(Turn::Hello) {
         return Err(Fail::from("no handshake"));
     }
@@ -126,6 +119,8 @@ pub(crate) enum Act {
     Refuses(&'static str, u16),
     /// EventRequest.Set with these data is answered with this request id.
     Grants(&'static str, u32),
+    /// The same so many times, with the request ids from 1 on.
+    GrantsSoMany(&'static str, u32),
     /// A thread is stepped so many times; each step tells this, and all send these bytes.
     Steps(u64, u32, Stepped, &'static str),
     /// It is sent bytes that begin no message.
@@ -148,21 +143,13 @@ pub(crate) enum Act {
 pub(crate) fn comes(alloc: Global, target: &mut Target, act: &Act) -> Result<bool, Fail> {
     match act {
         Act::Says(input, output) => says(alloc, target, input, output),
-        Act::Refuses(data, error) => {
-            sets(alloc, target, data)?;
-            is_sent(alloc, target, &refusal(alloc, *error)?)
-        }
-        Act::Grants(data, id) => {
-            sets(alloc, target, data)?;
-            is_sent(alloc, target, &grant(alloc, *id)?)
-        }
+        Act::Refuses(data, error) => refuses(alloc, target, data, *error),
+        Act::Grants(data, id) => grants(alloc, target, data, *id),
+        Act::GrantsSoMany(data, count) => grants_so_many(alloc, target, data, *count),
         Act::Steps(thread, times, told, output) => steps(
             alloc, target, *thread, *times, *told, output,
         ),
-        Act::Fails(input, fault) => {
-            target.feed(&bytes(alloc, input)?);
-            Ok(target.turn() == Err(TargetFault::Frame(*fault)))
-        }
+        Act::Fails(input, fault) => fails(alloc, target, input, *fault),
         Act::Counts(first, second) => {
             Ok(target.count(ObjectId(1)) == *first && target.count(ObjectId(2)) == *second)
         }
@@ -199,18 +186,42 @@ fn sets(alloc: Global, target: &mut Target, data: &str) -> Result<(), Fail> {
     Ok(())
 }
 
-/// The reply to the command 2 that refuses it with this error code.
-fn refusal(alloc: Global, error: u16) -> Result<Vec<u8>, Fail> {
-    let mut reply = bytes(alloc, "0000000b 00000002 80")?;
-    reply.extend_from_slice(&error.to_be_bytes())?;
-    Ok(reply)
+/// Whether EventRequest.Set with these data is refused with this error code.
+fn refuses(alloc: Global, target: &mut Target, data: &str, error: u16) -> Result<bool, Fail> {
+    sets(alloc, target, data)?;
+    let [high, low] = error.to_be_bytes();
+    is_sent(alloc, target, &[0, 0, 0, 11, 0, 0, 0, 2, 0x80, high, low])
 }
 
-/// The reply to the command 2 that says this request id.
-fn grant(alloc: Global, id: u32) -> Result<Vec<u8>, Fail> {
-    let mut reply = bytes(alloc, "0000000f 00000002 80 0000")?;
-    reply.extend_from_slice(&id.to_be_bytes())?;
-    Ok(reply)
+/// Whether it is answered with this request id.
+fn grants(alloc: Global, target: &mut Target, data: &str, id: u32) -> Result<bool, Fail> {
+    sets(alloc, target, data)?;
+    let [first, second, third, last] = id.to_be_bytes();
+    let reply = [
+        0, 0, 0, 15, 0, 0, 0, 2, 0x80, 0, 0, first, second, third, last,
+    ];
+    is_sent(alloc, target, &reply)
+}
+
+/// Whether it is answered so many times with the next request id, from 1 on.
+fn grants_so_many(
+    alloc: Global,
+    target: &mut Target,
+    data: &str,
+    count: u32,
+) -> Result<bool, Fail> {
+    for before in 0..count {
+        if !grants(alloc, target, data, before.saturating_add(1))? {
+            return Ok(false);
+        }
+    }
+    Ok(true)
+}
+
+/// Whether these bytes, which begin no message, are this fault.
+fn fails(alloc: Global, target: &mut Target, input: &str, fault: FrameFault) -> Result<bool, Fail> {
+    target.feed(&bytes(alloc, input)?);
+    Ok(target.turn() == Err(TargetFault::Frame(fault)))
 }
 
 fn steps(
@@ -241,12 +252,24 @@ fn is_sent(alloc: Global, target: &mut Target, output: &[u8]) -> Result<bool, Fa
 
 /// The place, from 0, of the first act of which something else comes; None where all is as it is to be.
 fn first_wrong(alloc: Global, target: &mut Target, acts: &[Act]) -> Result<Option<usize>, Fail> {
+    greet(alloc, target)?;
     for (place, act) in acts.iter().enumerate() {
         if !comes(alloc, target, act)? {
             return Ok(Some(place));
         }
     }
     Ok(None)
+}
+
+/// The same of a target over this script.
+fn first_wrong_of(
+    alloc: Global,
+    script: &str,
+    count_limit: u32,
+    acts: &[Act],
+) -> Result<Option<usize>, Fail> {
+    let mut target = target(alloc, script, false, count_limit)?;
+    first_wrong(alloc, &mut target, acts)
 }
 
 /// Of each act of a session comes what it says. The session begins with the handshake done and its answer taken, and no thread is
@@ -258,7 +281,10 @@ pub(crate) fn goes_as_told(
     count_limit: u32,
     acts: &[Act],
 ) -> Result<(), Fail> {
-    let mut target = ready(alloc, script, count_limit)?;
-    expect_same(rt, &first_wrong(alloc, &mut target, acts)?, &None);
+    expect_same(
+        rt,
+        &first_wrong_of(alloc, script, count_limit, acts)?,
+        &None,
+    );
     Ok(())
 }
