@@ -1,5 +1,5 @@
 -- Data of items that break no rule read by the layouts of their commands.
-use Rattle.std.proofs.Common.{◌≡◌, ℕ, Bool, true, cond, eqb, List, Option, Some, None, option_map, Result, Ok, Err, refl, sym, ap, ◌∙◌, inl, inr, arith}
+use Rattle.std.proofs.Common.{◌≡◌, ◌==◌, if◌then◌else◌, ℕ, Bool, true, cond, eqb, List, Option, Some, None, option_map, Result, Ok, Err, refl, sym, ap, ◌∙◌, inl, inr, arith}
 use Rattle.std.specs.Option.{option_or}
 use Rattle.std.proofs.lemmas.Bool.{cases_Bool}
 use Rattle.std.proofs.lemmas.Bool.Decides.{nat_tests}
@@ -87,9 +87,17 @@ by_target w command Debugger header body error h is =
     cc
 by_target w command Target header body error h is = ap (λ (k : PacketKind). packet_data_fault w (Some command) Target k body) (sym is) ∙ second_none _ _ h.none_broken
 
-pub reply_sound : (w : Option Widths) (command : Command) (sender : Sender) (header : Header) (body : List ℕ) (error : ErrorCode) → Holds w (Some command) sender (Sent (Packet header body)) → header.kind ≡ kind.Reply error → eqb error.0 0 ≡ true
+reply_sound : (w : Option Widths) (command : Command) (sender : Sender) (header : Header) (body : List ℕ) (error : ErrorCode) → Holds w (Some command) sender (Sent (Packet header body)) → header.kind ≡ kind.Reply error → eqb error.0 0 ≡ true
     → body_fault w (reply_in (shapes_of command)) body ≡ None
 reply_sound w command sender header body error h is no_error =
     let none = by_target w command sender header body error h is in
     let e : option_map (λ f. BadData f) (reply_fault w (Some command) body) ≡ None = rw no_error at none in
     answer_sound w command body (unmapped _ e)
+
+-- the same for any error code: with an error there is no layout
+pub reply_sound_by : (w : Option Widths) (command : Command) (sender : Sender) (header : Header) (body : List ℕ) (error : ErrorCode) → Holds w (Some command) sender (Sent (Packet header body)) → header.kind ≡ kind.Reply error
+    → body_fault w (if error.0 == 0 then reply_in (shapes_of command) else None) body ≡ None
+reply_sound_by w command sender header body error h is = elim (cases_Bool (eqb error.0 0)) [
+  | inl without ↦ rw without (reply_sound w command sender header body error h is without)
+  | inr other ↦ rw other refl
+]

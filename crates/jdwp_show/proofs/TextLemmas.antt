@@ -1,6 +1,7 @@
 -- Text that grows by one thing at a time.
-use Rattle.std.proofs.Common.{◌≡◌, ℕ, suc, ◌+◌, ◌<◌, ◌≤◌, false, eqb, List, [], ◌∷◌, ◌++◌, length, take, get_or, map, Result, Ok, Err, is_ok, OnOk, cond, refl, sym, ap, ◌∙◌, append_assoc, append-nil, codes, arith}
+use Rattle.std.proofs.Common.{◌≡◌, String, Global, ℕ, suc, ◌+◌, ◌<◌, ◌≤◌, false, eqb, List, [], ◌∷◌, ◌++◌, length, take, get_or, map, true, true≢false, refl, sym, ap, ◌∙◌, append_assoc, append-nil, codes, arith}
 use Rattle.std.specs.List.{flat_map}
+use Rattle.std.specs.String.{string_bytes}
 use Rattle.std.proofs.lemmas.Bool.{ne_eqb}
 use Rattle.std.proofs.lemmas.List.{take_more, length-take, take_all, map-append}
 use Rattle.std.proofs.lemmas.List.Concat.{flat_map-append}
@@ -9,7 +10,9 @@ use Rattle.hex.specs.Hex.{encode_lower}
 use Rattle.std.specs.Str.{chars}
 use Rattle.jdwp_layout.specs.declared.datum.Datum.{Datum}
 use Rattle.jdwp_layout.specs.Meanings.{DatumMeaning, datum_meaning, meanings}
+use Rattle.jdwp_show.specs.declared.text.Text.{Text}
 use Rattle.jdwp_show.specs.DataText.{listed, separator, quoted, string_text, datum_text, data_text, raw_text}
+use Rattle.jdwp_show.specs.Telling.{Grows}
 
 abbrev later : {A : Type 0} → (A → List ℕ) → A → List ℕ
 later text y = codes ", " ++ text y
@@ -35,51 +38,74 @@ pub listed-map : {A B : Type 0} (text : B → List ℕ) (view : A → B) (xs : L
 listed-map text view [] = refl
 listed-map text view (x ∷ xs) = ap (λ l. text (view x) ++ l) (flat_map-map (later text) view xs)
 
--- two pieces were written behind what was
-pub grown : (start before after separator piece written parted whole : List ℕ) → after ≡ before ++ (separator ++ piece) → written ≡ start ++ before → parted ≡ written ++ separator → whole ≡ parted ++ piece → whole ≡ start ++ after
-grown start before after separator piece written parted whole a p q r = rw (r, q, p, a) (simp append_assoc)
+-- ---- text that grows
 
--- all things of a list were written
-pub listed_end : {A B : Type 0} (text : B → List ℕ) (view : A → B) (xs : List A) (i : ℕ) (start whole : List ℕ) → length xs ≤ i → whole ≡ start ++ listed (λ x. text (view x)) (take i xs) → whole ≡ start ++ listed text (map view xs)
-listed_end text view xs i start whole past is =
-    is ∙ ap (λ (l : List ℕ). start ++ l) (ap (λ l. listed (λ x. text (view x)) l) (take_all i xs past) ∙ sym (listed-map text view xs))
+pub grows_none : (text : Text) → Grows text [] text
+grows_none text = record { whole = λ h. h; bytes = λ h. sym (append-nil (string_bytes text.string)) }
+
+pub joined : {old now new : Text} {front back : List ℕ} → Grows old front now → Grows now back new → Grows old (front ++ back) new
+joined {old = old} {front = front} {back = back} first second = record {
+  whole = λ h. first.whole (second.whole h);
+  bytes = λ h. second.bytes h ∙ ap (λ (l : List ℕ). l ++ back) (first.bytes (second.whole h)) ∙ append_assoc (string_bytes old.string) front back;
+}
+
+pub grows_as : {old new : Text} {more other : List ℕ} → more ≡ other → Grows old more new → Grows old other new
+grows_as same h = rw (← same) h
+
+-- after a refusal nothing is said
+pub grows_refused : {old new : Text} (more : List ℕ) → new.refused ≡ true → Grows old more new
+grows_refused more refused = record { whole = λ h. absurd (true≢false (sym refused ∙ h)); bytes = λ h. absurd (true≢false (sym refused ∙ h)) }
+
+-- a piece, and then two at once
+pub joined_two : {old now new : Text} {front : List ℕ} (middle back : List ℕ) → Grows old front now → Grows now (middle ++ back) new → Grows old (front ++ middle ++ back) new
+joined_two {front = front} middle back first second = grows_as (sym (append_assoc front middle back)) (joined first second)
+
+-- appended to nothing, it is all of the text
+pub all_grown : {old new : Text} {more : List ℕ} (whole : String Global) → string_bytes old.string ≡ [] → Grows old more new → new.refused ≡ false → whole ≡ new.string → string_bytes whole ≡ more
+all_grown {more = more} whole empty h none is = ap (λ (s : String Global). string_bytes s) is ∙ h.bytes none ∙ ap (λ (l : List ℕ). l ++ more) empty
+
+-- two pieces more
+pub grown : {start now parted whole : Text} {before after separator piece : List ℕ} → after ≡ before ++ (separator ++ piece) → Grows start before now → Grows now separator parted → Grows parted piece whole → Grows start after whole
+grown law first part one = grows_as (sym law) (joined first (joined part one))
+
+-- all things of a list
+pub listed_end : {A B : Type 0} (text : B → List ℕ) (view : A → B) (xs : List A) (i : ℕ) {start whole : Text} → length xs ≤ i → Grows start (listed (λ x. text (view x)) (take i xs)) whole → Grows start (listed text (map view xs)) whole
+listed_end text view xs i past h = grows_as (ap (λ l. listed (λ x. text (view x)) l) (take_all i xs past) ∙ sym (listed-map text view xs)) h
 
 -- ---- strings
 
-pub more_quoted : (start cs : List ℕ) (c : ℕ) (written whole : List ℕ) → written ≡ start ++ (codes "\"" ++ flat_map quoted cs) → whole ≡ written ++ quoted c → whole ≡ start ++ (codes "\"" ++ flat_map quoted (cs ++ c ∷ []))
-more_quoted start cs c written whole p q =
-    q ∙ ap (λ (l : List ℕ). l ++ quoted c) p ∙ append_assoc start (codes "\"" ++ flat_map quoted cs) (quoted c)
-    ∙ ap (λ (l : List ℕ). start ++ (codes "\"" ++ l)) (sym (flat_map-append quoted cs (c ∷ []) ∙ ap (λ (l : List ℕ). flat_map quoted cs ++ l) (append-nil (quoted c))))
+pub more_quoted : (cs : List ℕ) (c : ℕ) {start written whole : Text} → Grows start (codes "\"" ++ flat_map quoted cs) written → Grows written (quoted c) whole → Grows start (codes "\"" ++ flat_map quoted (cs ++ c ∷ [])) whole
+more_quoted cs c p q =
+    let same : (codes "\"" ++ flat_map quoted cs) ++ quoted c ≡ codes "\"" ++ flat_map quoted (cs ++ c ∷ []) =
+    append_assoc (codes "\"") (flat_map quoted cs) (quoted c)
+    ∙ ap (λ (l : List ℕ). codes "\"" ++ l) (sym (flat_map-append quoted cs (c ∷ []) ∙ ap (λ (l : List ℕ). flat_map quoted cs ++ l) (append-nil (quoted c)))) in
+    grows_as same (joined p q)
 
-pub all_quoted : {E : Type 0} (start text cs written whole : List ℕ) (r : Result (Unit {0}) E) → cs ≡ chars text → written ≡ start ++ (codes "\"" ++ flat_map quoted cs)
-    → whole ≡ cond (is_ok r) (written ++ codes "\"") written → OnOk r (whole ≡ start ++ string_text text)
-all_quoted start text cs written whole (Ok u) same p q =
-    q ∙ ap (λ (l : List ℕ). l ++ codes "\"") p ∙ append_assoc start (codes "\"" ++ flat_map quoted cs) (codes "\"")
-    ∙ ap (λ (l : List ℕ). start ++ (codes "\"" ++ (flat_map quoted l ++ codes "\""))) same
-all_quoted start text cs written whole (Err e) same p q = tt
+pub all_quoted : (text cs : List ℕ) {start written whole : Text} → cs ≡ chars text → Grows start (codes "\"" ++ flat_map quoted cs) written → Grows written (codes "\"") whole → Grows start (string_text text) whole
+all_quoted text cs same p q =
+    let all : (codes "\"" ++ flat_map quoted cs) ++ codes "\"" ≡ string_text text =
+    append_assoc (codes "\"") (flat_map quoted cs) (codes "\"") ∙ ap (λ (l : List ℕ). codes "\"" ++ (flat_map quoted l ++ codes "\"")) same in
+    grows_as all (joined p q)
 
 -- ---- data as they are
 
-pub all_raw : {E : Type 0} (start bytes digits written whole : List ℕ) (r : Result (Unit {0}) E) → eqb (length bytes) 0 ≡ false → digits ≡ encode_lower bytes → written ≡ start ++ codes " raw "
-    → whole ≡ cond (is_ok r) (written ++ digits) written → OnOk r (whole ≡ start ++ raw_text bytes)
-all_raw start [] digits written whole (Ok u) some same p q = cc
-all_raw start (byte ∷ bytes) digits written whole (Ok u) some same p q =
-    q ∙ ap (λ (l : List ℕ). l ++ digits) p ∙ append_assoc start (codes " raw ") digits ∙ ap (λ (l : List ℕ). start ++ (codes " raw " ++ l)) same
-all_raw start bytes digits written whole (Err e) some same p q = tt
+pub all_raw : (bytes digits : List ℕ) {start written whole : Text} → eqb (length bytes) 0 ≡ false → digits ≡ encode_lower bytes → Grows start (codes " raw ") written → Grows written digits whole → Grows start (raw_text bytes) whole
+all_raw [] digits some same p q = cc
+all_raw (byte ∷ bytes) digits some same p q = grows_as (ap (λ (l : List ℕ). codes " raw " ++ l) same) (joined p q)
 
 -- ---- data
 
 -- a datum more
-pub data_more : (start : List ℕ) (items : List Datum) (i : ℕ) (x : Datum) (written parted whole : List ℕ) → i < length items → x ≡ get_or items i x → written ≡ start ++ data_text (meanings (take i items)) → parted ≡ written ++ codes " "
-    → whole ≡ parted ++ datum_text (datum_meaning x) → whole ≡ start ++ data_text (meanings (take (i + 1) items))
-data_more start items i x written parted whole lt here p q r =
+pub data_more : (items : List Datum) (i : ℕ) (x : Datum) {start written parted whole : Text} → i < length items → x ≡ get_or items i x → Grows start (data_text (meanings (take i items))) written → Grows written (codes " ") parted
+    → Grows parted (datum_text (datum_meaning x)) whole → Grows start (data_text (meanings (take (i + 1) items))) whole
+data_more items i x lt here p q r =
     let spaced : DatumMeaning → List ℕ = λ m. codes " " ++ datum_text m in
     let split : meanings (take (i + 1) items) ≡ meanings (take i items) ++ datum_meaning x ∷ [] =
     ap (λ (l : List Datum). meanings l) (take_more items i x lt ∙ ap (λ (y : Datum). take i items ++ y ∷ []) (sym here)) ∙ map-append datum_meaning (take i items) (x ∷ []) in
     let after : data_text (meanings (take (i + 1) items)) ≡ data_text (meanings (take i items)) ++ (codes " " ++ datum_text (datum_meaning x)) =
     ap (λ (l : List DatumMeaning). data_text l) split ∙ flat_map-append spaced (meanings (take i items)) (datum_meaning x ∷ [])
     ∙ ap (λ (l : List ℕ). data_text (meanings (take i items)) ++ l) (append-nil (spaced (datum_meaning x))) in
-    grown start (data_text (meanings (take i items))) (data_text (meanings (take (i + 1) items))) (codes " ") (datum_text (datum_meaning x)) written parted whole after p q r
+    grown after p q r
 
-pub data_end : (start : List ℕ) (items : List Datum) (i : ℕ) (whole : List ℕ) → length items ≤ i → whole ≡ start ++ data_text (meanings (take i items)) → whole ≡ start ++ data_text (meanings items)
-data_end start items i whole past is = is ∙ ap (λ (l : List Datum). start ++ data_text (meanings l)) (take_all i items past)
+pub data_end : (items : List Datum) (i : ℕ) {start whole : Text} → length items ≤ i → Grows start (data_text (meanings (take i items))) whole → Grows start (data_text (meanings items)) whole
+data_end items i past h = grows_as (ap (λ (l : List Datum). data_text (meanings l)) (take_all i items past)) h

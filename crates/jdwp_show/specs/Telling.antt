@@ -1,14 +1,16 @@
--- What has been told of data as they are read.
-use Rattle.std.specs.Prelude.{List, ℕ, ◌++◌, Result, Ok}
+-- Text that grows until an allocation is refused, and data told in it as they are read.
+use Rattle.std.specs.Prelude.{◌≡◌, ℕ, List, ◌++◌, false, Result, Ok}
+use Rattle.std.specs.String.{string_bytes}
 use Rattle.jdwp_wire.specs.declared.data_fault.DataFault.{DataFault}
-use Rattle.jdwp_wire.specs.Reading.{◌>>=◌}
-use Rattle.jdwp_layout.specs.Meanings.{DatumMeaning}
-use Rattle.jdwp_show.specs.DataText.{data_text}
+use Rattle.jdwp_show.specs.declared.text.Text.{Text}
 
--- what was read as text, behind what stood there before, and what follows it in the data
-abbrev pub told_behind : {X : Type 0} → (X → List ℕ) → List ℕ → Result (X × List ℕ) DataFault → Result (List ℕ × List ℕ) DataFault
-told_behind text before read = read >>= λ x. Ok (before ++ text x.0, x.1)
+-- this was appended, unless an allocation was refused
+pub record Grows (old : Text) (more : List ℕ) (new : Text) : Type 0 where
+  pub whole : new.refused ≡ false → old.refused ≡ false
+  pub bytes : new.refused ≡ false → string_bytes new.string ≡ string_bytes old.string ++ more
 
--- the same of all the data
-abbrev pub all_told_behind : List ℕ → Result (List DatumMeaning) DataFault → Result (List ℕ) DataFault
-all_told_behind before read = read >>= λ items. Ok (before ++ data_text items)
+-- a thing was read, this follows it in the data, and what it says was appended
+pub record IsTold {X : Type 0} (say : X → List ℕ) (old new : Text) (read : Result (X × List ℕ) DataFault) (after : List ℕ) : Type 0 where
+  pub thing : X
+  pub is : read ≡ Ok (thing, after)
+  pub grows : Grows old (say thing) new

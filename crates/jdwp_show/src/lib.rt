@@ -15,6 +15,7 @@ mod pending;
 mod rules;
 mod showing;
 mod telling;
+mod text;
 mod transcript;
 mod waiting;
 mod walk;

@@ -10,6 +10,7 @@ use crate::capture_line::Sender;
 use crate::data_text::{push_data, push_raw};
 use crate::message_text::{push_command_start, push_reply_start};
 use crate::pending::Command;
+use crate::text::Text;
 use jdwp_layout::Datum;
 use jdwp_wire::{ErrorCode, NoMemory};
 use std::alloc::Global;
@@ -32,7 +33,7 @@ pub fn reply_line(
 ) -> Result<String, NoMemory>
     ensures { IfOk result (λ line. string_bytes line ≡ reply_start Target id (record { set = set; number = command }) error.0 ++ data_text (meanings «data».now) ++ raw_text raw.now) }
 {
-    let mut line = String::new(alloc);
+    let mut line = Text::new(alloc);
     let number = command;
     push_reply_start(
         &mut line,
@@ -40,10 +41,10 @@ pub fn reply_line(
         id,
         Command { set, number },
         error,
-    )?;
-    push_data(&mut line, data)?;
-    push_raw(alloc, &mut line, raw)?;
-    Ok(line)
+    );
+    push_data(&mut line, data);
+    push_raw(alloc, &mut line, raw);
+    line.into_string()
 }
 
 /// The line by which `show` tells a composite of events, without a newline: `< ID Event.Composite DATA`, the data being
@@ -54,12 +55,12 @@ pub fn reply_line(
 pub fn composite_data_line(alloc: Global, id: u32, data: &[Datum]) -> Result<String, NoMemory>
     ensures { IfOk result (λ line. string_bytes line ≡ command_start Target id (record { set = 64; number = 100 }) ++ data_text (meanings «data».now)) }
 {
-    let mut line = String::new(alloc);
+    let mut line = Text::new(alloc);
     let composite = Command {
         set: 64,
         number: 100,
     };
-    push_command_start(&mut line, Sender::Target, id, composite)?;
-    push_data(&mut line, data)?;
-    Ok(line)
+    push_command_start(&mut line, Sender::Target, id, composite);
+    push_data(&mut line, data);
+    line.into_string()
 }

@@ -1,14 +1,16 @@
 //! A capture in words.
-ghost use Rattle.std.specs.Prelude.{◌≡◌, ℕ, ◌↔◌, ◌++◌, option_map, IfOk, OnOk};
+ghost use Rattle.std.specs.Prelude.{◌≡◌, ℕ, ◌↔◌, option_map, IfOk};
 ghost use Rattle.std.specs.String.{string_bytes};
 ghost use Rattle.jdwp_show.specs.CaptureLines.{capture_lines};
 ghost use Rattle.jdwp_show.specs.Walks.{rests_of};
 ghost use Rattle.jdwp_show.specs.declared.capture_fault.CaptureFault.{CaptureFault};
 ghost use Rattle.jdwp_show.specs.Sessions.{BeginsSession, IsFirstFault, first_fault, bad_or_broken};
+ghost use Rattle.jdwp_show.specs.Telling.{Grows};
 
 use crate::capture_fault::CaptureFault;
 use crate::capture_line::{Sender, read_capture};
 use crate::judging::{Broken, find_broken, find_sizes};
+use crate::text::Text;
 use crate::transcript::{Transcript, push_more};
 use crate::walk::Walk;
 use jdwp_wire::NoMemory;
@@ -56,23 +58,20 @@ fn tell(alloc: Global, text: &str) -> Result<Shown, NoMemory>
     let broken = find_broken(alloc, &sizes, &mut walk, &mut transcript)?;
     let mut lines = transcript.into_lines();
     let fault = first(capture.bad_line, broken);
-    push_rests(&mut lines, &fault, &walk)?;
+    push_rests(&mut lines, &fault, &walk);
+    let lines = lines.into_string()?;
     Ok(Shown { lines, fault })
 }
 
 /// Appends how many bytes of each end belong to none of the items, where there is no fault.
-fn push_rests(
-    text: &mut String,
-    fault: &Option<(usize, CaptureFault)>,
-    walk: &Walk,
-) -> Result<(), NoMemory>
-    ensures { OnOk result (string_bytes text.new ≡ string_bytes text.old ++ rests_of fault.now walk.now) }
+fn push_rests(text: &mut Text, fault: &Option<(usize, CaptureFault)>, walk: &Walk)
+    ensures { Grows text.old (rests_of fault.now walk.now) text.new }
 {
     if fault.is_some() {
-        return Ok(());
+        return;
     }
-    push_more(text, Sender::Debugger, walk.left_over(Sender::Debugger))?;
-    push_more(text, Sender::Target, walk.left_over(Sender::Target))
+    push_more(text, Sender::Debugger, walk.left_over(Sender::Debugger));
+    push_more(text, Sender::Target, walk.left_over(Sender::Target));
 }
 
 /// A line that does not read comes before all other faults.

@@ -1,14 +1,14 @@
 //! Data of packets in words, told as they are read: nothing of a list is kept.
-ghost use Rattle.std.specs.Prelude.{◌≡◌, ◌++◌, OnOk};
-ghost use Rattle.std.specs.String.{string_bytes};
-ghost use Rattle.jdwp_wire.specs.Reading.{Gives};
+ghost use Rattle.std.specs.Prelude.{◌≡◌, IfOk, List, Ok, OnOk};
 ghost use Rattle.jdwp_wire.specs.Each.{times_at};
+ghost use Rattle.jdwp_layout.specs.Meanings.{DatumMeaning};
 ghost use Rattle.jdwp_layout.specs.Shapes.{item_shape, entry_shape, shapes};
 ghost use Rattle.jdwp_layout.specs.Reads.{field_at, fields_at, entry_at, item_at, items_at, data_at};
 ghost use Rattle.jdwp_show.specs.DataText.{listed, scalar_text, entry_text, datum_text, data_text};
-ghost use Rattle.jdwp_show.specs.Telling.{told_behind, all_told_behind};
+ghost use Rattle.jdwp_show.specs.Telling.{Grows, IsTold};
 
 use crate::data_text::{push_entry, push_region, push_scalar, push_separator};
+use crate::text::Text;
 use jdwp_layout::{Entry, Field, Item, read_entry, read_field};
 use jdwp_value::ArrayRegion;
 use jdwp_wire::number::take_count;
@@ -18,38 +18,39 @@ use std::alloc::Global;
 /// Appends the data that the whole slice encodes under these items, each after a space.
 ///
 /// # Errors
-/// The first fault from the left, as `jdwp_layout::read` answers it, and `NoMemory` where an allocation was refused. The
-/// text may then have grown.
+/// A fault of the data where they do not read, and `NoMemory` where an allocation was refused in reading. The text may then
+/// have grown.
 pub(crate) fn tell_data(
     alloc: Global,
-    text: &mut String,
+    text: &mut Text,
     items: &[Item],
     sizes: &IdSizes,
     bytes: &[u8],
 ) -> Result<(), DataFault>
-    ensures { Gives (λ done. string_bytes text.new) result (all_told_behind (string_bytes text.old) (data_at sizes.now (shapes items.now) bytes.now)) }
+    ensures { OnOk result ((told : List DatumMeaning) × (data_at sizes.now (shapes items.now) bytes.now ≡ Ok told) × Grows text.old (data_text told) text.new) }
 {
     let rest = tell_items(alloc, text, items, bytes, bytes.len(), sizes)?;
-    if !rest.is_empty() {
-        return Err(DataFault::Extra(bytes.len().saturating_sub(rest.len())));
+    if rest.is_empty() {
+        Ok(())
+    } else {
+        Err(DataFault::Extra(bytes.len().saturating_sub(rest.len())))
     }
-    Ok(())
 }
 
 /// Appends what each item holds, at the front of the rest of a slice of `whole` bytes, and answers what follows it all.
 fn tell_items<'a>(
     alloc: Global,
-    text: &mut String,
+    text: &mut Text,
     items: &[Item],
     bytes: &'a [u8],
     whole: usize,
     sizes: &IdSizes,
 ) -> Result<&'a [u8], DataFault>
-    ensures { Gives (λ rest. (string_bytes text.new, rest.now)) result (told_behind data_text (string_bytes text.old) (items_at sizes.now whole (shapes items.now) bytes.now)) }
+    ensures { IfOk result (λ rest. IsTold data_text text.old text.new (items_at sizes.now whole (shapes items.now) bytes.now) rest.now) }
 {
     let mut rest = bytes;
     for item in items {
-        text.push_str(" ")?;
+        text.push_str(" ");
         let after = tell_item(alloc, text, *item, rest, whole, sizes)?;
         rest = after;
     }
@@ -58,26 +59,26 @@ fn tell_items<'a>(
 
 fn tell_item<'a>(
     alloc: Global,
-    text: &mut String,
+    text: &mut Text,
     item: Item,
     rest: &'a [u8],
     whole: usize,
     sizes: &IdSizes,
 ) -> Result<&'a [u8], DataFault>
-    ensures { Gives (λ after. (string_bytes text.new, after.now)) result (told_behind datum_text (string_bytes text.old) (item_at sizes.now whole (item_shape item) rest.now)) }
+    ensures { IfOk result (λ after. IsTold datum_text text.old text.new (item_at sizes.now whole (item_shape item) rest.now) after.now) }
 {
     match item {
         Item::One(field) => tell_field(alloc, text, field, rest, whole, sizes),
         Item::Many(entry) => {
             let (count, rest) = take_count(rest, whole)?;
-            text.push_str("[")?;
+            text.push_str("[");
             let rest = tell_entries(alloc, text, count, entry, rest, whole, sizes)?;
-            text.push_str("]")?;
+            text.push_str("]");
             Ok(rest)
         }
         Item::Region => {
             let (region, rest) = ArrayRegion::take_front(alloc, rest, whole, sizes)?;
-            push_region(text, &region)?;
+            push_region(text, &region);
             Ok(rest)
         }
     }
@@ -86,18 +87,18 @@ fn tell_item<'a>(
 /// Appends `count` entries.
 fn tell_entries<'a>(
     alloc: Global,
-    text: &mut String,
+    text: &mut Text,
     count: usize,
     entry: Entry,
     bytes: &'a [u8],
     whole: usize,
     sizes: &IdSizes,
 ) -> Result<&'a [u8], DataFault>
-    ensures { Gives (λ rest. (string_bytes text.new, rest.now)) result (told_behind (listed entry_text) (string_bytes text.old) (times_at (entry_at sizes.now whole (entry_shape entry)) count bytes.now)) }
+    ensures { IfOk result (λ rest. IsTold (listed entry_text) text.old text.new (times_at (entry_at sizes.now whole (entry_shape entry)) count bytes.now) rest.now) }
 {
     let mut rest = bytes;
     for index in 0..count {
-        push_separator(text, index)?;
+        push_separator(text, index);
         let after = tell_entry(alloc, text, entry, rest, whole, sizes)?;
         rest = after;
     }
@@ -106,55 +107,55 @@ fn tell_entries<'a>(
 
 fn tell_entry<'a>(
     alloc: Global,
-    text: &mut String,
+    text: &mut Text,
     entry: Entry,
     rest: &'a [u8],
     whole: usize,
     sizes: &IdSizes,
 ) -> Result<&'a [u8], DataFault>
-    ensures { Gives (λ after. (string_bytes text.new, after.now)) result (told_behind entry_text (string_bytes text.old) (entry_at sizes.now whole (entry_shape entry) rest.now)) }
+    ensures { IfOk result (λ after. IsTold entry_text text.old text.new (entry_at sizes.now whole (entry_shape entry) rest.now) after.now) }
 {
     if let Entry::Fields(fields) = entry {
         return tell_fields(alloc, text, fields, rest, whole, sizes);
     }
     let (scalars, rest) = read_entry(alloc, entry, rest, whole, sizes)?;
-    push_entry(text, &scalars)?;
+    push_entry(text, &scalars);
     Ok(rest)
 }
 
 /// Appends an entry of these fields; of one field it has no round brackets.
 fn tell_fields<'a>(
     alloc: Global,
-    text: &mut String,
+    text: &mut Text,
     fields: &[Field],
     rest: &'a [u8],
     whole: usize,
     sizes: &IdSizes,
 ) -> Result<&'a [u8], DataFault>
-    ensures { Gives (λ after. (string_bytes text.new, after.now)) result (told_behind entry_text (string_bytes text.old) (fields_at sizes.now whole fields.now rest.now)) }
+    ensures { IfOk result (λ after. IsTold entry_text text.old text.new (fields_at sizes.now whole fields.now rest.now) after.now) }
 {
     if fields.len() == 1 {
         return tell_field(alloc, text, fields[0], rest, whole, sizes);
     }
-    text.push_str("(")?;
+    text.push_str("(");
     let rest = tell_each(alloc, text, fields, rest, whole, sizes)?;
-    text.push_str(")")?;
+    text.push_str(")");
     Ok(rest)
 }
 
 fn tell_each<'a>(
     alloc: Global,
-    text: &mut String,
+    text: &mut Text,
     fields: &[Field],
     bytes: &'a [u8],
     whole: usize,
     sizes: &IdSizes,
 ) -> Result<&'a [u8], DataFault>
-    ensures { Gives (λ rest. (string_bytes text.new, rest.now)) result (told_behind (listed scalar_text) (string_bytes text.old) (fields_at sizes.now whole fields.now bytes.now)) }
+    ensures { IfOk result (λ rest. IsTold (listed scalar_text) text.old text.new (fields_at sizes.now whole fields.now bytes.now) rest.now) }
 {
     let mut rest = bytes;
     for (index, field) in fields.iter().enumerate() {
-        push_separator(text, index)?;
+        push_separator(text, index);
         let after = tell_field(alloc, text, *field, rest, whole, sizes)?;
         rest = after;
     }
@@ -163,15 +164,15 @@ fn tell_each<'a>(
 
 fn tell_field<'a>(
     alloc: Global,
-    text: &mut String,
+    text: &mut Text,
     field: Field,
     rest: &'a [u8],
     whole: usize,
     sizes: &IdSizes,
 ) -> Result<&'a [u8], DataFault>
-    ensures { Gives (λ after. (string_bytes text.new, after.now)) result (told_behind scalar_text (string_bytes text.old) (field_at sizes.now whole field rest.now)) }
+    ensures { IfOk result (λ after. IsTold scalar_text text.old text.new (field_at sizes.now whole field rest.now) after.now) }
 {
     let (scalar, rest) = read_field(alloc, field, rest, whole, sizes)?;
-    push_scalar(text, &scalar)?;
+    push_scalar(text, &scalar);
     Ok(rest)
 }

@@ -64,9 +64,7 @@ impl Waiting {
         ensures waits { OnOk result ((other : ℕ) → waits_in self.new other ≡ (if id == other then Some command else waits_in self.old other)) }
     {
         if let Some(place) = self.place(id) {
-            let before = self.row[place];
-            self.row[place] = Some(command);
-            return Ok(before);
+            return Ok(self.row[place].replace(command));
         }
         let next = id as usize;
         if self.row.is_empty() {
@@ -89,8 +87,7 @@ impl Waiting {
     {
         match self.place(id) {
             Some(place) => {
-                let before = self.row[place];
-                self.row[place] = None;
+                let before = self.row[place].take();
                 self.shorten();
                 before
             }

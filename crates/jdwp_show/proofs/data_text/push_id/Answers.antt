@@ -1,6 +1,5 @@
-use Rattle.std.proofs.Common.{arith}
-use Rattle.std.proofs.lemmas.Grind.{common_steps}
+use Rattle.jdwp_show.proofs.TextLemmas.{joined}
 use Rattle.jdwp_show.proofs.data_text.push_id.Goals as goal
 
 pub returns : goal.returns
-returns c = grind (arith, common_steps)
+returns c = joined c.push_str.ensures c.push_number.ensures

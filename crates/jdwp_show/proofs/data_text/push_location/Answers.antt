@@ -1,9 +1,9 @@
-use Rattle.std.proofs.lemmas.Grind.{common_steps}
-use Rattle.std.proofs.Common.{rules, arith}
+use Rattle.std.proofs.Common.{rules}
+use Rattle.jdwp_show.proofs.TextLemmas.{joined}
 use Rattle.jdwp_show.proofs.data_text.push_location.Goals as goal
 
 pub returns-in-Null : goal.returns-in-Null
 returns-in-Null c = search rules
 
-pub returns-in_ok-push_str-in-At-3 : goal.returns-in_ok-push_str-in-At-3
-returns-in_ok-push_str-in-At-3 c = grind (arith, common_steps)
+pub returns-in-At : goal.returns-in-At
+returns-in-At c = rw c.in-At.is (joined (joined (joined (joined (joined (joined c.push_type_tag.ensures c.push_str-in-At.ensures) c.push_id.ensures) c.push_str-in-At-2.ensures) c.push_id-in-At.ensures) c.push_str-in-At-3.ensures) c.push_number.ensures)

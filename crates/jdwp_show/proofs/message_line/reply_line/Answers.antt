@@ -1,5 +1,6 @@
-use Rattle.std.proofs.Common.{rules}
+use Rattle.std.proofs.lemmas.Result.{IfOk-weaker}
+use Rattle.jdwp_show.proofs.TextLemmas.{joined, all_grown}
 use Rattle.jdwp_show.proofs.message_line.reply_line.Goals as goal
 
 pub returns : goal.returns
-returns c = search rules
+returns c = IfOk-weaker c.into_string.result _ _ (λ line kept. all_grown line c.new-line.ensures (joined (joined c.push_reply_start.ensures c.push_data.ensures) c.push_raw.ensures) kept.0 kept.1) c.into_string.ensures

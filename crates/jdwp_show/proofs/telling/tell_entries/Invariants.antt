@@ -1,5 +1,4 @@
 use Rattle.std.proofs.Common.{◌-◌}
-use Rattle.std.specs.String.{string_bytes}
 use Rattle.jdwp_wire.specs.Each.{times_at}
 use Rattle.jdwp_layout.specs.Shapes.{entry_shape}
 use Rattle.jdwp_layout.specs.Reads.{entry_at}
@@ -10,4 +9,4 @@ use Rattle.jdwp_show.proofs.telling.tell_entries.Given as goal
 abbrev pub invariant-loop-index : goal.invariant-loop-index
 invariant-loop-index l =
     let read = entry_at l.sizes l.whole (entry_shape l.entry) in
-    Told (listed entry_text) l.index (string_bytes l.fn.text) (string_bytes l.text) (times_at read (l.count - l.index) l.rest) (times_at read l.count l.bytes)
+    Told (listed entry_text) l.index l.fn.text l.text (times_at read (l.count - l.index) l.rest) (times_at read l.count l.bytes)

@@ -1,12 +1,11 @@
 use Rattle.std.proofs.Common.{◌<◌, ◌≤◌, length, get_or, refl, sym, codes, arith}
-use Rattle.std.proofs.lemmas.Result.{err_from_is_err_and}
 use Rattle.std.proofs.lemmas.List.{get_or-map, length-map}
 use Rattle.jdwp_layout.specs.declared.item.Item.TheVariants as item
 use Rattle.jdwp_layout.specs.declared.item.Field.TheVariants as field
 use Rattle.jdwp_layout.specs.Shapes.{item_shape, shapes}
 use Rattle.jdwp_layout.specs.Reads.{item_at}
 use Rattle.jdwp_show.specs.DataText.{datum_text, data_text}
-use Rattle.jdwp_show.proofs.TellingLemmas.{told_none, each_told, each_told_fails, each_told_end, data_grow}
+use Rattle.jdwp_show.proofs.TellingLemmas.{told_none, each_told, each_told_end, data_grow}
 use Rattle.jdwp_show.proofs.telling.tell_items.Goals as goal
 
 pub loop-item-init : goal.loop-item-init
@@ -20,18 +19,7 @@ loop-item-preserved c =
     let lt : i < length items = omega arith in
     let below : i < length (shapes items) = rw (length-map items item_shape) lt in
     each_told datum_text (λ n. codes " ") data_text data_grow (item_at c.args.sizes.now c.args.whole) (shapes items) (item_shape (get_or items i d)) i c.loop-item.rest.now c.in_ok-after.after.now _ _ _ _ _
-    below (sym (get_or-map item_shape items i d (item_shape (get_or items i d)) lt)) c.in_ok-push_str.ensures.bytes c.in_ok-after.ensures c.loop-item.invariant
-
-pub returns-in_err-after : goal.returns-in_err-after
-returns-in_err-after c =
-    let items = c.args.items.now in
-    let i = c.loop-item.item-index in
-    let d = item.One field.Byte in
-    let lt : i < length items = omega arith in
-    let below : i < length (shapes items) = rw (length-map items item_shape) lt in
-    let p = err_from_is_err_and c.from_residual-in_err-after.result c.from_residual-in_err-after.ensures.1 in
-    rw (p.1, p.2) (each_told_fails datum_text (λ n. codes " ") data_text (item_at c.args.sizes.now c.args.whole) c.in_err-after.field-0.0 (shapes items) (item_shape (get_or items i d)) i c.loop-item.rest.now _ _ _ _
-    below (sym (get_or-map item_shape items i d (item_shape (get_or items i d)) lt)) c.in_err-after.ensures c.loop-item.invariant)
+    below (sym (get_or-map item_shape items i d (item_shape (get_or items i d)) lt)) c.push_str.ensures c.in_ok-after.ensures c.loop-item.invariant
 
 pub returns : goal.returns
 returns c =
