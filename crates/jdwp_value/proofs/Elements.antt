@@ -1,10 +1,12 @@
 -- The loops over the elements of a region.
-use Rattle.std.proofs.Common.{◌≡◌, ℕ, zero, suc, ◌+◌, ◌*◌, ◌<◌, ◌^◌, ◌&&◌, List, [], ◌∷◌, length, get_or, take, drop, Bool, true, false, cond, ltb, inl, inr, Option, Some, None, refl, sym, ap, subst, ◌∙◌, arith}
+use Rattle.std.proofs.Common.{◌≡◌, ℕ, zero, suc, ◌+◌, ◌*◌, ◌<◌, ◌^◌, ◌&&◌, List, [], ◌∷◌, length, get_or, take, drop, Bool, true, false, cond, ltb, inl, inr, Option, Some, None, Result, Ok, Err, refl, sym, ap, subst, ◌∙◌, arith}
 use Rattle.std.specs.List.{list_all, flat_map}
 use Rattle.std.specs.Option.{SomeIff}
+use Rattle.std.specs.Result.{IfOk}
 use Rattle.std.proofs.Math.Nat.{zero-mul, suc-mul}
-use Rattle.std.proofs.lemmas.Bool.{eqb-true, lt-ltb, ltb-true, cases_Bool}
-use Rattle.jdwp_wire.specs.Reading.{in_usize}
+use Rattle.std.proofs.lemmas.Bool.{eqb-true, eq-eqb, lt-ltb, ltb-true, cases_Bool}
+use Rattle.jdwp_wire.specs.Bytes.{IsBytes}
+use Rattle.jdwp_wire.specs.Reading.{in_usize, Gives}
 use Rattle.jdwp_value.specs.declared.tag.Tag.TheVariants as tag
 use Rattle.std.proofs.lemmas.List.{map-id, drop_more, length-append}
 use Rattle.jdwp_wire.specs.declared.data_fault.DataFault.{DataFault}
@@ -17,8 +19,8 @@ use Rattle.jdwp_value.specs.declared.tag.Tag.{Tag}
 use Rattle.jdwp_value.specs.declared.value.Value.{Value}
 use Rattle.jdwp_value.specs.Tags.{tag_byte}
 use Rattle.jdwp_value.specs.TagLaws.{tag_byte-injective}
-use Rattle.jdwp_value.specs.Values.{tag_of, width_of, is_object, is_void, untagged_canonical}
-use Rattle.jdwp_value.specs.ValueLaws.{length-untagged}
+use Rattle.jdwp_value.specs.Values.{tag_of, width_of, is_object, is_void, untagged_canonical, untagged_at}
+use Rattle.jdwp_value.specs.ValueLaws.{length-untagged, untagged_codes}
 use Rattle.jdwp_value.specs.Regions.{may_stand, is_region, element_canonical_by, element_canonical, element_width_by, element_width, region_canonical, region_of}
 
 both_true : (a b : Bool) → (a && b) ≡ true → (a ≡ true) × (b ≡ true)
@@ -65,6 +67,15 @@ tag_is t v plain fits = tag_byte-injective (tag_of v) t (eqb-true (tag_byte (tag
 -- in a region of objects an element is an object
 pub object_is : (t : Tag) (v : Value) → is_object t ≡ true → may_stand t v ≡ true → is_object (tag_of v) ≡ true
 object_is t v object fits = rw object at fits
+
+-- what is read without a tag may stand in a region of no objects
+pub read_may_stand : {S : Type 0} (items : S → List ℕ) (w : Widths) (whole : ℕ) (t : Tag) (bytes : List ℕ) (r : Result (Value × S) DataFault) → IsBytes bytes → is_object t ≡ false
+    → Gives (λ x. (x.0, items x.1)) r (untagged_at w whole t bytes) → IfOk r (λ x. may_stand t x.0 ≡ true)
+read_may_stand items w whole t bytes (Ok x) fits plain gives =
+    let found = (untagged_codes w whole t).found bytes x.0 (items x.1) fits gives in
+    let same : tag_of x.0 ≡ t = found.1.0 in
+    rw (plain, same) (eq-eqb (tag_byte t) (tag_byte t) refl)
+read_may_stand items w whole t bytes (Err e) fits plain gives = tt
 
 object_width : (w : Widths) (t : Tag) → is_object t ≡ true → width_of w t ≡ w.object
 object_width w (tag.Object kind) e = refl

@@ -1,10 +1,11 @@
 //! Values and tagged ids (JDWP specification, "Data Types": value, untagged-value, tagged-objectID).
-ghost use Rattle.std.specs.Prelude.{◌≡◌, ◌≤◌, ◌+◌, ℕ, length, take, IfOk, OnOk, IfErr, vec_len, vec_capacity};
+ghost use Rattle.std.specs.Prelude.{◌≡◌, ◌≤◌, ◌+◌, ℕ, None, IfSome, length, take, IfOk, OnOk, IfErr, vec_len, vec_capacity};
 ghost use Rattle.std.specs.Result.{IsErrOf};
 ghost use Rattle.jdwp_wire.specs.declared.data_fault.DataFault.TheVariants.{NoMemory};
 ghost use Rattle.jdwp_wire.specs.Reading.{Gives, passed};
 ghost use Rattle.jdwp_wire.specs.Writing.{Appends, Leaves, HasRoom};
 ghost use Rattle.jdwp_wire.specs.Numbers.{id_refusal};
+ghost use Rattle.jdwp_value.specs.declared.tag.Tag.TheVariants.{Void};
 ghost use Rattle.jdwp_value.specs.declared.value.TaggedId.{TaggedId};
 ghost use Rattle.jdwp_value.specs.declared.value.Value.{Value};
 ghost use Rattle.jdwp_value.specs.Values.{EncodesTaggedId, tagged_id_canonical, TaggedIdFault, tagged_id_at, tag_of, width_of, EncodesUntagged, untagged_canonical, EncodesValue, value_canonical, value_refusal, ValueFault, untagged_at, value_at};
@@ -12,7 +13,7 @@ ghost use Rattle.jdwp_value.specs.ValueLaws.{tagged_id_codes, tagged_id_unrefuse
 
 use crate::id::ObjectId;
 use crate::tag::{ObjectTag, Tag, take_tag};
-use jdwp_wire::number::{pass_bytes, put_number, take_bool, take_number};
+use jdwp_wire::number::{pass_bytes, put_number, take_number};
 use jdwp_wire::{DataFault, IdKind, IdSizes, Width, Wire, all_or_nothing};
 use std::alloc::Global;
 
@@ -264,45 +265,40 @@ pub fn take_untagged<'a>(
     ensures shorter { IfOk result (λ x. length x.1.now ≤ length rest.now) }
     ensures memory { IsErrOf result NoMemory → ⊥ }
 {
-    match tag {
-        Tag::Byte => {
-            let (bits, rest) = take_number(rest, whole, Width::BYTE)?;
-            Ok((Value::Byte(bits as u8), rest))
-        }
-        Tag::Char => {
-            let (bits, rest) = take_number(rest, whole, Width::SHORT)?;
-            Ok((Value::Char(bits as u16), rest))
-        }
-        Tag::Double => {
-            let (bits, rest) = take_number(rest, whole, Width::LONG)?;
-            Ok((Value::Double(bits), rest))
-        }
-        Tag::Float => {
-            let (bits, rest) = take_number(rest, whole, Width::INT)?;
-            Ok((Value::Float(bits as u32), rest))
-        }
-        Tag::Int => {
-            let (bits, rest) = take_number(rest, whole, Width::INT)?;
-            Ok((Value::Int(bits as u32), rest))
-        }
-        Tag::Long => {
-            let (bits, rest) = take_number(rest, whole, Width::LONG)?;
-            Ok((Value::Long(bits), rest))
-        }
-        Tag::Short => {
-            let (bits, rest) = take_number(rest, whole, Width::SHORT)?;
-            Ok((Value::Short(bits as u16), rest))
-        }
-        Tag::Void => Ok((Value::Void, rest)),
-        Tag::Boolean => {
-            let (truth, rest) = take_bool(rest, whole)?;
-            Ok((Value::Boolean(truth), rest))
-        }
+    let Some(width) = number_width(tag, sizes) else {
+        return Ok((Value::Void, rest));
+    };
+    let (bits, rest) = take_number(rest, whole, width)?;
+    let value = match tag {
+        Tag::Byte => Value::Byte(bits as u8),
+        Tag::Char => Value::Char(bits as u16),
+        Tag::Double => Value::Double(bits),
+        Tag::Float => Value::Float(bits as u32),
+        Tag::Int => Value::Int(bits as u32),
+        Tag::Long => Value::Long(bits),
+        Tag::Short => Value::Short(bits as u16),
+        Tag::Void => Value::Void,
+        Tag::Boolean => Value::Boolean(bits != 0),
         Tag::Object(tag) => {
-            let (id, rest) = take_number(rest, whole, sizes.width(IdKind::Object))?;
-            let id = ObjectId(id);
-            Ok((Value::Object(TaggedId { tag, id }), rest))
+            let id = ObjectId(bits);
+            Value::Object(TaggedId { tag, id })
         }
+    };
+    Ok((value, rest))
+}
+
+/// The width of the number that a value of this tag is without its tag; None for `V`, that of no value.
+fn number_width(tag: Tag, sizes: &IdSizes) -> Option<Width>
+    ensures some { IfSome result (λ width. width ≡ width_of sizes.now tag) }
+    ensures none { result ≡ None → tag ≡ Void }
+{
+    match tag {
+        Tag::Byte | Tag::Boolean => Some(Width::BYTE),
+        Tag::Char | Tag::Short => Some(Width::SHORT),
+        Tag::Int | Tag::Float => Some(Width::INT),
+        Tag::Long | Tag::Double => Some(Width::LONG),
+        Tag::Void => None,
+        Tag::Object(_) => Some(sizes.width(IdKind::Object)),
     }
 }
 
