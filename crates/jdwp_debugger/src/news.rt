@@ -178,7 +178,7 @@ fn raw_entries(alloc: Global, bytes: &[u8]) -> Result<Vec<Vec<Scalar>>, NoMemory
 {
     let mut entries = Vec::with_capacity(alloc, bytes.len())?;
     for byte in bytes {
-        entries.push(vec![in alloc; Scalar::Byte(*byte)]?)?;
+        entries.push_reserved(vec![in alloc; Scalar::Byte(*byte)]?);
     }
     Ok(entries)
 }

@@ -16,7 +16,7 @@ ghost use Rattle.jdwp_mirror.specs.Messages.{Reply, Ticket as MessageTicket};
 ghost use Rattle.jdwp_mirror.specs.Mirror.{ends};
 ghost use Rattle.jdwp_mirror.specs.Mirrors.{empty_mirror};
 ghost use Rattle.jdwp_debugger.specs.News as news;
-ghost use Rattle.jdwp_debugger.specs.News.{Tells, answer_says, event_says, reply_says, reply_to, says, sizes_say, widths_by};
+ghost use Rattle.jdwp_debugger.specs.News.{Tells, answer_says, event_says, reply_to, says, sizes_say, widths_by};
 ghost use Rattle.jdwp_mirror.specs.Widths.{widths_in};
 
 use crate::debugger::Debugger;
@@ -168,27 +168,7 @@ impl Debugger {
         ensures fits { IfOk result (λ n. Fits self.now (news_meaning n)) }
         ensures wants { IfOk result (λ n. WantsMemory (news_meaning n) → error.0 ≡ 0) }
     {
-        match self.pending.get(place) {
-            Some(asked) => self.read_reply_to(alloc, place, asked, error, bytes),
-            None => Err(DebuggerFault::UnknownReply),
-        }
-    }
-
-    /// What the reply to this command says, which waits at a place.
-    fn read_reply_to(
-        &self,
-        alloc: Global,
-        place: usize,
-        asked: &Asked,
-        error: ErrorCode,
-        bytes: &[u8],
-    ) -> Result<News, DebuggerFault>
-        requires { place < length self.now.pending }
-        ensures value { Tells news_meaning result (reply_says (reading_of self.now) error bytes.now place asked.now) }
-        ensures memory { IsErrOf result code.NoMemory → error.0 ≡ 0 }
-        ensures fits { IfOk result (λ n. Fits self.now (news_meaning n)) }
-        ensures wants { IfOk result (λ n. WantsMemory (news_meaning n) → error.0 ≡ 0) }
-    {
+        let asked = &self.pending[place];
         let answer = read_answer(alloc, &asked.command, &self.widths(), error, bytes)?;
         self.read_ticketed(alloc, place, asked.ticket, answer)
     }
