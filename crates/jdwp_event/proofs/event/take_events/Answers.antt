@@ -1,5 +1,6 @@
 use Rattle.std.proofs.Common.{ℕ, List, subst, arith, inl, inr}
 use Rattle.std.proofs.lemmas.Result.{err_from_is_err_and}
+use Rattle.std.proofs.Math.Facts.{Fits-lt-pow}
 use Rattle.jdwp_wire.specs.declared.data_fault.DataFault.TheVariants.{NoMemory}
 use Rattle.jdwp_wire.specs.Codes.{failed_too}
 use Rattle.jdwp_wire.specs.Each.{times_at}
@@ -25,14 +26,14 @@ loop-preserved c =
     record {
       so_far = rw e (times_go_on read c.loop.events.items c.args.count c.loop.counter c.loop.rest.now v c.in_ok-event.after.now (times_at read c.args.count c.args.bytes.now) c.loop-test.true c.in_ok-event.ensures.value c.loop.invariant.so_far);
       shorter = (let a = c.in_ok-event.ensures.shorter in let b = c.loop.invariant.shorter in omega (arith, a, b));
-      first = inr (first_begins (entry_codes c.args.sizes.now c.args.whole Events).found c.args.bytes.now c.loop.rest.now v c.in_ok-event.after.now (λ i. omega (arith, c.type_inv.bytes i)) c.in_ok-event.ensures.value c.loop.invariant.first);
+      first = inr (first_begins (entry_codes c.args.sizes.now c.args.whole Events).found c.args.bytes.now c.loop.rest.now v c.in_ok-event.after.now (λ i. Fits-lt-pow (c.type_inv.bytes i)) c.in_ok-event.ensures.value c.loop.invariant.first);
     }
 
 pub returns-in_err-push-clause-memory : goal.returns-in_err-push-clause-memory
 returns-in_err-push-clause-memory c = λ failed.
     let lt = c.loop-test.true in
     let law = (entry_codes c.args.sizes.now c.args.whole Events).found in
-    (omega (arith, lt), inr (first_begins law c.args.bytes.now c.loop.rest.now c.in_ok-event.event c.in_ok-event.after.now (λ i. omega (arith, c.type_inv.bytes i)) c.in_ok-event.ensures.value c.loop.invariant.first))
+    (omega (arith, lt), inr (first_begins law c.args.bytes.now c.loop.rest.now c.in_ok-event.event c.in_ok-event.after.now (λ i. Fits-lt-pow (c.type_inv.bytes i)) c.in_ok-event.ensures.value c.loop.invariant.first))
 
 pub returns-in_err-event-clause-memory : goal.returns-in_err-event-clause-memory
 returns-in_err-event-clause-memory c = λ failed.

@@ -1,6 +1,7 @@
 use Rattle.std.proofs.Common.{◌≡◌, ◌++◌, ◌∷◌, [], arith, inr}
 use Rattle.std.proofs.lemmas.Result.{err_from_is_err_and}
 use Rattle.std.proofs.lemmas.List.{map_push}
+use Rattle.std.proofs.Math.Facts.{Fits-lt-pow}
 use Rattle.jdwp_wire.proofs.Loop.{times_go_on, times_end}
 use Rattle.jdwp_wire.specs.Each.{times_at}
 use Rattle.jdwp_layout.specs.Shapes.{entry_shape}
@@ -23,11 +24,11 @@ loop-preserved c =
     let e : entry_meanings c.push.new.self.items ≡ entry_meanings c.loop.entries.items ++ entry_meaning v ∷ [] = rw c.in_ok-push.ensures.items (map_push _ c.loop.entries.items v) in
     record {
       so_far = rw e (times_go_on decode (entry_meanings c.loop.entries.items) c.args.count c.loop.counter c.loop.rest.now (entry_meaning v) c.in_ok-scalars.after.now (times_at decode c.args.count c.args.bytes.now) c.loop-test.true c.in_ok-scalars.ensures.value c.loop.invariant.so_far);
-      first = inr (first_begins (entry_codes c.args.sizes.now c.args.whole (entry_shape c.args.entry)).found c.args.bytes.now c.loop.rest.now (entry_meaning v) c.in_ok-scalars.after.now (λ j. omega (arith, c.type_inv.bytes j)) c.in_ok-scalars.ensures.value c.loop.invariant.first);
+      first = inr (first_begins (entry_codes c.args.sizes.now c.args.whole (entry_shape c.args.entry)).found c.args.bytes.now c.loop.rest.now (entry_meaning v) c.in_ok-scalars.after.now (λ j. Fits-lt-pow (c.type_inv.bytes j)) c.in_ok-scalars.ensures.value c.loop.invariant.first);
     }
 
 pub returns-in_err-push-clause-memory : goal.returns-in_err-push-clause-memory
 returns-in_err-push-clause-memory c = λ failed.
     let lt = c.loop-test.true in
     let law = (entry_codes c.args.sizes.now c.args.whole (entry_shape c.args.entry)).found in
-    (omega (arith, lt), inr (first_begins law c.args.bytes.now c.loop.rest.now (entry_meaning c.in_ok-scalars.scalars) c.in_ok-scalars.after.now (λ j. omega (arith, c.type_inv.bytes j)) c.in_ok-scalars.ensures.value c.loop.invariant.first))
+    (omega (arith, lt), inr (first_begins law c.args.bytes.now c.loop.rest.now (entry_meaning c.in_ok-scalars.scalars) c.in_ok-scalars.after.now (λ j. Fits-lt-pow (c.type_inv.bytes j)) c.in_ok-scalars.ensures.value c.loop.invariant.first))

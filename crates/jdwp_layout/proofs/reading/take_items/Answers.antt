@@ -2,6 +2,7 @@ use Rattle.std.proofs.lemmas.Grind.{common_steps}
 use Rattle.std.proofs.Common.{◌≡◌, ◌++◌, ◌∷◌, [], ◌<◌, length, get_or, sym, arith, inr}
 use Rattle.std.proofs.lemmas.Result.{err_from_is_err_and}
 use Rattle.std.proofs.lemmas.List.{map_push, get_or-map, length-map}
+use Rattle.std.proofs.Math.Facts.{Fits-lt-pow}
 use Rattle.jdwp_wire.proofs.Loop.{each_go_on, each_end}
 use Rattle.jdwp_layout.specs.declared.item.Item.TheVariants as item
 use Rattle.jdwp_layout.specs.declared.item.Field.TheVariants as field
@@ -37,7 +38,7 @@ loop-item-preserved c =
       so_far = rw e (each_go_on (item_at c.args.sizes.now c.args.whole) (meanings c.loop-item.held.items) (shapes c.args.items.now) i k c.loop-item.rest.now (datum_meaning c.in_ok-datum.datum) c.in_ok-datum.after.now (items_at c.args.sizes.now c.args.whole (shapes c.args.items.now) c.args.bytes.now)
           below (sym (get_or-map item_shape c.args.items.now i d k lt)) c.in_ok-datum.ensures.value c.loop-item.invariant.so_far);
       first = inr (first_kept (ItemIsKept c.args.sizes.now) (EncodesItem c.args.sizes.now) (shapes c.args.items.now) i k c.args.bytes.now c.loop-item.rest.now below (sym (get_or-map item_shape c.args.items.now i d k lt))
-          (λ same. inr (begins (item_codes c.args.sizes.now c.args.whole k).found c.args.bytes.now c.loop-item.rest.now (datum_meaning c.in_ok-datum.datum) c.in_ok-datum.after.now (λ j. omega (arith, c.type_inv.bytes j)) c.in_ok-datum.ensures.value same)) c.loop-item.invariant.first);
+          (λ same. inr (begins (item_codes c.args.sizes.now c.args.whole k).found c.args.bytes.now c.loop-item.rest.now (datum_meaning c.in_ok-datum.datum) c.in_ok-datum.after.now (λ j. Fits-lt-pow (c.type_inv.bytes j)) c.in_ok-datum.ensures.value same)) c.loop-item.invariant.first);
     }
 
 pub returns-in_err-push-clause-memory : goal.returns-in_err-push-clause-memory
@@ -48,7 +49,7 @@ returns-in_err-push-clause-memory c = λ failed.
     let lt = c.loop-item-test.true in
     let below : i < length (shapes c.args.items.now) = rw (length-map c.args.items.now item_shape) lt in
     first_kept (ItemIsKept c.args.sizes.now) (EncodesItem c.args.sizes.now) (shapes c.args.items.now) i k c.args.bytes.now c.loop-item.rest.now below (sym (get_or-map item_shape c.args.items.now i d k lt))
-    (λ same. inr (begins (item_codes c.args.sizes.now c.args.whole k).found c.args.bytes.now c.loop-item.rest.now (datum_meaning c.in_ok-datum.datum) c.in_ok-datum.after.now (λ j. omega (arith, c.type_inv.bytes j)) c.in_ok-datum.ensures.value same)) c.loop-item.invariant.first
+    (λ same. inr (begins (item_codes c.args.sizes.now c.args.whole k).found c.args.bytes.now c.loop-item.rest.now (datum_meaning c.in_ok-datum.datum) c.in_ok-datum.after.now (λ j. Fits-lt-pow (c.type_inv.bytes j)) c.in_ok-datum.ensures.value same)) c.loop-item.invariant.first
 
 pub returns-in_err-datum-clause-memory : goal.returns-in_err-datum-clause-memory
 returns-in_err-datum-clause-memory c = grind (arith, common_steps)

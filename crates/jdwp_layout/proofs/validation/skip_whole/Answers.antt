@@ -1,4 +1,5 @@
-use Rattle.std.proofs.Common.{length, arith, sym, ◌∙◌}
+use Rattle.std.proofs.Common.{length, sym, ◌∙◌}
+use Rattle.std.proofs.Math.Facts.{Fits-lt-pow}
 use Rattle.jdwp_layout.specs.Shapes.{shapes}
 use Rattle.jdwp_layout.specs.Reads.{items_at}
 use Rattle.jdwp_wire.proofs.Passed.{value_of}
@@ -9,7 +10,7 @@ pub overflow_sub-result : goal.overflow_sub-result
 overflow_sub-result c =
     let whole = length c.args.bytes.now in
     let x = value_of (items_at c.args.sizes.now whole (shapes c.args.items.now) c.args.bytes.now) c.in_ok-rest.rest.now c.in_ok-rest.ensures.value in
-    rest_within c.args.sizes.now whole (shapes c.args.items.now) c.args.bytes.now x.0 c.in_ok-rest.rest.now (λ i. omega (arith, c.type_inv.bytes i)) x.1
+    rest_within c.args.sizes.now whole (shapes c.args.items.now) c.args.bytes.now x.0 c.in_ok-rest.rest.now (λ i. Fits-lt-pow (c.type_inv.bytes i)) x.1
 
 pub returns-clause-value : goal.returns-clause-value
 returns-clause-value c =

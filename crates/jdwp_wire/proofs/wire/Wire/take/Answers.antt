@@ -1,5 +1,6 @@
-use Rattle.std.proofs.Common.{length, arith}
+use Rattle.std.proofs.Common.{length}
 use Rattle.std.proofs.lemmas.Result.{err_from_is_err_and}
+use Rattle.std.proofs.Math.Facts.{Fits-lt-pow}
 use Rattle.jdwp_wire.proofs.Takes.{front_found, front_only, front_not_failed}
 use Rattle.jdwp_wire.proofs.wire.Wire.take.Goals as goal
 
@@ -14,7 +15,7 @@ pub returns-clause-found : goal.returns-clause-found
 returns-clause-found g c =
     let w = c.args.sizes.now in
     let whole = length c.args.bytes.now in
-    front_found (g.Self.Wire.decoded w whole) (g.Self.Wire.encodes w) (g.met.Self.Wire.found w whole) c.args.bytes.now (g.Self.Wire.meaning c.in_ok-value.value) c.in_ok-value.rest.now (λ i. omega (arith, c.type_inv.bytes i)) c.in_ok-value.ensures.value
+    front_found (g.Self.Wire.decoded w whole) (g.Self.Wire.encodes w) (g.met.Self.Wire.found w whole) c.args.bytes.now (g.Self.Wire.meaning c.in_ok-value.value) c.in_ok-value.rest.now (λ i. Fits-lt-pow (c.type_inv.bytes i)) c.in_ok-value.ensures.value
 
 pub returns-clause-only : goal.returns-clause-only
 returns-clause-only g c = λ x n le s.
