@@ -20,7 +20,7 @@ use Rattle.jdwp_script.specs.declared.step.Literal.{Literal}
 use Rattle.jdwp_script.specs.declared.step.Place.{Place}
 use Rattle.jdwp_script.specs.declared.step.SlotValue.{SlotValue}
 use Rattle.jdwp_script.specs.Parts.{GroupPart, FieldPart, SlotPart, MethodPart, ClassPart, ElementsPart, ObjectPart, StepPart, Call, Go, Return, Throwing, Prepare, Start, ThreadPart, ScriptPart}
-use Rattle.jdwp_script.specs.Reading.{Reader, ◌>>=◌, found, whole, small, int, text, or_null, list_of, entries, tuple, entry, member_of}
+use Rattle.jdwp_script.specs.Reading.{Reader, ◌>>=◌, found, whole, small, int, text, or_null, list_of, entries, tuple, entry, second, member_of}
 
 -- ---- values
 
@@ -144,11 +144,11 @@ call_step m d =
 
 -- ["go", index]
 abbrev pub go_step : Reader StepPart
-go_step m d = tuple 2 m d >>= λ ds. entry whole m ds 1 >>= λ index. Ok (Go index)
+go_step m d = second whole m d >>= λ index. Ok (Go index)
 
 -- ["return", value]
 abbrev pub return_step : Reader StepPart
-return_step m d = tuple 2 m d >>= λ ds. entry literal m ds 1 >>= λ value. Ok (Return value)
+return_step m d = second literal m d >>= λ value. Ok (Return value)
 
 -- [class, method, index]
 abbrev pub place : Reader Place
@@ -165,14 +165,15 @@ throw_step m d = tuple 3 m d >>= λ ds. entry whole m ds 1 >>= λ object. entry 
 
 -- ["prepare", class]
 abbrev pub prepare_step : Reader StepPart
-prepare_step m d = tuple 2 m d >>= λ ds. entry whole m ds 1 >>= λ class. Ok (Prepare class)
+prepare_step m d = second whole m d >>= λ class. Ok (Prepare class)
 
 -- ["start", thread]
 abbrev pub start_step : Reader StepPart
-start_step m d = tuple 2 m d >>= λ ds. entry whole m ds 1 >>= λ thread. Ok (Start thread)
+start_step m d = second whole m d >>= λ thread. Ok (Start thread)
 
-abbrev pub step : Reader StepPart
-step m d = entries m d >>= λ ds. entry text m ds 0 >>= λ word.
+-- the step of this word
+abbrev pub step_named : List ℕ → Reader StepPart
+step_named word m d =
     if bytes_eq word (codes "call") then call_step m d else (
     if bytes_eq word (codes "go") then go_step m d else (
     if bytes_eq word (codes "return") then return_step m d else (
@@ -180,6 +181,9 @@ step m d = entries m d >>= λ ds. entry text m ds 0 >>= λ word.
     if bytes_eq word (codes "prepare") then prepare_step m d else (
     if bytes_eq word (codes "start") then start_step m d else (
     Err (Missing m)))))))
+
+abbrev pub step : Reader StepPart
+step m d = entries m d >>= λ ds. entry text m ds 0 >>= λ word. step_named word m d
 
 -- ---- threads, and all
 

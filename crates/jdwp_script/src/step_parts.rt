@@ -67,19 +67,22 @@ impl Part for Step {
         let Some(word) = first.as_str() else {
             return Err(ScriptFault::Missing(member));
         };
-        match word {
-            "call" => call(alloc, value, member),
-            // ["go", index]
-            "go" => Ok(Step::Go(second(alloc, value, member)?)),
-            // ["return", value]
-            "return" => Ok(Step::Return(second(alloc, value, member)?)),
-            "throw" => throw(alloc, value, member),
-            // ["prepare", class]
-            "prepare" => Ok(Step::Prepare(second(alloc, value, member)?)),
-            // ["start", thread]
-            "start" => Ok(Step::Start(ObjectId(second(alloc, value, member)?))),
-            _ => Err(ScriptFault::Missing(member)),
-        }
+        named(alloc, word, value, member)
+    }
+}
+
+/// The step of this word.
+fn named(alloc: Global, word: &str, value: &Value, member: Member) -> Result<Step, ScriptFault>
+    ensures { Gives step_part result (scripts.step_named word.now member (view value.now)) }
+{
+    match word {
+        "call" => call(alloc, value, member),
+        "go" => go(alloc, value, member),
+        "return" => returned(alloc, value, member),
+        "throw" => throw(alloc, value, member),
+        "prepare" => prepare(alloc, value, member),
+        "start" => start(alloc, value, member),
+        _ => Err(ScriptFault::Missing(member)),
     }
 }
 
@@ -97,6 +100,20 @@ fn call(alloc: Global, value: &Value, member: Member) -> Result<Step, ScriptFaul
     }))
 }
 
+/// `["go", index]`
+fn go(alloc: Global, value: &Value, member: Member) -> Result<Step, ScriptFault>
+    ensures { Gives step_part result (scripts.go_step member (view value.now)) }
+{
+    Ok(Step::Go(second(alloc, value, member)?))
+}
+
+/// `["return", value]`
+fn returned(alloc: Global, value: &Value, member: Member) -> Result<Step, ScriptFault>
+    ensures { Gives step_part result (scripts.return_step member (view value.now)) }
+{
+    Ok(Step::Return(second(alloc, value, member)?))
+}
+
 /// `["throw", object, [class, method, index]]`, or with `null` in place of where it is caught
 fn throw(alloc: Global, value: &Value, member: Member) -> Result<Step, ScriptFault>
     ensures { Gives step_part result (scripts.throw_step member (view value.now)) }
@@ -106,6 +123,20 @@ fn throw(alloc: Global, value: &Value, member: Member) -> Result<Step, ScriptFau
         object: ObjectId(entry(alloc, list, 1, member)?),
         caught: entry(alloc, list, 2, member)?,
     }))
+}
+
+/// `["prepare", class]`
+fn prepare(alloc: Global, value: &Value, member: Member) -> Result<Step, ScriptFault>
+    ensures { Gives step_part result (scripts.prepare_step member (view value.now)) }
+{
+    Ok(Step::Prepare(second(alloc, value, member)?))
+}
+
+/// `["start", thread]`
+fn start(alloc: Global, value: &Value, member: Member) -> Result<Step, ScriptFault>
+    ensures { Gives step_part result (scripts.start_step member (view value.now)) }
+{
+    Ok(Step::Start(ObjectId(second(alloc, value, member)?)))
 }
 
 /// What stands behind the word, in a list of two.

@@ -7,9 +7,3 @@ returns-in_default c = grind (arith, common_steps)
 
 pub returns-in_default-as_str : goal.returns-in_default-as_str
 returns-in_default-as_str c = grind (arith, common_steps)
-
-pub returns-in-call : goal.returns-in-call
-returns-in-call c = grind (arith, common_steps)
-
-pub returns-in-throw : goal.returns-in-throw
-returns-in-throw c = grind (arith, common_steps)
