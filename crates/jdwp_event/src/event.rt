@@ -1,5 +1,5 @@
 //! Events and composites (JDWP specification, "Protocol Details": the command Composite of the set Event).
-ghost use Rattle.std.specs.Prelude.{◌≡◌, ◌≤◌, ◌+◌, ◌<◌, ◌++◌, length, take, IfOk, IfErr, [], vec_len, vec_capacity};
+ghost use Rattle.std.specs.Prelude.{◌≡◌, ◌≤◌, ◌+◌, ◌<◌, ◌++◌, length, take, option_map, IfOk, IfErr, [], vec_len, vec_capacity};
 ghost use Rattle.std.specs.List.{flat_map, list_any};
 ghost use Rattle.std.specs.Result.{IsErrOf};
 ghost use Rattle.jdwp_wire.specs.declared.data_fault.DataFault.TheVariants.{NoMemory as WantOfMemory};
@@ -8,7 +8,7 @@ ghost use Rattle.jdwp_wire.specs.Writing.{Appends, LeavesInFront, HasRoom};
 ghost use Rattle.jdwp_wire.specs.Each.{times_at, EncodesAll};
 ghost use Rattle.jdwp_wire.specs.Listed.{first_refusal};
 ghost use Rattle.jdwp_layout.specs.Shapes.{Events};
-ghost use Rattle.jdwp_layout.specs.Meanings.{ScalarMeaning, entry_meaning, scalar_meanings};
+ghost use Rattle.jdwp_layout.specs.Meanings.{ScalarMeaning, entry_meaning, entry_meanings, scalar_meanings};
 ghost use Rattle.jdwp_layout.specs.Grammar.{EncodesEntry, EntryFault};
 ghost use Rattle.jdwp_layout.specs.Keeping.{EntryIsKept, EntriesAreKept};
 ghost use Rattle.jdwp_layout.specs.Reads.{entry_at};
@@ -203,21 +203,11 @@ impl Composite {
     pub fn of_data(alloc: Global, carried: Data) -> Result<Option<Composite>, NoMemory>
         ensures { IfOk result (λ found. found ≡ composite_of carried) }
     {
-        let mut items = carried.into_items();
-        let Some(Datum::Many(entries)) = items.pop() else {
+        let Some((policy, entries)) = policy_and_entries(carried) else {
             return Ok(None);
         };
-        let [Datum::One(Scalar::Byte(policy))] = items.as_slice() else {
-            return Ok(None);
-        };
-        let mut events = Vec::with_capacity(alloc, entries.len())?;
-        for fields in entries {
-            events.push_reserved(Event { fields });
-        }
-        Ok(Some(Composite {
-            policy: *policy,
-            events,
-        }))
+        let events = events_of(alloc, entries)?;
+        Ok(Some(Composite { policy, events }))
     }
 
     /// The byte of the suspend policy.
@@ -233,6 +223,31 @@ impl Composite {
     {
         self.events.as_slice()
     }
+}
+
+/// The policy and the entries of data that are a byte and a list.
+fn policy_and_entries(carried: Data) -> Option<(u8, Vec<Vec<Scalar>>)>
+    ensures { option_map (λ p. with_policy p.0 (entry_meanings p.1.items)) result ≡ composite_of carried }
+{
+    let mut items = carried.into_items();
+    let Some(Datum::Many(entries)) = items.pop() else {
+        return None;
+    };
+    let [Datum::One(Scalar::Byte(policy))] = items.as_slice() else {
+        return None;
+    };
+    Some((*policy, entries))
+}
+
+/// The events of these fields.
+fn events_of(alloc: Global, entries: Vec<Vec<Scalar>>) -> Result<Vec<Event>, NoMemory>
+    ensures { IfOk result (λ events. events.items ≡ entry_meanings entries.items) }
+{
+    let mut events = Vec::with_capacity(alloc, entries.len())?;
+    for fields in entries {
+        events.push_reserved(Event { fields });
+    }
+    Ok(events)
 }
 
 /// The policy as a byte, an int count and so many events.

@@ -1,6 +1,6 @@
 use Rattle.std.proofs.Common.{◌≡◌, ◌≤◌, ◌+◌, length, vec_len, vec_capacity}
 use Rattle.jdwp_layout.specs.Meanings.{entry_meanings}
-use Rattle.jdwp_event.proofs.event.Composite.of_data.Given as goal
+use Rattle.jdwp_event.proofs.event.events_of.Given as goal
 
 abbrev pub invariant-loop-fields : goal.invariant-loop-fields
 invariant-loop-fields l = record {
