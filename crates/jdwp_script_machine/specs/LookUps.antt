@@ -20,6 +20,11 @@ abbrev pub put_in : {A : Type 0} → (A → ℕ) → A → List A → List A
 put_in key x [] = x ∷ []
 put_in key x (y ∷ ys) = if nat_le (key x) (key y) then x ∷ y ∷ ys else y ∷ put_in key x ys
 
+-- the first one is put among the others
+abbrev pub first_put : {A : Type 0} → (A → ℕ) → List A → List A
+first_put key [] = []
+first_put key (x ∷ xs) = put_in key x xs
+
 -- how many stand before the first whose id is not less
 abbrev pub place_for : {A : Type 0} → (A → ℕ) → ℕ → List A → ℕ
 place_for key id [] = 0

@@ -1,89 +1,59 @@
-//! A script with its lists by rising id.
-ghost use Rattle.std.specs.Prelude.{◌≡◌, ◌≤◌, length, map, IfOk};
+//! A script's lists by rising id.
+ghost use Rattle.std.specs.Prelude.{◌≡◌, ◌≤◌, length, map};
+ghost use Rattle.jdwp_script.specs.Parts.{ClassPart};
 ghost use Rattle.jdwp_script.specs.Meanings.{class_part, script_part};
-ghost use Rattle.jdwp_script_machine.specs.LookUps.{place_for, rising};
+ghost use Rattle.jdwp_script_machine.specs.LookUps.{place_for, first_put, rising};
 ghost use Rattle.jdwp_script_machine.specs.States.{class_arranged, arranged};
 
 use crate::look_ups::Numbered;
 use jdwp_script::{Class, Script};
-use jdwp_wire::NoMemory;
-use std::alloc::Global;
 
-/// The script with its groups, classes, objects and threads, and the fields and methods of each class, by rising id.
-///
-/// # Errors
-/// `NoMemory` where an allocation was refused.
-pub(crate) fn arranged(alloc: Global, script: Script) -> Result<Script, NoMemory>
-    ensures { IfOk result (λ script'. script_part script' ≡ arranged (script_part script)) }
+/// Arranges the script's groups, classes, objects and threads, and the fields and methods of each class, by rising id.
+pub(crate) fn arrange(script: &mut Script)
+    ensures { script_part script.new ≡ arranged (script_part script.old) }
 {
-    let Script {
-        name,
-        sizes,
-        groups,
-        classes,
-        objects,
-        threads,
-    } = script;
-    let groups = rising(alloc, groups)?;
-    let classes = rising(alloc, classes)?;
-    Ok(Script {
-        name,
-        sizes,
-        groups,
-        classes: classes_arranged(alloc, classes)?,
-        objects: rising(alloc, objects)?,
-        threads: rising(alloc, threads)?,
-    })
+    rise(&mut script.groups);
+    arrange_classes(&mut script.classes);
+    rise(&mut script.objects);
+    rise(&mut script.threads);
 }
 
-fn classes_arranged(alloc: Global, classes: Vec<Class>) -> Result<Vec<Class>, NoMemory>
-    ensures { IfOk result (λ r. map class_part r.items ≡ map class_arranged (map class_part classes.items)) }
+/// Arranges classes by rising id, and the fields and methods of each.
+fn arrange_classes(classes: &mut [Class])
+    ensures { map class_part classes.new ≡ map class_arranged (rising (λ (c : ClassPart). c.id) (map class_part classes.old)) }
 {
-    let mut arranged = Vec::with_capacity(alloc, classes.len())?;
-    for class in classes {
-        arranged.push_reserved(class_arranged(alloc, class)?);
+    rise(classes);
+    for class in classes.iter_mut() {
+        arrange_class(class);
     }
-    Ok(arranged)
 }
 
-fn class_arranged(alloc: Global, class: Class) -> Result<Class, NoMemory>
-    ensures { IfOk result (λ r. class_part r ≡ class_arranged (class_part class)) }
+/// Arranges the class's fields and methods by rising id.
+fn arrange_class(class: &mut Class)
+    ensures { class_part class.new ≡ class_arranged (class_part class.old) }
 {
-    let Class {
-        id,
-        tag,
-        signature,
-        modifiers,
-        superclass,
-        interfaces,
-        source,
-        fields,
-        methods,
-    } = class;
-    Ok(Class {
-        id,
-        tag,
-        signature,
-        modifiers,
-        superclass,
-        interfaces,
-        source,
-        fields: rising(alloc, fields)?,
-        methods: rising(alloc, methods)?,
-    })
+    rise(&mut class.fields);
+    rise(&mut class.methods);
 }
 
-/// The same ones by rising id: each is put before the first whose id is not less, from the last one on.
-fn rising<T: Numbered + Drop>(alloc: Global, parts: Vec<T>) -> Result<Vec<T>, NoMemory>
-    ensures { IfOk result (λ r. map T.meaning r.items ≡ rising T.key (map T.meaning parts.items)) }
+/// Arranges them by rising id: each is put before the first after it whose id is not less, from the last one on.
+fn rise<T: Numbered>(parts: &mut [T])
+    ensures { map T.meaning parts.new ≡ rising T.key (map T.meaning parts.old) }
 {
-    let mut left = parts;
-    let mut risen = Vec::new(alloc);
-    while let Some(part) = left.pop() {
-        let place = place_for(&risen, part.number());
-        risen.insert(place, part)?;
+    for first in (0..parts.len()).rev() {
+        put_first(&mut parts[first..]);
     }
-    Ok(risen)
+}
+
+/// Puts the first one among the others, before the first of them whose id is not less.
+fn put_first<T: Numbered>(parts: &mut [T])
+    ensures { map T.meaning parts.new ≡ first_put T.key (map T.meaning parts.old) }
+{
+    let Some((first, others)) = parts.split_first() else {
+        return;
+    };
+    let less = place_for(others, first.number());
+    parts[..=less].rotate_left(1);
 }
 
 /// How many stand before the first whose id is not less.

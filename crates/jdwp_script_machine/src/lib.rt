@@ -9,6 +9,7 @@ mod class_answers;
 mod class_entries;
 mod class_look_ups;
 mod entries;
+mod field_values;
 mod frame_answers;
 mod group_answers;
 mod happening;

@@ -1,17 +1,17 @@
 //! What is answered of objects and strings (JDWP specification, "ObjectReference" and "StringReference").
 ghost use Rattle.std.specs.Prelude.{◌≡◌, IfOk};
-ghost use Rattle.jdwp_layout.specs.Meanings.{meanings, scalar_meanings, entry_meanings};
+ghost use Rattle.jdwp_layout.specs.Meanings.{meanings};
 ghost use Rattle.jdwp_script.specs.Meanings.{class_part, object_part, script_part};
 ghost use Rattle.jdwp_script_machine.specs.StateMeanings.{state_now};
-ghost use Rattle.jdwp_script_machine.specs.ClassAnswers.{answer_entries, entry_value, field_values};
 ghost use Rattle.jdwp_wire.specs.ErrorCodes.{INVALID_CLASS, INVALID_STRING};
 ghost use Rattle.jdwp_script_machine.specs.Sites.{class_in};
 ghost use Rattle.jdwp_script_machine.specs.Requests.{found_or, of_object};
 ghost use Rattle.jdwp_script_machine.specs.ObjectAnswers.{held_value, type_answer, object_type_answer, held_answer, collection_answer, collected_answer, object_answer, text_answer, string_value_answer, string_answer};
 
 use crate::asked::object_asked;
+use crate::field_values::{Fielded, values_asked};
 use crate::places::class_of;
-use crate::replies::{done, of_entries, of_pair, of_scalar, of_text, value_entry};
+use crate::replies::{done, of_pair, of_scalar, of_text};
 use crate::requests::entries_of;
 use crate::state::MachineState;
 use jdwp_layout::numbers::{
@@ -91,48 +91,22 @@ fn held_by(alloc: Global, object: &Object, content: &[Datum]) -> Result<Answer, 
     ensures { IfOk result (λ a. a ≡ held_answer (object_part object.now) (meanings content.now)) }
 {
     match entries_of(content) {
-        Some(entries) => values_of(alloc, object, entries),
+        Some(entries) => values_asked(alloc, object, entries),
         None => Ok(Answer::Error(ErrorCode::ILLEGAL_ARGUMENT)),
     }
 }
 
-/// The value of each field that an entry names, in their order.
-fn values_of(alloc: Global, object: &Object, entries: &[Vec<Scalar>]) -> Result<Answer, NoMemory>
-    ensures { IfOk result (λ a. a ≡ answer_entries (field_values (held_value (object_part object.now)) (entry_meanings entries.now))) }
-{
-    let mut values = Vec::new(alloc);
-    for entry in entries {
-        match held_asked(object, entry) {
-            Some(literal) => {
-                let value = value_entry(alloc, literal.value())?;
-                values.push(value)?;
+impl Fielded for Object {
+    ghost held = { λ o. held_value (object_part o) };
+
+    fn value(&self, id: FieldId) -> Option<Literal> {
+        for held in &self.fields {
+            if held.field.0 == id.0 {
+                return Some(held.value);
             }
-            None => return Ok(Answer::Error(ErrorCode::INVALID_FIELDID)),
         }
+        None
     }
-    of_entries(alloc, values)
-}
-
-/// What the object has in the field that the entry names.
-fn held_asked(object: &Object, entry: &[Scalar]) -> Option<Literal>
-    ensures { result ≡ entry_value (held_value (object_part object.now)) (scalar_meanings entry.now) }
-{
-    match entry {
-        [Scalar::FieldId(id)] => held_value(object, *id),
-        _ => None,
-    }
-}
-
-/// What the object has in a field.
-fn held_value(object: &Object, id: FieldId) -> Option<Literal>
-    ensures { result ≡ held_value (object_part object.now) id.0 }
-{
-    for held in &object.fields {
-        if held.field.0 == id.0 {
-            return Some(held.value);
-        }
-    }
-    None
 }
 
 /// Success where the object is there, and nothing more is asked.

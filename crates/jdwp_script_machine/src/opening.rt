@@ -2,12 +2,12 @@
 ghost use Rattle.std.specs.Prelude.{◌≡◌, ℕ, map, IfOk, OnOk};
 ghost use Rattle.std.specs.List.{list_any};
 ghost use Rattle.jdwp_script.specs.Meanings.{step_part, script_part};
-ghost use Rattle.jdwp_script_machine.specs.States.{some_step, starts_thread, prepares_class, opening_thread, opening_class, opening};
+ghost use Rattle.jdwp_script_machine.specs.States.{some_step, starts_thread, prepares_class, opening_thread, opening_class, opening_of, opening};
 ghost use Rattle.jdwp_script_machine.specs.Layers.{Holds, Gains};
 ghost use Rattle.jdwp_script_machine.specs.StateMeanings.{thread_now, class_now, state_now};
 ghost use Rattle.jdwp_script_machine.specs.Sought.{names, is_that, thread_at_opening, class_at_opening};
 
-use crate::arranging::arranged;
+use crate::arranging::arrange;
 use crate::state::{ClassState, Life, MachineState, ThreadState};
 use jdwp_script::{Script, Step};
 use jdwp_value::{ObjectId, ReferenceTypeId};
@@ -29,19 +29,40 @@ pub(crate) enum Sought {
 ///
 /// # Errors
 /// `NoMemory` where an allocation was refused.
-pub(crate) fn opening(alloc: Global, script: Script) -> Result<MachineState, NoMemory>
+pub(crate) fn opening(alloc: Global, mut script: Script) -> Result<MachineState, NoMemory>
     ensures { IfOk result (λ s. state_now s ≡ opening (script_part script)) }
 {
-    let script = arranged(alloc, script)?;
-    let started = named_in(alloc, &script, Sought::Starts)?;
-    let threads = threads_of(alloc, &script, &started)?;
-    let prepared = named_in(alloc, &script, Sought::Prepares)?;
-    let classes = classes_of(alloc, &script, &prepared)?;
+    arrange(&mut script);
+    state_of(alloc, script)
+}
+
+/// The state in which the script begins, whose lists stand by rising id.
+fn state_of(alloc: Global, script: Script) -> Result<MachineState, NoMemory>
+    ensures { IfOk result (λ s. state_now s ≡ opening_of (script_part script)) }
+{
+    let threads = opening_threads(alloc, &script)?;
+    let classes = opening_classes(alloc, &script)?;
     Ok(MachineState {
         script,
         threads,
         classes,
     })
+}
+
+/// The threads of the script, as they begin.
+fn opening_threads(alloc: Global, script: &Script) -> Result<Vec<ThreadState>, NoMemory>
+    ensures { IfOk result (λ es. map thread_now es.items ≡ map (opening_thread (script_part script.now)) (script_part script.now).threads) }
+{
+    let started = named_in(alloc, script, Sought::Starts)?;
+    threads_of(alloc, script, &started)
+}
+
+/// The classes of the script, as they begin.
+fn opening_classes(alloc: Global, script: &Script) -> Result<Vec<ClassState>, NoMemory>
+    ensures { IfOk result (λ cs. map class_now cs.items ≡ map (opening_class (script_part script.now)) (script_part script.now).classes) }
+{
+    let prepared = named_in(alloc, script, Sought::Prepares)?;
+    classes_of(alloc, script, &prepared)
 }
 
 fn threads_of(

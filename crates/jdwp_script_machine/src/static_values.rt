@@ -1,14 +1,14 @@
 //! The values of static fields (JDWP specification, "ReferenceType": GetValues).
 ghost use Rattle.std.specs.Prelude.{◌≡◌, List, map, IfOk, IfErr, IsTrue};
 ghost use Rattle.jdwp_layout.specs.declared.answer.Answer as declared;
-ghost use Rattle.jdwp_layout.specs.Meanings.{ScalarMeaning, meanings, scalar_meanings, entry_meanings};
+ghost use Rattle.jdwp_layout.specs.Meanings.{ScalarMeaning, meanings, entry_meanings};
 ghost use Rattle.jdwp_script.specs.Meanings.{class_part};
 ghost use Rattle.jdwp_script_machine.specs.Requests.{of_entries};
-ghost use Rattle.jdwp_script_machine.specs.ClassAnswers.{static_value, entry_value, field_values, answer_entries, statics_answer};
+ghost use Rattle.jdwp_script_machine.specs.ClassAnswers.{static_value, field_values, answer_entries, statics_answer};
 ghost use Rattle.jdwp_script_machine.specs.ClassQuestions.{by_entries, takes_memory};
 
+use crate::field_values::{Fielded, value_asked, values_asked};
 use crate::places::field_of;
-use crate::replies::{of_entries, value_entry};
 use jdwp_layout::{Answer, Datum, Scalar};
 use jdwp_script::{Class, Literal};
 use jdwp_value::FieldId;
@@ -56,14 +56,14 @@ fn are_static(class: &Class, entries: &[Vec<Scalar>]) -> bool
     ensures { result ≡ takes_memory (answer_entries (field_values (static_value (class_part class.now)) (entry_meanings entries.now))) }
 {
     for entry in entries {
-        if static_asked(class, entry).is_none() {
+        if value_asked(class, entry).is_none() {
             return false;
         }
     }
     true
 }
 
-/// The answer with the value of each field that an entry names.
+/// The answer with the value of each field that an entry names; `INVALID_FIELDID` where one names none.
 #[tactic(auto, using(crate::proofs::StaticValues::refused_as))]
 fn values_of(alloc: Global, class: &Class, entries: &[Vec<Scalar>]) -> Result<Answer, NoMemory>
     ensures value { IfOk result (λ a. a ≡ answer_entries (field_values (static_value (class_part class.now)) (entry_meanings entries.now))) }
@@ -73,35 +73,16 @@ fn values_of(alloc: Global, class: &Class, entries: &[Vec<Scalar>]) -> Result<An
     if !are_static(class, entries) {
         return Ok(Answer::Error(ErrorCode::INVALID_FIELDID));
     }
-    let mut values = Vec::new(alloc);
-    for entry in entries {
-        match static_asked(class, entry) {
-            Some(literal) => {
-                let value = value_entry(alloc, literal.value())?;
-                values.push(value)?;
-            }
-            None => return Ok(Answer::Error(ErrorCode::INVALID_FIELDID)),
+    values_asked(alloc, class, entries)
+}
+
+impl Fielded for Class {
+    ghost held = { λ c. static_value (class_part c) };
+
+    fn value(&self, id: FieldId) -> Option<Literal> {
+        match field_of(self, id) {
+            Some(field) => field.value,
+            None => None,
         }
-    }
-    of_entries(alloc, values)
-}
-
-/// The value of the static field that the entry names.
-fn static_asked(class: &Class, entry: &[Scalar]) -> Option<Literal>
-    ensures { result ≡ entry_value (static_value (class_part class.now)) (scalar_meanings entry.now) }
-{
-    match entry {
-        [Scalar::FieldId(id)] => static_value(class, *id),
-        _ => None,
-    }
-}
-
-/// The value of the class's static field.
-fn static_value(class: &Class, id: FieldId) -> Option<Literal>
-    ensures { result ≡ static_value (class_part class.now) id.0 }
-{
-    match field_of(class, id) {
-        Some(field) => field.value,
-        None => None,
     }
 }

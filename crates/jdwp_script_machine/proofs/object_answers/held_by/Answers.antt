@@ -11,4 +11,4 @@ returns-in-Some c =
     let content = meanings c.args.content.now in
     let answer = λ (entries : List (List ScalarMeaning)). answer_entries (field_values (held_value o) entries) in
     let told : answer (entry_meanings c.in-Some.entries.now) ≡ held_answer o content = sym (c.in-Some.ensures answer) in
-    rw told at c.values_of.ensures
+    rw told at c.values_asked.ensures

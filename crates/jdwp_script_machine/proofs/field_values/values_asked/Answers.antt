@@ -1,6 +1,6 @@
 use Rattle.std.proofs.lemmas.Grind.{common_steps}
 use Rattle.std.proofs.Common.{arith}
-use Rattle.jdwp_script_machine.proofs.object_answers.values_of.Goals as goal
+use Rattle.jdwp_script_machine.proofs.field_values.values_asked.Goals as goal
 
 pub returns-in-None : goal.returns-in-None
 returns-in-None c = grind (arith, common_steps)

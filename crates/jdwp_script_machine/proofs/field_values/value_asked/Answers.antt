@@ -1,6 +1,6 @@
 use Rattle.std.proofs.lemmas.Grind.{common_steps}
 use Rattle.std.proofs.Common.{arith}
-use Rattle.jdwp_script_machine.proofs.static_values.static_asked.Goals as goal
+use Rattle.jdwp_script_machine.proofs.field_values.value_asked.Goals as goal
 
 pub returns-in-FieldId : goal.returns-in-FieldId
 returns-in-FieldId c = grind (arith, common_steps)
