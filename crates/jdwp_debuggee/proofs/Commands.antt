@@ -8,7 +8,7 @@ use Rattle.jdwp_value.specs.declared.value.Value.{Value}
 use Rattle.jdwp_layout.specs.declared.answer.Answer.{Answer}
 use Rattle.jdwp_layout.specs.declared.answer.Answer.TheVariants.{Data, Error}
 use Rattle.jdwp_layout.specs.Meanings.{ScalarMeaning, DatumMeaning}
-use Rattle.jdwp_event.specs.Modifiers.{modifiers_of}
+use Rattle.jdwp_event.specs.Modifiers.{ModifierMeaning, modifiers_of}
 use Rattle.jdwp_event.specs.Requests.{Asked, all_asked}
 use Rattle.jdwp_machine.specs.Meanings.{Meaning}
 use Rattle.jdwp_machine.specs.Laws.{IsLawful, MayAnswer}
@@ -186,16 +186,19 @@ slots-does m law settings now t f values n x s e h =
 
 -- ---- requests
 
+pub set-sound : {S : Type 0} (m : Meaning S) (settings : Settings) (now : Moment S) (byte policy : ℕ) (modifiers : List ModifierMeaning) → IsSound m settings now → IsSound m settings (set_by m now byte policy modifiers None).after
+set-sound m settings now byte policy modifiers s = record {
+  state = s.state;
+  lives = s.lives;
+  at_most = s.at_most;
+  below = subst (AreBelow (now.state.next_request + 1)) (sym (asked-append now.state.requests _)) (below-more now.state.next_request (all_asked now.state.requests) _ refl s.below);
+}
+
 pub set-does : {S : Type 0} (m : Meaning S) (settings : Settings) (now : Moment S) (byte policy : ℕ) (entries : List (List ScalarMeaning)) (v : Option ErrorCode) → IsSound m settings now → Does m settings now (Actions.SetRequest byte policy entries) (set_by m now byte policy (modifiers_of entries) v)
 set-does m settings now byte policy entries (Some e) s = does_refused m settings now (Actions.SetRequest byte policy entries) e s (λ t h. absurd (cc))
 set-does m settings now byte policy entries None s =
     record {
-      sound = record {
-        state = s.state;
-        lives = s.lives;
-        at_most = s.at_most;
-        below = subst (AreBelow (now.state.next_request + 1)) (sym (asked-append now.state.requests _)) (below-more now.state.next_request (all_asked now.state.requests) _ refl s.below);
-      };
+      sound = set-sound m settings now byte policy (modifiers_of entries) s;
       ever = λ t x. x;
       counts = λ t. refl;
       requests = asked-append now.state.requests _;

@@ -1,6 +1,7 @@
 -- what the code keeps stays
 use Rattle.jdwp_wire.specs.Numbers.{greatest_int}
-use Rattle.std.proofs.Common.{◌≡◌, ◌≤◌, ◌==◌, ◌+◌, ◌-◌, cond, ℕ, Bool, true, false, Option, Some, [], length, refl, sym, ◌∙◌, ap, subst, arith}
+use Rattle.std.proofs.Common.{◌≡◌, ◌≤◌, ◌==◌, ◌+◌, ◌-◌, cond, ℕ, Bool, true, false, Option, Some, None, [], length, refl, sym, ◌∙◌, ap, subst, arith}
+use Rattle.std.specs.Prelude.{IfSome}
 use Rattle.jdwp_machine.specs.Meanings.{Meaning, has}
 use Rattle.jdwp_machine.specs.Laws.{IsLawful, AreDistinct}
 use Rattle.jdwp_debuggee.specs.Actions.{Command, Raw}
@@ -20,6 +21,11 @@ pub most-of : {S : Type 0} (m : Meaning S) (d : Debuggee S) → IsKept m d → A
 most-of m d k =
     at-most-more d.settings.count_limit greatest_int d.moment.state.threads k.limit.1
     (all-at-most d.settings.count_limit d.moment.state.threads k.distinct k.sound.at_most)
+
+-- a live thread's count
+pub count-most : {S : Type 0} (m : Meaning S) (d : Debuggee S) (t : ℕ) (count : Option ℕ) → IsKept m d → count ≡ count_of d.moment.state t → IfSome count (λ n. n ≤ d.settings.count_limit)
+count-most m d t None k e = tt
+count-most m d t (Some n) k e = k.sound.at_most t n (sym e)
 
 pub kept-new : {S : Type 0} (m : Meaning S) → IsLawful m → (settings : Settings) (s : S) → m.is_state s → IsCountLimit settings.count_limit → AreRoomy settings.limits → IsKept m (record { settings = settings; moment = record { state = new_state (m.live s); machine = s } })
 kept-new m law settings s st limit limits = record {

@@ -20,7 +20,7 @@ use Rattle.jdwp_debuggee.specs.Facts.{AreBelow}
 use Rattle.jdwp_debuggee.specs.Refusals.{LAST_REQUEST, kind_refusal, or_else, room_refusal, set_refusal, unless}
 use Rattle.jdwp_debuggee.specs.Settings.{Settings}
 use Rattle.jdwp_debuggee.specs.State.{Moment, dead}
-use Rattle.jdwp_debuggee.proofs.Commands.{does_all, set-does}
+use Rattle.jdwp_debuggee.proofs.Commands.{does_all, set-sound}
 use Rattle.jdwp_value.specs.declared.id.ObjectId.{ObjectId}
 use Rattle.jdwp_debuggee.proofs.Distinct.{distinct-none}
 use Rattle.jdwp_debuggee.proofs.Ends.{distinct-tail, tail-live}
@@ -70,19 +70,19 @@ set-room m settings now byte policy modifiers h =
 abbrev pub made : {S : Type 0} → Meaning S → Moment S → ℕ → ℕ → List ModifierMeaning → Request
 made m now byte policy modifiers = new_request (asked now.state byte policy modifiers) (first_origin m now.machine (step_thread modifiers))
 
-pub kept-set : {S : Type 0} (m : Meaning S) (d : Debuggee S) (byte policy : ℕ) (entries : List (List ScalarMeaning)) → IsKept m d → set_refusal m d.settings d.moment byte policy (modifiers_of entries) ≡ None → IsKept m (at_moment (set_by m d.moment byte policy (modifiers_of entries) None).after d)
-kept-set m d byte policy entries k h =
-    let room : d.moment.state.next_request ≤ greatest_int = set-room m d.settings d.moment byte policy (modifiers_of entries) h in
+pub kept-set : {S : Type 0} (m : Meaning S) (d : Debuggee S) (byte policy : ℕ) (modifiers : List ModifierMeaning) → IsKept m d → set_refusal m d.settings d.moment byte policy modifiers ≡ None → IsKept m (at_moment (set_by m d.moment byte policy modifiers None).after d)
+kept-set m d byte policy modifiers k h =
+    let room : d.moment.state.next_request ≤ greatest_int = set-room m d.settings d.moment byte policy modifiers h in
     record {
-      sound = (set-does m d.settings d.moment byte policy entries None k.sound).sound;
+      sound = set-sound m d.settings d.moment byte policy modifiers k.sound;
       distinct = k.distinct;
       quiet = k.quiet;
       limit = k.limit;
       next = omega arith;
       limits = k.limits;
       room =
-          let few = set-few m d.settings d.moment byte policy (modifiers_of entries) h in
-          let more = length-append d.moment.state.requests (made m d.moment byte policy (modifiers_of entries) ∷ []) in
+          let few = set-few m d.settings d.moment byte policy modifiers h in
+          let more = length-append d.moment.state.requests (made m d.moment byte policy modifiers ∷ []) in
           omega (arith, few, more);
     }
 
@@ -93,16 +93,19 @@ placed-made m d byte policy modifiers r k e =
 abbrev pub set_fields : {S : Type 0} → Debuggee S → List Request → Debuggee S
 set_fields d rs = at_moment (record { state = record d.moment.state { requests = rs; next_request = d.moment.state.next_request + 1 }; machine = d.moment.machine }) d
 
-pub kept-set-by : {S : Type 0} (m : Meaning S) (d : Debuggee S) (byte policy : ℕ) (entries : List (List ScalarMeaning)) (r : Request) → IsKept m d → set_refusal m d.settings d.moment byte policy (modifiers_of entries) ≡ None → r ≡ made m d.moment byte policy (modifiers_of entries) → IsKept m (set_fields d (placed r d.moment.state.requests))
-kept-set-by m d byte policy entries r k h e =
-    subst (λ (rs : List Request). IsKept m (set_fields d rs)) (sym (placed-made m d byte policy (modifiers_of entries) r k e)) (kept-set m d byte policy entries k h)
+pub kept-set-by : {S : Type 0} (m : Meaning S) (d : Debuggee S) (byte policy : ℕ) (modifiers : List ModifierMeaning) (r : Request) → IsKept m d → set_refusal m d.settings d.moment byte policy modifiers ≡ None → r ≡ made m d.moment byte policy modifiers → IsKept m (set_fields d (placed r d.moment.state.requests))
+kept-set-by m d byte policy modifiers r k h e =
+    subst (λ (rs : List Request). IsKept m (set_fields d rs)) (sym (placed-made m d byte policy modifiers r k e)) (kept-set m d byte policy modifiers k h)
 
-pub carries-set : {S : Type 0} (m : Meaning S) (d : Debuggee S) (byte policy : ℕ) (entries : List (List ScalarMeaning)) (r : Request) → IsKept m d → set_refusal m d.settings d.moment byte policy (modifiers_of entries) ≡ None → r ≡ made m d.moment byte policy (modifiers_of entries)
-    → CarriesOut m (Actions.SetRequest byte policy entries) d (set_fields d (placed r d.moment.state.requests)) (int_answer d.moment.state.next_request)
-carries-set m d byte policy entries r k h e = record {
-  after = λ c. ap (λ (rs : List Request). set_fields d rs) (placed-made m d byte policy (modifiers_of entries) r k e) ∙ ap (λ v. at_moment (set_by m d.moment byte policy (modifiers_of entries) v).after d) (sym h);
-  answers = λ c. ap (λ v. (set_by m d.moment byte policy (modifiers_of entries) v).answer) (sym h);
-}
+pub carries-set : {S : Type 0} (m : Meaning S) (d : Debuggee S) (byte policy : ℕ) (modifiers : List ModifierMeaning) (r : Request) → IsKept m d → set_refusal m d.settings d.moment byte policy modifiers ≡ None → r ≡ made m d.moment byte policy modifiers
+    → (entries : List (List ScalarMeaning)) → modifiers ≡ modifiers_of entries → CarriesOut m (Actions.SetRequest byte policy entries) d (set_fields d (placed r d.moment.state.requests)) (int_answer d.moment.state.next_request)
+carries-set m d byte policy modifiers r k h e entries are =
+    let unrefused = rw are at h in
+    let is = rw are at e in
+    record {
+      after = λ c. ap (λ (rs : List Request). set_fields d rs) (placed-made m d byte policy (modifiers_of entries) r k is) ∙ ap (λ v. at_moment (set_by m d.moment byte policy (modifiers_of entries) v).after d) (sym unrefused);
+      answers = λ c. ap (λ v. (set_by m d.moment byte policy (modifiers_of entries) v).answer) (sym unrefused);
+    }
 
 -- ---- Exit
 

@@ -1,10 +1,11 @@
 //! Where a thread is, as the machine answers it: from there the steps of a new request are measured
 //! (JDWP specification, "Protocol Details": ThreadReference.Frames, Method.LineTable, and the modifier Step).
 ghost use Rattle.std.specs.Prelude.{◌≡◌, ◌<◌, ◌^◌, ◌∷◌, List, None, IfOk, length};
-ghost use Rattle.jdwp_layout.specs.Meanings.{ScalarMeaning, scalar_meanings, entry_meanings};
+ghost use Rattle.jdwp_layout.specs.Meanings.{ScalarMeaning, scalar_meanings, entry_meanings, meanings};
+ghost use Rattle.jdwp_layout.specs.declared.answer.Answer.TheVariants.{Data};
 ghost use Rattle.jdwp_event.specs.RequestParts.{origin_meaning};
 ghost use Rattle.jdwp_debuggee.specs.Origins.{line_at, line_by, newest_line, origin_by, origin_of};
-ghost use Rattle.jdwp_debuggee.specs.OriginParts.{HasFewFrames};
+ghost use Rattle.jdwp_debuggee.specs.OriginParts.{HasFewFrames, newest_place};
 
 use crate::questions::ask;
 use jdwp_event::StepOrigin;
@@ -38,22 +39,41 @@ fn find_line(index: u64, entries: &[Vec<Scalar>]) -> Option<u32>
     line
 }
 
+/// The line of an index, by the data of Method.LineTable.
+fn line_in_items(index: u64, items: &[Datum]) -> Option<u32>
+    ensures { result ≡ line_by index (Data (meanings items.now)) }
+{
+    match items {
+        [
+            Datum::One(Scalar::Long(_)),
+            Datum::One(Scalar::Long(_)),
+            Datum::Many(entries),
+        ] => find_line(index, entries),
+        _ => None,
+    }
+}
+
 /// The line of an index, by the answer of Method.LineTable.
 fn line_in_answer(index: u64, answer: &Answer) -> Option<u32>
     ensures { result ≡ line_by index answer.now }
 {
-    let Answer::Data(content) = answer else {
+    match answer {
+        Answer::Data(content) => line_in_items(index, content.items()),
+        Answer::Error(_) => None,
+    }
+}
+
+/// Where the newest frame is.
+fn newest_place(frames: &[Vec<Scalar>]) -> Option<Location>
+    ensures { result ≡ newest_place (entry_meanings frames.now) }
+{
+    let [newest, ..] = frames else {
         return None;
     };
-    if let [
-        Datum::One(Scalar::Long(_)),
-        Datum::One(Scalar::Long(_)),
-        Datum::Many(entries),
-    ] = content.items()
-    {
-        return find_line(index, entries);
+    match newest.as_slice() {
+        [Scalar::FrameId(_), Scalar::Location(place)] => Some(*place),
+        _ => None,
     }
-    None
 }
 
 /// The line of the newest frame, where one is known.
@@ -64,29 +84,23 @@ fn line_of_newest<M: Machine>(
 ) -> Result<Option<u32>, NoMemory>
     ensures { IfOk result (λ line. line ≡ newest_line M.meaning machine.now (entry_meanings frames.now)) }
 {
-    let [newest, ..] = frames else {
+    let Some(
+        Location::At {
+            class,
+            method,
+            index,
+            ..
+        },
+    ) = newest_place(frames)
+    else {
         return Ok(None);
     };
-    if let [
-        Scalar::FrameId(_),
-        Scalar::Location(
-            Location::At {
-                class,
-                method,
-                index,
-                ..
-            },
-        ),
-    ] = newest.as_slice()
-    {
-        let items = vec![in alloc;
-            Datum::One(Scalar::ReferenceTypeId(*class)),
-            Datum::One(Scalar::MethodId(*method)),
-        ]?;
-        let answer = ask(machine, METHOD, LINE_TABLE, items)?;
-        return Ok(line_in_answer(*index, &answer));
-    }
-    Ok(None)
+    let items = vec![in alloc;
+        Datum::One(Scalar::ReferenceTypeId(class)),
+        Datum::One(Scalar::MethodId(method)),
+    ]?;
+    let answer = ask(machine, METHOD, LINE_TABLE, items)?;
+    Ok(line_in_answer(index, &answer))
 }
 
 /// Where a thread is, by the answer of ThreadReference.Frames.

@@ -1,10 +1,13 @@
 //! The commands that take memory: EventRequest.Set, and VirtualMachine.Exit, after which the machine is dead.
-ghost use Rattle.std.specs.Prelude.{◌≡◌, IfOk, OnErr};
-ghost use Rattle.jdwp_layout.specs.Meanings.{entry_meanings};
+ghost use Rattle.std.specs.Prelude.{◌≡◌, List, None, IfOk, OnErr};
+ghost use Rattle.jdwp_event.specs.Modifiers.{modifiers_of};
+ghost use Rattle.jdwp_event.specs.RequestParts.{modifiers_meaning};
+ghost use Rattle.jdwp_layout.specs.Meanings.{ScalarMeaning, entry_meanings};
 ghost use Rattle.jdwp_machine.specs.Meanings.{numbers};
 ghost use Rattle.jdwp_debuggee.specs.Actions as action;
 ghost use Rattle.jdwp_debuggee.specs.Debuggees.{CarriesOut};
 ghost use Rattle.jdwp_debuggee.specs.Effects.{all_ended};
+ghost use Rattle.jdwp_debuggee.specs.Refusals.{set_refusal};
 ghost use Rattle.jdwp_debuggee.specs.Replies.{reply_meaning};
 
 use crate::debuggee::Debuggee;
@@ -61,9 +64,27 @@ impl<M: Machine> Debuggee<M> {
         ensures err { OnErr result (self.new ≡ self.old) }
     {
         let modifiers = Modifier::of_entries(alloc, entries)?;
-        if let Some(error) = self.set_refusal(alloc, kind, policy, modifiers.as_slice())? {
-            return Ok(Reply::Refused(error));
+        match self.set_refusal(alloc, kind, policy, modifiers.as_slice())? {
+            Some(error) => Ok(Reply::Refused(error)),
+            None => self.add_request(alloc, kind, policy, modifiers),
         }
+    }
+
+    /// Adds a request that is not refused, under the next id, which is answered.
+    ///
+    /// # Errors
+    /// `NoMemory` where an allocation was refused; then nothing has changed.
+    fn add_request(
+        &mut self,
+        alloc: Global,
+        kind: u8,
+        policy: u8,
+        modifiers: Vec<Modifier>,
+    ) -> Result<Reply, NoMemory>
+        requires { set_refusal M.meaning self.old.settings self.old.moment kind policy (modifiers_meaning modifiers) ≡ None }
+        ensures ok { IfOk result (λ reply. (entries : List (List ScalarMeaning)) → modifiers_meaning modifiers ≡ modifiers_of entries → CarriesOut M.meaning (action.SetRequest kind policy entries) self.old self.new (reply_meaning reply)) }
+        ensures err { OnErr result (self.new ≡ self.old) }
+    {
         let origin = first_origin(alloc, &self.machine, modifiers.as_slice())?;
         let id = self.next_request;
         let asked_id = RequestId::new(id).unwrap();
