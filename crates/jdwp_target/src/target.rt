@@ -97,8 +97,8 @@ impl<M: Machine + Drop> Target<M> {
     pub fn new(alloc: Global, machine: M, settings: Settings) -> Result<Target<M>, NoMemory>
         ensures { IfOk result (λ t. t ≡ new_target settings (record { state = spec.new_state (M.meaning.live machine); machine = machine })) }
     {
-        let debuggee = Debuggee::new(alloc, machine, settings)?;
         let end = End::new(alloc, settings.limits())?;
+        let debuggee = Debuggee::new(alloc, machine, settings)?;
         let mut began = Trace::new();
         began.push(&debuggee);
         let mut phases = Trace::new();
