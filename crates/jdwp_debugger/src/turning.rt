@@ -34,7 +34,7 @@ use jdwp_wire::{ErrorCode, HANDSHAKE, Header, IdSizes, PacketKind, PacketRef};
 use std::alloc::Global;
 
 /// How many composites may wait for the widths of ids.
-const PARKED_MOST: usize = 4;
+const MOST_PARKED: usize = 4;
 
 /// What a turn read.
 #[derive(Drop)]
@@ -144,7 +144,7 @@ impl Debugger {
         ensures fits { IfOk result (λ n. Fits self.now (news_meaning n)) }
     {
         let Some(sizes) = self.sizes else {
-            if self.parked.len() == PARKED_MOST {
+            if self.parked.len() == MOST_PARKED {
                 return Err(DebuggerFault::TooManyParked);
             }
             let body = Vec::from_slice(alloc, bytes)?;
