@@ -1,3 +1,4 @@
+use Rattle.std.proofs.lemmas.Grind.{common_steps}
 use Rattle.std.proofs.Common.{◌∙◌, ◌++◌, ◌∷◌, [], inl, sym, ap, refl, arith}
 use Rattle.jdwp_debugger.specs.Debuggers.{Debugger, lost}
 use Rattle.jdwp_engine.specs.declared.ended.Ended.TheVariants as ended
@@ -59,3 +60,7 @@ returns-in-Err-push-clause-ends g c = λ out line asks-it done rest base k.
     (sym c.sizes.ensures ∙ c.in-Some.is) c.in-Ok.ensures.ok asked k in
     moved-ends (done ++ line ∷ rest) done base s out old mid c.args.run.now.left c.args.run.now.left c.args.run.now.left 0 1 (g.P.Pipe.story c.write_out.new.pipe) out c.write_out.new.debugger ended.NoMemory k
     (asked-moves c.in-Ok.command old mid asked) in-order (λ closed. absurd (let e = sym opened ∙ closed in cc)) (record { debugger = w.0; pipe = w.1; out = prints-none out; left = refl })
+
+pub returns-in-Ok-push-clause-ready : goal.returns-in-Ok-push-clause-ready
+returns-in-Ok-push-clause-ready g c =
+    grind (arith, common_steps)

@@ -1,4 +1,4 @@
-use Rattle.std.proofs.Common.{◌-◌, refl, arith}
+use Rattle.std.proofs.Common.{◌-◌, refl, arith, rules}
 use Rattle.jdwp_end.specs.Ends.{front_of}
 use Rattle.jdwp_attach.proofs.Ending.{limit-ends, moved-ends, read-ends, turn-ends}
 use Rattle.jdwp_attach.proofs.Moves.{if-err, moved-goes, on-ok, read-goes, taken-ready}
@@ -61,3 +61,7 @@ returns-in_default g c =
           (done, begins, (omega (arith, reads.moves.tickets_are, k.asked), turned-puts (front_of old.end) done base.debugger old mid c.in-Ok.turn refl c.in-Ok.ensures.turns c.in_default.not-Nothing k.stands))
           (λ closed. (old, c.in-Ok.turn, mid, c.in-Ok.ensures.turns, reads.closes closed, refl)) h) c.tell.ensures.ends;
     }
+
+pub returns-in-Nothing-clause-left : goal.returns-in-Nothing-clause-left
+returns-in-Nothing-clause-left g c =
+    search rules

@@ -1,4 +1,4 @@
-use Rattle.std.proofs.Common.{◌≡◌, length, arith}
+use Rattle.std.proofs.Common.{◌≡◌, length, arith, rules}
 use Rattle.jdwp_debugger.proofs.Ids.{next_is_free}
 use Rattle.jdwp_debugger.proofs.pending.next_free.Goals as goal
 
@@ -14,3 +14,11 @@ returns c =
       free = (rw (c.loop.invariant.at, whole) (next_is_free c.args.pending.now c.args.from c.ranges.from.fits c.requires (rw (← whole) others)));
       others = others;
     }
+
+pub returns-then-not-has_outstanding : goal.returns-then-not-has_outstanding
+returns-then-not-has_outstanding c =
+    search rules
+
+pub loop-preserved : goal.loop-preserved
+loop-preserved c =
+    search rules

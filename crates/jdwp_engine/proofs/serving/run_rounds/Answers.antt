@@ -1,4 +1,4 @@
-use Rattle.std.proofs.Common.{refl, arith}
+use Rattle.std.proofs.Common.{refl, arith, rules}
 use Rattle.jdwp_engine.proofs.Runs.{costs-opened, going-opened}
 use Rattle.jdwp_engine.proofs.serving.run_rounds.Goals as goal
 
@@ -25,3 +25,11 @@ pub returns-clause-limit : goal.returns-clause-limit
 returns-clause-limit g c = λ e.
     let k = c.loop-done.invariant.costs in
     (k.0, omega (arith, k.1, c.loop-done-test.false))
+
+pub returns-in-Ends-clause-limit : goal.returns-in-Ends-clause-limit
+returns-in-Ends-clause-limit g c =
+    search rules
+
+pub returns-clause-ended : goal.returns-clause-ended
+returns-clause-ended g c =
+    search rules

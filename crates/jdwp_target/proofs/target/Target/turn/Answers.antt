@@ -97,3 +97,7 @@ greet-requires c = grind (arith, common_steps)
 
 pub handle-requires : goal.handle-requires
 handle-requires c = grind (arith, common_steps)
+
+pub returns-in-Fault : goal.returns-in-Fault
+returns-in-Fault g c =
+    search rules
