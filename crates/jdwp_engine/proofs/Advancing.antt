@@ -1,19 +1,18 @@
 -- What messages and steps leave of a target, one after the other.
 use Rattle.std.proofs.Common.{◌≡◌, ◌∙◌, ℕ, ◌≤◌, ◌+◌, ◌++◌, ◌||◌, not, Option, Some, None, List, [], ◌∷◌, Bool, true, false, ◌⊎◌, inl, inr, sym, ap, refl, subst, append_assoc, arith}
-use Rattle.std.proofs.lemmas.Grind.{common_steps}
 use Rattle.jdwp_wire.specs.Bytes.{IsBytes}
 use Rattle.jdwp_wire.specs.Streams.{Message, Whole, stream}
-use Rattle.jdwp_end.specs.Ends.{front_of, is_open, is_paused}
+use Rattle.jdwp_end.specs.Ends.{front_of, is_open}
 use Rattle.jdwp_end.specs.Runs.{Carries}
 use Rattle.jdwp_event.specs.Composites.{CompositeMeaning}
 use Rattle.jdwp_machine.specs.Meanings.{Meaning}
 use Rattle.jdwp_debuggee.specs.Settings.{Settings}
-use Rattle.jdwp_debuggee.specs.Steps.{may_step, occurs}
+use Rattle.jdwp_debuggee.specs.Steps.{may_step}
 use Rattle.jdwp_target.specs.declared.target.Stepped.{Stepped}
-use Rattle.jdwp_target.specs.declared.target.Stepped.TheVariants.{Frozen, Quiet, Reported, Ended}
+use Rattle.jdwp_target.specs.declared.target.Stepped.TheVariants.{Frozen}
 use Rattle.jdwp_target.specs.Standings.{Act, Handles, Steps, Standing, after, handled, react}
 use Rattle.jdwp_target.specs.Targets.{Target, Ran, standing, with_handled, with_step}
-use Rattle.jdwp_target.specs.Turns.{StepsWhere, told_by_end, told_of_sends, told_of_step}
+use Rattle.jdwp_target.specs.Turns.{StepsWhere, told_by_end, told_of_sends}
 use Rattle.jdwp_target.proofs.Closing.{act-why, both, may-alive, message-why}
 use Rattle.jdwp_target.proofs.TargetRuns.{handled-acts, handled-message, ran-handled, ran-stepped, stepped-acts}
 use Rattle.jdwp_engine.specs.Outcome.{EndsInDispose, MayStep}

@@ -1,5 +1,5 @@
 -- How the facts of an engine's run go on from one call to the next.
-use Rattle.std.proofs.Common.{◌≡◌, ◌≢◌, ◌∙◌, ℕ, ◌<◌, ◌≤◌, ◌+◌, ◌++◌, List, [], ◌∷◌, length, Bool, true, false, Ok, Err, ◌⊎◌, inl, inr, min, take, drop, sym, ap, refl, subst, append_assoc, arith}
+use Rattle.std.proofs.Common.{◌≡◌, ◌≢◌, ◌∙◌, ℕ, ◌≤◌, ◌+◌, ◌++◌, List, [], ◌∷◌, length, Bool, true, false, Ok, Err, ◌⊎◌, inl, inr, min, take, drop, sym, ap, refl, subst, append_assoc, arith}
 use Rattle.std.proofs.lemmas.Grind.{common_steps}
 use Rattle.std.proofs.lemmas.List.{append-nil, length-take, length-append, take_at, take-append-drop, take_all, drop-drop}
 use Rattle.jdwp_wire.specs.Bytes.{IsBytes}
@@ -16,7 +16,7 @@ use Rattle.jdwp_target.specs.declared.target.TargetFault.TheVariants.{Frame, NoM
 use Rattle.jdwp_target.specs.declared.target.Turn.{Turn}
 use Rattle.jdwp_target.specs.declared.target.Turn.TheVariants.{Nothing}
 use Rattle.jdwp_target.specs.Standings.{Act, handled}
-use Rattle.jdwp_target.specs.Targets.{Target, Ran, lost, opened, with_fed, with_handled, with_taken}
+use Rattle.jdwp_target.specs.Targets.{Target, Ran, lost, opened, with_fed, with_taken}
 use Rattle.jdwp_target.specs.Turns.{TurnsAt}
 use Rattle.jdwp_target.proofs.TargetRuns.{fed-acts, ran-fed, ran-opened, ran-taken, taken-acts}
 use Rattle.jdwp_engine.specs.declared.ended.Ended.{Ended}

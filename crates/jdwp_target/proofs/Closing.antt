@@ -1,5 +1,5 @@
 -- What closes a session: Dispose, and the death of the machine.
-use Rattle.std.proofs.Common.{◌≡◌, ◌∙◌, ℕ, ◌==◌, ◌&&◌, ◌||◌, List, [], ◌∷◌, length, Bool, true, false, if◌then◌else◌, ◌⊎◌, inl, inr, Option, Some, None, Result, Ok, Err, sym, ap, refl, arith}
+use Rattle.std.proofs.Common.{◌≡◌, ◌∙◌, ℕ, ◌==◌, ◌&&◌, ◌||◌, List, [], ◌∷◌, length, Bool, true, false, if◌then◌else◌, ◌⊎◌, inl, inr, Option, Some, None, Result, Ok, Err, sym, refl, arith}
 use Rattle.std.proofs.lemmas.Bool.{cases_Bool, eqb-true}
 use Rattle.jdwp_wire.specs.Streams.{Message, Handshake, Packet}
 use Rattle.jdwp_wire.specs.Widths.{Widths}
@@ -8,7 +8,7 @@ use Rattle.jdwp_wire.specs.declared.error_code.ErrorCode.{ErrorCode}
 use Rattle.jdwp_wire.specs.declared.packet.PacketKind.{PacketKind}
 use Rattle.jdwp_wire.specs.declared.packet.PacketKind.TheVariants as kind
 use Rattle.jdwp_wire.specs.ErrorCodes.{ILLEGAL_ARGUMENT}
-use Rattle.jdwp_layout.specs.CommandNumbers.{is_command, VIRTUAL_MACHINE, THREAD_REFERENCE, STACK_FRAME, ALL_THREADS, DISPOSE, ID_SIZES, SUSPEND, RESUME, EXIT, HOLD_EVENTS, RELEASE_EVENTS, SUSPEND_THREAD, RESUME_THREAD, THREAD_STATUS, FRAMES, FRAME_COUNT, SUSPEND_COUNT, SET_REQUEST, CLEAR_REQUEST, CLEAR_ALL_BREAKPOINTS, SET_SLOTS}
+use Rattle.jdwp_layout.specs.CommandNumbers.{is_command, VIRTUAL_MACHINE, STACK_FRAME, ALL_THREADS, DISPOSE, ID_SIZES, SUSPEND, RESUME, EXIT, HOLD_EVENTS, RELEASE_EVENTS, SUSPEND_THREAD, RESUME_THREAD, THREAD_STATUS, FRAMES, FRAME_COUNT, SUSPEND_COUNT, SET_REQUEST, CLEAR_REQUEST, CLEAR_ALL_BREAKPOINTS, SET_SLOTS}
 use Rattle.jdwp_layout.specs.Meanings.{Byte, Int, Object, Frame, DatumMeaning, One, Many}
 use Rattle.jdwp_end.specs.declared.phase.Phase.{Phase}
 use Rattle.jdwp_end.specs.declared.phase.Phase.TheVariants.{Closed, AwaitingHandshake, Established}
@@ -22,7 +22,7 @@ use Rattle.jdwp_debuggee.specs.Effects as effects
 use Rattle.jdwp_debuggee.specs.Facts.{is_dispose}
 use Rattle.jdwp_debuggee.specs.Settings.{Settings}
 use Rattle.jdwp_debuggee.specs.State.{Moment, State, Thread, count_of}
-use Rattle.jdwp_debuggee.specs.Steps.{Step, death_by, ended_by, happens, may_step, occurs, occurs_by, report_by, thread_ended}
+use Rattle.jdwp_debuggee.specs.Steps.{Step, death_by, ended_by, happens, may_step, occurs, occurs_by, report_by}
 use Rattle.jdwp_target.specs.Closings.{Closes, IsDispose}
 use Rattle.jdwp_target.specs.Standings.{Act, Handles, Loses, Standing, Steps, carried_out, greets_by, handles, handles_packet, phase_after, react, replies_by, steps_apart, steps_at, steps_by, steps_in_session}
 

@@ -22,7 +22,7 @@ use Rattle.jdwp_debuggee.specs.Refusals.{set_refusal}
 use Rattle.jdwp_debuggee.specs.Settings.{Settings}
 use Rattle.jdwp_debuggee.specs.State.{Thread, State, Moment, at_limit, count_of, is_marked, new_state, next_packet_id, without_thread}
 use Rattle.jdwp_debuggee.specs.StepParts.{packet_after}
-use Rattle.jdwp_debuggee.specs.Steps.{Step, death_by, ended_by, ends, happens, may_step, occurs, occurs_by, report_by, seen, thread_ended, with_started}
+use Rattle.jdwp_debuggee.specs.Steps.{Step, death_by, ended_by, ends, happens, may_step, occurs, occurs_by, report_by, seen, with_started}
 use Rattle.jdwp_target.specs.Lives.{Acts, AreNumbered, Begins, Deed, begun, begun_by, composite_ids, id_if_composite, sent_in_life}
 use Rattle.jdwp_target.specs.Standings.{Act, Handles, Loses, Reaction, Standing, Steps, carried_out, greets_by, handles_packet, react, replies_by, reports, stands, steps_apart, steps_at, steps_by, steps_in_session}
 

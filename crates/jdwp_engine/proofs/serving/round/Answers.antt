@@ -1,6 +1,4 @@
-use Rattle.std.proofs.Common.{◌≡◌, true, false, ◌<◌}
-use Rattle.jdwp_wire.specs.Streams.{More}
-use Rattle.jdwp_end.specs.Ends.{front_of, is_open, is_paused, room_of}
+use Rattle.jdwp_end.specs.Ends.{front_of}
 use Rattle.jdwp_engine.proofs.Runs.{fault-next-ends, memory-next-ends, message-ends, message-goes}
 use Rattle.jdwp_engine.proofs.Turns.{nothing-More}
 use Rattle.jdwp_engine.proofs.serving.round.Goals as goal
