@@ -12,6 +12,7 @@ use Rattle.jdwp_wire.specs.Streams.{Message, Handshake, Packet, NextMessage, Who
 use Rattle.jdwp_wire.specs.declared.frame.FrameFault.{FrameFault}
 use Rattle.jdwp_wire.specs.declared.frame.NextHello.{NextHello}
 use Rattle.jdwp_wire.specs.declared.frame.NextHello.TheVariants as hello
+use Rattle.jdwp_wire.specs.Limits.{least_packet_limit}
 use Rattle.jdwp_end.specs.declared.phase.Phase.{Phase}
 use Rattle.jdwp_end.specs.declared.phase.Phase.TheVariants.{Closed, AwaitingHandshake, Established}
 use Rattle.jdwp_end.specs.Ends.{End, is_open, is_open_phase, is_paused, front_of, next_at, next_of, room_of}
@@ -133,10 +134,10 @@ pub front-fault : (end : End) (fault : FrameFault) → front_of end ≡ Fault fa
 front-fault end fault e = unpaused-fault (is_paused end) (next_of end) fault e
 
 -- an end at which nothing waits is not paused
-pub empty-flows : (end : End) → 2048 ≤ end.limits.packet → end.outgoing ≡ [] → is_paused end ≡ false
+pub empty-flows : (end : End) → least_packet_limit ≤ end.limits.packet → end.outgoing ≡ [] → is_paused end ≡ false
 empty-flows end low none = rw none (lt-leb end.limits.packet 0 (omega arith))
 
-pub more-has-room : (end : End) → 2048 ≤ end.limits.packet → IsBytes end.incoming → front_of end ≡ More → is_open end ≡ true → is_paused end ≡ false → 0 < room_of end
+pub more-has-room : (end : End) → least_packet_limit ≤ end.limits.packet → IsBytes end.incoming → front_of end ≡ More → is_open end ≡ true → is_paused end ≡ false → 0 < room_of end
 more-has-room end low fits e opened flows =
     let next : next_of end ≡ More = unpaused-more (is_paused end) (next_of end) flows e in
     let short = more-room end.limits.packet end.phase end.incoming (omega arith) fits opened next in

@@ -1,5 +1,6 @@
 -- What every end keeps inside.
 use Rattle.std.specs.Prelude.{◌≡◌, ◌≤◌, ◌*◌, length}
+use Rattle.jdwp_wire.specs.Limits.{least_packet_limit, most_packet_limit}
 use Rattle.jdwp_end.specs.declared.end.End.TheInside.{Inside}
 use Rattle.jdwp_end.specs.Ends.{End}
 
@@ -14,8 +15,8 @@ view_of e = record {
 
 -- packets have at least 2,048 bytes and at most 1,048,576, and both queues have their room
 pub record IsRight (e : Inside) : Type 0 where
-  pub packet_least : 2048 ≤ e.limits.packet
-  pub packet_most : e.limits.packet ≤ 1048576
+  pub packet_least : least_packet_limit ≤ e.limits.packet
+  pub packet_most : e.limits.packet ≤ most_packet_limit
   pub incoming_room : e.incoming.capacity ≡ e.limits.packet
   pub outgoing_room : e.outgoing.capacity ≡ e.limits.packet * 2
   pub incoming_fits : length e.incoming.bytes ≤ e.limits.packet

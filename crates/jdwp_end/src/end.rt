@@ -2,6 +2,7 @@
 ghost use Rattle.std.specs.Prelude.{◌≡◌, ◌≤◌, ◌<◌, ◌+◌, ◌-◌, ◌*◌, ◌++◌, [], None, true, false, IfOk, length, take, drop, min};
 ghost use Rattle.jdwp_wire.specs.Bytes.{IsBytes};
 ghost use Rattle.jdwp_wire.specs.Streams.{Message, Whole, More};
+ghost use Rattle.jdwp_wire.specs.Limits.{least_packet_limit, most_packet_limit};
 ghost use Rattle.jdwp_end.specs.Ends as ends;
 ghost use Rattle.jdwp_end.specs.Ends.{closed, front_of, lost, most_outgoing, new_end, opened, room_of, seen_front, with_enqueued, with_fed, with_handled, with_taken};
 
@@ -77,8 +78,8 @@ impl End {
     /// Whether so much waits to leave, `limits.packet()` bytes or more, that nothing is handled.
     pub fn is_paused(&self) -> bool
         ensures paused { result ≡ ends.is_paused self.now }
-        ensures least { 2048 ≤ self.now.limits.packet }
-        ensures most { self.now.limits.packet ≤ 1048576 }
+        ensures least { least_packet_limit ≤ self.now.limits.packet }
+        ensures most { self.now.limits.packet ≤ most_packet_limit }
     {
         self.outgoing.len() >= self.limits.packet() as usize
     }
@@ -146,8 +147,8 @@ impl End {
         ensures front { seen_front result ≡ front_of self.now }
         ensures room { front_of self.now ≡ More → ends.is_open self.now ≡ true → ends.is_paused self.now ≡ false → 0 < room_of self.now }
         ensures bytes { IsBytes self.now.incoming }
-        ensures least { 2048 ≤ self.now.limits.packet }
-        ensures most { self.now.limits.packet ≤ 1048576 }
+        ensures least { least_packet_limit ≤ self.now.limits.packet }
+        ensures most { self.now.limits.packet ≤ most_packet_limit }
         ensures flows { self.now.outgoing ≡ [] → ends.is_paused self.now ≡ false }
     {
         let bytes = self.incoming.as_slice();

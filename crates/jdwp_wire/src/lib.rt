@@ -25,7 +25,7 @@ pub use laws::{
     answers_first_fault, begins_with_one_fault, begins_with_one_value, reads_only_encoded,
     reads_what_is_encoded,
 };
-pub use limits::Limits;
+pub use limits::{LEAST_PACKET_LIMIT, Limits, MOST_PACKET_LIMIT};
 pub use no_memory::NoMemory;
 pub use packet::{Header, PacketKind, PacketRef};
 pub use wire::Wire;

@@ -1,9 +1,15 @@
 //! How much a session may hold.
 ghost use Rattle.std.specs.Prelude.{◌≡◌, ◌≤◌, ◌+◌, ◌*◌, ◌↔◌, IsTrue, IsSome, IfSome};
-ghost use Rattle.jdwp_wire.specs.Limits.{IsCount, AreLimits, standard_limits};
+ghost use Rattle.jdwp_wire.specs.Limits.{least_packet_limit, most_packet_limit, composite_limit, IsCount, AreLimits, standard_limits};
 
 use crate::frame::PACKET_LIMIT;
 use std::marker::Model;
+
+/// The least bytes that a packet may be limited to.
+pub const LEAST_PACKET_LIMIT: u32 = 2_048;
+
+/// The most bytes that a packet may be limited to.
+pub const MOST_PACKET_LIMIT: u32 = 1_048_576;
 
 /// The bounds of a session: the most bytes of a packet, and how many live threads, event requests and commands that
 /// wait for their replies there may be.
@@ -49,7 +55,7 @@ impl Limits {
           pending = pending;
         }) }
     {
-        if packet < 2048 || packet > 1_048_576 {
+        if packet < LEAST_PACKET_LIMIT || packet > MOST_PACKET_LIMIT {
             return None;
         }
         if !is_count(live) || !is_count(requests) || !is_count(pending) {
@@ -81,8 +87,8 @@ impl Limits {
     /// The most bytes of a packet, its header among them. A composite event of one event for each request fits it.
     pub fn packet(&self) -> u32
         ensures value { result ≡ self.now.packet }
-        ensures within { (2048 ≤ result) × (result ≤ 1048576) }
-        ensures composite { 16 + 542 * self.now.requests ≤ result }
+        ensures within { (least_packet_limit ≤ result) × (result ≤ most_packet_limit) }
+        ensures composite { composite_limit self.now.requests ≤ result }
     {
         self.packet
     }
