@@ -15,14 +15,21 @@ policy_byte policy.EventThread = 1
 policy_byte policy.All = 2
 
 abbrev pub policy_of_byte : ℕ → Option Policy
-policy_of_byte byte = if byte == 0 then Some policy.None else (if byte == 1 then Some policy.EventThread else (if byte == 2 then Some policy.All else None))
+policy_of_byte byte =
+    if byte == policy_byte policy.None then Some policy.None else (
+    if byte == policy_byte policy.EventThread then Some policy.EventThread else (
+    if byte == policy_byte policy.All then Some policy.All else
+    None))
 
 abbrev pub size_number : StepSize → ℤ
 size_number size.Min = pos 0
 size_number size.Line = pos 1
 
 abbrev pub size_of_number : ℤ → Option StepSize
-size_of_number n = if int_eq n (pos 0) then Some size.Min else (if int_eq n (pos 1) then Some size.Line else None)
+size_of_number n =
+    if int_eq n (size_number size.Min) then Some size.Min else (
+    if int_eq n (size_number size.Line) then Some size.Line else
+    None)
 
 abbrev pub depth_number : StepDepth → ℤ
 depth_number depth.Into = pos 0
@@ -30,4 +37,8 @@ depth_number depth.Over = pos 1
 depth_number depth.Out = pos 2
 
 abbrev pub depth_of_number : ℤ → Option StepDepth
-depth_of_number n = if int_eq n (pos 0) then Some depth.Into else (if int_eq n (pos 1) then Some depth.Over else (if int_eq n (pos 2) then Some depth.Out else None))
+depth_of_number n =
+    if int_eq n (depth_number depth.Into) then Some depth.Into else (
+    if int_eq n (depth_number depth.Over) then Some depth.Over else (
+    if int_eq n (depth_number depth.Out) then Some depth.Out else
+    None))

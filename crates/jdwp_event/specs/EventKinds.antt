@@ -1,32 +1,33 @@
 -- Event kinds (JDWP specification, "EventKind Constants").
 use Rattle.std.specs.Prelude.{ℕ, ◌==◌, if◌then◌else◌, Option, Some, None, List, [], ◌∷◌}
+use Rattle.jdwp_layout.specs.EventKindNumbers as number
 use Rattle.jdwp_event.specs.declared.kind.EventKind.{EventKind}
 use Rattle.jdwp_event.specs.declared.kind.EventKind.TheVariants as kind
 
 -- the byte of each kind
 abbrev pub kind_byte : EventKind → ℕ
-kind_byte kind.SingleStep = 1
-kind_byte kind.Breakpoint = 2
-kind_byte kind.FramePop = 3
-kind_byte kind.Exception = 4
-kind_byte kind.UserDefined = 5
-kind_byte kind.ThreadStart = 6
-kind_byte kind.ThreadDeath = 7
-kind_byte kind.ClassPrepare = 8
-kind_byte kind.ClassUnload = 9
-kind_byte kind.ClassLoad = 10
-kind_byte kind.FieldAccess = 20
-kind_byte kind.FieldModification = 21
-kind_byte kind.ExceptionCatch = 30
-kind_byte kind.MethodEntry = 40
-kind_byte kind.MethodExit = 41
-kind_byte kind.MethodExitWithReturnValue = 42
-kind_byte kind.MonitorContendedEnter = 43
-kind_byte kind.MonitorContendedEntered = 44
-kind_byte kind.MonitorWait = 45
-kind_byte kind.MonitorWaited = 46
-kind_byte kind.VmStart = 90
-kind_byte kind.VmDeath = 99
+kind_byte kind.SingleStep = number.SINGLE_STEP
+kind_byte kind.Breakpoint = number.BREAKPOINT
+kind_byte kind.FramePop = number.FRAME_POP
+kind_byte kind.Exception = number.EXCEPTION
+kind_byte kind.UserDefined = number.USER_DEFINED
+kind_byte kind.ThreadStart = number.THREAD_START
+kind_byte kind.ThreadDeath = number.THREAD_DEATH
+kind_byte kind.ClassPrepare = number.CLASS_PREPARE
+kind_byte kind.ClassUnload = number.CLASS_UNLOAD
+kind_byte kind.ClassLoad = number.CLASS_LOAD
+kind_byte kind.FieldAccess = number.FIELD_ACCESS
+kind_byte kind.FieldModification = number.FIELD_MODIFICATION
+kind_byte kind.ExceptionCatch = number.EXCEPTION_CATCH
+kind_byte kind.MethodEntry = number.METHOD_ENTRY
+kind_byte kind.MethodExit = number.METHOD_EXIT
+kind_byte kind.MethodExitWithReturnValue = number.METHOD_EXIT_WITH_RETURN_VALUE
+kind_byte kind.MonitorContendedEnter = number.MONITOR_CONTENDED_ENTER
+kind_byte kind.MonitorContendedEntered = number.MONITOR_CONTENDED_ENTERED
+kind_byte kind.MonitorWait = number.MONITOR_WAIT
+kind_byte kind.MonitorWaited = number.MONITOR_WAITED
+kind_byte kind.VmStart = number.VM_START
+kind_byte kind.VmDeath = number.VM_DEATH
 
 -- every kind once
 abbrev pub all_kinds : List EventKind

@@ -7,6 +7,9 @@ use Rattle.jdwp_value.specs.declared.location.Location.{Location}
 use Rattle.jdwp_value.specs.declared.location.Location.TheVariants as location
 use Rattle.jdwp_event.specs.declared.kind.EventKind.{EventKind}
 use Rattle.jdwp_event.specs.declared.kind.EventKind.TheVariants as kind
+use Rattle.jdwp_event.specs.declared.policy.StepDepth.TheVariants as depths
+use Rattle.jdwp_event.specs.declared.policy.StepSize.TheVariants as sizes
+use Rattle.jdwp_event.specs.Constants.{size_number, depth_number}
 use Rattle.jdwp_event.specs.EventKinds.{kind_byte}
 use Rattle.jdwp_event.specs.Modifiers.{ModifierMeaning, Count, Conditional, ThreadOnly, ClassOnly, ClassMatch, ClassExclude, LocationOnly, ExceptionOnly, FieldOnly, Step, InstanceOnly, SourceNameMatch}
 use Rattle.jdwp_event.specs.Occurrences.{ClassMeaning, PlaceMeaning, ThrownMeaning, OccurrenceMeaning, Moved, Entered, Left, Threw, Prepared, Started, RanOut, HappeningMeaning}
@@ -135,18 +138,16 @@ same_line None (Some n) = false
 same_line (Some m) None = false
 same_line (Some m) (Some n) = m == n
 
--- depth: into 0, over 1, out 2
 abbrev pub passes_depth : ℤ → ℕ → ℕ → Bool
 passes_depth depth before now =
-    if int_eq depth (pos 0) then true else
-    (if int_eq depth (pos 1) then nat_le now before else
-    (if int_eq depth (pos 2) then nat_lt now before else false))
+    if int_eq depth (depth_number depths.Into) then true else
+    (if int_eq depth (depth_number depths.Over) then nat_le now before else
+    (if int_eq depth (depth_number depths.Out) then nat_lt now before else false))
 
--- size: min 0, line 1
 abbrev pub passes_size : ℤ → Origin → PlaceMeaning → Bool
 passes_size size origin p =
-    if int_eq size (pos 0) then true else
-    (if int_eq size (pos 1) then not (same_line p.line origin.line) || not (p.frames == origin.frames) else false)
+    if int_eq size (size_number sizes.Min) then true else
+    (if int_eq size (size_number sizes.Line) then not (same_line p.line origin.line) || not (p.frames == origin.frames) else false)
 
 abbrev pub passes_step : Origin → ℕ → ℤ → ℤ → ℕ → Option PlaceMeaning → Bool
 passes_step origin thread size depth of None = false

@@ -5,6 +5,7 @@ use Rattle.jdwp_wire.specs.declared.data_fault.DataFault.TheVariants.{BadTag}
 use Rattle.jdwp_wire.specs.Widths.{Widths}
 use Rattle.jdwp_wire.specs.Reading.{Reader, Encoding, Faults}
 use Rattle.jdwp_wire.specs.Sequence.{seq, give, refuse}
+use Rattle.jdwp_layout.specs.ModifierKindNumbers as modifier
 use Rattle.jdwp_layout.specs.Shapes.{Modifiers}
 use Rattle.jdwp_layout.specs.Meanings.{ScalarMeaning, Byte, Boolean, Int, Text, Object, ReferenceType, OfField, Located}
 use Rattle.jdwp_layout.specs.Grammar.{EncodesEntry, EntryFault}
@@ -15,18 +16,18 @@ use Rattle.jdwp_event.specs.Modifiers.{ModifierMeaning, Count, Conditional, Thre
 
 -- the entry of a modifier: its kind as a byte, and what its fields hold
 abbrev pub modifier_entry : ModifierMeaning → List ScalarMeaning
-modifier_entry (Count n) = Byte 1 ∷ Int n ∷ []
-modifier_entry (Conditional n) = Byte 2 ∷ Int n ∷ []
-modifier_entry (ThreadOnly n) = Byte 3 ∷ Object n ∷ []
-modifier_entry (ClassOnly n) = Byte 4 ∷ ReferenceType n ∷ []
-modifier_entry (ClassMatch pattern) = Byte 5 ∷ Text pattern ∷ []
-modifier_entry (ClassExclude pattern) = Byte 6 ∷ Text pattern ∷ []
-modifier_entry (LocationOnly location) = Byte 7 ∷ Located location ∷ []
-modifier_entry (ExceptionOnly class caught uncaught) = Byte 8 ∷ ReferenceType class ∷ Boolean caught ∷ Boolean uncaught ∷ []
-modifier_entry (FieldOnly class field) = Byte 9 ∷ ReferenceType class ∷ OfField field ∷ []
-modifier_entry (Step thread size depth) = Byte 10 ∷ Object thread ∷ Int size ∷ Int depth ∷ []
-modifier_entry (InstanceOnly n) = Byte 11 ∷ Object n ∷ []
-modifier_entry (SourceNameMatch pattern) = Byte 12 ∷ Text pattern ∷ []
+modifier_entry (Count n) = Byte modifier.COUNT ∷ Int n ∷ []
+modifier_entry (Conditional n) = Byte modifier.CONDITIONAL ∷ Int n ∷ []
+modifier_entry (ThreadOnly n) = Byte modifier.THREAD_ONLY ∷ Object n ∷ []
+modifier_entry (ClassOnly n) = Byte modifier.CLASS_ONLY ∷ ReferenceType n ∷ []
+modifier_entry (ClassMatch pattern) = Byte modifier.CLASS_MATCH ∷ Text pattern ∷ []
+modifier_entry (ClassExclude pattern) = Byte modifier.CLASS_EXCLUDE ∷ Text pattern ∷ []
+modifier_entry (LocationOnly location) = Byte modifier.LOCATION_ONLY ∷ Located location ∷ []
+modifier_entry (ExceptionOnly class caught uncaught) = Byte modifier.EXCEPTION_ONLY ∷ ReferenceType class ∷ Boolean caught ∷ Boolean uncaught ∷ []
+modifier_entry (FieldOnly class field) = Byte modifier.FIELD_ONLY ∷ ReferenceType class ∷ OfField field ∷ []
+modifier_entry (Step thread size depth) = Byte modifier.STEP ∷ Object thread ∷ Int size ∷ Int depth ∷ []
+modifier_entry (InstanceOnly n) = Byte modifier.INSTANCE_ONLY ∷ Object n ∷ []
+modifier_entry (SourceNameMatch pattern) = Byte modifier.SOURCE_NAME_MATCH ∷ Text pattern ∷ []
 
 abbrev pub EncodesModifier : Widths → Encoding ModifierMeaning
 EncodesModifier w m code = EncodesEntry w Modifiers (modifier_entry m) code

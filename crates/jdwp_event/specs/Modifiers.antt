@@ -2,6 +2,7 @@
 use Rattle.std.specs.Prelude.{ℕ, ℤ, ◌==◌, if◌then◌else◌, Bool, List, [], ◌∷◌, Option, Some, None}
 use Rattle.std.specs.List.{filter_map}
 use Rattle.jdwp_value.specs.declared.location.Location.{Location}
+use Rattle.jdwp_layout.specs.ModifierKindNumbers as modifier
 use Rattle.jdwp_layout.specs.Meanings.{ScalarMeaning, Byte, Boolean, Int, Text, Object, ReferenceType, OfField, Located}
 
 pub data ModifierMeaning : Type 0 where
@@ -27,15 +28,15 @@ pub data ModifierMeaning : Type 0 where
 
 -- the modifier of a kind byte and what its fields hold
 abbrev pub modifier_of_kind : ℕ → List ScalarMeaning → Option ModifierMeaning
-modifier_of_kind kind (Int n ∷ []) = if kind == 1 then Some (Count n) else (if kind == 2 then Some (Conditional n) else None)
-modifier_of_kind kind (Object n ∷ []) = if kind == 3 then Some (ThreadOnly n) else (if kind == 11 then Some (InstanceOnly n) else None)
-modifier_of_kind kind (ReferenceType n ∷ []) = if kind == 4 then Some (ClassOnly n) else None
+modifier_of_kind kind (Int n ∷ []) = if kind == modifier.COUNT then Some (Count n) else (if kind == modifier.CONDITIONAL then Some (Conditional n) else None)
+modifier_of_kind kind (Object n ∷ []) = if kind == modifier.THREAD_ONLY then Some (ThreadOnly n) else (if kind == modifier.INSTANCE_ONLY then Some (InstanceOnly n) else None)
+modifier_of_kind kind (ReferenceType n ∷ []) = if kind == modifier.CLASS_ONLY then Some (ClassOnly n) else None
 modifier_of_kind kind (Text pattern ∷ []) =
-    if kind == 5 then Some (ClassMatch pattern) else (if kind == 6 then Some (ClassExclude pattern) else (if kind == 12 then Some (SourceNameMatch pattern) else None))
-modifier_of_kind kind (Located location ∷ []) = if kind == 7 then Some (LocationOnly location) else None
-modifier_of_kind kind (ReferenceType class ∷ Boolean caught ∷ Boolean uncaught ∷ []) = if kind == 8 then Some (ExceptionOnly class caught uncaught) else None
-modifier_of_kind kind (ReferenceType class ∷ OfField field ∷ []) = if kind == 9 then Some (FieldOnly class field) else None
-modifier_of_kind kind (Object thread ∷ Int size ∷ Int depth ∷ []) = if kind == 10 then Some (Step thread size depth) else None
+    if kind == modifier.CLASS_MATCH then Some (ClassMatch pattern) else (if kind == modifier.CLASS_EXCLUDE then Some (ClassExclude pattern) else (if kind == modifier.SOURCE_NAME_MATCH then Some (SourceNameMatch pattern) else None))
+modifier_of_kind kind (Located location ∷ []) = if kind == modifier.LOCATION_ONLY then Some (LocationOnly location) else None
+modifier_of_kind kind (ReferenceType class ∷ Boolean caught ∷ Boolean uncaught ∷ []) = if kind == modifier.EXCEPTION_ONLY then Some (ExceptionOnly class caught uncaught) else None
+modifier_of_kind kind (ReferenceType class ∷ OfField field ∷ []) = if kind == modifier.FIELD_ONLY then Some (FieldOnly class field) else None
+modifier_of_kind kind (Object thread ∷ Int size ∷ Int depth ∷ []) = if kind == modifier.STEP then Some (Step thread size depth) else None
 modifier_of_kind kind fields = None
 
 -- the modifier of an entry of the command's data, and those of all its entries, in the order sent

@@ -6,6 +6,7 @@ ghost use Rattle.jdwp_wire.specs.declared.data_fault.DataFault.TheVariants.{NoMe
 ghost use Rattle.jdwp_wire.specs.Reading.{in_usize};
 ghost use Rattle.jdwp_wire.specs.Writing.{Appends, Leaves, HasRoom};
 ghost use Rattle.jdwp_layout.specs.declared.item.Field.TheVariants.{String as TextField};
+ghost use Rattle.jdwp_layout.specs.ModifierKindNumbers.{CLASS_MATCH};
 ghost use Rattle.jdwp_layout.specs.ModifiersAndEvents.{modifier_fields};
 ghost use Rattle.jdwp_layout.specs.Shapes.{Modifiers};
 ghost use Rattle.jdwp_layout.specs.Meanings.{Byte, Text};
@@ -19,7 +20,7 @@ ghost use Rattle.jdwp_event.specs.Modifiers.{ModifierMeaning, modifier_of, modif
 ghost use Rattle.jdwp_event.specs.ModifierMeanings.{found_modifier, modifier_meaning};
 ghost use Rattle.jdwp_event.specs.RequestParts.{modifiers_meaning};
 
-use jdwp_layout::{Entry, Scalar, entry_size, pass_entry, read_entry, write_entry};
+use jdwp_layout::{Entry, Scalar, entry_size, modifier_kinds, pass_entry, read_entry, write_entry};
 use jdwp_value::{FieldId, Location, ObjectId, ReferenceTypeId};
 use jdwp_wire::{DataFault, IdSizes, NoMemory, Wire, all_or_nothing};
 use std::alloc::Global;
@@ -194,45 +195,64 @@ fn parts_of(modifier: &Modifier) -> Parts<'_>
     ensures pattern { MayHavePattern result }
 {
     match modifier {
-        Modifier::Count(n) => Parts::One(1, Scalar::Int(*n)),
-        Modifier::Conditional(n) => Parts::One(2, Scalar::Int(*n)),
-        Modifier::ThreadOnly(thread) => Parts::One(3, Scalar::ObjectId(*thread)),
-        Modifier::ClassOnly(class) => Parts::One(4, Scalar::ReferenceTypeId(*class)),
-        Modifier::ClassMatch(pattern) => Parts::Pattern(5, pattern),
-        Modifier::ClassExclude(pattern) => Parts::Pattern(6, pattern),
-        Modifier::LocationOnly(location) => Parts::One(7, Scalar::Location(*location)),
+        Modifier::Count(n) => Parts::One(modifier_kinds::COUNT, Scalar::Int(*n)),
+        Modifier::Conditional(n) => Parts::One(modifier_kinds::CONDITIONAL, Scalar::Int(*n)),
+        Modifier::ThreadOnly(thread) => Parts::One(
+            modifier_kinds::THREAD_ONLY,
+            Scalar::ObjectId(*thread),
+        ),
+        Modifier::ClassOnly(class) => Parts::One(
+            modifier_kinds::CLASS_ONLY,
+            Scalar::ReferenceTypeId(*class),
+        ),
+        Modifier::ClassMatch(pattern) => Parts::Pattern(modifier_kinds::CLASS_MATCH, pattern),
+        Modifier::ClassExclude(pattern) => Parts::Pattern(modifier_kinds::CLASS_EXCLUDE, pattern),
+        Modifier::LocationOnly(location) => Parts::One(
+            modifier_kinds::LOCATION_ONLY,
+            Scalar::Location(*location),
+        ),
         Modifier::ExceptionOnly {
             class,
             caught,
             uncaught,
         } => Parts::Three(
-            8,
+            modifier_kinds::EXCEPTION_ONLY,
             Scalar::ReferenceTypeId(*class),
             Scalar::Boolean(*caught),
             Scalar::Boolean(*uncaught),
         ),
         Modifier::FieldOnly { class, field } => {
-            Parts::Two(9, Scalar::ReferenceTypeId(*class), Scalar::FieldId(*field))
+            Parts::Two(
+                modifier_kinds::FIELD_ONLY,
+                Scalar::ReferenceTypeId(*class),
+                Scalar::FieldId(*field),
+            )
         }
         Modifier::Step {
             thread,
             size,
             depth,
         } => Parts::Three(
-            10,
+            modifier_kinds::STEP,
             Scalar::ObjectId(*thread),
             Scalar::Int(*size),
             Scalar::Int(*depth),
         ),
-        Modifier::InstanceOnly(object) => Parts::One(11, Scalar::ObjectId(*object)),
-        Modifier::SourceNameMatch(pattern) => Parts::Pattern(12, pattern),
+        Modifier::InstanceOnly(object) => Parts::One(
+            modifier_kinds::INSTANCE_ONLY,
+            Scalar::ObjectId(*object),
+        ),
+        Modifier::SourceNameMatch(pattern) => Parts::Pattern(
+            modifier_kinds::SOURCE_NAME_MATCH,
+            pattern,
+        ),
     }
 }
 
 /// How many bytes a modifier with a pattern takes; None past `usize`.
 fn pattern_size(pattern: &String, sizes: &IdSizes) -> Option<usize>
     ensures { result ≡ in_usize
-        (length (entry_canonical sizes.now (Byte 5 ∷ Text (string_bytes pattern.now) ∷ []))) }
+        (length (entry_canonical sizes.now (Byte CLASS_MATCH ∷ Text (string_bytes pattern.now) ∷ []))) }
 {
     let text = pattern.size(sizes)?;
     text.checked_add(1)
@@ -267,15 +287,31 @@ fn of_one(kind: u8, field: Scalar) -> Option<Modifier>
     ensures { found_modifier result ≡ modifier_of_kind kind (scalar_meaning field ∷ []) }
 {
     match (kind, field) {
-        (1, Scalar::Int(count)) => Some(Modifier::Count(count)),
-        (2, Scalar::Int(expression)) => Some(Modifier::Conditional(expression)),
-        (3, Scalar::ObjectId(thread)) => Some(Modifier::ThreadOnly(thread)),
-        (4, Scalar::ReferenceTypeId(class)) => Some(Modifier::ClassOnly(class)),
-        (5, Scalar::String(pattern)) => Some(Modifier::ClassMatch(pattern)),
-        (6, Scalar::String(pattern)) => Some(Modifier::ClassExclude(pattern)),
-        (7, Scalar::Location(location)) => Some(Modifier::LocationOnly(location)),
-        (11, Scalar::ObjectId(object)) => Some(Modifier::InstanceOnly(object)),
-        (12, Scalar::String(pattern)) => Some(Modifier::SourceNameMatch(pattern)),
+        (modifier_kinds::COUNT, Scalar::Int(count)) => Some(Modifier::Count(count)),
+        (modifier_kinds::CONDITIONAL, Scalar::Int(expression)) => Some(Modifier::Conditional(
+            expression,
+        )),
+        (modifier_kinds::THREAD_ONLY, Scalar::ObjectId(thread)) => Some(Modifier::ThreadOnly(
+            thread,
+        )),
+        (modifier_kinds::CLASS_ONLY, Scalar::ReferenceTypeId(class)) => Some(Modifier::ClassOnly(
+            class,
+        )),
+        (modifier_kinds::CLASS_MATCH, Scalar::String(pattern)) => Some(Modifier::ClassMatch(
+            pattern,
+        )),
+        (modifier_kinds::CLASS_EXCLUDE, Scalar::String(pattern)) => Some(Modifier::ClassExclude(
+            pattern,
+        )),
+        (modifier_kinds::LOCATION_ONLY, Scalar::Location(location)) => Some(Modifier::LocationOnly(
+            location,
+        )),
+        (modifier_kinds::INSTANCE_ONLY, Scalar::ObjectId(object)) => Some(Modifier::InstanceOnly(
+            object,
+        )),
+        (modifier_kinds::SOURCE_NAME_MATCH, Scalar::String(pattern)) => Some(
+            Modifier::SourceNameMatch(pattern),
+        ),
         _ => None,
     }
 }
@@ -287,7 +323,7 @@ fn of_more(kind: u8, fields: &[Scalar]) -> Option<Modifier>
 {
     match (kind, fields) {
         (
-            8,
+            modifier_kinds::EXCEPTION_ONLY,
             [
                 Scalar::ReferenceTypeId(class),
                 Scalar::Boolean(caught),
@@ -298,14 +334,14 @@ fn of_more(kind: u8, fields: &[Scalar]) -> Option<Modifier>
             caught: *caught,
             uncaught: *uncaught,
         }),
-        (9, [Scalar::ReferenceTypeId(class), Scalar::FieldId(field)]) => {
+        (modifier_kinds::FIELD_ONLY, [Scalar::ReferenceTypeId(class), Scalar::FieldId(field)]) => {
             Some(Modifier::FieldOnly {
                 class: *class,
                 field: *field,
             })
         }
         (
-            10,
+            modifier_kinds::STEP,
             [
                 Scalar::ObjectId(thread),
                 Scalar::Int(size),

@@ -249,8 +249,3 @@ THIS_OBJECT = record { set = STACK_FRAME; number = 3 }
 
 abbrev pub COMPOSITE : CommandNumber
 COMPOSITE = record { set = EVENT; number = 100 }
-
--- ---- a kind of modifier that is spoken of as a byte (EventRequest.Set)
-
-abbrev pub LOCATION_ONLY : ℕ
-LOCATION_ONLY = 7

@@ -1,3 +1,5 @@
+pub mod EventKindNumbers
+pub mod ModifierKindNumbers
 pub mod ModifiersAndEvents
 pub mod Shapes
 pub mod CommandNumbers

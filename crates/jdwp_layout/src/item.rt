@@ -3,6 +3,8 @@ ghost use Rattle.std.specs.Prelude.{◌≡◌};
 ghost use Rattle.jdwp_layout.specs.ModifiersAndEvents.{modifier_fields, event_fields, kind_fields};
 ghost use Rattle.jdwp_layout.specs.Shapes.{entry_shape, found_fields};
 
+use crate::{event_kinds, modifier_kinds};
+
 /// One value (JDWP specification, "Data Types").
 #[derive(Clone, Copy, Debug, PartialEq, Eq)]
 pub enum Field {
@@ -83,14 +85,16 @@ pub fn fields_of_modifier(kind: u8) -> Option<&'static [Field]>
     ensures { found_fields result ≡ modifier_fields kind }
 {
     match kind {
-        1 | 2 => Some(&COUNT),
-        3 | 11 => Some(&THREAD),
-        4 => Some(&CLASS),
-        5 | 6 | 12 => Some(&PATTERN),
-        7 => Some(&PLACE),
-        8 => Some(&EXCEPTION_ONLY),
-        9 => Some(&FIELD_ONLY),
-        10 => Some(&STEP),
+        modifier_kinds::COUNT | modifier_kinds::CONDITIONAL => Some(&COUNT),
+        modifier_kinds::THREAD_ONLY | modifier_kinds::INSTANCE_ONLY => Some(&THREAD),
+        modifier_kinds::CLASS_ONLY => Some(&CLASS),
+        modifier_kinds::CLASS_MATCH
+        | modifier_kinds::CLASS_EXCLUDE
+        | modifier_kinds::SOURCE_NAME_MATCH => Some(&PATTERN),
+        modifier_kinds::LOCATION_ONLY => Some(&PLACE),
+        modifier_kinds::EXCEPTION_ONLY => Some(&EXCEPTION_ONLY),
+        modifier_kinds::FIELD_ONLY => Some(&FIELD_ONLY),
+        modifier_kinds::STEP => Some(&STEP),
         _ => None,
     }
 }
@@ -172,18 +176,25 @@ pub fn fields_of_event(kind: u8) -> Option<&'static [Field]>
     ensures { found_fields result ≡ event_fields kind }
 {
     match kind {
-        1 | 2 | 40 | 41 => Some(&AT_PLACE),
-        4 => Some(&EXCEPTION),
-        6 | 7 | 90 => Some(&OF_THREAD),
-        8 => Some(&PREPARE),
-        9 => Some(&UNLOAD),
-        20 => Some(&ACCESS),
-        21 => Some(&MODIFICATION),
-        42 => Some(&RETURN),
-        43 | 44 => Some(&CONTENDED),
-        45 => Some(&WAIT),
-        46 => Some(&WAITED),
-        99 => Some(&DEATH),
+        event_kinds::SINGLE_STEP
+        | event_kinds::BREAKPOINT
+        | event_kinds::METHOD_ENTRY
+        | event_kinds::METHOD_EXIT => Some(&AT_PLACE),
+        event_kinds::EXCEPTION => Some(&EXCEPTION),
+        event_kinds::THREAD_START | event_kinds::THREAD_DEATH | event_kinds::VM_START => {
+            Some(&OF_THREAD)
+        }
+        event_kinds::CLASS_PREPARE => Some(&PREPARE),
+        event_kinds::CLASS_UNLOAD => Some(&UNLOAD),
+        event_kinds::FIELD_ACCESS => Some(&ACCESS),
+        event_kinds::FIELD_MODIFICATION => Some(&MODIFICATION),
+        event_kinds::METHOD_EXIT_WITH_RETURN_VALUE => Some(&RETURN),
+        event_kinds::MONITOR_CONTENDED_ENTER | event_kinds::MONITOR_CONTENDED_ENTERED => {
+            Some(&CONTENDED)
+        }
+        event_kinds::MONITOR_WAIT => Some(&WAIT),
+        event_kinds::MONITOR_WAITED => Some(&WAITED),
+        event_kinds::VM_DEATH => Some(&DEATH),
         _ => None,
     }
 }

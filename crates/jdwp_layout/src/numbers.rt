@@ -154,6 +154,3 @@ pub const THIS_OBJECT: u8 = 3;
 
 /// Event.Composite.
 pub const COMPOSITE: u8 = 100;
-
-/// The kind of the modifier LocationOnly of EventRequest.Set.
-pub const LOCATION_ONLY: u8 = 7;
