@@ -1,12 +1,12 @@
 -- The widths that a reply to VirtualMachine.IDSizes tells, by the layout of its data.
-use Rattle.std.proofs.Common.{◌≡◌, ℕ, zero, suc, ◌+◌, ◌-◌, ◌*◌, ◌^◌, ◌<◌, ◌≤◌, Bool, true, false, cond, eqb, ltb, leb, List, [], ◌∷◌, length, drop, Some, Result, Ok, Err, refl, subst, arith}
+use Rattle.std.proofs.Common.{◌≡◌, ℕ, zero, suc, ◌+◌, ◌-◌, ◌*◌, ◌^◌, ◌<◌, ◌≤◌, Bool, true, false, ◌&&◌, cond, eqb, ltb, leb, List, [], ◌∷◌, length, drop, Some, Result, Ok, Err, refl, sym, subst, arith, ◌∙◌}
 use Rattle.std.specs.Int.{w32, cast_signed}
 use Rattle.std.proofs.lemmas.Bool.{ltb-true, ltb-false, lt-ltb, le-ltb, lt-leb, ne_eqb, and_right}
 use Rattle.std.proofs.lemmas.List.{length-drop, drop-drop}
 use Rattle.std.proofs.lemmas.Option.{same_Some}
 use Rattle.byteorder.specs.Endian.{big_number}
 use Rattle.jdwp_wire.specs.declared.data_fault.DataFault.{DataFault}
-use Rattle.jdwp_wire.specs.declared.data_fault.DataFault.TheVariants.{Short, BadSize}
+use Rattle.jdwp_wire.specs.declared.data_fault.DataFault.TheVariants.{Short, Extra, BadSize}
 use Rattle.jdwp_wire.specs.Basic.{int_at}
 use Rattle.jdwp_wire.specs.Reading.{◌>>=◌}
 use Rattle.jdwp_wire.specs.Widths.{Widths}
@@ -15,7 +15,8 @@ use Rattle.jdwp_layout.specs.Meanings.{DatumMeaning, One, Int}
 use Rattle.jdwp_layout.specs.Reads.{items_at}
 use Rattle.jdwp_layout.specs.Rows.{RowShapes}
 use Rattle.jdwp_layout.specs.Shapes.{ItemShape, OneOf}
-use Rattle.jdwp_show.specs.Data.{shapes_of, is_width, checked_widths, widths_in, width_of, widths_of_data, widths_by}
+use Rattle.jdwp_layout.specs.CommandNumbers.{ID_SIZES}
+use Rattle.jdwp_show.specs.Data.{shapes_of, is_width, widths_in, width_of, widths_of_data, widths_by, NO_IDS}
 
 -- ---- ints one after another
 
@@ -71,6 +72,19 @@ width_is n = by (ltb n (2 ^ 31)) refl
         let high : 2 ^ 31 ≤ n = ltb-false _ _ e in
         rw (e, is_width_high n (omega arith)) refl
 
+abbrev are_widths : Widths → Bool
+are_widths w = is_width w.field && (is_width w.method && (is_width w.object && (is_width w.reference && is_width w.frame)))
+
+abbrev checked_widths : Widths → Result Widths DataFault
+checked_widths widths = cond (are_widths widths) (Ok widths) (Err BadSize)
+
+-- the five ints where they lie
+abbrev pub widths_at_places : List ℕ → Result Widths DataFault
+widths_at_places body =
+    cond (ltb (length body) 20) (Err (Short (length body))) (
+    cond (ltb 20 (length body)) (Err (Extra 20)) (
+    checked_widths (record { field = int_in 0 body; method = int_in 4 body; object = int_in 8 body; reference = int_in 12 body; frame = int_in 16 body })))
+
 abbrev checked : ℕ → Result ℕ DataFault
 checked n = cond (is_width n) (Ok n) (Err BadSize)
 
@@ -93,25 +107,25 @@ told body =
 
 -- ---- by how many bytes there are
 
-short_same : (widths : Widths) (body : List ℕ) → length body < 20 → widths_in body ≡ widths_by widths (ints 5) body
+short_same : (widths : Widths) (body : List ℕ) → length body < 20 → widths_at_places body ≡ widths_by widths (ints 5) body
 short_same widths body lt = rw (lt-ltb (length body) 20 lt, ints_short widths (length body) 5 0 body lt (omega arith)) refl
 
-extra_same : (widths : Widths) (body : List ℕ) → 20 < length body → widths_in body ≡ widths_by widths (ints 5) body
+extra_same : (widths : Widths) (body : List ℕ) → 20 < length body → widths_at_places body ≡ widths_by widths (ints 5) body
 extra_same widths body lt =
     let left : length (drop 20 body) ≡ length body - 20 = length-drop 20 body in
     let some : eqb (length body - 20) 0 ≡ false = ne_eqb _ _ (λ e. omega arith) in
     let used : length body - (length body - 20) ≡ 20 = omega arith in
     rw (le-ltb (length body) 20 (omega arith), lt-ltb 20 (length body) lt, ints_there widths (length body) 5 0 body (omega arith), left, some, used) refl
 
-twenty_same : (widths : Widths) (body : List ℕ) → length body ≡ 20 → widths_in body ≡ widths_by widths (ints 5) body
+twenty_same : (widths : Widths) (body : List ℕ) → length body ≡ 20 → widths_at_places body ≡ widths_by widths (ints 5) body
 twenty_same widths body is =
     let left : length (drop 20 body) ≡ 0 = omega (arith, length-drop 20 body) in
     rw (le-ltb (length body) 20 (omega arith), le-ltb 20 (length body) (omega arith), ints_there widths (length body) 5 0 body (omega arith), left) (told body)
 
-same : (widths : Widths) (body : List ℕ) → widths_in body ≡ widths_by widths (ints 5) body
+same : (widths : Widths) (body : List ℕ) → widths_at_places body ≡ widths_by widths (ints 5) body
 same widths body = by (ltb (length body) 20) (ltb 20 (length body)) refl refl
   where
-    by : (short extra : Bool) → ltb (length body) 20 ≡ short → ltb 20 (length body) ≡ extra → widths_in body ≡ widths_by widths (ints 5) body
+    by : (short extra : Bool) → ltb (length body) 20 ≡ short → ltb 20 (length body) ≡ extra → widths_at_places body ≡ widths_by widths (ints 5) body
     by true extra p q = short_same widths body (ltb-true _ _ p)
     by false true p q = extra_same widths body (ltb-true _ _ q)
     by false false p q =
@@ -119,5 +133,9 @@ same widths body = by (ltb (length body) 20) (ltb 20 (length body)) refl refl
         let high = ltb-false _ _ q in
         twenty_same widths body (omega arith)
 
-pub told_by_layout : (widths : Widths) (shapes : RowShapes) (body : List ℕ) → shapes_of (record { set = 1; number = 7 }) ≡ Some shapes → widths_in body ≡ widths_by widths shapes.reply body
-told_by_layout widths shapes body is = subst (λ (s : RowShapes). widths_in body ≡ widths_by widths s.reply body) (same_Some _ shapes is) (same widths body)
+pub at_places : (body : List ℕ) → widths_at_places body ≡ widths_in body
+unfolding widths_in
+at_places body = same NO_IDS body
+
+pub told_by_layout : (widths : Widths) (shapes : RowShapes) (body : List ℕ) → shapes_of (record { set = ID_SIZES.set; number = ID_SIZES.number }) ≡ Some shapes → widths_in body ≡ widths_by widths shapes.reply body
+told_by_layout widths shapes body is = subst (λ (s : RowShapes). widths_in body ≡ widths_by widths s.reply body) (same_Some _ shapes is) (sym (at_places body) ∙ same widths body)

@@ -3,6 +3,7 @@ use Rattle.std.proofs.Common.{◌≡◌, ◌==◌, if◌then◌else◌, ℕ, Boo
 use Rattle.std.specs.Option.{option_or}
 use Rattle.std.proofs.lemmas.Bool.{cases_Bool}
 use Rattle.std.proofs.lemmas.Bool.Decides.{nat_tests}
+use Rattle.jdwp_wire.specs.ErrorCodes.{NONE}
 use Rattle.jdwp_wire.specs.declared.data_fault.DataFault.{DataFault}
 use Rattle.jdwp_wire.specs.declared.error_code.ErrorCode.{ErrorCode}
 use Rattle.jdwp_wire.specs.declared.packet.Header.{Header}
@@ -18,6 +19,7 @@ use Rattle.jdwp_show.specs.declared.capture_fault.CaptureFault.TheVariants.{BadD
 use Rattle.jdwp_show.specs.declared.capture_line.Sender.{Sender}
 use Rattle.jdwp_show.specs.declared.capture_line.Sender.TheVariants.{Debugger, Target}
 use Rattle.jdwp_show.specs.declared.pending.Command.{Command}
+use Rattle.jdwp_layout.specs.CommandNumbers.{ID_SIZES}
 use Rattle.jdwp_show.specs.Data.{shapes_of, fault_in, request_by, reply_by, is_id_sizes, widths_in, widths_by, reply_fault}
 use Rattle.jdwp_show.specs.Found.{Sent}
 use Rattle.jdwp_show.specs.MessageLines.{body_fault, request_in, reply_in}
@@ -56,16 +58,16 @@ read_so : (told : Result Widths DataFault) (read : Result (List DatumMeaning) Da
 read_so told (Ok items) ws none same fails = refl
 read_so told (Err fault) ws none same fails = let bad : told ≡ Err fault = same ∙ fails fault refl in let e = ap (λ (t : Result Widths DataFault). fault_in t) bad in cc
 
-widths_sound : (w : Option Widths) (shapes : Option RowShapes) (body : List ℕ) → shapes_of (record { set = 1; number = 7 }) ≡ shapes → fault_in (widths_in body) ≡ None → body_fault w (reply_in shapes) body ≡ None
+widths_sound : (w : Option Widths) (shapes : Option RowShapes) (body : List ℕ) → shapes_of (record { set = ID_SIZES.set; number = ID_SIZES.number }) ≡ shapes → fault_in (widths_in body) ≡ None → body_fault w (reply_in shapes) body ≡ None
 widths_sound w None body is none = refl
 widths_sound None (Some shapes) body is none = refl
 widths_sound (Some widths) (Some shapes) body is none =
     read_so (widths_in body) (data_at widths shapes.reply body) (widths_by widths shapes.reply body) none (told_by_layout widths shapes body is) (λ fault bad. rw bad refl)
 
-id_sizes : (command : Command) → is_id_sizes command ≡ true → command ≡ record { set = 1; number = 7 }
+id_sizes : (command : Command) → is_id_sizes command ≡ true → command ≡ record { set = ID_SIZES.set; number = ID_SIZES.number }
 id_sizes command e =
-    let set : command.set ≡ 1 = grind (arith, nat_tests) in
-    let number : command.number ≡ 7 = grind (arith, nat_tests) in
+    let set : command.set ≡ ID_SIZES.set = grind (arith, nat_tests) in
+    let number : command.number ≡ ID_SIZES.number = grind (arith, nat_tests) in
     λ i. record { set = set i; number = number i }
 
 answer_sound : (w : Option Widths) (command : Command) (body : List ℕ) → reply_fault w (Some command) body ≡ None → body_fault w (reply_in (shapes_of command)) body ≡ None
@@ -96,7 +98,7 @@ reply_sound w command sender header body error h is no_error =
 
 -- the same for any error code: with an error there is no layout
 pub reply_sound_by : (w : Option Widths) (command : Command) (sender : Sender) (header : Header) (body : List ℕ) (error : ErrorCode) → Holds w (Some command) sender (Sent (Packet header body)) → header.kind ≡ kind.Reply error
-    → body_fault w (if error.0 == 0 then reply_in (shapes_of command) else None) body ≡ None
+    → body_fault w (if error.0 == NONE.0 then reply_in (shapes_of command) else None) body ≡ None
 reply_sound_by w command sender header body error h is = elim (cases_Bool (eqb error.0 0)) [
   | inl without ↦ rw without (reply_sound w command sender header body error h is without)
   | inr other ↦ rw other refl

@@ -1,11 +1,11 @@
 -- Which data do not read (JDWP specification, "Protocol Details": the layouts of the commands and their replies).
-use Rattle.std.specs.Prelude.{ℕ, ℤ, pos, negsuc, ◌==◌, ◌&&◌, nat_lt, nat_le, List, [], ◌∷◌, length, drop, Bool, Option, Some, None, Result, Ok, Err, if◌then◌else◌}
-use Rattle.byteorder.specs.Endian.{big_number}
+use Rattle.std.specs.Prelude.{ℕ, ℤ, pos, negsuc, ◌&&◌, nat_le, List, [], ◌∷◌, Bool, Option, Some, None, Result, Ok, Err, if◌then◌else◌}
 use Rattle.jdwp_wire.specs.declared.data_fault.DataFault.{DataFault}
-use Rattle.jdwp_wire.specs.declared.data_fault.DataFault.TheVariants.{Short, Extra, BadSize}
+use Rattle.jdwp_wire.specs.declared.data_fault.DataFault.TheVariants.{BadSize}
 use Rattle.jdwp_wire.specs.Reading.{◌>>=◌}
 use Rattle.jdwp_wire.specs.Widths.{Widths}
 use Rattle.jdwp_layout.specs.Shapes.{ItemShape}
+use Rattle.jdwp_layout.specs.CommandNumbers.{is_command, ID_SIZES}
 use Rattle.jdwp_layout.specs.Rows.{Row, RowShapes}
 use Rattle.jdwp_layout.specs.CommandTable.{row_at}
 use Rattle.jdwp_layout.specs.Meanings.{DatumMeaning, One, Int}
@@ -46,29 +46,10 @@ request_fault widths command body = request_by widths (shapes_of command) body
 -- ---- VirtualMachine.IDSizes: the reply has five ints, the widths of ids, each 1 to 8
 
 abbrev pub is_id_sizes : Command → Bool
-is_id_sizes command = (command.set == 1) && (command.number == 7)
+is_id_sizes command = is_command ID_SIZES command.set command.number
 
 abbrev pub is_width : ℕ → Bool
 is_width n = nat_le 1 n && nat_le n 8
-
-abbrev pub are_widths : Widths → Bool
-are_widths w = is_width w.field && (is_width w.method && (is_width w.object && (is_width w.reference && is_width w.frame)))
-
-abbrev pub checked_widths : Widths → Result Widths DataFault
-checked_widths widths = if are_widths widths then Ok widths else Err BadSize
-
--- the widths in such data, or the first fault: too few bytes, too many, or another width
-abbrev pub widths_in : List ℕ → Result Widths DataFault
-widths_in body =
-    if nat_lt (length body) 20 then Err (Short (length body)) else (
-    if nat_lt 20 (length body) then Err (Extra 20) else
-    checked_widths (record {
-      field = big_number 4 body;
-      method = big_number 4 (drop 4 body);
-      object = big_number 4 (drop 8 body);
-      reference = big_number 4 (drop 12 body);
-      frame = big_number 4 (drop 16 body);
-    }))
 
 -- an int as a width: 1 to 8
 abbrev pub width_of : ℤ → Result ℕ DataFault
@@ -85,6 +66,18 @@ widths_of_data items = Err BadSize
 -- the widths that data tell under a layout
 abbrev pub widths_by : Widths → List ItemShape → List ℕ → Result Widths DataFault
 widths_by widths layout body = data_at widths layout body >>= widths_of_data
+
+-- no id stands in the reply, so that it reads alike with any widths
+abbrev pub NO_IDS : Widths
+NO_IDS = record { field = 8; method = 8; object = 8; reference = 8; frame = 8 }
+
+abbrev pub widths_under : Option RowShapes → List ℕ → Result Widths DataFault
+widths_under None body = Err BadSize
+widths_under (Some shapes) body = widths_by NO_IDS shapes.reply body
+
+-- the widths in such data, or the first fault: too few bytes, too many, or another width
+unfoldable pub widths_in : List ℕ → Result Widths DataFault
+widths_in body = widths_under (shapes_of (record { set = ID_SIZES.set; number = ID_SIZES.number })) body
 
 -- the data of a reply without an error to this command
 abbrev pub reply_fault : Option Widths → Option Command → List ℕ → Option DataFault

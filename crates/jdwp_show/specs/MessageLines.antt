@@ -3,6 +3,7 @@ use Rattle.std.specs.Prelude.{ℕ, ◌==◌, List, [], ◌++◌, Option, Some, N
 use Rattle.jdwp_wire.specs.declared.data_fault.DataFault.{DataFault}
 use Rattle.jdwp_wire.specs.declared.packet.PacketKind.{PacketKind}
 use Rattle.jdwp_wire.specs.declared.packet.PacketKind.TheVariants as kind
+use Rattle.jdwp_wire.specs.ErrorCodes.{NONE}
 use Rattle.jdwp_wire.specs.Streams.{Handshake, Packet}
 use Rattle.jdwp_wire.specs.Widths.{Widths}
 use Rattle.jdwp_layout.specs.declared.item.Layout.{Layout}
@@ -48,7 +49,7 @@ request_text widths command body = body_text widths (request_in (shapes_of comma
 
 -- a reply with an error has no data to read
 abbrev pub reply_text : Option Widths → Command → ℕ → List ℕ → List ℕ
-reply_text widths command error body = body_text widths (if error == 0 then reply_in (shapes_of command) else None) body
+reply_text widths command error body = body_text widths (if error == NONE.0 then reply_in (shapes_of command) else None) body
 
 -- ---- lines
 

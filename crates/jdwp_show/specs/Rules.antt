@@ -1,11 +1,13 @@
 -- The rules of a session, and which of them an item breaks after the items before it.
-use Rattle.std.specs.Prelude.{ℕ, ◌==◌, ◌&&◌, nat_lt, List, length, Bool, true, false, Option, Some, None, is_some, option_map, fold, if◌then◌else◌}
+use Rattle.std.specs.Prelude.{ℕ, ◌==◌, ◌&&◌, nat_le, List, length, Bool, true, false, Option, Some, None, is_some, option_map, fold, if◌then◌else◌}
 use Rattle.std.specs.List.{list_any}
 use Rattle.std.specs.Option.{option_or}
 use Rattle.jdwp_wire.specs.declared.packet.PacketKind.{PacketKind}
 use Rattle.jdwp_wire.specs.declared.packet.PacketKind.TheVariants as kind
+use Rattle.jdwp_wire.specs.ErrorCodes.{NONE}
 use Rattle.jdwp_wire.specs.Streams.{Handshake, Packet}
 use Rattle.jdwp_wire.specs.Widths.{Widths}
+use Rattle.jdwp_layout.specs.CommandNumbers.{is_command, EVENT, COMPOSITE}
 use Rattle.jdwp_show.specs.declared.capture_fault.CaptureFault.{CaptureFault}
 use Rattle.jdwp_show.specs.declared.capture_fault.CaptureFault.TheVariants.{Frame, IdInUse, UnknownReply, BadData, ErrorWithData, WrongWay}
 use Rattle.jdwp_show.specs.declared.capture_line.Sender.{Sender}
@@ -59,12 +61,12 @@ waiting_for items found = under (waiting items) found
 
 -- a command of the debugger, where this one waits under its id
 abbrev pub command_fault : Option Command → PacketKind → Option CaptureFault
-command_fault waits (kind.Command set number) = if nat_lt 63 set then Some WrongWay else (if is_some waits then Some IdInUse else None)
+command_fault waits (kind.Command set number) = if nat_le EVENT set then Some WrongWay else (if is_some waits then Some IdInUse else None)
 command_fault waits (kind.Reply error) = Some WrongWay
 
 -- a packet of the target, where this command waits under its id: Event.Composite, or a reply
 abbrev pub target_fault : Option Command → PacketKind → Option CaptureFault
-target_fault waits (kind.Command set number) = if (set == 64) && (number == 100) then None else Some WrongWay
+target_fault waits (kind.Command set number) = if is_command COMPOSITE set number then None else Some WrongWay
 target_fault waits (kind.Reply error) = if is_some waits then None else Some UnknownReply
 
 abbrev pub order_fault : Bool → Option Command → Sender → Found → Option CaptureFault
@@ -80,7 +82,7 @@ abbrev pub packet_data_fault : Option Widths → Option Command → Sender → P
 packet_data_fault widths waits sender (kind.Command set number) body = option_map BadData (request_fault widths (record { set = set; number = number }) body)
 packet_data_fault widths waits Debugger (kind.Reply error) body = None
 packet_data_fault widths waits Target (kind.Reply error) body =
-    if error.0 == 0 then option_map BadData (reply_fault widths waits body) else (if length body == 0 then None else Some ErrorWithData)
+    if error.0 == NONE.0 then option_map BadData (reply_fault widths waits body) else (if length body == 0 then None else Some ErrorWithData)
 
 abbrev pub data_fault : Option Widths → Option Command → Sender → Found → Option CaptureFault
 data_fault widths waits sender (Sent Handshake) = None

@@ -6,6 +6,7 @@ use Rattle.std.specs.Result.{result_ok}
 use Rattle.std.specs.Str.Lines.{lines}
 use Rattle.jdwp_wire.specs.declared.packet.PacketKind.{PacketKind}
 use Rattle.jdwp_wire.specs.declared.packet.PacketKind.TheVariants as kind
+use Rattle.jdwp_wire.specs.ErrorCodes.{NONE}
 use Rattle.jdwp_wire.specs.Streams.{Handshake, Packet}
 use Rattle.jdwp_wire.specs.Widths.{Widths}
 use Rattle.jdwp_show.specs.declared.capture_fault.CaptureFault.{CaptureFault}
@@ -47,7 +48,7 @@ told_by (Some command) body = if is_id_sizes command then result_ok (widths_in b
 
 abbrev pub told_in : Option Command → PacketKind → List ℕ → Option Widths
 told_in waits (kind.Command set number) body = None
-told_in waits (kind.Reply error) body = if error.0 == 0 then told_by waits body else None
+told_in waits (kind.Reply error) body = if error.0 == NONE.0 then told_by waits body else None
 
 -- the widths that a reply without an error to VirtualMachine.IDSizes tells, where its data read
 abbrev pub told : Option Command → Sender → Found → Option Widths

@@ -9,7 +9,7 @@ use std::alloc::Global;
 
 /// Which end sent the bytes of a line.
 #[derive(Clone, Copy)]
-pub(crate) enum Sender {
+pub enum Sender {
     Debugger,
     Target,
 }

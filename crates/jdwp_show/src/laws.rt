@@ -2,6 +2,7 @@
 ghost use Rattle.std.specs.Prelude.{◌≡◌, ◌↔◌, ℕ, List, ◌∷◌, ◌++◌, length, Some};
 ghost use Rattle.jdwp_wire.specs.Bytes.{IsBytes};
 ghost use Rattle.jdwp_wire.specs.Widths.{Widths};
+ghost use Rattle.jdwp_layout.specs.CommandNumbers.{ID_SIZES};
 ghost use Rattle.jdwp_layout.specs.Rows.{RowShapes};
 ghost use Rattle.jdwp_show.specs.Data.{shapes_of, widths_in, widths_by};
 ghost use Rattle.jdwp_show.specs.declared.capture_line.Sender.{Sender};
@@ -23,7 +24,10 @@ pub fn finds_each_message()
 /// The widths that a reply to VirtualMachine.IDSizes tells are the five ints that the layout of its row reads, each 1 to 8. Its first fault
 /// is that of the layout, or another width.
 pub fn tells_widths_by_layout()
-    ensures { (widths : Widths) (shapes : RowShapes) (body : List ℕ) → shapes_of (record { set = 1; number = 7 }) ≡ Some shapes
+    ensures { (widths : Widths) (shapes : RowShapes) (body : List ℕ) → shapes_of (record {
+      set = ID_SIZES.set;
+      number = ID_SIZES.number;
+    }) ≡ Some shapes
         → widths_in body ≡ widths_by widths shapes.reply body }
 {}
 

@@ -21,10 +21,12 @@ mod waiting;
 mod walk;
 
 pub use capture_fault::CaptureFault;
+pub use capture_line::Sender;
 pub use checking::{Verdict, check};
 pub use laws::{
     finds_each_message, keeps_each_message, stands_in_its_line, tells_widths_by_layout,
     tells_widths_first, waits_where_it_stands,
 };
 pub use message_line::{composite_data_line, reply_line};
+pub use pending::Command;
 pub use showing::{Shown, show};

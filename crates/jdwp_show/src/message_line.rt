@@ -1,6 +1,7 @@
 //! One message as a line, without a capture.
 ghost use Rattle.std.specs.Prelude.{◌≡◌, ◌++◌, IfOk};
 ghost use Rattle.std.specs.String.{string_bytes};
+ghost use Rattle.jdwp_layout.specs.CommandNumbers.{COMPOSITE};
 ghost use Rattle.jdwp_layout.specs.Meanings.{meanings};
 ghost use Rattle.jdwp_show.specs.declared.capture_line.Sender.TheVariants.{Target};
 ghost use Rattle.jdwp_show.specs.DataText.{data_text, raw_text};
@@ -11,7 +12,7 @@ use crate::data_text::{push_data, push_raw};
 use crate::message_text::{push_command_start, push_reply_start};
 use crate::pending::Command;
 use crate::text::Text;
-use jdwp_layout::Datum;
+use jdwp_layout::{Datum, numbers};
 use jdwp_wire::{ErrorCode, NoMemory};
 use std::alloc::Global;
 
@@ -53,12 +54,15 @@ pub fn reply_line(
 /// # Errors
 /// `NoMemory` where an allocation was refused.
 pub fn composite_data_line(alloc: Global, id: u32, data: &[Datum]) -> Result<String, NoMemory>
-    ensures { IfOk result (λ line. string_bytes line ≡ command_start Target id (record { set = 64; number = 100 }) ++ data_text (meanings «data».now)) }
+    ensures { IfOk result (λ line. string_bytes line ≡ command_start Target id (record {
+      set = COMPOSITE.set;
+      number = COMPOSITE.number;
+    }) ++ data_text (meanings «data».now)) }
 {
     let mut line = Text::new(alloc);
     let composite = Command {
-        set: 64,
-        number: 100,
+        set: numbers::EVENT,
+        number: numbers::COMPOSITE,
     };
     push_command_start(&mut line, Sender::Target, id, composite);
     push_data(&mut line, data);

@@ -1,5 +1,6 @@
 //! Messages as lines.
 ghost use Rattle.std.specs.Prelude.{◌≡◌, ◌++◌, ◌==◌, if◌then◌else◌, None, codes};
+ghost use Rattle.jdwp_wire.specs.ErrorCodes.{NONE};
 ghost use Rattle.jdwp_show.specs.Data.{shapes_of};
 ghost use Rattle.jdwp_show.specs.MessageLines.{body_text, body_fault, request_in, reply_in, name_text, mark, hello_line, command_start, reply_start, found_shape};
 ghost use Rattle.jdwp_show.specs.Telling.{Grows};
@@ -112,7 +113,7 @@ pub(crate) fn request_layout(command: Command) -> Option<Layout>
 
 /// The layout of the data of a reply, where they are read; with an error it has none.
 pub(crate) fn reply_layout(command: Command, error: ErrorCode) -> Option<Layout>
-    ensures { found_shape result ≡ (if error.0 == 0 then reply_in (shapes_of command) else None) }
+    ensures { found_shape result ≡ (if error.0 == NONE.0 then reply_in (shapes_of command) else None) }
 {
     if error != ErrorCode::NONE {
         return None;

@@ -9,9 +9,9 @@ use std::alloc::Global;
 
 /// A command of a command set.
 #[derive(Clone, Copy)]
-pub(crate) struct Command {
-    pub(crate) set: u8,
-    pub(crate) number: u8,
+pub struct Command {
+    pub set: u8,
+    pub number: u8,
 }
 
 /// What the items so far say: whether the debugger's handshake is among them, and which commands wait under which ids.

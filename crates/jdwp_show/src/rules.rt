@@ -11,6 +11,7 @@ use crate::capture_line::Sender;
 use crate::found::{FoundRef, ItemRef};
 use crate::pending::Command;
 use byteorder::{BigEndian, ByteOrder};
+use jdwp_layout::numbers::{COMPOSITE, EVENT, ID_SIZES, VIRTUAL_MACHINE};
 use jdwp_layout::{Layout, layout_of, validate};
 use jdwp_wire::{DataFault, ErrorCode, IdSizes, PacketKind};
 
@@ -44,7 +45,7 @@ fn command_fault(waits: Option<Command>, kind: PacketKind) -> Option<CaptureFaul
     match kind {
         PacketKind::Reply { error: _ } => Some(CaptureFault::WrongWay),
         PacketKind::Command { set, number: _ } => {
-            if set > 63 {
+            if set >= EVENT {
                 Some(CaptureFault::WrongWay)
             } else if waits.is_some() {
                 Some(CaptureFault::IdInUse)
@@ -60,7 +61,7 @@ fn target_fault(waits: Option<Command>, kind: PacketKind) -> Option<CaptureFault
 {
     match kind {
         PacketKind::Command { set, number } => {
-            if set == 64 && number == 100 {
+            if set == EVENT && number == COMPOSITE {
                 None
             } else {
                 Some(CaptureFault::WrongWay)
@@ -140,7 +141,7 @@ fn layout_fault(sizes: Option<IdSizes>, layout: &Layout, body: &[u8]) -> Option<
 fn is_id_sizes(command: Command) -> bool
     ensures { result ≡ laws.is_id_sizes command }
 {
-    command.set == 1 && command.number == 7
+    command.set == VIRTUAL_MACHINE && command.number == ID_SIZES
 }
 
 /// The widths of ids that the item tells, if it is a reply without an error to VirtualMachine.IDSizes whose data read.
