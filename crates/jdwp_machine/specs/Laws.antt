@@ -2,7 +2,7 @@
 use Rattle.std.specs.Prelude.{◌≡◌, ◌≢◌, ℕ, ℤ, ◌≤◌, Bool, true, false, ◌==◌, ◌||◌, ◌&&◌, not, pos, ◌⊎◌, List, [], ◌∷◌, length, Option, Some, None}
 use Rattle.std.specs.List.{IsDistinct}
 use Rattle.jdwp_wire.specs.declared.error_code.ErrorCode.{ErrorCode}
-use Rattle.jdwp_wire.specs.ErrorCodes.{INVALID_CLASS, INVALID_METHODID, INVALID_LOCATION}
+use Rattle.jdwp_wire.specs.ErrorCodes.{INVALID_THREAD, THREAD_NOT_SUSPENDED, INVALID_CLASS, INVALID_METHODID, INVALID_LOCATION}
 use Rattle.jdwp_wire.specs.Numbers.{id_refusal}
 use Rattle.jdwp_wire.specs.Widths.{Widths, AreWidths}
 use Rattle.jdwp_value.specs.declared.location.Location.{Location}
@@ -11,11 +11,14 @@ use Rattle.jdwp_value.specs.Values.{value_refusal}
 use Rattle.jdwp_value.specs.declared.value.Value.{Value}
 use Rattle.jdwp_layout.specs.declared.answer.Answer.{Answer}
 use Rattle.jdwp_layout.specs.declared.answer.Answer.TheVariants.{Data, Error}
-use Rattle.jdwp_layout.specs.CommandNumbers.{is_command, FRAMES, FRAME_COUNT, GET_SLOTS, THIS_OBJECT, SET_REQUEST}
+use Rattle.jdwp_layout.specs.CommandNumbers.{is_command, FRAMES, FRAME_COUNT, GET_SLOTS, SET_SLOTS, THIS_OBJECT, SET_REQUEST}
 use Rattle.jdwp_layout.specs.CommandTable.{row_at}
+use Rattle.jdwp_layout.specs.EventKindNumbers.{BREAKPOINT}
+use Rattle.jdwp_layout.specs.ModifierKindNumbers.{LOCATION_ONLY}
 use Rattle.jdwp_layout.specs.Rows.{Row, RowShapes}
 use Rattle.jdwp_layout.specs.Writes.{data_refusal}
 use Rattle.jdwp_layout.specs.Meanings.{Byte, Int, Object, Located, DatumMeaning, One, Many}
+use Rattle.jdwp_event.specs.Composites.{POLICY_NONE}
 use Rattle.jdwp_event.specs.Occurrences.{OccurrenceMeaning, Moved, Entered, Left, Threw, Prepared, Started, RanOut, started, runs_out}
 use Rattle.jdwp_machine.specs.declared.query.Query.{Query}
 use Rattle.jdwp_machine.specs.Meanings.{Meaning, has}
@@ -59,7 +62,7 @@ FitsRow m s (Some row) content = FitsShapes m s row.shapes content
 
 -- an error that a machine may answer: whether a thread lives or is suspended is not its to say
 abbrev pub IsMachineError : ErrorCode → Type 0
-IsMachineError e = (1 ≤ e.0) × (e.0 ≢ 10) × (e.0 ≢ 13)
+IsMachineError e = (1 ≤ e.0) × (e.0 ≢ INVALID_THREAD.0) × (e.0 ≢ THREAD_NOT_SUSPENDED.0)
 
 -- an answer to a command of this set and number
 abbrev pub MayAnswer : {S : Type 0} → Meaning S → S → ℕ → ℕ → Answer → Type 0
@@ -76,9 +79,9 @@ OccurrenceFits w (Prepared p) = id_refusal w.reference p.id ≡ None
 OccurrenceFits w Started = Unit {0}
 OccurrenceFits w RanOut = Unit {0}
 
--- a Set of a breakpoint (kind 2) with policy NONE (0) and one modifier, LocationOnly (7), at this location
+-- a Set of a breakpoint with policy NONE and one modifier, LocationOnly, at this location
 abbrev pub breakpoint_at : Location → List DatumMeaning
-breakpoint_at location = One (Byte 2) ∷ One (Byte 0) ∷ Many ((Byte 7 ∷ Located location ∷ []) ∷ []) ∷ []
+breakpoint_at location = One (Byte BREAKPOINT) ∷ One (Byte POLICY_NONE) ∷ Many ((Byte LOCATION_ONLY ∷ Located location ∷ []) ∷ []) ∷ []
 
 -- what the test of a location may answer: there is no such class, no such method of it, no such place, or it is one
 abbrev pub IsLocationAnswer : Answer → Type 0
@@ -140,7 +143,7 @@ pub record IsLawful {S : Type 0} (m : Meaning S) : Type 0 where
   pub places_written : (s : S) (t f : ℕ) (values : List (ℤ × Value)) (q : Query) → m.is_state s → asks_places q t ≡ true → m.query (m.written s t f values) q ≡ m.query s q
   -- Data are in the layout of the row's reply, and errors are a machine's.
   pub answers : (s : S) (q : Query) → m.is_state s → MayAnswer m s q.set q.number (m.query s q)
-  pub write_answers : (s : S) (t f : ℕ) (values : List (ℤ × Value)) → m.is_state s → MayAnswer m s 16 2 (m.write_answer s t f values)
+  pub write_answers : (s : S) (t f : ℕ) (values : List (ℤ × Value)) → m.is_state s → MayAnswer m s SET_SLOTS.set SET_SLOTS.number (m.write_answer s t f values)
   pub short_signature : (s : S) (t : ℕ) → MayEnds m s t → HasShortSignature (m.next s t).occurrence
   -- Ids of live threads and of happenings fit their widths.
   pub live_fits : (s : S) (t : ℕ) → m.is_state s → has (m.live s) t ≡ true → id_refusal (m.sizes s).object t ≡ None

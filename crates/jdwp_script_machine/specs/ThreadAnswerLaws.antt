@@ -15,7 +15,7 @@ use Rattle.jdwp_layout.specs.declared.answer.Answer.TheVariants.{Data, Error}
 use Rattle.jdwp_layout.specs.declared.item.Field.TheVariants as field
 use Rattle.jdwp_layout.specs.Shapes.{Fields}
 use Rattle.jdwp_layout.specs.Writes.{entry_refusal}
-use Rattle.jdwp_layout.specs.CommandNumbers.{LOCATION_ONLY}
+use Rattle.jdwp_layout.specs.ModifierKindNumbers.{LOCATION_ONLY}
 use Rattle.jdwp_layout.specs.Meanings.{ScalarMeaning, Byte, Int, Object, Text, Located, Tagged, DatumMeaning, One, Many}
 use Rattle.jdwp_event.specs.declared.kind.EventKind.TheVariants as event
 use Rattle.jdwp_event.specs.Composites.{POLICY_NONE}

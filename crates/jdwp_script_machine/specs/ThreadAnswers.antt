@@ -10,7 +10,8 @@ use Rattle.jdwp_value.specs.declared.value.Value.{Value}
 use Rattle.jdwp_value.specs.Tags.{tag_of_byte}
 use Rattle.jdwp_layout.specs.declared.answer.Answer.{Answer}
 use Rattle.jdwp_layout.specs.declared.answer.Answer.TheVariants.{Data, Error}
-use Rattle.jdwp_layout.specs.CommandNumbers.{THREAD_NAME, THREAD_GROUP, FRAMES, FRAME_COUNT, GET_SLOTS, THIS_OBJECT, LOCATION_ONLY}
+use Rattle.jdwp_layout.specs.CommandNumbers.{THREAD_NAME, THREAD_GROUP, FRAMES, FRAME_COUNT, GET_SLOTS, THIS_OBJECT}
+use Rattle.jdwp_layout.specs.ModifierKindNumbers.{LOCATION_ONLY}
 use Rattle.jdwp_layout.specs.Meanings.{ScalarMeaning, Byte, Int, Text, Object, Frame, Located, Valued, Tagged, One, Many}
 use Rattle.jdwp_event.specs.declared.kind.EventKind.TheVariants as event
 use Rattle.jdwp_event.specs.Composites.{POLICY_NONE}

@@ -7,7 +7,7 @@ ghost use Rattle.jdwp_script_machine.specs.ThreadAnswers.{index_answer, location
 use crate::places::{class_of, method_of};
 use crate::replies::of_scalar;
 use jdwp_event::{EventKind, Policy};
-use jdwp_layout::numbers::LOCATION_ONLY;
+use jdwp_layout::modifier_kinds::LOCATION_ONLY;
 use jdwp_layout::{Answer, Datum, Scalar};
 use jdwp_script::{Class, Method, Script};
 use jdwp_value::{Location, MethodId};
