@@ -7,6 +7,7 @@ use Rattle.jdwp_wire.specs.Reading.{first_of_two}
 use Rattle.jdwp_layout.specs.declared.answer.Answer.{Answer}
 use Rattle.jdwp_layout.specs.declared.answer.Answer.TheVariants.{Data, Error}
 use Rattle.jdwp_layout.specs.Meanings.{One, Many, Elements}
+use Rattle.jdwp_layout.specs.CommandNumbers.{FRAMES}
 use Rattle.jdwp_machine.specs.Laws.{IsLawful, MayAnswer}
 use Rattle.jdwp_machine.specs.Meanings.{Meaning}
 use Rattle.jdwp_debuggee.specs.Origins.{frames_query}
@@ -16,7 +17,7 @@ not_refused : (b : Bool) (r : Option DataFault) → first_of_two (if b then r el
 not_refused true r h = refl
 not_refused false r h = absurd (cc)
 
-few : {S : Type 0} (m : Meaning S) (s : S) (answer : Answer) → MayAnswer m s 11 6 answer → HasFewFrames answer
+few : {S : Type 0} (m : Meaning S) (s : S) (answer : Answer) → MayAnswer m s FRAMES.set FRAMES.number answer → HasFewFrames answer
 few m s (Error e) h = tt
 few m s (Data []) h = tt
 few m s (Data (One x ∷ items)) h = tt

@@ -8,6 +8,7 @@ use Rattle.jdwp_value.specs.declared.value.Value.{Value}
 use Rattle.jdwp_layout.specs.declared.answer.Answer.{Answer}
 use Rattle.jdwp_layout.specs.declared.answer.Answer.TheVariants.{Data, Error}
 use Rattle.jdwp_layout.specs.Meanings.{ScalarMeaning, DatumMeaning}
+use Rattle.jdwp_layout.specs.CommandNumbers.{SET_SLOTS}
 use Rattle.jdwp_event.specs.Modifiers.{ModifierMeaning, modifiers_of}
 use Rattle.jdwp_event.specs.Requests.{Asked, all_asked}
 use Rattle.jdwp_machine.specs.Meanings.{Meaning}
@@ -18,7 +19,7 @@ use Rattle.jdwp_debuggee.specs.Actions
 use Rattle.jdwp_debuggee.specs.Actions.{Command, Action, action_of, is_implemented}
 use Rattle.jdwp_debuggee.specs.Answers.{done, int_answer, bounded, fits_packet, frames_answer, query_of, all_threads, status_answer, sizes_answer}
 use Rattle.jdwp_debuggee.specs.Refusals.{set_refusal}
-use Rattle.jdwp_debuggee.specs.Effects.{Effect, effect, effect_by, does, answered, refused, changes, suspend_by, suspend_thread_by, suspend_thread_at, resume_thread_by, count_by, status_by, frames_by, thread_by, slots_by, slots_at, set_by}
+use Rattle.jdwp_debuggee.specs.Effects.{Effect, effect, effect_by, does, answered, refused, changes, suspend_by, suspend_thread_by, suspend_thread_at, resume_thread_by, slots_by, slots_at, set_by, answer_count, answer_status, answer_frames, answer_thread}
 use Rattle.jdwp_debuggee.specs.Breadth.{is_plain}
 use Rattle.jdwp_debuggee.specs.Facts.{AreBelow, IsSound, is_dispose, is_exit, about, moved_by, requests_by, Says, OfThread, Does, is_not_asked, is_no_asked_breakpoint}
 use Rattle.jdwp_debuggee.proofs.Small.{and-true, and-false, some-same, some-map, mapped, asked-append, asked-filter, below-filter, below-more}
@@ -149,7 +150,7 @@ of-one x state t u v e h k = subst (λ (z : ℕ). OfThread x (count_of state z))
 
 -- ---- slots
 
-slots-does : {S : Type 0} (m : Meaning S) → IsLawful m → (settings : Settings) (now : Moment S) (t f : ℕ) (values : List (ℤ × Value)) (n : ℕ) (x : Answer) → IsSound m settings now → count_of now.state t ≡ Some n → MayAnswer m now.machine 16 2 x → Does m settings now (Actions.SetSlots t f values) (record { after = record { state = now.state; machine = m.written now.machine t f values }; answer = x; dies = false; closes = false })
+slots-does : {S : Type 0} (m : Meaning S) → IsLawful m → (settings : Settings) (now : Moment S) (t f : ℕ) (values : List (ℤ × Value)) (n : ℕ) (x : Answer) → IsSound m settings now → count_of now.state t ≡ Some n → MayAnswer m now.machine SET_SLOTS.set SET_SLOTS.number x → Does m settings now (Actions.SetSlots t f values) (record { after = record { state = now.state; machine = m.written now.machine t f values }; answer = x; dies = false; closes = false })
 slots-does m law settings now t f values n x s e h =
     let sound : IsSound m settings (record { state = now.state; machine = m.written now.machine t f values }) = record {
       state = law.state_written now.machine t f values s.state;
@@ -157,7 +158,7 @@ slots-does m law settings now t f values n x s e h =
       at_most = s.at_most;
       below = s.below;
     } in
-    elim x as (λ (x : Answer). MayAnswer m now.machine 16 2 x → Does m settings now (Actions.SetSlots t f values) (record { after = record { state = now.state; machine = m.written now.machine t f values }; answer = x; dies = false; closes = false })) [
+    elim x as (λ (x : Answer). MayAnswer m now.machine SET_SLOTS.set SET_SLOTS.number x → Does m settings now (Actions.SetSlots t f values) (record { after = record { state = now.state; machine = m.written now.machine t f values }; answer = x; dies = false; closes = false })) [
       | Data content ↦ λ _. record {
         sound = sound;
         ever = λ u k. law.ever_written now.machine t f values u s.state ∙ k;
@@ -335,12 +336,12 @@ does_all m law settings now c (Actions.ResumeThread t) s =
           (λ u c. refl) (λ rs n. refl) tt (λ u h. of-one done now.state t u (Some n) e refl h) refl refl
     ] refl
 does_all m law settings now c (Actions.SuspendCount t) s =
-    elim (count_of now.state t) as (λ v. count_of now.state t ≡ v → Does m settings now (Actions.SuspendCount t) (count_by now v)) [
+    elim (count_of now.state t) as (λ v. count_of now.state t ≡ v → Does m settings now (Actions.SuspendCount t) (answered now (answer_count v))) [
       | None ↦ λ e. does_refused m settings now (Actions.SuspendCount t) INVALID_THREAD s (λ u h. of-one (Error INVALID_THREAD) now.state t u None e (λ _. refl) h)
       | Some n ↦ λ e. does_answered m settings now (Actions.SuspendCount t) (int_answer n) s refl (n, e, refl) (λ u h. of-one (int_answer n) now.state t u (Some n) e refl h)
     ] refl
 does_all m law settings now c (Actions.ThreadStatus t) s =
-    elim (count_of now.state t) as (λ v. count_of now.state t ≡ v → Does m settings now (Actions.ThreadStatus t) (status_by now v)) [
+    elim (count_of now.state t) as (λ v. count_of now.state t ≡ v → Does m settings now (Actions.ThreadStatus t) (answered now (answer_status v))) [
       | None ↦ λ e. does_refused m settings now (Actions.ThreadStatus t) INVALID_THREAD s (λ u h. of-one (Error INVALID_THREAD) now.state t u None e (λ _. refl) h)
       | Some n ↦ λ e. does_answered m settings now (Actions.ThreadStatus t) (status_answer n) s refl tt (λ u h. of-one (status_answer n) now.state t u (Some n) e refl h)
     ] refl
@@ -353,12 +354,12 @@ does_all m law settings now c (Actions.SetSlots t f values) s =
       ]
     ] refl
 does_all m law settings now c (Actions.AskFrames t) s =
-    elim (count_of now.state t) as (λ v. count_of now.state t ≡ v → Does m settings now (Actions.AskFrames t) (frames_by m settings now c v)) [
+    elim (count_of now.state t) as (λ v. count_of now.state t ≡ v → Does m settings now (Actions.AskFrames t) (answered now (answer_frames m settings now c v))) [
       | None ↦ λ e. does_refused m settings now (Actions.AskFrames t) INVALID_THREAD s (λ u h. of-one (Error INVALID_THREAD) now.state t u None e (λ _. refl) h)
       | Some n ↦ λ e. does_answered m settings now (Actions.AskFrames t) _ s refl tt (λ u h. of-one _ now.state t u (Some n) e (frames-of m law settings now c n s.state) h)
     ] refl
 does_all m law settings now c (Actions.AskThread t) s =
-    elim (count_of now.state t) as (λ v. count_of now.state t ≡ v → Does m settings now (Actions.AskThread t) (thread_by m settings now c v)) [
+    elim (count_of now.state t) as (λ v. count_of now.state t ≡ v → Does m settings now (Actions.AskThread t) (answered now (answer_thread m settings now c v))) [
       | None ↦ λ e. does_refused m settings now (Actions.AskThread t) INVALID_THREAD s (λ u h. of-one (Error INVALID_THREAD) now.state t u None e (λ _. refl) h)
       | Some n ↦ λ e. does_answered m settings now (Actions.AskThread t) _ s refl tt (λ u h. of-one _ now.state t u (Some n) e (bounded-of m now.machine settings c.set c.number (m.query now.machine (query_of c)) n (law.answers now.machine (query_of c) s.state)) h)
     ] refl

@@ -5,7 +5,7 @@ use Rattle.std.specs.List.{filter, flat_map}
 use Rattle.std.proofs.lemmas.Bool.{eqb-true, lt-ltb}
 use Rattle.std.proofs.lemmas.List.{append-nil, length-append}
 use Rattle.byteorder.specs.Numbers.{length-bytes_high_first}
-use Rattle.jdwp_wire.specs.Limits.{Limits}
+use Rattle.jdwp_wire.specs.Limits.{Limits, least_packet_limit}
 use Rattle.jdwp_wire.specs.Listed.{first_refusal, list_canonical, list_refusal}
 use Rattle.jdwp_wire.specs.Numbers.{id_refusal}
 use Rattle.jdwp_wire.specs.Reading.{first_of_two}
@@ -18,6 +18,7 @@ use Rattle.jdwp_value.specs.declared.tag.Tag.TheVariants as tag
 use Rattle.jdwp_layout.specs.Meanings.{ScalarMeaning, Byte, Boolean, Int, Long, Text, Object, ReferenceType, Method, OfField, Frame, Located, Valued, Tagged}
 use Rattle.jdwp_layout.specs.Shapes.{Events}
 use Rattle.jdwp_layout.specs.Writes.{entry_canonical, entry_refusal, scalar_canonical}
+use Rattle.jdwp_layout.specs.EventKindNumbers.{VM_START}
 use Rattle.jdwp_event.specs.CompositeBytes.{with_policy}
 use Rattle.jdwp_event.specs.Composites.{CompositeMeaning, composite_by, details, event_for, greatest_policy, vm_death}
 use Rattle.jdwp_event.specs.Filters.{is_of_kind, passes, passing}
@@ -221,8 +222,8 @@ start-fits m law d k =
     let a = law.sizes_are_widths d.moment.machine k.sound.state in
     let t = least_thread d.moment.state in
     alone-fits w d.settings.limits (start_policy d.settings.start_all) _ k.limits
-    (fits-by w a (Byte 90 ∷ Int (pos 0) ∷ Object t ∷ []) (rw (least-fits m law d.settings d.moment k.sound) refl) (omega arith))
+    (fits-by w a (Byte VM_START ∷ Int (pos 0) ∷ Object t ∷ []) (rw (least-fits m law d.settings d.moment k.sound) refl) (omega arith))
 
 -- VM_DEATH
-pub death-fits : (w : Widths) (limit : ℕ) → 2048 ≤ limit → FitsPacket w limit vm_death
+pub death-fits : (w : Widths) (limit : ℕ) → least_packet_limit ≤ limit → FitsPacket w limit vm_death
 death-fits w limit l = record { unrefused = refl; in_layout = refl; same_bytes = refl; within = omega (arith, l) }

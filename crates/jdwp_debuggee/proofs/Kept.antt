@@ -64,7 +64,7 @@ kept-threads m d state k e h n l s = record {
   distinct = subst (λ l. AreDistinct (ids l)) (sym e) k.distinct;
   quiet = λ x t c y. k.quiet (sym h ∙ x) t c (sym (ap (λ l. count_in l t) e) ∙ y);
   limit = k.limit;
-  next = subst (λ x. x ≤ 2147483648) (sym n) k.next;
+  next = subst (λ x. x ≤ greatest_int + 1) (sym n) k.next;
   limits = k.limits;
   room = let r : length d.moment.state.requests ≤ d.settings.limits.requests = k.room in omega arith;
 }

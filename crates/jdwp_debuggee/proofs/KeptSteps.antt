@@ -1,6 +1,6 @@
 -- what the code keeps stays at a step
 use Rattle.jdwp_wire.specs.Numbers.{greatest_int}
-use Rattle.std.proofs.Common.{◌≡◌, ◌≤◌, ◌==◌, ℕ, Bool, true, false, not, ◌&&◌, Option, Some, None, List, [], ◌∷◌, length, suc, refl, sym, ◌∙◌, ap, subst, arith, is_some}
+use Rattle.std.proofs.Common.{◌≡◌, ◌≤◌, ◌==◌, ◌+◌, ℕ, Bool, true, false, not, ◌&&◌, Option, Some, None, List, [], ◌∷◌, length, suc, refl, sym, ◌∙◌, ap, subst, arith, is_some}
 use Rattle.std.specs.List.{filter}
 use Rattle.std.proofs.lemmas.Bool.{eqb-true, false_from_ne_true}
 use Rattle.std.proofs.lemmas.List.{length-map}
@@ -57,7 +57,7 @@ ends-state m s t (state, b) = refl
 -- what is kept of the state that a step leaves, where there may be so many requests
 record Fine (most : ℕ) (st : State) : Type 0 where
   distinct : AreDistinct (ids st.threads)
-  next : st.next_request ≤ 2147483648
+  next : st.next_request ≤ greatest_int + 1
   room : length st.requests ≤ most
 
 fine-ended : (t most : ℕ) (st : State) (ts : List Thread) → (without_thread t st).threads ≡ ts → Fine most st → Fine most (ended_by ts (without_thread t st)).0

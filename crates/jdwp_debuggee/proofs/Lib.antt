@@ -14,6 +14,7 @@ pub mod KeptRequests
 pub mod Answered
 pub mod Writable
 pub mod ThreadsListed
+pub mod LeastThread
 pub mod Fitting
 pub mod Refused
 pub mod Read

@@ -6,19 +6,19 @@ use Rattle.jdwp_debuggee.specs.Actions
 use Rattle.jdwp_debuggee.specs.Actions.{Command, Action, action_of, is_implemented}
 use Rattle.jdwp_debuggee.specs.Refusals.{set_refusal}
 use Rattle.jdwp_event.specs.Modifiers.{modifiers_of}
-use Rattle.jdwp_debuggee.specs.Effects.{effect, effect_by, does, suspend_by, suspend_thread_by, suspend_thread_at, resume_thread_by, count_by, status_by, frames_by, thread_by, slots_by, slots_at, set_by}
+use Rattle.jdwp_debuggee.specs.Effects.{effect, effect_by, does, suspend_by, suspend_thread_by, suspend_thread_at, resume_thread_by, slots_by, slots_at, set_by}
 use Rattle.jdwp_debuggee.specs.Breadth.{is_plain, keeps_machine}
 
 plain_does : {S : Type 0} (m : Meaning S) (settings : Settings) (now : Moment S) (c : Command) (a : Action) → is_plain a ≡ true → (does m settings now c a).after.state ≡ now.state
-plain_does m settings now c (Actions.SuspendCount t) h = elim (count_of now.state t) as (λ v. (count_by now v).after.state ≡ now.state) [ None ↦ refl | Some n ↦ refl ]
-plain_does m settings now c (Actions.ThreadStatus t) h = elim (count_of now.state t) as (λ v. (status_by now v).after.state ≡ now.state) [ None ↦ refl | Some n ↦ refl ]
+plain_does m settings now c (Actions.SuspendCount t) h = refl
+plain_does m settings now c (Actions.ThreadStatus t) h = refl
 plain_does m settings now c (Actions.SetSlots t f values) h =
     elim (count_of now.state t) as (λ v. (slots_by m now t f values v).after.state ≡ now.state) [
       | None ↦ refl
       | Some n ↦ elim (n == 0) as (λ b. (slots_at m now t f values b).after.state ≡ now.state) [ true ↦ refl | false ↦ refl ]
     ]
-plain_does m settings now c (Actions.AskFrames t) h = elim (count_of now.state t) as (λ v. (frames_by m settings now c v).after.state ≡ now.state) [ None ↦ refl | Some n ↦ refl ]
-plain_does m settings now c (Actions.AskThread t) h = elim (count_of now.state t) as (λ v. (thread_by m settings now c v).after.state ≡ now.state) [ None ↦ refl | Some n ↦ refl ]
+plain_does m settings now c (Actions.AskFrames t) h = refl
+plain_does m settings now c (Actions.AskThread t) h = refl
 plain_does m settings now c Actions.AllThreads h = refl
 plain_does m settings now c Actions.IdSizes h = refl
 plain_does m settings now c Actions.Ask h = refl
@@ -38,11 +38,11 @@ pub plain_effect : {S : Type 0} (m : Meaning S) (settings : Settings) (now : Mom
 plain_effect m settings now c h = elim (is_implemented c) as (λ b. (effect_by m settings now c b).after.state ≡ now.state) [ true ↦ plain_does m settings now c (action_of c) h | false ↦ refl ]
 
 kept_does : {S : Type 0} (m : Meaning S) (settings : Settings) (now : Moment S) (c : Command) (a : Action) → keeps_machine a ≡ true → (does m settings now c a).after.machine ≡ now.machine
-kept_does m settings now c (Actions.SuspendCount t) h = elim (count_of now.state t) as (λ v. (count_by now v).after.machine ≡ now.machine) [ None ↦ refl | Some n ↦ refl ]
-kept_does m settings now c (Actions.ThreadStatus t) h = elim (count_of now.state t) as (λ v. (status_by now v).after.machine ≡ now.machine) [ None ↦ refl | Some n ↦ refl ]
+kept_does m settings now c (Actions.SuspendCount t) h = refl
+kept_does m settings now c (Actions.ThreadStatus t) h = refl
 kept_does m settings now c (Actions.SetSlots t f values) h = absurd (cc)
-kept_does m settings now c (Actions.AskFrames t) h = elim (count_of now.state t) as (λ v. (frames_by m settings now c v).after.machine ≡ now.machine) [ None ↦ refl | Some n ↦ refl ]
-kept_does m settings now c (Actions.AskThread t) h = elim (count_of now.state t) as (λ v. (thread_by m settings now c v).after.machine ≡ now.machine) [ None ↦ refl | Some n ↦ refl ]
+kept_does m settings now c (Actions.AskFrames t) h = refl
+kept_does m settings now c (Actions.AskThread t) h = refl
 kept_does m settings now c Actions.AllThreads h = refl
 kept_does m settings now c Actions.IdSizes h = refl
 kept_does m settings now c Actions.Ask h = refl

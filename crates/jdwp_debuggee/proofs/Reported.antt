@@ -4,7 +4,7 @@ use Rattle.std.specs.List.{filter, AllByRecursion}
 use Rattle.std.specs.Prelude.{IfSome}
 use Rattle.std.proofs.lemmas.Bool.{eqb-true, cond_both, leb-true}
 use Rattle.jdwp_wire.specs.declared.error_code.ErrorCode.{ErrorCode}
-use Rattle.jdwp_layout.specs.CommandNumbers.{is_command, STACK_FRAME, FRAMES, FRAME_COUNT, SUSPEND, RESUME, DISPOSE, EXIT, HOLD_EVENTS, RELEASE_EVENTS, ALL_THREADS, ID_SIZES, SET_REQUEST, CLEAR_REQUEST, CLEAR_ALL_BREAKPOINTS, SUSPEND_THREAD, RESUME_THREAD, SUSPEND_COUNT, THREAD_STATUS, SET_SLOTS}
+use Rattle.jdwp_layout.specs.CommandNumbers.{is_command, STACK_FRAME, FRAMES, FRAME_COUNT, SUSPEND, RESUME, DISPOSE, EXIT, HOLD_EVENTS, RELEASE_EVENTS, ALL_THREADS, ID_SIZES, SET_REQUEST, CLEAR_REQUEST, CLEAR_ALL_BREAKPOINTS, SUSPEND_THREAD, RESUME_THREAD, SUSPEND_COUNT, THREAD_STATUS, SET_SLOTS, EVENT}
 use Rattle.jdwp_layout.specs.CommandTable.{row_at}
 use Rattle.jdwp_layout.specs.Meanings.{ScalarMeaning, Byte, Int, Object, Frame, One, Many}
 use Rattle.jdwp_event.specs.Modifiers.{ModifierMeaning, modifiers_of}
@@ -76,9 +76,9 @@ sizes-command c = elim (thread_of c) as (λ v. IsSizes c (action_by v c)) [ Some
 
 sizes-implemented : (c : Command) → is_command ID_SIZES c.set c.number ≡ true → is_implemented c ≡ true
 sizes-implemented c h =
-    let set : c.set ≡ 1 = eqb-true c.set 1 (and-left (c.set == 1) (c.number == 7) h) in
-    let number : c.number ≡ 7 = eqb-true c.number 7 (and-right (c.set == 1) (c.number == 7) h) in
-    subst (λ s. (carries_out (row_at s c.number) && not (s == 64)) ≡ true) (sym set) (subst (λ n. (carries_out (row_at 1 n) && not (1 == 64)) ≡ true) (sym number) refl)
+    let set : c.set ≡ ID_SIZES.set = eqb-true c.set ID_SIZES.set (and-left (c.set == ID_SIZES.set) (c.number == ID_SIZES.number) h) in
+    let number : c.number ≡ ID_SIZES.number = eqb-true c.number ID_SIZES.number (and-right (c.set == ID_SIZES.set) (c.number == ID_SIZES.number) h) in
+    subst (λ s. (carries_out (row_at s c.number) && not (s == EVENT)) ≡ true) (sym set) (subst (λ n. (carries_out (row_at ID_SIZES.set n) && not (ID_SIZES.set == EVENT)) ≡ true) (sym number) refl)
 
 pub sizes_effect : {S : Type 0} (m : Meaning S) (settings : Settings) (now : Moment S) (c : Command) → action_of c ≡ Actions.IdSizes → (effect m settings now c).answer ≡ sizes_answer (m.sizes now.machine)
 sizes_effect m settings now c e =

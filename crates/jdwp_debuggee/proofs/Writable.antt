@@ -9,15 +9,16 @@ use Rattle.jdwp_layout.specs.Writes.{data_refusal}
 use Rattle.jdwp_machine.specs.Meanings.{Meaning}
 use Rattle.jdwp_machine.specs.Laws.{FitsRow, FitsShapes, MayAnswer}
 use Rattle.jdwp_wire.specs.Widths.{Widths}
+use Rattle.jdwp_wire.specs.Limits.{least_packet_limit}
 use Rattle.std.specs.Prelude.{IfOk, IfErr, OnErr, Result, Ok, Err}
+use Rattle.jdwp_layout.specs.CommandNumbers.{SET_SLOTS}
 use Rattle.jdwp_debuggee.specs.Answers.{done, query_of}
 use Rattle.jdwp_debuggee.specs.Actions as action
 use Rattle.jdwp_debuggee.specs.Actions.{Action, Command, action_of}
 use Rattle.jdwp_debuggee.specs.Debuggees.{CarriesOut, Debuggee, at_moment}
 use Rattle.jdwp_debuggee.specs.CommandReads.{Asking, asking_of, question_by}
-use Rattle.jdwp_debuggee.specs.Effects.{carried, does, frames_by, thread_by}
-use Rattle.jdwp_debuggee.specs.Settings.{Settings}
-use Rattle.jdwp_debuggee.specs.State.{Moment, count_of}
+use Rattle.jdwp_debuggee.specs.Effects.{carried, does}
+use Rattle.jdwp_debuggee.specs.State.{Moment}
 use Rattle.jdwp_machine.specs.declared.query.Query.{Query}
 use Rattle.jdwp_debuggee.specs.declared.reply.Sent.{Sent}
 use Rattle.jdwp_debuggee.specs.Replies.{reply_meaning}
@@ -44,7 +45,7 @@ nothing-fits w [] h = refl
 nothing-fits w (x ∷ xs) h = absurd (cc)
 
 -- slots that were written are answered by nothing
-pub written-done : {S : Type 0} (m : Meaning S) (s : S) (content : List DatumMeaning) → MayAnswer m s 16 2 (Data content) → Data content ≡ done
+pub written-done : {S : Type 0} (m : Meaning S) (s : S) (content : List DatumMeaning) → MayAnswer m s SET_SLOTS.set SET_SLOTS.number (Data content) → Data content ≡ done
 written-done m s content h = ap Data (nothing-fits (m.sizes s) content h)
 
 record Did-by {S : Type 0} (m : Meaning S) (c : Command) (a : Action) (old new : Debuggee S) (r : Reply) : Type 0 where
@@ -90,7 +91,7 @@ short-fails P (Ok reply) h = tt
 -- a question that was answered
 pub ask-did : {S : Type 0} (m : Meaning S) (c : Command) (a : Action) (d : Debuggee S) (x : Sent) → a ≡ action_of c → (carried m d.settings d.moment c a).after ≡ d.moment
     → IsSent (m.sizes d.moment.machine) (carried m d.settings d.moment c a).answer x
-    → (2048 ≤ d.settings.limits.packet → 11 + length (sent_bytes (m.sizes d.moment.machine) x) ≤ d.settings.limits.packet) → Did m c d d x
+    → (least_packet_limit ≤ d.settings.limits.packet → 11 + length (sent_bytes (m.sizes d.moment.machine) x) ≤ d.settings.limits.packet) → Did m c d d x
 ask-did {S = S} m c a d x is same sends fits =
     let by : (b : Action) → a ≡ b → ((carried m d.settings d.moment c b).after ≡ d.moment) × IsSent (m.sizes d.moment.machine) (carried m d.settings d.moment c b).answer x =
     λ b h. subst (λ (y : Action). ((carried m d.settings d.moment c y).after ≡ d.moment) × IsSent (m.sizes d.moment.machine) (carried m d.settings d.moment c y).answer x) h (same, sends) in
@@ -105,32 +106,24 @@ ask-did {S = S} m c a d x is same sends fits =
 pub same-question : (a b : Action) (q r : Query) → a ≡ b → question_by a r ≡ Some r → Some q ≡ question_by b r → r ≡ q
 same-question a b q r is asks e = let h : Some q ≡ Some r = e ∙ (ap (λ (x : Action). question_by x r) (sym is) ∙ asks) in cc
 
-pub frames-stay : {S : Type 0} (m : Meaning S) (settings : Settings) (now : Moment S) (c : Command) (count : Option ℕ) → (frames_by m settings now c count).after ≡ now
-frames-stay m settings now c None = refl
-frames-stay m settings now c (Some n) = refl
-
-pub thread-stays : {S : Type 0} (m : Meaning S) (settings : Settings) (now : Moment S) (c : Command) (count : Option ℕ) → (thread_by m settings now c count).after ≡ now
-thread-stays m settings now c None = refl
-thread-stays m settings now c (Some n) = refl
-
 -- a question about a thread's frames was answered
 pub frames-did : {S E : Type 0} (m : Meaning S) (d : Debuggee S) (t : ℕ) (q : Query) (r : Result Sent E)
     → IfOk r (λ x. (c : Command) → query_of c ≡ q → IsSent (m.sizes d.moment.machine) (does m d.settings d.moment c (action.AskFrames t)).answer x)
-    → IfOk r (λ x. 2048 ≤ d.settings.limits.packet → 11 + length (sent_bytes (m.sizes d.moment.machine) x) ≤ d.settings.limits.packet)
+    → IfOk r (λ x. least_packet_limit ≤ d.settings.limits.packet → 11 + length (sent_bytes (m.sizes d.moment.machine) x) ≤ d.settings.limits.packet)
     → IfOk r (λ x. (c : Command) → record { action = action.AskFrames t; question = Some q } ≡ asking_of c → Did m c d d x)
 frames-did m d t q (Err e) v f = tt
 frames-did m d t q (Ok x) v f = λ c e.
     let is : action.AskFrames t ≡ action_of c = ap (λ (y : Asking). y.action) e in
     let same = same-question (action.AskFrames t) (action_of c) q (query_of c) is refl (ap (λ (y : Asking). y.question) e) in
-    ask-did m c (action.AskFrames t) d x is (frames-stay m d.settings d.moment c (count_of d.moment.state t)) (v c same) f
+    ask-did m c (action.AskFrames t) d x is refl (v c same) f
 
 -- another question about a thread was answered
 pub thread-did : {S E : Type 0} (m : Meaning S) (d : Debuggee S) (t : ℕ) (q : Query) (r : Result Sent E)
     → IfOk r (λ x. (c : Command) → query_of c ≡ q → IsSent (m.sizes d.moment.machine) (does m d.settings d.moment c (action.AskThread t)).answer x)
-    → IfOk r (λ x. 2048 ≤ d.settings.limits.packet → 11 + length (sent_bytes (m.sizes d.moment.machine) x) ≤ d.settings.limits.packet)
+    → IfOk r (λ x. least_packet_limit ≤ d.settings.limits.packet → 11 + length (sent_bytes (m.sizes d.moment.machine) x) ≤ d.settings.limits.packet)
     → IfOk r (λ x. (c : Command) → record { action = action.AskThread t; question = Some q } ≡ asking_of c → Did m c d d x)
 thread-did m d t q (Err e) v f = tt
 thread-did m d t q (Ok x) v f = λ c e.
     let is : action.AskThread t ≡ action_of c = ap (λ (y : Asking). y.action) e in
     let same = same-question (action.AskThread t) (action_of c) q (query_of c) is refl (ap (λ (y : Asking). y.question) e) in
-    ask-did m c (action.AskThread t) d x is (thread-stays m d.settings d.moment c (count_of d.moment.state t)) (v c same) f
+    ask-did m c (action.AskThread t) d x is refl (v c same) f

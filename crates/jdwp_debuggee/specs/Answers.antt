@@ -1,5 +1,6 @@
 -- What commands that change nothing are answered (JDWP specification, "Protocol Details").
-use Rattle.std.specs.Prelude.{ℕ, pos, ◌+◌, ◌==◌, nat_le, Bool, List, [], ◌∷◌, map, length, if◌then◌else◌}
+use Rattle.std.specs.Prelude.{ℕ, pos, ◌+◌, ◌≤◌, ◌==◌, nat_le, Bool, List, [], ◌∷◌, map, length, IsSome, if◌then◌else◌}
+use Rattle.std.specs.List.{AllByRecursion}
 use Rattle.jdwp_wire.specs.ErrorCodes.{THREAD_NOT_SUSPENDED, INTERNAL}
 use Rattle.jdwp_wire.specs.Widths.{Widths}
 use Rattle.jdwp_layout.specs.declared.answer.Answer.{Answer}
@@ -9,7 +10,7 @@ use Rattle.jdwp_layout.specs.Writes.{data_canonical}
 use Rattle.jdwp_machine.specs.declared.query.Query.{Query}
 use Rattle.jdwp_machine.specs.Meanings.{Meaning}
 use Rattle.jdwp_debuggee.specs.Settings.{Settings}
-use Rattle.jdwp_debuggee.specs.State.{State, ids}
+use Rattle.jdwp_debuggee.specs.State.{State, Thread, count_in, ids}
 use Rattle.jdwp_debuggee.specs.Actions.{Carried, Content, Raw, Command}
 
 -- an answer with no data, and one with an int
@@ -29,11 +30,16 @@ abbrev pub rising : List ℕ → List ℕ
 rising [] = []
 rising (n ∷ ns) = inserted n (rising ns)
 
--- the live thread of least id
+-- the first of a list, or 0
 abbrev pub first_of : List ℕ → ℕ
 first_of [] = 0
 first_of (n ∷ ns) = n
 
+-- a live thread's id, and no live thread has a lower one
+abbrev pub IsLeastThread : List Thread → ℕ → Type 0
+IsLeastThread threads id = IsSome (count_in threads id) × AllByRecursion (λ (thread : Thread). id ≤ thread.id) threads
+
+-- the thread that VM_START names: wherever a thread lives, it is such a thread (`starts_with_least_thread`); 0 where none does
 abbrev pub least_thread : State → ℕ
 least_thread state = first_of (rising (ids state.threads))
 

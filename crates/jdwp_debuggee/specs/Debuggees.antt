@@ -1,6 +1,7 @@
 -- A debuggee: what it is made with, and its moment; and what the code keeps of it.
-use Rattle.std.specs.Prelude.{◌≡◌, ◌≤◌, ◌+◌, ◌*◌, ℕ, false, length, Some}
-use Rattle.jdwp_wire.specs.Limits.{Limits, IsCount}
+use Rattle.std.specs.Prelude.{◌≡◌, ◌≤◌, ◌+◌, ℕ, false, length, Some}
+use Rattle.jdwp_wire.specs.Limits.{Limits, IsCount, composite_limit, least_packet_limit}
+use Rattle.jdwp_wire.specs.Numbers.{greatest_int}
 use Rattle.jdwp_layout.specs.declared.answer.Answer.{Answer}
 use Rattle.jdwp_machine.specs.Meanings.{Meaning}
 use Rattle.jdwp_machine.specs.Laws.{AreDistinct}
@@ -23,9 +24,9 @@ with_state state d = at_moment (record { state = state; machine = d.moment.machi
 
 -- Limits by which a composite event of one event for each request fits a packet.
 pub record AreRoomy (limits : Limits) : Type 0 where
-  pub packet : 2048 ≤ limits.packet
+  pub packet : least_packet_limit ≤ limits.packet
   pub requests : IsCount limits.requests
-  pub composite : 16 + 542 * limits.requests ≤ limits.packet
+  pub composite : composite_limit limits.requests ≤ limits.packet
 
 -- What holds of every debuggee: its moment is sound, no thread stands twice, every suspend count is 0 before the first handshake, and
 -- there are no more requests than there may be.
@@ -34,7 +35,7 @@ pub record IsKept {S : Type 0} (m : Meaning S) (d : Debuggee S) : Type 0 where
   pub distinct : AreDistinct (ids d.moment.state.threads)
   pub quiet : d.moment.state.handshaken ≡ false → (t n : ℕ) → count_of d.moment.state t ≡ Some n → n ≡ 0
   pub limit : IsCountLimit d.settings.count_limit
-  pub next : d.moment.state.next_request ≤ 2147483648
+  pub next : d.moment.state.next_request ≤ greatest_int + 1
   pub limits : AreRoomy d.settings.limits
   pub room : length d.moment.state.requests ≤ d.settings.limits.requests
 

@@ -57,23 +57,33 @@ abbrev pub resume_thread_by : {S : Type 0} → Moment S → ℕ → Option ℕ �
 resume_thread_by now t None = refused now INVALID_THREAD
 resume_thread_by now t (Some count) = changes now (with_counts (only t lowered) now.state) done
 
--- ---- questions about a thread, by its count
+-- ---- what is answered where nothing changes
 
-abbrev pub count_by : {S : Type 0} → Moment S → Option ℕ → Effect S
-count_by now None = refused now INVALID_THREAD
-count_by now (Some count) = answered now (int_answer count)
+abbrev pub answer_count : Option ℕ → Answer
+answer_count None = Error INVALID_THREAD
+answer_count (Some count) = int_answer count
 
-abbrev pub status_by : {S : Type 0} → Moment S → Option ℕ → Effect S
-status_by now None = refused now INVALID_THREAD
-status_by now (Some count) = answered now (status_answer count)
+abbrev pub answer_status : Option ℕ → Answer
+answer_status None = Error INVALID_THREAD
+answer_status (Some count) = status_answer count
 
-abbrev pub frames_by : {S : Type 0} → Meaning S → Settings → Moment S → Command → Option ℕ → Effect S
-frames_by m settings now c None = refused now INVALID_THREAD
-frames_by m settings now c (Some count) = answered now (bounded settings (m.sizes now.machine) (frames_answer m now.machine c count))
+abbrev pub answer_frames : {S : Type 0} → Meaning S → Settings → Moment S → Command → Option ℕ → Answer
+answer_frames m settings now c None = Error INVALID_THREAD
+answer_frames m settings now c (Some count) = bounded settings (m.sizes now.machine) (frames_answer m now.machine c count)
 
-abbrev pub thread_by : {S : Type 0} → Meaning S → Settings → Moment S → Command → Option ℕ → Effect S
-thread_by m settings now c None = refused now INVALID_THREAD
-thread_by m settings now c (Some count) = answered now (bounded settings (m.sizes now.machine) (m.query now.machine (query_of c)))
+abbrev pub answer_thread : {S : Type 0} → Meaning S → Settings → Moment S → Command → Option ℕ → Answer
+answer_thread m settings now c None = Error INVALID_THREAD
+answer_thread m settings now c (Some count) = bounded settings (m.sizes now.machine) (m.query now.machine (query_of c))
+
+-- the answer to a question: of a thread by its count, of the debuggee, or what the machine answers
+abbrev pub answer_to : {S : Type 0} → Meaning S → Settings → Moment S → Command → Action → Answer
+answer_to m settings now c (Actions.SuspendCount t) = answer_count (count_of now.state t)
+answer_to m settings now c (Actions.ThreadStatus t) = answer_status (count_of now.state t)
+answer_to m settings now c (Actions.AskFrames t) = answer_frames m settings now c (count_of now.state t)
+answer_to m settings now c (Actions.AskThread t) = answer_thread m settings now c (count_of now.state t)
+answer_to m settings now c Actions.AllThreads = bounded settings (m.sizes now.machine) (all_threads now.state)
+answer_to m settings now c Actions.IdSizes = sizes_answer (m.sizes now.machine)
+answer_to m settings now c action = bounded settings (m.sizes now.machine) (m.query now.machine (query_of c))
 
 -- ---- slots
 
@@ -152,14 +162,9 @@ does m settings now c (Actions.ClearRequest byte id) = changes now (without_requ
 does m settings now c Actions.ClearBreakpoints = changes now (without_breakpoints now.state) done
 does m settings now c (Actions.SuspendThread t) = suspend_thread_by settings now t (count_of now.state t)
 does m settings now c (Actions.ResumeThread t) = resume_thread_by now t (count_of now.state t)
-does m settings now c (Actions.SuspendCount t) = count_by now (count_of now.state t)
-does m settings now c (Actions.ThreadStatus t) = status_by now (count_of now.state t)
 does m settings now c (Actions.SetSlots t f values) = slots_by m now t f values (count_of now.state t)
-does m settings now c (Actions.AskFrames t) = frames_by m settings now c (count_of now.state t)
-does m settings now c (Actions.AskThread t) = thread_by m settings now c (count_of now.state t)
-does m settings now c Actions.AllThreads = answered now (bounded settings (m.sizes now.machine) (all_threads now.state))
-does m settings now c Actions.IdSizes = answered now (sizes_answer (m.sizes now.machine))
-does m settings now c Actions.Ask = answered now (bounded settings (m.sizes now.machine) (m.query now.machine (query_of c)))
+-- a question: nothing changes
+does m settings now c action = answered now (answer_to m settings now c action)
 
 -- ---- before the first handshake
 

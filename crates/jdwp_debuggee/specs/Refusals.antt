@@ -8,15 +8,16 @@ use Rattle.jdwp_wire.specs.ErrorCodes.{INVALID_THREAD, INVALID_CLASS, NOT_IMPLEM
 use Rattle.jdwp_value.specs.declared.location.Location.{Location}
 use Rattle.jdwp_layout.specs.declared.answer.Answer.{Answer}
 use Rattle.jdwp_layout.specs.declared.answer.Answer.TheVariants.{Data, Error}
-use Rattle.jdwp_layout.specs.CommandNumbers.{SIGNATURE, SET_REQUEST, LOCATION_ONLY}
-use Rattle.jdwp_layout.specs.Meanings.{Byte, ReferenceType, Located, One, Many}
+use Rattle.jdwp_layout.specs.CommandNumbers.{SIGNATURE, SET_REQUEST}
+use Rattle.jdwp_layout.specs.Meanings.{ReferenceType, One}
 use Rattle.jdwp_event.specs.declared.kind.EventKind.{EventKind}
 use Rattle.jdwp_event.specs.declared.kind.EventKind.TheVariants as kind
-use Rattle.jdwp_event.specs.Composites.{POLICY_NONE, POLICY_ALL}
+use Rattle.jdwp_event.specs.Composites.{POLICY_ALL}
 use Rattle.jdwp_event.specs.Constants.{size_of_number, depth_of_number}
 use Rattle.jdwp_event.specs.EventKinds.{kind_byte, kind_of_byte}
 use Rattle.jdwp_event.specs.Modifiers.{ModifierMeaning, Count, Conditional, ThreadOnly, ClassOnly, ClassMatch, ClassExclude, LocationOnly, ExceptionOnly, FieldOnly, Step, InstanceOnly, SourceNameMatch}
 use Rattle.jdwp_machine.specs.declared.query.Query.{Query}
+use Rattle.jdwp_machine.specs.Laws.{breakpoint_at}
 use Rattle.jdwp_machine.specs.Meanings.{Meaning}
 use Rattle.jdwp_debuggee.specs.Settings.{Settings}
 use Rattle.jdwp_debuggee.specs.State.{State, Moment, count_of}
@@ -86,7 +87,7 @@ abbrev pub location_query : Location → Query
 location_query location = record {
   set = SET_REQUEST.set;
   number = SET_REQUEST.number;
-  content = One (Byte (kind_byte kind.Breakpoint)) ∷ One (Byte POLICY_NONE) ∷ Many ((Byte LOCATION_ONLY ∷ Located location ∷ []) ∷ []) ∷ [];
+  content = breakpoint_at location;
 }
 
 abbrev pub location_refusal_by : Answer → Option ErrorCode

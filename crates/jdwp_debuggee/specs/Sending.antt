@@ -3,6 +3,7 @@ use Rattle.std.specs.Prelude.{◌≡◌, ℕ, ◌+◌, ◌≤◌, ⊤, suc, nat_
 use Rattle.jdwp_wire.specs.ErrorCodes.{NONE}
 use Rattle.jdwp_wire.specs.Widths.{Widths}
 use Rattle.jdwp_wire.specs.declared.error_code.ErrorCode.{ErrorCode}
+use Rattle.jdwp_wire.specs.Limits.{least_packet_limit}
 use Rattle.jdwp_event.specs.CompositeBytes.{composite_canonical, composite_refusal}
 use Rattle.jdwp_event.specs.Composites.{CompositeMeaning, composite_data}
 use Rattle.jdwp_layout.specs.CommandTable.{row_at}
@@ -58,7 +59,7 @@ pub record IsSent (w : Widths) (answer : Answer) (sent : Sent) : Type 0 where
 pub record Did {S : Type 0} (m : Meaning S) (c : Command) (old new : Debuggee S) (sent : Sent) : Type 0 where
   pub after : new ≡ at_moment (carried m old.settings old.moment c (action_of c)).after old
   pub sends : IsSent (m.sizes old.moment.machine) (carried m old.settings old.moment c (action_of c)).answer sent
-  pub fits : 2048 ≤ old.settings.limits.packet → 11 + length (sent_bytes (m.sizes old.moment.machine) sent) ≤ old.settings.limits.packet
+  pub fits : least_packet_limit ≤ old.settings.limits.packet → 11 + length (sent_bytes (m.sizes old.moment.machine) sent) ≤ old.settings.limits.packet
 
 -- the actions that want no memory
 abbrev pub is_short_action : Action → Bool

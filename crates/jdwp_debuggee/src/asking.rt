@@ -1,5 +1,6 @@
 //! The commands that ask the machine or list the live threads, and StackFrame.SetValues (JDWP specification, "Protocol Details").
 ghost use Rattle.std.specs.Prelude.{◌≡◌, ℕ, ◌+◌, ◌≤◌, ◌∷◌, [], length, map, IfOk, OnErr};
+ghost use Rattle.jdwp_wire.specs.Limits.{least_packet_limit};
 ghost use Rattle.jdwp_debuggee.specs.Actions as action;
 ghost use Rattle.jdwp_debuggee.specs.Actions.{Command};
 ghost use Rattle.jdwp_debuggee.specs.Answers.{all_threads, bounded, query_of};
@@ -44,7 +45,7 @@ fn sent(
 ) -> Result<Sent, NoMemory>
     requires { IsWritable sizes.now set number answer }
     ensures value { IfOk result (λ sent. IsSent sizes.now (bounded settings.now sizes.now answer) sent) }
-    ensures fits { IfOk result (λ sent. 2048 ≤ settings.now.limits.packet → 11 + length (sent_bytes sizes.now sent) ≤ settings.now.limits.packet) }
+    ensures fits { IfOk result (λ sent. least_packet_limit ≤ settings.now.limits.packet → 11 + length (sent_bytes sizes.now sent) ≤ settings.now.limits.packet) }
 {
     let content = match answer {
         Answer::Error(error) => return Ok(Sent::Short(Reply::Refused(error))),
@@ -80,7 +81,7 @@ impl<M: Machine> Debuggee<M> {
     /// `NoMemory` where an allocation was refused.
     pub fn ask(&self, alloc: Global, query: &Query) -> Result<Sent, NoMemory>
         ensures value { IfOk result (λ sent. IsSent (M.meaning.sizes self.now.moment.machine) (bounded self.now.settings (M.meaning.sizes self.now.moment.machine) (M.meaning.query self.now.moment.machine query.now)) sent) }
-        ensures fits { IfOk result (λ sent. 2048 ≤ self.now.settings.limits.packet → 11 + length (sent_bytes (M.meaning.sizes self.now.moment.machine) sent) ≤ self.now.settings.limits.packet) }
+        ensures fits { IfOk result (λ sent. least_packet_limit ≤ self.now.settings.limits.packet → 11 + length (sent_bytes (M.meaning.sizes self.now.moment.machine) sent) ≤ self.now.settings.limits.packet) }
     {
         let answer = self.machine.query(query)?;
         let sizes = self.machine.sizes();
@@ -105,7 +106,7 @@ impl<M: Machine> Debuggee<M> {
         query: &Query,
     ) -> Result<Sent, NoMemory>
         ensures value { IfOk result (λ sent. (c : Command) → query_of c ≡ query.now → IsSent (M.meaning.sizes self.now.moment.machine) (does M.meaning self.now.settings self.now.moment c (action.AskThread thread.0)).answer sent) }
-        ensures fits { IfOk result (λ sent. 2048 ≤ self.now.settings.limits.packet → 11 + length (sent_bytes (M.meaning.sizes self.now.moment.machine) sent) ≤ self.now.settings.limits.packet) }
+        ensures fits { IfOk result (λ sent. least_packet_limit ≤ self.now.settings.limits.packet → 11 + length (sent_bytes (M.meaning.sizes self.now.moment.machine) sent) ≤ self.now.settings.limits.packet) }
     {
         match self.threads.count(thread) {
             None => Ok(Sent::Short(Reply::Refused(ErrorCode::INVALID_THREAD))),
@@ -124,7 +125,7 @@ impl<M: Machine> Debuggee<M> {
         query: &Query,
     ) -> Result<Sent, NoMemory>
         ensures value { IfOk result (λ sent. (c : Command) → query_of c ≡ query.now → IsSent (M.meaning.sizes self.now.moment.machine) (does M.meaning self.now.settings self.now.moment c (action.AskFrames thread.0)).answer sent) }
-        ensures fits { IfOk result (λ sent. 2048 ≤ self.now.settings.limits.packet → 11 + length (sent_bytes (M.meaning.sizes self.now.moment.machine) sent) ≤ self.now.settings.limits.packet) }
+        ensures fits { IfOk result (λ sent. least_packet_limit ≤ self.now.settings.limits.packet → 11 + length (sent_bytes (M.meaning.sizes self.now.moment.machine) sent) ≤ self.now.settings.limits.packet) }
     {
         match self.threads.count(thread) {
             None => Ok(Sent::Short(Reply::Refused(ErrorCode::INVALID_THREAD))),
@@ -163,7 +164,7 @@ impl<M: Machine> Debuggee<M> {
     /// `NoMemory` where an allocation was refused.
     pub fn ask_all_threads(&self, alloc: Global) -> Result<Sent, NoMemory>
         ensures value { IfOk result (λ sent. IsSent (M.meaning.sizes self.now.moment.machine) (bounded self.now.settings (M.meaning.sizes self.now.moment.machine) (all_threads self.now.moment.state)) sent) }
-        ensures fits { IfOk result (λ sent. 2048 ≤ self.now.settings.limits.packet → 11 + length (sent_bytes (M.meaning.sizes self.now.moment.machine) sent) ≤ self.now.settings.limits.packet) }
+        ensures fits { IfOk result (λ sent. least_packet_limit ≤ self.now.settings.limits.packet → 11 + length (sent_bytes (M.meaning.sizes self.now.moment.machine) sent) ≤ self.now.settings.limits.packet) }
     {
         if self.threads.len() > self.settings.limits().packet() as usize {
             return Ok(Sent::Short(Reply::Refused(ErrorCode::INTERNAL)));

@@ -115,13 +115,6 @@ impl<M: Machine> Debuggee<M> {
         self.alive
     }
 
-    /// Whether the first handshake of the target's life was completed.
-    pub fn is_handshaken(&self) -> bool
-        ensures { result ≡ self.now.moment.state.handshaken }
-    {
-        self.handshaken
-    }
-
     /// The id of the target's next packet.
     pub fn next_packet(&self) -> u32
         ensures { result ≡ self.now.moment.state.next_packet }

@@ -1,12 +1,12 @@
 //! Laws of the definitions, each the contract of a function without a body.
-ghost use Rattle.std.specs.Prelude.{◌≡◌, ◌≤◌, ℕ, List, Some, false, true};
+ghost use Rattle.std.specs.Prelude.{◌≡◌, ◌≢◌, ◌≤◌, ℕ, List, [], Some, false, true};
 ghost use Rattle.jdwp_machine.specs.Meanings.{Meaning};
 ghost use Rattle.jdwp_debuggee.specs.Settings.{Settings};
-ghost use Rattle.jdwp_debuggee.specs.State.{Moment};
+ghost use Rattle.jdwp_debuggee.specs.State.{Moment, State};
 ghost use Rattle.jdwp_debuggee.specs.Actions.{Command, action_of, IdSizes, SetRequest};
 ghost use Rattle.jdwp_debuggee.specs.Effects.{effect};
 ghost use Rattle.jdwp_debuggee.specs.Breadth.{is_plain, keeps_machine};
-ghost use Rattle.jdwp_debuggee.specs.Answers.{sizes_answer};
+ghost use Rattle.jdwp_debuggee.specs.Answers.{IsLeastThread, least_thread, sizes_answer};
 ghost use Rattle.jdwp_debuggee.specs.Facts.{is_data};
 ghost use Rattle.jdwp_debuggee.specs.Reports.{HavePolicies, IsReport};
 ghost use Rattle.jdwp_debuggee.specs.Sending.{FitsPacket};
@@ -15,6 +15,7 @@ ghost use Rattle.jdwp_event.specs.Composites.{CompositeMeaning, POLICY_ALL, vm_d
 ghost use Rattle.jdwp_event.specs.Requests.{all_asked};
 ghost use Rattle.jdwp_layout.specs.Meanings.{ScalarMeaning};
 ghost use Rattle.jdwp_wire.specs.Widths.{Widths};
+ghost use Rattle.jdwp_wire.specs.Limits.{least_packet_limit};
 ghost use Rattle.jdwp_debuggee.specs.Running.{Runs};
 
 use jdwp_machine::Machine;
@@ -44,6 +45,11 @@ pub fn reports_one_thread<M: Machine>()
     ensures { (now : Moment M) (t : ℕ) (c : CompositeMeaning) → HavePolicies (all_asked now.state.requests) → (occurs M.meaning now t).sends ≡ Some c → IsReport c }
 {}
 
+/// Where a thread lives, the thread that VM_START names is live, and no live thread has a lower id.
+pub fn starts_with_least_thread()
+    ensures { (state : State) → state.threads ≢ [] → IsLeastThread state.threads (least_thread state) }
+{}
+
 /// A thread makes a step only where it lives and is not suspended, events are not held, and no thread stands at the count limit.
 pub fn steps_where_it_runs<M: Machine>()
     ensures { (settings : Settings) (now : Moment M) (t : ℕ) → may_step M.meaning settings now t ≡ true → Runs settings now.state t }
@@ -51,5 +57,5 @@ pub fn steps_where_it_runs<M: Machine>()
 
 /// VM_DEATH can be written at any widths, and fits each packet limit of 2,048 bytes or more.
 pub fn fits_vm_death()
-    ensures { (w : Widths) (limit : ℕ) → 2048 ≤ limit → FitsPacket w limit vm_death }
+    ensures { (w : Widths) (limit : ℕ) → least_packet_limit ≤ limit → FitsPacket w limit vm_death }
 {}

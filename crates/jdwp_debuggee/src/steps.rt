@@ -94,23 +94,9 @@ fn end_thread<M: Machine>(
 }
 
 impl<M: Machine> Debuggee<M> {
-    /// Whether a thread may step: the first handshake was completed, the machine is alive, events are not held, the thread is alive
-    /// and not suspended, no live thread stands at the count limit, and no thread too many would start.
-    ///
-    /// # Errors
-    /// `NoMemory` where an allocation was refused; only where nothing but a thread too many could forbid the step.
-    pub fn may_step(&self, thread: ObjectId) -> Result<bool, NoMemory>
-        ensures exact { IfOk result (λ may. may ≡ may_step M.meaning self.now.settings self.now.moment thread.0) }
-        ensures memory { IfErr result (λ _. is_ready self.now.settings self.now.moment.state thread.0 ≡ true) }
-    {
-        if !self.is_ready(thread) {
-            return Ok(false);
-        }
-        let happening = self.machine.next(thread)?;
-        Ok(!self.is_full(&happening))
-    }
-
-    /// One step of a thread, if it may make one. What is sent can be written at the machine's widths, and fits a packet.
+    /// One step of a thread, if it may make one: where the first handshake was completed, the machine is alive, events are not held, the
+    /// thread is alive and not suspended, no live thread stands at the count limit, and no thread too many would start. What is sent can
+    /// be written at the machine's widths, and fits a packet.
     ///
     /// # Errors
     /// `NoMemory` where an allocation was refused; only where nothing but a thread too many could forbid the step, and then nothing

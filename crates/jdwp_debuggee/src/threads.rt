@@ -10,6 +10,7 @@ ghost use Rattle.jdwp_debuggee.specs.Refusals.{is_some_count};
 ghost use Rattle.jdwp_debuggee.specs.Answers.{first_of, rising};
 ghost use Rattle.jdwp_debuggee.specs.Sending.{place_in};
 
+use jdwp_event::Policy;
 use jdwp_value::ObjectId;
 use jdwp_wire::NoMemory;
 use std::alloc::Global;
@@ -52,8 +53,9 @@ impl Change {
             Change::Clear => 0,
             Change::RaiseOne(one) if one.0 == thread.0 => count + 1,
             Change::LowerOne(one) if one.0 == thread.0 => count.saturating_sub(1),
-            Change::RaiseBy(2, _) => count + 1,
-            Change::RaiseBy(1, one) if one.0 == thread.0 => count + 1,
+            Change::RaiseBy(policy, _) if policy == Policy::All.byte() => count + 1,
+            Change::RaiseBy(policy, one)
+                if policy == Policy::EventThread.byte() && one.0 == thread.0 => { count + 1 }
             _ => count,
         }
     }

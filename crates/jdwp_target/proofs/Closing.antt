@@ -153,22 +153,6 @@ resume_thread-why : {S : Type 0} (a : Action) (now : Moment S) (t : ℕ) (o : Op
 resume_thread-why a now t None = goes-on a _ refl refl
 resume_thread-why a now t (Some count) = goes-on a _ refl refl
 
-count-why : {S : Type 0} (a : Action) (now : Moment S) (o : Option ℕ) → Why a (effects.count_by now o)
-count-why a now None = goes-on a _ refl refl
-count-why a now (Some count) = goes-on a _ refl refl
-
-status-why : {S : Type 0} (a : Action) (now : Moment S) (o : Option ℕ) → Why a (effects.status_by now o)
-status-why a now None = goes-on a _ refl refl
-status-why a now (Some count) = goes-on a _ refl refl
-
-frames-why : {S : Type 0} (a : Action) (m : Meaning S) (settings : Settings) (now : Moment S) (c : Command) (o : Option ℕ) → Why a (effects.frames_by m settings now c o)
-frames-why a m settings now c None = goes-on a _ refl refl
-frames-why a m settings now c (Some count) = goes-on a _ refl refl
-
-thread-why : {S : Type 0} (a : Action) (m : Meaning S) (settings : Settings) (now : Moment S) (c : Command) (o : Option ℕ) → Why a (effects.thread_by m settings now c o)
-thread-why a m settings now c None = goes-on a _ refl refl
-thread-why a m settings now c (Some count) = goes-on a _ refl refl
-
 slots_at-why : {S : Type 0} (a : Action) (m : Meaning S) (now : Moment S) (t f : ℕ) (values : _) (b : Bool) → Why a (effects.slots_at m now t f values b)
 slots_at-why a m now t f values true = goes-on a _ refl refl
 slots_at-why a m now t f values false = goes-on a _ refl refl
@@ -193,11 +177,11 @@ does-why m settings now c (Actions.ClearRequest byte id) = goes-on _ _ refl refl
 does-why m settings now c Actions.ClearBreakpoints = goes-on _ _ refl refl
 does-why m settings now c (Actions.SuspendThread t) = suspend_thread-why _ settings now t _
 does-why m settings now c (Actions.ResumeThread t) = resume_thread-why _ now t _
-does-why m settings now c (Actions.SuspendCount t) = count-why _ now _
-does-why m settings now c (Actions.ThreadStatus t) = status-why _ now _
+does-why m settings now c (Actions.SuspendCount t) = goes-on _ _ refl refl
+does-why m settings now c (Actions.ThreadStatus t) = goes-on _ _ refl refl
 does-why m settings now c (Actions.SetSlots t f values) = slots-why _ m now t f values (count_of now.state t)
-does-why m settings now c (Actions.AskFrames t) = frames-why _ m settings now c _
-does-why m settings now c (Actions.AskThread t) = thread-why _ m settings now c _
+does-why m settings now c (Actions.AskFrames t) = goes-on _ _ refl refl
+does-why m settings now c (Actions.AskThread t) = goes-on _ _ refl refl
 does-why m settings now c Actions.AllThreads = goes-on _ _ refl refl
 does-why m settings now c Actions.IdSizes = goes-on _ _ refl refl
 does-why m settings now c Actions.Ask = goes-on _ _ refl refl

@@ -3,6 +3,5 @@ pub mod TargetRuns
 pub mod RightTargets
 pub mod StepLemmas
 pub mod RightTurns
-pub mod LeastThread
 pub mod Numbered
 pub mod Closing

@@ -17,7 +17,7 @@ use Rattle.jdwp_machine.specs.Meanings.{Meaning}
 use Rattle.jdwp_debuggee.specs.Actions
 use Rattle.jdwp_debuggee.specs.Actions.{Action, Command, action_of, is_implemented}
 use Rattle.jdwp_debuggee.specs.CommandReads.{command_read}
-use Rattle.jdwp_debuggee.specs.Effects.{Effect, does, effect_by, suspend_by, set_by, suspend_thread_by, suspend_thread_at, resume_thread_by, count_by, status_by, slots_by, slots_at, frames_by, thread_by}
+use Rattle.jdwp_debuggee.specs.Effects.{Effect, does, effect_by, suspend_by, set_by, suspend_thread_by, suspend_thread_at, resume_thread_by, slots_by, slots_at}
 use Rattle.jdwp_debuggee.specs.Refusals.{set_refusal}
 use Rattle.jdwp_debuggee.specs.Settings.{Settings}
 use Rattle.jdwp_debuggee.specs.State.{Thread, State, Moment, at_limit, count_of, is_marked, new_state, next_packet_id, without_thread}
@@ -104,19 +104,15 @@ keeps m settings now c (Actions.SuspendThread t) =
     ]
 keeps m settings now c (Actions.ResumeThread t) =
     elim (count_of now.state t) as (λ v. Keeps now (resume_thread_by now t v)) [ None ↦ goes-on now _ refl refl refl | Some n ↦ goes-on now _ refl refl refl ]
-keeps m settings now c (Actions.SuspendCount t) =
-    elim (count_of now.state t) as (λ v. Keeps now (count_by now v)) [ None ↦ goes-on now _ refl refl refl | Some n ↦ goes-on now _ refl refl refl ]
-keeps m settings now c (Actions.ThreadStatus t) =
-    elim (count_of now.state t) as (λ v. Keeps now (status_by now v)) [ None ↦ goes-on now _ refl refl refl | Some n ↦ goes-on now _ refl refl refl ]
+keeps m settings now c (Actions.SuspendCount t) = goes-on now _ refl refl refl
+keeps m settings now c (Actions.ThreadStatus t) = goes-on now _ refl refl refl
 keeps m settings now c (Actions.SetSlots t f values) =
     elim (count_of now.state t) as (λ v. Keeps now (slots_by m now t f values v)) [
       | None ↦ goes-on now _ refl refl refl
       | Some n ↦ elim (n == 0) as (λ b. Keeps now (slots_at m now t f values b)) [ true ↦ goes-on now _ refl refl refl | false ↦ goes-on now _ refl refl refl ]
     ]
-keeps m settings now c (Actions.AskFrames t) =
-    elim (count_of now.state t) as (λ v. Keeps now (frames_by m settings now c v)) [ None ↦ goes-on now _ refl refl refl | Some n ↦ goes-on now _ refl refl refl ]
-keeps m settings now c (Actions.AskThread t) =
-    elim (count_of now.state t) as (λ v. Keeps now (thread_by m settings now c v)) [ None ↦ goes-on now _ refl refl refl | Some n ↦ goes-on now _ refl refl refl ]
+keeps m settings now c (Actions.AskFrames t) = goes-on now _ refl refl refl
+keeps m settings now c (Actions.AskThread t) = goes-on now _ refl refl refl
 keeps m settings now c Actions.AllThreads = goes-on now _ refl refl refl
 keeps m settings now c Actions.IdSizes = goes-on now _ refl refl refl
 keeps m settings now c Actions.Ask = goes-on now _ refl refl refl

@@ -30,7 +30,7 @@ use Rattle.jdwp_debuggee.specs.Actions
 use Rattle.jdwp_debuggee.specs.Actions.{Action, Command, Raw, action_of, is_implemented}
 use Rattle.jdwp_debuggee.specs.CommandReads.{Asking, action_meaning, asking, asking_of, asks, command_read, content_read, read_by, row_request, with_content}
 use Rattle.jdwp_debuggee.specs.Debuggees.{Debuggee, at_moment}
-use Rattle.jdwp_debuggee.specs.Effects.{Effect, carried, carried_by, does, effect_by, raises_counts, suspend_by, set_by, suspend_thread_by, suspend_thread_at, resume_thread_by, count_by, status_by, slots_by, slots_at, frames_by, thread_by}
+use Rattle.jdwp_debuggee.specs.Effects.{Effect, carried, carried_by, does, effect_by, raises_counts, suspend_by, set_by, suspend_thread_by, suspend_thread_at, resume_thread_by, slots_by, slots_at}
 use Rattle.jdwp_debuggee.specs.Facts.{is_dispose, is_exit}
 use Rattle.jdwp_debuggee.specs.Refusals.{set_refusal}
 use Rattle.jdwp_debuggee.specs.Sending.{Did, IsSent, answer_bytes, error_of}
@@ -108,16 +108,8 @@ ending m settings now c (Actions.ResumeThread t) =
       | None ↦ goes-on now _ _ refl refl refl refl refl
       | Some n ↦ goes-on now _ _ refl refl refl refl refl
     ]
-ending m settings now c (Actions.SuspendCount t) =
-    elim (count_of now.state t) as (λ v. Ending now (Actions.SuspendCount t) (count_by now v)) [
-      | None ↦ goes-on now _ _ refl refl refl refl refl
-      | Some n ↦ goes-on now _ _ refl refl refl refl refl
-    ]
-ending m settings now c (Actions.ThreadStatus t) =
-    elim (count_of now.state t) as (λ v. Ending now (Actions.ThreadStatus t) (status_by now v)) [
-      | None ↦ goes-on now _ _ refl refl refl refl refl
-      | Some n ↦ goes-on now _ _ refl refl refl refl refl
-    ]
+ending m settings now c (Actions.SuspendCount t) = goes-on now _ _ refl refl refl refl refl
+ending m settings now c (Actions.ThreadStatus t) = goes-on now _ _ refl refl refl refl refl
 ending m settings now c (Actions.SetSlots t f values) =
     elim (count_of now.state t) as (λ v. Ending now (Actions.SetSlots t f values) (slots_by m now t f values v)) [
       | None ↦ goes-on now _ _ refl refl refl refl refl
@@ -126,16 +118,8 @@ ending m settings now c (Actions.SetSlots t f values) =
         | false ↦ goes-on now _ _ refl refl refl refl refl
       ]
     ]
-ending m settings now c (Actions.AskFrames t) =
-    elim (count_of now.state t) as (λ v. Ending now (Actions.AskFrames t) (frames_by m settings now c v)) [
-      | None ↦ goes-on now _ _ refl refl refl refl refl
-      | Some n ↦ goes-on now _ _ refl refl refl refl refl
-    ]
-ending m settings now c (Actions.AskThread t) =
-    elim (count_of now.state t) as (λ v. Ending now (Actions.AskThread t) (thread_by m settings now c v)) [
-      | None ↦ goes-on now _ _ refl refl refl refl refl
-      | Some n ↦ goes-on now _ _ refl refl refl refl refl
-    ]
+ending m settings now c (Actions.AskFrames t) = goes-on now _ _ refl refl refl refl refl
+ending m settings now c (Actions.AskThread t) = goes-on now _ _ refl refl refl refl refl
 ending m settings now c Actions.AllThreads = goes-on now _ _ refl refl refl refl refl
 ending m settings now c Actions.IdSizes = goes-on now _ _ refl refl refl refl refl
 ending m settings now c Actions.Ask = goes-on now _ _ refl refl refl refl refl

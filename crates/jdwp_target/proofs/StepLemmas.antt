@@ -3,6 +3,7 @@ use Rattle.std.proofs.Common.{◌≡◌, ◌∙◌, ◌≤◌, ◌<◌, ◌+◌,
 use Rattle.std.specs.Prelude.{IfSome}
 use Rattle.std.proofs.lemmas.Bool.{leb-false}
 use Rattle.jdwp_wire.specs.Widths.{Widths}
+use Rattle.jdwp_wire.specs.Limits.{least_packet_limit, most_packet_limit}
 use Rattle.jdwp_end.specs.declared.phase.Phase.{Phase}
 use Rattle.jdwp_end.specs.declared.phase.Phase.TheVariants.{Closed, AwaitingHandshake, Established}
 use Rattle.jdwp_end.specs.Ends.{End, is_paused, most_outgoing}
@@ -161,7 +162,7 @@ stepped-end m t d e end new w id done s sizes packet is =
 not-paused : (limit n : ℕ) → nat_le limit n ≡ false → n < limit
 not-paused limit n e = leb-false limit n e
 
-leaves : (w : Widths) (end : End) (c : CompositeMeaning) → is_paused end ≡ false → end.limits.packet ≤ 1048576 → FitsPacket w end.limits.packet c → CanLeave w end c
+leaves : (w : Widths) (end : End) (c : CompositeMeaning) → is_paused end ≡ false → end.limits.packet ≤ most_packet_limit → FitsPacket w end.limits.packet c → CanLeave w end c
 leaves w end c flows most fits =
     let waits : length end.outgoing < end.limits.packet = not-paused end.limits.packet (length end.outgoing) flows in
     let same : length (composite_canonical w c) ≡ length (data_canonical w (composite_data c)) = ap length fits.same_bytes in
@@ -169,12 +170,12 @@ leaves w end c flows most fits =
     record { writable = fits.unrefused; small = omega arith; room = omega arith }
 
 -- what fits a packet can be reported where the end is not paused
-pub reports-leave : (w : Widths) (end : End) (sends : Option CompositeMeaning) → is_paused end ≡ false → end.limits.packet ≤ 1048576
+pub reports-leave : (w : Widths) (end : End) (sends : Option CompositeMeaning) → is_paused end ≡ false → end.limits.packet ≤ most_packet_limit
     → IfSome sends (FitsPacket w end.limits.packet) → CanBeReported w end sends
 reports-leave w end None flows most fits = tt
 reports-leave w end (Some c) flows most fits = leaves w end c flows most fits
 
-pub death-leaves : (end : End) → is_paused end ≡ false → 2048 ≤ end.limits.packet → length end.outgoing + 21 ≤ most_outgoing end.limits
+pub death-leaves : (end : End) → is_paused end ≡ false → least_packet_limit ≤ end.limits.packet → length end.outgoing + 21 ≤ most_outgoing end.limits
 death-leaves end flows least =
     let waits : length end.outgoing < end.limits.packet = not-paused end.limits.packet (length end.outgoing) flows in
     omega arith

@@ -5,6 +5,5 @@ pub mod Insides
 pub mod Turns
 pub mod TurnParts
 pub mod StepParts
-pub mod Starts
 pub mod Lives
 pub mod Closings

@@ -2,6 +2,7 @@
 use Rattle.std.specs.Prelude.{◌≡◌, ◌≤◌, ◌+◌, ⊤, true, length, Option, Some, None}
 use Rattle.jdwp_wire.specs.Widths.{Widths}
 use Rattle.jdwp_wire.specs.Streams.{stream}
+use Rattle.jdwp_wire.specs.Limits.{most_packet_limit}
 use Rattle.jdwp_end.specs.Ends.{End, most_outgoing, with_enqueued}
 use Rattle.jdwp_event.specs.CompositeBytes.{composite_canonical, composite_refusal}
 use Rattle.jdwp_event.specs.Composites.{CompositeMeaning}
@@ -16,7 +17,7 @@ use Rattle.jdwp_target.specs.declared.target.Stepped.{Stepped}
 -- A composite can be written, and there is room for its packet behind what waits.
 pub record CanLeave (w : Widths) (end : End) (c : CompositeMeaning) : Type 0 where
   pub writable : composite_refusal w c ≡ None
-  pub small : length (composite_canonical w c) ≤ 1048576
+  pub small : length (composite_canonical w c) ≤ most_packet_limit
   pub room : length end.outgoing + (11 + length (composite_canonical w c)) ≤ most_outgoing end.limits
 
 abbrev pub CanBeReported : Widths → End → Option CompositeMeaning → Type 0

@@ -3,6 +3,7 @@ use Rattle.std.specs.Prelude.{◌≡◌, ◌≤◌, ℕ, ◌+◌, Bool, true, fa
 use Rattle.jdwp_wire.specs.Streams.{Message}
 use Rattle.jdwp_wire.specs.Widths.{Widths}
 use Rattle.jdwp_wire.specs.declared.packet.PacketKind.TheVariants as kind
+use Rattle.jdwp_wire.specs.Limits.{least_packet_limit}
 use Rattle.jdwp_end.specs.Ends.{End, closed}
 use Rattle.jdwp_end.specs.Ends as ends
 use Rattle.jdwp_event.specs.Composites.{vm_death}
@@ -39,7 +40,7 @@ closed_where false end = end
 pub record IsDone {S : Type 0} (w : Widths) (e : Effect S) (old new : Debuggee S) (done : Done) : Type 0 where
   pub after : new ≡ at_moment e.after old
   pub sends : IsSent w e.answer done.sent
-  pub fits : 2048 ≤ old.settings.limits.packet → 11 + length (sent_bytes w done.sent) ≤ old.settings.limits.packet
+  pub fits : least_packet_limit ≤ old.settings.limits.packet → 11 + length (sent_bytes w done.sent) ≤ old.settings.limits.packet
   pub dies : done.dies ≡ e.dies
   pub bare : done.dies ≡ true → length (sent_bytes w done.sent) ≡ 0
   pub closes : done.closes ≡ (e.dies || e.closes)

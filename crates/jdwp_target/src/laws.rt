@@ -1,18 +1,9 @@
 //! Laws of the definitions.
-ghost use Rattle.std.specs.Prelude.{◌≢◌, []};
-ghost use Rattle.jdwp_debuggee.specs.Answers.{least_thread};
-ghost use Rattle.jdwp_debuggee.specs.State.{State};
 ghost use Rattle.jdwp_target.specs.Closings.{ClosesForReason};
 ghost use Rattle.jdwp_target.specs.Lives.{NumbersComposites};
-ghost use Rattle.jdwp_target.specs.Starts.{IsLeastThread};
 ghost use Rattle.jdwp_target.specs.Targets.{GoesOn};
 
 use jdwp_machine::Machine;
-
-/// The thread that VM_START names is live, and no live thread has a lower id. It does nothing.
-pub fn starts_with_least_thread()
-    ensures { (state : State) → state.threads ≢ [] → IsLeastThread state.threads (least_thread state) }
-{}
 
 /// What was handled, what was enqueued to leave and how a target stands are, after each call, those of a list of
 /// acts: messages handled, threads stepped, connections lost. It does nothing.

@@ -10,8 +10,5 @@ mod stepping;
 mod target;
 mod turning;
 
-pub use laws::{
-    closes_for_a_reason, goes_on_at_each_call, numbers_composites_in_order,
-    starts_with_least_thread,
-};
+pub use laws::{closes_for_a_reason, goes_on_at_each_call, numbers_composites_in_order};
 pub use target::{Stepped, Target, TargetFault, Turn};

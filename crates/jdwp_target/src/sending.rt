@@ -3,6 +3,7 @@ ghost use Rattle.std.specs.Prelude.{◌≡◌, ◌≤◌, ◌+◌, None, length,
 ghost use Rattle.jdwp_end.specs.Ends.{most_outgoing, with_enqueued};
 ghost use Rattle.jdwp_wire.specs.Frames.{header_bytes};
 ghost use Rattle.jdwp_wire.specs.Streams.{message_bytes};
+ghost use Rattle.jdwp_wire.specs.Limits.{most_packet_limit};
 ghost use Rattle.jdwp_event.specs.CompositeBytes.{composite_canonical, composite_refusal};
 ghost use Rattle.jdwp_event.specs.Composites.{vm_death};
 ghost use Rattle.jdwp_debuggee.specs.Replies.{reply_meaning};
@@ -20,7 +21,7 @@ use jdwp_wire::{ErrorCode, Header, IdSizes, PacketKind, Wire};
 /// Enqueues the header of a reply with so many bytes of data.
 fn enqueue_header(id: u32, error: ErrorCode, size: u32, end: &mut End)
     requires room { length end.old.outgoing + 11 ≤ most_outgoing end.old.limits }
-    requires small { size ≤ 1048576 }
+    requires small { size ≤ most_packet_limit }
     ensures { end.new ≡ with_enqueued (header_bytes (record { length = 11 + size; id = id; kind = PacketKind.Reply error })) end.old }
 {
     let header = Header {
@@ -63,7 +64,7 @@ fn enqueue_short(id: u32, reply: Reply, sizes: &IdSizes, end: &mut End)
 pub fn enqueue_reply(id: u32, sent: &Sent, sizes: &IdSizes, end: &mut End)
     requires short { length end.old.outgoing + 31 ≤ most_outgoing end.old.limits }
     requires room { length end.old.outgoing + (11 + length (sent_bytes sizes.now sent.now)) ≤ most_outgoing end.old.limits }
-    requires small { length (sent_bytes sizes.now sent.now) ≤ 1048576 }
+    requires small { length (sent_bytes sizes.now sent.now) ≤ most_packet_limit }
     ensures { end.new ≡ with_enqueued (message_bytes (packet_with id (PacketKind.Reply (sent_error sent.now)) (sent_bytes sizes.now sent.now))) end.old }
 {
     match sent {
@@ -78,7 +79,7 @@ pub fn enqueue_reply(id: u32, sent: &Sent, sizes: &IdSizes, end: &mut End)
 /// Enqueues the header of a composite with so many bytes of data.
 pub fn enqueue_composite_header(id: u32, size: u32, end: &mut End)
     requires room { length end.old.outgoing + 11 ≤ most_outgoing end.old.limits }
-    requires small { size ≤ 1048576 }
+    requires small { size ≤ most_packet_limit }
     ensures { end.new ≡ with_enqueued (header_bytes (record { length = 11 + size; id = id; kind = PacketKind.Command commands.EVENT commands.COMPOSITE.number })) end.old }
 {
     let header = Header {
@@ -96,7 +97,7 @@ pub fn enqueue_composite_header(id: u32, size: u32, end: &mut End)
 pub fn enqueue_report(id: u32, composite: &Composite, sizes: &IdSizes, end: &mut End)
     requires writable { composite_refusal sizes.now composite.now ≡ None }
     requires room { length end.old.outgoing + (11 + length (composite_canonical sizes.now composite.now)) ≤ most_outgoing end.old.limits }
-    requires small { length (composite_canonical sizes.now composite.now) ≤ 1048576 }
+    requires small { length (composite_canonical sizes.now composite.now) ≤ most_packet_limit }
     ensures { end.new ≡ with_enqueued (message_bytes (report_of sizes.now id composite.now)) end.old }
 {
     let size = composite.size(sizes).unwrap_or(0);

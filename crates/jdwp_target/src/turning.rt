@@ -5,6 +5,7 @@ ghost use Rattle.jdwp_event.specs.Composites.{vm_start};
 ghost use Rattle.jdwp_event.specs.Constants.{policy_byte};
 ghost use Rattle.jdwp_wire.specs.Numbers.{id_refusal};
 ghost use Rattle.jdwp_wire.specs.Streams.{message_bytes, stream};
+ghost use Rattle.jdwp_wire.specs.Limits.{most_packet_limit};
 ghost use Rattle.jdwp_debuggee.specs.CommandReads.{command_read, is_short};
 ghost use Rattle.jdwp_debuggee.specs.Sending.{sent_bytes, sent_error};
 ghost use Rattle.jdwp_target.specs.Sends.{report_of};
@@ -139,7 +140,7 @@ fn reply<M: Machine>(
 )
     requires short { length end.old.outgoing + 32 ≤ most_outgoing end.old.limits }
     requires room { length end.old.outgoing + (11 + length (sent_bytes sizes.now done.now.sent)) ≤ most_outgoing end.old.limits }
-    requires small { length (sent_bytes sizes.now done.now.sent) ≤ 1048576 }
+    requires small { length (sent_bytes sizes.now done.now.sent) ≤ most_packet_limit }
     requires bare { done.now.dies ≡ true → length (sent_bytes sizes.now done.now.sent) ≡ 0 }
     ensures debuggee { debuggee.new ≡ after_deaths done.now.dies debuggee.old }
     ensures end { end.new ≡ closed_where done.now.closes (with_enqueued (stream (reply_of sizes.now id done.now.sent ∷ deaths sizes.now debuggee.old.moment.state.next_packet done.now.dies)) end.old) }
