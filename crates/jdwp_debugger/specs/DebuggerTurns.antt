@@ -1,6 +1,7 @@
 -- What turns of a debugger answer, and what they leave.
 use Rattle.std.specs.Prelude.{◌≡◌, ℕ, ◌+◌, ◌%◌, ◌^◌, ◌<◌, Bool, true, false, List, [], ◌∷◌, ◌++◌, length, map, remove, slice_get, Option, Some, None, Result, Ok, Err, MatchResult}
 use Rattle.std.specs.List.{list_any}
+use Rattle.jdwp_wire.specs.ErrorCodes.{NONE}
 use Rattle.jdwp_wire.specs.declared.packet.Header.{Header}
 use Rattle.jdwp_wire.specs.declared.packet.PacketKind.{PacketKind}
 use Rattle.jdwp_wire.specs.declared.packet.PacketKind.TheVariants as kind
@@ -163,7 +164,7 @@ refusal d header body = refusal_by d.mirror (says (reading_of d) header.id heade
 -- a reply with an error takes no memory
 abbrev pub MayWantMemory : PacketKind → Type 0
 MayWantMemory (kind.Command set number) = Unit {0}
-MayWantMemory (kind.Reply e) = e.0 ≡ 0
+MayWantMemory (kind.Reply e) = e.0 ≡ NONE.0
 
 abbrev pub FailsAt : Header → List ℕ → Debugger → DebuggerFault → Debugger → Type 0
 FailsAt header body old code.NoMemory new = MayWantMemory header.kind × (new ≡ old)

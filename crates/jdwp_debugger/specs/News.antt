@@ -4,6 +4,7 @@ use Rattle.std.specs.Prelude.{◌≡◌, ℕ, ◌==◌, Bool, List, [], ◌∷�
 use Rattle.std.specs.List.{position_from}
 use Rattle.jdwp_wire.specs.declared.data_fault.DataFault.{DataFault}
 use Rattle.jdwp_wire.specs.declared.error_code.ErrorCode.{ErrorCode}
+use Rattle.jdwp_wire.specs.ErrorCodes.{NONE}
 use Rattle.jdwp_wire.specs.Widths.{Widths}
 use Rattle.jdwp_wire.specs.declared.packet.PacketKind.{PacketKind}
 use Rattle.jdwp_wire.specs.declared.packet.PacketKind.TheVariants as kind
@@ -74,7 +75,7 @@ data_by w (Some shape) bytes = content_in (data_at w shape bytes)
 -- the answer of a reply with this error code and these data: an error has no data
 abbrev pub answer_in : Widths → Command → ErrorCode → List ℕ → Option Answer
 answer_in w c e bytes =
-    if e.0 == 0 then data_by w (reply_shape (row_at c.set c.number)) bytes else (if length bytes == 0 then Some (Error e) else None)
+    if e.0 == NONE.0 then data_by w (reply_shape (row_at c.set c.number)) bytes else (if length bytes == 0 then Some (Error e) else None)
 
 -- an answer that a debugger can use
 abbrev pub unless_bad : Command → Option Answer → Option Answer

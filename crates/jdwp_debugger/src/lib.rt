@@ -19,5 +19,5 @@ pub use heads::Head;
 pub use jdwp_mirror::{Carried, Command, KeptRequest, Known, KnownThreads, Mirror};
 pub use laws::goes_on_at_each_call;
 pub use lost::Lost;
-pub use pending::Ticket;
+pub use pending::{Asked, Ticket};
 pub use turning::Read;

@@ -1,6 +1,7 @@
 //! What packets from a target say by their bytes.
 ghost use Rattle.std.specs.Prelude.{◌≡◌, ◌<◌, ◌∷◌, [], ℕ, IfOk, IfSome, List, Result, length, map};
 ghost use Rattle.std.specs.Result.{IsErrOf};
+ghost use Rattle.jdwp_wire.specs.ErrorCodes.{NONE};
 ghost use Rattle.jdwp_wire.specs.declared.data_fault.DataFault.{DataFault};
 ghost use Rattle.jdwp_wire.specs.Reading as reading;
 ghost use Rattle.jdwp_layout.specs.CommandTable.{row_at};
@@ -90,8 +91,8 @@ pub(crate) fn read_answer(
     bytes: &[u8],
 ) -> Result<Answer, DebuggerFault>
     ensures value { Tells (λ a. a) result (required code.BadReply (unless_bad command.now (answer_in sizes.now command.now error bytes.now))) }
-    ensures memory { IsErrOf result code.NoMemory → error.0 ≡ 0 }
-    ensures without_error { IfOk result (λ a. IsData a → error.0 ≡ 0) }
+    ensures memory { IsErrOf result code.NoMemory → error.0 ≡ NONE.0 }
+    ensures without_error { IfOk result (λ a. IsData a → error.0 ≡ NONE.0) }
 {
     let answer = read_any_answer(alloc, command, sizes, error, bytes)?;
     if is_bad_answer(command, &answer) {
@@ -109,10 +110,10 @@ fn read_any_answer(
     bytes: &[u8],
 ) -> Result<Answer, DebuggerFault>
     ensures value { Tells (λ a. a) result (required code.BadReply (answer_in sizes.now command.now error bytes.now)) }
-    ensures memory { IsErrOf result code.NoMemory → error.0 ≡ 0 }
-    ensures without_error { IfOk result (λ a. IsData a → error.0 ≡ 0) }
+    ensures memory { IsErrOf result code.NoMemory → error.0 ≡ NONE.0 }
+    ensures without_error { IfOk result (λ a. IsData a → error.0 ≡ NONE.0) }
 {
-    if error.0 == 0 {
+    if error == ErrorCode::NONE {
         return read_data(alloc, reply_layout(command), sizes, bytes);
     }
     if !bytes.is_empty() {

@@ -11,7 +11,7 @@ pub struct Ticket(pub u64);
 
 /// A command that waits for its reply.
 #[derive(Drop)]
-pub(crate) struct Asked {
+pub struct Asked {
     /// The id of its packet.
     pub id: u32,
     /// None for IDSizes, which a debugger asks by itself.

@@ -2,6 +2,7 @@
 ghost use Rattle.std.specs.Prelude.{◌≡◌, ◌<◌, ◌++◌, ◌∷◌, [], ℕ, List, IfOk, IfErr, OnOk, Err, None, Some, length, false, slice_get};
 ghost use Rattle.std.specs.List.{list_any};
 ghost use Rattle.std.specs.Result.{IsErrOf};
+ghost use Rattle.jdwp_wire.specs.ErrorCodes.{NONE};
 ghost use Rattle.jdwp_wire.specs.Bytes.{IsBytes};
 ghost use Rattle.jdwp_wire.specs.Streams.{Handshake, Packet, Whole};
 ghost use Rattle.jdwp_end.specs.Ends.{front_of};
@@ -164,9 +165,9 @@ impl Debugger {
     ) -> Result<News, DebuggerFault>
         requires { place < length self.now.pending }
         ensures value { Tells news_meaning result (reply_to (reading_of self.now) error bytes.now place (slice_get self.now.pending place)) }
-        ensures memory { IsErrOf result code.NoMemory → error.0 ≡ 0 }
+        ensures memory { IsErrOf result code.NoMemory → error.0 ≡ NONE.0 }
         ensures fits { IfOk result (λ n. Fits self.now (news_meaning n)) }
-        ensures wants { IfOk result (λ n. WantsMemory (news_meaning n) → error.0 ≡ 0) }
+        ensures wants { IfOk result (λ n. WantsMemory (news_meaning n) → error.0 ≡ NONE.0) }
     {
         let asked = &self.pending[place];
         let answer = read_answer(alloc, &asked.command, &self.widths(), error, bytes)?;

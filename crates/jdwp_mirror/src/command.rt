@@ -6,6 +6,11 @@ ghost use Rattle.jdwp_mirror.specs.Acts.{act_of, id_found, other_act_of, request
 ghost use Rattle.jdwp_mirror.specs.Commands.{carried_meaning};
 ghost use Rattle.jdwp_layout.specs.Meanings.{meanings};
 
+use jdwp_layout::numbers::{
+    ALL_THREADS, CLEAR_ALL_BREAKPOINTS, CLEAR_REQUEST, DISPOSE, EVENT_REQUEST, EXIT, ID_SIZES,
+    RESUME, RESUME_THREAD, SET_REQUEST, STACK_FRAME, SUSPEND, SUSPEND_COUNT, SUSPEND_THREAD,
+    THREAD_REFERENCE, VIRTUAL_MACHINE,
+};
 use jdwp_layout::{Data, Datum, Scalar};
 use jdwp_value::ObjectId;
 use std::marker::Model;
@@ -122,7 +127,7 @@ impl Command {
     pub(crate) fn thread(&self) -> Option<ObjectId>
         ensures { result ≡ id_found (thread_of self.now) }
     {
-        if self.set == 11 || self.set == 16 {
+        if self.set == THREAD_REFERENCE || self.set == STACK_FRAME {
             first_object_of(&self.carried)
         } else {
             None
@@ -142,11 +147,11 @@ impl Command {
     fn thread_act(&self) -> Act
         ensures { result ≡ thread_act_of self.now }
     {
-        if self.is(11, 2) {
+        if self.is(THREAD_REFERENCE, SUSPEND_THREAD) {
             Act::SuspendThread
-        } else if self.is(11, 3) {
+        } else if self.is(THREAD_REFERENCE, RESUME_THREAD) {
             Act::ResumeThread
-        } else if self.is(11, 12) {
+        } else if self.is(THREAD_REFERENCE, SUSPEND_COUNT) {
             Act::SuspendCount
         } else {
             Act::Other
@@ -156,17 +161,17 @@ impl Command {
     fn other_act(&self) -> Act
         ensures { result ≡ other_act_of self.now }
     {
-        if self.is(1, 8) {
+        if self.is(VIRTUAL_MACHINE, SUSPEND) {
             Act::Suspend
-        } else if self.is(1, 9) {
+        } else if self.is(VIRTUAL_MACHINE, RESUME) {
             Act::Resume
-        } else if self.is(1, 6) {
+        } else if self.is(VIRTUAL_MACHINE, DISPOSE) {
             Act::Dispose
-        } else if self.is(1, 10) {
+        } else if self.is(VIRTUAL_MACHINE, EXIT) {
             Act::Exit
-        } else if self.is(1, 4) {
+        } else if self.is(VIRTUAL_MACHINE, ALL_THREADS) {
             Act::AllThreads
-        } else if self.is(1, 7) {
+        } else if self.is(VIRTUAL_MACHINE, ID_SIZES) {
             Act::IdSizes
         } else {
             self.request_act()
@@ -176,11 +181,11 @@ impl Command {
     fn request_act(&self) -> Act
         ensures { result ≡ request_act_of self.now }
     {
-        if self.is(15, 1) {
+        if self.is(EVENT_REQUEST, SET_REQUEST) {
             set_act(&self.carried)
-        } else if self.is(15, 2) {
+        } else if self.is(EVENT_REQUEST, CLEAR_REQUEST) {
             clear_act(&self.carried)
-        } else if self.is(15, 3) {
+        } else if self.is(EVENT_REQUEST, CLEAR_ALL_BREAKPOINTS) {
             Act::ClearBreakpoints
         } else {
             Act::Other

@@ -119,7 +119,7 @@ impl Mirror {
         ensures { self.new ≡ record self.old { threads = threads_after_error (id_found (thread_of command.now)) error self.old.threads } }
     {
         if let Some(thread) = command.thread() {
-            if error.0 == 10 {
+            if error == ErrorCode::INVALID_THREAD {
                 self.threads.forget(thread);
             }
         }
