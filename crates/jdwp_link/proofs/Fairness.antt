@@ -4,6 +4,8 @@ use Rattle.std.specs.List.{filter}
 use Rattle.jdwp_layout.specs.declared.answer.Answer.{Answer}
 use Rattle.jdwp_layout.specs.declared.answer.Answer.TheVariants.{Data, Error}
 use Rattle.jdwp_layout.specs.Meanings.{ScalarMeaning}
+use Rattle.jdwp_end.specs.declared.phase.Phase.{Phase}
+use Rattle.jdwp_end.specs.declared.phase.Phase.TheVariants.{Closed, AwaitingHandshake, Established}
 use Rattle.jdwp_event.specs.Requests.{Asked, all_asked}
 use Rattle.jdwp_event.specs.Composites.{CompositeMeaning, POLICY_ALL, vm_death}
 use Rattle.jdwp_machine.specs.Meanings.{Meaning}
@@ -21,7 +23,7 @@ use Rattle.jdwp_debuggee.proofs.AllFacts.{facts}
 use Rattle.jdwp_debuggee.proofs.Reported.{policy_accepted, step_reports}
 use Rattle.jdwp_mirror.specs.Messages.{Ticket, Call, Handshake, Reply, Report}
 use Rattle.jdwp_mirror.specs.Faults.{is_bad_reply}
-use Rattle.jdwp_link.specs.World.{Phase, Closed, Waiting, Open, Packet, World}
+use Rattle.jdwp_link.specs.World.{Packet, World}
 use Rattle.jdwp_link.specs.Next.{started, greets_by, after_death, answers, dies_by, told, step_ends}
 use Rattle.jdwp_link.proofs.Keeps.{Inv}
 use Rattle.jdwp_link.proofs.Cases.{Kept}
@@ -77,8 +79,8 @@ fair-command w n rest k c e true f p h =
     }
 
 fair-died : {S : Type 0} (w : World S) (after : Moment S) (phase : Phase) → Fairness w → HavePolicies (all_asked after.state.requests) → Fairness (step_ends (record w { now = after }) phase true)
-fair-died w after Open f p = record { policies = p; parked = f.parked; sent = fair_more w.to_debugger (Report vm_death, after_death after) f.sent (death_fair (after_death after)) }
-fair-died w after Waiting f p = record { policies = p; parked = f.parked; sent = f.sent }
+fair-died w after Established f p = record { policies = p; parked = f.parked; sent = fair_more w.to_debugger (Report vm_death, after_death after) f.sent (death_fair (after_death after)) }
+fair-died w after AwaitingHandshake f p = record { policies = p; parked = f.parked; sent = f.sent }
 fair-died w after Closed f p = record { policies = p; parked = f.parked; sent = f.sent }
 
 fair-stepped : {S : Type 0} (m : Meaning S) (w : World S) (after : Moment S) (o : Option CompositeMeaning) (dies : Bool) → Fairness w → Told m w.now after dies o → ((c : CompositeMeaning) → o ≡ Some c → IsReport c) → Fairness (step_ends (told w after o) w.target dies)

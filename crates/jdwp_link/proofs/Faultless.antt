@@ -4,6 +4,9 @@ use Rattle.std.specs.Prelude.{nat_lt}
 use Rattle.std.specs.List.{list_any}
 use Rattle.std.proofs.lemmas.Bool.{eq-eqb, lt-ltb, cond_both}
 use Rattle.jdwp_layout.specs.declared.answer.Answer.{Answer}
+use Rattle.jdwp_end.specs.declared.phase.Phase.{Phase}
+use Rattle.jdwp_end.specs.declared.phase.Phase.TheVariants.{Closed, AwaitingHandshake, Established}
+use Rattle.jdwp_end.specs.Ends.{is_established_phase}
 use Rattle.jdwp_event.specs.Composites.{CompositeMeaning}
 use Rattle.jdwp_event.specs.Told.{is_vm_death}
 use Rattle.jdwp_machine.specs.Meanings.{Meaning}
@@ -18,7 +21,7 @@ use Rattle.jdwp_mirror.specs.Faults
 use Rattle.jdwp_mirror.specs.Faults.{Fault, or_else, when, is_of_ticket, is_waited_for, is_bad_reply, is_bad_event, has_bad_event, PARKED_MOST, fault_after_greeting, fault_before_greeting, fault_of}
 use Rattle.jdwp_link.specs.Events
 use Rattle.jdwp_link.specs.Events.{LinkEvent, Outcome}
-use Rattle.jdwp_link.specs.World.{Measure, Phase, Closed, Waiting, Open, is_closed, is_open, Packet, World, way_to_target, way_to_debugger, opening}
+use Rattle.jdwp_link.specs.World.{Measure, is_closed, Packet, World, way_to_target, way_to_debugger, opening}
 use Rattle.jdwp_link.specs.Next.{greets_by, dies_by, answers, target_takes, target_handles, target_turn_at, closes_by, has_end, messages_of, composites_of, answered, reads_reply, reads_composite, reads, reader, debugger_handles, debugger_takes, debugger_turn_at, next, run}
 use Rattle.jdwp_link.specs.Seen.{mirror_count, composites_in}
 use Rattle.jdwp_link.specs.Headline.{MayBegin, Always}
@@ -80,24 +83,24 @@ length-messages [] = refl
 length-messages (p ∷ ps) = let e : length (messages_of ps) ≡ length ps = length-messages ps in omega arith
 
 -- a message that is no handshake comes to a debugger that was greeted
-open-after : {S : Type 0} (m : Meaning S) (settings : Settings) (w : World S) (p : Packet S) (rest : List (Packet S)) → Whole m settings w → is_closed w.debugger ≡ false → w.to_debugger ≡ p ∷ rest → is_handshake p.0 ≡ false → is_open w.debugger ≡ true
+open-after : {S : Type 0} (m : Meaning S) (settings : Settings) (w : World S) (p : Packet S) (rest : List (Packet S)) → Whole m settings w → is_closed w.debugger ≡ false → w.to_debugger ≡ p ∷ rest → is_handshake p.0 ≡ false → is_established_phase w.debugger ≡ true
 open-after m settings w p rest h o e n =
-    elim (is_open w.debugger) as (λ b. is_open w.debugger ≡ b → b ≡ true) [
+    elim (is_established_phase w.debugger) as (λ b. is_established_phase w.debugger ≡ b → b ≡ true) [
       | true ↦ λ _. refl
       | false ↦ λ g.
-          let a : begins (is_open w.target) (p ∷ rest) ≡ true = ap (begins (is_open w.target)) (sym e) ∙ h.phases.first (waits-or w.debugger o g) in
+          let a : begins (is_established_phase w.target) (p ∷ rest) ≡ true = ap (begins (is_established_phase w.target)) (sym e) ∙ h.phases.first (waits-or w.debugger o g) in
           let b : is_handshake p.0 ≡ true = and-left (is_handshake p.0) (no_handshake rest) a in
           absurd (cc)
     ] refl
 
-closed-before : {S : Type 0} (m : Meaning S) (settings : Settings) (w : World S) (a : Moment S) (rest : List (Packet S)) → Whole m settings w → w.to_debugger ≡ (Handshake, a) ∷ rest → is_open w.debugger ≡ false
+closed-before : {S : Type 0} (m : Meaning S) (settings : Settings) (w : World S) (a : Moment S) (rest : List (Packet S)) → Whole m settings w → w.to_debugger ≡ (Handshake, a) ∷ rest → is_established_phase w.debugger ≡ false
 closed-before m settings w a rest h e =
-    elim (is_open w.debugger) as (λ b. is_open w.debugger ≡ b → b ≡ false) [
+    elim (is_established_phase w.debugger) as (λ b. is_established_phase w.debugger ≡ b → b ≡ false) [
       | true ↦ λ g. let b : false ≡ true = ap no_handshake (sym e) ∙ h.phases.later g in absurd (cc)
       | false ↦ λ _. refl
     ] refl
 
-after-greeting : {S : Type 0} (w : World S) (message : Message) → is_open w.debugger ≡ true → fault_after_greeting (reader w) message ≡ None → fault_of (reader w) message ≡ None
+after-greeting : {S : Type 0} (w : World S) (message : Message) → is_established_phase w.debugger ≡ true → fault_after_greeting (reader w) message ≡ None → fault_of (reader w) message ≡ None
 after-greeting w message g h = ap (λ b. cond b (fault_after_greeting (reader w) message) (fault_before_greeting message)) g ∙ h
 
 reply-read : {S : Type 0} (m : Meaning S) (settings : Settings) (w : World S) (k : Ticket) (c : Command) (x : Answer) (a : Moment S) (rest : List (Packet S)) → Whole m settings w → is_closed w.debugger ≡ false → w.to_debugger ≡ (Reply k c x, a) ∷ rest → fault_after_greeting (reader w) (Reply k c x) ≡ None
@@ -135,12 +138,12 @@ no_packet_is_refused m settings w h (Report c, a) rest o e = after-greeting w (R
 
 -- ---- what the target reads
 
-in-place : (phase : Phase) (call : Call) (rest calls : List Call) → is_closed phase ≡ false → calls ≡ call ∷ rest → (is_waiting phase ≡ true → calls ≡ Greets ∷ []) → (is_open phase ≡ true → no_greeting calls ≡ true) → is_in_place phase call ≡ true
+in-place : (phase : Phase) (call : Call) (rest calls : List Call) → is_closed phase ≡ false → calls ≡ call ∷ rest → (is_waiting phase ≡ true → calls ≡ Greets ∷ []) → (is_established_phase phase ≡ true → no_greeting calls ≡ true) → is_in_place phase call ≡ true
 in-place Closed call rest calls o e w a = absurd (cc)
-in-place Waiting Greets rest calls o e w a = refl
-in-place Waiting (Asks k c) rest calls o e w a = let x : calls ≡ Greets ∷ [] = w refl in let y : Asks k c ∷ rest ≡ Greets ∷ [] = sym e ∙ x in absurd (cc)
-in-place Open (Asks k c) rest calls o e w a = refl
-in-place Open Greets rest calls o e w a = let x : false ≡ true = ap no_greeting (sym e) ∙ a refl in absurd (cc)
+in-place AwaitingHandshake Greets rest calls o e w a = refl
+in-place AwaitingHandshake (Asks k c) rest calls o e w a = let x : calls ≡ Greets ∷ [] = w refl in let y : Asks k c ∷ rest ≡ Greets ∷ [] = sym e ∙ x in absurd (cc)
+in-place Established (Asks k c) rest calls o e w a = refl
+in-place Established Greets rest calls o e w a = let x : false ≡ true = ap no_greeting (sym e) ∙ a refl in absurd (cc)
 
 pub no_call_is_refused : {S : Type 0} (m : Meaning S) (settings : Settings) (w : World S) → Whole m settings w → NoCallIsRefused w
 no_call_is_refused m settings w h call rest o e = in-place w.target call rest w.to_target o e (λ x. (h.phases.waits x).0) h.phases.asked
@@ -184,8 +187,8 @@ died-lost w true = refl
 died-lost w false = refl
 
 handled-lost : {S : Type 0} (m : Meaning S) (settings : Settings) (measure : Measure) (w : World S) (rest : List Call) (phase : Phase) (call : Call) → is_in_place phase call ≡ true → (target_handles m settings measure w rest phase call).lost ≡ w.lost
-handled-lost m settings measure w rest Waiting Greets h = greeted-lost settings (target_takes measure w Greets rest) w.now.state.handshaken
-handled-lost m settings measure w rest Open (Asks k c) h = died-lost (answers (target_takes measure w (Asks k c) rest) k c (effect m settings w.now c)) (effect m settings w.now c).dies
+handled-lost m settings measure w rest AwaitingHandshake Greets h = greeted-lost settings (target_takes measure w Greets rest) w.now.state.handshaken
+handled-lost m settings measure w rest Established (Asks k c) h = died-lost (answers (target_takes measure w (Asks k c) rest) k c (effect m settings w.now c)) (effect m settings w.now c).dies
 handled-lost m settings measure w rest phase call h = absurd (cc)
 
 turn-lost : {S : Type 0} (m : Meaning S) (settings : Settings) (measure : Measure) (w : World S) (l : List Call) → Whole m settings w → is_closed w.target ≡ false → w.to_target ≡ l → (target_turn_at m settings measure w l).lost ≡ w.lost

@@ -15,7 +15,7 @@ use Rattle.jdwp_debuggee.specs.State.{State, Moment, count_of, count_or_zero, or
 use Rattle.jdwp_debuggee.specs.Actions
 use Rattle.jdwp_debuggee.specs.Actions.{Carried, Content, Raw, Command, Action, action_of, action_by, thread_of, first_object, object_in, is_implemented}
 use Rattle.jdwp_debuggee.specs.Answers.{query_of, content_of, bounded}
-use Rattle.jdwp_debuggee.specs.Effects.{effect, effect_by, does, frames_by, slots_by, slots_at}
+use Rattle.jdwp_debuggee.specs.Effects.{effect, effect_by, does, slots_by, slots_at, answer_frames}
 use Rattle.jdwp_debuggee.specs.Breadth.{keeps_machine}
 use Rattle.jdwp_debuggee.specs.Steps.{occurs, occurs_by, may_step, happens, ends, thread_ended, seen, death_by, report_by}
 use Rattle.jdwp_debuggee.specs.Facts.{IsSound}
@@ -65,10 +65,10 @@ pub frames_action : (c : Command) (t : ℕ) → asks_frames_of c t ≡ true → 
 frames_action c t h =
     let w = which (begins_with (content_of c.carried) t) (is_command FRAMES c.set c.number) (is_command FRAME_COUNT c.set c.number) (is_command THIS_OBJECT c.set c.number) (is_command GET_SLOTS c.set c.number) h in
     let o : object_in c.carried ≡ Some t = object-is c.carried t w.0 in
-    asks-by c t _ FRAMES refl o (λ y p. ap (λ v. action_by v (record { set = 11; number = 6; carried = y })) p) (λ n0.
-    asks-by c t _ FRAME_COUNT refl o (λ y p. ap (λ v. action_by v (record { set = 11; number = 7; carried = y })) p) (λ n1.
-    asks-by c t _ THIS_OBJECT refl o (λ y p. ap (λ v. action_by v (record { set = 16; number = 3; carried = y })) p) (λ n2.
-    asks-by c t _ GET_SLOTS refl o (λ y p. ap (λ v. action_by v (record { set = 16; number = 1; carried = y })) p) (λ n3.
+    asks-by c t _ FRAMES refl o (λ y p. ap (λ v. action_by v (record { set = FRAMES.set; number = FRAMES.number; carried = y })) p) (λ n0.
+    asks-by c t _ FRAME_COUNT refl o (λ y p. ap (λ v. action_by v (record { set = FRAME_COUNT.set; number = FRAME_COUNT.number; carried = y })) p) (λ n1.
+    asks-by c t _ THIS_OBJECT refl o (λ y p. ap (λ v. action_by v (record { set = THIS_OBJECT.set; number = THIS_OBJECT.number; carried = y })) p) (λ n2.
+    asks-by c t _ GET_SLOTS refl o (λ y p. ap (λ v. action_by v (record { set = GET_SLOTS.set; number = GET_SLOTS.number; carried = y })) p) (λ n3.
     let x : (is_command FRAMES c.set c.number || (is_command FRAME_COUNT c.set c.number || (is_command THIS_OBJECT c.set c.number || is_command GET_SLOTS c.set c.number))) ≡ true = w.1 in
     let y : false ≡ true = sym (ap (λ b. b || (is_command FRAME_COUNT c.set c.number || (is_command THIS_OBJECT c.set c.number || is_command GET_SLOTS c.set c.number))) n0 ∙ (ap (λ b. b || (is_command THIS_OBJECT c.set c.number || is_command GET_SLOTS c.set c.number)) n1 ∙ (ap (λ b. b || is_command GET_SLOTS c.set c.number) n2 ∙ n3))) ∙ x in
     absurd (cc)))))
@@ -79,14 +79,14 @@ frames_action c t h =
 pub frames_after : {S : Type 0} (m : Meaning S) (settings : Settings) (now : Moment S) (c : Command) (t : ℕ) → action_of c ≡ Actions.AskFrames t → (effect m settings now c).after ≡ now
 frames_after m settings now c t e =
     elim (is_implemented c) as (λ b. (effect_by m settings now c b).after ≡ now) [
-      | true ↦ subst (λ a. (does m settings now c a).after ≡ now) (sym e) (elim (count_of now.state t) as (λ v. (frames_by m settings now c v).after ≡ now) [ None ↦ refl | Some n ↦ refl ])
+      | true ↦ subst (λ a. (does m settings now c a).after ≡ now) (sym e) refl
       | false ↦ refl
     ]
 
 not-zero : (n : ℕ) → 0 < n → (n == 0) ≡ false
 not-zero n h = false_from_ne_true (n == 0) (λ e. let x : n ≡ 0 = eqb-true n 0 e in absurd (omega arith))
 
-suspended-answer : {S : Type 0} (m : Meaning S) (settings : Settings) (now : Moment S) (c : Command) (v : Option ℕ) → 0 < or_zero v → (frames_by m settings now c v).answer ≡ bounded settings (m.sizes now.machine) (m.query now.machine (query_of c))
+suspended-answer : {S : Type 0} (m : Meaning S) (settings : Settings) (now : Moment S) (c : Command) (v : Option ℕ) → 0 < or_zero v → answer_frames m settings now c v ≡ bounded settings (m.sizes now.machine) (m.query now.machine (query_of c))
 suspended-answer m settings now c None h = absurd (omega arith)
 suspended-answer m settings now c (Some n) h =
     ap (λ b. bounded settings (m.sizes now.machine) (cond b (Error THREAD_NOT_SUSPENDED) (m.query now.machine (query_of c)))) (not-zero n h)
@@ -104,7 +104,7 @@ frames_same m settings a b c t h p q f =
     ]
 
 -- data are answered of a suspended thread alone
-data-suspended : {S : Type 0} (m : Meaning S) (settings : Settings) (now : Moment S) (c : Command) (content : List DatumMeaning) (v : Option ℕ) → (frames_by m settings now c v).answer ≡ Data content → 0 < or_zero v
+data-suspended : {S : Type 0} (m : Meaning S) (settings : Settings) (now : Moment S) (c : Command) (content : List DatumMeaning) (v : Option ℕ) → answer_frames m settings now c v ≡ Data content → 0 < or_zero v
 data-suspended m settings now c content None h = absurd (cc)
 data-suspended m settings now c content (Some zero) h = absurd (cc)
 data-suspended m settings now c content (Some (suc n)) h = omega arith

@@ -4,6 +4,8 @@ use Rattle.std.specs.Prelude.{nat_lt}
 use Rattle.std.proofs.lemmas.Bool.{cond_both}
 use Rattle.std.proofs.lemmas.List.{append-nil}
 use Rattle.jdwp_layout.specs.declared.answer.Answer.{Answer}
+use Rattle.jdwp_end.specs.declared.phase.Phase.{Phase}
+use Rattle.jdwp_end.specs.declared.phase.Phase.TheVariants.{Closed, AwaitingHandshake, Established}
 use Rattle.jdwp_event.specs.Composites.{CompositeMeaning}
 use Rattle.jdwp_event.specs.Told.{is_vm_death}
 use Rattle.jdwp_machine.specs.Meanings.{Meaning}
@@ -17,7 +19,7 @@ use Rattle.jdwp_mirror.specs.Mirror.{ends}
 use Rattle.jdwp_mirror.specs.Faults.{Fault, fault_of}
 use Rattle.jdwp_link.specs.Events
 use Rattle.jdwp_link.specs.Events.{LinkEvent, AskRefusal, Outcome}
-use Rattle.jdwp_link.specs.World.{Measure, Phase, Closed, Waiting, Open, is_closed, Packet, World, way_to_target, way_to_debugger, opening}
+use Rattle.jdwp_link.specs.World.{Measure, is_closed, Packet, World, way_to_target, way_to_debugger, opening}
 use Rattle.jdwp_link.specs.Next.{attached, may_attach, ask_refusal, ask_by, started, greets_by, dies_by, answers, target_takes, target_handles, target_turn_at, target_turn, lost_tickets, debugger_closed, closes_by, composites_of, answered, has_end, reads_reply, reads_composite, reads, reader, debugger_handles, debugger_takes, debugger_turn_at, told, step_ends, next, outcomes}
 use Rattle.jdwp_link.specs.Given.{gives_call, gives_front, gives_turn, gives, given, told_answers, IsIn, TellsWhatWasGiven}
 
@@ -101,10 +103,10 @@ comes-greets settings w v true d = more-comes w (greets_by settings v true) [] _
 comes-greets settings w v false d = more-comes w (greets_by settings v false) [] _ (ap (λ l. l ++ (Handshake, v.now) ∷ (Report (start_event settings v.now.state), started settings v.now) ∷ []) d) refl
 
 comes-handles : {S : Type 0} (m : Meaning S) (settings : Settings) (measure : Measure) (w : World S) (rest : List Call) (phase : Phase) (call : Call) → Comes w (gives_call m settings w phase call) (target_handles m settings measure w rest phase call, [])
-comes-handles m settings measure w rest Waiting Greets = comes-greets settings w (target_takes measure w Greets rest) w.now.state.handshaken refl
-comes-handles m settings measure w rest Open (Asks (Some k) c) =
+comes-handles m settings measure w rest AwaitingHandshake Greets = comes-greets settings w (target_takes measure w Greets rest) w.now.state.handshaken refl
+comes-handles m settings measure w rest Established (Asks (Some k) c) =
     comes-dies w _ _ (effect m settings w.now c).dies (comes-answers w (target_takes measure w (Asks (Some k) c) rest) (Some k) c (effect m settings w.now c) refl _ refl)
-comes-handles m settings measure w rest Open (Asks None c) =
+comes-handles m settings measure w rest Established (Asks None c) =
     comes-dies w _ _ (effect m settings w.now c).dies (comes-answers w (target_takes measure w (Asks None c) rest) None c (effect m settings w.now c) refl _ refl)
 comes-handles m settings measure w rest phase call = same-comes w (target_handles m settings measure w rest phase call) _ refl
 
@@ -177,12 +179,12 @@ none-behind l = append-nil l
 
 comes-told : {S : Type 0} (w : World S) (after : Moment S) (o : Option CompositeMeaning) (phase : Phase) (b : Bool) → Comes w [] (step_ends (told w after o) phase b, [])
 comes-told w after None phase false = same-comes w _ [] refl
-comes-told w after None Open true = more-comes w _ [] _ refl refl
-comes-told w after None Waiting true = same-comes w _ [] refl
+comes-told w after None Established true = more-comes w _ [] _ refl refl
+comes-told w after None AwaitingHandshake true = same-comes w _ [] refl
 comes-told w after None Closed true = same-comes w _ [] refl
 comes-told w after (Some c) phase false = more-comes w _ [] _ refl refl
-comes-told w after (Some c) Open true = same-comes w _ [] (replied-append (w.to_debugger ++ (Report c, after) ∷ []) _ ∙ (none-behind _ ∙ (replied-append w.to_debugger _ ∙ none-behind _)))
-comes-told w after (Some c) Waiting true = more-comes w _ [] _ refl refl
+comes-told w after (Some c) Established true = same-comes w _ [] (replied-append (w.to_debugger ++ (Report c, after) ∷ []) _ ∙ (none-behind _ ∙ (replied-append w.to_debugger _ ∙ none-behind _)))
+comes-told w after (Some c) AwaitingHandshake true = more-comes w _ [] _ refl refl
 comes-told w after (Some c) Closed true = more-comes w _ [] _ refl refl
 
 comes-ask : {S : Type 0} (w : World S) (c : Command) (r : Option AskRefusal) → Comes w [] (ask_by w c r)

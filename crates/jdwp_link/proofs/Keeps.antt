@@ -6,6 +6,9 @@ use Rattle.std.proofs.lemmas.List.{append-nil}
 use Rattle.std.specs.Option.{option_map}
 use Rattle.jdwp_layout.specs.declared.answer.Answer.{Answer}
 use Rattle.jdwp_layout.specs.declared.answer.Answer.TheVariants.{Data, Error}
+use Rattle.jdwp_end.specs.declared.phase.Phase.{Phase}
+use Rattle.jdwp_end.specs.declared.phase.Phase.TheVariants.{Closed, AwaitingHandshake, Established}
+use Rattle.jdwp_end.specs.Ends.{is_established_phase}
 use Rattle.jdwp_event.specs.Requests.{Asked, Request, all_asked}
 use Rattle.jdwp_event.specs.Composites.{CompositeMeaning, vm_death}
 use Rattle.jdwp_event.specs.Told.{is_vm_death}
@@ -29,7 +32,7 @@ use Rattle.jdwp_mirror.specs.Faults
 use Rattle.jdwp_mirror.specs.Faults.{Fault, Reader, fault_of, fault_after_greeting}
 use Rattle.jdwp_link.specs.Events
 use Rattle.jdwp_link.specs.Events.{LinkEvent, AskRefusal, Outcome}
-use Rattle.jdwp_link.specs.World.{Measure, Phase, Closed, Waiting, Open, is_closed, is_open, Packet, World, way_to_target, way_to_debugger}
+use Rattle.jdwp_link.specs.World.{Measure, is_closed, Packet, World, way_to_target, way_to_debugger}
 use Rattle.jdwp_link.specs.Next.{attached, may_attach, attaches, ask_refusal, asks, ask_by, target_loses, started, greets_by, after_death, dying, dies_by, answers, target_handles, target_turn_at, target_turn, closes_by, without_ticket, entered, has_end, composites_of, answered, reads_handshake, reads_reply, reads_composite, reads, reader, debugger_handles, debugger_takes, debugger_turn_at, debugger_turn, told, step_ends, steps, next, run}
 use Rattle.jdwp_link.proofs.Acts.{Acts, acts_reply, acts_handshake, acts_event, acts_death}
 use Rattle.jdwp_link.proofs.Session.{Links, last, links_more, last_more, links_front, links_back, last_append, Mirrors, mirrors_read, mirrors_entered, quiet_refl, quiet_trans, replies, commands, replies_append, commands_append, not-true, and-left, and-right}
@@ -53,17 +56,17 @@ pub record Session {S : Type 0} (m : Meaning S) (read parked td : List (Packet S
 -- What holds of the debugger's side.
 pub record DebuggerSide {S : Type 0} (m : Meaning S) (phase : Phase) (ready : Bool) (parked read td : List (Packet S)) (calls : List Call) (pending : List (Ticket × Command)) (lost : Bool) (now : Moment S) : Type 0 where
   pub closed : is_closed phase ≡ true → (read ≡ []) × (pending ≡ [])
-  pub unparked : is_open phase ≡ false → parked ≡ []
+  pub unparked : is_established_phase phase ≡ false → parked ≡ []
   pub ready_parked : ready ≡ true → parked ≡ []
   pub session : is_closed phase ≡ false → Session m read parked td calls pending lost now
 
 -- What holds of the target's side.
 pub record TargetSide {S : Type 0} (m : Meaning S) (settings : Settings) (phase : Phase) (lost : Bool) (now : Moment S) : Type 0 where
   pub sound : IsSound m settings now
-  pub idle : is_open phase ≡ false → (now.state.requests ≡ []) × ((t : ℕ) → count_or_zero now.state t ≡ 0)
+  pub idle : is_established_phase phase ≡ false → (now.state.requests ≡ []) × ((t : ℕ) → count_or_zero now.state t ≡ 0)
   pub living : is_closed phase ≡ false → now.state.alive ≡ true
   pub unlost : is_closed phase ≡ false → lost ≡ false
-  pub greeted : is_open phase ≡ true → now.state.handshaken ≡ true
+  pub greeted : is_established_phase phase ≡ true → now.state.handshaken ≡ true
   pub unborn : now.state.handshaken ≡ false → count_of now.state (least_thread now.state) ≡ Some 0
 
 pub record Inv {S : Type 0} (m : Meaning S) (settings : Settings) (w : World S) : Type 0 where
@@ -75,15 +78,15 @@ Inv_of m settings r = Inv m settings r.0
 
 -- ---- small facts
 
-pub closed-not-open : (p : Phase) → is_closed p ≡ true → is_open p ≡ false
+pub closed-not-open : (p : Phase) → is_closed p ≡ true → is_established_phase p ≡ false
 closed-not-open Closed h = refl
-closed-not-open Waiting h = absurd (cc)
-closed-not-open Open h = absurd (cc)
+closed-not-open AwaitingHandshake h = absurd (cc)
+closed-not-open Established h = absurd (cc)
 
-pub open-not-closed : (p : Phase) → is_open p ≡ true → is_closed p ≡ false
+pub open-not-closed : (p : Phase) → is_established_phase p ≡ true → is_closed p ≡ false
 open-not-closed Closed h = absurd (cc)
-open-not-closed Waiting h = absurd (cc)
-open-not-closed Open h = refl
+open-not-closed AwaitingHandshake h = absurd (cc)
+open-not-closed Established h = refl
 
 pub asked-nil : (rs : List Request) → all_asked rs ≡ [] → rs ≡ []
 asked-nil [] h = refl
@@ -144,7 +147,7 @@ keeps_attach m settings w i =
     let t : is_closed w.target ≡ true = and-left _ _ h in
     let d : is_closed w.debugger ≡ true = and-left _ _ (and-right (is_closed w.target) _ h) in
     let al : w.now.state.alive ≡ true = and-right (is_closed w.debugger) _ (and-right (is_closed w.target) _ h) in
-    let o : is_open w.target ≡ false = closed-not-open w.target t in
+    let o : is_established_phase w.target ≡ false = closed-not-open w.target t in
     record {
       target = record { sound = i.target.sound; idle = λ _. i.target.idle o; living = λ _. al; unlost = λ _. refl; greeted = λ x. absurd (cc); unborn = i.target.unborn };
       debugger = record {
@@ -242,7 +245,7 @@ closed_side m td calls lost now = record { closed = λ _. (refl, refl); unparked
 
 -- ---- the target's turn
 
-keeps_greets : {S : Type 0} (m : Meaning S) → IsLawful m → (settings : Settings) → 1 ≤ settings.count_limit → settings.count_limit ≤ COUNT_MOST → (w : World S) (n : ℕ) (rest : List Call) (b : Bool) → Inv m settings w → w.target ≡ Waiting → w.to_target ≡ Greets ∷ rest → w.now.state.handshaken ≡ b → Inv m settings (greets_by settings (record w { to_target = rest; at_target = n }) b)
+keeps_greets : {S : Type 0} (m : Meaning S) → IsLawful m → (settings : Settings) → 1 ≤ settings.count_limit → settings.count_limit ≤ COUNT_MOST → (w : World S) (n : ℕ) (rest : List Call) (b : Bool) → Inv m settings w → w.target ≡ AwaitingHandshake → w.to_target ≡ Greets ∷ rest → w.now.state.handshaken ≡ b → Inv m settings (greets_by settings (record w { to_target = rest; at_target = n }) b)
 keeps_greets m law settings least most w n rest true i p e h =
     let o : is_closed w.target ≡ false = ap is_closed p in
     let side = subst (λ cs. DebuggerSide m w.debugger w.ready w.parked w.read w.to_debugger cs w.pending w.lost w.now) e i.debugger in
@@ -252,7 +255,7 @@ keeps_greets m law settings least most w n rest true i p e h =
     }
 keeps_greets {S} m law settings least most w n rest false i p e h =
     let o : is_closed w.target ≡ false = ap is_closed p in
-    let shut : is_open w.target ≡ false = ap is_open p in
+    let shut : is_established_phase w.target ≡ false = ap is_established_phase p in
     let thread : ℕ = least_thread w.now.state in
     let c : CompositeMeaning = start_event settings w.now.state in
     let after : Moment S = started settings w.now in
@@ -290,7 +293,7 @@ closed-too : (x d a : Bool) → true ≡ (x && a) → ((x || d) && a) ≡ true
 closed-too true d a h = sym h
 closed-too false d a h = absurd (cc)
 
-answered_target : {S : Type 0} (m : Meaning S) (settings : Settings) (now : Moment S) (a : Action) (e : Effect S) (lost b : Bool) → TargetSide m settings Open lost now → Does m settings now a e → e.closes ≡ b → TargetSide m settings (cond b Closed Open) lost e.after
+answered_target : {S : Type 0} (m : Meaning S) (settings : Settings) (now : Moment S) (a : Action) (e : Effect S) (lost b : Bool) → TargetSide m settings Established lost now → Does m settings now a e → e.closes ≡ b → TargetSide m settings (cond b Closed Established) lost e.after
 answered_target m settings now a e lost true t d h =
     let x = closing a e.answer (sym h ∙ d.closes) in
     record {
@@ -312,7 +315,7 @@ answered_target m settings now a e lost false t d h =
       unborn = λ y. let z : now.state.handshaken ≡ true = t.greeted refl in let v : e.after.state.handshaken ≡ now.state.handshaken = d.handshaken in absurd (cc);
     }
 
-keeps_answers : {S : Type 0} (m : Meaning S) → IsLawful m → (settings : Settings) → settings.count_limit ≤ COUNT_MOST → (w : World S) (n : ℕ) (rest : List Call) (k : Ticket) (c : Command) (e : Effect S) → Inv m settings w → w.target ≡ Open → w.to_target ≡ Asks k c ∷ rest → Does m settings w.now (action_of c) e → Inv m settings (answers (record w { to_target = rest; at_target = n }) k c e)
+keeps_answers : {S : Type 0} (m : Meaning S) → IsLawful m → (settings : Settings) → settings.count_limit ≤ COUNT_MOST → (w : World S) (n : ℕ) (rest : List Call) (k : Ticket) (c : Command) (e : Effect S) → Inv m settings w → w.target ≡ Established → w.to_target ≡ Asks k c ∷ rest → Does m settings w.now (action_of c) e → Inv m settings (answers (record w { to_target = rest; at_target = n }) k c e)
 keeps_answers m law settings most w n rest k c e i p q d =
     let side = subst (λ cs. DebuggerSide m w.debugger w.ready w.parked w.read w.to_debugger cs w.pending w.lost w.now) q i.debugger in
     let t = subst (λ x. TargetSide m settings x w.lost w.now) p i.target in
@@ -336,7 +339,7 @@ keeps_dying m settings w before mid s l d q none empty dead shaken ever =
       debugger = sends m w.debugger w.ready w.parked w.read w.to_debugger w.to_target w.to_target w.pending w.lost before mid (Report vm_death, after_death w.now) d l q (acts_death m mid (after_death w.now) none empty dead ever) (no-reply w.to_debugger (Report vm_death, after_death w.now) (commands w.to_target) refl);
     }
 
-keeps_dies : {S : Type 0} (m : Meaning S) → (settings : Settings) (now : Moment S) (w : World S) (k : Ticket) (c : Command) (e : Effect S) (b : Bool) → TargetSide m settings Open w.lost now → Does m settings now (action_of c) e → Inv m settings (answers w k c e) → e.dies ≡ b → Inv m settings (dies_by (answers w k c e) b)
+keeps_dies : {S : Type 0} (m : Meaning S) → (settings : Settings) (now : Moment S) (w : World S) (k : Ticket) (c : Command) (e : Effect S) (b : Bool) → TargetSide m settings Established w.lost now → Does m settings now (action_of c) e → Inv m settings (answers w k c e) → e.dies ≡ b → Inv m settings (dies_by (answers w k c e) b)
 keeps_dies m settings now w k c e false t d i h = i
 keeps_dies m settings now w k c e true t d i h =
     let x = killing (action_of c) e.answer (sym h ∙ d.dies) in
@@ -348,8 +351,8 @@ keeps_dies m settings now w k c e true t d i h =
     (λ u y. y)
 
 keeps_target_handles : {S : Type 0} (m : Meaning S) → IsLawful m → (settings : Settings) → 1 ≤ settings.count_limit → settings.count_limit ≤ COUNT_MOST → (measure : Measure) (w : World S) (rest : List Call) (phase : Phase) (call : Call) → Inv m settings w → w.target ≡ phase → w.to_target ≡ call ∷ rest → Inv m settings (target_handles m settings measure w rest phase call)
-keeps_target_handles m law settings least most measure w rest Waiting Greets i p e = keeps_greets m law settings least most w (w.at_target - measure.call Greets) rest w.now.state.handshaken i p e refl
-keeps_target_handles m law settings least most measure w rest Open (Asks k c) i p e =
+keeps_target_handles m law settings least most measure w rest AwaitingHandshake Greets i p e = keeps_greets m law settings least most w (w.at_target - measure.call Greets) rest w.now.state.handshaken i p e refl
+keeps_target_handles m law settings least most measure w rest Established (Asks k c) i p e =
     let t = subst (λ x. TargetSide m settings x w.lost w.now) p i.target in
     let d = (facts m law settings).does w.now c i.target.sound in
     keeps_dies m settings w.now (record w { to_target = rest; at_target = w.at_target - measure.call (Asks k c) }) k c (effect m settings w.now c) (effect m settings w.now c).dies t d
@@ -367,7 +370,7 @@ keeps_target_turn m law settings least most measure w i =
 
 -- ---- the debugger's turn
 
-keeps_handshake : {S : Type 0} (m : Meaning S) (settings : Settings) (w : World S) (n : ℕ) (a : Moment S) (rest : List (Packet S)) → Inv m settings w → is_closed w.debugger ≡ false → is_open w.debugger ≡ false → w.to_debugger ≡ (Handshake, a) ∷ rest → Inv m settings (reads_handshake (record w { to_debugger = rest; at_debugger = n }) (Handshake, a))
+keeps_handshake : {S : Type 0} (m : Meaning S) (settings : Settings) (w : World S) (n : ℕ) (a : Moment S) (rest : List (Packet S)) → Inv m settings w → is_closed w.debugger ≡ false → is_established_phase w.debugger ≡ false → w.to_debugger ≡ (Handshake, a) ∷ rest → Inv m settings (reads_handshake (record w { to_debugger = rest; at_debugger = n }) (Handshake, a))
 keeps_handshake m settings w n a rest i o g e =
     let s = i.debugger.session o in
     let empty : w.parked ≡ [] = i.debugger.unparked g in
@@ -401,7 +404,7 @@ pub or-parts : (a b : Bool) → (a || b) ≡ false → (a ≡ false) × (b ≡ f
 or-parts true b h = absurd (cc)
 or-parts false b h = (refl, h)
 
-keeps_reply : {S : Type 0} (m : Meaning S) (settings : Settings) (w : World S) (n : ℕ) (k : Ticket) (c : Command) (x : Answer) (a : Moment S) (rest : List (Packet S)) → Inv m settings w → is_closed w.debugger ≡ false → is_open w.debugger ≡ true → w.to_debugger ≡ (Reply k c x, a) ∷ rest → (ends (Reply k c x) || has_end w.parked) ≡ false → Inv m settings (reads_reply (record w { to_debugger = rest; at_debugger = n }) (Reply k c x, a) k)
+keeps_reply : {S : Type 0} (m : Meaning S) (settings : Settings) (w : World S) (n : ℕ) (k : Ticket) (c : Command) (x : Answer) (a : Moment S) (rest : List (Packet S)) → Inv m settings w → is_closed w.debugger ≡ false → is_established_phase w.debugger ≡ true → w.to_debugger ≡ (Reply k c x, a) ∷ rest → (ends (Reply k c x) || has_end w.parked) ≡ false → Inv m settings (reads_reply (record w { to_debugger = rest; at_debugger = n }) (Reply k c x, a) k)
 keeps_reply m settings w n k c x a rest i o g e h =
     let s = i.debugger.session o in
     let none = or-parts (ends (Reply k c x)) (has_end w.parked) h in
@@ -426,7 +429,7 @@ keeps_reply m settings w n k c x a rest i o g e h =
       };
     }
 
-keeps_composite : {S : Type 0} (m : Meaning S) (settings : Settings) (w : World S) (n : ℕ) (c : CompositeMeaning) (a : Moment S) (rest : List (Packet S)) (b : Bool) → Inv m settings w → is_closed w.debugger ≡ false → is_open w.debugger ≡ true → w.to_debugger ≡ (Report c, a) ∷ rest → w.ready ≡ b → Inv m settings (reads_composite (record w { to_debugger = rest; at_debugger = n }) (Report c, a) c b).0
+keeps_composite : {S : Type 0} (m : Meaning S) (settings : Settings) (w : World S) (n : ℕ) (c : CompositeMeaning) (a : Moment S) (rest : List (Packet S)) (b : Bool) → Inv m settings w → is_closed w.debugger ≡ false → is_established_phase w.debugger ≡ true → w.to_debugger ≡ (Report c, a) ∷ rest → w.ready ≡ b → Inv m settings (reads_composite (record w { to_debugger = rest; at_debugger = n }) (Report c, a) c b).0
 keeps_composite m settings w n c a rest false i o g e h =
     let s = i.debugger.session o in
     let j : (w.parked ++ (Report c, a) ∷ []) ++ rest ≡ w.parked ++ (Report c, a) ∷ rest = append_assoc w.parked ((Report c, a) ∷ []) rest in
@@ -482,14 +485,14 @@ not-greeted true h = absurd (cc)
 not-greeted false h = refl
 
 keeps_reads : {S : Type 0} (m : Meaning S) (settings : Settings) (w : World S) (n : ℕ) (p : Packet S) (rest : List (Packet S)) → Inv m settings w → is_closed w.debugger ≡ false → w.to_debugger ≡ p ∷ rest → fault_of (reader w) p.0 ≡ None → Inv m settings (reads (record w { to_debugger = rest; at_debugger = n }) p).0
-keeps_reads m settings w n (Handshake, a) rest i o e f = keeps_handshake m settings w n a rest i o (not-greeted (is_open w.debugger) f) e
+keeps_reads m settings w n (Handshake, a) rest i o e f = keeps_handshake m settings w n a rest i o (not-greeted (is_established_phase w.debugger) f) e
 keeps_reads m settings w n (Reply k c x, a) rest i o e f =
-    let g = greeted-before (is_open w.debugger) _ None f in
+    let g = greeted-before (is_established_phase w.debugger) _ None f in
     elim (ends (Reply k c x) || has_end w.parked) as (λ b. (ends (Reply k c x) || has_end w.parked) ≡ b → Inv m settings (closes_by (reads_reply (record w { to_debugger = rest; at_debugger = n }) (Reply k c x, a) k) (composites_of w.parked ++ answered k x) b).0) [
       | true ↦ λ _. record { target = i.target; debugger = closed_side m rest w.to_target w.lost w.now }
       | false ↦ λ d. keeps_reply m settings w n k c x a rest i o g e d
     ] refl
-keeps_reads m settings w n (Report c, a) rest i o e f = keeps_composite m settings w n c a rest w.ready i o (greeted-before (is_open w.debugger) _ None f) e refl
+keeps_reads m settings w n (Report c, a) rest i o e f = keeps_composite m settings w n c a rest w.ready i o (greeted-before (is_established_phase w.debugger) _ None f) e refl
 
 keeps_debugger_handles : {S : Type 0} (m : Meaning S) (settings : Settings) (measure : Measure) (w : World S) (p : Packet S) (rest : List (Packet S)) (f : Option Fault) → Inv m settings w → is_closed w.debugger ≡ false → w.to_debugger ≡ p ∷ rest → fault_of (reader w) p.0 ≡ f → Inv m settings (debugger_handles (debugger_takes measure w p rest) p f).0
 keeps_debugger_handles m settings measure w p rest (Some f) i o e h = record { target = i.target; debugger = closed_side m rest w.to_target w.lost w.now }
@@ -517,17 +520,17 @@ died_quiet m now after d r ever =
     }
 
 keeps_died : {S : Type 0} (m : Meaning S) (settings : Settings) (w : World S) (after : Moment S) (phase : Phase) → Inv m settings w → w.target ≡ phase → IsSound m settings after → Died m w.now after → after.state.handshaken ≡ true → ((t : ℕ) → m.ever w.now.machine t ≡ true → m.ever after.machine t ≡ true) → Inv m settings (step_ends (record w { now = after }) phase true)
-keeps_died m settings w after Open i p s d h ever =
+keeps_died m settings w after Established i p s d h ever =
     keeps_dying m settings (record w { now = after }) w.now w.now s (i.target.unlost (ap is_closed p)) i.debugger (quiet_refl m w.now) d.nobody_lives d.no_requests d.alive h ever
-keeps_died m settings w after Waiting i p s d h ever =
+keeps_died m settings w after AwaitingHandshake i p s d h ever =
     record {
       target = record { sound = s; idle = λ _. (d.no_requests, λ t. ap or_zero (d.nobody_lives t)); living = λ y. absurd (cc); unlost = λ y. absurd (cc); greeted = λ y. absurd (cc); unborn = λ y. absurd (cc) };
-      debugger = passes m w.debugger w.ready w.parked w.read w.to_debugger w.to_target w.pending w.lost w.now after i.debugger (died_quiet m w.now after d (i.target.idle (ap is_open p)).0 ever);
+      debugger = passes m w.debugger w.ready w.parked w.read w.to_debugger w.to_target w.pending w.lost w.now after i.debugger (died_quiet m w.now after d (i.target.idle (ap is_established_phase p)).0 ever);
     }
 keeps_died m settings w after Closed i p s d h ever =
     record {
       target = record { sound = s; idle = λ _. (d.no_requests, λ t. ap or_zero (d.nobody_lives t)); living = λ y. absurd (cc); unlost = λ y. absurd (cc); greeted = λ y. absurd (cc); unborn = λ y. absurd (cc) };
-      debugger = passes m w.debugger w.ready w.parked w.read w.to_debugger w.to_target w.pending w.lost w.now after i.debugger (died_quiet m w.now after d (i.target.idle (ap is_open p)).0 ever);
+      debugger = passes m w.debugger w.ready w.parked w.read w.to_debugger w.to_target w.pending w.lost w.now after i.debugger (died_quiet m w.now after d (i.target.idle (ap is_established_phase p)).0 ever);
     }
 
 keeps_quiet : {S : Type 0} (m : Meaning S) (settings : Settings) (w : World S) (after : Moment S) → Inv m settings w → IsSound m settings after → Quiet m w.now after → after.state.handshaken ≡ true → after.state.alive ≡ w.now.state.alive → Inv m settings (record w { now = after })
@@ -544,7 +547,7 @@ keeps_quiet m settings w after i s q h a =
       debugger = passes m w.debugger w.ready w.parked w.read w.to_debugger w.to_target w.pending w.lost w.now after i.debugger q;
     }
 
-keeps_tells : {S : Type 0} (m : Meaning S) → IsLawful m → (settings : Settings) → settings.count_limit ≤ COUNT_MOST → (w : World S) (after : Moment S) (c : CompositeMeaning) → Inv m settings w → is_open w.target ≡ true → IsSound m settings after → Tells m w.now c after → after.state.handshaken ≡ true → after.state.alive ≡ w.now.state.alive → Inv m settings (told w after (Some c))
+keeps_tells : {S : Type 0} (m : Meaning S) → IsLawful m → (settings : Settings) → settings.count_limit ≤ COUNT_MOST → (w : World S) (after : Moment S) (c : CompositeMeaning) → Inv m settings w → is_established_phase w.target ≡ true → IsSound m settings after → Tells m w.now c after → after.state.handshaken ≡ true → after.state.alive ≡ w.now.state.alive → Inv m settings (told w after (Some c))
 keeps_tells m law settings most w after c i o s d h a =
     let shut : is_closed w.target ≡ false = open-not-closed w.target o in
     record {
@@ -566,7 +569,7 @@ keeps_stepped m law settings most w after None true i s ever d silent h a = keep
 keeps_stepped m law settings most w after None false i s ever d silent h a = keeps_quiet m settings w after i s d h (a refl)
 keeps_stepped m law settings most w after (Some c) true i s ever d silent h a = let x : true ≡ false = d.0 in absurd (cc)
 keeps_stepped m law settings most w after (Some c) false i s ever d silent h a =
-    let o : is_open w.target ≡ true = elim (is_open w.target) as (λ b. is_open w.target ≡ b → b ≡ true) [ true ↦ λ _. refl | false ↦ λ x. let y = silent (i.target.idle x).0 in absurd (cc) ] refl in
+    let o : is_established_phase w.target ≡ true = elim (is_established_phase w.target) as (λ b. is_established_phase w.target ≡ b → b ≡ true) [ true ↦ λ _. refl | false ↦ λ x. let y = silent (i.target.idle x).0 in absurd (cc) ] refl in
     keeps_tells m law settings most w after c i o s d.1 h (a refl)
 
 keeps_steps : {S : Type 0} (m : Meaning S) → IsLawful m → (settings : Settings) → settings.count_limit ≤ COUNT_MOST → (measure : Measure) (w : World S) (t : ℕ) → Inv m settings w → Inv m settings (steps m settings measure w t)

@@ -4,6 +4,9 @@ use Rattle.std.specs.Prelude.{nat_lt}
 use Rattle.std.proofs.lemmas.Bool.{cond_both}
 use Rattle.jdwp_layout.specs.declared.answer.Answer.TheVariants.{Data}
 use Rattle.jdwp_layout.specs.Meanings.{DatumMeaning}
+use Rattle.jdwp_end.specs.declared.phase.Phase.{Phase}
+use Rattle.jdwp_end.specs.declared.phase.Phase.TheVariants.{Closed, AwaitingHandshake, Established}
+use Rattle.jdwp_end.specs.Ends.{is_established_phase}
 use Rattle.jdwp_event.specs.Composites.{CompositeMeaning, vm_death}
 use Rattle.jdwp_event.specs.Told.{is_vm_death}
 use Rattle.jdwp_machine.specs.Meanings.{Meaning}
@@ -21,7 +24,7 @@ use Rattle.jdwp_mirror.specs.Faults
 use Rattle.jdwp_mirror.specs.Faults.{Fault, fault_of}
 use Rattle.jdwp_link.specs.Events
 use Rattle.jdwp_link.specs.Events.{LinkEvent, AskRefusal, Outcome}
-use Rattle.jdwp_link.specs.World.{Measure, Phase, Closed, Waiting, Open, is_closed, is_open, Packet, World, way_to_target, way_to_debugger, opening}
+use Rattle.jdwp_link.specs.World.{Measure, is_closed, Packet, World, way_to_target, way_to_debugger, opening}
 use Rattle.jdwp_link.specs.Next.{attached, may_attach, attaches, ask_refusal, ask_by, target_loses, started, greets_by, after_death, dying, dies_by, answers, target_handles, target_turn_at, target_turn, closes_by, entered, has_end, composites_of, answered, reads_reply, reads_composite, reads, reader, debugger_handles, debugger_takes, debugger_turn_at, debugger_turn, told, step_ends, steps, next, run}
 use Rattle.jdwp_link.specs.Seen.{seen, unanswered, lowers, has_dispose}
 use Rattle.jdwp_link.specs.Lasting.{asks_frames_of, writes, answers_write, has_write, IsAnswer, IsLasting, StaysTrue, AlwaysStaysTrue}
@@ -221,9 +224,9 @@ goes-loses : {S : Type 0} (m : Meaning S) (settings : Settings) (w : World S) �
 goes-loses m settings w g = λ o. let h = g o in record { chain = h.chain; still = λ x. absurd (cc); said = h.said; answers = h.answers }
 
 goes-target-handles : {S : Type 0} (m : Meaning S) → IsLawful m → (settings : Settings) (measure : Measure) (w : World S) (rest : List Call) (phase : Phase) (call : Call) → Inv m settings w → Goes m settings w → w.target ≡ phase → Goes m settings (target_handles m settings measure w rest phase call)
-goes-target-handles m law settings measure w rest Waiting Greets i g p =
+goes-target-handles m law settings measure w rest AwaitingHandshake Greets i g p =
     goes-greets m settings w (w.at_target - measure.call Greets) rest w.now.state.handshaken g (i.target.unlost (ap is_closed p))
-goes-target-handles m law settings measure w rest Open (Asks k c) i g p =
+goes-target-handles m law settings measure w rest Established (Asks k c) i g p =
     let l : w.lost ≡ false = i.target.unlost (ap is_closed p) in
     let d = (facts m law settings).does w.now c i.target.sound in
     goes-dies m settings (answers (record w { to_target = rest; at_target = w.at_target - measure.call (Asks k c) }) k c (effect m settings w.now c)) (effect m settings w.now c).dies
@@ -270,7 +273,7 @@ not-greeted false h = refl
 
 goes-reads : {S : Type 0} (m : Meaning S) (settings : Settings) (w : World S) (n : ℕ) (p : Packet S) (rest : List (Packet S)) → Inv m settings w → Goes m settings w → is_closed w.debugger ≡ false → w.to_debugger ≡ p ∷ rest → fault_of (reader w) p.0 ≡ None → Goes m settings (reads (record w { to_debugger = rest; at_debugger = n }) p).0
 goes-reads m settings w n (Handshake, a) rest i g o e f = λ _.
-    front-read m settings w.read w.parked w.to_debugger rest (Handshake, a) w.lost w.now (g o) e (i.debugger.unparked (not-greeted (is_open w.debugger) f))
+    front-read m settings w.read w.parked w.to_debugger rest (Handshake, a) w.lost w.now (g o) e (i.debugger.unparked (not-greeted (is_established_phase w.debugger) f))
 goes-reads m settings w n (Reply k c x, a) rest i g o e f =
     goes-closes m settings (reads_reply (record w { to_debugger = rest; at_debugger = n }) (Reply k c x, a) k) (composites_of w.parked ++ answered k x) (ends (Reply k c x) || has_end w.parked)
     (goes-reply m settings w n k (Reply k c x, a) rest g e)
@@ -296,8 +299,8 @@ abbrev FramesStay : {S : Type 0} → Meaning S → Moment S → Moment S → Typ
 FramesStay m a b = (t : ℕ) → 0 < count_or_zero a.state t → SameFrames m t a.machine b.machine
 
 goes-died : {S : Type 0} (m : Meaning S) (settings : Settings) (w : World S) (phase : Phase) → Goes m settings w → (is_closed phase ≡ false → w.lost ≡ false) → Goes m settings (step_ends w phase true)
-goes-died m settings w Open g l = goes-dying m settings w g (l refl)
-goes-died m settings w Waiting g l = g
+goes-died m settings w Established g l = goes-dying m settings w g (l refl)
+goes-died m settings w AwaitingHandshake g l = g
 goes-died m settings w Closed g l = g
 
 goes-stepped : {S : Type 0} (m : Meaning S) (settings : Settings) (w : World S) (after : Moment S) (o : Option CompositeMeaning) (dies : Bool) → Inv m settings w → Goes m settings w → FramesStay m w.now after → Told m w.now after dies o → (w.now.state.requests ≡ [] → o ≡ None) → Goes m settings (step_ends (told w after o) w.target dies)
@@ -312,7 +315,7 @@ goes-stepped m settings w after None false i g f d silent = λ x.
     passed m settings w.read (w.parked ++ w.to_debugger) w.lost w.now after (g x) (record { same_count = d.same_count; frames = f; alive = d.alive })
 goes-stepped m settings w after (Some c) true i g f d silent = let x : true ≡ false = d.0 in absurd (cc)
 goes-stepped m settings w after (Some c) false i g f d silent =
-    let shut : is_closed w.target ≡ false = elim (is_open w.target) as (λ b. is_open w.target ≡ b → is_closed w.target ≡ false) [ true ↦ open-not-closed w.target | false ↦ λ x. let y = silent (i.target.idle x).0 in absurd (cc) ] refl in
+    let shut : is_closed w.target ≡ false = elim (is_established_phase w.target) as (λ b. is_established_phase w.target ≡ b → is_closed w.target ≡ false) [ true ↦ open-not-closed w.target | false ↦ λ x. let y = silent (i.target.idle x).0 in absurd (cc) ] refl in
     λ x. sent m settings w.read w.parked w.to_debugger w.lost w.now (Report c, after) (g x) (i.target.unlost shut)
     (record { frames = λ t h _ _. f t h; alive = λ h. d.1.quiet.alive (sym d.1.alive ∙ h) }) tt
 

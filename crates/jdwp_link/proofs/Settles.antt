@@ -4,6 +4,8 @@ use Rattle.std.specs.Prelude.{nat_lt}
 use Rattle.std.proofs.lemmas.Bool.{cond_both}
 use Rattle.std.proofs.lemmas.List.{append-nil}
 use Rattle.jdwp_layout.specs.declared.answer.Answer.{Answer}
+use Rattle.jdwp_end.specs.declared.phase.Phase.{Phase}
+use Rattle.jdwp_end.specs.declared.phase.Phase.TheVariants.{Closed, AwaitingHandshake, Established}
 use Rattle.jdwp_event.specs.Composites.{CompositeMeaning}
 use Rattle.jdwp_event.specs.Told.{is_vm_death}
 use Rattle.jdwp_machine.specs.Meanings.{Meaning}
@@ -18,7 +20,7 @@ use Rattle.jdwp_mirror.specs.Mirror.{ends, COUNT_MOST}
 use Rattle.jdwp_mirror.specs.Faults.{Fault, fault_of}
 use Rattle.jdwp_link.specs.Events
 use Rattle.jdwp_link.specs.Events.{LinkEvent, AskRefusal, Outcome}
-use Rattle.jdwp_link.specs.World.{Measure, Phase, Closed, Waiting, Open, is_closed, Packet, World, way_to_target, way_to_debugger, opening}
+use Rattle.jdwp_link.specs.World.{Measure, is_closed, Packet, World, way_to_target, way_to_debugger, opening}
 use Rattle.jdwp_link.specs.Next.{attached, may_attach, attaches, ask_refusal, ask_by, target_loses, greets_by, dies_by, answers, target_takes, target_handles, target_turn_at, lost_tickets, debugger_closed, debugger_loses, closes_by, without_ticket, has_end, composites_of, answered, reads_handshake, reads_reply, reads_composite, reads, reader, debugger_handles, debugger_takes, debugger_turn_at, told, step_ends, next, run, outcomes}
 use Rattle.jdwp_link.specs.Tickets.{settled, tickets, tickets_to, SettlesInOrder}
 use Rattle.jdwp_link.proofs.Session.{replies, commands, not-true, and-left}
@@ -82,8 +84,8 @@ stays-dies w true = record { pending = refl; asked = refl }
 stays-dies w false = record { pending = refl; asked = refl }
 
 stays-handles : {S : Type 0} (m : Meaning S) (settings : Settings) (measure : Measure) (w : World S) (rest : List Call) (phase : Phase) (call : Call) → Stays w (target_handles m settings measure w rest phase call)
-stays-handles m settings measure w rest Waiting Greets = let s = stays-greets settings (target_takes measure w Greets rest) w.now.state.handshaken in record { pending = s.pending; asked = s.asked }
-stays-handles m settings measure w rest Open (Asks k c) =
+stays-handles m settings measure w rest AwaitingHandshake Greets = let s = stays-greets settings (target_takes measure w Greets rest) w.now.state.handshaken in record { pending = s.pending; asked = s.asked }
+stays-handles m settings measure w rest Established (Asks k c) =
     let s = stays-dies (answers (target_takes measure w (Asks k c) rest) k c (effect m settings w.now c)) (effect m settings w.now c).dies in
     record { pending = s.pending; asked = s.asked }
 stays-handles m settings measure w rest phase call = record { pending = refl; asked = refl }
@@ -94,8 +96,8 @@ stays-turn-at m settings measure w (call ∷ rest) = cond_both (nat_lt w.at_targ
 
 stays-ends : {S : Type 0} (w : World S) (phase : Phase) (b : Bool) → Stays w (step_ends w phase b)
 stays-ends w phase false = itself w
-stays-ends w Open true = record { pending = refl; asked = refl }
-stays-ends w Waiting true = record { pending = refl; asked = refl }
+stays-ends w Established true = record { pending = refl; asked = refl }
+stays-ends w AwaitingHandshake true = record { pending = refl; asked = refl }
 stays-ends w Closed true = record { pending = refl; asked = refl }
 
 stays-told : {S : Type 0} (w : World S) (after : Moment S) (o : Option CompositeMeaning) (phase : Phase) (b : Bool) → Stays w (step_ends (told w after o) phase b)

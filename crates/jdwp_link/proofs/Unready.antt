@@ -2,6 +2,9 @@
 use Rattle.std.proofs.Common.{◌≡◌, ℕ, ◌+◌, ◌≤◌, Bool, true, false, cond, Option, Some, None, List, [], ◌∷◌, ◌++◌, length, refl, sym, ◌∙◌, ap, subst, arith, is_none}
 use Rattle.jdwp_layout.specs.declared.answer.Answer.{Answer}
 use Rattle.jdwp_layout.specs.declared.answer.Answer.TheVariants.{Data, Error}
+use Rattle.jdwp_end.specs.declared.phase.Phase.{Phase}
+use Rattle.jdwp_end.specs.declared.phase.Phase.TheVariants.{Closed, AwaitingHandshake, Established}
+use Rattle.jdwp_end.specs.Ends.{is_established_phase}
 use Rattle.jdwp_event.specs.Requests.{all_asked}
 use Rattle.jdwp_event.specs.Composites.{CompositeMeaning, vm_death}
 use Rattle.jdwp_machine.specs.Meanings.{Meaning}
@@ -14,7 +17,7 @@ use Rattle.jdwp_debuggee.specs.Steps.{occurs, start_event}
 use Rattle.jdwp_debuggee.specs.Facts.{Told, requests_moved}
 use Rattle.jdwp_debuggee.proofs.AllFacts.{facts}
 use Rattle.jdwp_mirror.specs.Messages.{Ticket, Call, Asks, Handshake, Reply, Report, id_sizes}
-use Rattle.jdwp_link.specs.World.{Phase, Closed, Waiting, Open, is_closed, is_open, Packet, World}
+use Rattle.jdwp_link.specs.World.{is_closed, Packet, World}
 use Rattle.jdwp_link.specs.Next.{started, greets_by, after_death, answers, dies_by, told, step_ends}
 use Rattle.jdwp_link.specs.Seen.{composites_in}
 use Rattle.jdwp_link.proofs.Session.{composites_append, replies, commands}
@@ -23,14 +26,14 @@ use Rattle.jdwp_link.proofs.Cases.{Kept}
 
 -- how many composites may have been told, by what the target is then
 abbrev pub room : Phase → ℕ
-room Waiting = 0
-room Open = 1
+room AwaitingHandshake = 0
+room Established = 1
 room Closed = 2
 
 -- what a debugger asked that doesn't know the widths of ids
 abbrev pub own : Phase → List (Ticket × Command)
-own Open = (None, id_sizes) ∷ []
-own Waiting = []
+own Established = (None, id_sizes) ∷ []
+own AwaitingHandshake = []
 own Closed = []
 
 pub record Unready {S : Type 0} (target debugger : Phase) (parked td : List (Packet S)) (pending : List (Ticket × Command)) (now : Moment S) : Type 0 where
@@ -44,18 +47,18 @@ UnreadyOf w = is_closed w.debugger ≡ false → w.ready ≡ false → Unready w
 -- ---- small facts
 
 pub room-most : (p : Phase) → room p ≤ 2
-room-most Waiting = omega arith
-room-most Open = omega arith
+room-most AwaitingHandshake = omega arith
+room-most Established = omega arith
 room-most Closed = omega arith
 
-room-open : (b : Bool) → 1 ≤ room (cond b Closed Open)
+room-open : (b : Bool) → 1 ≤ room (cond b Closed Established)
 room-open true = omega arith
 room-open false = omega arith
 
-own-none : (p : Phase) → is_open p ≡ false → own p ≡ []
+own-none : (p : Phase) → is_established_phase p ≡ false → own p ≡ []
 own-none Closed h = refl
-own-none Waiting h = refl
-own-none Open h = absurd (cc)
+own-none AwaitingHandshake h = refl
+own-none Established h = absurd (cc)
 
 -- what was asked alone was IDSizes
 not-nil : (xs : List (Ticket × Command)) (y : Ticket × Command) (ys : List (Ticket × Command)) → xs ++ y ∷ ys ≡ [] → ⊥
@@ -63,19 +66,19 @@ not-nil [] y ys h = cc
 not-nil (x ∷ xs) y ys h = cc
 
 only-command : (p : Phase) (xs : List (Ticket × Command)) (k : Ticket) (c : Command) (ys : List (Ticket × Command)) → xs ++ (k, c) ∷ ys ≡ own p → c ≡ id_sizes
-only-command Waiting xs k c ys h = absurd (not-nil xs (k, c) ys h)
+only-command AwaitingHandshake xs k c ys h = absurd (not-nil xs (k, c) ys h)
 only-command Closed xs k c ys h = absurd (not-nil xs (k, c) ys h)
-only-command Open [] k c ys h = let y : (k, c) ≡ (None, id_sizes) = cc in ap (λ (p : Ticket × Command). p.1) y
-only-command Open (x ∷ xs) k c ys h = let y : xs ++ (k, c) ∷ ys ≡ [] = cc in absurd (not-nil xs (k, c) ys y)
+only-command Established [] k c ys h = let y : (k, c) ≡ (None, id_sizes) = cc in ap (λ (p : Ticket × Command). p.1) y
+only-command Established (x ∷ xs) k c ys h = let y : xs ++ (k, c) ∷ ys ≡ [] = cc in absurd (not-nil xs (k, c) ys y)
 
 no-ticket : (j : ℕ) → Some j ≡ None → ⊥
 no-ticket j h = cc
 
 only-reply : (p : Phase) (k : Ticket) (c : Command) (ys : List (Ticket × Command)) → (k, c) ∷ ys ≡ own p → is_none k ≡ true
-only-reply Waiting k c ys h = absurd (cc)
+only-reply AwaitingHandshake k c ys h = absurd (cc)
 only-reply Closed k c ys h = absurd (cc)
-only-reply Open None c ys h = refl
-only-reply Open (Some j) c ys h = let y : (Some j, c) ≡ (None, id_sizes) = cc in absurd (no-ticket j (ap (λ (p : Ticket × Command). p.0) y))
+only-reply Established None c ys h = refl
+only-reply Established (Some j) c ys h = let y : (Some j, c) ≡ (None, id_sizes) = cc in absurd (no-ticket j (ap (λ (p : Ticket × Command). p.0) y))
 
 no-more : (c : Command) (x : Answer) (n : ℕ) → c ≡ id_sizes → requests_moved (action_of c) x n [] ≡ []
 no-more c (Data content) n e = ap (λ d. requests_moved (action_of d) (Data content) n []) e
@@ -87,7 +90,7 @@ length-more (q ∷ qs) p = let e : length (qs ++ p ∷ []) ≡ length qs + 1 = l
 
 -- ---- changes
 
-unready-greet : {S : Type 0} (settings : Settings) (w : World S) (n : ℕ) (rest : List Call) (b : Bool) → w.target ≡ Waiting → UnreadyOf w → UnreadyOf (greets_by settings (record w { to_target = rest; at_target = n }) b)
+unready-greet : {S : Type 0} (settings : Settings) (w : World S) (n : ℕ) (rest : List Call) (b : Bool) → w.target ≡ AwaitingHandshake → UnreadyOf w → UnreadyOf (greets_by settings (record w { to_target = rest; at_target = n }) b)
 unready-greet settings w n rest true t p =
     λ o r.
     let u = p o r in
@@ -102,13 +105,13 @@ unready-greet settings w n rest false t p =
     composites_append w.to_debugger ((Handshake, w.now) ∷ (Report (start_event settings w.now.state), started settings w.now) ∷ []) in
     record { no_requests = u.no_requests; few = omega arith; alone = u.alone }
 
-unready-command : {S : Type 0} (w : World S) (n : ℕ) (rest : List Call) (k : Ticket) (c : Command) (e : Effect S) (dies : Bool) → w.target ≡ Open → (is_closed w.debugger ≡ false → w.ready ≡ false → e.after.state.requests ≡ []) → UnreadyOf w → UnreadyOf (dies_by (answers (record w { to_target = rest; at_target = n }) k c e) dies)
+unready-command : {S : Type 0} (w : World S) (n : ℕ) (rest : List Call) (k : Ticket) (c : Command) (e : Effect S) (dies : Bool) → w.target ≡ Established → (is_closed w.debugger ≡ false → w.ready ≡ false → e.after.state.requests ≡ []) → UnreadyOf w → UnreadyOf (dies_by (answers (record w { to_target = rest; at_target = n }) k c e) dies)
 unready-command w n rest k c e false t none p =
     λ o r.
     let u = p o r in
     let before : length w.parked + composites_in w.to_debugger ≤ 1 = subst (λ p. length w.parked + composites_in w.to_debugger ≤ room p) t u.few in
     let sum : composites_in (w.to_debugger ++ (Reply k c e.answer, e.after) ∷ []) ≡ composites_in w.to_debugger + 0 = composites_append w.to_debugger ((Reply k c e.answer, e.after) ∷ []) in
-    let space : 1 ≤ room (cond e.closes Closed Open) = room-open e.closes in
+    let space : 1 ≤ room (cond e.closes Closed Established) = room-open e.closes in
     record { no_requests = none o r; few = omega arith; alone = u.alone }
 unready-command w n rest k c e true t none p =
     λ o r.
@@ -124,13 +127,13 @@ command-is m settings w rest k c i o e a =
     only-command w.debugger (replies w.to_debugger) k c (commands rest) (sym (ap (λ l. replies w.to_debugger ++ commands l) e) ∙ (sym (i.debugger.session o).in_order ∙ a))
 
 unready-died : {S : Type 0} (w : World S) (after : Moment S) (phase : Phase) → after.state.requests ≡ [] → w.target ≡ phase → UnreadyOf w → UnreadyOf (step_ends (record w { now = after }) phase true)
-unready-died w after Open none t p =
+unready-died w after Established none t p =
     λ o r.
     let u = p o r in
     let before : length w.parked + composites_in w.to_debugger ≤ 1 = subst (λ p. length w.parked + composites_in w.to_debugger ≤ room p) t u.few in
     let sum : composites_in (w.to_debugger ++ (Report vm_death, after_death after) ∷ []) ≡ composites_in w.to_debugger + 1 = composites_append w.to_debugger ((Report vm_death, after_death after) ∷ []) in
     record { no_requests = none; few = omega arith; alone = u.alone }
-unready-died w after Waiting none t p =
+unready-died w after AwaitingHandshake none t p =
     λ o r. let u = p o r in let before : length w.parked + composites_in w.to_debugger ≤ room w.target = u.few in let most : room w.target ≤ 2 = room-most w.target in record { no_requests = none; few = omega arith; alone = u.alone }
 unready-died w after Closed none t p =
     λ o r. let u = p o r in let before : length w.parked + composites_in w.to_debugger ≤ room w.target = u.few in let most : room w.target ≤ 2 = room-most w.target in record { no_requests = none; few = omega arith; alone = u.alone }

@@ -1,6 +1,8 @@
 -- Neither end ever refuses what the other sends (JDWP specification, "JDWP Handshake" and "JDWP Packets").
 use Rattle.std.specs.Prelude.{◌≡◌, ◌≤◌, Bool, true, false, ◌||◌, List, [], ◌∷◌, length, None}
 use Rattle.jdwp_layout.specs.declared.answer.Answer.{Answer}
+use Rattle.jdwp_end.specs.declared.phase.Phase.{Phase}
+use Rattle.jdwp_end.specs.declared.phase.Phase.TheVariants.{AwaitingHandshake, Established}
 use Rattle.jdwp_machine.specs.Meanings.{Meaning}
 use Rattle.jdwp_debuggee.specs.Settings.{Settings}
 use Rattle.jdwp_debuggee.specs.State.{Moment}
@@ -9,7 +11,7 @@ use Rattle.jdwp_mirror.specs.Messages.{Ticket, Call, Greets, Asks, Reply}
 use Rattle.jdwp_mirror.specs.Mirror.{ends}
 use Rattle.jdwp_mirror.specs.Faults.{fault_of}
 use Rattle.jdwp_link.specs.Events.{LinkEvent}
-use Rattle.jdwp_link.specs.World.{Measure, Phase, Waiting, Open, is_closed, Packet, World, opening}
+use Rattle.jdwp_link.specs.World.{Measure, is_closed, Packet, World, opening}
 use Rattle.jdwp_link.specs.Next.{target_turn, has_end, reader, debugger_turn, run}
 use Rattle.jdwp_link.specs.Headline.{MayBegin}
 
@@ -20,8 +22,8 @@ NoPacketIsRefused {S} w =
 
 -- what a target reads: the handshake while it waits for it, and then commands
 abbrev pub is_in_place : Phase → Call → Bool
-is_in_place Waiting Greets = true
-is_in_place Open (Asks k c) = true
+is_in_place AwaitingHandshake Greets = true
+is_in_place Established (Asks k c) = true
 is_in_place phase call = false
 
 -- The message that a target reads next is in its place.

@@ -1,18 +1,20 @@
 -- What the target answered, by the ticket.
 use Rattle.std.specs.Prelude.{◌≡◌, ℕ, nat_lt, ◌&&◌, not, ◌⊎◌, List, [], ◌∷◌, ◌++◌, Some, if◌then◌else◌}
 use Rattle.jdwp_layout.specs.declared.answer.Answer.{Answer}
+use Rattle.jdwp_end.specs.declared.phase.Phase.{Phase}
+use Rattle.jdwp_end.specs.declared.phase.Phase.TheVariants.{Established}
 use Rattle.jdwp_machine.specs.Meanings.{Meaning}
 use Rattle.jdwp_debuggee.specs.Settings.{Settings}
 use Rattle.jdwp_debuggee.specs.Effects.{effect}
 use Rattle.jdwp_mirror.specs.Messages.{Call, Asks}
 use Rattle.jdwp_link.specs.Events
 use Rattle.jdwp_link.specs.Events.{LinkEvent, Outcome}
-use Rattle.jdwp_link.specs.World.{Measure, Phase, Open, is_closed, World, way_to_debugger, opening}
+use Rattle.jdwp_link.specs.World.{Measure, is_closed, World, way_to_debugger, opening}
 use Rattle.jdwp_link.specs.Next.{next, outcomes}
 
 -- the answer to the command that an open target handles, as it is then
 abbrev pub gives_call : {S : Type 0} → Meaning S → Settings → World S → Phase → Call → List (ℕ × Answer)
-gives_call m settings w Open (Asks (Some k) c) = (k, (effect m settings w.now c).answer) ∷ []
+gives_call m settings w Established (Asks (Some k) c) = (k, (effect m settings w.now c).answer) ∷ []
 gives_call m settings w phase call = []
 
 abbrev pub gives_front : {S : Type 0} → Meaning S → Settings → Measure → World S → List Call → List (ℕ × Answer)

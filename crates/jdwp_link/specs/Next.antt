@@ -2,6 +2,9 @@
 -- VirtualMachine.Dispose and Event.Composite).
 use Rattle.std.specs.Prelude.{ℕ, ◌+◌, ◌-◌, ◌^◌, min, nat_lt, Bool, true, false, ◌||◌, ◌&&◌, not, List, [], ◌∷◌, ◌++◌, length, Option, Some, None, is_none, if◌then◌else◌}
 use Rattle.jdwp_layout.specs.declared.answer.Answer.{Answer}
+use Rattle.jdwp_end.specs.declared.phase.Phase.{Phase}
+use Rattle.jdwp_end.specs.declared.phase.Phase.TheVariants.{Closed, AwaitingHandshake, Established}
+use Rattle.jdwp_end.specs.Ends.{is_established_phase}
 use Rattle.jdwp_event.specs.Composites.{CompositeMeaning, vm_death}
 use Rattle.jdwp_event.specs.Told.{is_vm_death}
 use Rattle.jdwp_machine.specs.Meanings.{Meaning}
@@ -16,7 +19,7 @@ use Rattle.jdwp_mirror.specs.Mirror.{ends}
 use Rattle.jdwp_mirror.specs.Faults.{Fault, Reader, fault_of}
 use Rattle.jdwp_link.specs.Events
 use Rattle.jdwp_link.specs.Events.{LinkEvent, AskRefusal, Outcome}
-use Rattle.jdwp_link.specs.World.{Measure, Phase, Closed, Waiting, Open, is_closed, is_open, Packet, World, way_to_target, way_to_debugger}
+use Rattle.jdwp_link.specs.World.{Measure, is_closed, Packet, World, way_to_target, way_to_debugger}
 use Rattle.jdwp_link.specs.Seen.{mirror_count}
 
 -- ---- a new session
@@ -25,13 +28,13 @@ use Rattle.jdwp_link.specs.Seen.{mirror_count}
 abbrev pub attached : {S : Type 0} → World S → World S
 attached w = record {
   now = w.now;
-  target = Waiting;
+  target = AwaitingHandshake;
   lost = false;
   to_target = Greets ∷ [];
   to_debugger = [];
   at_target = 0;
   at_debugger = 0;
-  debugger = Waiting;
+  debugger = AwaitingHandshake;
   ready = false;
   parked = [];
   read = [];
@@ -58,7 +61,7 @@ is_busy settings measure w =
 abbrev pub ask_refusal : {S : Type 0} → Settings → Measure → World S → Command → Option AskRefusal
 ask_refusal settings measure w c =
     if is_closed w.debugger then Some Events.Closed else
-    (if not (is_open w.debugger && w.ready) then Some Events.NotReady else
+    (if not (is_established_phase w.debugger && w.ready) then Some Events.NotReady else
     (if is_busy settings measure w then Some Events.Busy else measure.unfit c))
 
 abbrev pub asks : {S : Type 0} → World S → Command → World S
@@ -95,10 +98,10 @@ abbrev pub started : {S : Type 0} → Settings → Moment S → Moment S
 started settings now = record { state = handshaken settings now.state; machine = now.machine }
 
 abbrev pub greets_by : {S : Type 0} → Settings → World S → Bool → World S
-greets_by settings w true = record w { target = Open; to_debugger = w.to_debugger ++ (Handshake, w.now) ∷ [] }
+greets_by settings w true = record w { target = Established; to_debugger = w.to_debugger ++ (Handshake, w.now) ∷ [] }
 greets_by settings w false = record w {
   now = started settings w.now;
-  target = Open;
+  target = Established;
   to_debugger = w.to_debugger ++ (Handshake, w.now) ∷ (Report (start_event settings w.now.state), started settings w.now) ∷ [];
 }
 
@@ -117,7 +120,7 @@ dies_by w false = w
 abbrev pub answers : {S : Type 0} → World S → Ticket → Command → Effect S → World S
 answers w k c e = record w {
   now = e.after;
-  target = if e.closes then Closed else Open;
+  target = if e.closes then Closed else Established;
   to_debugger = w.to_debugger ++ (Reply k c e.answer, e.after) ∷ [];
 }
 
@@ -125,8 +128,8 @@ abbrev pub target_takes : {S : Type 0} → Measure → World S → Call → List
 target_takes measure w call rest = record w { to_target = rest; at_target = w.at_target - measure.call call }
 
 abbrev pub target_handles : {S : Type 0} → Meaning S → Settings → Measure → World S → List Call → Phase → Call → World S
-target_handles m settings measure w rest Waiting Greets = greets_by settings (target_takes measure w Greets rest) w.now.state.handshaken
-target_handles m settings measure w rest Open (Asks k c) =
+target_handles m settings measure w rest AwaitingHandshake Greets = greets_by settings (target_takes measure w Greets rest) w.now.state.handshaken
+target_handles m settings measure w rest Established (Asks k c) =
     dies_by (answers (target_takes measure w (Asks k c) rest) k c (effect m settings w.now c)) (effect m settings w.now c).dies
 target_handles m settings measure w rest phase call = target_loses w
 
@@ -189,7 +192,7 @@ answered (Some k) answer = Events.Answered k answer ∷ []
 -- The target's handshake: IDSizes is asked.
 abbrev pub reads_handshake : {S : Type 0} → World S → Packet S → World S
 reads_handshake w p = record w {
-  debugger = Open;
+  debugger = Established;
   to_target = w.to_target ++ Asks None id_sizes ∷ [];
   read = p ∷ w.read;
   pending = w.pending ++ (None, id_sizes) ∷ [];
@@ -211,7 +214,7 @@ reads w (Reply k c x, a) =
 reads w (Report c, a) = reads_composite w (Report c, a) c w.ready
 
 abbrev pub reader : {S : Type 0} → World S → Reader
-reader w = record { greeted = is_open w.debugger; ready = w.ready; parked = messages_of w.parked; pending = w.pending; counts = mirror_count w.read }
+reader w = record { greeted = is_established_phase w.debugger; ready = w.ready; parked = messages_of w.parked; pending = w.pending; counts = mirror_count w.read }
 
 -- a packet that is refused closes the end
 abbrev pub debugger_handles : {S : Type 0} → World S → Packet S → Option Fault → World S × List Outcome
@@ -239,7 +242,7 @@ told w after (Some c) = record w { now = after; to_debugger = w.to_debugger ++ (
 -- where the machine died: VM_DEATH follows in a session, and the end closes
 abbrev pub step_ends : {S : Type 0} → World S → Phase → Bool → World S
 step_ends w phase false = w
-step_ends w Open true = dying w
+step_ends w Established true = dying w
 step_ends w phase true = record w { target = Closed }
 
 abbrev pub stepped : {S : Type 0} → World S → Steps.Step S → World S

@@ -1,9 +1,11 @@
 -- Sessions that are worked out by hand: what happens to the link, and what is told of it and left of it.
 use Rattle.std.specs.Prelude.{◌≡◌, ℕ, pos, negsuc, true, false, List, [], ◌∷◌, ◌++◌, Option, Some, None}
 use Rattle.jdwp_wire.specs.ErrorCodes.{INVALID_THREAD}
+use Rattle.jdwp_wire.specs.Limits.{standard_limits}
 use Rattle.jdwp_layout.specs.declared.answer.Answer.TheVariants.{Data, Error}
 use Rattle.jdwp_layout.specs.CommandNumbers.{CommandNumber, ALL_THREADS, SUSPEND, RESUME, HOLD_EVENTS, RELEASE_EVENTS, RESUME_THREAD, FRAMES, SUSPEND_COUNT, SET_REQUEST, CLEAR_REQUEST}
 use Rattle.jdwp_layout.specs.Meanings.{ScalarMeaning, Byte, Int, Object, Located, DatumMeaning, One, Many}
+use Rattle.jdwp_end.specs.declared.phase.Phase.TheVariants.{Closed, Established}
 use Rattle.jdwp_event.specs.Composites.{CompositeMeaning, vm_start}
 use Rattle.jdwp_event.specs.Modifiers.{Count, LocationOnly}
 use Rattle.jdwp_event.specs.Requests.{Asked, all_asked}
@@ -13,7 +15,7 @@ use Rattle.jdwp_debuggee.specs.Answers.{done, int_answer}
 use Rattle.jdwp_mirror.specs.Messages.{Report}
 use Rattle.jdwp_link.specs.Events
 use Rattle.jdwp_link.specs.Events.{LinkEvent, Outcome}
-use Rattle.jdwp_link.specs.World.{Closed, Open, World, way_to_debugger}
+use Rattle.jdwp_link.specs.World.{World, way_to_debugger}
 use Rattle.jdwp_link.specs.Lasting.{IsLasting}
 use Rattle.jdwp_link.specs.Next.{run, outcomes, messages_of}
 use Rattle.jdwp_link.specs.Seen.{mirror_count, mirror_held, mirror_requests}
@@ -31,10 +33,10 @@ of_thread c t = command c (One (Object t) ∷ [])
 
 -- all bytes that are under way come
 abbrev pub to_target : LinkEvent
-to_target = Events.ToTarget 65536
+to_target = Events.ToTarget standard_limits.packet
 
 abbrev pub to_debugger : LinkEvent
-to_debugger = Events.ToDebugger 65536
+to_debugger = Events.ToDebugger standard_limits.packet
 
 -- a command is asked and handled, and its reply is read
 abbrev pub asked : Command → List LinkEvent
@@ -220,7 +222,7 @@ pub record LosesFirstAsWorked : Type 0 where
   pub is_told : told debugger_lost ≡ begun ∷ Events.Asked 1 ∷ Events.Lost 1 ∷ []
   pub carried_out : target_count (after debugger_lost) 1 ≡ Some 1
   -- a new session waits until the target noticed it, too
-  pub waits : ((after (debugger_lost ++ Events.Attach ∷ [])).target ≡ Open) × ((after (debugger_lost ++ Events.Attach ∷ [])).debugger ≡ Closed)
+  pub waits : ((after (debugger_lost ++ Events.Attach ∷ [])).target ≡ Established) × ((after (debugger_lost ++ Events.Attach ∷ [])).debugger ≡ Closed)
   pub nobody_suspended : target_count (after (debugger_lost ++ Events.TargetLoses ∷ [])) 1 ≡ Some 0
   pub told_afterwards : told (debugger_lost ++ (Events.TargetLoses ∷ [] ++ (greeted ++ asked (of_thread SUSPEND_COUNT 1))))
       ≡ begun ∷ Events.Asked 1 ∷ Events.Lost 1 ∷ Events.Asked 2 ∷ Events.Answered 2 (int_answer 0) ∷ []

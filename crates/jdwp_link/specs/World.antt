@@ -1,6 +1,9 @@
 -- A target and a debugger, and what is under way between them (JDWP specification, "JDWP Handshake" and "JDWP Packets": one session over
 -- one connection). No byte, buffer or width of an id occurs: messages are what they mean, and a measure says how long they are.
-use Rattle.std.specs.Prelude.{ℕ, ◌+◌, ◌-◌, Bool, true, false, List, [], ◌∷◌, Option}
+use Rattle.std.specs.Prelude.{ℕ, ◌+◌, ◌-◌, Bool, not, false, List, [], ◌∷◌, Option}
+use Rattle.jdwp_end.specs.Ends.{is_open_phase}
+use Rattle.jdwp_end.specs.declared.phase.Phase.TheVariants.{Closed}
+use Rattle.jdwp_end.specs.declared.phase.Phase.{Phase}
 use Rattle.jdwp_machine.specs.Meanings.{Meaning}
 use Rattle.jdwp_debuggee.specs.State.{Moment, new_state}
 use Rattle.jdwp_debuggee.specs.Actions.{Command}
@@ -14,21 +17,8 @@ pub record Measure : Type 0 where
   pub message : Message → ℕ
   pub unfit : Command → Option AskRefusal
 
--- An end is closed, waits for the other's handshake, or is open.
-pub data Phase : Type 0 where
-  Closed : Phase
-  Waiting : Phase
-  Open : Phase
-
 abbrev pub is_closed : Phase → Bool
-is_closed Closed = true
-is_closed Waiting = false
-is_closed Open = false
-
-abbrev pub is_open : Phase → Bool
-is_open Open = true
-is_open Closed = false
-is_open Waiting = false
+is_closed phase = not (is_open_phase phase)
 
 -- A message to the debugger, and the debuggee as it was when the target sent it.
 abbrev pub Packet : Type 0 → Type 0
