@@ -1,6 +1,5 @@
 -- Why a run of a plan ends, and what is left then.
-use Rattle.std.proofs.Common.{◌≡◌, ◌≢◌, ◌∙◌, ℕ, ◌<◌, ◌≤◌, ◌+◌, ◌++◌, List, [], ◌∷◌, length, true, false, Err, Some, None, Option, is_some, inl, inr, get_or, take, drop, sym, ap, refl, subst, append_assoc, arith}
-use Rattle.std.specs.Prelude.{⊤}
+use Rattle.std.proofs.Common.{◌≡◌, ◌≢◌, ◌∙◌, ℕ, ◌<◌, ◌≤◌, ◌+◌, ◌++◌, List, [], ◌∷◌, length, true, false, Ok, Err, Some, None, Option, is_some, inl, inr, get_or, take, drop, sym, ap, refl, subst, append_assoc, arith}
 use Rattle.std.proofs.lemmas.Grind.{common_steps}
 use Rattle.std.proofs.lemmas.List.{append-nil}
 use Rattle.jdwp_wire.specs.Handshake.{handshake_bytes}
@@ -13,6 +12,7 @@ use Rattle.jdwp_wire.specs.Widths.{Widths}
 use Rattle.jdwp_debuggee.specs.Actions.{Command}
 use Rattle.jdwp_debugger.specs.declared.asking.Refused as asking
 use Rattle.jdwp_debugger.specs.declared.asking.Refused.TheVariants as refusal
+use Rattle.jdwp_debugger.specs.declared.turning.Read.TheVariants as read
 use Rattle.jdwp_debugger.specs.Asking.{HasAsked, IsRefusal, refusal_of_ask}
 use Rattle.jdwp_debugger.specs.RefusedNumbers.{refused_number}
 use Rattle.jdwp_debugger.specs.Debuggers.{Debugger, attached, has_tickets, lost, with_taken}
@@ -23,9 +23,10 @@ use Rattle.jdwp_engine.specs.Run.{FailsWrite, with_written}
 use Rattle.jdwp_engine.specs.Story.{Story}
 use Rattle.jdwp_plan.specs.declared.plan_line.PlanLine.{PlanLine}
 use Rattle.jdwp_attach.specs.PlanAsks.{AsksInOrder, IsBeginning, Stands, command_asked}
-use Rattle.jdwp_attach.specs.PlanRuns.{EndsFailed, EndsRefused, EndsSo, IsAsk, IsLostFrom, LineEndsSo, MayEnd, ReadsEnd, RefusesCommand, told_number}
-use Rattle.jdwp_attach.specs.Runs.{Finishes, InOrder, IsGoing, LosesAtRead, LosesAtWrite, Prints, PrintsPart, Standing, at}
+use Rattle.jdwp_attach.specs.PlanRuns.{EndsFailed, EndsRefused, EndsSo, IsAsk, LineEndsSo, MayEnd, ReadsEnd, RefusesCommand, told_number}
+use Rattle.jdwp_attach.specs.Runs.{Finishes, InOrder, IsGoing, LosesAtRead, LosesAtWrite, Prints, PrintsPart, Reaches, Standing, at}
 use Rattle.jdwp_attach.proofs.Moves.{asked-moves, begins-all, begins-behind, begins-line, begins-none, line-split, printed-goes, prints-again}
+use Rattle.jdwp_attach.proofs.Reached.{hello-reached, hello-reached-all, reach-all, reach-same, reach-taken, reach-turned}
 use Rattle.jdwp_attach.proofs.Stages.{asks-append, one-asked, puts-same, stands-asked, stands-known, stands-puts}
 use Rattle.jdwp_attach.proofs.Turned.{Moves, fault-refused, memory-same}
 
@@ -89,13 +90,13 @@ printed-same a b p = ap (λ (x : Story). x.failed_writes) p.1
 pub limit-ends : (s o : Story) (d : Debugger) (left : ℕ) → left ≡ 0 → EndsSo (at s o d left) (at s o d left) TurnLimit
 limit-ends s o d left none plan done base begins k = (
   going-in-order plan done base s o d left d begins k (same-by d d refl),
-  (k.ready.0, k.kept, (k.failed_writes, printed-same base.out o k.printed), omega (arith, k.turns, none)),
+  (k.reached, k.ready.0, k.kept, (k.failed_writes, printed-same base.out o k.printed), omega (arith, k.turns, none)),
 )
 
 -- want of memory
 pub stays-memory : (plan done : List PlanLine) (base : Standing) (s o : Story) (d : Debugger) (left : ℕ) → IsBeginning done plan → IsGoing done base (at s o d left)
     → InOrder plan base s o d × MayEnd plan NoMemory base s o d
-stays-memory plan done base s o d left begins k = (going-in-order plan done base s o d left d begins k (same-by d d refl), (k.kept, (k.failed_writes, printed-same base.out o k.printed)))
+stays-memory plan done base s o d left begins k = (going-in-order plan done base s o d left d begins k (same-by d d refl), (k.reached, k.kept, (k.failed_writes, printed-same base.out o k.printed)))
 
 -- ---- turns that failed
 
@@ -110,7 +111,7 @@ turn-refused-ends s o old mid new left left' number fault some turned is number-
     let kept : mid.end.session.lost ≡ false = rw same k.kept in
     rw is (
       going-in-order plan done base s o old left (lost mid) begins k (record { fed = rw same refl; enqueued = rw same refl; taken = rw same refl; tickets = rw same refl }),
-      (mid, inl (old, fault, turned, some, number-is), kept, refl),
+      (mid, reach-turned base.debugger old mid (Err fault) k.reached turned, inl (old, fault, k.reached, turned, some, number-is), kept, refl),
     )
 
 pub turn-ends : (s o : Story) (old mid new : Debugger) (left left' : ℕ) (fault : DebuggerFault) (ended : Ended) → TurnsAt (front_of old.end) old (Err fault) mid → EndsFailed fault mid new ended
@@ -134,6 +135,7 @@ asked-refused done rest line base s o d new left set number refused bytes w k as
       going-in-order (done ++ line ∷ rest) done base s o d left (lost d) (begins-line done rest line) k (same-lost d),
       (
         d,
+        k.reached,
         inr (record {
           done = done;
           line = line;
@@ -196,12 +198,13 @@ asked-in-order done rest line base s o old mid left set number bytes w command a
 
 -- ---- a read that failed
 
-pub read-ends : (s s' o : Story) (old mid new : Debugger) (left left' : ℕ) → front_of old.end ≡ More → mid ≡ record old { last = [] } → LosesAtRead mid new s s' → EndsSo (at s o old left) (at s' o new left') LostByRead
-read-ends s s' o old mid new left left' front same (is, f) plan done base begins k =
+pub read-ends : (s s' o : Story) (old mid new : Debugger) (left left' : ℕ) → TurnsAt (front_of old.end) old (Ok read.Nothing) mid → front_of old.end ≡ More → mid ≡ record old { last = [] } → LosesAtRead mid new s s' → EndsSo (at s o old left) (at s' o new left') LostByRead
+read-ends s s' o old mid new left left' turned front same (is, f) plan done base begins k =
+    let reached : Reaches base.debugger (record old { last = [] }) = reach-same base.debugger old mid k.reached turned same in
     rw (is, same) (
       stays-in-order plan done base s o old left s' o (lost (record old { last = [] })) begins k f.read f.written f.failed_writes
           ([], ap (λ (x : List ℕ). record o { written = x }) (sym (append-nil o.written))) (record { fed = refl; enqueued = refl; taken = refl; tickets = refl }),
-      (omega (arith, f.fails, k.failed_reads, k.ends), (record old { last = [] }, front, k.kept, refl)),
+      (omega (arith, f.fails, k.failed_reads, k.ends), (record old { last = [] }, reached, (k.ready.0, front), k.kept, refl)),
     )
 
 -- ---- what ends behind what was put
@@ -279,44 +282,44 @@ prints-none o = ([], ap (λ (x : List ℕ). record o { written = x }) (sym (appe
 
 -- a write failed
 pub loses-ends : (plan done : List PlanLine) (base : Standing) (s o : Story) (old mid : Debugger) (left l1 l2 turns tickets : ℕ) (s' o' : Story) (new : Debugger)
-    → IsGoing done base (at s o old left) → Moves old mid turns tickets → AsksInOrder plan base.debugger mid → LosesAtWrite (at s o mid l1) (at s' o' new l2)
+    → IsGoing done base (at s o old left) → Moves old mid turns tickets → Reaches base.debugger mid → AsksInOrder plan base.debugger mid → LosesAtWrite (at s o mid l1) (at s' o' new l2)
     → InOrder plan base s' o' new × MayEnd plan LostByWrite base s' o' new
-loses-ends plan done base s o old mid left l1 l2 turns tickets s' o' new k p asked f =
-    let lost-it : IsLostFrom (λ before. ⊤) new = (with_taken f.taken mid, tt, p.kept ∙ k.kept, f.is) in
+loses-ends plan done base s o old mid left l1 l2 turns tickets s' o' new k p r asked f =
     elim f.fails [
       | inl (front, w, same) ↦ (
         part-in-order plan done base s o old mid left turns tickets s' o' new f.taken k p asked front w (rw same (grows-prints base.out o o k.printed (prints-none o)))
             (lost-behind f.taken mid new f.is),
-        (inl (omega (arith, w.failed_writes, k.failed_writes)), lost-it),
+        (inl (omega (arith, w.failed_writes, k.failed_writes)), (with_taken f.taken mid, reach-taken base.debugger mid f.taken r front, tt, p.kept ∙ k.kept, f.is)),
       )
       | inr (all, w, part) ↦ (
         written-in-order plan done base s o old mid left turns tickets s' o' new k p asked w (grows-part base.out o o' k.printed part) (lost-behind mid.end.outgoing mid new (rw all at f.is)),
-        (inr (omega (arith, part.1.failed_writes, printed-same base.out o k.printed)), lost-it),
+        (inr (omega (arith, part.1.failed_writes, printed-same base.out o k.printed)), (with_taken f.taken mid, reach-all base.debugger mid f.taken all r, tt, p.kept ∙ k.kept, f.is)),
       )
     ]
 
 pub moved-ends : (plan done : List PlanLine) (base : Standing) (s o : Story) (old mid : Debugger) (left l1 l2 turns tickets : ℕ) (s' o' : Story) (new : Debugger) (ended : Ended)
-    → IsGoing done base (at s o old left) → Moves old mid turns tickets → AsksInOrder plan base.debugger mid → (is_open mid.end ≡ false → ReadsEnd (with_taken mid.end.outgoing mid))
+    → IsGoing done base (at s o old left) → Moves old mid turns tickets → Reaches base.debugger mid → AsksInOrder plan base.debugger mid → (is_open mid.end ≡ false → ReadsEnd base.debugger (with_taken mid.end.outgoing mid))
     → Finishes ended (at s o mid l1) (at s' o' new l2) → InOrder plan base s' o' new × MayEnd plan ended base s' o' new
-moved-ends plan done base s o old mid left l1 l2 turns tickets s' o' new Done k p asked why c = (
+moved-ends plan done base s o old mid left l1 l2 turns tickets s' o' new Done k p r asked why c = (
   written-in-order plan done base s o old mid left turns tickets s' o' new k p asked c.pipe (grows-prints base.out o o' k.printed c.out) (lost-behind mid.end.outgoing mid new c.debugger),
   (
-    (with_taken mid.end.outgoing mid, inl (why c.closed), p.kept ∙ k.kept, c.debugger),
+    (with_taken mid.end.outgoing mid, reach-all base.debugger mid mid.end.outgoing refl r, inl (why c.closed), p.kept ∙ k.kept, c.debugger),
     (ap (λ (x : Story). x.failed_writes) c.pipe ∙ k.failed_writes, printed-same o o' c.out ∙ printed-same base.out o k.printed),
   ),
 )
-moved-ends plan done base s o old mid left l1 l2 turns tickets s' o' new NoMemory k p asked why t = (
+moved-ends plan done base s o old mid left l1 l2 turns tickets s' o' new NoMemory k p r asked why t = (
   written-in-order plan done base s o old mid left turns tickets s' o' new k p asked t.pipe (grows-prints base.out o o' k.printed t.out) (same-by (with_taken mid.end.outgoing mid) new t.debugger),
   (
+    subst (λ (x : Debugger). Reaches base.debugger x) (sym t.debugger) (reach-all base.debugger mid mid.end.outgoing refl r),
     ap (λ (x : Debugger). x.end.session.lost) t.debugger ∙ p.kept ∙ k.kept,
     (ap (λ (x : Story). x.failed_writes) t.pipe ∙ k.failed_writes, printed-same o o' t.out ∙ printed-same base.out o k.printed),
   ),
 )
-moved-ends plan done base s o old mid left l1 l2 turns tickets s' o' new LostByWrite k p asked why f =
-    loses-ends plan done base s o old mid left l1 l2 turns tickets s' o' new k p asked f
-moved-ends plan done base s o old mid left l1 l2 turns tickets s' o' new LostByRead k p asked why f = absurd f
-moved-ends plan done base s o old mid left l1 l2 turns tickets s' o' new (Refused number) k p asked why f = absurd f
-moved-ends plan done base s o old mid left l1 l2 turns tickets s' o' new TurnLimit k p asked why f = absurd f
+moved-ends plan done base s o old mid left l1 l2 turns tickets s' o' new LostByWrite k p r asked why f =
+    loses-ends plan done base s o old mid left l1 l2 turns tickets s' o' new k p r asked f
+moved-ends plan done base s o old mid left l1 l2 turns tickets s' o' new LostByRead k p r asked why f = absurd f
+moved-ends plan done base s o old mid left l1 l2 turns tickets s' o' new (Refused number) k p r asked why f = absurd f
+moved-ends plan done base s o old mid left l1 l2 turns tickets s' o' new TurnLimit k p r asked why f = absurd f
 
 -- lines were printed, and then memory was wanting, or a write of them failed
 pub printed-memory : (s o o' : Story) (d new : Debugger) (left : ℕ) → Prints o o' → new ≡ d → EndsSo (at s o d left) (at s o' new left) NoMemory
@@ -337,7 +340,7 @@ printed-part s o o' d new left part is plan done base begins k =
         unread = grows.unread;
         failed_prints = grows.failed;
       },
-      (inr (omega (arith, part.1.failed_writes, printed-same base.out o k.printed)), (d, tt, k.kept, refl)),
+      (inr (omega (arith, part.1.failed_writes, printed-same base.out o k.printed)), (d, k.reached, tt, k.kept, refl)),
     )
 
 -- ---- lines one after the other
@@ -358,7 +361,7 @@ finished-ends plan base s o d new left k known answered is =
     rw is (
       going-in-order plan plan base s o d left (lost d) (begins-all plan) k (same-lost d),
       (
-        (d, inr (k.asked, answered, (knows.0, knows.1, knows.2)), k.kept, refl),
+        (d, k.reached, inr (k.asked, answered, (knows.0, knows.1, knows.2)), k.kept, refl),
         (k.failed_writes, printed-same base.out o k.printed),
       ),
     )
@@ -392,6 +395,7 @@ hello-goes s o d new left s' begun is written =
     rw (is, written) (record {
       ready = (ap (λ (x : Debugger). is_open x.end) begun, grind (arith, common_steps));
       kept = ap (λ (x : Debugger). x.end.session.lost) begun;
+      reached = hello-reached-all d;
       asked = omega arith;
       stands = hello-stands d begun;
       read = grind (arith, common_steps, fed);
@@ -430,5 +434,5 @@ hello-ends plan s o d new left s' taken begun front f is =
         unread = refl;
         failed_prints = omega arith;
       },
-      (inl f.failed_writes, (with_taken taken d, tt, kept, refl)),
+      (inl f.failed_writes, (with_taken taken d, hello-reached d taken front, tt, kept, refl)),
     )

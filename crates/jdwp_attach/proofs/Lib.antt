@@ -1,4 +1,5 @@
 pub mod Ending
 pub mod Moves
+pub mod Reached
 pub mod Stages
 pub mod Turned

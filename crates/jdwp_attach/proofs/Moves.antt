@@ -1,5 +1,5 @@
 -- How a run of a plan goes on from one call to the next.
-use Rattle.std.proofs.Common.{◌≡◌, ◌∙◌, ℕ, ◌<◌, ◌≤◌, ◌+◌, ◌++◌, List, [], ◌∷◌, length, Bool, true, false, Result, Ok, Err, OnOk, IfErr, Option, Some, None, is_some, ◌||◌, get_or, take, drop, min, sym, ap, refl, append_assoc, arith}
+use Rattle.std.proofs.Common.{◌≡◌, ◌∙◌, ℕ, ◌<◌, ◌≤◌, ◌+◌, ◌++◌, List, [], ◌∷◌, length, Bool, true, false, Result, Ok, Err, OnOk, IfErr, Option, Some, None, is_some, ◌||◌, get_or, take, drop, min, sym, ap, refl, subst, append_assoc, arith}
 use Rattle.std.proofs.lemmas.Grind.{common_steps}
 use Rattle.std.proofs.lemmas.List.{append-nil, drop-drop, drop_more, length-append, length-take, take-append-drop, take_all, take_at, take_more}
 use Rattle.jdwp_end.specs.Ends.{is_open}
@@ -8,13 +8,14 @@ use Rattle.std.specs.Borrow.{Bor}
 use Rattle.jdwp_debuggee.specs.Actions.{Command}
 use Rattle.jdwp_debugger.specs.declared.pending.Asked.{Asked}
 use Rattle.jdwp_debugger.specs.declared.pending.Ticket.{Ticket}
-use Rattle.jdwp_debugger.specs.Debuggers.{Debugger, Unanswered, and_then, at_place, has_tickets, seen_unanswered, unanswered, with_taken}
+use Rattle.jdwp_debugger.specs.Debuggers.{Debugger, Unanswered, and_then, at_place, has_tickets, seen_unanswered, unanswered, with_fed, with_taken}
 use Rattle.jdwp_engine.specs.Run.{with_written}
 use Rattle.jdwp_engine.specs.Story.{Story}
 use Rattle.jdwp_plan.specs.declared.plan_line.PlanLine.{PlanLine}
 use Rattle.jdwp_attach.specs.PlanAsks.{IsBeginning, Stands, asks, asks_of}
 use Rattle.jdwp_attach.specs.PlanRuns.{LineGoesOn}
-use Rattle.jdwp_attach.specs.Runs.{IsGoing, IsReady, Prints, ReadsMore, Standing, at}
+use Rattle.jdwp_attach.specs.Runs.{IsGoing, IsReady, Prints, Reaches, ReadsMore, Standing, at}
+use Rattle.jdwp_attach.proofs.Reached.{reach-all, reach-fed}
 use Rattle.jdwp_attach.proofs.Stages.{asks-append, stands-line}
 use Rattle.jdwp_attach.proofs.Turned.{Moves}
 
@@ -72,13 +73,14 @@ front-taken out buffer out' count counts e =
 
 -- all that was put was written, and what was read was told
 pub moved-goes : (done done' : List PlanLine) (base : Standing) (s o : Story) (old mid : Debugger) (left left' turns tickets : ℕ) (s' o' : Story) (new : Debugger)
-    → IsGoing done base (at s o old left) → Moves old mid turns tickets → Stands done' base.debugger mid → is_open mid.end ≡ true → asks done' ≡ asks done + tickets → left' + turns ≡ left
+    → IsGoing done base (at s o old left) → Moves old mid turns tickets → Reaches base.debugger mid → Stands done' base.debugger mid → is_open mid.end ≡ true → asks done' ≡ asks done + tickets → left' + turns ≡ left
     → new ≡ with_taken mid.end.outgoing mid → s' ≡ with_written mid.end.outgoing s → Prints o o'
     → IsGoing done' base (at s' o' new left')
-moved-goes done done' base s o old mid left left' turns tickets s' o' new k p stands opened counts spent is written printed =
+moved-goes done done' base s o old mid left left' turns tickets s' o' new k p r stands opened counts spent is written printed =
     rw (is, written) (record {
       ready = (opened, grind (arith, common_steps));
       kept = p.kept ∙ k.kept;
+      reached = reach-all base.debugger mid mid.end.outgoing refl r;
       asked = omega (arith, p.tickets_are, k.asked, counts);
       stands = stands;
       read = grind (arith, common_steps, k.read, p.fed);
@@ -93,11 +95,15 @@ moved-goes done done' base s o old mid left left' turns tickets s' o' new k p st
 
 -- bytes were read and fed, behind a turn that handled nothing
 pub read-goes : (done : List PlanLine) (base : Standing) (s o : Story) (old mid new : Debugger) (left left' : ℕ) (s' : Story)
-    → IsGoing done base (at s o old left) → mid ≡ record old { last = [] } → ReadsMore mid new s s' → left' + 1 ≡ left → IsGoing done base (at s' o new left')
-read-goes done base s o old mid new left left' s' k same (more, fed, read) spent =
+    → IsGoing done base (at s o old left) → Reaches base.debugger mid → mid ≡ record old { last = [] } → ReadsMore mid new s s' → left' + 1 ≡ left → IsGoing done base (at s' o new left')
+read-goes done base s o old mid new left left' s' k r same (more, fed, read, fits) spent =
+    let reached : Reaches base.debugger (with_fed more (record old { last = [] })) =
+    subst (λ (x : Debugger). Reaches base.debugger (with_fed more x)) same (reach-fed base.debugger mid more r fits)
+    in
     rw (fed, read, same) (record {
       ready = k.ready;
       kept = k.kept;
+      reached = reached;
       asked = k.asked;
       stands = k.stands;
       read = grind (arith, common_steps, k.read, append_assoc);
@@ -115,6 +121,7 @@ pub printed-goes : (done : List PlanLine) (base : Standing) (s o o' : Story) (d 
 printed-goes done base s o o' d left k printed = record {
   ready = k.ready;
   kept = k.kept;
+  reached = k.reached;
   asked = k.asked;
   stands = k.stands;
   read = k.read;
@@ -148,6 +155,7 @@ pub line-goes : (done : List PlanLine) (line : PlanLine) (base now : Standing) �
 line-goes done line base now none known k = record {
   ready = k.ready;
   kept = k.kept;
+  reached = k.reached;
   asked = omega (arith, k.asked, none, asks-append done line);
   stands = stands-line done line base.debugger now.debugger none known k.stands;
   read = k.read;

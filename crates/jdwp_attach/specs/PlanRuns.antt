@@ -26,13 +26,13 @@ use Rattle.jdwp_engine.specs.Story.{Story}
 use Rattle.jdwp_plan.specs.declared.plan_line.PlanLine.{PlanLine}
 use Rattle.jdwp_plan.specs.declared.plan_line.PlanLine.TheVariants as line
 use Rattle.jdwp_attach.specs.PlanAsks.{HasPut, IsBeginning, asks, command_asked}
-use Rattle.jdwp_attach.specs.Runs.{Standing, InOrder, IsGoing}
+use Rattle.jdwp_attach.specs.Runs.{Standing, InOrder, IsGoing, Reaches}
 
 -- ---- why a run ends
 
--- the debugger is as after a loss, and before it this held
-abbrev pub IsLostFrom : (Debugger → Type 0) → Debugger → Type 0
-IsLostFrom P d = (before : Debugger) × P before × (before.end.session.lost ≡ false) × (d ≡ lost before)
+-- the debugger is as after a loss of one that calls lead to from how it stood at first, that was not lost, and of which this held
+abbrev pub IsLostFrom : Debugger → (Debugger → Type 0) → Debugger → Type 0
+IsLostFrom base P d = (before : Debugger) × Reaches base before × P before × (before.end.session.lost ≡ false) × (d ≡ lost before)
 
 -- this answers the command at a place, which was asked under the ticket, and ends the session
 pub record AnswersEnd (d : Debugger) (ticket : ℕ) (answer : Answer) : Type 0 where
@@ -51,10 +51,10 @@ TellsEnd d Nothing = ⊥
 TellsEnd d Hello = ⊥
 TellsEnd d Parked = ⊥
 
--- The last turn read what ends the session, and what waited to leave left.
-abbrev pub ReadsEnd : Debugger → Type 0
-ReadsEnd d =
-    (old : Debugger) × (read : Read) × (new : Debugger) × TurnsAt (front_of old.end) old (Ok read) new × TellsEnd old (told read) × (d ≡ with_taken new.end.outgoing new)
+-- The last turn, of a debugger that calls lead to, read what ends the session, and what waited to leave left.
+abbrev pub ReadsEnd : Debugger → Debugger → Type 0
+ReadsEnd base d =
+    (old : Debugger) × (read : Read) × (new : Debugger) × Reaches base old × TurnsAt (front_of old.end) old (Ok read) new × TellsEnd old (told read) × (d ≡ with_taken new.end.outgoing new)
 
 -- Every command of the plan was asked, in ids so wide as the debugger knows them, and answered.
 abbrev pub IsFinished : List PlanLine → Debugger → Debugger → Type 0
@@ -65,10 +65,10 @@ abbrev pub told_number : DebuggerFault → ℕ
 told_number (code.Frame fault) = frame.fault_number fault
 told_number fault = fault_number fault
 
--- A turn refused what the target sent.
-abbrev pub RefusesTurn : ℕ → Debugger → Type 0
-RefusesTurn number d =
-    (old : Debugger) × (fault : DebuggerFault) × TurnsAt (front_of old.end) old (Err fault) d × (fault ≢ code.NoMemory) × (number ≡ told_number fault)
+-- The last turn, of a debugger that calls lead to, refused what the target sent.
+abbrev pub RefusesTurn : Debugger → ℕ → Debugger → Type 0
+RefusesTurn base number d =
+    (old : Debugger) × (fault : DebuggerFault) × Reaches base old × TurnsAt (front_of old.end) old (Err fault) d × (fault ≢ code.NoMemory) × (number ≡ told_number fault)
 
 -- the debugger refuses a command by a refusal of this number, or there is none since the bytes do not read
 abbrev pub RefusesCommand : Debugger → ℕ → Option Command → Type 0
@@ -102,16 +102,17 @@ pub record RefusesLine (plan : List PlanLine) (base : Debugger) (number : ℕ) (
 abbrev pub IsWritten : Standing → Story → Story → Type 0
 IsWritten base pipe out = (pipe.failed_writes ≡ base.pipe.failed_writes) × (out.failed_writes ≡ base.out.failed_writes)
 
--- Why a run of a plan may end so, what went through the pipes then, and what the debugger is: but for want of memory and the limit of turns
--- it is as after a loss.
+-- Why a run of a plan may end so, what went through the pipes then, and what the debugger is: for want of memory and at the limit of turns
+-- one that calls lead to from how it stood as the session began, and else as after a loss of such a one.
 abbrev pub MayEnd : List PlanLine → Ended → Standing → Story → Story → Debugger → Type 0
-MayEnd plan Done base pipe out d = IsLostFrom (λ before. ReadsEnd before ⊎ IsFinished plan base.debugger before) d × IsWritten base pipe out
-MayEnd plan LostByRead base pipe out d = (base.pipe.failed_reads + base.pipe.ends < pipe.failed_reads + pipe.ends) × IsLostFrom (λ before. front_of before.end ≡ More) d
-MayEnd plan LostByWrite base pipe out d = ((base.pipe.failed_writes < pipe.failed_writes) ⊎ (base.out.failed_writes < out.failed_writes)) × IsLostFrom (λ before. ⊤) d
-MayEnd plan (Refused number) base pipe out d = IsLostFrom (λ before. RefusesTurn number before ⊎ RefusesLine plan base.debugger number before) d
-MayEnd plan NoMemory base pipe out d = (d.end.session.lost ≡ false) × IsWritten base pipe out
+MayEnd plan Done base pipe out d = IsLostFrom base.debugger (λ before. ReadsEnd base.debugger before ⊎ IsFinished plan base.debugger before) d × IsWritten base pipe out
+MayEnd plan LostByRead base pipe out d =
+    (base.pipe.failed_reads + base.pipe.ends < pipe.failed_reads + pipe.ends) × IsLostFrom base.debugger (λ before. (is_open before.end ≡ true) × (front_of before.end ≡ More)) d
+MayEnd plan LostByWrite base pipe out d = ((base.pipe.failed_writes < pipe.failed_writes) ⊎ (base.out.failed_writes < out.failed_writes)) × IsLostFrom base.debugger (λ before. ⊤) d
+MayEnd plan (Refused number) base pipe out d = IsLostFrom base.debugger (λ before. RefusesTurn base.debugger number before ⊎ RefusesLine plan base.debugger number before) d
+MayEnd plan NoMemory base pipe out d = Reaches base.debugger d × (d.end.session.lost ≡ false) × IsWritten base pipe out
 MayEnd plan TurnLimit base pipe out d =
-    (is_open d.end ≡ true) × (d.end.session.lost ≡ false) × IsWritten base pipe out × (d.end.session.turns + pipe.rooms ≡ base.pipe.rooms + base.left)
+    Reaches base.debugger d × (is_open d.end ≡ true) × (d.end.session.lost ≡ false) × IsWritten base pipe out × (d.end.session.turns + pipe.rooms ≡ base.pipe.rooms + base.left)
 
 -- A call that ends so, in every run of a plan that came to it.
 abbrev pub EndsSo : Standing → Standing → Ended → Type 0

@@ -1,8 +1,13 @@
 -- What an engine that runs a debugger did on its pipes.
-use Rattle.std.specs.Prelude.{◌≡◌, ◌⊎◌, ℕ, ◌<◌, ◌≤◌, ◌+◌, true, false, List, [], ◌++◌}
-use Rattle.jdwp_end.specs.Ends.{is_open}
+use Rattle.std.specs.Prelude.{◌≡◌, ◌⊎◌, ℕ, ◌<◌, ◌≤◌, ◌+◌, true, false, List, [], ◌++◌, length, Result}
+use Rattle.jdwp_end.specs.Ends.{front_of, is_open, room_of}
 use Rattle.jdwp_end.specs.Runs.{IsFront}
+use Rattle.jdwp_debuggee.specs.Actions.{Command}
+use Rattle.jdwp_debugger.specs.declared.faults.DebuggerFault.{DebuggerFault}
+use Rattle.jdwp_debugger.specs.declared.turning.Read.{Read}
+use Rattle.jdwp_debugger.specs.Asking.{HasAsked}
 use Rattle.jdwp_debugger.specs.Debuggers.{Debugger, lost, with_fed, with_taken}
+use Rattle.jdwp_debugger.specs.DebuggerTurns.{TurnsAt}
 use Rattle.jdwp_engine.specs.declared.ended.Ended.{Ended}
 use Rattle.jdwp_engine.specs.declared.ended.Ended.TheVariants as ended
 use Rattle.jdwp_engine.specs.Run.{FailsRead, FailsWrite, with_read, with_written}
@@ -38,6 +43,15 @@ pub record Standing : Type 0 where
 abbrev pub at : Story → Story → Debugger → ℕ → Standing
 at pipe out debugger left = record { pipe = pipe; out = out; debugger = debugger; left = left }
 
+-- The debuggers that calls lead to from one, in any order: turns, whatever they answer; commands asked, where the session is open; bytes
+-- fed, for which there is room; and bytes taken, of those that wait to leave.
+pub data Reaches (base : Debugger) : Debugger → Type 0 where
+  Begins : Reaches base base
+  Turns : (old new : Debugger) (result : Result Read DebuggerFault) → Reaches base old → TurnsAt (front_of old.end) old result new → Reaches base new
+  Asks : (old new : Debugger) (command : Command) → Reaches base old → is_open old.end ≡ true → HasAsked command old new → Reaches base new
+  Feeds : (old : Debugger) (bytes : List ℕ) → Reaches base old → length bytes ≤ room_of old.end → Reaches base (with_fed bytes old)
+  Takes : (old : Debugger) (bytes : List ℕ) → Reaches base old → IsFront bytes old.end.outgoing → Reaches base (with_taken bytes old)
+
 -- the session is open, and nothing waits to leave
 abbrev pub IsReady : Debugger → Type 0
 IsReady d = (is_open d.end ≡ true) × (d.end.outgoing ≡ [])
@@ -55,11 +69,12 @@ pub record InOrder (plan : List PlanLine) (base : Standing) (pipe out : Story) (
   pub unread : out.read ≡ base.out.read
   pub failed_prints : base.out.failed_writes ≤ out.failed_writes
 
--- The same between two calls, where nothing failed, nothing waits, the session is open and was not lost, the commands of these lines of
--- the plan were asked, and each turn that was made handled a message, or a read with room followed it.
+-- The same between two calls, where nothing failed, nothing waits, the session is open and was not lost, calls led to the debugger, the
+-- commands of these lines of the plan were asked, and each turn that was made handled a message, or a read with room followed it.
 pub record IsGoing (done : List PlanLine) (base now : Standing) : Type 0 where
   pub ready : IsReady now.debugger
   pub kept : now.debugger.end.session.lost ≡ false
+  pub reached : Reaches base.debugger now.debugger
   pub asked : now.debugger.tickets ≡ base.debugger.tickets + asks done
   pub stands : Stands done base.debugger now.debugger
   pub read : now.pipe.read ≡ base.pipe.read ++ now.debugger.end.session.fed
@@ -77,9 +92,9 @@ pub record IsGoing (done : List PlanLine) (base now : Standing) : Type 0 where
 abbrev pub GoesOn : Standing → Standing → Type 0
 GoesOn old new = (done : List PlanLine) (base : Standing) → IsGoing done base old → IsGoing done base new
 
--- bytes were read and fed
+-- bytes were read and fed, for which there was room
 abbrev pub ReadsMore : Debugger → Debugger → Story → Story → Type 0
-ReadsMore old new before after = (more : List ℕ) × (new ≡ with_fed more old) × (after ≡ with_read more before)
+ReadsMore old new before after = (more : List ℕ) × (new ≡ with_fed more old) × (after ≡ with_read more before) × (length more ≤ room_of old.end)
 
 -- a read failed, or gave 0 with room, and the debugger lost the connection
 abbrev pub LosesAtRead : Debugger → Debugger → Story → Story → Type 0

@@ -26,7 +26,8 @@ use std::alloc::Global;
 /// fed. What waits to leave is written after each turn, and what it read is printed to `out` in the lines of `show`: the composites that
 /// waited for the widths of ids at the turn in which they are read. The run is done where the plan is finished, and at the turn that reads
 /// an answer without an error to Dispose or the death of the machine, whatever lines are left. Where the input ends, or a read or a write
-/// fails, those to `out` among them, the debugger loses the connection; the pipe and `out` are flushed at the end, whatever the end is.
+/// fails, those to `out` among them, the debugger loses the connection; the pipe and `out` are flushed at the end of the session, whatever
+/// ends it.
 pub fn attach<P: Pipe, W: Pipe>(
     alloc: Global,
     debugger: &mut Debugger,

@@ -4,6 +4,7 @@ use Rattle.jdwp_debugger.specs.Debuggers.{Debugger, lost}
 use Rattle.jdwp_engine.specs.declared.ended.Ended.TheVariants as ended
 use Rattle.jdwp_attach.proofs.Ending.{asked-in-order, loses-ends, moved-ends, refused-ends, unread-ends}
 use Rattle.jdwp_attach.proofs.Moves.{asked-moves, asked-open, moved-goes, prints-none}
+use Rattle.jdwp_attach.proofs.Reached.{reach-asked}
 use Rattle.jdwp_attach.proofs.Stages.{asks-append, one-asked, stands-asked}
 use Rattle.jdwp_attach.proofs.asking.ask_line.Goals as goal
 
@@ -27,7 +28,8 @@ returns-then-not-write_out-clause-ends g c = λ out line asks-it done rest base 
     let fails = c.if-not-write_out.ensures.fails refl in
     let in-order = asked-in-order done rest line base s out old mid c.args.run.now.left c.args.set c.args.number c.args.bytes.now c.in-Some.sizes c.in-Ok.command asks-it
     (sym c.sizes.ensures ∙ c.in-Some.is) c.in-Ok.ensures.ok asked k in
-    loses-ends (done ++ line ∷ rest) done base s out old mid c.args.run.now.left c.args.run.now.left c.args.run.now.left 0 1 s' out c.lose.new.self k (asked-moves c.in-Ok.command old mid asked) in-order
+    loses-ends (done ++ line ∷ rest) done base s out old mid c.args.run.now.left c.args.run.now.left c.args.run.now.left 0 1 s' out c.lose.new.self k (asked-moves c.in-Ok.command old mid asked)
+    (reach-asked base.debugger old mid c.in-Ok.command k.reached k.ready.0 asked) in-order
     (record {
       taken = fails.0;
       is = c.lose.ensures.lost ∙ ap (λ (x : Debugger). lost x) fails.1;
@@ -45,7 +47,8 @@ returns-in-Ok-push-clause-goes g c = λ out line asks-it done base k.
     let one = one-asked line c.args.set c.args.number c.args.bytes.now asks-it in
     let stands = stands-asked done line base.debugger old mid c.args.set c.args.number c.args.bytes.now c.in-Some.sizes c.in-Ok.command asks-it
     (sym c.sizes.ensures ∙ c.in-Some.is) c.in-Ok.ensures.ok asked k.stands in
-    moved-goes done (done ++ line ∷ []) base s out old mid c.args.run.now.left c.args.run.now.left 0 1 (g.P.Pipe.story c.write_out.new.pipe) out c.write_out.new.debugger k (asked-moves c.in-Ok.command old mid asked) stands
+    moved-goes done (done ++ line ∷ []) base s out old mid c.args.run.now.left c.args.run.now.left 0 1 (g.P.Pipe.story c.write_out.new.pipe) out c.write_out.new.debugger k (asked-moves c.in-Ok.command old mid asked)
+    (reach-asked base.debugger old mid c.in-Ok.command k.reached k.ready.0 asked) stands
     (asked-open c.in-Ok.command old mid asked c.requires.ready.0) (omega (arith, asks-append done line, one)) (omega arith) w.0 w.1 (prints-none out)
 
 pub returns-in-Err-push-clause-ends : goal.returns-in-Err-push-clause-ends
@@ -59,7 +62,7 @@ returns-in-Err-push-clause-ends g c = λ out line asks-it done rest base k.
     let in-order = asked-in-order done rest line base s out old mid c.args.run.now.left c.args.set c.args.number c.args.bytes.now c.in-Some.sizes c.in-Ok.command asks-it
     (sym c.sizes.ensures ∙ c.in-Some.is) c.in-Ok.ensures.ok asked k in
     moved-ends (done ++ line ∷ rest) done base s out old mid c.args.run.now.left c.args.run.now.left c.args.run.now.left 0 1 (g.P.Pipe.story c.write_out.new.pipe) out c.write_out.new.debugger ended.NoMemory k
-    (asked-moves c.in-Ok.command old mid asked) in-order (λ closed. absurd (let e = sym opened ∙ closed in cc)) (record { debugger = w.0; pipe = w.1; out = prints-none out; left = refl })
+    (asked-moves c.in-Ok.command old mid asked) (reach-asked base.debugger old mid c.in-Ok.command k.reached k.ready.0 asked) in-order (λ closed. absurd (let e = sym opened ∙ closed in cc)) (record { debugger = w.0; pipe = w.1; out = prints-none out; left = refl })
 
 pub returns-in-Ok-push-clause-ready : goal.returns-in-Ok-push-clause-ready
 returns-in-Ok-push-clause-ready g c =

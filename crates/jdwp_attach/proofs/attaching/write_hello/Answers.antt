@@ -1,6 +1,15 @@
-use Rattle.std.proofs.lemmas.Grind.{common_steps}
-use Rattle.std.proofs.Common.{arith}
+use Rattle.std.proofs.Common.{◌∙◌, ap, refl}
+use Rattle.jdwp_debugger.specs.Debuggers.{Debugger, lost}
+use Rattle.jdwp_attach.proofs.Ending.{hello-ends, hello-goes}
 use Rattle.jdwp_attach.proofs.attaching.write_hello.Goals as goal
 
-pub returns-then-not-write_out : goal.returns-then-not-write_out
-returns-then-not-write_out c = grind (arith, common_steps)
+pub returns-then-not-write_out-clause-ends : goal.returns-then-not-write_out-clause-ends
+returns-then-not-write_out-clause-ends g c = λ plan out left.
+    let fails = c.if-not-write_out.ensures.fails refl in
+    hello-ends plan (g.P.Pipe.story c.args.pipe.now) out c.args.debugger.now c.lose.new.self left (g.P.Pipe.story c.write_out.new.pipe) fails.0 c.requires fails.2 fails.3
+    (c.lose.ensures.lost ∙ ap (λ (x : Debugger). lost x) fails.1)
+
+pub returns-clause-goes : goal.returns-clause-goes
+returns-clause-goes g c = λ out left.
+    let w = c.if-not-write_out.ensures.all refl in
+    hello-goes (g.P.Pipe.story c.args.pipe.now) out c.args.debugger.now c.write_out.new.debugger left (g.P.Pipe.story c.write_out.new.pipe) c.requires w.0 w.1
