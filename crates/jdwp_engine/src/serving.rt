@@ -24,7 +24,7 @@ const CHUNK: usize = 4096;
 /// It begins with `accept`; a target that is already open is `Refused(0)`, and one whose machine is dead is `Done` at once, with nothing
 /// touched. A round is one turn; if that handled nothing, one step of each live thread by rising id; and if none of them stepped, one
 /// read of at most 4,096 bytes and of what the target has room for, which are fed. What waits to leave is written after each round, and
-/// the pipe is flushed at the end, whatever the end is. The session is done after Dispose, and where the machine died. Where the input
+/// the pipe is flushed at the end of the session, whatever ends it. The session is done after Dispose, and where the machine died. Where the input
 /// ends, or a read, a write or the last flush fails, the target loses the connection. It takes no memory of its own.
 pub fn serve<M: Machine + Drop, P: Pipe>(target: &mut Target<M>, pipe: &mut P, rounds: u64) -> Ended
     ensures refused { is_open target.old.end ≡ true → (result ≡ Ended.Refused 0) × (target.new ≡ target.old) × (P.story pipe.new ≡ P.story pipe.old) }

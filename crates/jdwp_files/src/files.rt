@@ -1,6 +1,17 @@
 //! The commands on their files.
-ghost use Rattle.std.specs.Prelude.{OnErr};
+ghost use Rattle.std.specs.Prelude.{◌≡◌, List, map, Ok, IfOk, OnErr};
 ghost use Rattle.std.specs.Io.KnownBytes.{Keeps};
+ghost use Rattle.std.specs.Str.Lines.{lines};
+ghost use Rattle.jdwp_wire.specs.Limits.{standard_limits};
+ghost use Rattle.jdwp_script_machine.specs.Machines.{read_machine};
+ghost use Rattle.jdwp_script_machine.specs.ScriptMeaning.{script_meaning};
+ghost use Rattle.jdwp_script_machine.specs.States.{State};
+ghost use Rattle.jdwp_engine.specs.Streams.{story_of};
+ghost use Rattle.jdwp_serve.specs.Serving.{ServesNew};
+ghost use Rattle.jdwp_plan.specs.declared.plan_line.PlanLine.{PlanLine};
+ghost use Rattle.jdwp_plan.specs.PlanLines.{said_by};
+ghost use Rattle.jdwp_plan.specs.Plans.{Says};
+ghost use Rattle.jdwp_program.specs.Attaching.{AttachesNew};
 ghost use Rattle.jdwp_program.specs.Outputs.{LeavesCaptureTold};
 
 use jdwp_engine::{Ended, Streams};
@@ -89,7 +100,11 @@ fn serve_bytes<'a, I: Read, O: Write>(
     words: &ServeScript<'a>,
     bytes: &[u8],
     pipe: &mut Streams<I, O>,
-) -> Result<Ended, Fault<'a>> {
+) -> Result<Ended, Fault<'a>>
+    ensures served { IfOk result (λ ended. (machine : State) × (read_machine standard_limits.live bytes.now ≡ Ok machine)
+        × ServesNew script_meaning words.now.settings machine words.now.turns (story_of pipe.old) (story_of pipe.new) ended) }
+    ensures untouched { OnErr result (pipe.new ≡ pipe.old) }
+{
     let script = text(words.machine, bytes)?;
     Ok(serve_script(alloc, script, words.settings, pipe, words.turns)?)
 }
@@ -120,7 +135,10 @@ fn attach_bytes<'a, I: Read, W: Write, O: Write>(
     pipe: &mut Streams<I, W>,
     out: &mut O,
 ) -> Result<Ended, Fault<'a>>
-    ensures { OnErr result (Keeps (O.contents out.old) (O.contents out.new)) }
+    ensures ran { IfOk result (λ ended. (said : List PlanLine) × Says (lines bytes.now) (map said_by said)
+        × AttachesNew said words.now.turns (story_of pipe.old) (story_of pipe.new) ended) }
+    ensures untouched { OnErr result (pipe.new ≡ pipe.old) }
+    ensures unprinted { OnErr result (Keeps (O.contents out.old) (O.contents out.new)) }
 {
     let plan = text(words.plan, bytes)?;
     Ok(attach_plan(alloc, plan, pipe, out, words.turns)?)
@@ -150,7 +168,9 @@ fn writer<'a, R: Files + AllocGlobal>(
 }
 
 /// The bytes of a file as text.
-fn text<'a, 'b>(file: &'a str, bytes: &'b [u8]) -> Result<&'b str, Fault<'a>> {
+fn text<'a, 'b>(file: &'a str, bytes: &'b [u8]) -> Result<&'b str, Fault<'a>>
+    ensures { IfOk result (λ text. text.now ≡ bytes.now) }
+{
     match text_of(bytes) {
         Ok(text) => Ok(text),
         Err(cause) => Err(Fault::File(file, cause)),
