@@ -1,4 +1,4 @@
-//! What asking does, and why it is refused.
+//! What asking does, why it is refused, and whether something stands in front.
 use crate::asserts::expect_same;
 use jdwp_debugger::{Command, Debugger, Refused, Ticket};
 use jdwp_layout::{Datum, Scalar};
@@ -86,6 +86,10 @@ enum Act {
     Waits(usize),
     /// Whether a session begins.
     Attaches(bool),
+    /// These bytes come, and all are taken.
+    Comes(&'static [u8]),
+    /// Whether there is something to handle.
+    HasFront(bool),
     /// The connection is lost, with these tickets.
     Loses(&'static [Ticket]),
     /// The connection is lost, with so many tickets.
@@ -116,6 +120,8 @@ fn comes(alloc: Global, debugger: &mut Debugger, act: &Act) -> Result<bool, Fail
         Act::Leaves(bytes) => Ok(leaves(debugger, bytes)),
         Act::Waits(count) => Ok(debugger.waiting() == *count),
         Act::Attaches(attaches) => Ok(debugger.attach() == *attaches),
+        Act::Comes(bytes) => Ok(debugger.feed(bytes) == bytes.len()),
+        Act::HasFront(has_front) => Ok(debugger.has_front() == *has_front),
         Act::Loses(tickets) => Ok(loses(debugger, tickets)),
         Act::LosesSoMany(count) => Ok(debugger.lose().as_slice().len() == *count),
         Act::KnowsNothing => {
@@ -293,6 +299,37 @@ static DATA_HAVE_TO_FIT_THE_COMMAND: [Act; 12] = [
 #[test]
 fn data_have_to_fit_the_command(rt: HostRuntime) -> Result<(), Fail> {
     goes_as_told(&rt, rt.alloc(), Some(1), &DATA_HAVE_TO_FIT_THE_COMMAND)
+}
+
+static A_WHOLE_MESSAGE_IN_FRONT: [Act; 9] = [
+    Act::HasFront(false),
+    Act::Attaches(true),
+    Act::HasFront(false),
+    Act::Comes(b"JDWP-Handshak"),
+    Act::HasFront(false),
+    Act::Comes(b"e"),
+    Act::HasFront(true),
+    Act::Loses(&[]),
+    Act::HasFront(false),
+];
+
+#[test]
+fn a_whole_message_in_front(rt: HostRuntime) -> Result<(), Fail> {
+    goes_as_told(&rt, rt.alloc(), None, &A_WHOLE_MESSAGE_IN_FRONT)
+}
+
+static A_FAULT_IN_FRONT: [Act; 5] = [
+    Act::HasFront(false),
+    Act::Comes(&[0, 0, 0, 10]),
+    Act::HasFront(true),
+    Act::Gives(Asks::Class(65_521), 1),
+    Act::HasFront(false),
+];
+
+/// A length below 11 is a fault, and with 65,536 bytes that wait to leave the end is paused.
+#[test]
+fn a_fault_in_front(rt: HostRuntime) -> Result<(), Fail> {
+    goes_as_told(&rt, rt.alloc(), Some(8), &A_FAULT_IN_FRONT)
 }
 
 /// The number of each refusal.

@@ -435,7 +435,7 @@ fn a_capture_that_can_not_be_used_is_named(rt: HostRuntime) -> Result<(), Fail> 
 }
 
 /// The machine, what comes, where what is sent goes, and what is told.
-static UNUSED: [(&str, &str, &str, &str); 6] = [
+static UNUSED: [(&str, &str, &str, &str); 7] = [
     (
         "named_absent",
         "named_other",
@@ -459,6 +459,13 @@ static UNUSED: [(&str, &str, &str, &str); 6] = [
         "named_folder",
         "named_to",
         "named_folder: a folder, not a file\n",
+    ),
+    // Neither the machine nor what comes can be used: the machine is told.
+    (
+        "named_absent",
+        "named_folder",
+        "named_to",
+        "named_absent: no such file or folder\n",
     ),
     (
         "named_other",

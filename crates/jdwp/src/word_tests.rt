@@ -3,7 +3,7 @@ use crate::asserts::expect_same_for;
 use crate::tests::{MACHINE, SESSION, is_not_made, is_refused, remove, status_of};
 use jdwp_debuggee::Settings;
 use jdwp_wire::Limits;
-use jdwp_words::{ServeScript, Words};
+use jdwp_words::{Attach, ServeScript, Words};
 use std::alloc::Global;
 use std::fs;
 use std::process::Abort;
@@ -143,12 +143,12 @@ fn other_words_are_refused(rt: HostRuntime) -> Result<(), Fail> {
 }
 
 /// Words that are refused, and texts that are told.
-static HELP: [(&[&str], &[&str]); 12] = [
+static HELP: [(&[&str], &[&str]); 14] = [
     (
         &[],
         &[
             "error: 'jdwp' requires a subcommand but one was not provided",
-            "show, check, serve-script",
+            "show, check, serve-script, attach",
             "Usage: ",
         ],
     ),
@@ -160,6 +160,7 @@ static HELP: [(&[&str], &[&str]); 12] = [
             "\n  show ",
             "\n  check ",
             "\n  serve-script ",
+            "\n  attach ",
             "--help",
         ],
     ),
@@ -177,8 +178,23 @@ static HELP: [(&[&str], &[&str]); 12] = [
         ],
     ),
     (
+        &["attach", "--help"],
+        &[
+            "Runs a plan",
+            "Usage: ",
+            "<PLAN>",
+            "--from <FILE>",
+            "--to <FILE>",
+            "--turns <N>",
+        ],
+    ),
+    (
         &["show", "--help"],
         &["Shows a capture", "Usage: ", "<FILE>"],
+    ),
+    (
+        &["check", "--help"],
+        &["Judges a capture", "Usage: ", "<FILE>"],
     ),
     (
         &["shows"],
@@ -262,7 +278,7 @@ fn words_help(rt: HostRuntime) -> Result<(), Fail> {
     Ok(())
 }
 
-/// Options, whether all threads start suspended, the count limit, and the turns.
+/// Options of `serve-script`, whether all threads start suspended, the count limit, and the turns.
 static DEFAULTS: [(&[&str], bool, u32, u32); 5] = [
     (&[], true, 65535, 100000),
     (&["--start", "none"], false, 65535, 100000),
@@ -271,8 +287,20 @@ static DEFAULTS: [(&[&str], bool, u32, u32); 5] = [
     (&["--turns", "007"], true, 65535, 7),
 ];
 
-/// With these options behind them, the words are read so.
-fn are_read(
+/// Options of `attach`, and the turns.
+static DEFAULTS_OF_ATTACH: [(&[&str], u32); 2] = [(&[], 100000), (&["--turns", "007"], 7)];
+
+/// The words are read so.
+fn are_read(rt: &impl Abort, alloc: Global, words: &[&str], want: &Words<'_>) -> Result<(), Fail> {
+    match jdwp_words::read(alloc, words) {
+        Ok(found) => expect_same_for(rt, &found, want, &words),
+        Err(_) => return Err(Fail::from("words that read")),
+    }
+    Ok(())
+}
+
+/// With these options behind them, the words of `serve-script` are read so.
+fn serves(
     rt: &impl Abort,
     alloc: Global,
     more: &[&str],
@@ -293,17 +321,31 @@ fn are_read(
         settings,
         turns,
     });
-    match jdwp_words::read(alloc, words.as_slice()) {
-        Ok(found) => expect_same_for(rt, &found, &want, &more),
-        Err(_) => return Err(Fail::from("words that read")),
-    }
-    Ok(())
+    are_read(rt, alloc, words.as_slice(), &want)
+}
+
+/// With these options behind them, the words of `attach` are read so.
+fn attaches(rt: &impl Abort, alloc: Global, more: &[&str], turns: u32) -> Result<(), Fail> {
+    let (plan, from, to) = ("p", "f", "t");
+    let mut words = Vec::new(alloc);
+    words.extend_from_slice(&["jdwp", "attach", plan, "--from", from, "--to", to])?;
+    words.extend_from_slice(more)?;
+    let want = Words::Attach(Attach {
+        plan,
+        from,
+        to,
+        turns,
+    });
+    are_read(rt, alloc, words.as_slice(), &want)
 }
 
 #[test]
 fn options_have_defaults(rt: HostRuntime) -> Result<(), Fail> {
     for &(more, start_all, count_limit, turns) in DEFAULTS.iter() {
-        are_read(&rt, rt.alloc(), more, start_all, count_limit, turns)?;
+        serves(&rt, rt.alloc(), more, start_all, count_limit, turns)?;
+    }
+    for &(more, turns) in DEFAULTS_OF_ATTACH.iter() {
+        attaches(&rt, rt.alloc(), more, turns)?;
     }
     Ok(())
 }

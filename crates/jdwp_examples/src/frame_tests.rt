@@ -179,7 +179,39 @@ fn packets_within_limits(rt: HostRuntime) -> Result<(), Fail> {
     Ok(())
 }
 
+/// Each named error, and its number.
+static ERROR_CODES: [(ErrorCode, u16); 24] = [
+    (ErrorCode::NONE, 0),
+    (ErrorCode::INVALID_THREAD, 10),
+    (ErrorCode::INVALID_THREAD_GROUP, 11),
+    (ErrorCode::THREAD_NOT_SUSPENDED, 13),
+    (ErrorCode::INVALID_OBJECT, 20),
+    (ErrorCode::INVALID_CLASS, 21),
+    (ErrorCode::CLASS_NOT_PREPARED, 22),
+    (ErrorCode::INVALID_METHODID, 23),
+    (ErrorCode::INVALID_LOCATION, 24),
+    (ErrorCode::INVALID_FIELDID, 25),
+    (ErrorCode::INVALID_FRAMEID, 30),
+    (ErrorCode::TYPE_MISMATCH, 34),
+    (ErrorCode::INVALID_SLOT, 35),
+    (ErrorCode::INVALID_MODULE, 42),
+    (ErrorCode::NOT_IMPLEMENTED, 99),
+    (ErrorCode::ABSENT_INFORMATION, 101),
+    (ErrorCode::INVALID_EVENT_TYPE, 102),
+    (ErrorCode::ILLEGAL_ARGUMENT, 103),
+    (ErrorCode::INTERNAL, 113),
+    (ErrorCode::INVALID_INDEX, 503),
+    (ErrorCode::INVALID_LENGTH, 504),
+    (ErrorCode::INVALID_STRING, 506),
+    (ErrorCode::INVALID_ARRAY, 508),
+    (ErrorCode::INVALID_COUNT, 512),
+];
+
+/// The law that says the same is called once, which shows that it can be: it answers nothing that could be compared.
 #[test]
-fn error_codes(_rt: HostRuntime) {
+fn error_codes(rt: HostRuntime) {
     names_error_codes();
+    for (code, number) in ERROR_CODES.iter() {
+        expect_same(&rt, &code.0, number);
+    }
 }

@@ -519,6 +519,27 @@ fn requests_are_removed(rt: HostRuntime) -> Result<(), Fail> {
     Ok(())
 }
 
+/// A breakpoint of thread 1 at its second time.
+fn second_of_a_thread(alloc: Global) -> Result<Request, Fail> {
+    let modifiers = vec![in alloc; Modifier::ThreadOnly(ObjectId(1)), Modifier::Count(2)]?;
+    let kind = EventKind::Breakpoint;
+    request(alloc, 1, kind, Policy::None, modifiers, NOWHERE)
+}
+
+/// The request has these two modifiers, in the order sent.
+fn has_both(rt: &impl Abort, request: &Request) {
+    expect_same(rt, &request.modifier_count(), &2);
+    assert!(rt; matches!(request.modifier(0), Some(Modifier::ThreadOnly(ObjectId(1)))));
+    assert!(rt; matches!(request.modifier(1), Some(Modifier::Count(2))));
+    assert!(rt; request.modifier(2).is_none());
+}
+
+#[test]
+fn modifiers_are_kept_in_the_order_sent(rt: HostRuntime) -> Result<(), Fail> {
+    has_both(&rt, &second_of_a_thread(rt.alloc())?);
+    Ok(())
+}
+
 /// Something that thread 1 does, which a request of this kind reports.
 fn occurrence(alloc: Global, kind: u8) -> Result<Occurrence, Fail> {
     match kind {

@@ -449,6 +449,7 @@ fn values_without_their_tags(rt: HostRuntime) -> Result<(), Fail> {
     Ok(())
 }
 
+/// Each law is called once at a type, which shows that it can be: it answers nothing that could be compared.
 #[test]
 fn laws_at_types(_rt: HostRuntime) {
     reads_what_is_encoded::<ArrayRegion>();

@@ -130,6 +130,7 @@ fn a_long_string(rt: HostRuntime) -> Result<(), Fail> {
     reads_text(&rt, rt.alloc(), behind, text.as_str(), 120_004)
 }
 
+/// Each law is called once at a type, which shows that it can be: it answers nothing that could be compared.
 #[test]
 fn laws_at_a_type(_rt: HostRuntime) {
     jdwp_wire::reads_what_is_encoded::<i32>();

@@ -570,6 +570,7 @@ fn are_one(items: &[Datum]) -> bool {
     matches!(items, [Datum::One(Scalar::Int(1))])
 }
 
+/// Each law is called once, which shows that it can be: it answers nothing that could be compared.
 #[test]
 fn laws(_rt: HostRuntime) {
     reads_what_is_encoded();

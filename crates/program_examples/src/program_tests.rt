@@ -13,7 +13,7 @@ use std::io::{ErrorKind, Write};
 use std::process::Abort;
 use std::test::Fail;
 
-/// Takes so many bytes a call at most. The call of this number, counted from 1, fails, and so does each flush where it says so.
+/// Takes so many bytes a call at most. The call of this number, counted from 1, fails.
 #[derive(Drop)]
 struct Output {
     bytes: Vec<u8>,
@@ -237,7 +237,7 @@ fn faults_of_the_program_are_told(rt: HostRuntime) {
 }
 
 /// How a run ends, its status, and what is told.
-static ENDS: [(Outcome, u8, &str); 17] = [
+static ENDS: [(Outcome, u8, &str); 22] = [
     (Outcome::Session(Ended::Done), 0, ""),
     (
         Outcome::Session(Ended::Refused(0)),
@@ -263,6 +263,31 @@ static ENDS: [(Outcome, u8, &str); 17] = [
         Outcome::Session(Ended::Refused(4)),
         1,
         "jdwp: fault 4: not the handshake\n",
+    ),
+    (
+        Outcome::Session(Ended::Refused(31)),
+        1,
+        "jdwp: fault 31: the widths of ids are not known yet\n",
+    ),
+    (
+        Outcome::Session(Ended::Refused(32)),
+        1,
+        "jdwp: fault 32: as many commands wait as may\n",
+    ),
+    (
+        Outcome::Session(Ended::Refused(33)),
+        1,
+        "jdwp: fault 33: the session is closed\n",
+    ),
+    (
+        Outcome::Session(Ended::Refused(34)),
+        1,
+        "jdwp: fault 34: a command longer than a packet may be\n",
+    ),
+    (
+        Outcome::Session(Ended::Refused(36)),
+        1,
+        "jdwp: fault 36: no command of a target, or data that do not read in its layout\n",
     ),
     (
         Outcome::Session(Ended::Refused(42)),

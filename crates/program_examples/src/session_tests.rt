@@ -45,8 +45,10 @@ struct Case {
     write_fails: u32,
     /// Which write of lines fails, from 1; 0 for none.
     print_fails: u32,
-    /// Whether the flush of the lines fails.
-    flush_fails: bool,
+    /// Which flush of what is sent to the target fails, from 1; 0 for none.
+    write_flush_fails: u32,
+    /// Which flush of the lines fails, from 1; 0 for none.
+    print_flush_fails: u32,
     ended: Ended,
     /// What the debugger sends, in hex.
     to: &'static [&'static str],
@@ -60,7 +62,8 @@ const CASE: Case = Case {
     turns: 1000,
     write_fails: 0,
     print_fails: 0,
-    flush_fails: false,
+    write_flush_fails: 0,
+    print_flush_fails: 0,
     ended: Ended::Done,
     to: &[],
     lines: "",
@@ -82,23 +85,25 @@ impl<'a> Read for Reader<'a> {
     }
 }
 
-/// Takes so many bytes a call at most, and fails at one call, or where it is flushed.
+/// Takes so many bytes a call at most, and fails at one call, and at one flush.
 #[derive(Drop)]
 struct Writer {
     bytes: Vec<u8>,
     most: usize,
     calls: u32,
     fails: u32,
-    flush_fails: bool,
+    flushes: u32,
+    flush_fails: u32,
 }
 
 impl Writer {
-    fn failing(alloc: Global, most: usize, fails: u32, flush_fails: bool) -> Writer {
+    fn failing(alloc: Global, most: usize, fails: u32, flush_fails: u32) -> Writer {
         Writer {
             bytes: Vec::new(alloc),
             most,
             calls: 0,
             fails,
+            flushes: 0,
             flush_fails,
         }
     }
@@ -116,7 +121,8 @@ impl Write for Writer {
     }
 
     fn flush(&mut self) -> io::Result<()> {
-        if self.flush_fails {
+        self.flushes = self.flushes.saturating_add(1);
+        if self.flushes == self.flush_fails {
             return Err(io::Error::from(ErrorKind::ConnectionReset));
         }
         Ok(())
@@ -216,8 +222,8 @@ fn run(alloc: Global, case: &Case, most: usize) -> Result<Outcome, Fail> {
     let from = hex(alloc, case.from)?;
     let lines = plan(alloc, case.plan)?;
     let input = Reader { bytes: &from, most };
-    let target = Writer::failing(alloc, most, case.write_fails, false);
-    let printer = Writer::failing(alloc, most, case.print_fails, case.flush_fails);
+    let target = Writer::failing(alloc, most, case.write_fails, case.write_flush_fails);
+    let printer = Writer::failing(alloc, most, case.print_fails, case.print_flush_fails);
     run_on(alloc, input, target, &lines, printer, case.turns)
 }
 
@@ -508,7 +514,7 @@ static REFUSED: [Case; 10] = [
 ];
 
 /// A run that is lost, or that used all turns.
-static LOST: [Case; 9] = [
+static LOST: [Case; 12] = [
     Case {
         ended: Ended::LostByRead,
         to: &[HANDSHAKE],
@@ -554,7 +560,7 @@ static LOST: [Case; 9] = [
     // A flush that fails at the end: a run that was done is lost, and so is one that used all turns; one that was refused stays so.
     Case {
         from: &READY,
-        flush_fails: true,
+        print_flush_fails: 1,
         ended: Ended::LostByWrite,
         to: &[HANDSHAKE, ASKS_SIZES],
         lines: READY_LINES,
@@ -562,14 +568,37 @@ static LOST: [Case; 9] = [
     },
     Case {
         turns: 0,
-        flush_fails: true,
+        print_flush_fails: 1,
         ended: Ended::LostByWrite,
         to: &[HANDSHAKE],
         ..CASE
     },
     Case {
         from: &["4a4457502d48616e647368616b66"],
-        flush_fails: true,
+        print_flush_fails: 1,
+        ended: Ended::Refused(4),
+        to: &[HANDSHAKE],
+        ..CASE
+    },
+    // The same of what is sent to the target, which is flushed before each read, too.
+    Case {
+        from: &READY,
+        write_flush_fails: 2,
+        ended: Ended::LostByWrite,
+        to: &[HANDSHAKE, ASKS_SIZES],
+        lines: READY_LINES,
+        ..CASE
+    },
+    Case {
+        turns: 0,
+        write_flush_fails: 1,
+        ended: Ended::LostByWrite,
+        to: &[HANDSHAKE],
+        ..CASE
+    },
+    Case {
+        from: &["4a4457502d48616e647368616b66"],
+        write_flush_fails: 2,
         ended: Ended::Refused(4),
         to: &[HANDSHAKE],
         ..CASE
@@ -632,7 +661,7 @@ fn quiet(alloc: Global) -> Streams<Reader<'static>, Writer> {
         bytes: &[],
         most: 1,
     };
-    Streams::new(reader, Writer::failing(alloc, 1, 0, false))
+    Streams::new(reader, Writer::failing(alloc, 1, 0, 0))
 }
 
 /// How the run of a debugger without a plan ends, and whether nothing was sent.

@@ -155,6 +155,34 @@ fn suspends_and_resumes(rt: HostRuntime) -> Result<(), Fail> {
     goes_as_told(&rt, rt.alloc(), MACHINE_A, 65535, &SUSPENDS_AND_RESUMES)
 }
 
+static TWO_SUSPENDS_AND_THREE_RESUMES: [Act; 7] = [
+    Act::Says("0000000b 00000002 00 01 08", "0000000b 00000002 80 0000"),
+    Act::Says("0000000b 00000003 00 01 08", "0000000b 00000003 80 0000"),
+    Act::Says("0000000b 00000004 00 01 09", "0000000b 00000004 80 0000"),
+    Act::Says(
+        "00000013 00000005 00 0b 0c 0000000000000002",
+        "0000000f 00000005 80 0000 00000001",
+    ),
+    Act::Says("0000000b 00000006 00 01 09", "0000000b 00000006 80 0000"),
+    Act::Says("0000000b 00000007 00 01 09", "0000000b 00000007 80 0000"),
+    Act::Says(
+        "00000013 00000008 00 0b 0c 0000000000000002",
+        "0000000f 00000008 80 0000 00000000",
+    ),
+];
+
+/// A Resume at a count of 0 leaves it.
+#[test]
+fn two_suspends_and_three_resumes(rt: HostRuntime) -> Result<(), Fail> {
+    goes_as_told(
+        &rt,
+        rt.alloc(),
+        MACHINE_A,
+        65535,
+        &TWO_SUSPENDS_AND_THREE_RESUMES,
+    )
+}
+
 static A_SESSION_AFTER_A_LOSS: [Act; 7] = [
     Act::Says("0000000b 00000004 00 01 08", "0000000b 00000004 80 0000"),
     Act::Counts(Some(1), Some(1)),
