@@ -20,7 +20,11 @@ ghost use Rattle.jdwp_event.specs.Modifiers.{ModifierMeaning, modifier_of, modif
 ghost use Rattle.jdwp_event.specs.ModifierMeanings.{found_modifier, modifier_meaning};
 ghost use Rattle.jdwp_event.specs.RequestParts.{modifiers_meaning};
 
-use jdwp_layout::{Entry, Scalar, entry_size, modifier_kinds, pass_entry, read_entry, write_entry};
+use jdwp_layout::modifier_kinds::{
+    CLASS_EXCLUDE, CLASS_MATCH, CLASS_ONLY, CONDITIONAL, COUNT, EXCEPTION_ONLY, FIELD_ONLY,
+    INSTANCE_ONLY, LOCATION_ONLY, SOURCE_NAME_MATCH, STEP, THREAD_ONLY,
+};
+use jdwp_layout::{Entry, Scalar, entry_size, pass_entry, read_entry, write_entry};
 use jdwp_value::{FieldId, Location, ObjectId, ReferenceTypeId};
 use jdwp_wire::{DataFault, IdSizes, NoMemory, Wire, all_or_nothing};
 use std::alloc::Global;
@@ -195,35 +199,26 @@ fn parts_of(modifier: &Modifier) -> Parts<'_>
     ensures pattern { MayHavePattern result }
 {
     match modifier {
-        Modifier::Count(n) => Parts::One(modifier_kinds::COUNT, Scalar::Int(*n)),
-        Modifier::Conditional(n) => Parts::One(modifier_kinds::CONDITIONAL, Scalar::Int(*n)),
-        Modifier::ThreadOnly(thread) => Parts::One(
-            modifier_kinds::THREAD_ONLY,
-            Scalar::ObjectId(*thread),
-        ),
-        Modifier::ClassOnly(class) => Parts::One(
-            modifier_kinds::CLASS_ONLY,
-            Scalar::ReferenceTypeId(*class),
-        ),
-        Modifier::ClassMatch(pattern) => Parts::Pattern(modifier_kinds::CLASS_MATCH, pattern),
-        Modifier::ClassExclude(pattern) => Parts::Pattern(modifier_kinds::CLASS_EXCLUDE, pattern),
-        Modifier::LocationOnly(location) => Parts::One(
-            modifier_kinds::LOCATION_ONLY,
-            Scalar::Location(*location),
-        ),
+        Modifier::Count(n) => Parts::One(COUNT, Scalar::Int(*n)),
+        Modifier::Conditional(n) => Parts::One(CONDITIONAL, Scalar::Int(*n)),
+        Modifier::ThreadOnly(thread) => Parts::One(THREAD_ONLY, Scalar::ObjectId(*thread)),
+        Modifier::ClassOnly(class) => Parts::One(CLASS_ONLY, Scalar::ReferenceTypeId(*class)),
+        Modifier::ClassMatch(pattern) => Parts::Pattern(CLASS_MATCH, pattern),
+        Modifier::ClassExclude(pattern) => Parts::Pattern(CLASS_EXCLUDE, pattern),
+        Modifier::LocationOnly(location) => Parts::One(LOCATION_ONLY, Scalar::Location(*location)),
         Modifier::ExceptionOnly {
             class,
             caught,
             uncaught,
         } => Parts::Three(
-            modifier_kinds::EXCEPTION_ONLY,
+            EXCEPTION_ONLY,
             Scalar::ReferenceTypeId(*class),
             Scalar::Boolean(*caught),
             Scalar::Boolean(*uncaught),
         ),
         Modifier::FieldOnly { class, field } => {
             Parts::Two(
-                modifier_kinds::FIELD_ONLY,
+                FIELD_ONLY,
                 Scalar::ReferenceTypeId(*class),
                 Scalar::FieldId(*field),
             )
@@ -233,19 +228,13 @@ fn parts_of(modifier: &Modifier) -> Parts<'_>
             size,
             depth,
         } => Parts::Three(
-            modifier_kinds::STEP,
+            STEP,
             Scalar::ObjectId(*thread),
             Scalar::Int(*size),
             Scalar::Int(*depth),
         ),
-        Modifier::InstanceOnly(object) => Parts::One(
-            modifier_kinds::INSTANCE_ONLY,
-            Scalar::ObjectId(*object),
-        ),
-        Modifier::SourceNameMatch(pattern) => Parts::Pattern(
-            modifier_kinds::SOURCE_NAME_MATCH,
-            pattern,
-        ),
+        Modifier::InstanceOnly(object) => Parts::One(INSTANCE_ONLY, Scalar::ObjectId(*object)),
+        Modifier::SourceNameMatch(pattern) => Parts::Pattern(SOURCE_NAME_MATCH, pattern),
     }
 }
 
@@ -287,31 +276,15 @@ fn of_one(kind: u8, field: Scalar) -> Option<Modifier>
     ensures { found_modifier result ≡ modifier_of_kind kind (scalar_meaning field ∷ []) }
 {
     match (kind, field) {
-        (modifier_kinds::COUNT, Scalar::Int(count)) => Some(Modifier::Count(count)),
-        (modifier_kinds::CONDITIONAL, Scalar::Int(expression)) => Some(Modifier::Conditional(
-            expression,
-        )),
-        (modifier_kinds::THREAD_ONLY, Scalar::ObjectId(thread)) => Some(Modifier::ThreadOnly(
-            thread,
-        )),
-        (modifier_kinds::CLASS_ONLY, Scalar::ReferenceTypeId(class)) => Some(Modifier::ClassOnly(
-            class,
-        )),
-        (modifier_kinds::CLASS_MATCH, Scalar::String(pattern)) => Some(Modifier::ClassMatch(
-            pattern,
-        )),
-        (modifier_kinds::CLASS_EXCLUDE, Scalar::String(pattern)) => Some(Modifier::ClassExclude(
-            pattern,
-        )),
-        (modifier_kinds::LOCATION_ONLY, Scalar::Location(location)) => Some(Modifier::LocationOnly(
-            location,
-        )),
-        (modifier_kinds::INSTANCE_ONLY, Scalar::ObjectId(object)) => Some(Modifier::InstanceOnly(
-            object,
-        )),
-        (modifier_kinds::SOURCE_NAME_MATCH, Scalar::String(pattern)) => Some(
-            Modifier::SourceNameMatch(pattern),
-        ),
+        (COUNT, Scalar::Int(count)) => Some(Modifier::Count(count)),
+        (CONDITIONAL, Scalar::Int(expression)) => Some(Modifier::Conditional(expression)),
+        (THREAD_ONLY, Scalar::ObjectId(thread)) => Some(Modifier::ThreadOnly(thread)),
+        (CLASS_ONLY, Scalar::ReferenceTypeId(class)) => Some(Modifier::ClassOnly(class)),
+        (CLASS_MATCH, Scalar::String(pattern)) => Some(Modifier::ClassMatch(pattern)),
+        (CLASS_EXCLUDE, Scalar::String(pattern)) => Some(Modifier::ClassExclude(pattern)),
+        (LOCATION_ONLY, Scalar::Location(location)) => Some(Modifier::LocationOnly(location)),
+        (INSTANCE_ONLY, Scalar::ObjectId(object)) => Some(Modifier::InstanceOnly(object)),
+        (SOURCE_NAME_MATCH, Scalar::String(pattern)) => Some(Modifier::SourceNameMatch(pattern)),
         _ => None,
     }
 }
@@ -323,7 +296,7 @@ fn of_more(kind: u8, fields: &[Scalar]) -> Option<Modifier>
 {
     match (kind, fields) {
         (
-            modifier_kinds::EXCEPTION_ONLY,
+            EXCEPTION_ONLY,
             [
                 Scalar::ReferenceTypeId(class),
                 Scalar::Boolean(caught),
@@ -334,14 +307,14 @@ fn of_more(kind: u8, fields: &[Scalar]) -> Option<Modifier>
             caught: *caught,
             uncaught: *uncaught,
         }),
-        (modifier_kinds::FIELD_ONLY, [Scalar::ReferenceTypeId(class), Scalar::FieldId(field)]) => {
+        (FIELD_ONLY, [Scalar::ReferenceTypeId(class), Scalar::FieldId(field)]) => {
             Some(Modifier::FieldOnly {
                 class: *class,
                 field: *field,
             })
         }
         (
-            modifier_kinds::STEP,
+            STEP,
             [
                 Scalar::ObjectId(thread),
                 Scalar::Int(size),
