@@ -4,7 +4,7 @@ use Rattle.std.proofs.Common.{◌≡◌, ◌≢◌, ℕ, zero, suc, ℤ, pos, ne
 use Rattle.std.proofs.lemmas.Bool.{eqb-true, false≢true}
 use Rattle.jdwp_wire.specs.declared.error_code.ErrorCode.{ErrorCode}
 use Rattle.jdwp_value.specs.declared.value.Value.{Value}
-use Rattle.jdwp_layout.specs.CommandNumbers.{is_command, FRAMES, FRAME_COUNT, GET_SLOTS, THIS_OBJECT}
+use Rattle.jdwp_layout.specs.CommandNumbers.{CommandNumber, is_command, FRAMES, FRAME_COUNT, GET_SLOTS, THIS_OBJECT}
 use Rattle.jdwp_layout.specs.Meanings.{Int, Object, Frame, DatumMeaning, One}
 use Rattle.jdwp_machine.specs.declared.query.Query.{Query}
 use Rattle.jdwp_machine.specs.Laws.{begins_with, asks_places, asks_slots, asks_frames}
@@ -64,8 +64,10 @@ and_both true true h = (refl, refl)
 and_both true false h = absurd (false≢true h)
 and_both false b h = absurd (false≢true h)
 
-pub command_is : (set number k n : ℕ) → ((set == k) && (number == n)) ≡ true → (set ≡ k) × (number ≡ n)
-command_is set number k n h = let both = and_both (set == k) (number == n) h in (eqb-true set k both.0, eqb-true number n both.1)
+pub command_is : (set number : ℕ) (command : CommandNumber) → is_command command set number ≡ true → (set ≡ command.set) × (number ≡ command.number)
+command_is set number command h =
+    let both = and_both (set == command.set) (number == command.number) h in
+    (eqb-true set command.set both.0, eqb-true number command.number both.1)
 
 which_place : (b x y z : Bool) → (b && (x || (y || z))) ≡ true → (b ≡ true) × ((x ≡ true) ⊎ ((y ≡ true) ⊎ (z ≡ true)))
 which_place true true y z h = (refl, inl refl)
@@ -89,15 +91,15 @@ places_same : (s r : State) (u : ℕ) → r.script ≡ s.script → frames_at r 
 places_same s r u script frames set number content h =
     let asked = which_place (begins_with content u) (is_command FRAMES set number) (is_command FRAME_COUNT set number) (is_command THIS_OBJECT set number) h in
     elim asked.1 [
-      | inl k ↦ let is = command_is set number 11 6 k in rw (is.0, is.1, script) (same_frames (frames_at r) (frames_at s) (frames_answer s.script) u frames content asked.0)
-      | inr (inl k) ↦ let is = command_is set number 11 7 k in rw (is.0, is.1) (same_frames (frames_at r) (frames_at s) frame_count_answer u frames content asked.0)
-      | inr (inr k) ↦ let is = command_is set number 16 3 k in rw (is.0, is.1, script) (same_frames (frames_at r) (frames_at s) (of_frame_in (this_answer s.script)) u frames content asked.0)
+      | inl k ↦ let is = command_is set number FRAMES k in rw (is.0, is.1, script) (same_frames (frames_at r) (frames_at s) (frames_answer s.script) u frames content asked.0)
+      | inr (inl k) ↦ let is = command_is set number FRAME_COUNT k in rw (is.0, is.1) (same_frames (frames_at r) (frames_at s) frame_count_answer u frames content asked.0)
+      | inr (inr k) ↦ let is = command_is set number THIS_OBJECT k in rw (is.0, is.1, script) (same_frames (frames_at r) (frames_at s) (of_frame_in (this_answer s.script)) u frames content asked.0)
     ]
 
 slots_same : (s r : State) (u : ℕ) → frames_at r u ≡ frames_at s u → (set number : ℕ) (content : List DatumMeaning) → (begins_with content u && is_command GET_SLOTS set number) ≡ true → answer_at r set number content ≡ answer_at s set number content
 slots_same s r u frames set number content h =
     let asked = and_both (begins_with content u) (is_command GET_SLOTS set number) h in
-    let is = command_is set number 16 1 asked.1 in
+    let is = command_is set number GET_SLOTS asked.1 in
     rw (is.0, is.1) (same_frames (frames_at r) (frames_at s) (of_frame_in slots_answer) u frames content asked.0)
 
 pub frames_same : (s r : State) (u : ℕ) (q : Query) → r.script ≡ s.script → frames_at r u ≡ frames_at s u → asks_frames q u ≡ true → answer r q ≡ answer s q
@@ -232,9 +234,9 @@ places_alike : (s r : State) (u : ℕ) → r.script ≡ s.script → FramesAlike
 places_alike s r u script alike set number content h =
     let asked = which_place (begins_with content u) (is_command FRAMES set number) (is_command FRAME_COUNT set number) (is_command THIS_OBJECT set number) h in
     elim asked.1 [
-      | inl k ↦ let is = command_is set number 11 6 k in rw (is.0, is.1, script) (alike_answers (frames_at r) (frames_at s) (frames_answer s.script) u alike (alike_frames s.script) content asked.0)
-      | inr (inl k) ↦ let is = command_is set number 11 7 k in rw (is.0, is.1) (alike_answers (frames_at r) (frames_at s) frame_count_answer u alike alike_count content asked.0)
-      | inr (inr k) ↦ let is = command_is set number 16 3 k in rw (is.0, is.1, script) (alike_answers (frames_at r) (frames_at s) (of_frame_in (this_answer s.script)) u alike (alike_this s.script) content asked.0)
+      | inl k ↦ let is = command_is set number FRAMES k in rw (is.0, is.1, script) (alike_answers (frames_at r) (frames_at s) (frames_answer s.script) u alike (alike_frames s.script) content asked.0)
+      | inr (inl k) ↦ let is = command_is set number FRAME_COUNT k in rw (is.0, is.1) (alike_answers (frames_at r) (frames_at s) frame_count_answer u alike alike_count content asked.0)
+      | inr (inr k) ↦ let is = command_is set number THIS_OBJECT k in rw (is.0, is.1, script) (alike_answers (frames_at r) (frames_at s) (of_frame_in (this_answer s.script)) u alike (alike_this s.script) content asked.0)
     ]
 
 pub places_written : (s : State) (t f : ℕ) (values : List (ℤ × Value)) (q : Query) → asks_places q t ≡ true → answer (written s t f values) q ≡ answer s q

@@ -8,7 +8,7 @@ use Rattle.jdwp_value.specs.declared.location.Location.TheVariants.{Null, At}
 use Rattle.jdwp_value.specs.declared.value.Value.{Value}
 use Rattle.jdwp_value.specs.Values.{tag_of}
 use Rattle.jdwp_layout.specs.declared.answer.Answer.TheVariants.{Data, Error}
-use Rattle.jdwp_layout.specs.CommandNumbers.{is_command, SET_REQUEST}
+use Rattle.jdwp_layout.specs.CommandNumbers.{is_command, VIRTUAL_MACHINE, REFERENCE_TYPE, CLASS_TYPE, METHOD, OBJECT_REFERENCE, STRING_REFERENCE, THREAD_REFERENCE, THREAD_GROUP_REFERENCE, ARRAY_REFERENCE, EVENT_REQUEST, STACK_FRAME, SET_REQUEST, SET_SLOTS}
 use Rattle.jdwp_layout.specs.Meanings.{Int, DatumMeaning, One}
 use Rattle.jdwp_event.specs.Occurrences.{runs_out, started}
 use Rattle.jdwp_machine.specs.Meanings.{has}
@@ -26,7 +26,7 @@ use Rattle.jdwp_script_machine.specs.ScriptMeaning.{script_meaning}
 use Rattle.jdwp_script_machine.specs.StateLaws.{in_life, with_change, has_living, living_begun, change_within, change_out, living_distinct}
 use Rattle.jdwp_script_machine.specs.LiveLaws.{own_thread, new_thread, stepped_into, begun_ended, stepped_script}
 use Rattle.jdwp_script_machine.specs.SoundLaws.{stepped_sound, ended_sound, written_sound}
-use Rattle.jdwp_script_machine.specs.GoodAnswers.{Good, from_good, error_good, above, at_set, at_number}
+use Rattle.jdwp_script_machine.specs.GoodAnswers.{Good, command_at, from_good, error_good, above, at_set, at_number}
 use Rattle.jdwp_script_machine.specs.ClassAnswerLaws.{no_command, virtual_machine_good, reference_type_good, class_type_good, methods_answered}
 use Rattle.jdwp_script_machine.specs.ObjectAnswerLaws.{objects_answered, strings_answered, arrays_answered, groups_answered}
 use Rattle.jdwp_script_machine.specs.ThreadAnswerLaws.{threads_answered, stack_frames_answered, set_answered}
@@ -35,20 +35,20 @@ use Rattle.jdwp_script_machine.specs.HappeningLaws.{next_good, next_thread_fits,
 
 -- ---- answers
 
-answer_good : (s : State) → IsSound s → (set number : ℕ) (content : List DatumMeaning) → Good s set number (answer_at s set number content)
+answer_good : (s : State) → IsSound s → (set number : ℕ) (content : List DatumMeaning) → Good s (command_at set number) (answer_at s set number content)
 answer_good s sound set number content =
-    at_set s set 1 number _ _ (virtual_machine_good s sound number content) (
-    at_set s set 2 number _ _ (reference_type_good s sound number content) (
-    at_set s set 3 number _ _ (class_type_good s sound number content) (
-    at_set s set 6 number _ _ (methods_answered s sound number content) (
-    at_set s set 9 number _ _ (objects_answered s sound number content) (
-    at_set s set 10 number _ _ (strings_answered s sound number content) (
-    at_set s set 11 number _ _ (threads_answered s sound number content) (
-    at_set s set 12 number _ _ (groups_answered s sound number content) (
-    at_set s set 13 number _ _ (arrays_answered s sound number content) (
-    at_set s set 15 number _ _ (at_number s 15 number 1 _ _ (set_answered s content) (no_command s 15 number)) (
-    at_set s set 16 number _ _ (stack_frames_answered s sound number content) (
-    no_command s set number)))))))))))
+    at_set s set VIRTUAL_MACHINE number _ _ (virtual_machine_good s sound number content) (
+    at_set s set REFERENCE_TYPE number _ _ (reference_type_good s sound number content) (
+    at_set s set CLASS_TYPE number _ _ (class_type_good s sound number content) (
+    at_set s set METHOD number _ _ (methods_answered s sound number content) (
+    at_set s set OBJECT_REFERENCE number _ _ (objects_answered s sound number content) (
+    at_set s set STRING_REFERENCE number _ _ (strings_answered s sound number content) (
+    at_set s set THREAD_REFERENCE number _ _ (threads_answered s sound number content) (
+    at_set s set THREAD_GROUP_REFERENCE number _ _ (groups_answered s sound number content) (
+    at_set s set ARRAY_REFERENCE number _ _ (arrays_answered s sound number content) (
+    at_set s set EVENT_REQUEST number _ _ (at_number s SET_REQUEST number _ _ (set_answered s content) (no_command s (command_at EVENT_REQUEST number))) (
+    at_set s set STACK_FRAME number _ _ (stack_frames_answered s sound number content) (
+    no_command s (command_at set number))))))))))))
 
 -- ---- refused writes
 
@@ -76,13 +76,13 @@ thread_refused : (script : ScriptPart) (f : ℕ) (values : List (ℤ × Value)) 
 thread_refused script f values None = above 20 (omega arith)
 thread_refused script f values (Some e) = frame_refused script values (frame_in f e.frames)
 
-write_data : (s : State) → Good s 16 2 (Data [])
+write_data : (s : State) → Good s SET_SLOTS (Data [])
 unfolding Good
 write_data s = refl
 
-write_by : (s : State) (r : Option ErrorCode) → MayRefuse r → Good s 16 2 (answer_of_refusal r)
+write_by : (s : State) (r : Option ErrorCode) → MayRefuse r → Good s SET_SLOTS (answer_of_refusal r)
 write_by s None h = write_data s
-write_by s (Some e) h = error_good s 16 2 e h
+write_by s (Some e) h = error_good s SET_SLOTS e h
 
 -- ---- who lives and has lived
 
@@ -124,7 +124,7 @@ location_told script Null = inr (inr refl)
 location_told script (At tag class method index) = class_told method.0 index (class_in script class.0)
 
 set_told : (s : State) (set number : ℕ) (content : List DatumMeaning) (p : Location) → is_command SET_REQUEST set number ≡ true → content ≡ breakpoint_at p → IsLocationAnswer (answer_at s set number content)
-set_told s set number content p command is = let numbers = command_is set number 15 1 command in rw (numbers.0, numbers.1, is) (location_told s.script p)
+set_told s set number content p command is = let numbers = command_is set number SET_REQUEST command in rw (numbers.0, numbers.1, is) (location_told s.script p)
 
 -- ---- all together
 
@@ -153,8 +153,8 @@ script_lawful =
       frames_ended = λ s t u q may ne h. frames_same s (ended s t) u q refl (ended_frames s t u ne) h;
       frames_written = λ s t f u values q sound ne h. frames_same s (written s t f values) u q (written_script s t f values) (written_frames s t f u values ne) h;
       places_written = λ s t f values q sound h. places_written s t f values q h;
-      answers = λ s q sound. from_good s q.set q.number (answer s q) (answer_good s sound q.set q.number q.content);
-      write_answers = λ s t f values sound. from_good s 16 2 (write_answer s t f values) (write_by s (write_refusal s t f values) (thread_refused s.script f values (thread_at s t)));
+      answers = λ s q sound. from_good s (command_at q.set q.number) (answer s q) (answer_good s sound q.set q.number q.content);
+      write_answers = λ s t f values sound. from_good s SET_SLOTS (write_answer s t f values) (write_by s (write_refusal s t f values) (thread_refused s.script f values (thread_at s t)));
       short_signature = λ s t may. (next_good s may.0 t).short;
       live_fits = λ s t sound h. live_fits s sound t h;
       thread_fits = λ s t may. next_thread_fits s may.0 t (live_fits s may.0 t may.1);

@@ -13,6 +13,7 @@ use Rattle.jdwp_value.specs.Locations.{location_refusal}
 use Rattle.jdwp_layout.specs.declared.answer.Answer.{Answer}
 use Rattle.jdwp_layout.specs.declared.answer.Answer.TheVariants.{Data, Error}
 use Rattle.jdwp_layout.specs.declared.item.Field.TheVariants as field
+use Rattle.jdwp_layout.specs.CommandNumbers.{THREAD_REFERENCE, STACK_FRAME, THREAD_NAME, THREAD_GROUP, FRAMES, FRAME_COUNT, SET_REQUEST, GET_SLOTS, THIS_OBJECT}
 use Rattle.jdwp_layout.specs.Shapes.{Fields}
 use Rattle.jdwp_layout.specs.Writes.{entry_refusal}
 use Rattle.jdwp_layout.specs.ModifierKindNumbers.{LOCATION_ONLY}
@@ -28,7 +29,7 @@ use Rattle.jdwp_script_machine.specs.ThreadAnswers.{frames_at, thread_name_answe
 use Rattle.jdwp_script_machine.specs.Sound.{IsShort, MethodIsSound, ClassIsSound, ThreadIsSound, ScriptIsSound, SlotNowIsSound, FrameIsSound, IsSound}
 use Rattle.jdwp_script_machine.specs.SoundLaws.{all_found, zero_fits}
 use Rattle.jdwp_script_machine.specs.FitLaws.{short_text, entries_fit, counted_fits}
-use Rattle.jdwp_script_machine.specs.GoodAnswers.{Good, error_good, above, at_number, alone_good, found_good, thread_good, AreSound, frames_good, frame_good, entries_good, of_part_good}
+use Rattle.jdwp_script_machine.specs.GoodAnswers.{Good, command_at, error_good, above, at_number, alone_good, found_good, thread_good, AreSound, frames_good, frame_good, entries_good, of_part_good}
 use Rattle.jdwp_script_machine.specs.ClassAnswerLaws.{no_command}
 
 -- ---- locations
@@ -54,37 +55,37 @@ location_fits script sound index class method =
 
 -- ---- ThreadReference
 
-thread_name_good : (s : State) (t : ThreadPart) → ThreadIsSound s.script.sizes t → Good s 11 1 (Data (One (Text t.name) ∷ []))
+thread_name_good : (s : State) (t : ThreadPart) → ThreadIsSound s.script.sizes t → Good s THREAD_NAME (Data (One (Text t.name) ∷ []))
 unfolding Good
 thread_name_good s t h = rw (short_text t.name h.name) refl
 
-thread_group_good : (s : State) (t : ThreadPart) → ThreadIsSound s.script.sizes t → Good s 11 5 (Data (One (Object t.group) ∷ []))
+thread_group_good : (s : State) (t : ThreadPart) → ThreadIsSound s.script.sizes t → Good s THREAD_GROUP (Data (One (Object t.group) ∷ []))
 unfolding Good
 thread_group_good s t h = rw h.group refl
 
-frames_listed_good : (s : State) → IsSound s → (fs : List FrameNow) → IsShort fs → AllByRecursion (FrameIsSound s.script.sizes) fs → Good s 11 6 (frames_listed s.script fs)
+frames_listed_good : (s : State) → IsSound s → (fs : List FrameNow) → IsShort fs → AllByRecursion (FrameIsSound s.script.sizes) fs → Good s FRAMES (frames_listed s.script fs)
 unfolding Good
 frames_listed_good s sound fs few all =
     let w = s.script.sizes in
     rw (entries_fit (FrameIsSound w) (entry_refusal w (Fields (field.FrameId ∷ field.Location ∷ []))) (frame_entry s.script)
     (λ f h. rw (h.id, location_fits s.script sound.script f.index f.class f.method) refl) fs few all) refl
 
-frames_answer_good : (s : State) → IsSound s → (fs : List FrameNow) → AreSound s fs → (content : List DatumMeaning) → Good s 11 6 (frames_answer s.script fs content)
+frames_answer_good : (s : State) → IsSound s → (fs : List FrameNow) → AreSound s fs → (content : List DatumMeaning) → Good s FRAMES (frames_answer s.script fs content)
 frames_answer_good s sound fs h content =
     let few = h.few in
-    of_part_good (FrameIsSound s.script.sizes) s 11 6 (frames_listed s.script) true fs h.each (λ ys short all. frames_listed_good s sound ys (omega arith) all) content
+    of_part_good (FrameIsSound s.script.sizes) s FRAMES (frames_listed s.script) true fs h.each (λ ys short all. frames_listed_good s sound ys (omega arith) all) content
 
-frame_count_good : (s : State) (fs : List FrameNow) → Good s 11 7 (Data (One (Int (pos (length fs))) ∷ []))
+frame_count_good : (s : State) (fs : List FrameNow) → Good s FRAME_COUNT (Data (One (Int (pos (length fs))) ∷ []))
 unfolding Good
 frame_count_good s fs = refl
 
-pub threads_answered : (s : State) → IsSound s → (n : ℕ) (content : List DatumMeaning) → Good s 11 n (thread_answer_by s.script (frames_at s) n content)
+pub threads_answered : (s : State) → IsSound s → (n : ℕ) (content : List DatumMeaning) → Good s (command_at THREAD_REFERENCE n) (thread_answer_by s.script (frames_at s) n content)
 threads_answered s sound n content =
-    at_number s 11 n 1 _ _ (thread_good s 11 1 sound thread_name_answer (λ t h. alone_good s 11 1 _ (thread_name_good s t h)) content) (
-    at_number s 11 n 5 _ _ (thread_good s 11 5 sound thread_group_answer (λ t h. alone_good s 11 5 _ (thread_group_good s t h)) content) (
-    at_number s 11 n 6 _ _ (frames_good s 11 6 sound (frames_answer s.script) (frames_answer_good s sound) content) (
-    at_number s 11 n 7 _ _ (frames_good s 11 7 sound frame_count_answer (λ fs h. alone_good s 11 7 _ (frame_count_good s fs)) content) (
-    no_command s 11 n))))
+    at_number s THREAD_NAME n _ _ (thread_good s THREAD_NAME sound thread_name_answer (λ t h. alone_good s THREAD_NAME _ (thread_name_good s t h)) content) (
+    at_number s THREAD_GROUP n _ _ (thread_good s THREAD_GROUP sound thread_group_answer (λ t h. alone_good s THREAD_GROUP _ (thread_group_good s t h)) content) (
+    at_number s FRAMES n _ _ (frames_good s FRAMES sound (frames_answer s.script) (frames_answer_good s sound) content) (
+    at_number s FRAME_COUNT n _ _ (frames_good s FRAME_COUNT sound frame_count_answer (λ fs h. alone_good s FRAME_COUNT _ (frame_count_good s fs)) content) (
+    no_command s (command_at THREAD_REFERENCE n)))))
 
 -- ---- StackFrame
 
@@ -117,7 +118,7 @@ slots_count : (slots : List SlotNow) (entries : List (List ScalarMeaning)) → l
 slots_count slots [] = omega arith
 slots_count slots (entry ∷ entries) = more_count (entry_slot slots entry) (slot_entries slots entries) (length entries) (slots_count slots entries)
 
-slots_data : (s : State) (slots : List SlotNow) → AllByRecursion (SlotNowIsSound s.script.sizes) slots → (entries : List (List ScalarMeaning)) → nat_lt (length entries) (2 ^ 31) ≡ true → Good s 16 1 (Data (Many (slot_entries slots entries) ∷ []))
+slots_data : (s : State) (slots : List SlotNow) → AllByRecursion (SlotNowIsSound s.script.sizes) slots → (entries : List (List ScalarMeaning)) → nat_lt (length entries) (2 ^ 31) ≡ true → Good s GET_SLOTS (Data (Many (slot_entries slots entries) ∷ []))
 unfolding Good
 slots_data s slots all entries few =
     let w = s.script.sizes in
@@ -125,47 +126,47 @@ slots_data s slots all entries few =
     let lt = ltb-true (length entries) (2 ^ 31) few in
     rw (counted_fits (entry_refusal w (Fields (field.Value ∷ []))) (slot_entries slots entries) (lt-ltb (length (slot_entries slots entries)) (2 ^ 31) (omega arith)) (slots_fit w slots all entries)) refl
 
-asked_good : (s : State) (a b : Bool) (answer : Answer) → Good s 16 1 answer → Good s 16 1 (if not a then Error INVALID_SLOT else (if not b then Error TYPE_MISMATCH else answer))
+asked_good : (s : State) (a b : Bool) (answer : Answer) → Good s GET_SLOTS answer → Good s GET_SLOTS (if not a then Error INVALID_SLOT else (if not b then Error TYPE_MISMATCH else answer))
 asked_good s true true answer h = h
-asked_good s true false answer h = error_good s 16 1 TYPE_MISMATCH (above 34 (omega arith))
-asked_good s false b answer h = error_good s 16 1 INVALID_SLOT (above 35 (omega arith))
+asked_good s true false answer h = error_good s GET_SLOTS TYPE_MISMATCH (above 34 (omega arith))
+asked_good s false b answer h = error_good s GET_SLOTS INVALID_SLOT (above 35 (omega arith))
 
-slots_good : (s : State) (f : FrameNow) → FrameIsSound s.script.sizes f → (content : List DatumMeaning) → Good s 16 1 (slots_answer f content)
+slots_good : (s : State) (f : FrameNow) → FrameIsSound s.script.sizes f → (content : List DatumMeaning) → Good s GET_SLOTS (slots_answer f content)
 slots_good s f h content =
-    entries_good s 16 1 (slots_asked f.slots)
+    entries_good s GET_SLOTS (slots_asked f.slots)
     (λ entries few. asked_good s (list_all (entry_has_slot f.slots) entries) (list_all (entry_suits f.slots) entries) (Data (Many (slot_entries f.slots entries) ∷ [])) (slots_data s f.slots h.slots entries few)) content
 
-this_good : (s : State) (f : FrameNow) → FrameIsSound s.script.sizes f → Good s 16 3 (Data (One (Tagged (tagged s.script f.this)) ∷ []))
+this_good : (s : State) (f : FrameNow) → FrameIsSound s.script.sizes f → Good s THIS_OBJECT (Data (One (Tagged (tagged s.script f.this)) ∷ []))
 unfolding Good
 this_good s f h = rw h.this refl
 
-pub stack_frames_answered : (s : State) → IsSound s → (n : ℕ) (content : List DatumMeaning) → Good s 16 n (stack_frame_answer_by s.script (frames_at s) n content)
+pub stack_frames_answered : (s : State) → IsSound s → (n : ℕ) (content : List DatumMeaning) → Good s (command_at STACK_FRAME n) (stack_frame_answer_by s.script (frames_at s) n content)
 stack_frames_answered s sound n content =
-    at_number s 16 n 1 _ _ (frame_good s 16 1 sound slots_answer (slots_good s) content) (
-    at_number s 16 n 3 _ _ (frame_good s 16 3 sound (this_answer s.script) (λ f h. alone_good s 16 3 _ (this_good s f h)) content) (
-    no_command s 16 n))
+    at_number s GET_SLOTS n _ _ (frame_good s GET_SLOTS sound slots_answer (slots_good s) content) (
+    at_number s THIS_OBJECT n _ _ (frame_good s THIS_OBJECT sound (this_answer s.script) (λ f h. alone_good s THIS_OBJECT _ (this_good s f h)) content) (
+    no_command s (command_at STACK_FRAME n)))
 
 -- ---- the test of a location
 
-location_ok : (s : State) → Good s 15 1 (Data (One (Int (pos 0)) ∷ []))
+location_ok : (s : State) → Good s SET_REQUEST (Data (One (Int (pos 0)) ∷ []))
 unfolding Good
 location_ok s = refl
 
-index_when : (s : State) (b : Bool) → Good s 15 1 (if b then Error INVALID_LOCATION else Data (One (Int (pos 0)) ∷ []))
-index_when s true = error_good s 15 1 INVALID_LOCATION (above 24 (omega arith))
+index_when : (s : State) (b : Bool) → Good s SET_REQUEST (if b then Error INVALID_LOCATION else Data (One (Int (pos 0)) ∷ []))
+index_when s true = error_good s SET_REQUEST INVALID_LOCATION (above 24 (omega arith))
 index_when s false = location_ok s
 
-location_good : (s : State) (p : Location) → Good s 15 1 (location_answer s.script p)
-location_good s Null = error_good s 15 1 INVALID_LOCATION (above 24 (omega arith))
+location_good : (s : State) (p : Location) → Good s SET_REQUEST (location_answer s.script p)
+location_good s Null = error_good s SET_REQUEST INVALID_LOCATION (above 24 (omega arith))
 location_good s (At tag class method index) =
-    found_good s 15 1 INVALID_CLASS (location_in_class method.0 index) (class_in s.script class.0) (above 21 (omega arith))
-    (λ c e. found_good s 15 1 INVALID_METHODID (index_answer index) (method_in c method.0) (above 23 (omega arith)) (λ m k. index_when s (nat_lt m.last index)))
+    found_good s SET_REQUEST INVALID_CLASS (location_in_class method.0 index) (class_in s.script class.0) (above 21 (omega arith))
+    (λ c e. found_good s SET_REQUEST INVALID_METHODID (index_answer index) (method_in c method.0) (above 23 (omega arith)) (λ m k. index_when s (nat_lt m.last index)))
 
-set_when : (s : State) (p : Location) (b : Bool) → Good s 15 1 (if b then location_answer s.script p else Error NOT_IMPLEMENTED)
+set_when : (s : State) (p : Location) (b : Bool) → Good s SET_REQUEST (if b then location_answer s.script p else Error NOT_IMPLEMENTED)
 set_when s p true = location_good s p
-set_when s p false = no_command s 15 1
+set_when s p false = no_command s SET_REQUEST
 
-pub set_answered : (s : State) (content : List DatumMeaning) → Good s 15 1 (set_answer s.script content)
+pub set_answered : (s : State) (content : List DatumMeaning) → Good s SET_REQUEST (set_answer s.script content)
 set_answered s (One (Byte kind) ∷ One (Byte policy) ∷ Many ((Byte modifier ∷ Located location ∷ []) ∷ []) ∷ []) =
     set_when s location ((kind == kind_byte event.Breakpoint) && ((policy == POLICY_NONE) && (modifier == LOCATION_ONLY)))
-set_answered s content = no_command s 15 1
+set_answered s content = no_command s SET_REQUEST
