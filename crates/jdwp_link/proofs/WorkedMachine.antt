@@ -3,12 +3,13 @@ use Rattle.std.proofs.Common.{◌≡◌, ◌≢◌, ℕ, zero, suc, pos, ◌==�
 use Rattle.std.proofs.lemmas.Bool.{eqb-true, false≢true}
 use Rattle.std.proofs.Math.Bool.{and-false, and-true, or-false}
 use Rattle.std.specs.List.{filter, AllByRecursion, IsDistinct}
+use Rattle.jdwp_wire.specs.ErrorCodes.{NOT_IMPLEMENTED}
 use Rattle.jdwp_wire.specs.Numbers.{id_refusal}
 use Rattle.jdwp_wire.specs.Widths.{IsWidth}
 use Rattle.jdwp_value.specs.declared.value.Value.TheVariants as value
 use Rattle.jdwp_layout.specs.declared.answer.Answer.{Answer}
 use Rattle.jdwp_layout.specs.declared.answer.Answer.TheVariants.{Data, Error}
-use Rattle.jdwp_layout.specs.CommandNumbers.{is_command, FRAMES, FRAME_COUNT, GET_SLOTS, THIS_OBJECT}
+use Rattle.jdwp_layout.specs.CommandNumbers.{CommandNumber, is_command, FRAMES, FRAME_COUNT, SET_REQUEST, GET_SLOTS, THIS_OBJECT}
 use Rattle.jdwp_layout.specs.Meanings.{Int, Object, DatumMeaning, One}
 use Rattle.jdwp_event.specs.Occurrences.{OccurrenceMeaning, Moved, Entered, Left, RanOut, started_by, is_run_out}
 use Rattle.jdwp_machine.specs.declared.query.Query.{Query}
@@ -138,23 +139,23 @@ frames_same r s u q ne h =
 
 -- ---- answers
 
--- an answer to a command of this set and number
-unfoldable Good : Small → ℕ → ℕ → Answer → Type 0
-Good s set n a = MayAnswer small s set n a
+-- an answer to this command
+unfoldable Good : Small → CommandNumber → Answer → Type 0
+Good s command a = MayAnswer small s command.set command.number a
 
-from_good : (s : Small) (set n : ℕ) (a : Answer) → Good s set n a → MayAnswer small s set n a
+from_good : (s : Small) (command : CommandNumber) (a : Answer) → Good s command a → MayAnswer small s command.set command.number a
 unfolding Good
-from_good s set n a h = h
+from_good s command a h = h
 
-refused : (s : Small) (set n : ℕ) → Good s set n (Error (record { 0 = 99 }))
+refused : (s : Small) (command : CommandNumber) → Good s command (Error NOT_IMPLEMENTED)
 unfolding Good
-refused s set n = (omega arith, omega arith, omega arith)
+refused s command = (omega arith, omega arith, omega arith)
 
-location_good : (s : Small) → Good s 15 1 (Data (One (Int (pos 0)) ∷ []))
+location_good : (s : Small) → Good s SET_REQUEST (Data (One (Int (pos 0)) ∷ []))
 unfolding Good
 location_good s = refl
 
-frames_good : (s : Small) (index : Option ℕ) → Good s 11 6 (Data (frames_at index))
+frames_good : (s : Small) (index : Option ℕ) → Good s FRAMES (Data (frames_at index))
 unfolding Good
 frames_good s None = refl
 frames_good s (Some index) = refl
@@ -164,16 +165,21 @@ and_both true true h = (refl, refl)
 and_both true false h = absurd (false≢true h)
 and_both false b h = absurd (false≢true h)
 
-at_command : (s : Small) (set n k c : ℕ) (a b : Answer) → Good s k c a → Good s set n b → Good s set n (if (set == k) && (n == c) then a else b)
-at_command s set n k c a b here there = elim (either ((set == k) && (n == c))) [
-  | inl h ↦ let is = and_both (set == k) (n == c) h in rw h (rw (eqb-true set k is.0, eqb-true n c is.1) here)
+-- the command of this set and number
+abbrev command_at : ℕ → ℕ → CommandNumber
+command_at set number = record { set = set; number = number }
+
+at_command : (s : Small) (set n : ℕ) (command : CommandNumber) (a b : Answer) → Good s command a → Good s (command_at set n) b → Good s (command_at set n) (if is_command command set n then a else b)
+unfolding Good
+at_command s set n command a b here there = elim (either (is_command command set n)) [
+  | inl h ↦ let is = and_both (set == command.set) (n == command.number) h in rw h (rw (eqb-true set command.set is.0, eqb-true n command.number is.1) here)
   | inr h ↦ rw h there
 ]
 
-answer_good : (s : Small) (q : Query) → Good s q.set q.number (small_answer s q)
+answer_good : (s : Small) (q : Query) → Good s (command_at q.set q.number) (small_answer s q)
 answer_good s q =
-    at_command s q.set q.number 15 1 _ _ (location_good s) (
-    at_command s q.set q.number 11 6 _ _ (frames_good s _) (refused s q.set q.number))
+    at_command s q.set q.number SET_REQUEST _ _ (location_good s) (
+    at_command s q.set q.number FRAMES _ _ (frames_good s _) (refused s (command_at q.set q.number)))
 
 -- ---- all together
 
@@ -202,7 +208,7 @@ small_lawful =
       frames_ended = λ s t u q may ne h. refl;
       frames_written = λ s t f u values q is ne h. refl;
       places_written = λ s t f values q is h. refl;
-      answers = λ s q is. from_good s q.set q.number (small_answer s q) (answer_good s q);
+      answers = λ s q is. from_good s (command_at q.set q.number) (small_answer s q) (answer_good s q);
       write_answers = λ s t f values is. (omega arith, omega arith, omega arith);
       short_signature = λ s t may. (occurrence_good s t).short;
       live_fits = λ s t is h. thread_fits t (is.known t h);
