@@ -1,6 +1,7 @@
 //! The commands on their files.
-ghost use Rattle.std.specs.Prelude.{◌≡◌, List, map, Ok, IfOk, OnErr};
+ghost use Rattle.std.specs.Prelude.{◌≡◌, List, map, Ok, IfOk, IfErr, OnErr, MatchResult};
 ghost use Rattle.std.specs.Io.KnownBytes.{Keeps};
+ghost use Rattle.std.specs.Str.{IsUtf8};
 ghost use Rattle.std.specs.Str.Lines.{lines};
 ghost use Rattle.jdwp_wire.specs.Limits.{standard_limits};
 ghost use Rattle.jdwp_script_machine.specs.Machines.{read_machine};
@@ -13,6 +14,7 @@ ghost use Rattle.jdwp_plan.specs.PlanLines.{said_by};
 ghost use Rattle.jdwp_plan.specs.Plans.{Says};
 ghost use Rattle.jdwp_program.specs.Attaching.{AttachesNew};
 ghost use Rattle.jdwp_program.specs.Outputs.{LeavesCaptureTold};
+ghost use Rattle.jdwp_files.specs.Refusals.{IsFileNotText, RefusesScript, RefusesPlan};
 
 use jdwp_engine::{Ended, Streams};
 use jdwp_program::{Fault, FileCause, Told, attach_plan, check_capture, show_capture, text_of};
@@ -101,8 +103,9 @@ fn serve_bytes<'a, I: Read, O: Write>(
     bytes: &[u8],
     pipe: &mut Streams<I, O>,
 ) -> Result<Ended, Fault<'a>>
-    ensures served { IfOk result (λ ended. (machine : State) × (read_machine standard_limits.live bytes.now ≡ Ok machine)
+    ensures served { IfOk result (λ ended. IsUtf8 bytes.now × (machine : State) × (read_machine standard_limits.live bytes.now ≡ Ok machine)
         × ServesNew script_meaning words.now.settings machine words.now.turns (story_of pipe.old) (story_of pipe.new) ended) }
+    ensures fault { IfErr result (RefusesScript words.now.machine bytes.now) }
     ensures untouched { OnErr result (pipe.new ≡ pipe.old) }
 {
     let script = text(words.machine, bytes)?;
@@ -135,8 +138,9 @@ fn attach_bytes<'a, I: Read, W: Write, O: Write>(
     pipe: &mut Streams<I, W>,
     out: &mut O,
 ) -> Result<Ended, Fault<'a>>
-    ensures ran { IfOk result (λ ended. (said : List PlanLine) × Says (lines bytes.now) (map said_by said)
+    ensures ran { IfOk result (λ ended. IsUtf8 bytes.now × (said : List PlanLine) × Says (lines bytes.now) (map said_by said)
         × AttachesNew said words.now.turns (story_of pipe.old) (story_of pipe.new) ended) }
+    ensures fault { IfErr result (RefusesPlan words.now.plan bytes.now) }
     ensures untouched { OnErr result (pipe.new ≡ pipe.old) }
     ensures unprinted { OnErr result (Keeps (O.contents out.old) (O.contents out.new)) }
 {
@@ -169,7 +173,7 @@ fn writer<'a, R: Files + AllocGlobal>(
 
 /// The bytes of a file as text.
 fn text<'a, 'b>(file: &'a str, bytes: &'b [u8]) -> Result<&'b str, Fault<'a>>
-    ensures { IfOk result (λ text. text.now ≡ bytes.now) }
+    ensures { MatchResult result (λ text. (text.now ≡ bytes.now) × IsUtf8 bytes.now) (IsFileNotText file.entry bytes.now) }
 {
     match text_of(bytes) {
         Ok(text) => Ok(text),

@@ -1,0 +1,29 @@
+-- Why no session began.
+use Rattle.std.specs.Prelude.{◌≡◌, ◌⊎◌, ℕ, List, Err}
+use Rattle.std.specs.Borrow.{Bor}
+use Rattle.std.specs.Str.Lines.{lines}
+use Rattle.jdwp_wire.specs.Limits.{standard_limits}
+use Rattle.jdwp_script.specs.declared.fault.ScriptFault.{ScriptFault}
+use Rattle.jdwp_script.specs.declared.fault.ScriptFault.TheVariants as script
+use Rattle.jdwp_script_machine.specs.Machines.{read_machine}
+use Rattle.jdwp_plan.specs.declared.plan_fault.PlanFault.{PlanFault}
+use Rattle.jdwp_plan.specs.Plans.{IsFirstFault}
+use Rattle.jdwp_program.specs.declared.fault.Fault.{Fault}
+use Rattle.jdwp_program.specs.declared.fault.Fault.TheVariants as fault
+use Rattle.jdwp_program.specs.declared.fault.FileCause.{FileCause}
+use Rattle.jdwp_program.specs.Files.{IsNotText, fault_of_script, fault_of_plan}
+
+-- the file of this name is no text, and the place is told at which its bytes stop being one
+abbrev pub IsFileNotText : Bor (List ℕ) → List ℕ → Fault → Type 0
+IsFileNotText file bytes told = (cause : FileCause) × (told ≡ fault.File file cause) × IsNotText bytes cause
+
+-- no session of a script began: its file is no text, or it has this fault, the first, or memory was refused
+abbrev pub RefusesScript : Bor (List ℕ) → List ℕ → Fault → Type 0
+RefusesScript file bytes told =
+    IsFileNotText file bytes told
+    ⊎ ((refused : ScriptFault) × (told ≡ fault_of_script refused) × ((refused ≡ script.NoMemory) ⊎ (read_machine standard_limits.live bytes ≡ Err refused)))
+
+-- no session of a plan began: its file is no text, or it has this fault, the first, or memory was refused
+abbrev pub RefusesPlan : Bor (List ℕ) → List ℕ → Fault → Type 0
+RefusesPlan file bytes told =
+    IsFileNotText file bytes told ⊎ ((refused : PlanFault) × (told ≡ fault_of_plan refused) × IsFirstFault (lines bytes) refused)
