@@ -1,7 +1,7 @@
 -- A script is a lawful machine.
 use Rattle.std.proofs.Common.{◌≡◌, ℕ, ℤ, pos, ◌==◌, ◌||◌, ◌&&◌, Bool, true, false, not, nat_lt, if◌then◌else◌, List, [], ◌∷◌, refl, sym, ◌∙◌, ap, arith, Option, Some, None, inl, inr}
 use Rattle.jdwp_wire.specs.declared.error_code.ErrorCode.{ErrorCode}
-use Rattle.jdwp_wire.specs.ErrorCodes.{INVALID_OBJECT, INVALID_CLASS, INVALID_METHODID, INVALID_LOCATION, TYPE_MISMATCH, INVALID_SLOT}
+use Rattle.jdwp_wire.specs.ErrorCodes.{INVALID_OBJECT, INVALID_CLASS, INVALID_METHODID, INVALID_LOCATION, INVALID_FRAMEID, TYPE_MISMATCH, INVALID_SLOT}
 use Rattle.std.specs.List.{list_all}
 use Rattle.jdwp_value.specs.declared.location.Location.{Location}
 use Rattle.jdwp_value.specs.declared.location.Location.TheVariants.{Null, At}
@@ -63,17 +63,17 @@ MayRefuse (Some e) = IsMachineError e
 
 slots_refused : (a b c : Bool) → MayRefuse (if not a then Some INVALID_SLOT else (if not b then Some TYPE_MISMATCH else (if not c then Some INVALID_OBJECT else None)))
 slots_refused true true true = tt
-slots_refused true true false = above 20 (omega arith)
-slots_refused true false c = above 34 (omega arith)
-slots_refused false b c = above 35 (omega arith)
+slots_refused true true false = above INVALID_OBJECT (omega arith)
+slots_refused true false c = above TYPE_MISMATCH (omega arith)
+slots_refused false b c = above INVALID_SLOT (omega arith)
 
 frame_refused : (script : ScriptPart) (values : List (ℤ × Value)) (o : Option FrameNow) → MayRefuse (frame_refusal script values o)
-frame_refused script values None = above 30 (omega arith)
+frame_refused script values None = above INVALID_FRAMEID (omega arith)
 frame_refused script values (Some f) =
     slots_refused (list_all (λ (v : ℤ × Value). has_slot f.slots v.0) values) (list_all (λ (v : ℤ × Value). found_suits (slot_value v.0 f.slots) (tag_of v.1)) values) (list_all (λ (v : ℤ × Value). may_hold script v.1) values)
 
 thread_refused : (script : ScriptPart) (f : ℕ) (values : List (ℤ × Value)) (o : Option ThreadNow) → MayRefuse (thread_refusal script f values o)
-thread_refused script f values None = above 20 (omega arith)
+thread_refused script f values None = above INVALID_OBJECT (omega arith)
 thread_refused script f values (Some e) = frame_refused script values (frame_in f e.frames)
 
 write_data : (s : State) → Good s SET_SLOTS (Data [])
