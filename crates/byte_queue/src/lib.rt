@@ -92,9 +92,11 @@ impl ByteQueue {
         requires writable { T.refusal sizes.now (T.meaning value.now) ≡ None }
         requires room { length self.old.bytes + length (T.canonical sizes.now (T.meaning value.now))
             ≤ self.old.capacity }
-        ensures { self.new ≡ record self.old {
+        ensures added { self.new ≡ record self.old {
           bytes = self.old.bytes ++ T.canonical sizes.now (T.meaning value.now);
         } }
+        ensures encoded { T.encodes sizes.now (T.meaning value.now)
+            (T.canonical sizes.now (T.meaning value.now)) }
     {
         let room = (self.capacity * 2).saturating_sub(self.bytes.len());
         let size = value.size(sizes).unwrap();

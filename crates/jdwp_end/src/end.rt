@@ -206,7 +206,8 @@ impl End {
     pub fn put<T: Wire>(&mut self, value: &T, sizes: &IdSizes)
         requires writable { T.refusal sizes.now (T.meaning value.now) ≡ None }
         requires room { length self.old.outgoing + length (T.canonical sizes.now (T.meaning value.now)) ≤ most_outgoing self.old.limits }
-        ensures { self.new ≡ with_enqueued (T.canonical sizes.now (T.meaning value.now)) self.old }
+        ensures enqueued { self.new ≡ with_enqueued (T.canonical sizes.now (T.meaning value.now)) self.old }
+        ensures encoded { T.encodes sizes.now (T.meaning value.now) (T.canonical sizes.now (T.meaning value.now)) }
     {
         let before = self.outgoing.len();
         self.outgoing.put(value, sizes);

@@ -18,5 +18,5 @@ unwrap-requires g c = search rules
 pub invariant_of-self : goal.invariant_of-self
 invariant_of-self g c = grind (arith, common_steps)
 
-pub returns : goal.returns
-returns g c = grind (arith, common_steps)
+pub returns-clause-added : goal.returns-clause-added
+returns-clause-added g c = grind (arith, common_steps)
