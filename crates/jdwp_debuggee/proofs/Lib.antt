@@ -18,3 +18,7 @@ pub mod LeastThread
 pub mod Fitting
 pub mod Refused
 pub mod Read
+pub mod ReplyShapes
+pub mod OwnAnswers
+pub mod SetAnswers
+pub mod Encoded

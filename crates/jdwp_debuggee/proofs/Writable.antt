@@ -38,7 +38,7 @@ by-row m s (Some row) content h = by-shapes m s row.shapes content h
 -- what a lawful machine answers can be written
 pub answer-writable : {S : Type 0} (m : Meaning S) (s : S) (set number : ℕ) (x : Answer) → MayAnswer m s set number x → IsWritable (m.sizes s) set number x
 answer-writable m s set number (Data content) h = by-row m s (row_at set number) content h
-answer-writable m s set number (Error e) h = tt
+answer-writable m s set number (Error e) h = let least = h.0 in omega arith
 
 nothing-fits : (w : Widths) (content : List DatumMeaning) → data_refusal w [] content ≡ None → content ≡ []
 nothing-fits w [] h = refl

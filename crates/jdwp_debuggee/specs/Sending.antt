@@ -1,5 +1,5 @@
 -- What is sent for an answer (JDWP specification, "Packets": a reply's error code and data).
-use Rattle.std.specs.Prelude.{◌≡◌, ℕ, ◌+◌, ◌≤◌, ⊤, suc, nat_le, if◌then◌else◌, ◌∷◌, Bool, true, false, List, [], length, Option, Some, None, Result, Ok, Err}
+use Rattle.std.specs.Prelude.{◌≡◌, ◌≢◌, ℕ, ◌+◌, ◌≤◌, ⊤, suc, nat_le, if◌then◌else◌, ◌∷◌, Bool, true, false, List, [], length, Option, Some, None, Result, Ok, Err}
 use Rattle.jdwp_wire.specs.ErrorCodes.{NONE}
 use Rattle.jdwp_wire.specs.Widths.{Widths}
 use Rattle.jdwp_wire.specs.declared.error_code.ErrorCode.{ErrorCode}
@@ -7,6 +7,7 @@ use Rattle.jdwp_wire.specs.Limits.{least_packet_limit}
 use Rattle.jdwp_event.specs.CompositeBytes.{composite_canonical, composite_refusal}
 use Rattle.jdwp_event.specs.Composites.{CompositeMeaning, composite_data}
 use Rattle.jdwp_layout.specs.CommandTable.{row_at}
+use Rattle.jdwp_layout.specs.Grammar.{EncodesData}
 use Rattle.jdwp_layout.specs.Meanings.{DatumMeaning}
 use Rattle.jdwp_layout.specs.Rows.{Row, RowShapes}
 use Rattle.jdwp_layout.specs.Shapes.{ItemShape, Events, OneOf, ListOf}
@@ -72,6 +73,14 @@ is_short_action Actions.AllThreads = false
 is_short_action Actions.Ask = false
 is_short_action action = true
 
+-- the actions that ask the machine, or for the list of its threads
+abbrev pub is_question : Action → Bool
+is_question (Actions.AskFrames t) = true
+is_question (Actions.AskThread t) = true
+is_question Actions.AllThreads = true
+is_question Actions.Ask = true
+is_question action = false
+
 -- what is asked for wants no memory; a refusal wants none
 abbrev pub is_short_asked : Result Asking ErrorCode → Bool
 is_short_asked (Ok asking) = is_short_action asking.action
@@ -100,7 +109,19 @@ AreWritable w (Some shapes) content = data_refusal w shapes content ≡ None
 -- an answer to a command of this set and number, in the layout of its row's reply
 abbrev pub IsWritable : Widths → ℕ → ℕ → Answer → Type 0
 IsWritable w set number (Data content) = AreWritable w (row_reply (row_at set number)) content
-IsWritable w set number (Error error) = ⊤
+IsWritable w set number (Error error) = error.0 ≢ NONE.0
+
+-- ---- data that can be read
+
+-- The data of an answer are encoded by the bytes that are sent for it, in the layout of the reply's row: so whoever reads them by that
+-- layout reads the answer. Where a command was refused there are no data, and the error is one.
+abbrev pub EncodesReply : Widths → Option (List ItemShape) → List DatumMeaning → Type 0
+EncodesReply w None content = ⊥
+EncodesReply w (Some shapes) content = EncodesData w shapes content (data_canonical w content)
+
+abbrev pub EncodesAnswer : Widths → ℕ → ℕ → Answer → Type 0
+EncodesAnswer w set number (Data content) = EncodesReply w (row_reply (row_at set number)) content
+EncodesAnswer w set number (Error error) = error.0 ≢ NONE.0
 
 -- ---- composites that can be sent
 

@@ -8,7 +8,8 @@ ghost use Rattle.jdwp_debuggee.specs.Debuggees.{CarriesOut};
 ghost use Rattle.jdwp_debuggee.specs.Effects.{does};
 ghost use Rattle.jdwp_debuggee.specs.ReadParts.{found_layout};
 ghost use Rattle.jdwp_debuggee.specs.Replies.{reply_meaning};
-ghost use Rattle.jdwp_debuggee.specs.Sending.{IsSent, IsWritable, row_reply, sent_bytes};
+ghost use Rattle.jdwp_debuggee.specs.Sending.{EncodesAnswer, IsSent, IsWritable, row_reply, sent_bytes};
+ghost use Rattle.jdwp_layout.specs.CommandNumbers as commands;
 ghost use Rattle.jdwp_layout.specs.CommandTable.{row_at};
 ghost use Rattle.jdwp_layout.specs.Meanings.{Many, Object};
 
@@ -45,6 +46,7 @@ fn sent(
 ) -> Result<Sent, NoMemory>
     requires { IsWritable sizes.now set number answer }
     ensures value { IfOk result (λ sent. IsSent sizes.now (bounded settings.now sizes.now answer) sent) }
+    ensures encoded { IfOk result (λ sent. EncodesAnswer sizes.now set number (bounded settings.now sizes.now answer)) }
     ensures fits { IfOk result (λ sent. least_packet_limit ≤ settings.now.limits.packet → 11 + length (sent_bytes sizes.now sent) ≤ settings.now.limits.packet) }
 {
     let content = match answer {
@@ -81,6 +83,7 @@ impl<M: Machine> Debuggee<M> {
     /// `NoMemory` where an allocation was refused.
     pub fn ask(&self, alloc: Global, query: &Query) -> Result<Sent, NoMemory>
         ensures value { IfOk result (λ sent. IsSent (M.meaning.sizes self.now.moment.machine) (bounded self.now.settings (M.meaning.sizes self.now.moment.machine) (M.meaning.query self.now.moment.machine query.now)) sent) }
+        ensures encoded { IfOk result (λ sent. EncodesAnswer (M.meaning.sizes self.now.moment.machine) query.now.set query.now.number (bounded self.now.settings (M.meaning.sizes self.now.moment.machine) (M.meaning.query self.now.moment.machine query.now))) }
         ensures fits { IfOk result (λ sent. least_packet_limit ≤ self.now.settings.limits.packet → 11 + length (sent_bytes (M.meaning.sizes self.now.moment.machine) sent) ≤ self.now.settings.limits.packet) }
     {
         let answer = self.machine.query(query)?;
@@ -106,6 +109,7 @@ impl<M: Machine> Debuggee<M> {
         query: &Query,
     ) -> Result<Sent, NoMemory>
         ensures value { IfOk result (λ sent. (c : Command) → query_of c ≡ query.now → IsSent (M.meaning.sizes self.now.moment.machine) (does M.meaning self.now.settings self.now.moment c (action.AskThread thread.0)).answer sent) }
+        ensures encoded { IfOk result (λ sent. (c : Command) → query_of c ≡ query.now → EncodesAnswer (M.meaning.sizes self.now.moment.machine) c.set c.number (does M.meaning self.now.settings self.now.moment c (action.AskThread thread.0)).answer) }
         ensures fits { IfOk result (λ sent. least_packet_limit ≤ self.now.settings.limits.packet → 11 + length (sent_bytes (M.meaning.sizes self.now.moment.machine) sent) ≤ self.now.settings.limits.packet) }
     {
         match self.threads.count(thread) {
@@ -125,6 +129,7 @@ impl<M: Machine> Debuggee<M> {
         query: &Query,
     ) -> Result<Sent, NoMemory>
         ensures value { IfOk result (λ sent. (c : Command) → query_of c ≡ query.now → IsSent (M.meaning.sizes self.now.moment.machine) (does M.meaning self.now.settings self.now.moment c (action.AskFrames thread.0)).answer sent) }
+        ensures encoded { IfOk result (λ sent. (c : Command) → query_of c ≡ query.now → EncodesAnswer (M.meaning.sizes self.now.moment.machine) c.set c.number (does M.meaning self.now.settings self.now.moment c (action.AskFrames thread.0)).answer) }
         ensures fits { IfOk result (λ sent. least_packet_limit ≤ self.now.settings.limits.packet → 11 + length (sent_bytes (M.meaning.sizes self.now.moment.machine) sent) ≤ self.now.settings.limits.packet) }
     {
         match self.threads.count(thread) {
@@ -164,6 +169,7 @@ impl<M: Machine> Debuggee<M> {
     /// `NoMemory` where an allocation was refused.
     pub fn ask_all_threads(&self, alloc: Global) -> Result<Sent, NoMemory>
         ensures value { IfOk result (λ sent. IsSent (M.meaning.sizes self.now.moment.machine) (bounded self.now.settings (M.meaning.sizes self.now.moment.machine) (all_threads self.now.moment.state)) sent) }
+        ensures encoded { IfOk result (λ sent. EncodesAnswer (M.meaning.sizes self.now.moment.machine) commands.ALL_THREADS.set commands.ALL_THREADS.number (bounded self.now.settings (M.meaning.sizes self.now.moment.machine) (all_threads self.now.moment.state))) }
         ensures fits { IfOk result (λ sent. least_packet_limit ≤ self.now.settings.limits.packet → 11 + length (sent_bytes (M.meaning.sizes self.now.moment.machine) sent) ≤ self.now.settings.limits.packet) }
     {
         if self.threads.len() > self.settings.limits().packet() as usize {

@@ -1,11 +1,12 @@
 //! Commands are carried out, each by its action (JDWP specification, "Protocol Details").
 ghost use Rattle.std.specs.Prelude.{◌≡◌, true, false, IfOk, IfErr, OnErr, MatchOption};
-ghost use Rattle.jdwp_debuggee.specs.Actions.{Command};
+ghost use Rattle.jdwp_debuggee.specs.Actions.{Command, action_of};
 ghost use Rattle.jdwp_debuggee.specs.CommandReads.{action_meaning, asking, asking_of};
 ghost use Rattle.jdwp_debuggee.specs.Debuggees.{CarriesOut};
+ghost use Rattle.jdwp_debuggee.specs.Effects.{carried};
 ghost use Rattle.jdwp_debuggee.specs.Facts.{is_dispose, is_exit};
 ghost use Rattle.jdwp_debuggee.specs.Replies.{reply_meaning};
-ghost use Rattle.jdwp_debuggee.specs.Sending.{Did, is_short_action, sent_short};
+ghost use Rattle.jdwp_debuggee.specs.Sending.{Did, EncodesAnswer, is_question, is_short_action, sent_short};
 
 use crate::command::Action;
 use crate::debuggee::Debuggee;
@@ -40,12 +41,21 @@ fn short(reply: Result<Reply, NoMemory>) -> Result<Sent, NoMemory>
 }
 
 impl<M: Machine> Debuggee<M> {
+    /// What a command is answered that asks neither the machine nor for its threads is encoded by the bytes that are sent for it. It
+    /// does nothing.
+    pub fn own_answers(&self)
+        ensures { (c : Command) → is_question (action_of c) ≡ false → EncodesAnswer (M.meaning.sizes self.now.moment.machine) c.set c.number (carried M.meaning self.now.settings self.now.moment c (action_of c)).answer }
+    {
+        self.settings.count_limit();
+    }
+
     /// Carries out an action, and answers what is to be sent for it.
     ///
     /// # Errors
     /// `NoMemory` where an allocation was refused, which those that want no memory never answer; then nothing has changed.
     pub fn carry_out(&mut self, alloc: Global, action: Action) -> Result<Sent, NoMemory>
         ensures ok { IfOk result (λ sent. (c : Command) → asking action ≡ asking_of c → Did M.meaning c self.old self.new sent) }
+        ensures encoded { IfOk result (λ sent. (c : Command) → asking action ≡ asking_of c → is_question (action_of c) ≡ true → EncodesAnswer (M.meaning.sizes self.old.moment.machine) c.set c.number (carried M.meaning self.old.settings self.old.moment c (action_of c)).answer) }
         ensures err { OnErr result (self.new ≡ self.old) }
         ensures memory { IfErr result (λ _. is_short_action (action_meaning action) ≡ false) }
     {

@@ -1,10 +1,12 @@
 use Rattle.std.proofs.Common.{◌≡◌, ℕ, ◌^◌, ◌<◌, ◌∷◌, [], ◌≤◌, List, IfOk, length, map, rules, arith, subst}
 use Rattle.std.proofs.lemmas.List.{length-map}
+use Rattle.jdwp_layout.specs.declared.answer.Answer.TheVariants.{Data}
+use Rattle.jdwp_layout.specs.CommandNumbers.{ALL_THREADS}
 use Rattle.jdwp_layout.specs.Meanings.{DatumMeaning, Object, Many}
 use Rattle.jdwp_debuggee.specs.Answers.{all_threads, bounded, rising}
 use Rattle.jdwp_wire.specs.ErrorCodes.{INTERNAL}
 use Rattle.jdwp_debuggee.specs.Debuggees.{Debuggee}
-use Rattle.jdwp_debuggee.specs.Sending.{IsSent}
+use Rattle.jdwp_debuggee.specs.Sending.{EncodesAnswer, IsSent}
 use Rattle.jdwp_debuggee.specs.State.{Thread, ids}
 use Rattle.jdwp_debuggee.specs.declared.reply.Reply.TheVariants as reply
 use Rattle.jdwp_debuggee.specs.declared.reply.Sent.TheVariants as sent
@@ -43,3 +45,25 @@ returns-clause-value g c =
     let d = c.self.inside in
     let content : c.in_ok-listed.field-0 ≡ listed (rising (ids d.threads)) = search rules in
     subst (λ (x : Debuggee g.row.M.Denot). IfOk c.sent.result (λ y. IsSent (m.sizes x.moment.machine) (bounded x.settings (m.sizes x.moment.machine) (all_threads x.moment.state)) y)) c.self.view_is (rw (c.sizes-sizes.ensures, content) at c.sent.ensures.value)
+
+pub returns-then-len-packet-clause-encoded : goal.returns-then-len-packet-clause-encoded
+returns-then-len-packet-clause-encoded g c =
+    let m = g.M.Machine.meaning in
+    let d = c.self.inside in
+    let one = (g.met.M.Machine.lawful.sizes_are_widths d.machine c.self.invariant.sound.state).object_is in
+    let count = length-rising (ids d.threads) in
+    let same = length-map d.threads (λ (entry : Thread). entry.id) in
+    let packet = rw c.limits.ensures at c.packet.ensures.value in
+    let long : d.settings.limits.packet < length (rising (ids d.threads)) = omega (arith, count, same, packet, c.len.ensures, c.if-len-packet.true) in
+    let short : 1 ≤ (m.sizes d.machine).object = omega (arith, one) in
+    let told : EncodesAnswer (m.sizes d.machine) ALL_THREADS.set ALL_THREADS.number (bounded d.settings (m.sizes d.machine) (Data (listed (rising (ids d.threads))))) =
+    rw (threads-too-long d.settings (m.sizes d.machine) (rising (ids d.threads)) short long) (omega arith) in
+    subst (λ (x : Debuggee g.row.M.Denot). EncodesAnswer (m.sizes x.moment.machine) ALL_THREADS.set ALL_THREADS.number (bounded x.settings (m.sizes x.moment.machine) (all_threads x.moment.state))) c.self.view_is told
+
+pub returns-clause-encoded : goal.returns-clause-encoded
+returns-clause-encoded g c =
+    let m = g.M.Machine.meaning in
+    let d = c.self.inside in
+    let content : c.in_ok-listed.field-0 ≡ listed (rising (ids d.threads)) = search rules in
+    subst (λ (x : Debuggee g.row.M.Denot). IfOk c.sent.result (λ y. EncodesAnswer (m.sizes x.moment.machine) ALL_THREADS.set ALL_THREADS.number (bounded x.settings (m.sizes x.moment.machine) (all_threads x.moment.state)))) c.self.view_is
+    (rw (c.sizes-sizes.ensures, content) at c.sent.ensures.encoded)

@@ -3,6 +3,7 @@ use Rattle.jdwp_debuggee.specs.Actions as action
 use Rattle.jdwp_debuggee.specs.CommandReads.{Asking}
 use Rattle.jdwp_debuggee.specs.Debuggees.{CarriesOut}
 use Rattle.jdwp_debuggee.specs.Replies.{reply_meaning}
+use Rattle.jdwp_debuggee.proofs.Encoded.{threads-told}
 use Rattle.jdwp_debuggee.proofs.Writable.{frames-did, short-did, short-fails, short-sent, short-stays, thread-did}
 use Rattle.jdwp_debuggee.proofs.debuggee.Debuggee.carry_out.Goals as goal
 
@@ -89,3 +90,6 @@ returns-in-AskFrames-clause-ok g c = rw c.in-AskFrames.is (frames-did g.M.Machin
 
 pub returns-in-AskThread-clause-ok : goal.returns-in-AskThread-clause-ok
 returns-in-AskThread-clause-ok g c = rw c.in-AskThread.is (thread-did g.M.Machine.meaning _ c.in-AskThread.thread.0 c.in-AskThread.query _ c.ask_thread.ensures.value c.ask_thread.ensures.fits)
+
+pub returns-in-AllThreads-clause-encoded : goal.returns-in-AllThreads-clause-encoded
+returns-in-AllThreads-clause-encoded g c = rw c.in-AllThreads.is (threads-told g.M.Machine.meaning c.args.self.now None c.ask_all_threads.result c.ask_all_threads.ensures.encoded)

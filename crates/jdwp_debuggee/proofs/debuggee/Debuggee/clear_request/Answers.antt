@@ -1,4 +1,4 @@
-use Rattle.std.proofs.Common.{refl}
+use Rattle.std.proofs.Common.{refl, rules}
 use Rattle.jdwp_debuggee.specs.Actions as action
 use Rattle.jdwp_debuggee.proofs.Commands.{does_all}
 use Rattle.jdwp_debuggee.proofs.Kept.{any, kept-threads}
@@ -8,3 +8,6 @@ use Rattle.jdwp_debuggee.proofs.debuggee.Debuggee.clear_request.Goals as goal
 pub invariant_of-self : goal.invariant_of-self
 invariant_of-self g c =
     rw c.remove.ensures (kept-threads g.M.Machine.meaning _ _ c.self.invariant refl refl refl (few-filtered _ _) (does_all g.M.Machine.meaning g.met.M.Machine.lawful _ _ any (action.ClearRequest c.args.kind _) c.self.invariant.sound).sound)
+
+pub returns : goal.returns
+returns g c = search rules

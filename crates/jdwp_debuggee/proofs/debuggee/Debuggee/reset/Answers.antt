@@ -1,3 +1,4 @@
+use Rattle.std.proofs.Common.{rules}
 use Rattle.jdwp_debuggee.proofs.Kept.{kept-reset, most-of}
 use Rattle.jdwp_debuggee.proofs.debuggee.Debuggee.reset.Goals as goal
 
@@ -6,3 +7,6 @@ change-requires g c = most-of g.M.Machine.meaning _ c.self.invariant
 
 pub invariant_of-self : goal.invariant_of-self
 invariant_of-self g c = rw (c.change.ensures, c.clear.ensures) (kept-reset g.M.Machine.meaning _ c.self.invariant)
+
+pub returns : goal.returns
+returns g c = search rules
