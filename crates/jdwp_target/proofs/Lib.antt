@@ -5,3 +5,4 @@ pub mod StepLemmas
 pub mod RightTurns
 pub mod Numbered
 pub mod Closing
+pub mod Encoded

@@ -1,5 +1,5 @@
 -- What turns and steps of a target over any machine answer, and what they leave.
-use Rattle.std.specs.Prelude.{◌≡◌, ℕ, Bool, true, false, ◌||◌, not, List, Option, Some, None, Result, Ok, Err, MatchResult}
+use Rattle.std.specs.Prelude.{◌≡◌, ℕ, ⊤, Bool, true, false, ◌||◌, not, List, Option, Some, None, Result, Ok, Err, MatchResult}
 use Rattle.jdwp_wire.specs.Streams.{Message, Handshake, Packet, NextMessage, Whole, More, Fault}
 use Rattle.jdwp_wire.specs.declared.packet.PacketKind.{PacketKind}
 use Rattle.jdwp_wire.specs.declared.packet.PacketKind.TheVariants as kind
@@ -18,6 +18,7 @@ use Rattle.jdwp_target.specs.declared.target.TargetFault.{TargetFault}
 use Rattle.jdwp_target.specs.declared.target.TargetFault.TheVariants.{Frame, NoMemory}
 use Rattle.jdwp_target.specs.declared.target.Turn.{Turn}
 use Rattle.jdwp_target.specs.declared.target.Turn.TheVariants.{Nothing, Hello, Replied, Ignored}
+use Rattle.jdwp_target.specs.Sends.{EncodesSent}
 use Rattle.jdwp_target.specs.Standings.{carried_out}
 use Rattle.jdwp_target.specs.Targets.{Target, lost, with_handled, with_step}
 
@@ -71,6 +72,11 @@ told_of_step o = told_by_end o.sends o.ends
 abbrev pub StepsWhere : {S : Type 0} → Meaning S → ℕ → Target S → Stepped → Target S → Bool → Type 0
 StepsWhere m t old stepped new true = (stepped ≡ Frozen) × (new ≡ old)
 StepsWhere m t old stepped new false = (stepped ≡ told_of_step (occurs m old.moment t)) × (new ≡ with_step m t old)
+
+-- What a step sends is encoded by its bytes.
+abbrev pub EncodesWhere : {S : Type 0} → Meaning S → ℕ → Target S → Bool → Type 0
+EncodesWhere m t old true = ⊤
+EncodesWhere m t old false = EncodesSent (m.sizes old.moment.machine) old.end.phase (occurs m old.moment t).sends
 
 abbrev pub StepsAt : {S : Type 0} → Meaning S → ℕ → Target S → Result Stepped TargetFault → Target S → Type 0
 StepsAt m t old result new =

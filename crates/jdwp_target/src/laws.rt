@@ -1,6 +1,11 @@
 //! Laws of the definitions.
+ghost use Rattle.std.specs.Prelude.{◌≡◌, ◌<◌, ℕ, Some, None};
+ghost use Rattle.jdwp_wire.specs.Numbers.{id_refusal};
+ghost use Rattle.jdwp_wire.specs.Widths.{Widths};
+ghost use Rattle.jdwp_event.specs.Composites.{vm_start, vm_death};
 ghost use Rattle.jdwp_target.specs.Closings.{ClosesForReason};
 ghost use Rattle.jdwp_target.specs.Lives.{NumbersComposites};
+ghost use Rattle.jdwp_target.specs.Sends.{IsEncoded};
 ghost use Rattle.jdwp_target.specs.Targets.{GoesOn};
 
 use jdwp_machine::Machine;
@@ -20,4 +25,10 @@ pub fn numbers_composites_in_order<M: Machine>()
 /// the connection was lost. It does nothing.
 pub fn closes_for_a_reason<M: Machine>()
     ensures { ClosesForReason M.meaning }
+{}
+
+/// VM_START, where its thread's id fits, and VM_DEATH are encoded by the bytes that are sent for them. It does nothing.
+pub fn encodes_start_and_death()
+    ensures start { (w : Widths) (policy thread : ℕ) → policy < 256 → id_refusal w.object thread ≡ None → IsEncoded w (Some (vm_start policy thread)) }
+    ensures death { (w : Widths) → IsEncoded w (Some vm_death) }
 {}

@@ -10,5 +10,7 @@ mod stepping;
 mod target;
 mod turning;
 
-pub use laws::{closes_for_a_reason, goes_on_at_each_call, numbers_composites_in_order};
+pub use laws::{
+    closes_for_a_reason, encodes_start_and_death, goes_on_at_each_call, numbers_composites_in_order,
+};
 pub use target::{Stepped, Target, TargetFault, Turn};

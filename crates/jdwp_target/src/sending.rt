@@ -4,7 +4,7 @@ ghost use Rattle.jdwp_end.specs.Ends.{most_outgoing, with_enqueued};
 ghost use Rattle.jdwp_wire.specs.Frames.{header_bytes};
 ghost use Rattle.jdwp_wire.specs.Streams.{message_bytes};
 ghost use Rattle.jdwp_wire.specs.Limits.{most_packet_limit};
-ghost use Rattle.jdwp_event.specs.CompositeBytes.{composite_canonical, composite_refusal};
+ghost use Rattle.jdwp_event.specs.CompositeBytes.{EncodesComposite, composite_canonical, composite_refusal};
 ghost use Rattle.jdwp_event.specs.Composites.{vm_death};
 ghost use Rattle.jdwp_debuggee.specs.Replies.{reply_meaning};
 ghost use Rattle.jdwp_debuggee.specs.Sending.{sent_bytes, sent_error};
@@ -98,7 +98,8 @@ pub fn enqueue_report(id: u32, composite: &Composite, sizes: &IdSizes, end: &mut
     requires writable { composite_refusal sizes.now composite.now ≡ None }
     requires room { length end.old.outgoing + (11 + length (composite_canonical sizes.now composite.now)) ≤ most_outgoing end.old.limits }
     requires small { length (composite_canonical sizes.now composite.now) ≤ most_packet_limit }
-    ensures { end.new ≡ with_enqueued (message_bytes (report_of sizes.now id composite.now)) end.old }
+    ensures enqueued { end.new ≡ with_enqueued (message_bytes (report_of sizes.now id composite.now)) end.old }
+    ensures encoded { EncodesComposite sizes.now composite.now (composite_canonical sizes.now composite.now) }
 {
     let size = composite.size(sizes).unwrap_or(0);
     enqueue_composite_header(id, size as u32, end);

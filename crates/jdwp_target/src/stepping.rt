@@ -1,9 +1,10 @@
 //! Steps of a target over any machine.
-ghost use Rattle.std.specs.Prelude.{◌≡◌};
+ghost use Rattle.std.specs.Prelude.{◌≡◌, IfOk};
 ghost use Rattle.jdwp_end.specs.declared.phase.Phase.TheVariants.{Established};
+ghost use Rattle.jdwp_target.specs.Sends.{EncodesSent, IsEncoded};
 ghost use Rattle.jdwp_target.specs.Standings.{steps_at, steps_in_session};
 ghost use Rattle.jdwp_target.specs.StepParts.{CanTell, debuggee_after, end_after, step_of, told_of_done};
-ghost use Rattle.jdwp_target.specs.Turns.{StepsAt};
+ghost use Rattle.jdwp_target.specs.Turns.{EncodesWhere, StepsAt, is_frozen};
 
 use crate::sending::{enqueue_death, enqueue_report};
 use crate::target::{Stepped, Target, TargetFault};
@@ -22,7 +23,8 @@ impl<M: Machine + Drop> Target<M> {
     /// `NoMemory` where an allocation was refused; only where nothing but a thread too many could forbid the step, and then nothing
     /// has changed.
     pub fn step(&mut self, thread: ObjectId) -> Result<Stepped, TargetFault>
-        ensures { StepsAt M.meaning thread.0 self.old result self.new }
+        ensures steps { StepsAt M.meaning thread.0 self.old result self.new }
+        ensures encoded { IfOk result (λ stepped. EncodesWhere M.meaning thread.0 self.old (is_frozen M.meaning thread.0 self.old)) }
     {
         if self.end.is_paused() {
             return Ok(Stepped::Frozen);
@@ -50,6 +52,7 @@ fn tell<M: Machine>(
     requires { CanTell sizes.now end.old done.now }
     ensures debuggee { debuggee.new ≡ debuggee_after (steps_at sizes.now packet (step_of debuggee.old done.now) end.old.phase) debuggee.old }
     ensures end { end.new ≡ end_after (steps_at sizes.now packet (step_of debuggee.old done.now) end.old.phase) end.old }
+    ensures encoded { EncodesSent sizes.now end.old.phase done.now.sends }
 {
     if end.is_established() {
         report(packet, done, sizes, debuggee, end);
@@ -71,6 +74,7 @@ fn report<M: Machine>(
     requires can { CanTell sizes.now end.old done.now }
     ensures debuggee { debuggee.new ≡ debuggee_after (steps_in_session sizes.now packet (step_of debuggee.old done.now) done.now.dies) debuggee.old }
     ensures end { end.new ≡ end_after (steps_in_session sizes.now packet (step_of debuggee.old done.now) done.now.dies) end.old }
+    ensures encoded { IsEncoded sizes.now done.now.sends }
 {
     if done.dies {
         let id = debuggee.take_packet_id();

@@ -4,16 +4,16 @@ use Rattle.jdwp_engine.proofs.Advancing.{frozen-same, made-step, step-made}
 use Rattle.jdwp_engine.proofs.serving.step_one.Goals as goal
 
 pub returns-in-Err-clause-memory : goal.returns-in-Err-clause-memory
-returns-in-Err-clause-memory g c = ((c.args.thread.0, c.in-Err.ensures.1), c.in-Err.ensures.2)
+returns-in-Err-clause-memory g c = ((c.args.thread.0, c.in-Err.ensures.steps.1), c.in-Err.ensures.steps.2)
 
 pub returns-in-Frozen-clause-goes : goal.returns-in-Frozen-clause-goes
 returns-in-Frozen-clause-goes g c = λ first opened p.
-    let same = frozen-same g.M.Machine.meaning c.args.thread.0 c.args.target.now c.step.new.self _ (rw c.in-Frozen.is at c.in-Ok.ensures) in
+    let same = frozen-same g.M.Machine.meaning c.args.thread.0 c.args.target.now c.step.new.self _ (rw c.in-Frozen.is at c.in-Ok.ensures.steps) in
     rw same p
 
 pub returns-in_default-clause-goes : goal.returns-in_default-clause-goes
 returns-in_default-clause-goes g c = λ first opened p.
     let m = g.M.Machine.meaning in
     let old = c.args.target.now in
-    let made = made-step m c.args.thread.0 old c.step.new.self c.in-Ok.stepped (is_paused old.end) (may_step m old.settings old.moment c.args.thread.0) c.in_default.not-Frozen c.in-Ok.ensures in
+    let made = made-step m c.args.thread.0 old c.step.new.self c.in-Ok.stepped (is_paused old.end) (may_step m old.settings old.moment c.args.thread.0) c.in_default.not-Frozen c.in-Ok.ensures.steps in
     step-made m first old c.step.new.self c.args.thread.0 c.args.has_stepped opened p made.0 made.1

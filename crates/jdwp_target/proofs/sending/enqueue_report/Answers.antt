@@ -5,5 +5,5 @@ use Rattle.jdwp_target.proofs.sending.enqueue_report.Goals as goal
 pub put-requires : goal.put-requires
 put-requires c = grind (arith, common_steps)
 
-pub returns : goal.returns
-returns c = grind (arith, common_steps)
+pub returns-clause-enqueued : goal.returns-clause-enqueued
+returns-clause-enqueued c = grind (arith, common_steps)

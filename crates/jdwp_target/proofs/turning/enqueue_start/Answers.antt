@@ -26,9 +26,9 @@ put-requires-3-clause-room c =
     let bytes : List ℕ = header c.args.start.packet c.from.result ++ ((c.byte.result ∷ []) ++ (int_bytes 1 ++ ((c.byte-2.result ∷ []) ++ int_bytes 0))) in
     let before : c.enqueue_int-2.new.end ≡ with_enqueued bytes c.args.end.now =
     two_enqueued _ _ _ _ _ (header c.args.start.packet c.from.result) ((c.byte.result ∷ []) ++ (int_bytes 1 ++ ((c.byte-2.result ∷ []) ++ int_bytes 0))) refl refl c.enqueue_composite_header.ensures
-    (two_enqueued _ _ _ _ _ (c.byte.result ∷ []) (int_bytes 1 ++ ((c.byte-2.result ∷ []) ++ int_bytes 0)) refl refl c.put.ensures
+    (two_enqueued _ _ _ _ _ (c.byte.result ∷ []) (int_bytes 1 ++ ((c.byte-2.result ∷ []) ++ int_bytes 0)) refl refl c.put.ensures.enqueued
     (two_enqueued _ _ _ _ _ (int_bytes 1) ((c.byte-2.result ∷ []) ++ int_bytes 0) refl refl c.enqueue_int.ensures
-    (two_enqueued _ _ _ _ _ (c.byte-2.result ∷ []) (int_bytes 0) refl refl c.put-2.ensures c.enqueue_int-2.ensures))) in
+    (two_enqueued _ _ _ _ _ (c.byte-2.result ∷ []) (int_bytes 0) refl refl c.put-2.ensures.enqueued c.enqueue_int-2.ensures))) in
     let room : length c.args.end.now.outgoing + (21 + length thread) ≤ most_outgoing c.args.end.now.limits = omega (arith, size, most, c.requires.room) in
     room-behind c.args.end.now c.enqueue_int-2.new.end bytes (length thread) 21 before refl room
 
@@ -41,10 +41,10 @@ returns c =
     let same_policy = ap (λ (n : ℕ). n ∷ []) c.byte.ensures in
     let same_kind = ap (λ (n : ℕ). n ∷ []) c.byte-2.ensures in
     two_enqueued _ _ _ _ _ (header c.args.start.packet c.args.sizes.now.object) ((policy ∷ []) ++ (int_bytes 1 ++ ((90 ∷ []) ++ (int_bytes 0 ++ thread)))) same_header refl c.enqueue_composite_header.ensures
-    (two_enqueued _ _ _ _ _ (policy ∷ []) (int_bytes 1 ++ ((90 ∷ []) ++ (int_bytes 0 ++ thread))) same_policy refl c.put.ensures
+    (two_enqueued _ _ _ _ _ (policy ∷ []) (int_bytes 1 ++ ((90 ∷ []) ++ (int_bytes 0 ++ thread))) same_policy refl c.put.ensures.enqueued
     (two_enqueued _ _ _ _ _ (int_bytes 1) ((90 ∷ []) ++ (int_bytes 0 ++ thread)) refl refl c.enqueue_int.ensures
-    (two_enqueued _ _ _ _ _ (90 ∷ []) (int_bytes 0 ++ thread) same_kind refl c.put-2.ensures
-    (two_enqueued _ _ _ _ _ (int_bytes 0) thread refl refl c.enqueue_int-2.ensures c.put-3.ensures))))
+    (two_enqueued _ _ _ _ _ (90 ∷ []) (int_bytes 0 ++ thread) same_kind refl c.put-2.ensures.enqueued
+    (two_enqueued _ _ _ _ _ (int_bytes 0) thread refl refl c.enqueue_int-2.ensures c.put-3.ensures.enqueued))))
     ∙ ap (λ (x : List ℕ). with_enqueued x c.args.end.now) (sym (start-bytes c.args.sizes.now c.args.start.packet policy c.args.start.thread.0))
 
 pub put-requires : goal.put-requires

@@ -31,8 +31,8 @@ invariant_of-self-2 g c =
     let two = stepped-end m t s.debuggee c.step.new.self s.end c.tell.new.end c.sizes-sizes.result c.next_packet-packet.result done step c.sizes-sizes.ensures c.next_packet-packet.ensures c.tell.ensures.end in
     rw (one, two) (right-stepped m t s.debuggee s.began.items s.phases.items s.end c.self.invariant)
 
-pub returns-in-Ok-None : goal.returns-in-Ok-None
-returns-in-Ok-None g c = search rules
+pub returns-in-Ok-None-clause-steps : goal.returns-in-Ok-None-clause-steps
+returns-in-Ok-None-clause-steps g c = search rules
 
-pub returns-then-is_paused : goal.returns-then-is_paused
-returns-then-is_paused g c = search rules
+pub returns-then-is_paused-clause-steps : goal.returns-then-is_paused-clause-steps
+returns-then-is_paused-clause-steps g c = search rules
