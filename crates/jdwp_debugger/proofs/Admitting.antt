@@ -8,16 +8,16 @@ use Rattle.jdwp_end.specs.Ends.{is_open, is_paused}
 use Rattle.jdwp_debuggee.specs.Actions.{Command}
 use Rattle.jdwp_debugger.specs.declared.asking.Body.{Body}
 use Rattle.jdwp_debugger.specs.Debuggers.{Debugger}
-use Rattle.jdwp_debugger.specs.Asking.{IsAdmitted, LAST_TICKET, body_bytes, carried_bytes, is_busy, is_for_target, packet_length, refusal_of_ask}
+use Rattle.jdwp_debugger.specs.Asking.{EncodesBody, EncodesCommand, IsAdmitted, LAST_TICKET, body_bytes, carried_bytes, is_busy, is_for_target, packet_length, refusal_of_ask}
 
 unrefused : (d : Debugger) (c : Command) (w : Widths) → is_open d.end ≡ true → d.sizes ≡ Some w → is_busy d ≡ false → is_for_target w c ≡ true
     → nat_lt d.end.limits.packet (packet_length w c) ≡ false → refusal_of_ask d c ≡ None
 unrefused d c w opens known busy good fits = rw (opens, known, busy, good, fits) refl
 
 pub admitted : (d : Debugger) (c : Command) (w : Widths) (b : Body) (n : ℕ) → is_open d.end ≡ true → d.sizes ≡ Some w → is_busy d ≡ false → is_for_target w c ≡ true
-    → body_bytes w b ≡ carried_bytes w c.carried → in_usize (length (body_bytes w b)) ≡ Some n → n + 11 ≤ d.end.limits.packet → d.end.limits.packet < 2 ^ 32
+    → body_bytes w b ≡ carried_bytes w c.carried → (EncodesBody w b → EncodesCommand w c) → in_usize (length (body_bytes w b)) ≡ Some n → n + 11 ≤ d.end.limits.packet → d.end.limits.packet < 2 ^ 32
     → IsAdmitted d c w b (n + 11)
-admitted d c w b n opens known busy good bytes counted most small =
+admitted d c w b n opens known busy good bytes encodes counted most small =
     let is : n ≡ length (body_bytes w b) = (some_is (length (body_bytes w b)) n counted).0 in
     let same : length (body_bytes w b) ≡ length (carried_bytes w c.carried) = ap length bytes in
     let waits = or_parts (nat_le d.end.limits.pending (length d.pending)) (is_paused d.end || nat_le LAST_TICKET d.tickets) busy in
@@ -29,6 +29,7 @@ admitted d c w b n opens known busy good bytes counted most small =
       unrefused = unrefused d c w opens known busy good fits;
       known = known;
       bytes = bytes;
+      encodes = encodes;
       size_is = omega (arith, is, same);
       size_most = most;
       size_fits = omega (arith, most, small);

@@ -4,3 +4,5 @@ pub mod Admitting
 pub mod NewsLemmas
 pub mod TurningLemmas
 pub mod DebuggerRuns
+pub mod AskedReads
+pub mod AnsweredReads

@@ -1,18 +1,23 @@
 -- What asking a command does, and why a debugger refuses to (JDWP specification, "Packets": ids are unique among the outstanding commands
 -- of one source).
-use Rattle.std.specs.Prelude.{◌≡◌, ℕ, ◌+◌, ◌-◌, ◌^◌, ◌%◌, ◌<◌, ◌≤◌, ◌==◌, nat_le, nat_lt, Bool, true, false, ◌||◌, ◌&&◌, not, List, [], ◌∷◌, ◌++◌, length, Option, Some, None, is_none, if◌then◌else◌}
+use Rattle.std.specs.Prelude.{◌≡◌, ℕ, ◌+◌, ◌-◌, ◌^◌, ◌%◌, ◌<◌, ◌≤◌, ◌==◌, nat_le, nat_lt, Bool, true, false, ◌||◌, ◌&&◌, not, List, [], ◌∷◌, ◌++◌, length, Option, Some, None, Result, Ok, Err, is_none, if◌then◌else◌}
 use Rattle.std.specs.List.{list_any}
+use Rattle.jdwp_wire.specs.ErrorCodes.{NOT_IMPLEMENTED}
 use Rattle.jdwp_wire.specs.Widths.{Widths}
 use Rattle.jdwp_wire.specs.Frames.{packet_bytes}
+use Rattle.jdwp_wire.specs.declared.error_code.ErrorCode.{ErrorCode}
 use Rattle.jdwp_wire.specs.declared.packet.Header.{Header}
 use Rattle.jdwp_wire.specs.declared.packet.PacketKind.TheVariants as packet
 use Rattle.jdwp_layout.specs.CommandNumbers.{EVENT}
 use Rattle.jdwp_layout.specs.CommandTable.{row_at}
+use Rattle.jdwp_layout.specs.Grammar.{EncodesData}
 use Rattle.jdwp_layout.specs.Meanings.{meanings}
 use Rattle.jdwp_layout.specs.Rows.{Row, RowShapes}
+use Rattle.jdwp_layout.specs.Shapes.{shape}
 use Rattle.jdwp_layout.specs.Writes.{data_canonical, data_refusal}
 use Rattle.jdwp_end.specs.Ends.{is_open, is_paused, with_enqueued}
-use Rattle.jdwp_debuggee.specs.Actions.{Carried, Content, Raw, Command}
+use Rattle.jdwp_debuggee.specs.Actions.{Carried, Content, Raw, Command, is_implemented}
+use Rattle.jdwp_debuggee.specs.CommandReads.{command_read}
 use Rattle.jdwp_debugger.specs.declared.asking.Refused.{Refused}
 use Rattle.jdwp_debugger.specs.declared.asking.Refused.TheVariants.{Closed, NotReady, Busy, BadCommand, TooLong, NoMemory}
 use Rattle.jdwp_debugger.specs.declared.asking.Body.{Body}
@@ -54,6 +59,34 @@ command_bytes w id c = packet_bytes (command_header w id c) (carried_bytes w c.c
 abbrev pub body_bytes : Widths → Body → List ℕ
 body_bytes w (body.Laid layout items) = data_canonical w (meanings items.now)
 body_bytes w (body.Raw bytes) = bytes.now
+
+-- its bytes encode it
+abbrev pub EncodesBody : Widths → Body → Type 0
+EncodesBody w (body.Laid layout items) = EncodesData w (shape layout) (meanings items.now) (data_canonical w (meanings items.now))
+EncodesBody w (body.Raw bytes) = Unit {0}
+
+-- What a command carries is encoded by the bytes that are sent for it, in the layout of its row: so whoever reads them by that layout
+-- reads what was asked. Raw bytes are not read.
+abbrev pub EncodesShapes : Widths → Option RowShapes → Carried → Type 0
+EncodesShapes w None (Raw bytes) = Unit {0}
+EncodesShapes w (Some shapes) (Content content) = EncodesData w shapes.request content (data_canonical w content)
+EncodesShapes w shapes carried = ⊥
+
+abbrev pub EncodesRow : Widths → Option Row → Carried → Type 0
+EncodesRow w None carried = ⊥
+EncodesRow w (Some row) carried = EncodesShapes w row.shapes carried
+
+abbrev pub EncodesCommand : Widths → Command → Type 0
+EncodesCommand w c = EncodesRow w (row_at c.set c.number) c.carried
+
+-- A command reads as itself where a target carries out its row, and is refused unread else.
+abbrev pub read_where : Command → Bool → Result Command ErrorCode
+read_where c true = Ok c
+read_where c false = Err NOT_IMPLEMENTED
+
+-- What a target whose ids are so wide makes of the data that are sent for a command.
+abbrev pub ReadsAsAsked : Widths → Command → Type 0
+ReadsAsAsked w c = command_read w c.set c.number (carried_bytes w c.carried) ≡ read_where c (is_implemented c)
 
 -- ---- why a command is not asked
 
@@ -116,6 +149,7 @@ pub record HasAsked (command : Command) (old : Debugger) (new : Debugger) : Type
   pub known : old.sizes ≡ Some widths
   pub id : ℕ
   pub next : IsNextFree old.pending old.next_id id
+  pub encoded : EncodesCommand widths command
   pub is : new ≡ asked widths id command old
 
 -- A command that may be asked: what it carries in so wide ids, and that its packet of so many bytes has room. Its length is told in four bytes.
@@ -123,6 +157,7 @@ pub record IsAdmitted (d : Debugger) (command : Command) (widths : Widths) (carr
   pub unrefused : refusal_of_ask d command ≡ None
   pub known : d.sizes ≡ Some widths
   pub bytes : body_bytes widths carried ≡ carried_bytes widths command.carried
+  pub encodes : EncodesBody widths carried → EncodesCommand widths command
   pub size_is : size ≡ packet_length widths command
   pub size_most : size ≤ d.end.limits.packet
   pub size_fits : size < 2 ^ 32
@@ -136,6 +171,7 @@ pub record MayLeave (d : Debugger) (command : Command) (id : ℕ) (bytes : List 
   pub widths : Widths
   pub known : d.sizes ≡ Some widths
   pub bytes_are : bytes ≡ command_bytes widths id command
+  pub encoded : EncodesCommand widths command
   pub size_most : length bytes ≤ d.end.limits.packet
   pub few : length d.pending < d.end.limits.pending
   pub room : length d.end.outgoing < d.end.limits.packet

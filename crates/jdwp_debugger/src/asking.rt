@@ -1,10 +1,11 @@
 //! Commands as they are asked: why they are not, and their packets.
 ghost use Rattle.std.specs.Prelude.{◌≡◌, ◌<◌, ◌^◌, ◌++◌, IfOk, MatchOption, None, OnOk, false, is_none, length, true};
 ghost use Rattle.jdwp_wire.specs.Reading.{in_usize};
+ghost use Rattle.jdwp_layout.specs.Grammar.{EncodesData};
 ghost use Rattle.jdwp_layout.specs.Meanings.{meanings};
 ghost use Rattle.jdwp_layout.specs.Shapes.{shape};
 ghost use Rattle.jdwp_layout.specs.Writes.{data_canonical, data_refusal};
-ghost use Rattle.jdwp_debugger.specs.Asking.{body_bytes, carried_bytes, command_bytes, is_for_target, packet_length};
+ghost use Rattle.jdwp_debugger.specs.Asking.{EncodesBody, EncodesCommand, body_bytes, carried_bytes, command_bytes, is_for_target, packet_length};
 ghost use Rattle.jdwp_debugger.specs.RefusedNumbers.{refused_number};
 
 use jdwp_layout::numbers::EVENT;
@@ -85,7 +86,7 @@ pub(crate) enum Body<'a> {
 impl<'a> Body<'a> {
     /// What a command carries; None where it is none that the target may be asked, or its data don't fit.
     pub fn of(command: &'a Command, sizes: &IdSizes) -> Option<Body<'a>>
-        ensures { MatchOption result (is_for_target sizes.now command.now ≡ false) (λ b. (is_for_target sizes.now command.now ≡ true) × (body_bytes sizes.now b ≡ carried_bytes sizes.now command.now.carried)) }
+        ensures { MatchOption result (is_for_target sizes.now command.now ≡ false) (λ b. (is_for_target sizes.now command.now ≡ true) × (body_bytes sizes.now b ≡ carried_bytes sizes.now command.now.carried) × (EncodesBody sizes.now b → EncodesCommand sizes.now command.now)) }
     {
         if command.set() >= EVENT {
             return None;
@@ -115,7 +116,8 @@ impl<'a> Body<'a> {
     /// # Errors
     /// `NoMemory` where an allocation was refused.
     pub fn append(&self, sizes: &IdSizes, packet: &mut Vec<u8>) -> Result<(), NoMemory>
-        ensures { OnOk result (packet.new.items ≡ packet.old.items ++ body_bytes sizes.now self.now) }
+        ensures bytes { OnOk result (packet.new.items ≡ packet.old.items ++ body_bytes sizes.now self.now) }
+        ensures encoded { OnOk result (EncodesBody sizes.now self.now) }
     {
         match self {
             Body::Laid(layout, items) => {
@@ -134,7 +136,7 @@ impl<'a> Body<'a> {
 
 /// Data of a layout; None where they don't fit it.
 fn laid_out<'a>(layout: Layout, items: &'a [Datum], sizes: &IdSizes) -> Option<Body<'a>>
-    ensures { MatchOption result (is_none (data_refusal sizes.now (shape layout) (meanings items.now)) ≡ false) (λ b. (data_refusal sizes.now (shape layout) (meanings items.now) ≡ None) × (body_bytes sizes.now b ≡ data_canonical sizes.now (meanings items.now))) }
+    ensures { MatchOption result (is_none (data_refusal sizes.now (shape layout) (meanings items.now)) ≡ false) (λ b. (data_refusal sizes.now (shape layout) (meanings items.now) ≡ None) × (body_bytes sizes.now b ≡ data_canonical sizes.now (meanings items.now)) × (EncodesBody sizes.now b → EncodesData sizes.now (shape layout) (meanings items.now) (data_canonical sizes.now (meanings items.now)))) }
 {
     match refusal(&layout, sizes, items) {
         None => Some(Body::Laid(layout, items)),
@@ -163,6 +165,7 @@ impl<'a> Admitted<'a> {
         requires fits { self.now.size < 2 ^ 32 }
         ensures bytes { IfOk result (λ packet. packet.items ≡ command_bytes self.now.sizes id command.now) }
         ensures length { IfOk result (λ packet. length packet.items ≡ self.now.size) }
+        ensures encoded { IfOk result (λ packet. EncodesBody self.now.sizes self.now.body) }
     {
         let header = Header {
             length: self.size as u32,

@@ -28,4 +28,6 @@ invariant_of-self-2 c =
     })
 
 pub returns-clause-ok : goal.returns-clause-ok
-returns-clause-ok c = search rules
+returns-clause-ok c =
+    let leaves = c.in_ok-packet.ensures.ok in
+    search (rules, leaves.unrefused, leaves.known, leaves.encoded)

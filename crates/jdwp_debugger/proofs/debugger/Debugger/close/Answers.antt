@@ -8,3 +8,6 @@ invariant_of-self c =
     let kept = c.self.invariant in
     let few_parked : length c.clear-2.new.self.items ≤ PARKED_MOST = search (rules, arith) in
     rw c.close.ensures (record { limits = kept.limits; few = kept.few; few_parked = few_parked; begins = λ e. absurd cc; ran = ran-closed c.self.inside.end kept.ran })
+
+pub returns : goal.returns
+returns c = search rules
