@@ -13,6 +13,9 @@ use Rattle.jdwp_layout.specs.Shapes.{Events}
 use Rattle.jdwp_layout.specs.Writes.{entry_canonical}
 use Rattle.jdwp_event.specs.CompositeBytes.{EncodesComposite, composite_canonical, with_policy}
 use Rattle.jdwp_event.specs.Composites.{vm_start, vm_death}
+use Rattle.jdwp_event.specs.Constants.{policy_byte}
+use Rattle.jdwp_event.specs.declared.policy.Policy.{Policy}
+use Rattle.jdwp_event.specs.declared.policy.Policy.TheVariants as policies
 use Rattle.jdwp_target.specs.Sends.{IsEncoded}
 
 either : (b : Bool) → (b ≡ true) ⊎ (b ≡ false)
@@ -64,6 +67,11 @@ death-entry w = (
 
 pub start-encoded : (w : Widths) (policy thread : ℕ) → policy < 256 → id_refusal w.object thread ≡ None → IsEncoded w (Some (vm_start policy thread))
 start-encoded w policy thread small h = alone w policy (Byte event.VM_START ∷ Int (pos 0) ∷ Object thread ∷ []) small (start-entry w thread (fits w.object thread h))
+
+pub policy-small : (p : Policy) → policy_byte p < 256
+policy-small policies.None = omega arith
+policy-small policies.EventThread = omega arith
+policy-small policies.All = omega arith
 
 pub death-encoded : (w : Widths) → IsEncoded w (Some vm_death)
 death-encoded w = alone w 0 (Byte event.VM_DEATH ∷ Int (pos 0) ∷ []) (omega arith) (death-entry w)

@@ -6,3 +6,4 @@ pub mod RightTurns
 pub mod Numbered
 pub mod Closing
 pub mod Encoded
+pub mod AnswersEncoded

@@ -136,21 +136,27 @@ asking_ok a = Ok a
 command-same : (x y : Command) → read_ok x ≡ read_ok y → x ≡ y
 command-same x y e = cc
 
-asking-same : (x y : Asking) → asking_ok x ≡ asking_ok y → x ≡ y
+pub asking-same : (x y : Asking) → asking_ok x ≡ asking_ok y → x ≡ y
 asking-same x y e = cc
 
-implemented-content : (set number : ℕ) (found : Result (List DatumMeaning) DataFault) (c : Command) → is_implemented (record { set = set; number = number; carried = Raw [] }) ≡ true
-    → content_read set number found ≡ Ok c → is_implemented c ≡ true
-implemented-content set number (Ok content) c impl e = subst (λ (x : Command). is_implemented x ≡ true) (command-same (with_content set number content) c e) impl
-implemented-content set number (Err fault) c impl e = absurd cc
+pub record WasRead (s n : ℕ) (c : Command) : Type 0 where
+  pub implemented : is_implemented c ≡ true
+  pub set : c.set ≡ s
+  pub number : c.number ≡ n
 
-implemented-by : (w : Widths) (set number : ℕ) (bytes : List ℕ) (b : Bool) (c : Command) → is_implemented (record { set = set; number = number; carried = Raw [] }) ≡ b
-    → read_by w set number bytes b ≡ Ok c → is_implemented c ≡ true
-implemented-by w set number bytes true c impl e = implemented-content set number (data_at w (row_request (row_at set number)) bytes) c impl e
-implemented-by w set number bytes false c impl e = absurd cc
+was-read-content : (set number : ℕ) (found : Result (List DatumMeaning) DataFault) (c : Command) → is_implemented (record { set = set; number = number; carried = Raw [] }) ≡ true
+    → content_read set number found ≡ Ok c → WasRead set number c
+was-read-content set number (Ok content) c impl e =
+    subst (λ (x : Command). WasRead set number x) (command-same (with_content set number content) c e) (record { implemented = impl; set = refl; number = refl })
+was-read-content set number (Err fault) c impl e = absurd cc
 
-implemented : (w : Widths) (set number : ℕ) (bytes : List ℕ) (c : Command) → command_read w set number bytes ≡ Ok c → is_implemented c ≡ true
-implemented w set number bytes c e = implemented-by w set number bytes (is_implemented (record { set = set; number = number; carried = Raw bytes })) c refl e
+was-read-by : (w : Widths) (set number : ℕ) (bytes : List ℕ) (b : Bool) (c : Command) → is_implemented (record { set = set; number = number; carried = Raw [] }) ≡ b
+    → read_by w set number bytes b ≡ Ok c → WasRead set number c
+was-read-by w set number bytes true c impl e = was-read-content set number (data_at w (row_request (row_at set number)) bytes) c impl e
+was-read-by w set number bytes false c impl e = absurd cc
+
+pub was-read : (w : Widths) (set number : ℕ) (bytes : List ℕ) (c : Command) → command_read w set number bytes ≡ Ok c → WasRead set number c
+was-read w set number bytes c e = was-read-by w set number bytes (is_implemented (record { set = set; number = number; carried = Raw bytes })) c refl e
 
 -- ---- a command that was carried out or refused
 
@@ -183,7 +189,7 @@ pub record HasEnding (a : code.Action.Action) (done : Done) : Type 0 where
   pub closes : done.closes ≡ (is_exit (action_meaning a) || is_dispose (action_meaning a))
 
 -- after the first handshake nothing is too early
-carried-shaken : {S : Type 0} (m : Meaning S) (settings : Settings) (now : Moment S) (c : Command) (a : Action) → now.state.handshaken ≡ true → carried m settings now c a ≡ does m settings now c a
+pub carried-shaken : {S : Type 0} (m : Meaning S) (settings : Settings) (now : Moment S) (c : Command) (a : Action) → now.state.handshaken ≡ true → carried m settings now c a ≡ does m settings now c a
 carried-shaken m settings now c a h =
     ap (λ (b : Bool). carried_by m settings now c a (raises_counts a && not b)) h
     ∙ elim (raises_counts a) as (λ (x : Bool). carried_by m settings now c a (x && not true) ≡ does m settings now c a) [ true ↦ refl | false ↦ refl ]
@@ -217,7 +223,7 @@ pub done-carried : {S : Type 0} (m : Meaning S) (d new : Debuggee S) (set number
     → Ok (asking a) ≡ asks (command_read (m.sizes d.moment.machine) set number body) → HasEnding a done → d.moment.state.handshaken ≡ true → ((c : Command) → asking a ≡ asking_of c → Did m c d new done.sent)
     → IsDone (m.sizes d.moment.machine) (carried_out m d.settings d.moment (command_read (m.sizes d.moment.machine) set number body)) d new done
 done-carried m d new set number body a done e ends shaken did =
-    done-carried-by m d new a done (command_read (m.sizes d.moment.machine) set number body) (implemented (m.sizes d.moment.machine) set number body) e ends shaken did
+    done-carried-by m d new a done (command_read (m.sizes d.moment.machine) set number body) (λ (c : Command). λ read. (was-read (m.sizes d.moment.machine) set number body c read).implemented) e ends shaken did
 
 -- Exit and Dispose close
 pub closes-by : (a : Action) (b : Bool) → (is_dispose a ≡ true → b ≡ true) → (is_exit a ≡ true → b ≡ true) → (is_dispose a ≡ false → is_exit a ≡ false → b ≡ false) → b ≡ (is_exit a || is_dispose a)

@@ -7,18 +7,18 @@ use Rattle.jdwp_end.specs.Ends.{is_paused}
 use Rattle.jdwp_event.specs.Composites.{CompositeMeaning}
 use Rattle.jdwp_machine.specs.Meanings.{Meaning}
 use Rattle.jdwp_debuggee.specs.CommandReads.{command_read, is_short}
-use Rattle.jdwp_debuggee.specs.Sending.{error_of}
+use Rattle.jdwp_debuggee.specs.Sending.{EncodesAnswer, error_of}
 use Rattle.jdwp_debuggee.specs.Settings.{Settings}
 use Rattle.jdwp_debuggee.specs.State.{Moment}
 use Rattle.jdwp_debuggee.specs.StepParts.{is_ready}
-use Rattle.jdwp_debuggee.specs.Steps.{Step, may_step, occurs}
+use Rattle.jdwp_debuggee.specs.Steps.{Step, may_step, occurs, start_event}
 use Rattle.jdwp_target.specs.declared.target.Stepped.{Stepped}
 use Rattle.jdwp_target.specs.declared.target.Stepped.TheVariants.{Frozen, Quiet, Reported, Ended}
 use Rattle.jdwp_target.specs.declared.target.TargetFault.{TargetFault}
 use Rattle.jdwp_target.specs.declared.target.TargetFault.TheVariants.{Frame, NoMemory}
 use Rattle.jdwp_target.specs.declared.target.Turn.{Turn}
 use Rattle.jdwp_target.specs.declared.target.Turn.TheVariants.{Nothing, Hello, Replied, Ignored}
-use Rattle.jdwp_target.specs.Sends.{EncodesSent}
+use Rattle.jdwp_target.specs.Sends.{EncodesSent, IsEncoded}
 use Rattle.jdwp_target.specs.Standings.{carried_out}
 use Rattle.jdwp_target.specs.Targets.{Target, lost, with_handled, with_step}
 
@@ -50,6 +50,25 @@ TurnsAt m (Whole message used) old result new =
     (λ fault. (fault ≡ NoMemory) × NeedsMemory message × (new ≡ old))
 TurnsAt m More old result new = (result ≡ Ok Nothing) × (new ≡ old)
 TurnsAt m (Fault fault) old result new = (result ≡ Err (Frame fault)) × (new ≡ lost old)
+
+-- What a turn sends is encoded by its bytes: VM_START behind the first handshake of the target's life, and the answer to a command.
+abbrev pub EncodesStart : {S : Type 0} → Meaning S → Settings → Moment S → Bool → Type 0
+EncodesStart m settings now true = ⊤
+EncodesStart m settings now false = IsEncoded (m.sizes now.machine) (Some (start_event settings now.state))
+
+abbrev pub EncodesByKind : {S : Type 0} → Meaning S → Settings → Moment S → PacketKind → List ℕ → Type 0
+EncodesByKind m settings now (kind.Command set number) body =
+    EncodesAnswer (m.sizes now.machine) set number (carried_out m settings now (command_read (m.sizes now.machine) set number body)).answer
+EncodesByKind m settings now (kind.Reply error) body = ⊤
+
+abbrev pub EncodesFor : {S : Type 0} → Meaning S → Settings → Moment S → Message → Type 0
+EncodesFor m settings now Handshake = EncodesStart m settings now now.state.handshaken
+EncodesFor m settings now (Packet header body) = EncodesByKind m settings now header.kind body
+
+abbrev pub EncodesNext : {S : Type 0} → Meaning S → NextMessage → Target S → Type 0
+EncodesNext m (Whole message used) old = EncodesFor m old.settings old.moment message
+EncodesNext m More old = ⊤
+EncodesNext m (Fault fault) old = ⊤
 
 -- ---- steps
 

@@ -17,7 +17,7 @@ use jdwp_wire::IdSizes;
 impl<M: Machine + Drop> Target<M> {
     /// One step of a thread, if the end is not paused and the thread may make one. In a session whose handshake is done, what
     /// happened is reported, and where the last thread ended VM_DEATH; in any other nothing is sent. Where the last thread ended
-    /// the session closes.
+    /// the session closes. What is reported is encoded by the bytes that are sent, so it can be read.
     ///
     /// # Errors
     /// `NoMemory` where an allocation was refused; only where nothing but a thread too many could forbid the step, and then nothing

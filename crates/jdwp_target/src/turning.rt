@@ -7,12 +7,12 @@ ghost use Rattle.jdwp_wire.specs.Numbers.{id_refusal};
 ghost use Rattle.jdwp_wire.specs.Streams.{message_bytes, stream};
 ghost use Rattle.jdwp_wire.specs.Limits.{most_packet_limit};
 ghost use Rattle.jdwp_debuggee.specs.CommandReads.{command_read, is_short};
-ghost use Rattle.jdwp_debuggee.specs.Sending.{sent_bytes, sent_error};
+ghost use Rattle.jdwp_debuggee.specs.Sending.{EncodesAnswer, sent_bytes, sent_error};
 ghost use Rattle.jdwp_target.specs.Sends.{report_of};
 ghost use Rattle.jdwp_target.specs.Standings.{carried_out, greets_by};
 ghost use Rattle.jdwp_target.specs.StepParts.{debuggee_after};
 ghost use Rattle.jdwp_target.specs.TurnParts.{IsDone, after_deaths, closed_where, deaths, reply_of};
-ghost use Rattle.jdwp_target.specs.Turns.{TurnsAt};
+ghost use Rattle.jdwp_target.specs.Turns.{EncodesNext, EncodesStart, TurnsAt};
 
 use crate::numbers::enqueue_int;
 use crate::sending::{enqueue_composite_header, enqueue_death, enqueue_reply};
@@ -34,7 +34,8 @@ pub struct Done {
 
 impl<M: Machine + Drop> Target<M> {
     /// Handles the message in front, if one is whole and the end is neither closed nor paused. An open end that is not paused and
-    /// asks for more has room for a byte.
+    /// asks for more has room for a byte. VM_START and what a command is answered are encoded by the bytes that are sent, so they can
+    /// be read.
     ///
     /// # Errors
     /// `Frame` exactly where the bytes in front begin no message; the end is then as after `lose`. `NoMemory` where an allocation
@@ -43,6 +44,7 @@ impl<M: Machine + Drop> Target<M> {
     /// ClearAllBreakpoints. Then nothing has changed.
     pub fn turn(&mut self) -> Result<Turn, TargetFault>
         ensures turns { TurnsAt M.meaning (front_of self.old.end) self.old result self.new }
+        ensures encoded { IfOk result (λ _. EncodesNext M.meaning (front_of self.old.end) self.old) }
     {
         match self.end.front() {
             Front::More => Ok(Turn::Nothing),
@@ -76,6 +78,7 @@ fn greet<M: Machine>(debuggee: &mut Debuggee<M>, end: &mut End)
     requires { length end.old.outgoing + 43 ≤ most_outgoing end.old.limits }
     ensures debuggee { debuggee.new ≡ debuggee_after (greets_by M.meaning debuggee.old.settings debuggee.old.moment debuggee.old.moment.state.handshaken) debuggee.old }
     ensures end { end.new ≡ with_enqueued (stream (greets_by M.meaning debuggee.old.settings debuggee.old.moment debuggee.old.moment.state.handshaken).sends) end.old }
+    ensures encoded { EncodesStart M.meaning debuggee.old.settings debuggee.old.moment debuggee.old.moment.state.handshaken }
 {
     end.enqueue(&HANDSHAKE);
     let sizes = debuggee.sizes();
@@ -111,6 +114,7 @@ fn handle<M: Machine>(
 ) -> Result<Done, NoMemory>
     requires { debuggee.old.moment.state.handshaken ≡ true }
     ensures ok { IfOk result (λ done. IsDone (M.meaning.sizes debuggee.old.moment.machine) (carried_out M.meaning debuggee.old.settings debuggee.old.moment (command_read (M.meaning.sizes debuggee.old.moment.machine) set number body.now)) debuggee.old debuggee.new done) }
+    ensures encoded { IfOk result (λ _. EncodesAnswer (M.meaning.sizes debuggee.old.moment.machine) set number (carried_out M.meaning debuggee.old.settings debuggee.old.moment (command_read (M.meaning.sizes debuggee.old.moment.machine) set number body.now)).answer) }
     ensures err { OnErr result (debuggee.new ≡ debuggee.old) }
     ensures memory { IfErr result (λ _. is_short set number ≡ false) }
 {
@@ -123,6 +127,7 @@ fn handle<M: Machine>(
         Asked::Carries(action) => {
             let dies = action.kills();
             let closes = action.closes();
+            debuggee.own_answers();
             let sent = debuggee.carry_out(alloc, action)?;
             Ok(Done { sent, dies, closes })
         }

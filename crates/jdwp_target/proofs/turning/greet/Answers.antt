@@ -1,5 +1,5 @@
 use Rattle.std.proofs.lemmas.Grind.{common_steps}
-use Rattle.std.proofs.Common.{◌≡◌, ◌∙◌, ℕ, refl, ap, sym, rules, true, false, arith}
+use Rattle.std.proofs.Common.{◌≡◌, ◌∙◌, ℕ, Some, refl, ap, subst, sym, rules, true, false, arith}
 use Rattle.std.proofs.lemmas.List.{append-nil}
 use Rattle.jdwp_wire.specs.Handshake.{handshake_bytes}
 use Rattle.jdwp_wire.specs.Streams.{message_bytes}
@@ -7,7 +7,8 @@ use Rattle.jdwp_wire.specs.Widths.{Widths}
 use Rattle.jdwp_event.specs.Composites.{CompositeMeaning, vm_start}
 use Rattle.jdwp_event.specs.Constants.{policy_byte}
 use Rattle.jdwp_debuggee.specs.Steps.{start_event}
-use Rattle.jdwp_target.specs.Sends.{report_of}
+use Rattle.jdwp_target.specs.Sends.{IsEncoded, report_of}
+use Rattle.jdwp_target.proofs.Encoded.{policy-small, start-encoded}
 use Rattle.jdwp_target.proofs.EnqueueLemmas.{two_enqueued}
 use Rattle.jdwp_target.proofs.turning.greet.Goals as goal
 
@@ -31,3 +32,17 @@ returns-in_default-clause-end g c =
 
 pub enqueue_start-requires : goal.enqueue_start-requires
 enqueue_start-requires c = grind (arith, common_steps)
+
+pub returns-in-Some-clause-encoded : goal.returns-in-Some-clause-encoded
+returns-in-Some-clause-encoded g c =
+    let old = c.args.debuggee.now in
+    let off : old.moment.state.handshaken ≡ false = search rules in
+    let w = g.M.Machine.meaning.sizes old.moment.machine in
+    let start = c.in-Some.start in
+    let sent : IsEncoded w (Some (vm_start (policy_byte start.policy) start.thread.0)) = start-encoded w (policy_byte start.policy) start.thread.0 (policy-small start.policy) c.in-Some.ensures.fits in
+    rw off (subst (λ (e : CompositeMeaning). IsEncoded w (Some e)) c.in-Some.ensures.says sent)
+
+pub returns-in_default-clause-encoded : goal.returns-in_default-clause-encoded
+returns-in_default-clause-encoded g c =
+    let on : c.args.debuggee.now.moment.state.handshaken ≡ true = search rules in
+    rw on (search rules)

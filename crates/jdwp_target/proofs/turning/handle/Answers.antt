@@ -1,5 +1,6 @@
 use Rattle.jdwp_debuggee.specs.CommandReads.{action_meaning}
 use Rattle.jdwp_target.specs.declared.turning.Done.{Done}
+use Rattle.jdwp_target.proofs.AnswersEncoded.{carried-encoded, refused-encoded}
 use Rattle.jdwp_target.proofs.RightTurns.{closes-by, done-carried, done-refused}
 use Rattle.jdwp_target.proofs.turning.handle.Goals as goal
 
@@ -14,3 +15,15 @@ returns-in_ok-sent-in-Carries-clause-ok g c =
     let closes = closes-by (action_meaning c.in-Carries.action) c.closes-closes.result c.closes-closes.ensures.dispose c.closes-closes.ensures.exit c.closes-closes.ensures.other in
     done-carried g.M.Machine.meaning c.args.debuggee.now c.carry_out.new.self c.args.set c.args.number c.args.body.now c.in-Carries.action done
     (rw (c.in-Carries.is, c.sizes.ensures) at c.in_ok-error.ensures.value) (record { dies = c.kills-dies.ensures; closes = closes }) c.requires c.in_ok-sent-in-Carries.ensures.ok
+
+pub returns-in-Refuses-clause-encoded : goal.returns-in-Refuses-clause-encoded
+returns-in-Refuses-clause-encoded g c =
+    let old = c.args.debuggee.now in
+    refused-encoded g.M.Machine.meaning old.settings old.moment (g.M.Machine.meaning.sizes old.moment.machine) c.args.set c.args.number c.args.body.now c.in-Refuses.error
+    (rw (c.in-Refuses.is, c.sizes.ensures) at c.in_ok-error.ensures.value)
+
+pub returns-in_ok-sent-in-Carries-clause-encoded : goal.returns-in_ok-sent-in-Carries-clause-encoded
+returns-in_ok-sent-in-Carries-clause-encoded g c =
+    let old = c.args.debuggee.now in
+    carried-encoded g.M.Machine.meaning old.settings old.moment (g.M.Machine.meaning.sizes old.moment.machine) c.args.set c.args.number c.args.body.now c.in-Carries.action
+    (rw (c.in-Carries.is, c.sizes.ensures) at c.in_ok-error.ensures.value) c.requires c.in_ok-sent-in-Carries.ensures.encoded c.own_answers.ensures

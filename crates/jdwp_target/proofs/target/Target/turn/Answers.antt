@@ -3,6 +3,7 @@ use Rattle.std.proofs.Common.{◌≡◌, ◌∙◌, rules, refl, arith}
 use Rattle.jdwp_wire.specs.Streams.{Handshake, Packet, Whole}
 use Rattle.jdwp_end.specs.Ends.{front_of}
 use Rattle.jdwp_target.specs.Insides.{target_of}
+use Rattle.jdwp_target.proofs.AnswersEncoded.{encodes-command, encodes-ignored, encodes-whole}
 use Rattle.jdwp_target.proofs.RightTurns.{command-replied, greeted, handled-view, packet-handshaken, reply-handled, right-handled, told-command, turns-whole}
 use Rattle.jdwp_target.proofs.target.Target.turn.Goals as goal
 use Rattle.jdwp_target.proofs.target.Target.turn.Goals.{in-Written-1, in-Short-1}
@@ -14,17 +15,20 @@ invariant_of-self g c =
     let h = greeted g.M.Machine.meaning t.debuggee _ t.end _ _ (c.take_off.ensures Handshake front) c.greet.ensures.debuggee c.greet.ensures.end in
     right-handled g.M.Machine.meaning t.debuggee _ t.began.items t.phases.items t.end _ Handshake 14 c.self.invariant c.front.ensures.bytes front h
 
-pub returns-in-Handshake : goal.returns-in-Handshake
-returns-in-Handshake g c =
+pub returns-in-Handshake-clause-turns : goal.returns-in-Handshake-clause-turns
+returns-in-Handshake-clause-turns g c =
     let t = c.self.inside in
     let front : front_of t.end ≡ Whole Handshake 14 = search rules in
     let h = greeted g.M.Machine.meaning t.debuggee _ t.end _ _ (c.take_off.ensures Handshake front) c.greet.ensures.debuggee c.greet.ensures.end in
     rw (← c.self.view_is)
-    (record {
-      turns =
-          turns-whole g.M.Machine.meaning (target_of t.debuggee t.began.items t.phases.items t.end) _ Handshake 14 _ front refl
-          (handled-view g.M.Machine.meaning t.debuggee _ t.began.items t.phases.items t.end _ Handshake 14 c.self.invariant h);
-    })
+    (turns-whole g.M.Machine.meaning (target_of t.debuggee t.began.items t.phases.items t.end) _ Handshake 14 _ front refl
+    (handled-view g.M.Machine.meaning t.debuggee _ t.began.items t.phases.items t.end _ Handshake 14 c.self.invariant h))
+
+pub returns-in-Handshake-clause-encoded : goal.returns-in-Handshake-clause-encoded
+returns-in-Handshake-clause-encoded g c =
+    let t = c.self.inside in
+    let front : front_of t.end ≡ Whole Handshake 14 = search rules in
+    rw (← c.self.view_is) (encodes-whole g.M.Machine.meaning (target_of t.debuggee t.began.items t.phases.items t.end) Handshake 14 front c.greet.ensures.encoded)
 
 pub invariant_of-self-in_default : goal.invariant_of-self-in_default
 invariant_of-self-in_default g c =
@@ -67,8 +71,8 @@ invariant_of-self-in_ok-done-in-Packet-2 g c =
     c.in_ok-done-in-Packet.ensures.ok shaken c.reply.ensures.debuggee c.sizes-sizes.ensures off c.reply.ensures.end in
     right-handled g.M.Machine.meaning t.debuggee _ t.began.items t.phases.items t.end _ (Packet header body) used c.self.invariant c.front.ensures.bytes front h
 
-pub returns-in_ok-done-in-Packet : goal.returns-in_ok-done-in-Packet
-returns-in_ok-done-in-Packet g c =
+pub returns-in_ok-done-in-Packet-clause-turns : goal.returns-in_ok-done-in-Packet-clause-turns
+returns-in_ok-done-in-Packet-clause-turns g c =
     let t = c.self.inside in
     let header = c.in-Packet.packet.header in
     let body = c.in-Packet.packet.body.now in
@@ -82,15 +86,32 @@ returns-in_ok-done-in-Packet g c =
     c.in_ok-done-in-Packet.ensures.ok shaken c.reply.ensures.debuggee c.sizes-sizes.ensures off c.reply.ensures.end in
     let same : c.match-done.self ≡ target_of c.reply.new.debuggee t.began.items t.phases.items c.reply.new.end = elim c.match-done.branch [ in-Written-1 w ↦ w.self-is | in-Short-1 w ↦ w.self-is ] in
     rw (← c.self.view_is)
-    (record {
-      turns =
-          turns-whole g.M.Machine.meaning (target_of t.debuggee t.began.items t.phases.items t.end) c.match-done.self (Packet header body) used _ front
-          (told-command g.M.Machine.meaning t.debuggee.settings t.debuggee.moment header body c.in-Command.set c.in-Command.number c.error_of.result c.in-Command.is (c.error_of.ensures ∙ c.in_ok-done-in-Packet.ensures.ok.sends.error))
-          (same ∙ handled-view g.M.Machine.meaning t.debuggee c.reply.new.debuggee t.began.items t.phases.items t.end c.reply.new.end (Packet header body) used c.self.invariant h);
-    })
+    (turns-whole g.M.Machine.meaning (target_of t.debuggee t.began.items t.phases.items t.end) c.match-done.self (Packet header body) used _ front
+    (told-command g.M.Machine.meaning t.debuggee.settings t.debuggee.moment header body c.in-Command.set c.in-Command.number c.error_of.result c.in-Command.is (c.error_of.ensures ∙ c.in_ok-done-in-Packet.ensures.ok.sends.error))
+    (same ∙ handled-view g.M.Machine.meaning t.debuggee c.reply.new.debuggee t.began.items t.phases.items t.end c.reply.new.end (Packet header body) used c.self.invariant h))
 
-pub returns-in_default : goal.returns-in_default
-returns-in_default g c = search rules
+pub returns-in_ok-done-in-Packet-clause-encoded : goal.returns-in_ok-done-in-Packet-clause-encoded
+returns-in_ok-done-in-Packet-clause-encoded g c =
+    let t = c.self.inside in
+    let header = c.in-Packet.packet.header in
+    let body = c.in-Packet.packet.body.now in
+    let front : front_of t.end ≡ Whole (Packet header body) c.in-Packet.used = search rules in
+    rw (← c.self.view_is)
+    (encodes-whole g.M.Machine.meaning (target_of t.debuggee t.began.items t.phases.items t.end) (Packet header body) c.in-Packet.used front
+    (encodes-command g.M.Machine.meaning t.debuggee.settings t.debuggee.moment header body c.in-Command.set c.in-Command.number c.in-Command.is c.in_ok-done-in-Packet.ensures.encoded))
+
+pub returns-in_default-clause-turns : goal.returns-in_default-clause-turns
+returns-in_default-clause-turns g c = search rules
+
+pub returns-in_default-clause-encoded : goal.returns-in_default-clause-encoded
+returns-in_default-clause-encoded g c =
+    let t = c.self.inside in
+    let header = c.in-Packet.packet.header in
+    let body = c.in-Packet.packet.body.now in
+    let front : front_of t.end ≡ Whole (Packet header body) c.in-Packet.used = search rules in
+    rw (← c.self.view_is)
+    (encodes-whole g.M.Machine.meaning (target_of t.debuggee t.began.items t.phases.items t.end) (Packet header body) c.in-Packet.used front
+    (encodes-ignored g.M.Machine.meaning t.debuggee.settings t.debuggee.moment header body _ c.in_default.is))
 
 pub greet-requires : goal.greet-requires
 greet-requires c = grind (arith, common_steps)
@@ -98,6 +119,6 @@ greet-requires c = grind (arith, common_steps)
 pub handle-requires : goal.handle-requires
 handle-requires c = grind (arith, common_steps)
 
-pub returns-in-Fault : goal.returns-in-Fault
-returns-in-Fault g c =
+pub returns-in-Fault-clause-turns : goal.returns-in-Fault-clause-turns
+returns-in-Fault-clause-turns g c =
     search rules

@@ -1,0 +1,103 @@
+-- What a command is answered is encoded by the bytes that are sent for it, whether it was carried out or refused.
+use Rattle.std.proofs.Common.{◌≡◌, ◌≢◌, ℕ, Bool, true, false, List, Result, Ok, Err, refl, sym, subst, arith}
+use Rattle.jdwp_wire.specs.ErrorCodes.{ILLEGAL_ARGUMENT, NONE, NOT_IMPLEMENTED}
+use Rattle.jdwp_wire.specs.Streams.{Message, NextMessage, Packet, Whole}
+use Rattle.jdwp_wire.specs.Widths.{Widths}
+use Rattle.jdwp_wire.specs.declared.data_fault.DataFault.{DataFault}
+use Rattle.jdwp_wire.specs.declared.error_code.ErrorCode.{ErrorCode}
+use Rattle.jdwp_wire.specs.declared.packet.Header.{Header}
+use Rattle.jdwp_wire.specs.declared.packet.PacketKind.{PacketKind}
+use Rattle.jdwp_wire.specs.declared.packet.PacketKind.TheVariants as kind
+use Rattle.jdwp_end.specs.Ends.{front_of}
+use Rattle.jdwp_layout.specs.CommandTable.{row_at}
+use Rattle.jdwp_layout.specs.Meanings.{DatumMeaning}
+use Rattle.jdwp_layout.specs.Reads.{data_at}
+use Rattle.jdwp_machine.specs.Meanings.{Meaning}
+use Rattle.jdwp_debuggee.specs.Actions.{Command, Raw, action_of, is_implemented}
+use Rattle.jdwp_debuggee.specs.CommandReads.{asking, asking_of, asks, command_read, content_read, read_by, row_request}
+use Rattle.jdwp_debuggee.specs.Effects.{carried, does, effect, effect_by}
+use Rattle.jdwp_debuggee.specs.Sending.{EncodesAnswer, is_question}
+use Rattle.jdwp_debuggee.specs.Settings.{Settings}
+use Rattle.jdwp_debuggee.specs.State.{Moment}
+use Rattle.jdwp_debuggee.specs.declared.command as code
+use Rattle.jdwp_target.specs.Standings.{carried_out}
+use Rattle.jdwp_target.specs.Targets.{Target}
+use Rattle.jdwp_target.specs.Turns.{EncodesByKind, EncodesFor, EncodesNext}
+use Rattle.jdwp_target.proofs.RightTurns.{WasRead, asking-same, carried-shaken, was-read}
+
+-- ---- a command that is refused unread
+
+abbrev read_err : ErrorCode → Result Command ErrorCode
+read_err e = Err e
+
+error-same : (x y : ErrorCode) → read_err x ≡ read_err y → x ≡ y
+error-same x y e = cc
+
+refused-content : (set number : ℕ) (found : Result (List DatumMeaning) DataFault) (x : ErrorCode) → content_read set number found ≡ Err x → x.0 ≢ NONE.0
+refused-content set number (Ok content) x e = absurd cc
+refused-content set number (Err fault) x e = subst (λ (y : ErrorCode). y.0 ≢ NONE.0) (error-same ILLEGAL_ARGUMENT x e) (omega arith)
+
+refused-by : (w : Widths) (set number : ℕ) (bytes : List ℕ) (b : Bool) (x : ErrorCode) → read_by w set number bytes b ≡ Err x → x.0 ≢ NONE.0
+refused-by w set number bytes true x e = refused-content set number (data_at w (row_request (row_at set number)) bytes) x e
+refused-by w set number bytes false x e = subst (λ (y : ErrorCode). y.0 ≢ NONE.0) (error-same NOT_IMPLEMENTED x e) (omega arith)
+
+was-refused : (w : Widths) (set number : ℕ) (bytes : List ℕ) (x : ErrorCode) → command_read w set number bytes ≡ Err x → x.0 ≢ NONE.0
+was-refused w set number bytes x e = refused-by w set number bytes (is_implemented (record { set = set; number = number; carried = Raw bytes })) x e
+
+refused-read : {S : Type 0} (m : Meaning S) (settings : Settings) (now : Moment S) (w : Widths) (set number : ℕ) (error : ErrorCode) (read : Result Command ErrorCode)
+    → ((x : ErrorCode) → read ≡ Err x → x.0 ≢ NONE.0) → Err error ≡ asks read → EncodesAnswer w set number (carried_out m settings now read).answer
+refused-read m settings now w set number error (Ok c) other e = absurd cc
+refused-read m settings now w set number error (Err x) other e = other x refl
+
+pub refused-encoded : {S : Type 0} (m : Meaning S) (settings : Settings) (now : Moment S) (w : Widths) (set number : ℕ) (body : List ℕ) (error : ErrorCode)
+    → Err error ≡ asks (command_read w set number body) → EncodesAnswer w set number (carried_out m settings now (command_read w set number body)).answer
+refused-encoded m settings now w set number body error e =
+    refused-read m settings now w set number error (command_read w set number body) (was-refused w set number body) e
+
+-- ---- a command that is carried out
+
+by-question : (b : Bool) (P : Type 0) → (b ≡ true → P) → (b ≡ false → P) → P
+by-question true P asked own = asked refl
+by-question false P asked own = own refl
+
+answer-encoded : {S : Type 0} (m : Meaning S) (settings : Settings) (now : Moment S) (w : Widths) (set number : ℕ) (c : Command) → WasRead set number c
+    → now.state.handshaken ≡ true → EncodesAnswer w c.set c.number (carried m settings now c (action_of c)).answer → EncodesAnswer w set number (effect m settings now c).answer
+answer-encoded m settings now w set number c r shaken h =
+    let answer = (does m settings now c (action_of c)).answer in
+    let on : EncodesAnswer w c.set c.number answer = rw (carried-shaken m settings now c (action_of c) shaken) at h in
+    let here : EncodesAnswer w set c.number answer = subst (λ (x : ℕ). EncodesAnswer w x c.number answer) r.set on in
+    let there : EncodesAnswer w set number answer = subst (λ (x : ℕ). EncodesAnswer w set x answer) r.number here in
+    subst (λ (b : Bool). EncodesAnswer w set number (effect_by m settings now c b).answer) (sym r.implemented) there
+
+carried-read : {S : Type 0} (m : Meaning S) (settings : Settings) (now : Moment S) (w : Widths) (set number : ℕ) (a : code.Action.Action) (read : Result Command ErrorCode)
+    → ((c : Command) → read ≡ Ok c → WasRead set number c) → Ok (asking a) ≡ asks read → now.state.handshaken ≡ true
+    → ((c : Command) → asking a ≡ asking_of c → is_question (action_of c) ≡ true → EncodesAnswer w c.set c.number (carried m settings now c (action_of c)).answer)
+    → ((c : Command) → is_question (action_of c) ≡ false → EncodesAnswer w c.set c.number (carried m settings now c (action_of c)).answer)
+    → EncodesAnswer w set number (carried_out m settings now read).answer
+carried-read m settings now w set number a (Ok c) was e shaken asked own =
+    let same = asking-same (asking a) (asking_of c) e in
+    let of-it = EncodesAnswer w c.set c.number (carried m settings now c (action_of c)).answer in
+    answer-encoded m settings now w set number c (was c refl) shaken (by-question (is_question (action_of c)) of-it (asked c same) (own c))
+carried-read m settings now w set number a (Err x) was e shaken asked own = absurd cc
+
+pub carried-encoded : {S : Type 0} (m : Meaning S) (settings : Settings) (now : Moment S) (w : Widths) (set number : ℕ) (body : List ℕ) (a : code.Action.Action)
+    → Ok (asking a) ≡ asks (command_read w set number body) → now.state.handshaken ≡ true
+    → ((c : Command) → asking a ≡ asking_of c → is_question (action_of c) ≡ true → EncodesAnswer w c.set c.number (carried m settings now c (action_of c)).answer)
+    → ((c : Command) → is_question (action_of c) ≡ false → EncodesAnswer w c.set c.number (carried m settings now c (action_of c)).answer)
+    → EncodesAnswer w set number (carried_out m settings now (command_read w set number body)).answer
+carried-encoded m settings now w set number body a e shaken asked own =
+    carried-read m settings now w set number a (command_read w set number body) (was-read w set number body) e shaken asked own
+
+-- ---- by what there is to handle
+
+pub encodes-whole : {S : Type 0} (m : Meaning S) (v : Target S) (message : Message) (used : ℕ) → front_of v.end ≡ Whole message used → EncodesFor m v.settings v.moment message
+    → EncodesNext m (front_of v.end) v
+encodes-whole m v message used front h = subst (λ (x : NextMessage). EncodesNext m x v) (sym front) h
+
+pub encodes-command : {S : Type 0} (m : Meaning S) (settings : Settings) (now : Moment S) (header : Header) (body : List ℕ) (set number : ℕ) → header.kind ≡ kind.Command set number
+    → EncodesAnswer (m.sizes now.machine) set number (carried_out m settings now (command_read (m.sizes now.machine) set number body)).answer → EncodesFor m settings now (Packet header body)
+encodes-command m settings now header body set number is h = subst (λ (x : PacketKind). EncodesByKind m settings now x body) (sym is) h
+
+pub encodes-ignored : {S : Type 0} (m : Meaning S) (settings : Settings) (now : Moment S) (header : Header) (body : List ℕ) (error : ErrorCode) → header.kind ≡ kind.Reply error
+    → EncodesFor m settings now (Packet header body)
+encodes-ignored m settings now header body error is = subst (λ (x : PacketKind). EncodesByKind m settings now x body) (sym is) tt
