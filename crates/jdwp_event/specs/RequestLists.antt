@@ -33,16 +33,24 @@ placed r (x ∷ xs) =
     if x.asked.id == r.asked.id then r ∷ xs else
     r ∷ x ∷ xs)
 
--- all but the request of this kind and id
+-- Whether the command Clear of this kind and id leaves a request, by the request's kind and id: all but the one of both.
+abbrev pub is_left : ℕ → ℤ → ℕ → ℤ → Bool
+is_left byte id request_kind request_id = not ((request_kind == byte) && int_eq request_id id)
+
+-- Whether the command ClearAllBreakpoints leaves a request, by the request's kind: all but those of the kind BREAKPOINT.
+abbrev pub is_left_by_all : ℕ → Bool
+is_left_by_all request_kind = not (request_kind == kind_byte kind.Breakpoint)
+
+-- what Clear leaves of a list
 abbrev pub is_another : ℕ → ℤ → Request → Bool
-is_another byte id r = not ((r.asked.kind == byte) && int_eq (pos r.asked.id) id)
+is_another byte id r = is_left byte id r.asked.kind (pos r.asked.id)
 
 abbrev pub without : ℕ → ℤ → List Request → List Request
 without byte id requests = filter (is_another byte id) requests
 
--- all but those of the kind BREAKPOINT
+-- what ClearAllBreakpoints leaves of a list
 abbrev pub is_no_breakpoint : Request → Bool
-is_no_breakpoint r = not (r.asked.kind == kind_byte kind.Breakpoint)
+is_no_breakpoint r = is_left_by_all r.asked.kind
 
 abbrev pub without_breakpoints : List Request → List Request
 without_breakpoints requests = filter is_no_breakpoint requests

@@ -17,7 +17,7 @@ mod requests;
 pub use event::{Composite, Event, count_gathered, gather};
 pub use happening::{ClassSeen, Happening, Occurrence, Place, PreparedClass, ThrownException};
 pub use kind::EventKind;
-pub use laws::composites_have_their_layout;
+pub use laws::{composites_have_their_bytes, composites_have_their_layout};
 pub use modifier::Modifier;
 pub use policy::{Policy, StepDepth, StepSize};
 pub use request::{Request, StepOrigin, matches};

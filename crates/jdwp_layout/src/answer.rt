@@ -1,9 +1,10 @@
 //! What a command is answered.
-ghost use Rattle.std.specs.Prelude.{◌≡◌};
+ghost use Rattle.std.specs.Prelude.{◌≡◌, IfOk};
 ghost use Rattle.jdwp_layout.specs.Meanings.{meanings};
 
-use crate::datum::Datum;
-use jdwp_wire::ErrorCode;
+use crate::datum::{Datum, copy_items};
+use jdwp_wire::{ErrorCode, NoMemory};
+use std::alloc::Global;
 use std::marker::Model;
 
 /// The data of a packet: what its row's layout says, item by item. Contracts see what they say, apart from where they
@@ -37,6 +38,17 @@ impl Data {
         ensures { meanings result.now ≡ self.now }
     {
         self.items.as_slice()
+    }
+
+    /// Other data that say the same.
+    ///
+    /// # Errors
+    /// `NoMemory` where an allocation was refused.
+    pub fn copied(&self, alloc: Global) -> Result<Data, NoMemory>
+        ensures { IfOk result (λ copy. copy ≡ self.now) }
+    {
+        let items = copy_items(alloc, self.items.as_slice())?;
+        Ok(Data { items })
     }
 
     /// The items themselves.

@@ -20,7 +20,7 @@ mod writing;
 
 pub use answer::{Answer, Data};
 pub use command::{CommandRow, Layouts, layout_of};
-pub use datum::{Datum, Scalar};
+pub use datum::{Datum, Scalar, copy_entry};
 pub use entry::{entry_size, pass_entries, pass_entry, read_entry, write_entry};
 pub use fitting::{data_size, refusal};
 pub use item::{Entry, Field, Item, Layout, fields_of_event, fields_of_modifier};

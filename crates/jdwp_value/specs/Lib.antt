@@ -6,3 +6,4 @@ pub mod Values
 pub mod ValueLaws
 pub mod Regions
 pub mod RegionLaws
+pub mod Rising

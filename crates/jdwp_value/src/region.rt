@@ -6,7 +6,7 @@ ghost use Rattle.std.specs.Cmp.Lexicographic.{lists_per};
 ghost use Rattle.std.specs.Cmp.Lexicographic.{pointwise};
 ghost use Rattle.std.specs.Ordering.{eq_of_both, on};
 ghost use Rattle.std.specs.Result.{IsErrOf};
-ghost use Rattle.jdwp_wire.specs.declared.data_fault.DataFault.TheVariants.{NoMemory};
+ghost use Rattle.jdwp_wire.specs.declared.data_fault.DataFault.TheVariants.{NoMemory as WantOfMemory};
 ghost use Rattle.jdwp_wire.specs.Reading.{Gives, passed, BeginsWith};
 ghost use Rattle.jdwp_wire.specs.Writing.{Appends, Leaves, LeavesInFront, HasRoom};
 ghost use Rattle.jdwp_wire.specs.Each.{times_at, EncodesAll};
@@ -22,7 +22,7 @@ use crate::value::{
     TaggedId, Value, pass_untagged, put_untagged, take_tagged_id, take_untagged, untagged_size,
 };
 use jdwp_wire::number::{put_count, take_count};
-use jdwp_wire::{DataFault, IdSizes, Wire, all_or_nothing};
+use jdwp_wire::{DataFault, IdSizes, NoMemory, Wire, all_or_nothing};
 use std::alloc::Global;
 use std::marker::Model;
 
@@ -59,6 +59,20 @@ impl ArrayRegion {
         ensures { result ≡ self.now.tag }
     {
         self.tag
+    }
+
+    /// Another region of the same tag and elements.
+    ///
+    /// # Errors
+    /// `NoMemory` where an allocation was refused.
+    pub fn copied(&self, alloc: Global) -> Result<ArrayRegion, NoMemory>
+        ensures { IfOk result (λ copy. copy ≡ self.now) }
+    {
+        let elements = Vec::from_slice(alloc, &self.elements)?;
+        Ok(ArrayRegion {
+            tag: self.tag,
+            elements,
+        })
     }
 
     /// The elements, in order, given back.
@@ -166,7 +180,7 @@ fn take_region_tag(rest: &[u8], whole: usize) -> Result<(Tag, &[u8]), DataFault>
         × (is_void x.0 ≡ false)) }
     ensures err { IfErr result (λ e. (w : Widths) → region_at w whole rest.now ≡ Err e) }
     ensures shorter { IfOk result (λ x. length x.1.now ≤ length rest.now) }
-    ensures memory { IsErrOf result NoMemory → ⊥ }
+    ensures memory { IsErrOf result WantOfMemory → ⊥ }
 {
     let (tag, rest) = take_tag(rest, whole)?;
     if tag.is_void() {
@@ -220,7 +234,7 @@ fn take_element<'a>(
     ensures value { Gives (λ x. (x.0, x.1.now)) result (element_at sizes.now whole tag rest.now) }
     ensures fits { IfOk result (λ x. may_stand tag x.0 ≡ true) }
     ensures shorter { IfOk result (λ x. length x.1.now ≤ length rest.now) }
-    ensures memory { IsErrOf result NoMemory → ⊥ }
+    ensures memory { IsErrOf result WantOfMemory → ⊥ }
 {
     if tag.is_object() {
         let (tagged, rest) = take_tagged_id(rest, whole, sizes)?;
@@ -239,7 +253,7 @@ fn pass_element<'a>(
 ) -> Result<&'a [u8], DataFault>
     ensures value { Gives (λ after. after.now) result
         (passed (element_at sizes.now whole tag rest.now)) }
-    ensures memory { IsErrOf result NoMemory → ⊥ }
+    ensures memory { IsErrOf result WantOfMemory → ⊥ }
 {
     if tag.is_object() {
         TaggedId::pass_front(rest, whole, sizes)
@@ -261,7 +275,7 @@ fn take_elements<'a>(
         (times_at (element_at sizes.now whole tag) count bytes.now) }
     ensures fits { IfOk result (λ x. list_all (may_stand tag) x.0.items ≡ true) }
     ensures shorter { IfOk result (λ x. length x.1.now ≤ length bytes.now) }
-    ensures memory { IsErrOf result NoMemory
+    ensures memory { IsErrOf result WantOfMemory
         → (0 < count) × BeginsWith (EncodesElement sizes.now tag) bytes.now }
 {
     let mut values = Vec::new(alloc);
@@ -284,7 +298,7 @@ fn pass_elements<'a>(
 ) -> Result<&'a [u8], DataFault>
     ensures value { Gives (λ after. after.now) result
         (passed (times_at (element_at sizes.now whole tag) count bytes.now)) }
-    ensures memory { IsErrOf result NoMemory → ⊥ }
+    ensures memory { IsErrOf result WantOfMemory → ⊥ }
 {
     let mut rest = bytes;
     for _ in 0..count {
@@ -306,7 +320,7 @@ fn put_element(
         result output.old output.new }
     ensures err { Leaves (value_refusal sizes.now value.now) result output.old output.new }
     ensures room { HasRoom (element_canonical sizes.now tag value.now) output.old
-        → IsErrOf result NoMemory → ⊥ }
+        → IsErrOf result WantOfMemory → ⊥ }
     ensures capacity { vec_capacity output.old ≤ vec_capacity output.new }
 {
     if tag.is_object() {
@@ -329,7 +343,7 @@ fn put_elements(
     ensures err { LeavesInFront (first_refusal (value_refusal sizes.now) values.now)
         result output.old output.new }
     ensures room { HasRoom (flat_map (element_canonical sizes.now tag) values.now) output.old
-        → IsErrOf result NoMemory → ⊥ }
+        → IsErrOf result WantOfMemory → ⊥ }
     ensures capacity { vec_capacity output.old ≤ vec_capacity output.new }
 {
     for value in values {
@@ -351,7 +365,7 @@ fn put_parts(
     ensures err { LeavesInFront (region_refusal sizes.now (region_of tag values.now))
         result output.old output.new }
     ensures room { HasRoom (region_canonical sizes.now (region_of tag values.now)) output.old
-        → IsErrOf result NoMemory → ⊥ }
+        → IsErrOf result WantOfMemory → ⊥ }
     ensures capacity { vec_capacity output.old ≤ vec_capacity output.new }
 {
     output.push(tag.byte())?;

@@ -9,6 +9,7 @@ pub mod ErrorCodes
 pub mod Frames
 pub mod FrameLaws
 pub mod Streams
+pub mod StreamLaws
 pub mod DataFaultNumbers
 pub mod Reading
 pub mod Writing

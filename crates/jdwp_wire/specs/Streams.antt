@@ -1,5 +1,5 @@
 -- Messages, and the byte streams that they make (JDWP specification, "JDWP overview" and "Packets": the handshake, then packets).
-use Rattle.std.specs.Prelude.{ℕ, Bool, true, false, List, [], ◌∷◌}
+use Rattle.std.specs.Prelude.{ℕ, Bool, true, false, List, [], ◌∷◌, length, nat_le, if◌then◌else◌}
 use Rattle.std.specs.List.{flat_map, AllByRecursion}
 use Rattle.jdwp_wire.specs.declared.frame.FrameFault.{FrameFault}
 use Rattle.jdwp_wire.specs.declared.frame.NextHello.{NextHello}
@@ -27,6 +27,14 @@ abbrev pub IsPacketMessage : ℕ → Message → Type 0
 IsPacketMessage limit Handshake = ⊥
 IsPacketMessage limit (Packet header body) = IsPacket limit header body
 
+-- the handshake, or a packet of at most `limit` bytes
+abbrev pub IsSendable : ℕ → Message → Type 0
+IsSendable limit Handshake = Unit {0}
+IsSendable limit (Packet header body) = IsPacket limit header body
+
+abbrev pub AreSendable : ℕ → List Message → Type 0
+AreSendable limit messages = AllByRecursion (IsSendable limit) messages
+
 -- what one end sends in a session, or the beginning of it: the handshake, and then packets
 abbrev pub IsConversation : ℕ → List Message → Type 0
 IsConversation limit [] = Unit {0}
@@ -53,3 +61,12 @@ at_handshake (hello.Fault fault) = Fault fault
 abbrev pub next_message : ℕ → Bool → List ℕ → NextMessage
 next_message limit true bytes = after_handshake (front limit bytes)
 next_message limit false bytes = at_handshake (handshake_front bytes)
+
+-- the handshake is looked for first, and packets after it
+abbrev pub is_packet : Message → Bool
+is_packet Handshake = false
+is_packet (Packet header body) = true
+
+-- what stands at the front of the first n bytes of a stream that begins with this message: the message once they have all of it
+abbrev pub front_of_cut : ℕ → Message → NextMessage
+front_of_cut n message = if nat_le (length (message_bytes message)) n then Whole message (length (message_bytes message)) else More

@@ -22,8 +22,8 @@ pub use frame::{
 };
 pub use id_sizes::{BadSize, IdKind, IdSizes, Width};
 pub use laws::{
-    answers_first_fault, begins_with_one_fault, begins_with_one_value, reads_only_encoded,
-    reads_what_is_encoded,
+    answers_first_fault, begins_with_one_fault, begins_with_one_value, calls_for_more,
+    finds_first_message, finds_whole_messages, reads_only_encoded, reads_what_is_encoded,
 };
 pub use limits::{LEAST_PACKET_LIMIT, Limits, MOST_PACKET_LIMIT};
 pub use no_memory::NoMemory;
