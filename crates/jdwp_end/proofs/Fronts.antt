@@ -1,15 +1,16 @@
 -- What stands in front of the bytes that came to an end.
-use Rattle.std.proofs.Common.{◌≡◌, ◌∙◌, ℕ, ◌<◌, ◌+◌, ◌≤◌, ◌++◌, List, [], length, take, drop, Bool, true, false, cond, sym, ap, refl, arith, inl, inr}
+use Rattle.std.proofs.Common.{◌≡◌, ◌^◌, ◌∙◌, ℕ, ◌<◌, ◌+◌, ◌≤◌, ◌++◌, List, [], length, take, drop, Bool, true, false, cond, sym, ap, refl, arith, inl, inr}
 use Rattle.std.proofs.lemmas.Bool.{cases_lt, lt-leb}
-use Rattle.std.proofs.lemmas.List.{length-append, length-drop, take_at, drop_at}
+use Rattle.std.proofs.lemmas.List.{append-nil, length-append, length-drop, take_at, drop_at}
 use Rattle.jdwp_wire.specs.Bytes.{IsBytes}
-use Rattle.jdwp_wire.specs.Frames.{Front, front}
+use Rattle.jdwp_wire.specs.Frames.{Front, front, packet_bytes}
 use Rattle.jdwp_wire.specs.Frames as frames
-use Rattle.jdwp_wire.specs.FrameLaws.{front_found, front_is}
+use Rattle.jdwp_wire.specs.FrameLaws.{front_again, front_found, front_is}
 use Rattle.jdwp_wire.specs.Handshake.{handshake_bytes, handshake_front}
 use Rattle.jdwp_wire.specs.HandshakeLaws.{handshake_front_is}
 use Rattle.jdwp_wire.specs.Streams.{Message, Handshake, Packet, NextMessage, Whole, More, Fault, after_handshake, at_handshake, message_bytes, IsPacketMessage}
 use Rattle.jdwp_wire.specs.declared.frame.FrameFault.{FrameFault}
+use Rattle.jdwp_wire.specs.declared.packet.Header.{Header}
 use Rattle.jdwp_wire.specs.declared.frame.NextHello.{NextHello}
 use Rattle.jdwp_wire.specs.declared.frame.NextHello.TheVariants as hello
 use Rattle.jdwp_wire.specs.Limits.{least_packet_limit}
@@ -142,3 +143,32 @@ more-has-room end low fits e opened flows =
     let next : next_of end ≡ More = unpaused-more (is_paused end) (next_of end) flows e in
     let short = more-room end.limits.packet end.phase end.incoming (omega arith) fits opened next in
     rw opened (omega (arith, short))
+
+-- ---- a packet that is lent
+
+is-packet : {header : Header} {body : List ℕ} {used : ℕ} (found : Front) → after_handshake found ≡ Whole (Packet header body) used → found ≡ frames.Whole header body used
+is-packet (frames.Whole h b n) e = cc
+is-packet frames.More e = absurd cc
+is-packet (frames.Fault fault) e = absurd cc
+
+no-packet : {A : Type 0} {header : Header} {body : List ℕ} {used : ℕ} (found : NextHello) → at_handshake found ≡ Whole (Packet header body) used → A
+no-packet hello.Whole e = absurd cc
+no-packet hello.More e = absurd cc
+no-packet (hello.Fault fault) e = absurd cc
+
+packet-at : (limit : ℕ) (phase : Phase) (bytes : List ℕ) (header : Header) (body : List ℕ) (used : ℕ) → next_at limit phase bytes ≡ Whole (Packet header body) used → IsBytes bytes
+    → front limit bytes ≡ frames.Whole header body used
+packet-at limit Closed bytes header body used e fits = absurd cc
+packet-at limit AwaitingHandshake bytes header body used e fits = no-packet (handshake_front bytes) e
+packet-at limit Established bytes header body used e fits = is-packet (front limit bytes) e
+
+-- the bytes of the packet in front have the same packet in front
+pub packet-again : (end : End) (header : Header) (body : List ℕ) (used : ℕ) → end.limits.packet < 2 ^ 32 → IsBytes end.incoming → front_of end ≡ Whole (Packet header body) used
+    → front end.limits.packet (take used end.incoming) ≡ frames.Whole header body used
+packet-again end header body used small fits e =
+    let found = packet-at end.limits.packet end.phase end.incoming header body used (front-whole end (Packet header body) used e).1 fits in
+    let p = front_found end.limits.packet end.incoming header body used fits found in
+    let first = (in-front end (Packet header body) used fits e).0.bytes_are in
+    ap (λ (bytes : List ℕ). front end.limits.packet bytes) (first ∙ sym (append-nil (packet_bytes header body)))
+    ∙ front_again end.limits.packet header body [] small p.0
+    ∙ ap (λ (n : ℕ). frames.Whole header body n) (sym p.1)

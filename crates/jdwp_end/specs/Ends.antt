@@ -1,7 +1,8 @@
 -- One end of a session, as contracts see it, and what each call does to it (JDWP specification, "JDWP overview" and "Packets": each end
 -- sends the handshake, and then packets).
-use Rattle.std.specs.Prelude.{ℕ, ◌+◌, ◌-◌, ◌*◌, Bool, true, false, nat_le, List, [], ◌++◌, length, drop, if◌then◌else◌}
+use Rattle.std.specs.Prelude.{◌≡◌, ℕ, ◌+◌, ◌-◌, ◌*◌, Bool, true, false, nat_le, List, [], ◌++◌, length, drop, if◌then◌else◌}
 use Rattle.jdwp_wire.specs.Limits.{Limits}
+use Rattle.jdwp_wire.specs.declared.packet.Header.{Header}
 use Rattle.jdwp_wire.specs.Streams.{Message, NextMessage, Whole, More, Fault, message_bytes, next_message}
 use Rattle.jdwp_end.specs.declared.front.Front.{Front}
 use Rattle.jdwp_end.specs.declared.front.Front.TheVariants as found
@@ -63,12 +64,16 @@ next_of end = next_at end.limits.packet end.phase end.incoming
 abbrev pub front_of : End → NextMessage
 front_of end = if is_paused end then More else next_of end
 
--- an answer of the code, without the place in memory
-abbrev pub seen_front : Front → NextMessage
-seen_front found.More = More
-seen_front (found.Fault fault) = Fault fault
-seen_front found.Handshake = Whole Message.Handshake 14
-seen_front (found.Packet packet used) = Whole (Message.Packet packet.header packet.body.now) used
+-- what an end tells of it, without the message: a handshake takes 14 bytes, and a packet so many
+abbrev pub TellsFront : Front → NextMessage → Type 0
+TellsFront found.More next = next ≡ More
+TellsFront (found.Fault fault) next = next ≡ Fault fault
+TellsFront found.Handshake next = next ≡ Whole Message.Handshake 14
+TellsFront (found.Packet used) next = (header : Header) × (body : List ℕ) × (next ≡ Whole (Message.Packet header body) used)
+
+-- a packet of so many bytes stands in front of an end
+abbrev pub HasPacket : ℕ → End → Type 0
+HasPacket used end = (header : Header) × (body : List ℕ) × (front_of end ≡ Whole (Message.Packet header body) used)
 
 -- ---- what each call does
 

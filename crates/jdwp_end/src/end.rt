@@ -1,10 +1,13 @@
 //! One end of a session.
-ghost use Rattle.std.specs.Prelude.{◌≡◌, ◌≤◌, ◌<◌, ◌+◌, ◌-◌, ◌*◌, ◌++◌, [], None, true, false, IfOk, length, take, drop, min};
+ghost use Rattle.std.specs.Prelude.{◌≡◌, ◌≤◌, ◌<◌, ◌+◌, ◌-◌, ◌*◌, ◌++◌, [], List, None, true, false, ℕ, IfOk, length, take, drop, min};
 ghost use Rattle.jdwp_wire.specs.Bytes.{IsBytes};
-ghost use Rattle.jdwp_wire.specs.Streams.{Message, Whole, More};
+ghost use Rattle.jdwp_wire.specs.Frames as frames;
+ghost use Rattle.jdwp_wire.specs.Frames.{front};
+ghost use Rattle.jdwp_wire.specs.Streams.{Message, Packet, Whole, More};
+ghost use Rattle.jdwp_wire.specs.declared.packet.Header.{Header};
 ghost use Rattle.jdwp_wire.specs.Limits.{least_packet_limit, most_packet_limit};
 ghost use Rattle.jdwp_end.specs.Ends as ends;
-ghost use Rattle.jdwp_end.specs.Ends.{closed, front_of, lost, most_outgoing, new_end, opened, room_of, seen_front, with_enqueued, with_fed, with_handled, with_taken};
+ghost use Rattle.jdwp_end.specs.Ends.{HasPacket, TellsFront, closed, front_of, lost, most_outgoing, new_end, opened, room_of, with_enqueued, with_fed, with_handled, with_taken};
 
 use crate::front::Front;
 use crate::phase::Phase;
@@ -140,11 +143,11 @@ impl End {
         count
     }
 
-    /// What there is to handle. A packet is lent from where it lies.
+    /// What there is to handle. `packet_in_front` lends a packet from where it lies.
     ///
     /// An open end that is not paused and asks for more has room for a byte.
-    pub fn front(&self) -> Front<'_>
-        ensures front { seen_front result ≡ front_of self.now }
+    pub fn front(&self) -> Front
+        ensures front { TellsFront result (front_of self.now) }
         ensures room { front_of self.now ≡ More → ends.is_open self.now ≡ true → ends.is_paused self.now ≡ false → 0 < room_of self.now }
         ensures bytes { IsBytes self.now.incoming }
         ensures least { least_packet_limit ≤ self.now.limits.packet }
@@ -164,11 +167,22 @@ impl End {
                 NextHello::Fault(fault) => Front::Fault(fault),
             },
             Phase::Established => match next_packet_within(bytes, &self.limits) {
-                Next::Whole(packet, used) => Front::Packet(packet, used),
+                Next::Whole(_, used) => Front::Packet(used),
                 Next::More => Front::More,
                 Next::Fault(fault) => Front::Fault(fault),
             },
         }
+    }
+
+    /// The bytes of the packet in front, which takes so many: in front of them stands the same packet.
+    pub fn packet_in_front(&self, used: usize) -> &[u8]
+        requires { HasPacket used self.now }
+        ensures bytes { result.now ≡ take used self.now.incoming }
+        ensures packet { (header : Header) (body : List ℕ) → front_of self.now ≡ Whole (Packet header body) used → front self.now.limits.packet result.now ≡ frames.Whole header body used }
+    {
+        let arrived = self.incoming.as_slice();
+        are_bytes(arrived);
+        &arrived[..used]
     }
 
     /// What holds of every end: what came are bytes; one at which nothing waits is not paused; and one that is open, not paused and asks

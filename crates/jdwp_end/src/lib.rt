@@ -4,9 +4,11 @@
 
 mod end;
 mod front;
+mod laws;
 mod phase;
 mod session;
 
 pub use end::End;
 pub use front::Front;
+pub use laws::finds_first_message;
 pub use phase::Phase;

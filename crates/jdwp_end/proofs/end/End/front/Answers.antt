@@ -28,3 +28,7 @@ returns-in-More-next_packet_within-clause-front c = search rules
 
 pub returns-in-Fault-next_packet_within-clause-front : goal.returns-in-Fault-next_packet_within-clause-front
 returns-in-Fault-next_packet_within-clause-front c = search rules
+
+pub returns-in-Whole-next_packet_within-clause-front : goal.returns-in-Whole-next_packet_within-clause-front
+returns-in-Whole-next_packet_within-clause-front c =
+    (c.in-Whole-next_packet_within.field-0.header, c.in-Whole-next_packet_within.field-0.body.now, search rules)
