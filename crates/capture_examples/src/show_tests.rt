@@ -1,7 +1,8 @@
 //! Captures in words.
 use crate::asserts::expect_same;
+use jdwp_event::{Composite, Policy};
 use jdwp_layout::{Datum, Scalar};
-use jdwp_show::{CaptureFault, composite_data_line, reply_line, show};
+use jdwp_show::{CaptureFault, composite_data_line, composite_line, reply_line, show};
 use jdwp_value::ObjectId;
 use jdwp_wire::{ErrorCode, FrameFault, NoMemory};
 use std::alloc::Global;
@@ -178,6 +179,9 @@ fn line_of_a_composite(rt: HostRuntime) -> Result<(), NoMemory> {
     let events = vec![in alloc; event]?;
     let data = [Datum::One(Scalar::Byte(0)), Datum::Many(events)];
     let line = composite_data_line(alloc, 1, &data)?;
+    expect_same(&rt, &line.as_str(), &"< 1 Event.Composite 0 [(90, 0, #1)]");
+    let start = Composite::vm_start(alloc, Policy::None, ObjectId(1))?;
+    let line = composite_line(alloc, 1, &start)?;
     expect_same(&rt, &line.as_str(), &"< 1 Event.Composite 0 [(90, 0, #1)]");
     Ok(())
 }

@@ -3,7 +3,8 @@ use crate::asserts::expect_same;
 use jdwp_event::{Composite, Event, Modifier};
 use jdwp_layout::{Data, Datum, Scalar};
 use jdwp_value::{
-    FieldId, Location, MethodId, ObjectId, ObjectTag, ReferenceTypeId, TaggedId, TypeTag, Value,
+    ArrayRegion, FieldId, Location, MethodId, ObjectId, ObjectTag, ReferenceTypeId, Tag, TaggedId,
+    TypeTag, Value,
 };
 use jdwp_wire::{DataFault, IdSizes, Wire};
 use std::alloc::Global;
@@ -409,5 +410,24 @@ fn other_data_are_no_composite(rt: HostRuntime) -> Result<(), Fail> {
     assert!(rt; !is_composite(alloc, one)?);
     let int = vec![in alloc; Datum::One(Scalar::Int(1)), Datum::Many(Vec::new(alloc))]?;
     assert!(rt; !is_composite(alloc, int)?);
+    Ok(())
+}
+
+/// A number, a list of an id and a text, and a region.
+fn data_of_each_form(alloc: Global) -> Result<Data, Fail> {
+    let text = Scalar::String(String::from_str(alloc, "main")?);
+    let entry = vec![in alloc; Scalar::ObjectId(ObjectId(5)), text]?;
+    let elements = vec![in alloc; Value::Int(7)]?;
+    let region = ArrayRegion::new(Tag::Int, elements).ok_or("no region")?;
+    let number = Datum::One(Scalar::Byte(1));
+    let list = Datum::Many(vec![in alloc; entry]?);
+    Ok(Data::new(vec![in alloc; number, list, Datum::Region(region)]?))
+}
+
+#[test]
+fn copied_data_are_the_same(rt: HostRuntime) -> Result<(), Fail> {
+    let first = data_of_each_form(rt.alloc())?;
+    let copy = first.copied(rt.alloc())?;
+    expect_same(&rt, &copy.items(), &first.items());
     Ok(())
 }

@@ -4,6 +4,7 @@
 mod capture_fault;
 mod capture_line;
 mod checking;
+mod composite_text;
 mod data_text;
 mod found;
 mod hex_digits;
@@ -27,6 +28,6 @@ pub use laws::{
     finds_each_message, keeps_each_message, stands_in_its_line, tells_widths_by_layout,
     tells_widths_first, waits_where_it_stands,
 };
-pub use message_line::{composite_data_line, reply_line};
+pub use message_line::{composite_data_line, composite_line, reply_line};
 pub use pending::Command;
 pub use showing::{Shown, show};

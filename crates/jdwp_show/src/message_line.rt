@@ -1,17 +1,21 @@
 //! One message as a line, without a capture.
 ghost use Rattle.std.specs.Prelude.{◌≡◌, ◌++◌, IfOk};
 ghost use Rattle.std.specs.String.{string_bytes};
+ghost use Rattle.jdwp_event.specs.Composites.{composite_data};
 ghost use Rattle.jdwp_layout.specs.CommandNumbers.{COMPOSITE};
 ghost use Rattle.jdwp_layout.specs.Meanings.{meanings};
 ghost use Rattle.jdwp_show.specs.declared.capture_line.Sender.TheVariants.{Target};
 ghost use Rattle.jdwp_show.specs.DataText.{data_text, raw_text};
 ghost use Rattle.jdwp_show.specs.MessageLines.{command_start, reply_start};
+ghost use Rattle.jdwp_show.specs.Telling.{Grows};
 
 use crate::capture_line::Sender;
+use crate::composite_text::push_composite;
 use crate::data_text::{push_data, push_raw};
 use crate::message_text::{push_command_start, push_reply_start};
 use crate::pending::Command;
 use crate::text::Text;
+use jdwp_event::Composite;
 use jdwp_layout::{Datum, numbers};
 use jdwp_wire::{ErrorCode, NoMemory};
 use std::alloc::Global;
@@ -48,8 +52,38 @@ pub fn reply_line(
     line.into_string()
 }
 
-/// The line by which `show` tells a composite of events, without a newline: `< ID Event.Composite DATA`, the data being
-/// those of the row Event.Composite: the suspend policy and the events.
+/// The line by which `show` tells a composite of events under the id of its packet, without a newline:
+/// `< ID Event.Composite POLICY [EVENTS]`.
+///
+/// # Errors
+/// `NoMemory` where an allocation was refused.
+pub fn composite_line(alloc: Global, id: u32, composite: &Composite) -> Result<String, NoMemory>
+    ensures { IfOk result (λ line. string_bytes line ≡ command_start Target id (record {
+      set = COMPOSITE.set;
+      number = COMPOSITE.number;
+    }) ++ data_text (composite_data composite.now)) }
+{
+    let mut line = Text::new(alloc);
+    push_composite_start(&mut line, id);
+    push_composite(&mut line, composite);
+    line.into_string()
+}
+
+/// Appends what stands before the data of a composite.
+fn push_composite_start(line: &mut Text, id: u32)
+    ensures { Grows line.old (command_start Target id (record {
+      set = COMPOSITE.set;
+      number = COMPOSITE.number;
+    })) line.new }
+{
+    let composite = Command {
+        set: numbers::EVENT,
+        number: numbers::COMPOSITE,
+    };
+    push_command_start(line, Sender::Target, id, composite);
+}
+
+/// The same line for data that are those of a composite, in the layout of the row Event.Composite.
 ///
 /// # Errors
 /// `NoMemory` where an allocation was refused.
@@ -60,11 +94,7 @@ pub fn composite_data_line(alloc: Global, id: u32, data: &[Datum]) -> Result<Str
     }) ++ data_text (meanings «data».now)) }
 {
     let mut line = Text::new(alloc);
-    let composite = Command {
-        set: numbers::EVENT,
-        number: numbers::COMPOSITE,
-    };
-    push_command_start(&mut line, Sender::Target, id, composite);
+    push_composite_start(&mut line, id);
     push_data(&mut line, data);
     line.into_string()
 }
