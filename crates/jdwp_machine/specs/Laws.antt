@@ -1,11 +1,12 @@
 -- What every machine keeps.
-use Rattle.std.specs.Prelude.{◌≡◌, ◌≢◌, ℕ, ℤ, ◌≤◌, Bool, true, false, ◌==◌, ◌||◌, ◌&&◌, not, pos, ◌⊎◌, List, [], ◌∷◌, length, Option, Some, None}
+use Rattle.std.specs.Prelude.{◌≡◌, ◌≢◌, ℕ, ℤ, ◌<◌, ◌≤◌, Bool, true, false, ◌==◌, ◌||◌, ◌&&◌, not, pos, ◌⊎◌, List, [], ◌∷◌, length, Option, Some, None}
 use Rattle.std.specs.List.{IsDistinct}
 use Rattle.jdwp_wire.specs.declared.error_code.ErrorCode.{ErrorCode}
 use Rattle.jdwp_wire.specs.ErrorCodes.{INVALID_THREAD, THREAD_NOT_SUSPENDED, INVALID_CLASS, INVALID_METHODID, INVALID_LOCATION}
 use Rattle.jdwp_wire.specs.Numbers.{id_refusal}
 use Rattle.jdwp_wire.specs.Widths.{Widths, AreWidths}
 use Rattle.jdwp_value.specs.declared.location.Location.{Location}
+use Rattle.jdwp_value.specs.declared.location.Location.TheVariants.{Null}
 use Rattle.jdwp_value.specs.Locations.{location_refusal}
 use Rattle.jdwp_value.specs.Values.{value_refusal}
 use Rattle.jdwp_value.specs.declared.value.Value.{Value}
@@ -60,14 +61,25 @@ abbrev pub FitsRow : {S : Type 0} → Meaning S → S → Option Row → List Da
 FitsRow m s None content = ⊥
 FitsRow m s (Some row) content = FitsShapes m s row.shapes content
 
--- an error that a machine may answer: whether a thread lives or is suspended is not its to say
+-- an error that a machine may answer: whether a thread lives or is suspended is not its to say, and its code has two bytes
 abbrev pub IsMachineError : ErrorCode → Type 0
-IsMachineError e = (1 ≤ e.0) × (e.0 ≢ INVALID_THREAD.0) × (e.0 ≢ THREAD_NOT_SUSPENDED.0)
+IsMachineError e = (1 ≤ e.0) × (e.0 ≢ INVALID_THREAD.0) × (e.0 ≢ THREAD_NOT_SUSPENDED.0) × (e.0 < 65_536)
 
 -- an answer to a command of this set and number
 abbrev pub MayAnswer : {S : Type 0} → Meaning S → S → ℕ → ℕ → Answer → Type 0
 MayAnswer m s set number (Data content) = FitsRow m s (row_at set number) content
 MayAnswer m s set number (Error e) = IsMachineError e
+
+-- how many values the reply to a GetValues has
+abbrev pub value_count : List DatumMeaning → ℕ
+value_count (Many values ∷ []) = length values
+value_count content = 0
+
+-- the answer to a GetValues, and that to the same one after slots were written: an error stays, and there are as many values
+abbrev pub KeepsValues : Answer → Answer → Type 0
+KeepsValues (Error e) after = after ≡ Error e
+KeepsValues (Data content) (Data after) = value_count after ≡ value_count content
+KeepsValues (Data content) (Error e) = ⊥
 
 -- every id of an occurrence fits its width
 abbrev pub OccurrenceFits : Widths → OccurrenceMeaning → Type 0
@@ -136,11 +148,12 @@ pub record IsLawful {S : Type 0} (m : Meaning S) : Type 0 where
   pub sizes_ended : (s : S) (t : ℕ) → MayEnds m s t → m.sizes (m.ended s t) ≡ m.sizes s
   pub sizes_written : (s : S) (t f : ℕ) (values : List (ℤ × Value)) → m.is_state s → m.sizes (m.written s t f values) ≡ m.sizes s
   -- What is answered of a thread's frames stays at a step, at an end and at a write of another thread, and at a write of its own
-  -- but for the values of slots.
+  -- but for the values of slots: which questions for them are refused stays, and how many are answered.
   pub frames_stepped : (s : S) (t u : ℕ) (q : Query) → MaySteps m s t → t ≢ u → asks_frames q u ≡ true → m.query (m.stepped s t) q ≡ m.query s q
   pub frames_ended : (s : S) (t u : ℕ) (q : Query) → MayEnds m s t → t ≢ u → asks_frames q u ≡ true → m.query (m.ended s t) q ≡ m.query s q
   pub frames_written : (s : S) (t f u : ℕ) (values : List (ℤ × Value)) (q : Query) → m.is_state s → t ≢ u → asks_frames q u ≡ true → m.query (m.written s t f values) q ≡ m.query s q
   pub places_written : (s : S) (t f : ℕ) (values : List (ℤ × Value)) (q : Query) → m.is_state s → asks_places q t ≡ true → m.query (m.written s t f values) q ≡ m.query s q
+  pub values_written : (s : S) (t f : ℕ) (values : List (ℤ × Value)) (q : Query) → m.is_state s → asks_slots q t ≡ true → KeepsValues (m.query s q) (m.query (m.written s t f values) q)
   -- Data are in the layout of the row's reply, and errors are a machine's.
   pub answers : (s : S) (q : Query) → m.is_state s → MayAnswer m s q.set q.number (m.query s q)
   pub write_answers : (s : S) (t f : ℕ) (values : List (ℤ × Value)) → m.is_state s → MayAnswer m s SET_SLOTS.set SET_SLOTS.number (m.write_answer s t f values)
@@ -149,5 +162,6 @@ pub record IsLawful {S : Type 0} (m : Meaning S) : Type 0 where
   pub live_fits : (s : S) (t : ℕ) → m.is_state s → has (m.live s) t ≡ true → id_refusal (m.sizes s).object t ≡ None
   pub thread_fits : (s : S) (t : ℕ) → MayEnds m s t → id_refusal (m.sizes s).object (m.next s t).thread ≡ None
   pub occurrence_fits : (s : S) (t : ℕ) → MayEnds m s t → OccurrenceFits (m.sizes s) (m.next s t).occurrence
-  -- The test of a location has one of four answers.
+  -- The test of a location has one of four answers, and the null location is no place.
   pub location_answers : (s : S) (q : Query) (location : Location) → m.is_state s → is_command SET_REQUEST q.set q.number ≡ true → q.content ≡ breakpoint_at location → IsLocationAnswer (m.query s q)
+  pub null_location : (s : S) (q : Query) → m.is_state s → is_command SET_REQUEST q.set q.number ≡ true → q.content ≡ breakpoint_at Null → m.query s q ≡ Error INVALID_LOCATION

@@ -11,7 +11,7 @@ use Rattle.jdwp_script.specs.declared.step.SlotValue.{SlotValue}
 use Rattle.jdwp_script.specs.Parts.{GroupPart, FieldPart, MethodPart, ClassPart, ElementsPart, ObjectPart, CallPart, StepPart, Call, Go, Return, Throwing, Prepare, Start, ThreadPart, ScriptPart}
 use Rattle.jdwp_script.specs.Literals.{fits_tag}
 use Rattle.jdwp_script.specs.Limits.{if_there, is_in, started, living}
-use Rattle.jdwp_script.specs.Twice.{group_ids, object_ids, thread_ids, shared_ids, class_ids, field_ids, is_twice}
+use Rattle.jdwp_script.specs.Twice.{group_ids, object_ids, thread_ids, class_ids, field_ids, is_twice}
 
 -- ---- what is known
 
@@ -33,6 +33,10 @@ with_classes (c ∷ cs) lasts = with_classes cs (with_methods c.id c.methods las
 abbrev pub no_methods : Lasts
 no_methods class method = None
 
+-- the ids of all that values may name: groups, objects and threads
+abbrev pub value_ids : ScriptPart → List ℕ
+value_ids s = (group_ids s.groups ++ object_ids s.objects) ++ thread_ids s.threads
+
 -- which ids are known
 pub record Known : Type 0 where
   pub group : ℕ → Bool
@@ -40,12 +44,12 @@ pub record Known : Type 0 where
   pub field : ℕ → Bool
   pub object : ℕ → Bool
   pub thread : ℕ → Bool
-  -- what a value may name: groups, objects and threads
-  pub shared : ℕ → Bool
+  -- what a value may name
+  pub value : ℕ → Bool
   pub last : Lasts
 
 abbrev pub known_in : ScriptPart → Known
-known_in s = record { group = is_in (group_ids s.groups); class = is_in (class_ids s.classes); field = is_in (field_ids s.classes); object = is_in (object_ids s.objects); thread = is_in (thread_ids s.threads); shared = is_in (shared_ids s); last = with_classes s.classes no_methods }
+known_in s = record { group = is_in (group_ids s.groups); class = is_in (class_ids s.classes); field = is_in (field_ids s.classes); object = is_in (object_ids s.objects); thread = is_in (thread_ids s.threads); value = is_in (value_ids s); last = with_classes s.classes no_methods }
 
 abbrev pub nothing : ℕ → Bool
 nothing n = false
@@ -62,7 +66,7 @@ is_lost known n = not (n == 0) && not (known n)
 
 -- bits that are more than values of the tag have, or an object that is unknown
 abbrev pub literal_lost : Known → Literal → Bool
-literal_lost k v = not (fits_tag v.tag v.bits) || (is_object v.tag && is_lost k.shared v.bits)
+literal_lost k v = not (fits_tag v.tag v.bits) || (is_object v.tag && is_lost k.value v.bits)
 
 -- ---- groups and classes: a parent, a superclass and interfaces stand before those that name them
 

@@ -16,7 +16,7 @@ object_ids objects = map (λ o. o.id) objects
 abbrev pub thread_ids : List ThreadPart → List ℕ
 thread_ids threads = map (λ t. t.id) threads
 
--- the ids of all that values may name: groups, objects and threads
+-- the ids of all that are of one kind with threads: groups, objects and threads
 abbrev pub shared_ids : ScriptPart → List ℕ
 shared_ids s = (group_ids s.groups ++ object_ids s.objects) ++ thread_ids s.threads
 

@@ -2,11 +2,11 @@
 ghost use Rattle.std.specs.Prelude.{◌≡◌, map, IfOk, OnOk};
 ghost use Rattle.jdwp_script.specs.Meanings.{method_part, class_part, script_part};
 ghost use Rattle.jdwp_script.specs.IdSets.{known_ids, last_by};
-ghost use Rattle.jdwp_script.specs.References.{known_in, with_methods, with_classes, no_methods};
+ghost use Rattle.jdwp_script.specs.References.{value_ids, known_in, with_methods, with_classes, no_methods};
 
 use crate::gather::Gather;
 use crate::id_set::set_of;
-use crate::ids::{FieldIds, Ids, shared_ids};
+use crate::ids::{FieldIds, Ids};
 use crate::script::{Class, Method, Script};
 use jdwp_value::{MethodId, ReferenceTypeId};
 use jdwp_wire::NoMemory;
@@ -24,8 +24,8 @@ pub(crate) struct KnownIds {
     pub(crate) fields: BTreeSet<u64>,
     pub(crate) objects: BTreeSet<u64>,
     pub(crate) threads: BTreeSet<u64>,
-    /// Groups, objects and threads.
-    pub(crate) shared: BTreeSet<u64>,
+    /// What a value may name.
+    pub(crate) values: BTreeSet<u64>,
     pub(crate) lasts: Lasts,
 }
 
@@ -40,7 +40,7 @@ impl KnownIds {
             fields: FieldIds.id_set(alloc, &script.classes)?,
             objects: Ids.id_set(alloc, &script.objects)?,
             threads: Ids.id_set(alloc, &script.threads)?,
-            shared: set_of(alloc, &shared_ids(alloc, script)?)?,
+            values: set_of(alloc, &value_ids(alloc, script)?)?,
             lasts: lasts_of(alloc, &script.classes)?,
         })
     }
@@ -51,6 +51,17 @@ impl KnownIds {
     {
         self.lasts.get(&(class.0, method.0)).copied()
     }
+}
+
+/// The ids of all that values may name: the groups, the objects and the threads.
+fn value_ids(alloc: Global, script: &Script) -> Result<Vec<u64>, NoMemory>
+    ensures { IfOk result (λ v. v.items ≡ value_ids (script_part script.now)) }
+{
+    let mut ids = Vec::new(alloc);
+    Ids.gather_each(&script.groups, &mut ids)?;
+    Ids.gather_each(&script.objects, &mut ids)?;
+    Ids.gather_each(&script.threads, &mut ids)?;
+    Ok(ids)
 }
 
 /// The last code indexes of the methods of these classes.

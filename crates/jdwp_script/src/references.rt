@@ -56,7 +56,7 @@ impl Judge<Literal> for KnownIds {
 
     fn is_bad(&self, literal: &Literal) -> bool {
         !fits_tag(literal.tag, literal.bits)
-            || (literal.tag.is_object() && is_lost(&self.shared, literal.bits))
+            || (literal.tag.is_object() && is_lost(&self.values, literal.bits))
     }
 }
 

@@ -1,6 +1,11 @@
 pub mod Alone
+pub mod Beginnings
+pub mod CanSteps
 pub mod Changes
+pub mod Going
+pub mod GoingOn
 pub mod Machines
+pub mod Openings
 pub mod Reaches
 pub mod Rising
 pub mod Sets

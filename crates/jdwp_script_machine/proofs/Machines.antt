@@ -11,9 +11,7 @@ use Rattle.jdwp_script.specs.declared.fault.ScriptFault.{ScriptFault}
 use Rattle.jdwp_script.specs.declared.fault.ScriptFault.TheVariants.{NotJson, Missing, IdTwice, IdTooWide, BadReference, OverLimit, NoMemory}
 use Rattle.jdwp_script.specs.Parts.{StepPart, ScriptPart}
 use Rattle.jdwp_script.specs.Reading.{◌>>=◌, Fails}
-use Rattle.jdwp_script.specs.Limits.{passes_limit}
-use Rattle.jdwp_script.specs.Twice.{has_id_twice}
-use Rattle.jdwp_script.specs.TooWide.{is_no_width, has_wide_id}
+use Rattle.jdwp_script.specs.TooWide.{is_no_width}
 use Rattle.jdwp_script.specs.Faults.{first_fault}
 use Rattle.jdwp_script_machine.specs.States.{ThreadNow, State, thread_at, living, opening}
 use Rattle.jdwp_script_machine.specs.Steps.{next_step, stepped_by, stepped_of, stepped}
@@ -24,17 +22,9 @@ use Rattle.jdwp_script_machine.specs.FrameLaws.{written_script}
 use Rattle.jdwp_script_machine.specs.StateLaws.{either, with_change}
 use Rattle.jdwp_script_machine.specs.SlotWrites.{write_refusal, thread_written, written_by, written}
 use Rattle.jdwp_script_machine.specs.OpeningLaws.{neither, opening_sound}
+use Rattle.jdwp_script_machine.proofs.Openings.{faultless}
 
 -- ---- a script with no fault
-
-none_holds : (a b c d : Bool) → (if a then Some OverLimit else (if b then Some IdTwice else (if c then Some IdTooWide else (if d then Some BadReference else None)))) ≡ None → (a ≡ false) × (b ≡ false) × (c ≡ false)
-none_holds true b c d h = absurd cc
-none_holds false true c d h = absurd cc
-none_holds false false true d h = absurd cc
-none_holds false false false d h = (refl, refl, refl)
-
-faultless : (live : ℕ) (s : ScriptPart) → first_fault live s ≡ None → (passes_limit live s ≡ false) × (has_id_twice s ≡ false) × (has_wide_id s ≡ false)
-faultless live s h = none_holds (passes_limit live s) (has_id_twice s) (has_wide_id s) _ h
 
 pub faultless_sound : (live : ℕ) (s : ScriptPart) → first_fault live s ≡ None → IsSound (opening s)
 faultless_sound live s h = let none = faultless live s h in opening_sound live s none.0 none.1 none.2

@@ -4,7 +4,8 @@ use Rattle.std.proofs.Common.{◌≡◌, ℕ, zero, suc, ◌+◌, ◌-◌, ◌�
 use Rattle.std.proofs.lemmas.List.{map-append, length-map, take-map, drop-map, take_all, drop_all}
 use Rattle.std.specs.List.{insert}
 use Rattle.jdwp_script.specs.Parts.{GroupPart, ClassPart, ObjectPart, ThreadPart, ScriptPart}
-use Rattle.jdwp_script_machine.specs.LookUps.{put_in, first_put, rising, place_for}
+use Rattle.jdwp_value.specs.Rising.{put_in, rising}
+use Rattle.jdwp_script_machine.specs.LookUps.{first_put, place_for}
 use Rattle.jdwp_script_machine.specs.States.{class_arranged, arranged}
 use Rattle.jdwp_script_machine.specs.StateLaws.{either}
 

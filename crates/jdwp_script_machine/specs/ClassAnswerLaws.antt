@@ -25,7 +25,7 @@ use Rattle.jdwp_script_machine.specs.FitLaws.{short_text, entries_fit, all_filte
 use Rattle.jdwp_script_machine.specs.GoodAnswers.{Good, command_at, error_good, above, at_number, alone_good, class_good, prepared_good, method_good, entries_good}
 
 pub no_command : (s : State) (command : CommandNumber) → Good s command (Error NOT_IMPLEMENTED)
-no_command s command = error_good s command NOT_IMPLEMENTED (above NOT_IMPLEMENTED (omega arith))
+no_command s command = error_good s command NOT_IMPLEMENTED (above NOT_IMPLEMENTED (omega arith) (omega arith))
 
 abbrev entry_fits : Widths → List Field → List ScalarMeaning → Type 0
 entry_fits w fields x = entry_refusal w (Fields fields) x ≡ None
@@ -59,7 +59,7 @@ by_signature_data s test sound =
 
 by_signature_good : (s : State) → IsSound s → (content : List DatumMeaning) → Good s CLASSES_BY_SIGNATURE (classes_by_signature s content)
 by_signature_good s sound (One (Text signature) ∷ []) = by_signature_data s (λ (c : ClassPart). bytes_eq c.signature signature) sound
-by_signature_good s sound content = error_good s CLASSES_BY_SIGNATURE ILLEGAL_ARGUMENT (above ILLEGAL_ARGUMENT (omega arith))
+by_signature_good s sound content = error_good s CLASSES_BY_SIGNATURE ILLEGAL_ARGUMENT (above ILLEGAL_ARGUMENT (omega arith) (omega arith))
 
 all_classes_good : (s : State) → IsSound s → Good s ALL_CLASSES (all_classes s)
 unfolding Good
@@ -92,7 +92,7 @@ disposed_data s = refl
 
 disposed_good : (s : State) (content : List DatumMeaning) → Good s DISPOSE_OBJECTS (disposed content)
 disposed_good s (Many entries ∷ []) = disposed_data s
-disposed_good s content = error_good s DISPOSE_OBJECTS ILLEGAL_ARGUMENT (above ILLEGAL_ARGUMENT (omega arith))
+disposed_good s content = error_good s DISPOSE_OBJECTS ILLEGAL_ARGUMENT (above ILLEGAL_ARGUMENT (omega arith) (omega arith))
 
 pub virtual_machine_good : (s : State) → IsSound s → (n : ℕ) (content : List DatumMeaning) → Good s (command_at VIRTUAL_MACHINE n) (virtual_machine_answer s n content)
 virtual_machine_good s sound n content =
@@ -145,7 +145,7 @@ values_fit w value_of fits entries ys few h =
     counted_fits (entry_refusal w (Fields (field.Value ∷ []))) ys (rw are.count few) are.each
 
 pub field_error : (s : State) (command : CommandNumber) → Good s command (Error INVALID_FIELDID)
-field_error s command = error_good s command INVALID_FIELDID (above INVALID_FIELDID (omega arith))
+field_error s command = error_good s command INVALID_FIELDID (above INVALID_FIELDID (omega arith) (omega arith))
 
 -- ---- ReferenceType
 
@@ -221,7 +221,7 @@ unfolding Good
 source_data s t h = rw (short_text t h) refl
 
 source_good : (s : State) (o : Option (List ℕ)) → IfThere IsShort o → Good s SOURCE_FILE (source_answer o)
-source_good s None h = error_good s SOURCE_FILE ABSENT_INFORMATION (above ABSENT_INFORMATION (omega arith))
+source_good s None h = error_good s SOURCE_FILE ABSENT_INFORMATION (above ABSENT_INFORMATION (omega arith) (omega arith))
 source_good s (Some t) h = source_data s t h
 
 status_good : (s : State) (c : ClassPart) → Good s CLASS_STATUS (Data (One (Int (status s c)) ∷ []))
@@ -275,7 +275,7 @@ lines_data s last ls few =
     rw (entries_fit (λ (l : Line). Unit {0}) (entry_refusal s.script.sizes (Fields (field.Long ∷ field.Int ∷ []))) line_entry (λ l k. refl) ls few (all_there ls)) refl
 
 lines_good : (s : State) (last : ℕ) (ls : List Line) → IsShort ls → Good s LINE_TABLE (lines_answer last ls)
-lines_good s last [] few = error_good s LINE_TABLE ABSENT_INFORMATION (above ABSENT_INFORMATION (omega arith))
+lines_good s last [] few = error_good s LINE_TABLE ABSENT_INFORMATION (above ABSENT_INFORMATION (omega arith) (omega arith))
 lines_good s last (l ∷ ls) few = lines_data s last (l ∷ ls) few
 
 variables_good : (s : State) (m : MethodPart) → MethodIsSound s.script.sizes m → Good s VARIABLE_TABLE (Data (One (Int m.args) ∷ Many (map variable_entry m.slots) ∷ []))

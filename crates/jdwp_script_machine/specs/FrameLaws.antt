@@ -59,7 +59,7 @@ written_script s t f values = written_by_script s t f values (write_refusal s t 
 
 -- ---- which commands ask about frames
 
-and_both : (a b : Bool) → (a && b) ≡ true → (a ≡ true) × (b ≡ true)
+pub and_both : (a b : Bool) → (a && b) ≡ true → (a ≡ true) × (b ≡ true)
 and_both true true h = (refl, refl)
 and_both true false h = absurd (false≢true h)
 and_both false b h = absurd (false≢true h)
@@ -187,7 +187,7 @@ alike_this : (script : ScriptPart) (fs gs : List FrameNow) → Alike fs gs → (
 alike_this script fs gs h (One (Frame id) ∷ rest) = alike_found script id _ rest fs gs h
 alike_this script fs gs h content = refl
 
-found_changed : (change : ThreadNow → ThreadNow) → ((e : ThreadNow) → (change e).id ≡ e.id) → (es : List ThreadNow) (n : ℕ) → with_id (λ (e : ThreadNow). e.id) n (with_change n change es) ≡ option_map change (with_id (λ (e : ThreadNow). e.id) n es)
+pub found_changed : (change : ThreadNow → ThreadNow) → ((e : ThreadNow) → (change e).id ≡ e.id) → (es : List ThreadNow) (n : ℕ) → with_id (λ (e : ThreadNow). e.id) n (with_change n change es) ≡ option_map change (with_id (λ (e : ThreadNow). e.id) n es)
 found_changed change ids [] n = refl
 found_changed change ids (e ∷ es) n = elim (either (e.id == n)) [
   | inl h ↦ let l : ((change e).id == n) ≡ true = ap (λ (x : ℕ). x == n) (ids e) ∙ h in rw (h, l) refl

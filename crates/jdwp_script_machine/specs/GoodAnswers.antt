@@ -45,14 +45,14 @@ unfolding Good
 error_good s command e h = h
 
 -- what is neither of a thread's life nor of its suspension
-pub above : (e : ErrorCode) → THREAD_NOT_SUSPENDED.0 < e.0 → IsMachineError e
-above e h = (omega arith, omega arith, omega arith)
+pub above : (e : ErrorCode) → THREAD_NOT_SUSPENDED.0 < e.0 → e.0 < 65_536 → IsMachineError e
+above e more less = (omega arith, omega arith, omega arith, omega arith)
 
 group_error : IsMachineError INVALID_THREAD_GROUP
-group_error = (omega arith, omega arith, omega arith)
+group_error = (omega arith, omega arith, omega arith, omega arith)
 
 illegal : (s : State) (command : CommandNumber) → Good s command (Error ILLEGAL_ARGUMENT)
-illegal s command = error_good s command ILLEGAL_ARGUMENT (above ILLEGAL_ARGUMENT (omega arith))
+illegal s command = error_good s command ILLEGAL_ARGUMENT (above ILLEGAL_ARGUMENT (omega arith) (omega arith))
 
 -- ---- by the command
 
@@ -76,13 +76,13 @@ found_good s command e answer (Some x) bad good = good x refl
 pub class_good : (s : State) (command : CommandNumber) → IsSound s → (answer : ClassPart → Asks) → ((c : ClassPart) → ClassIsSound s.script.sizes c → (rest : List DatumMeaning) → Good s command (answer c rest))
     → (content : List DatumMeaning) → Good s command (of_class s.script answer content)
 class_good s command sound answer good (One (ReferenceType id) ∷ rest) =
-    found_good s command INVALID_CLASS (λ (c : ClassPart). answer c rest) (class_in s.script id) (above INVALID_CLASS (omega arith))
+    found_good s command INVALID_CLASS (λ (c : ClassPart). answer c rest) (class_in s.script id) (above INVALID_CLASS (omega arith) (omega arith))
     (λ c h. good c (all_found (λ (c : ClassPart). c.id) (ClassIsSound s.script.sizes) s.script.classes id c sound.script.each_class h) rest)
 class_good s command sound answer good content = illegal s command
 
 prepared_when : (s : State) (command : CommandNumber) (b : Bool) (a : Answer) → Good s command a → Good s command (if b then a else Error CLASS_NOT_PREPARED)
 prepared_when s command true a h = h
-prepared_when s command false a h = error_good s command CLASS_NOT_PREPARED (above CLASS_NOT_PREPARED (omega arith))
+prepared_when s command false a h = error_good s command CLASS_NOT_PREPARED (above CLASS_NOT_PREPARED (omega arith) (omega arith))
 
 pub prepared_good : (s : State) (command : CommandNumber) → IsSound s → (answer : ClassPart → Asks) → ((c : ClassPart) → ClassIsSound s.script.sizes c → (rest : List DatumMeaning) → Good s command (answer c rest))
     → (content : List DatumMeaning) → Good s command (of_prepared_class s answer content)
@@ -92,7 +92,7 @@ prepared_good s command sound answer good content =
 method_in_good : (s : State) (command : CommandNumber) (answer : ClassPart → MethodPart → Asks) → ((c : ClassPart) (m : MethodPart) → MethodIsSound s.script.sizes m → (rest : List DatumMeaning) → Good s command (answer c m rest))
     → (c : ClassPart) → ClassIsSound s.script.sizes c → (content : List DatumMeaning) → Good s command (of_method_in answer c content)
 method_in_good s command answer good c sound (One (Method id) ∷ rest) =
-    found_good s command INVALID_METHODID (λ (m : MethodPart). answer c m rest) (method_in c id) (above INVALID_METHODID (omega arith))
+    found_good s command INVALID_METHODID (λ (m : MethodPart). answer c m rest) (method_in c id) (above INVALID_METHODID (omega arith) (omega arith))
     (λ m h. good c m (all_found (λ (m : MethodPart). m.id) (MethodIsSound s.script.sizes) c.methods id m sound.each_method h) rest)
 method_in_good s command answer good c sound content = illegal s command
 
@@ -103,7 +103,7 @@ method_good s command sound answer good content = class_good s command sound (of
 pub object_good : (s : State) (command : CommandNumber) → IsSound s → (answer : ObjectPart → Asks) → ((o : ObjectPart) → ObjectIsSound s.script.sizes o → (rest : List DatumMeaning) → Good s command (answer o rest))
     → (content : List DatumMeaning) → Good s command (of_object s.script answer content)
 object_good s command sound answer good (One (Object id) ∷ rest) =
-    found_good s command INVALID_OBJECT (λ (o : ObjectPart). answer o rest) (object_in s.script id) (above INVALID_OBJECT (omega arith))
+    found_good s command INVALID_OBJECT (λ (o : ObjectPart). answer o rest) (object_in s.script id) (above INVALID_OBJECT (omega arith) (omega arith))
     (λ o h. good o (all_found (λ (o : ObjectPart). o.id) (ObjectIsSound s.script.sizes) s.script.objects id o sound.script.each_object h) rest)
 object_good s command sound answer good content = illegal s command
 
@@ -117,7 +117,7 @@ group_good s command sound answer good content = illegal s command
 pub thread_good : (s : State) (command : CommandNumber) → IsSound s → (answer : ThreadPart → Asks) → ((t : ThreadPart) → ThreadIsSound s.script.sizes t → (rest : List DatumMeaning) → Good s command (answer t rest))
     → (content : List DatumMeaning) → Good s command (of_thread s.script answer content)
 thread_good s command sound answer good (One (Object id) ∷ rest) =
-    found_good s command INVALID_OBJECT (λ (t : ThreadPart). answer t rest) (thread_in s.script id) (above INVALID_OBJECT (omega arith))
+    found_good s command INVALID_OBJECT (λ (t : ThreadPart). answer t rest) (thread_in s.script id) (above INVALID_OBJECT (omega arith) (omega arith))
     (λ t h. good t (all_found (λ (t : ThreadPart). t.id) (ThreadIsSound s.script.sizes) s.script.threads id t sound.script.each_thread h) rest)
 thread_good s command sound answer good content = illegal s command
 
@@ -136,14 +136,14 @@ frames_sound s id fs (Some e) sound found h =
 pub frames_good : (s : State) (command : CommandNumber) → IsSound s → (answer : List FrameNow → Asks) → ((fs : List FrameNow) → AreSound s fs → (rest : List DatumMeaning) → Good s command (answer fs rest))
     → (content : List DatumMeaning) → Good s command (of_frames (frames_at s) answer content)
 frames_good s command sound answer good (One (Object id) ∷ rest) =
-    found_good s command INVALID_OBJECT (λ (fs : List FrameNow). answer fs rest) (frames_at s id) (above INVALID_OBJECT (omega arith))
+    found_good s command INVALID_OBJECT (λ (fs : List FrameNow). answer fs rest) (frames_at s id) (above INVALID_OBJECT (omega arith) (omega arith))
     (λ fs h. good fs (frames_sound s id fs (thread_at s id) sound refl h) rest)
 frames_good s command sound answer good content = illegal s command
 
 frame_in_good : (s : State) (command : CommandNumber) (answer : FrameNow → Asks) → ((f : FrameNow) → FrameIsSound s.script.sizes f → (rest : List DatumMeaning) → Good s command (answer f rest))
     → (fs : List FrameNow) → AreSound s fs → (content : List DatumMeaning) → Good s command (of_frame_in answer fs content)
 frame_in_good s command answer good fs sound (One (Frame id) ∷ rest) =
-    found_good s command INVALID_FRAMEID (λ (f : FrameNow). answer f rest) (frame_in id fs) (above INVALID_FRAMEID (omega arith))
+    found_good s command INVALID_FRAMEID (λ (f : FrameNow). answer f rest) (frame_in id fs) (above INVALID_FRAMEID (omega arith) (omega arith))
     (λ f h. good f (all_found (λ (f : FrameNow). f.id) (FrameIsSound s.script.sizes) fs id f sound.each h) rest)
 frame_in_good s command answer good fs sound content = illegal s command
 
@@ -163,7 +163,7 @@ abbrev pub GoodParts : {A : Type 0} → (A → Type 0) → State → CommandNumb
 GoodParts {A} P s command answer xs = (ys : List A) → length ys ≤ length xs → AllByRecursion P ys → Good s command (answer ys)
 
 length_bad : (s : State) (command : CommandNumber) → Good s command (Error INVALID_LENGTH)
-length_bad s command = error_good s command INVALID_LENGTH (above INVALID_LENGTH (omega arith))
+length_bad s command = error_good s command INVALID_LENGTH (above INVALID_LENGTH (omega arith) (omega arith))
 
 part_within : {A : Type 0} (P : A → Type 0) (s : State) (command : CommandNumber) (answer : List A → Answer) (xs : List A) → AllByRecursion P xs → GoodParts P s command answer xs → (k : ℕ) (b : Bool)
     → Good s command (if b then Error INVALID_LENGTH else answer (take k xs))
@@ -181,14 +181,14 @@ part_from_good P s command answer false xs all good (negsuc (suc k)) = length_ba
 
 part_after : {A : Type 0} (P : A → Type 0) (s : State) (command : CommandNumber) (answer : List A → Answer) (or_rest : Bool) (xs : List A) → AllByRecursion P xs → GoodParts P s command answer xs → (k : ℕ) (count : ℤ) (b : Bool)
     → Good s command (if b then Error INVALID_INDEX else part_from or_rest answer (drop k xs) count)
-part_after P s command answer or_rest xs all good k count true = error_good s command INVALID_INDEX (above INVALID_INDEX (omega arith))
+part_after P s command answer or_rest xs all good k count true = error_good s command INVALID_INDEX (above INVALID_INDEX (omega arith) (omega arith))
 part_after P s command answer or_rest xs all good k count false =
     part_from_good P s command answer or_rest (drop k xs) (all_drop P k xs all) (λ ys short each. good ys (let l = length_drop k xs in omega arith) each) count
 
 part_good : {A : Type 0} (P : A → Type 0) (s : State) (command : CommandNumber) (answer : List A → Answer) (or_rest : Bool) (xs : List A) → AllByRecursion P xs → GoodParts P s command answer xs → (from count : ℤ)
     → Good s command (part_of or_rest answer xs from count)
 part_good P s command answer or_rest xs all good (pos k) count = part_after P s command answer or_rest xs all good k count (nat_lt (length xs) k)
-part_good P s command answer or_rest xs all good (negsuc k) count = error_good s command INVALID_INDEX (above INVALID_INDEX (omega arith))
+part_good P s command answer or_rest xs all good (negsuc k) count = error_good s command INVALID_INDEX (above INVALID_INDEX (omega arith) (omega arith))
 
 pub of_part_good : {A : Type 0} (P : A → Type 0) (s : State) (command : CommandNumber) (answer : List A → Answer) (or_rest : Bool) (xs : List A) → AllByRecursion P xs → GoodParts P s command answer xs → (content : List DatumMeaning)
     → Good s command (of_part or_rest answer xs content)

@@ -7,6 +7,7 @@ pub mod Found
 pub mod Sought
 pub mod Steps
 pub mod SlotWrites
+pub mod Runs
 pub mod Changes
 pub mod Requests
 pub mod Asked
@@ -30,6 +31,7 @@ pub mod ClassAnswerLaws
 pub mod ObjectAnswerLaws
 pub mod ThreadAnswerLaws
 pub mod FrameLaws
+pub mod SlotLaws
 pub mod HappeningLaws
 pub mod ScriptLaws
 pub mod OpeningLaws

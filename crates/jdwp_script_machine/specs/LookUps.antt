@@ -1,5 +1,6 @@
 -- Look-ups in lists of things that have ids.
 use Rattle.std.specs.Prelude.{ℕ, suc, ◌==◌, Bool, true, false, List, [], ◌∷◌, map, nat_le, if◌then◌else◌, Option, Some, None}
+use Rattle.jdwp_value.specs.Rising.{put_in}
 
 -- the first one with this id
 abbrev pub with_id : {A : Type 0} → (A → ℕ) → ℕ → List A → Option A
@@ -15,11 +16,6 @@ abbrev pub first_changed : {A : Type 0} → (A → ℕ) → ℕ → (A → A) �
 first_changed key id change [] = []
 first_changed key id change (x ∷ xs) = if key x == id then change x ∷ xs else x ∷ first_changed key id change xs
 
--- one more, before the first whose id is not less
-abbrev pub put_in : {A : Type 0} → (A → ℕ) → A → List A → List A
-put_in key x [] = x ∷ []
-put_in key x (y ∷ ys) = if nat_le (key x) (key y) then x ∷ y ∷ ys else y ∷ put_in key x ys
-
 -- the first one is put among the others
 abbrev pub first_put : {A : Type 0} → (A → ℕ) → List A → List A
 first_put key [] = []
@@ -29,11 +25,6 @@ first_put key (x ∷ xs) = put_in key x xs
 abbrev pub place_for : {A : Type 0} → (A → ℕ) → ℕ → List A → ℕ
 place_for key id [] = 0
 place_for key id (y ∷ ys) = if nat_le id (key y) then 0 else suc (place_for key id ys)
-
--- the same ones by rising id
-abbrev pub rising : {A : Type 0} → (A → ℕ) → List A → List A
-rising key [] = []
-rising key (x ∷ xs) = put_in key x (rising key xs)
 
 abbrev pub is_some : {A : Type 0} → Option A → Bool
 is_some None = false

@@ -37,7 +37,7 @@ type_good s c h = rw h.id refl
 
 object_type_good : (s : State) → IsSound s → (o : ObjectPart) → Good s OBJECT_TYPE (found_or INVALID_CLASS type_answer (class_in s.script o.class))
 object_type_good s sound o =
-    found_good s OBJECT_TYPE INVALID_CLASS type_answer (class_in s.script o.class) (above INVALID_CLASS (omega arith))
+    found_good s OBJECT_TYPE INVALID_CLASS type_answer (class_in s.script o.class) (above INVALID_CLASS (omega arith) (omega arith))
     (λ c h. type_good s c (all_found (λ (c : ClassPart). c.id) (ClassIsSound s.script.sizes) s.script.classes o.class c sound.script.each_class h))
 
 held_found : (w : Widths) (o : Option FieldValue) (v : Literal) → ((x : FieldValue) → o ≡ Some x → ValueFits w x.value) → held_by o ≡ Some v → ValueFits w v
@@ -92,7 +92,7 @@ unfolding Good
 text_good s t h = rw (short_text t h) refl
 
 string_value_good : (s : State) (o : ObjectPart) → ObjectIsSound s.script.sizes o → Good s STRING_VALUE (found_or INVALID_STRING text_answer o.text)
-string_value_good s o h = found_good s STRING_VALUE INVALID_STRING text_answer o.text (above INVALID_STRING (omega arith)) (λ t e. text_good s t (there IsShort o.text t h.text e))
+string_value_good s o h = found_good s STRING_VALUE INVALID_STRING text_answer o.text (above INVALID_STRING (omega arith) (omega arith)) (λ t e. text_good s t (there IsShort o.text t h.text e))
 
 pub strings_answered : (s : State) → IsSound s → (n : ℕ) (content : List DatumMeaning) → Good s (command_at STRING_REFERENCE n) (string_answer s n content)
 strings_answered s sound n content =
@@ -105,7 +105,7 @@ unfolding Good
 length_good s e = refl
 
 array_length_good : (s : State) (o : ObjectPart) → Good s ARRAY_LENGTH (found_or INVALID_ARRAY length_answer o.array)
-array_length_good s o = found_good s ARRAY_LENGTH INVALID_ARRAY length_answer o.array (above INVALID_ARRAY (omega arith)) (λ e h. length_good s e)
+array_length_good s o = found_good s ARRAY_LENGTH INVALID_ARRAY length_answer o.array (above INVALID_ARRAY (omega arith) (omega arith)) (λ e h. length_good s e)
 
 -- an element's id fits, whatever tag it gets
 element_fits : (w : Widths) (script : ScriptPart) (t : Tag) (bits : ℕ) → value_refusal w (value_of_bits t bits) ≡ None → value_refusal w (element script t bits) ≡ None
@@ -134,7 +134,7 @@ elements_asked_good s content e h =
 
 elements_good : (s : State) (o : ObjectPart) → ObjectIsSound s.script.sizes o → (content : List DatumMeaning) → Good s GET_ELEMENTS (elements_answer s.script o content)
 elements_good s o h content =
-    found_good s GET_ELEMENTS INVALID_ARRAY (elements_asked s.script content) o.array (above INVALID_ARRAY (omega arith))
+    found_good s GET_ELEMENTS INVALID_ARRAY (elements_asked s.script content) o.array (above INVALID_ARRAY (omega arith) (omega arith))
     (λ e k. elements_asked_good s content e (there (ElementsAreSound s.script.sizes) o.array e h.array k))
 
 pub arrays_answered : (s : State) → IsSound s → (n : ℕ) (content : List DatumMeaning) → Good s (command_at ARRAY_REFERENCE n) (array_answer s n content)

@@ -17,7 +17,7 @@ use Rattle.jdwp_script.specs.Limits.{over, is_long, if_there, is_in, field_passe
 use Rattle.jdwp_script.specs.Twice.{group_ids, object_ids, shared_ids, is_twice, class_ids, method_ids, field_ids, frame_ids, has_id_twice}
 use Rattle.jdwp_script.specs.Twice as twice
 use Rattle.jdwp_script.specs.TooWide.{is_wide, literal_wide, group_wide, field_wide, method_wide, class_wide, field_value_wide, elements_wide, object_wide, slot_value_wide, step_wide, thread_wide, is_no_width, has_wide_id}
-use Rattle.jdwp_script_machine.specs.LookUps.{put_in, rising}
+use Rattle.jdwp_value.specs.Rising.{put_in, rising}
 use Rattle.jdwp_script_machine.specs.States.{class_arranged, arranged, opening_thread, opening_of, opening}
 use Rattle.jdwp_script_machine.specs.Sound.{IsShort, Fits, ValueFits, IfThere, FieldIsSound, SlotIsSound, MethodIsSound, ClassIsSound, ElementsAreSound, ObjectIsSound, GroupIsSound, StepIsSound, ThreadIsSound, ScriptIsSound, ThreadNowIsSound, thread_ids, IsSound}
 use Rattle.jdwp_script_machine.specs.StateLaws.{eqb_swap}
@@ -36,15 +36,15 @@ each_false : (b : Bool) (bs : List Bool) → any_of b bs ≡ false → AllByRecu
 each_false b [] h = (h, tt)
 each_false b (c ∷ cs) h = let both = neither b (any_of c cs) h in (both.0, each_false c cs both.1)
 
-none_passes : {A : Type 0} (test : A → Bool) (xs : List A) → list_any test xs ≡ false → AllByRecursion (λ (x : A). test x ≡ false) xs
+pub none_passes : {A : Type 0} (test : A → Bool) (xs : List A) → list_any test xs ≡ false → AllByRecursion (λ (x : A). test x ≡ false) xs
 none_passes test [] h = tt
 none_passes test (x ∷ xs) h = let both = neither (test x) (list_any test xs) h in (both.0, none_passes test xs both.1)
 
-with_both : {A : Type 0} (P Q R : A → Type 0) → ((x : A) → P x → Q x → R x) → (xs : List A) → AllByRecursion P xs → AllByRecursion Q xs → AllByRecursion R xs
+pub with_both : {A : Type 0} (P Q R : A → Type 0) → ((x : A) → P x → Q x → R x) → (xs : List A) → AllByRecursion P xs → AllByRecursion Q xs → AllByRecursion R xs
 with_both P Q R both [] p q = tt
 with_both P Q R both (x ∷ xs) p q = (both x p.0 q.0, with_both P Q R both xs p.1 q.1)
 
-with_each : {A : Type 0} (P R : A → Type 0) → ((x : A) → P x → R x) → (xs : List A) → AllByRecursion P xs → AllByRecursion R xs
+pub with_each : {A : Type 0} (P R : A → Type 0) → ((x : A) → P x → R x) → (xs : List A) → AllByRecursion P xs → AllByRecursion R xs
 with_each P R each [] p = tt
 with_each P R each (x ∷ xs) p = (each x p.0, with_each P R each xs p.1)
 
@@ -197,7 +197,7 @@ all_put : {A : Type 0} (key : A → ℕ) (P : A → Type 0) (x : A) (xs : List A
 all_put key P x [] p all = (p, tt)
 all_put key P x (y ∷ ys) p all = elim (nat_le (key x) (key y)) as (λ (b : Bool). AllByRecursion P (if b then x ∷ y ∷ ys else y ∷ put_in key x ys)) [ true ↦ (p, all) | false ↦ (all.0, all_put key P x ys p all.1) ]
 
-all_rising : {A : Type 0} (key : A → ℕ) (P : A → Type 0) (xs : List A) → AllByRecursion P xs → AllByRecursion P (rising key xs)
+pub all_rising : {A : Type 0} (key : A → ℕ) (P : A → Type 0) (xs : List A) → AllByRecursion P xs → AllByRecursion P (rising key xs)
 all_rising key P [] all = tt
 all_rising key P (x ∷ xs) all = all_put key P x (rising key xs) all.0 (all_rising key P xs all.1)
 
@@ -220,7 +220,7 @@ Apart n ns = AllByRecursion (λ (m : ℕ). (n == m) ≡ false) ns
 apart_all : (n : ℕ) (ns : List ℕ) → is_in ns n ≡ false → Apart n ns
 apart_all n ns h = with_each (λ (m : ℕ). (m == n) ≡ false) (λ (m : ℕ). (n == m) ≡ false) (λ m k. eqb_swap n m ∙ k) ns (none_passes (λ (m : ℕ). m == n) ns h)
 
-distinct_all : (ns : List ℕ) → is_twice ns ≡ false → IsDistinct (λ (a b : ℕ). a == b) ns
+pub distinct_all : (ns : List ℕ) → is_twice ns ≡ false → IsDistinct (λ (a b : ℕ). a == b) ns
 unfolding IsDistinct
 distinct_all [] h = tt
 distinct_all (n ∷ ns) h = let both = neither (is_in ns n) (is_twice ns) h in (apart_all n ns both.0, distinct_all ns both.1)
@@ -246,7 +246,7 @@ distinct_put key x (y ∷ ys) apart all =
       | false ↦ (apart_put key (key y) x ys (eqb_swap (key y) (key x) ∙ apart.0) all.0, distinct_put key x ys apart.1 all.1)
     ]
 
-distinct_rising : {A : Type 0} (key : A → ℕ) (xs : List A) → IsDistinct (λ (a b : ℕ). a == b) (map key xs) → IsDistinct (λ (a b : ℕ). a == b) (map key (rising key xs))
+pub distinct_rising : {A : Type 0} (key : A → ℕ) (xs : List A) → IsDistinct (λ (a b : ℕ). a == b) (map key xs) → IsDistinct (λ (a b : ℕ). a == b) (map key (rising key xs))
 unfolding IsDistinct
 distinct_rising key [] all = tt
 distinct_rising key (x ∷ xs) all = distinct_put key x (rising key xs) (apart_rising key (key x) xs all.0) (distinct_rising key xs all.1)

@@ -31,6 +31,7 @@ use Rattle.jdwp_script_machine.specs.ClassAnswerLaws.{no_command, virtual_machin
 use Rattle.jdwp_script_machine.specs.ObjectAnswerLaws.{objects_answered, strings_answered, arrays_answered, groups_answered}
 use Rattle.jdwp_script_machine.specs.ThreadAnswerLaws.{threads_answered, stack_frames_answered, set_answered}
 use Rattle.jdwp_script_machine.specs.FrameLaws.{stepped_frames, ended_frames, written_frames, written_script, frames_same, places_written, command_is}
+use Rattle.jdwp_script_machine.specs.SlotLaws.{values_written}
 use Rattle.jdwp_script_machine.specs.HappeningLaws.{next_good, next_thread_fits, has_id_fits, in_life_has_id}
 
 -- ---- answers
@@ -63,17 +64,17 @@ MayRefuse (Some e) = IsMachineError e
 
 slots_refused : (a b c : Bool) → MayRefuse (if not a then Some INVALID_SLOT else (if not b then Some TYPE_MISMATCH else (if not c then Some INVALID_OBJECT else None)))
 slots_refused true true true = tt
-slots_refused true true false = above INVALID_OBJECT (omega arith)
-slots_refused true false c = above TYPE_MISMATCH (omega arith)
-slots_refused false b c = above INVALID_SLOT (omega arith)
+slots_refused true true false = above INVALID_OBJECT (omega arith) (omega arith)
+slots_refused true false c = above TYPE_MISMATCH (omega arith) (omega arith)
+slots_refused false b c = above INVALID_SLOT (omega arith) (omega arith)
 
 frame_refused : (script : ScriptPart) (values : List (ℤ × Value)) (o : Option FrameNow) → MayRefuse (frame_refusal script values o)
-frame_refused script values None = above INVALID_FRAMEID (omega arith)
+frame_refused script values None = above INVALID_FRAMEID (omega arith) (omega arith)
 frame_refused script values (Some f) =
     slots_refused (list_all (λ (v : ℤ × Value). has_slot f.slots v.0) values) (list_all (λ (v : ℤ × Value). found_suits (slot_value v.0 f.slots) (tag_of v.1)) values) (list_all (λ (v : ℤ × Value). may_hold script v.1) values)
 
 thread_refused : (script : ScriptPart) (f : ℕ) (values : List (ℤ × Value)) (o : Option ThreadNow) → MayRefuse (thread_refusal script f values o)
-thread_refused script f values None = above INVALID_OBJECT (omega arith)
+thread_refused script f values None = above INVALID_OBJECT (omega arith) (omega arith)
 thread_refused script f values (Some e) = frame_refused script values (frame_in f e.frames)
 
 write_data : (s : State) → Good s SET_SLOTS (Data [])
@@ -126,6 +127,9 @@ location_told script (At tag class method index) = class_told method.0 index (cl
 set_told : (s : State) (set number : ℕ) (content : List DatumMeaning) (p : Location) → is_command SET_REQUEST set number ≡ true → content ≡ breakpoint_at p → IsLocationAnswer (answer_at s set number content)
 set_told s set number content p command is = let numbers = command_is set number SET_REQUEST command in rw (numbers.0, numbers.1, is) (location_told s.script p)
 
+null_told : (s : State) (set number : ℕ) (content : List DatumMeaning) → is_command SET_REQUEST set number ≡ true → content ≡ breakpoint_at Null → answer_at s set number content ≡ Error INVALID_LOCATION
+null_told s set number content command is = let numbers = command_is set number SET_REQUEST command in rw (numbers.0, numbers.1, is) refl
+
 -- ---- all together
 
 pub script_lawful : IsLawful script_meaning
@@ -153,6 +157,7 @@ script_lawful =
       frames_ended = λ s t u q may ne h. frames_same s (ended s t) u q refl (ended_frames s t u ne) h;
       frames_written = λ s t f u values q sound ne h. frames_same s (written s t f values) u q (written_script s t f values) (written_frames s t f u values ne) h;
       places_written = λ s t f values q sound h. places_written s t f values q h;
+      values_written = λ s t f values q sound h. values_written s t f values q h;
       answers = λ s q sound. from_good s (command_at q.set q.number) (answer s q) (answer_good s sound q.set q.number q.content);
       write_answers = λ s t f values sound. from_good s SET_SLOTS (write_answer s t f values) (write_by s (write_refusal s t f values) (thread_refused s.script f values (thread_at s t)));
       short_signature = λ s t may. (next_good s may.0 t).short;
@@ -160,4 +165,5 @@ script_lawful =
       thread_fits = λ s t may. next_thread_fits s may.0 t (live_fits s may.0 t may.1);
       occurrence_fits = λ s t may. (next_good s may.0 t).fits;
       location_answers = λ s q p sound command is. set_told s q.set q.number q.content p command is;
+      null_location = λ s q sound command is. null_told s q.set q.number q.content command is;
     }

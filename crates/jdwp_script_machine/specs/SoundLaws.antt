@@ -149,7 +149,7 @@ threads_sound s t e (Start n) sound found good h =
     all_changed (λ (e : ThreadNow). e.id) (ThreadNowIsSound w) (after_step (Start n)) (λ y p. after_sound w (Start n) y p.frames p.each_frame p) (with_change n alive s.threads) t
     (all_changed (λ (e : ThreadNow). e.id) (ThreadNowIsSound w) alive (alive_sound w) s.threads n sound.each_thread)
 
-started_ids : (step : StepPart) (es : List ThreadNow) → thread_ids (with_started step es) ≡ thread_ids es
+pub started_ids : (step : StepPart) (es : List ThreadNow) → thread_ids (with_started step es) ≡ thread_ids es
 started_ids (Start n) es = ids_kept alive (λ e. refl) es n
 started_ids (Call c) es = refl
 started_ids (Go n) es = refl

@@ -3,7 +3,8 @@ use Rattle.std.specs.Prelude.{ℕ, ℤ, ◌==◌, Bool, true, false, not, List, 
 use Rattle.std.specs.List.{list_any}
 use Rattle.jdwp_value.specs.declared.value.Value.{Value}
 use Rattle.jdwp_script.specs.Parts.{GroupPart, FieldPart, MethodPart, ClassPart, ObjectPart, StepPart, Call, Go, Return, Throwing, Prepare, Start, ThreadPart, ScriptPart}
-use Rattle.jdwp_script_machine.specs.LookUps.{with_id, rising}
+use Rattle.jdwp_value.specs.Rising.{rising}
+use Rattle.jdwp_script_machine.specs.LookUps.{with_id}
 
 -- what a slot of a frame holds
 pub record SlotNow : Type 0 where

@@ -128,8 +128,8 @@ slots_data s slots all entries few =
 
 asked_good : (s : State) (a b : Bool) (answer : Answer) → Good s GET_SLOTS answer → Good s GET_SLOTS (if not a then Error INVALID_SLOT else (if not b then Error TYPE_MISMATCH else answer))
 asked_good s true true answer h = h
-asked_good s true false answer h = error_good s GET_SLOTS TYPE_MISMATCH (above TYPE_MISMATCH (omega arith))
-asked_good s false b answer h = error_good s GET_SLOTS INVALID_SLOT (above INVALID_SLOT (omega arith))
+asked_good s true false answer h = error_good s GET_SLOTS TYPE_MISMATCH (above TYPE_MISMATCH (omega arith) (omega arith))
+asked_good s false b answer h = error_good s GET_SLOTS INVALID_SLOT (above INVALID_SLOT (omega arith) (omega arith))
 
 slots_good : (s : State) (f : FrameNow) → FrameIsSound s.script.sizes f → (content : List DatumMeaning) → Good s GET_SLOTS (slots_answer f content)
 slots_good s f h content =
@@ -153,14 +153,14 @@ unfolding Good
 location_ok s = refl
 
 index_when : (s : State) (b : Bool) → Good s SET_REQUEST (if b then Error INVALID_LOCATION else Data (One (Int (pos 0)) ∷ []))
-index_when s true = error_good s SET_REQUEST INVALID_LOCATION (above INVALID_LOCATION (omega arith))
+index_when s true = error_good s SET_REQUEST INVALID_LOCATION (above INVALID_LOCATION (omega arith) (omega arith))
 index_when s false = location_ok s
 
 location_good : (s : State) (p : Location) → Good s SET_REQUEST (location_answer s.script p)
-location_good s Null = error_good s SET_REQUEST INVALID_LOCATION (above INVALID_LOCATION (omega arith))
+location_good s Null = error_good s SET_REQUEST INVALID_LOCATION (above INVALID_LOCATION (omega arith) (omega arith))
 location_good s (At tag class method index) =
-    found_good s SET_REQUEST INVALID_CLASS (location_in_class method.0 index) (class_in s.script class.0) (above INVALID_CLASS (omega arith))
-    (λ c e. found_good s SET_REQUEST INVALID_METHODID (index_answer index) (method_in c method.0) (above INVALID_METHODID (omega arith)) (λ m k. index_when s (nat_lt m.last index)))
+    found_good s SET_REQUEST INVALID_CLASS (location_in_class method.0 index) (class_in s.script class.0) (above INVALID_CLASS (omega arith) (omega arith))
+    (λ c e. found_good s SET_REQUEST INVALID_METHODID (index_answer index) (method_in c method.0) (above INVALID_METHODID (omega arith) (omega arith)) (λ m k. index_when s (nat_lt m.last index)))
 
 set_when : (s : State) (p : Location) (b : Bool) → Good s SET_REQUEST (if b then location_answer s.script p else Error NOT_IMPLEMENTED)
 set_when s p true = location_good s p

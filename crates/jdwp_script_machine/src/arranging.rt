@@ -2,7 +2,8 @@
 ghost use Rattle.std.specs.Prelude.{◌≡◌, ◌≤◌, length, map};
 ghost use Rattle.jdwp_script.specs.Parts.{ClassPart};
 ghost use Rattle.jdwp_script.specs.Meanings.{class_part, script_part};
-ghost use Rattle.jdwp_script_machine.specs.LookUps.{place_for, first_put, rising};
+ghost use Rattle.jdwp_value.specs.Rising.{rising};
+ghost use Rattle.jdwp_script_machine.specs.LookUps.{place_for, first_put};
 ghost use Rattle.jdwp_script_machine.specs.States.{class_arranged, arranged};
 
 use crate::look_ups::Numbered;

@@ -1,11 +1,13 @@
 //! The laws of script machines, as contracts of functions that do nothing.
-ghost use Rattle.std.specs.Prelude.{◌≡◌, ℕ, false};
+ghost use Rattle.std.specs.Prelude.{◌≡◌, ℕ, List, false, None};
 ghost use Rattle.jdwp_machine.specs.Laws.{IsLawful};
 ghost use Rattle.jdwp_script.specs.Parts.{ScriptPart};
 ghost use Rattle.jdwp_script.specs.Limits.{passes_limit};
 ghost use Rattle.jdwp_script.specs.Twice.{has_id_twice};
 ghost use Rattle.jdwp_script.specs.TooWide.{has_wide_id};
+ghost use Rattle.jdwp_script.specs.Faults.{first_fault};
 ghost use Rattle.jdwp_script_machine.specs.States.{opening};
+ghost use Rattle.jdwp_script_machine.specs.Runs.{Deed, after_all, MayAllBe, CanGoOn};
 ghost use Rattle.jdwp_script_machine.specs.Sound.{IsSound};
 ghost use Rattle.jdwp_script_machine.specs.ScriptMeaning.{script_meaning};
 
@@ -17,4 +19,10 @@ pub fn scripts_are_lawful()
 /// The machine of a script that passes no limit, has no id twice and none that is too wide begins in one of its states.
 pub fn scripts_begin_soundly()
     ensures { (live : ℕ) (script : ScriptPart) → passes_limit live script ≡ false → has_id_twice script ≡ false → has_wide_id script ≡ false → IsSound (opening script) }
+{}
+
+/// Whatever threads step, end or have slots written, from where a script with no fault begins: a thread that lives has run out only
+/// where it has used up its steps, and a step that is left can be made.
+pub fn scripts_go_on()
+    ensures { (live : ℕ) (script : ScriptPart) (deeds : List Deed) → first_fault live script ≡ None → MayAllBe (opening script) deeds → CanGoOn (after_all (opening script) deeds) }
 {}

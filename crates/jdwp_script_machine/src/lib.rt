@@ -33,6 +33,6 @@ mod steps;
 mod thread_answers;
 mod worked;
 
-pub use laws::{scripts_are_lawful, scripts_begin_soundly};
+pub use laws::{scripts_are_lawful, scripts_begin_soundly, scripts_go_on};
 pub use machine::ScriptMachine;
 pub use worked::definitions_give_worked_machine;

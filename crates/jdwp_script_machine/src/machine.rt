@@ -53,7 +53,9 @@ impl ScriptMachine {
     /// # Errors
     /// As `read_with`.
     pub fn read(alloc: Global, text: &str) -> Result<ScriptMachine, ScriptFault>
-        ensures { Gives itself result (read_machine standard_limits.live text.now) }
+        ensures value { Gives itself result (read_machine standard_limits.live text.now) }
+        // A thread lives at the beginning, and no more than 64.
+        ensures live { IfOk result (λ m. (1 ≤ length (script_meaning.live m)) × (length (script_meaning.live m) ≤ standard_limits.live)) }
     {
         ScriptMachine::read_with(alloc, text, &Limits::standard())
     }
@@ -69,7 +71,9 @@ impl ScriptMachine {
         text: &str,
         limits: &Limits,
     ) -> Result<ScriptMachine, ScriptFault>
-        ensures { Gives itself result (read_machine limits.now.live text.now) }
+        ensures value { Gives itself result (read_machine limits.now.live text.now) }
+        // A thread lives at the beginning, and no more than the limit.
+        ensures live { IfOk result (λ m. (1 ≤ length (script_meaning.live m)) × (length (script_meaning.live m) ≤ limits.now.live)) }
     {
         let script = Script::read_with(alloc, text, limits)?;
         let sizes = id_sizes(&script.sizes);

@@ -1,7 +1,7 @@
 use Rattle.std.proofs.Common.{◌≡◌, ◌++◌, take, drop, map}
 use Rattle.jdwp_script.specs.Parts.{ClassPart}
 use Rattle.jdwp_script.specs.Meanings.{class_part}
-use Rattle.jdwp_script_machine.specs.LookUps.{rising}
+use Rattle.jdwp_value.specs.Rising.{rising}
 use Rattle.jdwp_script_machine.specs.States.{class_arranged}
 use Rattle.jdwp_script_machine.proofs.arranging.arrange_classes.Given as goal
 

@@ -1,5 +1,5 @@
 use Rattle.std.proofs.Common.{◌≡◌, ◌++◌, map, take, drop}
-use Rattle.jdwp_script_machine.specs.LookUps.{rising}
+use Rattle.jdwp_value.specs.Rising.{rising}
 use Rattle.jdwp_script_machine.proofs.arranging.rise.Given as goal
 
 abbrev pub invariant-loop-first : goal.invariant-loop-first

@@ -14,6 +14,6 @@ returns c =
     let field = holds_same c.in_ok-id_set-3.field-0 _ _ (ap (λ cs. field_ids (map class_part cs)) c.deref-3.ensures.value) c.in_ok-id_set-3.ensures in
     let object = holds_same c.in_ok-id_set-4.field-0 _ _ (id_each object_part (λ (o : ObjectPart). o.id) s.objects.items c.deref-4.result.now c.deref-4.ensures.value) c.in_ok-id_set-4.ensures in
     let thread = holds_same c.in_ok-id_set-5.field-0 _ _ (id_each thread_part (λ (t : ThreadPart). t.id) s.threads.items c.deref-5.result.now c.deref-5.ensures.value) c.in_ok-id_set-5.ensures in
-    let shared = holds_same c.in_ok-set_of.field-0 _ _ (c.deref-6.ensures.value ∙ c.in_ok-shared_ids.ensures) c.in_ok-set_of.ensures in
+    let value = holds_same c.in_ok-set_of.field-0 _ _ (c.deref-6.ensures.value ∙ c.in_ok-value_ids.ensures) c.in_ok-set_of.ensures in
     let last = c.in_ok-lasts_of.ensures ∙ ap (λ cs. with_classes (map class_part cs) no_methods) c.deref-7.ensures.value in
-    λ i. record { group = λ n. group n i; class = λ n. class n i; field = λ n. field n i; object = λ n. object n i; thread = λ n. thread n i; shared = λ n. shared n i; last = last i }
+    λ i. record { group = λ n. group n i; class = λ n. class n i; field = λ n. field n i; object = λ n. object n i; thread = λ n. thread n i; value = λ n. value n i; last = last i }
