@@ -24,7 +24,7 @@ use Rattle.jdwp_debuggee.specs.Breadth.{is_plain}
 use Rattle.jdwp_debuggee.specs.Facts.{AreBelow, IsSound, is_dispose, is_exit, about, moved_by, requests_by, Says, OfThread, Does, is_not_asked, is_no_asked_breakpoint}
 use Rattle.jdwp_debuggee.proofs.Small.{and-true, and-false, some-same, some-map, mapped, asked-append, asked-filter, below-filter, below-more}
 use Rattle.jdwp_debuggee.proofs.ThreadLists.{count-changed, below-limit, under-limit}
-use Rattle.jdwp_debuggee.proofs.Ends.{ended-state, ended-ever, ended-live}
+use Rattle.jdwp_debuggee.proofs.Ends.{ended-state, ended-ever, ended-live, ended-sizes}
 
 says-error : (a : Action) (state : State) (e : ErrorCode) → Says a state (Error e)
 says-error (Actions.SuspendCount t) state e = tt
@@ -39,6 +39,7 @@ does_refused m settings now a e s h =
     record {
       sound = s;
       ever = λ t x. x;
+      sizes = refl;
       counts = λ t. refl;
       requests = refl;
       says = says-error a now.state e;
@@ -82,6 +83,7 @@ does_answered m settings now a (Data content) s p y h =
     record {
       sound = s;
       ever = λ t x. x;
+      sizes = refl;
       counts = λ t. plain-moved a t (count_of now.state t) p;
       requests = plain-requests a now.state.next_request (all_asked now.state.requests) p;
       says = y;
@@ -111,6 +113,7 @@ does_counts m settings now a f s most mv rq y h x d =
     record {
       sound = sound_counts m settings now f s most;
       ever = λ t z. z;
+      sizes = refl;
       counts = λ t. count-changed f now.state.threads t ∙ mv t (count_of now.state t);
       requests = rq (all_asked now.state.requests) now.state.next_request;
       says = y;
@@ -162,6 +165,7 @@ slots-does m law settings now t f values n x s e h =
       | Data content ↦ λ _. record {
         sound = sound;
         ever = λ u k. law.ever_written now.machine t f values u s.state ∙ k;
+        sizes = law.sizes_written now.machine t f values s.state;
         counts = λ u. refl;
         requests = refl;
         says = tt;
@@ -174,6 +178,7 @@ slots-does m law settings now t f values n x s e h =
       | Error c ↦ λ y. record {
         sound = sound;
         ever = λ u k. law.ever_written now.machine t f values u s.state ∙ k;
+        sizes = law.sizes_written now.machine t f values s.state;
         counts = λ u. refl;
         requests = refl;
         says = tt;
@@ -201,6 +206,7 @@ set-does m settings now byte policy entries None s =
     record {
       sound = set-sound m settings now byte policy (modifiers_of entries) s;
       ever = λ t x. x;
+      sizes = refl;
       counts = λ t. refl;
       requests = asked-append now.state.requests _;
       says = refl;
@@ -237,6 +243,7 @@ does_all m law settings now c Actions.Dispose s =
     record {
       sound = record { state = s.state; lives = (sound_counts m settings now cleared s (λ t n h. omega arith)).lives; at_most = (sound_counts m settings now cleared s (λ t n h. omega arith)).at_most; below = tt };
       ever = λ t x. x;
+      sizes = refl;
       counts = λ t. count-changed cleared now.state.threads t;
       requests = refl;
       says = tt;
@@ -255,6 +262,7 @@ does_all m law settings now c Actions.Exit s =
         below = tt;
       };
       ever = λ t x. ended-ever m law now.machine s.state t ∙ x;
+      sizes = ended-sizes m law now.machine s.state;
       counts = λ t. refl;
       requests = refl;
       says = tt;
@@ -268,6 +276,7 @@ does_all m law settings now c Actions.HoldEvents s =
     record {
       sound = record { state = s.state; lives = s.lives; at_most = s.at_most; below = s.below };
       ever = λ t x. x;
+      sizes = refl;
       counts = λ t. refl;
       requests = refl;
       says = tt;
@@ -281,6 +290,7 @@ does_all m law settings now c Actions.ReleaseEvents s =
     record {
       sound = record { state = s.state; lives = s.lives; at_most = s.at_most; below = s.below };
       ever = λ t x. x;
+      sizes = refl;
       counts = λ t. refl;
       requests = refl;
       says = tt;
@@ -296,6 +306,7 @@ does_all m law settings now c (Actions.ClearRequest byte id) s =
     record {
       sound = record { state = s.state; lives = s.lives; at_most = s.at_most; below = subst (AreBelow now.state.next_request) (sym (asked-filter (is_not_asked byte id) now.state.requests)) (below-filter now.state.next_request (is_not_asked byte id) (all_asked now.state.requests) s.below) };
       ever = λ t x. x;
+      sizes = refl;
       counts = λ t. refl;
       requests = asked-filter (is_not_asked byte id) now.state.requests;
       says = tt;
@@ -309,6 +320,7 @@ does_all m law settings now c Actions.ClearBreakpoints s =
     record {
       sound = record { state = s.state; lives = s.lives; at_most = s.at_most; below = subst (AreBelow now.state.next_request) (sym (asked-filter is_no_asked_breakpoint now.state.requests)) (below-filter now.state.next_request is_no_asked_breakpoint (all_asked now.state.requests) s.below) };
       ever = λ t x. x;
+      sizes = refl;
       counts = λ t. refl;
       requests = asked-filter is_no_asked_breakpoint now.state.requests;
       says = tt;

@@ -46,6 +46,12 @@ all-ever m law s (t ∷ ts) st d l u =
     all-ever m law (m.ended s t) ts (law.state_ended s t (st, head-live m s t ts l)) (distinct-tail t ts d) (tail-live m law s t ts st d l) u
     ∙ law.ever_ended s t u (st, head-live m s t ts l)
 
+all-sizes : {S : Type 0} (m : Meaning S) → IsLawful m → (s : S) (ts : List ℕ) → m.is_state s → AreDistinct ts → AllLive m s ts → m.sizes (all_ended m s ts) ≡ m.sizes s
+all-sizes m law s [] st d l = refl
+all-sizes m law s (t ∷ ts) st d l =
+    all-sizes m law (m.ended s t) ts (law.state_ended s t (st, head-live m s t ts l)) (distinct-tail t ts d) (tail-live m law s t ts st d l)
+    ∙ law.sizes_ended s t (st, head-live m s t ts l)
+
 turned : (a b c x : Bool) → b ≡ c → ((a && not b) && not x) ≡ (a && not (c || x))
 turned true true c x e = ap (λ y. not (y || x)) e
 turned true false c x e = ap (λ y. not (y || x)) e
@@ -69,6 +75,9 @@ ended-state m law s st = all-state m law s (m.live s) st (law.live_distinct s st
 
 pub ended-ever : {S : Type 0} (m : Meaning S) → IsLawful m → (s : S) → m.is_state s → (u : ℕ) → m.ever (all_ended m s (m.live s)) u ≡ m.ever s u
 ended-ever m law s st u = all-ever m law s (m.live s) st (law.live_distinct s st) (λ v h. h) u
+
+pub ended-sizes : {S : Type 0} (m : Meaning S) → IsLawful m → (s : S) → m.is_state s → m.sizes (all_ended m s (m.live s)) ≡ m.sizes s
+ended-sizes m law s st = all-sizes m law s (m.live s) st (law.live_distinct s st) (λ v h. h)
 
 pub ended-live : {S : Type 0} (m : Meaning S) → IsLawful m → (s : S) → m.is_state s → (u : ℕ) → has (m.live (all_ended m s (m.live s))) u ≡ false
 ended-live m law s st u =

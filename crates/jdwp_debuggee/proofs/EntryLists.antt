@@ -1,11 +1,11 @@
 -- Entries that are changed one after the other, and the threads that they mean.
-use Rattle.std.proofs.Common.{inl, inr, ◌≡◌, ℕ, zero, suc, ◌<◌, ◌≤◌, ◌==◌, ltb, Bool, true, false, cond, ◌||◌, List, [], ◌∷◌, ◌++◌, length, get_or, map, take, drop, refl, ◌∙◌, sym, ap, arith, ◌-◌}
+use Rattle.std.proofs.Common.{inl, inr, ◌≡◌, ℕ, zero, suc, ◌<◌, ◌≤◌, ◌==◌, ltb, true, false, cond, List, [], ◌∷◌, ◌++◌, length, get_or, map, take, drop, refl, ◌∙◌, sym, ap, arith, ◌-◌}
 use Rattle.std.proofs.lemmas.List.{take_all}
-use Rattle.std.specs.List.{list_any, filter}
+use Rattle.std.specs.List.{filter}
 use Rattle.std.proofs.lemmas.Bool.{cases_lt}
 use Rattle.std.proofs.lemmas.Bool.Decides.{nat_tests}
 use Rattle.jdwp_debuggee.specs.Answers.{inserted, rising, first_of}
-use Rattle.jdwp_debuggee.specs.Entries.{AllAtMost, all_marked, least_of, mark_of, recounted, stands_at, thread_of, threads_of}
+use Rattle.jdwp_debuggee.specs.Entries.{AllAtMost, all_marked, least_of, mark_of, recounted, thread_of, threads_of}
 use Rattle.jdwp_debuggee.specs.State.{Thread, changed, ids, is_other, marked}
 use Rattle.jdwp_debuggee.specs.declared.threads.ThreadEntry.{ThreadEntry}
 
@@ -33,10 +33,6 @@ pub threads-marked : (t : ℕ) (es : List ThreadEntry) → threads_of (all_marke
 threads-marked t [] = refl
 threads-marked t (e ∷ es) = ap (λ (x : Thread). x ∷ threads_of (all_marked t es)) (marked-one t e) ∙ ap (λ (x : List Thread). marked t (thread_of e) ∷ x) (threads-marked t es)
 
-pub threads-at : (k : ℕ) (es : List ThreadEntry) → list_any (λ (e : ThreadEntry). e.suspend_count == k) es ≡ stands_at k (threads_of es)
-threads-at k [] = refl
-threads-at k (e ∷ es) = ap (λ (b : Bool). (e.suspend_count == k) || b) (threads-at k es)
-
 pub threads-other : (t : ℕ) (es : List ThreadEntry) → threads_of (filter (λ (e : ThreadEntry). is_other t (thread_of e)) es) ≡ filter (is_other t) (threads_of es)
 threads-other t [] = refl
 threads-other t (e ∷ es) =
@@ -48,11 +44,6 @@ threads-other t (e ∷ es) =
 pub threads-append : (es fs : List ThreadEntry) → threads_of (es ++ fs) ≡ threads_of es ++ threads_of fs
 threads-append [] fs = refl
 threads-append (e ∷ es) fs = ap (λ (l : List Thread). thread_of e ∷ l) (threads-append es fs)
-
-pub threads-take : (n : ℕ) (es : List ThreadEntry) → threads_of (take n es) ≡ take n (threads_of es)
-threads-take zero es = refl
-threads-take (suc n) [] = refl
-threads-take (suc n) (e ∷ es) = ap (λ (l : List Thread). thread_of e ∷ l) (threads-take n es)
 
 -- ---- the least
 

@@ -130,6 +130,7 @@ ends-happens m law settings now t st [] s l c e f =
         below = tt;
       };
       ever = λ u h. law.ever_ended now.machine t u (s.state, l) ∙ h;
+      sizes = law.sizes_ended now.machine t (s.state, l);
       told = record {
         nobody_suspended = λ u. gone-zero (count_of now.state u) (u == t) (λ q. ap (λ x. count_of now.state x) (eqb-true u t q) ∙ c) (out u);
         nobody_lives = λ u. refl;
@@ -149,6 +150,7 @@ ends-happens m law settings now t st (x ∷ xs) s l c e f =
         below = subst (λ n. AreBelow n (all_asked st.requests)) (sym e.next) (subst (AreBelow now.state.next_request) (sym e.asked) s.below);
       };
       ever = λ u h. law.ever_ended now.machine t u (s.state, l) ∙ h;
+      sizes = law.sizes_ended now.machine t (s.state, l);
       told = record {
         same_count = λ u. ap or_zero (count-left now.state t st e u) ∙ out-zero (count_of now.state u) (u == t) (λ q. ap (λ x. count_of now.state x) (eqb-true u t q) ∙ c);
         no_birth = λ u n _ h. out-count (count_of now.state u) (u == t) n (sym (count-left now.state t st e u) ∙ h);
@@ -300,7 +302,7 @@ raised-sound m settings now mid thread c d =
 reports : {S : Type 0} (m : Meaning S) → IsLawful m → (settings : Settings) (now : Moment S) (t : ℕ) (o : Option CompositeMeaning) → Ready m settings now t → runs_out (m.next now.machine t) ≡ false → gathered (m.next now.machine t) now.state.requests ≡ o → Happens m settings now (report_by m now.machine t (m.next now.machine t) now.state o)
 reports m law settings now t None r x e =
     let d = stepped-mid m law settings now t (started (m.next now.machine t)) r x refl in
-    record { sound = d.sound; ever = d.quiet.ever; told = d.quiet; silent = λ h. refl; handshaken = d.shaken; alive = λ h. d.alive }
+    record { sound = d.sound; ever = d.quiet.ever; sizes = law.sizes_stepped now.machine t (r.sound.state, r.live, x); told = d.quiet; silent = λ h. refl; handshaken = d.shaken; alive = λ h. d.alive }
 reports {S} m law settings now t (Some c) r x e =
     let mid : Moment S = record { state = with_started (started (m.next now.machine t)) (seen (m.next now.machine t) now.state); machine = m.stepped now.machine t } in
     let thread : ℕ = (m.next now.machine t).thread in
@@ -310,6 +312,7 @@ reports {S} m law settings now t (Some c) r x e =
     record {
       sound = record { state = q.state; lives = q.lives; at_most = q.at_most; below = q.below };
       ever = d.quiet.ever;
+      sizes = law.sizes_stepped now.machine t (r.sound.state, r.live, x);
       told = (
         refl,
         record {
@@ -356,6 +359,7 @@ dies {S} m law settings now t (Some c) r x e =
         below = q.below;
       };
       ever = λ u h. h;
+      sizes = refl;
       told = (
         refl,
         record {

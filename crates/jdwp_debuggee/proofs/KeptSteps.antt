@@ -15,7 +15,7 @@ use Rattle.jdwp_debuggee.specs.Entries.{AllAtMost}
 use Rattle.jdwp_debuggee.specs.Facts.{IsSound}
 use Rattle.jdwp_debuggee.specs.Settings.{Settings}
 use Rattle.jdwp_debuggee.specs.State.{State, Moment, Thread, at_limit, changed, count_of, ids, is_marked, is_other, with_packet, without_thread}
-use Rattle.jdwp_debuggee.specs.Steps.{Step, death_by, ended_by, ends, happens, is_full, is_zero, may_step, occurs, occurs_by, raised_by, report_by, seen, suspended_by, thread_ended, with_started}
+use Rattle.jdwp_debuggee.specs.Steps.{Step, death_by, ended_by, ends, happens, is_full, is_zero, may_step, occurs, occurs_by, raised_by, report_by, seen, starts, starts_by, suspended_by, thread_ended, with_started}
 use Rattle.jdwp_debuggee.specs.StepParts.{Steps, is_full_by, is_ready, packet_after, raised_for, unless_last, with_new}
 use Rattle.jdwp_debuggee.specs.declared.steps.StepDone.{StepDone}
 use Rattle.jdwp_debuggee.proofs.Kept.{most-of}
@@ -33,7 +33,7 @@ regrouped true true false d e f = refl
 regrouped true false c d e f = refl
 regrouped false b c d e f = refl
 
-pub may-ready : {S : Type 0} (m : Meaning S) (settings : Settings) (now : Moment S) (t : ℕ) → may_step m settings now t ≡ (is_ready settings now.state t && not (is_full_by (started (m.next now.machine t)) settings now.state))
+pub may-ready : {S : Type 0} (m : Meaning S) (settings : Settings) (now : Moment S) (t : ℕ) → may_step m settings now t ≡ (is_ready settings now.state t && not (is_full_by (starts m now t) settings now.state))
 may-ready m settings now t = regrouped now.state.handshaken now.state.alive (not now.state.held) (is_zero (count_of now.state t)) (not (at_limit settings.count_limit now.state)) (not (is_full m settings now t))
 
 some-zero : (c : Option ℕ) → is_zero c ≡ true → is_some c ≡ true
@@ -222,13 +222,19 @@ silent-ends m d t h ts rs b may e n o q f g r =
 pub goes-on : {S : Type 0} (m : Meaning S) (d : Debuggee S) (t : ℕ) (h : HappeningMeaning) (o : Option CompositeMeaning) → is_marked d.moment.state t ≡ false → h ≡ m.next d.moment.machine t → runs_out h ≡ false → o ≡ gathered h d.moment.state.requests → reported m d.moment.machine t h d.moment.state o ≡ occurs m d.moment t
 goes-on m d t h o e n r g = report-is m d.moment.machine t h d.moment.state o ∙ by-report m d.moment t h o e n r g
 
-pub may-step : {S : Type 0} (m : Meaning S) (d : Debuggee S) (t : ℕ) (h : HappeningMeaning) (b : Bool) → h ≡ m.next d.moment.machine t → is_ready d.settings d.moment.state t ≡ true → b ≡ is_full_by (started h) d.settings d.moment.state → not b ≡ may_step m d.settings d.moment t
-may-step m d t h b n r f =
-    ap not (f ∙ ap (λ x. is_full_by (started x) d.settings d.moment.state) n)
-    ∙ (ap (λ x. x && not (is_full_by (started (m.next d.moment.machine t)) d.settings d.moment.state)) (sym r) ∙ sym (may-ready m d.settings d.moment t))
+pub may-step : {S : Type 0} (m : Meaning S) (d : Debuggee S) (t : ℕ) (h : HappeningMeaning) (b : Bool) → is_marked d.moment.state t ≡ false → h ≡ m.next d.moment.machine t → is_ready d.settings d.moment.state t ≡ true → b ≡ is_full_by (started h) d.settings d.moment.state → not b ≡ may_step m d.settings d.moment t
+may-step m d t h b e n r f =
+    ap not (f ∙ (ap (λ x. is_full_by (started x) d.settings d.moment.state) n ∙ ap (λ x. is_full_by (starts_by x (m.next d.moment.machine t)) d.settings d.moment.state) (sym e)))
+    ∙ (ap (λ x. x && not (is_full_by (starts m d.moment t) d.settings d.moment.state)) (sym r) ∙ sym (may-ready m d.settings d.moment t))
+
+-- a thread whose death was reported starts nobody
+pub may-end : {S : Type 0} (m : Meaning S) (d : Debuggee S) (t : ℕ) → is_marked d.moment.state t ≡ true → is_ready d.settings d.moment.state t ≡ true → may_step m d.settings d.moment t ≡ true
+may-end m d t e r =
+    may-ready m d.settings d.moment t
+    ∙ (ap (λ x. x && not (is_full_by (starts m d.moment t) d.settings d.moment.state)) r ∙ ap (λ x. not (is_full_by (starts_by x (m.next d.moment.machine t)) d.settings d.moment.state)) e)
 
 pub not-ready : {S : Type 0} (m : Meaning S) (d : Debuggee S) (t : ℕ) → is_ready d.settings d.moment.state t ≡ false → false ≡ may_step m d.settings d.moment t
-not-ready m d t r = ap (λ x. x && not (is_full_by (started (m.next d.moment.machine t)) d.settings d.moment.state)) (sym r) ∙ sym (may-ready m d.settings d.moment t)
+not-ready m d t r = ap (λ x. x && not (is_full_by (starts m d.moment t) d.settings d.moment.state)) (sym r) ∙ sym (may-ready m d.settings d.moment t)
 
 with-new-most : (o : Option ℕ) (k : ℕ) (ts : List Thread) → AllAtMost k ts → AllAtMost k (with_new o ts)
 with-new-most None k ts a = a

@@ -3,6 +3,8 @@ use Rattle.std.specs.Prelude.{ℕ, pos, ◌+◌, ◌≤◌, ◌==◌, nat_le, Bo
 use Rattle.std.specs.List.{AllByRecursion}
 use Rattle.jdwp_wire.specs.ErrorCodes.{THREAD_NOT_SUSPENDED, INTERNAL}
 use Rattle.jdwp_wire.specs.Widths.{Widths}
+use Rattle.jdwp_value.specs.Rising.{put_in}
+use Rattle.jdwp_value.specs.Rising as things
 use Rattle.jdwp_layout.specs.declared.answer.Answer.{Answer}
 use Rattle.jdwp_layout.specs.declared.answer.Answer.TheVariants.{Data, Error}
 use Rattle.jdwp_layout.specs.Meanings.{Int, Object, DatumMeaning, One, Many}
@@ -22,13 +24,13 @@ int_answer n = Data (One (Int (pos n)) ∷ [])
 
 -- ---- by rising id
 
+-- one more id among these
 abbrev pub inserted : ℕ → List ℕ → List ℕ
-inserted n [] = n ∷ []
-inserted n (x ∷ xs) = if nat_le n x then n ∷ x ∷ xs else x ∷ inserted n xs
+inserted n ns = put_in (λ (m : ℕ). m) n ns
 
+-- the same ids, rising
 abbrev pub rising : List ℕ → List ℕ
-rising [] = []
-rising (n ∷ ns) = inserted n (rising ns)
+rising ns = things.rising (λ (n : ℕ). n) ns
 
 -- the first of a list, or 0
 abbrev pub first_of : List ℕ → ℕ

@@ -1,16 +1,13 @@
 -- What commands do to the debuggee, and what they are answered (JDWP specification, "Protocol Details").
 use Rattle.std.specs.Prelude.{ℕ, ℤ, ◌+◌, ◌==◌, Bool, true, false, ◌&&◌, not, List, [], ◌∷◌, ◌++◌, Option, Some, None}
-use Rattle.std.specs.Ordering.{int_eq}
 use Rattle.std.specs.Prelude.{pos}
-use Rattle.std.specs.List.{filter}
 use Rattle.jdwp_wire.specs.declared.error_code.ErrorCode.{ErrorCode}
 use Rattle.jdwp_wire.specs.ErrorCodes.{INVALID_THREAD, THREAD_NOT_SUSPENDED, NOT_IMPLEMENTED, INTERNAL}
 use Rattle.jdwp_value.specs.declared.value.Value.{Value}
 use Rattle.jdwp_layout.specs.declared.answer.Answer.{Answer}
 use Rattle.jdwp_layout.specs.declared.answer.Answer.TheVariants.{Error}
-use Rattle.jdwp_event.specs.declared.kind.EventKind.TheVariants as kind
-use Rattle.jdwp_event.specs.EventKinds.{kind_byte}
 use Rattle.jdwp_event.specs.Modifiers.{ModifierMeaning, Step, modifiers_of}
+use Rattle.jdwp_event.specs.RequestLists as lists
 use Rattle.jdwp_event.specs.Requests.{Asked, Origin, Request, new_request}
 use Rattle.jdwp_machine.specs.Meanings.{Meaning}
 use Rattle.jdwp_debuggee.specs.Settings.{Settings}
@@ -126,18 +123,12 @@ set_by m now byte policy modifiers None =
     (with_request (new_request (asked now.state byte policy modifiers) (first_origin m now.machine (step_thread modifiers))) now.state)
     (int_answer now.state.next_request)
 
--- all but the request of this kind and id
-abbrev pub is_not : ℕ → ℤ → Request → Bool
-is_not byte id r = not ((r.asked.kind == byte) && int_eq (pos r.asked.id) id)
-
+-- all but the request of this kind and id; all but those of the kind BREAKPOINT
 abbrev pub without_request : ℕ → ℤ → State → State
-without_request byte id state = record state { requests = filter (is_not byte id) state.requests }
-
-abbrev pub is_no_breakpoint : Request → Bool
-is_no_breakpoint r = not (r.asked.kind == kind_byte kind.Breakpoint)
+without_request byte id state = record state { requests = lists.without byte id state.requests }
 
 abbrev pub without_breakpoints : State → State
-without_breakpoints state = record state { requests = filter is_no_breakpoint state.requests }
+without_breakpoints state = record state { requests = lists.without_breakpoints state.requests }
 
 -- ---- the end of the machine
 

@@ -2,10 +2,14 @@
 use Rattle.std.specs.Prelude.{ℕ, ◌≤◌, ◌==◌, nat_lt, Bool, true, Option, Some, None, List, [], ◌∷◌, map, if◌then◌else◌}
 use Rattle.std.specs.List.{list_any}
 use Rattle.jdwp_debuggee.specs.declared.threads.Change.{Change}
-use Rattle.jdwp_debuggee.specs.declared.threads.Change.TheVariants.{Raise, Lower, Clear, RaiseOne, LowerOne, RaiseBy}
+use Rattle.jdwp_debuggee.specs.declared.threads.Change.TheVariants.{Raise, Lower, Clear, RaiseOne, LowerOne}
 use Rattle.jdwp_debuggee.specs.declared.threads.ThreadEntry.{ThreadEntry}
 use Rattle.jdwp_debuggee.specs.State.{Thread, raised, lowered, cleared, only}
-use Rattle.jdwp_debuggee.specs.Steps.{raised_by}
+
+-- The live threads, and for how many there is room.
+pub record LiveThreads : Type 0 where
+  pub list : List Thread
+  pub capacity : ℕ
 
 abbrev pub thread_of : ThreadEntry → Thread
 thread_of entry = record { id = entry.id.0; suspend_count = entry.suspend_count; death_reported = entry.death_reported }
@@ -30,12 +34,17 @@ change_of Lower = lowered
 change_of Clear = cleared
 change_of (RaiseOne thread) = only thread.0 raised
 change_of (LowerOne thread) = only thread.0 lowered
-change_of (RaiseBy policy thread) = raised_by policy thread.0
 
 -- no suspend count is above this
 abbrev pub AllAtMost : ℕ → List Thread → Type 0
 AllAtMost most [] = Unit {0}
 AllAtMost most (thread ∷ threads) = (thread.suspend_count ≤ most) × AllAtMost most threads
+
+-- the greatest of a count and those of threads
+abbrev pub greatest_above : ℕ → List Thread → ℕ
+greatest_above greatest [] = greatest
+greatest_above greatest (thread ∷ threads) =
+    greatest_above (if nat_lt greatest thread.suspend_count then thread.suspend_count else greatest) threads
 
 -- a live thread stands at this count
 abbrev pub stands_at : ℕ → List Thread → Bool

@@ -1,18 +1,16 @@
 -- What holds of the debuggee's moments, whatever the machine: what commands and steps do to suspend counts and to requests.
 -- These are facts, which follow from `effect` and `occurs`, and all that is said of a session rests on them.
-use Rattle.std.specs.Prelude.{◌≡◌, ◌≤◌, ◌<◌, ℕ, pos, ◌==◌, Bool, true, false, ◌||◌, ◌&&◌, not, List, [], ◌∷◌, ◌++◌, Option, Some, None, is_some, ⊤}
+use Rattle.std.specs.Prelude.{◌≡◌, ◌≤◌, ◌<◌, ℕ, pos, Bool, true, false, ◌||◌, ◌&&◌, not, List, [], ◌∷◌, ◌++◌, Option, Some, None, is_some, ⊤}
 use Rattle.std.specs.List.{filter}
 use Rattle.std.specs.Option.{option_map}
-use Rattle.std.specs.Ordering.{int_eq}
 use Rattle.std.specs.Prelude.{ℤ}
 use Rattle.jdwp_wire.specs.declared.error_code.ErrorCode.{ErrorCode}
 use Rattle.jdwp_wire.specs.ErrorCodes.{INVALID_THREAD}
 use Rattle.jdwp_layout.specs.declared.answer.Answer.{Answer}
 use Rattle.jdwp_layout.specs.declared.answer.Answer.TheVariants.{Data, Error}
 use Rattle.jdwp_layout.specs.Meanings.{Int, One}
-use Rattle.jdwp_event.specs.declared.kind.EventKind.TheVariants as kind
-use Rattle.jdwp_event.specs.EventKinds.{kind_byte}
 use Rattle.jdwp_event.specs.Modifiers.{modifiers_of}
+use Rattle.jdwp_event.specs.RequestLists.{is_left, is_left_by_all}
 use Rattle.jdwp_event.specs.Requests.{Asked, all_asked}
 use Rattle.jdwp_event.specs.Composites.{CompositeMeaning}
 use Rattle.jdwp_event.specs.Told.{composite_thread, is_vm_death}
@@ -90,10 +88,10 @@ moved action (Error e) t count = count
 
 -- what it does to the requests
 abbrev pub is_not_asked : ℕ → ℤ → Asked → Bool
-is_not_asked byte id r = not ((r.kind == byte) && int_eq (pos r.id) id)
+is_not_asked byte id r = is_left byte id r.kind (pos r.id)
 
 abbrev pub is_no_asked_breakpoint : Asked → Bool
-is_no_asked_breakpoint r = not (r.kind == kind_byte kind.Breakpoint)
+is_no_asked_breakpoint r = is_left_by_all r.kind
 
 abbrev pub requests_by : Action → ℕ → List Asked → List Asked
 requests_by (Actions.SetRequest byte policy entries) id requests =
@@ -123,10 +121,11 @@ abbrev pub OfThread : Answer → Option ℕ → Type 0
 OfThread (Data content) count = is_some count ≡ true
 OfThread (Error e) count = IsInvalid e → count ≡ None
 
--- What a command does, by its action and its answer.
+-- What a command does, by its action and its answer. A machine's widths stay.
 pub record Does {S : Type 0} (m : Meaning S) (settings : Settings) (now : Moment S) (a : Action) (e : Effect S) : Type 0 where
   pub sound : IsSound m settings e.after
   pub ever : (t : ℕ) → m.ever now.machine t ≡ true → m.ever e.after.machine t ≡ true
+  pub sizes : m.sizes e.after.machine ≡ m.sizes now.machine
   pub counts : (t : ℕ) → count_of e.after.state t ≡ moved a e.answer t (count_of now.state t)
   pub requests : all_asked e.after.state.requests ≡ requests_moved a e.answer now.state.next_request (all_asked now.state.requests)
   pub says : Says a now.state e.answer
@@ -164,10 +163,11 @@ Told m now after true None = Died m now after
 Told m now after false None = Quiet m now after
 Told m now after dies (Some c) = (dies ≡ false) × Tells m now c after
 
--- What a step does.
+-- What a step does. A machine's widths stay.
 pub record Happens {S : Type 0} (m : Meaning S) (settings : Settings) (now : Moment S) (o : Step S) : Type 0 where
   pub sound : IsSound m settings o.after
   pub ever : (t : ℕ) → m.ever now.machine t ≡ true → m.ever o.after.machine t ≡ true
+  pub sizes : m.sizes o.after.machine ≡ m.sizes now.machine
   pub told : Told m now o.after o.dies o.sends
   pub silent : now.state.requests ≡ [] → o.sends ≡ None
   pub handshaken : o.after.state.handshaken ≡ now.state.handshaken

@@ -1,5 +1,5 @@
 -- Parts of a step, as the code makes them one after the other.
-use Rattle.std.specs.Prelude.{◌≡◌, ℕ, Bool, true, false, ◌&&◌, not, nat_lt, List, [], ◌∷◌, ◌++◌, length, Option, Some, None, IfSome, ⊤, if◌then◌else◌}
+use Rattle.std.specs.Prelude.{◌≡◌, ◌<◌, ℕ, Bool, true, false, ◌&&◌, not, nat_lt, List, [], ◌∷◌, ◌++◌, length, Option, Some, None, IfSome, ⊤, if◌then◌else◌}
 use Rattle.std.specs.Option.{option_map}
 use Rattle.jdwp_wire.specs.Widths.{Widths}
 use Rattle.jdwp_value.specs.declared.id.ObjectId.{ObjectId}
@@ -7,6 +7,7 @@ use Rattle.jdwp_event.specs.Composites.{CompositeMeaning}
 use Rattle.jdwp_event.specs.Requests.{Request}
 use Rattle.jdwp_machine.specs.Meanings.{Meaning}
 use Rattle.jdwp_debuggee.specs.Debuggees.{Debuggee, at_moment}
+use Rattle.jdwp_debuggee.specs.Entries.{LiveThreads}
 use Rattle.jdwp_debuggee.specs.Sending.{FitsPacket}
 use Rattle.jdwp_debuggee.specs.Settings.{Settings}
 use Rattle.jdwp_debuggee.specs.State.{Thread, State, changed, count_of, at_limit, next_packet_id}
@@ -19,7 +20,8 @@ policy_at_start = start_policy
 abbrev pub number_of : Option ObjectId → Option ℕ
 number_of thread = option_map (λ (id : ObjectId). id.0) thread
 
--- A thread may step but for one thread too many that would start: nothing else asks the machine.
+-- A thread may step but for one thread too many that would start: nothing else asks the machine. A thread whose death was reported
+-- starts nobody, so it may step wherever it is ready.
 abbrev pub is_ready : Settings → State → ℕ → Bool
 is_ready settings state t =
     state.handshaken && (state.alive && (not state.held && (is_zero (count_of state t) && not (at_limit settings.count_limit state))))
@@ -31,6 +33,11 @@ is_full_by started settings state = starts_one started && not (nat_lt (length st
 -- with the last thread, all requests go
 abbrev pub unless_last : Bool → List Request → List Request
 unless_last last requests = if last then [] else requests
+
+-- there is room for a thread that starts, if one does
+abbrev pub HasRoom : Option ℕ → LiveThreads → Type 0
+HasRoom None threads = ⊤
+HasRoom (Some t) threads = length threads.list < threads.capacity
 
 -- the threads, and a new one
 abbrev pub with_new : Option ℕ → List Thread → List Thread

@@ -18,9 +18,17 @@ abbrev pub starts_one : Option ℕ → Bool
 starts_one None = false
 starts_one (Some t) = true
 
+-- the thread that a step would start: none, where the thread's death was reported, for then it only ends
+abbrev pub starts_by : Bool → HappeningMeaning → Option ℕ
+starts_by true h = None
+starts_by false h = started h
+
+abbrev pub starts : {S : Type 0} → Meaning S → Moment S → ℕ → Option ℕ
+starts m now t = starts_by (is_marked now.state t) (m.next now.machine t)
+
 -- one thread more than there may be would start
 abbrev pub is_full : {S : Type 0} → Meaning S → Settings → Moment S → ℕ → Bool
-is_full m settings now t = starts_one (started (m.next now.machine t)) && not (nat_lt (length now.state.threads) settings.limits.live)
+is_full m settings now t = starts_one (starts m now t) && not (nat_lt (length now.state.threads) settings.limits.live)
 
 -- The first handshake was completed, the machine is alive, events are not held, the thread is alive and not suspended, no live
 -- thread stands at the count limit, and no thread too many would start.

@@ -6,7 +6,6 @@ ghost use Rattle.jdwp_debuggee.specs.Replies.{reply_meaning};
 
 use crate::debuggee::Debuggee;
 use crate::reply::Reply;
-use crate::threads::Change;
 use jdwp_machine::Machine;
 use jdwp_value::ObjectId;
 use jdwp_wire::ErrorCode;
@@ -20,7 +19,7 @@ impl<M: Machine> Debuggee<M> {
         if !self.handshaken || self.threads.stands_at(self.settings.count_limit()) {
             return Reply::Refused(ErrorCode::INTERNAL);
         }
-        self.threads.change(Change::Raise);
+        self.threads.raise_all();
         Reply::Done
     }
 
@@ -28,7 +27,7 @@ impl<M: Machine> Debuggee<M> {
     pub fn resume(&mut self) -> Reply
         ensures { CarriesOut M.meaning action.Resume self.old self.new (reply_meaning result) }
     {
-        self.threads.change(Change::Lower);
+        self.threads.lower_all();
         Reply::Done
     }
 
@@ -75,7 +74,7 @@ impl<M: Machine> Debuggee<M> {
                 Reply::Refused(ErrorCode::INTERNAL)
             }
             Some(_) => {
-                self.threads.change(Change::RaiseOne(thread));
+                self.threads.raise(thread);
                 Reply::Done
             }
         }
@@ -88,7 +87,7 @@ impl<M: Machine> Debuggee<M> {
         if !self.threads.is_live(thread) {
             return Reply::Refused(ErrorCode::INVALID_THREAD);
         }
-        self.threads.change(Change::LowerOne(thread));
+        self.threads.lower(thread);
         Reply::Done
     }
 

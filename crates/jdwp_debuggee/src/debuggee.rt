@@ -1,8 +1,8 @@
 //! The debuggee: its threads, its event requests, and the machine that it runs.
-ghost use Rattle.std.specs.Prelude.{◌≡◌, ◌≤◌, ◌↔◌, false, None, IfNone, IfOk, IfSome, IsSome, OnSome};
+ghost use Rattle.std.specs.Prelude.{◌≡◌, ◌≤◌, ◌↔◌, ℕ, false, None, IfNone, IfOk, IfSome, IsSome, OnSome, is_some};
 ghost use Rattle.jdwp_event.specs.Composites.{vm_start};
 ghost use Rattle.jdwp_event.specs.Constants.{policy_byte};
-ghost use Rattle.jdwp_machine.specs.Meanings.{numbers};
+ghost use Rattle.jdwp_machine.specs.Meanings.{has, numbers};
 ghost use Rattle.jdwp_wire.specs.Numbers.{id_refusal};
 ghost use Rattle.jdwp_debuggee.specs.Debuggees.{with_state};
 ghost use Rattle.jdwp_debuggee.specs.Sending.{FitsPacket};
@@ -11,7 +11,8 @@ ghost use Rattle.jdwp_debuggee.specs.StepParts.{policy_at_start};
 ghost use Rattle.jdwp_debuggee.specs.Steps.{handshaken, start_event};
 
 use crate::settings::Settings;
-use crate::threads::{Change, Threads};
+use crate::steps::suspend_by;
+use crate::threads::Threads;
 use jdwp_event::{Policy, Requests};
 use jdwp_machine::Machine;
 use jdwp_value::ObjectId;
@@ -44,7 +45,7 @@ impl<M: Machine> Model for Debuggee<M> {
       settings = d.settings;
       moment = record {
         state = record {
-          threads = d.threads;
+          threads = d.threads.list;
           requests = d.requests;
           held = d.held;
           handshaken = d.handshaken;
@@ -60,7 +61,7 @@ impl<M: Machine> Model for Debuggee<M> {
       settings = d.settings;
       moment = record {
         state = record {
-          threads = d.threads;
+          threads = d.threads.list;
           requests = d.requests;
           held = d.held;
           handshaken = d.handshaken;
@@ -132,9 +133,10 @@ impl<M: Machine> Debuggee<M> {
         id
     }
 
-    /// The threads that live, in the machine's order.
+    /// The threads that live, in the machine's order: exactly those that have a count.
     pub fn live(&self) -> &[ObjectId]
-        ensures { numbers result.now ≡ M.meaning.live self.now.moment.machine }
+        ensures live { numbers result.now ≡ M.meaning.live self.now.moment.machine }
+        ensures counted { (t : ℕ) → has (numbers result.now) t ≡ is_some (spec.count_of self.now.moment.state t) }
     {
         self.machine.live()
     }
@@ -157,7 +159,7 @@ impl<M: Machine> Debuggee<M> {
     pub fn reset(&mut self)
         ensures { self.new ≡ with_state (spec.reset self.old.moment.state) self.old }
     {
-        self.threads.change(Change::Clear);
+        self.threads.clear_counts();
         self.requests.clear();
         self.held = false;
     }
@@ -182,8 +184,7 @@ impl<M: Machine> Debuggee<M> {
             thread: self.threads.least(),
             packet: self.next_packet,
         };
-        self.threads
-            .change(Change::RaiseBy(start.policy.byte(), start.thread));
+        suspend_by(&mut self.threads, start.policy.byte(), start.thread);
         self.handshaken = true;
         self.next_packet = self.next_packet.wrapping_add(1);
         Some(start)

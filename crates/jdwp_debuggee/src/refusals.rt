@@ -102,7 +102,7 @@ fn policy_refusal(byte: u8) -> Option<ErrorCode>
 
 /// A thread that is not alive.
 fn thread_refusal(threads: &Threads, thread: ObjectId) -> Option<ErrorCode>
-    ensures { result ≡ spec.unless (spec.is_some_count (count_in threads.now thread.0)) codes.INVALID_THREAD }
+    ensures { result ≡ spec.unless (spec.is_some_count (count_in threads.now.list thread.0)) codes.INVALID_THREAD }
 {
     unless(threads.is_live(thread), ErrorCode::INVALID_THREAD)
 }
@@ -175,7 +175,7 @@ fn modifier_refusal<M: Machine>(
     byte: u8,
     modifier: &Modifier,
 ) -> Result<Option<ErrorCode>, NoMemory>
-    ensures value { IfOk result (λ refusal. refusal ≡ spec.modifier_refusal M.meaning (moment_of threads.now machine.now) byte (modifier_meaning modifier.now)) }
+    ensures value { IfOk result (λ refusal. refusal ≡ spec.modifier_refusal M.meaning (moment_of threads.now.list machine.now) byte (modifier_meaning modifier.now)) }
     ensures memory { IfErr result (λ _. asks_machine (modifier_meaning modifier.now) ≡ true) }
 {
     match modifier {
@@ -220,7 +220,7 @@ fn modifiers_refusal<M: Machine>(
     modifiers: &[Modifier],
     next: Option<ErrorCode>,
 ) -> Result<Option<ErrorCode>, NoMemory>
-    ensures value { IfOk result (λ refusal. refusal ≡ spec.or_else (spec.modifiers_refusal M.meaning (moment_of threads.now machine.now) byte (map modifier_meaning modifiers.now)) next) }
+    ensures value { IfOk result (λ refusal. refusal ≡ spec.or_else (spec.modifiers_refusal M.meaning (moment_of threads.now.list machine.now) byte (map modifier_meaning modifiers.now)) next) }
     ensures memory { IfErr result (λ _. list_any asks_machine (map modifier_meaning modifiers.now) ≡ true) }
 {
     for modifier in modifiers {

@@ -7,13 +7,13 @@ ghost use Rattle.jdwp_event.specs.Composites.{gathered};
 ghost use Rattle.jdwp_event.specs.Occurrences.{started, runs_out};
 ghost use Rattle.jdwp_machine.specs.Meanings.{has};
 ghost use Rattle.jdwp_debuggee.specs.Entries.{AllAtMost};
-ghost use Rattle.jdwp_debuggee.specs.State.{is_marked, is_other};
-ghost use Rattle.jdwp_debuggee.specs.Steps.{may_step};
-ghost use Rattle.jdwp_debuggee.specs.StepParts.{SendFits, Steps, StepsOrNot, is_full_by, is_ready, number_of, packet_after, raised_for, unless_last, with_new};
+ghost use Rattle.jdwp_debuggee.specs.State.{changed, is_marked, is_other};
+ghost use Rattle.jdwp_debuggee.specs.Steps.{may_step, raised_by};
+ghost use Rattle.jdwp_debuggee.specs.StepParts.{HasRoom, SendFits, Steps, StepsOrNot, is_full_by, is_ready, number_of, packet_after, raised_for, unless_last, with_new};
 
 use crate::debuggee::Debuggee;
-use crate::threads::{Change, Threads};
-use jdwp_event::{Composite, Happening, Occurrence, Requests, count_gathered, gather};
+use crate::threads::Threads;
+use jdwp_event::{Composite, Happening, Occurrence, Policy, Requests, count_gathered, gather};
 use jdwp_machine::{Machine, has_run_out};
 use jdwp_value::ObjectId;
 use jdwp_wire::NoMemory;
@@ -40,24 +40,46 @@ fn thread_started(happening: &Happening) -> Option<ObjectId>
     }
 }
 
-/// Adds a thread that starts.
-fn add_started(threads: &mut Threads, started: Option<ObjectId>) -> Result<(), NoMemory>
-    ensures ok { OnOk result (threads.new ≡ with_new (number_of started) threads.old) }
-    ensures err { OnErr result (threads.new ≡ threads.old) }
+/// Makes room for a thread that starts.
+fn make_room(threads: &mut Threads, started: Option<ObjectId>) -> Result<(), NoMemory>
+    ensures same { threads.new.list ≡ threads.old.list }
+    ensures room { OnOk result (HasRoom (number_of started) threads.new) }
 {
     match started {
-        Some(thread) => threads.add(thread),
+        Some(_) => threads.make_room(),
         None => Ok(()),
+    }
+}
+
+/// Adds a thread that starts, for which there is room.
+fn add_started(threads: &mut Threads, started: Option<ObjectId>)
+    requires { HasRoom (number_of started) threads.old }
+    ensures { threads.new.list ≡ with_new (number_of started) threads.old.list }
+{
+    if let Some(thread) = started {
+        threads.add(thread);
+    }
+}
+
+/// Suspends the threads that the policy of this byte suspends, where the event is of this thread.
+pub(crate) fn suspend_by(threads: &mut Threads, policy: u8, event_thread: ObjectId)
+    requires { AllAtMost greatest_int threads.old.list }
+    ensures { threads.new.list ≡ changed (raised_by policy event_thread.0) threads.old.list }
+{
+    if policy == Policy::All.byte() {
+        threads.raise_all();
+    } else if policy == Policy::EventThread.byte() {
+        threads.raise(event_thread);
     }
 }
 
 /// Suspends the threads that the policy of what is sent suspends.
 fn suspend_for(threads: &mut Threads, sends: &Option<Composite>, event_thread: ObjectId)
-    requires { AllAtMost greatest_int threads.old }
-    ensures { threads.new ≡ raised_for sends.now event_thread.0 threads.old }
+    requires { AllAtMost greatest_int threads.old.list }
+    ensures { threads.new.list ≡ raised_for sends.now event_thread.0 threads.old.list }
 {
     if let Some(composite) = sends {
-        threads.change(Change::RaiseBy(composite.policy(), event_thread));
+        suspend_by(threads, composite.policy(), event_thread);
     }
 }
 
@@ -80,8 +102,8 @@ fn end_thread<M: Machine>(
 ) -> bool
     requires { has (M.meaning.live machine.old) thread.0 ≡ true }
     ensures machine { machine.new ≡ M.meaning.ended machine.old thread.0 }
-    ensures threads { threads.new ≡ filter (is_other thread.0) threads.old }
-    ensures last { result ≡ (length threads.new == 0) }
+    ensures threads { threads.new.list ≡ filter (is_other thread.0) threads.old.list }
+    ensures last { result ≡ (length threads.new.list == 0) }
     ensures requests { requests.new ≡ unless_last result requests.old }
 {
     machine.end(thread);
@@ -96,19 +118,23 @@ fn end_thread<M: Machine>(
 impl<M: Machine> Debuggee<M> {
     /// One step of a thread, if it may make one: where the first handshake was completed, the machine is alive, events are not held, the
     /// thread is alive and not suspended, no live thread stands at the count limit, and no thread too many would start. What is sent can
-    /// be written at the machine's widths, and fits a packet.
+    /// be written at the machine's widths, and fits a packet. A thread whose death was reported ends: it starts nobody.
     ///
     /// # Errors
-    /// `NoMemory` where an allocation was refused; only where nothing but a thread too many could forbid the step, and then nothing
-    /// has changed.
+    /// `NoMemory` where an allocation was refused; only where nothing but a thread too many could forbid the step, and not where the
+    /// thread's death was reported; then nothing has changed.
     pub fn step(&mut self, alloc: Global, thread: ObjectId) -> Result<Option<StepDone>, NoMemory>
         ensures exact { IfOk result (λ done. StepsOrNot M.meaning thread.0 self.old self.new done) }
         ensures fits { IfOk result (λ done. SendFits (M.meaning.sizes self.old.moment.machine) self.old.settings.limits.packet done) }
         ensures unchanged { OnErr result (self.new ≡ self.old) }
         ensures memory { IfErr result (λ _. is_ready self.old.settings self.old.moment.state thread.0 ≡ true) }
+        ensures unmarked { IfErr result (λ _. is_marked self.old.moment.state thread.0 ≡ false) }
     {
         if !self.is_ready(thread) {
             return Ok(None);
+        }
+        if self.threads.is_marked(thread) {
+            return Ok(Some(self.end(thread)));
         }
         let happening = self.machine.next(thread)?;
         self.step_into(alloc, thread, &happening)
@@ -155,7 +181,8 @@ impl<M: Machine> Debuggee<M> {
         }
     }
 
-    /// The step of a thread that is ready, in which `happening` happens, unless one thread more than there may be would start.
+    /// The step of a thread that is ready and whose death was not reported, in which `happening` happens, unless one thread more than
+    /// there may be would start.
     fn step_into(
         &mut self,
         alloc: Global,
@@ -163,15 +190,13 @@ impl<M: Machine> Debuggee<M> {
         happening: &Happening,
     ) -> Result<Option<StepDone>, NoMemory>
         requires ready { is_ready self.old.settings self.old.moment.state thread.0 ≡ true }
+        requires unmarked { is_marked self.old.moment.state thread.0 ≡ false }
         requires next { happening.now ≡ M.meaning.next self.old.moment.machine thread.0 }
         ensures ok { IfOk result (λ done. StepsOrNot M.meaning thread.0 self.old self.new done) }
         ensures err { OnErr result (self.new ≡ self.old) }
     {
         if self.is_full(happening) {
             return Ok(None);
-        }
-        if self.threads.is_marked(thread) {
-            return Ok(Some(self.end(thread)));
         }
         let sends = gather(alloc, &self.requests, happening)?;
         if has_run_out(happening) {
@@ -201,8 +226,7 @@ impl<M: Machine> Debuggee<M> {
     {
         count_gathered(&mut self.requests, happening, &sends);
         if let Some(composite) = sends {
-            self.threads
-                .change(Change::RaiseBy(composite.policy(), happening.thread()));
+            suspend_by(&mut self.threads, composite.policy(), happening.thread());
             self.threads.mark(thread);
             self.next_packet = self.next_packet.wrapping_add(1);
             return StepDone {
@@ -240,12 +264,10 @@ impl<M: Machine> Debuggee<M> {
         ensures ok { OnOk result (Steps M.meaning thread.0 self.old self.new (record { sends = sends.now; ends = false; dies = false })) }
         ensures err { OnErr result (self.new ≡ self.old) }
     {
-        let count = self.threads.len();
-        add_started(&mut self.threads, thread_started(happening))?;
-        if let Err(error) = self.machine.step(thread) {
-            self.threads.truncate(count);
-            return Err(error);
-        }
+        let started = thread_started(happening);
+        make_room(&mut self.threads, started)?;
+        self.machine.step(thread)?;
+        add_started(&mut self.threads, started);
         count_gathered(&mut self.requests, happening, sends);
         suspend_for(&mut self.threads, sends, happening.thread());
         self.next_packet = id_after(self.next_packet, sends);

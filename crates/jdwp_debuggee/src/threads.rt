@@ -1,16 +1,15 @@
 //! The live threads and their suspend counts.
 ghost use Rattle.jdwp_wire.specs.Numbers.{greatest_int};
-ghost use Rattle.std.specs.Prelude.{◌≡◌, ◌≤◌, ◌==◌, ◌++◌, ◌∷◌, [], map, length, take, false, OnOk, OnErr, IfOk};
-ghost use Rattle.std.specs.List.{list_any, filter};
+ghost use Rattle.std.specs.Prelude.{◌≡◌, ◌≤◌, ◌<◌, ◌++◌, ◌∷◌, [], map, length, false, OnOk, IfOk};
+ghost use Rattle.std.specs.List.{filter};
 ghost use Rattle.jdwp_machine.specs.Meanings.{numbers};
-ghost use Rattle.jdwp_debuggee.specs.Entries.{AllAtMost, all_marked, change_of, least_of, map_thread, recounted, stands_at, threads_of};
+ghost use Rattle.jdwp_debuggee.specs.Entries.{AllAtMost, all_marked, change_of, greatest_above, least_of, map_thread, recounted, stands_at, threads_of};
 ghost use Rattle.jdwp_debuggee.specs.State as spec;
-ghost use Rattle.jdwp_debuggee.specs.State.{changed, is_marked_by, is_other, marked, running, thread_in};
+ghost use Rattle.jdwp_debuggee.specs.State.{changed, cleared, is_marked_by, is_other, lowered, marked, only, raised, running, thread_in};
 ghost use Rattle.jdwp_debuggee.specs.Refusals.{is_some_count};
 ghost use Rattle.jdwp_debuggee.specs.Answers.{first_of, rising};
 ghost use Rattle.jdwp_debuggee.specs.Sending.{place_in};
 
-use jdwp_event::Policy;
 use jdwp_value::ObjectId;
 use jdwp_wire::NoMemory;
 use std::alloc::Global;
@@ -26,7 +25,7 @@ struct ThreadEntry {
 
 /// A change of the suspend counts of all live threads, or of one.
 #[derive(Clone, Copy)]
-pub(crate) enum Change {
+enum Change {
     /// Each rises by one.
     Raise,
     /// Each that is positive falls by one.
@@ -37,8 +36,6 @@ pub(crate) enum Change {
     RaiseOne(ObjectId),
     /// This thread's falls by one, if it is positive.
     LowerOne(ObjectId),
-    /// Those that the policy of this byte suspends rise by one, where the event is of this thread.
-    RaiseBy(u8, ObjectId),
 }
 
 impl Change {
@@ -53,9 +50,6 @@ impl Change {
             Change::Clear => 0,
             Change::RaiseOne(one) if one.0 == thread.0 => count + 1,
             Change::LowerOne(one) if one.0 == thread.0 => count.saturating_sub(1),
-            Change::RaiseBy(policy, _) if policy == Policy::All.byte() => count + 1,
-            Change::RaiseBy(policy, one)
-                if policy == Policy::EventThread.byte() && one.0 == thread.0 => { count + 1 }
             _ => count,
         }
     }
@@ -68,13 +62,12 @@ pub(crate) struct Threads {
 }
 
 impl Model for Threads {
-    ghost use Rattle.std.specs.Prelude.{List};
-    ghost use Rattle.jdwp_debuggee.specs.State.{Thread};
-    ghost use Rattle.jdwp_debuggee.specs.Entries.{threads_of};
+    ghost use Rattle.std.specs.Prelude.{vec_capacity};
+    ghost use Rattle.jdwp_debuggee.specs.Entries.{LiveThreads, threads_of};
 
-    ghost Value = { List Thread };
+    ghost Value = { LiveThreads };
 
-    ghost view = { λ t. threads_of t.entries.items };
+    ghost view = { λ t. record { list = threads_of t.entries.items; capacity = vec_capacity t.entries } };
 }
 
 /// The entry of a thread, or None where it is not alive.
@@ -89,16 +82,17 @@ fn find(entries: &[ThreadEntry], thread: ObjectId) -> Option<ThreadEntry>
     None
 }
 
-/// Whether an entry's suspend count is this one.
-fn any_stands_at(entries: &[ThreadEntry], count: u32) -> bool
-    ensures { result ≡ list_any (λ (entry : ThreadEntry). entry.suspend_count == count) entries.now }
+/// The greatest suspend count of the entries; 0 where there is none.
+fn greatest_of(entries: &[ThreadEntry]) -> u32
+    ensures { result ≡ greatest_above 0 (threads_of entries.now) }
 {
+    let mut greatest = 0;
     for entry in entries {
-        if entry.suspend_count == count {
-            return true;
+        if greatest < entry.suspend_count {
+            greatest = entry.suspend_count;
         }
     }
-    false
+    greatest
 }
 
 /// Changes the suspend counts.
@@ -167,7 +161,7 @@ impl Threads {
     /// # Errors
     /// `NoMemory` where an allocation was refused.
     pub(crate) fn new(alloc: Global, live: &[ObjectId]) -> Result<Threads, NoMemory>
-        ensures { IfOk result (λ threads. threads ≡ running (numbers live.now)) }
+        ensures { IfOk result (λ threads. threads.list ≡ running (numbers live.now)) }
     {
         let mut entries = Vec::with_capacity(alloc, live.len())?;
         for id in live {
@@ -182,14 +176,14 @@ impl Threads {
 
     /// How many there are.
     pub(crate) fn len(&self) -> usize
-        ensures { result ≡ length self.now }
+        ensures { result ≡ length self.now.list }
     {
         self.entries.len()
     }
 
     /// The suspend count of a thread, or None where it is not alive.
     pub(crate) fn count(&self, thread: ObjectId) -> Option<u32>
-        ensures { result ≡ spec.count_in self.now thread.0 }
+        ensures { result ≡ spec.count_in self.now.list thread.0 }
     {
         match find(&self.entries, thread) {
             Some(entry) => Some(entry.suspend_count),
@@ -199,14 +193,14 @@ impl Threads {
 
     /// Whether a thread is alive.
     pub(crate) fn is_live(&self, thread: ObjectId) -> bool
-        ensures { result ≡ is_some_count (spec.count_in self.now thread.0) }
+        ensures { result ≡ is_some_count (spec.count_in self.now.list thread.0) }
     {
         self.count(thread).is_some()
     }
 
     /// Whether a thread's death was reported.
     pub(crate) fn is_marked(&self, thread: ObjectId) -> bool
-        ensures { result ≡ is_marked_by (thread_in self.now thread.0) }
+        ensures { result ≡ is_marked_by (thread_in self.now.list thread.0) }
     {
         match find(&self.entries, thread) {
             Some(entry) => entry.death_reported,
@@ -214,16 +208,25 @@ impl Threads {
         }
     }
 
-    /// Whether a live thread's suspend count is this one.
-    pub(crate) fn stands_at(&self, count: u32) -> bool
-        ensures { result ≡ stands_at count self.now }
+    /// The greatest suspend count of a live thread; 0 where none lives.
+    pub(crate) fn greatest(&self) -> u32
+        ensures { result ≡ greatest_above 0 self.now.list }
     {
-        any_stands_at(&self.entries, count)
+        greatest_of(&self.entries)
+    }
+
+    /// Whether a live thread stands at this limit, above which no suspend count is: one does where the greatest does.
+    pub(crate) fn stands_at(&self, limit: u32) -> bool
+        requires within { AllAtMost limit self.now.list }
+        requires positive { 1 ≤ limit }
+        ensures { result ≡ stands_at limit self.now.list }
+    {
+        self.greatest() == limit
     }
 
     /// The live thread of least id; 0 where none lives.
     pub(crate) fn least(&self) -> ObjectId
-        ensures { result.0 ≡ first_of (rising (spec.ids self.now)) }
+        ensures { result.0 ≡ first_of (rising (spec.ids self.now.list)) }
     {
         match self.entries.as_slice() {
             [] => ObjectId(0),
@@ -236,59 +239,100 @@ impl Threads {
     /// # Errors
     /// `NoMemory` where an allocation was refused.
     pub(crate) fn rising(&self, alloc: Global) -> Result<Vec<u64>, NoMemory>
-        ensures { IfOk result (λ ids. ids.items ≡ rising (spec.ids self.now)) }
+        ensures { IfOk result (λ ids. ids.items ≡ rising (spec.ids self.now.list)) }
     {
         rising_ids(alloc, &self.entries)
     }
 
+    /// Each thread's suspend count rises by one.
+    pub(crate) fn raise_all(&mut self)
+        requires { AllAtMost greatest_int self.old.list }
+        ensures { self.new.list ≡ changed raised self.old.list }
+    {
+        self.change(Change::Raise);
+    }
+
+    /// Each thread's suspend count falls by one, if it is positive.
+    pub(crate) fn lower_all(&mut self)
+        requires { AllAtMost greatest_int self.old.list }
+        ensures { self.new.list ≡ changed lowered self.old.list }
+    {
+        self.change(Change::Lower);
+    }
+
+    /// Each thread's suspend count is 0.
+    pub(crate) fn clear_counts(&mut self)
+        requires { AllAtMost greatest_int self.old.list }
+        ensures { self.new.list ≡ changed cleared self.old.list }
+    {
+        self.change(Change::Clear);
+    }
+
+    /// One thread's suspend count rises by one.
+    pub(crate) fn raise(&mut self, thread: ObjectId)
+        requires { AllAtMost greatest_int self.old.list }
+        ensures { self.new.list ≡ changed (only thread.0 raised) self.old.list }
+    {
+        self.change(Change::RaiseOne(thread));
+    }
+
+    /// One thread's suspend count falls by one, if it is positive.
+    pub(crate) fn lower(&mut self, thread: ObjectId)
+        requires { AllAtMost greatest_int self.old.list }
+        ensures { self.new.list ≡ changed (only thread.0 lowered) self.old.list }
+    {
+        self.change(Change::LowerOne(thread));
+    }
+
     /// Changes the suspend counts.
-    pub(crate) fn change(&mut self, change: Change)
-        requires { AllAtMost greatest_int self.old }
-        ensures { self.new ≡ changed (change_of change) self.old }
+    fn change(&mut self, change: Change)
+        requires { AllAtMost greatest_int self.old.list }
+        ensures { self.new.list ≡ changed (change_of change) self.old.list }
     {
         change_counts(self.entries.as_mut_slice(), change);
     }
 
     /// Marks a thread's death as reported.
     pub(crate) fn mark(&mut self, thread: ObjectId)
-        ensures { self.new ≡ map (marked thread.0) self.old }
+        ensures { self.new.list ≡ map (marked thread.0) self.old.list }
     {
         mark_one(self.entries.as_mut_slice(), thread);
     }
 
-    /// Adds a thread at the end, which is not suspended.
+    /// Makes room for one thread more.
     ///
     /// # Errors
-    /// `NoMemory` where an allocation was refused; then nothing has changed.
-    pub(crate) fn add(&mut self, thread: ObjectId) -> Result<(), NoMemory>
-        ensures ok { OnOk result (self.new ≡ self.old ++ record { id = thread.0; suspend_count = 0; death_reported = false } ∷ []) }
-        ensures err { OnErr result (self.new ≡ self.old) }
+    /// `NoMemory` where an allocation was refused.
+    pub(crate) fn make_room(&mut self) -> Result<(), NoMemory>
+        ensures same { self.new.list ≡ self.old.list }
+        ensures room { OnOk result (length self.new.list < self.new.capacity) }
     {
-        self.entries.push(ThreadEntry {
-            id: thread,
-            suspend_count: 0,
-            death_reported: false,
-        })?;
+        self.entries.reserve(1)?;
         Ok(())
     }
 
-    /// Keeps so many threads from the beginning.
-    pub(crate) fn truncate(&mut self, count: usize)
-        ensures { self.new ≡ take count self.old }
+    /// Adds a thread at the end, for which there is room; it is not suspended.
+    pub(crate) fn add(&mut self, thread: ObjectId)
+        requires { length self.old.list < self.old.capacity }
+        ensures { self.new.list ≡ self.old.list ++ record { id = thread.0; suspend_count = 0; death_reported = false } ∷ [] }
     {
-        self.entries.truncate(count);
+        self.entries.push_reserved(ThreadEntry {
+            id: thread,
+            suspend_count: 0,
+            death_reported: false,
+        });
     }
 
     /// Removes a thread.
     pub(crate) fn remove(&mut self, thread: ObjectId)
-        ensures { self.new ≡ filter (is_other thread.0) self.old }
+        ensures { self.new.list ≡ filter (is_other thread.0) self.old.list }
     {
         self.entries.retain(|entry| entry.id.0 != thread.0);
     }
 
     /// Removes all of them.
     pub(crate) fn clear(&mut self)
-        ensures { self.new ≡ [] }
+        ensures { self.new.list ≡ [] }
     {
         self.entries.clear();
     }

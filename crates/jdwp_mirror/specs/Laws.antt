@@ -49,6 +49,16 @@ pub record OneIsCounted : Type 0 where
   pub counted_other : (k : Ticket) (t u n : ℕ) (count : Option ℕ) → t ≢ u → learned (Reply k (of_thread 11 12 t []) (Data (One (Int (pos n)) ∷ []))) u count ≡ count
   pub held : (k : Ticket) (t n : ℕ) (before : Bool) → held_after (Reply k (of_thread 11 2 t []) (Data [])) t before (Some (n + 1)) ≡ true
 
+-- ---- StackFrame (16)
+
+-- An OK reply to a command of StackFrame about a thread shows it alive, so that it is held where its count is above 0, and says nothing of
+-- another; no count changes.
+pub record FramesShow : Type 0 where
+  pub held : (k : Ticket) (number t n : ℕ) (asked content : List DatumMeaning) (before : Bool) → held_after (Reply k (of_thread 16 number t asked) (Data content)) t before (Some (n + 1)) ≡ true
+  pub not_at_zero : (k : Ticket) (number t : ℕ) (asked content : List DatumMeaning) (before : Bool) → held_after (Reply k (of_thread 16 number t asked) (Data content)) t before (Some 0) ≡ false
+  pub another : (k : Ticket) (number t u n : ℕ) (asked content : List DatumMeaning) (before : Bool) → t ≢ u → held_after (Reply k (of_thread 16 number t asked) (Data content)) u before (Some (n + 1)) ≡ before
+  pub counts : (k : Ticket) (number t u : ℕ) (asked content : List DatumMeaning) (count : Option ℕ) → learned (Reply k (of_thread 16 number t asked) (Data content)) u count ≡ count
+
 -- ---- errors
 
 -- INVALID_THREAD (10) to a command of ThreadReference (11) or StackFrame (16) forgets the thread that it is about, and not another;
@@ -78,6 +88,7 @@ pub record ListsForget : Type 0 where
 -- ---- Event.Composite: the policies are NONE (0), EVENT_THREAD (1) and ALL (2)
 
 -- An event of a thread that does not end it: it had count 0, and is suspended once or not at all; ALL raises every other known count.
+-- Where no event has a thread, ALL raises every known count, and nobody is shown alive.
 pub record EventsCount : Type 0 where
   pub none : (c : CompositeMeaning) (t : ℕ) (count : Option ℕ) → composite_thread c ≡ Some t → is_vm_death c ≡ false → has_event kind.ThreadDeath c ≡ false → c.policy ≡ 0 → learned (Report c) t count ≡ Some 0
   pub death : (c : CompositeMeaning) (t : ℕ) (count : Option ℕ) → composite_thread c ≡ Some t → is_vm_death c ≡ false → has_event kind.ThreadDeath c ≡ true → c.policy ≡ 0 → learned (Report c) t count ≡ None
@@ -86,6 +97,10 @@ pub record EventsCount : Type 0 where
   pub others_by_all : (c : CompositeMeaning) (t u n : ℕ) → composite_thread c ≡ Some t → t ≢ u → is_vm_death c ≡ false → c.policy ≡ 2 → n < LIMIT → learned (Report c) u (Some n) ≡ Some (n + 1)
   pub others_by_less : (c : CompositeMeaning) (t u : ℕ) (count : Option ℕ) → composite_thread c ≡ Some t → t ≢ u → is_vm_death c ≡ false → c.policy < 2 → learned (Report c) u count ≡ count
   pub others_unknown : (c : CompositeMeaning) (t u : ℕ) → composite_thread c ≡ Some t → t ≢ u → learned (Report c) u None ≡ None
+  pub no_thread_by_all : (c : CompositeMeaning) (t n : ℕ) → composite_thread c ≡ None → is_vm_death c ≡ false → c.policy ≡ 2 → n < LIMIT → learned (Report c) t (Some n) ≡ Some (n + 1)
+  pub no_thread_by_less : (c : CompositeMeaning) (t : ℕ) (count : Option ℕ) → composite_thread c ≡ None → is_vm_death c ≡ false → c.policy < 2 → learned (Report c) t count ≡ count
+  pub no_thread_unknown : (c : CompositeMeaning) (t : ℕ) → composite_thread c ≡ None → learned (Report c) t None ≡ None
+  pub no_thread_holds : (c : CompositeMeaning) (t n : ℕ) (before : Bool) → composite_thread c ≡ None → held_after (Report c) t before (Some (n + 1)) ≡ before
   pub held : (c : CompositeMeaning) (t n : ℕ) (before : Bool) → composite_thread c ≡ Some t → held_after (Report c) t before (Some (n + 1)) ≡ true
   pub end_of_machine : (c : CompositeMeaning) (t : ℕ) (count : Option ℕ) (requests : List Kept) → is_vm_death c ≡ true → (learned (Report c) t count ≡ None) × (requests_after (Report c) requests ≡ [])
 

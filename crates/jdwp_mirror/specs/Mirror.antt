@@ -12,8 +12,8 @@ use Rattle.jdwp_layout.specs.declared.answer.Answer.{Answer}
 use Rattle.jdwp_layout.specs.declared.answer.Answer.TheVariants.{Data, Error}
 use Rattle.jdwp_layout.specs.Meanings.{ScalarMeaning, Int, Object, DatumMeaning, One, Many}
 use Rattle.jdwp_event.specs.declared.kind.EventKind.TheVariants as kind
-use Rattle.jdwp_event.specs.EventKinds.{kind_byte}
 use Rattle.jdwp_event.specs.Modifiers.{ModifierMeaning, modifiers_of}
+use Rattle.jdwp_event.specs.RequestLists.{is_left, is_left_by_all}
 use Rattle.jdwp_event.specs.Requests.{Asked}
 use Rattle.jdwp_event.specs.Composites.{CompositeMeaning, POLICY_NONE, POLICY_EVENT_THREAD, POLICY_ALL}
 use Rattle.jdwp_event.specs.Told.{composite_thread, has_event, is_vm_death}
@@ -198,11 +198,12 @@ with_kept None kind policy modifiers requests = requests
 with_kept (Some id) kind policy modifiers requests =
     filter (has_other_id id) requests ++ record { id = id; kind = kind; policy = policy; modifiers = modifiers } ∷ []
 
+-- what Clear and ClearAllBreakpoints leave of the requests that are kept
 abbrev pub is_not_kept : ℕ → ℤ → Kept → Bool
-is_not_kept kind id r = not ((r.kind == kind) && int_eq r.id id)
+is_not_kept kind id r = is_left kind id r.kind r.id
 
 abbrev pub is_no_kept_breakpoint : Kept → Bool
-is_no_kept_breakpoint r = not (r.kind == kind_byte kind.Breakpoint)
+is_no_kept_breakpoint r = is_left_by_all r.kind
 
 abbrev pub requests_after_data : Action → List DatumMeaning → List Kept → List Kept
 requests_after_data (Actions.SetRequest byte policy entries) content requests = with_kept (given_id content) byte policy (modifiers_of entries) requests

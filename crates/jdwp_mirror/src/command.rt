@@ -1,5 +1,5 @@
 //! Commands that a debugger asks.
-ghost use Rattle.std.specs.Prelude.{◌≡◌, ◌==◌, ◌&&◌};
+ghost use Rattle.std.specs.Prelude.{◌≡◌, ◌==◌, ◌&&◌, IfOk};
 ghost use Rattle.jdwp_debuggee.specs.Actions as actions;
 ghost use Rattle.jdwp_debuggee.specs.Actions.{action_of, clear_action, first_object, object_in, set_action, thread_of};
 ghost use Rattle.jdwp_mirror.specs.Acts.{act_of, id_found, other_act_of, request_act_of, thread_act_of};
@@ -13,6 +13,8 @@ use jdwp_layout::numbers::{
 };
 use jdwp_layout::{Data, Datum, Scalar};
 use jdwp_value::ObjectId;
+use jdwp_wire::NoMemory;
+use std::alloc::Global;
 use std::marker::Model;
 
 /// What a command carries.
@@ -115,6 +117,24 @@ impl Command {
         ensures { carried_meaning result.now ≡ self.now.carried }
     {
         &self.carried
+    }
+
+    /// Another command that asks the same.
+    ///
+    /// # Errors
+    /// `NoMemory` where an allocation was refused.
+    pub fn copied(&self, alloc: Global) -> Result<Command, NoMemory>
+        ensures { IfOk result (λ copy. copy ≡ self.now) }
+    {
+        let carried = match &self.carried {
+            Carried::Content(data) => Carried::Content(data.copied(alloc)?),
+            Carried::Raw(bytes) => Carried::Raw(Vec::from_slice(alloc, bytes)?),
+        };
+        Ok(Command {
+            set: self.set,
+            number: self.number,
+            carried,
+        })
     }
 
     fn is(&self, set: u8, number: u8) -> bool

@@ -1,5 +1,5 @@
 //! What each packet means to a debugger, in the standard's numbers: the definitions say the same.
-ghost use Rattle.jdwp_mirror.specs.Laws.{AllAreCounted, OneIsCounted, ErrorsForget, ListsForget, EventsCount, RequestsAreKept, RefusesEvents, RefusesReplies};
+ghost use Rattle.jdwp_mirror.specs.Laws.{AllAreCounted, OneIsCounted, FramesShow, ErrorsForget, ListsForget, EventsCount, RequestsAreKept, RefusesEvents, RefusesReplies};
 
 /// An OK reply to a Suspend or a Resume moves the counts that it is about and no other, never above 2,147,483,647; one to a Suspend of
 /// the whole machine holds nobody.
@@ -8,13 +8,18 @@ pub fn counts_by_commands()
     ensures one { OneIsCounted }
 {}
 
+/// An OK reply to a command of StackFrame shows its thread alive, and changes no count.
+pub fn shows_by_frames()
+    ensures { FramesShow }
+{}
+
 /// INVALID_THREAD, a list of all threads, Exit and Dispose forget threads.
 pub fn forgets_ended_threads()
     ensures errors { ErrorsForget }
     ensures lists { ListsForget }
 {}
 
-/// An event suspends its thread, all threads or none, by its policy.
+/// An event suspends its thread, all threads or none, by its policy; one of no thread with the policy ALL suspends all that are known.
 pub fn counts_by_events()
     ensures { EventsCount }
 {}

@@ -18,6 +18,7 @@ pub use judging::{is_bad_answer, is_bad_composite, widths_in_answer};
 pub use known::KnownThreads;
 pub use laws::{
     counts_by_commands, counts_by_events, forgets_ended_threads, keeps_requests, refuses_packets,
+    shows_by_frames,
 };
 pub use mirror::Mirror;
 pub use requests::KeptRequest;

@@ -4,7 +4,7 @@ ghost use Rattle.std.specs.List.{filter};
 ghost use Rattle.jdwp_event.specs.ModifierMeanings.{modifier_meaning};
 ghost use Rattle.jdwp_event.specs.Modifiers.{modifiers_of};
 ghost use Rattle.jdwp_event.specs.RequestParts.{modifiers_meaning};
-ghost use Rattle.jdwp_layout.specs.Meanings.{DatumMeaning, entry_meaning, entry_meanings, meanings, scalar_meaning, scalar_meanings};
+ghost use Rattle.jdwp_layout.specs.Meanings.{DatumMeaning, entry_meanings, meanings};
 ghost use Rattle.jdwp_debuggee.specs.Actions as actions;
 ghost use Rattle.jdwp_debuggee.specs.Actions.{clear_action, set_action};
 ghost use Rattle.jdwp_mirror.specs.Acts.{requests_after_others};
@@ -14,7 +14,7 @@ ghost use Rattle.jdwp_mirror.specs.Mirror.{given_id, has_other_id, is_no_kept_br
 use crate::command::{Act, Carried};
 use crate::reply::id_in_reply;
 use jdwp_event::{EventKind, Modifier};
-use jdwp_layout::{Data, Datum, Scalar};
+use jdwp_layout::{Data, Datum, Scalar, copy_entry};
 use jdwp_wire::NoMemory;
 use std::alloc::Global;
 use std::marker::Model;
@@ -230,42 +230,11 @@ pub(crate) fn modifiers_in(
 {
     let mut modifiers = Vec::with_capacity(alloc, entries.len())?;
     for entry in entries {
-        let copy = copied(alloc, entry)?;
+        let copy = copy_entry(alloc, entry)?;
         match Modifier::of_entry(copy) {
             Some(modifier) => modifiers.push(modifier)?,
             None => {}
         }
     }
     Ok(modifiers)
-}
-
-fn copied(alloc: Global, entry: &[Scalar]) -> Result<Vec<Scalar>, NoMemory>
-    ensures { IfOk result (λ copy. entry_meaning copy ≡ scalar_meanings entry.now) }
-{
-    let mut copy = Vec::with_capacity(alloc, entry.len())?;
-    for field in entry {
-        copy.push_reserved(copied_scalar(alloc, field)?);
-    }
-    Ok(copy)
-}
-
-fn copied_scalar(alloc: Global, scalar: &Scalar) -> Result<Scalar, NoMemory>
-    ensures { IfOk result (λ copy. scalar_meaning copy ≡ scalar_meaning scalar.now) }
-{
-    let copy = match scalar {
-        Scalar::String(text) => Scalar::String(String::from_str(alloc, text)?),
-        Scalar::Byte(byte) => Scalar::Byte(*byte),
-        Scalar::Boolean(boolean) => Scalar::Boolean(*boolean),
-        Scalar::Int(int) => Scalar::Int(*int),
-        Scalar::Long(long) => Scalar::Long(*long),
-        Scalar::ObjectId(id) => Scalar::ObjectId(*id),
-        Scalar::ReferenceTypeId(id) => Scalar::ReferenceTypeId(*id),
-        Scalar::MethodId(id) => Scalar::MethodId(*id),
-        Scalar::FieldId(id) => Scalar::FieldId(*id),
-        Scalar::FrameId(id) => Scalar::FrameId(*id),
-        Scalar::Location(location) => Scalar::Location(*location),
-        Scalar::Value(value) => Scalar::Value(*value),
-        Scalar::TaggedId(tagged) => Scalar::TaggedId(*tagged),
-    };
-    Ok(copy)
 }

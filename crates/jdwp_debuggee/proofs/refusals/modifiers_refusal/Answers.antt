@@ -10,7 +10,7 @@ loop-modifier-preserved g c =
     let none = sym c.in_ok-refusal.ensures.value ∙ not_some _ (sym c.is_some.ensures ∙ c.if-is_some.false) in
     record {
       same =
-          sym (passed_one g.M.Machine.meaning (moment_of c.args.threads.now c.args.machine.now) c.args.byte c.args.modifiers.now c.loop-modifier.modifier-index c.modifier-item.result within c.modifier-item.is none)
+          sym (passed_one g.M.Machine.meaning (moment_of c.args.threads.now.list c.args.machine.now) c.args.byte c.args.modifiers.now c.loop-modifier.modifier-index c.modifier-item.result within c.modifier-item.is none)
           ∙ c.loop-modifier.invariant.same;
       left = λ later. c.loop-modifier.invariant.left (asked_later c.args.modifiers.now c.loop-modifier.modifier-index c.modifier-item.result within c.modifier-item.is later);
     }
@@ -20,7 +20,7 @@ returns-in_err-refusal c = grind (arith, common_steps)
 
 pub returns-then-is_some-clause-value : goal.returns-then-is_some-clause-value
 returns-then-is_some-clause-value g c =
-    refused_first g.M.Machine.meaning (moment_of c.args.threads.now c.args.machine.now) c.args.byte c.args.modifiers.now c.loop-modifier.modifier-index c.modifier-item.result _ c.args.next c.loop-modifier-test.true c.modifier-item.is
+    refused_first g.M.Machine.meaning (moment_of c.args.threads.now.list c.args.machine.now) c.args.byte c.args.modifiers.now c.loop-modifier.modifier-index c.modifier-item.result _ c.args.next c.loop-modifier-test.true c.modifier-item.is
     c.in_ok-refusal.ensures.value (sym c.is_some.ensures ∙ c.if-is_some.true) c.loop-modifier.invariant.same
 
 pub returns : goal.returns

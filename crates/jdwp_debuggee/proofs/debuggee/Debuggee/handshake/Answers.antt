@@ -5,13 +5,13 @@ use Rattle.jdwp_debuggee.proofs.Kept.{kept-start-by, most-of}
 use Rattle.jdwp_debuggee.proofs.ThreadsListed.{least-fits}
 use Rattle.jdwp_debuggee.proofs.debuggee.Debuggee.handshake.Goals as goal
 
-pub change-requires : goal.change-requires
-change-requires g c = most-of g.M.Machine.meaning _ c.self.invariant
+pub suspend_by-requires : goal.suspend_by-requires
+suspend_by-requires g c = most-of g.M.Machine.meaning _ c.self.invariant
 
 pub invariant_of-self : goal.invariant_of-self
 invariant_of-self g c =
     let first : c.self.inside.handshaken ≡ false = search rules in
-    rw c.change.ensures (kept-start-by g.M.Machine.meaning _ c.byte.result c.least.result.0 _ c.self.invariant first)
+    rw c.suspend_by.ensures (kept-start-by g.M.Machine.meaning _ c.byte.result c.least.result.0 _ c.self.invariant first)
 
 pub returns-clause-fits : goal.returns-clause-fits
 returns-clause-fits g c = rw (c.least.ensures, ← c.self.view_is) (least-fits g.M.Machine.meaning g.met.M.Machine.lawful _ _ c.self.invariant.sound)

@@ -6,7 +6,7 @@ use Rattle.jdwp_debuggee.proofs.debuggee.Debuggee.new.Goals as goal
 
 pub invariant_of-result : goal.invariant_of-result
 invariant_of-result g c =
-    let live : c.in_ok-threads.threads ≡ running (g.M.Machine.meaning.live c.args.machine) = search rules in
+    let live : c.in_ok-threads.threads.list ≡ running (g.M.Machine.meaning.live c.args.machine) = search rules in
     let roomy : AreRoomy c.args.settings.limits = record {
       packet = rw (c.packet.ensures.value, c.limits.ensures) at c.packet.ensures.within.0;
       requests = rw (c.requests.ensures.value, c.limits-2.ensures) at c.requests.ensures.within;
