@@ -1,6 +1,0 @@
-use Rattle.jdwp_link.specs.Headline.{CountIsAtMost}
-use Rattle.jdwp_link.proofs.Theorems.{always, count_is_at_most}
-use Rattle.jdwp_link.proofs.headline.counts_at_most.Goals as goal
-
-pub returns : goal.returns
-returns g c = always g.M.Machine.meaning g.met.M.Machine.lawful CountIsAtMost (count_is_at_most g.M.Machine.meaning)

@@ -1,5 +1,0 @@
-use Rattle.std.proofs.Common.{refl}
-use Rattle.jdwp_link.proofs.worked.held_events_stop_threads.Goals as goal
-
-pub returns : goal.returns
-returns c = record { freezes = (refl, refl); steps_on = refl; reports = refl; all_suspended = (refl, refl) }

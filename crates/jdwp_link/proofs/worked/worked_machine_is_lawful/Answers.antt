@@ -1,5 +1,0 @@
-use Rattle.jdwp_link.proofs.WorkedMachine.{small_lawful, small_begins}
-use Rattle.jdwp_link.proofs.worked.worked_machine_is_lawful.Goals as goal
-
-pub returns : goal.returns
-returns c = record { lawful = small_lawful; begins = small_begins }

@@ -1,0 +1,29 @@
+-- what an end handles stands in front of what was sent to it, and the end is open
+use Rattle.std.proofs.Common.{◌≡◌, ℕ, false, ◌&&◌, not, Option, Some, None, List, [], ◌∷◌, refl}
+use Rattle.std.specs.Prelude.{nat_lt}
+use Rattle.std.proofs.lemmas.Bool.{cond_both}
+use Rattle.jdwp_debuggee.specs.Settings.{Settings}
+use Rattle.jdwp_mirror.specs.Messages.{Call}
+use Rattle.jdwp_model.specs.World.{Measure, is_closed, Packet, World, way_to_target, way_to_debugger}
+use Rattle.jdwp_model.specs.Next.{whole_call, whole_packet, target_front, debugger_front}
+use Rattle.jdwp_model.proofs.Session.{not-true, and-left}
+
+by-call : (measure : Measure) (at : ℕ) (calls : List Call) (Q : Option (Call × List Call) → Type 0) → Q None → ((call : Call) (rest : List Call) → calls ≡ call ∷ rest → Q (Some (call, rest))) → Q (whole_call measure at calls)
+by-call measure at [] Q none some = none
+by-call measure at (call ∷ rest) Q none some = cond_both (nat_lt at (measure.call call)) None (Some (call, rest)) Q (λ _. none) (λ _. some call rest refl)
+
+-- a target handles nothing, or the call in front
+pub by_target_front : {S : Type 0} (settings : Settings) (measure : Measure) (w : World S) (Q : Option (Call × List Call) → Type 0) → Q None → ((call : Call) (rest : List Call) → is_closed w.target ≡ false → w.to_target ≡ call ∷ rest → Q (Some (call, rest))) → Q (target_front settings measure w)
+by_target_front settings measure w Q none some =
+    cond_both (not (is_closed w.target) && nat_lt (way_to_debugger measure w) settings.limits.packet) (whole_call measure w.at_target w.to_target) None Q
+    (λ h. by-call measure w.at_target w.to_target Q none (λ call rest e. some call rest (not-true _ (and-left _ _ h)) e)) (λ _. none)
+
+by-packet : {S : Type 0} (measure : Measure) (at : ℕ) (packets : List (Packet S)) (Q : Option (Packet S × List (Packet S)) → Type 0) → Q None → ((p : Packet S) (rest : List (Packet S)) → packets ≡ p ∷ rest → Q (Some (p, rest))) → Q (whole_packet measure at packets)
+by-packet measure at [] Q none some = none
+by-packet measure at (p ∷ rest) Q none some = cond_both (nat_lt at (measure.message p.0)) None (Some (p, rest)) Q (λ _. none) (λ _. some p rest refl)
+
+-- a debugger handles nothing, or the packet in front
+pub by_debugger_front : {S : Type 0} (settings : Settings) (measure : Measure) (w : World S) (Q : Option (Packet S × List (Packet S)) → Type 0) → Q None → ((p : Packet S) (rest : List (Packet S)) → is_closed w.debugger ≡ false → w.to_debugger ≡ p ∷ rest → Q (Some (p, rest))) → Q (debugger_front settings measure w)
+by_debugger_front settings measure w Q none some =
+    cond_both (not (is_closed w.debugger) && nat_lt (way_to_target measure w) settings.limits.packet) (whole_packet measure w.at_debugger w.to_debugger) None Q
+    (λ h. by-packet measure w.at_debugger w.to_debugger Q none (λ p rest e. some p rest (not-true _ (and-left _ _ h)) e)) (λ _. none)

@@ -1,0 +1,185 @@
+-- before a debugger knows the widths of ids, IDSizes is all that it asked, and VM_START and VM_DEATH all that is told
+use Rattle.std.proofs.Common.{◌≡◌, ℕ, ◌+◌, ◌≤◌, Bool, true, false, cond, Option, Some, None, List, [], ◌∷◌, ◌++◌, length, refl, sym, ◌∙◌, ap, subst, arith, is_none}
+use Rattle.jdwp_layout.specs.declared.answer.Answer.{Answer}
+use Rattle.jdwp_layout.specs.declared.answer.Answer.TheVariants.{Data, Error}
+use Rattle.jdwp_end.specs.declared.phase.Phase.{Phase}
+use Rattle.jdwp_end.specs.declared.phase.Phase.TheVariants.{Closed, AwaitingHandshake, Established}
+use Rattle.jdwp_end.specs.Ends.{is_established_phase}
+use Rattle.jdwp_event.specs.Requests.{all_asked}
+use Rattle.jdwp_event.specs.Composites.{CompositeMeaning, vm_death}
+use Rattle.jdwp_machine.specs.Meanings.{Meaning}
+use Rattle.jdwp_machine.specs.Laws.{IsLawful}
+use Rattle.jdwp_debuggee.specs.Settings.{Settings}
+use Rattle.jdwp_debuggee.specs.State.{Moment}
+use Rattle.jdwp_debuggee.specs.Actions.{Command, action_of}
+use Rattle.jdwp_debuggee.specs.Effects.{Effect, effect}
+use Rattle.jdwp_debuggee.specs.Steps.{occurs, start_event}
+use Rattle.jdwp_debuggee.specs.Facts.{Told, requests_moved}
+use Rattle.jdwp_debuggee.proofs.AllFacts.{facts}
+use Rattle.jdwp_mirror.specs.Messages.{Ticket, Call, Asks, Handshake, Reply, Report, id_sizes}
+use Rattle.jdwp_model.specs.World.{is_closed, Packet, World}
+use Rattle.jdwp_model.specs.Next.{started, greets_by, after_death, answers, dies_by, told, step_ends}
+use Rattle.jdwp_model.specs.Seen.{composites_in}
+use Rattle.jdwp_model.proofs.Session.{composites_append, replies, commands}
+use Rattle.jdwp_model.proofs.Keeps.{Inv, asked-nil, closed-not-open, or-parts}
+use Rattle.jdwp_model.proofs.Cases.{Kept}
+
+-- how many composites may have been told, by what the target is then
+abbrev pub room : Phase → ℕ
+room AwaitingHandshake = 0
+room Established = 1
+room Closed = 2
+
+-- what a debugger asked that doesn't know the widths of ids
+abbrev pub own : Phase → List (Ticket × Command)
+own Established = (None, id_sizes) ∷ []
+own AwaitingHandshake = []
+own Closed = []
+
+pub record Unready {S : Type 0} (target debugger : Phase) (parked td : List (Packet S)) (pending : List (Ticket × Command)) (now : Moment S) : Type 0 where
+  pub no_requests : now.state.requests ≡ []
+  pub few : length parked + composites_in td ≤ room target
+  pub alone : pending ≡ own debugger
+
+abbrev pub UnreadyOf : {S : Type 0} → World S → Type 0
+UnreadyOf w = is_closed w.debugger ≡ false → w.ready ≡ false → Unready w.target w.debugger w.parked w.to_debugger w.pending w.now
+
+-- ---- small facts
+
+pub room-most : (p : Phase) → room p ≤ 2
+room-most AwaitingHandshake = omega arith
+room-most Established = omega arith
+room-most Closed = omega arith
+
+room-open : (b : Bool) → 1 ≤ room (cond b Closed Established)
+room-open true = omega arith
+room-open false = omega arith
+
+own-none : (p : Phase) → is_established_phase p ≡ false → own p ≡ []
+own-none Closed h = refl
+own-none AwaitingHandshake h = refl
+own-none Established h = absurd (cc)
+
+-- what was asked alone was IDSizes
+not-nil : (xs : List (Ticket × Command)) (y : Ticket × Command) (ys : List (Ticket × Command)) → xs ++ y ∷ ys ≡ [] → ⊥
+not-nil [] y ys h = cc
+not-nil (x ∷ xs) y ys h = cc
+
+only-command : (p : Phase) (xs : List (Ticket × Command)) (k : Ticket) (c : Command) (ys : List (Ticket × Command)) → xs ++ (k, c) ∷ ys ≡ own p → c ≡ id_sizes
+only-command AwaitingHandshake xs k c ys h = absurd (not-nil xs (k, c) ys h)
+only-command Closed xs k c ys h = absurd (not-nil xs (k, c) ys h)
+only-command Established [] k c ys h = let y : (k, c) ≡ (None, id_sizes) = cc in ap (λ (p : Ticket × Command). p.1) y
+only-command Established (x ∷ xs) k c ys h = let y : xs ++ (k, c) ∷ ys ≡ [] = cc in absurd (not-nil xs (k, c) ys y)
+
+no-ticket : (j : ℕ) → Some j ≡ None → ⊥
+no-ticket j h = cc
+
+only-reply : (p : Phase) (k : Ticket) (c : Command) (ys : List (Ticket × Command)) → (k, c) ∷ ys ≡ own p → is_none k ≡ true
+only-reply AwaitingHandshake k c ys h = absurd (cc)
+only-reply Closed k c ys h = absurd (cc)
+only-reply Established None c ys h = refl
+only-reply Established (Some j) c ys h = let y : (Some j, c) ≡ (None, id_sizes) = cc in absurd (no-ticket j (ap (λ (p : Ticket × Command). p.0) y))
+
+no-more : (c : Command) (x : Answer) (n : ℕ) → c ≡ id_sizes → requests_moved (action_of c) x n [] ≡ []
+no-more c (Data content) n e = ap (λ d. requests_moved (action_of d) (Data content) n []) e
+no-more c (Error err) n e = refl
+
+length-more : {S : Type 0} (ps : List (Packet S)) (p : Packet S) → length (ps ++ p ∷ []) ≡ length ps + 1
+length-more [] p = refl
+length-more (q ∷ qs) p = let e : length (qs ++ p ∷ []) ≡ length qs + 1 = length-more qs p in omega arith
+
+-- ---- changes
+
+unready-greet : {S : Type 0} (settings : Settings) (w : World S) (n : ℕ) (rest : List Call) (b : Bool) → w.target ≡ AwaitingHandshake → UnreadyOf w → UnreadyOf (greets_by settings (record w { to_target = rest; at_target = n }) b)
+unready-greet settings w n rest true t p =
+    λ o r.
+    let u = p o r in
+    let before : length w.parked + composites_in w.to_debugger ≤ 0 = subst (λ p. length w.parked + composites_in w.to_debugger ≤ room p) t u.few in
+    let sum : composites_in (w.to_debugger ++ (Handshake, w.now) ∷ []) ≡ composites_in w.to_debugger + 0 = composites_append w.to_debugger ((Handshake, w.now) ∷ []) in
+    record { no_requests = u.no_requests; few = omega arith; alone = u.alone }
+unready-greet settings w n rest false t p =
+    λ o r.
+    let u = p o r in
+    let before : length w.parked + composites_in w.to_debugger ≤ 0 = subst (λ p. length w.parked + composites_in w.to_debugger ≤ room p) t u.few in
+    let sum : composites_in (w.to_debugger ++ (Handshake, w.now) ∷ (Report (start_event settings w.now.state), started settings w.now) ∷ []) ≡ composites_in w.to_debugger + 1 =
+    composites_append w.to_debugger ((Handshake, w.now) ∷ (Report (start_event settings w.now.state), started settings w.now) ∷ []) in
+    record { no_requests = u.no_requests; few = omega arith; alone = u.alone }
+
+unready-command : {S : Type 0} (w : World S) (n : ℕ) (rest : List Call) (k : Ticket) (c : Command) (e : Effect S) (dies : Bool) → w.target ≡ Established → (is_closed w.debugger ≡ false → w.ready ≡ false → e.after.state.requests ≡ []) → UnreadyOf w → UnreadyOf (dies_by (answers (record w { to_target = rest; at_target = n }) k c e) dies)
+unready-command w n rest k c e false t none p =
+    λ o r.
+    let u = p o r in
+    let before : length w.parked + composites_in w.to_debugger ≤ 1 = subst (λ p. length w.parked + composites_in w.to_debugger ≤ room p) t u.few in
+    let sum : composites_in (w.to_debugger ++ (Reply k c e.answer, e.after) ∷ []) ≡ composites_in w.to_debugger + 0 = composites_append w.to_debugger ((Reply k c e.answer, e.after) ∷ []) in
+    let space : 1 ≤ room (cond e.closes Closed w.target) = subst (λ p. 1 ≤ room (cond e.closes Closed p)) (sym t) (room-open e.closes) in
+    record { no_requests = none o r; few = omega arith; alone = u.alone }
+unready-command w n rest k c e true t none p =
+    λ o r.
+    let u = p o r in
+    let before : length w.parked + composites_in w.to_debugger ≤ 1 = subst (λ p. length w.parked + composites_in w.to_debugger ≤ room p) t u.few in
+    let one : composites_in (w.to_debugger ++ (Reply k c e.answer, e.after) ∷ []) ≡ composites_in w.to_debugger + 0 = composites_append w.to_debugger ((Reply k c e.answer, e.after) ∷ []) in
+    let sum : composites_in ((w.to_debugger ++ (Reply k c e.answer, e.after) ∷ []) ++ (Report vm_death, after_death e.after) ∷ []) ≡ composites_in (w.to_debugger ++ (Reply k c e.answer, e.after) ∷ []) + 1 =
+    composites_append (w.to_debugger ++ (Reply k c e.answer, e.after) ∷ []) ((Report vm_death, after_death e.after) ∷ []) in
+    record { no_requests = none o r; few = omega arith; alone = u.alone }
+
+command-is : {S : Type 0} (m : Meaning S) (settings : Settings) (w : World S) (rest : List Call) (k : Ticket) (c : Command) → Inv m settings w → is_closed w.debugger ≡ false → w.to_target ≡ Asks k c ∷ rest → w.pending ≡ own w.debugger → c ≡ id_sizes
+command-is m settings w rest k c i o e a =
+    only-command w.debugger (replies w.to_debugger) k c (commands rest) (sym (ap (λ l. replies w.to_debugger ++ commands l) e) ∙ (sym (i.debugger.session o).in_order ∙ a))
+
+unready-died : {S : Type 0} (w : World S) (after : Moment S) (phase : Phase) → after.state.requests ≡ [] → w.target ≡ phase → UnreadyOf w → UnreadyOf (step_ends (record w { now = after }) phase true)
+unready-died w after Established none t p =
+    λ o r.
+    let u = p o r in
+    let before : length w.parked + composites_in w.to_debugger ≤ 1 = subst (λ p. length w.parked + composites_in w.to_debugger ≤ room p) t u.few in
+    let sum : composites_in (w.to_debugger ++ (Report vm_death, after_death after) ∷ []) ≡ composites_in w.to_debugger + 1 = composites_append w.to_debugger ((Report vm_death, after_death after) ∷ []) in
+    record { no_requests = none; few = omega arith; alone = u.alone }
+unready-died w after AwaitingHandshake none t p =
+    λ o r. let u = p o r in let before : length w.parked + composites_in w.to_debugger ≤ room w.target = u.few in let most : room w.target ≤ 2 = room-most w.target in record { no_requests = none; few = omega arith; alone = u.alone }
+unready-died w after Closed none t p =
+    λ o r. let u = p o r in let before : length w.parked + composites_in w.to_debugger ≤ room w.target = u.few in let most : room w.target ≤ 2 = room-most w.target in record { no_requests = none; few = omega arith; alone = u.alone }
+
+-- a step tells nothing where nothing was asked for
+unready-stepped : {S : Type 0} (m : Meaning S) (w : World S) (after : Moment S) (o : Option CompositeMeaning) (dies : Bool) → Told m w.now after dies o → (w.now.state.requests ≡ [] → o ≡ None) → UnreadyOf w → UnreadyOf (step_ends (told w after o) w.target dies)
+unready-stepped m w after None true d silent p = unready-died w after w.target d.no_requests refl p
+unready-stepped m w after None false d silent p = λ o r. let u = p o r in record { no_requests = asked-nil after.state.requests (d.same_requests ∙ ap all_asked u.no_requests); few = u.few; alone = u.alone }
+unready-stepped m w after (Some c) true d silent p = let x : true ≡ false = d.0 in absurd (cc)
+unready-stepped m w after (Some c) false d silent p = λ o r. let e = silent (p o r).no_requests in absurd (cc)
+
+pub unready_kept : {S : Type 0} (m : Meaning S) → IsLawful m → (settings : Settings) (w : World S) → Inv m settings w → UnreadyOf w → Kept m settings w UnreadyOf
+unready_kept m law settings w i p =
+    record {
+      attach = λ t d _ _. record { no_requests = (i.target.idle (closed-not-open w.target t)).0; few = omega arith; alone = (i.debugger.closed d).1 };
+      ask = λ c _ y o r. absurd (cc);
+      to_target = λ _. p;
+      to_debugger = λ _. p;
+      greet = λ n rest b t _ _. unready-greet settings w n rest b t p;
+      command = λ n rest k c t e.
+          let d = (facts m law settings).does w.now c i.target.sound in
+          unready-command w n rest k c (effect m settings w.now c) (effect m settings w.now c).dies t
+          (λ o r.
+          let u = p o r in
+          let is : c ≡ id_sizes = command-is m settings w rest k c i o e u.alone in
+          asked-nil (effect m settings w.now c).after.state.requests (d.requests ∙ (ap (λ l. requests_moved (action_of c) (effect m settings w.now c).answer w.now.state.next_request (all_asked l)) u.no_requests ∙ no-more c (effect m settings w.now c).answer w.now.state.next_request is)))
+          p;
+      lose = λ o r. let u = p o r in let before : length w.parked + composites_in w.to_debugger ≤ room w.target = u.few in let most : room w.target ≤ 2 = room-most w.target in record { no_requests = refl; few = omega arith; alone = u.alone };
+      close = λ o r. absurd (cc);
+      end = λ _ _ _ _ _ o r. absurd (cc);
+      handshake = λ _ a rest o g e _ r.
+          let u = p o r in
+          let before : length w.parked + composites_in rest ≤ room w.target = subst (λ l. length w.parked + composites_in l ≤ room w.target) e u.few in
+          record { no_requests = u.no_requests; few = before; alone = ap (λ l. l ++ (None, id_sizes) ∷ []) (u.alone ∙ own-none w.debugger g) };
+      reply = λ _ k c x a rest g e o r.
+          let both = or-parts w.ready (is_none k) r in
+          let u = p o both.0 in
+          let first : is_none k ≡ true = only-reply w.debugger k c (replies rest ++ commands w.to_target) (sym (ap (λ l. replies l ++ commands w.to_target) e) ∙ (sym (i.debugger.session o).in_order ∙ u.alone)) in
+          absurd (cc);
+      park = λ _ c a rest _ e o r.
+          let u = p o r in
+          let before : length w.parked + (1 + composites_in rest) ≤ room w.target = subst (λ l. length w.parked + composites_in l ≤ room w.target) e u.few in
+          let more : length (w.parked ++ (Report c, a) ∷ []) ≡ length w.parked + 1 = length-more w.parked (Report c, a) in
+          record { no_requests = u.no_requests; few = omega arith; alone = u.alone };
+      see = λ _ c a rest _ y e o r. absurd (cc);
+      step = λ t may.
+          let d = (facts m law settings).happens w.now t i.target.sound may in
+          unready-stepped m w (occurs m w.now t).after (occurs m w.now t).sends (occurs m w.now t).dies d.told d.silent p;
+    }

@@ -1,0 +1,58 @@
+-- What the target answered, by the ticket.
+use Rattle.std.specs.Prelude.{◌≡◌, ◌≤◌, ℕ, ◌⊎◌, List, [], ◌∷◌, ◌++◌, Option, Some, None}
+use Rattle.jdwp_layout.specs.declared.answer.Answer.{Answer}
+use Rattle.jdwp_end.specs.declared.phase.Phase.{Phase}
+use Rattle.jdwp_end.specs.declared.phase.Phase.TheVariants.{Established}
+use Rattle.jdwp_machine.specs.Meanings.{Meaning}
+use Rattle.jdwp_debuggee.specs.Settings.{Settings}
+use Rattle.jdwp_debuggee.specs.Effects.{effect}
+use Rattle.jdwp_mirror.specs.Messages.{Call, Asks}
+use Rattle.jdwp_model.specs.Events
+use Rattle.jdwp_model.specs.Events.{LinkEvent, Outcome}
+use Rattle.jdwp_model.specs.World.{Measure, World, opening}
+use Rattle.jdwp_model.specs.Tickets.{times}
+use Rattle.jdwp_model.specs.Next.{target_front, next, outcomes}
+
+-- the answer to the command that an open target handles, as it is then
+abbrev pub gives_call : {S : Type 0} → Meaning S → Settings → World S → Phase → Call → List (ℕ × Answer)
+gives_call m settings w Established (Asks (Some k) c) = (k, (effect m settings w.now c).answer) ∷ []
+gives_call m settings w phase call = []
+
+abbrev pub gives_front : {S : Type 0} → Meaning S → Settings → World S → Option (Call × List Call) → List (ℕ × Answer)
+gives_front m settings w None = []
+gives_front m settings w (Some (call, rest)) = gives_call m settings w w.target call
+
+abbrev pub gives : {S : Type 0} → Meaning S → Settings → Measure → World S → LinkEvent → List (ℕ × Answer)
+gives m settings measure w Events.TargetTurn = gives_front m settings w (target_front settings measure w)
+gives m settings measure w e = []
+
+-- all that the target answered in a run
+abbrev pub given : {S : Type 0} → Meaning S → Settings → Measure → World S → List LinkEvent → List (ℕ × Answer)
+given m settings measure w [] = []
+given m settings measure w (e ∷ es) = gives m settings measure w e ++ given m settings measure (next m settings measure w e).0 es
+
+-- the answers that the debugger told
+abbrev pub told_answers : List Outcome → List (ℕ × Answer)
+told_answers [] = []
+told_answers (Events.Answered k answer ∷ os) = (k, answer) ∷ told_answers os
+told_answers (o ∷ os) = told_answers os
+
+abbrev pub IsIn : List (ℕ × Answer) → ℕ × Answer → Type 0
+IsIn [] p = ⊥
+IsIn (q ∷ qs) p = (q ≡ p) ⊎ IsIn qs p
+
+-- Each answer that the debugger tells of a ticket is the one that the target gave when it handled the command of that ticket.
+abbrev pub TellsWhatWasGiven : {S : Type 0} → Meaning S → Type 0
+TellsWhatWasGiven {S} m =
+    (settings : Settings) (measure : Measure) (s : S) (events : List LinkEvent) (p : ℕ × Answer) →
+    IsIn (told_answers (outcomes m settings measure (opening m s) events)) p → IsIn (given m settings measure (opening m s) events) p
+
+-- the tickets of answers
+abbrev pub answer_tickets : List (ℕ × Answer) → List ℕ
+answer_tickets [] = []
+answer_tickets (p ∷ ps) = p.0 ∷ answer_tickets ps
+
+-- No ticket is given two answers.
+abbrev pub GivesOnce : {S : Type 0} → Meaning S → Type 0
+GivesOnce {S} m =
+    (settings : Settings) (measure : Measure) (s : S) (events : List LinkEvent) (k : ℕ) → times k (answer_tickets (given m settings measure (opening m s) events)) ≤ 1

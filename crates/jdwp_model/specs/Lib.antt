@@ -1,0 +1,12 @@
+pub mod Events
+pub mod World
+pub mod Next
+pub mod Seen
+pub mod Headline
+pub mod Tickets
+pub mod Given
+pub mod Faultless
+pub mod Places
+pub mod Lasting
+pub mod WorkedMachine
+pub mod Worked
