@@ -1,4 +1,6 @@
 pub mod EnqueueLemmas
+pub mod Sendable
+pub mod Conversing
 pub mod TargetRuns
 pub mod RightTargets
 pub mod StepLemmas

@@ -11,27 +11,27 @@ use Rattle.jdwp_target.specs.Insides.{IsRight, target_of}
 use Rattle.jdwp_target.specs.Targets.{Ran}
 use Rattle.jdwp_target.proofs.TargetRuns.{ran-new, ran-opened, ran-lost, ran-taken}
 
-pub right-new : {S : Type 0} (m : Meaning S) (d : Debuggee S) → IsRight m d (d ∷ []) (Closed ∷ []) (ends.new_end d.settings.limits)
+pub right-new : {S : Type 0} (m : Meaning S) (d : Debuggee S) → IsRight m d (d ∷ []) (Closed ∷ []) 0 (ends.new_end d.settings.limits)
 right-new m d = record { some = (d, [], refl); handshaken = λ e. absurd cc; limits = refl; ran = ran-new m d.settings d.moment }
 
-pub right-opened : {S : Type 0} (m : Meaning S) (d : Debuggee S) (began : List (Debuggee S)) (phases : List Phase) (end : End) → IsRight m d began phases end
-    → IsRight m d (d ∷ []) (AwaitingHandshake ∷ []) (ends.opened end)
-right-opened m d began phases end k = record { some = (d, [], refl); handshaken = λ e. absurd cc; limits = k.limits; ran = ran-opened m (target_of d began phases end) }
+pub right-opened : {S : Type 0} (m : Meaning S) (d : Debuggee S) (began : List (Debuggee S)) (phases : List Phase) (steps : ℕ) (end : End) → IsRight m d began phases steps end
+    → IsRight m d (d ∷ []) (AwaitingHandshake ∷ []) 0 (ends.opened end)
+right-opened m d began phases steps end k = record { some = (d, [], refl); handshaken = λ e. absurd cc; limits = k.limits; ran = ran-opened m (target_of d began phases steps end) }
 
-pub right-lost : {S : Type 0} (m : Meaning S) (d : Debuggee S) (began : List (Debuggee S)) (phases : List Phase) (end : End) → IsRight m d began phases end
-    → IsRight m (with_state (reset d.moment.state) d) began phases (ends.lost end)
-right-lost {S = S} m d began phases end k =
+pub right-lost : {S : Type 0} (m : Meaning S) (d : Debuggee S) (began : List (Debuggee S)) (phases : List Phase) (steps : ℕ) (end : End) → IsRight m d began phases steps end
+    → IsRight m (with_state (reset d.moment.state) d) began phases steps (ends.lost end)
+right-lost {S = S} m d began phases steps end k =
     let first = k.some.0 in
     let rest = k.some.1 in
     let split : began ≡ first ∷ rest = k.some.2 in
-    let ran : Ran m (target_of d (first ∷ rest) phases end) = subst (λ (b : List (Debuggee S)). Ran m (target_of d b phases end)) split k.ran in
+    let ran : Ran m (target_of d (first ∷ rest) phases steps end) = subst (λ (b : List (Debuggee S)). Ran m (target_of d b phases steps end)) split k.ran in
     record {
       some = k.some;
       handshaken = λ e. absurd cc;
       limits = k.limits;
-      ran = subst (λ (b : List (Debuggee S)). Ran m (target_of (with_state (reset d.moment.state) d) b phases (ends.lost end))) (sym split) (ran-lost m (target_of d (first ∷ rest) phases end) ran);
+      ran = subst (λ (b : List (Debuggee S)). Ran m (target_of (with_state (reset d.moment.state) d) b phases steps (ends.lost end))) (sym split) (ran-lost m (target_of d (first ∷ rest) phases steps end) ran);
     }
 
-pub right-taken : {S : Type 0} (m : Meaning S) (d : Debuggee S) (began : List (Debuggee S)) (phases : List Phase) (end : End) (n : ℕ) → n ≤ length end.outgoing → IsRight m d began phases end
-    → IsRight m d began phases (ends.with_taken (take n end.outgoing) end)
-right-taken m d began phases end n le k = record { some = k.some; handshaken = k.handshaken; limits = k.limits; ran = ran-taken m (target_of d began phases end) n le k.ran }
+pub right-taken : {S : Type 0} (m : Meaning S) (d : Debuggee S) (began : List (Debuggee S)) (phases : List Phase) (steps : ℕ) (end : End) (n : ℕ) → n ≤ length end.outgoing → IsRight m d began phases steps end
+    → IsRight m d began phases steps (ends.with_taken (take n end.outgoing) end)
+right-taken m d began phases steps end n le k = record { some = k.some; handshaken = k.handshaken; limits = k.limits; ran = ran-taken m (target_of d began phases steps end) n le k.ran }

@@ -4,9 +4,11 @@ use Rattle.std.proofs.lemmas.List.{append-nil, length-append}
 use Rattle.byteorder.specs.Endian.{big_bytes}
 use Rattle.byteorder.specs.Numbers.{length-bytes_high_first}
 use Rattle.jdwp_wire.specs.Basic.{int_canonical}
-use Rattle.jdwp_wire.specs.Frames.{header_bytes}
+use Rattle.jdwp_wire.specs.Frames.{front, header_bytes}
+use Rattle.jdwp_wire.specs.Frames as frames
 use Rattle.jdwp_wire.specs.Bytes.{IsBytes}
-use Rattle.jdwp_wire.specs.Streams.{Message, Handshake, Packet, NextMessage, Whole, message_bytes, stream}
+use Rattle.jdwp_wire.specs.Limits.{Limits, least_packet_limit}
+use Rattle.jdwp_wire.specs.Streams.{Message, Handshake, Packet, NextMessage, Whole, AreSendable, message_bytes, stream}
 use Rattle.jdwp_wire.specs.Widths.{Widths}
 use Rattle.jdwp_wire.specs.declared.data_fault.DataFault.{DataFault}
 use Rattle.jdwp_wire.specs.declared.error_code.ErrorCode.{ErrorCode}
@@ -15,7 +17,7 @@ use Rattle.jdwp_wire.specs.declared.packet.PacketKind.{PacketKind}
 use Rattle.jdwp_wire.specs.declared.packet.PacketKind.TheVariants as kind
 use Rattle.jdwp_end.specs.declared.phase.Phase.{Phase}
 use Rattle.jdwp_end.specs.declared.phase.Phase.TheVariants.{Closed, AwaitingHandshake, Established}
-use Rattle.jdwp_end.specs.Ends.{End, front_of, most_outgoing, with_enqueued}
+use Rattle.jdwp_end.specs.Ends.{End, HasPacket, front_of, most_outgoing, with_enqueued}
 use Rattle.jdwp_end.specs.Ends as ends
 use Rattle.jdwp_end.proofs.Fronts.{IsDue, in-front}
 use Rattle.jdwp_layout.specs.Meanings.{DatumMeaning}
@@ -33,7 +35,7 @@ use Rattle.jdwp_debuggee.specs.Debuggees.{Debuggee, at_moment}
 use Rattle.jdwp_debuggee.specs.Effects.{Effect, carried, carried_by, does, effect_by, raises_counts, suspend_by, set_by, suspend_thread_by, suspend_thread_at, resume_thread_by, slots_by, slots_at}
 use Rattle.jdwp_debuggee.specs.Facts.{is_dispose, is_exit}
 use Rattle.jdwp_debuggee.specs.Refusals.{set_refusal}
-use Rattle.jdwp_debuggee.specs.Sending.{Did, IsSent, answer_bytes, error_of}
+use Rattle.jdwp_debuggee.specs.Sending.{Did, IsSent, answer_bytes, error_of, sent_bytes}
 use Rattle.jdwp_debuggee.specs.Settings.{Settings}
 use Rattle.jdwp_debuggee.specs.State.{Moment, at_limit, count_of}
 use Rattle.jdwp_debuggee.specs.declared.command as code
@@ -46,13 +48,22 @@ use Rattle.jdwp_target.specs.declared.target.Turn.TheVariants as turn
 use Rattle.jdwp_target.specs.declared.turning.Done.{Done}
 use Rattle.jdwp_target.specs.Insides.{IsRight, target_of}
 use Rattle.jdwp_target.specs.Sends.{reply_to, report_of}
-use Rattle.jdwp_target.specs.Standings.{carried_out, greets_by, phase_after, replies_by}
+use Rattle.jdwp_target.specs.Standings.{carried_out, greets_by, handles, phase_after, replies_by}
 use Rattle.jdwp_target.specs.Targets.{Ran, Target, in_phase, with_handled}
 use Rattle.jdwp_target.specs.StepParts.{debuggee_after, end_after}
 use Rattle.jdwp_target.specs.TurnParts.{IsDone, IsHandled, after_deaths, closed_where, deaths, reply_of}
-use Rattle.jdwp_target.specs.Turns.{NeedsMemory, TurnsAt, told_of, told_of_packet}
+use Rattle.jdwp_target.specs.Turns.{NeedsMemory, SendsAt, TurnsAt, told_of, told_of_packet}
 use Rattle.jdwp_target.proofs.EnqueueLemmas.{two_enqueued}
 use Rattle.jdwp_target.proofs.TargetRuns.{ran-handled}
+
+-- what was read of the bytes that are lent is the packet in front
+pub packet-there : (end : End) (limits : Limits) (bytes : List ℕ) (used : ℕ) (header : Header) (body : List ℕ) → HasPacket used end → limits ≡ end.limits
+    → ((h : Header) (b : List ℕ) → front_of end ≡ Whole (Packet h b) used → front end.limits.packet bytes ≡ frames.Whole h b used)
+    → ((h : Header) (b : List ℕ) (n : ℕ) → front limits.packet bytes ≡ frames.Whole h b n → (header ≡ h) × (body ≡ b)) → front_of end ≡ Whole (Packet header body) used
+packet-there end limits bytes used header body there same lent read =
+    let found : front limits.packet bytes ≡ frames.Whole there.0 there.1 used = ap (λ (l : Limits). front l.packet bytes) same ∙ lent there.0 there.1 there.2 in
+    let is = read there.0 there.1 used found in
+    rw (is.0, is.1) there.2
 
 -- a packet comes in an established session
 packet-phase : (limit : ℕ) (phase : Phase) (header : Header) (body : List ℕ) → IsDue limit phase (Packet header body) → phase ≡ Established
@@ -279,13 +290,28 @@ sent-is w id {S = S} e d mid done end h =
     ∙ (ap (λ (x : Debuggee S). closed_where (e.dies || e.closes) (with_enqueued (stream (reply_to w id e.answer ∷ deaths w x.moment.state.next_packet done.dies)) end)) h.after
     ∙ ap (λ (b : Bool). closed_where (e.dies || e.closes) (with_enqueued (stream (reply_to w id e.answer ∷ deaths w e.after.state.next_packet b)) end)) h.dies))
 
+-- what is sent for it
+died-sends : {S : Type 0} (w : Widths) (id : ℕ) (e : Effect S) (b : Bool) → reply_to w id e.answer ∷ deaths w e.after.state.next_packet b ≡ (replies_by w id e b).sends
+died-sends w id e true = refl
+died-sends w id e false = refl
+
+sends-are : {S : Type 0} (limit : ℕ) (w : Widths) (id : ℕ) (e : Effect S) (d mid : Debuggee S) (done : Done) → IsDone w e d mid done
+    → AreSendable limit (reply_of w id done.sent ∷ deaths w mid.moment.state.next_packet done.dies) → AreSendable limit (replies_by w id e e.dies).sends
+sends-are {S = S} limit w id e d mid done h fits =
+    subst (λ (x : List Message). AreSendable limit x)
+    (ap (λ (x : Message). x ∷ deaths w mid.moment.state.next_packet done.dies) (reply-is w id done.sent e h.sends)
+    ∙ (ap (λ (x : Debuggee S). reply_to w id e.answer ∷ deaths w x.moment.state.next_packet done.dies) h.after
+    ∙ (ap (λ (b : Bool). reply_to w id e.answer ∷ deaths w e.after.state.next_packet b) h.dies ∙ died-sends w id e e.dies)))
+    fits
+
 -- a command was handled
 command-handled : {S : Type 0} (m : Meaning S) (d mid new : Debuggee S) (header : Header) (body : List ℕ) (used set number : ℕ) (end after : End) (done : Done) → header.kind ≡ kind.Command set number
     → IsDone (m.sizes d.moment.machine) (carried_out m d.settings d.moment (command_read (m.sizes d.moment.machine) set number body)) d mid done → d.moment.state.handshaken ≡ true
     → new ≡ after_deaths done.dies mid
     → after ≡ closed_where done.closes (with_enqueued (stream (reply_of (m.sizes d.moment.machine) header.id done.sent ∷ deaths (m.sizes d.moment.machine) mid.moment.state.next_packet done.dies)) (ends.with_handled (Packet header body) used end))
+    → AreSendable end.limits.packet (reply_of (m.sizes d.moment.machine) header.id done.sent ∷ deaths (m.sizes d.moment.machine) mid.moment.state.next_packet done.dies)
     → IsHandled m (Packet header body) used d new end after
-command-handled {S = S} m d mid new header body used set number end after done is h shaken new-is after-is =
+command-handled {S = S} m d mid new header body used set number end after done is h shaken new-is after-is fits =
     let w = m.sizes d.moment.machine in
     let e = carried_out m d.settings d.moment (command_read w set number body) in
     let debuggee : new ≡ debuggee_after (replies_by w header.id e e.dies) d = new-is ∙ (rw (h.dies, h.after) refl ∙ died w header.id e e.dies d) in
@@ -299,6 +325,7 @@ command-handled {S = S} m d mid new header body used set number end after done i
       debuggee = debuggee;
       left = left ∙ (sent-is w header.id e d mid done (ends.with_handled message used end) h ∙ closed-by w header.id e e.dies message used end);
       handshaken = ap (λ (x : Debuggee S). x.moment.state.handshaken) debuggee ∙ (shaken-by w header.id e e.dies ∙ (h.handshaken ∙ shaken));
+      sends = sends-are end.limits.packet w header.id e d mid done h fits;
     })
 
 -- the same, where the widths and the end without the message have names of their own
@@ -306,12 +333,20 @@ pub command-replied : {S : Type 0} (m : Meaning S) (d mid new : Debuggee S) (hea
     → IsDone (m.sizes d.moment.machine) (carried_out m d.settings d.moment (command_read (m.sizes d.moment.machine) set number body)) d mid done → d.moment.state.handshaken ≡ true
     → new ≡ after_deaths done.dies mid → w ≡ m.sizes d.moment.machine → off ≡ ends.with_handled (Packet header body) used end
     → after ≡ closed_where done.closes (with_enqueued (stream (reply_of w header.id done.sent ∷ deaths w mid.moment.state.next_packet done.dies)) off)
+    → end.limits ≡ d.settings.limits → least_packet_limit ≤ end.limits.packet
+    → ((limit : ℕ) → least_packet_limit ≤ limit → 11 + length (sent_bytes w done.sent) ≤ limit → AreSendable limit (reply_of w header.id done.sent ∷ deaths w mid.moment.state.next_packet done.dies))
     → IsHandled m (Packet header body) used d new end after
-command-replied m d mid new header body used set number end off after done w is h shaken new-is w-is off-is after-is =
+command-replied m d mid new header body used set number end off after done w is h shaken new-is w-is off-is after-is limits least fits =
+    let enough : least_packet_limit ≤ d.settings.limits.packet = subst (λ (l : Limits). least_packet_limit ≤ l.packet) limits least in
+    let within : 11 + length (sent_bytes w done.sent) ≤ d.settings.limits.packet =
+    subst (λ (x : Widths). 11 + length (sent_bytes x done.sent) ≤ d.settings.limits.packet) (sym w-is) (h.fits enough) in
+    let sends : AreSendable end.limits.packet (reply_of w header.id done.sent ∷ deaths w mid.moment.state.next_packet done.dies) =
+    subst (λ (l : Limits). AreSendable l.packet (reply_of w header.id done.sent ∷ deaths w mid.moment.state.next_packet done.dies)) (sym limits) (fits d.settings.limits.packet enough within) in
     command-handled m d mid new header body used set number end after done is h shaken new-is
     (after-is
     ∙ (ap (λ (x : Widths). closed_where done.closes (with_enqueued (stream (reply_of x header.id done.sent ∷ deaths x mid.moment.state.next_packet done.dies)) off)) w-is
     ∙ ap (λ (x : End). closed_where done.closes (with_enqueued (stream (reply_of (m.sizes d.moment.machine) header.id done.sent ∷ deaths (m.sizes d.moment.machine) mid.moment.state.next_packet done.dies)) x)) off-is))
+    (subst (λ (x : Widths). AreSendable end.limits.packet (reply_of x header.id done.sent ∷ deaths x mid.moment.state.next_packet done.dies)) w-is sends)
 
 -- nothing was put
 nothing-put : (message : Message) (used : ℕ) (end : End) → ends.with_handled message used end ≡ in_phase Established (with_enqueued [] (ends.with_handled message used end))
@@ -324,7 +359,7 @@ reply-handled m d header body used error end after is shaken after-is =
     let message = Packet (record { length = header.length; id = header.id; kind = kind.Reply error }) body in
     let left : after ≡ ends.with_handled message used end =
     subst (λ (x : PacketKind). after ≡ ends.with_handled (Packet (record { length = header.length; id = header.id; kind = x }) body) used end) is after-is in
-    handled-kind m header body (kind.Reply error) used d d end after is (record { debuggee = refl; left = left ∙ nothing-put message used end; handshaken = shaken })
+    handled-kind m header body (kind.Reply error) used d d end after is (record { debuggee = refl; left = left ∙ nothing-put message used end; handshaken = shaken; sends = tt })
 
 -- the handshake was answered
 greeted-end : {S : Type 0} (m : Meaning S) (settings : Settings) (now : Moment S) (b : Bool) (end : End)
@@ -338,36 +373,38 @@ greeted-shaken m settings now false e = refl
 
 pub greeted : {S : Type 0} (m : Meaning S) (d new : Debuggee S) (end mid after : End) → mid ≡ ends.with_handled Handshake 14 end
     → new ≡ debuggee_after (greets_by m d.settings d.moment d.moment.state.handshaken) d
-    → after ≡ with_enqueued (stream (greets_by m d.settings d.moment d.moment.state.handshaken).sends) mid → IsHandled m Handshake 14 d new end after
-greeted {S = S} m d new end mid after mid-is new-is after-is =
+    → after ≡ with_enqueued (stream (greets_by m d.settings d.moment d.moment.state.handshaken).sends) mid
+    → end.limits ≡ d.settings.limits → AreSendable d.settings.limits.packet (greets_by m d.settings d.moment d.moment.state.handshaken).sends → IsHandled m Handshake 14 d new end after
+greeted {S = S} m d new end mid after mid-is new-is after-is limits fits =
     let b = d.moment.state.handshaken in
     record {
       debuggee = new-is;
       left = after-is ∙ (ap (λ (x : End). with_enqueued (stream (greets_by m d.settings d.moment b).sends) x) mid-is ∙ greeted-end m d.settings d.moment b end);
       handshaken = ap (λ (x : Debuggee S). x.moment.state.handshaken) new-is ∙ greeted-shaken m d.settings d.moment b refl;
+      sends = subst (λ (l : Limits). AreSendable l.packet (greets_by m d.settings d.moment b).sends) (sym limits) fits;
     }
 
 -- ---- the target behind a message
 
 -- a packet comes after the first handshake
-pub packet-handshaken : {S : Type 0} (m : Meaning S) (d : Debuggee S) (began : List (Debuggee S)) (phases : List Phase) (end : End) (header : Header) (body : List ℕ) (used : ℕ)
-    → IsRight m d began phases end → IsBytes end.incoming → front_of end ≡ Whole (Packet header body) used → d.moment.state.handshaken ≡ true
-packet-handshaken m d began phases end header body used right fits front =
+pub packet-handshaken : {S : Type 0} (m : Meaning S) (d : Debuggee S) (began : List (Debuggee S)) (phases : List Phase) (steps : ℕ) (end : End) (header : Header) (body : List ℕ) (used : ℕ)
+    → IsRight m d began phases steps end → IsBytes end.incoming → front_of end ≡ Whole (Packet header body) used → d.moment.state.handshaken ≡ true
+packet-handshaken m d began phases steps end header body used right fits front =
     right.handshaken (packet-phase end.limits.packet end.phase header body (in-front end (Packet header body) used fits front).1)
 
-pub handled-view : {S : Type 0} (m : Meaning S) (d new : Debuggee S) (began : List (Debuggee S)) (phases : List Phase) (end after : End) (message : Message) (used : ℕ)
-    → IsRight m d began phases end → IsHandled m message used d new end after → target_of new began phases after ≡ with_handled m message used (target_of d began phases end)
-handled-view m d new began phases end after message used right h =
+pub handled-view : {S : Type 0} (m : Meaning S) (d new : Debuggee S) (began : List (Debuggee S)) (phases : List Phase) (steps : ℕ) (end after : End) (message : Message) (used : ℕ)
+    → IsRight m d began phases steps end → IsHandled m message used d new end after → target_of new began phases steps after ≡ with_handled m message used (target_of d began phases steps end)
+handled-view m d new began phases steps end after message used right h =
     let split = right.some.2 in
     rw (h.debuggee, h.left, split) refl
 
-pub right-handled : {S : Type 0} (m : Meaning S) (d new : Debuggee S) (began : List (Debuggee S)) (phases : List Phase) (end after : End) (message : Message) (used : ℕ)
-    → IsRight m d began phases end → IsBytes end.incoming → front_of end ≡ Whole message used → IsHandled m message used d new end after → IsRight m new began phases after
-right-handled m d new began phases end after message used right fits front h = record {
+pub right-handled : {S : Type 0} (m : Meaning S) (d new : Debuggee S) (began : List (Debuggee S)) (phases : List Phase) (steps : ℕ) (end after : End) (message : Message) (used : ℕ)
+    → IsRight m d began phases steps end → IsBytes end.incoming → front_of end ≡ Whole message used → IsHandled m message used d new end after → IsRight m new began phases steps after
+right-handled m d new began phases steps end after message used right fits front h = record {
   some = right.some;
   handshaken = λ _. h.handshaken;
   limits = rw (h.debuggee, h.left) right.limits;
-  ran = subst (Ran m) (sym (handled-view m d new began phases end after message used right h)) (ran-handled m (target_of d began phases end) message used fits front right.ran);
+  ran = subst (Ran m) (sym (handled-view m d new began phases steps end after message used right h)) (ran-handled m (target_of d began phases steps end) message used fits front h.sends right.ran);
 }
 
 pub turns-whole : {S : Type 0} (m : Meaning S) (old new : Target S) (message : Message) (used : ℕ) (told : Turn) → front_of old.end ≡ Whole message used
@@ -377,6 +414,10 @@ turns-whole m old new message used told front tells same = subst (λ (x : NextMe
 pub turns-wanting : {S : Type 0} (m : Meaning S) (old new : Target S) (message : Message) (used : ℕ) → front_of old.end ≡ Whole message used
     → NeedsMemory message → new ≡ old → TurnsAt m (front_of old.end) old (Err fault.NoMemory) new
 turns-wanting m old new message used front needs same = subst (λ (x : NextMessage). TurnsAt m x old (Err fault.NoMemory) new) (sym front) (refl, needs, same)
+
+pub sends-whole : {S : Type 0} (m : Meaning S) (old : Target S) (message : Message) (used : ℕ) → front_of old.end ≡ Whole message used
+    → AreSendable old.end.limits.packet (handles m old.settings old.moment message).sends → SendsAt m (front_of old.end) old
+sends-whole m old message used front fits = subst (λ (x : NextMessage). SendsAt m x old) (sym front) fits
 
 -- what is told of a command
 pub told-command : {S : Type 0} (m : Meaning S) (settings : Settings) (now : Moment S) (header : Header) (body : List ℕ) (set number : ℕ) (error : ErrorCode) → header.kind ≡ kind.Command set number

@@ -3,6 +3,7 @@ use Rattle.std.proofs.Common.{◌≡◌, ◌∙◌, ◌≤◌, ◌<◌, ◌+◌,
 use Rattle.std.specs.Prelude.{IfSome}
 use Rattle.std.proofs.lemmas.Bool.{leb-false}
 use Rattle.jdwp_wire.specs.Widths.{Widths}
+use Rattle.jdwp_wire.specs.Streams.{AreSendable}
 use Rattle.jdwp_wire.specs.Limits.{least_packet_limit, most_packet_limit}
 use Rattle.jdwp_end.specs.declared.phase.Phase.{Phase}
 use Rattle.jdwp_end.specs.declared.phase.Phase.TheVariants.{Closed, AwaitingHandshake, Established}
@@ -21,7 +22,8 @@ use Rattle.jdwp_debuggee.specs.declared.steps.StepDone.{StepDone}
 use Rattle.jdwp_target.specs.Insides.{IsRight, target_of}
 use Rattle.jdwp_target.specs.Standings.{Reaction, Steps, react, stands, steps_apart, steps_at, steps_by, steps_in_session}
 use Rattle.jdwp_target.specs.StepParts.{CanBeReported, CanLeave, debuggee_after, end_after, step_of}
-use Rattle.jdwp_target.specs.Targets.{Ran}
+use Rattle.jdwp_target.specs.Targets.{Ran, Target, standing}
+use Rattle.jdwp_target.specs.Turns.{SendsWhere, is_frozen}
 use Rattle.jdwp_target.proofs.TargetRuns.{ran-stepped}
 
 -- ---- what a step of the debuggee leaves
@@ -115,20 +117,21 @@ by-handshaken m t now phase true had e =
     rw (at-handshaken w id o phase, occurs-handshaken m now t) (had (at-phase w id o phase e))
 
 -- a target is as it should be after a step
-pub right-stepped : {S : Type 0} (m : Meaning S) (t : ℕ) (d : Debuggee S) (began : List (Debuggee S)) (phases : List Phase) (end : End) → IsRight m d began phases end
-    → IsRight m (debuggee_after (stepped_by m t d end) d) began phases (end_after (stepped_by m t d end) end)
-right-stepped {S = S} m t d began phases end k =
+pub right-stepped : {S : Type 0} (m : Meaning S) (t : ℕ) (d : Debuggee S) (began : List (Debuggee S)) (phases : List Phase) (steps : ℕ) (end : End) → may_step m d.settings d.moment t ≡ true
+    → AreSendable end.limits.packet (stepped_by m t d end).sends → IsRight m d began phases steps end
+    → IsRight m (debuggee_after (stepped_by m t d end) d) began phases (steps + 1) (end_after (stepped_by m t d end) end)
+right-stepped {S = S} m t d began phases steps end may sends k =
     let first = k.some.0 in
     let rest = k.some.1 in
     let split : began ≡ first ∷ rest = k.some.2 in
     let new = debuggee_after (stepped_by m t d end) d in
     let newer = end_after (stepped_by m t d end) end in
-    let ran : Ran m (target_of d (first ∷ rest) phases end) = subst (λ (b : List (Debuggee S)). Ran m (target_of d b phases end)) split k.ran in
+    let ran : Ran m (target_of d (first ∷ rest) phases steps end) = subst (λ (b : List (Debuggee S)). Ran m (target_of d b phases steps end)) split k.ran in
     record {
       some = k.some;
       handshaken = λ e. by-handshaken m t d.moment end.phase (may_step m d.settings d.moment t) k.handshaken e;
       limits = k.limits;
-      ran = subst (λ (b : List (Debuggee S)). Ran m (target_of new b phases newer)) (sym split) (ran-stepped m (target_of d (first ∷ rest) phases end) t ran);
+      ran = subst (λ (b : List (Debuggee S)). Ran m (target_of new b phases (steps + 1) newer)) (sym split) (ran-stepped m (target_of d (first ∷ rest) phases steps end) t may sends ran);
     }
 
 -- ---- what the code does
@@ -157,6 +160,19 @@ stepped-end m t d e end new w id done s sizes packet is =
     let o : step_of e done ≡ occurs m d.moment t = same-step d e (occurs m d.moment t) done s.after s.sends s.ends s.dies in
     rw (is, o, sizes, packet, acts m t d end s.may) refl
 
+pub stepped-sends : {S : Type 0} (m : Meaning S) (t : ℕ) (d e : Debuggee S) (end : End) (w : Widths) (id limit : ℕ) (done : StepDone)
+    → debuggee.Steps m t d e done → w ≡ m.sizes d.moment.machine → id ≡ d.moment.state.next_packet
+    → AreSendable limit (steps_at w id (step_of e done) end.phase).sends → AreSendable limit (stepped_by m t d end).sends
+stepped-sends m t d e end w id limit done s sizes packet sends =
+    let o : step_of e done ≡ occurs m d.moment t = same-step d e (occurs m d.moment t) done s.after s.sends s.ends s.dies in
+    rw (acts m t d end s.may) (rw (o, sizes, packet) at sends)
+
+pub sends-where : {S : Type 0} (m : Meaning S) (t : ℕ) (v : Target S) → is_paused v.end ≡ false → may_step m v.settings v.moment t ≡ true
+    → AreSendable v.end.limits.packet (react m v.settings (standing v) (Steps t)).sends → SendsWhere m t v (is_frozen m t v)
+sends-where m t v flows may sends =
+    let going : is_frozen m t v ≡ false = rw (flows, may) refl in
+    rw going sends
+
 -- ---- what can be told
 
 not-paused : (limit n : ℕ) → nat_le limit n ≡ false → n < limit
@@ -167,7 +183,7 @@ leaves w end c flows most fits =
     let waits : length end.outgoing < end.limits.packet = not-paused end.limits.packet (length end.outgoing) flows in
     let same : length (composite_canonical w c) ≡ length (data_canonical w (composite_data c)) = ap length fits.same_bytes in
     let within : 11 + length (composite_canonical w c) ≤ end.limits.packet = rw same fits.within in
-    record { writable = fits.unrefused; small = omega arith; room = omega arith }
+    record { writable = fits.unrefused; small = omega arith; room = omega arith; within = fits.within }
 
 -- what fits a packet can be reported where the end is not paused
 pub reports-leave : (w : Widths) (end : End) (sends : Option CompositeMeaning) → is_paused end ≡ false → end.limits.packet ≤ most_packet_limit

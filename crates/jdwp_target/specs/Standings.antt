@@ -1,6 +1,6 @@
 -- What a target over any machine does in a session, one act after the other (JDWP specification, "JDWP Handshake", "JDWP Packets", and
 -- "Protocol Details": VirtualMachine.Dispose, VirtualMachine.Exit and Event.Composite).
-use Rattle.std.specs.Prelude.{ℕ, Bool, true, false, List, [], ◌∷◌, ◌++◌, Option, Some, None, Result, Ok, Err}
+use Rattle.std.specs.Prelude.{◌≡◌, ℕ, ◌+◌, Bool, true, false, List, [], ◌∷◌, ◌++◌, Option, Some, None, Result, Ok, Err}
 use Rattle.jdwp_wire.specs.Streams.{Message, Handshake, Packet}
 use Rattle.jdwp_wire.specs.Widths.{Widths}
 use Rattle.jdwp_wire.specs.declared.error_code.ErrorCode.{ErrorCode}
@@ -8,6 +8,7 @@ use Rattle.jdwp_wire.specs.declared.packet.PacketKind.{PacketKind}
 use Rattle.jdwp_wire.specs.declared.packet.PacketKind.TheVariants as kind
 use Rattle.jdwp_end.specs.declared.phase.Phase.{Phase}
 use Rattle.jdwp_end.specs.declared.phase.Phase.TheVariants.{Closed, AwaitingHandshake, Established}
+use Rattle.jdwp_end.specs.Ends.{is_open_phase}
 use Rattle.jdwp_event.specs.Composites.{CompositeMeaning, vm_death}
 use Rattle.jdwp_machine.specs.Meanings.{Meaning}
 use Rattle.jdwp_debuggee.specs.Actions.{Command}
@@ -124,6 +125,13 @@ handled (Handles message ∷ acts) = message ∷ handled acts
 handled (Steps t ∷ acts) = handled acts
 handled (Loses ∷ acts) = handled acts
 
+-- how many steps these acts made
+abbrev pub steps_made : List Act → ℕ
+steps_made [] = 0
+steps_made (Handles message ∷ acts) = steps_made acts
+steps_made (Steps t ∷ acts) = steps_made acts + 1
+steps_made (Loses ∷ acts) = steps_made acts
+
 -- how the target stands after these acts
 abbrev pub after : {S : Type 0} → Meaning S → Settings → Standing S → List Act → Standing S
 after m settings now [] = now
@@ -133,3 +141,23 @@ after m settings now (act ∷ acts) = after m settings (react m settings now act
 abbrev pub sent : {S : Type 0} → Meaning S → Settings → Standing S → List Act → List Message
 sent m settings now [] = []
 sent m settings now (act ∷ acts) = (react m settings now act).sends ++ sent m settings (react m settings now act).after acts
+
+-- ---- in which order
+
+-- Where an act may come, by how the target stands: a message is handled in an open session alone, and a thread is stepped that may make a
+-- step. The connection may be lost at any time; that closes the session, so nothing is handled behind it.
+abbrev pub MayCome : {S : Type 0} → Meaning S → Settings → Standing S → Act → Type 0
+MayCome m settings now (Handles message) = is_open_phase now.phase ≡ true
+MayCome m settings now (Steps t) = may_step m settings now.moment t ≡ true
+MayCome m settings now Loses = Unit {0}
+
+abbrev pub InOrder : {S : Type 0} → Meaning S → Settings → Standing S → List Act → Type 0
+InOrder m settings now [] = Unit {0}
+InOrder m settings now (act ∷ acts) = MayCome m settings now act × InOrder m settings (react m settings now act).after acts
+
+-- whether the connection is lost in these acts
+abbrev pub has_loss : List Act → Bool
+has_loss [] = false
+has_loss (Handles message ∷ acts) = has_loss acts
+has_loss (Steps t ∷ acts) = has_loss acts
+has_loss (Loses ∷ acts) = true

@@ -1,7 +1,10 @@
 -- Parts of a turn, as the code makes them one after the other.
 use Rattle.std.specs.Prelude.{◌≡◌, ◌≤◌, ℕ, ◌+◌, Bool, true, false, ◌||◌, List, [], ◌∷◌, length}
-use Rattle.jdwp_wire.specs.Streams.{Message}
+use Rattle.jdwp_wire.specs.Streams.{Message, AreSendable}
+use Rattle.jdwp_wire.specs.Frames.{front}
+use Rattle.jdwp_wire.specs.Frames as frames
 use Rattle.jdwp_wire.specs.Widths.{Widths}
+use Rattle.jdwp_wire.specs.declared.packet.Header.{Header}
 use Rattle.jdwp_wire.specs.declared.packet.PacketKind.TheVariants as kind
 use Rattle.jdwp_wire.specs.Limits.{least_packet_limit}
 use Rattle.jdwp_end.specs.Ends.{End, closed}
@@ -17,6 +20,10 @@ use Rattle.jdwp_target.specs.Sends.{packet_with, report_of}
 use Rattle.jdwp_target.specs.Standings.{handles}
 use Rattle.jdwp_target.specs.StepParts.{debuggee_after, end_after}
 use Rattle.jdwp_target.specs.declared.turning.Done.{Done}
+
+-- a packet stands in front of these bytes
+abbrev pub HoldsPacket : ℕ → List ℕ → Type 0
+HoldsPacket limit bytes = (header : Header) × (body : List ℕ) × (used : ℕ) × (front limit bytes ≡ frames.Whole header body used)
 
 -- what is sent for a command, as the reply to the command of this id
 abbrev pub reply_of : Widths → ℕ → Sent → Message
@@ -46,8 +53,10 @@ pub record IsDone {S : Type 0} (w : Widths) (e : Effect S) (old new : Debuggee S
   pub closes : done.closes ≡ (e.dies || e.closes)
   pub handshaken : e.after.state.handshaken ≡ old.moment.state.handshaken
 
--- A message of so many bytes was handled: the debuggee, and the end behind it.
+-- A message of so many bytes was handled: the debuggee, and the end behind it; and what is sent are the handshake and packets within the
+-- limit.
 pub record IsHandled {S : Type 0} (m : Meaning S) (message : Message) (used : ℕ) (old new : Debuggee S) (end after : End) : Type 0 where
   pub debuggee : new ≡ debuggee_after (handles m old.settings old.moment message) old
   pub left : after ≡ end_after (handles m old.settings old.moment message) (ends.with_handled message used end)
   pub handshaken : new.moment.state.handshaken ≡ true
+  pub sends : AreSendable end.limits.packet (handles m old.settings old.moment message).sends

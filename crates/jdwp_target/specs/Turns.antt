@@ -1,6 +1,6 @@
 -- What turns and steps of a target over any machine answer, and what they leave.
 use Rattle.std.specs.Prelude.{◌≡◌, ℕ, ⊤, Bool, true, false, ◌||◌, not, List, Option, Some, None, Result, Ok, Err, MatchResult}
-use Rattle.jdwp_wire.specs.Streams.{Message, Handshake, Packet, NextMessage, Whole, More, Fault}
+use Rattle.jdwp_wire.specs.Streams.{Message, Handshake, Packet, NextMessage, Whole, More, Fault, AreSendable}
 use Rattle.jdwp_wire.specs.declared.packet.PacketKind.{PacketKind}
 use Rattle.jdwp_wire.specs.declared.packet.PacketKind.TheVariants as kind
 use Rattle.jdwp_end.specs.Ends.{is_paused}
@@ -19,8 +19,8 @@ use Rattle.jdwp_target.specs.declared.target.TargetFault.TheVariants.{Frame, NoM
 use Rattle.jdwp_target.specs.declared.target.Turn.{Turn}
 use Rattle.jdwp_target.specs.declared.target.Turn.TheVariants.{Nothing, Hello, Replied, Ignored}
 use Rattle.jdwp_target.specs.Sends.{EncodesSent, IsEncoded}
-use Rattle.jdwp_target.specs.Standings.{carried_out}
-use Rattle.jdwp_target.specs.Targets.{Target, lost, with_handled, with_step}
+use Rattle.jdwp_target.specs.Standings.{Handles, Steps, carried_out, react}
+use Rattle.jdwp_target.specs.Targets.{Target, lost, standing, with_handled, with_step}
 
 -- ---- turns
 
@@ -70,6 +70,12 @@ EncodesNext m (Whole message used) old = EncodesFor m old.settings old.moment me
 EncodesNext m More old = ⊤
 EncodesNext m (Fault fault) old = ⊤
 
+-- What a turn sends are the handshake and packets within the limit.
+abbrev pub SendsAt : {S : Type 0} → Meaning S → NextMessage → Target S → Type 0
+SendsAt m (Whole message used) old = AreSendable old.end.limits.packet (react m old.settings (standing old) (Handles message)).sends
+SendsAt m More old = ⊤
+SendsAt m (Fault fault) old = ⊤
+
 -- ---- steps
 
 -- as much as a packet may have waits to leave, or the thread may not step
@@ -97,8 +103,13 @@ abbrev pub EncodesWhere : {S : Type 0} → Meaning S → ℕ → Target S → Bo
 EncodesWhere m t old true = ⊤
 EncodesWhere m t old false = EncodesSent (m.sizes old.moment.machine) old.end.phase (occurs m old.moment t).sends
 
+-- What a step sends are packets within the limit.
+abbrev pub SendsWhere : {S : Type 0} → Meaning S → ℕ → Target S → Bool → Type 0
+SendsWhere m t old true = ⊤
+SendsWhere m t old false = AreSendable old.end.limits.packet (react m old.settings (standing old) (Steps t)).sends
+
 abbrev pub StepsAt : {S : Type 0} → Meaning S → ℕ → Target S → Result Stepped TargetFault → Target S → Type 0
 StepsAt m t old result new =
     MatchResult result
     (λ stepped. StepsWhere m t old stepped new (is_frozen m t old))
-    (λ fault. (fault ≡ NoMemory) × (is_ready old.settings old.moment.state t ≡ true) × (new ≡ old))
+    (λ fault. (fault ≡ NoMemory) × (is_paused old.end ≡ false) × (is_ready old.settings old.moment.state t ≡ true) × (new ≡ old))

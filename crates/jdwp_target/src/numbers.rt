@@ -1,10 +1,10 @@
 //! Numbers as they are enqueued to leave.
-ghost use Rattle.std.specs.Prelude.{◌≡◌, ◌≤◌, ◌+◌, length, pos};
+ghost use Rattle.std.specs.Prelude.{◌≡◌, ◌≤◌, ◌<◌, ◌+◌, ◌^◌, length, pos};
 ghost use Rattle.jdwp_end.specs.Ends.{most_outgoing, with_enqueued};
 ghost use Rattle.jdwp_wire.specs.Basic.{int_canonical};
 
 use jdwp_end::End;
-use jdwp_wire::IdSizes;
+use jdwp_wire::{ErrorCode, IdSizes};
 
 /// Enqueues a number as an int.
 pub fn enqueue_int(number: u32, sizes: &IdSizes, end: &mut End)
@@ -12,4 +12,19 @@ pub fn enqueue_int(number: u32, sizes: &IdSizes, end: &mut End)
     ensures { end.new ≡ with_enqueued (int_canonical (pos number)) end.old }
 {
     end.put(&number.cast_signed(), sizes);
+}
+
+/// The id of a packet fits its four bytes. It does nothing.
+pub fn fits_id(_id: u32)
+    ensures { _id < 2 ^ 32 }
+{
+    // Only contracts see it.
+}
+
+/// An error code fits its two bytes.
+pub fn fits_code(error: ErrorCode) -> u16
+    ensures code { result ≡ error.0 }
+    ensures fits { error.0 < 2 ^ 16 }
+{
+    error.0
 }

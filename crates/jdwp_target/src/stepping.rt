@@ -1,14 +1,16 @@
 //! Steps of a target over any machine.
 ghost use Rattle.std.specs.Prelude.{◌≡◌, IfOk};
+ghost use Rattle.jdwp_wire.specs.Streams.{AreSendable};
 ghost use Rattle.jdwp_end.specs.declared.phase.Phase.TheVariants.{Established};
 ghost use Rattle.jdwp_target.specs.Sends.{EncodesSent, IsEncoded};
 ghost use Rattle.jdwp_target.specs.Standings.{steps_at, steps_in_session};
 ghost use Rattle.jdwp_target.specs.StepParts.{CanTell, debuggee_after, end_after, step_of, told_of_done};
-ghost use Rattle.jdwp_target.specs.Turns.{EncodesWhere, StepsAt, is_frozen};
+ghost use Rattle.jdwp_target.specs.Turns.{EncodesWhere, SendsWhere, StepsAt, is_frozen};
 
+use crate::numbers::fits_id;
 use crate::sending::{enqueue_death, enqueue_report};
 use crate::target::{Stepped, Target, TargetFault};
-use jdwp_debuggee::{Debuggee, StepDone};
+use jdwp_debuggee::{Debuggee, StepDone, fits_vm_death};
 use jdwp_end::End;
 use jdwp_machine::Machine;
 use jdwp_value::ObjectId;
@@ -17,7 +19,8 @@ use jdwp_wire::IdSizes;
 impl<M: Machine + Drop> Target<M> {
     /// One step of a thread, if the end is not paused and the thread may make one. In a session whose handshake is done, what
     /// happened is reported, and where the last thread ended VM_DEATH; in any other nothing is sent. Where the last thread ended
-    /// the session closes. What is reported is encoded by the bytes that are sent, so it can be read.
+    /// the session closes. What is reported is encoded by the bytes that are sent, so it can be read, and each packet that is sent is
+    /// within the limit.
     ///
     /// # Errors
     /// `NoMemory` where an allocation was refused; only where nothing but a thread too many could forbid the step, and then nothing
@@ -25,6 +28,7 @@ impl<M: Machine + Drop> Target<M> {
     pub fn step(&mut self, thread: ObjectId) -> Result<Stepped, TargetFault>
         ensures steps { StepsAt M.meaning thread.0 self.old result self.new }
         ensures encoded { IfOk result (λ stepped. EncodesWhere M.meaning thread.0 self.old (is_frozen M.meaning thread.0 self.old)) }
+        ensures packets { IfOk result (λ stepped. SendsWhere M.meaning thread.0 self.old (is_frozen M.meaning thread.0 self.old)) }
     {
         if self.end.is_paused() {
             return Ok(Stepped::Frozen);
@@ -36,9 +40,27 @@ impl<M: Machine + Drop> Target<M> {
             Ok(None) => return Ok(Stepped::Frozen),
             Ok(Some(done)) => done,
         };
+        fits_step(packet, &done, &sizes, &self.debuggee, &self.end);
         tell(packet, &done, &sizes, &mut self.debuggee, &mut self.end);
+        self.steps.push(&());
         Ok(told_of(&done))
     }
+}
+
+/// What a step reports, and VM_DEATH behind it, are packets within the limit. It changes nothing.
+fn fits_step<M: Machine>(
+    packet: u32,
+    done: &StepDone,
+    sizes: &IdSizes,
+    debuggee: &Debuggee<M>,
+    _end: &End,
+)
+    requires { CanTell sizes.now _end.now done.now }
+    ensures { AreSendable _end.now.limits.packet (steps_at sizes.now packet (step_of debuggee.now done.now) _end.now.phase).sends }
+{
+    fits_vm_death();
+    fits_id(packet);
+    fits_id(debuggee.next_packet());
 }
 
 /// Puts what a step reports, if the session is established; where the machine died the session closes.

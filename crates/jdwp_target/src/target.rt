@@ -1,10 +1,10 @@
 //! The debuggee's end of a session.
-ghost use Rattle.std.specs.Prelude.{◌≡◌, ◌≤◌, ◌<◌, ◌++◌, ◌↔◌, [], true, false, IfOk, IfSome, IsTrue, length, take, drop, min};
+ghost use Rattle.std.specs.Prelude.{◌≡◌, ◌≤◌, ◌<◌, ◌++◌, ◌↔◌, ℕ, [], true, false, IfOk, IfSome, IsTrue, is_some, length, take, drop, min};
 ghost use Rattle.jdwp_wire.specs.Bytes.{IsBytes};
 ghost use Rattle.jdwp_wire.specs.Streams.{More};
 ghost use Rattle.jdwp_end.specs.Ends as ends;
 ghost use Rattle.jdwp_end.specs.Ends.{front_of, most_outgoing, room_of};
-ghost use Rattle.jdwp_machine.specs.Meanings.{numbers};
+ghost use Rattle.jdwp_machine.specs.Meanings.{has, numbers};
 ghost use Rattle.jdwp_debuggee.specs.State as spec;
 ghost use Rattle.jdwp_target.specs.Targets.{Ran, lost, new_target, opened, with_fed, with_taken};
 
@@ -75,18 +75,21 @@ pub struct Target<M: Machine> {
     pub(crate) began: Trace<Debuggee<M>>,
     /// The phase in which the session began, for contracts alone.
     pub(crate) phases: Trace<Phase>,
+    /// The steps that were made in the session, for contracts alone.
+    pub(crate) steps: Trace<()>,
     pub(crate) end: End,
 }
 
 impl<M: Machine> Model for Target<M> {
+    ghost use Rattle.std.specs.Prelude.{length};
     ghost use Rattle.jdwp_target.specs.Targets as targets;
     ghost use Rattle.jdwp_target.specs.Insides.{target_of, IsRight};
 
     ghost Value = { targets.Target M };
 
-    ghost view = { λ t. target_of t.debuggee t.began.items t.phases.items t.end };
+    ghost view = { λ t. target_of t.debuggee t.began.items t.phases.items (length t.steps.items) t.end };
 
-    ghost invariant = { λ t. IsRight M.meaning t.debuggee t.began.items t.phases.items t.end };
+    ghost invariant = { λ t. IsRight M.meaning t.debuggee t.began.items t.phases.items (length t.steps.items) t.end };
 }
 
 impl<M: Machine + Drop> Target<M> {
@@ -103,11 +106,13 @@ impl<M: Machine + Drop> Target<M> {
         began.push(&debuggee);
         let mut phases = Trace::new();
         phases.push(&Phase::Closed);
+        let steps = Trace::new();
         Ok(Target {
             alloc,
             debuggee,
             began,
             phases,
+            steps,
             end,
         })
     }
@@ -127,9 +132,10 @@ impl<M: Machine + Drop> Target<M> {
         self.debuggee.count(thread)
     }
 
-    /// The threads that live, in the machine's order.
+    /// The threads that live, in the machine's order: exactly those that have a count.
     pub fn live(&self) -> &[ObjectId]
-        ensures { numbers result.now ≡ M.meaning.live self.now.moment.machine }
+        ensures live { numbers result.now ≡ M.meaning.live self.now.moment.machine }
+        ensures counted { (t : ℕ) → has (numbers result.now) t ≡ is_some (spec.count_of self.now.moment.state t) }
     {
         self.debuggee.live()
     }
@@ -156,6 +162,7 @@ impl<M: Machine + Drop> Target<M> {
         self.began.push(&self.debuggee);
         self.phases = Trace::new();
         self.phases.push(&Phase::AwaitingHandshake);
+        self.steps = Trace::new();
         true
     }
 

@@ -1,27 +1,33 @@
 //! Messages as a target over any machine handles them.
-ghost use Rattle.std.specs.Prelude.{◌≡◌, ◌≤◌, ◌+◌, ◌∷◌, None, true, false, length, IfOk, IfErr, OnErr};
+ghost use Rattle.std.specs.Prelude.{◌≡◌, ◌≤◌, ◌+◌, ◌∷◌, ℕ, List, None, true, false, length, IfOk, IfErr, OnErr};
 ghost use Rattle.jdwp_end.specs.Ends.{front_of, most_outgoing, with_enqueued};
 ghost use Rattle.jdwp_event.specs.Composites.{vm_start};
 ghost use Rattle.jdwp_event.specs.Constants.{policy_byte};
+ghost use Rattle.jdwp_wire.specs.Frames as frames;
+ghost use Rattle.jdwp_wire.specs.Frames.{front};
 ghost use Rattle.jdwp_wire.specs.Numbers.{id_refusal};
-ghost use Rattle.jdwp_wire.specs.Streams.{message_bytes, stream};
-ghost use Rattle.jdwp_wire.specs.Limits.{most_packet_limit};
+ghost use Rattle.jdwp_wire.specs.Streams.{AreSendable, message_bytes, stream};
+ghost use Rattle.jdwp_wire.specs.declared.packet.Header.{Header};
+ghost use Rattle.jdwp_wire.specs.Limits.{least_packet_limit, most_packet_limit};
 ghost use Rattle.jdwp_debuggee.specs.CommandReads.{command_read, is_short};
 ghost use Rattle.jdwp_debuggee.specs.Sending.{EncodesAnswer, sent_bytes, sent_error};
 ghost use Rattle.jdwp_target.specs.Sends.{report_of};
 ghost use Rattle.jdwp_target.specs.Standings.{carried_out, greets_by};
 ghost use Rattle.jdwp_target.specs.StepParts.{debuggee_after};
-ghost use Rattle.jdwp_target.specs.TurnParts.{IsDone, after_deaths, closed_where, deaths, reply_of};
-ghost use Rattle.jdwp_target.specs.Turns.{EncodesNext, EncodesStart, TurnsAt};
+ghost use Rattle.jdwp_target.specs.TurnParts.{HoldsPacket, IsDone, after_deaths, closed_where, deaths, reply_of};
+ghost use Rattle.jdwp_target.specs.Turns.{EncodesNext, EncodesStart, SendsAt, TurnsAt};
 
-use crate::numbers::enqueue_int;
+use crate::numbers::{enqueue_int, fits_code, fits_id};
 use crate::sending::{enqueue_composite_header, enqueue_death, enqueue_reply};
 use crate::target::{Target, TargetFault, Turn};
-use jdwp_debuggee::{Asked, Debuggee, Reply, Sent, Start, read_command};
+use jdwp_debuggee::{Asked, Debuggee, Reply, Sent, Start, fits_vm_death, read_command};
 use jdwp_end::{End, Front};
 use jdwp_event::EventKind;
 use jdwp_machine::Machine;
-use jdwp_wire::{ErrorCode, HANDSHAKE, IdSizes, NoMemory, PacketKind};
+use jdwp_wire::{
+    ErrorCode, HANDSHAKE, IdSizes, Limits, Next, NoMemory, PacketKind, PacketRef,
+    next_packet_within,
+};
 use std::alloc::Global;
 
 /// What became of a command: what is sent for it, whether the machine died by it, and whether the session closes behind it.
@@ -35,7 +41,7 @@ pub struct Done {
 impl<M: Machine + Drop> Target<M> {
     /// Handles the message in front, if one is whole and the end is neither closed nor paused. An open end that is not paused and
     /// asks for more has room for a byte. VM_START and what a command is answered are encoded by the bytes that are sent, so they can
-    /// be read.
+    /// be read; and each packet that is sent is within the limit.
     ///
     /// # Errors
     /// `Frame` exactly where the bytes in front begin no message; the end is then as after `lose`. `NoMemory` where an allocation
@@ -45,6 +51,7 @@ impl<M: Machine + Drop> Target<M> {
     pub fn turn(&mut self) -> Result<Turn, TargetFault>
         ensures turns { TurnsAt M.meaning (front_of self.old.end) self.old result self.new }
         ensures encoded { IfOk result (λ _. EncodesNext M.meaning (front_of self.old.end) self.old) }
+        ensures packets { IfOk result (λ _. SendsAt M.meaning (front_of self.old.end) self.old) }
     {
         match self.end.front() {
             Front::More => Ok(Turn::Nothing),
@@ -57,7 +64,9 @@ impl<M: Machine + Drop> Target<M> {
                 greet(&mut self.debuggee, &mut self.end);
                 Ok(Turn::Hello)
             }
-            Front::Packet(packet, used) => {
+            Front::Packet(used) => {
+                let limits = self.end.limits();
+                let packet = read_packet(self.end.packet_in_front(used), &limits);
                 let id = packet.header.id;
                 let PacketKind::Command { set, number } = packet.header.kind else {
                     self.end.take_off(used);
@@ -65,11 +74,24 @@ impl<M: Machine + Drop> Target<M> {
                 };
                 let sizes = self.debuggee.sizes();
                 let done = handle(&mut self.debuggee, self.alloc, set, number, packet.body)?;
+                fits_reply(id, &done, &sizes, &self.debuggee);
                 self.end.take_off(used);
                 reply(id, &done, &sizes, &mut self.debuggee, &mut self.end);
                 Ok(Turn::Replied(id, error_of(&done.sent)))
             }
         }
+    }
+}
+
+/// The packet in front of these bytes, where it lies.
+fn read_packet<'a>(bytes: &'a [u8], limits: &Limits) -> PacketRef<'a>
+    requires { HoldsPacket limits.now.packet bytes.now }
+    ensures { (header : Header) (body : List ℕ) (used : ℕ) → front limits.now.packet bytes.now ≡ frames.Whole header body used → (result.header ≡ header) × (result.body.now ≡ body) }
+{
+    match next_packet_within(bytes, limits) {
+        Next::Whole(packet, _) => packet,
+        Next::More => unreachable!(),
+        Next::Fault(_) => unreachable!(),
     }
 }
 
@@ -79,10 +101,12 @@ fn greet<M: Machine>(debuggee: &mut Debuggee<M>, end: &mut End)
     ensures debuggee { debuggee.new ≡ debuggee_after (greets_by M.meaning debuggee.old.settings debuggee.old.moment debuggee.old.moment.state.handshaken) debuggee.old }
     ensures end { end.new ≡ with_enqueued (stream (greets_by M.meaning debuggee.old.settings debuggee.old.moment debuggee.old.moment.state.handshaken).sends) end.old }
     ensures encoded { EncodesStart M.meaning debuggee.old.settings debuggee.old.moment debuggee.old.moment.state.handshaken }
+    ensures packets { AreSendable debuggee.old.settings.limits.packet (greets_by M.meaning debuggee.old.settings debuggee.old.moment debuggee.old.moment.state.handshaken).sends }
 {
     end.enqueue(&HANDSHAKE);
     let sizes = debuggee.sizes();
     if let Some(start) = debuggee.handshake() {
+        fits_id(start.packet);
         enqueue_start(start, &sizes, end);
     }
 }
@@ -132,6 +156,16 @@ fn handle<M: Machine>(
             Ok(Done { sent, dies, closes })
         }
     }
+}
+
+/// What is sent for a command, and VM_DEATH behind it, are packets within the limit, where its data are. It changes nothing.
+fn fits_reply<M: Machine>(id: u32, done: &Done, sizes: &IdSizes, debuggee: &Debuggee<M>)
+    ensures { (limit : ℕ) → least_packet_limit ≤ limit → 11 + length (sent_bytes sizes.now done.now.sent) ≤ limit → AreSendable limit (reply_of sizes.now id done.now.sent ∷ deaths sizes.now debuggee.now.moment.state.next_packet done.now.dies) }
+{
+    fits_vm_death();
+    fits_id(id);
+    fits_id(debuggee.next_packet());
+    fits_code(error_of(&done.sent));
 }
 
 /// Enqueues what is sent for a command, and VM_DEATH behind it where the machine died; the session closes where it is to. It takes

@@ -463,8 +463,9 @@ fn flushing_until(alloc: Global, call: u32) -> Writer {
     writer
 }
 
+/// The flush before the first read.
 #[test]
-fn a_failed_flush_is_a_failed_read(rt: HostRuntime) -> Result<(), Fail> {
+fn a_failed_flush_is_a_failed_write(rt: HostRuntime) -> Result<(), Fail> {
     is_served(
         &rt,
         rt.alloc(),
@@ -472,7 +473,7 @@ fn a_failed_flush_is_a_failed_read(rt: HostRuntime) -> Result<(), Fail> {
         reading(&SESSION, 66, UNDISTURBED),
         flushing_until(rt.alloc(), 1),
         ROUNDS,
-        Ended::LostByRead,
+        Ended::LostByWrite,
         &[],
         &1,
     )
@@ -752,12 +753,14 @@ fn is_done_at_once(rt: &impl Abort, second: &AfterServing<'_, Writer>) {
 }
 
 /// Where nothing is to be handled each live thread steps once a round: the read, the handshake, seven steps of thread 1 beside the end
-/// of thread 2, and the end of thread 1, with which the machine dies. From then on a session is done at once.
+/// of thread 2, and the end of thread 1, with which the machine dies. From then on a session is done at once. A flush stands before each
+/// read, before the steps of each round, and at the end.
 #[test]
 fn threads_step_until_the_machine_dies(rt: HostRuntime) -> Result<(), Fail> {
     let (first, second) = served_twice(rt.alloc(), 10)?;
     ends_by_steps(&rt, &first, Ended::Done, VM_DEATH);
     expect_same(&rt, &first.lives, &0);
+    expect_same(&rt, &first.writer.flushes, &10);
     is_done_at_once(&rt, &second);
     Ok(())
 }

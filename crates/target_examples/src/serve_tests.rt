@@ -87,7 +87,7 @@ fn a_session_is_served(rt: HostRuntime) -> Result<(), Fail> {
         (&SESSION, 5, false, Ended::TurnLimit, 100),
         (&SESSION[..65], 9, false, Ended::LostByRead, 100),
         // A flush stands before each read, and one at the end.
-        (&SESSION, 6, true, Ended::LostByRead, 0),
+        (&SESSION, 6, true, Ended::LostByWrite, 0),
         (&SESSION, 0, true, Ended::LostByWrite, 0),
     ];
     for (input, rounds, flush_fails, want, written) in rows {

@@ -10,6 +10,6 @@ returns g c =
       fed = λ v bytes opened ran. ran-fed m v bytes opened ran;
       taken = λ v n le ran. ran-taken m v n le ran;
       lost = λ v ran. ran-lost m v ran;
-      handled = λ v message used fits front ran. ran-handled m v message used fits front ran;
-      stepped = λ v t ran. ran-stepped m v t ran;
+      handled = λ v message used fits front sends ran. ran-handled m v message used fits front sends ran;
+      stepped = λ v t may sends ran. ran-stepped m v t may sends ran;
     }

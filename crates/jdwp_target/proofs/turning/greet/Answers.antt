@@ -10,6 +10,7 @@ use Rattle.jdwp_debuggee.specs.Steps.{start_event}
 use Rattle.jdwp_target.specs.Sends.{IsEncoded, report_of}
 use Rattle.jdwp_target.proofs.Encoded.{policy-small, start-encoded}
 use Rattle.jdwp_target.proofs.EnqueueLemmas.{two_enqueued}
+use Rattle.jdwp_target.proofs.Sendable.{report-fits}
 use Rattle.jdwp_target.proofs.turning.greet.Goals as goal
 
 pub returns-in-Some-clause-end : goal.returns-in-Some-clause-end
@@ -41,6 +42,19 @@ returns-in-Some-clause-encoded g c =
     let start = c.in-Some.start in
     let sent : IsEncoded w (Some (vm_start (policy_byte start.policy) start.thread.0)) = start-encoded w (policy_byte start.policy) start.thread.0 (policy-small start.policy) c.in-Some.ensures.fits in
     rw off (subst (λ (e : CompositeMeaning). IsEncoded w (Some e)) c.in-Some.ensures.says sent)
+
+pub returns-in-Some-clause-packets : goal.returns-in-Some-clause-packets
+returns-in-Some-clause-packets g c =
+    let old = c.args.debuggee.now in
+    let off : old.moment.state.handshaken ≡ false = search rules in
+    let w = g.M.Machine.meaning.sizes old.moment.machine in
+    let small = rw c.in-Some.ensures.packet at c.fits_id.ensures in
+    rw off (tt, (report-fits old.settings.limits.packet w old.moment.state.next_packet (start_event old.settings old.moment.state) c.in-Some.ensures.report.within small, tt))
+
+pub returns-in_default-clause-packets : goal.returns-in_default-clause-packets
+returns-in_default-clause-packets g c =
+    let on : c.args.debuggee.now.moment.state.handshaken ≡ true = search rules in
+    rw on (tt, tt)
 
 pub returns-in_default-clause-encoded : goal.returns-in_default-clause-encoded
 returns-in_default-clause-encoded g c =
