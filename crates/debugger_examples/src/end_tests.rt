@@ -1,7 +1,7 @@
 //! An end with packets of at most 2,048 bytes.
 use crate::asserts::expect_same;
 use jdwp_end::{End, Front};
-use jdwp_wire::{FrameFault, HANDSHAKE, IdSizes, Limits};
+use jdwp_wire::{FrameFault, HANDSHAKE, IdSizes, Limits, Next, next_packet_within};
 use std::alloc::Global;
 use std::process::Abort;
 use std::test::Fail;
@@ -20,7 +20,11 @@ fn front_of(end: &End) -> Result<Option<(u32, usize)>, FrameFault> {
         Front::More => Ok(None),
         Front::Fault(fault) => Err(fault),
         Front::Handshake => Ok(Some((0, 14))),
-        Front::Packet(packet, used) => Ok(Some((packet.header.id, used))),
+        Front::Packet(used) => match next_packet_within(end.packet_in_front(used), &end.limits()) {
+            Next::Whole(packet, used) => Ok(Some((packet.header.id, used))),
+            Next::More => Ok(None),
+            Next::Fault(fault) => Err(fault),
+        },
     }
 }
 

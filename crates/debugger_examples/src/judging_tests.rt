@@ -45,6 +45,14 @@ fn what_is_asked(rt: HostRuntime) {
 }
 
 #[test]
+fn a_copied_command_asks_the_same(rt: HostRuntime) -> Result<(), Fail> {
+    let copy = of_thread(rt.alloc(), 12, 5)?.copied(rt.alloc())?;
+    expect_same(&rt, &(copy.set(), copy.number()), &(11, 12));
+    expect_same(&rt, &copy.act(), &Act::SuspendCount);
+    Ok(())
+}
+
+#[test]
 fn what_is_told(rt: HostRuntime) -> Result<(), Fail> {
     let death = event_of_none(rt.alloc(), 99)?;
     expect_same(&rt, &has_event_of(&death, EventKind::VmDeath), &true);

@@ -1,14 +1,17 @@
 -- What holds of a command that may be asked.
-use Rattle.std.proofs.Common.{◌≡◌, ℕ, ◌+◌, ◌<◌, ◌≤◌, ◌^◌, ◌||◌, nat_le, nat_lt, true, false, length, Some, None, ap, refl, arith}
+use Rattle.std.proofs.Common.{◌≡◌, ℕ, ◌+◌, ◌<◌, ◌≤◌, ◌^◌, ◌||◌, nat_le, nat_lt, Bool, true, false, length, Some, None, ap, refl, sym, ◌∙◌, arith, if◌then◌else◌}
 use Rattle.std.proofs.lemmas.Bool.{le-ltb, leb-false, or_parts}
 use Rattle.jdwp_wire.specs.Reading.{in_usize}
 use Rattle.jdwp_wire.specs.Widths.{Widths}
 use Rattle.jdwp_layout.proofs.Sizes.{some_is}
-use Rattle.jdwp_end.specs.Ends.{is_open, is_paused}
+use Rattle.jdwp_end.specs.declared.phase.Phase.{Phase}
+use Rattle.jdwp_end.specs.declared.phase.Phase.TheVariants as phase
+use Rattle.jdwp_end.specs.Ends.{is_open, is_open_phase, is_paused}
 use Rattle.jdwp_debuggee.specs.Actions.{Command}
 use Rattle.jdwp_debugger.specs.declared.asking.Body.{Body}
-use Rattle.jdwp_debugger.specs.Debuggers.{Debugger}
-use Rattle.jdwp_debugger.specs.Asking.{EncodesBody, EncodesCommand, IsAdmitted, LAST_TICKET, body_bytes, carried_bytes, is_busy, is_for_target, packet_length, refusal_of_ask}
+use Rattle.jdwp_debugger.specs.declared.asking.Refused.TheVariants.{Closed}
+use Rattle.jdwp_debugger.specs.Debuggers.{Begins, Debugger}
+use Rattle.jdwp_debugger.specs.Asking.{EncodesBody, EncodesCommand, IsAdmitted, LAST_TICKET, body_bytes, carried_bytes, is_busy, is_for_target, packet_length, refusal_by, refusal_of_ask}
 
 unrefused : (d : Debugger) (c : Command) (w : Widths) → is_open d.end ≡ true → d.sizes ≡ Some w → is_busy d ≡ false → is_for_target w c ≡ true
     → nat_lt d.end.limits.packet (packet_length w c) ≡ false → refusal_of_ask d c ≡ None
@@ -37,3 +40,20 @@ admitted d c w b n opens known busy good bytes encodes counted most small =
       room = room;
       left = leb-false LAST_TICKET d.tickets rest.1;
     }
+
+-- a command that is not refused is asked of an open end
+open-so : (b : Bool) (d : Debugger) (c : Command) → is_open d.end ≡ b → refusal_of_ask d c ≡ None → b ≡ true
+open-so true d c is unrefused = refl
+open-so false d c is unrefused =
+    let closed : refusal_of_ask d c ≡ Some Closed = ap (λ (x : Bool). if x then refusal_by d.sizes d c else Some Closed) is in
+    absurd cc
+
+open-phase : (p : Phase) → is_open_phase p ≡ true → (p ≡ phase.AwaitingHandshake → ⊥) → p ≡ phase.Established
+open-phase phase.Closed opened begun = absurd cc
+open-phase phase.AwaitingHandshake opened begun = absurd (begun refl)
+open-phase phase.Established opened begun = refl
+
+-- and after the target's handshake, before which the widths are not known
+pub asked-established : (d : Debugger) (c : Command) (w : Widths) → refusal_of_ask d c ≡ None → d.sizes ≡ Some w → (d.end.phase ≡ phase.AwaitingHandshake → Begins d) → d.end.phase ≡ phase.Established
+asked-established d c w unrefused known begins =
+    open-phase d.end.phase (open-so (is_open d.end) d c refl unrefused) (λ e. let none = (begins e).2 in absurd (let never : None ≡ Some w = sym none ∙ known in cc))

@@ -1,8 +1,14 @@
 pub mod Ids
 pub mod Losing
+pub mod Keeping
 pub mod Admitting
 pub mod NewsLemmas
+pub mod Saying
 pub mod TurningLemmas
 pub mod DebuggerRuns
+pub mod SaidPackets
 pub mod AskedReads
 pub mod AnsweredReads
+pub mod ReportedReads
+pub mod SizesReads
+pub mod Judged

@@ -1,9 +1,8 @@
 -- The tickets of the commands that wait, gathered one by one.
 use Rattle.std.proofs.Common.{◌≡◌, ℕ, ◌+◌, ◌<◌, List, [], ◌∷◌, ◌++◌, length, get_or, drop, Some, None, sym, ap, ◌∙◌, refl}
 use Rattle.std.proofs.lemmas.List.{append_assoc, drop_more}
-use Rattle.jdwp_debugger.specs.declared.pending.Asked.{Asked}
 use Rattle.jdwp_debugger.specs.declared.pending.Ticket.{Ticket}
-use Rattle.jdwp_debugger.specs.Debuggers.{tickets_of}
+use Rattle.jdwp_debugger.specs.Debuggers.{Asked, tickets_of}
 
 left_over : (pending : List Asked) (i : ℕ) (p : Asked) → i < length pending → p ≡ get_or pending i p → drop i pending ≡ p ∷ drop (i + 1) pending
 left_over pending i p lt is = drop_more pending i p lt ∙ ap (λ (x : Asked). x ∷ drop (i + 1) pending) (sym is)

@@ -1,7 +1,7 @@
 -- What turns leave is what is to be learned from what was read.
-use Rattle.std.proofs.Common.{◌≡◌, ℕ, ◌||◌, ◌&&◌, not, Bool, true, false, List, [], ◌∷◌, ◌++◌, length, refl, sym, ap, ◌∙◌, subst, Option, Some, None, if◌then◌else◌}
+use Rattle.std.proofs.Common.{◌≡◌, ℕ, ◌≤◌, arith, ◌||◌, ◌&&◌, not, Bool, true, false, List, [], ◌∷◌, ◌++◌, length, refl, sym, ap, ◌∙◌, subst, Option, Some, None, if◌then◌else◌}
 use Rattle.std.specs.Prelude.{◌==◌, nat_le}
-use Rattle.std.specs.Prelude.{Result, Ok, Err, OnOk, IfErr}
+use Rattle.std.specs.Prelude.{Result, Ok, Err, OnOk, IfErr, IfOk}
 use Rattle.jdwp_wire.specs.Frames as frames
 use Rattle.std.specs.Result.{IsErrOf}
 use Rattle.jdwp_wire.specs.declared.packet.Header.{Header}
@@ -21,14 +21,15 @@ use Rattle.jdwp_event.specs.Told.{composite_thread, is_vm_death}
 use Rattle.jdwp_debuggee.specs.Actions
 use Rattle.jdwp_debuggee.specs.Actions.{Action, Command, action_of}
 use Rattle.jdwp_mirror.specs.Acts.{act_of}
-use Rattle.jdwp_debugger.specs.DebuggerTurns.{EntersAt, EntersOrFails, FailsAt, FailsOnly, FailsTo, HandlesAt, LearnedAll, MayTakeMemory, MayWantMemory, TurnsAt, WantsMemory, bad_where, none_known, reading_of, refusal_by, reports}
-use Rattle.jdwp_mirror.specs.Faults.{count_of_thread, has_bad_event, is_bad_event, is_of_two}
+use Rattle.jdwp_debugger.specs.DebuggerTurns.{AreFew, Told, Hello, Parked, Sizes, Answered, Seen, told, Enters, EntersAt, EntersOrFails, FailsAt, FailsOnly, FailsTo, HandlesAt, LearnedAll, MayTakeMemory, MayWantMemory, TurnsAt, WantsMemory, bad_where, none_known, reading_of, refusal_by, reports}
+use Rattle.jdwp_mirror.specs.Faults.{PARKED_MOST, count_of_thread, has_bad_event, is_bad_event, is_of_two}
 use Rattle.jdwp_mirror.specs.FaultParts.{IsData, is_dispose_act}
 use Rattle.jdwp_mirror.specs.KnownThreads.{count_in}
 use Rattle.jdwp_mirror.specs.Messages.{Message, Report}
 use Rattle.jdwp_mirror.specs.Mirror.{is_dispose, is_positive, learned}
 use Rattle.jdwp_mirror.specs.Mirrors.{Mirror, Learned}
-use Rattle.jdwp_debugger.specs.News.{News, Measures, Fails, says}
+use Rattle.jdwp_debugger.specs.News.{News, Waits, Happens, Answers, Measures, Fails, says}
+use Rattle.jdwp_debugger.proofs.Saying.{Backs, as-many, backs}
 use Rattle.jdwp_mirror.specs.Widths.{widths_in}
 
 -- ---- events are judged by counts alone
@@ -176,3 +177,24 @@ turn-memory (Whole (Packet header body) used) old new (Ok r) t e = absurd (cc)
 turn-memory (Whole (Packet header body) used) old new (Err f) t e = (let is : f ≡ code.NoMemory = cc in memory-fault header body old new f t is)
 turn-memory More old new r t e = absurd (let is = t.0 in cc)
 turn-memory (Fault fault) old new r t e = absurd (let is = t.0 in cc)
+
+-- ---- no more composites are told than may wait
+
+told-few : (r : Told) (t : Told) → r ≡ t → AreFew t → AreFew r
+told-few r t is few = subst AreFew (sym is) few
+
+few-entered : (header : Header) (body : List ℕ) (used : ℕ) (n : News) (old new : Debugger) (t : Told) → length old.parked ≤ PARKED_MOST → Backs (reading_of old) header.id header.kind n
+    → Enters (Packet header body) used header n old t new → AreFew t
+few-entered header body used (Waits bytes) old new t few b e = told-few t Parked e.0 tt
+few-entered header body used (Happens c) old new t few b e = told-few t (Seen c) e.0 tt
+few-entered header body used (Answers place ticket answer) old new t few b e = told-few t (Answered ticket answer) e.0 tt
+few-entered header body used (Measures place answer w cs) old new t few b e = told-few t (Sizes cs) e.0 (omega (arith, as-many w old.parked cs b.2, few))
+
+pub turn-few : (front : NextMessage) (old new : Debugger) (r : Result Read DebuggerFault) → length old.parked ≤ PARKED_MOST → TurnsAt front old r new → IfOk r (λ x. AreFew (told x))
+turn-few (Whole Handshake used) old new (Ok x) few t = told-few (told x) Hello t.0 tt
+turn-few (Whole Handshake used) old new (Err f) few t = tt
+turn-few (Whole (Packet header body) used) old new (Ok x) few t =
+    few-entered header body used t.news old new (told x) few (backs (reading_of old) header.id header.kind body t.news t.said) t.entered
+turn-few (Whole (Packet header body) used) old new (Err f) few t = tt
+turn-few More old new r few t = subst (λ (q : Result Read DebuggerFault). IfOk q (λ x. AreFew (told x))) (sym t.0) tt
+turn-few (Fault fault) old new r few t = subst (λ (q : Result Read DebuggerFault). IfOk q (λ x. AreFew (told x))) (sym t.0) tt

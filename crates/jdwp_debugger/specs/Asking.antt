@@ -4,7 +4,7 @@ use Rattle.std.specs.Prelude.{◌≡◌, ℕ, ◌+◌, ◌-◌, ◌^◌, ◌%◌
 use Rattle.std.specs.List.{list_any}
 use Rattle.jdwp_wire.specs.ErrorCodes.{NOT_IMPLEMENTED}
 use Rattle.jdwp_wire.specs.Widths.{Widths}
-use Rattle.jdwp_wire.specs.Frames.{packet_bytes}
+use Rattle.jdwp_wire.specs.Frames.{IsPacket, packet_bytes}
 use Rattle.jdwp_wire.specs.declared.error_code.ErrorCode.{ErrorCode}
 use Rattle.jdwp_wire.specs.declared.packet.Header.{Header}
 use Rattle.jdwp_wire.specs.declared.packet.PacketKind.TheVariants as packet
@@ -15,6 +15,7 @@ use Rattle.jdwp_layout.specs.Meanings.{meanings}
 use Rattle.jdwp_layout.specs.Rows.{Row, RowShapes}
 use Rattle.jdwp_layout.specs.Shapes.{shape}
 use Rattle.jdwp_layout.specs.Writes.{data_canonical, data_refusal}
+use Rattle.jdwp_end.specs.declared.phase.Phase.TheVariants.{Established}
 use Rattle.jdwp_end.specs.Ends.{is_open, is_paused, with_enqueued}
 use Rattle.jdwp_debuggee.specs.Actions.{Carried, Content, Raw, Command, is_implemented}
 use Rattle.jdwp_debuggee.specs.CommandReads.{command_read}
@@ -22,8 +23,7 @@ use Rattle.jdwp_debugger.specs.declared.asking.Refused.{Refused}
 use Rattle.jdwp_debugger.specs.declared.asking.Refused.TheVariants.{Closed, NotReady, Busy, BadCommand, TooLong, NoMemory}
 use Rattle.jdwp_debugger.specs.declared.asking.Body.{Body}
 use Rattle.jdwp_debugger.specs.declared.asking.Body.TheVariants as body
-use Rattle.jdwp_debugger.specs.declared.pending.Asked.{Asked}
-use Rattle.jdwp_debugger.specs.Debuggers.{Debugger}
+use Rattle.jdwp_debugger.specs.Debuggers.{Asked, Debugger}
 
 -- ---- the command's packet
 
@@ -144,12 +144,16 @@ asked w id c d = record d {
   tickets = d.tickets + 1;
 }
 
+-- A command was asked, after the target's handshake and once the widths of ids were known: under the next free id, in a packet within the
+-- limit, whose bytes encode the command.
 pub record HasAsked (command : Command) (old : Debugger) (new : Debugger) : Type 0 where
+  pub established : old.end.phase ≡ Established
   pub widths : Widths
   pub known : old.sizes ≡ Some widths
   pub id : ℕ
   pub next : IsNextFree old.pending old.next_id id
   pub encoded : EncodesCommand widths command
+  pub sendable : IsPacket old.end.limits.packet (command_header widths id command) (carried_bytes widths command.carried)
   pub is : new ≡ asked widths id command old
 
 -- A command that may be asked: what it carries in so wide ids, and that its packet of so many bytes has room. Its length is told in four bytes.
@@ -172,6 +176,7 @@ pub record MayLeave (d : Debugger) (command : Command) (id : ℕ) (bytes : List 
   pub known : d.sizes ≡ Some widths
   pub bytes_are : bytes ≡ command_bytes widths id command
   pub encoded : EncodesCommand widths command
+  pub sendable : IsPacket d.end.limits.packet (command_header widths id command) (carried_bytes widths command.carried)
   pub size_most : length bytes ≤ d.end.limits.packet
   pub few : length d.pending < d.end.limits.pending
   pub room : length d.end.outgoing < d.end.limits.packet

@@ -1,10 +1,11 @@
 -- What turns of a debugger answer, and what they leave.
-use Rattle.std.specs.Prelude.{◌≡◌, ℕ, ◌+◌, ◌%◌, ◌^◌, ◌<◌, Bool, true, false, List, [], ◌∷◌, ◌++◌, length, map, remove, slice_get, Option, Some, None, Result, Ok, Err, MatchResult}
+use Rattle.std.specs.Prelude.{◌≡◌, ℕ, ◌+◌, ◌%◌, ◌^◌, ◌≤◌, Bool, true, false, List, [], ◌∷◌, ◌++◌, length, map, remove, slice_get, Option, Some, None, Result, Ok, Err, MatchResult}
 use Rattle.std.specs.List.{list_any}
 use Rattle.jdwp_wire.specs.ErrorCodes.{NONE}
 use Rattle.jdwp_wire.specs.declared.packet.Header.{Header}
 use Rattle.jdwp_wire.specs.declared.packet.PacketKind.{PacketKind}
 use Rattle.jdwp_wire.specs.declared.packet.PacketKind.TheVariants as kind
+use Rattle.jdwp_wire.specs.Frames as frames
 use Rattle.jdwp_wire.specs.Frames.{header_bytes}
 use Rattle.jdwp_wire.specs.Streams as streams
 use Rattle.jdwp_wire.specs.Streams.{NextMessage, Whole, More, Fault}
@@ -18,12 +19,12 @@ use Rattle.jdwp_debugger.specs.declared.faults.DebuggerFault.{DebuggerFault}
 use Rattle.jdwp_debugger.specs.declared.faults.DebuggerFault.TheVariants as code
 use Rattle.jdwp_debugger.specs.declared.heads.Head.{Head}
 use Rattle.jdwp_debugger.specs.declared.heads.Head.TheVariants as head
-use Rattle.jdwp_debugger.specs.declared.pending.Asked.{Asked}
-use Rattle.jdwp_debugger.specs.declared.turning.News as declared
-use Rattle.jdwp_debugger.specs.declared.turning.News.TheVariants as news
+use Rattle.jdwp_debugger.specs.declared.reading.Known.{Known}
+use Rattle.jdwp_debugger.specs.declared.reading.News as declared
+use Rattle.jdwp_debugger.specs.declared.reading.News.TheVariants as news
 use Rattle.jdwp_debugger.specs.declared.turning.Read.{Read}
 use Rattle.jdwp_debugger.specs.declared.turning.Read.TheVariants as read
-use Rattle.jdwp_debugger.specs.Debuggers.{Debugger}
+use Rattle.jdwp_debugger.specs.Debuggers.{Asked, Debugger}
 use Rattle.jdwp_debugger.specs.Debuggers as debuggers
 use Rattle.jdwp_mirror.specs.Faults.{PARKED_MOST, is_bad_event, has_bad_event}
 use Rattle.jdwp_mirror.specs.FaultParts.{IsData}
@@ -31,7 +32,7 @@ use Rattle.jdwp_mirror.specs.KnownThreads.{count_in}
 use Rattle.jdwp_mirror.specs.Messages.{Message, Reply, Report, id_sizes}
 use Rattle.jdwp_mirror.specs.Mirror.{ends}
 use Rattle.jdwp_mirror.specs.Mirrors.{Mirror, Learned, empty_mirror}
-use Rattle.jdwp_debugger.specs.News.{News, Waits, Happens, Answers, Measures, Reading, says}
+use Rattle.jdwp_debugger.specs.News.{News, Waits, Happens, Answers, Measures, Reading, Fails, says}
 
 -- ---- what a turn tells
 
@@ -50,6 +51,11 @@ told read.Parked = Parked
 told (read.Sizes composites) = Sizes composites.items
 told (read.Answered ticket answer) = Answered ticket.0 answer
 told (read.Seen composite) = Seen composite
+
+-- no more composites that waited than may
+abbrev pub AreFew : Told → Type 0
+AreFew (Sizes composites) = length composites ≤ PARKED_MOST
+AreFew told = Unit {0}
 
 abbrev pub news_meaning : declared.News → News
 news_meaning (news.Waits bytes) = Waits bytes.items
@@ -139,6 +145,10 @@ Enters message used header (Measures place answer w cs) old told new =
 abbrev pub reading_of : Debugger → Reading
 reading_of d = record { sizes = d.sizes; parked = d.parked; pending = d.pending }
 
+-- the same of what the code reads by
+abbrev pub reading : Known → Reading
+reading known = record { sizes = known.sizes; parked = known.parked.now; pending = known.pending.now }
+
 abbrev pub bad_where : Bool → Option DebuggerFault
 bad_where true = Some code.BadEvent
 bad_where false = None
@@ -179,12 +189,25 @@ WantsMemory (Happens c) = Unit {0}
 WantsMemory (Answers place ticket answer) = IsData answer
 WantsMemory (Measures place answer w cs) = Unit {0}
 
--- what a packet says has room, and its place is that of a command
-abbrev pub Fits : Debugger → News → Type 0
-Fits d (Waits bytes) = length d.parked < PARKED_MOST
-Fits d (Happens c) = Unit {0}
-Fits d (Answers place ticket answer) = place < length d.pending
-Fits d (Measures place answer w cs) = place < length d.pending
+abbrev pub IsWhole : frames.Front → Type 0
+IsWhole (frames.Whole header body used) = Unit {0}
+IsWhole frames.More = ⊥
+IsWhole (frames.Fault fault) = ⊥
+
+-- of a packet in front: its header and what it says, or why that fails
+abbrev pub ReadsFront : Reading → frames.Front → Result (Header × declared.News) DebuggerFault → Type 0
+ReadsFront r (frames.Whole header body used) result =
+    MatchResult result
+    (λ x. (x.0 ≡ header) × (says r header.id header.kind body ≡ Ok (news_meaning x.1)) × (WantsMemory (news_meaning x.1) → MayWantMemory header.kind))
+    (λ fault. Fails fault (says r header.id header.kind body) × (fault ≡ code.NoMemory → MayWantMemory header.kind))
+ReadsFront r frames.More result = Unit {0}
+ReadsFront r (frames.Fault fault) result = Unit {0}
+
+-- a packet with this header, of so many bytes, is in front, and says this
+pub record IsSaid (d : Debugger) (header : Header) (used : ℕ) (news : News) : Type 0 where
+  pub body : List ℕ
+  pub front : ends.front_of d.end ≡ Whole (streams.Packet header body) used
+  pub said : says (reading_of d) header.id header.kind body ≡ Ok news
 
 -- what a failure leaves
 abbrev pub FailsTo : DebuggerFault → Debugger → Debugger → Type 0

@@ -1,6 +1,6 @@
 -- The debugger's end of a session, as contracts see it, and what each call does to it.
-use Rattle.std.specs.Prelude.{ℕ, zero, suc, Bool, true, false, ◌||◌, List, [], ◌∷◌, Option, Some, None, is_some}
-use Rattle.std.specs.List.{filter_map}
+use Rattle.std.specs.Prelude.{◌≡◌, ◌≢◌, ℕ, zero, suc, Bool, true, false, ◌||◌, List, [], ◌∷◌, Option, Some, None, is_some}
+use Rattle.std.specs.List.{AllByRecursion, AllPairs, filter_map}
 use Rattle.std.specs.Borrow.{Bor}
 use Rattle.jdwp_wire.specs.Handshake.{handshake_bytes}
 use Rattle.jdwp_wire.specs.Streams.{NextMessage, Whole, More, Fault}
@@ -11,14 +11,21 @@ use Rattle.jdwp_end.specs.Ends.{End}
 use Rattle.jdwp_end.specs.Ends as ends
 use Rattle.jdwp_debuggee.specs.Actions.{Command}
 use Rattle.jdwp_debugger.specs.declared.heads.Head.{Head}
-use Rattle.jdwp_debugger.specs.declared.pending.Asked.{Asked}
 use Rattle.jdwp_debugger.specs.declared.pending.Ticket.{Ticket}
+use Rattle.jdwp_mirror.specs.Messages.{id_sizes}
 use Rattle.jdwp_mirror.specs.Mirrors.{Mirror, empty_mirror}
 
 -- A composite that was read before the widths of ids were known: its header, and its data as they came.
 pub record Parked : Type 0 where
   pub header : Header
   pub body : List ℕ
+
+-- A command that waits for its reply: the id of its packet, the ticket under which it was asked, and the command. IDSizes, which a
+-- debugger asks by itself, has no ticket.
+pub record Asked : Type 0 where
+  pub id : ℕ
+  pub ticket : Option Ticket
+  pub command : Command
 
 -- What both ends have; what was learned; the widths of ids, once they are known; the composites that wait for them, in the order read;
 -- the commands that wait for replies, in the order asked; the id of the next packet; how many tickets were given; and what the last turn
@@ -99,3 +106,27 @@ with_taken bytes d = record d { end = ends.with_taken bytes d.end }
 -- the connection is lost: the end is closed, nothing waits to leave, nothing is known, and no command waits for a reply
 abbrev pub lost : Debugger → Debugger
 lost d = record d { end = ends.lost d.end; mirror = empty_mirror; sizes = None; parked = []; pending = [] }
+
+-- ---- what every debugger keeps
+
+-- the most commands that may wait for replies, whatever the limits
+abbrev pub PENDING_MOST : ℕ
+PENDING_MOST = 1024
+
+-- no two commands wait under one id
+abbrev pub AreDistinct : List Asked → Type 0
+AreDistinct pending = AllPairs (λ (p q : Asked). p.id ≢ q.id) pending
+
+-- what waits without a ticket is IDSizes
+abbrev pub AreOwn : List Asked → Type 0
+AreOwn pending = AllByRecursion (λ (p : Asked). p.ticket ≡ None → p.command ≡ id_sizes) pending
+
+-- Before the target's handshake no command waits for a reply, no composite for the widths of ids, and the widths are not known.
+abbrev pub Begins : Debugger → Type 0
+Begins d = (d.pending ≡ []) × (d.parked ≡ []) × (d.sizes ≡ None)
+
+-- IDSizes alone waits, without a ticket, or nothing
+abbrev pub IsSizesAlone : List Asked → Type 0
+IsSizesAlone [] = Unit {0}
+IsSizesAlone (p ∷ []) = (p.ticket ≡ None) × (p.command ≡ id_sizes)
+IsSizesAlone (p ∷ q ∷ ps) = ⊥

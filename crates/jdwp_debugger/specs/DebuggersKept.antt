@@ -1,25 +1,30 @@
 -- What every debugger keeps inside.
-use Rattle.std.specs.Prelude.{◌≡◌, ◌≤◌, [], None, length}
-use Rattle.jdwp_wire.specs.Limits.{standard_limits}
+use Rattle.std.specs.Prelude.{◌≡◌, ◌≤◌, [], None, Some, length, true}
+use Rattle.jdwp_wire.specs.Limits.{AreLimits}
+use Rattle.jdwp_wire.specs.Widths.{Widths}
 use Rattle.jdwp_end.specs.declared.phase.Phase.TheVariants.{AwaitingHandshake}
+use Rattle.jdwp_end.specs.Ends.{is_open}
 use Rattle.jdwp_debugger.specs.declared.debugger.Debugger.TheInside.{Inside}
-use Rattle.jdwp_debugger.specs.Debuggers.{Debugger}
-use Rattle.jdwp_debugger.specs.Runs.{Ran}
+use Rattle.jdwp_debugger.specs.Debuggers.{AreDistinct, AreOwn, Begins, Debugger, IsSizesAlone}
+use Rattle.jdwp_debugger.specs.Runs.{HasRun}
 use Rattle.jdwp_mirror.specs.Faults.{PARKED_MOST}
+use Rattle.jdwp_mirror.specs.Mirrors.{empty_mirror}
 
 abbrev pub view_of : Inside → Debugger
 view_of d =
     record { end = d.end; mirror = d.mirror; sizes = d.sizes; parked = d.parked.items; pending = d.pending.items; next_id = d.next_id; tickets = d.tickets; last = d.last }
 
--- Before the target's handshake no command waits for a reply, no composite for the widths of ids, and the widths are not known.
-abbrev pub Begins : Inside → Type 0
-Begins d = (d.pending.items ≡ []) × (d.parked.items ≡ []) × (d.sizes ≡ None)
-
--- the limits are the standard's; no more commands wait for replies than these allow, and no more composites for the widths of ids than may; and
--- the run of the session is as it should be
+-- The limits are some that there may be; no more commands wait for replies than they allow, and no more composites for the widths of ids than may; no two commands wait
+-- under one id, and without a ticket only IDSizes; nothing waits before the target's handshake, and IDSizes alone until the widths of ids
+-- are known, up to when nothing is learned and from when on no composite waits; and the run of the session is as it should be.
 pub record IsRight (d : Inside) : Type 0 where
-  pub limits : d.end.limits ≡ standard_limits
-  pub few : length d.pending.items ≤ standard_limits.pending
+  pub limits : AreLimits d.end.limits.packet d.end.limits.live d.end.limits.requests d.end.limits.pending
+  pub few : length d.pending.items ≤ d.end.limits.pending
   pub few_parked : length d.parked.items ≤ PARKED_MOST
-  pub begins : d.end.phase ≡ AwaitingHandshake → Begins d
-  pub ran : Ran d.end
+  pub distinct : AreDistinct d.pending.items
+  pub own : AreOwn d.pending.items
+  pub begins : d.end.phase ≡ AwaitingHandshake → Begins (view_of d)
+  pub alone : is_open d.end ≡ true → d.sizes ≡ None → IsSizesAlone d.pending.items
+  pub unlearned : d.sizes ≡ None → d.mirror ≡ empty_mirror
+  pub unparked : (w : Widths) → d.sizes ≡ Some w → d.parked.items ≡ []
+  pub ran : HasRun d.end d.pending.items

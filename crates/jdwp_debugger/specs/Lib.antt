@@ -6,3 +6,4 @@ pub mod FaultNumbers
 pub mod News
 pub mod DebuggerTurns
 pub mod Runs
+pub mod Judging

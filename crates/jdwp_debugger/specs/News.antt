@@ -21,9 +21,8 @@ use Rattle.jdwp_event.specs.CompositeBytes.{composite_at}
 use Rattle.jdwp_debuggee.specs.Actions.{Command}
 use Rattle.jdwp_debugger.specs.declared.faults.DebuggerFault.{DebuggerFault}
 use Rattle.jdwp_debugger.specs.declared.faults.DebuggerFault.TheVariants.{UnknownReply, BadReply, TooManyParked, BadEvent, NoMemory}
-use Rattle.jdwp_debugger.specs.declared.pending.Asked.{Asked}
 use Rattle.jdwp_debugger.specs.declared.pending.Ticket.{Ticket}
-use Rattle.jdwp_debugger.specs.Debuggers.{Parked}
+use Rattle.jdwp_debugger.specs.Debuggers.{Asked, Parked}
 use Rattle.jdwp_mirror.specs.Faults.{PARKED_MOST, is_bad_reply}
 use Rattle.jdwp_mirror.specs.Widths.{widths_in}
 

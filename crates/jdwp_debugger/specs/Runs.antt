@@ -1,19 +1,24 @@
 -- What holds of a debugger over a whole session, from bytes to bytes, whatever bytes come (JDWP specification, "JDWP overview": the
--- handshake; "Packets": commands and replies).
-use Rattle.std.specs.Prelude.{◌≡◌, ℕ, ◌≤◌, Bool, true, false, List, [], ◌∷◌, length, take, Result}
-use Rattle.std.specs.List.{flat_map}
+-- handshake; "Packets": commands and replies, and that ids are unique among the outstanding commands of one source).
+use Rattle.std.specs.Prelude.{◌≡◌, ℕ, ◌==◌, ◌≤◌, Bool, true, false, List, [], ◌∷◌, ◌++◌, fold, length, map, take, Result}
+use Rattle.std.specs.List.{flat_map, list_any}
+use Rattle.std.specs.Set.{remove_key}
 use Rattle.jdwp_wire.specs.Streams.{Message, Handshake, Packet, stream}
 use Rattle.jdwp_wire.specs.Widths.{Widths}
 use Rattle.jdwp_wire.specs.declared.packet.Header.{Header}
+use Rattle.jdwp_wire.specs.declared.packet.PacketKind.{PacketKind}
+use Rattle.jdwp_wire.specs.declared.packet.PacketKind.TheVariants as kind
 use Rattle.jdwp_wire.specs.Bytes.{IsBytes}
 use Rattle.jdwp_wire.specs.Limits.{Limits}
+use Rattle.jdwp_end.specs.declared.phase.Phase.{Phase}
+use Rattle.jdwp_end.specs.declared.phase.Phase.TheVariants.{Closed, AwaitingHandshake, Established}
 use Rattle.jdwp_end.specs.Ends.{End, front_of, is_open}
 use Rattle.jdwp_end.specs.Runs.{Carries}
 use Rattle.jdwp_debuggee.specs.Actions.{Command}
 use Rattle.jdwp_debugger.specs.declared.faults.DebuggerFault.{DebuggerFault}
 use Rattle.jdwp_debugger.specs.declared.turning.Read.{Read}
-use Rattle.jdwp_debugger.specs.Asking.{HasAsked, carried_bytes, command_header}
-use Rattle.jdwp_debugger.specs.Debuggers.{Debugger, attached, lost, new_debugger, with_fed, with_taken}
+use Rattle.jdwp_debugger.specs.Asking.{EncodesCommand, HasAsked, carried_bytes, command_header}
+use Rattle.jdwp_debugger.specs.Debuggers.{Asked, Debugger, attached, lost, new_debugger, with_fed, with_taken}
 use Rattle.jdwp_debugger.specs.DebuggerTurns.{TurnsAt, sizes_header}
 
 -- What a debugger does in a session: it begins, with a handshake; it reads the target's handshake, and puts IDSizes under an id; it reads
@@ -47,46 +52,86 @@ read acts = flat_map read_by acts
 abbrev pub put : List Act → List Message
 put acts = flat_map put_by acts
 
--- whether a session is open after an act
-abbrev pub opens : Act → Bool
-opens Attaches = true
-opens (Greets id) = true
-opens (Reads header body) = true
-opens (Asks w id c) = true
-opens Ends = false
+-- ---- the phase of the session
 
-abbrev pub open_after : Bool → List Act → Bool
-open_after before [] = before
-open_after before (act ∷ acts) = open_after (opens act) acts
+abbrev pub phase_after : Phase → Act → Phase
+phase_after before Attaches = AwaitingHandshake
+phase_after before (Greets id) = Established
+phase_after before (Reads header body) = Established
+phase_after before (Asks w id c) = Established
+phase_after before Ends = Closed
 
--- Where an act may come: a session begins where none is open, and messages are read and put where one is. It may end again, as the
--- connection is lost.
-abbrev pub MayCome : Bool → Act → Type 0
-MayCome before Attaches = before ≡ false
-MayCome before (Greets id) = before ≡ true
-MayCome before (Reads header body) = before ≡ true
-MayCome before (Asks w id c) = before ≡ true
-MayCome before Ends = Unit {0}
+-- after these acts
+abbrev pub phase_of : List Act → Phase
+phase_of acts = fold phase_after Closed acts
 
-abbrev pub InOrder : Bool → List Act → Type 0
-InOrder before [] = Unit {0}
-InOrder before (act ∷ acts) = MayCome before act × InOrder (opens act) acts
+-- ---- the ids of the commands that were put and not yet replied to
 
--- What a debugger did in a session, in order: nothing is read or put behind its end, as which the first refused message counts, until the
--- next begins; what its end carries are the messages read; and what was enqueued to leave are the bytes of the messages put.
-pub record Ran (end : End) : Type 0 where
+abbrev pub is_among : ℕ → List ℕ → Bool
+is_among id ids = list_any (λ (n : ℕ). n == id) ids
+
+-- a reply settles the command under its id
+abbrev pub settled_by : PacketKind → ℕ → List ℕ → List ℕ
+settled_by (kind.Command set number) id ids = ids
+settled_by (kind.Reply e) id ids = remove_key (λ (n : ℕ). n == id) ids
+
+abbrev pub outstanding_after : List ℕ → Act → List ℕ
+outstanding_after ids Attaches = []
+outstanding_after ids (Greets id) = ids ++ id ∷ []
+outstanding_after ids (Reads header body) = settled_by header.kind header.id ids
+outstanding_after ids (Asks w id c) = ids ++ id ∷ []
+outstanding_after ids Ends = []
+
+-- after these acts, in the order put
+abbrev pub outstanding : List Act → List ℕ
+outstanding acts = fold outstanding_after [] acts
+
+-- ---- in which order acts come
+
+-- a reply is to a command that was put and not yet replied to
+abbrev pub IsAwaited : PacketKind → ℕ → List ℕ → Type 0
+IsAwaited (kind.Command set number) id ids = Unit {0}
+IsAwaited (kind.Reply e) id ids = is_among id ids ≡ true
+
+-- Where an act may come, by the phase and the ids that are outstanding. A session begins where none is open. The target's handshake is
+-- what is read first, and IDSizes is put then and only then; packets are read, and commands put, after it. What is put for a command
+-- encodes it, and its id is none of those outstanding. A session may end at any time, and again, as the connection is lost.
+abbrev pub MayCome : Phase → List ℕ → Act → Type 0
+MayCome phase ids Attaches = phase ≡ Closed
+MayCome phase ids (Greets id) = phase ≡ AwaitingHandshake
+MayCome phase ids (Reads header body) = (phase ≡ Established) × IsAwaited header.kind header.id ids
+MayCome phase ids (Asks w id c) = (phase ≡ Established) × (is_among id ids ≡ false) × EncodesCommand w c
+MayCome phase ids Ends = Unit {0}
+
+abbrev pub InOrder : Phase → List ℕ → List Act → Type 0
+InOrder phase ids [] = Unit {0}
+InOrder phase ids (act ∷ acts) = MayCome phase ids act × InOrder (phase_after phase act) (outstanding_after ids act) acts
+
+-- ---- the whole session
+
+abbrev pub ids_of : List Asked → List ℕ
+ids_of pending = map (λ (p : Asked). p.id) pending
+
+-- What a debugger whose end is this, and with which these commands wait, did in a session, in order: nothing is read or put behind its
+-- end, as which the first refused message counts, until the next begins; the commands that wait are those that were put and not yet
+-- replied to; what its end carries are the messages read; and what was enqueued to leave are the bytes of the messages put.
+pub record HasRun (end : End) (pending : List Asked) : Type 0 where
   pub acts : List Act
-  pub in_order : InOrder false acts
-  pub opened : is_open end ≡ open_after false acts
+  pub in_order : InOrder Closed [] acts
+  pub phase : end.phase ≡ phase_of acts
+  pub waits : is_open end ≡ true → ids_of pending ≡ outstanding acts
   pub carries : Carries end (read acts)
   pub enqueued : end.session.enqueued ≡ stream (put acts)
 
+abbrev pub Ran : Debugger → Type 0
+Ran d = HasRun d.end d.pending
+
 -- What each call leaves of a run, whatever it answers.
 pub record GoesOn : Type 0 where
-  pub new : (limits : Limits) (id : ℕ) → Ran (new_debugger limits id).end
-  pub attached : (d : Debugger) → Ran (attached d).end
-  pub asked : (command : Command) (old new : Debugger) → is_open old.end ≡ true → Ran old.end → HasAsked command old new → Ran new.end
-  pub turned : (old new : Debugger) (result : Result Read DebuggerFault) → IsBytes old.end.incoming → Ran old.end → TurnsAt (front_of old.end) old result new → Ran new.end
-  pub fed : (d : Debugger) (bytes : List ℕ) → (is_open d.end ≡ false → bytes ≡ []) → Ran d.end → Ran (with_fed bytes d).end
-  pub taken : (d : Debugger) (n : ℕ) → n ≤ length d.end.outgoing → Ran d.end → Ran (with_taken (take n d.end.outgoing) d).end
-  pub lost : (d : Debugger) → Ran d.end → Ran (lost d).end
+  pub new : (limits : Limits) (id : ℕ) → Ran (new_debugger limits id)
+  pub attached : (d : Debugger) → Ran (attached d)
+  pub asked : (command : Command) (old new : Debugger) → Ran old → HasAsked command old new → Ran new
+  pub turned : (old new : Debugger) (result : Result Read DebuggerFault) → IsBytes old.end.incoming → Ran old → TurnsAt (front_of old.end) old result new → Ran new
+  pub fed : (d : Debugger) (bytes : List ℕ) → (is_open d.end ≡ false → bytes ≡ []) → Ran d → Ran (with_fed bytes d)
+  pub taken : (d : Debugger) (n : ℕ) → n ≤ length d.end.outgoing → Ran d → Ran (with_taken (take n d.end.outgoing) d)
+  pub lost : (d : Debugger) → Ran d → Ran (lost d)

@@ -1,11 +1,12 @@
 //! Commands as they are asked: why they are not, and their packets.
-ghost use Rattle.std.specs.Prelude.{◌≡◌, ◌<◌, ◌^◌, ◌++◌, IfOk, MatchOption, None, OnOk, false, is_none, length, true};
+ghost use Rattle.std.specs.Prelude.{◌≡◌, ◌<◌, ◌≤◌, ◌^◌, ◌++◌, ℕ, IfOk, MatchOption, None, OnOk, false, is_none, length, true};
+ghost use Rattle.jdwp_wire.specs.Frames.{IsPacket};
 ghost use Rattle.jdwp_wire.specs.Reading.{in_usize};
 ghost use Rattle.jdwp_layout.specs.Grammar.{EncodesData};
 ghost use Rattle.jdwp_layout.specs.Meanings.{meanings};
 ghost use Rattle.jdwp_layout.specs.Shapes.{shape};
 ghost use Rattle.jdwp_layout.specs.Writes.{data_canonical, data_refusal};
-ghost use Rattle.jdwp_debugger.specs.Asking.{EncodesBody, EncodesCommand, body_bytes, carried_bytes, command_bytes, is_for_target, packet_length};
+ghost use Rattle.jdwp_debugger.specs.Asking.{EncodesBody, EncodesCommand, body_bytes, carried_bytes, command_bytes, command_header, is_for_target, packet_length};
 ghost use Rattle.jdwp_debugger.specs.RefusedNumbers.{refused_number};
 
 use jdwp_layout::numbers::EVENT;
@@ -24,13 +25,14 @@ pub enum Refused {
     /// The widths of ids are not known yet.
     #[error("fault 31: the widths of ids are not known")]
     NotReady,
-    /// 64 commands wait for replies, 65,536 or more bytes wait to leave, or 2^64 - 1 tickets were given.
+    /// As many commands wait for replies as the limits allow, as many bytes wait to leave as a packet may have or more, or 2^64 - 1
+    /// tickets were given.
     #[error("fault 32: too much waits")]
     Busy,
     /// It is no command of the sets 0 to 63 that the specification names, or its data are not those of the command.
     #[error("fault 36: a bad command")]
     BadCommand,
-    /// Its packet would be longer than 65,536 bytes.
+    /// Its packet would be longer than a packet may be.
     #[error("fault 34: the command is too long")]
     TooLong,
     /// An allocation was refused.
@@ -166,6 +168,7 @@ impl<'a> Admitted<'a> {
         ensures bytes { IfOk result (λ packet. packet.items ≡ command_bytes self.now.sizes id command.now) }
         ensures length { IfOk result (λ packet. length packet.items ≡ self.now.size) }
         ensures encoded { IfOk result (λ packet. EncodesBody self.now.sizes self.now.body) }
+        ensures sendable { (limit : ℕ) → self.now.size ≤ limit → IsPacket limit (command_header self.now.sizes id command.now) (carried_bytes self.now.sizes command.now.carried) }
     {
         let header = Header {
             length: self.size as u32,

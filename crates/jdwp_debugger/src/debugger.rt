@@ -1,13 +1,17 @@
 //! The debugger's end of a session.
-ghost use Rattle.std.specs.Prelude.{◌≡◌, ◌≤◌, ◌<◌, ◌+◌, ◌++◌, ◌↔◌, [], IfErr, IfOk, IsTrue, None, drop, false, length, min, take, true};
+ghost use Rattle.std.specs.Prelude.{◌≡◌, ◌≤◌, ◌<◌, ◌+◌, ◌^◌, ◌++◌, ◌↔◌, [], IfErr, IfOk, IsTrue, None, Some, drop, false, length, min, take, true};
+ghost use Rattle.jdwp_end.specs.declared.phase.Phase.TheVariants.{AwaitingHandshake};
 ghost use Rattle.jdwp_end.specs.Ends as ends;
 ghost use Rattle.jdwp_end.specs.Ends.{front_of, most_outgoing, room_of};
 ghost use Rattle.jdwp_wire.specs.Bytes.{IsBytes};
-ghost use Rattle.jdwp_wire.specs.Limits.{standard_limits};
+ghost use Rattle.jdwp_wire.specs.Limits.{AreLimits, standard_limits};
 ghost use Rattle.jdwp_wire.specs.Streams.{More};
+ghost use Rattle.jdwp_wire.specs.Widths.{Widths};
 ghost use Rattle.jdwp_debugger.specs.Asking.{HasAsked, IsAdmitted, IsRefusal, MayLeave, is_busy, refusal_of_ask};
-ghost use Rattle.jdwp_debugger.specs.Debuggers.{at_place, attached, has_tickets, is_front, lost, new_debugger, seen_unanswered, tickets_of, unanswered, with_fed, with_taken};
+ghost use Rattle.jdwp_debugger.specs.Debuggers.{AreDistinct, AreOwn, Begins, IsSizesAlone, at_place, attached, has_tickets, is_front, lost, new_debugger, seen_unanswered, tickets_of, unanswered, with_fed, with_taken};
 ghost use Rattle.jdwp_debugger.specs.Runs.{Ran};
+ghost use Rattle.jdwp_mirror.specs.Faults.{PARKED_MOST};
+ghost use Rattle.jdwp_mirror.specs.Mirrors.{empty_mirror};
 
 use crate::asking::{Admitted, Body, Refused};
 use crate::heads::{Head, Heads};
@@ -67,8 +71,19 @@ impl Debugger {
     pub fn with_first_id(alloc: Global, first_id: u32) -> Result<Debugger, NoMemory>
         ensures { IfOk result (λ d. d ≡ new_debugger standard_limits first_id) }
     {
+        Debugger::with_limits(alloc, first_id, Limits::standard())
+    }
+
+    /// The same within these limits: so many bytes a packet may have, and so many commands may wait for replies.
+    ///
+    /// # Errors
+    /// `NoMemory` where an allocation was refused.
+    pub fn with_limits(alloc: Global, first_id: u32, limits: Limits) -> Result<Debugger, NoMemory>
+        ensures { IfOk result (λ d. d ≡ new_debugger limits first_id) }
+    {
+        are_limits(&limits);
         Ok(Debugger {
-            end: End::new(alloc, Limits::standard())?,
+            end: End::new(alloc, limits)?,
             mirror: Mirror::new(alloc),
             sizes: None,
             parked: Vec::new(alloc),
@@ -110,9 +125,9 @@ impl Debugger {
     ///
     /// # Errors
     /// The first of these that applies; nothing has changed. `Closed` where no session is open; `NotReady` where the widths of ids are not
-    /// known; `Busy` where 64 commands wait for replies, 65,536 or more bytes wait to leave, or 2^64 - 1 tickets were given; `BadCommand`
-    /// where the sets 0 to 63 have no such command, or its data don't fit it; `TooLong` where its packet would have more than 65,536
-    /// bytes; `NoMemory` where an allocation was refused.
+    /// known; `Busy` where as many commands wait for replies as the limits allow, as many bytes wait to leave as a packet may have or
+    /// more, or 2^64 - 1 tickets were given; `BadCommand` where the sets 0 to 63 have no such command, or its data don't fit it;
+    /// `TooLong` where its packet would have more bytes than one may have; `NoMemory` where an allocation was refused.
     pub fn ask(&mut self, alloc: Global, command: Command) -> Result<Ticket, Refused>
         ensures ok { IfOk result (λ ticket. (refusal_of_ask self.old command ≡ None) × (ticket.0 ≡ self.old.tickets + 1) × HasAsked command self.old self.new) }
         ensures err { IfErr result (λ e. (self.new ≡ self.old) × IsRefusal e (refusal_of_ask self.old command)) }
@@ -184,9 +199,10 @@ impl Debugger {
     }
 
     /// The connection is lost: the end is closed, both buffers are empty, and nothing is known. Answers the tickets that were neither answered
-    /// nor lost before; no command waits afterwards. Takes no memory.
+    /// nor lost before, which are no more than commands may wait; no command waits afterwards. Takes no memory.
     pub fn lose(&mut self) -> Lost
         ensures tickets { result ≡ tickets_of self.old.pending }
+        ensures few { length result ≤ self.old.end.limits.pending }
         ensures lost { self.new ≡ lost self.old }
     {
         let lost = Lost::of(&self.pending);
@@ -240,12 +256,13 @@ impl Debugger {
 
     /// Whether there is something to handle: the end is neither closed nor paused, and a whole message or a frame fault stands in
     /// front. Takes no memory.
-    pub fn has_front(&self) -> bool
-        ensures { result ≡ is_front (front_of self.now.end) }
+    pub fn has_front(&mut self) -> bool
+        ensures front { result ≡ is_front (front_of self.old.end) }
+        ensures same { self.new ≡ self.old }
     {
         match self.end.front() {
             Front::More => false,
-            Front::Fault(_) | Front::Handshake | Front::Packet(_, _) => true,
+            Front::Fault(_) | Front::Handshake | Front::Packet(_) => true,
         }
     }
 
@@ -279,14 +296,37 @@ impl Debugger {
     }
 
     /// What holds after every list of calls in a session, whatever bytes came: the whole run; that what came are bytes; that an end at
-    /// which nothing waits is not paused; and that an open end that is not paused and asks for more has room for a byte. It changes
-    /// nothing.
+    /// which nothing waits is not paused; that an open end that is not paused and asks for more has room for a byte; that no more
+    /// commands and composites wait than may, no two commands under one id, and without a ticket only IDSizes; that nothing waits before the
+    /// target's handshake, and IDSizes alone until the widths of ids are known, up to when nothing is learned, and from when on no
+    /// composite waits; and that the next id has four bytes. It changes nothing.
     pub fn session(&self)
-        ensures ran { Ran self.now.end }
+        ensures ran { Ran self.now }
+        ensures pending { length self.now.pending ≤ self.now.end.limits.pending }
+        ensures limits { AreLimits self.now.end.limits.packet self.now.end.limits.live self.now.end.limits.requests self.now.end.limits.pending }
+        ensures parked { length self.now.parked ≤ PARKED_MOST }
+        ensures distinct { AreDistinct self.now.pending }
+        ensures own { AreOwn self.now.pending }
+        ensures begins { self.now.end.phase ≡ AwaitingHandshake → Begins self.now }
+        ensures alone { ends.is_open self.now.end ≡ true → self.now.sizes ≡ None → IsSizesAlone self.now.pending }
+        ensures unlearned { self.now.sizes ≡ None → self.now.mirror ≡ empty_mirror }
+        ensures unparked { (w : Widths) → self.now.sizes ≡ Some w → self.now.parked ≡ [] }
+        ensures id { self.now.next_id < 2 ^ 32 }
         ensures bytes { IsBytes self.now.end.incoming }
         ensures flows { self.now.end.outgoing ≡ [] → ends.is_paused self.now.end ≡ false }
         ensures room { front_of self.now.end ≡ More → ends.is_open self.now.end ≡ true → ends.is_paused self.now.end ≡ false → 0 < room_of self.now.end }
     {
         self.end.invariants();
+        let _id = self.next_id;
     }
+}
+
+/// All limits are some that there may be. It does nothing.
+fn are_limits(limits: &Limits)
+    ensures { AreLimits limits.now.packet limits.now.live limits.now.requests limits.now.pending }
+{
+    let _packet = limits.packet();
+    let _live = limits.live();
+    let _requests = limits.requests();
+    let _pending = limits.pending();
 }

@@ -1,14 +1,22 @@
-//! What lasts from call to call, and that each end reads what the other sent.
-ghost use Rattle.std.specs.Prelude.{◌≡◌, ℕ, List, Some};
-ghost use Rattle.jdwp_wire.specs.Widths.{Widths};
+//! What lasts from call to call, that each end reads what the other sent, and which packets are refused.
+ghost use Rattle.std.specs.Prelude.{◌≡◌, ℕ, List, [], Some};
+ghost use Rattle.jdwp_wire.specs.ErrorCodes.{NONE};
+ghost use Rattle.jdwp_wire.specs.Widths.{AreWidths, Widths};
+ghost use Rattle.jdwp_wire.specs.declared.packet.Header.{Header};
 ghost use Rattle.jdwp_event.specs.CompositeBytes.{EncodesComposite};
 ghost use Rattle.jdwp_event.specs.Composites.{CompositeMeaning};
 ghost use Rattle.jdwp_layout.specs.declared.answer.Answer.{Answer};
 ghost use Rattle.jdwp_debuggee.specs.Actions.{Command};
+ghost use Rattle.jdwp_debuggee.specs.Answers.{sizes_answer};
 ghost use Rattle.jdwp_debuggee.specs.Sending.{EncodesAnswer, answer_bytes, error_of};
-ghost use Rattle.jdwp_debugger.specs.Asking.{EncodesCommand, ReadsAsAsked};
-ghost use Rattle.jdwp_debugger.specs.News.{answer_in, composite_in};
+ghost use Rattle.jdwp_debugger.specs.Asking.{EncodesCommand, ReadsAsAsked, carried_bytes, command_header};
+ghost use Rattle.jdwp_debugger.specs.Debuggers.{Debugger};
+ghost use Rattle.jdwp_debugger.specs.DebuggerTurns.{sizes_header};
+ghost use Rattle.jdwp_debugger.specs.Judging.{EncodesMessage, IsJudgedAs, Stands};
+ghost use Rattle.jdwp_debugger.specs.News.{EIGHT, answer_in, composite_in};
 ghost use Rattle.jdwp_debugger.specs.Runs.{GoesOn};
+ghost use Rattle.jdwp_mirror.specs.Messages.{Message, id_sizes};
+ghost use Rattle.jdwp_mirror.specs.Widths.{widths_in};
 
 /// Whatever bytes come, the packets that were read or that wait are the first whole ones of the bytes fed, none is read behind the first
 /// fault, and what was taken and what waits to leave are the bytes of the messages put, or where the connection was lost a beginning of
@@ -32,4 +40,31 @@ pub fn reads_what_was_reported()
 pub fn reads_what_was_answered()
     ensures { (w : Widths) (c : Command) (answer : Answer) → EncodesAnswer w c.set c.number answer
         → answer_in w c (error_of answer) (answer_bytes w answer) ≡ Some answer }
+{}
+
+/// IDSizes is put as any other command, in ids of any widths: it has no data, which encode it. It does nothing.
+pub fn puts_id_sizes()
+    ensures header { (w : Widths) (id : ℕ) → command_header w id id_sizes ≡ sizes_header id }
+    ensures data_are { (w : Widths) → carried_bytes w id_sizes.carried ≡ [] }
+    ensures encoded { (w : Widths) → EncodesCommand w id_sizes }
+{}
+
+/// The reply to IDSizes is read as the answer that was given, whatever the widths of ids by which it is sent and read, since no id stands
+/// in it. It does nothing.
+pub fn reads_id_sizes_at_any_widths()
+    ensures { (v w : Widths) (answer : Answer) → EncodesAnswer w id_sizes.set id_sizes.number answer
+        → answer_in v id_sizes (error_of answer) (answer_bytes w answer) ≡ Some answer }
+{}
+
+/// The widths of ids that a target tells are read before any are known, and are those that it tells. It does nothing.
+pub fn reads_widths()
+    ensures read { (w : Widths) → AreWidths w.field w.method w.object w.reference w.frame
+        → answer_in EIGHT id_sizes NONE (answer_bytes w (sizes_answer w)) ≡ Some (sizes_answer w) }
+    ensures widths { (w : Widths) → AreWidths w.field w.method w.object w.reference w.frame → widths_in (sizes_answer w) ≡ Some w }
+{}
+
+/// A packet that encodes a message is refused where the message is refused, and for the same. It does nothing.
+pub fn refuses_what_is_refused()
+    ensures { (d : Debugger) (waiting : List CompositeMeaning) (header : Header) (body : List ℕ) (message : Message)
+        → Stands d waiting → EncodesMessage d waiting header body message → IsJudgedAs d waiting header body message }
 {}

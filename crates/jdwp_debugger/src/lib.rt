@@ -10,6 +10,7 @@ mod lost;
 mod news;
 mod parked;
 mod pending;
+mod reading;
 mod turning;
 
 pub use asking::Refused;
@@ -18,8 +19,9 @@ pub use faults::DebuggerFault;
 pub use heads::Head;
 pub use jdwp_mirror::{Carried, Command, KeptRequest, Known, KnownThreads, Mirror};
 pub use laws::{
-    goes_on_at_each_call, reads_what_was_answered, reads_what_was_asked, reads_what_was_reported,
+    goes_on_at_each_call, puts_id_sizes, reads_id_sizes_at_any_widths, reads_what_was_answered,
+    reads_what_was_asked, reads_what_was_reported, reads_widths, refuses_what_is_refused,
 };
 pub use lost::Lost;
-pub use pending::{Asked, Ticket};
+pub use pending::Ticket;
 pub use turning::Read;

@@ -1,15 +1,14 @@
 //! What a loss leaves unanswered.
 ghost use Rattle.std.specs.Prelude.{◌≡◌, ◌≤◌, ◌<◌, ◌++◌, ◌∷◌, [], length};
-ghost use Rattle.jdwp_wire.specs.Limits.{standard_limits};
-ghost use Rattle.jdwp_debugger.specs.Debuggers.{tickets_of};
+ghost use Rattle.jdwp_debugger.specs.Debuggers.{PENDING_MOST, tickets_of};
 
 use crate::pending::{Asked, Ticket};
 use std::marker::Model;
 
-/// The most commands that wait for replies within the standard limits.
-const MOST: usize = 64;
+/// The most commands that wait for replies, whatever the limits.
+const MOST: usize = 1_024;
 
-/// The tickets that were neither answered nor lost before, in the order asked: at most 64. It takes no memory.
+/// The tickets that were neither answered nor lost before, in the order asked: at most 1,024. It takes no memory.
 #[derive(Drop)]
 pub struct Lost {
     tickets: [Ticket; MOST],
@@ -18,21 +17,21 @@ pub struct Lost {
 
 impl Model for Lost {
     ghost use Rattle.std.specs.Prelude.{List, ◌≤◌, take};
-    ghost use Rattle.jdwp_wire.specs.Limits.{standard_limits};
+    ghost use Rattle.jdwp_debugger.specs.Debuggers.{PENDING_MOST};
     ghost use Rattle.jdwp_debugger.specs.declared.pending.Ticket.{Ticket};
 
     ghost Value = { List Ticket };
 
     ghost view = { λ l. take l.count l.tickets };
 
-    ghost invariant = { λ l. l.count ≤ standard_limits.pending };
+    ghost invariant = { λ l. l.count ≤ PENDING_MOST };
 }
 
 impl Lost {
     /// The tickets of the commands that wait.
     #[tactic(auto, using(crate::proofs::Losing::given, crate::proofs::Losing::without))]
     pub(crate) fn of(pending: &[Asked]) -> Lost
-        requires { length pending.now ≤ standard_limits.pending }
+        requires { length pending.now ≤ PENDING_MOST }
         ensures { result ≡ tickets_of pending.now }
     {
         let mut lost = Lost::none();
@@ -56,16 +55,17 @@ impl Lost {
 
     /// One more behind the others.
     fn push(&mut self, ticket: Ticket)
-        requires { length self.old < standard_limits.pending }
+        requires { length self.old < PENDING_MOST }
         ensures { self.new ≡ self.old ++ ticket ∷ [] }
     {
         self.tickets[self.count] = ticket;
         self.count += 1;
     }
 
-    /// The tickets, in the order asked.
+    /// The tickets, in the order asked: at most 1,024.
     pub fn as_slice(&self) -> &[Ticket]
-        ensures { result.now ≡ self.now }
+        ensures value { result.now ≡ self.now }
+        ensures bound { length self.now ≤ PENDING_MOST }
     {
         &self.tickets[..self.count]
     }

@@ -4,6 +4,7 @@ ghost use Rattle.jdwp_debugger.specs.Asking.{IsNextFree, is_outstanding};
 ghost use Rattle.jdwp_debugger.specs.Debuggers.{at_place, has_tickets, seen_unanswered, unanswered};
 
 use jdwp_mirror::Command;
+use std::marker::Model;
 
 /// The name of a command that was asked. Tickets rise from 1 for the life of a debugger, and none is given twice.
 #[derive(Clone, Copy, Debug, PartialEq, Eq, PartialOrd, Ord, Hash)]
@@ -11,12 +12,20 @@ pub struct Ticket(pub u64);
 
 /// A command that waits for its reply.
 #[derive(Drop)]
-pub struct Asked {
+pub(crate) struct Asked {
     /// The id of its packet.
     pub id: u32,
     /// None for IDSizes, which a debugger asks by itself.
     pub ticket: Option<Ticket>,
     pub command: Command,
+}
+
+impl Model for Asked {
+    ghost use Rattle.jdwp_debugger.specs.Debuggers as debuggers;
+
+    ghost Value = { debuggers.Asked };
+
+    ghost view = { λ a. record { id = a.id; ticket = a.ticket; command = a.command } };
 }
 
 /// Whether one of them has a ticket.

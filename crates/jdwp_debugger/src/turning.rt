@@ -1,41 +1,36 @@
 //! Turns of a debugger.
-ghost use Rattle.std.specs.Prelude.{◌≡◌, ◌<◌, ◌++◌, ◌∷◌, [], ℕ, List, IfOk, IfErr, OnOk, Err, None, Some, length, false, slice_get};
+ghost use Rattle.std.specs.Prelude.{◌≡◌, ◌<◌, ◌++◌, ◌∷◌, [], ℕ, List, IfOk, IfErr, OnOk, Err, None, length, false};
 ghost use Rattle.std.specs.List.{list_any};
 ghost use Rattle.std.specs.Result.{IsErrOf};
-ghost use Rattle.jdwp_wire.specs.ErrorCodes.{NONE};
 ghost use Rattle.jdwp_wire.specs.Bytes.{IsBytes};
 ghost use Rattle.jdwp_wire.specs.Streams.{Handshake, Packet, Whole};
-ghost use Rattle.jdwp_end.specs.Ends.{front_of};
+ghost use Rattle.jdwp_wire.specs.declared.packet.Header.{Header};
+ghost use Rattle.jdwp_end.specs.Ends.{HasPacket, front_of};
 ghost use Rattle.jdwp_debugger.specs.declared.faults.DebuggerFault.TheVariants as code;
-ghost use Rattle.jdwp_debugger.specs.declared.heads.Head.TheVariants as head;
 ghost use Rattle.jdwp_debugger.specs.DebuggerTurns as turns;
-ghost use Rattle.jdwp_debugger.specs.DebuggerTurns.{Enters, EntersAt, FailsOnly, FailsTo, Fits, HandlesAt, LearnedAll, MayTakeMemory, MayWantMemory, TurnsAt, WantsMemory, closed, closed_where, command_at, heads_of, measured_where, news_meaning, none_known, reading_of, refused, reports, told, with_read, with_sizes};
-ghost use Rattle.jdwp_mirror.specs.Faults.{PARKED_MOST, has_bad_event};
-ghost use Rattle.jdwp_mirror.specs.FaultParts.{IsData, is_dispose_act};
+ghost use Rattle.jdwp_debugger.specs.DebuggerTurns.{AreFew, Enters, EntersAt, FailsOnly, FailsTo, HandlesAt, IsSaid, LearnedAll, MayTakeMemory, TurnsAt, closed, closed_where, command_at, measured_where, news_meaning, none_known, refused, reports, told, with_sizes};
+ghost use Rattle.jdwp_mirror.specs.Faults.{has_bad_event};
+ghost use Rattle.jdwp_mirror.specs.FaultParts.{is_dispose_act};
 ghost use Rattle.jdwp_mirror.specs.KnownThreads.{count_in};
 ghost use Rattle.jdwp_mirror.specs.Messages.{Reply, Ticket as MessageTicket};
 ghost use Rattle.jdwp_mirror.specs.Mirror.{ends};
 ghost use Rattle.jdwp_mirror.specs.Mirrors.{empty_mirror};
 ghost use Rattle.jdwp_debugger.specs.News as news;
-ghost use Rattle.jdwp_debugger.specs.News.{Tells, answer_says, event_says, reply_to, says, sizes_say, widths_by};
-ghost use Rattle.jdwp_mirror.specs.Widths.{widths_in};
+ghost use Rattle.jdwp_event.specs.Composites.{CompositeMeaning};
 
 use crate::debugger::Debugger;
 use crate::faults::DebuggerFault;
 use crate::heads::Head;
-use crate::news::{place_under, read_answer, read_composite, read_parked};
 use crate::parked::Parked;
 use crate::pending::{Asked, Ticket};
+use crate::reading::{Known, News};
 use jdwp_end::Front;
 use jdwp_event::{Composite, EventKind};
 use jdwp_layout::Answer;
-use jdwp_layout::numbers::{COMPOSITE, EVENT, ID_SIZES, VIRTUAL_MACHINE};
-use jdwp_mirror::{Act, Command, Mirror, has_event_of, is_bad_composite, widths_in_answer};
-use jdwp_wire::{ErrorCode, HANDSHAKE, Header, IdSizes, PacketKind, PacketRef};
+use jdwp_layout::numbers::{ID_SIZES, VIRTUAL_MACHINE};
+use jdwp_mirror::{Act, Command, Mirror, has_event_of, is_bad_composite};
+use jdwp_wire::{HANDSHAKE, Header, IdSizes, PacketKind};
 use std::alloc::Global;
-
-/// How many composites may wait for the widths of ids.
-const MOST_PARKED: usize = 4;
 
 /// What a turn read.
 #[derive(Drop)]
@@ -54,18 +49,6 @@ pub enum Read {
     Seen(Composite),
 }
 
-/// What a packet says by its bytes.
-#[derive(Drop)]
-pub(crate) enum News {
-    /// A composite, to be read once the widths of ids are known.
-    Waits(Vec<u8>),
-    Happens(Composite),
-    /// The answer to the command at this place among those that wait.
-    Answers(usize, Ticket, Answer),
-    /// The widths of ids, in the answer to the command at this place, and the composites that waited.
-    Measures(usize, Answer, IdSizes, Vec<Composite>),
-}
-
 impl Debugger {
     /// Handles the message in front, if one is whole and the end is neither closed nor paused.
     ///
@@ -76,6 +59,7 @@ impl Debugger {
     /// bytes and a reply with an error take no memory.
     pub fn turn(&mut self, alloc: Global) -> Result<Read, DebuggerFault>
         ensures turns { TurnsAt (front_of self.old.end) self.old result self.new }
+        ensures few { IfOk result (λ r. AreFew (told r)) }
         ensures memory { IsErrOf result code.NoMemory → MayTakeMemory (front_of self.old.end) }
     {
         match self.end.front() {
@@ -88,13 +72,25 @@ impl Debugger {
                 Err(DebuggerFault::Frame(fault))
             }
             Front::Handshake => self.greet(alloc),
-            Front::Packet(packet, used) => {
-                let header = packet.header;
-                match self.read_packet(alloc, &packet) {
-                    Ok(news) => self.enter(alloc, header, used, news),
-                    Err(fault) => self.fail(fault),
-                }
-            }
+            Front::Packet(used) => self.handle_packet(alloc, used),
+        }
+    }
+
+    /// Handles the packet in front, which takes so many bytes: it is read where it lies, and then taken in.
+    fn handle_packet(&mut self, alloc: Global, used: usize) -> Result<Read, DebuggerFault>
+        requires front { HasPacket used self.old.end }
+        requires bytes { IsBytes self.old.end.incoming }
+        ensures { (header : Header) (body : List ℕ) → front_of self.old.end ≡ Whole (Packet header body) used → HandlesAt (Packet header body) used self.old result self.new }
+    {
+        let limits = self.end.limits();
+        let known = Known {
+            sizes: self.sizes,
+            parked: &self.parked,
+            pending: &self.pending,
+        };
+        match known.read_front(alloc, self.end.packet_in_front(used), &limits) {
+            Ok(read) => self.enter(alloc, read.0, used, read.1),
+            Err(fault) => self.fail(fault),
         }
     }
 
@@ -118,110 +114,6 @@ impl Debugger {
         Ok(Read::Hello)
     }
 
-    /// What a packet says by its bytes.
-    fn read_packet(&self, alloc: Global, packet: &PacketRef<'_>) -> Result<News, DebuggerFault>
-        ensures value { Tells news_meaning result (says (reading_of self.now) packet.now.header.id packet.now.header.kind packet.now.body.now) }
-        ensures memory { IsErrOf result code.NoMemory → MayWantMemory packet.now.header.kind }
-        ensures fits { IfOk result (λ n. Fits self.now (news_meaning n)) }
-        ensures wants { IfOk result (λ n. WantsMemory (news_meaning n) → MayWantMemory packet.now.header.kind) }
-    {
-        match packet.header.kind {
-            PacketKind::Command { set, number } => {
-                if set != EVENT || number != COMPOSITE {
-                    return Err(DebuggerFault::BadEvent);
-                }
-                self.read_event(alloc, packet.body)
-            }
-            PacketKind::Reply { error } => match place_under(packet.header.id, &self.pending) {
-                Some(place) => self.read_reply(alloc, place, error, packet.body),
-                None => Err(DebuggerFault::UnknownReply),
-            },
-        }
-    }
-
-    /// What a composite says.
-    fn read_event(&self, alloc: Global, bytes: &[u8]) -> Result<News, DebuggerFault>
-        ensures value { Tells news_meaning result (event_says self.now.sizes self.now.parked bytes.now) }
-        ensures fits { IfOk result (λ n. Fits self.now (news_meaning n)) }
-    {
-        let Some(sizes) = self.sizes else {
-            if self.parked.len() == MOST_PARKED {
-                return Err(DebuggerFault::TooManyParked);
-            }
-            let body = Vec::from_slice(alloc, bytes)?;
-            return Ok(News::Waits(body));
-        };
-        let composite = read_composite(alloc, &sizes, bytes)?;
-        Ok(News::Happens(composite))
-    }
-
-    /// What the reply to the command at a place says.
-    fn read_reply(
-        &self,
-        alloc: Global,
-        place: usize,
-        error: ErrorCode,
-        bytes: &[u8],
-    ) -> Result<News, DebuggerFault>
-        requires { place < length self.now.pending }
-        ensures value { Tells news_meaning result (reply_to (reading_of self.now) error bytes.now place (slice_get self.now.pending place)) }
-        ensures memory { IsErrOf result code.NoMemory → error.0 ≡ NONE.0 }
-        ensures fits { IfOk result (λ n. Fits self.now (news_meaning n)) }
-        ensures wants { IfOk result (λ n. WantsMemory (news_meaning n) → error.0 ≡ NONE.0) }
-    {
-        let asked = &self.pending[place];
-        let answer = read_answer(alloc, &asked.command, &self.widths(), error, bytes)?;
-        self.read_ticketed(alloc, place, asked.ticket, answer)
-    }
-
-    /// What the answer to a command with this ticket says, which waits at a place.
-    fn read_ticketed(
-        &self,
-        alloc: Global,
-        place: usize,
-        ticket: Option<Ticket>,
-        answer: Answer,
-    ) -> Result<News, DebuggerFault>
-        requires { place < length self.now.pending }
-        ensures value { Tells news_meaning result (answer_says self.now.parked place ticket (Some answer)) }
-        ensures memory { IsErrOf result code.NoMemory → IsData answer }
-        ensures fits { IfOk result (λ n. Fits self.now (news_meaning n)) }
-        ensures wants { IfOk result (λ n. WantsMemory (news_meaning n) → IsData answer) }
-    {
-        match ticket {
-            Some(ticket) => Ok(News::Answers(place, ticket, answer)),
-            None => self.read_sizes(alloc, place, answer),
-        }
-    }
-
-    /// The widths by which replies are read. Before they are known only IDSizes waits for its reply, in which no id stands.
-    fn widths(&self) -> IdSizes
-        ensures { result ≡ widths_by self.now.sizes }
-    {
-        match self.sizes {
-            Some(sizes) => sizes,
-            None => match IdSizes::new(8, 8, 8, 8, 8) {
-                Ok(sizes) => sizes,
-                Err(_) => unreachable!(),
-            },
-        }
-    }
-
-    /// What the answer to IDSizes says.
-    fn read_sizes(&self, alloc: Global, place: usize, answer: Answer) -> Result<News, DebuggerFault>
-        requires { place < length self.now.pending }
-        ensures value { Tells news_meaning result (sizes_say self.now.parked place answer (widths_in answer)) }
-        ensures memory { IsErrOf result code.NoMemory → IsData answer }
-        ensures fits { IfOk result (λ n. Fits self.now (news_meaning n)) }
-        ensures wants { IfOk result (λ n. WantsMemory (news_meaning n) → IsData answer) }
-    {
-        let Some(sizes) = widths_in_answer(&answer) else {
-            return Err(DebuggerFault::BadReply);
-        };
-        let composites = read_parked(alloc, &sizes, &self.parked)?;
-        Ok(News::Measures(place, answer, sizes, composites))
-    }
-
     /// Takes in what a packet with this header says, which takes so many bytes.
     fn enter(
         &mut self,
@@ -230,9 +122,8 @@ impl Debugger {
         used: usize,
         news: News,
     ) -> Result<Read, DebuggerFault>
-        requires front { (body : List ℕ) × (front_of self.old.end ≡ Whole (Packet header body) used) }
+        requires said { IsSaid self.old header used (news_meaning news) }
         requires bytes { IsBytes self.old.end.incoming }
-        requires fits { Fits self.old (news_meaning news) }
         ensures { (body : List ℕ) → front_of self.old.end ≡ Whole (Packet header body) used → EntersAt header body used (news_meaning news) self.old result self.new }
     {
         match news {
@@ -255,9 +146,8 @@ impl Debugger {
 
     /// A composite waits for the widths of ids.
     fn park(&mut self, header: Header, used: usize, body: Vec<u8>) -> Result<Read, DebuggerFault>
-        requires front { (content : List ℕ) × (front_of self.old.end ≡ Whole (Packet header content) used) }
+        requires said { IsSaid self.old header used (news.Waits body.items) }
         requires bytes { IsBytes self.old.end.incoming }
-        requires few { length self.old.parked < PARKED_MOST }
         ensures ok { IfOk result (λ r. (content : List ℕ) → front_of self.old.end ≡ Whole (Packet header content) used → Enters (Packet header content) used header (news.Waits body.items) self.old (told r) self.new) }
         ensures err { IfErr result (λ fault. (fault ≡ code.NoMemory) × (self.new ≡ self.old)) }
     {
@@ -274,7 +164,7 @@ impl Debugger {
         used: usize,
         composite: Composite,
     ) -> Result<Read, DebuggerFault>
-        requires front { (content : List ℕ) × (front_of self.old.end ≡ Whole (Packet header content) used) }
+        requires said { IsSaid self.old header used (news.Happens composite) }
         requires bytes { IsBytes self.old.end.incoming }
         ensures { (content : List ℕ) → front_of self.old.end ≡ Whole (Packet header content) used → EntersAt header content used (news.Happens composite) self.old result self.new }
     {
@@ -283,7 +173,9 @@ impl Debugger {
         }
         self.mirror.learn_composite(&composite)?;
         let closes = has_event_of(&composite, EventKind::VmDeath);
-        self.note(header, used);
+        self.end.take_off(used);
+        self.last.clear();
+        self.last.push(Head::Packet(header));
         self.close_where(closes);
         Ok(Read::Seen(composite))
     }
@@ -297,16 +189,17 @@ impl Debugger {
         ticket: Ticket,
         answer: Answer,
     ) -> Result<Read, DebuggerFault>
-        requires front { (content : List ℕ) × (front_of self.old.end ≡ Whole (Packet packet.0 content) packet.1) }
+        requires said { IsSaid self.old packet.0 packet.1 (news.Answers place ticket.0 answer) }
         requires bytes { IsBytes self.old.end.incoming }
-        requires place { place < length self.old.pending }
         ensures { (content : List ℕ) → front_of self.old.end ≡ Whole (Packet packet.0 content) packet.1 → EntersAt packet.0 content packet.1 (news.Answers place ticket.0 answer) self.old result self.new }
     {
         let command = &self.pending[place].command;
         self.mirror.learn_reply(alloc, command, &answer)?;
         let closes = closes_session(command, &answer);
         let _ = self.pending.remove(place);
-        self.note(packet.0, packet.1);
+        self.end.take_off(packet.1);
+        self.last.clear();
+        self.last.push(Head::Packet(packet.0));
         self.close_where(closes);
         Ok(Read::Answered(ticket, answer))
     }
@@ -340,40 +233,19 @@ impl Debugger {
         sizes: IdSizes,
         closes: bool,
     )
-        requires front { (content : List ℕ) × (front_of self.old.end ≡ Whole (Packet header content) used) }
+        requires said { (answer : Answer) × (composites : List CompositeMeaning) × IsSaid self.old header used (news.Measures place answer sizes composites) }
         requires bytes { IsBytes self.old.end.incoming }
-        requires place { place < length self.old.pending }
         ensures { (content : List ℕ) → front_of self.old.end ≡ Whole (Packet header content) used → self.new ≡ measured_where closes sizes (with_sizes (Packet header content) used header place mirror sizes self.old) }
-    {
-        self.note_with_waiting(header, used);
-        self.parked.clear();
-        let _ = self.pending.remove(place);
-        self.mirror = mirror;
-        self.sizes = Some(sizes);
-        self.close_measured(closes, sizes);
-    }
-
-    /// The composites that waited were read, and then a packet with this header, of so many bytes.
-    fn note_with_waiting(&mut self, header: Header, used: usize)
-        requires front { (content : List ℕ) × (front_of self.old.end ≡ Whole (Packet header content) used) }
-        requires bytes { IsBytes self.old.end.incoming }
-        ensures { (content : List ℕ) → front_of self.old.end ≡ Whole (Packet header content) used → self.new ≡ with_read (Packet header content) used (heads_of self.old.parked ++ head.Packet header ∷ []) self.old }
     {
         self.end.take_off(used);
         self.last.clear();
         self.last.push_waiting(&self.parked);
         self.last.push(Head::Packet(header));
-    }
-
-    /// A packet with this header, of so many bytes, was read.
-    fn note(&mut self, header: Header, used: usize)
-        requires front { (content : List ℕ) × (front_of self.old.end ≡ Whole (Packet header content) used) }
-        requires bytes { IsBytes self.old.end.incoming }
-        ensures { (content : List ℕ) → front_of self.old.end ≡ Whole (Packet header content) used → self.new ≡ with_read (Packet header content) used (head.Packet header ∷ []) self.old }
-    {
-        self.end.take_off(used);
-        self.last.clear();
-        self.last.push(Head::Packet(header));
+        self.parked.clear();
+        let _ = self.pending.remove(place);
+        self.mirror = mirror;
+        self.sizes = Some(sizes);
+        self.close_measured(closes, sizes);
     }
 
     /// Fails: but for want of memory, the message is refused.

@@ -5,9 +5,22 @@ use Rattle.jdwp_debugger.proofs.debugger.Debugger.close.Goals as goal
 
 pub invariant_of-self : goal.invariant_of-self
 invariant_of-self c =
+    let s = c.self.inside in
     let kept = c.self.invariant in
     let few_parked : length c.clear-2.new.self.items ≤ PARKED_MOST = search (rules, arith) in
-    rw c.close.ensures (record { limits = kept.limits; few = kept.few; few_parked = few_parked; begins = λ e. absurd cc; ran = ran-closed c.self.inside.end kept.ran })
+    rw c.close.ensures
+    (record {
+      limits = kept.limits;
+      few = kept.few;
+      few_parked = few_parked;
+      distinct = kept.distinct;
+      own = kept.own;
+      begins = λ e. absurd cc;
+      alone = λ opened none. absurd cc;
+      unlearned = λ none. c.clear.ensures;
+      unparked = λ w known. absurd cc;
+      ran = ran-closed s.end s.pending.items s.pending.items kept.ran;
+    })
 
 pub returns : goal.returns
 returns c = search rules

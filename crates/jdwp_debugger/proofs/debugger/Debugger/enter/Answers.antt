@@ -1,10 +1,11 @@
 use Rattle.std.proofs.Common.{List, Result, Err, subst, sym, rules}
 use Rattle.jdwp_event.specs.Composites.{CompositeMeaning}
 use Rattle.jdwp_debugger.specs.declared.faults.DebuggerFault.{DebuggerFault}
-use Rattle.jdwp_debugger.specs.declared.turning.News as declared
+use Rattle.jdwp_debugger.specs.declared.reading.News as declared
 use Rattle.jdwp_debugger.specs.declared.turning.Read.{Read}
-use Rattle.jdwp_debugger.specs.DebuggerTurns.{EntersAt, FailsOnly, news_meaning, none_known, reports}
+use Rattle.jdwp_debugger.specs.DebuggerTurns.{EntersAt, FailsOnly, IsSaid, news_meaning, none_known, reports}
 use Rattle.jdwp_mirror.specs.Faults.{has_bad_event}
+use Rattle.jdwp_debugger.proofs.SaidPackets.{measures-within}
 use Rattle.jdwp_debugger.proofs.TurningLemmas.{fails-measuring}
 use Rattle.jdwp_debugger.proofs.debugger.Debugger.enter.Goals as goal
 
@@ -21,3 +22,9 @@ returns c = λ body front.
 
 pub returns-in-Ok : goal.returns-in-Ok
 returns-in-Ok c = search rules
+
+pub learn_waited-requires : goal.learn_waited-requires
+learn_waited-requires c =
+    let m = c.in-Measures in
+    let said = subst (λ (n : declared.News). IsSaid c.args.self.now c.args.header c.args.used (news_meaning n)) m.is c.requires.said in
+    measures-within c.args.self.now c.args.header c.args.used m.place m.answer m.sizes m.composites.items said

@@ -1,12 +1,15 @@
-use Rattle.std.proofs.Common.{◌≡◌, ◌∙◌, ◌≤◌, [], ap, subst, sym, rules, arith, length}
-use Rattle.jdwp_wire.specs.Limits.{standard_limits}
+use Rattle.std.proofs.Common.{◌≡◌, ◌∙◌, ◌≤◌, ◌++◌, List, [], ◌∷◌, None, false, refl, ap, subst, sym, rules, arith, length}
 use Rattle.jdwp_wire.specs.Bytes.{IsBytes}
 use Rattle.jdwp_wire.specs.Frames.{header_bytes}
 use Rattle.jdwp_wire.specs.Streams.{Handshake, Whole}
-use Rattle.jdwp_end.specs.Ends.{front_of, with_enqueued, with_handled}
-use Rattle.jdwp_debugger.specs.Debuggers.{Debugger}
+use Rattle.jdwp_end.specs.Ends.{End, front_of, with_enqueued, with_handled}
+use Rattle.jdwp_mirror.specs.Messages.{id_sizes}
+use Rattle.jdwp_debugger.specs.Asking.{is_outstanding}
+use Rattle.jdwp_debugger.specs.Debuggers.{AreDistinct, AreOwn, Asked, Debugger, IsSizesAlone}
 use Rattle.jdwp_debugger.specs.DebuggerTurns.{sizes_header}
+use Rattle.jdwp_debugger.specs.Runs.{HasRun}
 use Rattle.jdwp_debugger.proofs.DebuggerRuns.{ran-greeted}
+use Rattle.jdwp_debugger.proofs.Keeping.{distinct-more, own-more}
 use Rattle.jdwp_debugger.proofs.TurningLemmas.{handshake-phase}
 use Rattle.jdwp_debugger.proofs.debugger.Debugger.greet.Goals as goal
 
@@ -14,13 +17,32 @@ pub invariant_of-self-2 : goal.invariant_of-self-2
 invariant_of-self-2 c =
     let s = c.self.inside in
     let kept = c.self.invariant in
+    let ps = s.pending.items in
+    let p : Asked = record { id = s.next_id; ticket = None; command = id_sizes } in
     let front : front_of s.end ≡ Whole Handshake 14 = ap (λ (d : Debugger). front_of d.end) c.self.view_is ∙ c.requires.front in
     let bytes : IsBytes s.end.incoming = subst (λ (d : Debugger). IsBytes d.end.incoming) (sym c.self.view_is) c.requires.bytes in
     let begins = kept.begins (handshake-phase s.end 14 front) in
     let taken : c.take_off.new.self ≡ with_handled Handshake 14 s.end = c.take_off.ensures Handshake front in
-    let asked : c.enqueue.new.self ≡ with_enqueued (header_bytes (sizes_header s.next_id)) (with_handled Handshake 14 s.end) = search rules in
-    let few : length c.push.new.self.items ≤ standard_limits.pending = search (rules, arith) in
-    rw asked (record { limits = kept.limits; few = few; few_parked = kept.few_parked; begins = λ e. absurd cc; ran = ran-greeted s.end 14 s.next_id bytes front kept.ran })
+    let end : End = with_enqueued (header_bytes (sizes_header s.next_id)) (with_handled Handshake 14 s.end) in
+    let asked : c.enqueue.new.self ≡ end = search rules in
+    let pushed : c.push.new.self.items ≡ ps ++ p ∷ [] = search rules in
+    let few : length c.push.new.self.items ≤ s.end.limits.pending =
+    subst (λ (qs : List Asked). length qs ≤ s.end.limits.pending) (sym (pushed ∙ ap (λ (qs : List Asked). qs ++ p ∷ []) begins.0)) (kept.limits.pending_is.0) in
+    let free : is_outstanding ps p.id ≡ false = ap (λ (qs : List Asked). is_outstanding qs p.id) begins.0 in
+    let alone : IsSizesAlone c.push.new.self.items = subst IsSizesAlone (sym (pushed ∙ ap (λ (qs : List Asked). qs ++ p ∷ []) begins.0)) (refl, refl) in
+    rw asked
+    (record {
+      limits = kept.limits;
+      few = few;
+      few_parked = kept.few_parked;
+      distinct = subst AreDistinct (sym pushed) (distinct-more ps p kept.distinct free);
+      own = subst AreOwn (sym pushed) (own-more ps p (λ none. refl) kept.own);
+      begins = λ e. absurd cc;
+      alone = λ opened none. alone;
+      unlearned = kept.unlearned;
+      unparked = kept.unparked;
+      ran = subst (HasRun end) (sym pushed) (ran-greeted s.end ps 14 p bytes front kept.ran);
+    })
 
 pub returns : goal.returns
 returns c =

@@ -1,15 +1,38 @@
-use Rattle.std.proofs.Common.{◌≤◌, rules, arith, length}
-use Rattle.jdwp_wire.specs.Limits.{standard_limits}
+use Rattle.std.proofs.Common.{◌≡◌, ◌≤◌, ◌∙◌, List, ap, rules, arith, length, subst, sym}
 use Rattle.jdwp_mirror.specs.Faults.{PARKED_MOST}
+use Rattle.jdwp_debugger.specs.declared.pending.Ticket.{Ticket}
+use Rattle.jdwp_debugger.specs.Debuggers.{AreDistinct, AreOwn, Debugger, tickets_of}
 use Rattle.jdwp_debugger.proofs.DebuggerRuns.{ran-lost}
+use Rattle.jdwp_debugger.proofs.Keeping.{distinct-none, few-tickets}
 use Rattle.jdwp_debugger.proofs.debugger.Debugger.lose.Goals as goal
 
 pub invariant_of-self : goal.invariant_of-self
 invariant_of-self c =
+    let s = c.self.inside in
     let kept = c.self.invariant in
-    let few : length c.clear-3.new.self.items ≤ standard_limits.pending = search (rules, arith) in
+    let few : length c.clear-3.new.self.items ≤ s.end.limits.pending = search (rules, arith) in
     let few_parked : length c.clear-2.new.self.items ≤ PARKED_MOST = search (rules, arith) in
-    rw c.lose.ensures (record { limits = kept.limits; few = few; few_parked = few_parked; begins = λ e. absurd cc; ran = ran-lost c.self.inside.end kept.ran })
+    rw c.lose.ensures
+    (record {
+      limits = kept.limits;
+      few = few;
+      few_parked = few_parked;
+      distinct = subst AreDistinct (sym c.clear-3.ensures.items) distinct-none;
+      own = subst AreOwn (sym c.clear-3.ensures.items) tt;
+      begins = λ e. absurd cc;
+      alone = λ opened none. absurd cc;
+      unlearned = λ none. c.clear.ensures;
+      unparked = λ w known. absurd cc;
+      ran = ran-lost s.end s.pending.items c.clear-3.new.self.items kept.ran;
+    })
 
 pub returns-clause-tickets : goal.returns-clause-tickets
 returns-clause-tickets c = search rules
+
+pub returns-clause-few : goal.returns-clause-few
+returns-clause-few c =
+    let s = c.self.inside in
+    let ps = s.pending.items in
+    let all : length c.of-lost.result ≡ length (tickets_of ps) = ap (λ (ks : List Ticket). length ks) (c.of-lost.ensures ∙ ap tickets_of c.deref.ensures.value) in
+    let most = ap (λ (d : Debugger). d.end.limits.pending) c.self.view_is in
+    omega (arith, all, most, few-tickets ps, c.self.invariant.few)

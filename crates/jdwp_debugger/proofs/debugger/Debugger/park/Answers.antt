@@ -1,24 +1,41 @@
 use Rattle.std.proofs.Common.{◌≡◌, ◌∙◌, ◌≤◌, ap, subst, sym, rules, arith, length}
 use Rattle.jdwp_wire.specs.Bytes.{IsBytes}
-use Rattle.jdwp_wire.specs.Streams.{Packet, Whole}
-use Rattle.jdwp_end.specs.Ends.{front_of, with_handled}
+use Rattle.jdwp_wire.specs.Streams.{Packet}
+use Rattle.jdwp_end.specs.Ends.{End, front_of, with_handled}
 use Rattle.jdwp_mirror.specs.Faults.{PARKED_MOST}
 use Rattle.jdwp_debugger.specs.Debuggers.{Debugger}
-use Rattle.jdwp_debugger.proofs.DebuggerRuns.{ran-read}
+use Rattle.jdwp_debugger.specs.DebuggersKept.{view_of}
+use Rattle.jdwp_debugger.specs.DebuggerTurns.{IsSaid}
+use Rattle.jdwp_debugger.specs.News.{Waits}
+use Rattle.jdwp_debugger.proofs.SaidPackets.{may-park, parks-unknown, said-open, said-ran}
 use Rattle.jdwp_debugger.proofs.debugger.Debugger.park.Goals as goal
 
 pub take_off-requires : goal.take_off-requires
-take_off-requires c = (Packet c.args.header c.requires.front.0, ap (λ (d : Debugger). front_of d.end) c.self.view_is ∙ c.requires.front.1)
+take_off-requires c = (Packet c.args.header c.requires.said.body, ap (λ (d : Debugger). front_of d.end) c.self.view_is ∙ c.requires.said.front)
 
 pub invariant_of-self-2 : goal.invariant_of-self-2
 invariant_of-self-2 c =
     let s = c.self.inside in
     let kept = c.self.invariant in
     let header = c.args.header in
-    let content = c.requires.front.0 in
     let used = c.args.used in
-    let front : front_of s.end ≡ Whole (Packet header content) used = ap (λ (d : Debugger). front_of d.end) c.self.view_is ∙ c.requires.front.1 in
+    let news = Waits c.args.body.items in
+    let said : IsSaid (view_of s) header used news = subst (λ (d : Debugger). IsSaid d header used news) (sym c.self.view_is) c.requires.said in
     let bytes : IsBytes s.end.incoming = subst (λ (d : Debugger). IsBytes d.end.incoming) (sym c.self.view_is) c.requires.bytes in
-    let read : c.take_off.new.self ≡ with_handled (Packet header content) used s.end = c.take_off.ensures (Packet header content) front in
-    let few : length c.push.new.self.items ≤ PARKED_MOST = search (rules, arith) in
-    rw read (record { limits = kept.limits; few = kept.few; few_parked = few; begins = λ e. absurd cc; ran = ran-read s.end header content used bytes front kept.ran })
+    let end : End = with_handled (Packet header said.body) used s.end in
+    let read : c.take_off.new.self ≡ end = c.take_off.ensures (Packet header said.body) said.front in
+    let less = may-park (view_of s) header used c.args.body.items said kept.few_parked in
+    let few : length c.push.new.self.items ≤ PARKED_MOST = search (rules, arith, less) in
+    rw read
+    (record {
+      limits = kept.limits;
+      few = kept.few;
+      few_parked = few;
+      distinct = kept.distinct;
+      own = kept.own;
+      begins = λ e. absurd cc;
+      alone = λ opened none. kept.alone (said-open (view_of s) header used news bytes said) none;
+      unlearned = kept.unlearned;
+      unparked = λ w known. absurd (let none = parks-unknown (view_of s) header used c.args.body.items said in cc);
+      ran = said-ran (view_of s) header used news bytes said kept.ran;
+    })

@@ -1,15 +1,49 @@
-use Rattle.std.proofs.Common.{◌≡◌, ◌∙◌, ap, sym, subst, refl, rules, Bool, false, [], ◌∷◌}
+use Rattle.std.proofs.Common.{◌≡◌, ◌∙◌, ap, sym, subst, refl, rules, Bool, false, List, [], ◌∷◌, ◌++◌}
+use Rattle.jdwp_wire.specs.Bytes.{IsBytes}
 use Rattle.jdwp_wire.specs.Streams.{Packet}
-use Rattle.jdwp_end.specs.Ends.{front_of}
+use Rattle.jdwp_end.specs.Ends.{End, front_of, with_handled}
+use Rattle.jdwp_debugger.specs.declared.heads.Head.{Head}
 use Rattle.jdwp_debugger.specs.declared.heads.Head.TheVariants as head
 use Rattle.jdwp_debugger.specs.Debuggers.{Debugger}
-use Rattle.jdwp_debugger.specs.DebuggerTurns.{bad_where, closed_where, with_read}
+use Rattle.jdwp_debugger.specs.DebuggersKept.{view_of}
+use Rattle.jdwp_debugger.specs.DebuggerTurns.{IsSaid, bad_where, closed_where, with_read}
+use Rattle.jdwp_debugger.specs.News.{Happens}
 use Rattle.jdwp_mirror.specs.Faults.{is_bad_event}
 use Rattle.jdwp_mirror.specs.KnownThreads.{count_in}
 use Rattle.jdwp_mirror.specs.Messages.{Report}
 use Rattle.jdwp_mirror.specs.Mirror.{ends}
 use Rattle.jdwp_mirror.specs.Mirrors.{Learned}
+use Rattle.jdwp_debugger.proofs.SaidPackets.{knows, said-ran}
 use Rattle.jdwp_debugger.proofs.debugger.Debugger.see.Goals as goal
+
+pub take_off-requires : goal.take_off-requires
+take_off-requires c = (Packet c.args.header c.requires.said.body, ap (λ (d : Debugger). front_of d.end) c.self.view_is ∙ c.requires.said.front)
+
+pub invariant_of-self-2 : goal.invariant_of-self-2
+invariant_of-self-2 c =
+    let s = c.self.inside in
+    let kept = c.self.invariant in
+    let header = c.args.header in
+    let used = c.args.used in
+    let composite = c.args.composite in
+    let news = Happens composite in
+    let said : IsSaid (view_of s) header used news = subst (λ (d : Debugger). IsSaid d header used news) (sym c.self.view_is) c.requires.said in
+    let bytes : IsBytes s.end.incoming = subst (λ (d : Debugger). IsBytes d.end.incoming) (sym c.self.view_is) c.requires.bytes in
+    let end : End = with_handled (Packet header said.body) used s.end in
+    let read : c.take_off.new.self ≡ end = c.take_off.ensures (Packet header said.body) said.front in
+    rw read
+    (record {
+      limits = kept.limits;
+      few = kept.few;
+      few_parked = kept.few_parked;
+      distinct = kept.distinct;
+      own = kept.own;
+      begins = λ e. absurd cc;
+      alone = λ opened none. absurd (knows (view_of s) header used composite said none);
+      unlearned = λ none. absurd (knows (view_of s) header used composite said none);
+      unparked = kept.unparked;
+      ran = said-ran (view_of s) header used news bytes said kept.ran;
+    })
 
 pub returns : goal.returns
 returns c = λ content front.
@@ -19,15 +53,22 @@ returns c = λ content front.
     sym (c.is_bad_composite.ensures ∙ ap (λ (d : Debugger). is_bad_event (count_in d.mirror.threads) composite) c.self.view_is) ∙ c.if-is_bad_composite.false in
     let learned = subst (λ (d : Debugger). Learned d.mirror (Report composite) m) c.self.view_is c.in_ok-learn_composite.ensures.ok in
     let death : c.has_event_of-closes.result ≡ ends (Report composite) = search rules in
-    let here = ap (λ (d : Debugger). front_of d.end) c.self.view_is ∙ front in (
+    let s = c.self.inside in
+    let header = c.args.header in
+    let here = ap (λ (d : Debugger). front_of d.end) c.self.view_is ∙ front in
+    let end = with_handled (Packet header content) c.args.used s.end in
+    let last : c.push.new.self ≡ head.Packet header ∷ [] = c.push.ensures ∙ ap (λ (hs : List Head). hs ++ head.Packet header ∷ []) c.clear.ensures in
+    let left =
+    ap (λ (e : End). record (view_of s) { end = e; mirror = m; last = c.push.new.self }) (c.take_off.ensures (Packet header content) here)
+    ∙ ap (λ (hs : List Head). record (view_of s) { end = end; mirror = m; last = hs }) last
+    ∙ ap (λ (d : Debugger). record (with_read (Packet header content) c.args.used (head.Packet header ∷ []) d) { mirror = m }) c.self.view_is in (
       ap bad_where good,
       (
         refl,
         (
           m,
           learned,
-          c.close_where.ensures ∙ ap (λ (b : Bool). closed_where b c.note.new.self) death ∙ ap (closed_where (ends (Report composite))) (c.note.ensures content here)
-              ∙ ap (λ (d : Debugger). closed_where (ends (Report composite)) (record (with_read (Packet c.args.header content) c.args.used (head.Packet c.args.header ∷ []) d) { mirror = m })) c.self.view_is,
+          c.close_where.ensures ∙ ap (λ (b : Bool). closed_where b (record (view_of s) { end = c.take_off.new.self; mirror = m; last = c.push.new.self })) death ∙ ap (closed_where (ends (Report composite))) left,
         ),
       ),
     )

@@ -8,4 +8,15 @@ invariant_of-self c =
     let kept = c.self.invariant in
     let le : c.take.result ≤ length s.end.outgoing = omega (arith, c.take.ensures.count) in
     rw c.take.ensures.taken
-    (record { limits = kept.limits; few = kept.few; few_parked = kept.few_parked; begins = kept.begins; ran = ran-taken s.end c.take.result le kept.ran })
+    (record {
+      limits = kept.limits;
+      few = kept.few;
+      few_parked = kept.few_parked;
+      distinct = kept.distinct;
+      own = kept.own;
+      begins = kept.begins;
+      alone = kept.alone;
+      unlearned = kept.unlearned;
+      unparked = kept.unparked;
+      ran = ran-taken s.end s.pending.items c.take.result le kept.ran;
+    })

@@ -1,10 +1,59 @@
-use Rattle.std.proofs.Common.{ap, length, arith}
-use Rattle.jdwp_debugger.specs.Debuggers.{Debugger}
+use Rattle.std.proofs.Common.{◌≡◌, ◌∙◌, ◌<◌, ◌≤◌, List, ap, sym, subst, length, arith, rules}
+use Rattle.std.specs.Prelude.{remove}
+use Rattle.jdwp_wire.specs.Bytes.{IsBytes}
+use Rattle.jdwp_wire.specs.Streams.{Packet}
+use Rattle.jdwp_end.specs.Ends.{End, front_of, with_handled}
+use Rattle.jdwp_mirror.specs.Faults.{PARKED_MOST}
+use Rattle.jdwp_debugger.specs.Debuggers.{AreDistinct, AreOwn, Asked, Debugger}
+use Rattle.jdwp_debugger.specs.DebuggersKept.{view_of}
+use Rattle.jdwp_debugger.specs.DebuggerTurns.{IsSaid}
+use Rattle.jdwp_debugger.specs.News.{Measures}
+use Rattle.jdwp_debugger.specs.Runs.{HasRun}
+use Rattle.jdwp_debugger.proofs.Keeping.{distinct-left, few-left, own-left}
+use Rattle.jdwp_debugger.proofs.SaidPackets.{measures-within, said-ran}
 use Rattle.jdwp_debugger.proofs.debugger.Debugger.take_sizes.Goals as goal
+
+pub take_off-requires : goal.take_off-requires
+take_off-requires c = (Packet c.args.header c.requires.said.2.body, ap (λ (d : Debugger). front_of d.end) c.self.view_is ∙ c.requires.said.2.front)
 
 pub remove-requires : goal.remove-requires
 remove-requires c =
-    let noted = ap (λ (d : Debugger). length d.pending) (c.note_with_waiting.ensures c.requires.front.0 c.requires.front.1) in
-    let seen = ap (λ (d : Debugger). length d.pending) c.self.view_is in
-    let place = c.requires.place in
-    omega (arith, noted, seen, place)
+    let s = c.self.inside in
+    let answer = c.requires.said.0 in
+    let cs = c.requires.said.1 in
+    let said = subst (λ (d : Debugger). IsSaid d c.args.header c.args.used (Measures c.args.place answer c.args.sizes cs)) (sym c.self.view_is) c.requires.said.2 in
+    let within : c.args.place < length s.pending.items = measures-within (view_of s) c.args.header c.args.used c.args.place answer c.args.sizes cs said in
+    omega (arith, within)
+
+pub invariant_of-self : goal.invariant_of-self
+invariant_of-self c =
+    let s = c.self.inside in
+    let kept = c.self.invariant in
+    let header = c.args.header in
+    let used = c.args.used in
+    let place = c.args.place in
+    let answer = c.requires.said.0 in
+    let cs = c.requires.said.1 in
+    let w = c.args.sizes in
+    let ps = s.pending.items in
+    let news = Measures place answer w cs in
+    let said : IsSaid (view_of s) header used news = subst (λ (d : Debugger). IsSaid d header used news) (sym c.self.view_is) c.requires.said.2 in
+    let bytes : IsBytes s.end.incoming = subst (λ (d : Debugger). IsBytes d.end.incoming) (sym c.self.view_is) c.requires.bytes in
+    let end : End = with_handled (Packet header said.body) used s.end in
+    let read : c.take_off.new.self ≡ end = c.take_off.ensures (Packet header said.body) said.front in
+    let left : c.remove.new.self.items ≡ remove ps place = c.remove.ensures.items in
+    let within : place < length ps = measures-within (view_of s) header used place answer w cs said in
+    let few_parked : length c.clear-2.new.self.items ≤ PARKED_MOST = search (rules, arith) in
+    rw read
+    (record {
+      limits = kept.limits;
+      few = subst (λ (qs : List Asked). length qs ≤ s.end.limits.pending) (sym left) (few-left ps place s.end.limits.pending within kept.few);
+      few_parked = few_parked;
+      distinct = subst AreDistinct (sym left) (distinct-left ps place within kept.distinct);
+      own = subst AreOwn (sym left) (own-left ps place kept.own);
+      begins = λ e. absurd cc;
+      alone = λ opened none. absurd cc;
+      unlearned = λ none. absurd cc;
+      unparked = λ v known. c.clear-2.ensures.items;
+      ran = subst (HasRun end) (sym left) (said-ran (view_of s) header used news bytes said kept.ran);
+    })

@@ -1,31 +1,28 @@
-use Rattle.std.proofs.Common.{◌≡◌, ◌∙◌, ap, sym, subst, Ok, rules}
+use Rattle.std.proofs.Common.{◌≡◌, ◌∙◌, ◌≤◌, ap, sym, subst, length, rules}
 use Rattle.jdwp_wire.specs.Streams.{NextMessage, Packet, Whole}
 use Rattle.jdwp_end.specs.Ends.{front_of}
 use Rattle.jdwp_debugger.specs.Debuggers.{Debugger}
-use Rattle.jdwp_debugger.specs.DebuggerTurns.{TurnsAt, news_meaning, reading_of}
-use Rattle.jdwp_debugger.specs.News.{says}
-use Rattle.jdwp_debugger.proofs.TurningLemmas.{handles, turn-memory}
+use Rattle.jdwp_debugger.specs.DebuggerTurns.{TurnsAt}
+use Rattle.jdwp_mirror.specs.Faults.{PARKED_MOST}
+use Rattle.jdwp_debugger.proofs.TurningLemmas.{turn-few, turn-memory}
 use Rattle.jdwp_debugger.proofs.debugger.Debugger.turn.Goals as goal
 
-pub returns-in-Ok : goal.returns-in-Ok
-returns-in-Ok c =
-    let old = c.args.self.now in
-    let new = c.enter.new.self in
-    let result = c.enter.result in
-    let header = c.in-Packet.packet.header in
-    let body = c.in-Packet.packet.body.now in
-    let used = c.in-Packet.used in
-    let front : front_of old.end ≡ Whole (Packet header body) used = sym (ap (λ (d : Debugger). front_of d.end) c.self.view_is) ∙ sym c.in-Packet.ensures.front in
-    let said : says (reading_of old) header.id header.kind body ≡ Ok (news_meaning c.in-Ok.news) = c.in-Ok.ensures.value in
-    let handled = handles header body used old new (news_meaning c.in-Ok.news) result said c.in-Ok.ensures.wants (c.enter.ensures body front) in
-    let turns : TurnsAt (front_of old.end) old result new = subst (λ (f : NextMessage). TurnsAt f old result new) (sym front) handled in
-    record { turns = turns; memory = turn-memory (front_of old.end) old new result turns }
+pub handle_packet-requires-clause-front : goal.handle_packet-requires-clause-front
+handle_packet-requires-clause-front c =
+    let f = c.in-Packet.ensures.front in
+    (f.0, f.1, sym (ap (λ (d : Debugger). front_of d.end) c.self.view_is) ∙ f.2)
 
-pub enter-requires-clause-front : goal.enter-requires-clause-front
-enter-requires-clause-front c = (
-  c.in-Packet.packet.body.now,
-  sym (ap (λ (d : Debugger). front_of d.end) c.self.view_is) ∙ sym c.in-Packet.ensures.front,
-)
+pub returns-in-Packet : goal.returns-in-Packet
+returns-in-Packet c =
+    let old = c.args.self.now in
+    let new = c.handle_packet.new.self in
+    let result = c.handle_packet.result in
+    let used = c.in-Packet.used in
+    let f = c.in-Packet.ensures.front in
+    let front : front_of old.end ≡ Whole (Packet f.0 f.1) used = sym (ap (λ (d : Debugger). front_of d.end) c.self.view_is) ∙ f.2 in
+    let turns : TurnsAt (front_of old.end) old result new = subst (λ (x : NextMessage). TurnsAt x old result new) (sym front) (c.handle_packet.ensures f.0 f.1 front) in
+    let few_parked : length old.parked ≤ PARKED_MOST = subst (λ (d : Debugger). length d.parked ≤ PARKED_MOST) c.self.view_is c.self.invariant.few_parked in
+    record { turns = turns; few = turn-few (front_of old.end) old new result few_parked turns; memory = turn-memory (front_of old.end) old new result turns }
 
 pub returns-in-Fault-clause-turns : goal.returns-in-Fault-clause-turns
 returns-in-Fault-clause-turns c = search rules
