@@ -1,39 +1,21 @@
 -- What messages and steps leave of a target, one after the other.
-use Rattle.std.proofs.Common.{◌≡◌, ◌∙◌, ℕ, ◌≤◌, ◌+◌, ◌++◌, ◌||◌, not, Option, Some, None, List, [], ◌∷◌, Bool, true, false, ◌⊎◌, inl, inr, sym, ap, refl, subst, append_assoc, arith}
+use Rattle.std.proofs.Common.{◌≡◌, ◌∙◌, ℕ, ◌++◌, ◌||◌, not, Option, Some, None, List, [], ◌∷◌, Bool, true, false, ◌⊎◌, inl, inr, sym, ap, refl, subst, append_assoc, arith}
 use Rattle.jdwp_wire.specs.Bytes.{IsBytes}
-use Rattle.jdwp_wire.specs.Streams.{Message, Whole, stream}
+use Rattle.jdwp_wire.specs.Streams.{AreSendable, Message, Whole, stream}
 use Rattle.jdwp_end.specs.Ends.{front_of, is_open}
 use Rattle.jdwp_end.specs.Runs.{Carries}
 use Rattle.jdwp_event.specs.Composites.{CompositeMeaning}
 use Rattle.jdwp_machine.specs.Meanings.{Meaning}
-use Rattle.jdwp_debuggee.specs.Settings.{Settings}
 use Rattle.jdwp_debuggee.specs.Steps.{may_step}
 use Rattle.jdwp_target.specs.declared.target.Stepped.{Stepped}
 use Rattle.jdwp_target.specs.declared.target.Stepped.TheVariants.{Frozen}
-use Rattle.jdwp_target.specs.Standings.{Act, Handles, Steps, Standing, after, handled, react}
+use Rattle.jdwp_target.specs.Standings.{Handles, Steps, handled, react}
 use Rattle.jdwp_target.specs.Targets.{Target, Ran, standing, with_handled, with_step}
 use Rattle.jdwp_target.specs.Turns.{StepsWhere, told_by_end, told_of_sends}
 use Rattle.jdwp_target.proofs.Closing.{act-why, both, may-alive, message-why}
-use Rattle.jdwp_target.proofs.TargetRuns.{handled-acts, handled-message, ran-handled, ran-stepped, stepped-acts}
+use Rattle.jdwp_target.proofs.TargetRuns.{handled-acts, handled-message, ran-handled}
 use Rattle.jdwp_engine.specs.Outcome.{EndsInDispose, MayStep}
-use Rattle.jdwp_engine.specs.Run.{deed, deeds, one_if}
 use Rattle.jdwp_engine.specs.Steps.{Advances, StepsIf, StepsOn}
-
--- ---- deeds
-
-deeds-more : {S : Type 0} (m : Meaning S) (settings : Settings) (now : Standing S) (acts : List Act) (a : Act)
-    → deeds m settings now (acts ++ a ∷ []) ≡ deeds m settings now acts + deed m settings (after m settings now acts) a
-deeds-more m settings now [] a = omega arith
-deeds-more m settings now (b ∷ acts) a = omega (arith, deeds-more m settings (react m settings now b).after acts a)
-
--- one act more of a run is one deed more
-one-more : {S : Type 0} (m : Meaning S) (v : Target S) (ran : Ran m v) (acts : List Act) (a : Act) → acts ≡ ran.acts ++ a ∷ [] → deed m v.settings (standing v) a ≡ 1
-    → deeds m v.settings v.began ran.acts + 1 ≤ deeds m v.settings v.began acts
-one-more {S = S} m v ran acts a is one =
-    let more = deeds-more m v.settings v.began ran.acts a in
-    let same : deed m v.settings (after m v.settings v.began ran.acts) a ≡ 1 = ap (λ (x : Standing S). deed m v.settings x a) (sym ran.stands) ∙ one in
-    let all : deeds m v.settings v.began acts ≡ deeds m v.settings v.began (ran.acts ++ a ∷ []) = ap (λ (x : List Act). deeds m v.settings v.began x) is in
-    omega (arith, more, same, all)
 
 -- ---- a message
 
@@ -41,9 +23,9 @@ one-more {S = S} m v ran acts a is one =
 abbrev pub HasEnded : {S : Type 0} → Target S → Type 0
 HasEnded target = EndsInDispose target.end ⊎ (target.moment.state.alive ≡ false)
 
-pub message-advances : {S : Type 0} (m : Meaning S) (v : Target S) (message : Message) (used : ℕ) → IsBytes v.end.incoming → front_of v.end ≡ Whole message used → Ran m v
-    → Advances m v (with_handled m message used v) (HasEnded (with_handled m message used v))
-message-advances m v message used fits front ran = record {
+pub message-advances : {S : Type 0} (m : Meaning S) (v : Target S) (message : Message) (used : ℕ) → IsBytes v.end.incoming → front_of v.end ≡ Whole message used
+    → AreSendable v.end.limits.packet (react m v.settings (standing v) (Handles message)).sends → Ran m v → Advances v (with_handled m message used v) (HasEnded (with_handled m message used v))
+message-advances m v message used fits front sends ran = record {
   settings = refl;
   began = refl;
   lost = refl;
@@ -51,15 +33,12 @@ message-advances m v message used fits front ran = record {
   bytes = stream (react m v.settings (standing v) (Handles message)).sends;
   enqueued = refl;
   outgoing = refl;
-  runs = λ r. (
-    ran-handled m v message used fits front r,
-    one-more m v r (ran-handled m v message used fits front r).acts (Handles message) (handled-acts m v message used fits front r) refl,
-  );
+  costs = omega arith;
   closes = λ closed.
       elim (message-why m v.settings v.moment message closed) [
         | inl d ↦
-            let now = ran-handled m v message used fits front ran in
-            let same : handled now.acts ≡ handled ran.acts ++ message ∷ [] = ap handled (handled-acts m v message used fits front ran) ∙ handled-message ran.acts message in
+            let now = ran-handled m v message used fits front sends ran in
+            let same : handled now.acts ≡ handled ran.acts ++ message ∷ [] = ap handled (handled-acts m v message used fits front sends ran) ∙ handled-message ran.acts message in
             inl (handled ran.acts, message, subst (λ (x : List Message). Carries (with_handled m message used v).end x) same now.carries, d)
         | inr d ↦ inr d
       ];
@@ -67,7 +46,7 @@ message-advances m v message used fits front ran = record {
 
 -- ---- steps
 
-step-advances : {S : Type 0} (m : Meaning S) (v : Target S) (t : ℕ) → may_step m v.settings v.moment t ≡ true → is_open v.end ≡ true → StepsOn m v (with_step m t v)
+step-advances : {S : Type 0} (m : Meaning S) (v : Target S) (t : ℕ) → may_step m v.settings v.moment t ≡ true → is_open v.end ≡ true → StepsOn v (with_step m t v)
 step-advances m v t may opened = record {
   settings = refl;
   began = refl;
@@ -76,16 +55,13 @@ step-advances m v t may opened = record {
   bytes = stream (react m v.settings (standing v) (Steps t)).sends;
   enqueued = refl;
   outgoing = refl;
-  runs = λ r. (
-    ran-stepped m v t r,
-    one-more m v r (ran-stepped m v t r).acts (Steps t) (stepped-acts m v t r) (ap one_if may),
-  );
+  costs = omega arith;
   closes = λ closed. act-why m v.settings (standing v) (Steps t) opened closed;
 }
 
 -- one after the other
-advances-again : {S : Type 0} (m : Meaning S) (old mid new : Target S) (why why' : Type 0) → Advances m old mid why → Advances m mid new why' → Advances m old new why'
-advances-again m old mid new why why' a b = record {
+advances-again : {S : Type 0} (old mid new : Target S) (why why' : Type 0) → Advances old mid why → Advances mid new why' → Advances old new why'
+advances-again old mid new why why' a b = record {
   settings = b.settings ∙ a.settings;
   began = b.began ∙ a.began;
   lost = b.lost ∙ a.lost;
@@ -93,30 +69,27 @@ advances-again m old mid new why why' a b = record {
   bytes = a.bytes ++ b.bytes;
   enqueued = b.enqueued ∙ (ap (λ (x : List ℕ). x ++ b.bytes) a.enqueued ∙ append_assoc old.end.session.enqueued a.bytes b.bytes);
   outgoing = b.outgoing ∙ (ap (λ (x : List ℕ). x ++ b.bytes) a.outgoing ∙ append_assoc old.end.outgoing a.bytes b.bytes);
-  runs = λ r.
-      let x = a.runs r in
-      let y = b.runs x.0 in
-      (y.0, omega (arith, x.1, y.1));
+  costs = omega (arith, a.costs, b.costs);
   closes = b.closes;
 }
 
 -- whoever steps lives, so the session is open
-still-open : {S : Type 0} (m : Meaning S) (old mid : Target S) → StepsOn m old mid → mid.moment.state.alive ≡ true → is_open mid.end ≡ true
-still-open m old mid a alive =
+still-open : {S : Type 0} (old mid : Target S) → StepsOn old mid → mid.moment.state.alive ≡ true → is_open mid.end ≡ true
+still-open old mid a alive =
     elim (is_open mid.end) as (λ (b : Bool). is_open mid.end ≡ b → b ≡ true) [
       | true ↦ λ e. refl
       | false ↦ λ e. absurd (let f = sym alive ∙ a.closes e in cc)
     ] refl
 
-pub open-if : {S : Type 0} (m : Meaning S) (old mid : Target S) (made : Bool) → is_open old.end ≡ true → StepsIf m old mid made → mid.moment.state.alive ≡ true → is_open mid.end ≡ true
-open-if m old mid true opened a alive = still-open m old mid a alive
-open-if {S = S} m old mid false opened same alive = ap (λ (x : Target S). is_open x.end) same ∙ opened
+pub open-if : {S : Type 0} (old mid : Target S) (made : Bool) → is_open old.end ≡ true → StepsIf old mid made → mid.moment.state.alive ≡ true → is_open mid.end ≡ true
+open-if old mid true opened a alive = still-open old mid a alive
+open-if {S = S} old mid false opened same alive = ap (λ (x : Target S). is_open x.end) same ∙ opened
 
-pub step-made : {S : Type 0} (m : Meaning S) (old mid new : Target S) (t : ℕ) (made : Bool) → is_open old.end ≡ true → StepsIf m old mid made
-    → may_step m mid.settings mid.moment t ≡ true → new ≡ with_step m t mid → StepsOn m old new
+pub step-made : {S : Type 0} (m : Meaning S) (old mid new : Target S) (t : ℕ) (made : Bool) → is_open old.end ≡ true → StepsIf old mid made
+    → may_step m mid.settings mid.moment t ≡ true → new ≡ with_step m t mid → StepsOn old new
 step-made {S = S} m old mid new t true opened a may is =
-    let one = step-advances m mid t may (still-open m old mid a (may-alive m mid.settings mid.moment t may)) in
-    rw is (advances-again m old mid (with_step m t mid) _ _ a one)
+    let one = step-advances m mid t may (still-open old mid a (may-alive m mid.settings mid.moment t may)) in
+    rw is (advances-again old mid (with_step m t mid) _ _ a one)
 step-made {S = S} m old mid new t false opened same may is =
     rw (is, same) (step-advances m old t (rw same at may) opened)
 
@@ -139,8 +112,8 @@ made-step m t old new stepped false true some h = (refl, h.1)
 made-step m t old new stepped false false some h = absurd (some h.0)
 
 -- a step wanted memory: its thread lives, so the session is open
-pub stops : {S : Type 0} (m : Meaning S) (first mid new : Target S) (made : Bool) → is_open first.end ≡ true → StepsIf m first mid made → MayStep mid → new ≡ mid
-    → ((stepped : Bool) × StepsIf m first new stepped) × (is_open new.end ≡ true) × MayStep new
-stops m first mid new made opened p may same =
+pub stops : {S : Type 0} (first mid new : Target S) (made : Bool) → is_open first.end ≡ true → StepsIf first mid made → MayStep mid → new ≡ mid
+    → ((stepped : Bool) × StepsIf first new stepped) × (is_open new.end ≡ true) × MayStep new
+stops first mid new made opened p may same =
     let alive : mid.moment.state.alive ≡ true = (both _ _ (both _ _ may.1).1).0 in
-    rw same ((made, p), open-if m first mid made opened p alive, may)
+    rw same ((made, p), open-if first mid made opened p alive, may)

@@ -1,6 +1,10 @@
 -- Known bytes over calls that were made again.
-use Rattle.std.proofs.Common.{◌∙◌, ◌++◌, ℕ, List, Option, Some, None, Result, Ok, Err, ap, refl, sym, take}
+use Rattle.std.proofs.Common.{◌≡◌, ◌∙◌, ◌+◌, ◌++◌, ℕ, List, [], ◌∷◌, Option, Some, None, Result, Ok, Err, ap, refl, sym, take, arith}
+use Rattle.std.proofs.lemmas.Grind.{common_steps}
 use Rattle.std.specs.Io.KnownBytes.{Appends, Consumes, Keeps, ReadConsumes, WriteAppends}
+use Rattle.trace.specs.declared.History.{History}
+use Rattle.jdwp_engine.specs.Story.{some_of}
+use Rattle.jdwp_engine.specs.Streams.{early_in}
 
 pub keeps-same : (a : Option (List ℕ)) → Keeps a a
 keeps-same None = tt
@@ -31,3 +35,8 @@ write-again a b c (Err e) bytes h k = keeps-again a b c h k
 pub read-again : {E : Type 0} (a b c : Option (List ℕ)) (r : Result ℕ E) (buffer : List ℕ) → Keeps a b → ReadConsumes b c r buffer → ReadConsumes a c r buffer
 read-again a b c (Ok n) buffer h k = (consumes-again a b c (take n buffer) h k.0, k.1)
 read-again a b c (Err e) buffer h k = keeps-again a b c h k
+
+-- one read more with room
+pub early_push : (xs : List History) (h : History) → early_in (xs ++ h ∷ []) ≡ early_in xs + some_of h.bytes
+early_push [] h = grind (arith, common_steps)
+early_push (x ∷ xs) h = grind (arith, common_steps, early_push xs h)

@@ -1,5 +1,6 @@
 pub mod Advancing
 pub mod Fronts
 pub mod Known
+pub mod Onward
 pub mod Runs
 pub mod Turns

@@ -1,7 +1,8 @@
 -- How the facts of an engine's run go on from one call to the next.
-use Rattle.std.proofs.Common.{◌≡◌, ◌≢◌, ◌∙◌, ℕ, ◌≤◌, ◌+◌, ◌++◌, List, [], ◌∷◌, length, Bool, true, false, Ok, Err, ◌⊎◌, inl, inr, min, take, drop, sym, ap, refl, subst, append_assoc, arith}
+use Rattle.std.proofs.Common.{◌≡◌, ◌≢◌, ◌∙◌, ℕ, ◌≤◌, ◌++◌, List, [], ◌∷◌, length, Bool, true, false, Ok, Err, ◌⊎◌, inl, inr, min, nat_le, take, drop, sym, ap, refl, subst, append_assoc, arith}
+use Rattle.std.proofs.lemmas.Bool.{leb-false, lt-leb}
 use Rattle.std.proofs.lemmas.Grind.{common_steps}
-use Rattle.std.proofs.lemmas.List.{append-nil, length-take, length-append, take_at, take-append-drop, take_all, drop-drop}
+use Rattle.std.proofs.lemmas.List.{append-nil, length-drop, length-take, length-append, take_at, take-append-drop, take_all, drop-drop}
 use Rattle.jdwp_wire.specs.Bytes.{IsBytes}
 use Rattle.jdwp_wire.specs.FaultNumbers.{fault_number}
 use Rattle.jdwp_wire.specs.Streams.{Message, More}
@@ -15,18 +16,17 @@ use Rattle.jdwp_machine.specs.Meanings.{Meaning}
 use Rattle.jdwp_target.specs.declared.target.TargetFault.TheVariants.{Frame, NoMemory}
 use Rattle.jdwp_target.specs.declared.target.Turn.{Turn}
 use Rattle.jdwp_target.specs.declared.target.Turn.TheVariants.{Nothing}
-use Rattle.jdwp_target.specs.Standings.{Act, handled}
+use Rattle.jdwp_target.specs.Standings.{handled}
 use Rattle.jdwp_target.specs.Targets.{Target, Ran, lost, opened, with_fed, with_taken}
-use Rattle.jdwp_target.specs.Turns.{TurnsAt}
-use Rattle.jdwp_target.proofs.TargetRuns.{fed-acts, ran-fed, ran-opened, ran-taken, taken-acts}
+use Rattle.jdwp_target.specs.Turns.{SendsAt, TurnsAt}
 use Rattle.jdwp_engine.specs.declared.ended.Ended.{Ended}
 use Rattle.jdwp_engine.specs.declared.ended.Ended.TheVariants.{Done, LostByRead, LostByWrite, Refused, TurnLimit}
 use Rattle.jdwp_engine.specs.declared.ended.Ended.TheVariants as ended
 use Rattle.jdwp_engine.specs.declared.serving.Next.{Next}
 use Rattle.jdwp_engine.specs.declared.serving.Next.TheVariants.{Goes, Ends}
 use Rattle.jdwp_engine.specs.Next.{IfEnds}
-use Rattle.jdwp_engine.specs.Outcome.{CallsForMemory, EndsSo, FrontIs, IsFaultOf, MayEnd, MayStep}
-use Rattle.jdwp_engine.specs.Run.{CostsAtLeast, FailsRead, FailsWrite, GoesOn, InOrder, IsGoing, LosesAtRead, LosesAtWrite, ReadsMore, WritesAll, deeds, with_read, with_written}
+use Rattle.jdwp_engine.specs.Outcome.{CallsForMemory, EndsSo, FrontIs, IsFaultOf, IsLost, MayEnd, MayStep}
+use Rattle.jdwp_engine.specs.Run.{FailsFlush, FailsRead, FailsWrite, GoesOn, InOrder, IsGoing, LosesAtRead, LosesAtWrite, ReadsMore, WritesAll, cost, flushed, with_read, with_written}
 use Rattle.jdwp_engine.specs.Steps.{Advances, StepsIf, StepsOn}
 use Rattle.jdwp_engine.specs.Story.{Story}
 use Rattle.jdwp_engine.proofs.Advancing.{HasEnded, message-advances}
@@ -46,6 +46,7 @@ fails-after s t done chunk more whole e f =
       );
       failed_writes = f.failed_writes;
       read = f.read;
+      early = f.early;
     }
 
 -- ---- what is put
@@ -60,17 +61,17 @@ record Puts {S : Type 0} (old new : Target S) : Type 0 where
   enqueued : new.end.session.enqueued ≡ old.end.session.enqueued ++ bytes
   outgoing : new.end.outgoing ≡ old.end.outgoing ++ bytes
 
-puts-of : {S : Type 0} (m : Meaning S) (old new : Target S) (why : Type 0) → Advances m old new why → Puts old new
-puts-of m old new why p =
+puts-of : {S : Type 0} (old new : Target S) (why : Type 0) → Advances old new why → Puts old new
+puts-of old new why p =
     record { settings = p.settings; began = p.began; lost = p.lost; fed = p.fed; bytes = p.bytes; enqueued = p.enqueued; outgoing = p.outgoing }
 
 puts-nothing : {S : Type 0} (v : Target S) → Puts v v
 puts-nothing v =
     record { settings = refl; began = refl; lost = refl; fed = refl; bytes = []; enqueued = sym (append-nil v.end.session.enqueued); outgoing = sym (append-nil v.end.outgoing) }
 
-puts-if : {S : Type 0} (m : Meaning S) (old new : Target S) (made : Bool) → StepsIf m old new made → Puts old new
-puts-if m old new true p = puts-of m old new _ p
-puts-if m old new false same = rw same (puts-nothing old)
+puts-if : {S : Type 0} (old new : Target S) (made : Bool) → StepsIf old new made → Puts old new
+puts-if old new true p = puts-of old new _ p
+puts-if old new false same = rw same (puts-nothing old)
 
 -- all that was put was written, and the session goes on
 going : {S : Type 0} (base : Target S) (start s : Story) (old new : Target S) → IsGoing base start s old → Puts old new
@@ -86,21 +87,8 @@ going base start s old new k p opened = record {
   failed_reads = k.failed_reads;
   failed_writes = k.failed_writes;
   ends = k.ends;
+  prompt = k.prompt;
 }
-
--- what waited was taken: the run has the same acts
-taken-run : {S : Type 0} (m : Meaning S) (v : Target S) (ran : Ran m v) → (now : Ran m (with_taken v.end.outgoing v)) × (now.acts ≡ ran.acts)
-taken-run {S = S} m v ran =
-    let out : List ℕ = v.end.outgoing in
-    let le : length out ≤ length out = omega arith in
-    let whole : take (length out) out ≡ out = take_all (length out) out (omega arith) in
-    subst (λ (x : List ℕ). (now : Ran m (with_taken x v)) × (now.acts ≡ ran.acts)) whole (ran-taken m v (length out) le ran, taken-acts m v (length out) le ran)
-
-taken-costs : {S : Type 0} (m : Meaning S) (cost : ℕ) (s : Story) (v : Target S) → CostsAtLeast m cost s v → CostsAtLeast m cost s (with_taken v.end.outgoing v)
-taken-costs m cost s v (ran, le) =
-    let t = taken-run m v ran in
-    let same : deeds m v.settings v.began t.0.acts ≡ deeds m v.settings v.began ran.acts = ap (λ (x : List Act). deeds m v.settings v.began x) t.1 in
-    (t.0, omega (arith, same, le))
 
 -- the reason for which a session closed stays when what waits is taken
 ended-taken : {S : Type 0} (m : Meaning S) (v : Target S) → HasEnded v → HasEnded (with_taken v.end.outgoing v)
@@ -124,6 +112,7 @@ in-order base start s old new k p =
       written = (new.end.session.enqueued, all, ([], sym (append-nil new.end.session.enqueued)));
       whole = λ _. all;
       failed_writes = omega (arith, k.failed_writes);
+      prompt = k.prompt;
     }
 
 -- a write of it failed
@@ -142,16 +131,10 @@ fails base start s t old new taken k p f =
       );
       whole = λ e. absurd (omega (arith, f.failed_writes, k.failed_writes, e));
       failed_writes = omega (arith, f.failed_writes, k.failed_writes);
+      prompt = f.early ∙ k.prompt;
     }
 
 -- ---- a read
-
--- a run goes on over bytes that are fed
-fed-costs : {S : Type 0} (m : Meaning S) (cost : ℕ) (s : Story) (v : Target S) (more : List ℕ) → is_open v.end ≡ true → CostsAtLeast m cost s v → CostsAtLeast m (cost + 1) (with_read more s) (with_fed more v)
-fed-costs m cost s v more opened (ran, le) =
-    let now = ran-fed m v more opened ran in
-    let same : deeds m v.settings v.began now.acts ≡ deeds m v.settings v.began ran.acts = ap (λ (x : List Act). deeds m v.settings v.began x) (fed-acts m v more opened ran) in
-    (now, omega (arith, same, le))
 
 read-going : {S : Type 0} (base : Target S) (start s : Story) (target : Target S) (more : List ℕ) → IsGoing base start s target → IsGoing base start (with_read more s) (with_fed more target)
 read-going base start s target more k = record {
@@ -165,13 +148,14 @@ read-going base start s target more k = record {
   failed_reads = k.failed_reads;
   failed_writes = k.failed_writes;
   ends = k.ends;
+  prompt = k.prompt;
 }
 
 -- nothing waits, and nothing is written any more
-stays-in-order : {S : Type 0} (base : Target S) (start s t : Story) (old new : Target S) → IsGoing base start s old → t.read ≡ s.read → t.written ≡ s.written → t.failed_writes ≡ s.failed_writes
+stays-in-order : {S : Type 0} (base : Target S) (start s t : Story) (old new : Target S) → IsGoing base start s old → t.read ≡ s.read → t.written ≡ s.written → t.failed_writes ≡ s.failed_writes → t.early ≡ s.early
     → new.settings ≡ old.settings → new.began ≡ old.began → new.end.session.fed ≡ old.end.session.fed → new.end.session.enqueued ≡ old.end.session.enqueued
     → InOrder base start t new
-stays-in-order base start s t old new k read written failed settings began fed enqueued =
+stays-in-order base start s t old new k read written failed early settings began fed enqueued =
     let all : t.written ≡ start.written ++ new.end.session.enqueued = grind (arith, common_steps, written, k.written, enqueued) in
     record {
       settings = settings ∙ k.settings;
@@ -180,22 +164,23 @@ stays-in-order base start s t old new k read written failed settings began fed e
       written = (new.end.session.enqueued, all, ([], sym (append-nil new.end.session.enqueued)));
       whole = λ _. all;
       failed_writes = omega (arith, failed, k.failed_writes);
+      prompt = early ∙ k.prompt;
     }
 
 -- a read failed
 read-ends : {S : Type 0} (m : Meaning S) (base : Target S) (start s t : Story) (target : Target S) → IsGoing base start s target → FailsRead s t → FrontIs (λ next. next ≡ More) target.end → Ran m target
-    → InOrder base start t (lost target) × MayEnd m LostByRead start t (lost target)
+    → InOrder base start t (lost target) × MayEnd m LostByRead start (flushed t) (lost target)
 read-ends m base start s t target k f front ran = (
-  stays-in-order base start s t target (lost target) k f.read f.written f.failed_writes refl refl refl refl,
-  (omega (arith, f.fails, k.failed_reads, k.ends), front, (target, ran, k.kept, refl)),
+  stays-in-order base start s t target (lost target) k f.read f.written f.failed_writes f.early refl refl refl refl,
+  (omega (arith, f.fails, k.failed_reads, k.ends), front, (target, ran, k.kept, refl), (f.failed_writes ∙ k.failed_writes, refl)),
 )
 
 -- nothing changed, or the bytes in front begin no message
 lost-in-order : {S : Type 0} (base : Target S) (start s : Story) (target : Target S) → IsGoing base start s target → InOrder base start s (lost target)
-lost-in-order base start s target k = stays-in-order base start s s target (lost target) k refl refl refl refl refl refl refl
+lost-in-order base start s target k = stays-in-order base start s s target (lost target) k refl refl refl refl refl refl refl refl
 
 same-in-order : {S : Type 0} (base : Target S) (start s : Story) (target : Target S) → IsGoing base start s target → InOrder base start s target
-same-in-order base start s target k = stays-in-order base start s s target target k refl refl refl refl refl refl refl
+same-in-order base start s target k = stays-in-order base start s s target target k refl refl refl refl refl refl refl refl
 
 -- ---- bytes that leave
 
@@ -213,26 +198,14 @@ taken-again old now new done more e h = rw (h, e) (grind (arith, common_steps, a
 
 -- ---- rounds
 
-advance-costs : {S : Type 0} (m : Meaning S) (cost : ℕ) (s : Story) (old new : Target S) (why : Type 0) → Advances m old new why → CostsAtLeast m cost s old → CostsAtLeast m (cost + 1) s new
-advance-costs m cost s old new why p (ran, le) =
-    let now = p.runs ran in
-    (now.0, omega (arith, now.1, le))
-
-written-costs : {S : Type 0} (m : Meaning S) (cost : ℕ) (s : Story) (bytes : List ℕ) (v : Target S) → CostsAtLeast m cost s v → CostsAtLeast m cost (with_written bytes s) v
-written-costs m cost s bytes v c = c
-
 -- a round that goes on after a message or steps
-advance-goes : {S : Type 0} (m : Meaning S) (base : Target S) (start s t : Story) (old new newest : Target S) (why : Type 0) (cost : ℕ) → Advances m old new why
-    → (is_open new.end ≡ true) × WritesAll new newest s t → IsGoing base start s old → CostsAtLeast m cost s old
-    → IsGoing base start t newest × CostsAtLeast m (cost + 1) t newest
-advance-goes m base start s t old new newest why cost p h k c =
-    rw (h.1.0, h.1.1) (
-      going base start s old new k (puts-of m old new why p) h.0,
-      written-costs m (cost + 1) s new.end.outgoing _ (taken-costs m (cost + 1) s new (advance-costs m cost s old new why p c)),
-    )
+advance-goes : {S : Type 0} (s t : Story) (old new newest : Target S) (why : Type 0) → Advances old new why
+    → (is_open new.end ≡ true) × WritesAll new newest s t → GoesOn old newest s t
+advance-goes s t old new newest why p h =
+    rw (h.1.0, h.1.1) (omega (arith, p.costs), λ base start k. going base start s old new k (puts-of old new why p) h.0)
 
 -- a round that ends after a message or steps: the session closed, or a write failed
-advance-ends : {S : Type 0} (m : Meaning S) (s t : Story) (old new newest : Target S) (next : Next) → Advances m old new (HasEnded new)
+advance-ends : {S : Type 0} (m : Meaning S) (s t : Story) (old new newest : Target S) (next : Next) → Advances old new (HasEnded new)
     → IfEnds next (λ ended. (ended ≡ Done) ⊎ (ended ≡ LostByWrite))
     → (next ≡ Ends Done → (is_open new.end ≡ false) × WritesAll new newest s t)
     → (next ≡ Ends LostByWrite → LosesAtWrite m new newest s t)
@@ -245,8 +218,8 @@ advance-ends {S = S} m s t old new newest (Ends ended) p which done fails-so =
           rw (is, d.1.0, d.1.1) (
             λ h. cc,
             λ base start k. (
-              in-order base start s old new k (puts-of m old new _ p),
-              (ended-taken m new (p.closes d.0), d.0, p.lost ∙ k.kept, k.failed_writes),
+              in-order base start s old new k (puts-of old new _ p),
+              (ended-taken m new (p.closes d.0), d.0, p.lost ∙ k.kept, (k.failed_writes, refl)),
             ),
           )
       | inr is ↦
@@ -254,34 +227,33 @@ advance-ends {S = S} m s t old new newest (Ends ended) p which done fails-so =
           rw (is, f.1.2) (
             λ h. cc,
             λ base start k. (
-              fails base start s t old new f.1.0 k (puts-of m old new _ p) f.0,
+              fails base start s t old new f.1.0 k (puts-of old new _ p) f.0,
               (omega (arith, f.0.failed_writes, k.failed_writes), (with_taken f.1.0 new, f.1.1, p.lost ∙ k.kept, refl)),
             ),
           )
     ]
 
 -- a message that was handled
-message-of : {S : Type 0} (m : Meaning S) (old new : Target S) (turn : Turn) → IsBytes old.end.incoming → Ran m old → TurnsAt m (front_of old.end) old (Ok turn) new → turn ≢ Nothing → Advances m old new (HasEnded new)
-message-of m old new turn fits ran turned some =
+message-of : {S : Type 0} (m : Meaning S) (old new : Target S) (turn : Turn) → IsBytes old.end.incoming → SendsAt m (front_of old.end) old → Ran m old → TurnsAt m (front_of old.end) old (Ok turn) new → turn ≢ Nothing → Advances old new (HasEnded new)
+message-of m old new turn fits sends ran turned some =
     let w = handled-Whole m (front_of old.end) old new turn turned some in
-    rw w.3 (message-advances m old w.0 w.1 fits w.2 ran)
+    rw w.3 (message-advances m old w.0 w.1 fits w.2 (rw w.2 at sends) ran)
 
-pub message-goes : {S : Type 0} (m : Meaning S) (s t : Story) (old new newest : Target S) (turn : Turn) → IsBytes old.end.incoming → Ran m old → TurnsAt m (front_of old.end) old (Ok turn) new → turn ≢ Nothing
-    → (is_open new.end ≡ true) × WritesAll new newest s t → GoesOn m old newest s t
-message-goes m s t old new newest turn fits ran turned some h base start cost k c =
-    advance-goes m base start s t old new newest (HasEnded new) cost (message-of m old new turn fits ran turned some) h k c
+pub message-goes : {S : Type 0} (m : Meaning S) (s t : Story) (old new newest : Target S) (turn : Turn) → IsBytes old.end.incoming → SendsAt m (front_of old.end) old → Ran m old → TurnsAt m (front_of old.end) old (Ok turn) new → turn ≢ Nothing
+    → (is_open new.end ≡ true) × WritesAll new newest s t → GoesOn old newest s t
+message-goes m s t old new newest turn fits sends ran turned some h = advance-goes s t old new newest (HasEnded new) (message-of m old new turn fits sends ran turned some) h
 
-pub message-ends : {S : Type 0} (m : Meaning S) (s t : Story) (old new newest : Target S) (turn : Turn) (next : Next) → IsBytes old.end.incoming → Ran m old → TurnsAt m (front_of old.end) old (Ok turn) new → turn ≢ Nothing
+pub message-ends : {S : Type 0} (m : Meaning S) (s t : Story) (old new newest : Target S) (turn : Turn) (next : Next) → IsBytes old.end.incoming → SendsAt m (front_of old.end) old → Ran m old → TurnsAt m (front_of old.end) old (Ok turn) new → turn ≢ Nothing
     → IfEnds next (λ ended. (ended ≡ Done) ⊎ (ended ≡ LostByWrite))
     → (next ≡ Ends Done → (is_open new.end ≡ false) × WritesAll new newest s t × Ran m newest)
     → (next ≡ Ends LostByWrite → LosesAtWrite m new newest s t)
     → IfEnds next (EndsSo m old newest s t)
-message-ends m s t old new newest turn next fits ran turned some which done fails-so =
-    advance-ends m s t old new newest next (message-of m old new turn fits ran turned some) which (λ e. let d = done e in (d.0, d.1)) fails-so
+message-ends m s t old new newest turn next fits sends ran turned some which done fails-so =
+    advance-ends m s t old new newest next (message-of m old new turn fits sends ran turned some) which (λ e. let d = done e in (d.0, d.1)) fails-so
 
 -- steps that were made
-steps-of : {S : Type 0} (m : Meaning S) (old new : Target S) → StepsOn m old new → Advances m old new (HasEnded new)
-steps-of m old new p = record {
+steps-of : {S : Type 0} (old new : Target S) → StepsOn old new → Advances old new (HasEnded new)
+steps-of old new p = record {
   settings = p.settings;
   began = p.began;
   lost = p.lost;
@@ -289,33 +261,42 @@ steps-of m old new p = record {
   bytes = p.bytes;
   enqueued = p.enqueued;
   outgoing = p.outgoing;
-  runs = p.runs;
+  costs = p.costs;
   closes = λ closed. inr (p.closes closed);
 }
 
-pub steps-goes : {S : Type 0} (m : Meaning S) (s t : Story) (old new newest : Target S) → StepsOn m old new → (is_open new.end ≡ true) × WritesAll new newest s t → GoesOn m old newest s t
-steps-goes m s t old new newest p h base start cost k c = advance-goes m base start s t old new newest _ cost p h k c
+pub steps-goes : {S : Type 0} (s t : Story) (old new newest : Target S) → StepsOn old new → (is_open new.end ≡ true) × WritesAll new newest s t → GoesOn old newest s t
+steps-goes s t old new newest p h = advance-goes s t old new newest _ p h
 
-pub steps-ends : {S : Type 0} (m : Meaning S) (s t : Story) (old new newest : Target S) (next : Next) → StepsOn m old new
+pub steps-ends : {S : Type 0} (m : Meaning S) (s t : Story) (old new newest : Target S) (next : Next) → StepsOn old new
     → IfEnds next (λ ended. (ended ≡ Done) ⊎ (ended ≡ LostByWrite))
     → (next ≡ Ends Done → (is_open new.end ≡ false) × WritesAll new newest s t × Ran m newest)
     → (next ≡ Ends LostByWrite → LosesAtWrite m new newest s t)
     → IfEnds next (EndsSo m old newest s t)
-steps-ends m s t old new newest next p which done fails-so = advance-ends m s t old new newest next (steps-of m old new p) which (λ e. let d = done e in (d.0, d.1)) fails-so
+steps-ends m s t old new newest next p which done fails-so = advance-ends m s t old new newest next (steps-of old new p) which (λ e. let d = done e in (d.0, d.1)) fails-so
+
+-- what waited was taken: the end is paused no more than before
+less-waits : (most n k : ℕ) → nat_le most n ≡ false → k ≤ n → nat_le most k ≡ false
+less-waits most n k e le = lt-leb most k (omega (arith, leb-false most n e, le))
+
+taken-flows : {S : Type 0} (target : Target S) → MayStep target → MayStep (with_taken target.end.outgoing target)
+taken-flows target may =
+    let out : List ℕ = target.end.outgoing in
+    (may.0, may.1, less-waits target.end.limits.packet (length out) (length (drop (length out) out)) may.2 (omega (arith, length-drop (length out) out)))
 
 -- a step wanted memory, and what steps before it put was written
-pub memory-goes : {S : Type 0} (m : Meaning S) (s t : Story) (old mid newest : Target S) (made : Bool) → StepsIf m old mid made → MayStep mid → (is_open mid.end ≡ true) × WritesAll mid newest s t
+pub memory-goes : {S : Type 0} (m : Meaning S) (s t : Story) (old mid newest : Target S) (made : Bool) → StepsIf old mid made → MayStep mid → (is_open mid.end ≡ true) × WritesAll mid newest s t
     → EndsSo m old newest s t ended.NoMemory
 memory-goes m s t old mid newest made p may h =
     rw (h.1.0, h.1.1) (
       λ e. cc,
       λ base start k.
-          let now = going base start s old mid k (puts-if m old mid made p) h.0 in
-          (same-in-order base start (with_written mid.end.outgoing s) (with_taken mid.end.outgoing mid) now, (inr may, (now.opened, now.kept), now.failed_writes)),
+          let now = going base start s old mid k (puts-if old mid made p) h.0 in
+          (same-in-order base start (with_written mid.end.outgoing s) (with_taken mid.end.outgoing mid) now, (inr (taken-flows mid may), (now.opened, now.kept), (now.failed_writes, refl))),
     )
 
 -- the same, and a write failed
-pub memory-ends : {S : Type 0} (m : Meaning S) (s t : Story) (old mid newest : Target S) (made : Bool) (next : Next) → StepsIf m old mid made → is_open mid.end ≡ true
+pub memory-ends : {S : Type 0} (m : Meaning S) (s t : Story) (old mid newest : Target S) (made : Bool) (next : Next) → StepsIf old mid made → is_open mid.end ≡ true
     → IfEnds next (λ ended. (ended ≡ Done) ⊎ (ended ≡ LostByWrite))
     → (next ≡ Ends Done → (is_open mid.end ≡ false) × WritesAll mid newest s t × Ran m newest)
     → (next ≡ Ends LostByWrite → LosesAtWrite m mid newest s t)
@@ -326,7 +307,7 @@ memory-ends m s t old mid newest made (Ends ended) p opened which done fails-so 
       | inl is ↦ absurd (let closed = (done (ap Ends is)).0 in let e = sym opened ∙ closed in cc)
       | inr is ↦
           let f = fails-so (ap Ends is) in
-          let puts = puts-if m old mid made p in
+          let puts = puts-if old mid made p in
           rw (is, f.1.2) (
             λ h. cc,
             λ base start k. (
@@ -337,9 +318,9 @@ memory-ends m s t old mid newest made (Ends ended) p opened which done fails-so 
     ]
 
 -- a round that goes on after a read
-pub read-goes : {S : Type 0} (m : Meaning S) (s t : Story) (old new newest : Target S) → new ≡ old → ReadsMore new newest s t → GoesOn m old newest s t
-read-goes m s t old new newest same (more, fed, read) base start cost k c =
-    rw (fed, read, same) (read-going base start s old more k, fed-costs m cost s old more k.opened c)
+pub read-goes : {S : Type 0} (s t : Story) (old new newest : Target S) → new ≡ old → ReadsMore new newest s t → GoesOn old newest s t
+read-goes s t old new newest same (more, fed, read) =
+    rw (fed, read, same) (omega arith, λ base start k. read-going base start s old more k)
 
 -- a round that ends at a read
 pub read-next-ends : {S : Type 0} (m : Meaning S) (s t : Story) (old new newest : Target S) (next : Next) → Ran m old → is_open old.end ≡ true → is_paused old.end ≡ false → front_of old.end ≡ More → new ≡ old
@@ -354,41 +335,94 @@ read-next-ends m s t old new newest (Ends ended) ran opened flows more same (is,
 -- a round that ends at a fault
 pub fault-next-ends : {S : Type 0} (m : Meaning S) (s : Story) (old new : Target S) (fault : FrameFault) (number : ℕ) → Ran m old → is_open old.end ≡ true
     → TurnsAt m (front_of old.end) old (Err (Frame fault)) new → number ≡ fault_number fault
-    → (base : Target S) (start : Story) → IsGoing base start s old → InOrder base start s new × MayEnd m (Refused number) start s new
+    → (base : Target S) (start : Story) → IsGoing base start s old → InOrder base start s new × MayEnd m (Refused number) start (flushed s) new
 fault-next-ends m s old new fault number ran opened turned number-is base start k =
     let f = frame-Fault m (front_of old.end) old new fault turned in
     let front = front-left (IsFaultOf number) old.end (handled ran.acts) ran.carries opened (fault, number-is, front-fault old.end fault f.0) in
-    rw f.1 (lost-in-order base start s old k, (front, (old, ran, k.kept, refl)))
+    rw f.1 (lost-in-order base start s old k, (front, (old, ran, k.kept, refl), (k.failed_writes, refl)))
 
 -- a round that ends for want of memory
 pub memory-next-ends : {S : Type 0} (m : Meaning S) (s : Story) (old new : Target S) → Ran m old → is_open old.end ≡ true
     → TurnsAt m (front_of old.end) old (Err NoMemory) new
-    → (base : Target S) (start : Story) → IsGoing base start s old → InOrder base start s new × MayEnd m ended.NoMemory start s new
+    → (base : Target S) (start : Story) → IsGoing base start s old → InOrder base start s new × MayEnd m ended.NoMemory start (flushed s) new
 memory-next-ends m s old new ran opened turned base start k =
     let n = no_memory-Whole m (front_of old.end) old new turned in
     let w = n.0 in
     let next = (front-whole old.end w.0 w.1 w.2).1 in
     let front = front-left CallsForMemory old.end (handled ran.acts) ran.carries opened (w.0, w.1, next, w.3) in
-    rw n.1 (same-in-order base start s old k, (inl front, (k.opened, k.kept), k.failed_writes))
+    rw n.1 (same-in-order base start s old k, (inl front, (k.opened, k.kept), (k.failed_writes, refl)))
 
--- the last flush failed, and a connection that was not lost before is lost
+-- ---- flushes
+
+-- all that was written left, and the run goes on so
+flushed-going : {S : Type 0} (base : Target S) (start s : Story) (target : Target S) → IsGoing base start s target → IsGoing base start (flushed s) target
+flushed-going base start s target k = record {
+  opened = k.opened;
+  kept = k.kept;
+  idle = k.idle;
+  settings = k.settings;
+  began = k.began;
+  read = k.read;
+  written = k.written;
+  failed_reads = k.failed_reads;
+  failed_writes = k.failed_writes;
+  ends = k.ends;
+  prompt = k.prompt;
+}
+
+pub flushed-goes : {S : Type 0} (s mid t : Story) (old new : Target S) → mid ≡ flushed s → GoesOn old new mid t → GoesOn old new s t
+flushed-goes {S = S} s mid t old new e goes =
+    let on = subst (λ (x : Story). GoesOn old new x t) e goes in
+    (on.0, λ base start k. on.1 base start (flushed-going base start s old k))
+
+pub flushed-ends : {S : Type 0} (m : Meaning S) (s mid t : Story) (old new : Target S) (next : Next) → mid ≡ flushed s → IfEnds next (EndsSo m old new mid t) → IfEnds next (EndsSo m old new s t)
+flushed-ends m s mid t old new Goes e so = tt
+flushed-ends {S = S} m s mid t old new (Ends ended) e so =
+    let on = subst (λ (x : Story). EndsSo m old new x t ended) e so in
+    (on.0, λ base start k. on.1 base start (flushed-going base start s old k))
+
+-- a flush failed, and nothing else happened
+flush-in-order : {S : Type 0} (base : Target S) (start now after : Story) (old new : Target S) → InOrder base start now old → FailsFlush now after
+    → new.settings ≡ old.settings → new.began ≡ old.began → new.end.session.fed ≡ old.end.session.fed → new.end.session.enqueued ≡ old.end.session.enqueued
+    → InOrder base start after new
+flush-in-order {S = S} base start now after old new o e settings began fed enqueued =
+    let w = o.written in
+    rw e (record {
+      settings = settings ∙ o.settings;
+      began = began ∙ o.began;
+      read = grind (arith, common_steps, o.read, fed);
+      written = (w.0, w.1, grind (arith, common_steps, w.2, enqueued));
+      whole = λ f. absurd (omega (arith, o.failed_writes, f));
+      failed_writes = omega (arith, o.failed_writes);
+      prompt = o.prompt;
+    })
+
+-- the flush before steps or a read failed
+pub flush-ends : {S : Type 0} (m : Meaning S) (s t : Story) (target : Target S) → Ran m target → FailsFlush s t → EndsSo m target (lost target) s t LostByWrite
+flush-ends m s t target ran e = (
+  λ h. cc,
+  λ base start k.
+      let o = flush-in-order base start s t target (lost target) (same-in-order base start s target k) e refl refl refl refl in
+      (o, (rw e (omega (arith, k.failed_writes)), (target, ran, k.kept, refl))),
+)
+
+-- the last flush failed, and the connection is lost now
 pub kept-ends : {S : Type 0} (m : Meaning S) (base : Target S) (start now after : Story) (target : Target S) → Ran m target → target.end.session.lost ≡ false → InOrder base start now target
-    → after ≡ record now { failed_writes = now.failed_writes + 1 } → InOrder base start after (lost target) × MayEnd m LostByWrite start after (lost target) × (LostByWrite ≢ TurnLimit)
-kept-ends m base start now after target ran kept o e =
-    rw e (
-      record {
-        settings = o.settings;
-        began = o.began;
-        read = o.read;
-        written = o.written;
-        whole = λ f. absurd (omega (arith, o.failed_writes, f));
-        failed_writes = omega (arith, o.failed_writes);
-      },
-      (omega (arith, o.failed_writes), (target, ran, kept, refl)),
-      λ f. cc,
-    )
+    → FailsFlush now after → InOrder base start after (lost target) × MayEnd m LostByWrite start after (lost target)
+kept-ends m base start now after target ran kept o e = (
+  flush-in-order base start now after target (lost target) o e refl refl refl refl,
+  (rw e (omega (arith, o.failed_writes)), (target, ran, kept, refl)),
+)
 
--- what was kept
+-- the same, where the connection was lost before
+pub lost-ends : {S : Type 0} (m : Meaning S) (base : Target S) (start now after : Story) (target : Target S) → IsLost m target → InOrder base start now target
+    → FailsFlush now after → InOrder base start after target × MayEnd m LostByWrite start after target
+lost-ends m base start now after target gone o e = (
+  flush-in-order base start now after target target o e refl refl refl refl,
+  (rw e (omega (arith, o.failed_writes)), gone),
+)
+
+-- what was kept, and what was lost
 pub kept-by : {S : Type 0} (m : Meaning S) (e : Ended) (start now : Story) (target : Target S) → (e ≡ Done) ⊎ ((e ≡ ended.NoMemory) ⊎ (e ≡ TurnLimit)) → MayEnd m e start now target → target.end.session.lost ≡ false
 kept-by m Done start now target which h = h.2
 kept-by m ended.NoMemory start now target which h = h.1.1
@@ -396,6 +430,14 @@ kept-by m TurnLimit start now target which h = h.0.1
 kept-by m LostByRead start now target which h = absurd (elim which [ inl e ↦ cc | inr (inl e) ↦ cc | inr (inr e) ↦ cc ])
 kept-by m LostByWrite start now target which h = absurd (elim which [ inl e ↦ cc | inr (inl e) ↦ cc | inr (inr e) ↦ cc ])
 kept-by m (Refused number) start now target which h = absurd (elim which [ inl e ↦ cc | inr (inl e) ↦ cc | inr (inr e) ↦ cc ])
+
+pub lost-by : {S : Type 0} (m : Meaning S) (e : Ended) (start now : Story) (target : Target S) → (e ≡ LostByRead) ⊎ ((e ≡ LostByWrite) ⊎ ((number : ℕ) × (e ≡ Refused number))) → MayEnd m e start now target → IsLost m target
+lost-by m LostByRead start now target which h = h.2
+lost-by m LostByWrite start now target which h = h.1
+lost-by m (Refused number) start now target which h = h.1
+lost-by m Done start now target which h = absurd (elim which [ inl e ↦ cc | inr (inl e) ↦ cc | inr (inr e) ↦ (let f = e.1 in cc) ])
+lost-by m ended.NoMemory start now target which h = absurd (elim which [ inl e ↦ cc | inr (inl e) ↦ cc | inr (inr e) ↦ (let f = e.1 in cc) ])
+lost-by m TurnLimit start now target which h = absurd (elim which [ inl e ↦ cc | inr (inl e) ↦ cc | inr (inr e) ↦ (let f = e.1 in cc) ])
 
 -- a session that begins
 pub going-opened : {S : Type 0} (s : Story) (v : Target S) → v ≡ opened v → IsGoing v s s v
@@ -412,8 +454,9 @@ going-opened {S = S} s v e =
       failed_reads = refl;
       failed_writes = refl;
       ends = refl;
+      prompt = refl;
     })
 
 -- what is spent where a session begins
-pub costs-opened : {S : Type 0} (m : Meaning S) (s : Story) (v : Target S) → v ≡ opened v → CostsAtLeast m (0 + s.rooms) s v
-costs-opened {S = S} m s v e = subst (λ (x : Target S). CostsAtLeast m (0 + s.rooms) s x) (sym e) (ran-opened m v, omega arith)
+pub cost-opened : {S : Type 0} (s : Story) (v : Target S) → v ≡ opened v → cost s v ≡ s.rooms
+cost-opened {S = S} s v e = subst (λ (x : Target S). cost s x ≡ s.rooms) (sym e) (omega arith)

@@ -3,7 +3,7 @@ use Rattle.std.specs.Prelude.{◌≡◌, ◌≢◌, ◌⊎◌, ℕ, ◌<◌, ◌
 use Rattle.jdwp_wire.specs.FaultNumbers.{fault_number}
 use Rattle.jdwp_wire.specs.Streams.{Message, NextMessage, Whole, More, Fault, next_message}
 use Rattle.jdwp_wire.specs.declared.frame.FrameFault.{FrameFault}
-use Rattle.jdwp_end.specs.Ends.{End, is_open}
+use Rattle.jdwp_end.specs.Ends.{End, is_open, is_paused}
 use Rattle.jdwp_end.specs.Runs.{Carries}
 use Rattle.jdwp_machine.specs.Meanings.{Meaning}
 use Rattle.jdwp_debuggee.specs.StepParts.{is_ready}
@@ -12,7 +12,7 @@ use Rattle.jdwp_target.specs.Targets.{Target, Ran, lost}
 use Rattle.jdwp_target.specs.Turns.{NeedsMemory}
 use Rattle.jdwp_engine.specs.declared.ended.Ended.{Ended}
 use Rattle.jdwp_engine.specs.declared.ended.Ended.TheVariants.{Done, LostByRead, LostByWrite, Refused, NoMemory, TurnLimit}
-use Rattle.jdwp_engine.specs.Run.{InOrder, IsGoing}
+use Rattle.jdwp_engine.specs.Run.{InOrder, IsGoing, flushed}
 use Rattle.jdwp_engine.specs.Story.{Story}
 
 -- What is left of the bytes fed, after those of the messages handled: the handshake is looked for in front of it where no message was
@@ -28,9 +28,9 @@ EndsInDispose end = (messages : List Message) × (last : Message) × Carries end
 abbrev pub CallsForMemory : NextMessage → Type 0
 CallsForMemory next = (message : Message) × (used : ℕ) × (next ≡ Whole message used) × NeedsMemory message
 
--- a thread may step, but for one thread too many that would start: only such a step asks the machine
+-- A thread may step, but for one thread too many that would start, and the end is not paused: only such a step asks the machine.
 abbrev pub MayStep : {S : Type 0} → Target S → Type 0
-MayStep target = (t : ℕ) × (is_ready target.settings target.moment.state t ≡ true)
+MayStep target = (t : ℕ) × (is_ready target.settings target.moment.state t ≡ true) × (is_paused target.end ≡ false)
 
 -- the fault of this number stands in front
 abbrev pub IsFaultOf : ℕ → NextMessage → Type 0
@@ -44,18 +44,23 @@ IsLost {S = S} m target = (before : Target S) × Ran m before × (before.end.ses
 abbrev pub IsKept : {S : Type 0} → Target S → Type 0
 IsKept target = (is_open target.end ≡ true) × (target.end.session.lost ≡ false)
 
--- Why a session may end so, from the first story to the second, and what the target is then.
+-- no write and no flush failed, and all that was written left
+abbrev pub HasLeft : Story → Story → Type 0
+HasLeft start now = (now.failed_writes ≡ start.failed_writes) × (now.unflushed ≡ [])
+
+-- Why a session may end so, from the first story to the second, and what the target is then. A write or flush failed exactly where the
+-- session is lost by a write.
 abbrev pub MayEnd : {S : Type 0} → Meaning S → Ended → Story → Story → Target S → Type 0
 MayEnd m Done start now target =
-    (EndsInDispose target.end ⊎ (target.moment.state.alive ≡ false)) × (is_open target.end ≡ false) × (target.end.session.lost ≡ false) × (now.failed_writes ≡ start.failed_writes)
+    (EndsInDispose target.end ⊎ (target.moment.state.alive ≡ false)) × (is_open target.end ≡ false) × (target.end.session.lost ≡ false) × HasLeft start now
 MayEnd m LostByRead start now target =
-    (start.failed_reads + start.ends < now.failed_reads + now.ends) × FrontIs (λ next. next ≡ More) target.end × IsLost m target
+    (start.failed_reads + start.ends < now.failed_reads + now.ends) × FrontIs (λ next. next ≡ More) target.end × IsLost m target × HasLeft start now
 MayEnd m LostByWrite start now target = (start.failed_writes < now.failed_writes) × IsLost m target
-MayEnd m (Refused number) start now target = FrontIs (IsFaultOf number) target.end × IsLost m target
-MayEnd m NoMemory start now target = (FrontIs CallsForMemory target.end ⊎ MayStep target) × IsKept target × (now.failed_writes ≡ start.failed_writes)
-MayEnd m TurnLimit start now target = IsKept target × (now.failed_writes ≡ start.failed_writes)
+MayEnd m (Refused number) start now target = FrontIs (IsFaultOf number) target.end × IsLost m target × HasLeft start now
+MayEnd m NoMemory start now target = (FrontIs CallsForMemory target.end ⊎ MayStep target) × IsKept target × HasLeft start now
+MayEnd m TurnLimit start now target = IsKept target × HasLeft start now
 
--- A round that ends so, in every run that came to it.
+-- A round that ends so, in every run that came to it, once all that was written has left.
 abbrev pub EndsSo : {S : Type 0} → Meaning S → Target S → Target S → Story → Story → Ended → Type 0
 EndsSo {S = S} m old new before after ended =
-    (ended ≢ TurnLimit) × ((base : Target S) (start : Story) → IsGoing base start before old → InOrder base start after new × MayEnd m ended start after new)
+    (ended ≢ TurnLimit) × ((base : Target S) (start : Story) → IsGoing base start before old → InOrder base start after new × MayEnd m ended start (flushed after) new)

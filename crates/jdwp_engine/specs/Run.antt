@@ -1,17 +1,15 @@
 -- What an engine that runs a target did on a pipe.
-use Rattle.std.specs.Prelude.{◌≡◌, ℕ, ◌<◌, ◌≤◌, ◌+◌, Bool, true, false, List, [], ◌∷◌, ◌++◌}
+use Rattle.std.specs.Prelude.{◌≡◌, ℕ, ◌<◌, ◌≤◌, ◌+◌, true, false, List, [], ◌++◌}
 use Rattle.jdwp_end.specs.declared.phase.Phase.TheVariants.{AwaitingHandshake}
 use Rattle.jdwp_end.specs.Ends.{is_open}
 use Rattle.jdwp_end.specs.Runs.{IsFront}
 use Rattle.jdwp_machine.specs.Meanings.{Meaning}
-use Rattle.jdwp_debuggee.specs.Settings.{Settings}
-use Rattle.jdwp_debuggee.specs.Steps.{may_step}
-use Rattle.jdwp_target.specs.Standings.{Act, Handles, Steps, Loses, Standing, react, stands}
+use Rattle.jdwp_target.specs.Standings.{stands}
 use Rattle.jdwp_target.specs.Targets.{Target, Ran, lost, with_fed, with_taken}
 use Rattle.jdwp_engine.specs.Story.{Story}
 
--- From this target and this story on: the session began at its moment, the target was fed what was read, in order, and what was written
--- is a beginning of what the target enqueued, and all of it where no write failed.
+-- From this target and this story on: the session began at its moment, the target was fed what was read, in order, what was written
+-- is a beginning of what the target enqueued, and all of it where no write failed, and before each read all that was written had left.
 pub record InOrder {S : Type 0} (base : Target S) (start now : Story) (target : Target S) : Type 0 where
   pub settings : target.settings ≡ base.settings
   pub began : target.began ≡ stands base.moment AwaitingHandshake
@@ -19,6 +17,7 @@ pub record InOrder {S : Type 0} (base : Target S) (start now : Story) (target : 
   pub written : (bytes : List ℕ) × (now.written ≡ start.written ++ bytes) × IsFront bytes target.end.session.enqueued
   pub whole : now.failed_writes ≡ start.failed_writes → now.written ≡ start.written ++ target.end.session.enqueued
   pub failed_writes : start.failed_writes ≤ now.failed_writes
+  pub prompt : now.early ≡ start.early
 
 -- The same between two rounds, where nothing failed, nothing waits, and the session is open and was not lost.
 pub record IsGoing {S : Type 0} (base : Target S) (start now : Story) (target : Target S) : Type 0 where
@@ -32,10 +31,15 @@ pub record IsGoing {S : Type 0} (base : Target S) (start now : Story) (target : 
   pub failed_reads : now.failed_reads ≡ start.failed_reads
   pub failed_writes : now.failed_writes ≡ start.failed_writes
   pub ends : now.ends ≡ start.ends
+  pub prompt : now.early ≡ start.early
 
--- all of the bytes were written, and nothing else happened
+-- all of the bytes were written, and nothing else happened: they stand in a buffer, or left
 abbrev pub with_written : List ℕ → Story → Story
-with_written bytes story = record story { written = story.written ++ bytes }
+with_written bytes story = record story { written = story.written ++ bytes; unflushed = story.unflushed ++ bytes }
+
+-- all that was written left
+abbrev pub flushed : Story → Story
+flushed story = record story { unflushed = [] }
 
 -- all that waited to leave was taken and written
 abbrev pub WritesAll : {S : Type 0} → Target S → Target S → Story → Story → Type 0
@@ -46,13 +50,18 @@ pub record FailsWrite (old new : Story) (bytes : List ℕ) : Type 0 where
   pub written : (some : List ℕ) × (new.written ≡ old.written ++ some) × IsFront some bytes
   pub failed_writes : old.failed_writes < new.failed_writes
   pub read : new.read ≡ old.read
+  pub early : new.early ≡ old.early
+
+-- a flush failed, and nothing else happened
+abbrev pub FailsFlush : Story → Story → Type 0
+FailsFlush old new = new ≡ record old { failed_writes = old.failed_writes + 1 }
 
 -- a write of what waited to leave failed, and the target lost the connection
 abbrev pub LosesAtWrite : {S : Type 0} → Meaning S → Target S → Target S → Story → Story → Type 0
 LosesAtWrite m old new before after =
     FailsWrite before after old.end.outgoing × ((taken : List ℕ) × Ran m (with_taken taken old) × (new ≡ lost (with_taken taken old)))
 
--- the bytes were read, by one read with room
+-- the bytes were read, by one read with room, before which all that was written had left
 abbrev pub with_read : List ℕ → Story → Story
 with_read bytes story = record story { read = story.read ++ bytes; rooms = story.rooms + 1 }
 
@@ -60,10 +69,13 @@ with_read bytes story = record story { read = story.read ++ bytes; rooms = story
 abbrev pub ReadsMore : {S : Type 0} → Target S → Target S → Story → Story → Type 0
 ReadsMore old new before after = (more : List ℕ) × (new ≡ with_fed more old) × (after ≡ with_read more before)
 
--- a read failed, or gave 0 with room
+-- a read with room failed, or gave 0, and all that was written had left before it
 pub record FailsRead (old new : Story) : Type 0 where
   pub read : new.read ≡ old.read
   pub written : new.written ≡ old.written
+  pub unflushed : new.unflushed ≡ old.unflushed
+  pub early : new.early ≡ old.early
+  pub rooms : new.rooms ≡ old.rooms + 1
   pub failed_writes : new.failed_writes ≡ old.failed_writes
   pub fails : old.failed_reads + old.ends < new.failed_reads + new.ends
 
@@ -73,26 +85,11 @@ LosesAtRead old new before after = (new ≡ lost old) × FailsRead before after
 
 -- ---- what a run costs
 
-abbrev pub one_if : Bool → ℕ
-one_if false = 0
-one_if true = 1
-
--- a message that is handled counts, and a step where the thread may make one
-abbrev pub deed : {S : Type 0} → Meaning S → Settings → Standing S → Act → ℕ
-deed m settings now (Handles message) = 1
-deed m settings now (Steps t) = one_if (may_step m settings now.moment t)
-deed m settings now Loses = 0
-
--- the messages that these acts handled and the steps that were made, from how the target stood
-abbrev pub deeds : {S : Type 0} → Meaning S → Settings → Standing S → List Act → ℕ
-deeds m settings now [] = 0
-deeds m settings now (act ∷ acts) = deed m settings now act + deeds m settings (react m settings now act).after acts
-
--- the turns that handled a message, the steps that were made and the reads with room are at least so many
-abbrev pub CostsAtLeast : {S : Type 0} → Meaning S → ℕ → Story → Target S → Type 0
-CostsAtLeast m cost story target = (ran : Ran m target) × (cost ≤ deeds m target.settings target.began ran.acts + story.rooms)
+-- the turns of the session that handled a message, its steps that were made, and the reads with room
+abbrev pub cost : {S : Type 0} → Story → Target S → ℕ
+cost story target = target.end.session.turns + target.steps + story.rooms
 
 -- A round that goes on, in every run that came to it: nothing failed, and it cost something.
-abbrev pub GoesOn : {S : Type 0} → Meaning S → Target S → Target S → Story → Story → Type 0
-GoesOn {S = S} m old new before after =
-    (base : Target S) (start : Story) (cost : ℕ) → IsGoing base start before old → CostsAtLeast m cost before old → IsGoing base start after new × CostsAtLeast m (cost + 1) after new
+abbrev pub GoesOn : {S : Type 0} → Target S → Target S → Story → Story → Type 0
+GoesOn {S = S} old new before after =
+    (cost before old < cost after new) × ((base : Target S) (start : Story) → IsGoing base start before old → IsGoing base start after new)

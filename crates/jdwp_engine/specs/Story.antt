@@ -2,12 +2,15 @@
 use Rattle.std.specs.Prelude.{ℕ, ◌+◌, ◌*◌, List, [], ◌∷◌, zero, suc, ◌++◌, take, Ok, Err}
 use Rattle.std.specs.Prelude.{Result}
 
--- read: the bytes that were read; written: those that were written; rooms: the reads with room for a byte;
--- ends: those of them that gave 0; failed_reads; failed_writes: one that takes 0 of some bytes counts as failed, and a failed flush
+-- read: the bytes that were read; written: those that were written; unflushed: those of them behind the last flush that succeeded;
+-- rooms: the reads with room for a byte; early: those of them before which something was not flushed; ends: those of them that gave 0;
+-- failed_reads; failed_writes: one that takes 0 of some bytes counts as failed, and a failed flush
 pub record Story : Type 0 where
   pub read : List ℕ
   pub written : List ℕ
+  pub unflushed : List ℕ
   pub rooms : ℕ
+  pub early : ℕ
   pub ends : ℕ
   pub failed_reads : ℕ
   pub failed_writes : ℕ
@@ -16,6 +19,11 @@ pub record Story : Type 0 where
 abbrev pub some_of : List ℕ → ℕ
 some_of [] = 0
 some_of (x ∷ xs) = 1
+
+-- 1 where there is room in a buffer and something is not flushed, else 0
+abbrev pub early_by : List ℕ → List ℕ → ℕ
+early_by [] unflushed = 0
+early_by (x ∷ xs) unflushed = some_of unflushed
 
 -- 1 at 0, else 0
 abbrev pub zero_of : ℕ → ℕ
@@ -27,23 +35,29 @@ abbrev pub after_read : {E : Type 0} → Story → Result ℕ E → List ℕ →
 after_read s (Ok n) buffer = record s {
   read = s.read ++ take n buffer;
   rooms = s.rooms + some_of buffer;
+  early = s.early + early_by buffer s.unflushed;
   ends = s.ends + some_of buffer * zero_of n;
 }
-after_read s (Err e) buffer = record s { rooms = s.rooms + some_of buffer; failed_reads = s.failed_reads + 1 }
+after_read s (Err e) buffer = record s {
+  rooms = s.rooms + some_of buffer;
+  early = s.early + early_by buffer s.unflushed;
+  failed_reads = s.failed_reads + 1;
+}
 
 -- a write of these bytes gave this
 abbrev pub after_write : {E : Type 0} → Story → Result ℕ E → List ℕ → Story
 after_write s (Ok n) bytes = record s {
   written = s.written ++ take n bytes;
+  unflushed = s.unflushed ++ take n bytes;
   failed_writes = s.failed_writes + some_of bytes * zero_of n;
 }
 after_write s (Err e) bytes = record s { failed_writes = s.failed_writes + 1 }
 
 -- a flush gave this
 abbrev pub after_flush : {E : Type 0} → Story → Result (Unit {0}) E → Story
-after_flush s (Ok u) = s
+after_flush s (Ok u) = record s { unflushed = [] }
 after_flush s (Err e) = record s { failed_writes = s.failed_writes + 1 }
 
 -- nothing went through
 abbrev pub empty_story : Story
-empty_story = record { read = []; written = []; rooms = 0; ends = 0; failed_reads = 0; failed_writes = 0 }
+empty_story = record { read = []; written = []; unflushed = []; rooms = 0; early = 0; ends = 0; failed_reads = 0; failed_writes = 0 }

@@ -7,7 +7,7 @@ pub enum Ended {
     Done,
     /// A read failed, or gave 0 where there was room for a byte: the end of the input.
     LostByRead,
-    /// A write failed, or took 0 of some bytes.
+    /// A write failed, or took 0 of some bytes, or a flush failed.
     LostByWrite,
     /// The core refused what came. This is the number of the fault.
     Refused(u16),

@@ -10,5 +10,5 @@ mod streams;
 
 pub use ended::Ended;
 pub use pipe::Pipe;
-pub use serving::{serve, write_all};
+pub use serving::{flush_all, serve, write_all};
 pub use streams::Streams;

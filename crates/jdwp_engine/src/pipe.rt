@@ -6,13 +6,14 @@ use std::io;
 
 /// A reader and a writer, seen by what went through them.
 ///
-/// Its story tells the bytes that were read, the bytes that were written, how many reads had room for a byte, how
-/// many of those gave 0, how many reads failed, and how many writes and flushes did.
+/// Its story tells the bytes that were read, the bytes that were written and those of them behind the last flush, how many reads had
+/// room for a byte, before how many of those something was not flushed, how many of them gave 0, how many reads failed, and how many
+/// writes and flushes did.
 pub trait Pipe {
     ghost story: { Self → Story };
 
     /// Reads some bytes into the front of the buffer, and answers how many. 0 in a buffer with room is the end of the
-    /// input.
+    /// input. Nothing is flushed.
     ///
     /// An error is the reader's. Then nothing was read, and the buffer's bytes mean nothing.
     fn read(&mut self, buffer: &mut [u8]) -> io::Result<usize>

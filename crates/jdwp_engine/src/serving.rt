@@ -1,12 +1,16 @@
 //! The engine that runs a target on a pipe.
-ghost use Rattle.std.specs.Prelude.{◌≡◌, ◌≢◌, ◌⊎◌, ◌<◌, ◌≤◌, ◌+◌, [], ℕ, Bool, List, length, true, false, IsTrue, IfOk, OnErr, IfSome};
+ghost use Rattle.std.specs.Prelude.{◌≡◌, ◌⊎◌, ◌<◌, ◌≤◌, ◌+◌, ◌++◌, ◌∷◌, ◌||◌, [], ℕ, Bool, List, None, Ok, length, true, false, IsTrue, IfOk, OnErr};
 ghost use Rattle.jdwp_end.specs.Ends.{front_of, is_open, is_paused, room_of};
 ghost use Rattle.jdwp_wire.specs.Streams.{More};
+ghost use Rattle.jdwp_machine.specs.Meanings.{numbers};
+ghost use Rattle.jdwp_target.specs.declared.target.Stepped as declared;
 ghost use Rattle.jdwp_target.specs.Targets as spec;
 ghost use Rattle.jdwp_target.specs.Targets.{Ran, opened, with_fed, with_taken};
+ghost use Rattle.jdwp_target.specs.Turns.{StepsAt};
 ghost use Rattle.jdwp_engine.specs.Next.{IfEnds};
 ghost use Rattle.jdwp_engine.specs.Outcome.{EndsSo, MayEnd, MayStep};
-ghost use Rattle.jdwp_engine.specs.Run.{CostsAtLeast, InOrder, FailsWrite, GoesOn, LosesAtRead, LosesAtWrite, ReadsMore, WritesAll, with_written};
+ghost use Rattle.jdwp_engine.specs.Run.{FailsFlush, FailsWrite, GoesOn, InOrder, LosesAtRead, LosesAtWrite, ReadsMore, WritesAll, cost, flushed, with_written};
+ghost use Rattle.jdwp_engine.specs.Rounds.{IsNext, StepsEach, id_in, is_above, is_step};
 ghost use Rattle.jdwp_engine.specs.Steps.{StepsIf};
 ghost use Rattle.jdwp_engine.specs.Story.{Story};
 
@@ -22,16 +26,17 @@ const CHUNK: usize = 4096;
 /// Runs the target on the pipe for one session, for at most so many rounds.
 ///
 /// It begins with `accept`; a target that is already open is `Refused(0)`, and one whose machine is dead is `Done` at once, with nothing
-/// touched. A round is one turn; if that handled nothing, one step of each live thread by rising id; and if none of them stepped, one
-/// read of at most 4,096 bytes and of what the target has room for, which are fed. What waits to leave is written after each round, and
-/// the pipe is flushed at the end of the session, whatever ends it. The session is done after Dispose, and where the machine died. Where the input
-/// ends, or a read, a write or the last flush fails, the target loses the connection. It takes no memory of its own.
+/// touched. A round is one turn; if that handled nothing, the pipe is flushed, then comes one step of each live thread by rising id, and
+/// if none of them stepped, one read of at most 4,096 bytes and of what the target has room for, which are fed. What waits to leave is
+/// written after each round, and the pipe is flushed at the end of the session, whatever ends it. The session is done after Dispose, and
+/// where the machine died. Where the input ends, or a read, a write or a flush fails, the target loses the connection; a write or flush
+/// that fails is `LostByWrite`, wherever it comes. It takes no memory of its own.
 pub fn serve<M: Machine + Drop, P: Pipe>(target: &mut Target<M>, pipe: &mut P, rounds: u64) -> Ended
     ensures refused { is_open target.old.end ≡ true → (result ≡ Ended.Refused 0) × (target.new ≡ target.old) × (P.story pipe.new ≡ P.story pipe.old) }
     ensures dead { is_open target.old.end ≡ false → target.old.moment.state.alive ≡ false → (result ≡ Ended.Done) × (target.new ≡ target.old) × (P.story pipe.new ≡ P.story pipe.old) }
     ensures in_order { is_open target.old.end ≡ false → target.old.moment.state.alive ≡ true → InOrder target.old (P.story pipe.old) (P.story pipe.new) target.new }
     ensures ended { is_open target.old.end ≡ false → target.old.moment.state.alive ≡ true → MayEnd M.meaning result (P.story pipe.old) (P.story pipe.new) target.new }
-    ensures limit { result ≡ Ended.TurnLimit → CostsAtLeast M.meaning (rounds + (P.story pipe.old).rooms) (P.story pipe.new) target.new }
+    ensures limit { result ≡ Ended.TurnLimit → rounds + (P.story pipe.old).rooms ≤ cost (P.story pipe.new) target.new }
     ensures ran { Ran M.meaning target.new }
 {
     if target.is_open() {
@@ -56,31 +61,31 @@ fn run_session<M: Machine + Drop, P: Pipe>(
     requires opened { target.old ≡ opened target.old }
     ensures in_order { InOrder target.old (P.story pipe.old) (P.story pipe.new) target.new }
     ensures ended { MayEnd M.meaning result (P.story pipe.old) (P.story pipe.new) target.new }
-    ensures limit { result ≡ Ended.TurnLimit → CostsAtLeast M.meaning (rounds + (P.story pipe.old).rooms) (P.story pipe.new) target.new }
+    ensures limit { result ≡ Ended.TurnLimit → rounds + (P.story pipe.old).rooms ≤ cost (P.story pipe.new) target.new }
 {
     let ended = run_rounds(target, pipe, rounds);
     target.session();
     match pipe.flush() {
         Ok(()) => ended,
-        Err(_) => lose_what_is_kept(target, ended),
-    }
-}
-
-/// The last flush failed: a connection that was not lost before is lost now.
-fn lose_what_is_kept<M: Machine + Drop>(target: &mut Target<M>, ended: Ended) -> Ended
-    requires { Ran M.meaning target.old }
-    ensures { (base : spec.Target M) (start now after : Story) → InOrder base start now target.old → MayEnd M.meaning ended start now target.old → after ≡ record now { failed_writes = now.failed_writes + 1 } → InOrder base start after target.new × MayEnd M.meaning result start after target.new × (result ≢ Ended.TurnLimit) }
-{
-    match ended {
-        Ended::LostByRead | Ended::LostByWrite | Ended::Refused(_) => ended,
-        Ended::Done | Ended::NoMemory | Ended::TurnLimit => {
-            target.lose();
+        Err(_) => {
+            lose_what_is_kept(target, ended);
             Ended::LostByWrite
         }
     }
 }
 
-/// Runs the rounds of a session that was accepted.
+/// The last flush failed: a connection that was not lost before is lost now.
+fn lose_what_is_kept<M: Machine + Drop>(target: &mut Target<M>, ended: Ended)
+    requires { Ran M.meaning target.old }
+    ensures { (base : spec.Target M) (start now after : Story) → InOrder base start now target.old → MayEnd M.meaning ended start (flushed now) target.old → FailsFlush now after → InOrder base start after target.new × MayEnd M.meaning Ended.LostByWrite start after target.new }
+{
+    match ended {
+        Ended::LostByRead | Ended::LostByWrite | Ended::Refused(_) => {}
+        Ended::Done | Ended::NoMemory | Ended::TurnLimit => target.lose(),
+    }
+}
+
+/// Runs the rounds of a session that was accepted. It ends so once all that was written has left.
 fn run_rounds<M: Machine + Drop, P: Pipe>(
     target: &mut Target<M>,
     pipe: &mut P,
@@ -88,8 +93,8 @@ fn run_rounds<M: Machine + Drop, P: Pipe>(
 ) -> Ended
     requires opened { target.old ≡ opened target.old }
     ensures in_order { InOrder target.old (P.story pipe.old) (P.story pipe.new) target.new }
-    ensures ended { MayEnd M.meaning result (P.story pipe.old) (P.story pipe.new) target.new }
-    ensures limit { result ≡ Ended.TurnLimit → CostsAtLeast M.meaning (rounds + (P.story pipe.old).rooms) (P.story pipe.new) target.new }
+    ensures ended { MayEnd M.meaning result (P.story pipe.old) (flushed (P.story pipe.new)) target.new }
+    ensures limit { result ≡ Ended.TurnLimit → rounds + (P.story pipe.old).rooms ≤ cost (P.story pipe.new) target.new }
 {
     let mut buffer = [0; CHUNK];
     for _done in 0..rounds {
@@ -108,7 +113,7 @@ enum Next {
     Ends(Ended),
 }
 
-/// One turn, and if it handled nothing a step of each live thread, or else one read. What waits to leave is written.
+/// One turn, and if it handled nothing a flush and a step of each live thread, or else one read. What waits to leave is written.
 fn round<M: Machine + Drop, P: Pipe>(
     target: &mut Target<M>,
     pipe: &mut P,
@@ -116,7 +121,7 @@ fn round<M: Machine + Drop, P: Pipe>(
 ) -> Next
     requires is_open { is_open target.old.end ≡ true }
     requires idle { target.old.end.outgoing ≡ [] }
-    ensures goes { result ≡ Next.Goes → GoesOn M.meaning target.old target.new (P.story pipe.old) (P.story pipe.new) }
+    ensures goes { result ≡ Next.Goes → GoesOn target.old target.new (P.story pipe.old) (P.story pipe.new) }
     ensures ends { IfEnds result (EndsSo M.meaning target.old target.new (P.story pipe.old) (P.story pipe.new)) }
 {
     target.session();
@@ -126,9 +131,31 @@ fn round<M: Machine + Drop, P: Pipe>(
         Err(TargetFault::NoMemory) => return Next::Ends(Ended::NoMemory),
     };
     match turn {
-        Turn::Nothing => step_or_read(target, pipe, buffer),
+        Turn::Nothing => flush_and_go(target, pipe, buffer),
         _ => write_and_go(target, pipe, buffer),
     }
+}
+
+/// Sees that all that was written leaves, and then steps or reads.
+fn flush_and_go<M: Machine + Drop, P: Pipe>(
+    target: &mut Target<M>,
+    pipe: &mut P,
+    buffer: &mut [u8; CHUNK],
+) -> Next
+    requires is_open { is_open target.old.end ≡ true }
+    requires idle { target.old.end.outgoing ≡ [] }
+    requires asks { front_of target.old.end ≡ More }
+    requires flows { is_paused target.old.end ≡ false }
+    requires room { 0 < room_of target.old.end }
+    ensures goes { result ≡ Next.Goes → GoesOn target.old target.new (P.story pipe.old) (P.story pipe.new) }
+    ensures ends { IfEnds result (EndsSo M.meaning target.old target.new (P.story pipe.old) (P.story pipe.new)) }
+{
+    target.session();
+    if !flush_all(pipe) {
+        target.lose();
+        return Next::Ends(Ended::LostByWrite);
+    }
+    step_or_read(target, pipe, buffer)
 }
 
 /// One step of each live thread, and if none of them stepped one read. What waits to leave is written.
@@ -142,7 +169,8 @@ fn step_or_read<M: Machine + Drop, P: Pipe>(
     requires asks { front_of target.old.end ≡ More }
     requires flows { is_paused target.old.end ≡ false }
     requires room { 0 < room_of target.old.end }
-    ensures goes { result ≡ Next.Goes → GoesOn M.meaning target.old target.new (P.story pipe.old) (P.story pipe.new) }
+    requires left { (P.story pipe.old).unflushed ≡ [] }
+    ensures goes { result ≡ Next.Goes → GoesOn target.old target.new (P.story pipe.old) (P.story pipe.new) }
     ensures ends { IfEnds result (EndsSo M.meaning target.old target.new (P.story pipe.old) (P.story pipe.new)) }
 {
     target.session();
@@ -163,20 +191,18 @@ fn step_or_read<M: Machine + Drop, P: Pipe>(
 /// `NoMemory` where a step wanted memory; those of lower ids were made.
 fn step_each<M: Machine + Drop>(target: &mut Target<M>) -> Result<bool, TargetFault>
     requires { is_open target.old.end ≡ true }
-    ensures stepped { IfOk result (StepsIf M.meaning target.old target.new) }
-    ensures memory { OnErr result (((stepped : Bool) × StepsIf M.meaning target.old target.new stepped) × (is_open target.new.end ≡ true) × MayStep target.new) }
+    ensures stepped { IfOk result (StepsIf target.old target.new) }
+    ensures each { IfOk result (λ made. StepsEach M.meaning None target.old made target.new) }
+    ensures memory { OnErr result (((stepped : Bool) × StepsIf target.old target.new stepped) × (is_open target.new.end ≡ true) × MayStep target.new) }
 {
     let mut has_stepped = false;
-    let mut least = 0;
-    while let Some(thread) = least_from(target.live(), least) {
+    let mut last: Option<ObjectId> = None;
+    while let Some(thread) = least_above(target.live(), last) {
         match step_one(target, thread, has_stepped) {
             Ok(now) => has_stepped = now,
             Err(fault) => return Err(fault),
         }
-        match thread.0.checked_add(1) {
-            Some(above) => least = above,
-            None => break,
-        }
+        last = Some(thread);
     }
     Ok(has_stepped)
 }
@@ -187,7 +213,8 @@ fn step_one<M: Machine + Drop>(
     thread: ObjectId,
     has_stepped: bool,
 ) -> Result<bool, TargetFault>
-    ensures goes { IfOk result (λ now. (first : spec.Target M) → is_open first.end ≡ true → StepsIf M.meaning first target.old has_stepped → StepsIf M.meaning first target.new now) }
+    ensures goes { IfOk result (λ now. (first : spec.Target M) → is_open first.end ≡ true → StepsIf first target.old has_stepped → StepsIf first target.new now) }
+    ensures steps { IfOk result (λ now. (stepped : declared.Stepped) × StepsAt M.meaning thread.0 target.old (Ok stepped) target.new × (now ≡ (has_stepped || is_step stepped))) }
     ensures memory { OnErr result (MayStep target.old × (target.new ≡ target.old)) }
 {
     let stepped = match target.step(thread) {
@@ -200,29 +227,48 @@ fn step_one<M: Machine + Drop>(
     }
 }
 
-/// The least of these ids that is no less than `least`.
-fn least_from(threads: &[ObjectId], least: u64) -> Option<ObjectId>
-    ensures { IfSome result (λ thread. least ≤ thread.0) }
+/// The least of these ids that is above `last`, or of all.
+fn least_above(threads: &[ObjectId], last: Option<ObjectId>) -> Option<ObjectId>
+    ensures { IsNext (numbers threads.now) (id_in last) (id_in result) }
 {
     let mut found: Option<ObjectId> = None;
     for thread in threads {
-        if thread.0 == least {
-            return Some(*thread);
-        }
-        if thread.0 > least && found.is_none_or(|other| thread.0 < other.0) {
-            found = Some(*thread);
-        }
+        found = nearer(found, *thread, last);
     }
     found
 }
 
-/// Reads once, and feeds what came.
+/// The least above `last` of those of which `found` is, and this one.
+fn nearer(found: Option<ObjectId>, thread: ObjectId, last: Option<ObjectId>) -> Option<ObjectId>
+    ensures { (ids : List ℕ) → IsNext ids (id_in last) (id_in found) → IsNext (ids ++ thread.0 ∷ []) (id_in last) (id_in result) }
+{
+    if !is_above(last, thread) {
+        return found;
+    }
+    match found {
+        Some(other) if other.0 <= thread.0 => Some(other),
+        _ => Some(thread),
+    }
+}
+
+/// Whether the thread is above `last`, or there is none.
+fn is_above(last: Option<ObjectId>, thread: ObjectId) -> bool
+    ensures { result ≡ is_above (id_in last) thread.0 }
+{
+    match last {
+        None => true,
+        Some(last) => last.0 < thread.0,
+    }
+}
+
+/// Reads once, where all that was written has left, and feeds what came.
 fn read_and_feed<M: Machine + Drop, P: Pipe>(
     target: &mut Target<M>,
     pipe: &mut P,
     buffer: &mut [u8; CHUNK],
 ) -> Next
-    requires { 0 < room_of target.old.end }
+    requires room { 0 < room_of target.old.end }
+    requires left { (P.story pipe.old).unflushed ≡ [] }
     ensures goes { result ≡ Next.Goes → ReadsMore target.old target.new (P.story pipe.old) (P.story pipe.new) }
     ensures ends { IfEnds result (λ ended. (ended ≡ Ended.LostByRead) × LosesAtRead target.old target.new (P.story pipe.old) (P.story pipe.new)) }
 {
@@ -303,4 +349,12 @@ pub fn write_all<P: Pipe>(pipe: &mut P, bytes: &[u8]) -> bool
         }
     }
     true
+}
+
+/// Sees that all that was written leaves, or says that the flush failed.
+pub fn flush_all<P: Pipe>(pipe: &mut P) -> bool
+    ensures all { IsTrue result → P.story pipe.new ≡ flushed (P.story pipe.old) }
+    ensures fails { result ≡ false → FailsFlush (P.story pipe.old) (P.story pipe.new) }
+{
+    pipe.flush().is_ok()
 }

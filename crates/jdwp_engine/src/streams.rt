@@ -10,16 +10,17 @@ use trace::{History, Trace};
 /// A reader and a writer as a pipe.
 ///
 /// Its story is the reader's and the writer's: where the bytes that are left in the reader and those that the writer holds are known,
-/// what was read was taken from the first, and what was written was added to the second. Before each read the writer is flushed, so
-/// that no peer waits for bytes that stand in a buffer; where that flush fails, the read does. A call that was interrupted is made
-/// again.
+/// what was read was taken from the first, and what was written was added to the second. A read flushes nothing: whoever reads sees before
+/// that what was written has left. A call that was interrupted is made again.
 #[derive(Drop)]
 pub struct Streams<R, W> {
     reader: R,
     writer: W,
     read: History,
     written: History,
-    rooms: Trace<()>,
+    unflushed: History,
+    /// What was not flushed at each read with room.
+    rooms: Trace<History>,
     ends: Trace<()>,
     failed_reads: Trace<()>,
     failed_writes: Trace<()>,
@@ -40,6 +41,7 @@ impl<R, W> Streams<R, W> {
             writer,
             read: History::new(),
             written: History::new(),
+            unflushed: History::new(),
             rooms: Trace::new(),
             ends: Trace::new(),
             failed_reads: Trace::new(),
@@ -63,17 +65,18 @@ impl<R: Read, W: Write> Pipe for Streams<R, W> {
 
     ghost story = { story_of };
 
+    #[tactic(auto, using(crate::proofs::Known::early_push))]
     fn read(&mut self, buffer: &mut [u8]) -> io::Result<usize>
         ensures within { IfOk result (λ n. n ≤ length buffer.new) }
         ensures story { story_of self.new ≡ after_read (story_of self.old) result buffer.new }
         ensures reader { ReadConsumes (R.remaining (reader_of self.old)) (R.remaining (reader_of self.new)) result buffer.new }
-        ensures writer { Keeps (W.contents (writer_of self.old)) (W.contents (writer_of self.new)) }
+        ensures writer { writer_of self.new ≡ writer_of self.old }
     {
         let has_room = !buffer.is_empty();
         if has_room {
-            self.rooms.push(&());
+            self.rooms.push(&self.unflushed);
         }
-        match flush_and_read(&mut self.reader, &mut self.writer, buffer) {
+        match read_uninterrupted(&mut self.reader, buffer) {
             Ok(count) => {
                 self.read.extend(&buffer[..count]);
                 if has_room && count == 0 {
@@ -97,6 +100,7 @@ impl<R: Read, W: Write> Pipe for Streams<R, W> {
         match write_uninterrupted(&mut self.writer, bytes) {
             Ok(count) => {
                 self.written.extend(&bytes[..count]);
+                self.unflushed.extend(&bytes[..count]);
                 if count == 0 && !bytes.is_empty() {
                     self.failed_writes.push(&());
                 }
@@ -115,7 +119,10 @@ impl<R: Read, W: Write> Pipe for Streams<R, W> {
         ensures reader { reader_of self.new ≡ reader_of self.old }
     {
         match flush_uninterrupted(&mut self.writer) {
-            Ok(()) => Ok(()),
+            Ok(()) => {
+                self.unflushed = History::new();
+                Ok(())
+            }
             Err(error) => {
                 self.failed_writes.push(&());
                 Err(error)
@@ -126,20 +133,6 @@ impl<R: Read, W: Write> Pipe for Streams<R, W> {
 
 /// How often a call that was interrupted is made again at most. No program lives that long.
 const TRIES: u64 = u64::MAX;
-
-/// Flushes the writer, and then reads once.
-fn flush_and_read<R: Read, W: Write>(
-    reader: &mut R,
-    writer: &mut W,
-    buffer: &mut [u8],
-) -> io::Result<usize>
-    ensures bound { IfOk result (λ n. n ≤ length buffer.new) }
-    ensures reader { ReadConsumes (R.remaining reader.old) (R.remaining reader.new) result buffer.new }
-    ensures writer { Keeps (W.contents writer.old) (W.contents writer.new) }
-{
-    flush_uninterrupted(writer)?;
-    read_uninterrupted(reader, buffer)
-}
 
 fn flush_uninterrupted<W: Write>(writer: &mut W) -> io::Result<()>
     ensures { Keeps (W.contents writer.old) (W.contents writer.new) }

@@ -3,7 +3,6 @@ ghost use Rattle.std.specs.Prelude.{◌≡◌, List, map, Ok, IfOk, IfErr, OnErr
 ghost use Rattle.std.specs.Io.KnownBytes.{Keeps};
 ghost use Rattle.std.specs.Str.{IsUtf8};
 ghost use Rattle.std.specs.Str.Lines.{lines};
-ghost use Rattle.jdwp_wire.specs.Limits.{standard_limits};
 ghost use Rattle.jdwp_script_machine.specs.Machines.{read_machine};
 ghost use Rattle.jdwp_script_machine.specs.ScriptMeaning.{script_meaning};
 ghost use Rattle.jdwp_script_machine.specs.States.{State};
@@ -103,9 +102,9 @@ fn serve_bytes<'a, I: Read, O: Write>(
     bytes: &[u8],
     pipe: &mut Streams<I, O>,
 ) -> Result<Ended, Fault<'a>>
-    ensures served { IfOk result (λ ended. IsUtf8 bytes.now × (machine : State) × (read_machine standard_limits.live bytes.now ≡ Ok machine)
+    ensures served { IfOk result (λ ended. IsUtf8 bytes.now × (machine : State) × (read_machine words.now.settings.limits.live bytes.now ≡ Ok machine)
         × ServesNew script_meaning words.now.settings machine words.now.turns (story_of pipe.old) (story_of pipe.new) ended) }
-    ensures fault { IfErr result (RefusesScript words.now.machine bytes.now) }
+    ensures fault { IfErr result (RefusesScript words.now.settings.limits words.now.machine bytes.now) }
     ensures untouched { OnErr result (pipe.new ≡ pipe.old) }
 {
     let script = text(words.machine, bytes)?;

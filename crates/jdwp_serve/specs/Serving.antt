@@ -1,5 +1,5 @@
 -- One session of a new target.
-use Rattle.std.specs.Prelude.{◌≡◌, ◌+◌, ℕ}
+use Rattle.std.specs.Prelude.{◌≡◌, ◌≤◌, ◌+◌, ℕ}
 use Rattle.jdwp_machine.specs.Meanings.{Meaning}
 use Rattle.jdwp_debuggee.specs.Settings.{Settings}
 use Rattle.jdwp_debuggee.specs.State.{new_state}
@@ -7,7 +7,7 @@ use Rattle.jdwp_target.specs.Targets.{Target, Ran, new_target}
 use Rattle.jdwp_engine.specs.declared.ended.Ended.{Ended}
 use Rattle.jdwp_engine.specs.declared.ended.Ended.TheVariants.{TurnLimit}
 use Rattle.jdwp_engine.specs.Outcome.{MayEnd}
-use Rattle.jdwp_engine.specs.Run.{CostsAtLeast, InOrder}
+use Rattle.jdwp_engine.specs.Run.{InOrder, cost}
 use Rattle.jdwp_engine.specs.Story.{Story}
 
 -- a target over a machine in this state, before its first session
@@ -20,4 +20,4 @@ fresh m settings machine = new_target settings (record { state = new_state (m.li
 abbrev pub ServesNew : {S : Type 0} → Meaning S → Settings → S → ℕ → Story → Story → Ended → Type 0
 ServesNew {S = S} m settings machine rounds start now ended =
     (target : Target S) × Ran m target × InOrder (fresh m settings machine) start now target × MayEnd m ended start now target
-    × (ended ≡ TurnLimit → CostsAtLeast m (rounds + start.rooms) now target)
+    × (ended ≡ TurnLimit → rounds + start.rooms ≤ cost now target)

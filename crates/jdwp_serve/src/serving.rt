@@ -1,6 +1,5 @@
 //! Sessions served over any reader and writer.
 ghost use Rattle.std.specs.Prelude.{◌≡◌, ◌⊎◌, Ok, Err, IfOk, IfErr, OnErr};
-ghost use Rattle.jdwp_wire.specs.Limits.{standard_limits};
 ghost use Rattle.jdwp_script.specs.declared.fault.ScriptFault.TheVariants.{NoMemory};
 ghost use Rattle.jdwp_script_machine.specs.Machines.{read_machine};
 ghost use Rattle.jdwp_script_machine.specs.ScriptMeaning.{script_meaning};
@@ -17,7 +16,8 @@ use jdwp_target::Target;
 use std::alloc::Global;
 use std::io::{Read, Write};
 
-/// Serves one session of a new target over the machine of this script for at most so many rounds, as `serve` does.
+/// Serves one session of a new target over the machine of this script for at most so many rounds, as `serve` does. As many threads may
+/// live at the beginning as the limits of the settings have live threads.
 ///
 /// # Errors
 /// The first fault of the script, or `NoMemory` where an allocation was refused; and then nothing was read or written.
@@ -28,11 +28,11 @@ pub fn serve_script<R: Read, W: Write>(
     pipe: &mut Streams<R, W>,
     rounds: u32,
 ) -> Result<Ended, ScriptFault>
-    ensures served { IfOk result (λ ended. (machine : State) × (read_machine standard_limits.live script.now ≡ Ok machine) × ServesNew script_meaning settings machine rounds (story_of pipe.old) (story_of pipe.new) ended) }
-    ensures fault { IfErr result (λ fault. (fault ≡ NoMemory) ⊎ (read_machine standard_limits.live script.now ≡ Err fault)) }
+    ensures served { IfOk result (λ ended. (machine : State) × (read_machine settings.limits.live script.now ≡ Ok machine) × ServesNew script_meaning settings machine rounds (story_of pipe.old) (story_of pipe.new) ended) }
+    ensures fault { IfErr result (λ fault. (fault ≡ NoMemory) ⊎ (read_machine settings.limits.live script.now ≡ Err fault)) }
     ensures untouched { OnErr result (pipe.new ≡ pipe.old) }
 {
-    let machine = ScriptMachine::read(alloc, script)?;
+    let machine = ScriptMachine::read_with(alloc, script, &settings.limits())?;
     Ok(serve_session(alloc, machine, settings, pipe, rounds)?)
 }
 

@@ -19,26 +19,26 @@ returns-in-Err-NoMemory-clause-ends g c =
 pub returns-in_default-clause-goes : goal.returns-in_default-clause-goes
 returns-in_default-clause-goes g c = λ e.
     message-goes g.M.Machine.meaning (g.P.Pipe.story c.args.pipe.now) (g.P.Pipe.story c.write_and_go.new.pipe) c.args.target.now c.turn.new.self c.write_and_go.new.target
-    c.in-Ok.turn c.session.ensures.bytes c.session.ensures.ran c.in-Ok.ensures.turns c.in_default.not-Nothing (c.write_and_go.ensures.goes e)
+    c.in-Ok.turn c.session.ensures.bytes c.in-Ok.ensures.packets c.session.ensures.ran c.in-Ok.ensures.turns c.in_default.not-Nothing (c.write_and_go.ensures.goes e)
 
 pub returns-in_default-clause-ends : goal.returns-in_default-clause-ends
 returns-in_default-clause-ends g c =
     let w = c.write_and_go.ensures in
     message-ends g.M.Machine.meaning (g.P.Pipe.story c.args.pipe.now) (g.P.Pipe.story c.write_and_go.new.pipe) c.args.target.now c.turn.new.self c.write_and_go.new.target
-    c.in-Ok.turn c.write_and_go.result c.session.ensures.bytes c.session.ensures.ran c.in-Ok.ensures.turns c.in_default.not-Nothing w.ends w.done w.fails
+    c.in-Ok.turn c.write_and_go.result c.session.ensures.bytes c.in-Ok.ensures.packets c.session.ensures.ran c.in-Ok.ensures.turns c.in_default.not-Nothing w.ends w.done w.fails
 
-pub step_or_read-requires-clause-asks : goal.step_or_read-requires-clause-asks
-step_or_read-requires-clause-asks g c =
+pub flush_and_go-requires-clause-asks : goal.flush_and_go-requires-clause-asks
+flush_and_go-requires-clause-asks g c =
     let more = nothing-More g.M.Machine.meaning (front_of c.args.target.now.end) c.args.target.now c.turn.new.self (rw c.in-Nothing.is at c.in-Ok.ensures.turns) in
     rw more.1 more.0
 
-pub step_or_read-requires-clause-room : goal.step_or_read-requires-clause-room
-step_or_read-requires-clause-room g c =
+pub flush_and_go-requires-clause-room : goal.flush_and_go-requires-clause-room
+flush_and_go-requires-clause-room g c =
     let more = nothing-More g.M.Machine.meaning (front_of c.args.target.now.end) c.args.target.now c.turn.new.self (rw c.in-Nothing.is at c.in-Ok.ensures.turns) in
     rw more.1 (c.session.ensures.room more.0 c.requires.is_open (c.session.ensures.flows c.requires.idle))
 
 pub returns-in-Nothing-clause-goes : goal.returns-in-Nothing-clause-goes
 returns-in-Nothing-clause-goes g c = λ e.
     let more = nothing-More g.M.Machine.meaning (front_of c.args.target.now.end) c.args.target.now c.turn.new.self (rw c.in-Nothing.is at c.in-Ok.ensures.turns) in
-    let goes = c.step_or_read.ensures.goes e in
+    let goes = c.flush_and_go.ensures.goes e in
     rw more.1 at goes

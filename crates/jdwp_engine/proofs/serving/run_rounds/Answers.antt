@@ -1,5 +1,5 @@
 use Rattle.std.proofs.Common.{refl, arith, rules}
-use Rattle.jdwp_engine.proofs.Runs.{costs-opened, going-opened}
+use Rattle.jdwp_engine.proofs.Runs.{cost-opened, going-opened}
 use Rattle.jdwp_engine.proofs.serving.run_rounds.Goals as goal
 
 pub returns-in-Ends-clause-in_order : goal.returns-in-Ends-clause-in_order
@@ -12,19 +12,21 @@ returns-in-Ends-clause-ended g c =
 
 pub loop-done-preserved : goal.loop-done-preserved
 loop-done-preserved g c =
-    let h = c.in_default.ensures.goes refl c.args.target.now (g.P.Pipe.story c.args.pipe.now) _ c.loop-done.invariant.going c.loop-done.invariant.costs in
-    record { going = h.0; costs = (h.1.0, omega (arith, h.1.1)) }
+    let h = c.in_default.ensures.goes refl in
+    record {
+      going = h.1 c.args.target.now (g.P.Pipe.story c.args.pipe.now) c.loop-done.invariant.going;
+      costs = omega (arith, h.0, c.loop-done.invariant.costs);
+    }
 
 pub loop-done-init : goal.loop-done-init
 loop-done-init g c = record {
   going = going-opened (g.P.Pipe.story c.args.pipe.now) c.args.target.now c.requires.opened;
-  costs = costs-opened g.M.Machine.meaning (g.P.Pipe.story c.args.pipe.now) c.args.target.now c.requires.opened;
+  costs = omega (arith, cost-opened (g.P.Pipe.story c.args.pipe.now) c.args.target.now c.requires.opened);
 }
 
 pub returns-clause-limit : goal.returns-clause-limit
 returns-clause-limit g c = λ e.
-    let k = c.loop-done.invariant.costs in
-    (k.0, omega (arith, k.1, c.loop-done-test.false))
+    omega (arith, c.loop-done.invariant.costs, c.loop-done-test.false)
 
 pub returns-in-Ends-clause-limit : goal.returns-in-Ends-clause-limit
 returns-in-Ends-clause-limit g c =

@@ -1,9 +1,9 @@
-use Rattle.std.proofs.Common.{◌+◌}
-use Rattle.jdwp_engine.specs.Run.{CostsAtLeast, IsGoing}
+use Rattle.std.proofs.Common.{◌≤◌, ◌+◌}
+use Rattle.jdwp_engine.specs.Run.{IsGoing, cost}
 use Rattle.jdwp_engine.proofs.serving.run_rounds.Given as goal
 
 abbrev pub invariant-loop-done : goal.invariant-loop-done
 invariant-loop-done g l = record {
   going : IsGoing l.fn.target (g.P.Pipe.story l.fn.pipe) (g.P.Pipe.story l.pipe) l.target;
-  costs : CostsAtLeast g.M.Machine.meaning (l._done + (g.P.Pipe.story l.fn.pipe).rooms) (g.P.Pipe.story l.pipe) l.target;
+  costs : l._done + (g.P.Pipe.story l.fn.pipe).rooms ≤ cost (g.P.Pipe.story l.pipe) l.target;
 }

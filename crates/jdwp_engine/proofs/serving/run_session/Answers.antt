@@ -10,10 +10,5 @@ returns-in-Err-clause-ended g c =
     (c.lose_what_is_kept.ensures c.args.target.now (g.P.Pipe.story c.args.pipe.now) (g.P.Pipe.story c.run_rounds-ended.new.pipe) (g.P.Pipe.story c.flush.new.self)
     c.run_rounds-ended.ensures.in_order c.run_rounds-ended.ensures.ended c.in-Err.ensures).1
 
-pub returns-in-Err-clause-limit : goal.returns-in-Err-clause-limit
-returns-in-Err-clause-limit g c = λ e.
-    absurd ((c.lose_what_is_kept.ensures c.args.target.now (g.P.Pipe.story c.args.pipe.now) (g.P.Pipe.story c.run_rounds-ended.new.pipe) (g.P.Pipe.story c.flush.new.self)
-    c.run_rounds-ended.ensures.in_order c.run_rounds-ended.ensures.ended c.in-Err.ensures).2 e)
-
 pub returns-in-Ok-clause-limit : goal.returns-in-Ok-clause-limit
 returns-in-Ok-clause-limit g c = λ e. rw (c.in-Ok.ensures {u = tt}) (c.run_rounds-ended.ensures.limit e)

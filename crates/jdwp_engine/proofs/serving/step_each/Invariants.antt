@@ -1,10 +1,19 @@
-use Rattle.std.proofs.Common.{◌-◌, ◌^◌}
+use Rattle.std.proofs.Common.{◌-◌, ◌^◌, ◌+◌, ℕ, Option, Some, None}
+use Rattle.jdwp_engine.specs.Rounds.{StepsUntil, id_in}
 use Rattle.jdwp_engine.specs.Steps.{StepsIf}
 use Rattle.jdwp_engine.proofs.serving.step_each.Given as goal
 
+-- above all that were stepped
+abbrev pub above : Option ℕ → ℕ
+above None = 0
+above (Some last) = last + 1
+
 -- what was stepped so far
 abbrev pub invariant-loop-thread : goal.invariant-loop-thread
-invariant-loop-thread g l = StepsIf g.M.Machine.meaning l.fn.target l.target l.has_stepped
+invariant-loop-thread g l = record {
+  made : StepsIf l.fn.target l.target l.has_stepped;
+  each : StepsUntil g.M.Machine.meaning l.fn.target l.has_stepped (id_in l.last) l.target;
+}
 
 abbrev pub decreases-loop-thread : goal.decreases-loop-thread
-decreases-loop-thread g l = 2 ^ 64 - l.least
+decreases-loop-thread g l = 2 ^ 64 - above (id_in l.last)

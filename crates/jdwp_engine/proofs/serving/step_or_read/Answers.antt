@@ -6,7 +6,7 @@ use Rattle.jdwp_engine.proofs.serving.step_or_read.Goals as goal
 pub returns-in-Ok-true-clause-goes : goal.returns-in-Ok-true-clause-goes
 returns-in-Ok-true-clause-goes g c = λ e.
     let on = rw c.in-Ok-true.field-0-test at c.in-Ok-true.ensures.stepped in
-    steps-goes g.M.Machine.meaning (g.P.Pipe.story c.args.pipe.now) (g.P.Pipe.story c.write_and_go.new.pipe) c.args.target.now c.step_each.new.target c.write_and_go.new.target
+    steps-goes (g.P.Pipe.story c.args.pipe.now) (g.P.Pipe.story c.write_and_go.new.pipe) c.args.target.now c.step_each.new.target c.write_and_go.new.target
     on (c.write_and_go.ensures.goes e)
 
 pub returns-in-Ok-true-clause-ends : goal.returns-in-Ok-true-clause-ends
@@ -19,7 +19,7 @@ returns-in-Ok-true-clause-ends g c =
 pub returns-in-Ok-false-clause-goes : goal.returns-in-Ok-false-clause-goes
 returns-in-Ok-false-clause-goes g c = λ e.
     let same = rw c.in-Ok-false.field-0-test at c.in-Ok-false.ensures.stepped in
-    read-goes g.M.Machine.meaning (g.P.Pipe.story c.args.pipe.now) (g.P.Pipe.story c.read_and_feed.new.pipe) c.args.target.now c.step_each.new.target c.read_and_feed.new.target
+    read-goes (g.P.Pipe.story c.args.pipe.now) (g.P.Pipe.story c.read_and_feed.new.pipe) c.args.target.now c.step_each.new.target c.read_and_feed.new.target
     same (c.read_and_feed.ensures.goes e)
 
 pub returns-in-Ok-false-clause-ends : goal.returns-in-Ok-false-clause-ends

@@ -1,0 +1,26 @@
+use Rattle.std.proofs.Common.{◌≡◌, refl, rules}
+use Rattle.jdwp_engine.specs.Run.{flushed}
+use Rattle.jdwp_engine.proofs.Runs.{flush-ends, flushed-ends, flushed-goes}
+use Rattle.jdwp_engine.proofs.serving.flush_and_go.Goals as goal
+
+pub returns-then-not-flush_all-clause-ends : goal.returns-then-not-flush_all-clause-ends
+returns-then-not-flush_all-clause-ends g c =
+    let fails = c.if-not-flush_all.ensures.fails refl in
+    rw c.lose.ensures (flush-ends g.M.Machine.meaning (g.P.Pipe.story c.args.pipe.now) (g.P.Pipe.story c.flush_all.new.pipe) c.args.target.now c.session.ensures.ran fails)
+
+pub step_or_read-requires-clause-left : goal.step_or_read-requires-clause-left
+step_or_read-requires-clause-left g c =
+    let left : g.P.Pipe.story c.flush_all.new.pipe ≡ flushed (g.P.Pipe.story c.args.pipe.now) = c.if-not-flush_all.ensures.all (search rules) in
+    rw left refl
+
+pub returns-clause-goes : goal.returns-clause-goes
+returns-clause-goes g c = λ e.
+    let left : g.P.Pipe.story c.flush_all.new.pipe ≡ flushed (g.P.Pipe.story c.args.pipe.now) = c.if-not-flush_all.ensures.all (search rules) in
+    flushed-goes (g.P.Pipe.story c.args.pipe.now) (g.P.Pipe.story c.flush_all.new.pipe) (g.P.Pipe.story c.step_or_read.new.pipe) c.args.target.now c.step_or_read.new.target
+    left (c.step_or_read.ensures.goes e)
+
+pub returns-clause-ends : goal.returns-clause-ends
+returns-clause-ends g c =
+    let left : g.P.Pipe.story c.flush_all.new.pipe ≡ flushed (g.P.Pipe.story c.args.pipe.now) = c.if-not-flush_all.ensures.all (search rules) in
+    flushed-ends g.M.Machine.meaning (g.P.Pipe.story c.args.pipe.now) (g.P.Pipe.story c.flush_all.new.pipe) (g.P.Pipe.story c.step_or_read.new.pipe) c.args.target.now c.step_or_read.new.target
+    c.step_or_read.result left c.step_or_read.ensures.ends

@@ -1,0 +1,47 @@
+-- The steps of a round: each live thread is stepped once, by rising id.
+use Rattle.std.specs.Prelude.{◌≡◌, ℕ, ◌≤◌, ◌||◌, nat_lt, Bool, true, false, List, Option, Some, None, Ok}
+use Rattle.jdwp_machine.specs.Meanings.{Meaning, has}
+use Rattle.jdwp_target.specs.declared.target.Stepped.{Stepped}
+use Rattle.jdwp_target.specs.declared.target.Stepped.TheVariants.{Frozen, Quiet, Reported, Ended}
+use Rattle.jdwp_target.specs.Targets.{Target}
+use Rattle.jdwp_target.specs.Turns.{StepsAt}
+use Rattle.jdwp_value.specs.declared.id.ObjectId.{ObjectId}
+
+-- the number of an id, where there is one
+abbrev pub id_in : Option ObjectId → Option ℕ
+id_in None = None
+id_in (Some id) = Some id.0
+
+-- above the last one that was stepped, or none was
+abbrev pub is_above : Option ℕ → ℕ → Bool
+is_above None id = true
+is_above (Some last) id = nat_lt last id
+
+-- The id of the next thread to step: one of these, above the last, and no other of them is above the last and below it.
+pub record IsNextThread (ids : List ℕ) (last : Option ℕ) (next : ℕ) : Type 0 where
+  pub lives : has ids next ≡ true
+  pub above : is_above last next ≡ true
+  pub least : (id : ℕ) → has ids id ≡ true → is_above last id ≡ true → next ≤ id
+
+-- There is none where none of these is above the last.
+abbrev pub IsNext : List ℕ → Option ℕ → Option ℕ → Type 0
+IsNext ids last None = (id : ℕ) → has ids id ≡ true → is_above last id ≡ false
+IsNext ids last (Some next) = IsNextThread ids last next
+
+-- whether a call made a step
+abbrev pub is_step : Stepped → Bool
+is_step Frozen = false
+is_step Quiet = true
+is_step Reported = true
+is_step Ended = true
+
+-- From the last one on, each thread that lives then is stepped, by rising id: those that a step starts are among them where their ids are
+-- higher, those that it ends are not. And whether a step was made.
+pub data StepsEach {S : Type 0} (m : Meaning S) : Option ℕ → Target S → Bool → Target S → Type 0 where
+  Over : (last : Option ℕ) (target : Target S) → IsNext (m.live target.moment.machine) last None → StepsEach m last target false target
+  Steps : (last : Option ℕ) (old mid new : Target S) (t : ℕ) (stepped : Stepped) (made : Bool) → IsNext (m.live old.moment.machine) last (Some t)
+      → StepsAt m t old (Ok stepped) mid → StepsEach m (Some t) mid made new → StepsEach m last old (is_step stepped || made) new
+
+-- the same, where steps may be left to make
+abbrev pub StepsUntil : {S : Type 0} → Meaning S → Target S → Bool → Option ℕ → Target S → Type 0
+StepsUntil {S = S} m first made last now = (more : Bool) (new : Target S) → StepsEach m last now more new → StepsEach m None first (made || more) new
