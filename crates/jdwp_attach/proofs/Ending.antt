@@ -1,5 +1,5 @@
 -- Why a run of a plan ends, and what is left then.
-use Rattle.std.proofs.Common.{◌≡◌, ◌≢◌, ◌∙◌, ℕ, ◌<◌, ◌≤◌, ◌+◌, ◌++◌, List, [], ◌∷◌, length, true, false, Ok, Err, Some, None, Option, is_some, inl, inr, get_or, take, drop, sym, ap, refl, subst, append_assoc, arith}
+use Rattle.std.proofs.Common.{◌≡◌, ◌≢◌, ◌∙◌, ℕ, ◌<◌, ◌≤◌, ◌+◌, ◌++◌, ◌&&◌, ◌⊎◌, List, [], ◌∷◌, length, Bool, IsTrue, true, false, Ok, Err, Some, None, Option, is_some, inl, inr, get_or, take, drop, sym, ap, refl, subst, append_assoc, arith}
 use Rattle.std.proofs.lemmas.Grind.{common_steps}
 use Rattle.std.proofs.lemmas.List.{append-nil}
 use Rattle.jdwp_wire.specs.Handshake.{handshake_bytes}
@@ -19,13 +19,13 @@ use Rattle.jdwp_debugger.specs.Debuggers.{Debugger, attached, has_tickets, lost,
 use Rattle.jdwp_debugger.specs.DebuggerTurns.{TurnsAt, refused}
 use Rattle.jdwp_engine.specs.declared.ended.Ended.{Ended}
 use Rattle.jdwp_engine.specs.declared.ended.Ended.TheVariants.{Done, LostByRead, LostByWrite, Refused, NoMemory, TurnLimit}
-use Rattle.jdwp_engine.specs.Run.{FailsWrite, with_written}
+use Rattle.jdwp_engine.specs.Run.{FailsFlush, FailsRead, FailsWrite, flushed, with_written}
 use Rattle.jdwp_engine.specs.Story.{Story}
 use Rattle.jdwp_plan.specs.declared.plan_line.PlanLine.{PlanLine}
 use Rattle.jdwp_attach.specs.PlanAsks.{AsksInOrder, IsBeginning, Stands, command_asked}
-use Rattle.jdwp_attach.specs.PlanRuns.{EndsFailed, EndsRefused, EndsSo, IsAsk, LineEndsSo, MayEnd, ReadsEnd, RefusesCommand, told_number}
-use Rattle.jdwp_attach.specs.Runs.{Finishes, InOrder, IsGoing, LosesAtRead, LosesAtWrite, Prints, PrintsPart, Reaches, Standing, at}
-use Rattle.jdwp_attach.proofs.Moves.{asked-moves, begins-all, begins-behind, begins-line, begins-none, line-split, printed-goes, prints-again}
+use Rattle.jdwp_attach.specs.PlanRuns.{EndsFailed, EndsRefused, EndsSo, HasLeft, IsAsk, LineEndsSo, MayEnd, ReadsEnd, RefusesCommand, told_number}
+use Rattle.jdwp_attach.specs.Runs.{FailsLastFlush, Finishes, InOrder, IsGoing, LosesAtRead, LosesAtWrite, Prints, PrintsPart, Reaches, Standing, at}
+use Rattle.jdwp_attach.proofs.Moves.{asked-moves, begins-all, begins-behind, begins-line, begins-none, line-split, printed-goes, prints-again, prints-none}
 use Rattle.jdwp_attach.proofs.Reached.{hello-reached, hello-reached-all, reach-all, reach-same, reach-taken, reach-turned}
 use Rattle.jdwp_attach.proofs.Stages.{asks-append, one-asked, puts-same, stands-asked, stands-known, stands-puts}
 use Rattle.jdwp_attach.proofs.Turned.{Moves, fault-refused, memory-same}
@@ -59,9 +59,9 @@ going-asks plan done base now begins k = (done, begins, (k.asked, stands-puts do
 
 -- nothing more went through the pipe to the target, and what the debugger was fed and what it put stayed
 stays-in-order : (plan done : List PlanLine) (base : Standing) (s o : Story) (old : Debugger) (left : ℕ) (s' o' : Story) (new : Debugger)
-    → IsBeginning done plan → IsGoing done base (at s o old left) → s'.read ≡ s.read → s'.written ≡ s.written → s'.failed_writes ≡ s.failed_writes → Prints o o'
+    → IsBeginning done plan → IsGoing done base (at s o old left) → s'.read ≡ s.read → s'.written ≡ s.written → s.failed_writes ≤ s'.failed_writes → s'.early ≡ s.early → Prints o o'
     → Same old new → InOrder plan base s' o' new
-stays-in-order plan done base s o old left s' o' new begins k read written failed printed same =
+stays-in-order plan done base s o old left s' o' new begins k read written failed early printed same =
     let all : s'.written ≡ base.pipe.written ++ new.end.session.enqueued = grind (arith, common_steps, written, k.written, same.enqueued) in
     let out : new.end.session.taken ≡ new.end.session.enqueued = same.taken ∙ k.taken ∙ sym same.enqueued in
     let p = prints-again base.out o o' k.printed printed in
@@ -71,6 +71,7 @@ stays-in-order plan done base s o old left s' o' new begins k read written faile
       written = (new.end.session.enqueued, all, ([], sym (append-nil new.end.session.enqueued)), ([], out ∙ sym (append-nil new.end.session.enqueued)));
       whole = λ _. (all, out);
       failed_writes = omega (arith, failed, k.failed_writes);
+      prompt = early ∙ k.prompt;
       printed = (p.0, ap (λ (x : Story). x.written) p.1);
       unread = ap (λ (x : Story). x.read) p.1;
       failed_prints = omega (arith, ap (λ (x : Story). x.failed_writes) p.1);
@@ -79,24 +80,28 @@ stays-in-order plan done base s o old left s' o' new begins k read written faile
 going-in-order : (plan done : List PlanLine) (base : Standing) (s o : Story) (d : Debugger) (left : ℕ) (new : Debugger) → IsBeginning done plan → IsGoing done base (at s o d left)
     → Same d new → InOrder plan base s o new
 going-in-order plan done base s o d left new begins k same =
-    stays-in-order plan done base s o d left s o new begins k refl refl refl ([], ap (λ (x : List ℕ). record o { written = x }) (sym (append-nil o.written))) same
+    stays-in-order plan done base s o d left s o new begins k refl refl (omega arith) refl (prints-none o) same
 
 -- no write failed so far
 printed-same : (a b : Story) → Prints a b → b.failed_writes ≡ a.failed_writes
 printed-same a b p = ap (λ (x : Story). x.failed_writes) p.1
+
+-- no write and no flush failed so far
+has-left : (done : List PlanLine) (base : Standing) (s o : Story) (d : Debugger) (left : ℕ) → IsGoing done base (at s o d left) → HasLeft base (flushed s) (flushed o)
+has-left done base s o d left k = (k.failed_writes, printed-same base.out o k.printed, refl, refl)
 
 -- ---- the limit of turns
 
 pub limit-ends : (s o : Story) (d : Debugger) (left : ℕ) → left ≡ 0 → EndsSo (at s o d left) (at s o d left) TurnLimit
 limit-ends s o d left none plan done base begins k = (
   going-in-order plan done base s o d left d begins k (same-by d d refl),
-  (k.reached, k.ready.0, k.kept, (k.failed_writes, printed-same base.out o k.printed), omega (arith, k.turns, none)),
+  (k.reached, k.ready.0, k.kept, has-left done base s o d left k, omega (arith, k.turns, none)),
 )
 
 -- want of memory
 pub stays-memory : (plan done : List PlanLine) (base : Standing) (s o : Story) (d : Debugger) (left : ℕ) → IsBeginning done plan → IsGoing done base (at s o d left)
-    → InOrder plan base s o d × MayEnd plan NoMemory base s o d
-stays-memory plan done base s o d left begins k = (going-in-order plan done base s o d left d begins k (same-by d d refl), (k.reached, k.kept, (k.failed_writes, printed-same base.out o k.printed)))
+    → InOrder plan base s o d × MayEnd plan NoMemory base (flushed s) (flushed o) d
+stays-memory plan done base s o d left begins k = (going-in-order plan done base s o d left d begins k (same-by d d refl), (k.reached, k.kept, has-left done base s o d left k))
 
 -- ---- turns that failed
 
@@ -111,7 +116,7 @@ turn-refused-ends s o old mid new left left' number fault some turned is number-
     let kept : mid.end.session.lost ≡ false = rw same k.kept in
     rw is (
       going-in-order plan done base s o old left (lost mid) begins k (record { fed = rw same refl; enqueued = rw same refl; taken = rw same refl; tickets = rw same refl }),
-      (mid, reach-turned base.debugger old mid (Err fault) k.reached turned, inl (old, fault, k.reached, turned, some, number-is), kept, refl),
+      ((mid, reach-turned base.debugger old mid (Err fault) k.reached turned, inl (old, fault, k.reached, turned, some, number-is), kept, refl), has-left done base s o old left k),
     )
 
 pub turn-ends : (s o : Story) (old mid new : Debugger) (left left' : ℕ) (fault : DebuggerFault) (ended : Ended) → TurnsAt (front_of old.end) old (Err fault) mid → EndsFailed fault mid new ended
@@ -127,32 +132,35 @@ turn-ends s o old mid new left left' code.BadEvent ended turned h = rw h.0 (turn
 
 asked-refused : (done rest : List PlanLine) (line : PlanLine) (base : Standing) (s o : Story) (d new : Debugger) (left set number refused : ℕ) (bytes : List ℕ) (w : Widths)
     → IsGoing done base (at s o d left) → IsAsk line set number bytes → d.sizes ≡ Some w → RefusesCommand d refused (command_asked w set number bytes) → new ≡ lost d
-    → InOrder (done ++ line ∷ rest) base s o new × MayEnd (done ++ line ∷ rest) (Refused refused) base s o new
+    → InOrder (done ++ line ∷ rest) base s o new × MayEnd (done ++ line ∷ rest) (Refused refused) base (flushed s) (flushed o) new
 asked-refused done rest line base s o d new left set number refused bytes w k asks-it known refuses is =
     let knows = stands-known done base.debugger d (ap (λ (x : Option Widths). is_some x) known) k.stands in
     let same : knows.0 ≡ w = let e = sym knows.1 ∙ known in cc in
     rw is (
       going-in-order (done ++ line ∷ rest) done base s o d left (lost d) (begins-line done rest line) k (same-lost d),
       (
-        d,
-        k.reached,
-        inr (record {
-          done = done;
-          line = line;
-          rest = rest;
-          plan_is = refl;
-          asked = k.asked;
-          set = set;
-          command = number;
-          carried = bytes;
-          asks_it = asks-it;
-          widths = w;
-          known = known;
-          put = rw (← same) knows.2;
-          refused = refuses;
-        }),
-        k.kept,
-        refl,
+        (
+          d,
+          k.reached,
+          inr (record {
+            done = done;
+            line = line;
+            rest = rest;
+            plan_is = refl;
+            asked = k.asked;
+            set = set;
+            command = number;
+            carried = bytes;
+            asks_it = asks-it;
+            widths = w;
+            known = known;
+            put = rw (← same) knows.2;
+            refused = refuses;
+          }),
+          k.kept,
+          refl,
+        ),
+        has-left done base s o d left k,
       ),
     )
 
@@ -198,14 +206,39 @@ asked-in-order done rest line base s o old mid left set number bytes w command a
 
 -- ---- a read that failed
 
-pub read-ends : (s s' o : Story) (old mid new : Debugger) (left left' : ℕ) → TurnsAt (front_of old.end) old (Ok read.Nothing) mid → front_of old.end ≡ More → mid ≡ record old { last = [] } → LosesAtRead mid new s s' → EndsSo (at s o old left) (at s' o new left') LostByRead
-read-ends s s' o old mid new left left' turned front same (is, f) plan done base begins k =
+read-fails : (s s' o : Story) (old mid new : Debugger) (left left' : ℕ) → TurnsAt (front_of old.end) old (Ok read.Nothing) mid → front_of old.end ≡ More → mid ≡ record old { last = [] }
+    → new ≡ lost mid → FailsRead (flushed s) s' → EndsSo (at s o old left) (at s' o new left') LostByRead
+read-fails s s' o old mid new left left' turned front same is f plan done base begins k =
     let reached : Reaches base.debugger (record old { last = [] }) = reach-same base.debugger old mid k.reached turned same in
     rw (is, same) (
-      stays-in-order plan done base s o old left s' o (lost (record old { last = [] })) begins k f.read f.written f.failed_writes
-          ([], ap (λ (x : List ℕ). record o { written = x }) (sym (append-nil o.written))) (record { fed = refl; enqueued = refl; taken = refl; tickets = refl }),
-      (omega (arith, f.fails, k.failed_reads, k.ends), (record old { last = [] }, reached, (k.ready.0, front), k.kept, refl)),
+      stays-in-order plan done base s o old left s' o (lost (record old { last = [] })) begins k f.read f.written (omega (arith, f.failed_writes)) f.early (prints-none o)
+          (record { fed = refl; enqueued = refl; taken = refl; tickets = refl }),
+      (
+        omega (arith, f.fails, k.failed_reads, k.ends),
+        (record old { last = [] }, reached, (k.ready.0, front), k.kept, refl),
+        (f.failed_writes ∙ k.failed_writes, printed-same base.out o k.printed, refl, refl),
+      ),
     )
+
+-- a flush before it failed
+flush-fails : (s s' o : Story) (old mid new : Debugger) (left left' : ℕ) → TurnsAt (front_of old.end) old (Ok read.Nothing) mid → mid ≡ record old { last = [] }
+    → new ≡ lost mid → FailsFlush s s' → EndsSo (at s o old left) (at s' o new left') LostByWrite
+flush-fails s s' o old mid new left left' turned same is f plan done base begins k =
+    let reached : Reaches base.debugger (record old { last = [] }) = reach-same base.debugger old mid k.reached turned same in
+    rw (is, same, f) (
+      stays-in-order plan done base s o old left (record s { failed_writes = s.failed_writes + 1 }) o (lost (record old { last = [] })) begins k refl refl (omega arith) refl (prints-none o)
+          (record { fed = refl; enqueued = refl; taken = refl; tickets = refl }),
+      (inl (omega (arith, k.failed_writes)), (record old { last = [] }, reached, tt, k.kept, refl)),
+    )
+
+pub read-ends : (s s' o : Story) (old mid new : Debugger) (left left' : ℕ) (ended : Ended) → TurnsAt (front_of old.end) old (Ok read.Nothing) mid → front_of old.end ≡ More
+    → mid ≡ record old { last = [] } → LosesAtRead ended mid new s s' → EndsSo (at s o old left) (at s' o new left') ended
+read-ends s s' o old mid new left left' LostByRead turned front same h = read-fails s s' o old mid new left left' turned front same h.0 h.1
+read-ends s s' o old mid new left left' LostByWrite turned front same h = flush-fails s s' o old mid new left left' turned same h.0 h.1
+read-ends s s' o old mid new left left' Done turned front same h = absurd h
+read-ends s s' o old mid new left left' (Refused number) turned front same h = absurd h
+read-ends s s' o old mid new left left' NoMemory turned front same h = absurd h
+read-ends s s' o old mid new left left' TurnLimit turned front same h = absurd h
 
 -- ---- what ends behind what was put
 
@@ -246,6 +279,7 @@ written-in-order plan done base s o old mid left turns tickets s' o' new k p ask
       written = (new.end.session.enqueued, all, ([], sym (append-nil new.end.session.enqueued)), ([], out ∙ sym (append-nil new.end.session.enqueued)));
       whole = λ _. (all, out);
       failed_writes = omega (arith, k.failed_writes, ap (λ (x : Story). x.failed_writes) written);
+      prompt = ap (λ (x : Story). x.early) written ∙ k.prompt;
       printed = grows.printed;
       unread = grows.unread;
       failed_prints = grows.failed;
@@ -268,6 +302,7 @@ part-in-order plan done base s o old mid left turns tickets s' o' new taken k p 
       );
       whole = λ e. absurd (omega (arith, f.failed_writes, k.failed_writes, e));
       failed_writes = omega (arith, f.failed_writes, k.failed_writes);
+      prompt = f.early ∙ k.prompt;
       printed = grows.printed;
       unread = grows.unread;
       failed_prints = grows.failed;
@@ -277,13 +312,10 @@ part-in-order plan done base s o old mid left turns tickets s' o' new taken k p 
 lost-behind : (taken : List ℕ) (mid new : Debugger) → new ≡ lost (with_taken taken mid) → Same (with_taken taken mid) new
 lost-behind taken mid new is = rw is (same-lost (with_taken taken mid))
 
-prints-none : (o : Story) → Prints o o
-prints-none o = ([], ap (λ (x : List ℕ). record o { written = x }) (sym (append-nil o.written)))
-
 -- a write failed
 pub loses-ends : (plan done : List PlanLine) (base : Standing) (s o : Story) (old mid : Debugger) (left l1 l2 turns tickets : ℕ) (s' o' : Story) (new : Debugger)
     → IsGoing done base (at s o old left) → Moves old mid turns tickets → Reaches base.debugger mid → AsksInOrder plan base.debugger mid → LosesAtWrite (at s o mid l1) (at s' o' new l2)
-    → InOrder plan base s' o' new × MayEnd plan LostByWrite base s' o' new
+    → InOrder plan base s' o' new × MayEnd plan LostByWrite base (flushed s') (flushed o') new
 loses-ends plan done base s o old mid left l1 l2 turns tickets s' o' new k p r asked f =
     elim f.fails [
       | inl (front, w, same) ↦ (
@@ -299,12 +331,12 @@ loses-ends plan done base s o old mid left l1 l2 turns tickets s' o' new k p r a
 
 pub moved-ends : (plan done : List PlanLine) (base : Standing) (s o : Story) (old mid : Debugger) (left l1 l2 turns tickets : ℕ) (s' o' : Story) (new : Debugger) (ended : Ended)
     → IsGoing done base (at s o old left) → Moves old mid turns tickets → Reaches base.debugger mid → AsksInOrder plan base.debugger mid → (is_open mid.end ≡ false → ReadsEnd base.debugger (with_taken mid.end.outgoing mid))
-    → Finishes ended (at s o mid l1) (at s' o' new l2) → InOrder plan base s' o' new × MayEnd plan ended base s' o' new
+    → Finishes ended (at s o mid l1) (at s' o' new l2) → InOrder plan base s' o' new × MayEnd plan ended base (flushed s') (flushed o') new
 moved-ends plan done base s o old mid left l1 l2 turns tickets s' o' new Done k p r asked why c = (
   written-in-order plan done base s o old mid left turns tickets s' o' new k p asked c.pipe (grows-prints base.out o o' k.printed c.out) (lost-behind mid.end.outgoing mid new c.debugger),
   (
     (with_taken mid.end.outgoing mid, reach-all base.debugger mid mid.end.outgoing refl r, inl (why c.closed), p.kept ∙ k.kept, c.debugger),
-    (ap (λ (x : Story). x.failed_writes) c.pipe ∙ k.failed_writes, printed-same o o' c.out ∙ printed-same base.out o k.printed),
+    (ap (λ (x : Story). x.failed_writes) c.pipe ∙ k.failed_writes, printed-same o o' c.out ∙ printed-same base.out o k.printed, refl, refl),
   ),
 )
 moved-ends plan done base s o old mid left l1 l2 turns tickets s' o' new NoMemory k p r asked why t = (
@@ -312,7 +344,7 @@ moved-ends plan done base s o old mid left l1 l2 turns tickets s' o' new NoMemor
   (
     subst (λ (x : Debugger). Reaches base.debugger x) (sym t.debugger) (reach-all base.debugger mid mid.end.outgoing refl r),
     ap (λ (x : Debugger). x.end.session.lost) t.debugger ∙ p.kept ∙ k.kept,
-    (ap (λ (x : Story). x.failed_writes) t.pipe ∙ k.failed_writes, printed-same o o' t.out ∙ printed-same base.out o k.printed),
+    (ap (λ (x : Story). x.failed_writes) t.pipe ∙ k.failed_writes, printed-same o o' t.out ∙ printed-same base.out o k.printed, refl, refl),
   ),
 )
 moved-ends plan done base s o old mid left l1 l2 turns tickets s' o' new LostByWrite k p r asked why f =
@@ -336,6 +368,7 @@ printed-part s o o' d new left part is plan done base begins k =
         written = r.written;
         whole = r.whole;
         failed_writes = r.failed_writes;
+        prompt = r.prompt;
         printed = grows.printed;
         unread = grows.unread;
         failed_prints = grows.failed;
@@ -347,7 +380,7 @@ printed-part s o o' d new left part is plan done base begins k =
 
 -- a line that ended the run
 pub line-ends : (plan : List PlanLine) (i : ℕ) (line : PlanLine) (old new : Standing) (ended : Ended) → i < length plan → line ≡ get_or plan i line → LineEndsSo line old new ended
-    → (base : Standing) → IsGoing (take i plan) base old → InOrder plan base new.pipe new.out new.debugger × MayEnd plan ended base new.pipe new.out new.debugger
+    → (base : Standing) → IsGoing (take i plan) base old → InOrder plan base new.pipe new.out new.debugger × MayEnd plan ended base (flushed new.pipe) (flushed new.out) new.debugger
 line-ends plan i line old new ended inside is f base k =
     rw (line-split plan i line inside is) (f (take i plan) (drop (i + 1) plan) base k)
 
@@ -355,21 +388,136 @@ line-ends plan i line old new ended inside is f base k =
 
 -- all lines were carried out, and all that was asked was answered
 pub finished-ends : (plan : List PlanLine) (base : Standing) (s o : Story) (d new : Debugger) (left : ℕ) → IsGoing plan base (at s o d left) → is_some d.sizes ≡ true → has_tickets d.pending ≡ false
-    → new ≡ lost d → InOrder plan base s o new × MayEnd plan Done base s o new
+    → new ≡ lost d → InOrder plan base s o new × MayEnd plan Done base (flushed s) (flushed o) new
 finished-ends plan base s o d new left k known answered is =
     let knows = stands-known plan base.debugger d known k.stands in
     rw is (
       going-in-order plan plan base s o d left (lost d) (begins-all plan) k (same-lost d),
       (
-        (d, k.reached, inr (k.asked, answered, (knows.0, knows.1, knows.2)), k.kept, refl),
-        (k.failed_writes, printed-same base.out o k.printed),
+        (d, k.reached, inr (k.asked, answered, (knows.0, knows.1, knows.2), k.passed), k.kept, refl),
+        has-left plan base s o d left k,
       ),
     )
+
+-- all that was written left
+pub left-in-order : (plan : List PlanLine) (base : Standing) (s o : Story) (d : Debugger) → InOrder plan base s o d → InOrder plan base (flushed s) (flushed o) d
+left-in-order plan base s o d r = record {
+  read = r.read;
+  asked = r.asked;
+  written = r.written;
+  whole = r.whole;
+  failed_writes = r.failed_writes;
+  prompt = r.prompt;
+  printed = r.printed;
+  unread = r.unread;
+  failed_prints = r.failed_prints;
+}
 
 -- from how the debugger stood as it attached
 pub lost-so : (plan : List PlanLine) (ended : Ended) (s o : Story) (d d' : Debugger) (turns : ℕ) (s' o' : Story) (new : Debugger) → d ≡ d'
     → InOrder plan (at s o d turns) s' o' new × MayEnd plan ended (at s o d turns) s' o' new → InOrder plan (at s o d' turns) s' o' new × MayEnd plan ended (at s o d' turns) s' o' new
 lost-so plan ended s o d d' turns s' o' new begun h = rw (← begun) h
+
+-- the last flush succeeded
+pub left-so : (plan : List PlanLine) (ended : Ended) (s o : Story) (d d' : Debugger) (turns : ℕ) (s' o' s'' o'' : Story) (new : Debugger) → d ≡ d' → s'' ≡ flushed s' → o'' ≡ flushed o'
+    → InOrder plan (at s o d turns) s' o' new → MayEnd plan ended (at s o d turns) (flushed s') (flushed o') new → InOrder plan (at s o d' turns) s'' o'' new × MayEnd plan ended (at s o d' turns) s'' o'' new
+left-so plan ended s o d d' turns s' o' s'' o'' new begun e f r m = rw (e, f, ← begun) (left-in-order plan (at s o d turns) s' o' new r, m)
+
+-- ---- the last flush
+
+-- what a flush leaves, whether it succeeded or failed
+record Flushes (s s' : Story) : Type 0 where
+  read : s'.read ≡ s.read
+  written : s'.written ≡ s.written
+  rooms : s'.rooms ≡ s.rooms
+  early : s'.early ≡ s.early
+  ends : s'.ends ≡ s.ends
+  failed_reads : s'.failed_reads ≡ s.failed_reads
+  failed_writes : s.failed_writes ≤ s'.failed_writes
+
+flushes : (b : Bool) (s s' : Story) → (IsTrue b → s' ≡ flushed s) → (b ≡ false → FailsFlush s s') → Flushes s s'
+flushes true s s' all fails = rw (all refl) (record { read = refl; written = refl; rooms = refl; early = refl; ends = refl; failed_reads = refl; failed_writes = omega arith })
+flushes false s s' all fails = rw (fails refl) (record { read = refl; written = refl; rooms = refl; early = refl; ends = refl; failed_reads = refl; failed_writes = omega arith })
+
+flush-more : (s s' : Story) → FailsFlush s s' → s.failed_writes < s'.failed_writes
+flush-more s s' f = rw f (omega arith)
+
+one-failed : (a b : Bool) (s o s' o' : Story) → (a ≡ false → FailsFlush s s') → (b ≡ false → FailsFlush o o') → (a && b) ≡ false
+    → (s.failed_writes < s'.failed_writes) ⊎ (o.failed_writes < o'.failed_writes)
+one-failed false b s o s' o' f g e = inl (flush-more s s' (f refl))
+one-failed true false s o s' o' f g e = inr (flush-more o o' (g refl))
+one-failed true true s o s' o' f g e = absurd (let h = e in cc)
+
+-- one of two flushes failed, or both
+pub flush-failed : (a b : Bool) (s o s' o' : Story) → (IsTrue a → s' ≡ flushed s) → (a ≡ false → FailsFlush s s') → (IsTrue b → o' ≡ flushed o) → (b ≡ false → FailsFlush o o') → (a && b) ≡ false
+    → FailsLastFlush s o s' o'
+flush-failed a b s o s' o' all fails all' fails' e =
+    let f = flushes a s s' all fails in
+    let g = flushes b o o' all' fails' in
+    record {
+      read = f.read;
+      written = f.written;
+      rooms = f.rooms;
+      early = f.early;
+      ends = f.ends;
+      failed_reads = f.failed_reads;
+      failed_writes = f.failed_writes;
+      unread = g.read;
+      printed = g.written;
+      failed_prints = g.failed_writes;
+      fails = one-failed a b s o s' o' fails fails' e;
+    }
+
+flush-in-order : (plan : List PlanLine) (base : Standing) (s o s' o' : Story) (d new : Debugger) → InOrder plan base s o d → FailsLastFlush s o s' o' → Same d new → InOrder plan base s' o' new
+flush-in-order plan base s o s' o' d new r f same =
+    let w = r.written in
+    record {
+      read = f.read ∙ r.read ∙ ap (λ (x : List ℕ). base.pipe.read ++ x) (sym same.fed);
+      asked = asks-same plan base.debugger d new same.tickets same.enqueued r.asked;
+      written = (w.0, f.written ∙ w.1, rw same.enqueued w.2, rw same.taken w.3);
+      whole = λ e.
+          let h = r.whole (omega (arith, e, r.failed_writes, f.failed_writes)) in
+          (f.written ∙ h.0 ∙ ap (λ (x : List ℕ). base.pipe.written ++ x) (sym same.enqueued), same.taken ∙ h.1 ∙ sym same.enqueued);
+      failed_writes = omega (arith, r.failed_writes, f.failed_writes);
+      prompt = f.early ∙ r.prompt;
+      printed = (r.printed.0, f.printed ∙ r.printed.1);
+      unread = f.unread ∙ r.unread;
+      failed_prints = omega (arith, r.failed_prints, f.failed_prints);
+    }
+
+flush-fails-more : (plan : List PlanLine) (base : Standing) (s o s' o' : Story) (d : Debugger) → InOrder plan base s o d → FailsLastFlush s o s' o'
+    → (base.pipe.failed_writes < s'.failed_writes) ⊎ (base.out.failed_writes < o'.failed_writes)
+flush-fails-more plan base s o s' o' d r f =
+    elim f.fails [
+      | inl less ↦ inl (omega (arith, r.failed_writes, less))
+      | inr less ↦ inr (omega (arith, r.failed_prints, less))
+    ]
+
+-- it failed where the connection was lost before
+pub flush-fails-lost : (plan : List PlanLine) (ended : Ended) (base : Standing) (s o s' o' : Story) (d : Debugger)
+    → (ended ≡ Done) ⊎ ((ended ≡ LostByRead) ⊎ ((ended ≡ LostByWrite) ⊎ ((number : ℕ) × (ended ≡ Refused number)))) → InOrder plan base s o d
+    → MayEnd plan ended base (flushed s) (flushed o) d → FailsLastFlush s o s' o' → InOrder plan base s' o' d × MayEnd plan LostByWrite base s' o' d
+flush-fails-lost plan Done base s o s' o' d which r m f = (flush-in-order plan base s o s' o' d d r f (same-by d d refl), (flush-fails-more plan base s o s' o' d r f, (m.0.0, m.0.1, tt, m.0.3, m.0.4)))
+flush-fails-lost plan LostByRead base s o s' o' d which r m f = (flush-in-order plan base s o s' o' d d r f (same-by d d refl), (flush-fails-more plan base s o s' o' d r f, (m.1.0, m.1.1, tt, m.1.3, m.1.4)))
+flush-fails-lost plan LostByWrite base s o s' o' d which r m f = (flush-in-order plan base s o s' o' d d r f (same-by d d refl), (flush-fails-more plan base s o s' o' d r f, m.1))
+flush-fails-lost plan (Refused number) base s o s' o' d which r m f = (flush-in-order plan base s o s' o' d d r f (same-by d d refl), (flush-fails-more plan base s o s' o' d r f, (m.0.0, m.0.1, tt, m.0.3, m.0.4)))
+flush-fails-lost plan NoMemory base s o s' o' d which r m f = absurd (elim which [ inl e ↦ cc | inr (inl e) ↦ cc | inr (inr (inl e)) ↦ cc | inr (inr (inr e)) ↦ (let h = e.1 in cc) ])
+flush-fails-lost plan TurnLimit base s o s' o' d which r m f = absurd (elim which [ inl e ↦ cc | inr (inl e) ↦ cc | inr (inr (inl e)) ↦ cc | inr (inr (inr e)) ↦ (let h = e.1 in cc) ])
+
+-- it failed where the debugger kept the connection, and loses it now
+flush-loses : (plan : List PlanLine) (base : Standing) (s o s' o' : Story) (d new : Debugger) → new ≡ lost d → Reaches base.debugger d → d.end.session.lost ≡ false → InOrder plan base s o d
+    → FailsLastFlush s o s' o' → InOrder plan base s' o' new × MayEnd plan LostByWrite base s' o' new
+flush-loses plan base s o s' o' d new is reached kept r f =
+    rw is (flush-in-order plan base s o s' o' d (lost d) r f (same-lost d), (flush-fails-more plan base s o s' o' d r f, (d, reached, tt, kept, refl)))
+
+pub flush-fails-kept : (plan : List PlanLine) (ended : Ended) (base : Standing) (s o s' o' : Story) (d new : Debugger) → (ended ≡ NoMemory) ⊎ (ended ≡ TurnLimit) → new ≡ lost d → InOrder plan base s o d
+    → MayEnd plan ended base (flushed s) (flushed o) d → FailsLastFlush s o s' o' → InOrder plan base s' o' new × MayEnd plan LostByWrite base s' o' new
+flush-fails-kept plan NoMemory base s o s' o' d new which is r m f = flush-loses plan base s o s' o' d new is m.0 m.1 r f
+flush-fails-kept plan TurnLimit base s o s' o' d new which is r m f = flush-loses plan base s o s' o' d new is m.0 m.2 r f
+flush-fails-kept plan Done base s o s' o' d new which is r m f = absurd (elim which [ inl e ↦ cc | inr e ↦ cc ])
+flush-fails-kept plan LostByRead base s o s' o' d new which is r m f = absurd (elim which [ inl e ↦ cc | inr e ↦ cc ])
+flush-fails-kept plan LostByWrite base s o s' o' d new which is r m f = absurd (elim which [ inl e ↦ cc | inr e ↦ cc ])
+flush-fails-kept plan (Refused number) base s o s' o' d new which is r m f = absurd (elim which [ inl e ↦ cc | inr e ↦ cc ])
 
 -- ---- the handshake
 
@@ -396,6 +544,7 @@ hello-goes s o d new left s' begun is written =
       ready = (ap (λ (x : Debugger). is_open x.end) begun, grind (arith, common_steps));
       kept = ap (λ (x : Debugger). x.end.session.lost) begun;
       reached = hello-reached-all d;
+      passed = hello-reached-all d;
       asked = omega arith;
       stands = hello-stands d begun;
       read = grind (arith, common_steps, fed);
@@ -404,13 +553,14 @@ hello-goes s o d new left s' begun is written =
       failed_reads = refl;
       failed_writes = refl;
       ends = refl;
+      prompt = refl;
       printed = prints-none o;
       turns = omega (arith, turns);
     })
 
 -- some of it was
 pub hello-ends : (plan : List PlanLine) (s o : Story) (d new : Debugger) (left : ℕ) (s' : Story) (taken : List ℕ) → d ≡ attached d → IsFront taken d.end.outgoing → FailsWrite s s' taken
-    → new ≡ lost (with_taken taken d) → InOrder plan (at s o d left) s' o new × MayEnd plan LostByWrite (at s o d left) s' o new
+    → new ≡ lost (with_taken taken d) → InOrder plan (at s o d left) s' o new × MayEnd plan LostByWrite (at s o d left) (flushed s') (flushed o) new
 hello-ends plan s o d new left s' taken begun front f is =
     let w = f.written in
     let outgoing : d.end.outgoing ≡ handshake_bytes = ap (λ (x : Debugger). x.end.outgoing) begun in
@@ -430,6 +580,7 @@ hello-ends plan s o d new left s' taken begun front f is =
         );
         whole = λ e. absurd (omega (arith, f.failed_writes, e));
         failed_writes = omega (arith, f.failed_writes);
+        prompt = f.early;
         printed = ([], sym (append-nil o.written));
         unread = refl;
         failed_prints = omega arith;

@@ -1,3 +1,4 @@
+pub mod Counting
 pub mod Ending
 pub mod Moves
 pub mod Reached

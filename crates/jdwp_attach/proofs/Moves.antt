@@ -1,22 +1,25 @@
 -- How a run of a plan goes on from one call to the next.
-use Rattle.std.proofs.Common.{◌≡◌, ◌∙◌, ℕ, ◌<◌, ◌≤◌, ◌+◌, ◌++◌, List, [], ◌∷◌, length, Bool, true, false, Result, Ok, Err, OnOk, IfErr, Option, Some, None, is_some, ◌||◌, get_or, take, drop, min, sym, ap, refl, subst, append_assoc, arith}
+use Rattle.std.proofs.Common.{◌≡◌, ◌∙◌, ℕ, ◌<◌, ◌≤◌, ◌+◌, ◌++◌, List, [], ◌∷◌, length, Bool, true, false, Result, Ok, Err, OnOk, IfErr, Option, Some, None, is_some, ◌||◌, get_or, take, drop, min, sym, ap, refl, append_assoc, arith}
 use Rattle.std.proofs.lemmas.Grind.{common_steps}
 use Rattle.std.proofs.lemmas.List.{append-nil, drop-drop, drop_more, length-append, length-take, take-append-drop, take_all, take_at, take_more}
-use Rattle.jdwp_end.specs.Ends.{is_open}
+use Rattle.jdwp_end.specs.Ends.{front_of, is_open}
 use Rattle.jdwp_debugger.specs.Asking.{HasAsked, command_bytes}
 use Rattle.std.specs.Borrow.{Bor}
 use Rattle.jdwp_debuggee.specs.Actions.{Command}
-use Rattle.jdwp_debugger.specs.declared.pending.Asked.{Asked}
 use Rattle.jdwp_debugger.specs.declared.pending.Ticket.{Ticket}
-use Rattle.jdwp_debugger.specs.Debuggers.{Debugger, Unanswered, and_then, at_place, has_tickets, seen_unanswered, unanswered, with_fed, with_taken}
-use Rattle.jdwp_engine.specs.Run.{with_written}
+use Rattle.jdwp_debugger.specs.Debuggers.{Asked, Debugger, Unanswered, and_then, at_place, has_tickets, seen_unanswered, unanswered, with_fed, with_taken}
+use Rattle.jdwp_debugger.specs.DebuggerTurns.{TurnsAt}
+use Rattle.jdwp_debugger.specs.declared.turning.Read.TheVariants as read
+use Rattle.jdwp_engine.specs.Run.{FailsWrite, flushed, with_written}
 use Rattle.jdwp_engine.specs.Story.{Story}
 use Rattle.jdwp_plan.specs.declared.plan_line.PlanLine.{PlanLine}
+use Rattle.jdwp_plan.specs.declared.plan_line.PlanLine.TheVariants as line
 use Rattle.jdwp_attach.specs.PlanAsks.{IsBeginning, Stands, asks, asks_of}
-use Rattle.jdwp_attach.specs.PlanRuns.{LineGoesOn}
-use Rattle.jdwp_attach.specs.Runs.{IsGoing, IsReady, Prints, Reaches, ReadsMore, Standing, at}
-use Rattle.jdwp_attach.proofs.Reached.{reach-all, reach-fed}
-use Rattle.jdwp_attach.proofs.Stages.{asks-append, stands-line}
+use Rattle.jdwp_attach.specs.PlanRuns.{IsAsk, LineGoesOn}
+use Rattle.jdwp_attach.specs.PlanWaits.{IsThere}
+use Rattle.jdwp_attach.specs.Runs.{HasPassed, IsGoing, IsReady, Prints, Reaches, ReadsMore, Standing, at}
+use Rattle.jdwp_attach.proofs.Reached.{passed-line, passed-on, reach-all, reach-asked, reach-fed}
+use Rattle.jdwp_attach.proofs.Stages.{asks-append, one-asked, stands-line}
 use Rattle.jdwp_attach.proofs.Turned.{Moves}
 
 -- ---- lines of a plan
@@ -52,11 +55,32 @@ all-go plan i base now past k = rw (take_all i plan past) at k
 
 -- ---- what is printed
 
+written-none : (s : Story) → with_written [] s ≡ s
+written-none s = simp append-nil
+
 pub prints-none : (s : Story) → Prints s s
-prints-none s = ([], ap (λ (x : List ℕ). record s { written = x }) (sym (append-nil s.written)))
+prints-none s = ([], sym (written-none s))
+
+written-twice : (x y : List ℕ) (s : Story) → with_written y (with_written x s) ≡ with_written (x ++ y) s
+written-twice x y s = simp append_assoc
 
 pub prints-again : (a b c : Story) → Prints a b → Prints b c → Prints a c
-prints-again a b c (x, e) (y, f) = (x ++ y, rw (f, e) (ap (λ (z : List ℕ). record a { written = z }) (append_assoc a.written x y)))
+prints-again a b c (x, e) (y, f) = (x ++ y, f ∙ ap (λ (s : Story). with_written y s) e ∙ written-twice x y a)
+
+-- a write that failed behind bytes that were written
+pub fails-after : (s t : Story) (done chunk more whole : List ℕ) → whole ≡ done ++ chunk ++ more → FailsWrite (with_written done s) t chunk → FailsWrite s t whole
+fails-after s t done chunk more whole e f =
+    let w = f.written in
+    record {
+      written = (
+        done ++ w.0,
+        w.1 ∙ append_assoc s.written done w.0,
+        (w.2.0 ++ more, grind (arith, common_steps, e, w.2.1, append_assoc)),
+      );
+      failed_writes = f.failed_writes;
+      read = f.read;
+      early = f.early;
+    }
 
 -- ---- bytes that leave
 
@@ -73,14 +97,15 @@ front-taken out buffer out' count counts e =
 
 -- all that was put was written, and what was read was told
 pub moved-goes : (done done' : List PlanLine) (base : Standing) (s o : Story) (old mid : Debugger) (left left' turns tickets : ℕ) (s' o' : Story) (new : Debugger)
-    → IsGoing done base (at s o old left) → Moves old mid turns tickets → Reaches base.debugger mid → Stands done' base.debugger mid → is_open mid.end ≡ true → asks done' ≡ asks done + tickets → left' + turns ≡ left
+    → IsGoing done base (at s o old left) → Moves old mid turns tickets → Reaches base.debugger mid → HasPassed done' base.debugger mid → Stands done' base.debugger mid → is_open mid.end ≡ true → asks done' ≡ asks done + tickets → left' + turns ≡ left
     → new ≡ with_taken mid.end.outgoing mid → s' ≡ with_written mid.end.outgoing s → Prints o o'
     → IsGoing done' base (at s' o' new left')
-moved-goes done done' base s o old mid left left' turns tickets s' o' new k p r stands opened counts spent is written printed =
+moved-goes done done' base s o old mid left left' turns tickets s' o' new k p r passed stands opened counts spent is written printed =
     rw (is, written) (record {
       ready = (opened, grind (arith, common_steps));
       kept = p.kept ∙ k.kept;
       reached = reach-all base.debugger mid mid.end.outgoing refl r;
+      passed = passed-on done' base.debugger mid (with_taken mid.end.outgoing mid) (λ from r. reach-all from mid mid.end.outgoing refl r) passed;
       asked = omega (arith, p.tickets_are, k.asked, counts);
       stands = stands;
       read = grind (arith, common_steps, k.read, p.fed);
@@ -89,21 +114,22 @@ moved-goes done done' base s o old mid left left' turns tickets s' o' new k p r 
       failed_reads = k.failed_reads;
       failed_writes = k.failed_writes;
       ends = k.ends;
+      prompt = k.prompt;
       printed = prints-again base.out o o' k.printed printed;
       turns = omega (arith, p.turns_are, k.turns, spent);
     })
 
 -- bytes were read and fed, behind a turn that handled nothing
 pub read-goes : (done : List PlanLine) (base : Standing) (s o : Story) (old mid new : Debugger) (left left' : ℕ) (s' : Story)
-    → IsGoing done base (at s o old left) → Reaches base.debugger mid → mid ≡ record old { last = [] } → ReadsMore mid new s s' → left' + 1 ≡ left → IsGoing done base (at s' o new left')
-read-goes done base s o old mid new left left' s' k r same (more, fed, read, fits) spent =
-    let reached : Reaches base.debugger (with_fed more (record old { last = [] })) =
-    subst (λ (x : Debugger). Reaches base.debugger (with_fed more x)) same (reach-fed base.debugger mid more r fits)
-    in
+    → IsGoing done base (at s o old left) → TurnsAt (front_of old.end) old (Ok read.Nothing) mid → mid ≡ record old { last = [] } → ReadsMore mid new (flushed s) s' → left' + 1 ≡ left → IsGoing done base (at s' o new left')
+read-goes done base s o old mid new left left' s' k turned same (more, fed, read, fits) spent =
+    let last : Debugger = with_fed more (record old { last = [] }) in
+    let is : last ≡ with_fed more mid = ap (λ (x : Debugger). with_fed more x) (sym same) in
     rw (fed, read, same) (record {
       ready = k.ready;
       kept = k.kept;
-      reached = reached;
+      reached = reach-fed base.debugger old mid last more k.reached turned fits is;
+      passed = passed-on done base.debugger old last (λ from r. reach-fed from old mid last more r turned fits is) k.passed;
       asked = k.asked;
       stands = k.stands;
       read = grind (arith, common_steps, k.read, append_assoc);
@@ -112,6 +138,7 @@ read-goes done base s o old mid new left left' s' k r same (more, fed, read, fit
       failed_reads = k.failed_reads;
       failed_writes = k.failed_writes;
       ends = k.ends;
+      prompt = k.prompt;
       printed = k.printed;
       turns = omega (arith, k.turns, spent);
     })
@@ -122,6 +149,7 @@ printed-goes done base s o o' d left k printed = record {
   ready = k.ready;
   kept = k.kept;
   reached = k.reached;
+  passed = k.passed;
   asked = k.asked;
   stands = k.stands;
   read = k.read;
@@ -130,6 +158,7 @@ printed-goes done base s o o' d left k printed = record {
   failed_reads = k.failed_reads;
   failed_writes = k.failed_writes;
   ends = k.ends;
+  prompt = k.prompt;
   printed = prints-again base.out o o' k.printed printed;
   turns = k.turns;
 }
@@ -144,6 +173,10 @@ pub on-both : {A E P Q R : Type 0} (r : Result A E) → (P → Q → R) → OnOk
 on-both (Ok a) f p q = f p q
 on-both (Err e) f p q = p
 
+pub on-three : {A E P Q R S : Type 0} (r : Result A E) → (P → Q → R → S) → OnOk r P → OnOk r Q → OnOk r R → OnOk r S
+on-three (Ok a) f p q s = f p q s
+on-three (Err e) f p q s = p
+
 pub if-err : {A E : Type 0} {P Q : E → Type 0} (r : Result A E) → ((e : E) → P e → Q e) → IfErr r P → IfErr r Q
 if-err (Ok a) f p = p
 if-err (Err e) f p = f e p
@@ -151,25 +184,35 @@ if-err (Err e) f p = f e p
 -- ---- lines
 
 -- a line that asks nothing
-pub line-goes : (done : List PlanLine) (line : PlanLine) (base now : Standing) → asks_of line ≡ 0 → is_some now.debugger.sizes ≡ true → IsGoing done base now → IsGoing (done ++ line ∷ []) base now
-line-goes done line base now none known k = record {
-  ready = k.ready;
-  kept = k.kept;
-  reached = k.reached;
-  asked = omega (arith, k.asked, none, asks-append done line);
-  stands = stands-line done line base.debugger now.debugger none known k.stands;
-  read = k.read;
-  written = k.written;
-  taken = k.taken;
-  failed_reads = k.failed_reads;
-  failed_writes = k.failed_writes;
-  ends = k.ends;
-  printed = k.printed;
-  turns = k.turns;
-}
+pub line-goes : (done : List PlanLine) (line : PlanLine) (base now : Standing) → asks_of line ≡ 0 → is_some now.debugger.sizes ≡ true → IsThere line now.debugger → IsGoing done base now
+    → IsGoing (done ++ line ∷ []) base now
+line-goes done line base now none known there k =
+    let asked : now.debugger.tickets ≡ base.debugger.tickets + asks (done ++ line ∷ []) = omega (arith, k.asked, none, asks-append done line) in
+    record {
+      ready = k.ready;
+      kept = k.kept;
+      reached = k.reached;
+      passed = passed-line done line base.debugger now.debugger asked there k.passed;
+      asked = asked;
+      stands = stands-line done line base.debugger now.debugger none known k.stands;
+      read = k.read;
+      written = k.written;
+      taken = k.taken;
+      failed_reads = k.failed_reads;
+      failed_writes = k.failed_writes;
+      ends = k.ends;
+      prompt = k.prompt;
+      printed = k.printed;
+      turns = k.turns;
+    }
 
 pub taken-ready : (mid new : Debugger) → is_open mid.end ≡ true → new ≡ with_taken mid.end.outgoing mid → IsReady new
 taken-ready mid new opened is = rw is (opened, grind (arith, common_steps))
+
+-- a line that asks waits for nothing
+ask-there : (line : PlanLine) (set number : ℕ) (bytes : List ℕ) (d : Debugger) → IsAsk line set number bytes → IsThere line d
+ask-there (line.Ask s n carried) set number bytes d h = tt
+ask-there other set number bytes d h = absurd h
 
 -- a command that was asked
 pub asked-moves : (command : Command) (old new : Debugger) → HasAsked command old new → Moves old new 0 1
@@ -184,6 +227,13 @@ asked-moves command old new h =
       enqueued = refl;
       outgoing = refl;
     })
+
+-- the line asks it, and waits for nothing
+pub asked-passes : (done : List PlanLine) (line : PlanLine) (base old mid : Debugger) (command : Command) (set number : ℕ) (bytes : List ℕ) → IsAsk line set number bytes → is_open old.end ≡ true
+    → HasAsked command old mid → old.tickets ≡ base.tickets + asks done → HasPassed done base old → HasPassed (done ++ line ∷ []) base mid
+asked-passes done line base old mid command set number bytes asks-it opened asked tickets passed =
+    passed-line done line base mid (omega (arith, tickets, (asked-moves command old mid asked).tickets_are, asks-append done line, one-asked line set number bytes asks-it))
+    (ask-there line set number bytes mid asks-it) (passed-on done base old mid (λ from r. reach-asked from old mid command r opened asked) passed)
 
 pub asked-open : (command : Command) (old new : Debugger) → HasAsked command old new → is_open old.end ≡ true → is_open new.end ≡ true
 asked-open command old new h opened = rw h.is opened

@@ -23,12 +23,11 @@ use Rattle.jdwp_end.specs.declared.phase.Phase.TheVariants.{AwaitingHandshake, E
 use Rattle.jdwp_end.specs.Ends.{End, front_of, is_open, is_paused, next_at, next_of}
 use Rattle.jdwp_debuggee.specs.Actions.{Command}
 use Rattle.jdwp_debugger.specs.declared.faults.DebuggerFault.TheVariants as code
-use Rattle.jdwp_debugger.specs.declared.pending.Asked.{Asked}
 use Rattle.jdwp_debugger.specs.declared.pending.Ticket.{Ticket}
 use Rattle.jdwp_debugger.specs.declared.turning.Read.{Read}
 use Rattle.jdwp_debugger.specs.declared.turning.Read.TheVariants as read
 use Rattle.jdwp_debugger.specs.Asking.{HasAsked, IsNextFree, asked as with_asked, command_bytes, id_after, is_outstanding}
-use Rattle.jdwp_debugger.specs.Debuggers.{Debugger, Parked as Waiting}
+use Rattle.jdwp_debugger.specs.Debuggers.{Asked, Debugger, Parked as Waiting}
 use Rattle.jdwp_debugger.specs.DebuggerTurns.{Enters, TurnsAt, Told, closed_where, command_at, greeted, measured_where, reading_of, reports, sizes_header, told}
 use Rattle.jdwp_mirror.specs.Messages.{Reply, Report, id_sizes}
 use Rattle.jdwp_mirror.specs.Mirror.{ends}
@@ -99,9 +98,7 @@ put-more w done line base old new more (bytes, lines, is) puts more-is =
 -- a line that asks nothing puts nothing
 puts-nothing : (w : Widths) (first n : ℕ) (line : PlanLine) → asks_of line ≡ 0 → PutsLine w first n line []
 puts-nothing w first n (line.Ask set number carried) none = absurd (let e = none in cc)
-puts-nothing w first n line.Answers none = refl
-puts-nothing w first n (line.Events count) none = refl
-puts-nothing w first n line.Mirror none = refl
+puts-nothing w first n other none = refl
 
 pub stands-line : (done : List PlanLine) (line : PlanLine) (base d : Debugger) → asks_of line ≡ 0 → is_some d.sizes ≡ true → Stands done base d → Stands (done ++ line ∷ []) base d
 stands-line done line base d none known s =
@@ -161,16 +158,12 @@ all-more first n (p ∷ ps) a = ((a.0.0, omega (arith, a.0.1), a.0.2), all-more 
 
 pub one-asked : (line : PlanLine) (set number : ℕ) (bytes : List ℕ) → IsAsk line set number bytes → asks_of line ≡ 1
 one-asked (line.Ask s n carried) set number bytes h = refl
-one-asked line.Answers set number bytes h = absurd h
-one-asked (line.Events count) set number bytes h = absurd h
-one-asked line.Mirror set number bytes h = absurd h
+one-asked other set number bytes h = absurd h
 
 puts-asked : (w : Widths) (first n : ℕ) (line : PlanLine) (set number id : ℕ) (bytes : List ℕ) (command : Command) → IsNthId first n id → IsAsk line set number bytes
     → command_asked w set number bytes ≡ Some command → PutsLine w first n line (command_bytes w id command)
 puts-asked w first n (line.Ask s m carried) set number id bytes command nth h is = (id, command, nth, rw (h.0, h.1, h.2) is, refl)
-puts-asked w first n line.Answers set number id bytes command nth h is = absurd h
-puts-asked w first n (line.Events count) set number id bytes command nth h is = absurd h
-puts-asked w first n line.Mirror set number id bytes command nth h is = absurd h
+puts-asked w first n other set number id bytes command nth h is = absurd h
 
 -- one id more was given
 counts-more : (w : Widths) (first n id : ℕ) (command : Command) (old : Debugger) → IsNextFree old.pending old.next_id id → CountsIds first n old → CountsIds first (n + 1) (with_asked w id command old)

@@ -15,11 +15,10 @@ use Rattle.jdwp_event.specs.Composites.{CompositeMeaning}
 use Rattle.jdwp_end.specs.Ends.{is_open}
 use Rattle.jdwp_debugger.specs.declared.faults.DebuggerFault.{DebuggerFault}
 use Rattle.jdwp_debugger.specs.declared.faults.DebuggerFault.TheVariants as code
-use Rattle.jdwp_debugger.specs.declared.pending.Asked.{Asked}
 use Rattle.jdwp_debugger.specs.declared.pending.Ticket.{Ticket}
 use Rattle.jdwp_debugger.specs.declared.turning.Read.{Read}
 use Rattle.jdwp_debugger.specs.declared.turning.Read.TheVariants as read
-use Rattle.jdwp_debugger.specs.Debuggers.{Debugger, Parked as Waiting}
+use Rattle.jdwp_debugger.specs.Debuggers.{Asked, Debugger, Parked as Waiting}
 use Rattle.jdwp_debugger.specs.DebuggerTurns.{Enters, HandlesAt, ReadsAt, Told, TurnsAt, closed, closed_where, command_at, command_of, greeted, measured_where, reading_of, refused, reports, sizes_header, told}
 use Rattle.jdwp_debugger.specs.DebuggerTurns as tell
 use Rattle.jdwp_mirror.specs.Messages.{Reply, Report}

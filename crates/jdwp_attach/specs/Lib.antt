@@ -1,4 +1,5 @@
 pub mod Lines
 pub mod PlanAsks
 pub mod PlanRuns
+pub mod PlanWaits
 pub mod Runs

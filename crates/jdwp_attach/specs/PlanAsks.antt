@@ -10,9 +10,8 @@ use Rattle.jdwp_layout.specs.Reads.{data_at}
 use Rattle.jdwp_layout.specs.Rows.{Row, RowShapes}
 use Rattle.jdwp_end.specs.declared.phase.Phase.TheVariants.{AwaitingHandshake, Established}
 use Rattle.jdwp_debuggee.specs.Actions.{Command, Content, Raw}
-use Rattle.jdwp_debugger.specs.declared.pending.Asked.{Asked}
 use Rattle.jdwp_debugger.specs.Asking.{command_bytes, id_after}
-use Rattle.jdwp_debugger.specs.Debuggers.{Debugger}
+use Rattle.jdwp_debugger.specs.Debuggers.{Asked, Debugger}
 use Rattle.jdwp_debugger.specs.DebuggerTurns.{sizes_header}
 use Rattle.jdwp_plan.specs.declared.plan_line.PlanLine.{PlanLine}
 use Rattle.jdwp_plan.specs.declared.plan_line.PlanLine.TheVariants as line
@@ -42,9 +41,7 @@ command_asked w set number bytes = row_asked w set number bytes (row_at set numb
 -- how many of these lines ask a command
 abbrev pub asks_of : PlanLine → ℕ
 asks_of (line.Ask set number bytes) = 1
-asks_of line.Answers = 0
-asks_of (line.Events count) = 0
-asks_of line.Mirror = 0
+asks_of other = 0
 
 abbrev pub asks : List PlanLine → ℕ
 asks [] = 0
@@ -60,9 +57,7 @@ IsNthId first n id = n < 2 ^ 32 → id ≡ id_after first n
 abbrev pub PutsLine : Widths → ℕ → ℕ → PlanLine → List ℕ → Type 0
 PutsLine w first n (line.Ask set number carried) bytes =
     (id : ℕ) × (command : Command) × IsNthId first n id × (command_asked w set number carried.items ≡ Some command) × (bytes ≡ command_bytes w id command)
-PutsLine w first n line.Answers bytes = bytes ≡ []
-PutsLine w first n (line.Events count) bytes = bytes ≡ []
-PutsLine w first n line.Mirror bytes = bytes ≡ []
+PutsLine w first n other bytes = bytes ≡ []
 
 -- the same of lines, one after the other, each under the next id
 abbrev pub PutsLines : Widths → ℕ → ℕ → List PlanLine → List ℕ → Type 0

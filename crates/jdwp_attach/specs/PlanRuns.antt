@@ -11,10 +11,9 @@ use Rattle.jdwp_debugger.specs.declared.asking.Refused as asking
 use Rattle.jdwp_debugger.specs.declared.asking.Refused.TheVariants as refusal
 use Rattle.jdwp_debugger.specs.declared.faults.DebuggerFault.{DebuggerFault}
 use Rattle.jdwp_debugger.specs.declared.faults.DebuggerFault.TheVariants as code
-use Rattle.jdwp_debugger.specs.declared.pending.Asked.{Asked}
 use Rattle.jdwp_debugger.specs.declared.turning.Read.{Read}
 use Rattle.jdwp_debugger.specs.Asking.{refusal_of_ask}
-use Rattle.jdwp_debugger.specs.Debuggers.{Debugger, has_tickets, lost, with_taken}
+use Rattle.jdwp_debugger.specs.Debuggers.{Asked, Debugger, has_tickets, lost, with_taken}
 use Rattle.jdwp_debugger.specs.DebuggerTurns.{Told, Nothing, Hello, Parked, Sizes, Answered, Seen, TurnsAt, reports, told}
 use Rattle.jdwp_mirror.specs.Messages.{Reply, Report}
 use Rattle.jdwp_mirror.specs.Mirror.{ends}
@@ -22,11 +21,12 @@ use Rattle.jdwp_debugger.specs.FaultNumbers.{fault_number}
 use Rattle.jdwp_debugger.specs.RefusedNumbers.{refused_number}
 use Rattle.jdwp_engine.specs.declared.ended.Ended.{Ended}
 use Rattle.jdwp_engine.specs.declared.ended.Ended.TheVariants.{Done, LostByRead, LostByWrite, Refused, NoMemory, TurnLimit}
+use Rattle.jdwp_engine.specs.Run.{flushed}
 use Rattle.jdwp_engine.specs.Story.{Story}
 use Rattle.jdwp_plan.specs.declared.plan_line.PlanLine.{PlanLine}
 use Rattle.jdwp_plan.specs.declared.plan_line.PlanLine.TheVariants as line
 use Rattle.jdwp_attach.specs.PlanAsks.{HasPut, IsBeginning, asks, command_asked}
-use Rattle.jdwp_attach.specs.Runs.{Standing, InOrder, IsGoing, Reaches}
+use Rattle.jdwp_attach.specs.Runs.{HasPassed, Standing, InOrder, IsGoing, Reaches}
 
 -- ---- why a run ends
 
@@ -56,9 +56,10 @@ abbrev pub ReadsEnd : Debugger → Debugger → Type 0
 ReadsEnd base d =
     (old : Debugger) × (read : Read) × (new : Debugger) × Reaches base old × TurnsAt (front_of old.end) old (Ok read) new × TellsEnd old (told read) × (d ≡ with_taken new.end.outgoing new)
 
--- Every command of the plan was asked, in ids so wide as the debugger knows them, and answered.
+-- Every command of the plan was asked, in ids so wide as the debugger knows them, and answered, and what its lines wait for was there.
 abbrev pub IsFinished : List PlanLine → Debugger → Debugger → Type 0
-IsFinished plan base d = (d.tickets ≡ base.tickets + asks plan) × (has_tickets d.pending ≡ false) × ((w : Widths) × (d.sizes ≡ Some w) × HasPut w plan base d)
+IsFinished plan base d =
+    (d.tickets ≡ base.tickets + asks plan) × (has_tickets d.pending ≡ false) × ((w : Widths) × (d.sizes ≡ Some w) × HasPut w plan base d) × HasPassed plan base d
 
 -- the number by which a program tells a fault: that of the bytes' own fault
 abbrev pub told_number : DebuggerFault → ℕ
@@ -78,9 +79,7 @@ RefusesCommand d number (Some command) = (refused : asking.Refused) × (refusal_
 -- the line asks this command with these bytes
 abbrev pub IsAsk : PlanLine → ℕ → ℕ → List ℕ → Type 0
 IsAsk (line.Ask set number bytes) s n carried = (set ≡ s) × (number ≡ n) × (bytes.items ≡ carried)
-IsAsk line.Answers s n carried = ⊥
-IsAsk (line.Events count) s n carried = ⊥
-IsAsk line.Mirror s n carried = ⊥
+IsAsk other s n carried = ⊥
 
 -- It refused the command of a line of the plan; those of the lines before it were asked.
 pub record RefusesLine (plan : List PlanLine) (base : Debugger) (number : ℕ) (d : Debugger) : Type 0 where
@@ -98,33 +97,36 @@ pub record RefusesLine (plan : List PlanLine) (base : Debugger) (number : ℕ) (
   pub put : HasPut widths done base d
   pub refused : RefusesCommand d number (command_asked widths set command carried)
 
--- no write failed
-abbrev pub IsWritten : Standing → Story → Story → Type 0
-IsWritten base pipe out = (pipe.failed_writes ≡ base.pipe.failed_writes) × (out.failed_writes ≡ base.out.failed_writes)
+-- no write and no flush failed, and all that was written left
+abbrev pub HasLeft : Standing → Story → Story → Type 0
+HasLeft base pipe out =
+    (pipe.failed_writes ≡ base.pipe.failed_writes) × (out.failed_writes ≡ base.out.failed_writes) × (pipe.unflushed ≡ []) × (out.unflushed ≡ [])
 
 -- Why a run of a plan may end so, what went through the pipes then, and what the debugger is: for want of memory and at the limit of turns
--- one that calls lead to from how it stood as the session began, and else as after a loss of such a one.
+-- one that calls lead to from how it stood as the session began, and else as after a loss of such a one. A write or a flush failed exactly
+-- where the run is lost by a write.
 abbrev pub MayEnd : List PlanLine → Ended → Standing → Story → Story → Debugger → Type 0
-MayEnd plan Done base pipe out d = IsLostFrom base.debugger (λ before. ReadsEnd base.debugger before ⊎ IsFinished plan base.debugger before) d × IsWritten base pipe out
+MayEnd plan Done base pipe out d = IsLostFrom base.debugger (λ before. ReadsEnd base.debugger before ⊎ IsFinished plan base.debugger before) d × HasLeft base pipe out
 MayEnd plan LostByRead base pipe out d =
     (base.pipe.failed_reads + base.pipe.ends < pipe.failed_reads + pipe.ends) × IsLostFrom base.debugger (λ before. (is_open before.end ≡ true) × (front_of before.end ≡ More)) d
+    × HasLeft base pipe out
 MayEnd plan LostByWrite base pipe out d = ((base.pipe.failed_writes < pipe.failed_writes) ⊎ (base.out.failed_writes < out.failed_writes)) × IsLostFrom base.debugger (λ before. ⊤) d
-MayEnd plan (Refused number) base pipe out d = IsLostFrom base.debugger (λ before. RefusesTurn base.debugger number before ⊎ RefusesLine plan base.debugger number before) d
-MayEnd plan NoMemory base pipe out d = Reaches base.debugger d × (d.end.session.lost ≡ false) × IsWritten base pipe out
+MayEnd plan (Refused number) base pipe out d = IsLostFrom base.debugger (λ before. RefusesTurn base.debugger number before ⊎ RefusesLine plan base.debugger number before) d × HasLeft base pipe out
+MayEnd plan NoMemory base pipe out d = Reaches base.debugger d × (d.end.session.lost ≡ false) × HasLeft base pipe out
 MayEnd plan TurnLimit base pipe out d =
-    Reaches base.debugger d × (is_open d.end ≡ true) × (d.end.session.lost ≡ false) × IsWritten base pipe out × (d.end.session.turns + pipe.rooms ≡ base.pipe.rooms + base.left)
+    Reaches base.debugger d × (is_open d.end ≡ true) × (d.end.session.lost ≡ false) × HasLeft base pipe out × (d.end.session.turns + pipe.rooms ≡ base.pipe.rooms + base.left)
 
--- A call that ends so, in every run of a plan that came to it.
+-- A call that ends so, in every run of a plan that came to it, once all that was written has left.
 abbrev pub EndsSo : Standing → Standing → Ended → Type 0
 EndsSo old new ended =
     (plan done : List PlanLine) (base : Standing) → IsBeginning done plan → IsGoing done base old
-    → InOrder plan base new.pipe new.out new.debugger × MayEnd plan ended base new.pipe new.out new.debugger
+    → InOrder plan base new.pipe new.out new.debugger × MayEnd plan ended base (flushed new.pipe) (flushed new.out) new.debugger
 
 -- The same of a line of the plan, behind those that were carried out.
 abbrev pub LineEndsSo : PlanLine → Standing → Standing → Ended → Type 0
 LineEndsSo line old new ended =
     (done rest : List PlanLine) (base : Standing) → IsGoing done base old
-    → InOrder (done ++ line ∷ rest) base new.pipe new.out new.debugger × MayEnd (done ++ line ∷ rest) ended base new.pipe new.out new.debugger
+    → InOrder (done ++ line ∷ rest) base new.pipe new.out new.debugger × MayEnd (done ++ line ∷ rest) ended base (flushed new.pipe) (flushed new.out) new.debugger
 
 -- A line that was carried out, in every run that came to it.
 abbrev pub LineGoesOn : PlanLine → Standing → Standing → Type 0

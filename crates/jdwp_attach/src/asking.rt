@@ -4,6 +4,7 @@ ghost use Rattle.jdwp_plan.specs.declared.plan_line.PlanLine.{PlanLine};
 ghost use Rattle.jdwp_attach.specs.declared.asking.Unread.TheVariants as unread;
 ghost use Rattle.jdwp_attach.specs.PlanAsks.{command_asked};
 ghost use Rattle.jdwp_attach.specs.PlanRuns.{EndsRefused, IsAsk, LineEndsSo, LineGoesOn};
+ghost use Rattle.jdwp_attach.specs.PlanWaits.{Counts};
 ghost use Rattle.jdwp_attach.specs.Runs.{IsReady, at};
 ghost use Rattle.jdwp_engine.specs.Story.{Story};
 
@@ -76,9 +77,11 @@ pub(crate) fn ask_line<P: Pipe>(
 ) -> Result<(), Ended>
     requires ready { IsReady debugger.old }
     requires known { is_some debugger.old.sizes ≡ true }
+    requires counts { Counts run.old.composites debugger.old }
     ensures goes { OnOk result ((out : Story) (line : PlanLine) → IsAsk line set number bytes.now → LineGoesOn line (at (P.story pipe.old) out debugger.old run.old.left) (at (P.story pipe.new) out debugger.new run.new.left)) }
     ensures ready { OnOk result (IsReady debugger.new) }
     ensures known { OnOk result (is_some debugger.new.sizes ≡ true) }
+    ensures counts { OnOk result (Counts run.new.composites debugger.new) }
     ensures ends { IfErr result (λ ended. (out : Story) (line : PlanLine) → IsAsk line set number bytes.now → LineEndsSo line (at (P.story pipe.old) out debugger.old run.old.left) (at (P.story pipe.new) out debugger.new run.new.left) ended) }
 {
     let Some(sizes) = debugger.sizes() else {

@@ -3,16 +3,18 @@ ghost use Rattle.std.specs.Prelude.{◌≡◌, ◌||◌, [], ℕ, List, true, fa
 ghost use Rattle.jdwp_end.specs.Ends.{is_open};
 ghost use Rattle.jdwp_debugger.specs.Debuggers.{attached, has_tickets};
 ghost use Rattle.jdwp_plan.specs.declared.plan_line.PlanLine as declared;
+ghost use Rattle.jdwp_engine.specs.Run.{flushed};
 ghost use Rattle.jdwp_engine.specs.Story.{Story};
 ghost use Rattle.jdwp_attach.specs.PlanRuns.{EndsSo, LineEndsSo, LineGoesOn, MayEnd};
-ghost use Rattle.jdwp_attach.specs.Runs.{FailsFlush, GoesOn, InOrder, IsGoing, IsReady, Prints, Standing, at};
+ghost use Rattle.jdwp_attach.specs.PlanWaits.{Counts, HandlesComposites};
+ghost use Rattle.jdwp_attach.specs.Runs.{FailsLastFlush, GoesOn, InOrder, IsGoing, IsReady, Prints, Standing, at};
 
 use crate::asking::ask_line;
 use crate::printing::{Unprinted, print_mirror};
 use crate::run::{CHUNK, Run};
 use crate::turning::{turn_once, write_out};
 use jdwp_debugger::Debugger;
-use jdwp_engine::{Ended, Pipe};
+use jdwp_engine::{Ended, Pipe, flush_all};
 use jdwp_plan::PlanLine;
 use std::alloc::Global;
 
@@ -22,12 +24,12 @@ use std::alloc::Global;
 /// nothing touched. It turns until the widths of ids are known. Then it carries out the lines of the plan: `ask` asks a command, `answers`
 /// turns until no command waits for its answer, `events` turns until so many composites were read in the session, and `mirror` prints what
 /// the debugger knows; no other line makes a turn. After the last line it turns until no command waits, and the debugger loses the
-/// connection. A turn that handles nothing is followed by one read of at most 4,096 bytes and of what the debugger has room for, which are
-/// fed. What waits to leave is written after each turn, and what it read is printed to `out` in the lines of `show`: the composites that
+/// connection. A turn that handles nothing is followed by a flush of the pipe and one read of at most 4,096 bytes and of what the debugger
+/// has room for, which are fed; nothing is read elsewhere. What waits to leave is written after each turn, and what it read is printed to `out` in the lines of `show`: the composites that
 /// waited for the widths of ids at the turn in which they are read. The run is done where the plan is finished, and at the turn that reads
-/// an answer without an error to Dispose or the death of the machine, whatever lines are left. Where the input ends, or a read or a write
-/// fails, those to `out` among them, the debugger loses the connection; the pipe and `out` are flushed at the end of the session, whatever
-/// ends it.
+/// an answer without an error to Dispose or the death of the machine, whatever lines are left. Where the input ends, or a read, a write or
+/// a flush fails, those to `out` among them, the debugger loses the connection; the pipe and `out` are flushed at the end of the session,
+/// whatever ends it. A write or a flush that fails is `LostByWrite`, wherever it comes.
 pub fn attach<P: Pipe, W: Pipe>(
     alloc: Global,
     debugger: &mut Debugger,
@@ -44,39 +46,37 @@ pub fn attach<P: Pipe, W: Pipe>(
         return Ended::Refused(0);
     }
     let ended = run_session(alloc, debugger, pipe, plan, out, turns);
-    let flushed = flush_both(pipe, out);
-    if flushed {
+    if flush_both(pipe, out) {
         ended
     } else {
-        lose_what_is_kept(debugger, ended)
+        lose_what_is_kept(debugger, ended);
+        Ended::LostByWrite
     }
 }
 
 /// Flushes both, and says whether that succeeded.
 fn flush_both<P: Pipe, W: Pipe>(pipe: &mut P, out: &mut W) -> bool
-    ensures all { IsTrue result → (P.story pipe.new ≡ P.story pipe.old) × (W.story out.new ≡ W.story out.old) }
-    ensures fails { result ≡ false → FailsFlush (P.story pipe.old) (W.story out.old) (P.story pipe.new) (W.story out.new) }
+    ensures all { IsTrue result → (P.story pipe.new ≡ flushed (P.story pipe.old)) × (W.story out.new ≡ flushed (W.story out.old)) }
+    ensures fails { result ≡ false → FailsLastFlush (P.story pipe.old) (W.story out.old) (P.story pipe.new) (W.story out.new) }
 {
-    let left = pipe.flush().is_ok();
-    let printed = out.flush().is_ok();
+    let left = flush_all(pipe);
+    let printed = flush_all(out);
     left && printed
 }
 
-/// The last flush failed: a run that was not lost or refused before is lost now.
-fn lose_what_is_kept(debugger: &mut Debugger, ended: Ended) -> Ended
-    ensures { (plan : List declared.PlanLine) (base : Standing) (pipe out pipe' out' : Story) → InOrder plan base pipe out debugger.old → MayEnd plan ended base pipe out debugger.old → FailsFlush pipe out pipe' out' → InOrder plan base pipe' out' debugger.new × MayEnd plan result base pipe' out' debugger.new }
+/// The last flush failed: a connection that was not lost before is lost now.
+fn lose_what_is_kept(debugger: &mut Debugger, ended: Ended)
+    ensures { (plan : List declared.PlanLine) (base : Standing) (pipe out pipe' out' : Story) → InOrder plan base pipe out debugger.old → MayEnd plan ended base (flushed pipe) (flushed out) debugger.old → FailsLastFlush pipe out pipe' out' → InOrder plan base pipe' out' debugger.new × MayEnd plan Ended.LostByWrite base pipe' out' debugger.new }
 {
     match ended {
-        Ended::LostByRead | Ended::LostByWrite | Ended::Refused(_) => ended,
-        Ended::Done => Ended::LostByWrite,
+        Ended::Done | Ended::LostByRead | Ended::LostByWrite | Ended::Refused(_) => {}
         Ended::NoMemory | Ended::TurnLimit => {
             debugger.lose();
-            Ended::LostByWrite
         }
     }
 }
 
-/// Runs a session that was begun.
+/// Runs a session that was begun. It ends so once all that was written has left.
 fn run_session<P: Pipe, W: Pipe>(
     alloc: Global,
     debugger: &mut Debugger,
@@ -87,7 +87,7 @@ fn run_session<P: Pipe, W: Pipe>(
 ) -> Ended
     requires { debugger.old ≡ attached debugger.old }
     ensures in_order { InOrder plan.now (at (P.story pipe.old) (W.story out.old) debugger.old turns) (P.story pipe.new) (W.story out.new) debugger.new }
-    ensures ended { MayEnd plan.now result (at (P.story pipe.old) (W.story out.old) debugger.old turns) (P.story pipe.new) (W.story out.new) debugger.new }
+    ensures ended { MayEnd plan.now result (at (P.story pipe.old) (W.story out.old) debugger.old turns) (flushed (P.story pipe.new)) (flushed (W.story out.new)) debugger.new }
 {
     let mut run = Run {
         left: turns,
@@ -116,11 +116,12 @@ fn run_plan<P: Pipe, W: Pipe>(
     out: &mut W,
     run: &mut Run,
 ) -> Result<(), Ended>
-    requires { debugger.old ≡ attached debugger.old }
+    requires begun { debugger.old ≡ attached debugger.old }
+    requires none { run.old.composites ≡ 0 }
     ensures finished { OnOk result (IsGoing plan.now (at (P.story pipe.old) (W.story out.old) debugger.old run.old.left) (at (P.story pipe.new) (W.story out.new) debugger.new run.new.left)) }
     ensures known { OnOk result (is_some debugger.new.sizes ≡ true) }
     ensures answered { OnOk result (has_tickets debugger.new.pending ≡ false) }
-    ensures ends { IfErr result (λ ended. InOrder plan.now (at (P.story pipe.old) (W.story out.old) debugger.old run.old.left) (P.story pipe.new) (W.story out.new) debugger.new × MayEnd plan.now ended (at (P.story pipe.old) (W.story out.old) debugger.old run.old.left) (P.story pipe.new) (W.story out.new) debugger.new) }
+    ensures ends { IfErr result (λ ended. InOrder plan.now (at (P.story pipe.old) (W.story out.old) debugger.old run.old.left) (P.story pipe.new) (W.story out.new) debugger.new × MayEnd plan.now ended (at (P.story pipe.old) (W.story out.old) debugger.old run.old.left) (flushed (P.story pipe.new)) (flushed (W.story out.new)) debugger.new) }
 {
     if let Err(ended) = write_hello(debugger, pipe, &mut run.buffer) {
         return Err(ended);
@@ -148,7 +149,8 @@ fn write_hello<P: Pipe>(
     requires { debugger.old ≡ attached debugger.old }
     ensures goes { OnOk result ((out : Story) (left : ℕ) → IsGoing [] (at (P.story pipe.old) out debugger.old left) (at (P.story pipe.new) out debugger.new left)) }
     ensures ready { OnOk result (IsReady debugger.new) }
-    ensures ends { IfErr result (λ ended. (plan : List declared.PlanLine) (out : Story) (left : ℕ) → InOrder plan (at (P.story pipe.old) out debugger.old left) (P.story pipe.new) out debugger.new × MayEnd plan ended (at (P.story pipe.old) out debugger.old left) (P.story pipe.new) out debugger.new) }
+    ensures counts { OnOk result (Counts 0 debugger.new) }
+    ensures ends { IfErr result (λ ended. (plan : List declared.PlanLine) (out : Story) (left : ℕ) → InOrder plan (at (P.story pipe.old) out debugger.old left) (P.story pipe.new) out debugger.new × MayEnd plan ended (at (P.story pipe.old) out debugger.old left) (flushed (P.story pipe.new)) (flushed out) debugger.new) }
 {
     if !write_out(debugger, pipe, buffer) {
         debugger.lose();
@@ -169,9 +171,11 @@ fn until_sizes<P: Pipe, W: Pipe>(
     run: &mut Run,
 ) -> Result<(), Ended>
     requires ready { IsReady debugger.old }
+    requires counts { Counts run.old.composites debugger.old }
     ensures goes { OnOk result (GoesOn (at (P.story pipe.old) (W.story out.old) debugger.old run.old.left) (at (P.story pipe.new) (W.story out.new) debugger.new run.new.left)) }
     ensures ready { OnOk result (IsReady debugger.new) }
     ensures known { OnOk result (is_some debugger.new.sizes ≡ true) }
+    ensures counts { OnOk result (Counts run.new.composites debugger.new) }
     ensures ends { IfErr result (EndsSo (at (P.story pipe.old) (W.story out.old) debugger.old run.old.left) (at (P.story pipe.new) (W.story out.new) debugger.new run.new.left)) }
 {
     while debugger.sizes().is_none() {
@@ -196,9 +200,11 @@ fn carry_out<P: Pipe, W: Pipe>(
 ) -> Result<(), Ended>
     requires ready { IsReady debugger.old }
     requires known { is_some debugger.old.sizes ≡ true }
+    requires counts { Counts run.old.composites debugger.old }
     ensures goes { OnOk result (LineGoesOn line.now (at (P.story pipe.old) (W.story out.old) debugger.old run.old.left) (at (P.story pipe.new) (W.story out.new) debugger.new run.new.left)) }
     ensures ready { OnOk result (IsReady debugger.new) }
     ensures known { OnOk result (is_some debugger.new.sizes ≡ true) }
+    ensures counts { OnOk result (Counts run.new.composites debugger.new) }
     ensures ends { IfErr result (LineEndsSo line.now (at (P.story pipe.old) (W.story out.old) debugger.old run.old.left) (at (P.story pipe.new) (W.story out.new) debugger.new run.new.left)) }
 {
     match line {
@@ -224,9 +230,11 @@ fn until_answered<P: Pipe, W: Pipe>(
 ) -> Result<(), Ended>
     requires ready { IsReady debugger.old }
     requires known { is_some debugger.old.sizes ≡ true }
+    requires counts { Counts run.old.composites debugger.old }
     ensures goes { OnOk result (GoesOn (at (P.story pipe.old) (W.story out.old) debugger.old run.old.left) (at (P.story pipe.new) (W.story out.new) debugger.new run.new.left)) }
     ensures ready { OnOk result (IsReady debugger.new) }
     ensures known { OnOk result (is_some debugger.new.sizes ≡ true) }
+    ensures counts { OnOk result (Counts run.new.composites debugger.new) }
     ensures answered { OnOk result (has_tickets debugger.new.pending ≡ false) }
     ensures ends { IfErr result (EndsSo (at (P.story pipe.old) (W.story out.old) debugger.old run.old.left) (at (P.story pipe.new) (W.story out.new) debugger.new run.new.left)) }
 {
@@ -252,9 +260,12 @@ fn until_events<P: Pipe, W: Pipe>(
 ) -> Result<(), Ended>
     requires ready { IsReady debugger.old }
     requires known { is_some debugger.old.sizes ≡ true }
+    requires counts { Counts run.old.composites debugger.old }
     ensures goes { OnOk result (GoesOn (at (P.story pipe.old) (W.story out.old) debugger.old run.old.left) (at (P.story pipe.new) (W.story out.new) debugger.new run.new.left)) }
     ensures ready { OnOk result (IsReady debugger.new) }
     ensures known { OnOk result (is_some debugger.new.sizes ≡ true) }
+    ensures counts { OnOk result (Counts run.new.composites debugger.new) }
+    ensures handled { OnOk result (HandlesComposites count debugger.new) }
     ensures ends { IfErr result (EndsSo (at (P.story pipe.old) (W.story out.old) debugger.old run.old.left) (at (P.story pipe.new) (W.story out.new) debugger.new run.new.left)) }
 {
     while run.composites < u64::from(count) {

@@ -4,7 +4,7 @@ ghost use Rattle.jdwp_attach.specs.declared.printing.Unprinted.TheVariants as wh
 ghost use Rattle.jdwp_attach.specs.Runs.{Prints, PrintsPart, IsUnprinted};
 
 use crate::lines::{HELLO, answered_line, request_line, seen_line, sizes_line, thread_line};
-use crate::run::{Run, Waiting};
+use crate::run::Waiting;
 use jdwp_debugger::{Debugger, Head, Known, Mirror, Read, Ticket};
 use jdwp_engine::{Pipe, write_all};
 use jdwp_event::Composite;
@@ -62,21 +62,23 @@ pub(crate) fn print_read<W: Pipe>(
     alloc: Global,
     debugger: &Debugger,
     out: &mut W,
-    run: &mut Run,
+    waiting: &mut Vec<Waiting>,
     read: Read,
 ) -> Result<(), Unprinted>
     ensures ok { OnOk result (Prints (W.story out.old) (W.story out.new)) }
     ensures err { IfErr result (λ e. IsUnprinted e (W.story out.old) (W.story out.new)) }
-    ensures left { run.new.left ≡ run.old.left }
 {
     match read {
         Read::Nothing | Read::Parked => Ok(()),
         Read::Hello => print(out, HELLO),
-        Read::Sizes(composites) => print_sizes(alloc, debugger, out, run, composites),
+        Read::Sizes(composites) => print_made(out, sizes_text(alloc, debugger, composites)),
         Read::Answered(ticket, answer) => print_answered(
-            alloc, debugger, out, run, ticket, &answer,
+            alloc, debugger, out, waiting, ticket, &answer,
         ),
-        Read::Seen(composite) => print_seen(alloc, debugger, out, run, composite),
+        Read::Seen(composite) => print_made(
+            out,
+            seen_line(alloc, id_at(debugger.last(), 0), composite),
+        ),
     }
 }
 
@@ -89,38 +91,6 @@ fn print_made<W: Pipe>(out: &mut W, text: Result<String, NoMemory>) -> Result<()
         Ok(text) => print(out, &text),
         Err(_) => Err(Unprinted::NoMemory),
     }
-}
-
-/// Prints a composite.
-fn print_seen<W: Pipe>(
-    alloc: Global,
-    debugger: &Debugger,
-    out: &mut W,
-    run: &mut Run,
-    composite: Composite,
-) -> Result<(), Unprinted>
-    ensures ok { OnOk result (Prints (W.story out.old) (W.story out.new)) }
-    ensures err { IfErr result (λ e. IsUnprinted e (W.story out.old) (W.story out.new)) }
-    ensures left { run.new.left ≡ run.old.left }
-{
-    run.composites = run.composites.saturating_add(1);
-    print_made(out, seen_line(alloc, id_at(debugger.last(), 0), composite))
-}
-
-/// Prints the composites that waited for the widths of ids, and then the reply that had them.
-fn print_sizes<W: Pipe>(
-    alloc: Global,
-    debugger: &Debugger,
-    out: &mut W,
-    run: &mut Run,
-    composites: Vec<Composite>,
-) -> Result<(), Unprinted>
-    ensures ok { OnOk result (Prints (W.story out.old) (W.story out.new)) }
-    ensures err { IfErr result (λ e. IsUnprinted e (W.story out.old) (W.story out.new)) }
-    ensures left { run.new.left ≡ run.old.left }
-{
-    run.composites = run.composites.saturating_add(composites.len() as u64);
-    print_made(out, sizes_text(alloc, debugger, composites))
 }
 
 /// The lines of the composites that waited for the widths of ids, and then of the reply that had them.
@@ -162,30 +132,27 @@ fn print_answered<W: Pipe>(
     alloc: Global,
     debugger: &Debugger,
     out: &mut W,
-    run: &mut Run,
+    waiting: &mut Vec<Waiting>,
     ticket: Ticket,
     answer: &Answer,
 ) -> Result<(), Unprinted>
     ensures ok { OnOk result (Prints (W.story out.old) (W.story out.new)) }
     ensures err { IfErr result (λ e. IsUnprinted e (W.story out.old) (W.story out.new)) }
-    ensures left { run.new.left ≡ run.old.left }
 {
-    let Some(waiting) = take_waiting(run, ticket) else {
+    let Some(asked) = take_waiting(waiting, ticket) else {
         return Ok(());
     };
     let id = id_at(debugger.last(), 0);
     print_made(
         out,
-        answered_line(alloc, id, waiting.set, waiting.number, answer),
+        answered_line(alloc, id, asked.set, asked.number, answer),
     )
 }
 
 /// Takes the command that was asked under this ticket off those that wait.
-fn take_waiting(run: &mut Run, ticket: Ticket) -> Option<Waiting>
-    ensures { run.new.left ≡ run.old.left }
-{
-    let place = run.waiting.iter().position(|w| w.ticket.0 == ticket.0)?;
-    Some(run.waiting.remove(place))
+fn take_waiting(waiting: &mut Vec<Waiting>, ticket: Ticket) -> Option<Waiting> {
+    let place = waiting.iter().position(|w| w.ticket.0 == ticket.0)?;
+    Some(waiting.remove(place))
 }
 
 /// The packet id of one of the messages that a turn read, at its place; 0 where it has none.

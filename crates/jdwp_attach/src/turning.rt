@@ -3,17 +3,19 @@ ghost use Rattle.std.specs.Prelude.{◌≡◌, ◌<◌, ◌≤◌, ◌+◌, [], 
 ghost use Rattle.jdwp_end.specs.Ends.{front_of, is_open, room_of};
 ghost use Rattle.jdwp_wire.specs.Streams.{More};
 ghost use Rattle.jdwp_debugger.specs.Debuggers.{lost, with_fed};
-ghost use Rattle.jdwp_debugger.specs.DebuggerTurns.{TurnsAt};
+ghost use Rattle.jdwp_engine.specs.Run.{FailsRead, flushed};
+ghost use Rattle.jdwp_debugger.specs.DebuggerTurns.{TurnsAt, told};
 ghost use Rattle.jdwp_attach.specs.PlanRuns.{EndsFailed, EndsSo, told_number};
+ghost use Rattle.jdwp_attach.specs.PlanWaits.{Counts, composites_of};
 ghost use Rattle.jdwp_attach.specs.Runs.{FailsOut, Finishes, GoesOn, IsReady, LosesAtRead, ReadsMore, Tells, WritesAll, at};
 
 use crate::printing::{Unprinted, print_read};
 use crate::run::{CHUNK, Run};
 use jdwp_debugger::{Debugger, DebuggerFault, Read};
-use jdwp_engine::{Ended, Pipe, write_all};
+use jdwp_engine::{Ended, Pipe, flush_all, write_all};
 use std::alloc::Global;
 
-/// One turn, and if it handled nothing one read. What waits to leave is written, and what was read is told.
+/// One turn, and if it handled nothing a flush and one read. What waits to leave is written, and what was read is told.
 ///
 /// # Errors
 /// Why the run ends.
@@ -24,11 +26,13 @@ pub(crate) fn turn_once<P: Pipe, W: Pipe>(
     out: &mut W,
     run: &mut Run,
 ) -> Result<(), Ended>
-    requires { IsReady debugger.old }
+    requires ready { IsReady debugger.old }
+    requires counts { Counts run.old.composites debugger.old }
     ensures goes { OnOk result (GoesOn (at (P.story pipe.old) (W.story out.old) debugger.old run.old.left) (at (P.story pipe.new) (W.story out.new) debugger.new run.new.left)) }
     ensures ready { OnOk result (IsReady debugger.new) }
     ensures known { OnOk result (is_some debugger.old.sizes ≡ true → is_some debugger.new.sizes ≡ true) }
     ensures left { OnOk result (run.new.left < run.old.left) }
+    ensures counts { OnOk result (Counts run.new.composites debugger.new) }
     ensures ends { IfErr result (EndsSo (at (P.story pipe.old) (W.story out.old) debugger.old run.old.left) (at (P.story pipe.new) (W.story out.new) debugger.new run.new.left)) }
 {
     debugger.session();
@@ -41,8 +45,22 @@ pub(crate) fn turn_once<P: Pipe, W: Pipe>(
         Err(fault) => return Err(end_failed(debugger, fault)),
     };
     match turn {
-        Read::Nothing => read_and_feed(debugger, pipe, &mut run.buffer),
-        _ => tell(alloc, debugger, pipe, out, run, turn),
+        Read::Nothing => flush_and_read(debugger, pipe, &mut run.buffer),
+        _ => {
+            run.composites = run.composites.saturating_add(composites_in(&turn));
+            tell(alloc, debugger, pipe, out, run, turn)
+        }
+    }
+}
+
+/// How many composites a turn told of.
+fn composites_in(turn: &Read) -> u64
+    ensures { result ≡ composites_of (told turn.now) }
+{
+    match turn {
+        Read::Sizes(composites) => composites.len() as u64,
+        Read::Seen(_) => 1,
+        Read::Nothing | Read::Hello | Read::Parked | Read::Answered(..) => 0,
     }
 }
 
@@ -73,15 +91,39 @@ fn told_number(fault: DebuggerFault) -> u16
     }
 }
 
-/// Reads once, and feeds what came.
-fn read_and_feed<P: Pipe>(
+/// Sees that all that was written leaves, and reads once.
+///
+/// # Errors
+/// `LostByWrite` where the flush failed, and `LostByRead` where the read did.
+fn flush_and_read<P: Pipe>(
     debugger: &mut Debugger,
     pipe: &mut P,
     buffer: &mut [u8; CHUNK],
 ) -> Result<(), Ended>
     requires { 0 < room_of debugger.old.end }
+    ensures goes { OnOk result (ReadsMore debugger.old debugger.new (flushed (P.story pipe.old)) (P.story pipe.new)) }
+    ensures ends { IfErr result (λ ended. LosesAtRead ended debugger.old debugger.new (P.story pipe.old) (P.story pipe.new)) }
+{
+    if !flush_all(pipe) {
+        debugger.lose();
+        return Err(Ended::LostByWrite);
+    }
+    read_and_feed(debugger, pipe, buffer)
+}
+
+/// Reads once, where all that was written has left, and feeds what came.
+///
+/// # Errors
+/// `LostByRead` where the read failed, or gave 0.
+fn read_and_feed<P: Pipe>(
+    debugger: &mut Debugger,
+    pipe: &mut P,
+    buffer: &mut [u8; CHUNK],
+) -> Result<(), Ended>
+    requires room { 0 < room_of debugger.old.end }
+    requires left { (P.story pipe.old).unflushed ≡ [] }
     ensures goes { OnOk result (ReadsMore debugger.old debugger.new (P.story pipe.old) (P.story pipe.new)) }
-    ensures ends { IfErr result (λ ended. (ended ≡ Ended.LostByRead) × LosesAtRead debugger.old debugger.new (P.story pipe.old) (P.story pipe.new)) }
+    ensures ends { IfErr result (λ ended. (ended ≡ Ended.LostByRead) × (debugger.new ≡ lost debugger.old) × FailsRead (P.story pipe.old) (P.story pipe.new)) }
 {
     let room = debugger.room().min(CHUNK);
     match pipe.read(&mut buffer[..room]) {
@@ -114,13 +156,14 @@ fn tell<P: Pipe, W: Pipe>(
     read: Read,
 ) -> Result<(), Ended>
     ensures goes { OnOk result ((is_open debugger.old.end ≡ true) × Tells (at (P.story pipe.old) (W.story out.old) debugger.old run.old.left) (at (P.story pipe.new) (W.story out.new) debugger.new run.new.left)) }
+    ensures counts { run.new.composites ≡ run.old.composites }
     ensures ends { IfErr result (λ ended. Finishes ended (at (P.story pipe.old) (W.story out.old) debugger.old run.old.left) (at (P.story pipe.new) (W.story out.new) debugger.new run.new.left)) }
 {
     if !write_out(debugger, pipe, &mut run.buffer) {
         debugger.lose();
         return Err(Ended::LostByWrite);
     }
-    match print_read(alloc, debugger, out, run, read) {
+    match print_read(alloc, debugger, out, &mut run.waiting, read) {
         Ok(()) => {}
         Err(Unprinted::NoMemory) => return Err(Ended::NoMemory),
         Err(Unprinted::Failed) => {

@@ -28,19 +28,12 @@ IsCauseOf error (Other other) = (other ≡ error) × (error_kind error ≢ kind.
 abbrev pub IsUnusable : Bor (List ℕ) → Error → Fault → Type 0
 IsUnusable path error fault.NoMemory = error_kind error ≡ kind.OutOfMemory
 IsUnusable path error (fault.File named cause) = (named ≡ path) × (error_kind error ≢ kind.OutOfMemory) × IsCauseOf error cause
-IsUnusable path error (fault.Words text) = ⊥
-IsUnusable path error fault.NotText = ⊥
-IsUnusable path error (fault.Script other) = ⊥
-IsUnusable path error (fault.Plan other) = ⊥
-IsUnusable path error (fault.Output other) = ⊥
+IsUnusable path error other = ⊥
 
 -- the bytes are not UTF-8, and this says at which of them no character begins
 abbrev pub IsNotText : List ℕ → FileCause → Type 0
 IsNotText bytes (NotUtf8 place) = (IsUtf8 bytes → ⊥) × IsValidUpTo bytes place
-IsNotText bytes Absent = ⊥
-IsNotText bytes NotAllowed = ⊥
-IsNotText bytes Folder = ⊥
-IsNotText bytes (Other error) = ⊥
+IsNotText bytes other = ⊥
 
 -- what is told where a capture couldn't be told
 abbrev pub fault_of_telling : TellFault → Fault
@@ -50,14 +43,9 @@ fault_of_telling telling.NoMemory = fault.NoMemory
 -- what is told of a script's fault: want of memory alone, or the fault
 abbrev pub fault_of_script : ScriptFault → Fault
 fault_of_script script.NoMemory = fault.NoMemory
-fault_of_script script.NotJson = fault.Script script.NotJson
-fault_of_script (script.Missing member) = fault.Script (script.Missing member)
-fault_of_script script.IdTwice = fault.Script script.IdTwice
-fault_of_script script.IdTooWide = fault.Script script.IdTooWide
-fault_of_script script.BadReference = fault.Script script.BadReference
-fault_of_script script.OverLimit = fault.Script script.OverLimit
+fault_of_script other = fault.Script other
 
 -- what is told of a plan's fault: want of memory alone, or the fault
 abbrev pub fault_of_plan : PlanFault → Fault
 fault_of_plan plan.NoMemory = fault.NoMemory
-fault_of_plan (plan.Line number other) = fault.Plan (plan.Line number other)
+fault_of_plan other = fault.Plan other

@@ -1,9 +1,10 @@
 use Rattle.std.proofs.lemmas.Grind.{common_steps}
 use Rattle.std.proofs.Common.{◌∙◌, ◌++◌, ◌∷◌, [], inl, sym, ap, refl, arith}
-use Rattle.jdwp_debugger.specs.Debuggers.{Debugger, lost}
+use Rattle.jdwp_debugger.specs.Debuggers.{Debugger, lost, with_taken}
 use Rattle.jdwp_engine.specs.declared.ended.Ended.TheVariants as ended
+use Rattle.jdwp_attach.proofs.Counting.{asked-keeps, counts-kept}
 use Rattle.jdwp_attach.proofs.Ending.{asked-in-order, loses-ends, moved-ends, refused-ends, unread-ends}
-use Rattle.jdwp_attach.proofs.Moves.{asked-moves, asked-open, moved-goes, prints-none}
+use Rattle.jdwp_attach.proofs.Moves.{asked-moves, asked-open, asked-passes, moved-goes, prints-none}
 use Rattle.jdwp_attach.proofs.Reached.{reach-asked}
 use Rattle.jdwp_attach.proofs.Stages.{asks-append, one-asked, stands-asked}
 use Rattle.jdwp_attach.proofs.asking.ask_line.Goals as goal
@@ -48,7 +49,8 @@ returns-in-Ok-push-clause-goes g c = λ out line asks-it done base k.
     let stands = stands-asked done line base.debugger old mid c.args.set c.args.number c.args.bytes.now c.in-Some.sizes c.in-Ok.command asks-it
     (sym c.sizes.ensures ∙ c.in-Some.is) c.in-Ok.ensures.ok asked k.stands in
     moved-goes done (done ++ line ∷ []) base s out old mid c.args.run.now.left c.args.run.now.left 0 1 (g.P.Pipe.story c.write_out.new.pipe) out c.write_out.new.debugger k (asked-moves c.in-Ok.command old mid asked)
-    (reach-asked base.debugger old mid c.in-Ok.command k.reached k.ready.0 asked) stands
+    (reach-asked base.debugger old mid c.in-Ok.command k.reached k.ready.0 asked)
+    (asked-passes done line base.debugger old mid c.in-Ok.command c.args.set c.args.number c.args.bytes.now asks-it k.ready.0 asked k.asked k.passed) stands
     (asked-open c.in-Ok.command old mid asked c.requires.ready.0) (omega (arith, asks-append done line, one)) (omega arith) w.0 w.1 (prints-none out)
 
 pub returns-in-Err-push-clause-ends : goal.returns-in-Err-push-clause-ends
@@ -67,3 +69,9 @@ returns-in-Err-push-clause-ends g c = λ out line asks-it done rest base k.
 pub returns-in-Ok-push-clause-ready : goal.returns-in-Ok-push-clause-ready
 returns-in-Ok-push-clause-ready g c =
     grind (arith, common_steps)
+
+pub returns-in-Ok-push-clause-counts : goal.returns-in-Ok-push-clause-counts
+returns-in-Ok-push-clause-counts g c =
+    let w = c.if-not-write_out.ensures.all refl in
+    rw w.0 (counts-kept c.args.run.now.composites c.args.debugger.now (with_taken c.ask.new.self.end.outgoing c.ask.new.self) (asked-keeps c.in-Ok.command c.args.debugger.now c.ask.new.self c.in-Ok-ask.ensures.ok.2)
+    c.requires.counts)

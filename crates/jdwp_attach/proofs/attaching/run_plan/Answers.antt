@@ -18,6 +18,7 @@ loop-line-init g c =
     record {
       goes = c.in_default-until_sizes.ensures.goes [] base (c.in_default.ensures.goes (g.W.Pipe.story c.args.out.now) c.args.run.now.left);
       ready = c.in_default-until_sizes.ensures.ready;
+      counts = c.in_default-until_sizes.ensures.counts;
       known = c.in_default-until_sizes.ensures.known;
     }
 
@@ -36,6 +37,7 @@ loop-line-preserved g c =
     record {
       goes = line-goes-on c.args.plan.now c.loop-line.line-index c.line-item.result now new c.loop-line-test.true c.line-item.is c.in_default-carry_out.ensures.goes base c.loop-line.invariant.goes;
       ready = c.in_default-carry_out.ensures.ready;
+      counts = c.in_default-carry_out.ensures.counts;
       known = c.in_default-carry_out.ensures.known;
     }
 

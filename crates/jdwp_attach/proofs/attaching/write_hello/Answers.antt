@@ -1,5 +1,6 @@
 use Rattle.std.proofs.Common.{◌∙◌, ap, refl}
-use Rattle.jdwp_debugger.specs.Debuggers.{Debugger, lost}
+use Rattle.jdwp_debugger.specs.Debuggers.{Debugger, lost, with_taken}
+use Rattle.jdwp_attach.proofs.Counting.{begun-counts, counts-kept}
 use Rattle.jdwp_attach.proofs.Ending.{hello-ends, hello-goes}
 use Rattle.jdwp_attach.proofs.attaching.write_hello.Goals as goal
 
@@ -13,3 +14,9 @@ pub returns-clause-goes : goal.returns-clause-goes
 returns-clause-goes g c = λ out left.
     let w = c.if-not-write_out.ensures.all refl in
     hello-goes (g.P.Pipe.story c.args.pipe.now) out c.args.debugger.now c.write_out.new.debugger left (g.P.Pipe.story c.write_out.new.pipe) c.requires w.0 w.1
+
+pub returns-clause-counts : goal.returns-clause-counts
+returns-clause-counts g c =
+    let w = c.if-not-write_out.ensures.all refl in
+    rw w.0 (counts-kept 0 c.args.debugger.now (with_taken c.args.debugger.now.end.outgoing c.args.debugger.now) (record { limit = refl; handled = refl; phase = refl; parked = refl })
+    (begun-counts c.args.debugger.now c.requires))

@@ -1,7 +1,6 @@
 use Rattle.std.proofs.Common.{◌≡◌, ◌++◌, ◌∙◌, ℕ, List, [], drop, take, refl, sym, append_assoc, ap, arith}
 use Rattle.std.proofs.lemmas.List.{append-nil, take-append-drop}
-use Rattle.jdwp_engine.proofs.Runs.{fails-after}
-use Rattle.jdwp_attach.proofs.Moves.{front-taken, taken-again}
+use Rattle.jdwp_attach.proofs.Moves.{fails-after, front-taken, taken-again}
 use Rattle.std.proofs.lemmas.Grind.{common_steps}
 use Rattle.jdwp_attach.proofs.turning.write_out.Goals as goal
 
