@@ -514,7 +514,7 @@ static REFUSED: [Case; 10] = [
 ];
 
 /// A run that is lost, or that used all turns.
-static LOST: [Case; 12] = [
+static LOST: [Case; 13] = [
     Case {
         ended: Ended::LostByRead,
         to: &[HANDSHAKE],
@@ -557,7 +557,7 @@ static LOST: [Case; 12] = [
         lines: "< hello\n",
         ..CASE
     },
-    // A flush that fails at the end: a run that was done is lost, and so is one that used all turns; one that was refused stays so.
+    // A flush that fails at the end: a run that was done is lost, and so is one that used all turns, and one that was refused.
     Case {
         from: &READY,
         print_flush_fails: 1,
@@ -576,11 +576,18 @@ static LOST: [Case; 12] = [
     Case {
         from: &["4a4457502d48616e647368616b66"],
         print_flush_fails: 1,
-        ended: Ended::Refused(4),
+        ended: Ended::LostByWrite,
         to: &[HANDSHAKE],
         ..CASE
     },
-    // The same of what is sent to the target, which is flushed before each read, too.
+    // The same of what is sent to the target, which is flushed before each read, too: there nothing was read yet.
+    Case {
+        from: &READY,
+        write_flush_fails: 1,
+        ended: Ended::LostByWrite,
+        to: &[HANDSHAKE],
+        ..CASE
+    },
     Case {
         from: &READY,
         write_flush_fails: 2,
@@ -599,7 +606,7 @@ static LOST: [Case; 12] = [
     Case {
         from: &["4a4457502d48616e647368616b66"],
         write_flush_fails: 2,
-        ended: Ended::Refused(4),
+        ended: Ended::LostByWrite,
         to: &[HANDSHAKE],
         ..CASE
     },
