@@ -12,32 +12,48 @@ PROGRAM is crates/both_ends/out/both_ends where none is given; `rt run` in crate
 import os
 import subprocess
 import sys
+import time
 
 ROOT = os.path.dirname(os.path.dirname(os.path.abspath(__file__)))
 AT_ONCE = 64
 
 
-def run(program, rounds):
-    """The processor's seconds of the best of three runs, and the peak of memory in KiB."""
-    times, peak = [], 0
-    for _ in range(3):
-        process = subprocess.Popen([program, str(rounds)], stdout=subprocess.PIPE)
-        said = process.stdout.read()
-        _, status, usage = os.wait4(process.pid, 0)
-        if os.waitstatus_to_exitcode(status) != 0 or said != b"%d answered\n" % (rounds * AT_ONCE):
-            sys.exit(f"not all was answered: {said}")
-        times.append(usage.ru_utime + usage.ru_stime)
-        peak = max(peak, usage.ru_maxrss)
-    return min(times), peak
+def peak_so_far(process):
+    """The peak of a process's memory so far, in KiB; 0 once it has ended. Its ru_maxrss would count this script's own memory, too."""
+    with open(f"/proc/{process.pid}/status", encoding="ascii") as status:
+        return next((int(line.split()[1]) for line in status if line.startswith("VmHWM:")), 0)
+
+
+def run(program, words, rounds):
+    """The processor's seconds of a run, and the peak of memory in KiB, looked at every few milliseconds."""
+    process = subprocess.Popen([program, *words, str(rounds)], stdout=subprocess.PIPE)
+    peak, ended = 0, 0
+    while not ended:
+        peak = max(peak, peak_so_far(process))
+        time.sleep(0.003)
+        ended, status, usage = os.wait4(process.pid, os.WNOHANG)
+    said = process.stdout.read()
+    if os.waitstatus_to_exitcode(status) != 0 or said != b"%d answered\n" % (rounds * AT_ONCE):
+        sys.exit(f"not all was answered: {said}")
+    return usage.ru_utime + usage.ru_stime, peak
+
+
+def told(way, runs, rounds):
+    """Prints the best of some runs, and answers its seconds."""
+    seconds, peak = min(it[0] for it in runs), max(it[1] for it in runs)
+    asked = rounds * AT_ONCE
+    print(f"{way}{asked} commands in {seconds:.3f} s: {asked / seconds / 1e6:.2f} million a second; peak of memory {peak} KiB")
+    return seconds
+
+
+def program():
+    return os.path.abspath(sys.argv[1] if len(sys.argv) > 1 else os.path.join(ROOT, "crates", "both_ends", "out", "both_ends"))
 
 
 def main():
-    program = os.path.abspath(sys.argv[1] if len(sys.argv) > 1 else os.path.join(ROOT, "crates", "both_ends", "out", "both_ends"))
     for count in (100_000, 1_000_000):
         rounds = -(-count // AT_ONCE)
-        seconds, peak = run(program, rounds)
-        asked = rounds * AT_ONCE
-        print(f"{asked} commands in {seconds:.3f} s: {asked / seconds / 1e6:.2f} million a second; peak of memory {peak} KiB")
+        told("", [run(program(), [], rounds) for _ in range(3)], rounds)
 
 
 if __name__ == "__main__":

@@ -1,27 +1,25 @@
 //! Suspend counts, asked in rounds (JDWP specification, "Protocol Details": ThreadReference.SuspendCount).
 use anyhow::Context;
-use jdwp_debuggee::Settings;
 use jdwp_debugger::{Command, Debugger, Read};
 use jdwp_exchange::{to_debugger, to_target};
 use jdwp_layout::numbers::{SUSPEND_COUNT, THREAD_REFERENCE};
 use jdwp_layout::{Datum, Scalar};
 use jdwp_script_machine::ScriptMachine;
-use jdwp_target::Turn;
+use jdwp_target::{TargetOptions, Turn};
 use jdwp_value::ObjectId;
-use jdwp_wire::Limits;
 use std::alloc::Global;
 
 /// A target over the machine of a script.
 type Target = jdwp_target::Target<ScriptMachine>;
 
 /// How many commands are asked at once, as many as may wait.
-const AT_ONCE: u32 = 64;
+pub const AT_ONCE: u32 = 64;
 
 /// How many bytes are moved at once, more than 64 such commands or replies take.
 const CHUNK: usize = 4_096;
 
 /// A machine of one thread that does nothing.
-const SCRIPT: &str = "{\"name\":\"one\",\"sizes\":[8,8,8,8,8],\
+pub const SCRIPT: &str = "{\"name\":\"one\",\"sizes\":[8,8,8,8,8],\
 \"groups\":[{\"id\":5,\"name\":\"main\",\"parent\":0}],\"classes\":[],\"objects\":[],\
 \"threads\":[{\"id\":1,\"name\":\"main\",\"group\":5,\"steps\":[]}]}";
 
@@ -38,11 +36,14 @@ fn answered_by(alloc: Global, target: &mut Target, rounds: u32) -> anyhow::Resul
 }
 
 fn target(alloc: Global) -> anyhow::Result<Target> {
-    let settings = Settings::new(true, 65_535, Limits::standard()).context(
-        "a limit that there may be",
-    )?;
+    let options = options()?;
     let machine = ScriptMachine::read(alloc, SCRIPT)?;
-    Ok(Target::new(alloc, machine, settings)?)
+    Ok(Target::new(alloc, machine, options)?)
+}
+
+/// All threads begin suspended.
+pub fn options() -> anyhow::Result<TargetOptions> {
+    TargetOptions::new(true, 65_535).context("a limit that there may be")
 }
 
 /// Begins a session, and asks 64 counts in each round.
@@ -69,7 +70,8 @@ fn ask_counts(
     Ok(answered)
 }
 
-fn count_of_the_thread(alloc: Global) -> anyhow::Result<Command> {
+/// SuspendCount of the only thread.
+pub fn count_of_the_thread(alloc: Global) -> anyhow::Result<Command> {
     let items = vec![in alloc; Datum::One(Scalar::ObjectId(ObjectId(1)))]?;
     Ok(Command::new(THREAD_REFERENCE, SUSPEND_COUNT, items))
 }

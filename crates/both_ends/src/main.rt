@@ -1,20 +1,26 @@
 //! A debugger and a target in one process, with nothing between them: the debugger asks the suspend count of a thread again and again.
 //!
-//! `bench/both_ends.py` runs it, for how many commands both ends together ask and answer in a second.
+//! `both_ends ROUNDS` drives both ends by hand, and `both_ends link ROUNDS` by a link, an event at a time.
+//!
+//! `bench/both_ends.py` and `bench/link.py` run it, for how many commands both ends together ask and answer in a second.
 #![tactic(auto)]
 
 mod counts;
+mod linked;
 
 use counts::answered;
+use linked::answered_by_link;
 use std::env;
 
 fn main(rt: HostRuntime) -> anyhow::Result<()> {
     let words = env::args(&rt)?.collect::<Vec<String>>(rt.alloc())?;
-    let rounds = match words.as_slice() {
-        [_, rounds] => rounds.parse::<u32>()?,
-        _ => 1,
+    let answered = match words.as_slice() {
+        [_, rounds] => answered(rt.alloc(), rounds.parse::<u32>()?)?,
+        [_, way, rounds] if way.as_str() == "link" => {
+            answered_by_link(rt.alloc(), rounds.parse::<u32>()?)?
+        }
+        _ => answered(rt.alloc(), 1)?,
     };
-    let answered = answered(rt.alloc(), rounds)?;
     println!(&rt; "{answered} answered")?;
     Ok(())
 }

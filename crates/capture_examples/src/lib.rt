@@ -6,6 +6,8 @@ mod asserts;
 #[cfg(test)]
 mod check_tests;
 #[cfg(test)]
+mod extreme_tests;
+#[cfg(test)]
 mod row_tests;
 #[cfg(test)]
 mod rows;

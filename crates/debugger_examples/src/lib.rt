@@ -9,6 +9,8 @@ mod asserts;
 #[cfg(test)]
 mod end_tests;
 #[cfg(test)]
+mod extreme_tests;
+#[cfg(test)]
 mod judging_tests;
 #[cfg(test)]
 mod mirror_tests;

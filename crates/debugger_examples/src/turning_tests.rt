@@ -7,16 +7,18 @@ use std::alloc::Global;
 use std::process::Abort;
 use std::test::Fail;
 
-const HELLO: &str = "4a4457502d48616e647368616b65";
+pub(crate) const HELLO: &str = "4a4457502d48616e647368616b65";
 
 /// The reply to IDSizes under id 1, ids 8 bytes wide.
-const SIZES: &str = "0000001f 00000001 80 0000 00000008 00000008 00000008 00000008 00000008";
+pub(crate) const SIZES: &str =
+    "0000001f 00000001 80 0000 00000008 00000008 00000008 00000008 00000008";
 
 /// VM_START of thread 1, policy NONE.
-const VM_START: &str = "0000001d 00000001 00 40 64 00 00000001 5a 00000000 0000000000000001";
+pub(crate) const VM_START: &str =
+    "0000001d 00000001 00 40 64 00 00000001 5a 00000000 0000000000000001";
 
 /// The bytes that hex digits spell; spaces are for reading.
-fn bytes(alloc: Global, hex: &str) -> Result<Vec<u8>, Fail> {
+pub(crate) fn bytes(alloc: Global, hex: &str) -> Result<Vec<u8>, Fail> {
     let mut bytes = Vec::new(alloc);
     let mut high = None;
     for digit in hex.chars() {

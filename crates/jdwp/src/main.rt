@@ -4,6 +4,8 @@
 #[cfg(test)]
 mod asserts;
 #[cfg(test)]
+mod peer_tests;
+#[cfg(test)]
 mod tests;
 #[cfg(test)]
 mod word_tests;

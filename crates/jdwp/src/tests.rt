@@ -2,6 +2,7 @@
 use crate::asserts::{expect_same, expect_same_for};
 use jdwp_files::run;
 use std::io::{Cursor, ErrorKind, Write};
+use std::net::Net;
 use std::process::Abort;
 use std::rt::Files;
 use std::test::Fail;
@@ -62,7 +63,7 @@ impl Run {
 }
 
 /// Runs the words, which stand behind the program's name.
-fn run_words<R: Files + AllocGlobal>(rt: &R, words: &[&str]) -> Result<Run, Fail> {
+fn run_words<R: Files + Net + AllocGlobal>(rt: &R, words: &[&str]) -> Result<Run, Fail> {
     let mut all = Vec::new(rt.alloc());
     all.push("jdwp")?;
     all.extend_from_slice(words)?;
@@ -77,7 +78,7 @@ fn run_words<R: Files + AllocGlobal>(rt: &R, words: &[&str]) -> Result<Run, Fail
 }
 
 /// The exit status of the words, where what is told is told on standard error behind `jdwp: `.
-pub(crate) fn status_of<R: Files + AllocGlobal>(rt: &R, words: &[&str]) -> Result<u8, Fail> {
+pub(crate) fn status_of<R: Files + Net + AllocGlobal>(rt: &R, words: &[&str]) -> Result<u8, Fail> {
     let ran = run_words(rt, words)?;
     if !ran.is_told() {
         return Err(Fail::from("words behind `jdwp: ` for each status but 0"));
@@ -86,7 +87,7 @@ pub(crate) fn status_of<R: Files + AllocGlobal>(rt: &R, words: &[&str]) -> Resul
 }
 
 /// Whether the words are refused with status 1, and all of these texts stand on standard error, the first behind `jdwp: `.
-pub(crate) fn is_refused<R: Files + AllocGlobal>(
+pub(crate) fn is_refused<R: Files + Net + AllocGlobal>(
     rt: &R,
     words: &[&str],
     texts: &[&str],
@@ -107,7 +108,7 @@ pub(crate) fn is_refused<R: Files + AllocGlobal>(
 }
 
 /// The words are run with this status, and these are printed.
-fn is_run<R: Files + AllocGlobal + Abort>(
+pub(crate) fn is_run<R: Files + Net + AllocGlobal + Abort>(
     rt: &R,
     words: &[&str],
     status: u8,
@@ -122,7 +123,11 @@ fn is_run<R: Files + AllocGlobal + Abort>(
 }
 
 /// The file holds these bytes.
-fn holds<R: Files + AllocGlobal + Abort>(rt: &R, file: &str, bytes: &[u8]) -> Result<(), Fail> {
+fn holds<R: Files + Net + AllocGlobal + Abort>(
+    rt: &R,
+    file: &str,
+    bytes: &[u8],
+) -> Result<(), Fail> {
     let found = fs::read(rt, file)?;
     expect_same(rt, &found.as_slice(), &bytes);
     Ok(())
@@ -165,7 +170,7 @@ fn a_plan_that_is_refused_is_told(rt: HostRuntime) -> Result<(), Fail> {
     fs::write(&rt, plan, "ask 1 8\n\nanswers\n")?;
     fs::write(&rt, from, ANSWERS.as_slice())?;
     let words = ["attach", plan, "--from", from, "--to", to];
-    let refused = ["line 2 of the plan: an empty line"];
+    let refused = ["refused_plan: line 2 of the plan: an empty line"];
     assert!(rt; is_refused(&rt, &words, &refused)?);
     let plus = ["attach", plan, "--from", from, "--to", to, "--turns", "+5"];
     assert!(rt; is_refused(&rt, &plus, &["error: ", "jdwp attach"])?);
@@ -220,9 +225,9 @@ fn a_session_at_the_count_limit_is_answered(rt: HostRuntime) -> Result<(), Fail>
     remove(&rt, &[machine, from, to])
 }
 
-const LOST: &str = "jdwp: the connection is lost at a read\n";
+const LOST: &str = "jdwp: ends_from: the file ended before the session did\n";
 
-const LIMIT: &str = "jdwp: the turn limit is reached\n";
+const LIMIT: &str = "jdwp: the turn limit of --turns is reached\n";
 
 /// The session without its last byte.
 const CUT_OFF: [u8; 65] = [
@@ -272,7 +277,7 @@ static ENDS: [(&[u8], &str, u8, &str, usize); 10] = [
     (&SESSION, "4294967295", 0, "", 111),
 ];
 
-fn ends_so<R: Files + AllocGlobal + Abort>(
+fn ends_so<R: Files + Net + AllocGlobal + Abort>(
     rt: &R,
     input: &[u8],
     turns: &str,
@@ -308,7 +313,7 @@ fn each_end_has_its_status(rt: HostRuntime) -> Result<(), Fail> {
 }
 
 /// Refused words make no file.
-pub(crate) fn is_not_made<R: Files + AllocGlobal + Abort>(rt: &R, file: &str) {
+pub(crate) fn is_not_made<R: Files + Net + AllocGlobal + Abort>(rt: &R, file: &str) {
     assert!(rt; fs::read(rt, file).is_err());
 }
 
@@ -329,7 +334,7 @@ const SHOWN: &str = "> hello
 ";
 
 /// The capture is shown and judged so.
-fn is_told_of<R: Files + AllocGlobal + Abort>(
+fn is_told_of<R: Files + Net + AllocGlobal + Abort>(
     rt: &R,
     capture: &str,
     status: u8,
@@ -382,7 +387,12 @@ impl Write for Output {
 }
 
 /// The capture is shown on an output that has so much room, and then fails so.
-fn breaks_at<R: Files + AllocGlobal + Abort>(rt: &R, kind: ErrorKind, room: usize, told: &str) {
+fn breaks_at<R: Files + Net + AllocGlobal + Abort>(
+    rt: &R,
+    kind: ErrorKind,
+    room: usize,
+    told: &str,
+) {
     let mut out = Output {
         bytes: Vec::new(rt.alloc()),
         room,
@@ -411,7 +421,7 @@ fn an_output_that_breaks_is_status_2(rt: HostRuntime) -> Result<(), Fail> {
 }
 
 /// A capture in this file can't be used, for this reason.
-fn is_no_capture<R: Files + AllocGlobal + Abort>(
+fn is_no_capture<R: Files + Net + AllocGlobal + Abort>(
     rt: &R,
     file: &str,
     text: &str,
@@ -505,28 +515,46 @@ fn a_machine_that_is_no_text_is_named(rt: HostRuntime) -> Result<(), Fail> {
     remove(&rt, &[to, other])
 }
 
-/// A part of the machine, what stands for it, and what is told.
-static SCRIPTS: [(&str, &str, &str); 5] = [
+/// A part of the machine, what stands for it, and what is told behind the file's name.
+static SCRIPTS: [(&str, &str, &str); 7] = [
     (
         "\"name\":\"A\",",
         "\"name\":\"A\"",
-        "fault 21: the text is not JSON\n",
+        "refused_machine: fault 21: the text is not JSON: line 1, column 12\n",
+    ),
+    (
+        "{\"name\"",
+        "\u{feff}{\"name\"",
+        "refused_machine: fault 21: the text is not JSON: it begins with a byte order mark\n",
     ),
     (
         "\"last\":9,",
         "",
-        "fault 22: the member last is missing or of another type\n",
+        "refused_machine: fault 22: the member last is missing or of another type, in classes[0].methods[0]\n",
     ),
-    ("{\"id\":2,", "{\"id\":1,", "fault 23: an id stands twice\n"),
+    (
+        "{\"id\":2,",
+        "{\"id\":1,",
+        "refused_machine: fault 23: an id stands twice: 1 of a thread, group or object\n",
+    ),
     (
         "[8,8,8,8,8]",
         "[8,8,8,8,9]",
-        "fault 24: an id is too wide\n",
+        "refused_machine: fault 24: an id is too wide: a width of 9 in place of 1 to 8\n",
     ),
-    ("\"super\":0", "\"super\":7", "fault 25: a bad reference\n"),
+    (
+        "\"super\":0",
+        "\"super\":7",
+        "refused_machine: fault 25: a bad reference: no class 7 is known here, in classes[0]\n",
+    ),
+    (
+        "[\"go\",3],[\"return\"",
+        "[\"go\",10],[\"return\"",
+        "refused_machine: fault 25: a bad reference: an index 10 past the method's last, in threads[0].steps[5]\n",
+    ),
 ];
 
-fn is_no_script<R: Files + AllocGlobal + Abort>(
+fn is_no_script<R: Files + Net + AllocGlobal + Abort>(
     rt: &R,
     part: &str,
     other: &str,
@@ -540,7 +568,7 @@ fn is_no_script<R: Files + AllocGlobal + Abort>(
     holds(rt, to, &[])
 }
 
-/// A script that is refused is told by its fault's number and words, and by the name of a missing member; nothing is sent.
+/// A script that is refused is told by its file, its fault's number and words, and what is known of the place; nothing is sent.
 #[test]
 fn a_script_that_is_refused_is_told(rt: HostRuntime) -> Result<(), Fail> {
     fs::write(&rt, "refused_from", SESSION.as_slice())?;
@@ -548,4 +576,167 @@ fn a_script_that_is_refused_is_told(rt: HostRuntime) -> Result<(), Fail> {
         is_no_script(&rt, part, other, text)?;
     }
     remove(&rt, &["refused_machine", "refused_from", "refused_to"])
+}
+
+/// Words whose file of `--to` is one that is read, by the same name: the file, and what is told.
+static SAME_NAMES: [(&[&str], &str); 4] = [
+    (
+        &["serve-script", "same", "--from", "other", "--to", "same"],
+        "error: '--to' names the file of 'MACHINE': writing to it would empty it",
+    ),
+    (
+        &["serve-script", "other", "--from", "same", "--to", "same"],
+        "error: '--to' names the file of '--from': writing to it would empty it",
+    ),
+    (
+        &["attach", "same", "--from", "other", "--to", "same"],
+        "error: '--to' names the file of 'PLAN': writing to it would empty it",
+    ),
+    (
+        &["attach", "other", "--from", "same", "--to=same"],
+        "error: '--to' names the file of '--from': writing to it would empty it",
+    ),
+];
+
+/// A file that is read is not emptied by `--to`, whether it is named so or in another way, and nothing is opened.
+#[test]
+fn a_file_that_is_read_is_not_emptied(rt: HostRuntime) -> Result<(), Fail> {
+    fs::write(&rt, "same", "text")?;
+    for &(words, text) in SAME_NAMES.iter() {
+        assert!(rt; is_refused(&rt, words, &[text, "Usage: jdwp "])?, "{text}");
+        holds(&rt, "same", b"text")?;
+    }
+    for command in ["serve-script", "attach"] {
+        let also_read = "./same: a file that is read, too: writing to it would empty it\n";
+        let first = [command, "same", "--from", "other", "--to", "./same"];
+        assert!(rt; is_refused(&rt, &first, &[also_read])?);
+        let second = [command, "other", "--from", "same", "--to", "./same"];
+        assert!(rt; is_refused(&rt, &second, &[also_read])?);
+        holds(&rt, "same", b"text")?;
+    }
+    is_not_made(&rt, "other");
+    remove(&rt, &["same"])
+}
+
+/// `attach` is run on an output that has so much room and then fails so: no connection is blamed.
+fn attach_breaks_at<R: Files + Net + AllocGlobal + Abort>(
+    rt: &R,
+    kind: ErrorKind,
+    room: usize,
+    told: &str,
+) {
+    let mut out = Output {
+        bytes: Vec::new(rt.alloc()),
+        room,
+        kind,
+    };
+    let mut err = Cursor::new(Vec::new(rt.alloc()));
+    let words = [
+        "jdwp",
+        "attach",
+        "broken_plan",
+        "--from",
+        "broken_from",
+        "--to",
+        "broken_to",
+    ];
+    expect_same(rt, &run(rt, &words, &mut out, &mut err), &2);
+    expect_same(
+        rt,
+        &Some(out.bytes.as_slice()),
+        &PRINTED.as_bytes().get(..room),
+    );
+    expect_same(rt, &err.get_ref().as_slice(), &told.as_bytes());
+}
+
+#[test]
+fn an_output_of_attach_that_breaks_is_told_as_such(rt: HostRuntime) -> Result<(), Fail> {
+    fs::write(&rt, "broken_plan", PLAN)?;
+    fs::write(&rt, "broken_from", ANSWERS.as_slice())?;
+    let full = "jdwp: the output can't be written: no storage space\n";
+    for room in [0, 1, 8, 100] {
+        attach_breaks_at(&rt, ErrorKind::BrokenPipe, room, "");
+        attach_breaks_at(&rt, ErrorKind::StorageFull, room, full);
+    }
+    remove(&rt, &["broken_plan", "broken_from", "broken_to"])
+}
+
+/// A plan of this text, what is told, and its status.
+static TOLD_OF_PLANS: [(&str, u8, &str); 5] = [
+    ("answers\n", 0, ""),
+    (
+        "\u{feff}answers\n",
+        1,
+        "jdwp: told_plan: a byte order mark stands before the first line of the plan\n",
+    ),
+    (
+        "ask 1 99\n",
+        1,
+        "jdwp: line 1 of the plan: fault 36: a command of the plan that no target has, or data that do not read in its layout\n",
+    ),
+    (
+        "ask 1 8\nmirror\nask 1 8 00\nask 1 6\n",
+        1,
+        "jdwp: line 3 of the plan: fault 36: a command of the plan that no target has, or data that do not read in its layout\n",
+    ),
+    (
+        "events 5\n",
+        2,
+        "jdwp: told_from: the file ended before the session did\n",
+    ),
+];
+
+/// How a plan ends is told; one that is finished without Dispose has status 0.
+#[test]
+fn ends_of_plans_are_told(rt: HostRuntime) -> Result<(), Fail> {
+    let (plan, from, to) = ("told_plan", "told_from", "told_to");
+    // Up to the widths of ids.
+    fs::write(&rt, from, &ANSWERS[..74])?;
+    for &(text, status, told) in TOLD_OF_PLANS.iter() {
+        fs::write(&rt, plan, text)?;
+        let mut out = Cursor::new(Vec::new(rt.alloc()));
+        let mut err = Cursor::new(Vec::new(rt.alloc()));
+        let words = ["jdwp", "attach", plan, "--from", from, "--to", to];
+        expect_same_for(&rt, &run(&rt, &words, &mut out, &mut err), &status, &text);
+        expect_same_for(&rt, &err.get_ref().as_slice(), &told.as_bytes(), &text);
+    }
+    remove(&rt, &[plan, from, to])
+}
+
+/// The plan of the file `by_lines_plan`, over these bytes of a target, ends so: it is told by this status and this text.
+fn plan_ends<R: Files + Net + AllocGlobal + Abort>(
+    rt: &R,
+    bytes: &[u8],
+    told: &str,
+) -> Result<(), Fail> {
+    fs::write(rt, "by_lines_from", bytes)?;
+    let mut out = Cursor::new(Vec::new(rt.alloc()));
+    let mut err = Cursor::new(Vec::new(rt.alloc()));
+    let words = [
+        "jdwp",
+        "attach",
+        "by_lines_plan",
+        "--from",
+        "by_lines_from",
+        "--to",
+        "by_lines_to",
+    ];
+    expect_same(rt, &run(rt, &words, &mut out, &mut err), &1);
+    expect_same(rt, &err.get_ref().as_slice(), &told.as_bytes());
+    Ok(())
+}
+
+/// 64 commands may wait: the line of the 65th is told. Where what the target sent is refused, no line is.
+#[test]
+fn the_line_of_a_refused_command_is_told(rt: HostRuntime) -> Result<(), Fail> {
+    let mut plan = String::new(rt.alloc());
+    for _ in 0..65u32 {
+        plan.push_str("ask 1 8\n")?;
+    }
+    fs::write(&rt, "by_lines_plan", plan.as_str())?;
+    let refused =
+        "jdwp: line 65 of the plan: fault 32: 64 commands wait for their answers, and no more may\n";
+    plan_ends(&rt, &ANSWERS, refused)?;
+    plan_ends(&rt, b"JDWP-HandshakE", "jdwp: fault 4: not the handshake\n")?;
+    remove(&rt, &["by_lines_plan", "by_lines_from", "by_lines_to"])
 }

@@ -2,10 +2,12 @@
 use crate::asserts::expect_same_for;
 use crate::tests::{MACHINE, SESSION, is_not_made, is_refused, remove, status_of};
 use jdwp_debuggee::Settings;
+use jdwp_program::Fault;
 use jdwp_wire::Limits;
-use jdwp_words::{Attach, ServeScript, Words};
+use jdwp_words::{Attach, Pair, Peer, ServeScript, SessionFiles, Words};
 use std::alloc::Global;
 use std::fs;
+use std::net::Net;
 use std::process::Abort;
 use std::rt::Files;
 use std::test::Fail;
@@ -113,7 +115,7 @@ const WORDS: [&str; 6] = [
 ];
 
 /// The words, and this option behind them, have this status.
-fn has_status<R: Files + AllocGlobal + Abort>(
+fn has_status<R: Files + Net + AllocGlobal + Abort>(
     rt: &R,
     option: &[&str],
     status: u8,
@@ -149,14 +151,14 @@ static HELP: [(&[&str], &[&str]); 14] = [
         &[
             "error: 'jdwp' requires a subcommand but one was not provided",
             "show, check, serve-script, attach",
-            "Usage: ",
+            "Usage: jdwp ",
         ],
     ),
     (
         &["--help"],
         &[
             "Ends of the Java Debug Wire Protocol",
-            "Usage: ",
+            "Usage: jdwp ",
             "\n  show ",
             "\n  check ",
             "\n  serve-script ",
@@ -168,7 +170,7 @@ static HELP: [(&[&str], &[&str]); 14] = [
         &["serve-script", "--help"],
         &[
             "Serves",
-            "Usage: ",
+            "Usage: jdwp serve-script ",
             "<MACHINE>",
             "--from <FILE>",
             "--to <FILE>",
@@ -181,7 +183,7 @@ static HELP: [(&[&str], &[&str]); 14] = [
         &["attach", "--help"],
         &[
             "Runs a plan",
-            "Usage: ",
+            "Usage: jdwp attach ",
             "<PLAN>",
             "--from <FILE>",
             "--to <FILE>",
@@ -278,6 +280,19 @@ fn words_help(rt: HostRuntime) -> Result<(), Fail> {
     Ok(())
 }
 
+/// The program is `jdwp` in usage, by whatever name it was called.
+#[test]
+fn usage_names_the_program(rt: HostRuntime) -> Result<(), Fail> {
+    for words in [["/opt/jdwp-1/bin/run", "--help"], ["run", "attach"]] {
+        let Err(Fault::Words(told)) = jdwp_words::read(rt.alloc(), &words) else {
+            return Err(Fail::from("words that are refused"));
+        };
+        assert!(&rt; told.as_str().find("Usage: jdwp ").is_some());
+        assert!(&rt; told.as_str().find("run").is_none());
+    }
+    Ok(())
+}
+
 /// Options of `serve-script`, whether all threads start suspended, the count limit, and the turns.
 static DEFAULTS: [(&[&str], bool, u32, u32); 5] = [
     (&[], true, 65535, 100000),
@@ -316,8 +331,7 @@ fn serves(
     let settings = Settings::new(start_all, count_limit, standard).ok_or("a count limit")?;
     let want = Words::ServeScript(ServeScript {
         machine,
-        from,
-        to,
+        peer: Peer::Files(SessionFiles { from, to }),
         settings,
         turns,
     });
@@ -332,8 +346,7 @@ fn attaches(rt: &impl Abort, alloc: Global, more: &[&str], turns: u32) -> Result
     words.extend_from_slice(more)?;
     let want = Words::Attach(Attach {
         plan,
-        from,
-        to,
+        peer: Peer::Files(SessionFiles { from, to }),
         turns,
     });
     are_read(rt, alloc, words.as_slice(), &want)
@@ -346,6 +359,96 @@ fn options_have_defaults(rt: HostRuntime) -> Result<(), Fail> {
     }
     for &(more, turns) in DEFAULTS_OF_ATTACH.iter() {
         attaches(&rt, rt.alloc(), more, turns)?;
+    }
+    Ok(())
+}
+
+/// A port in place of files.
+#[test]
+fn ports_are_read(rt: HostRuntime) -> Result<(), Fail> {
+    let settings = Settings::new(true, 65535, Limits::standard()).ok_or("a count limit")?;
+    let served = Words::ServeScript(ServeScript {
+        machine: "m",
+        peer: Peer::Port(8000),
+        settings,
+        turns: 100000,
+    });
+    let words = ["jdwp", "serve-script", "m", "--port", "8000"];
+    are_read(&rt, rt.alloc(), &words, &served)?;
+    let attached = Words::Attach(Attach {
+        plan: "p",
+        peer: Peer::Port(65535),
+        turns: 5,
+    });
+    let words = ["jdwp", "attach", "p", "--port=65535", "--turns", "5"];
+    are_read(&rt, rt.alloc(), &words, &attached)
+}
+
+/// Both ends in one process, with options.
+#[test]
+fn words_of_pair_are_read(rt: HostRuntime) -> Result<(), Fail> {
+    let rows: [(&[&str], bool, u32); 3] = [
+        (&[], true, 100000),
+        (&["--start", "none"], false, 100000),
+        (&["--turns", "7"], true, 7),
+    ];
+    for (more, start_all, turns) in rows {
+        pairs(&rt, rt.alloc(), more, start_all, turns)?;
+    }
+    Ok(())
+}
+
+/// With these options behind them, the words of `pair` are read so.
+fn pairs(
+    rt: &impl Abort,
+    alloc: Global,
+    more: &[&str],
+    start_all: bool,
+    turns: u32,
+) -> Result<(), Fail> {
+    let mut words = Vec::new(alloc);
+    words.extend_from_slice(&["jdwp", "pair", "m", "p", "--memory"])?;
+    words.extend_from_slice(more)?;
+    let settings = Settings::new(start_all, 65535, Limits::standard()).ok_or("a count limit")?;
+    let want = Words::Pair(Pair {
+        machine: "m",
+        plan: "p",
+        settings,
+        turns,
+    });
+    are_read(rt, alloc, words.as_slice(), &want)
+}
+
+/// Words about ports and about both ends that are refused.
+static REFUSED_PEERS: [&[&str]; 13] = [
+    &["serve-script", "m", "--port"],
+    &["serve-script", "m", "--port", "0"],
+    &["serve-script", "m", "--port", "65536"],
+    &["serve-script", "m", "--port", "+80"],
+    &["serve-script", "m", "--port", "80", "--port", "80"],
+    &["serve-script", "m", "--port", "80", "--from", "f"],
+    &[
+        "serve-script",
+        "m",
+        "--port",
+        "80",
+        "--from",
+        "f",
+        "--to",
+        "t",
+    ],
+    &["attach", "p", "--port", "80", "--to", "t"],
+    &["attach", "p"],
+    &["pair", "m", "--memory"],
+    &["pair", "m", "p"],
+    &["pair", "m", "p", "--memory", "--memory"],
+    &["pair", "m", "p", "--memory", "--count-limit", "5"],
+];
+
+#[test]
+fn other_words_of_peers_are_refused(rt: HostRuntime) -> Result<(), Fail> {
+    for words in REFUSED_PEERS.iter() {
+        expect_same_for(&rt, &status_of(&rt, words)?, &1, words);
     }
     Ok(())
 }

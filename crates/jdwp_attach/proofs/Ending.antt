@@ -20,13 +20,16 @@ use Rattle.jdwp_debugger.specs.DebuggerTurns.{TurnsAt, refused}
 use Rattle.jdwp_engine.specs.declared.ended.Ended.{Ended}
 use Rattle.jdwp_engine.specs.declared.ended.Ended.TheVariants.{Done, LostByRead, LostByWrite, Refused, NoMemory, TurnLimit}
 use Rattle.jdwp_engine.specs.Run.{FailsFlush, FailsRead, FailsWrite, flushed, with_written}
+use Rattle.jdwp_engine.specs.Sessions.{unflushed_end}
 use Rattle.jdwp_engine.specs.Story.{Story}
 use Rattle.jdwp_plan.specs.declared.plan_line.PlanLine.{PlanLine}
-use Rattle.jdwp_attach.specs.PlanAsks.{AsksInOrder, IsBeginning, Stands, command_asked}
-use Rattle.jdwp_attach.specs.PlanRuns.{EndsFailed, EndsRefused, EndsSo, HasLeft, IsAsk, LineEndsSo, MayEnd, ReadsEnd, RefusesCommand, told_number}
-use Rattle.jdwp_attach.specs.Runs.{FailsLastFlush, Finishes, InOrder, IsGoing, LosesAtRead, LosesAtWrite, Prints, PrintsPart, Reaches, Standing, at}
-use Rattle.jdwp_attach.proofs.Moves.{asked-moves, begins-all, begins-behind, begins-line, begins-none, line-split, printed-goes, prints-again, prints-none}
-use Rattle.jdwp_attach.proofs.Reached.{hello-reached, hello-reached-all, reach-all, reach-same, reach-taken, reach-turned}
+use Rattle.jdwp_plan.specs.declared.plan_line.PlanLine.TheVariants as line
+use Rattle.jdwp_attach.specs.PlanAsks.{AsksInOrder, IsBeginning, Stands, asks, command_asked}
+use Rattle.jdwp_attach.specs.PlanRuns.{Attaches, Leaves, Stays, EndsFailed, EndsRefused, EndsSo, HasLeft, HasLeftOrFails, IsAsk, IsFinished, LineEndsSo, MayEnd, ReadsEnd, RefusesCommand, RefusesLineAt, Tells, TellsInOrder, TellsPart, told_number, unflushed_debugger}
+use Rattle.jdwp_attach.specs.Runs.{FailsLastFlush, Finishes, InOrder, IsGoing, LosesAtRead, LosesAtWrite, Reaches, Standing, at}
+use Rattle.jdwp_tell.specs.Telling.{TellsMirror}
+use Rattle.jdwp_attach.proofs.Moves.{asked-moves, begins-all, begins-behind, begins-line, begins-none, line-split, printed-again, written-none}
+use Rattle.jdwp_attach.proofs.Reached.{hello-reached, hello-reached-all, reach-all, reach-passed, reach-same, reach-taken, reach-untold}
 use Rattle.jdwp_attach.proofs.Stages.{asks-append, one-asked, puts-same, stands-asked, stands-known, stands-puts}
 use Rattle.jdwp_attach.proofs.Turned.{Moves, fault-refused, memory-same}
 
@@ -57,14 +60,13 @@ asks-same plan base old new same enqueued (done, begins, (tickets, puts)) = (don
 pub going-asks : (plan done : List PlanLine) (base now : Standing) → IsBeginning done plan → IsGoing done base now → AsksInOrder plan base.debugger now.debugger
 going-asks plan done base now begins k = (done, begins, (k.asked, stands-puts done base.debugger now.debugger k.stands))
 
--- nothing more went through the pipe to the target, and what the debugger was fed and what it put stayed
-stays-in-order : (plan done : List PlanLine) (base : Standing) (s o : Story) (old : Debugger) (left : ℕ) (s' o' : Story) (new : Debugger)
-    → IsBeginning done plan → IsGoing done base (at s o old left) → s'.read ≡ s.read → s'.written ≡ s.written → s.failed_writes ≤ s'.failed_writes → s'.early ≡ s.early → Prints o o'
-    → Same old new → InOrder plan base s' o' new
-stays-in-order plan done base s o old left s' o' new begins k read written failed early printed same =
+-- nothing more went through the pipe to the target, nothing was printed, and what the debugger was fed and what it put stayed
+stays-in-order : (plan done : List PlanLine) (base : Standing) (s o : Story) (old : Debugger) (left : ℕ) (s' : Story) (new : Debugger)
+    → IsBeginning done plan → IsGoing done base (at s o old left) → s'.read ≡ s.read → s'.written ≡ s.written → s.failed_writes ≤ s'.failed_writes → s'.early ≡ s.early
+    → Same old new → InOrder plan base s' o new
+stays-in-order plan done base s o old left s' new begins k read written failed early same =
     let all : s'.written ≡ base.pipe.written ++ new.end.session.enqueued = grind (arith, common_steps, written, k.written, same.enqueued) in
     let out : new.end.session.taken ≡ new.end.session.enqueued = same.taken ∙ k.taken ∙ sym same.enqueued in
-    let p = prints-again base.out o o' k.printed printed in
     record {
       read = grind (arith, common_steps, read, k.read, same.fed);
       asked = asks-same plan base.debugger old new same.tickets same.enqueued (going-asks plan done base (at s o old left) begins k);
@@ -72,36 +74,74 @@ stays-in-order plan done base s o old left s' o' new begins k read written faile
       whole = λ _. (all, out);
       failed_writes = omega (arith, failed, k.failed_writes);
       prompt = early ∙ k.prompt;
-      printed = (p.0, ap (λ (x : Story). x.written) p.1);
-      unread = ap (λ (x : Story). x.read) p.1;
-      failed_prints = omega (arith, ap (λ (x : Story). x.failed_writes) p.1);
+      unread = ap (λ (x : Story). x.read) k.printed;
+      failed_prints = omega (arith, ap (λ (x : Story). x.failed_writes) k.printed);
     }
 
 going-in-order : (plan done : List PlanLine) (base : Standing) (s o : Story) (d : Debugger) (left : ℕ) (new : Debugger) → IsBeginning done plan → IsGoing done base (at s o d left)
     → Same d new → InOrder plan base s o new
-going-in-order plan done base s o d left new begins k same =
-    stays-in-order plan done base s o d left s o new begins k refl refl (omega arith) refl (prints-none o) same
+going-in-order plan done base s o d left new begins k same = stays-in-order plan done base s o d left s new begins k refl refl (omega arith) refl same
 
 -- no write failed so far
-printed-same : (a b : Story) → Prints a b → b.failed_writes ≡ a.failed_writes
-printed-same a b p = ap (λ (x : Story). x.failed_writes) p.1
+printed-same : (a b : Story) (text : List ℕ) → b ≡ with_written text a → b.failed_writes ≡ a.failed_writes
+printed-same a b text e = ap (λ (x : Story). x.failed_writes) e
 
 -- no write and no flush failed so far
 has-left : (done : List PlanLine) (base : Standing) (s o : Story) (d : Debugger) (left : ℕ) → IsGoing done base (at s o d left) → HasLeft base (flushed s) (flushed o)
-has-left done base s o d left k = (k.failed_writes, printed-same base.out o k.printed, refl, refl)
+has-left done base s o d left k = (k.failed_writes, printed-same base.out o k.told k.printed, refl, refl)
+
+-- ---- what was told
+
+printed-so : (a b : Story) (text : List ℕ) → b ≡ with_written text a → b.written ≡ a.written ++ text
+printed-so a b text e = ap (λ (x : Story). x.written) e
+
+-- all that was told so far was printed
+going-tells : (done : List PlanLine) (base : Standing) (s o : Story) (d : Debugger) (left : ℕ) → IsGoing done base (at s o d left) → Tells done base (flushed o) d
+going-tells done base s o d left k = (k.told, k.reached, printed-so base.out o k.told k.printed)
+
+going-told : (plan done : List PlanLine) (base : Standing) (s o : Story) (d : Debugger) (left : ℕ) → IsBeginning done plan → IsGoing done base (at s o d left) → TellsInOrder plan base (flushed o) d
+going-told plan done base s o d left begins k = (done, begins, going-tells done base s o d left k)
+
+-- what was told is a part of what was told
+tells-part : (plan : List PlanLine) (base : Standing) (o : Story) (d : Debugger) → TellsInOrder plan base o d → TellsPart plan base o d
+tells-part plan base o d (done, begins, (text, r, is)) = (done, begins, (text, text, r, ([], sym (append-nil text)), is))
+
+-- what was told before, and a part of what was to be told
+part-told : (plan done : List PlanLine) (base : Standing) (s o o' : Story) (old d : Debugger) (left : ℕ) (text told some : List ℕ) → IsBeginning done plan → (k : IsGoing done base (at s o old left))
+    → Reaches base.debugger done told d → told ≡ k.told ++ text → IsFront some text → o'.written ≡ o.written ++ some → TellsPart plan base (flushed o') d
+part-told plan done base s o o' old d left text told some begins k r tells (rest, split) is = (
+  done,
+  begins,
+  (
+    told,
+    k.told ++ some,
+    r,
+    (rest, tells ∙ ap (λ (x : List ℕ). k.told ++ x) split ∙ sym (append_assoc k.told some rest)),
+    is ∙ ap (λ (x : List ℕ). x ++ some) (printed-so base.out o k.told k.printed) ∙ append_assoc base.out.written k.told some,
+  ),
+)
+
+-- what was told before, and nothing more
+none-told : (plan done : List PlanLine) (base : Standing) (s o o' : Story) (old d : Debugger) (left : ℕ) (text told : List ℕ) → IsBeginning done plan → (k : IsGoing done base (at s o old left))
+    → Reaches base.debugger done told d → told ≡ k.told ++ text → o' ≡ o → TellsPart plan base (flushed o') d
+none-told plan done base s o o' old d left text told begins k r tells same =
+    part-told plan done base s o o' old d left text told [] begins k r tells (text, refl) (ap (λ (x : Story). x.written) same ∙ sym (append-nil o.written))
 
 -- ---- the limit of turns
 
 pub limit-ends : (s o : Story) (d : Debugger) (left : ℕ) → left ≡ 0 → EndsSo (at s o d left) (at s o d left) TurnLimit
 limit-ends s o d left none plan done base begins k = (
   going-in-order plan done base s o d left d begins k (same-by d d refl),
-  (k.reached, k.ready.0, k.kept, has-left done base s o d left k, omega (arith, k.turns, none)),
+  (going-told plan done base s o d left begins k, k.ready.0, k.kept, has-left done base s o d left k, omega (arith, k.turns, none)),
 )
 
 -- want of memory
 pub stays-memory : (plan done : List PlanLine) (base : Standing) (s o : Story) (d : Debugger) (left : ℕ) → IsBeginning done plan → IsGoing done base (at s o d left)
     → InOrder plan base s o d × MayEnd plan NoMemory base (flushed s) (flushed o) d
-stays-memory plan done base s o d left begins k = (going-in-order plan done base s o d left d begins k (same-by d d refl), (k.reached, k.kept, has-left done base s o d left k))
+stays-memory plan done base s o d left begins k = (
+  going-in-order plan done base s o d left d begins k (same-by d d refl),
+  (tells-part plan base (flushed o) d (going-told plan done base s o d left begins k), k.kept, has-left done base s o d left k),
+)
 
 -- ---- turns that failed
 
@@ -114,9 +154,18 @@ turn-refused-ends : (s o : Story) (old mid new : Debugger) (left left' number : 
 turn-refused-ends s o old mid new left left' number fault some turned is number-is plan done base begins k =
     let same = fault-refused (front_of old.end) old mid fault some turned in
     let kept : mid.end.session.lost ≡ false = rw same k.kept in
+    let reached : Reaches base.debugger done k.told mid = reach-untold base.debugger done k.told old mid (Err fault) refl k.reached turned in
     rw is (
       going-in-order plan done base s o old left (lost mid) begins k (record { fed = rw same refl; enqueued = rw same refl; taken = rw same refl; tickets = rw same refl }),
-      ((mid, reach-turned base.debugger old mid (Err fault) k.reached turned, inl (old, fault, k.reached, turned, some, number-is), kept, refl), has-left done base s o old left k),
+      (
+        (
+          mid,
+          (inl (old, fault, (done, k.told, k.reached), turned, some, number-is), (done, begins, (k.told, reached, printed-so base.out o k.told k.printed))),
+          kept,
+          refl,
+        ),
+        inl (has-left done base s o old left k),
+      ),
     )
 
 pub turn-ends : (s o : Story) (old mid new : Debugger) (left left' : ℕ) (fault : DebuggerFault) (ended : Ended) → TurnsAt (front_of old.end) old (Err fault) mid → EndsFailed fault mid new ended
@@ -130,37 +179,49 @@ turn-ends s o old mid new left left' code.BadEvent ended turned h = rw h.0 (turn
 
 -- ---- commands that were refused
 
+-- the debugger refuses the command of the line behind those that were carried out
+pub line-refused : (done rest : List PlanLine) (line : PlanLine) (base : Standing) (s o : Story) (d : Debugger) (left set number refused : ℕ) (bytes : List ℕ) (w : Widths)
+    → IsGoing done base (at s o d left) → IsAsk line set number bytes → d.sizes ≡ Some w → RefusesCommand d refused (command_asked w set number bytes)
+    → RefusesLineAt (done ++ line ∷ rest) (length done + 1) base.debugger refused d
+line-refused done rest line base s o d left set number refused bytes w k asks-it known refuses =
+    let knows = stands-known done base.debugger d (ap (λ (x : Option Widths). is_some x) known) k.stands in
+    let same : knows.0 ≡ w = let e = sym knows.1 ∙ known in cc in
+    record {
+      done = done;
+      line = line;
+      rest = rest;
+      plan_is = refl;
+      place_is = refl;
+      told = k.told;
+      reached = k.reached;
+      asked = k.asked;
+      set = set;
+      command = number;
+      carried = bytes;
+      asks_it = asks-it;
+      widths = w;
+      known = known;
+      put = rw (← same) knows.2;
+      refused = refuses;
+    }
+
 asked-refused : (done rest : List PlanLine) (line : PlanLine) (base : Standing) (s o : Story) (d new : Debugger) (left set number refused : ℕ) (bytes : List ℕ) (w : Widths)
     → IsGoing done base (at s o d left) → IsAsk line set number bytes → d.sizes ≡ Some w → RefusesCommand d refused (command_asked w set number bytes) → new ≡ lost d
     → InOrder (done ++ line ∷ rest) base s o new × MayEnd (done ++ line ∷ rest) (Refused refused) base (flushed s) (flushed o) new
 asked-refused done rest line base s o d new left set number refused bytes w k asks-it known refuses is =
-    let knows = stands-known done base.debugger d (ap (λ (x : Option Widths). is_some x) known) k.stands in
-    let same : knows.0 ≡ w = let e = sym knows.1 ∙ known in cc in
     rw is (
       going-in-order (done ++ line ∷ rest) done base s o d left (lost d) (begins-line done rest line) k (same-lost d),
       (
         (
           d,
-          k.reached,
-          inr (record {
-            done = done;
-            line = line;
-            rest = rest;
-            plan_is = refl;
-            asked = k.asked;
-            set = set;
-            command = number;
-            carried = bytes;
-            asks_it = asks-it;
-            widths = w;
-            known = known;
-            put = rw (← same) knows.2;
-            refused = refuses;
-          }),
+          (
+            inr (length done + 1, line-refused done rest line base s o d left set number refused bytes w k asks-it known refuses),
+            going-told (done ++ line ∷ rest) done base s o d left (begins-line done rest line) k,
+          ),
           k.kept,
           refl,
         ),
-        has-left done base s o d left k,
+        inl (has-left done base s o d left k),
       ),
     )
 
@@ -209,14 +270,14 @@ asked-in-order done rest line base s o old mid left set number bytes w command a
 read-fails : (s s' o : Story) (old mid new : Debugger) (left left' : ℕ) → TurnsAt (front_of old.end) old (Ok read.Nothing) mid → front_of old.end ≡ More → mid ≡ record old { last = [] }
     → new ≡ lost mid → FailsRead (flushed s) s' → EndsSo (at s o old left) (at s' o new left') LostByRead
 read-fails s s' o old mid new left left' turned front same is f plan done base begins k =
-    let reached : Reaches base.debugger (record old { last = [] }) = reach-same base.debugger old mid k.reached turned same in
+    let reached : Reaches base.debugger done k.told (record old { last = [] }) = reach-same base.debugger done k.told old mid k.reached turned same in
     rw (is, same) (
-      stays-in-order plan done base s o old left s' o (lost (record old { last = [] })) begins k f.read f.written (omega (arith, f.failed_writes)) f.early (prints-none o)
+      stays-in-order plan done base s o old left s' (lost (record old { last = [] })) begins k f.read f.written (omega (arith, f.failed_writes)) f.early
           (record { fed = refl; enqueued = refl; taken = refl; tickets = refl }),
       (
         omega (arith, f.fails, k.failed_reads, k.ends),
-        (record old { last = [] }, reached, (k.ready.0, front), k.kept, refl),
-        (f.failed_writes ∙ k.failed_writes, printed-same base.out o k.printed, refl, refl),
+        (record old { last = [] }, (k.ready.0, front, (done, begins, (k.told, reached, printed-so base.out o k.told k.printed))), k.kept, refl),
+        (f.failed_writes ∙ k.failed_writes, printed-same base.out o k.told k.printed, refl, refl),
       ),
     )
 
@@ -224,11 +285,19 @@ read-fails s s' o old mid new left left' turned front same is f plan done base b
 flush-fails : (s s' o : Story) (old mid new : Debugger) (left left' : ℕ) → TurnsAt (front_of old.end) old (Ok read.Nothing) mid → mid ≡ record old { last = [] }
     → new ≡ lost mid → FailsFlush s s' → EndsSo (at s o old left) (at s' o new left') LostByWrite
 flush-fails s s' o old mid new left left' turned same is f plan done base begins k =
-    let reached : Reaches base.debugger (record old { last = [] }) = reach-same base.debugger old mid k.reached turned same in
+    let reached : Reaches base.debugger done k.told (record old { last = [] }) = reach-same base.debugger done k.told old mid k.reached turned same in
     rw (is, same, f) (
-      stays-in-order plan done base s o old left (record s { failed_writes = s.failed_writes + 1 }) o (lost (record old { last = [] })) begins k refl refl (omega arith) refl (prints-none o)
+      stays-in-order plan done base s o old left (record s { failed_writes = s.failed_writes + 1 }) (lost (record old { last = [] })) begins k refl refl (omega arith) refl
           (record { fed = refl; enqueued = refl; taken = refl; tickets = refl }),
-      (inl (omega (arith, k.failed_writes)), (record old { last = [] }, reached, tt, k.kept, refl)),
+      (
+        inl (omega (arith, k.failed_writes)),
+        (
+          record old { last = [] },
+          tells-part plan base (flushed o) (record old { last = [] }) (done, begins, (k.told, reached, printed-so base.out o k.told k.printed)),
+          k.kept,
+          refl,
+        ),
+      ),
     )
 
 pub read-ends : (s s' o : Story) (old mid new : Debugger) (left left' : ℕ) (ended : Ended) → TurnsAt (front_of old.end) old (Ok read.Nothing) mid → front_of old.end ≡ More
@@ -242,25 +311,25 @@ read-ends s s' o old mid new left left' TurnLimit turned front same h = absurd h
 
 -- ---- what ends behind what was put
 
--- what was printed since
+-- what happened since where lines are printed to
 record Grows (a b : Story) : Type 0 where
-  printed : (text : List ℕ) × (b.written ≡ a.written ++ text)
   unread : b.read ≡ a.read
   failed : a.failed_writes ≤ b.failed_writes
 
-grows-prints : (a b c : Story) → Prints a b → Prints b c → Grows a c
-grows-prints a b c p q =
-    let r = prints-again a b c p q in
-    record { printed = (r.0, ap (λ (x : Story). x.written) r.1); unread = ap (λ (x : Story). x.read) r.1; failed = omega (arith, ap (λ (x : Story). x.failed_writes) r.1) }
+grows-told : (a b : Story) (text : List ℕ) → b ≡ with_written text a → Grows a b
+grows-told a b text e = record { unread = ap (λ (x : Story). x.read) e; failed = omega (arith, ap (λ (x : Story). x.failed_writes) e) }
 
-grows-part : (a b c : Story) → Prints a b → PrintsPart b c → Grows a c
-grows-part a b c p q =
-    let w = q.1.written in
-    record {
-      printed = (p.0 ++ w.0, w.1 ∙ ap (λ (x : Story). x.written ++ w.0) p.1 ∙ append_assoc a.written p.0 w.0);
-      unread = q.1.read ∙ ap (λ (x : Story). x.read) p.1;
-      failed = omega (arith, ap (λ (x : Story). x.failed_writes) p.1, q.1.failed_writes);
-    }
+grows-again : (a b c : Story) (x y : List ℕ) → b ≡ with_written x a → c ≡ with_written y b → Grows a c
+grows-again a b c x y e f = record {
+  unread = ap (λ (z : Story). z.read) f ∙ ap (λ (z : Story). z.read) e;
+  failed = omega (arith, ap (λ (z : Story). z.failed_writes) f, ap (λ (z : Story). z.failed_writes) e);
+}
+
+grows-part : (a b c : Story) (x y : List ℕ) → b ≡ with_written x a → FailsWrite b c y → Grows a c
+grows-part a b c x y e f = record {
+  unread = f.read ∙ ap (λ (z : Story). z.read) e;
+  failed = omega (arith, ap (λ (z : Story). z.failed_writes) e, f.failed_writes);
+}
 
 -- all that was put was written
 written-in-order : (plan done : List PlanLine) (base : Standing) (s o : Story) (old mid : Debugger) (left turns tickets : ℕ) (s' o' : Story) (new : Debugger)
@@ -280,7 +349,6 @@ written-in-order plan done base s o old mid left turns tickets s' o' new k p ask
       whole = λ _. (all, out);
       failed_writes = omega (arith, k.failed_writes, ap (λ (x : Story). x.failed_writes) written);
       prompt = ap (λ (x : Story). x.early) written ∙ k.prompt;
-      printed = grows.printed;
       unread = grows.unread;
       failed_prints = grows.failed;
     }
@@ -303,7 +371,6 @@ part-in-order plan done base s o old mid left turns tickets s' o' new taken k p 
       whole = λ e. absurd (omega (arith, f.failed_writes, k.failed_writes, e));
       failed_writes = omega (arith, f.failed_writes, k.failed_writes);
       prompt = f.early ∙ k.prompt;
-      printed = grows.printed;
       unread = grows.unread;
       failed_prints = grows.failed;
     }
@@ -313,54 +380,91 @@ lost-behind : (taken : List ℕ) (mid new : Debugger) → new ≡ lost (with_tak
 lost-behind taken mid new is = rw is (same-lost (with_taken taken mid))
 
 -- a write failed
-pub loses-ends : (plan done : List PlanLine) (base : Standing) (s o : Story) (old mid : Debugger) (left l1 l2 turns tickets : ℕ) (s' o' : Story) (new : Debugger)
-    → IsGoing done base (at s o old left) → Moves old mid turns tickets → Reaches base.debugger mid → AsksInOrder plan base.debugger mid → LosesAtWrite (at s o mid l1) (at s' o' new l2)
-    → InOrder plan base s' o' new × MayEnd plan LostByWrite base (flushed s') (flushed o') new
-loses-ends plan done base s o old mid left l1 l2 turns tickets s' o' new k p r asked f =
+pub loses-ends : (plan done : List PlanLine) (base : Standing) (s o : Story) (old mid : Debugger) (left l1 l2 turns tickets : ℕ) (s' o' : Story) (new : Debugger) (text told : List ℕ)
+    → IsBeginning done plan → (k : IsGoing done base (at s o old left)) → Moves old mid turns tickets → Reaches base.debugger done told mid → told ≡ k.told ++ text → AsksInOrder plan base.debugger mid
+    → LosesAtWrite text (at s o mid l1) (at s' o' new l2) → InOrder plan base s' o' new × MayEnd plan LostByWrite base (flushed s') (flushed o') new
+loses-ends plan done base s o old mid left l1 l2 turns tickets s' o' new text told begins k p r tells asked f =
     elim f.fails [
       | inl (front, w, same) ↦ (
-        part-in-order plan done base s o old mid left turns tickets s' o' new f.taken k p asked front w (rw same (grows-prints base.out o o k.printed (prints-none o)))
-            (lost-behind f.taken mid new f.is),
-        (inl (omega (arith, w.failed_writes, k.failed_writes)), (with_taken f.taken mid, reach-taken base.debugger mid f.taken r front, tt, p.kept ∙ k.kept, f.is)),
+        part-in-order plan done base s o old mid left turns tickets s' o' new f.taken k p asked front w (rw same (grows-told base.out o k.told k.printed)) (lost-behind f.taken mid new f.is),
+        (
+          inl (omega (arith, w.failed_writes, k.failed_writes)),
+          (
+            with_taken f.taken mid,
+            none-told plan done base s o o' old (with_taken f.taken mid) left text told begins k (reach-taken base.debugger done told mid f.taken r front) tells same,
+            p.kept ∙ k.kept,
+            f.is,
+          ),
+        ),
       )
       | inr (all, w, part) ↦ (
-        written-in-order plan done base s o old mid left turns tickets s' o' new k p asked w (grows-part base.out o o' k.printed part) (lost-behind mid.end.outgoing mid new (rw all at f.is)),
-        (inr (omega (arith, part.1.failed_writes, printed-same base.out o k.printed)), (with_taken f.taken mid, reach-all base.debugger mid f.taken all r, tt, p.kept ∙ k.kept, f.is)),
+        written-in-order plan done base s o old mid left turns tickets s' o' new k p asked w (grows-part base.out o o' k.told text k.printed part) (lost-behind mid.end.outgoing mid new (rw all at f.is)),
+        (
+          inr (omega (arith, part.failed_writes, printed-same base.out o k.told k.printed)),
+          (
+            with_taken f.taken mid,
+            part-told plan done base s o o' old (with_taken f.taken mid) left text told part.written.0 begins k (reach-all base.debugger done told mid f.taken all r) tells part.written.2 part.written.1,
+            p.kept ∙ k.kept,
+            f.is,
+          ),
+        ),
       )
     ]
 
-pub moved-ends : (plan done : List PlanLine) (base : Standing) (s o : Story) (old mid : Debugger) (left l1 l2 turns tickets : ℕ) (s' o' : Story) (new : Debugger) (ended : Ended)
-    → IsGoing done base (at s o old left) → Moves old mid turns tickets → Reaches base.debugger mid → AsksInOrder plan base.debugger mid → (is_open mid.end ≡ false → ReadsEnd base.debugger (with_taken mid.end.outgoing mid))
-    → Finishes ended (at s o mid l1) (at s' o' new l2) → InOrder plan base s' o' new × MayEnd plan ended base (flushed s') (flushed o') new
-moved-ends plan done base s o old mid left l1 l2 turns tickets s' o' new Done k p r asked why c = (
-  written-in-order plan done base s o old mid left turns tickets s' o' new k p asked c.pipe (grows-prints base.out o o' k.printed c.out) (lost-behind mid.end.outgoing mid new c.debugger),
+pub moved-ends : (plan done : List PlanLine) (base : Standing) (s o : Story) (old mid : Debugger) (left l1 l2 turns tickets : ℕ) (s' o' : Story) (new : Debugger) (ended : Ended) (text told : List ℕ)
+    → IsBeginning done plan → (k : IsGoing done base (at s o old left)) → Moves old mid turns tickets → Reaches base.debugger done told mid → told ≡ k.told ++ text → AsksInOrder plan base.debugger mid
+    → (is_open mid.end ≡ false → ReadsEnd base.debugger (with_taken mid.end.outgoing mid))
+    → Finishes ended text (at s o mid l1) (at s' o' new l2) → InOrder plan base s' o' new × MayEnd plan ended base (flushed s') (flushed o') new
+moved-ends plan done base s o old mid left l1 l2 turns tickets s' o' new Done text told begins k p r tells asked why c = (
+  written-in-order plan done base s o old mid left turns tickets s' o' new k p asked c.pipe (grows-again base.out o o' k.told text k.printed c.out) (lost-behind mid.end.outgoing mid new c.debugger),
   (
-    (with_taken mid.end.outgoing mid, reach-all base.debugger mid mid.end.outgoing refl r, inl (why c.closed), p.kept ∙ k.kept, c.debugger),
-    (ap (λ (x : Story). x.failed_writes) c.pipe ∙ k.failed_writes, printed-same o o' c.out ∙ printed-same base.out o k.printed, refl, refl),
+    (
+      with_taken mid.end.outgoing mid,
+      inl (
+        why c.closed,
+        (
+          done,
+          begins,
+          (
+            told,
+            reach-all base.debugger done told mid mid.end.outgoing refl r,
+            printed-so base.out o' told (printed-again base.out o o' k.told text told k.printed c.out tells),
+          ),
+        ),
+      ),
+      p.kept ∙ k.kept,
+      c.debugger,
+    ),
+    (ap (λ (x : Story). x.failed_writes) c.pipe ∙ k.failed_writes, printed-same o o' text c.out ∙ printed-same base.out o k.told k.printed, refl, refl),
   ),
 )
-moved-ends plan done base s o old mid left l1 l2 turns tickets s' o' new NoMemory k p r asked why t = (
-  written-in-order plan done base s o old mid left turns tickets s' o' new k p asked t.pipe (grows-prints base.out o o' k.printed t.out) (same-by (with_taken mid.end.outgoing mid) new t.debugger),
+moved-ends plan done base s o old mid left l1 l2 turns tickets s' o' new NoMemory text told begins k p r tells asked why t = (
+  written-in-order plan done base s o old mid left turns tickets s' o' new k p asked t.pipe (rw t.out (grows-told base.out o k.told k.printed)) (same-by (with_taken mid.end.outgoing mid) new t.debugger),
   (
-    subst (λ (x : Debugger). Reaches base.debugger x) (sym t.debugger) (reach-all base.debugger mid mid.end.outgoing refl r),
+    subst (λ (x : Debugger). TellsPart plan base (flushed o') x) (sym t.debugger)
+        (none-told plan done base s o o' old (with_taken mid.end.outgoing mid) left text told begins k (reach-all base.debugger done told mid mid.end.outgoing refl r) tells t.out),
     ap (λ (x : Debugger). x.end.session.lost) t.debugger ∙ p.kept ∙ k.kept,
-    (ap (λ (x : Story). x.failed_writes) t.pipe ∙ k.failed_writes, printed-same o o' t.out ∙ printed-same base.out o k.printed, refl, refl),
+    (ap (λ (x : Story). x.failed_writes) t.pipe ∙ k.failed_writes, ap (λ (x : Story). x.failed_writes) t.out ∙ printed-same base.out o k.told k.printed, refl, refl),
   ),
 )
-moved-ends plan done base s o old mid left l1 l2 turns tickets s' o' new LostByWrite k p r asked why f =
-    loses-ends plan done base s o old mid left l1 l2 turns tickets s' o' new k p r asked f
-moved-ends plan done base s o old mid left l1 l2 turns tickets s' o' new LostByRead k p r asked why f = absurd f
-moved-ends plan done base s o old mid left l1 l2 turns tickets s' o' new (Refused number) k p r asked why f = absurd f
-moved-ends plan done base s o old mid left l1 l2 turns tickets s' o' new TurnLimit k p r asked why f = absurd f
+moved-ends plan done base s o old mid left l1 l2 turns tickets s' o' new LostByWrite text told begins k p r tells asked why f =
+    loses-ends plan done base s o old mid left l1 l2 turns tickets s' o' new text told begins k p r tells asked f
+moved-ends plan done base s o old mid left l1 l2 turns tickets s' o' new LostByRead text told begins k p r tells asked why f = absurd f
+moved-ends plan done base s o old mid left l1 l2 turns tickets s' o' new (Refused number) text told begins k p r tells asked why f = absurd f
+moved-ends plan done base s o old mid left l1 l2 turns tickets s' o' new TurnLimit text told begins k p r tells asked why f = absurd f
 
--- lines were printed, and then memory was wanting, or a write of them failed
-pub printed-memory : (s o o' : Story) (d new : Debugger) (left : ℕ) → Prints o o' → new ≡ d → EndsSo (at s o d left) (at s o' new left) NoMemory
-printed-memory s o o' d new left printed same plan done base begins k = rw same (stays-memory plan done base s o' d left begins (printed-goes done base s o o' d left k printed))
+-- memory was wanting at a line
+pub line-memory : (line : PlanLine) (s o : Story) (d : Debugger) (left : ℕ) → LineEndsSo line (at s o d left) (at s o d left) NoMemory
+line-memory line s o d left done rest base k = stays-memory (done ++ line ∷ rest) done base s o d left (begins-line done rest line) k
 
-pub printed-part : (s o o' : Story) (d new : Debugger) (left : ℕ) → PrintsPart o o' → new ≡ lost d → EndsSo (at s o d left) (at s o' new left) LostByWrite
-printed-part s o o' d new left part is plan done base begins k =
-    let r = going-in-order plan done base s o d left (lost d) begins k (same-lost d) in
-    let grows = grows-part base.out o o' k.printed part in
+-- a write of the lines of a mirror failed
+pub mirror-part : (s o o' : Story) (d new : Debugger) (left : ℕ) (text : List ℕ) → TellsMirror d.mirror text → FailsWrite o o' text → new ≡ lost d
+    → LineEndsSo line.Mirror (at s o d left) (at s o' new left) LostByWrite
+mirror-part s o o' d new left text tells part is done rest base k =
+    let plan = done ++ line.Mirror ∷ rest in
+    let r = going-in-order plan done base s o d left (lost d) (begins-line done rest line.Mirror) k (same-lost d) in
+    let grows = grows-part base.out o o' k.told text k.printed part in
+    let tickets : d.tickets ≡ base.debugger.tickets + asks (done ++ line.Mirror ∷ []) = omega (arith, k.asked, asks-append done line.Mirror) in
     rw is (
       record {
         read = r.read;
@@ -369,11 +473,28 @@ printed-part s o o' d new left part is plan done base begins k =
         whole = r.whole;
         failed_writes = r.failed_writes;
         prompt = r.prompt;
-        printed = grows.printed;
         unread = grows.unread;
         failed_prints = grows.failed;
       },
-      (inr (omega (arith, part.1.failed_writes, printed-same base.out o k.printed)), (d, k.reached, tt, k.kept, refl)),
+      (
+        inr (omega (arith, part.failed_writes, printed-same base.out o k.told k.printed)),
+        (
+          d,
+          (
+            done ++ line.Mirror ∷ [],
+            begins-behind done rest line.Mirror,
+            (
+              k.told ++ text,
+              k.told ++ part.written.0,
+              reach-passed base.debugger done k.told d line.Mirror text k.reached tickets tt tells,
+              (part.written.2.0, ap (λ (x : List ℕ). k.told ++ x) part.written.2.1 ∙ sym (append_assoc k.told part.written.0 part.written.2.0)),
+              part.written.1 ∙ ap (λ (x : List ℕ). x ++ part.written.0) (printed-so base.out o k.told k.printed) ∙ append_assoc base.out.written k.told part.written.0,
+            ),
+          ),
+          k.kept,
+          refl,
+        ),
+      ),
     )
 
 -- ---- lines one after the other
@@ -394,7 +515,7 @@ finished-ends plan base s o d new left k known answered is =
     rw is (
       going-in-order plan plan base s o d left (lost d) (begins-all plan) k (same-lost d),
       (
-        (d, k.reached, inr (k.asked, answered, (knows.0, knows.1, knows.2), k.passed), k.kept, refl),
+        (d, inr ((k.asked, answered, (knows.0, knows.1, knows.2)), going-tells plan base s o d left k), k.kept, refl),
         has-left plan base s o d left k,
       ),
     )
@@ -408,7 +529,6 @@ left-in-order plan base s o d r = record {
   whole = r.whole;
   failed_writes = r.failed_writes;
   prompt = r.prompt;
-  printed = r.printed;
   unread = r.unread;
   failed_prints = r.failed_prints;
 }
@@ -422,6 +542,17 @@ lost-so plan ended s o d d' turns s' o' new begun h = rw (← begun) h
 pub left-so : (plan : List PlanLine) (ended : Ended) (s o : Story) (d d' : Debugger) (turns : ℕ) (s' o' s'' o'' : Story) (new : Debugger) → d ≡ d' → s'' ≡ flushed s' → o'' ≡ flushed o'
     → InOrder plan (at s o d turns) s' o' new → MayEnd plan ended (at s o d turns) (flushed s') (flushed o') new → InOrder plan (at s o d' turns) s'' o'' new × MayEnd plan ended (at s o d' turns) s'' o'' new
 left-so plan ended s o d d' turns s' o' s'' o'' new begun e f r m = rw (e, f, ← begun) (left-in-order plan (at s o d turns) s' o' new r, m)
+
+-- the same of the run
+pub left-run : (plan : List PlanLine) (ended : Ended) (s o : Story) (d d' : Debugger) (turns : ℕ) (s' o' s'' o'' : Story) (new : Debugger) → d ≡ d' → s'' ≡ flushed s' → o'' ≡ flushed o'
+    → InOrder plan (at s o d turns) s' o' new → MayEnd plan ended (at s o d turns) (flushed s') (flushed o') new → Attaches plan (at s o d' turns) ended s'' o'' new
+left-run plan ended s o d d' turns s' o' s'' o'' new begun e f r m = rw (e, f, ← begun) (Leaves ended s' o' new r m)
+
+-- and where it failed
+pub stays-run : (plan : List PlanLine) (how ended : Ended) (s o : Story) (d d' : Debugger) (turns : ℕ) (s' o' s'' o'' : Story) (new left : Debugger) → d ≡ d' → ended ≡ unflushed_end how
+    → left ≡ unflushed_debugger how new → InOrder plan (at s o d turns) s' o' new → MayEnd plan how (at s o d turns) (flushed s') (flushed o') new → FailsLastFlush s' o' s'' o''
+    → Attaches plan (at s o d' turns) ended s'' o'' left
+stays-run plan how ended s o d d' turns s' o' s'' o'' new left begun is leaves r m f = rw (is, leaves, ← begun) (Stays how s' o' s'' o'' new r m f)
 
 -- ---- the last flush
 
@@ -480,7 +611,6 @@ flush-in-order plan base s o s' o' d new r f same =
           (f.written ∙ h.0 ∙ ap (λ (x : List ℕ). base.pipe.written ++ x) (sym same.enqueued), same.taken ∙ h.1 ∙ sym same.enqueued);
       failed_writes = omega (arith, r.failed_writes, f.failed_writes);
       prompt = f.early ∙ r.prompt;
-      printed = (r.printed.0, f.printed ∙ r.printed.1);
       unread = f.unread ∙ r.unread;
       failed_prints = omega (arith, r.failed_prints, f.failed_prints);
     }
@@ -493,27 +623,77 @@ flush-fails-more plan base s o s' o' d r f =
       | inr less ↦ inr (omega (arith, r.failed_prints, less))
     ]
 
+-- as much was told, though the last flush failed
+told-still : (base : Standing) (o o' : Story) (text : List ℕ) → o'.written ≡ o.written → (flushed o).written ≡ base.out.written ++ text → o'.written ≡ base.out.written ++ text
+told-still base o o' text same is = same ∙ is
+
+still-tells : (plan : List PlanLine) (base : Standing) (o o' : Story) (d : Debugger) → o'.written ≡ o.written → TellsInOrder plan base (flushed o) d → TellsInOrder plan base o' d
+still-tells plan base o o' d same (done, begins, (text, r, is)) = (done, begins, (text, r, told-still base o o' text same is))
+
+still-in-order : (plan : List PlanLine) (base : Standing) (o o' : Story) (d : Debugger) → o'.written ≡ o.written → TellsInOrder plan base (flushed o) d → TellsPart plan base o' d
+still-in-order plan base o o' d same (done, begins, (text, r, is)) = tells-part plan base o' d (done, begins, (text, r, told-still base o o' text same is))
+
+still-part : (plan : List PlanLine) (base : Standing) (o o' : Story) (d : Debugger) → o'.written ≡ o.written → TellsPart plan base (flushed o) d → TellsPart plan base o' d
+still-part plan base o o' d same (done, begins, (text, part, r, front, is)) = (done, begins, (text, part, r, front, told-still base o o' part same is))
+
+still-done : (plan : List PlanLine) (base : Standing) (o o' : Story) (d : Debugger) → o'.written ≡ o.written
+    → (ReadsEnd base.debugger d × TellsInOrder plan base (flushed o) d) ⊎ (IsFinished plan base.debugger d × Tells plan base (flushed o) d) → TellsPart plan base o' d
+still-done plan base o o' d same how =
+    elim how [
+      | inl (reads, tells) ↦ still-in-order plan base o o' d same tells
+      | inr (finished, tells) ↦ still-in-order plan base o o' d same (plan, begins-all plan, tells)
+    ]
+
 -- it failed where the connection was lost before
 pub flush-fails-lost : (plan : List PlanLine) (ended : Ended) (base : Standing) (s o s' o' : Story) (d : Debugger)
-    → (ended ≡ Done) ⊎ ((ended ≡ LostByRead) ⊎ ((ended ≡ LostByWrite) ⊎ ((number : ℕ) × (ended ≡ Refused number)))) → InOrder plan base s o d
+    → (ended ≡ Done) ⊎ ((ended ≡ LostByRead) ⊎ (ended ≡ LostByWrite)) → InOrder plan base s o d
     → MayEnd plan ended base (flushed s) (flushed o) d → FailsLastFlush s o s' o' → InOrder plan base s' o' d × MayEnd plan LostByWrite base s' o' d
-flush-fails-lost plan Done base s o s' o' d which r m f = (flush-in-order plan base s o s' o' d d r f (same-by d d refl), (flush-fails-more plan base s o s' o' d r f, (m.0.0, m.0.1, tt, m.0.3, m.0.4)))
-flush-fails-lost plan LostByRead base s o s' o' d which r m f = (flush-in-order plan base s o s' o' d d r f (same-by d d refl), (flush-fails-more plan base s o s' o' d r f, (m.1.0, m.1.1, tt, m.1.3, m.1.4)))
-flush-fails-lost plan LostByWrite base s o s' o' d which r m f = (flush-in-order plan base s o s' o' d d r f (same-by d d refl), (flush-fails-more plan base s o s' o' d r f, m.1))
-flush-fails-lost plan (Refused number) base s o s' o' d which r m f = (flush-in-order plan base s o s' o' d d r f (same-by d d refl), (flush-fails-more plan base s o s' o' d r f, (m.0.0, m.0.1, tt, m.0.3, m.0.4)))
-flush-fails-lost plan NoMemory base s o s' o' d which r m f = absurd (elim which [ inl e ↦ cc | inr (inl e) ↦ cc | inr (inr (inl e)) ↦ cc | inr (inr (inr e)) ↦ (let h = e.1 in cc) ])
-flush-fails-lost plan TurnLimit base s o s' o' d which r m f = absurd (elim which [ inl e ↦ cc | inr (inl e) ↦ cc | inr (inr (inl e)) ↦ cc | inr (inr (inr e)) ↦ (let h = e.1 in cc) ])
+flush-fails-lost plan Done base s o s' o' d which r m f = (
+  flush-in-order plan base s o s' o' d d r f (same-by d d refl),
+  (flush-fails-more plan base s o s' o' d r f, (m.0.0, still-done plan base o o' m.0.0 f.printed m.0.1, m.0.2, m.0.3)),
+)
+flush-fails-lost plan LostByRead base s o s' o' d which r m f = (
+  flush-in-order plan base s o s' o' d d r f (same-by d d refl),
+  (flush-fails-more plan base s o s' o' d r f, (m.1.0, still-in-order plan base o o' m.1.0 f.printed m.1.1.2, m.1.2, m.1.3)),
+)
+flush-fails-lost plan LostByWrite base s o s' o' d which r m f = (
+  flush-in-order plan base s o s' o' d d r f (same-by d d refl),
+  (flush-fails-more plan base s o s' o' d r f, (m.1.0, still-part plan base o o' m.1.0 f.printed m.1.1, m.1.2, m.1.3)),
+)
+flush-fails-lost plan (Refused number) base s o s' o' d which r m f = absurd (elim which [ inl e ↦ cc | inr (inl e) ↦ cc | inr (inr e) ↦ cc ])
+flush-fails-lost plan NoMemory base s o s' o' d which r m f = absurd (elim which [ inl e ↦ cc | inr (inl e) ↦ cc | inr (inr e) ↦ cc ])
+flush-fails-lost plan TurnLimit base s o s' o' d which r m f = absurd (elim which [ inl e ↦ cc | inr (inl e) ↦ cc | inr (inr e) ↦ cc ])
+
+-- all that the debugger put was written, whether it left or not
+put-still : (plan : List PlanLine) (base : Standing) (s o s' o' : Story) (d : Debugger) → InOrder plan base s o d → HasLeftOrFails base (flushed s) (flushed o) d → FailsLastFlush s o s' o'
+    → s'.written ≡ base.pipe.written ++ d.end.session.enqueued
+put-still plan base s o s' o' d r how f =
+    elim how [
+      | inl left ↦ f.written ∙ (r.whole left.0).0
+      | inr (failed, put) ↦ f.written ∙ put
+    ]
+
+-- it failed behind a refusal
+pub flush-fails-refused : (plan : List PlanLine) (number : ℕ) (base : Standing) (s o s' o' : Story) (d : Debugger) → InOrder plan base s o d
+    → MayEnd plan (Refused number) base (flushed s) (flushed o) d → FailsLastFlush s o s' o' → InOrder plan base s' o' d × MayEnd plan (Refused number) base s' o' d
+flush-fails-refused plan number base s o s' o' d r m f = (
+  flush-in-order plan base s o s' o' d d r f (same-by d d refl),
+  (
+    (m.0.0, (m.0.1.0, still-tells plan base o o' m.0.0 f.printed m.0.1.1), m.0.2, m.0.3),
+    inr (flush-fails-more plan base s o s' o' d r f, put-still plan base s o s' o' d r m.1 f),
+  ),
+)
 
 -- it failed where the debugger kept the connection, and loses it now
-flush-loses : (plan : List PlanLine) (base : Standing) (s o s' o' : Story) (d new : Debugger) → new ≡ lost d → Reaches base.debugger d → d.end.session.lost ≡ false → InOrder plan base s o d
+flush-loses : (plan : List PlanLine) (base : Standing) (s o s' o' : Story) (d new : Debugger) → new ≡ lost d → TellsPart plan base o' d → d.end.session.lost ≡ false → InOrder plan base s o d
     → FailsLastFlush s o s' o' → InOrder plan base s' o' new × MayEnd plan LostByWrite base s' o' new
-flush-loses plan base s o s' o' d new is reached kept r f =
-    rw is (flush-in-order plan base s o s' o' d (lost d) r f (same-lost d), (flush-fails-more plan base s o s' o' d r f, (d, reached, tt, kept, refl)))
+flush-loses plan base s o s' o' d new is tells kept r f =
+    rw is (flush-in-order plan base s o s' o' d (lost d) r f (same-lost d), (flush-fails-more plan base s o s' o' d r f, (d, tells, kept, refl)))
 
 pub flush-fails-kept : (plan : List PlanLine) (ended : Ended) (base : Standing) (s o s' o' : Story) (d new : Debugger) → (ended ≡ NoMemory) ⊎ (ended ≡ TurnLimit) → new ≡ lost d → InOrder plan base s o d
     → MayEnd plan ended base (flushed s) (flushed o) d → FailsLastFlush s o s' o' → InOrder plan base s' o' new × MayEnd plan LostByWrite base s' o' new
-flush-fails-kept plan NoMemory base s o s' o' d new which is r m f = flush-loses plan base s o s' o' d new is m.0 m.1 r f
-flush-fails-kept plan TurnLimit base s o s' o' d new which is r m f = flush-loses plan base s o s' o' d new is m.0 m.2 r f
+flush-fails-kept plan NoMemory base s o s' o' d new which is r m f = flush-loses plan base s o s' o' d new is (still-part plan base o o' d f.printed m.0) m.1 r f
+flush-fails-kept plan TurnLimit base s o s' o' d new which is r m f = flush-loses plan base s o s' o' d new is (still-in-order plan base o o' d f.printed m.0) m.2 r f
 flush-fails-kept plan Done base s o s' o' d new which is r m f = absurd (elim which [ inl e ↦ cc | inr e ↦ cc ])
 flush-fails-kept plan LostByRead base s o s' o' d new which is r m f = absurd (elim which [ inl e ↦ cc | inr e ↦ cc ])
 flush-fails-kept plan LostByWrite base s o s' o' d new which is r m f = absurd (elim which [ inl e ↦ cc | inr e ↦ cc ])
@@ -543,8 +723,8 @@ hello-goes s o d new left s' begun is written =
     rw (is, written) (record {
       ready = (ap (λ (x : Debugger). is_open x.end) begun, grind (arith, common_steps));
       kept = ap (λ (x : Debugger). x.end.session.lost) begun;
+      told = [];
       reached = hello-reached-all d;
-      passed = hello-reached-all d;
       asked = omega arith;
       stands = hello-stands d begun;
       read = grind (arith, common_steps, fed);
@@ -554,7 +734,7 @@ hello-goes s o d new left s' begun is written =
       failed_writes = refl;
       ends = refl;
       prompt = refl;
-      printed = prints-none o;
+      printed = sym (written-none o);
       turns = omega (arith, turns);
     })
 
@@ -581,9 +761,11 @@ hello-ends plan s o d new left s' taken begun front f is =
         whole = λ e. absurd (omega (arith, f.failed_writes, e));
         failed_writes = omega (arith, f.failed_writes);
         prompt = f.early;
-        printed = ([], sym (append-nil o.written));
         unread = refl;
         failed_prints = omega arith;
       },
-      (inl f.failed_writes, (with_taken taken d, hello-reached d taken front, tt, kept, refl)),
+      (
+        inl f.failed_writes,
+        (with_taken taken d, ([], begins-none plan, ([], [], hello-reached d taken front, ([], refl), sym (append-nil o.written))), kept, refl),
+      ),
     )

@@ -1,6 +1,8 @@
 pub mod Counting
 pub mod Ending
 pub mod Moves
+pub mod Naming
 pub mod Reached
+pub mod RefusedLines
 pub mod Stages
 pub mod Turned

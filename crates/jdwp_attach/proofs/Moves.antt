@@ -17,8 +17,8 @@ use Rattle.jdwp_plan.specs.declared.plan_line.PlanLine.TheVariants as line
 use Rattle.jdwp_attach.specs.PlanAsks.{IsBeginning, Stands, asks, asks_of}
 use Rattle.jdwp_attach.specs.PlanRuns.{IsAsk, LineGoesOn}
 use Rattle.jdwp_attach.specs.PlanWaits.{IsThere}
-use Rattle.jdwp_attach.specs.Runs.{HasPassed, IsGoing, IsReady, Prints, Reaches, ReadsMore, Standing, at}
-use Rattle.jdwp_attach.proofs.Reached.{passed-line, passed-on, reach-all, reach-asked, reach-fed}
+use Rattle.jdwp_attach.specs.Runs.{IsGoing, IsReady, Reaches, ReadsMore, Standing, TellsLine, at}
+use Rattle.jdwp_attach.proofs.Reached.{reach-all, reach-asked, reach-fed, reach-passed}
 use Rattle.jdwp_attach.proofs.Stages.{asks-append, one-asked, stands-line}
 use Rattle.jdwp_attach.proofs.Turned.{Moves}
 
@@ -55,17 +55,14 @@ all-go plan i base now past k = rw (take_all i plan past) at k
 
 -- ---- what is printed
 
-written-none : (s : Story) → with_written [] s ≡ s
+pub written-none : (s : Story) → with_written [] s ≡ s
 written-none s = simp append-nil
-
-pub prints-none : (s : Story) → Prints s s
-prints-none s = ([], sym (written-none s))
 
 written-twice : (x y : List ℕ) (s : Story) → with_written y (with_written x s) ≡ with_written (x ++ y) s
 written-twice x y s = simp append_assoc
 
-pub prints-again : (a b c : Story) → Prints a b → Prints b c → Prints a c
-prints-again a b c (x, e) (y, f) = (x ++ y, f ∙ ap (λ (s : Story). with_written y s) e ∙ written-twice x y a)
+pub printed-again : (a b c : Story) (x y z : List ℕ) → b ≡ with_written x a → c ≡ with_written y b → z ≡ x ++ y → c ≡ with_written z a
+printed-again a b c x y z e f g = f ∙ ap (λ (s : Story). with_written y s) e ∙ written-twice x y a ∙ ap (λ (t : List ℕ). with_written t a) (sym g)
 
 -- a write that failed behind bytes that were written
 pub fails-after : (s t : Story) (done chunk more whole : List ℕ) → whole ≡ done ++ chunk ++ more → FailsWrite (with_written done s) t chunk → FailsWrite s t whole
@@ -95,17 +92,17 @@ front-taken out buffer out' count counts e =
 
 -- ---- what goes on
 
--- all that was put was written, and what was read was told
-pub moved-goes : (done done' : List PlanLine) (base : Standing) (s o : Story) (old mid : Debugger) (left left' turns tickets : ℕ) (s' o' : Story) (new : Debugger)
-    → IsGoing done base (at s o old left) → Moves old mid turns tickets → Reaches base.debugger mid → HasPassed done' base.debugger mid → Stands done' base.debugger mid → is_open mid.end ≡ true → asks done' ≡ asks done + tickets → left' + turns ≡ left
-    → new ≡ with_taken mid.end.outgoing mid → s' ≡ with_written mid.end.outgoing s → Prints o o'
+-- all that was put was written, and this text was printed
+pub moved-goes : (done done' : List PlanLine) (base : Standing) (s o : Story) (old mid : Debugger) (left left' turns tickets : ℕ) (s' o' : Story) (new : Debugger) (text told : List ℕ)
+    → (k : IsGoing done base (at s o old left)) → Moves old mid turns tickets → Reaches base.debugger done' told mid → told ≡ k.told ++ text → Stands done' base.debugger mid → is_open mid.end ≡ true
+    → asks done' ≡ asks done + tickets → left' + turns ≡ left → new ≡ with_taken mid.end.outgoing mid → s' ≡ with_written mid.end.outgoing s → o' ≡ with_written text o
     → IsGoing done' base (at s' o' new left')
-moved-goes done done' base s o old mid left left' turns tickets s' o' new k p r passed stands opened counts spent is written printed =
+moved-goes done done' base s o old mid left left' turns tickets s' o' new text told k p r tells stands opened counts spent is written printed =
     rw (is, written) (record {
       ready = (opened, grind (arith, common_steps));
       kept = p.kept ∙ k.kept;
-      reached = reach-all base.debugger mid mid.end.outgoing refl r;
-      passed = passed-on done' base.debugger mid (with_taken mid.end.outgoing mid) (λ from r. reach-all from mid mid.end.outgoing refl r) passed;
+      told = told;
+      reached = reach-all base.debugger done' told mid mid.end.outgoing refl r;
       asked = omega (arith, p.tickets_are, k.asked, counts);
       stands = stands;
       read = grind (arith, common_steps, k.read, p.fed);
@@ -115,7 +112,7 @@ moved-goes done done' base s o old mid left left' turns tickets s' o' new k p r 
       failed_writes = k.failed_writes;
       ends = k.ends;
       prompt = k.prompt;
-      printed = prints-again base.out o o' k.printed printed;
+      printed = printed-again base.out o o' k.told text told k.printed printed tells;
       turns = omega (arith, p.turns_are, k.turns, spent);
     })
 
@@ -128,8 +125,8 @@ read-goes done base s o old mid new left left' s' k turned same (more, fed, read
     rw (fed, read, same) (record {
       ready = k.ready;
       kept = k.kept;
-      reached = reach-fed base.debugger old mid last more k.reached turned fits is;
-      passed = passed-on done base.debugger old last (λ from r. reach-fed from old mid last more r turned fits is) k.passed;
+      told = k.told;
+      reached = reach-fed base.debugger done k.told old mid last more k.reached turned fits is;
       asked = k.asked;
       stands = k.stands;
       read = grind (arith, common_steps, k.read, append_assoc);
@@ -142,26 +139,6 @@ read-goes done base s o old mid new left left' s' k turned same (more, fed, read
       printed = k.printed;
       turns = omega (arith, k.turns, spent);
     })
-
--- lines were printed
-pub printed-goes : (done : List PlanLine) (base : Standing) (s o o' : Story) (d : Debugger) (left : ℕ) → IsGoing done base (at s o d left) → Prints o o' → IsGoing done base (at s o' d left)
-printed-goes done base s o o' d left k printed = record {
-  ready = k.ready;
-  kept = k.kept;
-  reached = k.reached;
-  passed = k.passed;
-  asked = k.asked;
-  stands = k.stands;
-  read = k.read;
-  written = k.written;
-  taken = k.taken;
-  failed_reads = k.failed_reads;
-  failed_writes = k.failed_writes;
-  ends = k.ends;
-  prompt = k.prompt;
-  printed = prints-again base.out o o' k.printed printed;
-  turns = k.turns;
-}
 
 -- ---- results
 
@@ -183,18 +160,18 @@ if-err (Err e) f p = f e p
 
 -- ---- lines
 
--- a line that asks nothing
-pub line-goes : (done : List PlanLine) (line : PlanLine) (base now : Standing) → asks_of line ≡ 0 → is_some now.debugger.sizes ≡ true → IsThere line now.debugger → IsGoing done base now
-    → IsGoing (done ++ line ∷ []) base now
-line-goes done line base now none known there k =
-    let asked : now.debugger.tickets ≡ base.debugger.tickets + asks (done ++ line ∷ []) = omega (arith, k.asked, none, asks-append done line) in
+-- a line that asks nothing, of which this text was printed
+pub line-goes : (done : List PlanLine) (line : PlanLine) (base : Standing) (s o o' : Story) (d : Debugger) (left : ℕ) (text : List ℕ) → asks_of line ≡ 0 → is_some d.sizes ≡ true → IsThere line d
+    → TellsLine line d text → o' ≡ with_written text o → IsGoing done base (at s o d left) → IsGoing (done ++ line ∷ []) base (at s o' d left)
+line-goes done line base s o o' d left text none known there tells printed k =
+    let asked : d.tickets ≡ base.debugger.tickets + asks (done ++ line ∷ []) = omega (arith, k.asked, none, asks-append done line) in
     record {
       ready = k.ready;
       kept = k.kept;
-      reached = k.reached;
-      passed = passed-line done line base.debugger now.debugger asked there k.passed;
+      told = k.told ++ text;
+      reached = reach-passed base.debugger done k.told d line text k.reached asked there tells;
       asked = asked;
-      stands = stands-line done line base.debugger now.debugger none known k.stands;
+      stands = stands-line done line base.debugger d none known k.stands;
       read = k.read;
       written = k.written;
       taken = k.taken;
@@ -202,17 +179,26 @@ line-goes done line base now none known there k =
       failed_writes = k.failed_writes;
       ends = k.ends;
       prompt = k.prompt;
-      printed = k.printed;
+      printed = printed-again base.out o o' k.told text (k.told ++ text) k.printed printed refl;
       turns = k.turns;
     }
+
+-- a line that asks nothing and tells nothing
+pub silent-goes : (done : List PlanLine) (line : PlanLine) (base : Standing) (s o : Story) (d : Debugger) (left : ℕ) → asks_of line ≡ 0 → is_some d.sizes ≡ true → IsThere line d
+    → TellsLine line d [] → IsGoing done base (at s o d left) → IsGoing (done ++ line ∷ []) base (at s o d left)
+silent-goes done line base s o d left none known there tells k = line-goes done line base s o o d left [] none known there tells (sym (written-none o)) k
 
 pub taken-ready : (mid new : Debugger) → is_open mid.end ≡ true → new ≡ with_taken mid.end.outgoing mid → IsReady new
 taken-ready mid new opened is = rw is (opened, grind (arith, common_steps))
 
--- a line that asks waits for nothing
+-- a line that asks waits for nothing, and tells nothing
 ask-there : (line : PlanLine) (set number : ℕ) (bytes : List ℕ) (d : Debugger) → IsAsk line set number bytes → IsThere line d
 ask-there (line.Ask s n carried) set number bytes d h = tt
 ask-there other set number bytes d h = absurd h
+
+ask-tells : (line : PlanLine) (set number : ℕ) (bytes : List ℕ) (d : Debugger) → IsAsk line set number bytes → TellsLine line d []
+ask-tells (line.Ask s n carried) set number bytes d h = refl
+ask-tells other set number bytes d h = absurd h
 
 -- a command that was asked
 pub asked-moves : (command : Command) (old new : Debugger) → HasAsked command old new → Moves old new 0 1
@@ -228,12 +214,13 @@ asked-moves command old new h =
       outgoing = refl;
     })
 
--- the line asks it, and waits for nothing
-pub asked-passes : (done : List PlanLine) (line : PlanLine) (base old mid : Debugger) (command : Command) (set number : ℕ) (bytes : List ℕ) → IsAsk line set number bytes → is_open old.end ≡ true
-    → HasAsked command old mid → old.tickets ≡ base.tickets + asks done → HasPassed done base old → HasPassed (done ++ line ∷ []) base mid
-asked-passes done line base old mid command set number bytes asks-it opened asked tickets passed =
-    passed-line done line base mid (omega (arith, tickets, (asked-moves command old mid asked).tickets_are, asks-append done line, one-asked line set number bytes asks-it))
-    (ask-there line set number bytes mid asks-it) (passed-on done base old mid (λ from r. reach-asked from old mid command r opened asked) passed)
+-- the line asks it
+pub asked-passes : (done : List PlanLine) (line : PlanLine) (base old mid : Debugger) (text : List ℕ) (command : Command) (set number : ℕ) (bytes : List ℕ) → IsAsk line set number bytes
+    → is_open old.end ≡ true → HasAsked command old mid → old.tickets ≡ base.tickets + asks done → Reaches base done text old → Reaches base (done ++ line ∷ []) (text ++ []) mid
+asked-passes done line base old mid text command set number bytes asks-it opened asked tickets r =
+    reach-passed base done text mid line [] (reach-asked base done text old mid command r opened asked)
+    (omega (arith, tickets, (asked-moves command old mid asked).tickets_are, asks-append done line, one-asked line set number bytes asks-it)) (ask-there line set number bytes mid asks-it)
+    (ask-tells line set number bytes mid asks-it)
 
 pub asked-open : (command : Command) (old new : Debugger) → HasAsked command old new → is_open old.end ≡ true → is_open new.end ≡ true
 asked-open command old new h opened = rw h.is opened

@@ -1,4 +1,4 @@
-pub mod Lines
+pub mod Naming
 pub mod PlanAsks
 pub mod PlanRuns
 pub mod PlanWaits

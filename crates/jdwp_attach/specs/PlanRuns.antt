@@ -1,11 +1,12 @@
 -- Why an engine that runs a debugger by a plan ends.
-use Rattle.std.specs.Prelude.{◌≡◌, ◌≢◌, ◌⊎◌, ℕ, ◌<◌, ◌+◌, true, false, List, [], ◌∷◌, ◌++◌, Option, Some, None, Ok, Err, slice_get, ⊤}
+use Rattle.std.specs.Prelude.{◌≡◌, ◌≢◌, ◌⊎◌, ℕ, ◌<◌, ◌+◌, true, false, List, [], ◌∷◌, ◌++◌, length, Option, Some, None, Ok, Err, slice_get}
 use Rattle.std.specs.List.{list_any}
 use Rattle.jdwp_wire.specs.FaultNumbers as frame
 use Rattle.jdwp_wire.specs.Streams.{More}
 use Rattle.jdwp_wire.specs.Widths.{Widths}
 use Rattle.jdwp_layout.specs.declared.answer.Answer.{Answer}
 use Rattle.jdwp_end.specs.Ends.{front_of, is_open}
+use Rattle.jdwp_end.specs.Runs.{IsFront}
 use Rattle.jdwp_debuggee.specs.Actions.{Command}
 use Rattle.jdwp_debugger.specs.declared.asking.Refused as asking
 use Rattle.jdwp_debugger.specs.declared.asking.Refused.TheVariants as refusal
@@ -22,17 +23,37 @@ use Rattle.jdwp_debugger.specs.RefusedNumbers.{refused_number}
 use Rattle.jdwp_engine.specs.declared.ended.Ended.{Ended}
 use Rattle.jdwp_engine.specs.declared.ended.Ended.TheVariants.{Done, LostByRead, LostByWrite, Refused, NoMemory, TurnLimit}
 use Rattle.jdwp_engine.specs.Run.{flushed}
+use Rattle.jdwp_engine.specs.Sessions.{unflushed_end}
 use Rattle.jdwp_engine.specs.Story.{Story}
 use Rattle.jdwp_plan.specs.declared.plan_line.PlanLine.{PlanLine}
 use Rattle.jdwp_plan.specs.declared.plan_line.PlanLine.TheVariants as line
+use Rattle.jdwp_attach.specs.declared.attached.Attached.{Attached}
+use Rattle.jdwp_attach.specs.declared.attached.Attached.TheVariants as run
 use Rattle.jdwp_attach.specs.PlanAsks.{HasPut, IsBeginning, asks, command_asked}
-use Rattle.jdwp_attach.specs.Runs.{HasPassed, Standing, InOrder, IsGoing, Reaches}
+use Rattle.jdwp_attach.specs.Runs.{Standing, FailsLastFlush, InOrder, IsGoing, Reaches}
 
 -- ---- why a run ends
 
--- the debugger is as after a loss of one that calls lead to from how it stood at first, that was not lost, and of which this held
-abbrev pub IsLostFrom : Debugger → (Debugger → Type 0) → Debugger → Type 0
-IsLostFrom base P d = (before : Debugger) × Reaches base before × P before × (before.end.session.lost ≡ false) × (d ≡ lost before)
+-- Calls led from how the engine stood at first to this debugger along these lines, and what was told on the way, all of it, was printed.
+abbrev pub Tells : List PlanLine → Standing → Story → Debugger → Type 0
+Tells done base out d = (text : List ℕ) × Reaches base.debugger done text d × (out.written ≡ base.out.written ++ text)
+
+-- the same along the plan's lines up to one of them
+abbrev pub TellsInOrder : List PlanLine → Standing → Story → Debugger → Type 0
+TellsInOrder plan base out d = (done : List PlanLine) × IsBeginning done plan × Tells done base out d
+
+-- the same, where a part of what was told was printed, from its beginning on
+abbrev pub TellsPart : List PlanLine → Standing → Story → Debugger → Type 0
+TellsPart plan base out d =
+    (done : List PlanLine) × IsBeginning done plan × ((text : List ℕ) × (part : List ℕ) × Reaches base.debugger done text d × IsFront part text × (out.written ≡ base.out.written ++ part))
+
+-- the debugger is as after a loss of one that was not lost, and of which this holds
+abbrev pub IsLostFrom : (Debugger → Type 0) → Debugger → Type 0
+IsLostFrom P d = (before : Debugger) × P before × (before.end.session.lost ≡ false) × (d ≡ lost before)
+
+-- calls led from the first debugger to the other
+abbrev pub LeadsTo : Debugger → Debugger → Type 0
+LeadsTo base d = (done : List PlanLine) × (text : List ℕ) × Reaches base done text d
 
 -- this answers the command at a place, which was asked under the ticket, and ends the session
 pub record AnswersEnd (d : Debugger) (ticket : ℕ) (answer : Answer) : Type 0 where
@@ -54,12 +75,12 @@ TellsEnd d Parked = ⊥
 -- The last turn, of a debugger that calls lead to, read what ends the session, and what waited to leave left.
 abbrev pub ReadsEnd : Debugger → Debugger → Type 0
 ReadsEnd base d =
-    (old : Debugger) × (read : Read) × (new : Debugger) × Reaches base old × TurnsAt (front_of old.end) old (Ok read) new × TellsEnd old (told read) × (d ≡ with_taken new.end.outgoing new)
+    (old : Debugger) × (read : Read) × (new : Debugger) × LeadsTo base old × TurnsAt (front_of old.end) old (Ok read) new × TellsEnd old (told read) × (d ≡ with_taken new.end.outgoing new)
 
--- Every command of the plan was asked, in ids so wide as the debugger knows them, and answered, and what its lines wait for was there.
+-- Every command of the plan was asked, in ids so wide as the debugger knows them, and answered.
 abbrev pub IsFinished : List PlanLine → Debugger → Debugger → Type 0
 IsFinished plan base d =
-    (d.tickets ≡ base.tickets + asks plan) × (has_tickets d.pending ≡ false) × ((w : Widths) × (d.sizes ≡ Some w) × HasPut w plan base d) × HasPassed plan base d
+    (d.tickets ≡ base.tickets + asks plan) × (has_tickets d.pending ≡ false) × ((w : Widths) × (d.sizes ≡ Some w) × HasPut w plan base d)
 
 -- the number by which a program tells a fault: that of the bytes' own fault
 abbrev pub told_number : DebuggerFault → ℕ
@@ -69,7 +90,7 @@ told_number fault = fault_number fault
 -- The last turn, of a debugger that calls lead to, refused what the target sent.
 abbrev pub RefusesTurn : Debugger → ℕ → Debugger → Type 0
 RefusesTurn base number d =
-    (old : Debugger) × (fault : DebuggerFault) × Reaches base old × TurnsAt (front_of old.end) old (Err fault) d × (fault ≢ code.NoMemory) × (number ≡ told_number fault)
+    (old : Debugger) × (fault : DebuggerFault) × LeadsTo base old × TurnsAt (front_of old.end) old (Err fault) d × (fault ≢ code.NoMemory) × (number ≡ told_number fault)
 
 -- the debugger refuses a command by a refusal of this number, or there is none since the bytes do not read
 abbrev pub RefusesCommand : Debugger → ℕ → Option Command → Type 0
@@ -81,12 +102,15 @@ abbrev pub IsAsk : PlanLine → ℕ → ℕ → List ℕ → Type 0
 IsAsk (line.Ask set number bytes) s n carried = (set ≡ s) × (number ≡ n) × (bytes.items ≡ carried)
 IsAsk other s n carried = ⊥
 
--- It refused the command of a line of the plan; those of the lines before it were asked.
-pub record RefusesLine (plan : List PlanLine) (base : Debugger) (number : ℕ) (d : Debugger) : Type 0 where
+-- It refused the command of this line of the plan, counted from 1; the lines before it were carried out, and what they ask was asked.
+pub record RefusesLineAt (plan : List PlanLine) (place : ℕ) (base : Debugger) (number : ℕ) (d : Debugger) : Type 0 where
   pub done : List PlanLine
   pub line : PlanLine
   pub rest : List PlanLine
   pub plan_is : plan ≡ done ++ line ∷ rest
+  pub place_is : place ≡ length done + 1
+  pub told : List ℕ
+  pub reached : Reaches base done told d
   pub asked : d.tickets ≡ base.tickets + asks done
   pub set : ℕ
   pub command : ℕ
@@ -97,24 +121,68 @@ pub record RefusesLine (plan : List PlanLine) (base : Debugger) (number : ℕ) (
   pub put : HasPut widths done base d
   pub refused : RefusesCommand d number (command_asked widths set command carried)
 
+-- it refused the command of a line of the plan
+abbrev pub RefusesLine : List PlanLine → Debugger → ℕ → Debugger → Type 0
+RefusesLine plan base number d = (place : ℕ) × RefusesLineAt plan place base number d
+
 -- no write and no flush failed, and all that was written left
 abbrev pub HasLeft : Standing → Story → Story → Type 0
 HasLeft base pipe out =
     (pipe.failed_writes ≡ base.pipe.failed_writes) × (out.failed_writes ≡ base.out.failed_writes) × (pipe.unflushed ≡ []) × (out.unflushed ≡ [])
 
+-- a write or a flush failed
+abbrev pub HasFailed : Standing → Story → Story → Type 0
+HasFailed base pipe out = (base.pipe.failed_writes < pipe.failed_writes) ⊎ (base.out.failed_writes < out.failed_writes)
+
+-- all that was written left, or a flush failed behind all that the debugger put
+abbrev pub HasLeftOrFails : Standing → Story → Story → Debugger → Type 0
+HasLeftOrFails base pipe out d = HasLeft base pipe out ⊎ (HasFailed base pipe out × (pipe.written ≡ base.pipe.written ++ d.end.session.enqueued))
+
 -- Why a run of a plan may end so, what went through the pipes then, and what the debugger is: for want of memory and at the limit of turns
--- one that calls lead to from how it stood as the session began, and else as after a loss of such a one. A write or a flush failed exactly
--- where the run is lost by a write.
+-- one that calls lead to from how it stood as the session began, and else as after a loss of such a one. All that was told on the way was
+-- printed: along all lines of the plan where it is finished, else up to one of them; but a part of it where memory was wanting or a write
+-- failed. A write or a flush failed where the run is lost by a write, and in no other end but behind a refusal.
 abbrev pub MayEnd : List PlanLine → Ended → Standing → Story → Story → Debugger → Type 0
-MayEnd plan Done base pipe out d = IsLostFrom base.debugger (λ before. ReadsEnd base.debugger before ⊎ IsFinished plan base.debugger before) d × HasLeft base pipe out
+MayEnd plan Done base pipe out d =
+    IsLostFrom (λ before. (ReadsEnd base.debugger before × TellsInOrder plan base out before) ⊎ (IsFinished plan base.debugger before × Tells plan base out before)) d × HasLeft base pipe out
 MayEnd plan LostByRead base pipe out d =
-    (base.pipe.failed_reads + base.pipe.ends < pipe.failed_reads + pipe.ends) × IsLostFrom base.debugger (λ before. (is_open before.end ≡ true) × (front_of before.end ≡ More)) d
-    × HasLeft base pipe out
-MayEnd plan LostByWrite base pipe out d = ((base.pipe.failed_writes < pipe.failed_writes) ⊎ (base.out.failed_writes < out.failed_writes)) × IsLostFrom base.debugger (λ before. ⊤) d
-MayEnd plan (Refused number) base pipe out d = IsLostFrom base.debugger (λ before. RefusesTurn base.debugger number before ⊎ RefusesLine plan base.debugger number before) d × HasLeft base pipe out
-MayEnd plan NoMemory base pipe out d = Reaches base.debugger d × (d.end.session.lost ≡ false) × HasLeft base pipe out
+    (base.pipe.failed_reads + base.pipe.ends < pipe.failed_reads + pipe.ends)
+    × IsLostFrom (λ before. (is_open before.end ≡ true) × (front_of before.end ≡ More) × TellsInOrder plan base out before) d × HasLeft base pipe out
+MayEnd plan LostByWrite base pipe out d = HasFailed base pipe out × IsLostFrom (TellsPart plan base out) d
+MayEnd plan (Refused number) base pipe out d =
+    IsLostFrom (λ before. (RefusesTurn base.debugger number before ⊎ RefusesLine plan base.debugger number before) × TellsInOrder plan base out before) d × HasLeftOrFails base pipe out d
+MayEnd plan NoMemory base pipe out d = TellsPart plan base out d × (d.end.session.lost ≡ false) × HasLeft base pipe out
 MayEnd plan TurnLimit base pipe out d =
-    Reaches base.debugger d × (is_open d.end ≡ true) × (d.end.session.lost ≡ false) × HasLeft base pipe out × (d.end.session.turns + pipe.rooms ≡ base.pipe.rooms + base.left)
+    TellsInOrder plan base out d × (is_open d.end ≡ true) × (d.end.session.lost ≡ false) × HasLeft base pipe out × (d.end.session.turns + pipe.rooms ≡ base.pipe.rooms + base.left)
+
+-- ---- the line that is told
+
+-- how the session ended, whichever line is told
+abbrev pub ended_of : Attached → Ended
+ended_of (run.Ended ended) = ended
+ended_of (run.RefusedLine line number) = Refused number
+
+-- where no line is told, a session that was refused was refused at a turn
+abbrev pub TellsNoLine : Ended → Debugger → Debugger → Type 0
+TellsNoLine (Refused number) base d = IsLostFrom (RefusesTurn base number) d
+TellsNoLine ended base d = Unit {0}
+
+-- The line that is told is that whose command was refused.
+abbrev pub TellsRefused : List PlanLine → Attached → Debugger → Debugger → Type 0
+TellsRefused plan (run.Ended ended) base d = TellsNoLine ended base d
+TellsRefused plan (run.RefusedLine line number) base d = IsLostFrom (RefusesLineAt plan line base number) d
+
+-- what is told where a run ended so at this line, counted from 1: the line where its command was refused
+abbrev pub ended_at : PlanLine → ℕ → Ended → Attached
+ended_at (line.Ask set number bytes) place (Refused refusal) = run.RefusedLine place refusal
+ended_at other place ended = run.Ended ended
+
+-- a refusal is that of a turn: its number is that of a fault of what the target sent
+abbrev pub IsByTurn : Ended → Type 0
+IsByTurn (Refused number) = (fault : DebuggerFault) × (number ≡ told_number fault)
+IsByTurn ended = Unit {0}
+
+-- ---- calls of a run
 
 -- A call that ends so, in every run of a plan that came to it, once all that was written has left.
 abbrev pub EndsSo : Standing → Standing → Ended → Type 0
@@ -128,6 +196,12 @@ LineEndsSo line old new ended =
     (done rest : List PlanLine) (base : Standing) → IsGoing done base old
     → InOrder (done ++ line ∷ rest) base new.pipe new.out new.debugger × MayEnd (done ++ line ∷ rest) ended base (flushed new.pipe) (flushed new.out) new.debugger
 
+-- What is told where a line ends so, behind those that were carried out.
+abbrev pub LineTells : PlanLine → Standing → Debugger → Ended → Type 0
+LineTells line old d ended =
+    (done rest : List PlanLine) (base : Standing) → IsGoing done base old
+    → TellsRefused (done ++ line ∷ rest) (ended_at line (length done + 1) ended) base.debugger d
+
 -- A line that was carried out, in every run that came to it.
 abbrev pub LineGoesOn : PlanLine → Standing → Standing → Type 0
 LineGoesOn line old new = (done : List PlanLine) (base : Standing) → IsGoing done base old → IsGoing (done ++ line ∷ []) base new
@@ -140,3 +214,22 @@ EndsFailed fault old new ended = (ended ≡ Refused (told_number fault)) × (new
 abbrev pub EndsRefused : asking.Refused → Debugger → Debugger → Ended → Type 0
 EndsRefused refusal.NoMemory old new ended = (ended ≡ NoMemory) × (new ≡ old)
 EndsRefused refused old new ended = (ended ≡ Refused (refused_number refused)) × (new ≡ lost old)
+
+-- ---- the last flush
+
+-- what a run leaves whose last flush failed: the connection is lost, where it was not before
+abbrev pub unflushed_debugger : Ended → Debugger → Debugger
+unflushed_debugger NoMemory d = lost d
+unflushed_debugger TurnLimit d = lost d
+unflushed_debugger Done d = d
+unflushed_debugger LostByRead d = d
+unflushed_debugger LostByWrite d = d
+unflushed_debugger (Refused number) d = d
+
+-- A run of a plan: it may end so, and behind it all that was written leaves; or the last flush fails, and but a refusal, which is told as
+-- one, the run is lost by a write.
+pub data Attaches (plan : List PlanLine) (base : Standing) : Ended → Story → Story → Debugger → Type 0 where
+  Leaves : (how : Ended) (pipe out : Story) (d : Debugger) → InOrder plan base pipe out d → MayEnd plan how base (flushed pipe) (flushed out) d
+      → Attaches plan base how (flushed pipe) (flushed out) d
+  Stays : (how : Ended) (pipe out after printed : Story) (d : Debugger) → InOrder plan base pipe out d → MayEnd plan how base (flushed pipe) (flushed out) d → FailsLastFlush pipe out after printed
+      → Attaches plan base (unflushed_end how) after printed (unflushed_debugger how d)

@@ -14,24 +14,10 @@ use Rattle.jdwp_engine.specs.declared.ended.Ended.TheVariants as ended
 use Rattle.jdwp_engine.specs.Run.{FailsFlush, FailsRead, FailsWrite, flushed, with_read, with_written}
 use Rattle.jdwp_engine.specs.Story.{Story}
 use Rattle.jdwp_plan.specs.declared.plan_line.PlanLine.{PlanLine}
-use Rattle.jdwp_attach.specs.PlanAsks.{AsksInOrder, Stands, asks, asks_of}
+use Rattle.jdwp_plan.specs.declared.plan_line.PlanLine.TheVariants as line
+use Rattle.jdwp_attach.specs.PlanAsks.{AsksInOrder, Stands, asks}
 use Rattle.jdwp_attach.specs.PlanWaits.{IsThere}
-use Rattle.jdwp_attach.specs.declared.printing.Unprinted.{Unprinted}
-use Rattle.jdwp_attach.specs.declared.printing.Unprinted.TheVariants.{Failed, NoMemory}
-
--- ---- what is printed
-
--- lines were printed, and nothing else happened
-abbrev pub Prints : Story → Story → Type 0
-Prints old new = (text : List ℕ) × (new ≡ with_written text old)
-
--- some of the lines were printed, and then a write failed
-abbrev pub PrintsPart : Story → Story → Type 0
-PrintsPart old new = (text : List ℕ) × FailsWrite old new text
-
-abbrev pub IsUnprinted : Unprinted → Story → Story → Type 0
-IsUnprinted Failed old new = PrintsPart old new
-IsUnprinted NoMemory old new = Prints old new
+use Rattle.jdwp_tell.specs.Telling.{TellsMirror, lines_of}
 
 -- ---- how an engine stands
 
@@ -45,19 +31,25 @@ pub record Standing : Type 0 where
 abbrev pub at : Story → Story → Debugger → ℕ → Standing
 at pipe out debugger left = record { pipe = pipe; out = out; debugger = debugger; left = left }
 
--- The debuggers that calls lead to from one, in any order: turns, whatever they answer; commands asked, where the session is open; bytes
--- fed behind a turn that handled nothing, for which there is room; and bytes taken, of those that wait to leave.
-pub data Reaches (base : Debugger) : Debugger → Type 0 where
-  Begins : Reaches base base
-  Turns : (old new : Debugger) (result : Result Read DebuggerFault) → Reaches base old → TurnsAt (front_of old.end) old result new → Reaches base new
-  Asks : (old new : Debugger) (command : Command) → Reaches base old → is_open old.end ≡ true → HasAsked command old new → Reaches base new
-  Feeds : (old new : Debugger) (bytes : List ℕ) → Reaches base old → TurnsAt (front_of old.end) old (Ok read.Nothing) new → length bytes ≤ room_of new.end → Reaches base (with_fed bytes new)
-  Takes : (old : Debugger) (bytes : List ℕ) → Reaches base old → IsFront bytes old.end.outgoing → Reaches base (with_taken bytes old)
+-- what is told at a line of a plan: at `mirror` the mirror
+abbrev pub TellsLine : PlanLine → Debugger → List ℕ → Type 0
+TellsLine line.Mirror d text = TellsMirror d.mirror text
+TellsLine other d text = text ≡ []
 
--- From line to line calls led to a debugger that had asked what the line asks, and at which what the line waits for was there.
-abbrev pub HasPassed : List PlanLine → Debugger → Debugger → Type 0
-HasPassed [] base d = Reaches base d
-HasPassed (line ∷ lines) base d = (behind : Debugger) × Reaches base behind × (behind.tickets ≡ base.tickets + asks_of line) × IsThere line behind × HasPassed lines behind d
+-- The debuggers that calls lead to from one, along lines of a plan, and what is told on the way. Calls come in any order: turns, whatever
+-- they answer; commands asked, where the session is open; bytes fed behind a turn that handled nothing, for which there is room; and bytes
+-- taken, of those that wait to leave. A line is passed at a debugger that had asked what the lines up to it ask, and at which what it
+-- waits for was there.
+pub data Reaches (base : Debugger) : List PlanLine → List ℕ → Debugger → Type 0 where
+  Begins : Reaches base [] [] base
+  Turns : (done : List PlanLine) (text : List ℕ) (old new : Debugger) (result : Result Read DebuggerFault) → Reaches base done text old → TurnsAt (front_of old.end) old result new
+      → Reaches base done (text ++ lines_of old result new) new
+  Asks : (done : List PlanLine) (text : List ℕ) (old new : Debugger) (command : Command) → Reaches base done text old → is_open old.end ≡ true → HasAsked command old new → Reaches base done text new
+  Feeds : (done : List PlanLine) (text : List ℕ) (old new : Debugger) (bytes : List ℕ) → Reaches base done text old → TurnsAt (front_of old.end) old (Ok read.Nothing) new → length bytes ≤ room_of new.end
+      → Reaches base done text (with_fed bytes new)
+  Takes : (done : List PlanLine) (text : List ℕ) (old : Debugger) (bytes : List ℕ) → Reaches base done text old → IsFront bytes old.end.outgoing → Reaches base done text (with_taken bytes old)
+  Passes : (done : List PlanLine) (text : List ℕ) (d : Debugger) (line : PlanLine) (more : List ℕ) → Reaches base done text d → d.tickets ≡ base.tickets + asks (done ++ line ∷ [])
+      → IsThere line d → TellsLine line d more → Reaches base (done ++ line ∷ []) (text ++ more) d
 
 -- the session is open, and nothing waits to leave
 abbrev pub IsReady : Debugger → Type 0
@@ -65,7 +57,7 @@ IsReady d = (is_open d.end ≡ true) × (d.end.outgoing ≡ [])
 
 -- From how the engine stood when the session began: the debugger was fed what was read, in order; the commands that it was asked are those
 -- of the plan's lines up to one of them, in their order; what was written is a beginning of what the debugger put, and of what was taken
--- from it, and all of both where no write failed; before each read all that was written had left; and lines were printed.
+-- from it, and all of both where no write failed; before each read all that was written had left; and what is printed to was not read.
 pub record InOrder (plan : List PlanLine) (base : Standing) (pipe out : Story) (d : Debugger) : Type 0 where
   pub read : pipe.read ≡ base.pipe.read ++ d.end.session.fed
   pub asked : AsksInOrder plan base.debugger d
@@ -73,18 +65,17 @@ pub record InOrder (plan : List PlanLine) (base : Standing) (pipe out : Story) (
   pub whole : pipe.failed_writes ≡ base.pipe.failed_writes → (pipe.written ≡ base.pipe.written ++ d.end.session.enqueued) × (d.end.session.taken ≡ d.end.session.enqueued)
   pub failed_writes : base.pipe.failed_writes ≤ pipe.failed_writes
   pub prompt : pipe.early ≡ base.pipe.early
-  pub printed : (text : List ℕ) × (out.written ≡ base.out.written ++ text)
   pub unread : out.read ≡ base.out.read
   pub failed_prints : base.out.failed_writes ≤ out.failed_writes
 
--- The same between two calls, where nothing failed, nothing waits, the session is open and was not lost, calls led to the debugger, the
--- commands of these lines of the plan were asked and what they wait for was there, and each turn that was made handled a message, or a
--- read with room followed it.
+-- The same between two calls, where nothing failed, nothing waits, the session is open and was not lost, calls led to the debugger along
+-- these lines of the plan, whose commands were asked, what was told on the way was printed, and each turn that was made handled a message,
+-- or a read with room followed it.
 pub record IsGoing (done : List PlanLine) (base now : Standing) : Type 0 where
   pub ready : IsReady now.debugger
   pub kept : now.debugger.end.session.lost ≡ false
-  pub reached : Reaches base.debugger now.debugger
-  pub passed : HasPassed done base.debugger now.debugger
+  pub told : List ℕ
+  pub reached : Reaches base.debugger done told now.debugger
   pub asked : now.debugger.tickets ≡ base.debugger.tickets + asks done
   pub stands : Stands done base.debugger now.debugger
   pub read : now.pipe.read ≡ base.pipe.read ++ now.debugger.end.session.fed
@@ -94,7 +85,7 @@ pub record IsGoing (done : List PlanLine) (base now : Standing) : Type 0 where
   pub failed_writes : now.pipe.failed_writes ≡ base.pipe.failed_writes
   pub ends : now.pipe.ends ≡ base.pipe.ends
   pub prompt : now.pipe.early ≡ base.pipe.early
-  pub printed : Prints base.out now.out
+  pub printed : now.out ≡ with_written told base.out
   pub turns : now.debugger.end.session.turns + now.pipe.rooms + now.left ≡ base.pipe.rooms + base.left
 
 -- ---- what calls do
@@ -121,36 +112,43 @@ WritesAll old new before after = (new ≡ with_taken old.end.outgoing old) × (a
 abbrev pub FailsOut : Debugger → Debugger → Story → Story → Type 0
 FailsOut old new before after = (taken : List ℕ) × (new ≡ with_taken taken old) × IsFront taken old.end.outgoing × FailsWrite before after taken
 
--- A write failed, of what waited to leave or of lines behind it, and the debugger lost the connection.
-pub record LosesAtWrite (old new : Standing) : Type 0 where
+-- A write failed, of what waited to leave or of this text behind it, and the debugger lost the connection.
+pub record LosesAtWrite (text : List ℕ) (old new : Standing) : Type 0 where
   pub taken : List ℕ
   pub is : new.debugger ≡ lost (with_taken taken old.debugger)
   pub left : new.left ≡ old.left
   pub fails :
       (IsFront taken old.debugger.end.outgoing × FailsWrite old.pipe new.pipe taken × (new.out ≡ old.out))
-      ⊎ ((taken ≡ old.debugger.end.outgoing) × (new.pipe ≡ with_written old.debugger.end.outgoing old.pipe) × PrintsPart old.out new.out)
+      ⊎ ((taken ≡ old.debugger.end.outgoing) × (new.pipe ≡ with_written old.debugger.end.outgoing old.pipe) × FailsWrite old.out new.out text)
 
--- What a turn read was told, and what it put was written.
-pub record Tells (old new : Standing) : Type 0 where
+-- What a turn put was written, and then this text was printed.
+pub record PutsAndTells (text : List ℕ) (old new : Standing) : Type 0 where
   pub debugger : new.debugger ≡ with_taken old.debugger.end.outgoing old.debugger
   pub pipe : new.pipe ≡ with_written old.debugger.end.outgoing old.pipe
-  pub out : Prints old.out new.out
+  pub out : new.out ≡ with_written text old.out
   pub left : new.left ≡ old.left
 
--- The same, where it ended the session, which is lost then.
-pub record Closes (old new : Standing) : Type 0 where
+-- The same, where the turn ended the session, which is lost then.
+pub record Closes (text : List ℕ) (old new : Standing) : Type 0 where
   pub closed : is_open old.debugger.end ≡ false
   pub debugger : new.debugger ≡ lost (with_taken old.debugger.end.outgoing old.debugger)
   pub pipe : new.pipe ≡ with_written old.debugger.end.outgoing old.pipe
-  pub out : Prints old.out new.out
+  pub out : new.out ≡ with_written text old.out
   pub left : new.left ≡ old.left
 
--- What is left where a turn or a question ends the run behind what it put.
-abbrev pub Finishes : Ended → Standing → Standing → Type 0
-Finishes ended.Done old new = Closes old new
-Finishes ended.NoMemory old new = Tells old new
-Finishes ended.LostByWrite old new = LosesAtWrite old new
-Finishes ended old new = ⊥
+-- What it put was written, and nothing was printed.
+pub record Puts (old new : Standing) : Type 0 where
+  pub debugger : new.debugger ≡ with_taken old.debugger.end.outgoing old.debugger
+  pub pipe : new.pipe ≡ with_written old.debugger.end.outgoing old.pipe
+  pub out : new.out ≡ old.out
+  pub left : new.left ≡ old.left
+
+-- What is left where a turn or a question ends the run behind what it put, of which this text is to be printed.
+abbrev pub Finishes : Ended → List ℕ → Standing → Standing → Type 0
+Finishes ended.Done text old new = Closes text old new
+Finishes ended.NoMemory text old new = Puts old new
+Finishes ended.LostByWrite text old new = LosesAtWrite text old new
+Finishes ended text old new = ⊥
 
 -- ---- the last flush
 

@@ -2,8 +2,9 @@
 ghost use Rattle.std.specs.Prelude.{◌≡◌, [], ◌∷◌, ◌++◌, ◌+◌, true, is_some, IfErr, IfOk, None, OnOk, Some};
 ghost use Rattle.jdwp_plan.specs.declared.plan_line.PlanLine.{PlanLine};
 ghost use Rattle.jdwp_attach.specs.declared.asking.Unread.TheVariants as unread;
+ghost use Rattle.jdwp_attach.specs.Naming.{Names};
 ghost use Rattle.jdwp_attach.specs.PlanAsks.{command_asked};
-ghost use Rattle.jdwp_attach.specs.PlanRuns.{EndsRefused, IsAsk, LineEndsSo, LineGoesOn};
+ghost use Rattle.jdwp_attach.specs.PlanRuns.{EndsRefused, IsAsk, LineEndsSo, LineGoesOn, LineTells};
 ghost use Rattle.jdwp_attach.specs.PlanWaits.{Counts};
 ghost use Rattle.jdwp_attach.specs.Runs.{IsReady, at};
 ghost use Rattle.jdwp_engine.specs.Story.{Story};
@@ -78,10 +79,13 @@ pub(crate) fn ask_line<P: Pipe>(
     requires ready { IsReady debugger.old }
     requires known { is_some debugger.old.sizes ≡ true }
     requires counts { Counts run.old.composites debugger.old }
+    requires names { Names run.old.waiting.items debugger.old }
     ensures goes { OnOk result ((out : Story) (line : PlanLine) → IsAsk line set number bytes.now → LineGoesOn line (at (P.story pipe.old) out debugger.old run.old.left) (at (P.story pipe.new) out debugger.new run.new.left)) }
     ensures ready { OnOk result (IsReady debugger.new) }
     ensures known { OnOk result (is_some debugger.new.sizes ≡ true) }
     ensures counts { OnOk result (Counts run.new.composites debugger.new) }
+    ensures names { OnOk result (Names run.new.waiting.items debugger.new) }
+    ensures tells { IfErr result (λ ended. (out : Story) (line : PlanLine) → IsAsk line set number bytes.now → LineTells line (at (P.story pipe.old) out debugger.old run.old.left) debugger.new ended) }
     ensures ends { IfErr result (λ ended. (out : Story) (line : PlanLine) → IsAsk line set number bytes.now → LineEndsSo line (at (P.story pipe.old) out debugger.old run.old.left) (at (P.story pipe.new) out debugger.new run.new.left) ended) }
 {
     let Some(sizes) = debugger.sizes() else {

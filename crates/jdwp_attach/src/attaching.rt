@@ -1,21 +1,27 @@
 //! The engine that runs a debugger on a pipe by a plan.
 ghost use Rattle.std.specs.Prelude.{◌≡◌, ◌||◌, [], ℕ, List, true, false, is_some, OnOk, IfErr, IsTrue};
 ghost use Rattle.jdwp_end.specs.Ends.{is_open};
+ghost use Rattle.jdwp_debugger.specs.Debuggers as model;
 ghost use Rattle.jdwp_debugger.specs.Debuggers.{attached, has_tickets};
 ghost use Rattle.jdwp_plan.specs.declared.plan_line.PlanLine as declared;
-ghost use Rattle.jdwp_engine.specs.Run.{flushed};
+ghost use Rattle.jdwp_plan.specs.declared.plan_line.PlanLine.TheVariants as line;
+ghost use Rattle.jdwp_engine.specs.Run.{flushed, with_written};
+ghost use Rattle.jdwp_engine.specs.Sessions.{unflushed_end};
 ghost use Rattle.jdwp_engine.specs.Story.{Story};
-ghost use Rattle.jdwp_attach.specs.PlanRuns.{EndsSo, LineEndsSo, LineGoesOn, MayEnd};
+ghost use Rattle.jdwp_attach.specs.Naming.{Names};
+ghost use Rattle.jdwp_attach.specs.PlanRuns.{Attaches, EndsSo, IsByTurn, LineEndsSo, LineGoesOn, LineTells, MayEnd, TellsRefused, ended_at, ended_of, unflushed_debugger};
 ghost use Rattle.jdwp_attach.specs.PlanWaits.{Counts, HandlesComposites};
-ghost use Rattle.jdwp_attach.specs.Runs.{FailsLastFlush, GoesOn, InOrder, IsGoing, IsReady, Prints, Standing, at};
+ghost use Rattle.jdwp_attach.specs.Runs.{FailsLastFlush, GoesOn, InOrder, IsGoing, IsReady, Standing, at};
+ghost use Rattle.jdwp_tell.specs.Telling.{TellsMirror};
 
 use crate::asking::ask_line;
-use crate::printing::{Unprinted, print_mirror};
+use crate::attached::Attached;
 use crate::run::{CHUNK, Run};
 use crate::turning::{turn_once, write_out};
 use jdwp_debugger::Debugger;
-use jdwp_engine::{Ended, Pipe, flush_all};
+use jdwp_engine::{Ended, Pipe, flush_all, write_all};
 use jdwp_plan::PlanLine;
+use jdwp_tell::mirror_text;
 use std::alloc::Global;
 
 /// Runs the debugger on the pipe for one session by the plan, for at most so many turns.
@@ -29,7 +35,8 @@ use std::alloc::Global;
 /// waited for the widths of ids at the turn in which they are read. The run is done where the plan is finished, and at the turn that reads
 /// an answer without an error to Dispose or the death of the machine, whatever lines are left. Where the input ends, or a read, a write or
 /// a flush fails, those to `out` among them, the debugger loses the connection; the pipe and `out` are flushed at the end of the session,
-/// whatever ends it. A write or a flush that fails is `LostByWrite`, wherever it comes.
+/// whatever ends it. A write or a flush that fails is `LostByWrite`, wherever it comes, but for the last flush behind a refusal of what the
+/// target sent or of a command of the plan, which stays `Refused`.
 pub fn attach<P: Pipe, W: Pipe>(
     alloc: Global,
     debugger: &mut Debugger,
@@ -41,16 +48,35 @@ pub fn attach<P: Pipe, W: Pipe>(
     ensures refused { (is_open debugger.old.end || has_tickets debugger.old.pending) ≡ true → (result ≡ Ended.Refused 0) × (debugger.new ≡ debugger.old) × (P.story pipe.new ≡ P.story pipe.old) × (W.story out.new ≡ W.story out.old) }
     ensures in_order { (is_open debugger.old.end || has_tickets debugger.old.pending) ≡ false → InOrder plan.now (at (P.story pipe.old) (W.story out.old) (attached debugger.old) turns) (P.story pipe.new) (W.story out.new) debugger.new }
     ensures ended { (is_open debugger.old.end || has_tickets debugger.old.pending) ≡ false → MayEnd plan.now result (at (P.story pipe.old) (W.story out.old) (attached debugger.old) turns) (P.story pipe.new) (W.story out.new) debugger.new }
+    ensures last_flush { (is_open debugger.old.end || has_tickets debugger.old.pending) ≡ false → Attaches plan.now (at (P.story pipe.old) (W.story out.old) (attached debugger.old) turns) result (P.story pipe.new) (W.story out.new) debugger.new }
+{
+    attach_by_lines(alloc, debugger, pipe, plan, out, turns).ended()
+}
+
+/// Runs the debugger on the pipe for one session by the plan, for at most so many turns, as `attach` does, and tells the line whose command
+/// the debugger refused, if the session ended by that.
+pub fn attach_by_lines<P: Pipe, W: Pipe>(
+    alloc: Global,
+    debugger: &mut Debugger,
+    pipe: &mut P,
+    plan: &[PlanLine],
+    out: &mut W,
+    turns: u64,
+) -> Attached
+    ensures refused { (is_open debugger.old.end || has_tickets debugger.old.pending) ≡ true → (result ≡ Attached.Ended (Ended.Refused 0)) × (debugger.new ≡ debugger.old) × (P.story pipe.new ≡ P.story pipe.old) × (W.story out.new ≡ W.story out.old) }
+    ensures in_order { (is_open debugger.old.end || has_tickets debugger.old.pending) ≡ false → InOrder plan.now (at (P.story pipe.old) (W.story out.old) (attached debugger.old) turns) (P.story pipe.new) (W.story out.new) debugger.new }
+    ensures ended { (is_open debugger.old.end || has_tickets debugger.old.pending) ≡ false → MayEnd plan.now (ended_of result) (at (P.story pipe.old) (W.story out.old) (attached debugger.old) turns) (P.story pipe.new) (W.story out.new) debugger.new }
+    ensures last_flush { (is_open debugger.old.end || has_tickets debugger.old.pending) ≡ false → Attaches plan.now (at (P.story pipe.old) (W.story out.old) (attached debugger.old) turns) (ended_of result) (P.story pipe.new) (W.story out.new) debugger.new }
+    ensures line { (is_open debugger.old.end || has_tickets debugger.old.pending) ≡ false → TellsRefused plan.now result (attached debugger.old) debugger.new }
 {
     if !debugger.attach() {
-        return Ended::Refused(0);
+        return Attached::Ended(Ended::Refused(0));
     }
-    let ended = run_session(alloc, debugger, pipe, plan, out, turns);
+    let how = run_session(alloc, debugger, pipe, plan, out, turns);
     if flush_both(pipe, out) {
-        ended
+        how
     } else {
-        lose_what_is_kept(debugger, ended);
-        Ended::LostByWrite
+        lose_what_is_kept(debugger, how)
     }
 }
 
@@ -64,14 +90,21 @@ fn flush_both<P: Pipe, W: Pipe>(pipe: &mut P, out: &mut W) -> bool
     left && printed
 }
 
-/// The last flush failed: a connection that was not lost before is lost now.
-fn lose_what_is_kept(debugger: &mut Debugger, ended: Ended)
-    ensures { (plan : List declared.PlanLine) (base : Standing) (pipe out pipe' out' : Story) → InOrder plan base pipe out debugger.old → MayEnd plan ended base (flushed pipe) (flushed out) debugger.old → FailsLastFlush pipe out pipe' out' → InOrder plan base pipe' out' debugger.new × MayEnd plan Ended.LostByWrite base pipe' out' debugger.new }
+/// How a session ends whose last flush failed: a connection that was not lost before is lost now. A refusal is told as one.
+fn lose_what_is_kept(debugger: &mut Debugger, how: Attached) -> Attached
+    ensures how { ended_of result ≡ unflushed_end (ended_of how) }
+    ensures left { debugger.new ≡ unflushed_debugger (ended_of how) debugger.old }
+    ensures ends { (plan : List declared.PlanLine) (base : Standing) (pipe out pipe' out' : Story) → InOrder plan base pipe out debugger.old → MayEnd plan (ended_of how) base (flushed pipe) (flushed out) debugger.old → FailsLastFlush pipe out pipe' out' → InOrder plan base pipe' out' debugger.new × MayEnd plan (ended_of result) base pipe' out' debugger.new }
+    ensures line { (plan : List declared.PlanLine) (base : model.Debugger) → TellsRefused plan how base debugger.old → TellsRefused plan result base debugger.new }
 {
-    match ended {
-        Ended::Done | Ended::LostByRead | Ended::LostByWrite | Ended::Refused(_) => {}
+    match how.ended() {
+        Ended::Refused(_) => how,
+        Ended::Done | Ended::LostByRead | Ended::LostByWrite => {
+            Attached::Ended(Ended::LostByWrite)
+        }
         Ended::NoMemory | Ended::TurnLimit => {
             debugger.lose();
+            Attached::Ended(Ended::LostByWrite)
         }
     }
 }
@@ -84,10 +117,11 @@ fn run_session<P: Pipe, W: Pipe>(
     plan: &[PlanLine],
     out: &mut W,
     turns: u64,
-) -> Ended
+) -> Attached
     requires { debugger.old ≡ attached debugger.old }
+    ensures line { TellsRefused plan.now result debugger.old debugger.new }
     ensures in_order { InOrder plan.now (at (P.story pipe.old) (W.story out.old) debugger.old turns) (P.story pipe.new) (W.story out.new) debugger.new }
-    ensures ended { MayEnd plan.now result (at (P.story pipe.old) (W.story out.old) debugger.old turns) (flushed (P.story pipe.new)) (flushed (W.story out.new)) debugger.new }
+    ensures ended { MayEnd plan.now (ended_of result) (at (P.story pipe.old) (W.story out.old) debugger.old turns) (flushed (P.story pipe.new)) (flushed (W.story out.new)) debugger.new }
 {
     let mut run = Run {
         left: turns,
@@ -98,9 +132,9 @@ fn run_session<P: Pipe, W: Pipe>(
     match run_plan(alloc, debugger, pipe, plan, out, &mut run) {
         Ok(()) => {
             debugger.lose();
-            Ended::Done
+            Attached::Ended(Ended::Done)
         }
-        Err(ended) => ended,
+        Err(how) => how,
     }
 }
 
@@ -115,26 +149,44 @@ fn run_plan<P: Pipe, W: Pipe>(
     plan: &[PlanLine],
     out: &mut W,
     run: &mut Run,
-) -> Result<(), Ended>
+) -> Result<(), Attached>
     requires begun { debugger.old ≡ attached debugger.old }
     requires none { run.old.composites ≡ 0 }
+    requires unasked { run.old.waiting.items ≡ [] }
     ensures finished { OnOk result (IsGoing plan.now (at (P.story pipe.old) (W.story out.old) debugger.old run.old.left) (at (P.story pipe.new) (W.story out.new) debugger.new run.new.left)) }
     ensures known { OnOk result (is_some debugger.new.sizes ≡ true) }
     ensures answered { OnOk result (has_tickets debugger.new.pending ≡ false) }
-    ensures ends { IfErr result (λ ended. InOrder plan.now (at (P.story pipe.old) (W.story out.old) debugger.old run.old.left) (P.story pipe.new) (W.story out.new) debugger.new × MayEnd plan.now ended (at (P.story pipe.old) (W.story out.old) debugger.old run.old.left) (flushed (P.story pipe.new)) (flushed (W.story out.new)) debugger.new) }
+    ensures line { IfErr result (λ how. TellsRefused plan.now how debugger.old debugger.new) }
+    ensures ends { IfErr result (λ how. InOrder plan.now (at (P.story pipe.old) (W.story out.old) debugger.old run.old.left) (P.story pipe.new) (W.story out.new) debugger.new × MayEnd plan.now (ended_of how) (at (P.story pipe.old) (W.story out.old) debugger.old run.old.left) (flushed (P.story pipe.new)) (flushed (W.story out.new)) debugger.new) }
 {
     if let Err(ended) = write_hello(debugger, pipe, &mut run.buffer) {
-        return Err(ended);
+        return Err(Attached::Ended(ended));
     }
     if let Err(ended) = until_sizes(alloc, debugger, pipe, out, run) {
-        return Err(ended);
+        return Err(Attached::Ended(ended));
     }
-    for line in plan {
+    for (place, line) in plan.iter().enumerate() {
         if let Err(ended) = carry_out(alloc, debugger, pipe, line, out, run) {
-            return Err(ended);
+            return Err(ended_at(line, place + 1, ended));
         }
     }
-    until_answered(alloc, debugger, pipe, out, run)
+    match until_answered(alloc, debugger, pipe, out, run) {
+        Ok(()) => Ok(()),
+        Err(ended) => Err(Attached::Ended(ended)),
+    }
+}
+
+/// What is told where a run ended so at this line, counted from 1: the line where its command was refused.
+fn ended_at(line: &PlanLine, place: usize, ended: Ended) -> Attached
+    ensures { result ≡ ended_at line.now place ended }
+{
+    match (line, ended) {
+        (PlanLine::Ask { .. }, Ended::Refused(number)) => Attached::RefusedLine {
+            line: place,
+            number,
+        },
+        _ => Attached::Ended(ended),
+    }
 }
 
 /// Writes the handshake, which waits to leave.
@@ -150,6 +202,8 @@ fn write_hello<P: Pipe>(
     ensures goes { OnOk result ((out : Story) (left : ℕ) → IsGoing [] (at (P.story pipe.old) out debugger.old left) (at (P.story pipe.new) out debugger.new left)) }
     ensures ready { OnOk result (IsReady debugger.new) }
     ensures counts { OnOk result (Counts 0 debugger.new) }
+    ensures names { OnOk result (Names [] debugger.new) }
+    ensures by_turn { IfErr result IsByTurn }
     ensures ends { IfErr result (λ ended. (plan : List declared.PlanLine) (out : Story) (left : ℕ) → InOrder plan (at (P.story pipe.old) out debugger.old left) (P.story pipe.new) out debugger.new × MayEnd plan ended (at (P.story pipe.old) out debugger.old left) (flushed (P.story pipe.new)) (flushed out) debugger.new) }
 {
     if !write_out(debugger, pipe, buffer) {
@@ -172,10 +226,13 @@ fn until_sizes<P: Pipe, W: Pipe>(
 ) -> Result<(), Ended>
     requires ready { IsReady debugger.old }
     requires counts { Counts run.old.composites debugger.old }
+    requires names { Names run.old.waiting.items debugger.old }
     ensures goes { OnOk result (GoesOn (at (P.story pipe.old) (W.story out.old) debugger.old run.old.left) (at (P.story pipe.new) (W.story out.new) debugger.new run.new.left)) }
     ensures ready { OnOk result (IsReady debugger.new) }
     ensures known { OnOk result (is_some debugger.new.sizes ≡ true) }
     ensures counts { OnOk result (Counts run.new.composites debugger.new) }
+    ensures names { OnOk result (Names run.new.waiting.items debugger.new) }
+    ensures by_turn { IfErr result IsByTurn }
     ensures ends { IfErr result (EndsSo (at (P.story pipe.old) (W.story out.old) debugger.old run.old.left) (at (P.story pipe.new) (W.story out.new) debugger.new run.new.left)) }
 {
     while debugger.sizes().is_none() {
@@ -201,10 +258,13 @@ fn carry_out<P: Pipe, W: Pipe>(
     requires ready { IsReady debugger.old }
     requires known { is_some debugger.old.sizes ≡ true }
     requires counts { Counts run.old.composites debugger.old }
+    requires names { Names run.old.waiting.items debugger.old }
     ensures goes { OnOk result (LineGoesOn line.now (at (P.story pipe.old) (W.story out.old) debugger.old run.old.left) (at (P.story pipe.new) (W.story out.new) debugger.new run.new.left)) }
     ensures ready { OnOk result (IsReady debugger.new) }
     ensures known { OnOk result (is_some debugger.new.sizes ≡ true) }
     ensures counts { OnOk result (Counts run.new.composites debugger.new) }
+    ensures names { OnOk result (Names run.new.waiting.items debugger.new) }
+    ensures tells { IfErr result (LineTells line.now (at (P.story pipe.old) (W.story out.old) debugger.old run.old.left) debugger.new) }
     ensures ends { IfErr result (LineEndsSo line.now (at (P.story pipe.old) (W.story out.old) debugger.old run.old.left) (at (P.story pipe.new) (W.story out.new) debugger.new run.new.left)) }
 {
     match line {
@@ -231,11 +291,14 @@ fn until_answered<P: Pipe, W: Pipe>(
     requires ready { IsReady debugger.old }
     requires known { is_some debugger.old.sizes ≡ true }
     requires counts { Counts run.old.composites debugger.old }
+    requires names { Names run.old.waiting.items debugger.old }
     ensures goes { OnOk result (GoesOn (at (P.story pipe.old) (W.story out.old) debugger.old run.old.left) (at (P.story pipe.new) (W.story out.new) debugger.new run.new.left)) }
     ensures ready { OnOk result (IsReady debugger.new) }
     ensures known { OnOk result (is_some debugger.new.sizes ≡ true) }
     ensures counts { OnOk result (Counts run.new.composites debugger.new) }
+    ensures names { OnOk result (Names run.new.waiting.items debugger.new) }
     ensures answered { OnOk result (has_tickets debugger.new.pending ≡ false) }
+    ensures by_turn { IfErr result IsByTurn }
     ensures ends { IfErr result (EndsSo (at (P.story pipe.old) (W.story out.old) debugger.old run.old.left) (at (P.story pipe.new) (W.story out.new) debugger.new run.new.left)) }
 {
     while debugger.unanswered(0).is_some() {
@@ -261,11 +324,14 @@ fn until_events<P: Pipe, W: Pipe>(
     requires ready { IsReady debugger.old }
     requires known { is_some debugger.old.sizes ≡ true }
     requires counts { Counts run.old.composites debugger.old }
+    requires names { Names run.old.waiting.items debugger.old }
     ensures goes { OnOk result (GoesOn (at (P.story pipe.old) (W.story out.old) debugger.old run.old.left) (at (P.story pipe.new) (W.story out.new) debugger.new run.new.left)) }
     ensures ready { OnOk result (IsReady debugger.new) }
     ensures known { OnOk result (is_some debugger.new.sizes ≡ true) }
     ensures counts { OnOk result (Counts run.new.composites debugger.new) }
+    ensures names { OnOk result (Names run.new.waiting.items debugger.new) }
     ensures handled { OnOk result (HandlesComposites count debugger.new) }
+    ensures by_turn { IfErr result IsByTurn }
     ensures ends { IfErr result (EndsSo (at (P.story pipe.old) (W.story out.old) debugger.old run.old.left) (at (P.story pipe.new) (W.story out.new) debugger.new run.new.left)) }
 {
     while run.composites < u64::from(count) {
@@ -281,17 +347,18 @@ fn until_events<P: Pipe, W: Pipe>(
 /// # Errors
 /// Why the run ends.
 fn tell_mirror<W: Pipe>(alloc: Global, debugger: &mut Debugger, out: &mut W) -> Result<(), Ended>
-    requires { IsReady debugger.old }
-    ensures goes { OnOk result ((pipe : Story) (left : ℕ) → GoesOn (at pipe (W.story out.old) debugger.old left) (at pipe (W.story out.new) debugger.new left)) }
+    ensures goes { OnOk result ((text : List ℕ) × TellsMirror debugger.old.mirror text × (W.story out.new ≡ with_written text (W.story out.old))) }
     ensures kept { OnOk result (debugger.new ≡ debugger.old) }
-    ensures ends { IfErr result (λ ended. (pipe : Story) (left : ℕ) → EndsSo (at pipe (W.story out.old) debugger.old left) (at pipe (W.story out.new) debugger.new left) ended) }
+    ensures by_turn { IfErr result IsByTurn }
+    ensures ends { IfErr result (λ ended. (pipe : Story) (left : ℕ) → LineEndsSo line.Mirror (at pipe (W.story out.old) debugger.old left) (at pipe (W.story out.new) debugger.new left) ended) }
 {
-    match print_mirror(alloc, debugger, out) {
-        Ok(()) => Ok(()),
-        Err(Unprinted::NoMemory) => Err(Ended::NoMemory),
-        Err(Unprinted::Failed) => {
-            debugger.lose();
-            Err(Ended::LostByWrite)
-        }
+    let Ok(text) = mirror_text(alloc, debugger.mirror()) else {
+        return Err(Ended::NoMemory);
+    };
+    if write_all(out, text.as_bytes()) {
+        Ok(())
+    } else {
+        debugger.lose();
+        Err(Ended::LostByWrite)
     }
 }

@@ -2,10 +2,11 @@
 #![tactic(auto)]
 
 mod asking;
+mod attached;
 mod attaching;
-mod lines;
-mod printing;
 mod run;
+mod telling;
 mod turning;
 
-pub use attaching::attach;
+pub use attached::Attached;
+pub use attaching::{attach, attach_by_lines};

@@ -1,16 +1,18 @@
 //! Turns of a run.
-ghost use Rattle.std.specs.Prelude.{◌≡◌, ◌<◌, ◌≤◌, ◌+◌, [], true, false, length, is_some, OnOk, IfErr, IsTrue};
+ghost use Rattle.std.specs.Prelude.{◌≡◌, ◌<◌, ◌≤◌, ◌+◌, [], List, true, false, length, map, is_some, OnOk, IfErr, IsTrue};
 ghost use Rattle.jdwp_end.specs.Ends.{front_of, is_open, room_of};
 ghost use Rattle.jdwp_wire.specs.Streams.{More};
-ghost use Rattle.jdwp_debugger.specs.Debuggers.{lost, with_fed};
+ghost use Rattle.jdwp_debugger.specs.Debuggers.{Unanswered, lost, with_fed};
 ghost use Rattle.jdwp_engine.specs.Run.{FailsRead, flushed};
 ghost use Rattle.jdwp_debugger.specs.DebuggerTurns.{TurnsAt, told};
-ghost use Rattle.jdwp_attach.specs.PlanRuns.{EndsFailed, EndsSo, told_number};
+ghost use Rattle.jdwp_attach.specs.Naming.{CanTell, Names, kept_name, waiting_after};
+ghost use Rattle.jdwp_attach.specs.PlanRuns.{EndsFailed, EndsSo, IsByTurn, told_number};
 ghost use Rattle.jdwp_attach.specs.PlanWaits.{Counts, composites_of};
-ghost use Rattle.jdwp_attach.specs.Runs.{FailsOut, Finishes, GoesOn, IsReady, LosesAtRead, ReadsMore, Tells, WritesAll, at};
+ghost use Rattle.jdwp_attach.specs.Runs.{FailsOut, Finishes, GoesOn, IsReady, LosesAtRead, PutsAndTells, ReadsMore, WritesAll, at};
+ghost use Rattle.jdwp_tell.specs.Telling.{turn_lines};
 
-use crate::printing::{Unprinted, print_read};
 use crate::run::{CHUNK, Run};
+use crate::telling::turn_text;
 use jdwp_debugger::{Debugger, DebuggerFault, Read};
 use jdwp_engine::{Ended, Pipe, flush_all, write_all};
 use std::alloc::Global;
@@ -28,11 +30,14 @@ pub(crate) fn turn_once<P: Pipe, W: Pipe>(
 ) -> Result<(), Ended>
     requires ready { IsReady debugger.old }
     requires counts { Counts run.old.composites debugger.old }
+    requires names { Names run.old.waiting.items debugger.old }
     ensures goes { OnOk result (GoesOn (at (P.story pipe.old) (W.story out.old) debugger.old run.old.left) (at (P.story pipe.new) (W.story out.new) debugger.new run.new.left)) }
     ensures ready { OnOk result (IsReady debugger.new) }
     ensures known { OnOk result (is_some debugger.old.sizes ≡ true → is_some debugger.new.sizes ≡ true) }
     ensures left { OnOk result (run.new.left < run.old.left) }
     ensures counts { OnOk result (Counts run.new.composites debugger.new) }
+    ensures names { OnOk result (Names run.new.waiting.items debugger.new) }
+    ensures by_turn { IfErr result IsByTurn }
     ensures ends { IfErr result (EndsSo (at (P.story pipe.old) (W.story out.old) debugger.old run.old.left) (at (P.story pipe.new) (W.story out.new) debugger.new run.new.left)) }
 {
     debugger.session();
@@ -48,7 +53,7 @@ pub(crate) fn turn_once<P: Pipe, W: Pipe>(
         Read::Nothing => flush_and_read(debugger, pipe, &mut run.buffer),
         _ => {
             run.composites = run.composites.saturating_add(composites_in(&turn));
-            tell(alloc, debugger, pipe, out, run, turn)
+            tell(alloc, debugger, pipe, out, run, &turn)
         }
     }
 }
@@ -153,23 +158,24 @@ fn tell<P: Pipe, W: Pipe>(
     pipe: &mut P,
     out: &mut W,
     run: &mut Run,
-    read: Read,
+    read: &Read,
 ) -> Result<(), Ended>
-    ensures goes { OnOk result ((is_open debugger.old.end ≡ true) × Tells (at (P.story pipe.old) (W.story out.old) debugger.old run.old.left) (at (P.story pipe.new) (W.story out.new) debugger.new run.new.left)) }
+    requires { (waited : List Unanswered) × (run.old.waiting.items ≡ map kept_name waited) × CanTell waited (told read.now) debugger.old.last debugger.old.sizes }
+    ensures goes { OnOk result ((waited : List Unanswered) → run.old.waiting.items ≡ map kept_name waited → (is_open debugger.old.end ≡ true) × PutsAndTells (turn_lines waited (told read.now) debugger.old.last debugger.old.sizes) (at (P.story pipe.old) (W.story out.old) debugger.old run.old.left) (at (P.story pipe.new) (W.story out.new) debugger.new run.new.left)) }
+    ensures waits { OnOk result ((waited : List Unanswered) → run.old.waiting.items ≡ map kept_name waited → run.new.waiting.items ≡ map kept_name (waiting_after (told read.now) waited)) }
     ensures counts { run.new.composites ≡ run.old.composites }
-    ensures ends { IfErr result (λ ended. Finishes ended (at (P.story pipe.old) (W.story out.old) debugger.old run.old.left) (at (P.story pipe.new) (W.story out.new) debugger.new run.new.left)) }
+    ensures ends { IfErr result (λ ended. (waited : List Unanswered) → run.old.waiting.items ≡ map kept_name waited → Finishes ended (turn_lines waited (told read.now) debugger.old.last debugger.old.sizes) (at (P.story pipe.old) (W.story out.old) debugger.old run.old.left) (at (P.story pipe.new) (W.story out.new) debugger.new run.new.left)) }
 {
     if !write_out(debugger, pipe, &mut run.buffer) {
         debugger.lose();
         return Err(Ended::LostByWrite);
     }
-    match print_read(alloc, debugger, out, &mut run.waiting, read) {
-        Ok(()) => {}
-        Err(Unprinted::NoMemory) => return Err(Ended::NoMemory),
-        Err(Unprinted::Failed) => {
-            debugger.lose();
-            return Err(Ended::LostByWrite);
-        }
+    let Ok(text) = turn_text(alloc, debugger, &mut run.waiting, read) else {
+        return Err(Ended::NoMemory);
+    };
+    if !write_all(out, text.as_bytes()) {
+        debugger.lose();
+        return Err(Ended::LostByWrite);
     }
     if debugger.is_open() {
         Ok(())

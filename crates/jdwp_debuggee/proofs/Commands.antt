@@ -1,5 +1,5 @@
 -- what commands do
-use Rattle.std.proofs.Common.{◌≡◌, ℕ, ℤ, ◌==◌, ◌+◌, ◌-◌, ◌≤◌, true, false, ◌||◌, ◌&&◌, cond, Option, Some, None, List, refl, sym, ◌∙◌, ap, subst, arith, is_some}
+use Rattle.std.proofs.Common.{◌≡◌, ℕ, ℤ, ◌==◌, ◌+◌, ◌-◌, ◌≤◌, true, false, ◌||◌, ◌&&◌, cond, Option, Some, None, List, refl, sym, ◌∙◌, ap, subst, arith}
 use Rattle.std.specs.Option.{option_map}
 use Rattle.std.proofs.lemmas.Bool.{eqb-true}
 use Rattle.jdwp_wire.specs.declared.error_code.ErrorCode.{ErrorCode}
@@ -22,8 +22,10 @@ use Rattle.jdwp_debuggee.specs.Refusals.{set_refusal}
 use Rattle.jdwp_debuggee.specs.Effects.{Effect, effect, effect_by, does, answered, refused, changes, suspend_by, suspend_thread_by, suspend_thread_at, resume_thread_by, slots_by, slots_at, set_by, answer_count, answer_status, answer_frames, answer_thread}
 use Rattle.jdwp_debuggee.specs.Breadth.{is_plain}
 use Rattle.jdwp_debuggee.specs.Facts.{AreBelow, IsSound, is_dispose, is_exit, about, moved_by, requests_by, Says, OfThread, Does, is_not_asked, is_no_asked_breakpoint}
-use Rattle.jdwp_debuggee.proofs.Small.{and-true, and-false, some-same, some-map, mapped, asked-append, asked-filter, below-filter, below-more}
-use Rattle.jdwp_debuggee.proofs.ThreadLists.{count-changed, below-limit, under-limit}
+use Rattle.jdwp_debuggee.proofs.Small.{and-true, and-false, some-same, asked-append, asked-filter, below-filter, below-more}
+use Rattle.jdwp_debuggee.specs.SoundLaws.{sound_counts}
+use Rattle.jdwp_debuggee.specs.ThreadLaws.{count-changed}
+use Rattle.jdwp_debuggee.proofs.ThreadLists.{below-limit, under-limit}
 use Rattle.jdwp_debuggee.proofs.Ends.{ended-state, ended-ever, ended-live, ended-sizes}
 
 says-error : (a : Action) (state : State) (e : ErrorCode) → Says a state (Error e)
@@ -95,17 +97,6 @@ does_answered m settings now a (Data content) s p y h =
     }
 
 -- ---- counts change
-
-pub sound_counts : {S : Type 0} (m : Meaning S) (settings : Settings) (now : Moment S) (f : ℕ → ℕ → ℕ) → IsSound m settings now → ((t n : ℕ) → count_of now.state t ≡ Some n → f t n ≤ settings.count_limit) → IsSound m settings (record { state = with_counts f now.state; machine = now.machine })
-sound_counts m settings now f s most =
-    record {
-      state = s.state;
-      lives = λ t. s.lives t ∙ sym (ap is_some (count-changed f now.state.threads t) ∙ some-map (f t) (count_of now.state t));
-      at_most = λ t n h.
-          let j = mapped (f t) (count_of now.state t) n (sym (count-changed f now.state.threads t) ∙ h) in
-          subst (λ x. x ≤ settings.count_limit) (sym j.2) (most t j.0 j.1);
-      below = s.below;
-    }
 
 -- an OK reply without data to a command that changes counts alone
 does_counts : {S : Type 0} (m : Meaning S) (settings : Settings) (now : Moment S) (a : Action) (f : ℕ → ℕ → ℕ) → IsSound m settings now → ((t n : ℕ) → count_of now.state t ≡ Some n → f t n ≤ settings.count_limit) → ((t : ℕ) (c : Option ℕ) → option_map (f t) c ≡ moved_by a t c) → ((rs : List Asked) (n : ℕ) → rs ≡ requests_by a n rs) → Says a now.state done → ((t : ℕ) → about a ≡ Some t → OfThread done (count_of now.state t)) → is_exit a ≡ false → is_dispose a ≡ false → Does m settings now a (changes now (with_counts f now.state) done)

@@ -7,7 +7,7 @@ use Rattle.jdwp_machine.specs.Laws.{AreDistinct}
 use Rattle.jdwp_debuggee.specs.Entries.{AllAtMost}
 use Rattle.jdwp_debuggee.specs.State.{Thread, changed, count_by, count_in, ids, is_other, marked, thread_in}
 use Rattle.jdwp_debuggee.proofs.Ends.{another, distinct-head, distinct-tail}
-use Rattle.jdwp_debuggee.proofs.ThreadLists.{has-count}
+use Rattle.jdwp_debuggee.specs.ThreadLaws.{has-count}
 
 pub ids-changed : (f : ℕ → ℕ → ℕ) (ts : List Thread) → ids (changed f ts) ≡ ids ts
 ids-changed f [] = refl

@@ -8,7 +8,7 @@ use Rattle.jdwp_event.specs.EventKinds.{kind_byte}
 use Rattle.jdwp_event.specs.Requests.{Request, all_asked}
 use Rattle.jdwp_event.specs.Occurrences.{OccurrenceMeaning, Moved, Entered, Left, Threw, Prepared, Started, RanOut, HappeningMeaning, started, started_by, runs_out, is_run_out}
 use Rattle.jdwp_event.specs.Filters.{is_of_kind, passes, passing, counted, all_counted, reached_after, origin_at, place_of}
-use Rattle.jdwp_event.specs.Composites.{CompositeMeaning, POLICY_ALL, POLICY_EVENT_THREAD, event_for, gathered, composite_by}
+use Rattle.jdwp_event.specs.Composites.{CompositeMeaning, event_for, gathered, composite_by}
 use Rattle.jdwp_event.specs.Told.{composite_thread, is_event_of, is_vm_death}
 use Rattle.jdwp_machine.specs.Meanings.{Meaning, has}
 use Rattle.jdwp_machine.specs.Laws.{IsLawful, is_named}
@@ -17,8 +17,9 @@ use Rattle.jdwp_debuggee.specs.State.{Thread, State, Moment, count_of, count_in,
 use Rattle.jdwp_debuggee.specs.Steps.{Step, seen, ended_by, ends, death_by, report_by, happens, occurs_by, occurs, may_step, is_zero, with_started, raised_by}
 use Rattle.jdwp_debuggee.specs.Facts.{AreBelow, IsSound, Quiet, Happens}
 use Rattle.jdwp_debuggee.proofs.Small.{and-left, and-right, is-not-true}
-use Rattle.jdwp_debuggee.proofs.ThreadLists.{count-changed, count-append, count-marked, count-without, below-limit, under-limit}
-use Rattle.jdwp_debuggee.proofs.Commands.{sound_counts}
+use Rattle.jdwp_debuggee.specs.SoundLaws.{raised-by-most, sound_counts}
+use Rattle.jdwp_debuggee.specs.ThreadLaws.{count-changed}
+use Rattle.jdwp_debuggee.proofs.ThreadLists.{count-append, count-marked, count-without, below-limit, under-limit}
 
 -- ---- what requests see
 
@@ -89,16 +90,6 @@ out-zero c false h = refl
 gone-zero : (c : Option ℕ) (b : Bool) → (b ≡ true → c ≡ Some 0) → cond b None c ≡ None → or_zero c ≡ 0
 gone-zero c true h k = rw (h refl) refl
 gone-zero c false h k = ap or_zero k
-
-pub raised-by-most : (policy t u n : ℕ) → raised_by policy t u n ≤ n + 1
-raised-by-most policy t u n =
-    elim (policy == POLICY_ALL) as (λ b. cond b (n + 1) (cond (policy == POLICY_EVENT_THREAD) (cond (t == u) (n + 1) n) n) ≤ n + 1) [
-      | true ↦ omega arith
-      | false ↦ elim (policy == POLICY_EVENT_THREAD) as (λ b. cond b (cond (t == u) (n + 1) n) n ≤ n + 1) [
-        | true ↦ elim (t == u) as (λ b. cond b (n + 1) n ≤ n + 1) [ true ↦ omega arith | false ↦ omega arith ]
-        | false ↦ omega arith
-      ]
-    ]
 
 -- ---- a thread ends
 

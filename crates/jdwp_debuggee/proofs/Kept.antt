@@ -10,12 +10,11 @@ use Rattle.jdwp_debuggee.specs.Entries.{AllAtMost}
 use Rattle.jdwp_debuggee.specs.Facts.{IsSound}
 use Rattle.jdwp_debuggee.specs.Settings.{Settings, IsCountLimit}
 use Rattle.jdwp_debuggee.specs.State.{State, at_limit, changed, count_in, count_of, ids, new_state, only, raised, lowered, cleared, reset, running, with_counts}
-use Rattle.jdwp_debuggee.proofs.Small.{mapped}
-use Rattle.jdwp_debuggee.proofs.ThreadLists.{count-changed, count-running, has-count, ids-running}
+use Rattle.jdwp_debuggee.specs.SoundLaws.{mapped, raised-by-most, sound_counts}
+use Rattle.jdwp_debuggee.specs.ThreadLaws.{count-changed, count-running, has-count, ids-running}
 use Rattle.jdwp_debuggee.proofs.Distinct.{all-at-most, at-most-more, ids-changed}
 use Rattle.jdwp_debuggee.specs.Steps.{raised_by}
-use Rattle.jdwp_debuggee.proofs.Happenings.{raised-by-most}
-use Rattle.jdwp_debuggee.proofs.Commands.{lowered-most, only-most, raised-most, sound_counts}
+use Rattle.jdwp_debuggee.proofs.Commands.{lowered-most, only-most, raised-most}
 
 pub most-of : {S : Type 0} (m : Meaning S) (d : Debuggee S) → IsKept m d → AllAtMost greatest_int d.moment.state.threads
 most-of m d k =

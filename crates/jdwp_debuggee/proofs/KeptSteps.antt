@@ -20,7 +20,7 @@ use Rattle.jdwp_debuggee.specs.StepParts.{Steps, is_full_by, is_ready, packet_af
 use Rattle.jdwp_debuggee.specs.declared.steps.StepDone.{StepDone}
 use Rattle.jdwp_debuggee.proofs.Kept.{most-of}
 use Rattle.jdwp_debuggee.proofs.Small.{and-left, and-right}
-use Rattle.jdwp_debuggee.proofs.ThreadLists.{has-count}
+use Rattle.jdwp_debuggee.specs.ThreadLaws.{has-count}
 use Rattle.jdwp_debuggee.proofs.Distinct.{distinct-filter, distinct-none, distinct-push, ids-changed, ids-marked}
 use Rattle.jdwp_debuggee.proofs.Happenings.{happens_step, ready}
 

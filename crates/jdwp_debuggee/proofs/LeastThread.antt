@@ -5,7 +5,7 @@ use Rattle.std.proofs.lemmas.Bool.{leb-true, leb-false, eq-eqb}
 use Rattle.jdwp_machine.specs.Meanings.{has}
 use Rattle.jdwp_debuggee.specs.Answers.{IsLeastThread, first_of, inserted, least_thread, rising}
 use Rattle.jdwp_debuggee.specs.State.{State, Thread, count_by, count_in, ids, thread_in}
-use Rattle.jdwp_debuggee.proofs.ThreadsListed.{has-rising}
+use Rattle.jdwp_debuggee.specs.ThreadLaws.{has-rising}
 
 -- ---- the first of a list by rising id
 

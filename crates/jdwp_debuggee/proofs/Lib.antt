@@ -8,7 +8,6 @@ pub mod Commands
 pub mod Greatest
 pub mod Happenings
 pub mod Reported
-pub mod AllFacts
 pub mod Kept
 pub mod KeptSteps
 pub mod KeptRequests
@@ -23,3 +22,4 @@ pub mod ReplyShapes
 pub mod OwnAnswers
 pub mod SetAnswers
 pub mod Encoded
+pub mod Wanting

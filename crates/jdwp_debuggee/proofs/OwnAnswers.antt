@@ -1,10 +1,9 @@
 -- What the debuggee answers of its own is encoded by the bytes that are sent for it.
-use Rattle.std.proofs.Common.{◌≡◌, ℕ, ◌<◌, ◌≤◌, ◌==◌, Bool, true, false, if◌then◌else◌, List, [], ◌∷◌, ◌++◌, Option, Some, None, pos, refl, sym, subst, arith}
+use Rattle.std.proofs.Common.{◌≡◌, ℕ, ◌≤◌, ◌==◌, Bool, true, false, if◌then◌else◌, [], ◌∷◌, ◌++◌, Option, Some, None, pos, refl, sym, subst, arith}
 use Rattle.std.specs.Prelude.{IfSome}
 use Rattle.std.proofs.lemmas.Int.{to_z_pos}
 use Rattle.std.specs.Int.{w32}
 use Rattle.jdwp_wire.specs.Basic.{EncodesInt, int_canonical}
-use Rattle.jdwp_wire.specs.ErrorCodes.{INVALID_THREAD, INTERNAL}
 use Rattle.jdwp_wire.specs.Numbers.{greatest_int}
 use Rattle.jdwp_wire.specs.declared.error_code.ErrorCode.{ErrorCode}
 use Rattle.jdwp_wire.specs.Widths.{Widths, AreWidths}
@@ -18,7 +17,7 @@ use Rattle.jdwp_layout.specs.Meanings.{Int, One}
 use Rattle.jdwp_layout.specs.Shapes.{OneOf}
 use Rattle.jdwp_machine.specs.Laws.{MayAnswer}
 use Rattle.jdwp_machine.specs.Meanings.{Meaning}
-use Rattle.jdwp_debuggee.specs.Answers.{done, int_answer, sizes_answer, status_answer}
+use Rattle.jdwp_debuggee.specs.Answers.{done, int_answer, sizes_answer}
 use Rattle.jdwp_debuggee.specs.Debuggees.{Debuggee, IsKept}
 use Rattle.jdwp_debuggee.specs.Effects.{suspend_by, suspend_thread_at, suspend_thread_by, resume_thread_by, answer_count, answer_status}
 use Rattle.jdwp_debuggee.specs.Sending.{EncodesAnswer, row_reply}

@@ -4,7 +4,7 @@ use Rattle.std.specs.Prelude.{⊤, int_lt}
 use Rattle.std.specs.List.{list_any, filter}
 use Rattle.std.proofs.lemmas.Bool.{false≢true, leb-true}
 use Rattle.jdwp_wire.specs.declared.error_code.ErrorCode.{ErrorCode}
-use Rattle.jdwp_wire.specs.ErrorCodes.{INVALID_THREAD, INVALID_CLASS, NOT_IMPLEMENTED, INVALID_EVENT_TYPE, ILLEGAL_ARGUMENT, INTERNAL, INVALID_COUNT}
+use Rattle.jdwp_wire.specs.ErrorCodes.{INVALID_THREAD, INVALID_CLASS, NOT_IMPLEMENTED, ILLEGAL_ARGUMENT, INTERNAL, INVALID_COUNT}
 use Rattle.jdwp_wire.specs.Widths.{Widths}
 use Rattle.jdwp_layout.specs.declared.answer.Answer.{Answer}
 use Rattle.jdwp_layout.specs.declared.answer.Answer.TheVariants.{Data, Error}

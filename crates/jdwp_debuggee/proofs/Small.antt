@@ -1,5 +1,5 @@
 -- small facts on tests, options and lists
-use Rattle.std.proofs.Common.{◌≡◌, ℕ, ◌+◌, ◌<◌, ◌≤◌, length, Bool, true, false, ◌&&◌, cond, not, Option, Some, None, List, [], ◌∷◌, ◌++◌, refl, ap, arith, is_some}
+use Rattle.std.proofs.Common.{◌≡◌, ℕ, ◌+◌, ◌<◌, ◌≤◌, length, Bool, true, false, ◌&&◌, cond, not, Option, Some, None, List, [], ◌∷◌, ◌++◌, refl, ap, arith}
 use Rattle.std.specs.List.{filter}
 use Rattle.std.proofs.lemmas.List.Filters.{length-filter_both}
 use Rattle.std.specs.Option.{option_map}
@@ -28,14 +28,6 @@ is-not-true false h = refl
 
 pub some-same : (t u : ℕ) → Some t ≡ Some u → t ≡ u
 some-same t u h = cc
-
-pub some-map : (f : ℕ → ℕ) (c : Option ℕ) → is_some (option_map f c) ≡ is_some c
-some-map f None = refl
-some-map f (Some n) = refl
-
-pub mapped : (f : ℕ → ℕ) (c : Option ℕ) (k : ℕ) → option_map f c ≡ Some k → (j : ℕ) × (c ≡ Some j) × (k ≡ f j)
-mapped f None k h = absurd (cc)
-mapped f (Some j) k h = (j, refl, cc)
 
 pub map-same : (c : Option ℕ) → c ≡ option_map (λ n. n) c
 map-same None = refl

@@ -1,18 +1,9 @@
 -- counts in lists of threads
-use Rattle.std.proofs.Common.{◌≡◌, ℕ, ◌==◌, ◌+◌, ◌≤◌, true, false, ◌||◌, cond, Option, Some, None, List, [], ◌∷◌, ◌++◌, map, refl, sym, ◌∙◌, ap, subst, arith, is_some}
+use Rattle.std.proofs.Common.{◌≡◌, ℕ, ◌==◌, ◌+◌, ◌≤◌, true, false, ◌||◌, cond, Option, Some, None, List, [], ◌∷◌, ◌++◌, map, refl, sym, ◌∙◌, subst, arith}
 use Rattle.std.specs.List.{list_any, filter}
-use Rattle.std.specs.Option.{option_map, option_or}
+use Rattle.std.specs.Option.{option_or}
 use Rattle.std.proofs.lemmas.Bool.{eqb-true, eq-eqb, eqb-false}
-use Rattle.jdwp_machine.specs.Meanings.{has}
-use Rattle.jdwp_debuggee.specs.State.{Thread, thread_in, count_by, count_in, with_count, changed, is_other, marked, ids, running}
-
-pub count-changed : (f : ℕ → ℕ → ℕ) (ts : List Thread) (t : ℕ) → count_in (changed f ts) t ≡ option_map (f t) (count_in ts t)
-count-changed f [] t = refl
-count-changed f (p ∷ ps) t =
-    elim (p.id == t) as (λ b. (p.id == t) ≡ b → count_by (cond b (Some (with_count f p)) (thread_in (changed f ps) t)) ≡ option_map (f t) (count_by (cond b (Some p) (thread_in ps t)))) [
-      | true ↦ λ e. ap (λ u. Some (f u p.suspend_count)) (eqb-true p.id t e)
-      | false ↦ λ _. count-changed f ps t
-    ] refl
+use Rattle.jdwp_debuggee.specs.State.{Thread, thread_in, count_by, count_in, is_other, marked}
 
 pub count-append : (ts us : List Thread) (t : ℕ) → count_in (ts ++ us) t ≡ option_or (count_in ts t) (count_in us t)
 count-append [] us t = refl
@@ -43,26 +34,6 @@ count-without u (p ∷ ps) t =
         | false ↦ λ _. count-without u ps t
       ] refl
     ] refl
-
-pub has-count : (ts : List Thread) (t : ℕ) → has (ids ts) t ≡ is_some (count_in ts t)
-has-count [] t = refl
-has-count (p ∷ ps) t =
-    elim (p.id == t) as (λ b. (b || has (ids ps) t) ≡ is_some (count_by (cond b (Some p) (thread_in ps t)))) [
-      | true ↦ refl
-      | false ↦ has-count ps t
-    ]
-
-pub ids-running : (ts : List ℕ) → ids (running ts) ≡ ts
-ids-running [] = refl
-ids-running (t ∷ ts) = ap (λ l. t ∷ l) (ids-running ts)
-
-pub count-running : (ts : List ℕ) (t n : ℕ) → count_in (running ts) t ≡ Some n → n ≡ 0
-count-running [] t n h = absurd (cc)
-count-running (u ∷ us) t n h =
-    elim (u == t) as (λ b. count_by (cond b (Some (record { id = u; suspend_count = 0; death_reported = false })) (thread_in (running us) t)) ≡ Some n → n ≡ 0) [
-      | true ↦ λ e. cc
-      | false ↦ λ e. count-running us t n e
-    ] h
 
 -- where nobody stands at the limit, no live thread does
 pub below-limit : (limit : ℕ) (ts : List Thread) (t n : ℕ) → list_any (λ (entry : Thread). entry.suspend_count == limit) ts ≡ false → count_in ts t ≡ Some n → (n == limit) ≡ false

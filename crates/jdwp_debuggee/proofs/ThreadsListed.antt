@@ -25,7 +25,7 @@ use Rattle.jdwp_debuggee.specs.State.{Moment, ids}
 use Rattle.jdwp_debuggee.specs.declared.reply.Reply.TheVariants as reply
 use Rattle.jdwp_debuggee.specs.declared.reply.Sent.TheVariants as sent
 use Rattle.jdwp_debuggee.specs.declared.threads.ThreadEntry.{ThreadEntry}
-use Rattle.jdwp_debuggee.proofs.ThreadLists.{has-count}
+use Rattle.jdwp_debuggee.specs.ThreadLaws.{has-count, has-rising}
 use Rattle.jdwp_debuggee.specs.Settings.{Settings}
 
 either : (b : Bool) → (b ≡ true) ⊎ (b ≡ false)
@@ -40,24 +40,7 @@ inserted-at n (x ∷ xs) = elim (either (nat_le n x)) [
   | inr h ↦ rw h (ap (λ zs. x ∷ zs) (inserted-at n xs))
 ]
 
--- ---- by rising id there are the same threads
-
-swap : (a b c : Bool) → (a || (b || c)) ≡ (b || (a || c))
-swap true true c = refl
-swap true false c = refl
-swap false b c = refl
-
-has-inserted : (n : ℕ) (xs : List ℕ) (t : ℕ) → has (inserted n xs) t ≡ ((n == t) || has xs t)
-has-inserted n [] t = refl
-has-inserted n (x ∷ xs) t =
-    elim (nat_le n x) as (λ b. has (cond b (n ∷ x ∷ xs) (x ∷ inserted n xs)) t ≡ ((n == t) || ((x == t) || has xs t))) [
-      | true ↦ refl
-      | false ↦ ap (λ b. (x == t) || b) (has-inserted n xs t) ∙ swap (x == t) (n == t) (has xs t)
-    ]
-
-pub has-rising : (xs : List ℕ) (t : ℕ) → has (rising xs) t ≡ has xs t
-has-rising [] t = refl
-has-rising (x ∷ xs) t = has-inserted x (rising xs) t ∙ ap (λ b. (x == t) || b) (has-rising xs t)
+-- ---- by rising id there are as many
 
 length-inserted : (n : ℕ) (xs : List ℕ) → length (inserted n xs) ≡ suc (length xs)
 length-inserted n [] = refl

@@ -1,6 +1,5 @@
 -- What commands do to the debuggee, and what they are answered (JDWP specification, "Protocol Details").
 use Rattle.std.specs.Prelude.{ℕ, ℤ, ◌+◌, ◌==◌, Bool, true, false, ◌&&◌, not, List, [], ◌∷◌, ◌++◌, Option, Some, None}
-use Rattle.std.specs.Prelude.{pos}
 use Rattle.jdwp_wire.specs.declared.error_code.ErrorCode.{ErrorCode}
 use Rattle.jdwp_wire.specs.ErrorCodes.{INVALID_THREAD, THREAD_NOT_SUSPENDED, NOT_IMPLEMENTED, INTERNAL}
 use Rattle.jdwp_value.specs.declared.value.Value.{Value}

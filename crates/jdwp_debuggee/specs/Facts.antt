@@ -1,5 +1,6 @@
 -- What holds of the debuggee's moments, whatever the machine: what commands and steps do to suspend counts and to requests.
--- These are facts, which follow from `effect` and `occurs`, and all that is said of a session rests on them.
+-- These are facts, which follow from `effect` and `occurs`: the law `moves_counts_and_requests` says that they hold for every machine, and
+-- all that is said of a session rests on them.
 use Rattle.std.specs.Prelude.{◌≡◌, ◌≤◌, ◌<◌, ℕ, pos, Bool, true, false, ◌||◌, ◌&&◌, not, List, [], ◌∷◌, ◌++◌, Option, Some, None, is_some, ⊤}
 use Rattle.std.specs.List.{filter}
 use Rattle.std.specs.Option.{option_map}

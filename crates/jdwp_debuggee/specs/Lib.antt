@@ -13,10 +13,15 @@ pub mod Effects
 pub mod Steps
 pub mod Breadth
 pub mod Facts
+pub mod ThreadLaws
+pub mod SoundLaws
+pub mod AboutLaws
 pub mod Reports
 pub mod Entries
 pub mod Running
 pub mod Debuggees
 pub mod Replies
 pub mod Sending
+pub mod CommandPackets
 pub mod StepParts
+pub mod Wants

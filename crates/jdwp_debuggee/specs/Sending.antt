@@ -1,5 +1,5 @@
 -- What is sent for an answer (JDWP specification, "Packets": a reply's error code and data).
-use Rattle.std.specs.Prelude.{◌≡◌, ◌≢◌, ℕ, ◌+◌, ◌≤◌, ⊤, suc, nat_le, if◌then◌else◌, ◌∷◌, Bool, true, false, List, [], length, Option, Some, None, Result, Ok, Err}
+use Rattle.std.specs.Prelude.{◌≡◌, ◌≢◌, ℕ, ◌+◌, ◌≤◌, suc, nat_le, if◌then◌else◌, ◌∷◌, Bool, true, false, List, [], length, Option, Some, None, Result, Ok, Err}
 use Rattle.jdwp_wire.specs.ErrorCodes.{NONE}
 use Rattle.jdwp_wire.specs.Widths.{Widths}
 use Rattle.jdwp_wire.specs.declared.error_code.ErrorCode.{ErrorCode}

@@ -1,5 +1,5 @@
 //! The commands that ask the machine or list the live threads, and StackFrame.SetValues (JDWP specification, "Protocol Details").
-ghost use Rattle.std.specs.Prelude.{◌≡◌, ℕ, ◌+◌, ◌≤◌, ◌∷◌, [], length, map, IfOk, OnErr};
+ghost use Rattle.std.specs.Prelude.{◌≡◌, ℕ, ◌+◌, ◌≤◌, ◌∷◌, [], length, map, true, IfOk, IfErr, IsTrue, OnErr};
 ghost use Rattle.jdwp_wire.specs.Limits.{least_packet_limit};
 ghost use Rattle.jdwp_debuggee.specs.Actions as action;
 ghost use Rattle.jdwp_debuggee.specs.Actions.{Command};
@@ -9,9 +9,11 @@ ghost use Rattle.jdwp_debuggee.specs.Effects.{does};
 ghost use Rattle.jdwp_debuggee.specs.ReadParts.{found_layout};
 ghost use Rattle.jdwp_debuggee.specs.Replies.{reply_meaning};
 ghost use Rattle.jdwp_debuggee.specs.Sending.{EncodesAnswer, IsSent, IsWritable, row_reply, sent_bytes};
+ghost use Rattle.jdwp_debuggee.specs.Wants.{is_live, is_suspended};
 ghost use Rattle.jdwp_layout.specs.CommandNumbers as commands;
 ghost use Rattle.jdwp_layout.specs.CommandTable.{row_at};
 ghost use Rattle.jdwp_layout.specs.Meanings.{Many, Object};
+ghost use Rattle.jdwp_machine.specs.Laws.{takes_memory};
 
 use crate::debuggee::Debuggee;
 use crate::reply::{Reply, Sent};
@@ -35,7 +37,7 @@ fn reply_layout(set: u8, number: u8) -> Option<Layout>
 /// An answer to a command of this set and number, ready to be sent; `INTERNAL` where it is longer than a packet.
 ///
 /// # Errors
-/// `NoMemory` where an allocation was refused.
+/// `NoMemory` where an allocation was refused, and only where the answer has data.
 fn sent(
     alloc: Global,
     settings: &Settings,
@@ -48,6 +50,7 @@ fn sent(
     ensures value { IfOk result (λ sent. IsSent sizes.now (bounded settings.now sizes.now answer) sent) }
     ensures encoded { IfOk result (λ sent. EncodesAnswer sizes.now set number (bounded settings.now sizes.now answer)) }
     ensures fits { IfOk result (λ sent. least_packet_limit ≤ settings.now.limits.packet → 11 + length (sent_bytes sizes.now sent) ≤ settings.now.limits.packet) }
+    ensures memory { IfErr result (λ _. IsTrue (takes_memory answer)) }
 {
     let content = match answer {
         Answer::Error(error) => return Ok(Sent::Short(Reply::Refused(error))),
@@ -80,11 +83,13 @@ impl<M: Machine> Debuggee<M> {
     /// A question for the machine that is about no thread.
     ///
     /// # Errors
-    /// `NoMemory` where an allocation was refused.
+    /// `NoMemory` where an allocation was refused; where the machine refuses the command, it takes no memory.
     pub fn ask(&self, alloc: Global, query: &Query) -> Result<Sent, NoMemory>
         ensures value { IfOk result (λ sent. IsSent (M.meaning.sizes self.now.moment.machine) (bounded self.now.settings (M.meaning.sizes self.now.moment.machine) (M.meaning.query self.now.moment.machine query.now)) sent) }
         ensures encoded { IfOk result (λ sent. EncodesAnswer (M.meaning.sizes self.now.moment.machine) query.now.set query.now.number (bounded self.now.settings (M.meaning.sizes self.now.moment.machine) (M.meaning.query self.now.moment.machine query.now))) }
         ensures fits { IfOk result (λ sent. least_packet_limit ≤ self.now.settings.limits.packet → 11 + length (sent_bytes (M.meaning.sizes self.now.moment.machine) sent) ≤ self.now.settings.limits.packet) }
+        // A refusal by the machine takes no memory.
+        ensures memory { IfErr result (λ _. IsTrue (takes_memory (M.meaning.query self.now.moment.machine query.now))) }
     {
         let answer = self.machine.query(query)?;
         let sizes = self.machine.sizes();
@@ -101,7 +106,8 @@ impl<M: Machine> Debuggee<M> {
     /// A question about a thread; `INVALID_THREAD` where it is not alive.
     ///
     /// # Errors
-    /// `NoMemory` where an allocation was refused.
+    /// `NoMemory` where an allocation was refused, and only where the thread is alive; where the machine refuses the command, it takes
+    /// no memory.
     pub fn ask_thread(
         &self,
         alloc: Global,
@@ -111,6 +117,9 @@ impl<M: Machine> Debuggee<M> {
         ensures value { IfOk result (λ sent. (c : Command) → query_of c ≡ query.now → IsSent (M.meaning.sizes self.now.moment.machine) (does M.meaning self.now.settings self.now.moment c (action.AskThread thread.0)).answer sent) }
         ensures encoded { IfOk result (λ sent. (c : Command) → query_of c ≡ query.now → EncodesAnswer (M.meaning.sizes self.now.moment.machine) c.set c.number (does M.meaning self.now.settings self.now.moment c (action.AskThread thread.0)).answer) }
         ensures fits { IfOk result (λ sent. least_packet_limit ≤ self.now.settings.limits.packet → 11 + length (sent_bytes (M.meaning.sizes self.now.moment.machine) sent) ≤ self.now.settings.limits.packet) }
+        // A refusal by the machine takes no memory.
+        ensures memory { IfErr result (λ _. IsTrue (takes_memory (M.meaning.query self.now.moment.machine query.now))) }
+        ensures lives { IfErr result (λ _. is_live self.now.moment.state thread.0 ≡ true) }
     {
         match self.threads.count(thread) {
             None => Ok(Sent::Short(Reply::Refused(ErrorCode::INVALID_THREAD))),
@@ -121,7 +130,8 @@ impl<M: Machine> Debuggee<M> {
     /// A question about the frames of a thread; `INVALID_THREAD` where it is not alive, `THREAD_NOT_SUSPENDED` where it runs.
     ///
     /// # Errors
-    /// `NoMemory` where an allocation was refused.
+    /// `NoMemory` where an allocation was refused, and only where the thread is suspended; where the machine refuses the command, it
+    /// takes no memory.
     pub fn ask_frames(
         &self,
         alloc: Global,
@@ -131,6 +141,9 @@ impl<M: Machine> Debuggee<M> {
         ensures value { IfOk result (λ sent. (c : Command) → query_of c ≡ query.now → IsSent (M.meaning.sizes self.now.moment.machine) (does M.meaning self.now.settings self.now.moment c (action.AskFrames thread.0)).answer sent) }
         ensures encoded { IfOk result (λ sent. (c : Command) → query_of c ≡ query.now → EncodesAnswer (M.meaning.sizes self.now.moment.machine) c.set c.number (does M.meaning self.now.settings self.now.moment c (action.AskFrames thread.0)).answer) }
         ensures fits { IfOk result (λ sent. least_packet_limit ≤ self.now.settings.limits.packet → 11 + length (sent_bytes (M.meaning.sizes self.now.moment.machine) sent) ≤ self.now.settings.limits.packet) }
+        // A refusal by the machine takes no memory.
+        ensures memory { IfErr result (λ _. IsTrue (takes_memory (M.meaning.query self.now.moment.machine query.now))) }
+        ensures suspended { IfErr result (λ _. is_suspended self.now.moment.state thread.0 ≡ true) }
     {
         match self.threads.count(thread) {
             None => Ok(Sent::Short(Reply::Refused(ErrorCode::INVALID_THREAD))),
@@ -143,7 +156,8 @@ impl<M: Machine> Debuggee<M> {
     /// `THREAD_NOT_SUSPENDED` where it runs, else the machine's refusal.
     ///
     /// # Errors
-    /// `NoMemory` where an allocation was refused; then nothing has changed.
+    /// `NoMemory` where an allocation was refused, and only where the thread is suspended; where the machine refuses the command, it
+    /// takes no memory. Then nothing has changed.
     pub fn set_slots(
         &mut self,
         thread: ObjectId,
@@ -152,6 +166,9 @@ impl<M: Machine> Debuggee<M> {
     ) -> Result<Reply, NoMemory>
         ensures ok { IfOk result (λ reply. CarriesOut M.meaning (action.SetSlots thread.0 frame.0 values.now) self.old self.new (reply_meaning reply)) }
         ensures err { OnErr result (self.new ≡ self.old) }
+        // A refusal by the machine takes no memory.
+        ensures memory { IfErr result (λ _. IsTrue (takes_memory (M.meaning.write_answer self.old.moment.machine thread.0 frame.0 values.now))) }
+        ensures suspended { IfErr result (λ _. is_suspended self.old.moment.state thread.0 ≡ true) }
     {
         match self.threads.count(thread) {
             None => Ok(Reply::Refused(ErrorCode::INVALID_THREAD)),
@@ -166,11 +183,12 @@ impl<M: Machine> Debuggee<M> {
     /// VirtualMachine.AllThreads: the live threads by rising id; `INTERNAL` where they are longer than a packet.
     ///
     /// # Errors
-    /// `NoMemory` where an allocation was refused.
+    /// `NoMemory` where an allocation was refused, and only where there are no more threads than a packet has bytes.
     pub fn ask_all_threads(&self, alloc: Global) -> Result<Sent, NoMemory>
         ensures value { IfOk result (λ sent. IsSent (M.meaning.sizes self.now.moment.machine) (bounded self.now.settings (M.meaning.sizes self.now.moment.machine) (all_threads self.now.moment.state)) sent) }
         ensures encoded { IfOk result (λ sent. EncodesAnswer (M.meaning.sizes self.now.moment.machine) commands.ALL_THREADS.set commands.ALL_THREADS.number (bounded self.now.settings (M.meaning.sizes self.now.moment.machine) (all_threads self.now.moment.state))) }
         ensures fits { IfOk result (λ sent. least_packet_limit ≤ self.now.settings.limits.packet → 11 + length (sent_bytes (M.meaning.sizes self.now.moment.machine) sent) ≤ self.now.settings.limits.packet) }
+        ensures memory { IfErr result (λ _. length self.now.moment.state.threads ≤ self.now.settings.limits.packet) }
     {
         if self.threads.len() > self.settings.limits().packet() as usize {
             return Ok(Sent::Short(Reply::Refused(ErrorCode::INTERNAL)));

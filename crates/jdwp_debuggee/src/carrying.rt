@@ -7,6 +7,7 @@ ghost use Rattle.jdwp_debuggee.specs.Effects.{carried};
 ghost use Rattle.jdwp_debuggee.specs.Facts.{is_dispose, is_exit};
 ghost use Rattle.jdwp_debuggee.specs.Replies.{reply_meaning};
 ghost use Rattle.jdwp_debuggee.specs.Sending.{Did, EncodesAnswer, is_question, is_short_action, sent_short};
+ghost use Rattle.jdwp_debuggee.specs.Wants.{MayWantFor};
 
 use crate::command::Action;
 use crate::debuggee::Debuggee;
@@ -52,12 +53,15 @@ impl<M: Machine> Debuggee<M> {
     /// Carries out an action, and answers what is to be sent for it.
     ///
     /// # Errors
-    /// `NoMemory` where an allocation was refused, which those that want no memory never answer; then nothing has changed.
+    /// `NoMemory` where an allocation was refused; then nothing has changed. Those that want no memory never answer it, and nor does an
+    /// action that is refused because a thread is not alive or runs, or by the machine, or a request whose kind or policy is refused or
+    /// for which there is no room.
     pub fn carry_out(&mut self, alloc: Global, action: Action) -> Result<Sent, NoMemory>
         ensures ok { IfOk result (λ sent. (c : Command) → asking action ≡ asking_of c → Did M.meaning c self.old self.new sent) }
         ensures encoded { IfOk result (λ sent. (c : Command) → asking action ≡ asking_of c → is_question (action_of c) ≡ true → EncodesAnswer (M.meaning.sizes self.old.moment.machine) c.set c.number (carried M.meaning self.old.settings self.old.moment c (action_of c)).answer) }
         ensures err { OnErr result (self.new ≡ self.old) }
         ensures memory { IfErr result (λ _. is_short_action (action_meaning action) ≡ false) }
+        ensures wants { IfErr result (λ _. MayWantFor M.meaning self.old.settings self.old.moment (asking action)) }
     {
         match action {
             Action::Suspend => Ok(Sent::Short(self.suspend())),

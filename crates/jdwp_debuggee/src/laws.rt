@@ -7,7 +7,7 @@ ghost use Rattle.jdwp_debuggee.specs.Actions.{Command, action_of, IdSizes, SetRe
 ghost use Rattle.jdwp_debuggee.specs.Effects.{effect};
 ghost use Rattle.jdwp_debuggee.specs.Breadth.{is_plain, keeps_machine};
 ghost use Rattle.jdwp_debuggee.specs.Answers.{IsLeastThread, least_thread, sizes_answer};
-ghost use Rattle.jdwp_debuggee.specs.Facts.{is_data};
+ghost use Rattle.jdwp_debuggee.specs.Facts.{Facts, is_data};
 ghost use Rattle.jdwp_debuggee.specs.Reports.{HavePolicies, IsReport};
 ghost use Rattle.jdwp_debuggee.specs.Sending.{FitsPacket};
 ghost use Rattle.jdwp_debuggee.specs.Steps.{may_step, occurs};
@@ -19,6 +19,12 @@ ghost use Rattle.jdwp_wire.specs.Limits.{least_packet_limit};
 ghost use Rattle.jdwp_debuggee.specs.Running.{Runs};
 
 use jdwp_machine::Machine;
+
+/// What commands and steps do to suspend counts and to event requests, and what they answer and tell of them, from any sound moment:
+/// they leave it sound. All that is said of a session rests on this and on the laws below, and on no more of what commands and steps do.
+pub fn moves_counts_and_requests<M: Machine>()
+    ensures { (settings : Settings) → Facts M.meaning settings }
+{}
 
 /// Commands that no line of the definitions names as changing something leave the state.
 pub fn leaves_state_at_plain_commands<M: Machine>()

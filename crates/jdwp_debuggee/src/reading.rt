@@ -1,8 +1,9 @@
 //! Reading commands: those that carry little without memory, and all others by the table of commands
 //! (JDWP specification, "Protocol Details").
-ghost use Rattle.std.specs.Prelude.{◌≡◌, ℕ, Result, ◌∷◌, [], true, false, List, IfOk, IfErr, IfSome, MatchOption, Some, None};
+ghost use Rattle.std.specs.Prelude.{◌≡◌, ℕ, Result, ◌∷◌, [], true, false, List, IfOk, IfErr, IfSome, IsOk, MatchOption, Some, None};
 ghost use Rattle.jdwp_wire.specs.Widths.{Widths};
 ghost use Rattle.jdwp_wire.specs.declared.data_fault.DataFault.{DataFault};
+ghost use Rattle.jdwp_wire.specs.declared.data_fault.DataFault.TheVariants.{NoMemory as WantOfMemory};
 ghost use Rattle.jdwp_wire.specs.Reading.{Fails};
 ghost use Rattle.jdwp_layout.specs.Meanings.{DatumMeaning};
 ghost use Rattle.jdwp_debuggee.specs.CommandReads.{action_meaning, asked_meaning, asking, asks, command_read, content_read, is_short};
@@ -110,8 +111,12 @@ fn read_short(alloc: Global, set: u8, number: u8, sizes: &IdSizes, bytes: &[u8])
 }
 
 /// What a command comes to whose data do not read for this fault.
+///
+/// # Errors
+/// `NoMemory` where that is the fault.
 fn refused(fault: DataFault) -> Result<Asked, NoMemory>
-    ensures { (set number : ℕ) (found : Result (List DatumMeaning) DataFault) → Fails fault found → IfOk result (λ asked. asked_meaning asked ≡ asks (content_read set number found)) }
+    ensures memory { IfErr result (λ _. fault ≡ WantOfMemory) }
+    ensures value { (set number : ℕ) (found : Result (List DatumMeaning) DataFault) → Fails fault found → IfOk result (λ asked. asked_meaning asked ≡ asks (content_read set number found)) }
 {
     match fault {
         DataFault::NoMemory => Err(NoMemory),
@@ -145,7 +150,8 @@ fn request_of(set: u8, number: u8) -> Option<Layout>
 /// these ask for is carried out without memory, too.
 ///
 /// # Errors
-/// `NoMemory` where an allocation was refused.
+/// `NoMemory` where an allocation was refused, and only where the command is none of these and its data read: one that is refused
+/// takes no memory.
 pub fn read_command(
     alloc: Global,
     set: u8,
@@ -156,6 +162,7 @@ pub fn read_command(
     ensures value { IfOk result (λ asked. asked_meaning asked ≡ asks (command_read sizes.now set number bytes.now)) }
     ensures short { IfOk result (λ asked. is_short set number ≡ true → is_short_asked (asked_meaning asked) ≡ true) }
     ensures memory { IfErr result (λ _. is_short set number ≡ false) }
+    ensures reads { IfErr result (λ _. IsOk (command_read sizes.now set number bytes.now)) }
 {
     if let Some(asked) = read_short(alloc, set, number, sizes, bytes) {
         return Ok(asked);

@@ -10,6 +10,7 @@ ghost use Rattle.jdwp_debuggee.specs.State.{count_in};
 ghost use Rattle.jdwp_debuggee.specs.Effects as effects;
 ghost use Rattle.jdwp_debuggee.specs.Refusals as spec;
 ghost use Rattle.jdwp_debuggee.specs.RefusalParts.{moment_of, asks_machine, found_thread};
+ghost use Rattle.jdwp_debuggee.specs.Wants.{early_refusal, late_refusal};
 
 use crate::debuggee::Debuggee;
 use crate::origins::origin_of;
@@ -271,29 +272,32 @@ fn shape_refusal(byte: u8, modifiers: &[Modifier]) -> Option<ErrorCode>
 }
 
 impl<M: Machine> Debuggee<M> {
-    /// Why an event request is refused; None where it is not. The tests are made in this order, and the first that fails is the
-    /// answer: the kind (`INVALID_EVENT_TYPE`, `NOT_IMPLEMENTED`), the policy (`ILLEGAL_ARGUMENT`), room (`INTERNAL`), each modifier
-    /// in the order sent, and what a request of the kind must have (`ILLEGAL_ARGUMENT`).
-    ///
-    /// # Errors
-    /// `NoMemory` where an allocation was refused, and only where the machine is asked about a modifier.
-    pub(crate) fn set_refusal(
-        &self,
-        alloc: Global,
-        kind: u8,
-        policy: u8,
-        modifiers: &[Modifier],
-    ) -> Result<Option<ErrorCode>, NoMemory>
-        ensures value { IfOk result (λ refusal. refusal ≡ spec.set_refusal M.meaning self.now.settings self.now.moment kind policy (map modifier_meaning modifiers.now)) }
-        ensures memory { IfErr result (λ _. list_any asks_machine (map modifier_meaning modifiers.now) ≡ true) }
+    /// Why an event request is refused before its modifiers are looked at; None where it is not. The tests are made in this order, and
+    /// the first that fails is the answer: the kind (`INVALID_EVENT_TYPE`, `NOT_IMPLEMENTED`), the policy (`ILLEGAL_ARGUMENT`), and room
+    /// (`INTERNAL`).
+    pub(crate) fn early_refusal(&self, kind: u8, policy: u8) -> Option<ErrorCode>
+        ensures { result ≡ early_refusal self.now.settings self.now.moment.state kind policy }
     {
         let has_room = self.requests.len() < self.settings.limits().requests() as usize
             && self.next_request <= LAST_REQUEST;
         let room = unless(has_room, ErrorCode::INTERNAL);
-        let first = or_else(kind_refusal(kind), or_else(policy_refusal(policy), room));
-        if first.is_some() {
-            return Ok(first);
-        }
+        or_else(kind_refusal(kind), or_else(policy_refusal(policy), room))
+    }
+
+    /// Why an event request of this kind is refused that is not refused before its modifiers are looked at; None where it is not. Each
+    /// modifier is tested in the order sent, and then what a request of the kind must have (`ILLEGAL_ARGUMENT`).
+    ///
+    /// # Errors
+    /// `NoMemory` where an allocation was refused, and only where the machine is asked about a modifier.
+    pub(crate) fn late_refusal(
+        &self,
+        alloc: Global,
+        kind: u8,
+        modifiers: &[Modifier],
+    ) -> Result<Option<ErrorCode>, NoMemory>
+        ensures value { IfOk result (λ refusal. refusal ≡ late_refusal M.meaning self.now.moment kind (map modifier_meaning modifiers.now)) }
+        ensures memory { IfErr result (λ _. list_any asks_machine (map modifier_meaning modifiers.now) ≡ true) }
+    {
         let last = shape_refusal(kind, modifiers);
         modifiers_refusal(alloc, &self.machine, &self.threads, kind, modifiers, last)
     }

@@ -3,7 +3,6 @@ use Rattle.std.proofs.Common.{◌≡◌, ℕ, ◌+◌, ◌<◌, ◌≤◌, ◌^�
 use Rattle.std.proofs.lemmas.Bool.{le-ltb, leb-false, or_parts}
 use Rattle.jdwp_wire.specs.Reading.{in_usize}
 use Rattle.jdwp_wire.specs.Widths.{Widths}
-use Rattle.jdwp_layout.proofs.Sizes.{some_is}
 use Rattle.jdwp_end.specs.declared.phase.Phase.{Phase}
 use Rattle.jdwp_end.specs.declared.phase.Phase.TheVariants as phase
 use Rattle.jdwp_end.specs.Ends.{is_open, is_open_phase, is_paused}
@@ -11,7 +10,17 @@ use Rattle.jdwp_debuggee.specs.Actions.{Command}
 use Rattle.jdwp_debugger.specs.declared.asking.Body.{Body}
 use Rattle.jdwp_debugger.specs.declared.asking.Refused.TheVariants.{Closed}
 use Rattle.jdwp_debugger.specs.Debuggers.{Begins, Debugger}
-use Rattle.jdwp_debugger.specs.Asking.{EncodesBody, EncodesCommand, IsAdmitted, LAST_TICKET, body_bytes, carried_bytes, is_busy, is_for_target, packet_length, refusal_by, refusal_of_ask}
+use Rattle.jdwp_debuggee.specs.CommandPackets.{carried_bytes, is_for_target, packet_length}
+use Rattle.jdwp_mirror.specs.Messages.{LAST_TICKET}
+use Rattle.jdwp_debugger.specs.Asking.{EncodesBody, EncodesCommand, IsAdmitted, body_bytes, is_busy, refusal_by, refusal_of_ask}
+
+-- a size that is counted is itself
+counted-by : (n m : ℕ) (b : Bool) → (if b then Some n else None) ≡ Some m → m ≡ n
+counted-by n m true counted = cc
+counted-by n m false counted = absurd cc
+
+counted-is : (n m : ℕ) → in_usize n ≡ Some m → m ≡ n
+counted-is n m counted = counted-by n m (nat_lt n (2 ^ 64)) counted
 
 unrefused : (d : Debugger) (c : Command) (w : Widths) → is_open d.end ≡ true → d.sizes ≡ Some w → is_busy d ≡ false → is_for_target w c ≡ true
     → nat_lt d.end.limits.packet (packet_length w c) ≡ false → refusal_of_ask d c ≡ None
@@ -21,7 +30,7 @@ pub admitted : (d : Debugger) (c : Command) (w : Widths) (b : Body) (n : ℕ) �
     → body_bytes w b ≡ carried_bytes w c.carried → (EncodesBody w b → EncodesCommand w c) → in_usize (length (body_bytes w b)) ≡ Some n → n + 11 ≤ d.end.limits.packet → d.end.limits.packet < 2 ^ 32
     → IsAdmitted d c w b (n + 11)
 admitted d c w b n opens known busy good bytes encodes counted most small =
-    let is : n ≡ length (body_bytes w b) = (some_is (length (body_bytes w b)) n counted).0 in
+    let is : n ≡ length (body_bytes w b) = counted-is (length (body_bytes w b)) n counted in
     let same : length (body_bytes w b) ≡ length (carried_bytes w c.carried) = ap length bytes in
     let waits = or_parts (nat_le d.end.limits.pending (length d.pending)) (is_paused d.end || nat_le LAST_TICKET d.tickets) busy in
     let rest = or_parts (is_paused d.end) (nat_le LAST_TICKET d.tickets) waits.1 in

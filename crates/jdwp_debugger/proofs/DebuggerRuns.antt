@@ -16,8 +16,8 @@ use Rattle.jdwp_end.specs.declared.phase.Phase.{Phase}
 use Rattle.jdwp_end.specs.declared.phase.Phase.TheVariants as phase
 use Rattle.jdwp_end.specs.Ends.{End, front_of, is_open, is_open_phase, new_end, closed, lost, opened, with_enqueued, with_fed, with_handled, with_taken}
 use Rattle.jdwp_end.specs.Runs.{Carries}
-use Rattle.jdwp_end.proofs.Carrying.{carries-new, carries-opened, carries-fed, carries-handled, carries-enqueued, carries-closed, carries-taken, carries-lost, stream-append, stream-one}
-use Rattle.jdwp_end.proofs.Fronts.{IsDue, due-open, in-front}
+use Rattle.jdwp_end.specs.CarryingLaws.{carries-new, carries-opened, carries-fed, carries-handled, carries-enqueued, carries-closed, carries-taken, carries-lost, stream-append, stream-one}
+use Rattle.jdwp_end.specs.FrontLaws.{IsDue, due-open, in-front}
 use Rattle.jdwp_debuggee.specs.Actions.{Command}
 use Rattle.jdwp_debugger.specs.Asking.{EncodesCommand, HasAsked, asked, command_bytes, is_outstanding}
 use Rattle.jdwp_debugger.specs.declared.faults.DebuggerFault.{DebuggerFault}

@@ -32,6 +32,7 @@ use Rattle.jdwp_mirror.specs.Messages.{Message, Handshake, Reply, Report, Ticket
 use Rattle.jdwp_mirror.specs.Mirrors.{Mirror, empty_mirror}
 use Rattle.jdwp_mirror.specs.Widths.{widths_if, widths_in, widths_said}
 use Rattle.jdwp_debugger.proofs.AnsweredReads.{reads-as-answered}
+use Rattle.jdwp_debugger.proofs.EncodedReads.{ReadsEncoded}
 use Rattle.jdwp_debugger.proofs.ReportedReads.{reads-as-reported}
 use Rattle.jdwp_debugger.proofs.Saying.{alone-at}
 use Rattle.jdwp_debugger.proofs.SizesReads.{reads-sizes}
@@ -87,12 +88,12 @@ waits-for (p ∷ ps) zero asked h =
 waits-for (p ∷ ps) (suc place) asked h = or_right (same_ticket (ticket_meaning p.ticket) (ticket_meaning asked.ticket)) (is_waited_for (ticket_meaning asked.ticket) (waiting_meaning ps)) (waits-for ps place asked h)
 
 -- the data are read as the answer
-read-answer : (sizes : Option Widths) (c : Command) (w : Widths) (answer : Answer) → AreMaybe sizes w → (sizes ≡ None → c ≡ id_sizes) → EncodesAnswer w c.set c.number answer
+read-answer : ReadsEncoded → (sizes : Option Widths) (c : Command) (w : Widths) (answer : Answer) → AreMaybe sizes w → (sizes ≡ None → c ≡ id_sizes) → EncodesAnswer w c.set c.number answer
     → answer_in (widths_by sizes) c (error_of answer) (answer_bytes w answer) ≡ Some answer
-read-answer (Some v) c w answer known own h = rw known (reads-as-answered w c answer h)
-read-answer None c w answer known own h =
+read-answer again (Some v) c w answer known own h = rw known (reads-as-answered again w c answer h)
+read-answer again None c w answer known own h =
     let is = own refl in
-    subst (λ (d : Command). EncodesAnswer w d.set d.number answer → answer_in (widths_by None) d (error_of answer) (answer_bytes w answer) ≡ Some answer) (sym is) (reads-sizes (widths_by None) w answer) h
+    subst (λ (d : Command). EncodesAnswer w d.set d.number answer → answer_in (widths_by None) d (error_of answer) (answer_bytes w answer) ≡ Some answer) (sym is) (reads-sizes again (widths_by None) w answer) h
 
 -- the widths that good data tell
 five-said : (content : List DatumMeaning) → are_widths content ≡ true → (w : Widths) × (widths_said content ≡ Some w)
@@ -159,14 +160,14 @@ none-behind d waiting (Some w) place asked k is s at ticketed = nothing waiting 
 
 -- ---- all packets
 
-reply-judged : (d : Debugger) (waiting : List CompositeMeaning) (id : ℕ) (ticket : Ticket) (c : Command) (answer : Answer) (body : List ℕ) → Stands d waiting → Answers d waiting id ticket c answer body
+reply-judged : ReadsEncoded → (d : Debugger) (waiting : List CompositeMeaning) (id : ℕ) (ticket : Ticket) (c : Command) (answer : Answer) (body : List ℕ) → Stands d waiting → Answers d waiting id ticket c answer body
     → number (refusal_by d.mirror (says (reading_of d) id (kind.Reply (error_of answer)) body)) ≡ named (fault_of (reader_of d waiting) (Reply ticket c answer))
-reply-judged d waiting id ticket c answer body s a =
+reply-judged again d waiting id ticket c answer body s a =
     let asked = a.asked in
     let own : asked.ticket ≡ None → asked.command ≡ id_sizes = own-at d.pending a.place asked s.own a.at in
     let unknown : d.sizes ≡ None → asked.command ≡ id_sizes = λ none. own (alone-at d.pending a.place asked (s.alone none) a.at) in
     let encoded : EncodesAnswer a.widths asked.command.set asked.command.number answer = subst (λ (x : Command). EncodesAnswer a.widths x.set x.number answer) (sym a.command_is) a.encoded in
-    let read : answer_in (widths_by d.sizes) asked.command (error_of answer) body ≡ Some answer = ap (answer_in (widths_by d.sizes) asked.command (error_of answer)) a.data_are ∙ read-answer d.sizes asked.command a.widths answer a.known unknown encoded in
+    let read : answer_in (widths_by d.sizes) asked.command (error_of answer) body ≡ Some answer = ap (answer_in (widths_by d.sizes) asked.command (error_of answer)) a.data_are ∙ read-answer again d.sizes asked.command a.widths answer a.known unknown encoded in
     let waited : is_waited_for (ticket_meaning asked.ticket) (waiting_meaning d.pending) ≡ true = waits-for d.pending a.place asked a.at in
     let judged =
     answered d.mirror a.place asked.ticket asked.command answer d.parked waiting (is_bad_reply asked.command answer) refl own (λ k ticketed. none-behind d waiting d.sizes a.place asked k refl s a.at ticketed) (fresh-by d waiting d.sizes refl s) a.told in
@@ -183,10 +184,10 @@ reply-judged d waiting id ticket c answer body s a =
     ∙ judged
     ∙ sym right
 
-pub judges : (d : Debugger) (waiting : List CompositeMeaning) (header : Header) (body : List ℕ) (message : Message) → Stands d waiting → EncodesMessage d waiting header body message → IsJudgedAs d waiting header body message
-judges d waiting header body Handshake s e = absurd e
-judges d waiting header body (Report c) s e =
+pub judges : ReadsEncoded → (d : Debugger) (waiting : List CompositeMeaning) (header : Header) (body : List ℕ) (message : Message) → Stands d waiting → EncodesMessage d waiting header body message → IsJudgedAs d waiting header body message
+judges again d waiting header body Handshake s e = absurd e
+judges again d waiting header body (Report c) s e =
     ap (λ (k : PacketKind). number (refusal_by d.mirror (says (reading_of d) header.id k body))) e.0 ∙ report-judged d.mirror d.sizes d.parked waiting body c s.as_many s.few e.1
-judges d waiting header body (Reply ticket c answer) s e =
+judges again d waiting header body (Reply ticket c answer) s e =
     ap (λ (k : PacketKind). number (refusal_by d.mirror (says (reading_of d) header.id k body))) e.0
-    ∙ elim e.1 [ inl a ↦ reply-judged d waiting header.id ticket c answer body s a | inr none ↦ rw (none.0, none.1) refl ]
+    ∙ elim e.1 [ inl a ↦ reply-judged again d waiting header.id ticket c answer body s a | inr none ↦ rw (none.0, none.1) refl ]

@@ -7,6 +7,7 @@ pub mod Saying
 pub mod TurningLemmas
 pub mod DebuggerRuns
 pub mod SaidPackets
+pub mod EncodedReads
 pub mod AskedReads
 pub mod AnsweredReads
 pub mod ReportedReads

@@ -21,6 +21,7 @@ use Rattle.jdwp_mirror.specs.Messages.{id_sizes}
 use Rattle.jdwp_mirror.specs.Widths.{widths_in, widths_said}
 use Rattle.jdwp_debugger.specs.News.{EIGHT, answer_in}
 use Rattle.jdwp_debugger.proofs.AnsweredReads.{reads-as-answered}
+use Rattle.jdwp_debugger.proofs.EncodedReads.{ReadsEncoded}
 
 -- ---- ints are the same in ids of any width
 
@@ -55,12 +56,12 @@ ints-same v w (suc n) (x ∷ xs) code (front, back, first, rest, e) =
     let r = ints-same v w n xs back rest in
     ((front, back, i.0, r.0, e), ap (λ (y : List ℕ). y ++ data_canonical w xs) i.1 ∙ ap (λ (y : List ℕ). datum_canonical v x ++ y) r.1)
 
-pub reads-sizes : (v w : Widths) (answer : Answer) → EncodesAnswer w id_sizes.set id_sizes.number answer → answer_in v id_sizes (error_of answer) (answer_bytes w answer) ≡ Some answer
-reads-sizes v w (Data content) h =
+pub reads-sizes : ReadsEncoded → (v w : Widths) (answer : Answer) → EncodesAnswer w id_sizes.set id_sizes.number answer → answer_in v id_sizes (error_of answer) (answer_bytes w answer) ≡ Some answer
+reads-sizes again v w (Data content) h =
     let s = ints-same v w 5 content (data_canonical w content) h in
     let encoded : EncodesAnswer v id_sizes.set id_sizes.number (Data content) = subst (λ (code : List ℕ). EncodesData v (ints 5) content code) s.1 s.0 in
-    subst (λ (code : List ℕ). answer_in v id_sizes NONE code ≡ Some (Data content)) (sym s.1) (reads-as-answered v id_sizes (Data content) encoded)
-reads-sizes v w (Error e) h = reads-as-answered v id_sizes (Error e) h
+    subst (λ (code : List ℕ). answer_in v id_sizes NONE code ≡ Some (Data content)) (sym s.1) (reads-as-answered again v id_sizes (Data content) encoded)
+reads-sizes again v w (Error e) h = reads-as-answered again v id_sizes (Error e) h
 
 -- ---- the widths that it tells
 
@@ -98,8 +99,8 @@ sized w h =
       refl,
     )
 
-pub reads-widths : (w : Widths) → AreWidths w.field w.method w.object w.reference w.frame → answer_in EIGHT id_sizes NONE (answer_bytes w (sizes_answer w)) ≡ Some (sizes_answer w)
-reads-widths w h = reads-sizes EIGHT w (sizes_answer w) (sized w h)
+pub reads-widths : ReadsEncoded → (w : Widths) → AreWidths w.field w.method w.object w.reference w.frame → answer_in EIGHT id_sizes NONE (answer_bytes w (sizes_answer w)) ≡ Some (sizes_answer w)
+reads-widths again w h = reads-sizes again EIGHT w (sizes_answer w) (sized w h)
 
 width-told : (n : ℕ) → IsWidth n → is_width (One (Int (pos n))) ≡ true
 width-told n h = rw (le-leb 1 n h.0, le-leb n 8 h.1) refl

@@ -26,7 +26,8 @@ use Rattle.jdwp_mirror.specs.Faults.{PARKED_MOST, count_of_thread, has_bad_event
 use Rattle.jdwp_mirror.specs.FaultParts.{IsData, is_dispose_act}
 use Rattle.jdwp_mirror.specs.KnownThreads.{count_in}
 use Rattle.jdwp_mirror.specs.Messages.{Message, Report}
-use Rattle.jdwp_mirror.specs.Mirror.{is_dispose, is_positive, learned}
+use Rattle.jdwp_debuggee.specs.Facts.{is_dispose}
+use Rattle.jdwp_mirror.specs.Mirror.{is_positive, learned}
 use Rattle.jdwp_mirror.specs.Mirrors.{Mirror, Learned}
 use Rattle.jdwp_debugger.specs.News.{News, Waits, Happens, Answers, Measures, Fails, says}
 use Rattle.jdwp_debugger.proofs.Saying.{Backs, as-many, backs}

@@ -1,6 +1,6 @@
 -- What asking a command does, and why a debugger refuses to (JDWP specification, "Packets": ids are unique among the outstanding commands
 -- of one source).
-use Rattle.std.specs.Prelude.{◌≡◌, ℕ, ◌+◌, ◌-◌, ◌^◌, ◌%◌, ◌<◌, ◌≤◌, ◌==◌, nat_le, nat_lt, Bool, true, false, ◌||◌, ◌&&◌, not, List, [], ◌∷◌, ◌++◌, length, Option, Some, None, Result, Ok, Err, is_none, if◌then◌else◌}
+use Rattle.std.specs.Prelude.{◌≡◌, ℕ, ◌+◌, ◌^◌, ◌%◌, ◌<◌, ◌≤◌, ◌==◌, nat_le, nat_lt, Bool, true, false, ◌||◌, not, List, [], ◌∷◌, ◌++◌, length, Option, Some, None, Result, Ok, Err, if◌then◌else◌}
 use Rattle.std.specs.List.{list_any}
 use Rattle.jdwp_wire.specs.ErrorCodes.{NOT_IMPLEMENTED}
 use Rattle.jdwp_wire.specs.Widths.{Widths}
@@ -8,45 +8,25 @@ use Rattle.jdwp_wire.specs.Frames.{IsPacket, packet_bytes}
 use Rattle.jdwp_wire.specs.declared.error_code.ErrorCode.{ErrorCode}
 use Rattle.jdwp_wire.specs.declared.packet.Header.{Header}
 use Rattle.jdwp_wire.specs.declared.packet.PacketKind.TheVariants as packet
-use Rattle.jdwp_layout.specs.CommandNumbers.{EVENT}
 use Rattle.jdwp_layout.specs.CommandTable.{row_at}
 use Rattle.jdwp_layout.specs.Grammar.{EncodesData}
 use Rattle.jdwp_layout.specs.Meanings.{meanings}
 use Rattle.jdwp_layout.specs.Rows.{Row, RowShapes}
 use Rattle.jdwp_layout.specs.Shapes.{shape}
-use Rattle.jdwp_layout.specs.Writes.{data_canonical, data_refusal}
+use Rattle.jdwp_layout.specs.Writes.{data_canonical}
 use Rattle.jdwp_end.specs.declared.phase.Phase.TheVariants.{Established}
 use Rattle.jdwp_end.specs.Ends.{is_open, is_paused, with_enqueued}
 use Rattle.jdwp_debuggee.specs.Actions.{Carried, Content, Raw, Command, is_implemented}
+use Rattle.jdwp_debuggee.specs.CommandPackets.{carried_bytes, is_for_target, packet_length}
 use Rattle.jdwp_debuggee.specs.CommandReads.{command_read}
 use Rattle.jdwp_debugger.specs.declared.asking.Refused.{Refused}
 use Rattle.jdwp_debugger.specs.declared.asking.Refused.TheVariants.{Closed, NotReady, Busy, BadCommand, TooLong, NoMemory}
 use Rattle.jdwp_debugger.specs.declared.asking.Body.{Body}
 use Rattle.jdwp_debugger.specs.declared.asking.Body.TheVariants as body
 use Rattle.jdwp_debugger.specs.Debuggers.{Asked, Debugger}
+use Rattle.jdwp_mirror.specs.Messages.{LAST_TICKET}
 
 -- ---- the command's packet
-
--- the data have the layout of the request, or are bytes in a raw row
-abbrev pub fits_shapes : Widths → Option RowShapes → Carried → Bool
-fits_shapes w None (Raw bytes) = true
-fits_shapes w (Some shapes) (Content content) = is_none (data_refusal w shapes.request content)
-fits_shapes w shapes carried = false
-
-abbrev pub fits_row : Widths → Option Row → Carried → Bool
-fits_row w None carried = false
-fits_row w (Some row) carried = fits_shapes w row.shapes carried
-
--- a command of a set that goes to the target, with data that fit its row
-abbrev pub is_for_target : Widths → Command → Bool
-is_for_target w c = nat_lt c.set EVENT && fits_row w (row_at c.set c.number) c.carried
-
-abbrev pub carried_bytes : Widths → Carried → List ℕ
-carried_bytes w (Content content) = data_canonical w content
-carried_bytes w (Raw bytes) = bytes
-
-abbrev pub packet_length : Widths → Command → ℕ
-packet_length w c = 11 + length (carried_bytes w c.carried)
 
 abbrev pub command_header : Widths → ℕ → Command → Header
 command_header w id c = record { length = packet_length w c; id = id; kind = packet.Command c.set c.number }
@@ -89,9 +69,6 @@ abbrev pub ReadsAsAsked : Widths → Command → Type 0
 ReadsAsAsked w c = command_read w c.set c.number (carried_bytes w c.carried) ≡ read_where c (is_implemented c)
 
 -- ---- why a command is not asked
-
-abbrev pub LAST_TICKET : ℕ
-LAST_TICKET = 2 ^ 64 - 1
 
 -- as many commands wait for replies as may, so much waits to leave that the end is paused, or all tickets were given
 abbrev pub is_busy : Debugger → Bool
@@ -156,7 +133,8 @@ pub record HasAsked (command : Command) (old : Debugger) (new : Debugger) : Type
   pub sendable : IsPacket old.end.limits.packet (command_header widths id command) (carried_bytes widths command.carried)
   pub is : new ≡ asked widths id command old
 
--- A command that may be asked: what it carries in so wide ids, and that its packet of so many bytes has room. Its length is told in four bytes.
+-- A command that may be asked: what it carries in so wide ids, and that its packet of so many bytes has room. Its length is told in four
+-- bytes.
 pub record IsAdmitted (d : Debugger) (command : Command) (widths : Widths) (carried : Body) (size : ℕ) : Type 0 where
   pub unrefused : refusal_of_ask d command ≡ None
   pub known : d.sizes ≡ Some widths

@@ -14,9 +14,10 @@ abbrev pub view_of : Inside → Debugger
 view_of d =
     record { end = d.end; mirror = d.mirror; sizes = d.sizes; parked = d.parked.items; pending = d.pending.items; next_id = d.next_id; tickets = d.tickets; last = d.last }
 
--- The limits are some that there may be; no more commands wait for replies than they allow, and no more composites for the widths of ids than may; no two commands wait
--- under one id, and without a ticket only IDSizes; nothing waits before the target's handshake, and IDSizes alone until the widths of ids
--- are known, up to when nothing is learned and from when on no composite waits; and the run of the session is as it should be.
+-- The limits are some that there may be; no more commands wait for replies than they allow, and no more composites for the widths of ids
+-- than may; no two commands wait under one id, and without a ticket only IDSizes; nothing waits before the target's handshake, and IDSizes
+-- alone until the widths of ids are known, up to when nothing is learned and from when on no composite waits; and the run of the session
+-- is as it should be.
 pub record IsRight (d : Inside) : Type 0 where
   pub limits : AreLimits d.end.limits.packet d.end.limits.live d.end.limits.requests d.end.limits.pending
   pub few : length d.pending.items ≤ d.end.limits.pending

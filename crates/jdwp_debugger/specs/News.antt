@@ -14,11 +14,11 @@ use Rattle.jdwp_layout.specs.CommandNumbers.{COMPOSITE, is_command}
 use Rattle.jdwp_layout.specs.CommandTable.{row_at}
 use Rattle.jdwp_layout.specs.Meanings.{Byte, DatumMeaning, Many}
 use Rattle.jdwp_layout.specs.Reads.{data_at}
-use Rattle.jdwp_layout.specs.Rows.{Row, RowShapes}
 use Rattle.jdwp_layout.specs.Shapes.{ItemShape}
 use Rattle.jdwp_event.specs.Composites.{CompositeMeaning}
 use Rattle.jdwp_event.specs.CompositeBytes.{composite_at}
 use Rattle.jdwp_debuggee.specs.Actions.{Command}
+use Rattle.jdwp_debuggee.specs.Sending.{row_reply}
 use Rattle.jdwp_debugger.specs.declared.faults.DebuggerFault.{DebuggerFault}
 use Rattle.jdwp_debugger.specs.declared.faults.DebuggerFault.TheVariants.{UnknownReply, BadReply, TooManyParked, BadEvent, NoMemory}
 use Rattle.jdwp_debugger.specs.declared.pending.Ticket.{Ticket}
@@ -54,15 +54,6 @@ composites_in w (p ∷ ps) = with_first (composite_in w p.body) (composites_in w
 abbrev pub raw_data : List ℕ → List DatumMeaning
 raw_data bytes = Many (map (λ (b : ℕ). Byte b ∷ []) bytes) ∷ []
 
--- the layout of a row's reply; none where its data are not read
-abbrev pub shape_in : Option RowShapes → Option (List ItemShape)
-shape_in None = None
-shape_in (Some shapes) = Some shapes.reply
-
-abbrev pub reply_shape : Option Row → Option (List ItemShape)
-reply_shape None = None
-reply_shape (Some row) = shape_in row.shapes
-
 abbrev pub content_in : Result (List DatumMeaning) DataFault → Option Answer
 content_in (Ok content) = Some (Data content)
 content_in (Err fault) = None
@@ -74,7 +65,7 @@ data_by w (Some shape) bytes = content_in (data_at w shape bytes)
 -- the answer of a reply with this error code and these data: an error has no data
 abbrev pub answer_in : Widths → Command → ErrorCode → List ℕ → Option Answer
 answer_in w c e bytes =
-    if e.0 == NONE.0 then data_by w (reply_shape (row_at c.set c.number)) bytes else (if length bytes == 0 then Some (Error e) else None)
+    if e.0 == NONE.0 then data_by w (row_reply (row_at c.set c.number)) bytes else (if length bytes == 0 then Some (Error e) else None)
 
 -- an answer that a debugger can use
 abbrev pub unless_bad : Command → Option Answer → Option Answer

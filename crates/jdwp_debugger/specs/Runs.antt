@@ -17,7 +17,8 @@ use Rattle.jdwp_end.specs.Runs.{Carries}
 use Rattle.jdwp_debuggee.specs.Actions.{Command}
 use Rattle.jdwp_debugger.specs.declared.faults.DebuggerFault.{DebuggerFault}
 use Rattle.jdwp_debugger.specs.declared.turning.Read.{Read}
-use Rattle.jdwp_debugger.specs.Asking.{EncodesCommand, HasAsked, carried_bytes, command_header}
+use Rattle.jdwp_debuggee.specs.CommandPackets.{carried_bytes}
+use Rattle.jdwp_debugger.specs.Asking.{EncodesCommand, HasAsked, command_header}
 use Rattle.jdwp_debugger.specs.Debuggers.{Asked, Debugger, attached, lost, new_debugger, with_fed, with_taken}
 use Rattle.jdwp_debugger.specs.DebuggerTurns.{TurnsAt, sizes_header}
 

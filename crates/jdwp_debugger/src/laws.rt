@@ -9,7 +9,8 @@ ghost use Rattle.jdwp_layout.specs.declared.answer.Answer.{Answer};
 ghost use Rattle.jdwp_debuggee.specs.Actions.{Command};
 ghost use Rattle.jdwp_debuggee.specs.Answers.{sizes_answer};
 ghost use Rattle.jdwp_debuggee.specs.Sending.{EncodesAnswer, answer_bytes, error_of};
-ghost use Rattle.jdwp_debugger.specs.Asking.{EncodesCommand, ReadsAsAsked, carried_bytes, command_header};
+ghost use Rattle.jdwp_debuggee.specs.CommandPackets.{carried_bytes};
+ghost use Rattle.jdwp_debugger.specs.Asking.{EncodesCommand, ReadsAsAsked, command_header};
 ghost use Rattle.jdwp_debugger.specs.Debuggers.{Debugger};
 ghost use Rattle.jdwp_debugger.specs.DebuggerTurns.{sizes_header};
 ghost use Rattle.jdwp_debugger.specs.Judging.{EncodesMessage, IsJudgedAs, Stands};
@@ -17,6 +18,8 @@ ghost use Rattle.jdwp_debugger.specs.News.{EIGHT, answer_in, composite_in};
 ghost use Rattle.jdwp_debugger.specs.Runs.{GoesOn};
 ghost use Rattle.jdwp_mirror.specs.Messages.{Message, id_sizes};
 ghost use Rattle.jdwp_mirror.specs.Widths.{widths_in};
+
+use jdwp_layout::reads_what_is_encoded;
 
 /// Whatever bytes come, the packets that were read or that wait are the first whole ones of the bytes fed, none is read behind the first
 /// fault, and what was taken and what waits to leave are the bytes of the messages put, or where the connection was lost a beginning of
@@ -29,7 +32,9 @@ pub fn goes_on_at_each_call()
 /// nothing.
 pub fn reads_what_was_asked()
     ensures { (w : Widths) (c : Command) → EncodesCommand w c → ReadsAsAsked w c }
-{}
+{
+    reads_what_is_encoded();
+}
 
 /// A composite that was sent is read as what was sent, whether it waited for the widths of ids or not. It does nothing.
 pub fn reads_what_was_reported()
@@ -40,7 +45,9 @@ pub fn reads_what_was_reported()
 pub fn reads_what_was_answered()
     ensures { (w : Widths) (c : Command) (answer : Answer) → EncodesAnswer w c.set c.number answer
         → answer_in w c (error_of answer) (answer_bytes w answer) ≡ Some answer }
-{}
+{
+    reads_what_is_encoded();
+}
 
 /// IDSizes is put as any other command, in ids of any widths: it has no data, which encode it. It does nothing.
 pub fn puts_id_sizes()
@@ -54,17 +61,23 @@ pub fn puts_id_sizes()
 pub fn reads_id_sizes_at_any_widths()
     ensures { (v w : Widths) (answer : Answer) → EncodesAnswer w id_sizes.set id_sizes.number answer
         → answer_in v id_sizes (error_of answer) (answer_bytes w answer) ≡ Some answer }
-{}
+{
+    reads_what_is_encoded();
+}
 
 /// The widths of ids that a target tells are read before any are known, and are those that it tells. It does nothing.
 pub fn reads_widths()
     ensures read { (w : Widths) → AreWidths w.field w.method w.object w.reference w.frame
         → answer_in EIGHT id_sizes NONE (answer_bytes w (sizes_answer w)) ≡ Some (sizes_answer w) }
     ensures widths { (w : Widths) → AreWidths w.field w.method w.object w.reference w.frame → widths_in (sizes_answer w) ≡ Some w }
-{}
+{
+    reads_what_is_encoded();
+}
 
 /// A packet that encodes a message is refused where the message is refused, and for the same. It does nothing.
 pub fn refuses_what_is_refused()
     ensures { (d : Debugger) (waiting : List CompositeMeaning) (header : Header) (body : List ℕ) (message : Message)
         → Stands d waiting → EncodesMessage d waiting header body message → IsJudgedAs d waiting header body message }
-{}
+{
+    reads_what_is_encoded();
+}

@@ -8,9 +8,10 @@ ghost use Rattle.jdwp_layout.specs.CommandTable.{row_at};
 ghost use Rattle.jdwp_layout.specs.Meanings.{Byte, DatumMeaning, entry_meanings, meanings};
 ghost use Rattle.jdwp_event.specs.Composites.{CompositeMeaning};
 ghost use Rattle.jdwp_debuggee.specs.ReadParts.{found_layout};
+ghost use Rattle.jdwp_debuggee.specs.Sending.{row_reply};
 ghost use Rattle.jdwp_debugger.specs.declared.faults.DebuggerFault.TheVariants as code;
 ghost use Rattle.jdwp_mirror.specs.FaultParts.{IsData};
-ghost use Rattle.jdwp_debugger.specs.News.{Fails, Tells, answer_in, composite_in, composites_in, content_in, data_by, place_of, raw_data, reply_shape, required, unless_bad, whole};
+ghost use Rattle.jdwp_debugger.specs.News.{Fails, Tells, answer_in, composite_in, composites_in, content_in, data_by, place_of, raw_data, required, unless_bad, whole};
 
 use crate::faults::DebuggerFault;
 use crate::parked::Parked;
@@ -124,7 +125,7 @@ fn read_any_answer(
 
 /// The layout of the reply to a command; None where its data are not read.
 fn reply_layout(command: &Command) -> Option<Layout>
-    ensures { found_layout result ≡ reply_shape (row_at command.now.set command.now.number) }
+    ensures { found_layout result ≡ row_reply (row_at command.now.set command.now.number) }
 {
     let row = layout_of(command.set(), command.number())?;
     let layouts = row.layouts?;

@@ -1,19 +1,22 @@
 -- What messages and steps leave of a target, one after the other.
-use Rattle.std.proofs.Common.{◌≡◌, ◌∙◌, ℕ, ◌++◌, ◌||◌, not, Option, Some, None, List, [], ◌∷◌, Bool, true, false, ◌⊎◌, inl, inr, sym, ap, refl, subst, append_assoc, arith}
+use Rattle.std.proofs.Common.{◌≡◌, ◌∙◌, ℕ, ◌++◌, ◌||◌, ◌&&◌, not, Option, Some, None, List, [], ◌∷◌, Bool, true, false, ◌⊎◌, inl, inr, sym, ap, refl, append_assoc, arith}
 use Rattle.jdwp_wire.specs.Bytes.{IsBytes}
-use Rattle.jdwp_wire.specs.Streams.{AreSendable, Message, Whole, stream}
-use Rattle.jdwp_end.specs.Ends.{front_of, is_open}
+use Rattle.jdwp_wire.specs.Streams.{Message, Whole, stream}
+use Rattle.jdwp_end.specs.declared.phase.Phase.{Phase}
+use Rattle.jdwp_end.specs.declared.phase.Phase.TheVariants.{Closed, AwaitingHandshake, Established}
+use Rattle.jdwp_end.specs.Ends.{End, front_of, is_open, is_open_phase}
+use Rattle.jdwp_end.specs.Ends as ends
 use Rattle.jdwp_end.specs.Runs.{Carries}
+use Rattle.jdwp_end.specs.CarryingLaws.{carries-closed, carries-enqueued, carries-handled}
 use Rattle.jdwp_event.specs.Composites.{CompositeMeaning}
 use Rattle.jdwp_machine.specs.Meanings.{Meaning}
 use Rattle.jdwp_debuggee.specs.Steps.{may_step}
 use Rattle.jdwp_target.specs.declared.target.Stepped.{Stepped}
 use Rattle.jdwp_target.specs.declared.target.Stepped.TheVariants.{Frozen}
 use Rattle.jdwp_target.specs.Standings.{Handles, Steps, handled, react}
-use Rattle.jdwp_target.specs.Targets.{Target, Ran, standing, with_handled, with_step}
+use Rattle.jdwp_target.specs.Closings.{ClosesForReason}
+use Rattle.jdwp_target.specs.Targets.{Target, Ran, in_phase, standing, with_handled, with_step}
 use Rattle.jdwp_target.specs.Turns.{StepsWhere, told_by_end, told_of_sends}
-use Rattle.jdwp_target.proofs.Closing.{act-why, both, may-alive, message-why}
-use Rattle.jdwp_target.proofs.TargetRuns.{handled-acts, handled-message, ran-handled}
 use Rattle.jdwp_engine.specs.Outcome.{EndsInDispose, MayStep}
 use Rattle.jdwp_engine.specs.Steps.{Advances, StepsIf, StepsOn}
 
@@ -23,9 +26,29 @@ use Rattle.jdwp_engine.specs.Steps.{Advances, StepsIf, StepsOn}
 abbrev pub HasEnded : {S : Type 0} → Target S → Type 0
 HasEnded target = EndsInDispose target.end ⊎ (target.moment.state.alive ≡ false)
 
-pub message-advances : {S : Type 0} (m : Meaning S) (v : Target S) (message : Message) (used : ℕ) → IsBytes v.end.incoming → front_of v.end ≡ Whole message used
-    → AreSendable v.end.limits.packet (react m v.settings (standing v) (Handles message)).sends → Ran m v → Advances v (with_handled m message used v) (HasEnded (with_handled m message used v))
-message-advances m v message used fits front sends ran = record {
+both : (a b : Bool) → (a && b) ≡ true → (a ≡ true) × (b ≡ true)
+both true b e = (refl, e)
+both false b e = absurd (cc)
+
+-- an end that closes carries what it carried
+carries-shut : (phase : Phase) (end : End) (messages : List Message) → is_open_phase phase ≡ false → Carries end messages → Carries (in_phase phase end) messages
+carries-shut Closed end messages shut c = carries-closed end messages c
+carries-shut AwaitingHandshake end messages shut c = absurd (let e = shut in cc)
+carries-shut Established end messages shut c = absurd (let e = shut in cc)
+
+-- the message that closed the session is the last that was handled
+carries-last : {S : Type 0} (m : Meaning S) (v : Target S) (message : Message) (used : ℕ) → IsBytes v.end.incoming → front_of v.end ≡ Whole message used → (ran : Ran m v)
+    → is_open (with_handled m message used v).end ≡ false → Carries (with_handled m message used v).end (handled ran.acts ++ message ∷ [])
+carries-last m v message used fits front ran shut =
+    let r = react m v.settings (standing v) (Handles message) in
+    let messages : List Message = handled ran.acts ++ message ∷ [] in
+    let took = ends.with_handled message used v.end in
+    let put = carries-enqueued took messages (stream r.sends) refl (carries-handled v.end (handled ran.acts) message used fits front ran.carries) in
+    carries-shut r.after.phase (ends.with_enqueued (stream r.sends) took) messages shut put
+
+pub message-advances : {S : Type 0} (m : Meaning S) (v : Target S) (message : Message) (used : ℕ) → ClosesForReason m → is_open v.end ≡ true → IsBytes v.end.incoming
+    → front_of v.end ≡ Whole message used → Ran m v → Advances v (with_handled m message used v) (HasEnded (with_handled m message used v))
+message-advances m v message used reason opened fits front ran = record {
   settings = refl;
   began = refl;
   lost = refl;
@@ -34,20 +57,17 @@ message-advances m v message used fits front sends ran = record {
   enqueued = refl;
   outgoing = refl;
   costs = omega arith;
-  closes = λ closed.
-      elim (message-why m v.settings v.moment message closed) [
-        | inl d ↦
-            let now = ran-handled m v message used fits front sends ran in
-            let same : handled now.acts ≡ handled ran.acts ++ message ∷ [] = ap handled (handled-acts m v message used fits front sends ran) ∙ handled-message ran.acts message in
-            inl (handled ran.acts, message, subst (λ (x : List Message). Carries (with_handled m message used v).end x) same now.carries, d)
+  closes = λ shut.
+      elim (reason v.settings (standing v) (Handles message) opened shut) [
+        | inl d ↦ inl (handled ran.acts, message, carries-last m v message used fits front ran shut, d)
         | inr d ↦ inr d
       ];
 }
 
 -- ---- steps
 
-step-advances : {S : Type 0} (m : Meaning S) (v : Target S) (t : ℕ) → may_step m v.settings v.moment t ≡ true → is_open v.end ≡ true → StepsOn v (with_step m t v)
-step-advances m v t may opened = record {
+step-advances : {S : Type 0} (m : Meaning S) (v : Target S) (t : ℕ) → ClosesForReason m → is_open v.end ≡ true → StepsOn v (with_step m t v)
+step-advances m v t reason opened = record {
   settings = refl;
   began = refl;
   lost = refl;
@@ -56,7 +76,7 @@ step-advances m v t may opened = record {
   enqueued = refl;
   outgoing = refl;
   costs = omega arith;
-  closes = λ closed. act-why m v.settings (standing v) (Steps t) opened closed;
+  closes = λ shut. reason v.settings (standing v) (Steps t) opened shut;
 }
 
 -- one after the other
@@ -85,13 +105,14 @@ pub open-if : {S : Type 0} (old mid : Target S) (made : Bool) → is_open old.en
 open-if old mid true opened a alive = still-open old mid a alive
 open-if {S = S} old mid false opened same alive = ap (λ (x : Target S). is_open x.end) same ∙ opened
 
-pub step-made : {S : Type 0} (m : Meaning S) (old mid new : Target S) (t : ℕ) (made : Bool) → is_open old.end ≡ true → StepsIf old mid made
+pub step-made : {S : Type 0} (m : Meaning S) (old mid new : Target S) (t : ℕ) (made : Bool) → ClosesForReason m → is_open old.end ≡ true → StepsIf old mid made
     → may_step m mid.settings mid.moment t ≡ true → new ≡ with_step m t mid → StepsOn old new
-step-made {S = S} m old mid new t true opened a may is =
-    let one = step-advances m mid t may (still-open old mid a (may-alive m mid.settings mid.moment t may)) in
+step-made {S = S} m old mid new t true reason opened a may is =
+    let alive : mid.moment.state.alive ≡ true = (both _ _ (both _ _ may).1).0 in
+    let one = step-advances m mid t reason (still-open old mid a alive) in
     rw is (advances-again old mid (with_step m t mid) _ _ a one)
-step-made {S = S} m old mid new t false opened same may is =
-    rw (is, same) (step-advances m old t (rw same at may) opened)
+step-made {S = S} m old mid new t false reason opened same may is =
+    rw (is, same) (step-advances m old t reason opened)
 
 -- what a step told, by whether it was frozen
 sends-told : (sends : Option CompositeMeaning) → told_of_sends sends ≡ Frozen → ⊥

@@ -2,5 +2,7 @@ pub mod Advancing
 pub mod Fronts
 pub mod Known
 pub mod Onward
+pub mod Rounding
 pub mod Runs
+pub mod Spending
 pub mod Turns

@@ -1,14 +1,15 @@
 -- How the steps of a round go on.
-use Rattle.std.proofs.Common.{◌≡◌, ◌∙◌, ℕ, ◌<◌, ◌≤◌, ◌||◌, ◌+◌, suc, Bool, true, false, List, [], ◌∷◌, ◌++◌, Option, Some, None, Ok, ◌⊎◌, inl, inr, ap, sym, refl, subst, arith, length, take, get_or}
+use Rattle.std.proofs.Common.{◌≡◌, ◌∙◌, ℕ, ◌<◌, ◌≤◌, ◌||◌, ◌+◌, suc, Bool, true, false, List, [], ◌∷◌, ◌++◌, Option, Some, None, Result, Ok, Err, ◌⊎◌, inl, inr, ap, sym, refl, subst, arith, length, take, get_or}
 use Rattle.std.proofs.lemmas.Grind.{common_steps}
 use Rattle.std.proofs.Math.Seq.{take-suc}
 use Rattle.jdwp_value.specs.declared.id.ObjectId.{ObjectId}
 use Rattle.jdwp_machine.specs.Meanings.{Meaning, has, numbers}
 use Rattle.jdwp_target.specs.declared.target.Stepped.{Stepped}
 use Rattle.jdwp_target.specs.declared.target.Stepped.TheVariants.{Frozen, Quiet, Reported, Ended}
+use Rattle.jdwp_target.specs.declared.target.TargetFault.{TargetFault}
 use Rattle.jdwp_target.specs.Targets.{Target}
 use Rattle.jdwp_target.specs.Turns.{StepsAt}
-use Rattle.jdwp_engine.specs.Rounds.{IsNext, StepsEach, StepsUntil, Over, Steps, is_step, is_above}
+use Rattle.jdwp_engine.specs.Rounds.{IsNext, StepsEach, StepsUntil, Over, Steps, Wants, is_step, is_above, with_made}
 
 or-assoc : (a b c : Bool) → (a || (b || c)) ≡ ((a || b) || c)
 or-assoc true b c = refl
@@ -18,15 +19,29 @@ or-false : (a : Bool) → (a || false) ≡ a
 or-false true = refl
 or-false false = refl
 
+made-again : (made one : Bool) (came : Result Bool TargetFault) → with_made made (with_made one came) ≡ with_made (made || one) came
+made-again made one (Ok more) = ap Ok (or-assoc made one more)
+made-again made one (Err fault) = refl
+
 pub steps-on : {S : Type 0} (m : Meaning S) (first now mid : Target S) (made after : Bool) (last : Option ℕ) (t : ℕ) (stepped : Stepped) → StepsUntil m first made last now
     → IsNext (m.live now.moment.machine) last (Some t) → StepsAt m t now (Ok stepped) mid → after ≡ (made || is_step stepped) → StepsUntil m first after (Some t) mid
-steps-on m first now mid made after last t stepped u next s e = λ more new rest.
-    subst (λ (b : Bool). StepsEach m None first b new) (or-assoc made (is_step stepped) more ∙ ap (λ (b : Bool). b || more) (sym e))
-    (u (is_step stepped || more) new (Steps last now mid new t stepped more next s rest))
+steps-on m first now mid made after last t stepped u next s e = λ came new rest.
+    subst (λ (r : Result Bool TargetFault). StepsEach m None first r new) (made-again made (is_step stepped) came ∙ ap (λ (b : Bool). with_made b came) (sym e))
+    (u (with_made (is_step stepped) came) new (Steps last now mid new t stepped came next s rest))
 
 pub steps-over : {S : Type 0} (m : Meaning S) (first now : Target S) (made : Bool) (last : Option ℕ) → StepsUntil m first made last now
-    → IsNext (m.live now.moment.machine) last None → StepsEach m None first made now
-steps-over m first now made last u over = subst (λ (b : Bool). StepsEach m None first b now) (or-false made) (u false now (Over last now over))
+    → IsNext (m.live now.moment.machine) last None → StepsEach m None first (Ok made) now
+steps-over m first now made last u over = subst (λ (b : Bool). StepsEach m None first (Ok b) now) (or-false made) (u (Ok false) now (Over last now over))
+
+-- a step wanted memory
+pub steps-stop : {S : Type 0} (m : Meaning S) (first now new : Target S) (made : Bool) (last : Option ℕ) (t : ℕ) (fault : TargetFault) → StepsUntil m first made last now
+    → IsNext (m.live now.moment.machine) last (Some t) → StepsAt m t now (Err fault) new → StepsEach m None first (Err fault) new
+steps-stop m first now new made last t fault u next s = u (Err fault) new (Wants last now new t fault next s)
+
+-- nothing was stepped yet
+pub steps-begin : {S : Type 0} (m : Meaning S) (first : Target S) → StepsUntil m first false None first
+steps-begin m first (Ok more) new rest = rest
+steps-begin m first (Err fault) new rest = rest
 
 -- what a call that made a step, or made none, leaves of whether one was made
 pub made-none : (b : Bool) (stepped : Stepped) → stepped ≡ Frozen → b ≡ (b || is_step stepped)

@@ -10,15 +10,16 @@ use Rattle.jdwp_wire.specs.declared.frame.FrameFault.{FrameFault}
 use Rattle.jdwp_end.specs.Ends.{front_of, is_open, is_paused, next_of}
 use Rattle.jdwp_end.specs.Ends as ends
 use Rattle.jdwp_end.specs.Runs.{Carries}
-use Rattle.jdwp_end.proofs.Carrying.{carries-taken}
-use Rattle.jdwp_end.proofs.Fronts.{front-fault, front-next, front-whole}
+use Rattle.jdwp_end.specs.CarryingLaws.{carries-taken}
+use Rattle.jdwp_end.specs.FrontLaws.{front-fault, front-next, front-whole}
 use Rattle.jdwp_machine.specs.Meanings.{Meaning}
 use Rattle.jdwp_target.specs.declared.target.TargetFault.TheVariants.{Frame, NoMemory}
 use Rattle.jdwp_target.specs.declared.target.Turn.{Turn}
 use Rattle.jdwp_target.specs.declared.target.Turn.TheVariants.{Nothing}
+use Rattle.jdwp_target.specs.Closings.{ClosesForReason}
 use Rattle.jdwp_target.specs.Standings.{handled}
 use Rattle.jdwp_target.specs.Targets.{Target, Ran, lost, opened, with_fed, with_taken}
-use Rattle.jdwp_target.specs.Turns.{SendsAt, TurnsAt}
+use Rattle.jdwp_target.specs.Turns.{TurnsAt}
 use Rattle.jdwp_engine.specs.declared.ended.Ended.{Ended}
 use Rattle.jdwp_engine.specs.declared.ended.Ended.TheVariants.{Done, LostByRead, LostByWrite, Refused, TurnLimit}
 use Rattle.jdwp_engine.specs.declared.ended.Ended.TheVariants as ended
@@ -234,22 +235,22 @@ advance-ends {S = S} m s t old new newest (Ends ended) p which done fails-so =
     ]
 
 -- a message that was handled
-message-of : {S : Type 0} (m : Meaning S) (old new : Target S) (turn : Turn) → IsBytes old.end.incoming → SendsAt m (front_of old.end) old → Ran m old → TurnsAt m (front_of old.end) old (Ok turn) new → turn ≢ Nothing → Advances old new (HasEnded new)
-message-of m old new turn fits sends ran turned some =
+message-of : {S : Type 0} (m : Meaning S) (old new : Target S) (turn : Turn) → ClosesForReason m → is_open old.end ≡ true → IsBytes old.end.incoming → Ran m old → TurnsAt m (front_of old.end) old (Ok turn) new → turn ≢ Nothing → Advances old new (HasEnded new)
+message-of m old new turn reason opened fits ran turned some =
     let w = handled-Whole m (front_of old.end) old new turn turned some in
-    rw w.3 (message-advances m old w.0 w.1 fits w.2 (rw w.2 at sends) ran)
+    rw w.3 (message-advances m old w.0 w.1 reason opened fits w.2 ran)
 
-pub message-goes : {S : Type 0} (m : Meaning S) (s t : Story) (old new newest : Target S) (turn : Turn) → IsBytes old.end.incoming → SendsAt m (front_of old.end) old → Ran m old → TurnsAt m (front_of old.end) old (Ok turn) new → turn ≢ Nothing
+pub message-goes : {S : Type 0} (m : Meaning S) (s t : Story) (old new newest : Target S) (turn : Turn) → ClosesForReason m → is_open old.end ≡ true → IsBytes old.end.incoming → Ran m old → TurnsAt m (front_of old.end) old (Ok turn) new → turn ≢ Nothing
     → (is_open new.end ≡ true) × WritesAll new newest s t → GoesOn old newest s t
-message-goes m s t old new newest turn fits sends ran turned some h = advance-goes s t old new newest (HasEnded new) (message-of m old new turn fits sends ran turned some) h
+message-goes m s t old new newest turn reason opened fits ran turned some h = advance-goes s t old new newest (HasEnded new) (message-of m old new turn reason opened fits ran turned some) h
 
-pub message-ends : {S : Type 0} (m : Meaning S) (s t : Story) (old new newest : Target S) (turn : Turn) (next : Next) → IsBytes old.end.incoming → SendsAt m (front_of old.end) old → Ran m old → TurnsAt m (front_of old.end) old (Ok turn) new → turn ≢ Nothing
+pub message-ends : {S : Type 0} (m : Meaning S) (s t : Story) (old new newest : Target S) (turn : Turn) (next : Next) → ClosesForReason m → is_open old.end ≡ true → IsBytes old.end.incoming → Ran m old → TurnsAt m (front_of old.end) old (Ok turn) new → turn ≢ Nothing
     → IfEnds next (λ ended. (ended ≡ Done) ⊎ (ended ≡ LostByWrite))
     → (next ≡ Ends Done → (is_open new.end ≡ false) × WritesAll new newest s t × Ran m newest)
     → (next ≡ Ends LostByWrite → LosesAtWrite m new newest s t)
     → IfEnds next (EndsSo m old newest s t)
-message-ends m s t old new newest turn next fits sends ran turned some which done fails-so =
-    advance-ends m s t old new newest next (message-of m old new turn fits sends ran turned some) which (λ e. let d = done e in (d.0, d.1)) fails-so
+message-ends m s t old new newest turn next reason opened fits ran turned some which done fails-so =
+    advance-ends m s t old new newest next (message-of m old new turn reason opened fits ran turned some) which (λ e. let d = done e in (d.0, d.1)) fails-so
 
 -- steps that were made
 steps-of : {S : Type 0} (old new : Target S) → StepsOn old new → Advances old new (HasEnded new)
@@ -339,7 +340,7 @@ pub fault-next-ends : {S : Type 0} (m : Meaning S) (s : Story) (old new : Target
 fault-next-ends m s old new fault number ran opened turned number-is base start k =
     let f = frame-Fault m (front_of old.end) old new fault turned in
     let front = front-left (IsFaultOf number) old.end (handled ran.acts) ran.carries opened (fault, number-is, front-fault old.end fault f.0) in
-    rw f.1 (lost-in-order base start s old k, (front, (old, ran, k.kept, refl), (k.failed_writes, refl)))
+    rw f.1 (lost-in-order base start s old k, (front, (old, ran, k.kept, refl), inl (k.failed_writes, refl)))
 
 -- a round that ends for want of memory
 pub memory-next-ends : {S : Type 0} (m : Meaning S) (s : Story) (old new : Target S) → Ran m old → is_open old.end ≡ true
@@ -349,7 +350,7 @@ memory-next-ends m s old new ran opened turned base start k =
     let n = no_memory-Whole m (front_of old.end) old new turned in
     let w = n.0 in
     let next = (front-whole old.end w.0 w.1 w.2).1 in
-    let front = front-left CallsForMemory old.end (handled ran.acts) ran.carries opened (w.0, w.1, next, w.3) in
+    let front = front-left (CallsForMemory m old) old.end (handled ran.acts) ran.carries opened (w.0, w.1, next, w.3) in
     rw n.1 (same-in-order base start s old k, (inl front, (k.opened, k.kept), (k.failed_writes, refl)))
 
 -- ---- flushes
@@ -431,13 +432,21 @@ kept-by m LostByRead start now target which h = absurd (elim which [ inl e ↦ c
 kept-by m LostByWrite start now target which h = absurd (elim which [ inl e ↦ cc | inr (inl e) ↦ cc | inr (inr e) ↦ cc ])
 kept-by m (Refused number) start now target which h = absurd (elim which [ inl e ↦ cc | inr (inl e) ↦ cc | inr (inr e) ↦ cc ])
 
-pub lost-by : {S : Type 0} (m : Meaning S) (e : Ended) (start now : Story) (target : Target S) → (e ≡ LostByRead) ⊎ ((e ≡ LostByWrite) ⊎ ((number : ℕ) × (e ≡ Refused number))) → MayEnd m e start now target → IsLost m target
+pub lost-by : {S : Type 0} (m : Meaning S) (e : Ended) (start now : Story) (target : Target S) → (e ≡ LostByRead) ⊎ (e ≡ LostByWrite) → MayEnd m e start now target → IsLost m target
 lost-by m LostByRead start now target which h = h.2
 lost-by m LostByWrite start now target which h = h.1
-lost-by m (Refused number) start now target which h = h.1
-lost-by m Done start now target which h = absurd (elim which [ inl e ↦ cc | inr (inl e) ↦ cc | inr (inr e) ↦ (let f = e.1 in cc) ])
-lost-by m ended.NoMemory start now target which h = absurd (elim which [ inl e ↦ cc | inr (inl e) ↦ cc | inr (inr e) ↦ (let f = e.1 in cc) ])
-lost-by m TurnLimit start now target which h = absurd (elim which [ inl e ↦ cc | inr (inl e) ↦ cc | inr (inr e) ↦ (let f = e.1 in cc) ])
+lost-by m (Refused number) start now target which h = absurd (elim which [ inl e ↦ cc | inr e ↦ cc ])
+lost-by m Done start now target which h = absurd (elim which [ inl e ↦ cc | inr e ↦ cc ])
+lost-by m ended.NoMemory start now target which h = absurd (elim which [ inl e ↦ cc | inr e ↦ cc ])
+lost-by m TurnLimit start now target which h = absurd (elim which [ inl e ↦ cc | inr e ↦ cc ])
+
+-- the last flush failed behind a frame fault
+pub refused-ends : {S : Type 0} (m : Meaning S) (base : Target S) (start now after : Story) (target : Target S) (number : ℕ) → InOrder base start now target
+    → MayEnd m (Refused number) start (flushed now) target → FailsFlush now after → InOrder base start after target × MayEnd m (Refused number) start after target
+refused-ends m base start now after target number o h e = (
+  flush-in-order base start now after target target o e refl refl refl refl,
+  (h.0, h.1, rw e (inr (omega (arith, o.failed_writes)))),
+)
 
 -- a session that begins
 pub going-opened : {S : Type 0} (s : Story) (v : Target S) → v ≡ opened v → IsGoing v s s v

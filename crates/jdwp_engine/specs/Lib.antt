@@ -2,6 +2,7 @@ pub mod Next
 pub mod Outcome
 pub mod Rounds
 pub mod Run
+pub mod Sessions
 pub mod Steps
 pub mod Story
 pub mod Streams

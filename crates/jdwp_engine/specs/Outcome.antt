@@ -25,8 +25,8 @@ abbrev pub EndsInDispose : End → Type 0
 EndsInDispose end = (messages : List Message) × (last : Message) × Carries end (messages ++ last ∷ []) × IsDispose last
 
 -- a message that may call for memory stands in front
-abbrev pub CallsForMemory : NextMessage → Type 0
-CallsForMemory next = (message : Message) × (used : ℕ) × (next ≡ Whole message used) × NeedsMemory message
+abbrev pub CallsForMemory : {S : Type 0} → Meaning S → Target S → NextMessage → Type 0
+CallsForMemory m target next = (message : Message) × (used : ℕ) × (next ≡ Whole message used) × NeedsMemory m target message
 
 -- A thread may step, but for one thread too many that would start, and the end is not paused: only such a step asks the machine.
 abbrev pub MayStep : {S : Type 0} → Target S → Type 0
@@ -48,16 +48,20 @@ IsKept target = (is_open target.end ≡ true) × (target.end.session.lost ≡ fa
 abbrev pub HasLeft : Story → Story → Type 0
 HasLeft start now = (now.failed_writes ≡ start.failed_writes) × (now.unflushed ≡ [])
 
--- Why a session may end so, from the first story to the second, and what the target is then. A write or flush failed exactly where the
--- session is lost by a write.
+-- the same, or a flush failed
+abbrev pub HasLeftOrFails : Story → Story → Type 0
+HasLeftOrFails start now = HasLeft start now ⊎ (start.failed_writes < now.failed_writes)
+
+-- Why a session may end so, from the first story to the second, and what the target is then. A write or flush failed where the session is lost
+-- by a write, and in no other end but behind a frame fault.
 abbrev pub MayEnd : {S : Type 0} → Meaning S → Ended → Story → Story → Target S → Type 0
 MayEnd m Done start now target =
     (EndsInDispose target.end ⊎ (target.moment.state.alive ≡ false)) × (is_open target.end ≡ false) × (target.end.session.lost ≡ false) × HasLeft start now
 MayEnd m LostByRead start now target =
     (start.failed_reads + start.ends < now.failed_reads + now.ends) × FrontIs (λ next. next ≡ More) target.end × IsLost m target × HasLeft start now
 MayEnd m LostByWrite start now target = (start.failed_writes < now.failed_writes) × IsLost m target
-MayEnd m (Refused number) start now target = FrontIs (IsFaultOf number) target.end × IsLost m target × HasLeft start now
-MayEnd m NoMemory start now target = (FrontIs CallsForMemory target.end ⊎ MayStep target) × IsKept target × HasLeft start now
+MayEnd m (Refused number) start now target = FrontIs (IsFaultOf number) target.end × IsLost m target × HasLeftOrFails start now
+MayEnd m NoMemory start now target = (FrontIs (CallsForMemory m target) target.end ⊎ MayStep target) × IsKept target × HasLeft start now
 MayEnd m TurnLimit start now target = IsKept target × HasLeft start now
 
 -- A round that ends so, in every run that came to it, once all that was written has left.

@@ -1,8 +1,9 @@
 -- The steps of a round: each live thread is stepped once, by rising id.
-use Rattle.std.specs.Prelude.{◌≡◌, ℕ, ◌≤◌, ◌||◌, nat_lt, Bool, true, false, List, Option, Some, None, Ok}
+use Rattle.std.specs.Prelude.{◌≡◌, ℕ, ◌≤◌, ◌||◌, nat_lt, Bool, true, false, List, Option, Some, None, Result, Ok, Err}
 use Rattle.jdwp_machine.specs.Meanings.{Meaning, has}
 use Rattle.jdwp_target.specs.declared.target.Stepped.{Stepped}
 use Rattle.jdwp_target.specs.declared.target.Stepped.TheVariants.{Frozen, Quiet, Reported, Ended}
+use Rattle.jdwp_target.specs.declared.target.TargetFault.{TargetFault}
 use Rattle.jdwp_target.specs.Targets.{Target}
 use Rattle.jdwp_target.specs.Turns.{StepsAt}
 use Rattle.jdwp_value.specs.declared.id.ObjectId.{ObjectId}
@@ -35,13 +36,21 @@ is_step Quiet = true
 is_step Reported = true
 is_step Ended = true
 
+-- what came of steps, where one more was made before them or none was
+abbrev pub with_made : Bool → Result Bool TargetFault → Result Bool TargetFault
+with_made made (Ok more) = Ok (made || more)
+with_made made (Err fault) = Err fault
+
 -- From the last one on, each thread that lives then is stepped, by rising id: those that a step starts are among them where their ids are
--- higher, those that it ends are not. And whether a step was made.
-pub data StepsEach {S : Type 0} (m : Meaning S) : Option ℕ → Target S → Bool → Target S → Type 0 where
-  Over : (last : Option ℕ) (target : Target S) → IsNext (m.live target.moment.machine) last None → StepsEach m last target false target
-  Steps : (last : Option ℕ) (old mid new : Target S) (t : ℕ) (stepped : Stepped) (made : Bool) → IsNext (m.live old.moment.machine) last (Some t)
-      → StepsAt m t old (Ok stepped) mid → StepsEach m (Some t) mid made new → StepsEach m last old (is_step stepped || made) new
+-- higher, those that it ends are not. What came of it is whether a step was made; or one wanted memory, and those above it are not stepped.
+pub data StepsEach {S : Type 0} (m : Meaning S) : Option ℕ → Target S → Result Bool TargetFault → Target S → Type 0 where
+  Over : (last : Option ℕ) (target : Target S) → IsNext (m.live target.moment.machine) last None → StepsEach m last target (Ok false) target
+  Wants : (last : Option ℕ) (old new : Target S) (t : ℕ) (fault : TargetFault) → IsNext (m.live old.moment.machine) last (Some t)
+      → StepsAt m t old (Err fault) new → StepsEach m last old (Err fault) new
+  Steps : (last : Option ℕ) (old mid new : Target S) (t : ℕ) (stepped : Stepped) (came : Result Bool TargetFault) → IsNext (m.live old.moment.machine) last (Some t)
+      → StepsAt m t old (Ok stepped) mid → StepsEach m (Some t) mid came new → StepsEach m last old (with_made (is_step stepped) came) new
 
 -- the same, where steps may be left to make
 abbrev pub StepsUntil : {S : Type 0} → Meaning S → Target S → Bool → Option ℕ → Target S → Type 0
-StepsUntil {S = S} m first made last now = (more : Bool) (new : Target S) → StepsEach m last now more new → StepsEach m None first (made || more) new
+StepsUntil {S = S} m first made last now =
+    (came : Result Bool TargetFault) (new : Target S) → StepsEach m last now came new → StepsEach m None first (with_made made came) new

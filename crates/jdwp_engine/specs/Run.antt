@@ -59,7 +59,7 @@ FailsFlush old new = new ≡ record old { failed_writes = old.failed_writes + 1 
 -- a write of what waited to leave failed, and the target lost the connection
 abbrev pub LosesAtWrite : {S : Type 0} → Meaning S → Target S → Target S → Story → Story → Type 0
 LosesAtWrite m old new before after =
-    FailsWrite before after old.end.outgoing × ((taken : List ℕ) × Ran m (with_taken taken old) × (new ≡ lost (with_taken taken old)))
+    FailsWrite before after old.end.outgoing × ((taken : List ℕ) × Ran m (with_taken taken old) × (new ≡ lost (with_taken taken old))) × (after.rooms ≡ before.rooms)
 
 -- the bytes were read, by one read with room, before which all that was written had left
 abbrev pub with_read : List ℕ → Story → Story

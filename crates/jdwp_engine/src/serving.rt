@@ -1,5 +1,5 @@
 //! The engine that runs a target on a pipe.
-ghost use Rattle.std.specs.Prelude.{◌≡◌, ◌⊎◌, ◌<◌, ◌≤◌, ◌+◌, ◌++◌, ◌∷◌, ◌||◌, [], ℕ, Bool, List, None, Ok, length, true, false, IsTrue, IfOk, OnErr};
+ghost use Rattle.std.specs.Prelude.{◌≡◌, ◌⊎◌, ◌<◌, ◌≤◌, ◌+◌, ◌++◌, ◌∷◌, ◌||◌, [], ℕ, Bool, List, None, Ok, Err, length, true, false, IsTrue, IfOk, IfErr, OnErr};
 ghost use Rattle.jdwp_end.specs.Ends.{front_of, is_open, is_paused, room_of};
 ghost use Rattle.jdwp_wire.specs.Streams.{More};
 ghost use Rattle.jdwp_machine.specs.Meanings.{numbers};
@@ -11,13 +11,14 @@ ghost use Rattle.jdwp_engine.specs.Next.{IfEnds};
 ghost use Rattle.jdwp_engine.specs.Outcome.{EndsSo, MayEnd, MayStep};
 ghost use Rattle.jdwp_engine.specs.Run.{FailsFlush, FailsWrite, GoesOn, InOrder, LosesAtRead, LosesAtWrite, ReadsMore, WritesAll, cost, flushed, with_written};
 ghost use Rattle.jdwp_engine.specs.Rounds.{IsNext, StepsEach, id_in, is_above, is_step};
+ghost use Rattle.jdwp_engine.specs.Sessions.{LastRound, Round, Runs, Serves, unflushed_end, unflushed_target};
 ghost use Rattle.jdwp_engine.specs.Steps.{StepsIf};
 ghost use Rattle.jdwp_engine.specs.Story.{Story};
 
 use crate::ended::Ended;
 use crate::pipe::Pipe;
 use jdwp_machine::Machine;
-use jdwp_target::{Stepped, Target, TargetFault, Turn};
+use jdwp_target::{Stepped, Target, TargetFault, Turn, closes_for_a_reason};
 use jdwp_value::ObjectId;
 
 /// How many bytes are read or written at once at most.
@@ -30,13 +31,16 @@ const CHUNK: usize = 4096;
 /// if none of them stepped, one read of at most 4,096 bytes and of what the target has room for, which are fed. What waits to leave is
 /// written after each round, and the pipe is flushed at the end of the session, whatever ends it. The session is done after Dispose, and
 /// where the machine died. Where the input ends, or a read, a write or a flush fails, the target loses the connection; a write or flush
-/// that fails is `LostByWrite`, wherever it comes. It takes no memory of its own.
+/// that fails is `LostByWrite`, wherever it comes, but for the last flush behind a frame fault, which stays `Refused`. Where a turn or a
+/// step wants memory the session ends with `NoMemory` and stays open. It takes no memory of its own.
 pub fn serve<M: Machine + Drop, P: Pipe>(target: &mut Target<M>, pipe: &mut P, rounds: u64) -> Ended
     ensures refused { is_open target.old.end ≡ true → (result ≡ Ended.Refused 0) × (target.new ≡ target.old) × (P.story pipe.new ≡ P.story pipe.old) }
     ensures dead { is_open target.old.end ≡ false → target.old.moment.state.alive ≡ false → (result ≡ Ended.Done) × (target.new ≡ target.old) × (P.story pipe.new ≡ P.story pipe.old) }
     ensures in_order { is_open target.old.end ≡ false → target.old.moment.state.alive ≡ true → InOrder target.old (P.story pipe.old) (P.story pipe.new) target.new }
     ensures ended { is_open target.old.end ≡ false → target.old.moment.state.alive ≡ true → MayEnd M.meaning result (P.story pipe.old) (P.story pipe.new) target.new }
+    ensures rounds { is_open target.old.end ≡ false → target.old.moment.state.alive ≡ true → Serves M.meaning rounds (opened target.old) (P.story pipe.old) result target.new (P.story pipe.new) }
     ensures limit { result ≡ Ended.TurnLimit → rounds + (P.story pipe.old).rooms ≤ cost (P.story pipe.new) target.new }
+    ensures at_most { is_open target.old.end ≡ false → target.old.moment.state.alive ≡ true → target.new.end.session.turns + (P.story pipe.new).rooms ≤ rounds + (P.story pipe.old).rooms }
     ensures ran { Ran M.meaning target.new }
 {
     if target.is_open() {
@@ -62,26 +66,30 @@ fn run_session<M: Machine + Drop, P: Pipe>(
     ensures in_order { InOrder target.old (P.story pipe.old) (P.story pipe.new) target.new }
     ensures ended { MayEnd M.meaning result (P.story pipe.old) (P.story pipe.new) target.new }
     ensures limit { result ≡ Ended.TurnLimit → rounds + (P.story pipe.old).rooms ≤ cost (P.story pipe.new) target.new }
+    ensures rounds { Serves M.meaning rounds target.old (P.story pipe.old) result target.new (P.story pipe.new) }
 {
     let ended = run_rounds(target, pipe, rounds);
     target.session();
     match pipe.flush() {
         Ok(()) => ended,
-        Err(_) => {
-            lose_what_is_kept(target, ended);
-            Ended::LostByWrite
-        }
+        Err(_) => lose_what_is_kept(target, ended),
     }
 }
 
-/// The last flush failed: a connection that was not lost before is lost now.
-fn lose_what_is_kept<M: Machine + Drop>(target: &mut Target<M>, ended: Ended)
+/// How a session ends whose last flush failed: a connection that was not lost before is lost now. A frame fault is told as one.
+fn lose_what_is_kept<M: Machine + Drop>(target: &mut Target<M>, ended: Ended) -> Ended
     requires { Ran M.meaning target.old }
-    ensures { (base : spec.Target M) (start now after : Story) → InOrder base start now target.old → MayEnd M.meaning ended start (flushed now) target.old → FailsFlush now after → InOrder base start after target.new × MayEnd M.meaning Ended.LostByWrite start after target.new }
+    ensures how { result ≡ unflushed_end ended }
+    ensures left { target.new ≡ unflushed_target ended target.old }
+    ensures ends { (base : spec.Target M) (start now after : Story) → InOrder base start now target.old → MayEnd M.meaning ended start (flushed now) target.old → FailsFlush now after → InOrder base start after target.new × MayEnd M.meaning result start after target.new }
 {
     match ended {
-        Ended::LostByRead | Ended::LostByWrite | Ended::Refused(_) => {}
-        Ended::Done | Ended::NoMemory | Ended::TurnLimit => target.lose(),
+        Ended::Refused(number) => Ended::Refused(number),
+        Ended::LostByRead | Ended::LostByWrite => Ended::LostByWrite,
+        Ended::Done | Ended::NoMemory | Ended::TurnLimit => {
+            target.lose();
+            Ended::LostByWrite
+        }
     }
 }
 
@@ -95,6 +103,7 @@ fn run_rounds<M: Machine + Drop, P: Pipe>(
     ensures in_order { InOrder target.old (P.story pipe.old) (P.story pipe.new) target.new }
     ensures ended { MayEnd M.meaning result (P.story pipe.old) (flushed (P.story pipe.new)) target.new }
     ensures limit { result ≡ Ended.TurnLimit → rounds + (P.story pipe.old).rooms ≤ cost (P.story pipe.new) target.new }
+    ensures rounds { Runs M.meaning rounds target.old (P.story pipe.old) result target.new (P.story pipe.new) }
 {
     let mut buffer = [0; CHUNK];
     for _done in 0..rounds {
@@ -123,7 +132,10 @@ fn round<M: Machine + Drop, P: Pipe>(
     requires idle { target.old.end.outgoing ≡ [] }
     ensures goes { result ≡ Next.Goes → GoesOn target.old target.new (P.story pipe.old) (P.story pipe.new) }
     ensures ends { IfEnds result (EndsSo M.meaning target.old target.new (P.story pipe.old) (P.story pipe.new)) }
+    ensures round { result ≡ Next.Goes → Round M.meaning target.old (P.story pipe.old) target.new (P.story pipe.new) }
+    ensures last { IfEnds result (LastRound M.meaning target.old (P.story pipe.old) target.new (P.story pipe.new)) }
 {
+    closes_for_a_reason::<M>();
     target.session();
     let turn = match target.turn() {
         Ok(turn) => turn,
@@ -149,6 +161,8 @@ fn flush_and_go<M: Machine + Drop, P: Pipe>(
     requires room { 0 < room_of target.old.end }
     ensures goes { result ≡ Next.Goes → GoesOn target.old target.new (P.story pipe.old) (P.story pipe.new) }
     ensures ends { IfEnds result (EndsSo M.meaning target.old target.new (P.story pipe.old) (P.story pipe.new)) }
+    ensures round { result ≡ Next.Goes → Round M.meaning target.old (P.story pipe.old) target.new (P.story pipe.new) }
+    ensures last { IfEnds result (LastRound M.meaning target.old (P.story pipe.old) target.new (P.story pipe.new)) }
 {
     target.session();
     if !flush_all(pipe) {
@@ -172,6 +186,8 @@ fn step_or_read<M: Machine + Drop, P: Pipe>(
     requires left { (P.story pipe.old).unflushed ≡ [] }
     ensures goes { result ≡ Next.Goes → GoesOn target.old target.new (P.story pipe.old) (P.story pipe.new) }
     ensures ends { IfEnds result (EndsSo M.meaning target.old target.new (P.story pipe.old) (P.story pipe.new)) }
+    ensures round { result ≡ Next.Goes → (before : Story) → P.story pipe.old ≡ flushed before → Round M.meaning target.old before target.new (P.story pipe.new) }
+    ensures last { IfEnds result (λ ended. (before : Story) → P.story pipe.old ≡ flushed before → LastRound M.meaning target.old before target.new (P.story pipe.new) ended) }
 {
     target.session();
     match step_each(target) {
@@ -192,7 +208,7 @@ fn step_or_read<M: Machine + Drop, P: Pipe>(
 fn step_each<M: Machine + Drop>(target: &mut Target<M>) -> Result<bool, TargetFault>
     requires { is_open target.old.end ≡ true }
     ensures stepped { IfOk result (StepsIf target.old target.new) }
-    ensures each { IfOk result (λ made. StepsEach M.meaning None target.old made target.new) }
+    ensures each { StepsEach M.meaning None target.old result target.new }
     ensures memory { OnErr result (((stepped : Bool) × StepsIf target.old target.new stepped) × (is_open target.new.end ≡ true) × MayStep target.new) }
 {
     let mut has_stepped = false;
@@ -215,8 +231,10 @@ fn step_one<M: Machine + Drop>(
 ) -> Result<bool, TargetFault>
     ensures goes { IfOk result (λ now. (first : spec.Target M) → is_open first.end ≡ true → StepsIf first target.old has_stepped → StepsIf first target.new now) }
     ensures steps { IfOk result (λ now. (stepped : declared.Stepped) × StepsAt M.meaning thread.0 target.old (Ok stepped) target.new × (now ≡ (has_stepped || is_step stepped))) }
+    ensures wants { IfErr result (λ fault. StepsAt M.meaning thread.0 target.old (Err fault) target.new) }
     ensures memory { OnErr result (MayStep target.old × (target.new ≡ target.old)) }
 {
+    closes_for_a_reason::<M>();
     let stepped = match target.step(thread) {
         Ok(stepped) => stepped,
         Err(fault) => return Err(fault),
@@ -326,6 +344,7 @@ fn write_out<M: Machine + Drop, P: Pipe>(
     ensures all { IsTrue result → WritesAll target.old target.new (P.story pipe.old) (P.story pipe.new) }
     ensures fails { result ≡ false → FailsWrite (P.story pipe.old) (P.story pipe.new) target.old.end.outgoing }
     ensures kept { (taken : List ℕ) × (target.new ≡ with_taken taken target.old) }
+    ensures rooms { (P.story pipe.new).rooms ≡ (P.story pipe.old).rooms }
 {
     while target.waiting() > 0 {
         let count = target.take(buffer);
@@ -340,6 +359,7 @@ fn write_out<M: Machine + Drop, P: Pipe>(
 pub fn write_all<P: Pipe>(pipe: &mut P, bytes: &[u8]) -> bool
     ensures all { IsTrue result → P.story pipe.new ≡ with_written bytes.now (P.story pipe.old) }
     ensures fails { result ≡ false → FailsWrite (P.story pipe.old) (P.story pipe.new) bytes.now }
+    ensures rooms { (P.story pipe.new).rooms ≡ (P.story pipe.old).rooms }
 {
     let mut rest = bytes;
     while !rest.is_empty() {

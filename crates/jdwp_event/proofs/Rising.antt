@@ -8,7 +8,7 @@ use Rattle.std.proofs.lemmas.Bool.Decides.{nat_tests}
 use Rattle.jdwp_event.specs.Occurrences.{HappeningMeaning}
 use Rattle.jdwp_event.specs.Requests.{Asked, Request}
 use Rattle.jdwp_event.specs.Filters.{counted, all_counted, is_of_kind}
-use Rattle.jdwp_event.specs.RequestLists.{AllAbove, AllBelow, StartsAbove, AreRising, placed}
+use Rattle.jdwp_event.specs.RequestLists.{AllAbove, AllBelow, StartsAbove, AreRising, has_id, placed}
 use Rattle.jdwp_event.proofs.Limits.{set_is}
 
 -- ---- a request in its place
@@ -80,11 +80,28 @@ abbrev pub StartsPast : ℕ → List Request → Type 0
 StartsPast id [] = Unit {0}
 StartsPast id (r ∷ rs) = id < r.asked.id
 
-past : (id : ℕ) (rs : List Request) (p : ℕ) (d : Request) → StartsAbove id (drop p rs) → (p < length rs → (get_or rs p d).asked.id ≡ id → ⊥) → StartsPast id (drop p rs)
+pub past : (id : ℕ) (rs : List Request) (p : ℕ) (d : Request) → StartsAbove id (drop p rs) → (p < length rs → (get_or rs p d).asked.id ≡ id → ⊥) → StartsPast id (drop p rs)
 past id [] zero d above other = tt
 past id [] (suc p) d above other = tt
 past id (x ∷ xs) zero d above other = let ne : x.asked.id ≡ id → ⊥ = other (omega arith) in omega (arith, above, ne)
 past id (x ∷ xs) (suc p) d above other = past id xs p d above (λ lt e. other (omega arith) e)
+
+less_false : (a b : ℕ) → a < b → (a == b) ≡ false
+less_false a b lt = grind (arith, nat_tests)
+
+absent_above : (id : ℕ) (rs : List Request) → AllAbove id rs → has_id id rs ≡ false
+absent_above id [] a = refl
+absent_above id (r ∷ rs) a = rw (eq_false r.asked.id id a.0) (absent_above id rs a.1)
+
+absent_past : (id : ℕ) (rs : List Request) → AreRising rs → StartsPast id rs → has_id id rs ≡ false
+absent_past id [] rising lt = refl
+absent_past id (r ∷ rs) rising lt = absent_above id (r ∷ rs) (lt, above_less id r.asked.id rs lt rising.0)
+
+-- a request of this id that is not in its place is nowhere
+pub absent : (id : ℕ) (rs : List Request) (p : ℕ) → AreRising rs → AllBelow id (take p rs) → StartsPast id (drop p rs) → has_id id rs ≡ false
+absent id [] p rising b lt = refl
+absent id (x ∷ xs) zero rising b lt = absent_past id (x ∷ xs) rising lt
+absent id (x ∷ xs) (suc p) rising b lt = rw (less_false x.asked.id id b.0) (absent id xs p rising.1 b.1 lt)
 
 placed_new : (r : Request) (rs : List Request) → StartsPast r.asked.id rs → placed r rs ≡ r ∷ rs
 placed_new r [] lt = refl

@@ -41,3 +41,8 @@ CompositeIsKept w bytes = (policy : ℕ) × (rest : List ℕ) × (bytes ≡ poli
 abbrev pub composite_of : List DatumMeaning → Option CompositeMeaning
 composite_of (One (Byte policy) ∷ Many events ∷ []) = Some (with_policy policy events)
 composite_of other = None
+
+-- these data are a composite of at least one event
+abbrev pub HasEvents : Option CompositeMeaning → Type 0
+HasEvents None = ⊥
+HasEvents (Some c) = c.events ≡ [] → ⊥

@@ -2,7 +2,7 @@
 -- Clear and ClearAllBreakpoints of the set EventRequest).
 use Rattle.std.specs.Prelude.{ℕ, ℤ, pos, ◌<◌, ◌≤◌, ◌==◌, nat_lt, Bool, ◌&&◌, not, List, [], ◌∷◌, if◌then◌else◌}
 use Rattle.std.specs.Ordering.{int_eq}
-use Rattle.std.specs.List.{filter}
+use Rattle.std.specs.List.{filter, list_any}
 use Rattle.jdwp_event.specs.declared.kind.EventKind.TheVariants as kind
 use Rattle.jdwp_event.specs.EventKinds.{kind_byte}
 use Rattle.jdwp_event.specs.Requests.{Request}
@@ -32,6 +32,10 @@ placed r (x ∷ xs) =
     if nat_lt x.asked.id r.asked.id then x ∷ placed r xs else (
     if x.asked.id == r.asked.id then r ∷ xs else
     r ∷ x ∷ xs)
+
+-- whether there is a request of this id
+abbrev pub has_id : ℕ → List Request → Bool
+has_id id requests = list_any (λ (r : Request). r.asked.id == id) requests
 
 -- Whether the command Clear of this kind and id leaves a request, by the request's kind and id: all but the one of both.
 abbrev pub is_left : ℕ → ℤ → ℕ → ℤ → Bool

@@ -14,7 +14,7 @@ ghost use Rattle.jdwp_layout.specs.Keeping.{EntryIsKept, EntriesAreKept};
 ghost use Rattle.jdwp_layout.specs.Reads.{entry_at};
 ghost use Rattle.jdwp_layout.specs.Writes.{entry_canonical, entry_refusal};
 ghost use Rattle.jdwp_layout.specs.EntryLaws.{entry_codes, entry_unrefused};
-ghost use Rattle.jdwp_event.specs.CompositeBytes.{EncodesComposite, composite_canonical, composite_refusal, CompositeFault, composite_at, CompositeIsKept, composite_of, with_policy};
+ghost use Rattle.jdwp_event.specs.CompositeBytes.{EncodesComposite, composite_canonical, composite_refusal, CompositeFault, composite_at, CompositeIsKept, HasEvents, composite_of, with_policy};
 ghost use Rattle.jdwp_event.specs.CompositeLaws.{composite_codes, composite_unrefused};
 ghost use Rattle.jdwp_event.specs.Constants.{policy_byte};
 ghost use Rattle.jdwp_event.specs.Filters.{all_counted, passes, passing};
@@ -199,9 +199,10 @@ impl Composite {
     /// The composite of data in the layout of its row; None exactly where they are not a byte and a list.
     ///
     /// # Errors
-    /// `NoMemory` where an allocation was refused.
+    /// `NoMemory` where an allocation was refused, and only where they have an event.
     pub fn of_data(alloc: Global, carried: Data) -> Result<Option<Composite>, NoMemory>
-        ensures { IfOk result (λ found. found ≡ composite_of carried) }
+        ensures value { IfOk result (λ found. found ≡ composite_of carried) }
+        ensures memory { IfErr result (λ _. HasEvents (composite_of carried)) }
     {
         let Some((policy, entries)) = policy_and_entries(carried) else {
             return Ok(None);
@@ -240,8 +241,12 @@ fn policy_and_entries(carried: Data) -> Option<(u8, Vec<Vec<Scalar>>)>
 }
 
 /// The events of these fields.
+///
+/// # Errors
+/// `NoMemory` where an allocation was refused, and only where there are any.
 fn events_of(alloc: Global, entries: Vec<Vec<Scalar>>) -> Result<Vec<Event>, NoMemory>
-    ensures { IfOk result (λ events. events.items ≡ entry_meanings entries.items) }
+    ensures value { IfOk result (λ events. events.items ≡ entry_meanings entries.items) }
+    ensures memory { IfErr result (λ _. entry_meanings entries.items ≡ [] → ⊥) }
 {
     let mut events = Vec::with_capacity(alloc, entries.len())?;
     for fields in entries {

@@ -88,10 +88,11 @@ impl Modifier {
     /// The modifiers of the entries of a Set's list, in the order sent. An entry that is no modifier is left out.
     ///
     /// # Errors
-    /// `NoMemory` where an allocation was refused.
+    /// `NoMemory` where an allocation was refused, and only where an entry is a modifier.
     pub fn of_entries(alloc: Global, entries: Vec<Vec<Scalar>>) -> Result<Vec<Modifier>, NoMemory>
-        ensures { IfOk result
+        ensures value { IfOk result
             (λ found. modifiers_meaning found ≡ modifiers_of (entry_meanings entries.items)) }
+        ensures memory { IfErr result (λ _. modifiers_of (entry_meanings entries.items) ≡ [] → ⊥) }
     {
         let mut modifiers = Vec::new(alloc);
         for entry in entries {

@@ -1,5 +1,5 @@
 //! Event requests: what was asked for, and what has become of it (JDWP specification, "Protocol Details": the set EventRequest).
-ghost use Rattle.std.specs.Prelude.{◌≡◌, ◌≤◌, ◌<◌, length, IfOk};
+ghost use Rattle.std.specs.Prelude.{◌≡◌, ◌≤◌, ◌<◌, length, IfOk, IfErr, []};
 ghost use Rattle.jdwp_wire.specs.Numbers.{greatest_int};
 ghost use Rattle.jdwp_event.specs.ModifierMeanings.{modifier_meaning, found_modifier_behind};
 ghost use Rattle.jdwp_event.specs.RequestParts.{origin_meaning, modifiers_meaning, new_limit, limit_passes, limit_counted, limits_after, asked_modifiers, times_reached, modifier_at};
@@ -137,7 +137,7 @@ impl Request {
     /// A request that nothing has reached yet.
     ///
     /// # Errors
-    /// `NoMemory` where an allocation was refused.
+    /// `NoMemory` where an allocation was refused, and only where there are modifiers.
     pub fn new(
         alloc: Global,
         id: RequestId,
@@ -146,12 +146,13 @@ impl Request {
         modifiers: Vec<Modifier>,
         origin: StepOrigin,
     ) -> Result<Request, NoMemory>
-        ensures { IfOk result (λ r. r ≡ new_request (record {
+        ensures value { IfOk result (λ r. r ≡ new_request (record {
           id = id;
           kind = kind;
           policy = policy;
           modifiers = modifiers_meaning modifiers;
         }) (origin_meaning origin)) }
+        ensures memory { IfErr result (λ _. modifiers_meaning modifiers ≡ [] → ⊥) }
     {
         let mut limits = Vec::new(alloc);
         for modifier in modifiers {

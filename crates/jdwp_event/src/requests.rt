@@ -1,10 +1,10 @@
 //! All event requests of a session (JDWP specification, "Protocol Details": the set EventRequest).
-ghost use Rattle.std.specs.Prelude.{◌≡◌, ◌≤◌, ◌==◌, length, take, drop, OnOk, IfErr, [], ◌∷◌, ◌++◌};
+ghost use Rattle.std.specs.Prelude.{◌≡◌, ◌≤◌, ◌==◌, false, length, take, drop, OnOk, IfErr, [], ◌∷◌, ◌++◌};
 ghost use Rattle.jdwp_event.specs.Requests.{Request};
 ghost use Rattle.jdwp_event.specs.Filters.{all_counted};
 ghost use Rattle.jdwp_event.specs.KindsAsked.{any_has_count, asks_for};
 ghost use Rattle.jdwp_event.specs.Occurrences.{occurrence_meaning};
-ghost use Rattle.jdwp_event.specs.RequestLists.{placed, without, without_breakpoints, AllBelow, StartsAbove};
+ghost use Rattle.jdwp_event.specs.RequestLists.{placed, without, without_breakpoints, has_id, AllBelow, StartsAbove};
 
 use crate::happening::{Happening, Occurrence};
 use crate::kind::EventKind;
@@ -83,10 +83,11 @@ impl Requests {
     /// Adds a request under its id, in place of an older one of that id.
     ///
     /// # Errors
-    /// `NoMemory` where an allocation was refused; then nothing has changed.
+    /// `NoMemory` where an allocation was refused, and only where there is no older one; then nothing has changed.
     pub fn insert(&mut self, request: Request) -> Result<(), NoMemory>
         ensures ok { OnOk result (self.new ≡ placed request self.old) }
         ensures err { IfErr result (λ _. self.new ≡ self.old) }
+        ensures memory { IfErr result (λ _. has_id request.asked.id self.old ≡ false) }
     {
         let place = place_for(&self.entries, request.id());
         if place < self.entries.len() && self.entries[place].id() == request.id() {

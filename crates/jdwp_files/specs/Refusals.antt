@@ -3,6 +3,7 @@ use Rattle.std.specs.Prelude.{◌≡◌, ◌⊎◌, ℕ, List, Err}
 use Rattle.std.specs.Borrow.{Bor}
 use Rattle.std.specs.Str.Lines.{lines}
 use Rattle.jdwp_wire.specs.Limits.{Limits}
+use Rattle.jdwp_script.specs.declared.detail.Detail.{Detail}
 use Rattle.jdwp_script.specs.declared.fault.ScriptFault.{ScriptFault}
 use Rattle.jdwp_script.specs.declared.fault.ScriptFault.TheVariants as script
 use Rattle.jdwp_script_machine.specs.Machines.{read_machine}
@@ -21,9 +22,9 @@ IsFileNotText file bytes told = (cause : FileCause) × (told ≡ fault.File file
 abbrev pub RefusesScript : Limits → Bor (List ℕ) → List ℕ → Fault → Type 0
 RefusesScript limits file bytes told =
     IsFileNotText file bytes told
-    ⊎ ((refused : ScriptFault) × (told ≡ fault_of_script refused) × ((refused ≡ script.NoMemory) ⊎ (read_machine limits.live bytes ≡ Err refused)))
+    ⊎ ((refused : ScriptFault) × (detail : Detail) × (told ≡ fault_of_script file refused detail) × ((refused ≡ script.NoMemory) ⊎ (read_machine limits.live bytes ≡ Err refused)))
 
 -- no session of a plan began: its file is no text, or it has this fault, the first, or memory was refused
 abbrev pub RefusesPlan : Bor (List ℕ) → List ℕ → Fault → Type 0
 RefusesPlan file bytes told =
-    IsFileNotText file bytes told ⊎ ((refused : PlanFault) × (told ≡ fault_of_plan refused) × IsFirstFault (lines bytes) refused)
+    IsFileNotText file bytes told ⊎ ((refused : PlanFault) × (told ≡ fault_of_plan file bytes refused) × IsFirstFault (lines bytes) refused)

@@ -11,19 +11,28 @@ ghost use Rattle.jdwp_serve.specs.Serving.{ServesNew};
 ghost use Rattle.jdwp_plan.specs.declared.plan_line.PlanLine.{PlanLine};
 ghost use Rattle.jdwp_plan.specs.PlanLines.{said_by};
 ghost use Rattle.jdwp_plan.specs.Plans.{Says};
-ghost use Rattle.jdwp_program.specs.Attaching.{AttachesNew};
+ghost use Rattle.jdwp_program.specs.Attaching.{AttachesNew, begun};
 ghost use Rattle.jdwp_program.specs.Outputs.{LeavesCaptureTold};
 ghost use Rattle.jdwp_files.specs.Refusals.{IsFileNotText, RefusesScript, RefusesPlan};
 
-use jdwp_engine::{Ended, Streams};
-use jdwp_program::{Fault, FileCause, Told, attach_plan, check_capture, show_capture, text_of};
+use jdwp_attach::Attached;
+use jdwp_engine::{Ended, Pipe, Streams};
+use jdwp_program::{
+    Fault, FileCause, Outcome, Side, Told, Watched, attach_plan, check_capture, show_capture,
+    text_of,
+};
 use jdwp_serve::serve_script;
-use jdwp_words::{Attach, ServeScript};
+use jdwp_wire::Limits;
+use jdwp_words::{Attach, ServeScript, SessionFiles};
 use std::alloc::Global;
-use std::fs;
-use std::fs::OpenFile;
+use std::fs::{Metadata, OpenFile};
 use std::io::{BufWriter, Read, Write};
+use std::os::unix::fs::MetadataExt;
 use std::rt::Files;
+use std::{fs, io};
+
+/// The files of a session that were opened, one to read from and one to write to.
+type FileStreams<F> = Streams<Watched<F>, Watched<BufWriter<F>>>;
 
 /// Shows the capture of a file.
 ///
@@ -85,14 +94,20 @@ fn check_bytes<'a, O: Write>(
 /// script is judged then.
 ///
 /// # Errors
-/// `File` where one can't be read, opened or made, or the script is not UTF-8; `Script` where it is refused; `NoMemory`.
+/// `File` where one can't be read, opened or made, the output's is one of the others, or the script is not UTF-8; `Script` where it is
+/// refused; `NoMemory`.
 pub fn serve_files<'a, R: Files + AllocGlobal>(
     rt: &R,
     words: &ServeScript<'a>,
-) -> Result<Ended, Fault<'a>> {
+    files: &SessionFiles<'a>,
+) -> Result<Outcome<'a>, Fault<'a>> {
+    keep(rt, files.to, words.machine)?;
+    keep(rt, files.to, files.from)?;
     let bytes = read(rt, words.machine)?;
-    let mut pipe = streams(rt, words.from, words.to)?;
-    serve_bytes(rt.alloc(), words, &bytes, &mut pipe)
+    let mut pipe = streams(rt, files.from, files.to)?;
+    let ended = serve_bytes(rt.alloc(), words, &bytes, &mut pipe)?;
+    let (from, to) = sides(files.from, files.to, pipe);
+    Ok(Outcome::of_session(ended, from, to, None))
 }
 
 /// Serves the session over the machine of the script of these bytes.
@@ -108,43 +123,77 @@ fn serve_bytes<'a, I: Read, O: Write>(
     ensures untouched { OnErr result (pipe.new ≡ pipe.old) }
 {
     let script = text(words.machine, bytes)?;
-    Ok(serve_script(alloc, script, words.settings, pipe, words.turns)?)
+    match serve_script(alloc, script, words.settings, pipe, words.turns) {
+        Ok(ended) => Ok(ended),
+        Err(fault) => {
+            let detail = fault.detail(alloc, script, &Limits::standard());
+            Err(Fault::of_script(words.machine, fault, detail))
+        }
+    }
 }
 
 /// Runs a plan as the debugger of the session of a file, and prints what it reads. The file of what the debugger sends is made only once the
 /// others are read and open, and the plan is judged then.
 ///
 /// # Errors
-/// `File` where one can't be read, opened or made, or the plan is not UTF-8; `Plan` where it is refused; `NoMemory`. Then nothing was
-/// printed.
+/// `File` where one can't be read, opened or made, the file that is made is one of the others, or the plan is not UTF-8; `Plan` where it is
+/// refused; `NoMemory`. Then nothing was printed.
 pub fn attach_files<'a, R: Files + AllocGlobal, O: Write>(
     rt: &R,
     words: &Attach<'a>,
+    files: &SessionFiles<'a>,
     out: &mut O,
-) -> Result<Ended, Fault<'a>>
+) -> Result<Outcome<'a>, Fault<'a>>
     ensures unprinted { OnErr result (Keeps (O.contents out.old) (O.contents out.new)) }
 {
+    keep(rt, files.to, words.plan)?;
+    keep(rt, files.to, files.from)?;
     let bytes = read(rt, words.plan)?;
-    let mut pipe = streams(rt, words.from, words.to)?;
-    attach_bytes(rt.alloc(), words, &bytes, &mut pipe, out)
+    let mut pipe = streams(rt, files.from, files.to)?;
+    let mut printed = Streams::new(io::empty(), Watched::new(out));
+    let how = attach_bytes(rt.alloc(), words, &bytes, &mut pipe, &mut printed)?;
+    let (from, to) = sides(files.from, files.to, pipe);
+    let (_, output) = printed.into_parts();
+    Ok(Outcome::of_plan(how, from, to, output.failure()))
 }
 
 /// Runs the plan of these bytes.
-fn attach_bytes<'a, I: Read, W: Write, O: Write>(
+fn attach_bytes<'a, I: Read, W: Write, O: Pipe>(
     alloc: Global,
     words: &Attach<'a>,
     bytes: &[u8],
     pipe: &mut Streams<I, W>,
     out: &mut O,
-) -> Result<Ended, Fault<'a>>
-    ensures ran { IfOk result (λ ended. IsUtf8 bytes.now × (said : List PlanLine) × Says (lines bytes.now) (map said_by said)
-        × AttachesNew said words.now.turns (story_of pipe.old) (story_of pipe.new) ended) }
+) -> Result<Attached, Fault<'a>>
+    ensures ran { IfOk result (λ how. IsUtf8 bytes.now × (said : List PlanLine) × Says (lines bytes.now) (map said_by said)
+        × AttachesNew said (begun words.now.turns (story_of pipe.old) (O.story out.old)) (story_of pipe.new) (O.story out.new) how) }
     ensures fault { IfErr result (RefusesPlan words.now.plan bytes.now) }
     ensures untouched { OnErr result (pipe.new ≡ pipe.old) }
-    ensures unprinted { OnErr result (Keeps (O.contents out.old) (O.contents out.new)) }
+    ensures unprinted { OnErr result (out.new ≡ out.old) }
 {
     let plan = text(words.plan, bytes)?;
-    Ok(attach_plan(alloc, plan, pipe, out, words.turns)?)
+    match attach_plan(alloc, plan, pipe, out, words.turns) {
+        Ok(how) => Ok(how),
+        Err(fault) => Err(Fault::of_plan(words.plan, plan, fault)),
+    }
+}
+
+/// Refuses a file to write to that is one that is read, under whatever name. No file is opened.
+fn keep<'a, R: Files>(rt: &R, to: &'a str, other: &str) -> Result<(), Fault<'a>> {
+    match (fs::metadata(rt, to), fs::metadata(rt, other)) {
+        (Ok(written), Ok(read)) if is_same_file(&written, &read) => {
+            Err(Fault::File(to, FileCause::AlsoRead))
+        }
+        _ => Ok(()),
+    }
+}
+
+/// Whether both are of one file that holds bytes. One without a number on its device is the same as none.
+fn is_same_file(written: &Metadata, read: &Metadata) -> bool {
+    written.is_file()
+        && written.ino() != 0
+        && written.ino() == read.ino()
+        && written.dev() == read.dev()
 }
 
 /// The files of a session: one to read from, and then a new one to write to.
@@ -152,10 +201,28 @@ fn streams<'a, R: Files + AllocGlobal>(
     rt: &R,
     from: &'a str,
     to: &'a str,
-) -> Result<Streams<R::File, BufWriter<R::File>>, Fault<'a>> {
+) -> Result<FileStreams<R::File>, Fault<'a>> {
     let reader = open(rt, from)?;
     let writer = writer(rt, to)?;
-    Ok(Streams::new(reader, writer))
+    Ok(Streams::new(Watched::new(reader), Watched::new(writer)))
+}
+
+/// The files of a session as they were named, with the errors at which calls on them failed.
+fn sides<'a, I: Drop, O: Drop>(
+    from: &'a str,
+    to: &'a str,
+    pipe: Streams<Watched<I>, Watched<O>>,
+) -> (Side<'a>, Side<'a>) {
+    let (reader, writer) = pipe.into_parts();
+    let from = Side {
+        path: from,
+        failure: reader.failure(),
+    };
+    let to = Side {
+        path: to,
+        failure: writer.failure(),
+    };
+    (from, to)
 }
 
 /// A new file to write to, with what waits to be written.
@@ -171,7 +238,7 @@ fn writer<'a, R: Files + AllocGlobal>(
 }
 
 /// The bytes of a file as text.
-fn text<'a, 'b>(file: &'a str, bytes: &'b [u8]) -> Result<&'b str, Fault<'a>>
+pub(crate) fn text<'a, 'b>(file: &'a str, bytes: &'b [u8]) -> Result<&'b str, Fault<'a>>
     ensures { MatchResult result (λ text. (text.now ≡ bytes.now) × IsUtf8 bytes.now) (IsFileNotText file.entry bytes.now) }
 {
     match text_of(bytes) {
@@ -181,7 +248,10 @@ fn text<'a, 'b>(file: &'a str, bytes: &'b [u8]) -> Result<&'b str, Fault<'a>>
 }
 
 /// The bytes of a file.
-fn read<'a, R: Files + AllocGlobal>(rt: &R, path: &'a str) -> Result<Vec<u8>, Fault<'a>> {
+pub(crate) fn read<'a, R: Files + AllocGlobal>(
+    rt: &R,
+    path: &'a str,
+) -> Result<Vec<u8>, Fault<'a>> {
     fs::read(rt, path).map_err(|error| Fault::of_file(path, error))
 }
 

@@ -3,5 +3,6 @@
 
 mod files;
 mod running;
+mod sessions;
 
 pub use running::run;

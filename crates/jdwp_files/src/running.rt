@@ -1,48 +1,64 @@
 //! The program, over a runtime and two writers.
 ghost use Rattle.std.specs.Prelude.{◌≡◌, ◌≤◌, false};
-ghost use Rattle.jdwp_words.specs.Commands.{is_attach};
+ghost use Rattle.jdwp_words.specs.Commands.{runs_plan};
 ghost use Rattle.jdwp_program.specs.Outputs.{Leaves, LeavesOutcome};
 
 use crate::files::{attach_files, check_file, serve_files, show_file};
+use crate::sessions::{attach_port, pair_files, serve_port};
 use jdwp_program::{Fault, Outcome, report_fault, report_outcome};
-use jdwp_words::Words;
+use jdwp_words::{Peer, Words};
 use std::convert::AsStr;
 use std::io::Write;
+use std::net::Net;
 use std::rt::Files;
 
 /// Runs the words, the first of which is the program's name, and answers the exit status.
 ///
-/// 0: done, or a capture without a fault. 1: words that are refused or ask for help, a file that can't be opened or made or is not
-/// UTF-8, a script, a plan, a command of it or bytes that are refused, or a capture with a fault. 2: the connection was lost, or the
-/// output can't be written. 3: no memory. 4: all rounds or turns were used. Each of 1 to 4 is told on `err` behind `jdwp: `, but for the
-/// fault of a capture, which `out` tells, and where who reads `out` went away.
+/// 0: done, by Dispose, the machine's death or a plan that is finished, or a capture without a fault. 1: words that are refused or ask for
+/// help, a file that can't be opened or made or is not UTF-8, a script, a plan, a command of it or bytes that are refused, or a capture with
+/// a fault. 2: a file ended before its session did, or it or the output can't be read or written. 3: no memory. 4: all rounds or turns were
+/// used. Each of 1 to 4 is told on `err` behind `jdwp: `, but for the fault of a capture, which `out` tells, and where who reads `out` went
+/// away.
 pub fn run<R, S, O, E>(rt: &R, words: &[S], out: &mut O, err: &mut E) -> u8
 where
-    R: Files + AllocGlobal,
+    R: Files + AllocGlobal + Net,
     S: AsStr,
     O: Write,
     E: Write,
     ensures bound { result ≤ 4 }
-    // Unless the command is `attach`, on `out` is nothing, or what is told of a capture: all of it, the status saying whether it has a
+    // Unless the command runs a plan, on `out` is nothing, or what is told of a capture: all of it, the status saying whether it has a
     // fault, or a beginning.
-    ensures leaves { is_attach S.text words.now ≡ false → Leaves result (O.contents out.old) (O.contents out.new) }
+    ensures leaves { runs_plan S.text words.now ≡ false → Leaves result (O.contents out.old) (O.contents out.new) }
 {
-    match execute(rt, words, out) {
+    match execute(rt, words, out, err) {
         Ok(outcome) => report_outcome(outcome, err),
         Err(fault) => report_fault(&fault, err),
     }
 }
 
-fn execute<'a, R, S, O>(rt: &R, words: &'a [S], out: &mut O) -> Result<Outcome, Fault<'a>>
+fn execute<'a, R, S, O, E>(
+    rt: &R,
+    words: &'a [S],
+    out: &mut O,
+    err: &mut E,
+) -> Result<Outcome<'a>, Fault<'a>>
 where
-    R: Files + AllocGlobal,
+    R: Files + AllocGlobal + Net,
     S: AsStr,
     O: Write,
-    ensures { is_attach S.text words.now ≡ false → LeavesOutcome result (O.contents out.old) (O.contents out.new) }
+    E: Write,
+    ensures { runs_plan S.text words.now ≡ false → LeavesOutcome result (O.contents out.old) (O.contents out.new) }
 {
     match jdwp_words::read(rt.alloc(), words)? {
-        Words::ServeScript(words) => Ok(Outcome::Session(serve_files(rt, &words)?)),
-        Words::Attach(words) => Ok(Outcome::Session(attach_files(rt, &words, out)?)),
+        Words::ServeScript(words) => match words.peer {
+            Peer::Files(files) => serve_files(rt, &words, &files),
+            Peer::Port(port) => serve_port(rt, &words, port, err),
+        },
+        Words::Attach(words) => match words.peer {
+            Peer::Files(files) => attach_files(rt, &words, &files, out),
+            Peer::Port(port) => attach_port(rt, &words, port, out),
+        },
+        Words::Pair(words) => pair_files(rt, &words, out),
         Words::Show(file) => Ok(Outcome::Capture(show_file(rt, file, out)?)),
         Words::Check(file) => Ok(Outcome::Capture(check_file(rt, file, out)?)),
     }

@@ -65,6 +65,11 @@ FitsRow m s (Some row) content = FitsShapes m s row.shapes content
 abbrev pub IsMachineError : ErrorCode → Type 0
 IsMachineError e = (1 ≤ e.0) × (e.0 ≢ INVALID_THREAD.0) × (e.0 ≢ THREAD_NOT_SUSPENDED.0) × (e.0 < 65_536)
 
+-- A refusal takes no memory: only data do.
+abbrev pub takes_memory : Answer → Bool
+takes_memory (Data content) = true
+takes_memory (Error e) = false
+
 -- an answer to a command of this set and number
 abbrev pub MayAnswer : {S : Type 0} → Meaning S → S → ℕ → ℕ → Answer → Type 0
 MayAnswer m s set number (Data content) = FitsRow m s (row_at set number) content

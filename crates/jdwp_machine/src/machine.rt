@@ -1,8 +1,8 @@
 //! The machine that a target runs.
-ghost use Rattle.std.specs.Prelude.{◌≡◌, true, false, IfOk, OnOk, OnErr};
+ghost use Rattle.std.specs.Prelude.{◌≡◌, true, false, IfOk, IfErr, IsTrue, OnOk, OnErr};
 ghost use Rattle.jdwp_event.specs.Occurrences.{runs_out};
 ghost use Rattle.jdwp_machine.specs.Meanings.{Meaning, has, numbers};
-ghost use Rattle.jdwp_machine.specs.Laws.{IsLawful};
+ghost use Rattle.jdwp_machine.specs.Laws.{IsLawful, takes_memory};
 
 use crate::query::Query;
 use jdwp_event::Happening;
@@ -52,14 +52,16 @@ pub trait Machine {
     /// What a command that changes nothing is answered.
     ///
     /// # Errors
-    /// `NoMemory` where an allocation was refused.
+    /// `NoMemory` where an allocation was refused; a refusal takes no memory.
     fn query(&self, query: &Query) -> Result<Answer, NoMemory>
-        ensures { IfOk result (λ answer. answer ≡ meaning.query self.now query.now) };
+        ensures value { IfOk result (λ answer. answer ≡ meaning.query self.now query.now) }
+        // A refusal takes no memory.
+        ensures memory { IfErr result (λ _. IsTrue (takes_memory (meaning.query self.now query.now))) };
 
     /// Writes slots of a frame of a live thread, all of them or none.
     ///
     /// # Errors
-    /// `NoMemory` where an allocation was refused; then nothing has changed.
+    /// `NoMemory` where an allocation was refused; then nothing has changed. A refusal takes no memory.
     fn write_slots(
         &mut self,
         thread: ObjectId,
@@ -67,7 +69,9 @@ pub trait Machine {
         values: &[(i32, Value)],
     ) -> Result<Answer, NoMemory>
         ensures ok { IfOk result (λ answer. (answer ≡ meaning.write_answer self.old thread.0 frame.0 values.now) × (self.new ≡ meaning.written self.old thread.0 frame.0 values.now)) }
-        ensures err { OnErr result (self.new ≡ self.old) };
+        ensures err { OnErr result (self.new ≡ self.old) }
+        // A refusal takes no memory.
+        ensures memory { IfErr result (λ _. IsTrue (takes_memory (meaning.write_answer self.old thread.0 frame.0 values.now))) };
 
     /// What every machine keeps.
     ghost lawful: { IsLawful meaning };

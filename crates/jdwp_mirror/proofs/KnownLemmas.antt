@@ -13,6 +13,9 @@ use Rattle.jdwp_mirror.specs.KnownThreads.{count_in, is_held_in, count_by, shown
 pub same_from : (a b : ℕ) → (a == b) ≡ true → a ≡ b
 same_from a b e = grind (arith, nat_tests)
 
+pub eq-self : (a : ℕ) → (a == a) ≡ true
+eq-self a = grind (arith, nat_tests)
+
 -- ---- changed
 
 pub count-taught : (l : Lesson) (ks : List Known) (t : ℕ) → count_in (all_taught l ks) t ≡ option_map (count_by l t) (count_in ks t)

@@ -1,9 +1,8 @@
 -- What the mirror's calls leave is what is to be learned from a packet.
-use Rattle.std.proofs.Common.{◌≡◌, ℕ, Bool, true, false, ◌||◌, ◌&&◌, not, List, [], ◌∷◌, ◌++◌, refl, ◌∙◌, ap, sym, subst, arith, Option, Some, None, is_some, if◌then◌else◌}
+use Rattle.std.proofs.Common.{◌≡◌, ℕ, Bool, true, false, ◌||◌, ◌&&◌, not, List, [], ◌∷◌, ◌++◌, refl, ◌∙◌, ap, sym, subst, Option, Some, None, is_some, if◌then◌else◌}
 use Rattle.std.specs.Prelude.{◌==◌}
 use Rattle.std.specs.Option.{option_map}
 use Rattle.std.proofs.lemmas.Bool.{cond_both}
-use Rattle.std.proofs.lemmas.Bool.Decides.{nat_tests}
 use Rattle.jdwp_wire.specs.declared.error_code.ErrorCode.{ErrorCode}
 use Rattle.jdwp_layout.specs.declared.answer.Answer.TheVariants.{Data, Error}
 use Rattle.jdwp_layout.specs.CommandNumbers.{is_command, STACK_FRAME, FRAMES, FRAME_COUNT, SUSPEND, RESUME, DISPOSE, EXIT, HOLD_EVENTS, RELEASE_EVENTS, ALL_THREADS, ID_SIZES, SET_REQUEST, CLEAR_REQUEST, CLEAR_ALL_BREAKPOINTS, SUSPEND_THREAD, RESUME_THREAD, SUSPEND_COUNT, THREAD_STATUS, SET_SLOTS}
@@ -22,9 +21,10 @@ use Rattle.jdwp_mirror.specs.Messages.{Ticket, Reply, Report}
 use Rattle.jdwp_mirror.specs.Mirror.{Kept, counted, first_count, is_invalid_thread, is_last_of_thread, is_positive, is_thread, learned_data, lists, more, less, other_count, requests_after_data, shows_data, taught}
 use Rattle.jdwp_mirror.specs.Mirrors.{Mirror, Learned, empty_mirror}
 use Rattle.jdwp_mirror.specs.Acts.{act_of, id_found, lesson_of, lesson_of_event, object_id, requests_after_act, set_to, threads_after_data, threads_after_error, threads_after_event, with_counted, with_found, without_found}
-use Rattle.jdwp_mirror.specs.KnownThreads.{AreSound, all_taught, change_of, count_by, count_in, is_held_in, is_of_id, only, shown_by, unseen, with_thread, without}
-use Rattle.jdwp_mirror.proofs.KnownLemmas.{count-taught, held-taught, count-only, held-only, count-pushed, held-pushed, held-is, same_from, turned}
-use Rattle.jdwp_mirror.proofs.Abouts.{about_action}
+use Rattle.jdwp_mirror.specs.KnownThreads.{AreSound, KeepsOrder, all_taught, change_of, count_by, count_in, is_held_in, is_of_id, only, shown_by, unseen, with_thread, without}
+use Rattle.jdwp_mirror.proofs.KnownLemmas.{count-taught, held-taught, count-only, held-only, count-pushed, held-pushed, held-is, same_from, eq-self, turned}
+use Rattle.jdwp_mirror.proofs.OrderLemmas.{order-data, order-error, order-event, order-none}
+use Rattle.jdwp_debuggee.specs.AboutLaws.{about_action}
 
 -- ---- small facts
 
@@ -49,9 +49,6 @@ set-one true n None = refl
 set-one true n (Some m) = refl
 set-one false n None = refl
 set-one false n (Some m) = refl
-
-eq-self : (a : ℕ) → (a == a) ≡ true
-eq-self a = grind (arith, nat_tests)
 
 eq-turned : (a b : ℕ) → (a == b) ≡ (b == a)
 eq-turned a b =
@@ -132,6 +129,7 @@ pub learned-by_error : (k : Ticket) (c : Command) (e : ErrorCode) (old : Mirror)
 learned-by_error k c e old s = record {
   counts = λ t. error-counts (thread_of c) e old.threads t;
   held = λ t. error-held (thread_of c) e old.threads t s;
+  order = order-error (id_found (thread_of c)) e old.threads;
   requests = refl;
 }
 
@@ -270,6 +268,7 @@ learned-by_data k c content old new s e f =
     record {
       counts = λ t. ap (λ (ks : List Known). count_in ks t) g ∙ data-counts a content old.threads t;
       held = λ t. subst (λ (ks : List Known). is_held_in ks t ≡ (is_positive (count_in ks t) && (shows_data c a content t || is_held_in old.threads t))) (sym g) (data-held c a content old.threads t (about_action c) s);
+      order = subst (λ (ks : List Known). KeepsOrder old.threads ks) (sym e) (order-data (act_of a) (id_found (thread_of c)) content old.threads);
       requests = f ∙ kept-action c content old.requests;
     }
 
@@ -330,11 +329,12 @@ learned-by_event c old new s alive e =
     let here : Learned old (Report c) (record old { threads = threads_after_event (id_found (composite_thread c)) c old.threads }) = record {
       counts = λ t. rw alive (event-counts (is_last_of_thread c) c.policy (composite_thread c) old.threads t zero);
       held = λ t. event-held (is_last_of_thread c) c.policy (composite_thread c) old.threads t s;
+      order = order-event (id_found (composite_thread c)) c old.threads;
       requests = rw alive refl;
     } in
     subst (λ (m : Mirror). Learned old (Report c) m) (sym e) here
 
 pub learned-by_death : (c : CompositeMeaning) (old new : Mirror) → is_vm_death c ≡ true → new ≡ empty_mirror → Learned old (Report c) new
 learned-by_death c old new dead e =
-    let here : Learned old (Report c) empty_mirror = record { counts = λ t. rw dead refl; held = λ t. refl; requests = rw dead refl } in
+    let here : Learned old (Report c) empty_mirror = record { counts = λ t. rw dead refl; held = λ t. refl; order = order-none old.threads; requests = rw dead refl } in
     subst (λ (m : Mirror). Learned old (Report c) m) (sym e) here

@@ -1,5 +1,5 @@
 pub mod KnownLemmas
+pub mod OrderLemmas
 pub mod NumberingLemmas
-pub mod Abouts
 pub mod Learning
 pub mod JudgingLemmas

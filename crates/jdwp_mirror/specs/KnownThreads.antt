@@ -1,6 +1,7 @@
 -- The threads that a mirror knows, as lists: look-ups by a thread's id, and what is changed, left out and added.
-use Rattle.std.specs.Prelude.{◌≡◌, ℕ, ◌==◌, Bool, true, false, ◌||◌, ◌&&◌, not, List, [], ◌∷◌, ◌++◌, map, Option, Some, None, is_some, if◌then◌else◌}
+use Rattle.std.specs.Prelude.{◌≡◌, ℕ, ◌==◌, Bool, true, false, ◌||◌, ◌&&◌, not, List, [], ◌∷◌, ◌++◌, map, Option, Some, None, IfSome, is_some, if◌then◌else◌}
 use Rattle.std.specs.List.{filter}
+use Rattle.std.specs.Option.{option_to_list}
 use Rattle.jdwp_value.specs.declared.id.ObjectId.{ObjectId}
 use Rattle.jdwp_mirror.specs.declared.threads.Known.{Known}
 use Rattle.jdwp_mirror.specs.declared.threads.Change.{Change}
@@ -76,6 +77,25 @@ unseen t = record { id = t; count = 0; held = false }
 -- this thread among them
 abbrev pub with_thread : ObjectId → List Known → List Known
 with_thread t ks = if is_some (count_in ks t.0) then ks else ks ++ unseen t ∷ []
+
+-- a thread was named, and it is not known
+abbrev pub IsOfUnknown : List Known → Option ℕ → Type 0
+IsOfUnknown ks None = ⊥
+IsOfUnknown ks (Some t) = count_in ks t ≡ None
+
+-- ---- in which order they stand
+
+abbrev pub ids_of : List Known → List ℕ
+ids_of ks = map (λ (k : Known). k.id.0) ks
+
+abbrev pub is_known_in : List Known → ℕ → Bool
+is_known_in ks t = is_some (count_in ks t)
+
+-- Those that are still known stand in the order in which they stood, and behind them at most one that was not known.
+pub record KeepsOrder (old new : List Known) : Type 0 where
+  pub met : Option ℕ
+  pub ids : ids_of new ≡ filter (is_known_in new) (ids_of old) ++ option_to_list met
+  pub unknown : IfSome met (λ t. count_in old t ≡ None)
 
 -- ---- what holds of them
 

@@ -1,5 +1,5 @@
 -- What the two ends of a session send each other, as both mean it (JDWP specification, "JDWP Handshake" and "JDWP Packets").
-use Rattle.std.specs.Prelude.{ℕ, Bool, true, false, ◌==◌, [], Option, Some, None}
+use Rattle.std.specs.Prelude.{ℕ, ◌-◌, ◌^◌, Bool, true, false, ◌==◌, [], Option, Some, None}
 use Rattle.jdwp_layout.specs.declared.answer.Answer.{Answer}
 use Rattle.jdwp_layout.specs.CommandNumbers.{ID_SIZES}
 use Rattle.jdwp_event.specs.Composites.{CompositeMeaning}
@@ -15,6 +15,10 @@ same_ticket None None = true
 same_ticket None (Some k) = false
 same_ticket (Some j) None = false
 same_ticket (Some j) (Some k) = j == k
+
+-- the last ticket that there is
+abbrev pub LAST_TICKET : ℕ
+LAST_TICKET = 2 ^ 64 - 1
 
 -- What a debugger sends: its handshake, or a command.
 pub data Call : Type 0 where

@@ -19,6 +19,7 @@ use Rattle.jdwp_event.specs.Composites.{CompositeMeaning, POLICY_NONE, POLICY_EV
 use Rattle.jdwp_event.specs.Told.{composite_thread, has_event, is_vm_death}
 use Rattle.jdwp_debuggee.specs.Actions
 use Rattle.jdwp_debuggee.specs.Actions.{Command, Action, action_of, thread_of}
+use Rattle.jdwp_debuggee.specs.Facts.{is_dispose}
 use Rattle.jdwp_mirror.specs.Messages.{Message, Handshake, Reply, Report}
 
 -- ---- what packets say
@@ -224,14 +225,6 @@ requests_after (Reply ticket c answer) requests = requests_after_reply c answer 
 requests_after (Report c) requests = if is_vm_death c then [] else requests
 
 -- ---- which packets end a session
-
-abbrev pub is_dispose : Action → Bool
-is_dispose Actions.Dispose = true
-is_dispose action = false
-
-abbrev pub is_exit : Action → Bool
-is_exit Actions.Exit = true
-is_exit action = false
 
 abbrev pub ends_reply : Command → Answer → Bool
 ends_reply c (Data content) = is_dispose (action_of c)

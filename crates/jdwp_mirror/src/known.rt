@@ -1,6 +1,7 @@
 //! The threads that a debugger knows, one after another.
-ghost use Rattle.std.specs.Prelude.{◌≡◌, length};
-ghost use Rattle.std.specs.Iterator.{at_most};
+ghost use Rattle.std.specs.Prelude.{◌≡◌, IfSome, Some, length};
+ghost use Rattle.std.specs.Iterator.{UpTo, at_most};
+ghost use Rattle.std.specs.Iterator.SizeHint.{IsWithinCount};
 ghost use Rattle.std.specs.Map.Iter.{ShowsInOrder, TakesFirst, deref};
 ghost use Rattle.std.specs.BTreeMap.{values};
 ghost use Rattle.jdwp_mirror.specs.declared.threads.Known.{Known};
@@ -37,8 +38,14 @@ impl<'a> Iterator for KnownThreads<'a> {
         self.rest.next()
     }
 
-    fn size_hint(&self) -> (usize, Option<usize>) {
-        self.rest.size_hint()
+    /// Exactly how many are left.
+    fn size_hint(&self) -> (usize, Option<usize>)
+        ensures lower { IsWithinCount result.0 (at_most (length self.now)) }
+        ensures upper { IfSome result.1 (UpTo (at_most (length self.now))) }
+        ensures exact { result ≡ (length self.now, Some (length self.now)) }
+    {
+        let left = self.rest.len();
+        (left, Some(left))
     }
 }
 

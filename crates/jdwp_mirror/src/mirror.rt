@@ -6,7 +6,7 @@ ghost use Rattle.jdwp_event.specs.Told.{composite_thread};
 ghost use Rattle.jdwp_mirror.specs.Acts.{act_of, id_found, requests_after_act, requests_after_others, threads_after_data, threads_after_error, threads_after_event, threads_after_others};
 ghost use Rattle.jdwp_mirror.specs.FaultParts.{IsData};
 ghost use Rattle.jdwp_mirror.specs.declared.threads.Known.{Known};
-ghost use Rattle.jdwp_mirror.specs.KnownThreads.{AreDistinct, count_in, is_held_in};
+ghost use Rattle.jdwp_mirror.specs.KnownThreads.{AreDistinct, IsOfUnknown, count_in, is_held_in};
 ghost use Rattle.jdwp_mirror.specs.Messages.{Reply, Report, Ticket};
 ghost use Rattle.jdwp_mirror.specs.Mirrors as mirrors;
 ghost use Rattle.jdwp_mirror.specs.Mirrors.{Learned, empty_mirror};
@@ -157,10 +157,11 @@ impl Mirror {
     /// Learns from a composite.
     ///
     /// # Errors
-    /// `NoMemory` where an allocation was refused; nothing has changed.
+    /// `NoMemory` where an allocation was refused, and only where the composite is of a thread that was not known; nothing has changed.
     pub fn learn_composite(&mut self, composite: &Composite) -> Result<(), NoMemory>
         ensures ok { OnOk result (Learned self.old (Report composite.now) self.new) }
         ensures err { OnErr result (self.new ≡ self.old) }
+        ensures memory { OnErr result (IsOfUnknown self.old.threads (composite_thread composite.now)) }
     {
         self.threads.are_sound();
         if has_event_of(composite, EventKind::VmDeath) {
@@ -174,6 +175,7 @@ impl Mirror {
     fn learn_event(&mut self, composite: &Composite) -> Result<(), NoMemory>
         ensures ok { OnOk result (self.new ≡ record self.old { threads = threads_after_event (id_found (composite_thread composite.now)) composite.now self.old.threads }) }
         ensures err { OnErr result (self.new ≡ self.old) }
+        ensures memory { OnErr result (IsOfUnknown self.old.threads (composite_thread composite.now)) }
     {
         let thread = thread_in(composite);
         if has_event_of(composite, EventKind::ThreadDeath)

@@ -1,6 +1,6 @@
 //! The threads that a debugger knows.
-ghost use Rattle.std.specs.Prelude.{◌≡◌, ◌==◌, ◌&&◌, ◌++◌, ◌∷◌, ◌<◌, IfOk, None, OnErr, OnOk, [], map, not, true};
-ghost use Rattle.std.specs.BTreeMap.{IsOrdered, keys};
+ghost use Rattle.std.specs.Prelude.{◌≡◌, ◌==◌, ◌&&◌, ◌++◌, ◌∷◌, ◌<◌, IfOk, IsSome, None, OnErr, OnOk, [], map, not, true};
+ghost use Rattle.std.specs.BTreeMap.{IsOrdered, get, keys};
 ghost use Rattle.std.specs.BTreeSet.{contains};
 ghost use Rattle.std.specs.List.{All};
 ghost use Rattle.std.specs.Option.{option_copied};
@@ -242,10 +242,11 @@ impl Threads {
     /// Makes a thread known, with a count of 0, where it is not.
     ///
     /// # Errors
-    /// `NoMemory` where an allocation was refused; nothing has changed.
+    /// `NoMemory` where an allocation was refused, and only where it was not known; nothing has changed.
     pub fn meet(&mut self, id: ObjectId) -> Result<(), NoMemory>
         ensures ok { OnOk result (self.new ≡ with_thread id self.old) }
         ensures err { OnErr result (self.new ≡ self.old) }
+        ensures memory { OnErr result (count_in self.old id.0 ≡ None) }
     {
         if self.count(id).is_some() {
             return Ok(());
@@ -384,9 +385,10 @@ impl Threads {
 /// A number above these.
 ///
 /// # Errors
-/// `NoMemory` where the last of them is the greatest.
+/// `NoMemory` where one of them is the greatest that there is, and only there.
 fn next_number(entries: &BTreeMap<u64, Known>) -> Result<u64, NoMemory>
-    ensures { IfOk result (λ number. All (λ n. n < number) (keys entries.now)) }
+    ensures above { IfOk result (λ number. All (λ n. n < number) (keys entries.now)) }
+    ensures last { OnErr result (IsSome (get nat_cmp entries.now u64.MAX)) }
 {
     let Some((last, _)) = entries.last_key_value() else {
         return Ok(0);

@@ -24,7 +24,7 @@ use Rattle.jdwp_mirror.specs.Mirror
 use Rattle.jdwp_mirror.specs.Mirror.{all_kept, learned, learned_data, learned_error, learned_event, own_count, other_count, first_count, taught, counted, lists, is_thread, teaches, teaches_data, forgets, forgets_data, shows, shows_data, is_last_of_thread, is_invalid_thread, requests_after, requests_after_data, is_not_kept, is_no_kept_breakpoint, ends, more, less, COUNT_MOST}
 use Rattle.jdwp_model.specs.Seen.{lowers, lowers_by, raises, raises_by}
 use Rattle.jdwp_model.proofs.Plain.{more-exact, some-same, kept-append, kept-filter, kept-below, lists-alive}
-use Rattle.jdwp_mirror.proofs.Abouts.{about_action}
+use Rattle.jdwp_debuggee.specs.AboutLaws.{about_action}
 
 -- what an event does to a count
 abbrev pub event_raise : CompositeMeaning → ℕ → ℕ → ℕ
@@ -273,7 +273,7 @@ some-map : (f : ℕ → ℕ) (c : Option ℕ) → is_some (option_map f c) ≡ i
 some-map f None = refl
 some-map f (Some n) = refl
 
-known-data : (a : Action) (content : List DatumMeaning) (t : ℕ) (c : Option ℕ) → Mirror.is_dispose a ≡ false → is_some (learned_data a content t c) ≡ (not (forgets_data a content t) && (teaches_data a content t || is_some c))
+known-data : (a : Action) (content : List DatumMeaning) (t : ℕ) (c : Option ℕ) → is_dispose a ≡ false → is_some (learned_data a content t c) ≡ (not (forgets_data a content t) && (teaches_data a content t || is_some c))
 known-data Actions.Suspend content t c h = some-map more c
 known-data Actions.Resume content t c h = some-map less c
 known-data (Actions.SuspendThread u) content t c h = elim (u == t) as (λ b. is_some (cond b (option_map more c) c) ≡ is_some c) [ true ↦ some-map more c | false ↦ refl ]

@@ -11,7 +11,6 @@ use Rattle.jdwp_layout.specs.Meanings.{ScalarMeaning}
 use Rattle.jdwp_event.specs.Composites.{CompositeMeaning, POLICY_NONE, POLICY_EVENT_THREAD, POLICY_ALL, vm_death}
 use Rattle.jdwp_event.specs.Told.{event_thread, events_thread, composite_thread, is_vm_death}
 use Rattle.jdwp_machine.specs.Meanings.{Meaning}
-use Rattle.jdwp_machine.specs.Laws.{IsLawful}
 use Rattle.jdwp_debuggee.specs.Settings.{Settings}
 use Rattle.jdwp_debuggee.specs.State.{State, Moment, count_of}
 use Rattle.jdwp_debuggee.specs.Actions
@@ -21,14 +20,14 @@ use Rattle.jdwp_debuggee.specs.Effects.{effect}
 use Rattle.jdwp_debuggee.specs.Steps.{raised_by, start_policy, start_event}
 use Rattle.jdwp_debuggee.specs.Facts.{IsSound, Tells, Does, Says}
 use Rattle.jdwp_debuggee.specs.Reports.{IsReport}
-use Rattle.jdwp_debuggee.proofs.ThreadLists.{count-changed}
-use Rattle.jdwp_debuggee.proofs.Reported.{sizes_effect}
+use Rattle.jdwp_debuggee.specs.ThreadLaws.{count-changed}
 use Rattle.jdwp_mirror.specs.Messages.{Handshake, Reply, Report}
 use Rattle.jdwp_mirror.specs.Mirror.{counted, given_id, first_count, is_positive, is_thread}
 use Rattle.jdwp_mirror.specs.Faults.{is_bad_data, is_bad_error, is_bad_reply, is_of, is_of_two, count_of_thread, is_bad_event, has_bad_event}
 use Rattle.jdwp_model.specs.World.{Packet}
 use Rattle.jdwp_model.specs.Next.{messages_of, started}
 use Rattle.jdwp_model.specs.Seen.{mirror_count}
+use Rattle.jdwp_model.specs.Rests.{Rests}
 use Rattle.jdwp_model.proofs.Plain.{some-same}
 use Rattle.jdwp_model.proofs.Acts.{event_raise, move, move_none}
 use Rattle.jdwp_model.proofs.Session.{Sent, Links, Mirrors, moved-some, replies}
@@ -79,9 +78,9 @@ good-answer w (Actions.SetRequest byte policy entries) state (Error err) h e s =
 good-answer w a state (Data content) h e s = refl
 good-answer w a state (Error err) h e s = refl
 
-pub reply_fair : {S : Type 0} (m : Meaning S) → IsLawful m → (settings : Settings) (now : Moment S) (c : Command) → IsSound m settings now → Does m settings now (action_of c) (effect m settings now c) → is_bad_reply c (effect m settings now c).answer ≡ false
-reply_fair m law settings now c s d =
-    bad-by c (effect m settings now c).answer ∙ good-answer (m.sizes now.machine) (action_of c) now.state (effect m settings now c).answer (law.sizes_are_widths now.machine s.state) (sizes_effect m settings now c) d.says
+pub reply_fair : {S : Type 0} (m : Meaning S) → Rests m → (settings : Settings) (now : Moment S) (c : Command) → IsSound m settings now → Does m settings now (action_of c) (effect m settings now c) → is_bad_reply c (effect m settings now c).answer ≡ false
+reply_fair m rests settings now c s d =
+    bad-by c (effect m settings now c).answer ∙ good-answer (m.sizes now.machine) (action_of c) now.state (effect m settings now c).answer (rests.lawful.sizes_are_widths now.machine s.state) (rests.sizes settings now c) d.says
 
 -- ---- composites
 

@@ -9,7 +9,6 @@ use Rattle.jdwp_end.specs.declared.phase.Phase.TheVariants.{Closed, AwaitingHand
 use Rattle.jdwp_event.specs.Requests.{Asked, all_asked}
 use Rattle.jdwp_event.specs.Composites.{CompositeMeaning, POLICY_ALL, vm_death}
 use Rattle.jdwp_machine.specs.Meanings.{Meaning}
-use Rattle.jdwp_machine.specs.Laws.{IsLawful}
 use Rattle.jdwp_debuggee.specs.Settings.{Settings}
 use Rattle.jdwp_debuggee.specs.State.{Moment, count_of}
 use Rattle.jdwp_debuggee.specs.Actions
@@ -19,12 +18,11 @@ use Rattle.jdwp_debuggee.specs.Effects.{Effect, effect}
 use Rattle.jdwp_debuggee.specs.Steps.{occurs, start_event}
 use Rattle.jdwp_debuggee.specs.Facts.{Told, is_data, is_not_asked, is_no_asked_breakpoint, requests_moved}
 use Rattle.jdwp_debuggee.specs.Reports.{HavePolicies, IsReport}
-use Rattle.jdwp_debuggee.proofs.AllFacts.{facts}
-use Rattle.jdwp_debuggee.proofs.Reported.{policy_accepted, step_reports}
 use Rattle.jdwp_mirror.specs.Messages.{Ticket, Call, Handshake, Reply, Report}
 use Rattle.jdwp_mirror.specs.Faults.{is_bad_reply}
 use Rattle.jdwp_model.specs.World.{Packet, World}
 use Rattle.jdwp_model.specs.Next.{started, greets_by, after_death, answers, dies_by, told, step_ends}
+use Rattle.jdwp_model.specs.Rests.{Rests}
 use Rattle.jdwp_model.proofs.Keeps.{Inv}
 use Rattle.jdwp_model.proofs.Cases.{Kept}
 use Rattle.jdwp_model.proofs.Fair.{IsFair, AllFair, fair_more, reply_fair, report_fair, start_fair, death_fair}
@@ -98,8 +96,8 @@ fair-stepped m w after (Some c) false f d r =
 taken : {S : Type 0} (ps rest : List (Packet S)) (p : Packet S) → AllFair ps → ps ≡ p ∷ rest → IsFair p × AllFair rest
 taken ps rest p f e = subst AllFair e f
 
-pub fairness_kept : {S : Type 0} (m : Meaning S) → IsLawful m → (settings : Settings) (w : World S) → Inv m settings w → Fairness w → Kept m settings w Fairness
-fairness_kept m law settings w i f =
+pub fairness_kept : {S : Type 0} (m : Meaning S) → Rests m → (settings : Settings) (w : World S) → Inv m settings w → Fairness w → Kept m settings w Fairness
+fairness_kept m rests settings w i f =
     record {
       attach = λ _ _. record { policies = f.policies; parked = tt; sent = tt };
       ask = λ c _ _. record { policies = f.policies; parked = f.parked; sent = f.sent };
@@ -107,10 +105,10 @@ fairness_kept m law settings w i f =
       to_debugger = λ _. record { policies = f.policies; parked = f.parked; sent = f.sent };
       greet = λ n rest b _ _ h. fair-greet settings w n rest b f i.target.unborn h;
       command = λ n rest k c _ _.
-          let d = (facts m law settings).does w.now c i.target.sound in
+          let d = (rests.facts settings).does w.now c i.target.sound in
           fair-command w n rest k c (effect m settings w.now c) (effect m settings w.now c).dies f
-          (subst HavePolicies (sym d.requests) (policies-moved (action_of c) (effect m settings w.now c).answer w.now.state.next_request (all_asked w.now.state.requests) f.policies (policy_accepted m settings w.now c)))
-          (reply_fair m law settings w.now c i.target.sound d);
+          (subst HavePolicies (sym d.requests) (policies-moved (action_of c) (effect m settings w.now c).answer w.now.state.next_request (all_asked w.now.state.requests) f.policies (rests.policies settings w.now c)))
+          (reply_fair m rests settings w.now c i.target.sound d);
       lose = record { policies = tt; parked = f.parked; sent = f.sent };
       close = record { policies = f.policies; parked = tt; sent = f.sent };
       end = λ _ p rest _ e. record { policies = f.policies; parked = tt; sent = (taken w.to_debugger rest p f.sent e).1 };
@@ -121,6 +119,6 @@ fairness_kept m law settings w i f =
           record { policies = f.policies; parked = fair_more w.parked (Report c, a) f.parked t.0; sent = t.1 };
       see = λ _ c a rest _ _ e. record { policies = f.policies; parked = f.parked; sent = (taken w.to_debugger rest (Report c, a) f.sent e).1 };
       step = λ t may.
-          let d = (facts m law settings).happens w.now t i.target.sound may in
-          fair-stepped m w (occurs m w.now t).after (occurs m w.now t).sends (occurs m w.now t).dies f d.told (λ c e. step_reports m w.now t c f.policies e);
+          let d = (rests.facts settings).happens w.now t i.target.sound may in
+          fair-stepped m w (occurs m w.now t).after (occurs m w.now t).sends (occurs m w.now t).dies f d.told (λ c e. rests.reports w.now t c f.policies e);
     }

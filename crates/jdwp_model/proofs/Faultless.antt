@@ -9,7 +9,6 @@ use Rattle.jdwp_end.specs.Ends.{is_established_phase}
 use Rattle.jdwp_event.specs.Composites.{CompositeMeaning}
 use Rattle.jdwp_event.specs.Told.{is_vm_death}
 use Rattle.jdwp_machine.specs.Meanings.{Meaning}
-use Rattle.jdwp_machine.specs.Laws.{IsLawful}
 use Rattle.jdwp_debuggee.specs.Settings.{Settings}
 use Rattle.jdwp_debuggee.specs.State.{Moment}
 use Rattle.jdwp_debuggee.specs.Actions.{Command}
@@ -28,6 +27,7 @@ use Rattle.jdwp_model.specs.Headline.{MayBegin, Always}
 use Rattle.jdwp_model.specs.Faultless.{NoPacketIsRefused, is_in_place, NoCallIsRefused, AnswersOneWaiting, AnswersFirstWaiting, FewWait, TurnsLoseNothing, ends_in_front, TurnsCloseAtEnds, IdlesUnchanged, AtEachTurn}
 use Rattle.jdwp_model.proofs.Session.{Links, links_front, and-left, replies, commands}
 use Rattle.jdwp_model.specs.Places.{one_of, EachAtOnePlace}
+use Rattle.jdwp_model.specs.Rests.{Rests}
 use Rattle.jdwp_model.proofs.Waiting.{In, Waits, waits-ordered, waited, one-alone}
 use Rattle.jdwp_model.proofs.Apart.{ApartOf, apart_kept, apart_none}
 use Rattle.jdwp_model.proofs.Fronts.{by_target_front, by_debugger_front}
@@ -48,19 +48,19 @@ pub record Whole {S : Type 0} (m : Meaning S) (settings : Settings) (w : World S
   pub unready : UnreadyOf w
   pub apart : ApartOf w
 
-whole-next : {S : Type 0} (m : Meaning S) → IsLawful m → (settings : Settings) → 1 ≤ settings.count_limit → settings.count_limit ≤ COUNT_MOST → (measure : Measure) (w : World S) (e : LinkEvent) → Whole m settings w → Whole m settings (next m settings measure w e).0
-whole-next m law settings least most measure w e h =
+whole-next : {S : Type 0} (m : Meaning S) → Rests m → (settings : Settings) → 1 ≤ settings.count_limit → settings.count_limit ≤ COUNT_MOST → (measure : Measure) (w : World S) (e : LinkEvent) → Whole m settings w → Whole m settings (next m settings measure w e).0
+whole-next m rests settings least most measure w e h =
     record {
-      inv = keeps m law settings least most measure w e h.inv;
-      fair = kept_next m settings measure w Fairness e h.fair (fairness_kept m law settings w h.inv h.fair);
-      phases = kept_next m settings measure w PhasesOf e h.phases (phases_kept m law settings w h.inv h.phases);
-      unready = kept_next m settings measure w UnreadyOf e h.unready (unready_kept m law settings w h.inv h.unready);
+      inv = keeps m rests settings least most measure w e h.inv;
+      fair = kept_next m settings measure w Fairness e h.fair (fairness_kept m rests settings w h.inv h.fair);
+      phases = kept_next m settings measure w PhasesOf e h.phases (phases_kept m rests settings w h.inv h.phases);
+      unready = kept_next m settings measure w UnreadyOf e h.unready (unready_kept m rests settings w h.inv h.unready);
       apart = kept_next m settings measure w ApartOf e h.apart (apart_kept m settings w h.apart);
     }
 
-whole-run : {S : Type 0} (m : Meaning S) → IsLawful m → (settings : Settings) → 1 ≤ settings.count_limit → settings.count_limit ≤ COUNT_MOST → (measure : Measure) (w : World S) (es : List LinkEvent) → Whole m settings w → Whole m settings (run m settings measure w es)
-whole-run m law settings least most measure w [] h = h
-whole-run m law settings least most measure w (e ∷ es) h = whole-run m law settings least most measure (next m settings measure w e).0 es (whole-next m law settings least most measure w e h)
+whole-run : {S : Type 0} (m : Meaning S) → Rests m → (settings : Settings) → 1 ≤ settings.count_limit → settings.count_limit ≤ COUNT_MOST → (measure : Measure) (w : World S) (es : List LinkEvent) → Whole m settings w → Whole m settings (run m settings measure w es)
+whole-run m rests settings least most measure w [] h = h
+whole-run m rests settings least most measure w (e ∷ es) h = whole-run m rests settings least most measure (next m settings measure w e).0 es (whole-next m rests settings least most measure w e h)
 
 opening-whole : {S : Type 0} (m : Meaning S) (settings : Settings) (s : S) → MayBegin m settings s → Whole m settings (opening m s)
 opening-whole m settings s b =
@@ -72,9 +72,9 @@ opening-whole m settings s b =
       apart = apart_none Closed 0;
     }
 
-pub always_whole : {S : Type 0} (m : Meaning S) → IsLawful m → (P : World S → Type 0) → ((settings : Settings) (w : World S) → Whole m settings w → P w) → Always m P
-always_whole m law P f settings measure s events b =
-    f settings (run m settings measure (opening m s) events) (whole-run m law settings b.limit_least b.limit_most measure (opening m s) events (opening-whole m settings s b))
+pub always_whole : {S : Type 0} (m : Meaning S) → Rests m → (P : World S → Type 0) → ((settings : Settings) (w : World S) → Whole m settings w → P w) → Always m P
+always_whole m rests P f settings measure s events b =
+    f settings (run m settings measure (opening m s) events) (whole-run m rests settings b.limit_least b.limit_most measure (opening m s) events (opening-whole m settings s b))
 
 -- ---- what the debugger reads
 
@@ -184,9 +184,9 @@ few_wait m settings w h = few-by m settings w (is_closed w.debugger) w.ready h r
 
 -- ---- turns
 
-pub at_each_turn : {S : Type 0} (m : Meaning S) → IsLawful m → (P : Settings → Measure → World S → Type 0) → ((settings : Settings) (measure : Measure) (w : World S) → Whole m settings w → P settings measure w) → AtEachTurn m P
-at_each_turn m law P f settings measure s events b =
-    f settings measure (run m settings measure (opening m s) events) (whole-run m law settings b.limit_least b.limit_most measure (opening m s) events (opening-whole m settings s b))
+pub at_each_turn : {S : Type 0} (m : Meaning S) → Rests m → (P : Settings → Measure → World S → Type 0) → ((settings : Settings) (measure : Measure) (w : World S) → Whole m settings w → P settings measure w) → AtEachTurn m P
+at_each_turn m rests P f settings measure s events b =
+    f settings measure (run m settings measure (opening m s) events) (whole-run m rests settings b.limit_least b.limit_most measure (opening m s) events (opening-whole m settings s b))
 
 greeted-lost : {S : Type 0} (settings : Settings) (w : World S) (b : Bool) → (greets_by settings w b).lost ≡ w.lost
 greeted-lost settings w true = refl

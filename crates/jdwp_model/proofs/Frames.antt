@@ -1,5 +1,5 @@
 -- what commands and steps leave of what is answered of a suspended thread's frames
-use Rattle.std.proofs.Common.{◌≡◌, ◌≢◌, ℕ, zero, suc, ◌==◌, ◌<◌, Bool, true, false, ◌||◌, ◌&&◌, cond, Option, Some, None, List, ◌∷◌, refl, sym, ◌∙◌, ap, subst, arith}
+use Rattle.std.proofs.Common.{◌≡◌, ◌≢◌, ℕ, zero, suc, ◌==◌, ◌<◌, Bool, true, false, ◌||◌, ◌&&◌, cond, Option, Some, None, List, ◌∷◌, refl, sym, ◌∙◌, ap, subst, arith, is_some}
 use Rattle.std.proofs.lemmas.Bool.{eqb-true, eq-eqb, false_from_ne_true}
 use Rattle.jdwp_wire.specs.ErrorCodes.{THREAD_NOT_SUSPENDED}
 use Rattle.jdwp_layout.specs.declared.answer.Answer.TheVariants.{Data, Error}
@@ -8,7 +8,7 @@ use Rattle.jdwp_layout.specs.Meanings.{Object, DatumMeaning, One}
 use Rattle.jdwp_event.specs.Composites.{CompositeMeaning, gathered}
 use Rattle.jdwp_event.specs.Occurrences.{HappeningMeaning, runs_out}
 use Rattle.jdwp_machine.specs.declared.query.Query.{Query}
-use Rattle.jdwp_machine.specs.Meanings.{Meaning}
+use Rattle.jdwp_machine.specs.Meanings.{Meaning, has}
 use Rattle.jdwp_machine.specs.Laws.{IsLawful, asks_frames, begins_with}
 use Rattle.jdwp_debuggee.specs.Settings.{Settings}
 use Rattle.jdwp_debuggee.specs.State.{State, Moment, count_of, count_or_zero, or_zero, is_marked}
@@ -19,9 +19,8 @@ use Rattle.jdwp_debuggee.specs.Effects.{effect, effect_by, does, slots_by, slots
 use Rattle.jdwp_debuggee.specs.Breadth.{keeps_machine}
 use Rattle.jdwp_debuggee.specs.Steps.{occurs, occurs_by, may_step, happens, ends, thread_ended, seen, death_by, report_by}
 use Rattle.jdwp_debuggee.specs.Facts.{IsSound}
-use Rattle.jdwp_debuggee.proofs.Plain.{kept_effect}
-use Rattle.jdwp_debuggee.proofs.Happenings.{Ready, ready}
 use Rattle.jdwp_model.specs.Lasting.{asks_frames_of, writes_by, writes}
+use Rattle.jdwp_model.specs.Rests.{Rests}
 use Rattle.jdwp_model.proofs.Session.{and-left, and-right}
 
 -- what is answered of a thread's frames is the same in two states of a machine
@@ -126,38 +125,49 @@ written-frames m law settings now t u f values s w true = frames_refl m t now.ma
 written-frames m law settings now t u f values s w false =
     (law.sizes_written now.machine u f values s.state, λ q h. law.frames_written now.machine u f t values q s.state (other-thread u t w) h)
 
-effect-by : {S : Type 0} (m : Meaning S) → IsLawful m → (settings : Settings) (now : Moment S) (c : Command) (t : ℕ) (a : Action) → IsSound m settings now → action_of c ≡ a → writes_by a t ≡ false → (effect m settings now c).after.state.alive ≡ true → SameFrames m t now.machine (effect m settings now c).after.machine
-effect-by m law settings now c t (Actions.SetSlots u f values) s e w al =
+effect-by : {S : Type 0} (m : Meaning S) → Rests m → (settings : Settings) (now : Moment S) (c : Command) (t : ℕ) (a : Action) → IsSound m settings now → action_of c ≡ a → writes_by a t ≡ false → (effect m settings now c).after.state.alive ≡ true → SameFrames m t now.machine (effect m settings now c).after.machine
+effect-by m rests settings now c t (Actions.SetSlots u f values) s e w al =
     elim (is_implemented c) as (λ b. SameFrames m t now.machine (effect_by m settings now c b).after.machine) [
       | true ↦ subst (λ x. SameFrames m t now.machine (does m settings now c x).after.machine) (sym e) (
           elim (count_of now.state u) as (λ v. SameFrames m t now.machine (slots_by m now u f values v).after.machine) [
             | None ↦ frames_refl m t now.machine now.machine refl
-            | Some n ↦ written-frames m law settings now t u f values s w (n == 0)
+            | Some n ↦ written-frames m rests.lawful settings now t u f values s w (n == 0)
           ])
       | false ↦ frames_refl m t now.machine now.machine refl
     ]
-effect-by m law settings now c t Actions.Exit s e w al =
+effect-by m rests settings now c t Actions.Exit s e w al =
     elim (is_implemented c) as (λ b. (effect_by m settings now c b).after.state.alive ≡ true → SameFrames m t now.machine (effect_by m settings now c b).after.machine) [
       | true ↦ subst (λ x. (does m settings now c x).after.state.alive ≡ true → SameFrames m t now.machine (does m settings now c x).after.machine) (sym e) (λ x. absurd (cc))
       | false ↦ λ x. frames_refl m t now.machine now.machine refl
     ] al
-effect-by m law settings now c t a s e w al =
-    frames_refl m t now.machine (effect m settings now c).after.machine (kept_effect m settings now c (subst (λ x. keeps_machine x ≡ true) (sym e) refl))
+effect-by m rests settings now c t a s e w al =
+    frames_refl m t now.machine (effect m settings now c).after.machine (rests.machine settings now c (subst (λ x. keeps_machine x ≡ true) (sym e) refl))
 
-pub effect_frames : {S : Type 0} (m : Meaning S) → IsLawful m → (settings : Settings) (now : Moment S) (c : Command) (t : ℕ) → IsSound m settings now → writes c t ≡ false → (effect m settings now c).after.state.alive ≡ true → SameFrames m t now.machine (effect m settings now c).after.machine
-effect_frames m law settings now c t s w al = effect-by m law settings now c t (action_of c) s refl w al
+pub effect_frames : {S : Type 0} (m : Meaning S) → Rests m → (settings : Settings) (now : Moment S) (c : Command) (t : ℕ) → IsSound m settings now → writes c t ≡ false → (effect m settings now c).after.state.alive ≡ true → SameFrames m t now.machine (effect m settings now c).after.machine
+effect_frames m rests settings now c t s w al = effect-by m rests settings now c t (action_of c) s refl w al
 
 -- ---- what steps of other threads leave
 
 ends-machine : {S : Type 0} (m : Meaning S) (s : S) (u : ℕ) (p : State × Bool) → (ends m s u p).after.machine ≡ m.ended s u
 ends-machine m s u (state, dies) = refl
 
-ended-frames : {S : Type 0} (m : Meaning S) → IsLawful m → (settings : Settings) (now : Moment S) (u t : ℕ) (p : State × Bool) → Ready m settings now u → u ≢ t → SameFrames m t now.machine (ends m now.machine u p).after.machine
+-- the thread that steps lives, and is not suspended
+record Ready {S : Type 0} (m : Meaning S) (now : Moment S) (t : ℕ) : Type 0 where
+  pub state : m.is_state now.machine
+  pub live : has (m.live now.machine) t ≡ true
+  pub count : count_of now.state t ≡ Some 0
+
+ready : {S : Type 0} (m : Meaning S) → Rests m → (settings : Settings) (now : Moment S) (t : ℕ) → IsSound m settings now → may_step m settings now t ≡ true → Ready m now t
+ready m rests settings now t s h =
+    let count : count_of now.state t ≡ Some 0 = (rests.runs settings now t h).count in
+    record { state = s.state; live = s.lives t ∙ ap is_some count; count = count }
+
+ended-frames : {S : Type 0} (m : Meaning S) → IsLawful m → (settings : Settings) (now : Moment S) (u t : ℕ) (p : State × Bool) → Ready m now u → u ≢ t → SameFrames m t now.machine (ends m now.machine u p).after.machine
 ended-frames m law settings now u t p r n =
     subst (λ x. SameFrames m t now.machine x) (sym (ends-machine m now.machine u p))
-    (law.sizes_ended now.machine u (r.sound.state, r.live), λ q h. law.frames_ended now.machine u t q (r.sound.state, r.live) n h)
+    (law.sizes_ended now.machine u (r.state, r.live), λ q h. law.frames_ended now.machine u t q (r.state, r.live) n h)
 
-death-frames : {S : Type 0} (m : Meaning S) → IsLawful m → (settings : Settings) (now : Moment S) (u t : ℕ) (h : HappeningMeaning) (o : Option CompositeMeaning) → Ready m settings now u → u ≢ t → SameFrames m t now.machine (death_by m now.machine u h now.state o).after.machine
+death-frames : {S : Type 0} (m : Meaning S) → IsLawful m → (settings : Settings) (now : Moment S) (u t : ℕ) (h : HappeningMeaning) (o : Option CompositeMeaning) → Ready m now u → u ≢ t → SameFrames m t now.machine (death_by m now.machine u h now.state o).after.machine
 death-frames m law settings now u t h None r n = ended-frames m law settings now u t (thread_ended u (seen h now.state)) r n
 death-frames m law settings now u t h (Some c) r n = frames_refl m t now.machine now.machine refl
 
@@ -165,17 +175,17 @@ report-machine : {S : Type 0} (m : Meaning S) (s : S) (u : ℕ) (h : HappeningMe
 report-machine m s u h state None = refl
 report-machine m s u h state (Some c) = refl
 
-happens-frames : {S : Type 0} (m : Meaning S) → IsLawful m → (settings : Settings) (now : Moment S) (u t : ℕ) (b : Bool) → Ready m settings now u → u ≢ t → runs_out (m.next now.machine u) ≡ b → SameFrames m t now.machine (happens m now u (m.next now.machine u) b).after.machine
+happens-frames : {S : Type 0} (m : Meaning S) → IsLawful m → (settings : Settings) (now : Moment S) (u t : ℕ) (b : Bool) → Ready m now u → u ≢ t → runs_out (m.next now.machine u) ≡ b → SameFrames m t now.machine (happens m now u (m.next now.machine u) b).after.machine
 happens-frames m law settings now u t true r n e = death-frames m law settings now u t (m.next now.machine u) (gathered (m.next now.machine u) now.state.requests) r n
 happens-frames m law settings now u t false r n e =
     subst (λ x. SameFrames m t now.machine x) (sym (report-machine m now.machine u (m.next now.machine u) now.state (gathered (m.next now.machine u) now.state.requests)))
-    (law.sizes_stepped now.machine u (r.sound.state, r.live, e), λ q h. law.frames_stepped now.machine u t q (r.sound.state, r.live, e) n h)
+    (law.sizes_stepped now.machine u (r.state, r.live, e), λ q h. law.frames_stepped now.machine u t q (r.state, r.live, e) n h)
 
-pub step_frames : {S : Type 0} (m : Meaning S) → IsLawful m → (settings : Settings) (now : Moment S) (u t : ℕ) → IsSound m settings now → may_step m settings now u ≡ true → 0 < count_or_zero now.state t → SameFrames m t now.machine (occurs m now u).after.machine
-step_frames m law settings now u t s h p =
-    let r = ready m settings now u s h in
+pub step_frames : {S : Type 0} (m : Meaning S) → Rests m → (settings : Settings) (now : Moment S) (u t : ℕ) → IsSound m settings now → may_step m settings now u ≡ true → 0 < count_or_zero now.state t → SameFrames m t now.machine (occurs m now u).after.machine
+step_frames m rests settings now u t s h p =
+    let r = ready m rests settings now u s h in
     let n : u ≢ t = λ e. let z : count_or_zero now.state t ≡ 0 = ap (λ x. count_or_zero now.state x) (sym e) ∙ ap or_zero r.count in absurd (omega arith) in
     elim (is_marked now.state u) as (λ b. SameFrames m t now.machine (occurs_by m now u b).after.machine) [
-      | true ↦ ended-frames m law settings now u t (thread_ended u now.state) r n
-      | false ↦ happens-frames m law settings now u t (runs_out (m.next now.machine u)) r n refl
+      | true ↦ ended-frames m rests.lawful settings now u t (thread_ended u now.state) r n
+      | false ↦ happens-frames m rests.lawful settings now u t (runs_out (m.next now.machine u)) r n refl
     ]

@@ -12,7 +12,6 @@ use Rattle.jdwp_event.specs.Requests.{Asked, Request, all_asked}
 use Rattle.jdwp_event.specs.Composites.{CompositeMeaning, vm_death}
 use Rattle.jdwp_event.specs.Told.{is_vm_death}
 use Rattle.jdwp_machine.specs.Meanings.{Meaning}
-use Rattle.jdwp_machine.specs.Laws.{IsLawful}
 use Rattle.jdwp_debuggee.specs.Settings.{Settings}
 use Rattle.jdwp_debuggee.specs.State.{Thread, Moment, count_of, count_or_zero, or_zero, reset, changed, cleared, ids}
 use Rattle.jdwp_debuggee.specs.Actions
@@ -21,10 +20,8 @@ use Rattle.jdwp_debuggee.specs.Answers.{least_thread, first_of, rising}
 use Rattle.jdwp_debuggee.specs.Effects.{Effect, effect}
 use Rattle.jdwp_debuggee.specs.Steps.{occurs, may_step, raised_by, start_event}
 use Rattle.jdwp_debuggee.specs.Facts.{IsSound, Quiet, Does, Tells, Died, Told, moved, requests_moved, is_data, is_dispose, is_exit}
-use Rattle.jdwp_debuggee.proofs.ThreadLists.{count-changed}
-use Rattle.jdwp_debuggee.proofs.Commands.{sound_counts}
-use Rattle.jdwp_debuggee.proofs.Happenings.{raised-by-most}
-use Rattle.jdwp_debuggee.proofs.AllFacts.{facts}
+use Rattle.jdwp_debuggee.specs.SoundLaws.{raised-by-most, sound_counts}
+use Rattle.jdwp_debuggee.specs.ThreadLaws.{count-changed}
 use Rattle.jdwp_mirror.specs.Messages.{Ticket, same_ticket, Call, Greets, Asks, Handshake, Reply, Report, id_sizes}
 use Rattle.jdwp_mirror.specs.Mirror.{all_kept, ends, COUNT_MOST}
 use Rattle.jdwp_mirror.specs.Faults
@@ -33,6 +30,7 @@ use Rattle.jdwp_model.specs.Events
 use Rattle.jdwp_model.specs.Events.{LinkEvent, AskRefusal}
 use Rattle.jdwp_model.specs.World.{Measure, is_closed, Packet, World}
 use Rattle.jdwp_model.specs.Next.{steps_now, attached, may_attach, attaches, ask_refusal, asks, ask_by, target_loses, started, greets_by, after_death, dying, dies_by, answers, target_handles, target_turn_at, target_turn, closes_by, without_ticket, entered, has_end, composites_of, answered, reads_handshake, reads_reply, reads_composite, reads, reader, debugger_handles, debugger_takes, debugger_turn_at, debugger_turn, told, step_ends, steps, next, run}
+use Rattle.jdwp_model.specs.Rests.{Rests}
 use Rattle.jdwp_model.proofs.Acts.{Acts, acts_reply, acts_handshake, acts_event, acts_death}
 use Rattle.jdwp_model.proofs.Session.{Links, last, links_more, last_more, links_front, links_back, last_append, Mirrors, mirrors_read, mirrors_entered, quiet_refl, quiet_trans, replies, commands, replies_append, commands_append, and-left, and-right}
 use Rattle.jdwp_model.proofs.Fronts.{by_target_front, by_debugger_front}
@@ -242,28 +240,28 @@ closed_side m td calls lost now = record { closed = λ _. (refl, refl); unparked
 
 -- ---- the target's turn
 
-keeps_greets : {S : Type 0} (m : Meaning S) → IsLawful m → (settings : Settings) → 1 ≤ settings.count_limit → settings.count_limit ≤ COUNT_MOST → (w : World S) (n : ℕ) (rest : List Call) (b : Bool) → Inv m settings w → w.target ≡ AwaitingHandshake → w.to_target ≡ Greets ∷ rest → w.now.state.handshaken ≡ b → Inv m settings (greets_by settings (record w { to_target = rest; at_target = n }) b)
-keeps_greets m law settings least most w n rest true i p e h =
+keeps_greets : {S : Type 0} (m : Meaning S) → Rests m → (settings : Settings) → 1 ≤ settings.count_limit → settings.count_limit ≤ COUNT_MOST → (w : World S) (n : ℕ) (rest : List Call) (b : Bool) → Inv m settings w → w.target ≡ AwaitingHandshake → w.to_target ≡ Greets ∷ rest → w.now.state.handshaken ≡ b → Inv m settings (greets_by settings (record w { to_target = rest; at_target = n }) b)
+keeps_greets m rests settings least most w n rest true i p e h =
     let o : is_closed w.target ≡ false = ap is_closed p in
     let side = subst (λ cs. DebuggerSide m w.debugger w.ready w.parked w.read w.to_debugger cs w.pending w.lost w.now) e i.debugger in
     record {
       target = record { sound = i.target.sound; idle = λ x. absurd (cc); living = λ _. i.target.living o; unlost = λ _. i.target.unlost o; greeted = λ _. h; unborn = i.target.unborn };
-      debugger = sends m w.debugger w.ready w.parked w.read w.to_debugger (Greets ∷ rest) rest w.pending w.lost w.now w.now (Handshake, w.now) side (i.target.unlost o) (quiet_refl m w.now) (acts_handshake m law settings most w.now i.target.sound) (no-reply w.to_debugger (Handshake, w.now) (commands rest) refl);
+      debugger = sends m w.debugger w.ready w.parked w.read w.to_debugger (Greets ∷ rest) rest w.pending w.lost w.now w.now (Handshake, w.now) side (i.target.unlost o) (quiet_refl m w.now) (acts_handshake m rests.lawful settings most w.now i.target.sound) (no-reply w.to_debugger (Handshake, w.now) (commands rest) refl);
     }
-keeps_greets {S} m law settings least most w n rest false i p e h =
+keeps_greets {S} m rests settings least most w n rest false i p e h =
     let o : is_closed w.target ≡ false = ap is_closed p in
     let shut : is_established_phase w.target ≡ false = ap is_established_phase p in
     let thread : ℕ = least_thread w.now.state in
     let c : CompositeMeaning = start_event settings w.now.state in
     let after : Moment S = started settings w.now in
     let side = subst (λ cs. DebuggerSide m w.debugger w.ready w.parked w.read w.to_debugger cs w.pending w.lost w.now) e i.debugger in
-    let one = sends m w.debugger w.ready w.parked w.read w.to_debugger (Greets ∷ rest) rest w.pending w.lost w.now w.now (Handshake, w.now) side (i.target.unlost o) (quiet_refl m w.now) (acts_handshake m law settings most w.now i.target.sound) (no-reply w.to_debugger (Handshake, w.now) (commands rest) refl) in
+    let one = sends m w.debugger w.ready w.parked w.read w.to_debugger (Greets ∷ rest) rest w.pending w.lost w.now w.now (Handshake, w.now) side (i.target.unlost o) (quiet_refl m w.now) (acts_handshake m rests.lawful settings most w.now i.target.sound) (no-reply w.to_debugger (Handshake, w.now) (commands rest) refl) in
     let q = sound_counts m settings w.now (raised_by c.policy thread) i.target.sound (λ t k x.
     let z : k ≡ 0 = ap or_zero (sym x) ∙ (i.target.idle shut).1 t in
     let y : raised_by c.policy thread t k ≤ k + 1 = raised-by-most c.policy thread t k in
     omega arith) in
     let sound : IsSound m settings after = record { state = q.state; lives = q.lives; at_most = q.at_most; below = q.below } in
-    let acts = acts_event m law settings most w.now after c thread sound refl refl (i.target.unborn h) (λ t. count-changed (raised_by c.policy thread) w.now.state.threads t) refl (λ t x. x) refl in
+    let acts = acts_event m rests.lawful settings most w.now after c thread sound refl refl (i.target.unborn h) (λ t. count-changed (raised_by c.policy thread) w.now.state.threads t) refl (λ t x. x) refl in
     let two = sends m w.debugger w.ready w.parked w.read (w.to_debugger ++ (Handshake, w.now) ∷ []) rest rest w.pending w.lost w.now w.now (Report c, after) one (i.target.unlost o) (quiet_refl m w.now) acts (no-reply (w.to_debugger ++ (Handshake, w.now) ∷ []) (Report c, after) (commands rest) refl) in
     record {
       target = record { sound = sound; idle = λ x. absurd (cc); living = λ _. i.target.living o; unlost = λ _. i.target.unlost o; greeted = λ _. refl; unborn = λ x. absurd (cc) };
@@ -312,13 +310,13 @@ answered_target m settings now a e lost false t d h =
       unborn = λ y. let z : now.state.handshaken ≡ true = t.greeted refl in let v : e.after.state.handshaken ≡ now.state.handshaken = d.handshaken in absurd (cc);
     }
 
-keeps_answers : {S : Type 0} (m : Meaning S) → IsLawful m → (settings : Settings) → settings.count_limit ≤ COUNT_MOST → (w : World S) (n : ℕ) (rest : List Call) (k : Ticket) (c : Command) (e : Effect S) → Inv m settings w → w.target ≡ Established → w.to_target ≡ Asks k c ∷ rest → Does m settings w.now (action_of c) e → Inv m settings (answers (record w { to_target = rest; at_target = n }) k c e)
-keeps_answers m law settings most w n rest k c e i p q d =
+keeps_answers : {S : Type 0} (m : Meaning S) → Rests m → (settings : Settings) → settings.count_limit ≤ COUNT_MOST → (w : World S) (n : ℕ) (rest : List Call) (k : Ticket) (c : Command) (e : Effect S) → Inv m settings w → w.target ≡ Established → w.to_target ≡ Asks k c ∷ rest → Does m settings w.now (action_of c) e → Inv m settings (answers (record w { to_target = rest; at_target = n }) k c e)
+keeps_answers m rests settings most w n rest k c e i p q d =
     let side = subst (λ cs. DebuggerSide m w.debugger w.ready w.parked w.read w.to_debugger cs w.pending w.lost w.now) q i.debugger in
     let t = subst (λ x. TargetSide m settings x w.lost w.now) p i.target in
     record {
       target = subst (λ x. TargetSide m settings (cond e.closes Closed x) w.lost e.after) (sym p) (answered_target m settings w.now (action_of c) e w.lost e.closes t d refl);
-      debugger = sends m w.debugger w.ready w.parked w.read w.to_debugger (Asks k c ∷ rest) rest w.pending w.lost w.now w.now (Reply k c e.answer, e.after) side (t.unlost refl) (quiet_refl m w.now) (acts_reply m law settings most w.now k c e t.sound d) (one-reply w.to_debugger k c e.answer e.after (commands rest));
+      debugger = sends m w.debugger w.ready w.parked w.read w.to_debugger (Asks k c ∷ rest) rest w.pending w.lost w.now w.now (Reply k c e.answer, e.after) side (t.unlost refl) (quiet_refl m w.now) (acts_reply m rests.lawful settings most w.now k c e t.sound d) (one-reply w.to_debugger k c e.answer e.after (commands rest));
     }
 
 -- the machine died in a session
@@ -347,18 +345,18 @@ keeps_dies m settings now w k c e true t d i h =
     (d.handshaken ∙ t.greeted refl)
     (λ u y. y)
 
-keeps_target_handles : {S : Type 0} (m : Meaning S) → IsLawful m → (settings : Settings) → 1 ≤ settings.count_limit → settings.count_limit ≤ COUNT_MOST → (measure : Measure) (w : World S) (rest : List Call) (phase : Phase) (call : Call) → Inv m settings w → w.target ≡ phase → w.to_target ≡ call ∷ rest → Inv m settings (target_handles m settings measure w rest phase call)
-keeps_target_handles m law settings least most measure w rest AwaitingHandshake Greets i p e = keeps_greets m law settings least most w (w.at_target - measure.call Greets) rest w.now.state.handshaken i p e refl
-keeps_target_handles m law settings least most measure w rest Established (Asks k c) i p e =
+keeps_target_handles : {S : Type 0} (m : Meaning S) → Rests m → (settings : Settings) → 1 ≤ settings.count_limit → settings.count_limit ≤ COUNT_MOST → (measure : Measure) (w : World S) (rest : List Call) (phase : Phase) (call : Call) → Inv m settings w → w.target ≡ phase → w.to_target ≡ call ∷ rest → Inv m settings (target_handles m settings measure w rest phase call)
+keeps_target_handles m rests settings least most measure w rest AwaitingHandshake Greets i p e = keeps_greets m rests settings least most w (w.at_target - measure.call Greets) rest w.now.state.handshaken i p e refl
+keeps_target_handles m rests settings least most measure w rest Established (Asks k c) i p e =
     let t = subst (λ x. TargetSide m settings x w.lost w.now) p i.target in
-    let d = (facts m law settings).does w.now c i.target.sound in
+    let d = (rests.facts settings).does w.now c i.target.sound in
     keeps_dies m settings w.now (record w { to_target = rest; at_target = w.at_target - measure.call (Asks k c) }) k c (effect m settings w.now c) (effect m settings w.now c).dies t d
-    (keeps_answers m law settings most w (w.at_target - measure.call (Asks k c)) rest k c (effect m settings w.now c) i p e d) refl
-keeps_target_handles m law settings least most measure w rest phase call i p e = keeps_target_loses m settings w i
+    (keeps_answers m rests settings most w (w.at_target - measure.call (Asks k c)) rest k c (effect m settings w.now c) i p e d) refl
+keeps_target_handles m rests settings least most measure w rest phase call i p e = keeps_target_loses m settings w i
 
-keeps_target_turn : {S : Type 0} (m : Meaning S) → IsLawful m → (settings : Settings) → 1 ≤ settings.count_limit → settings.count_limit ≤ COUNT_MOST → (measure : Measure) (w : World S) → Inv m settings w → Inv m settings (target_turn m settings measure w)
-keeps_target_turn m law settings least most measure w i =
-    by_target_front settings measure w (λ o. Inv m settings (target_turn_at m settings measure w o)) i (λ call rest _ e. keeps_target_handles m law settings least most measure w rest w.target call i refl e)
+keeps_target_turn : {S : Type 0} (m : Meaning S) → Rests m → (settings : Settings) → 1 ≤ settings.count_limit → settings.count_limit ≤ COUNT_MOST → (measure : Measure) (w : World S) → Inv m settings w → Inv m settings (target_turn m settings measure w)
+keeps_target_turn m rests settings least most measure w i =
+    by_target_front settings measure w (λ o. Inv m settings (target_turn_at m settings measure w o)) i (λ call rest _ e. keeps_target_handles m rests settings least most measure w rest w.target call i refl e)
 
 -- ---- the debugger's turn
 
@@ -534,8 +532,8 @@ keeps_quiet m settings w after i s q h a =
       debugger = passes m w.debugger w.ready w.parked w.read w.to_debugger w.to_target w.pending w.lost w.now after i.debugger q;
     }
 
-keeps_tells : {S : Type 0} (m : Meaning S) → IsLawful m → (settings : Settings) → settings.count_limit ≤ COUNT_MOST → (w : World S) (after : Moment S) (c : CompositeMeaning) → Inv m settings w → is_established_phase w.target ≡ true → IsSound m settings after → Tells m w.now c after → after.state.handshaken ≡ true → after.state.alive ≡ w.now.state.alive → Inv m settings (told w after (Some c))
-keeps_tells m law settings most w after c i o s d h a =
+keeps_tells : {S : Type 0} (m : Meaning S) → Rests m → (settings : Settings) → settings.count_limit ≤ COUNT_MOST → (w : World S) (after : Moment S) (c : CompositeMeaning) → Inv m settings w → is_established_phase w.target ≡ true → IsSound m settings after → Tells m w.now c after → after.state.handshaken ≡ true → after.state.alive ≡ w.now.state.alive → Inv m settings (told w after (Some c))
+keeps_tells m rests settings most w after c i o s d h a =
     let shut : is_closed w.target ≡ false = open-not-closed w.target o in
     record {
       target = record {
@@ -547,38 +545,38 @@ keeps_tells m law settings most w after c i o s d h a =
         unborn = λ y. absurd (cc);
       };
       debugger = sends m w.debugger w.ready w.parked w.read w.to_debugger w.to_target w.to_target w.pending w.lost w.now d.mid (Report c, after) i.debugger (i.target.unlost shut) d.quiet
-          (acts_event m law settings most d.mid after c d.thread s d.of_thread d.is_no_death d.ran d.counts d.same_requests d.ever d.alive)
+          (acts_event m rests.lawful settings most d.mid after c d.thread s d.of_thread d.is_no_death d.ran d.counts d.same_requests d.ever d.alive)
           (no-reply w.to_debugger (Report c, after) (commands w.to_target) refl);
     }
 
-keeps_stepped : {S : Type 0} (m : Meaning S) → IsLawful m → (settings : Settings) → settings.count_limit ≤ COUNT_MOST → (w : World S) (after : Moment S) (o : Option CompositeMeaning) (dies : Bool) → Inv m settings w → IsSound m settings after → ((t : ℕ) → m.ever w.now.machine t ≡ true → m.ever after.machine t ≡ true) → Told m w.now after dies o → (w.now.state.requests ≡ [] → o ≡ None) → after.state.handshaken ≡ true → (dies ≡ false → after.state.alive ≡ w.now.state.alive) → Inv m settings (step_ends (told w after o) w.target dies)
-keeps_stepped m law settings most w after None true i s ever d silent h a = keeps_died m settings w after w.target i refl s d h ever
-keeps_stepped m law settings most w after None false i s ever d silent h a = keeps_quiet m settings w after i s d h (a refl)
-keeps_stepped m law settings most w after (Some c) true i s ever d silent h a = let x : true ≡ false = d.0 in absurd (cc)
-keeps_stepped m law settings most w after (Some c) false i s ever d silent h a =
+keeps_stepped : {S : Type 0} (m : Meaning S) → Rests m → (settings : Settings) → settings.count_limit ≤ COUNT_MOST → (w : World S) (after : Moment S) (o : Option CompositeMeaning) (dies : Bool) → Inv m settings w → IsSound m settings after → ((t : ℕ) → m.ever w.now.machine t ≡ true → m.ever after.machine t ≡ true) → Told m w.now after dies o → (w.now.state.requests ≡ [] → o ≡ None) → after.state.handshaken ≡ true → (dies ≡ false → after.state.alive ≡ w.now.state.alive) → Inv m settings (step_ends (told w after o) w.target dies)
+keeps_stepped m rests settings most w after None true i s ever d silent h a = keeps_died m settings w after w.target i refl s d h ever
+keeps_stepped m rests settings most w after None false i s ever d silent h a = keeps_quiet m settings w after i s d h (a refl)
+keeps_stepped m rests settings most w after (Some c) true i s ever d silent h a = let x : true ≡ false = d.0 in absurd (cc)
+keeps_stepped m rests settings most w after (Some c) false i s ever d silent h a =
     let o : is_established_phase w.target ≡ true = elim (is_established_phase w.target) as (λ b. is_established_phase w.target ≡ b → b ≡ true) [ true ↦ λ _. refl | false ↦ λ x. let y = silent (i.target.idle x).0 in absurd (cc) ] refl in
-    keeps_tells m law settings most w after c i o s d.1 h (a refl)
+    keeps_tells m rests settings most w after c i o s d.1 h (a refl)
 
-keeps_steps : {S : Type 0} (m : Meaning S) → IsLawful m → (settings : Settings) → settings.count_limit ≤ COUNT_MOST → (measure : Measure) (w : World S) (t : ℕ) → Inv m settings w → Inv m settings (steps m settings measure w t)
-keeps_steps m law settings most measure w t i =
+keeps_steps : {S : Type 0} (m : Meaning S) → Rests m → (settings : Settings) → settings.count_limit ≤ COUNT_MOST → (measure : Measure) (w : World S) (t : ℕ) → Inv m settings w → Inv m settings (steps m settings measure w t)
+keeps_steps m rests settings most measure w t i =
     cond_both (steps_now m settings measure w t) _ _ (Inv m settings) (λ h.
     let may : may_step m settings w.now t ≡ true = and-left _ _ h in
-    let d = (facts m law settings).happens w.now t i.target.sound may in
-    keeps_stepped m law settings most w (occurs m w.now t).after (occurs m w.now t).sends (occurs m w.now t).dies i d.sound d.ever d.told d.silent (d.handshaken ∙ and-left w.now.state.handshaken _ may) d.alive) (λ _. i)
+    let d = (rests.facts settings).happens w.now t i.target.sound may in
+    keeps_stepped m rests settings most w (occurs m w.now t).after (occurs m w.now t).sends (occurs m w.now t).dies i d.sound d.ever d.told d.silent (d.handshaken ∙ and-left w.now.state.handshaken _ may) d.alive) (λ _. i)
 
 -- ---- all events
 
-pub keeps : {S : Type 0} (m : Meaning S) → IsLawful m → (settings : Settings) → 1 ≤ settings.count_limit → settings.count_limit ≤ COUNT_MOST → (measure : Measure) (w : World S) (e : LinkEvent) → Inv m settings w → Inv m settings (next m settings measure w e).0
-keeps m law settings least most measure w Events.Attach i = keeps_attach m settings w i
-keeps m law settings least most measure w (Events.Ask c) i = keeps_ask m settings measure w c (ask_refusal settings measure w c) refl i
-keeps m law settings least most measure w (Events.ToTarget n) i = cond_both (is_closed w.target) _ _ (Inv m settings) (λ _. i) (λ _. record { target = i.target; debugger = i.debugger })
-keeps m law settings least most measure w (Events.ToDebugger n) i = cond_both (is_closed w.debugger) _ _ (Inv m settings) (λ _. i) (λ _. record { target = i.target; debugger = i.debugger })
-keeps m law settings least most measure w Events.TargetTurn i = keeps_target_turn m law settings least most measure w i
-keeps m law settings least most measure w Events.DebuggerTurn i = keeps_debugger_turn m settings measure w i
-keeps m law settings least most measure w (Events.Step t) i = keeps_steps m law settings most measure w t i
-keeps m law settings least most measure w Events.TargetLoses i = keeps_target_loses m settings w i
-keeps m law settings least most measure w Events.DebuggerLoses i = record { target = i.target; debugger = closed_side m w.to_debugger w.to_target w.lost w.now }
+pub keeps : {S : Type 0} (m : Meaning S) → Rests m → (settings : Settings) → 1 ≤ settings.count_limit → settings.count_limit ≤ COUNT_MOST → (measure : Measure) (w : World S) (e : LinkEvent) → Inv m settings w → Inv m settings (next m settings measure w e).0
+keeps m rests settings least most measure w Events.Attach i = keeps_attach m settings w i
+keeps m rests settings least most measure w (Events.Ask c) i = keeps_ask m settings measure w c (ask_refusal settings measure w c) refl i
+keeps m rests settings least most measure w (Events.ToTarget n) i = cond_both (is_closed w.target) _ _ (Inv m settings) (λ _. i) (λ _. record { target = i.target; debugger = i.debugger })
+keeps m rests settings least most measure w (Events.ToDebugger n) i = cond_both (is_closed w.debugger) _ _ (Inv m settings) (λ _. i) (λ _. record { target = i.target; debugger = i.debugger })
+keeps m rests settings least most measure w Events.TargetTurn i = keeps_target_turn m rests settings least most measure w i
+keeps m rests settings least most measure w Events.DebuggerTurn i = keeps_debugger_turn m settings measure w i
+keeps m rests settings least most measure w (Events.Step t) i = keeps_steps m rests settings most measure w t i
+keeps m rests settings least most measure w Events.TargetLoses i = keeps_target_loses m settings w i
+keeps m rests settings least most measure w Events.DebuggerLoses i = record { target = i.target; debugger = closed_side m w.to_debugger w.to_target w.lost w.now }
 
-pub keeps_run : {S : Type 0} (m : Meaning S) → IsLawful m → (settings : Settings) → 1 ≤ settings.count_limit → settings.count_limit ≤ COUNT_MOST → (measure : Measure) (w : World S) (es : List LinkEvent) → Inv m settings w → Inv m settings (run m settings measure w es)
-keeps_run m law settings least most measure w [] i = i
-keeps_run m law settings least most measure w (e ∷ es) i = keeps_run m law settings least most measure (next m settings measure w e).0 es (keeps m law settings least most measure w e i)
+pub keeps_run : {S : Type 0} (m : Meaning S) → Rests m → (settings : Settings) → 1 ≤ settings.count_limit → settings.count_limit ≤ COUNT_MOST → (measure : Measure) (w : World S) (es : List LinkEvent) → Inv m settings w → Inv m settings (run m settings measure w es)
+keeps_run m rests settings least most measure w [] i = i
+keeps_run m rests settings least most measure w (e ∷ es) i = keeps_run m rests settings least most measure (next m settings measure w e).0 es (keeps m rests settings least most measure w e i)

@@ -9,14 +9,12 @@ use Rattle.jdwp_end.specs.Ends.{is_established_phase}
 use Rattle.jdwp_event.specs.Composites.{CompositeMeaning, vm_death}
 use Rattle.jdwp_event.specs.Told.{is_vm_death}
 use Rattle.jdwp_machine.specs.Meanings.{Meaning}
-use Rattle.jdwp_machine.specs.Laws.{IsLawful}
 use Rattle.jdwp_debuggee.specs.Settings.{Settings}
 use Rattle.jdwp_debuggee.specs.State.{Moment, count_or_zero, or_zero}
 use Rattle.jdwp_debuggee.specs.Actions.{Command, action_of}
 use Rattle.jdwp_debuggee.specs.Effects.{effect}
 use Rattle.jdwp_debuggee.specs.Steps.{occurs, may_step, start_event}
 use Rattle.jdwp_debuggee.specs.Facts.{IsSound, Does, Told}
-use Rattle.jdwp_debuggee.proofs.AllFacts.{facts}
 use Rattle.jdwp_mirror.specs.Messages.{Ticket, Call, Greets, Asks, Message, Handshake, Reply, Report}
 use Rattle.jdwp_mirror.specs.Mirror.{COUNT_MOST, ends}
 use Rattle.jdwp_mirror.specs.Faults
@@ -27,6 +25,7 @@ use Rattle.jdwp_model.specs.World.{Measure, is_closed, Packet, World, opening}
 use Rattle.jdwp_model.specs.Next.{steps_now, attached, may_attach, attaches, ask_refusal, ask_by, target_loses, started, greets_by, after_death, dying, dies_by, answers, target_handles, target_turn_at, target_turn, closes_by, entered, has_end, composites_of, answered, reads_reply, reads_composite, reads, reader, debugger_handles, debugger_takes, debugger_turn_at, debugger_turn, told, step_ends, steps, next, run}
 use Rattle.jdwp_model.specs.Seen.{seen, unanswered, lowers, has_dispose}
 use Rattle.jdwp_model.specs.Lasting.{asks_frames_of, writes, answers_write, has_write, IsAnswer, IsLasting, StaysTrue, AlwaysStaysTrue}
+use Rattle.jdwp_model.specs.Rests.{Rests}
 use Rattle.jdwp_model.proofs.Acts.{message_lowers}
 use Rattle.jdwp_model.proofs.Fronts.{by_target_front, by_debugger_front}
 use Rattle.jdwp_model.proofs.Waiting.{Waits, waits-ordered, replied-most, replied-no-dispose, replied-no-write}
@@ -204,10 +203,10 @@ goes-greets {S} m settings w n rest false g l = λ o.
     let two = sent m settings w.read w.parked (w.to_debugger ++ first ∷ []) w.lost w.now second one l (same_passes m w.now second refl refl) tt in
     subst (λ ps. Holds m settings w.read (w.parked ++ ps) w.lost (started settings w.now)) (append_assoc w.to_debugger (first ∷ []) (second ∷ [])) two
 
-goes-answers : {S : Type 0} (m : Meaning S) → IsLawful m → (settings : Settings) (w : World S) (n : ℕ) (rest : List Call) (k : Ticket) (c : Command) → Goes m settings w → w.lost ≡ false → IsSound m settings w.now → Does m settings w.now (action_of c) (effect m settings w.now c) → Goes m settings (answers (record w { to_target = rest; at_target = n }) k c (effect m settings w.now c))
-goes-answers m law settings w n rest k c g l s d = λ o.
+goes-answers : {S : Type 0} (m : Meaning S) → Rests m → (settings : Settings) (w : World S) (n : ℕ) (rest : List Call) (k : Ticket) (c : Command) → Goes m settings w → w.lost ≡ false → IsSound m settings w.now → Does m settings w.now (action_of c) (effect m settings w.now c) → Goes m settings (answers (record w { to_target = rest; at_target = n }) k c (effect m settings w.now c))
+goes-answers m rests settings w n rest k c g l s d = λ o.
     sent m settings w.read w.parked w.to_debugger w.lost w.now (Reply k c (effect m settings w.now c).answer, (effect m settings w.now c).after) (g o) l
-    (record { frames = λ t _ x al. effect_frames m law settings w.now c t s x al; alive = λ h. and-left w.now.state.alive (not (effect m settings w.now c).dies) (sym d.alive ∙ h) })
+    (record { frames = λ t _ x al. effect_frames m rests settings w.now c t s x al; alive = λ h. and-left w.now.state.alive (not (effect m settings w.now c).dies) (sym d.alive ∙ h) })
     (λ t h. ap (λ x. (effect m settings x c).answer) (frames_after m settings w.now c t (frames_action c t h)))
 
 goes-dying : {S : Type 0} (m : Meaning S) (settings : Settings) (w : World S) → Goes m settings w → w.lost ≡ false → Goes m settings (dying w)
@@ -221,19 +220,19 @@ goes-dies m settings w false g l = g
 goes-loses : {S : Type 0} (m : Meaning S) (settings : Settings) (w : World S) → Goes m settings w → Goes m settings (target_loses w)
 goes-loses m settings w g = λ o. let h = g o in record { chain = h.chain; still = λ x. absurd (cc); said = h.said; answers = h.answers }
 
-goes-target-handles : {S : Type 0} (m : Meaning S) → IsLawful m → (settings : Settings) (measure : Measure) (w : World S) (rest : List Call) (phase : Phase) (call : Call) → Inv m settings w → Goes m settings w → w.target ≡ phase → Goes m settings (target_handles m settings measure w rest phase call)
-goes-target-handles m law settings measure w rest AwaitingHandshake Greets i g p =
+goes-target-handles : {S : Type 0} (m : Meaning S) → Rests m → (settings : Settings) (measure : Measure) (w : World S) (rest : List Call) (phase : Phase) (call : Call) → Inv m settings w → Goes m settings w → w.target ≡ phase → Goes m settings (target_handles m settings measure w rest phase call)
+goes-target-handles m rests settings measure w rest AwaitingHandshake Greets i g p =
     goes-greets m settings w (w.at_target - measure.call Greets) rest w.now.state.handshaken g (i.target.unlost (ap is_closed p))
-goes-target-handles m law settings measure w rest Established (Asks k c) i g p =
+goes-target-handles m rests settings measure w rest Established (Asks k c) i g p =
     let l : w.lost ≡ false = i.target.unlost (ap is_closed p) in
-    let d = (facts m law settings).does w.now c i.target.sound in
+    let d = (rests.facts settings).does w.now c i.target.sound in
     goes-dies m settings (answers (record w { to_target = rest; at_target = w.at_target - measure.call (Asks k c) }) k c (effect m settings w.now c)) (effect m settings w.now c).dies
-    (goes-answers m law settings w (w.at_target - measure.call (Asks k c)) rest k c g l i.target.sound d) l
-goes-target-handles m law settings measure w rest phase call i g p = goes-loses m settings w g
+    (goes-answers m rests settings w (w.at_target - measure.call (Asks k c)) rest k c g l i.target.sound d) l
+goes-target-handles m rests settings measure w rest phase call i g p = goes-loses m settings w g
 
-goes-target-turn : {S : Type 0} (m : Meaning S) → IsLawful m → (settings : Settings) (measure : Measure) (w : World S) → Inv m settings w → Goes m settings w → Goes m settings (target_turn m settings measure w)
-goes-target-turn m law settings measure w i g =
-    by_target_front settings measure w (λ o. Goes m settings (target_turn_at m settings measure w o)) g (λ call rest _ _. goes-target-handles m law settings measure w rest w.target call i g refl)
+goes-target-turn : {S : Type 0} (m : Meaning S) → Rests m → (settings : Settings) (measure : Measure) (w : World S) → Inv m settings w → Goes m settings w → Goes m settings (target_turn m settings measure w)
+goes-target-turn m rests settings measure w i g =
+    by_target_front settings measure w (λ o. Goes m settings (target_turn_at m settings measure w o)) g (λ call rest _ _. goes-target-handles m rests settings measure w rest w.target call i g refl)
 
 -- ---- the debugger's turn
 
@@ -307,12 +306,12 @@ goes-stepped m settings w after (Some c) false i g f d silent =
     λ x. sent m settings w.read w.parked w.to_debugger w.lost w.now (Report c, after) (g x) (i.target.unlost shut)
     (record { frames = λ t h _ _. f t h; alive = λ h. d.1.quiet.alive (sym d.1.alive ∙ h) }) tt
 
-goes-steps : {S : Type 0} (m : Meaning S) → IsLawful m → (settings : Settings) (measure : Measure) (w : World S) (u : ℕ) → Inv m settings w → Goes m settings w → Goes m settings (steps m settings measure w u)
-goes-steps m law settings measure w u i g =
+goes-steps : {S : Type 0} (m : Meaning S) → Rests m → (settings : Settings) (measure : Measure) (w : World S) (u : ℕ) → Inv m settings w → Goes m settings w → Goes m settings (steps m settings measure w u)
+goes-steps m rests settings measure w u i g =
     cond_both (steps_now m settings measure w u) _ _ (Goes m settings) (λ h.
     let may : may_step m settings w.now u ≡ true = and-left _ _ h in
-    let d = (facts m law settings).happens w.now u i.target.sound may in
-    goes-stepped m settings w (occurs m w.now u).after (occurs m w.now u).sends (occurs m w.now u).dies i g (λ t k. step_frames m law settings w.now u t i.target.sound may k) d.told d.silent) (λ _. g)
+    let d = (rests.facts settings).happens w.now u i.target.sound may in
+    goes-stepped m settings w (occurs m w.now u).after (occurs m w.now u).sends (occurs m w.now u).dies i g (λ t k. step_frames m rests settings w.now u t i.target.sound may k) d.told d.silent) (λ _. g)
 
 -- ---- all events
 
@@ -324,16 +323,16 @@ goes-ask : {S : Type 0} (m : Meaning S) (settings : Settings) (w : World S) (c :
 goes-ask m settings w c (Some r) g = g
 goes-ask m settings w c None g = g
 
-goes : {S : Type 0} (m : Meaning S) → IsLawful m → (settings : Settings) (measure : Measure) (w : World S) (e : LinkEvent) → Inv m settings w → Goes m settings w → Goes m settings (next m settings measure w e).0
-goes m law settings measure w Events.Attach i g = goes-attach m settings w g
-goes m law settings measure w (Events.Ask c) i g = goes-ask m settings w c (ask_refusal settings measure w c) g
-goes m law settings measure w (Events.ToTarget n) i g = cond_both (is_closed w.target) _ _ (Goes m settings) (λ _. g) (λ _. g)
-goes m law settings measure w (Events.ToDebugger n) i g = cond_both (is_closed w.debugger) _ _ (Goes m settings) (λ _. g) (λ _. g)
-goes m law settings measure w Events.TargetTurn i g = goes-target-turn m law settings measure w i g
-goes m law settings measure w Events.DebuggerTurn i g = goes-debugger-turn m settings measure w i g
-goes m law settings measure w (Events.Step t) i g = goes-steps m law settings measure w t i g
-goes m law settings measure w Events.TargetLoses i g = goes-loses m settings w g
-goes m law settings measure w Events.DebuggerLoses i g = λ x. absurd (cc)
+goes : {S : Type 0} (m : Meaning S) → Rests m → (settings : Settings) (measure : Measure) (w : World S) (e : LinkEvent) → Inv m settings w → Goes m settings w → Goes m settings (next m settings measure w e).0
+goes m rests settings measure w Events.Attach i g = goes-attach m settings w g
+goes m rests settings measure w (Events.Ask c) i g = goes-ask m settings w c (ask_refusal settings measure w c) g
+goes m rests settings measure w (Events.ToTarget n) i g = cond_both (is_closed w.target) _ _ (Goes m settings) (λ _. g) (λ _. g)
+goes m rests settings measure w (Events.ToDebugger n) i g = cond_both (is_closed w.debugger) _ _ (Goes m settings) (λ _. g) (λ _. g)
+goes m rests settings measure w Events.TargetTurn i g = goes-target-turn m rests settings measure w i g
+goes m rests settings measure w Events.DebuggerTurn i g = goes-debugger-turn m settings measure w i g
+goes m rests settings measure w (Events.Step t) i g = goes-steps m rests settings measure w t i g
+goes m rests settings measure w Events.TargetLoses i g = goes-loses m settings w g
+goes m rests settings measure w Events.DebuggerLoses i g = λ x. absurd (cc)
 
 -- ---- now
 
@@ -407,11 +406,11 @@ stays {S} m settings w i g t c content then h l u nw e n =
     let was : (effect m settings then c).answer ≡ Data content = k.answers t c content then h l e (alive_along m then ps links live) in
     stays-now m settings (last then ps) w.now t c content still h (stays-along m settings ps then t c content links chain spared live kept fewer h was)
 
-stays-run : {S : Type 0} (m : Meaning S) → IsLawful m → (settings : Settings) → 1 ≤ settings.count_limit → settings.count_limit ≤ COUNT_MOST → (measure : Measure) (w : World S) (es : List LinkEvent) → Inv m settings w → Goes m settings w → StaysTrue m settings (run m settings measure w es)
-stays-run m law settings least most measure w [] i g = stays m settings w i g
-stays-run m law settings least most measure w (e ∷ es) i g =
-    stays-run m law settings least most measure (next m settings measure w e).0 es (keeps m law settings least most measure w e i) (goes m law settings measure w e i g)
+stays-run : {S : Type 0} (m : Meaning S) → Rests m → (settings : Settings) → 1 ≤ settings.count_limit → settings.count_limit ≤ COUNT_MOST → (measure : Measure) (w : World S) (es : List LinkEvent) → Inv m settings w → Goes m settings w → StaysTrue m settings (run m settings measure w es)
+stays-run m rests settings least most measure w [] i g = stays m settings w i g
+stays-run m rests settings least most measure w (e ∷ es) i g =
+    stays-run m rests settings least most measure (next m settings measure w e).0 es (keeps m rests settings least most measure w e i) (goes m rests settings measure w e i g)
 
-pub always_stays_true : {S : Type 0} (m : Meaning S) → IsLawful m → AlwaysStaysTrue m
-always_stays_true m law settings measure s events b =
-    stays-run m law settings b.limit_least b.limit_most measure (opening m s) events (opening_inv m settings s b) (λ x. absurd (cc))
+pub always_stays_true : {S : Type 0} (m : Meaning S) → Rests m → AlwaysStaysTrue m
+always_stays_true m rests settings measure s events b =
+    stays-run m rests settings b.limit_least b.limit_most measure (opening m s) events (opening_inv m settings s b) (λ x. absurd (cc))

@@ -5,17 +5,16 @@ use Rattle.jdwp_end.specs.declared.phase.Phase.TheVariants.{Closed, AwaitingHand
 use Rattle.jdwp_end.specs.Ends.{is_established_phase}
 use Rattle.jdwp_event.specs.Composites.{CompositeMeaning, vm_death}
 use Rattle.jdwp_machine.specs.Meanings.{Meaning}
-use Rattle.jdwp_machine.specs.Laws.{IsLawful}
 use Rattle.jdwp_debuggee.specs.Settings.{Settings}
 use Rattle.jdwp_debuggee.specs.State.{Moment}
 use Rattle.jdwp_debuggee.specs.Effects.{Effect, effect}
 use Rattle.jdwp_debuggee.specs.Steps.{occurs, start_event}
 use Rattle.jdwp_debuggee.specs.Facts.{Told}
-use Rattle.jdwp_debuggee.proofs.AllFacts.{facts}
 use Rattle.jdwp_debuggee.specs.Actions.{Command}
 use Rattle.jdwp_mirror.specs.Messages.{Ticket, Call, Greets, Asks, Message, Handshake, Reply, Report, id_sizes}
 use Rattle.jdwp_model.specs.World.{is_closed, Packet, World}
 use Rattle.jdwp_model.specs.Next.{started, greets_by, after_death, answers, dies_by, told, step_ends}
+use Rattle.jdwp_model.specs.Rests.{Rests}
 use Rattle.jdwp_model.proofs.Session.{and-left, and-right}
 use Rattle.jdwp_model.proofs.Keeps.{Inv}
 use Rattle.jdwp_model.proofs.Cases.{Kept}
@@ -164,8 +163,8 @@ phases-stepped m w after (Some c) false p d i =
     let o : is_established_phase w.target ≡ true = elim (is_established_phase w.target) as (λ b. is_established_phase w.target ≡ b → b ≡ true) [ true ↦ λ _. refl | false ↦ λ x. let y = i x in absurd (cc) ] refl in
     sent w.target w.target w.debugger w.to_target w.to_target w.to_debugger (Report c, after) p o (open-waits w.target o) (p.asked o) refl
 
-pub phases_kept : {S : Type 0} (m : Meaning S) → IsLawful m → (settings : Settings) (w : World S) → Inv m settings w → PhasesOf w → Kept m settings w PhasesOf
-phases_kept m law settings w i p =
+pub phases_kept : {S : Type 0} (m : Meaning S) → Rests m → (settings : Settings) (w : World S) → Inv m settings w → PhasesOf w → Kept m settings w PhasesOf
+phases_kept m rests settings w i p =
     record {
       attach = λ _ _. record { waits = λ _. (refl, refl, refl); asked = λ x. absurd (cc); first = λ _. refl; later = λ x. absurd (cc) };
       ask = λ c o _. record {
@@ -194,6 +193,6 @@ phases_kept m law settings w i p =
       park = λ _ c a rest o e. taken w.target w.debugger w.debugger w.to_target w.to_debugger rest (Report c, a) p e (open-waits w.debugger o) (λ _. rest-of w.target w.debugger w.to_target w.to_debugger rest (Report c, a) p o e);
       see = λ _ c a rest o _ e. taken w.target w.debugger w.debugger w.to_target w.to_debugger rest (Report c, a) p e (open-waits w.debugger o) (λ _. rest-of w.target w.debugger w.to_target w.to_debugger rest (Report c, a) p o e);
       step = λ t may.
-          let d = (facts m law settings).happens w.now t i.target.sound may in
+          let d = (rests.facts settings).happens w.now t i.target.sound may in
           phases-stepped m w (occurs m w.now t).after (occurs m w.now t).sends (occurs m w.now t).dies p d.told (λ x. d.silent (i.target.idle x).0);
     }

@@ -12,8 +12,7 @@ use Rattle.jdwp_machine.specs.Meanings.{has}
 use Rattle.jdwp_debuggee.specs.Answers.{rising, all_threads}
 use Rattle.jdwp_debuggee.specs.State.{State, ids, count_of}
 use Rattle.jdwp_debuggee.specs.Facts.{AreBelow}
-use Rattle.jdwp_debuggee.proofs.ThreadLists.{has-count}
-use Rattle.jdwp_debuggee.proofs.ThreadsListed.{has-rising}
+use Rattle.jdwp_debuggee.specs.ThreadLaws.{has-count, has-rising}
 use Rattle.jdwp_mirror.specs.Mirror.{Kept, kept, all_kept, has_other_id, lists, begins_with_object, more, COUNT_MOST}
 
 pub more-exact : (j : ℕ) → j + 1 ≤ COUNT_MOST → more j ≡ j + 1

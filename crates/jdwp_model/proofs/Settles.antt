@@ -8,7 +8,6 @@ use Rattle.jdwp_end.specs.declared.phase.Phase.TheVariants.{Closed, AwaitingHand
 use Rattle.jdwp_event.specs.Composites.{CompositeMeaning}
 use Rattle.jdwp_event.specs.Told.{is_vm_death}
 use Rattle.jdwp_machine.specs.Meanings.{Meaning}
-use Rattle.jdwp_machine.specs.Laws.{IsLawful}
 use Rattle.jdwp_debuggee.specs.Settings.{Settings}
 use Rattle.jdwp_debuggee.specs.State.{Moment}
 use Rattle.jdwp_debuggee.specs.Actions.{Command}
@@ -22,6 +21,7 @@ use Rattle.jdwp_model.specs.Events.{LinkEvent, AskRefusal, Outcome}
 use Rattle.jdwp_model.specs.World.{Measure, is_closed, Packet, World, opening}
 use Rattle.jdwp_model.specs.Next.{steps_now, attached, may_attach, attaches, ask_refusal, ask_by, target_loses, greets_by, dies_by, answers, target_takes, target_handles, target_turn_at, lost_tickets, debugger_closed, debugger_loses, closes_by, without_ticket, has_end, composites_of, answered, reads_handshake, reads_reply, reads_composite, reads, reader, debugger_handles, debugger_takes, debugger_turn_at, told, step_ends, next, run, outcomes}
 use Rattle.jdwp_model.specs.Tickets.{settled, tickets, tickets_to, times, SettlesOnce, SettlesInOrder}
+use Rattle.jdwp_model.specs.Rests.{Rests}
 use Rattle.jdwp_model.proofs.Session.{replies, commands}
 use Rattle.jdwp_model.proofs.Fronts.{by_target_front, by_debugger_front}
 use Rattle.jdwp_model.proofs.Keeps.{Inv, keeps, without-first}
@@ -152,21 +152,21 @@ settles_next m settings measure w (Events.Step t) i =
 settles_next m settings measure w Events.TargetLoses i = stays w (target_loses w) (record { pending = refl; asked = refl })
 settles_next m settings measure w Events.DebuggerLoses i = settles w (debugger_loses w) (append-nil _ ∙ settled-lost w.pending) refl
 
-settles-run : {S : Type 0} (m : Meaning S) → IsLawful m → (settings : Settings) → 1 ≤ settings.count_limit → settings.count_limit ≤ COUNT_MOST → (measure : Measure) (w : World S) (es : List LinkEvent) (before : List ℕ) → Inv m settings w → before ++ tickets w.pending ≡ tickets_to w.asked → before ++ (settled (outcomes m settings measure w es) ++ tickets (run m settings measure w es).pending) ≡ tickets_to (run m settings measure w es).asked
-settles-run m law settings least most measure w [] before i h = h
-settles-run m law settings least most measure w (e ∷ es) before i h =
+settles-run : {S : Type 0} (m : Meaning S) → Rests m → (settings : Settings) → 1 ≤ settings.count_limit → settings.count_limit ≤ COUNT_MOST → (measure : Measure) (w : World S) (es : List LinkEvent) (before : List ℕ) → Inv m settings w → before ++ tickets w.pending ≡ tickets_to w.asked → before ++ (settled (outcomes m settings measure w es) ++ tickets (run m settings measure w es).pending) ≡ tickets_to (run m settings measure w es).asked
+settles-run m rests settings least most measure w [] before i h = h
+settles-run m rests settings least most measure w (e ∷ es) before i h =
     let s = settles_next m settings measure w e i in
     let o : List Outcome = (next m settings measure w e).1 in
     let later : List Outcome = outcomes m settings measure (next m settings measure w e).0 es in
     let left : List ℕ = tickets (run m settings measure w (e ∷ es)).pending in
     let here : (before ++ settled o) ++ tickets (next m settings measure w e).0.pending ≡ tickets_to (next m settings measure w e).0.asked =
     append_assoc before (settled o) (tickets (next m settings measure w e).0.pending) ∙ (ap (λ l. before ++ l) s.same ∙ (sym (append_assoc before (tickets w.pending) s.new) ∙ (ap (λ l. l ++ s.new) h ∙ sym s.given))) in
-    let rest = settles-run m law settings least most measure (next m settings measure w e).0 es (before ++ settled o) (keeps m law settings least most measure w e i) here in
+    let rest = settles-run m rests settings least most measure (next m settings measure w e).0 es (before ++ settled o) (keeps m rests settings least most measure w e i) here in
     ap (λ l. before ++ (l ++ left)) (settled-append o later) ∙ (ap (λ l. before ++ l) (append_assoc (settled o) (settled later) left) ∙ (sym (append_assoc before (settled o) (settled later ++ left)) ∙ rest))
 
-pub settles_in_order : {S : Type 0} (m : Meaning S) → IsLawful m → SettlesInOrder m
-settles_in_order m law settings measure s events b =
-    settles-run m law settings b.limit_least b.limit_most measure (opening m s) events [] (opening_inv m settings s b) refl
+pub settles_in_order : {S : Type 0} (m : Meaning S) → Rests m → SettlesInOrder m
+settles_in_order m rests settings measure s events b =
+    settles-run m rests settings b.limit_least b.limit_most measure (opening m s) events [] (opening_inv m settings s b) refl
 
-pub settles_once : {S : Type 0} (m : Meaning S) → IsLawful m → SettlesOnce m
-settles_once m law settings measure s events k b = ap (times k) (settles_in_order m law settings measure s events b)
+pub settles_once : {S : Type 0} (m : Meaning S) → Rests m → SettlesOnce m
+settles_once m rests settings measure s events k b = ap (times k) (settles_in_order m rests settings measure s events b)

@@ -4,17 +4,16 @@ use Rattle.std.specs.Prelude.{nat_le}
 use Rattle.std.proofs.lemmas.Bool.{eq-eqb}
 use Rattle.jdwp_event.specs.Requests.{all_asked}
 use Rattle.jdwp_machine.specs.Meanings.{Meaning, has}
-use Rattle.jdwp_machine.specs.Laws.{IsLawful}
 use Rattle.jdwp_debuggee.specs.Settings.{Settings}
 use Rattle.jdwp_debuggee.specs.State.{Moment, count_in, count_of, count_or_zero, or_zero, running, ids, new_state}
 use Rattle.jdwp_debuggee.specs.Answers.{inserted, rising, first_of}
-use Rattle.jdwp_debuggee.proofs.ThreadLists.{has-count, ids-running, count-running}
+use Rattle.jdwp_debuggee.specs.ThreadLaws.{has-count, has-rising, ids-running, count-running}
 use Rattle.jdwp_mirror.specs.Mirror.{all_kept, learned, is_positive}
 use Rattle.jdwp_model.specs.World.{World, Packet, is_closed, opening}
 use Rattle.jdwp_model.specs.Next.{run}
 use Rattle.jdwp_model.specs.Seen.{mirror_count, mirror_held, mirror_requests, seen, is_known, is_shown, is_held, unanswered, lowers, raises, has_dispose, composites_in}
 use Rattle.jdwp_model.specs.Headline.{MayBegin, Always, KnowsAndHolds, HasTheCounts, requests_then, HasTheRequests, HeldIsSuspended, HeldIsCovered, CountIsAtMost}
-use Rattle.jdwp_debuggee.proofs.ThreadsListed.{has-rising}
+use Rattle.jdwp_model.specs.Rests.{Rests}
 use Rattle.jdwp_model.proofs.Session.{last, links_lower, links_upper, lowers_in, raises_in, no_dispose_in, replies, commands, replies_append, lowers_replies, raises_replies, composites_append, no_dispose_replies, and-left, and-right}
 use Rattle.jdwp_model.proofs.Waiting.{Waits, waits-ordered, replied-most, replied-no-dispose}
 use Rattle.jdwp_model.proofs.Keeps.{Inv, Session, IsLast, closed_side, closed-not-open, keeps_run}
@@ -70,9 +69,9 @@ opening_inv m settings s b =
       debugger = closed_side m [] [] false (record { state = new_state (m.live s); machine = s });
     }
 
-pub always : {S : Type 0} (m : Meaning S) → IsLawful m → (P : World S → Type 0) → ((settings : Settings) (w : World S) → Inv m settings w → P w) → Always m P
-always m law P f settings measure s events b =
-    f settings (run m settings measure (opening m s) events) (keeps_run m law settings b.limit_least b.limit_most measure (opening m s) events (opening_inv m settings s b))
+pub always : {S : Type 0} (m : Meaning S) → Rests m → (P : World S → Type 0) → ((settings : Settings) (w : World S) → Inv m settings w → P w) → Always m P
+always m rests P f settings measure s events b =
+    f settings (run m settings measure (opening m s) events) (keeps_run m rests settings b.limit_least b.limit_most measure (opening m s) events (opening_inv m settings s b))
 
 -- ---- what was seen
 

@@ -8,18 +8,17 @@ use Rattle.jdwp_end.specs.Ends.{is_established_phase}
 use Rattle.jdwp_event.specs.Requests.{all_asked}
 use Rattle.jdwp_event.specs.Composites.{CompositeMeaning, vm_death}
 use Rattle.jdwp_machine.specs.Meanings.{Meaning}
-use Rattle.jdwp_machine.specs.Laws.{IsLawful}
 use Rattle.jdwp_debuggee.specs.Settings.{Settings}
 use Rattle.jdwp_debuggee.specs.State.{Moment}
 use Rattle.jdwp_debuggee.specs.Actions.{Command, action_of}
 use Rattle.jdwp_debuggee.specs.Effects.{Effect, effect}
 use Rattle.jdwp_debuggee.specs.Steps.{occurs, start_event}
 use Rattle.jdwp_debuggee.specs.Facts.{Told, requests_moved}
-use Rattle.jdwp_debuggee.proofs.AllFacts.{facts}
 use Rattle.jdwp_mirror.specs.Messages.{Ticket, Call, Asks, Handshake, Reply, Report, id_sizes}
 use Rattle.jdwp_model.specs.World.{is_closed, Packet, World}
 use Rattle.jdwp_model.specs.Next.{started, greets_by, after_death, answers, dies_by, told, step_ends}
 use Rattle.jdwp_model.specs.Seen.{composites_in}
+use Rattle.jdwp_model.specs.Rests.{Rests}
 use Rattle.jdwp_model.proofs.Session.{composites_append, replies, commands}
 use Rattle.jdwp_model.proofs.Keeps.{Inv, asked-nil, closed-not-open, or-parts}
 use Rattle.jdwp_model.proofs.Cases.{Kept}
@@ -145,8 +144,8 @@ unready-stepped m w after None false d silent p = λ o r. let u = p o r in recor
 unready-stepped m w after (Some c) true d silent p = let x : true ≡ false = d.0 in absurd (cc)
 unready-stepped m w after (Some c) false d silent p = λ o r. let e = silent (p o r).no_requests in absurd (cc)
 
-pub unready_kept : {S : Type 0} (m : Meaning S) → IsLawful m → (settings : Settings) (w : World S) → Inv m settings w → UnreadyOf w → Kept m settings w UnreadyOf
-unready_kept m law settings w i p =
+pub unready_kept : {S : Type 0} (m : Meaning S) → Rests m → (settings : Settings) (w : World S) → Inv m settings w → UnreadyOf w → Kept m settings w UnreadyOf
+unready_kept m rests settings w i p =
     record {
       attach = λ t d _ _. record { no_requests = (i.target.idle (closed-not-open w.target t)).0; few = omega arith; alone = (i.debugger.closed d).1 };
       ask = λ c _ y o r. absurd (cc);
@@ -154,7 +153,7 @@ unready_kept m law settings w i p =
       to_debugger = λ _. p;
       greet = λ n rest b t _ _. unready-greet settings w n rest b t p;
       command = λ n rest k c t e.
-          let d = (facts m law settings).does w.now c i.target.sound in
+          let d = (rests.facts settings).does w.now c i.target.sound in
           unready-command w n rest k c (effect m settings w.now c) (effect m settings w.now c).dies t
           (λ o r.
           let u = p o r in
@@ -180,6 +179,6 @@ unready_kept m law settings w i p =
           record { no_requests = u.no_requests; few = omega arith; alone = u.alone };
       see = λ _ c a rest _ y e o r. absurd (cc);
       step = λ t may.
-          let d = (facts m law settings).happens w.now t i.target.sound may in
+          let d = (rests.facts settings).happens w.now t i.target.sound may in
           unready-stepped m w (occurs m w.now t).after (occurs m w.now t).sends (occurs m w.now t).dies d.told d.silent p;
     }

@@ -1,8 +1,11 @@
 pub mod Events
 pub mod World
+pub mod Measures
 pub mod Next
 pub mod Seen
 pub mod Headline
+pub mod Soundness
+pub mod Rests
 pub mod Tickets
 pub mod Given
 pub mod Faultless

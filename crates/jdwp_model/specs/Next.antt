@@ -1,6 +1,6 @@
 -- What each event does to a link, and what is told of it (JDWP specification, "JDWP Handshake", "JDWP Packets", and "Protocol Details":
 -- VirtualMachine.Dispose and Event.Composite).
-use Rattle.std.specs.Prelude.{ℕ, ◌+◌, ◌-◌, ◌^◌, min, nat_lt, Bool, true, false, ◌||◌, ◌&&◌, not, List, [], ◌∷◌, ◌++◌, length, Option, Some, None, is_none, is_some, if◌then◌else◌}
+use Rattle.std.specs.Prelude.{ℕ, ◌+◌, ◌-◌, min, nat_lt, Bool, true, false, ◌||◌, ◌&&◌, not, List, [], ◌∷◌, ◌++◌, length, Option, Some, None, is_none, is_some, if◌then◌else◌}
 use Rattle.jdwp_layout.specs.declared.answer.Answer.{Answer}
 use Rattle.jdwp_end.specs.declared.phase.Phase.{Phase}
 use Rattle.jdwp_end.specs.declared.phase.Phase.TheVariants.{Closed, AwaitingHandshake, Established}
@@ -14,7 +14,7 @@ use Rattle.jdwp_debuggee.specs.Actions.{Command}
 use Rattle.jdwp_debuggee.specs.Effects.{Effect, effect}
 use Rattle.jdwp_debuggee.specs.Steps
 use Rattle.jdwp_debuggee.specs.Steps.{occurs, may_step, start_event, handshaken}
-use Rattle.jdwp_mirror.specs.Messages.{Ticket, same_ticket, Call, Greets, Asks, Message, Handshake, Reply, Report, id_sizes}
+use Rattle.jdwp_mirror.specs.Messages.{LAST_TICKET, Ticket, same_ticket, Call, Greets, Asks, Message, Handshake, Reply, Report, id_sizes}
 use Rattle.jdwp_mirror.specs.Mirror.{ends}
 use Rattle.jdwp_mirror.specs.Faults.{Fault, Reader, fault_of}
 use Rattle.jdwp_model.specs.Events
@@ -50,9 +50,6 @@ abbrev pub attaches : {S : Type 0} → World S → World S
 attaches w = if may_attach w then attached w else w
 
 -- ---- commands are asked
-
-abbrev pub LAST_TICKET : ℕ
-LAST_TICKET = 2 ^ 64 - 1
 
 abbrev pub is_busy : {S : Type 0} → Settings → Measure → World S → Bool
 is_busy settings measure w =

@@ -1,6 +1,6 @@
 -- A small machine for sessions that are worked out by hand: two threads, of which the first enters a method, moves in it and leaves it,
 -- and the second has no step.
-use Rattle.std.specs.Prelude.{◌≡◌, ℕ, pos, ◌+◌, ◌==◌, Bool, true, false, ◌||◌, not, List, [], ◌∷◌, get_or, codes, length, Option, Some, None, if◌then◌else◌}
+use Rattle.std.specs.Prelude.{◌≡◌, ℕ, pos, ◌+◌, ◌==◌, Bool, true, false, ◌||◌, not, List, [], ◌∷◌, get_or, codes, Option, Some, None, if◌then◌else◌}
 use Rattle.std.specs.List.{filter}
 use Rattle.jdwp_wire.specs.ErrorCodes.{INVALID_LOCATION, INVALID_FRAMEID, NOT_IMPLEMENTED}
 use Rattle.jdwp_wire.specs.Limits.{standard_limits}
@@ -13,17 +13,12 @@ use Rattle.jdwp_layout.specs.declared.answer.Answer.{Answer}
 use Rattle.jdwp_layout.specs.declared.answer.Answer.TheVariants.{Data, Error}
 use Rattle.jdwp_layout.specs.CommandNumbers.{is_command, SET_REQUEST, FRAMES}
 use Rattle.jdwp_layout.specs.Meanings.{Int, Frame, Located, DatumMeaning, One, Many}
-use Rattle.jdwp_layout.specs.Writes.{data_canonical}
-use Rattle.jdwp_event.specs.Composites.{composite_data}
 use Rattle.jdwp_event.specs.Occurrences.{HappeningMeaning, OccurrenceMeaning, PlaceMeaning, Moved, Entered, Left, RanOut}
 use Rattle.jdwp_machine.specs.declared.query.Query.{Query}
 use Rattle.jdwp_machine.specs.Meanings.{Meaning, has}
 use Rattle.jdwp_machine.specs.Laws.{AreDistinct, begins_with}
 use Rattle.jdwp_debuggee.specs.Settings.{Settings}
-use Rattle.jdwp_debuggee.specs.Actions.{Command}
-use Rattle.jdwp_debuggee.specs.Answers.{content_of}
-use Rattle.jdwp_mirror.specs.Messages.{Call, Greets, Asks, Message, Handshake, Reply, Report}
-use Rattle.jdwp_model.specs.Events.{AskRefusal}
+use Rattle.jdwp_model.specs.Measures.{measured}
 use Rattle.jdwp_model.specs.World.{Measure, World, opening}
 
 -- ---- the machine
@@ -109,25 +104,9 @@ small_opening = record { made = 0; live = 1 ∷ 2 ∷ [] }
 abbrev pub settings : Settings
 settings = record { start_all = false; count_limit = 65535; limits = standard_limits }
 
--- how many bytes messages have with ids of 8 bytes, behind 11 bytes of a header
-abbrev pub call_size : Call → ℕ
-call_size Greets = 14
-call_size (Asks k c) = 11 + length (data_canonical widths (content_of c.carried))
-
-abbrev pub answer_size : Answer → ℕ
-answer_size (Data content) = 11 + length (data_canonical widths content)
-answer_size (Error e) = 11
-
-abbrev pub message_size : Message → ℕ
-message_size Handshake = 14
-message_size (Reply k c answer) = answer_size answer
-message_size (Report c) = 11 + length (data_canonical widths (composite_data c))
-
-abbrev pub nothing_unfit : Command → Option AskRefusal
-nothing_unfit c = None
-
+-- as both ends measure, with ids of 8 bytes
 abbrev pub measure : Measure
-measure = record { call = call_size; message = message_size; unfit = nothing_unfit }
+measure = measured widths standard_limits
 
 abbrev pub before : World Small
 before = opening small small_opening

@@ -1,11 +1,13 @@
-//! What a debugger may rely on, of every machine and over every list of events: each function without a body is a theorem.
+//! What a debugger may rely on, of every machine and over every list of events: each function is a theorem, and does nothing.
 ghost use Rattle.jdwp_model.specs.Headline.{Always, KnowsAndHolds, HasTheCounts, HasTheRequests, HeldIsSuspended, HeldIsCovered, CountIsAtMost};
 ghost use Rattle.jdwp_model.specs.Tickets.{SettlesOnce, SettlesInOrder};
 ghost use Rattle.jdwp_model.specs.Given.{TellsWhatWasGiven, GivesOnce};
 ghost use Rattle.jdwp_model.specs.Faultless.{NoPacketIsRefused, NoCallIsRefused, AnswersOneWaiting, AnswersFirstWaiting, FewWait, TurnsLoseNothing, TurnsCloseAtEnds, IdlesUnchanged, AtEachTurn};
 ghost use Rattle.jdwp_model.specs.Lasting.{AlwaysStaysTrue};
+ghost use Rattle.jdwp_model.specs.Soundness.{AlwaysStandsSoundly};
 ghost use Rattle.jdwp_model.specs.Places.{EachAtOnePlace};
 
+use crate::rests::rests_on_laws;
 use jdwp_machine::Machine;
 
 /// What the debugger's mirror shows is what the target had when it sent the last packet that the debugger read.
@@ -17,7 +19,9 @@ pub fn mirrors_what_was_seen<M: Machine>()
     ensures known_and_held { Always M.meaning KnowsAndHolds }
     ensures counts { Always M.meaning HasTheCounts }
     ensures requests { Always M.meaning HasTheRequests }
-{}
+{
+    rests_on_laws::<M>();
+}
 
 /// A thread that the debugger holds for suspended is suspended in the target now, whatever is under way between them, unless the
 /// machine died, the target lost the connection, or a Dispose or a Resume of that thread or of all is unanswered.
@@ -26,24 +30,32 @@ pub fn mirrors_what_was_seen<M: Machine>()
 pub fn holds_only_suspended_threads<M: Machine>()
     ensures suspended { Always M.meaning HeldIsSuspended }
     ensures covered { Always M.meaning HeldIsCovered }
-{}
+{
+    rests_on_laws::<M>();
+}
 
-/// A thread's suspend count in the target exceeds the one that the debugger shows by no more than what it may not know yet: its own
-/// unanswered Suspends, and the composites under way.
+/// The suspend count in the target of each known thread that lived as the last packet read was sent exceeds the one that the debugger shows
+/// by no more than what it may not know yet: its own unanswered Suspends, and the composites under way.
 pub fn counts_at_most<M: Machine>()
     ensures { Always M.meaning CountIsAtMost }
-{}
+{
+    rests_on_laws::<M>();
+}
 
 /// Each command that was asked is settled once: it is answered, or it is lost as the debugger's end closes.
 /// Those that are settled and those that wait are all that were asked, whatever was lost and reattached in between.
 pub fn settles_each_command_once<M: Machine>()
     ensures { SettlesOnce M.meaning }
-{}
+{
+    rests_on_laws::<M>();
+}
 
 /// Commands are settled in the order asked: those that are settled and then those that wait are all that were asked, in their order.
 pub fn settles_in_order<M: Machine>()
     ensures { SettlesInOrder M.meaning }
-{}
+{
+    rests_on_laws::<M>();
+}
 
 /// Each answer that the debugger tells of a ticket is the one that the target gave to that same ticket, when it handled its command:
 /// the only one, since the target gives no ticket two answers.
@@ -61,19 +73,25 @@ pub fn meets_no_fault<M: Machine>()
     ensures debugger { Always M.meaning NoPacketIsRefused }
     ensures target { Always M.meaning NoCallIsRefused }
     ensures waiting { Always M.meaning FewWait }
-{}
+{
+    rests_on_laws::<M>();
+}
 
 /// A reply that the debugger reads next is to one command that waits, under its ticket; and no two commands under way, or whose replies
 /// are, have the same ticket.
 pub fn answers_one_that_waits<M: Machine>()
     ensures one { Always M.meaning AnswersOneWaiting }
     ensures places { Always M.meaning EachAtOnePlace }
-{}
+{
+    rests_on_laws::<M>();
+}
 
 /// A reply that the debugger reads next is to the command that waits longest.
 pub fn answers_the_first_waiting<M: Machine>()
     ensures { Always M.meaning AnswersFirstWaiting }
-{}
+{
+    rests_on_laws::<M>();
+}
 
 /// No turn is a loss, and none closes the debugger's end but at an end of the session.
 ///
@@ -83,12 +101,16 @@ pub fn answers_the_first_waiting<M: Machine>()
 pub fn turns_close_at_ends_alone<M: Machine>()
     ensures target { AtEachTurn M.meaning (TurnsLoseNothing M.meaning) }
     ensures debugger { AtEachTurn M.meaning TurnsCloseAtEnds }
-{}
+{
+    rests_on_laws::<M>();
+}
 
 /// A turn that handles no message and a step that is not made leave everything as it was, and nothing is told of them.
 pub fn idle_turns_change_nothing<M: Machine>()
     ensures { AtEachTurn M.meaning (IdlesUnchanged M.meaning) }
-{}
+{
+    rests_on_laws::<M>();
+}
 
 /// What the debugger read of a suspended thread's frames (where they are, how many, their slots, their `this`) the target would answer
 /// now, whatever is under way.
@@ -97,4 +119,14 @@ pub fn idle_turns_change_nothing<M: Machine>()
 /// thread since, and fewer Resumes of it are unanswered than its count was as the last packet read was sent.
 pub fn frames_read_stay_true<M: Machine>()
     ensures { AlwaysStaysTrue M.meaning }
-{}
+{
+    rests_on_laws::<M>();
+}
+
+/// Whatever events led there, the debuggee is sound, there are no requests but in an established session, a target that is open noticed
+/// no loss, and nothing waits at a debugger that is closed.
+pub fn stands_soundly<M: Machine>()
+    ensures { AlwaysStandsSoundly M.meaning }
+{
+    rests_on_laws::<M>();
+}

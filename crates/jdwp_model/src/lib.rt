@@ -2,12 +2,14 @@
 #![tactic(auto)]
 
 mod headline;
+mod rests;
 mod worked;
 
 pub use headline::{
     answers_one_that_waits, answers_the_first_waiting, counts_at_most, frames_read_stay_true,
     holds_only_suspended_threads, idle_turns_change_nothing, meets_no_fault, mirrors_what_was_seen,
-    settles_each_command_once, settles_in_order, tells_what_was_given, turns_close_at_ends_alone,
+    settles_each_command_once, settles_in_order, stands_soundly, tells_what_was_given,
+    turns_close_at_ends_alone,
 };
 pub use worked::{
     counted_breakpoint_reports_once, event_counts_before_the_suspend_it_crossed,

@@ -2,19 +2,24 @@
 use Rattle.std.specs.Prelude.{ℕ, List}
 use Rattle.jdwp_wire.specs.Limits.{standard_limits}
 use Rattle.jdwp_debugger.specs.Debuggers.{Debugger, attached, new_debugger}
-use Rattle.jdwp_engine.specs.declared.ended.Ended.{Ended}
-use Rattle.jdwp_engine.specs.Story.{Story, empty_story}
+use Rattle.jdwp_engine.specs.Story.{Story}
 use Rattle.jdwp_plan.specs.declared.plan_line.PlanLine.{PlanLine}
-use Rattle.jdwp_attach.specs.PlanRuns.{MayEnd}
+use Rattle.jdwp_attach.specs.declared.attached.Attached.{Attached}
+use Rattle.jdwp_attach.specs.PlanRuns.{Attaches, MayEnd, TellsRefused, ended_of}
 use Rattle.jdwp_attach.specs.Runs.{Standing, InOrder, at}
 
 -- a new debugger that attached, before its first turn
-abbrev pub begun : ℕ → Story → Standing
-begun turns start = at start empty_story (attached (new_debugger standard_limits 1)) turns
+abbrev pub begun : ℕ → Story → Story → Standing
+begun turns pipe out = at pipe out (attached (new_debugger standard_limits 1)) turns
 
--- From the first story to the second a new debugger was run by this plan for at most so many turns, and the session ended so: it was fed
--- what was read, in order; it was asked what the plan's lines ask, in order, up to where the run went; what was written is what it put, or
--- a beginning where a write failed; and the reason of this end stands.
-abbrev pub AttachesNew : List PlanLine → ℕ → Story → Story → Ended → Type 0
-AttachesNew plan turns start now ended =
-    (debugger : Debugger) × (lines : Story) × InOrder plan (begun turns start) now lines debugger × MayEnd plan ended (begun turns start) now lines debugger
+-- From how the engine stood to these stories of the pipe and of what is printed to, the debugger was run by this plan, and the session ended
+-- so: it was fed what was read, in order; it was asked what the plan's lines ask, in order, up to where the run went; what was written is
+-- what it put, or a beginning where a write failed; what was printed is what was told on the way, or a beginning where memory was wanting
+-- or a write failed; the reason of this end stands; where the last flush failed, so does that of the end before it; and the line that is
+-- told is that whose command was refused.
+pub record AttachesNew (plan : List PlanLine) (start : Standing) (pipe out : Story) (how : Attached) : Type 0 where
+  pub debugger : Debugger
+  pub in_order : InOrder plan start pipe out debugger
+  pub may_end : MayEnd plan (ended_of how) start pipe out debugger
+  pub last_flush : Attaches plan start (ended_of how) pipe out debugger
+  pub line : TellsRefused plan how start.debugger debugger

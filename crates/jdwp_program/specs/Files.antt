@@ -1,20 +1,23 @@
 -- Files that can't be used.
-use Rattle.std.specs.Prelude.{◌≡◌, ◌≢◌, ℕ, List}
-use Rattle.std.specs.Str.{IsUtf8, IsValidUpTo}
+use Rattle.std.specs.Prelude.{◌≡◌, ◌≢◌, ℕ, List, [], ◌∷◌, Bool, take, if◌then◌else◌}
+use Rattle.std.specs.Str.{IsUtf8, IsValidUpTo, bytes_eq}
 use Rattle.std.specs.Borrow.{Bor}
 use Rattle.std.specs.IoError.{error_kind}
 use Rattle.std.specs.declared.io.Error.{Error}
 use Rattle.std.specs.declared.io.ErrorKind.TheVariants as kind
+use Rattle.jdwp_script.specs.declared.detail.Detail.{Detail}
 use Rattle.jdwp_script.specs.declared.fault.ScriptFault.{ScriptFault}
 use Rattle.jdwp_script.specs.declared.fault.ScriptFault.TheVariants as script
 use Rattle.jdwp_plan.specs.declared.plan_fault.PlanFault.{PlanFault}
 use Rattle.jdwp_plan.specs.declared.plan_fault.PlanFault.TheVariants as plan
+use Rattle.jdwp_port.specs.declared.faults.PortFault.{PortFault}
+use Rattle.jdwp_port.specs.declared.faults.PortFault.TheVariants as port
 use Rattle.jdwp_program.specs.declared.captures.TellFault.{TellFault}
 use Rattle.jdwp_program.specs.declared.captures.TellFault.TheVariants as telling
 use Rattle.jdwp_program.specs.declared.fault.Fault.{Fault}
 use Rattle.jdwp_program.specs.declared.fault.Fault.TheVariants as fault
 use Rattle.jdwp_program.specs.declared.fault.FileCause.{FileCause}
-use Rattle.jdwp_program.specs.declared.fault.FileCause.TheVariants.{Absent, NotAllowed, Folder, NotUtf8, Other}
+use Rattle.jdwp_program.specs.declared.fault.FileCause.TheVariants.{Absent, NotAllowed, Folder, NotUtf8, ByteOrderMark, AlsoRead, Other}
 
 -- the cause that this error of the system is
 abbrev pub IsCauseOf : Error → FileCause → Type 0
@@ -22,6 +25,8 @@ IsCauseOf error Absent = error_kind error ≡ kind.NotFound
 IsCauseOf error NotAllowed = error_kind error ≡ kind.PermissionDenied
 IsCauseOf error Folder = error_kind error ≡ kind.IsADirectory
 IsCauseOf error (NotUtf8 place) = ⊥
+IsCauseOf error ByteOrderMark = ⊥
+IsCauseOf error AlsoRead = ⊥
 IsCauseOf error (Other other) = (other ≡ error) × (error_kind error ≢ kind.NotFound) × (error_kind error ≢ kind.PermissionDenied) × (error_kind error ≢ kind.IsADirectory)
 
 -- what is told of a file of this name at this error: want of memory alone, or the file and why it can't be used
@@ -40,12 +45,21 @@ abbrev pub fault_of_telling : TellFault → Fault
 fault_of_telling (telling.Output error) = fault.Output error
 fault_of_telling telling.NoMemory = fault.NoMemory
 
--- what is told of a script's fault: want of memory alone, or the fault
-abbrev pub fault_of_script : ScriptFault → Fault
-fault_of_script script.NoMemory = fault.NoMemory
-fault_of_script other = fault.Script other
+-- what is told of a port that can't be used
+abbrev pub fault_of_port : PortFault → Fault
+fault_of_port (port.Port number cause) = fault.Port number cause
+fault_of_port port.NoMemory = fault.NoMemory
 
--- what is told of a plan's fault: want of memory alone, or the fault
-abbrev pub fault_of_plan : PlanFault → Fault
-fault_of_plan plan.NoMemory = fault.NoMemory
-fault_of_plan other = fault.Plan other
+-- what is told of the fault of the script of a file of this name, with what is known beside it: want of memory alone, or all of it
+abbrev pub fault_of_script : Bor (List ℕ) → ScriptFault → Detail → Fault
+fault_of_script path script.NoMemory detail = fault.NoMemory
+fault_of_script path other detail = fault.Script path other detail
+
+-- a text begins with U+FEFF, as EF BB BF in UTF-8
+abbrev pub begins_with_mark : List ℕ → Bool
+begins_with_mark text = bytes_eq (take 3 text) (0xef ∷ 0xbb ∷ 0xbf ∷ [])
+
+-- what is told of the fault of the plan of a file of this name: want of memory alone, that a byte order mark stands in front, or the fault
+abbrev pub fault_of_plan : Bor (List ℕ) → List ℕ → PlanFault → Fault
+fault_of_plan path text plan.NoMemory = fault.NoMemory
+fault_of_plan path text (plan.Line number why) = if begins_with_mark text then fault.File path ByteOrderMark else fault.Plan path (plan.Line number why)

@@ -1,7 +1,9 @@
 pub mod Attaching
 pub mod Captures
 pub mod Files
+pub mod Losses
 pub mod Outputs
 pub mod Printing
 pub mod Statuses
 pub mod Values
+pub mod Watching

@@ -5,9 +5,9 @@ use Rattle.jdwp_engine.specs.declared.ended.Ended.TheVariants as ended
 use Rattle.jdwp_program.specs.declared.captures.Told.{Told}
 use Rattle.jdwp_program.specs.declared.captures.Told.TheVariants.{Faultless, Faulty, Unread}
 use Rattle.jdwp_program.specs.declared.fault.Fault.{Fault}
-use Rattle.jdwp_program.specs.declared.fault.Fault.TheVariants.{Words, NotText, File, Script, Plan, Output, NoMemory}
+use Rattle.jdwp_program.specs.declared.fault.Fault.TheVariants.{Words, NotText, File, Script, Plan, Port, Output, NoMemory}
 use Rattle.jdwp_program.specs.declared.outcome.Outcome.{Outcome}
-use Rattle.jdwp_program.specs.declared.outcome.Outcome.TheVariants.{Session, Capture}
+use Rattle.jdwp_program.specs.declared.outcome.Outcome.TheVariants.{Session, Lost, RefusedLine, Capture}
 
 -- of a session, by how it ended
 abbrev pub status_of_end : Ended → ℕ
@@ -27,6 +27,8 @@ status_of_told Unread = 2
 -- of what the words led to
 abbrev pub status_of_outcome : Outcome → ℕ
 status_of_outcome (Session e) = status_of_end e
+status_of_outcome (Lost loss) = 2
+status_of_outcome (RefusedLine line number) = 1
 status_of_outcome (Capture told) = status_of_told told
 
 -- where no session began and no capture was told
@@ -34,7 +36,8 @@ abbrev pub status_of_fault : Fault → ℕ
 status_of_fault (Words text) = 1
 status_of_fault NotText = 1
 status_of_fault (File path cause) = 1
-status_of_fault (Script fault) = 1
-status_of_fault (Plan fault) = 1
+status_of_fault (Script path fault detail) = 1
+status_of_fault (Plan path fault) = 1
+status_of_fault (Port number cause) = 2
 status_of_fault (Output error) = 2
 status_of_fault NoMemory = 3

@@ -1,12 +1,13 @@
 //! What goes wrong before a session begins or a capture is told.
 ghost use Rattle.std.specs.Prelude.{◌≡◌, ◌≤◌, MatchResult};
 ghost use Rattle.std.specs.Str.{IsUtf8};
-ghost use Rattle.jdwp_program.specs.Files.{IsNotText};
+ghost use Rattle.jdwp_program.specs.Files.{IsNotText, begins_with_mark};
 ghost use Rattle.jdwp_program.specs.declared.fault.Fault.TheVariants as fault;
 
 use crate::captures::TellFault;
 use jdwp_plan::PlanFault;
-use jdwp_script::ScriptFault;
+use jdwp_port::{PortCause, PortFault};
+use jdwp_script::{Detail, ScriptFault};
 use jdwp_wire::NoMemory;
 use std::alloc::AllocError;
 use std::io;
@@ -25,12 +26,15 @@ pub enum Fault<'a> {
     /// A file that can't be used, as it was named, and why.
     #[error("{0}: {1}")]
     File(&'a str, FileCause),
-    /// The script of the machine is refused.
-    #[error("{0}")]
-    Script(ScriptFault),
-    /// The plan is refused.
-    #[error("{0}")]
-    Plan(PlanFault),
+    /// The script of this file is refused, and what is known beside its fault.
+    #[error("{0}: {1}{2}")]
+    Script(&'a str, ScriptFault, Detail),
+    /// The plan of this file is refused.
+    #[error("{0}: {1}")]
+    Plan(&'a str, PlanFault),
+    /// A port that can't be taken, reached or used, and why.
+    #[error("port {0}: {1}")]
+    Port(u16, PortCause),
     /// The output can't be written.
     #[error("the output can't be written: {0}")]
     Output(io::Error),
@@ -54,13 +58,19 @@ pub enum FileCause {
     /// It is not UTF-8. This is the place, counted from 0, of the first byte that begins no character.
     #[error("not UTF-8 at byte {0}, counted from 0")]
     NotUtf8(usize),
+    /// It is no plan, since a byte order mark stands before its first line.
+    #[error("a byte order mark stands before the first line of the plan")]
+    ByteOrderMark,
+    /// It is to be written to and is read, too.
+    #[error("a file that is read, too: writing to it would empty it")]
+    AlsoRead,
     /// Another cause, as the system tells it.
     #[error("{0}")]
     Other(io::Error),
 }
 
 impl<'a> Fault<'a> {
-    ghost use Rattle.jdwp_program.specs.Files.{IsUnusable};
+    ghost use Rattle.jdwp_program.specs.Files.{IsUnusable, fault_of_plan, fault_of_script};
     ghost use Rattle.jdwp_program.specs.Statuses.{status_of_fault};
 
     /// Of a file of this name, whose opening or reading failed so.
@@ -77,7 +87,31 @@ impl<'a> Fault<'a> {
         Fault::File(path, cause)
     }
 
-    /// The exit status: 2 for output that can't be written, 3 for want of memory, else 1.
+    /// Of the script of a file of this name that has this fault, with what is known beside it. Want of memory is told alone.
+    pub fn of_script(path: &'a str, fault: ScriptFault, detail: Detail) -> Fault<'a>
+        ensures { result ≡ fault_of_script path.entry fault detail }
+    {
+        match fault {
+            ScriptFault::NoMemory => Fault::NoMemory,
+            fault => Fault::Script(path, fault, detail),
+        }
+    }
+
+    /// Of the plan of a file of this name that has this fault. Want of memory is told alone; and where the text begins with a byte order
+    /// mark, this is told.
+    pub fn of_plan(path: &'a str, text: &str, fault: PlanFault) -> Fault<'a>
+        ensures { result ≡ fault_of_plan path.entry text.now fault }
+    {
+        match fault {
+            PlanFault::NoMemory => Fault::NoMemory,
+            PlanFault::Line(_, _) if begins_with_mark(text) => {
+                Fault::File(path, FileCause::ByteOrderMark)
+            }
+            fault => Fault::Plan(path, fault),
+        }
+    }
+
+    /// The exit status: 2 for a port that can't be used and output that can't be written, 3 for want of memory, else 1.
     pub fn status(&self) -> u8
         ensures status { result ≡ status_of_fault self.now }
         ensures bound { result ≤ 4 }
@@ -86,9 +120,9 @@ impl<'a> Fault<'a> {
             Fault::Words(_)
             | Fault::NotText
             | Fault::File(_, _)
-            | Fault::Script(_)
-            | Fault::Plan(_) => 1,
-            Fault::Output(_) => 2,
+            | Fault::Script(_, _, _)
+            | Fault::Plan(_, _) => 1,
+            Fault::Port(_, _) | Fault::Output(_) => 2,
             Fault::NoMemory => 3,
         }
     }
@@ -107,28 +141,15 @@ impl<'a> From<TellFault> for Fault<'a> {
     }
 }
 
-impl<'a> From<ScriptFault> for Fault<'a> {
-    ghost use Rattle.jdwp_program.specs.Files.{fault_of_script};
+impl<'a> From<PortFault> for Fault<'a> {
+    ghost use Rattle.jdwp_program.specs.Files.{fault_of_port};
 
-    ghost from_gives = { λ t f. f ≡ fault_of_script t };
+    ghost from_gives = { λ p f. f ≡ fault_of_port p };
 
-    fn from(error: ScriptFault) -> Fault<'a> {
+    fn from(error: PortFault) -> Fault<'a> {
         match error {
-            ScriptFault::NoMemory => Fault::NoMemory,
-            error => Fault::Script(error),
-        }
-    }
-}
-
-impl<'a> From<PlanFault> for Fault<'a> {
-    ghost use Rattle.jdwp_program.specs.Files.{fault_of_plan};
-
-    ghost from_gives = { λ p f. f ≡ fault_of_plan p };
-
-    fn from(error: PlanFault) -> Fault<'a> {
-        match error {
-            PlanFault::NoMemory => Fault::NoMemory,
-            error => Fault::Plan(error),
+            PortFault::Port(port, cause) => Fault::Port(port, cause),
+            PortFault::NoMemory => Fault::NoMemory,
         }
     }
 }
@@ -159,5 +180,15 @@ pub fn text_of(bytes: &[u8]) -> Result<&str, FileCause>
     match std::str::from_utf8(bytes) {
         Ok(text) => Ok(text),
         Err(error) => Err(FileCause::NotUtf8(error.valid_up_to())),
+    }
+}
+
+/// Whether a text begins with a byte order mark.
+fn begins_with_mark(text: &str) -> bool
+    ensures { result ≡ begins_with_mark text.now }
+{
+    match text.as_bytes() {
+        [0xef, 0xbb, 0xbf, ..] => true,
+        _ => false,
     }
 }

@@ -6,12 +6,16 @@
 mod attaching;
 mod captures;
 mod fault;
+mod losing;
 mod outcome;
 mod printing;
 mod values;
+mod watching;
 
 pub use attaching::{attach_plan, attach_session};
 pub use captures::{TellFault, Told, check_capture, show_capture};
 pub use fault::{Fault, FileCause, text_of};
+pub use losing::{Loss, Side};
 pub use outcome::{Outcome, report_fault, report_outcome};
 pub use values::{decimal, is_all};
+pub use watching::Watched;

@@ -1,19 +1,94 @@
 //! What the words led to, and the exit status.
 ghost use Rattle.std.specs.Prelude.{◌≡◌, ◌≤◌};
+ghost use Rattle.jdwp_program.specs.Losses.{IsEndOf, IsEndOfPlan, IsEndWithoutFiles};
 ghost use Rattle.jdwp_program.specs.Statuses.{status_of_end, status_of_fault, status_of_told, status_of_outcome};
 
 use crate::captures::Told;
 use crate::fault::Fault;
+use crate::losing::{Loss, Side};
+use jdwp_attach::Attached;
 use jdwp_engine::Ended;
-use std::io::Write;
+use jdwp_wire::Limits;
+use std::io::{ErrorKind, Write};
+use std::{fmt, io};
 
 /// What the words led to.
-#[derive(Clone, Copy, Debug, PartialEq, Eq)]
-pub enum Outcome {
+#[derive(Clone, Copy, Debug)]
+pub enum Outcome<'a> {
     /// A session ended so.
     Session(Ended),
+    /// A session was lost here.
+    Lost(Loss<'a>),
+    /// The command of a line of a plan was refused: the number of the line, counted from 1, and that of the refusal.
+    RefusedLine(usize, u16),
     /// This was told of a capture.
     Capture(Told),
+}
+
+impl<'a> Outcome<'a> {
+    /// Of a session that ended so, which read from the file `from`, wrote to the file `to` and printed on an output that failed with
+    /// `output`, if it did. Where the session was lost at a read, the file ended if no read of it failed; where it was lost at a write, the
+    /// file's failure is told, and that of the output where the file had none.
+    pub fn of_session(
+        ended: Ended,
+        from: Side<'a>,
+        to: Side<'a>,
+        output: Option<io::Error>,
+    ) -> Outcome<'a>
+        ensures { IsEndOf ended from.entry to.entry output result }
+    {
+        match ended {
+            Ended::LostByRead => Outcome::Lost(match from.failure {
+                None => Loss::FileEnded(from.path),
+                Some(error) => Loss::Unread(from.path, error),
+            }),
+            Ended::LostByWrite => match (to.failure, output) {
+                (Some(error), _) => Outcome::Lost(Loss::Unwritten(to.path, error)),
+                (None, Some(error)) if error.kind() == ErrorKind::BrokenPipe => {
+                    Outcome::Lost(Loss::ReaderGone)
+                }
+                (None, Some(error)) => Outcome::Lost(Loss::Output(error)),
+                (None, None) => Outcome::Session(ended),
+            },
+            Ended::Done | Ended::Refused(_) | Ended::NoMemory | Ended::TurnLimit => {
+                Outcome::Session(ended)
+            }
+        }
+    }
+
+    /// Of the session of a plan, as `of_session`; where the command of a line was refused, this line is told.
+    pub fn of_plan(
+        how: Attached,
+        from: Side<'a>,
+        to: Side<'a>,
+        output: Option<io::Error>,
+    ) -> Outcome<'a>
+        ensures { IsEndOfPlan how from.entry to.entry output result }
+    {
+        match how {
+            Attached::RefusedLine { line, number } => Outcome::RefusedLine(line, number),
+            Attached::Ended(ended) => Outcome::of_session(ended, from, to, output),
+        }
+    }
+
+    /// Of the session of a plan that no file was read or written in, and which printed on an output that failed with `output`, if it did.
+    /// Where the command of a line was refused, this line is told; where the session was lost at a write and the output failed, that is
+    /// told, and no connection is blamed.
+    pub fn without_files(how: Attached, output: Option<io::Error>) -> Outcome<'a>
+        ensures { IsEndWithoutFiles how output result }
+    {
+        match how {
+            Attached::RefusedLine { line: at, number } => Outcome::RefusedLine(at, number),
+            Attached::Ended(Ended::LostByWrite) => match output {
+                Some(error) if error.kind() == ErrorKind::BrokenPipe => {
+                    Outcome::Lost(Loss::ReaderGone)
+                }
+                Some(error) => Outcome::Lost(Loss::Output(error)),
+                None => Outcome::Session(Ended::LostByWrite),
+            },
+            Attached::Ended(ended) => Outcome::Session(ended),
+        }
+    }
 }
 
 /// Tells a fault in words behind `jdwp: `, and answers its exit status.
@@ -26,15 +101,26 @@ pub fn report_fault<E: Write>(fault: &Fault<'_>, err: &mut E) -> u8
     fault.status()
 }
 
-/// Tells the outcome in a line that begins with `jdwp: ` where it isn't told yet and isn't 0, and answers its exit status.
-pub fn report_outcome<E: Write>(outcome: Outcome, err: &mut E) -> u8
-    ensures status { result ≡ status_of_outcome outcome }
+/// Tells the outcome in a line that begins with `jdwp: ` where it isn't told yet and isn't 0, and answers its exit status. That who reads the
+/// output went away is not told.
+pub fn report_outcome<E: Write>(outcome: Outcome<'_>, err: &mut E) -> u8
+    ensures status { result ≡ status_of_outcome outcome.entry }
     ensures bound { result ≤ 4 }
 {
     match outcome {
         Outcome::Session(ended) => {
             report_end(ended, err);
             status_of_session(ended)
+        }
+        Outcome::Lost(loss) => {
+            report_loss(loss, err);
+            2
+        }
+        Outcome::RefusedLine(line, number) => {
+            // What standard error doesn't take is lost.
+            let refusal = Refusal(number);
+            let _ = writeln!(err, "jdwp: line {line} of the plan: {refusal}");
+            1
         }
         Outcome::Capture(Told::Faultless) => 0,
         Outcome::Capture(Told::Faulty) => 1,
@@ -60,16 +146,44 @@ fn status_of_session(ended: Ended) -> u8
 fn report_end<E: Write>(ended: Ended, err: &mut E) {
     let _ = match ended {
         Ended::Done => Ok(()),
-        Ended::Refused(number) => writeln!(err, "jdwp: fault {number}: {}", refusal(number)),
+        Ended::Refused(number) => writeln!(err, "jdwp: {}", Refusal(number)),
         Ended::LostByRead => writeln!(err, "jdwp: the connection is lost at a read"),
         Ended::LostByWrite => writeln!(err, "jdwp: the connection is lost at a write"),
         Ended::NoMemory => writeln!(err, "jdwp: no memory"),
-        Ended::TurnLimit => writeln!(err, "jdwp: the turn limit is reached"),
+        Ended::TurnLimit => writeln!(err, "jdwp: the turn limit of --turns is reached"),
     };
 }
 
+/// Tells where a session was lost. What standard error doesn't take is lost.
+fn report_loss<E: Write>(loss: Loss<'_>, err: &mut E) {
+    let _ = match loss {
+        Loss::ReaderGone => Ok(()),
+        loss => writeln!(err, "jdwp: {loss}"),
+    };
+}
+
+/// A fault at which a session is refused, by its number.
+#[derive(Clone, Copy)]
+struct Refusal(u16);
+
+impl fmt::Display for Refusal {
+    fn fmt<W: fmt::Write>(&self, f: &mut fmt::Formatter<W>) -> fmt::Result {
+        let number = self.0;
+        match number {
+            32 => {
+                let most = Limits::standard().pending();
+                write!(
+                    f,
+                    "fault 32: {most} commands wait for their answers, and no more may"
+                )
+            }
+            _ => write!(f, "fault {number}: {}", words_of(number)),
+        }
+    }
+}
+
 /// The words of a fault at which a session is refused, by its number.
-fn refusal(number: u16) -> &'static str {
+fn words_of(number: u16) -> &'static str {
     match number {
         0 => "the session is open already",
         1 => "a packet length below 11",
@@ -77,14 +191,13 @@ fn refusal(number: u16) -> &'static str {
         3 => "packet flags other than 00 and 80",
         4 => "not the handshake",
         31 => "the widths of ids are not known yet",
-        32 => "as many commands wait as may",
         33 => "the session is closed",
         34 => "a command longer than a packet may be",
-        36 => "no command of a target, or data that do not read in its layout",
+        36 => "a command of the plan that no target has, or data that do not read in its layout",
         42 => "a reply to no command that waits",
-        43 => "a reply whose data do not read",
+        43 => "a reply whose data do not read, or an error reply with data",
         44 => "more composites than may wait for the widths of ids",
-        45 => "a composite that no target sends, or another command",
+        45 => "events that don't fit the suspend counts known, or another command",
         _ => "the bytes are refused",
     }
 }

@@ -221,7 +221,7 @@ impl Gather<Thread> for PreparedIds {
 }
 
 /// The ids of all that are of one kind with threads: the groups, the objects and the threads.
-fn shared_ids(alloc: Global, script: &Script) -> Result<Vec<u64>, NoMemory>
+pub(crate) fn shared_ids(alloc: Global, script: &Script) -> Result<Vec<u64>, NoMemory>
     ensures { IfOk result (λ v. v.items ≡ shared_ids (script_part script.now)) }
 {
     let mut ids = Vec::new(alloc);

@@ -1,5 +1,5 @@
 //! Judging the parts of a script one by one.
-ghost use Rattle.std.specs.Prelude.{◌≡◌, Bool, map};
+ghost use Rattle.std.specs.Prelude.{◌≡◌, ◌<◌, Bool, length, map, IfSome};
 ghost use Rattle.std.specs.List.{list_any};
 
 /// A test of a script's parts.
@@ -27,4 +27,16 @@ pub(crate) trait Judge<T> {
         }
         false
     }
+}
+
+/// The place of the first of the parts that is bad.
+pub(crate) fn first_bad<T, J: Judge<T>>(judge: &J, parts: &[T]) -> Option<usize>
+    ensures { IfSome result (λ place. place < length parts.now) }
+{
+    for place in 0..parts.len() {
+        if judge.is_bad(&parts[place]) {
+            return Some(place);
+        }
+    }
+    None
 }

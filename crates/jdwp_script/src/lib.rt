@@ -1,23 +1,30 @@
 //! Machine scripts: what a machine has and what its threads do, read from JSON with every fault.
 #![tactic(auto)]
 
+mod detail;
 mod fault;
 mod gather;
+mod id_detail;
 mod id_set;
 mod ids;
 mod judge;
 mod known;
+mod limit_detail;
 mod limits;
 mod member;
+mod missing_detail;
 mod parts;
 mod read;
 mod reading;
+mod reference_detail;
 mod references;
 mod script;
 mod step;
 mod step_parts;
+mod telling;
 mod too_wide;
 
+pub use detail::{Cause, Detail, Entry, IdKind, Path};
 pub use fault::ScriptFault;
 pub use member::Member;
 pub use script::{

@@ -13,17 +13,17 @@ use jdwp_wire::NoMemory;
 use std::alloc::Global;
 
 /// The bytes that a text may have.
-const TEXT_LIMIT: usize = 512;
+pub(crate) const TEXT_LIMIT: usize = 512;
 /// The bytes that the text of a string object may have.
-const STRING_LIMIT: usize = 65_000;
+pub(crate) const STRING_LIMIT: usize = 65_000;
 /// The elements that an array may have.
-const ELEMENT_LIMIT: usize = 4_096;
+pub(crate) const ELEMENT_LIMIT: usize = 4_096;
 /// The fields, methods, interfaces, lines or slots that there may be in one list, and frames at once.
-const LIST_LIMIT: usize = 256;
+pub(crate) const LIST_LIMIT: usize = 256;
 /// The groups, classes, objects or threads that a script may have.
-const PART_LIMIT: usize = 1_024;
+pub(crate) const PART_LIMIT: usize = 1_024;
 /// The steps that a thread may have.
-const STEP_LIMIT: usize = 65_536;
+pub(crate) const STEP_LIMIT: usize = 65_536;
 
 /// Finds what passes a limit.
 pub(crate) struct PassesLimit;
@@ -126,7 +126,7 @@ impl Judge<Object> for PassesLimit {
     }
 }
 
-fn is_string_long(object: &Object) -> bool
+pub(crate) fn is_string_long(object: &Object) -> bool
     ensures { result ≡ if_there (over 65_000) (object_part object.now).text }
 {
     match &object.text {
@@ -175,7 +175,7 @@ impl Judge<Thread> for PassesLimit {
 }
 
 /// Whether more frames are there at once than may be.
-fn is_deep(steps: &[Step]) -> bool
+pub(crate) fn is_deep(steps: &[Step]) -> bool
     ensures { result ≡ is_deep 0 (map step_part steps.now) }
 {
     let mut frames = 0usize;

@@ -27,14 +27,14 @@ use std::alloc::Global;
 use std::collections::BTreeSet;
 
 /// Whether an id names nothing that is known, where 0 may stand for nothing.
-fn is_lost(known: &BTreeSet<u64>, id: u64) -> bool
+pub(crate) fn is_lost(known: &BTreeSet<u64>, id: u64) -> bool
     ensures { result ≡ is_lost (has known.now) id }
 {
     id != 0 && !known.contains(&id)
 }
 
 /// Whether bits are within the width of values of the tag.
-fn fits_tag(tag: Tag, bits: u64) -> bool
+pub(crate) fn fits_tag(tag: Tag, bits: u64) -> bool
     ensures { result ≡ fits_tag tag bits }
 {
     match tag {
@@ -211,7 +211,7 @@ impl Judge<SlotValue> for Same<SlotValue> {
 }
 
 /// Whether a field is listed twice. A list has few fields, so each is compared with those after it.
-fn field_twice(fields: &[FieldValue]) -> bool
+pub(crate) fn field_twice(fields: &[FieldValue]) -> bool
     ensures { result ≡ field_twice fields.now }
 {
     for place in 0..fields.len() {
@@ -329,7 +329,7 @@ impl Judge<Call> for KnownIds {
 
 /// Whether a step may not stand where its thread has these frames. A frame is the last code index of its method, and
 /// the newest stands last.
-fn step_lost(known: &KnownIds, frames: &[u64], step: &Step) -> bool
+pub(crate) fn step_lost(known: &KnownIds, frames: &[u64], step: &Step) -> bool
     ensures { result ≡ step_lost (known_ids known.now) frames.now (step_part step.now) }
 {
     let newest = frames.last().copied();
@@ -352,7 +352,11 @@ fn step_lost(known: &KnownIds, frames: &[u64], step: &Step) -> bool
 }
 
 /// Changes the frames of a thread as the step does.
-fn change_frames(known: &KnownIds, frames: &mut Vec<u64>, step: &Step) -> Result<(), NoMemory>
+pub(crate) fn change_frames(
+    known: &KnownIds,
+    frames: &mut Vec<u64>,
+    step: &Step,
+) -> Result<(), NoMemory>
     ensures { OnOk result (frames.new.items ≡ frames_left (known_ids known.now) frames.old.items (step_part step.now)) }
 {
     match step {

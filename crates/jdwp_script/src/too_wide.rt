@@ -23,7 +23,7 @@ use jdwp_wire::number::fits;
 /// Finds ids that do not fit these widths.
 #[derive(Drop)]
 pub(crate) struct TooWide {
-    sizes: IdSizes,
+    pub(crate) sizes: IdSizes,
 }
 
 /// Whether a number does not fit `width` bytes.

@@ -10,4 +10,4 @@ pub mod Reaches
 pub mod Rising
 pub mod Sets
 pub mod Standing
-pub mod StaticValues
+pub mod FieldValues

@@ -53,10 +53,3 @@ method_answer_to method.GenericVariableTable m = Data (One (Int m.args) ∷ Many
 abbrev pub by_entries : (List (List ScalarMeaning) → Answer) → Option (Bor (List (Vec Scalar))) → Answer
 by_entries answer None = Error ILLEGAL_ARGUMENT
 by_entries answer (Some entries) = answer (entry_meanings entries.now)
-
--- ---- memory
-
--- A refusal takes no memory: only data do.
-abbrev pub takes_memory : Answer → Bool
-takes_memory (Data content) = true
-takes_memory (Error error) = false

@@ -1,7 +1,8 @@
 //! What commands are answered.
-ghost use Rattle.std.specs.Prelude.{◌≡◌, IfOk};
+ghost use Rattle.std.specs.Prelude.{◌≡◌, IfOk, IfErr, IsTrue};
 ghost use Rattle.jdwp_layout.specs.Meanings.{meanings};
 ghost use Rattle.jdwp_layout.specs.CommandNumbers.{EVENT_REQUEST};
+ghost use Rattle.jdwp_machine.specs.Laws.{takes_memory};
 ghost use Rattle.jdwp_script_machine.specs.StateMeanings.{state_now};
 ghost use Rattle.jdwp_script_machine.specs.Answers.{answer_at};
 
@@ -27,7 +28,7 @@ use std::alloc::Global;
 /// What a command of this set and number with these data is answered.
 ///
 /// # Errors
-/// `NoMemory` where an allocation was refused.
+/// `NoMemory` where an allocation was refused; a refusal takes no memory.
 pub(crate) fn answer_at(
     alloc: Global,
     state: &MachineState,
@@ -35,7 +36,9 @@ pub(crate) fn answer_at(
     number: u8,
     content: &[Datum],
 ) -> Result<Answer, NoMemory>
-    ensures { IfOk result (λ a. a ≡ answer_at (state_now state.now) set number (meanings content.now)) }
+    ensures value { IfOk result (λ a. a ≡ answer_at (state_now state.now) set number (meanings content.now)) }
+    // A refusal takes no memory.
+    ensures memory { IfErr result (λ _. IsTrue (takes_memory (answer_at (state_now state.now) set number (meanings content.now)))) }
 {
     match set {
         VIRTUAL_MACHINE => virtual_machine_answer(alloc, state, number, content),
@@ -60,7 +63,9 @@ fn event_request_answer(
     number: u8,
     content: &[Datum],
 ) -> Result<Answer, NoMemory>
-    ensures { IfOk result (λ a. a ≡ answer_at (state_now state.now) EVENT_REQUEST number (meanings content.now)) }
+    ensures value { IfOk result (λ a. a ≡ answer_at (state_now state.now) EVENT_REQUEST number (meanings content.now)) }
+    // A refusal takes no memory.
+    ensures memory { IfErr result (λ _. IsTrue (takes_memory (answer_at (state_now state.now) EVENT_REQUEST number (meanings content.now)))) }
 {
     if number == SET_REQUEST {
         set_answer(alloc, &state.script, content)

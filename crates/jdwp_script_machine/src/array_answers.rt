@@ -1,8 +1,9 @@
 //! What is answered of arrays (JDWP specification, "ArrayReference").
-ghost use Rattle.std.specs.Prelude.{◌≡◌, map, false, IfOk};
+ghost use Rattle.std.specs.Prelude.{◌≡◌, map, false, IfOk, IfErr, IsTrue};
 ghost use Rattle.jdwp_wire.specs.ErrorCodes.{INVALID_ARRAY};
 ghost use Rattle.jdwp_layout.specs.Meanings.{meanings};
 ghost use Rattle.jdwp_script.specs.Meanings.{elements_part, object_part, script_part};
+ghost use Rattle.jdwp_machine.specs.Laws.{takes_memory};
 ghost use Rattle.jdwp_script_machine.specs.StateMeanings.{state_now};
 ghost use Rattle.jdwp_script_machine.specs.Requests.{found_or, of_object, part_of};
 ghost use Rattle.jdwp_script_machine.specs.ObjectAnswers.{element, length_answer, array_length_answer, region_answer, elements_asked, elements_answer, array_answer};
@@ -30,7 +31,9 @@ pub(crate) fn array_answer(
     number: u8,
     content: &[Datum],
 ) -> Result<Answer, NoMemory>
-    ensures { IfOk result (λ a. a ≡ array_answer (state_now state.now) number (meanings content.now)) }
+    ensures value { IfOk result (λ a. a ≡ array_answer (state_now state.now) number (meanings content.now)) }
+    // A refusal takes no memory.
+    ensures memory { IfErr result (λ _. IsTrue (takes_memory (array_answer (state_now state.now) number (meanings content.now)))) }
 {
     match number {
         ARRAY_LENGTH => array_length(alloc, &state.script, content),
@@ -41,7 +44,9 @@ pub(crate) fn array_answer(
 
 /// The length of an array.
 fn array_length(alloc: Global, script: &Script, content: &[Datum]) -> Result<Answer, NoMemory>
-    ensures { IfOk result (λ a. a ≡ of_object (script_part script.now) array_length_answer (meanings content.now)) }
+    ensures value { IfOk result (λ a. a ≡ of_object (script_part script.now) array_length_answer (meanings content.now)) }
+    // A refusal takes no memory.
+    ensures memory { IfErr result (λ _. IsTrue (takes_memory (of_object (script_part script.now) array_length_answer (meanings content.now)))) }
 {
     match object_asked(script, content) {
         Ok((object, [])) => length_of(alloc, object),
@@ -52,7 +57,9 @@ fn array_length(alloc: Global, script: &Script, content: &[Datum]) -> Result<Ans
 
 /// The length of this object, where it is an array.
 fn length_of(alloc: Global, object: &Object) -> Result<Answer, NoMemory>
-    ensures { IfOk result (λ a. a ≡ found_or INVALID_ARRAY length_answer (object_part object.now).array) }
+    ensures value { IfOk result (λ a. a ≡ found_or INVALID_ARRAY length_answer (object_part object.now).array) }
+    // A refusal takes no memory.
+    ensures memory { IfErr result (λ _. IsTrue (takes_memory (found_or INVALID_ARRAY length_answer (object_part object.now).array))) }
 {
     match &object.array {
         Some(elements) => count_of(alloc, elements),
@@ -62,7 +69,9 @@ fn length_of(alloc: Global, object: &Object) -> Result<Answer, NoMemory>
 
 /// How many the elements are.
 fn count_of(alloc: Global, elements: &Elements) -> Result<Answer, NoMemory>
-    ensures { IfOk result (λ a. a ≡ length_answer (elements_part elements.now)) }
+    ensures value { IfOk result (λ a. a ≡ length_answer (elements_part elements.now)) }
+    // A refusal takes no memory.
+    ensures memory { IfErr result (λ _. IsTrue (takes_memory (length_answer (elements_part elements.now)))) }
 {
     match i32::try_from(elements.bits.len()) {
         Ok(count) => of_scalar(alloc, Scalar::Int(count)),
@@ -72,7 +81,9 @@ fn count_of(alloc: Global, elements: &Elements) -> Result<Answer, NoMemory>
 
 /// Some elements of an array.
 fn array_values(alloc: Global, script: &Script, content: &[Datum]) -> Result<Answer, NoMemory>
-    ensures { IfOk result (λ a. a ≡ of_object (script_part script.now) (elements_answer (script_part script.now)) (meanings content.now)) }
+    ensures value { IfOk result (λ a. a ≡ of_object (script_part script.now) (elements_answer (script_part script.now)) (meanings content.now)) }
+    // A refusal takes no memory.
+    ensures memory { IfErr result (λ _. IsTrue (takes_memory (of_object (script_part script.now) (elements_answer (script_part script.now)) (meanings content.now)))) }
 {
     match object_asked(script, content) {
         Ok((object, rest)) => values_of(alloc, script, object, rest),
@@ -87,7 +98,9 @@ fn values_of(
     object: &Object,
     rest: &[Datum],
 ) -> Result<Answer, NoMemory>
-    ensures { IfOk result (λ a. a ≡ elements_answer (script_part script.now) (object_part object.now) (meanings rest.now)) }
+    ensures value { IfOk result (λ a. a ≡ elements_answer (script_part script.now) (object_part object.now) (meanings rest.now)) }
+    // A refusal takes no memory.
+    ensures memory { IfErr result (λ _. IsTrue (takes_memory (elements_answer (script_part script.now) (object_part object.now) (meanings rest.now)))) }
 {
     match &object.array {
         Some(elements) => some_of(alloc, script, elements, rest),
@@ -103,7 +116,9 @@ fn some_of(
     elements: &Elements,
     rest: &[Datum],
 ) -> Result<Answer, NoMemory>
-    ensures { IfOk result (λ a. a ≡ elements_asked (script_part script.now) (meanings rest.now) (elements_part elements.now)) }
+    ensures value { IfOk result (λ a. a ≡ elements_asked (script_part script.now) (meanings rest.now) (elements_part elements.now)) }
+    // A refusal takes no memory.
+    ensures memory { IfErr result (λ _. IsTrue (takes_memory (elements_asked (script_part script.now) (meanings rest.now) (elements_part elements.now)))) }
 {
     match range_of(rest) {
         Some((from, count)) => part_told(alloc, script, elements.tag, &elements.bits, from, count),
@@ -121,7 +136,9 @@ fn part_told(
     from: i32,
     count: i32,
 ) -> Result<Answer, NoMemory>
-    ensures { IfOk result (λ a. a ≡ part_of false (region_answer (script_part script.now) tag) bits.now from count) }
+    ensures value { IfOk result (λ a. a ≡ part_of false (region_answer (script_part script.now) tag) bits.now from count) }
+    // A refusal takes no memory.
+    ensures memory { IfErr result (λ _. IsTrue (takes_memory (part_of false (region_answer (script_part script.now) tag) bits.now from count))) }
 {
     match part_of(false, bits, from, count) {
         Ok(part) => region(alloc, script, tag, part),
@@ -131,7 +148,9 @@ fn part_told(
 
 /// The elements of this tag and these bits.
 fn region(alloc: Global, script: &Script, tag: Tag, bits: &[u64]) -> Result<Answer, NoMemory>
-    ensures { IfOk result (λ a. a ≡ region_answer (script_part script.now) tag bits.now) }
+    ensures value { IfOk result (λ a. a ≡ region_answer (script_part script.now) tag bits.now) }
+    // A refusal takes no memory.
+    ensures memory { IfErr result (λ _. IsTrue (takes_memory (region_answer (script_part script.now) tag bits.now))) }
 {
     let values = elements_of(alloc, script, tag, bits)?;
     match ArrayRegion::new(tag, values) {

@@ -7,7 +7,8 @@ ghost use Rattle.jdwp_script.specs.Meanings.{class_part, script_part};
 ghost use Rattle.jdwp_script_machine.specs.Requests.{Asks, alone, of_class, of_prepared_class};
 ghost use Rattle.jdwp_script_machine.specs.StateMeanings.{state_now};
 ghost use Rattle.jdwp_script_machine.specs.ClassAnswers.{source_answer, statics_answer, reference_type_answer, class_type_answer};
-ghost use Rattle.jdwp_script_machine.specs.ClassQuestions.{class_answer_to, takes_memory};
+ghost use Rattle.jdwp_machine.specs.Laws.{takes_memory};
+ghost use Rattle.jdwp_script_machine.specs.ClassQuestions.{class_answer_to};
 
 use crate::asked::{class_asked, prepared_asked};
 use crate::class_entries::{GenericMemberEntry, InterfaceEntry, MemberEntry};

@@ -1,7 +1,8 @@
 //! The values of fields, where entries name the fields (JDWP specification, "ReferenceType" and "ObjectReference":
 //! GetValues).
-ghost use Rattle.std.specs.Prelude.{◌≡◌, IfOk};
+ghost use Rattle.std.specs.Prelude.{◌≡◌, IfOk, IfErr, IsTrue};
 ghost use Rattle.jdwp_layout.specs.Meanings.{scalar_meanings, entry_meanings};
+ghost use Rattle.jdwp_machine.specs.Laws.{takes_memory};
 ghost use Rattle.jdwp_script_machine.specs.ClassAnswers.{answer_entries, entry_value, field_values};
 
 use crate::replies::{of_entries, value_entry};
@@ -27,8 +28,37 @@ pub(crate) trait Fielded {
 /// The answer with the value of each field that an entry names, in their order; `INVALID_FIELDID` where one has none.
 ///
 /// # Errors
-/// `NoMemory` where an allocation was refused.
+/// `NoMemory` where an allocation was refused; a refusal takes no memory.
+#[tactic(auto, using(crate::proofs::FieldValues::refused_as))]
 pub(crate) fn values_asked<T: Fielded>(
+    alloc: Global,
+    owner: &T,
+    entries: &[Vec<Scalar>],
+) -> Result<Answer, NoMemory>
+    ensures value { IfOk result (λ a. a ≡ answer_entries (field_values (T.held owner.now) (entry_meanings entries.now))) }
+    // A refusal takes no memory.
+    ensures memory { IfErr result (λ _. IsTrue (takes_memory (answer_entries (field_values (T.held owner.now) (entry_meanings entries.now))))) }
+{
+    if !have_values(owner, entries) {
+        return Ok(Answer::Error(ErrorCode::INVALID_FIELDID));
+    }
+    values_told(alloc, owner, entries)
+}
+
+/// Whether each entry names a field with a value.
+fn have_values<T: Fielded>(owner: &T, entries: &[Vec<Scalar>]) -> bool
+    ensures { result ≡ takes_memory (answer_entries (field_values (T.held owner.now) (entry_meanings entries.now))) }
+{
+    for entry in entries {
+        if value_asked(owner, entry).is_none() {
+            return false;
+        }
+    }
+    true
+}
+
+/// The answer, by the value of each entry's field.
+fn values_told<T: Fielded>(
     alloc: Global,
     owner: &T,
     entries: &[Vec<Scalar>],
@@ -49,7 +79,7 @@ pub(crate) fn values_asked<T: Fielded>(
 }
 
 /// The value of the field that the entry names.
-pub(crate) fn value_asked<T: Fielded>(owner: &T, entry: &[Scalar]) -> Option<Literal>
+fn value_asked<T: Fielded>(owner: &T, entry: &[Scalar]) -> Option<Literal>
     ensures { result ≡ entry_value (T.held owner.now) (scalar_meanings entry.now) }
 {
     match entry {

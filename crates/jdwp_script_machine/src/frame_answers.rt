@@ -1,8 +1,9 @@
 //! What is answered of frames and their slots (JDWP specification, "StackFrame").
-ghost use Rattle.std.specs.Prelude.{◌≡◌, map, IfOk};
+ghost use Rattle.std.specs.Prelude.{◌≡◌, map, IfOk, IfErr, IsTrue};
 ghost use Rattle.std.specs.List.{list_all};
 ghost use Rattle.jdwp_layout.specs.Meanings.{meanings, scalar_meanings, entry_meanings};
 ghost use Rattle.jdwp_script.specs.Meanings.{script_part};
+ghost use Rattle.jdwp_machine.specs.Laws.{takes_memory};
 ghost use Rattle.jdwp_script_machine.specs.StateMeanings.{slot_now, frame_now, state_now};
 ghost use Rattle.jdwp_script_machine.specs.Requests.{of_frame};
 ghost use Rattle.jdwp_script_machine.specs.ThreadAnswers.{frames_at, entry_has_slot, entry_slot, slot_entries, slots_answer, this_answer, stack_frame_answer_by};
@@ -24,14 +25,16 @@ use std::alloc::Global;
 /// the thread lives and is suspended is not tested.
 ///
 /// # Errors
-/// `NoMemory` where an allocation was refused.
+/// `NoMemory` where an allocation was refused; a refusal takes no memory.
 pub(crate) fn stack_frame_answer(
     alloc: Global,
     state: &MachineState,
     number: u8,
     content: &[Datum],
 ) -> Result<Answer, NoMemory>
-    ensures { IfOk result (λ a. a ≡ stack_frame_answer_by (script_part state.now.script) (frames_at (state_now state.now)) number (meanings content.now)) }
+    ensures value { IfOk result (λ a. a ≡ stack_frame_answer_by (script_part state.now.script) (frames_at (state_now state.now)) number (meanings content.now)) }
+    // A refusal takes no memory.
+    ensures memory { IfErr result (λ _. IsTrue (takes_memory (stack_frame_answer_by (script_part state.now.script) (frames_at (state_now state.now)) number (meanings content.now)))) }
 {
     match number {
         GET_SLOTS => slot_values(alloc, state, content),
@@ -42,7 +45,9 @@ pub(crate) fn stack_frame_answer(
 
 /// The values of slots of a frame of a thread.
 fn slot_values(alloc: Global, state: &MachineState, content: &[Datum]) -> Result<Answer, NoMemory>
-    ensures { IfOk result (λ a. a ≡ of_frame (frames_at (state_now state.now)) slots_answer (meanings content.now)) }
+    ensures value { IfOk result (λ a. a ≡ of_frame (frames_at (state_now state.now)) slots_answer (meanings content.now)) }
+    // A refusal takes no memory.
+    ensures memory { IfErr result (λ _. IsTrue (takes_memory (of_frame (frames_at (state_now state.now)) slots_answer (meanings content.now)))) }
 {
     match frame_asked(state, content) {
         Ok((frame, rest)) => values_of(alloc, frame, rest),
@@ -52,7 +57,9 @@ fn slot_values(alloc: Global, state: &MachineState, content: &[Datum]) -> Result
 
 /// The values of slots of this frame.
 fn values_of(alloc: Global, frame: &FrameState, content: &[Datum]) -> Result<Answer, NoMemory>
-    ensures { IfOk result (λ a. a ≡ slots_answer (frame_now frame.now) (meanings content.now)) }
+    ensures value { IfOk result (λ a. a ≡ slots_answer (frame_now frame.now) (meanings content.now)) }
+    // A refusal takes no memory.
+    ensures memory { IfErr result (λ _. IsTrue (takes_memory (slots_answer (frame_now frame.now) (meanings content.now)))) }
 {
     match entries_of(content) {
         Some(entries) => values_asked(alloc, &frame.slots, entries),
@@ -67,7 +74,9 @@ fn values_asked(
     slots: &[SlotState],
     entries: &[Vec<Scalar>],
 ) -> Result<Answer, NoMemory>
-    ensures { IfOk result (λ a. a ≡ slots_told (map slot_now slots.now) (entry_meanings entries.now)) }
+    ensures value { IfOk result (λ a. a ≡ slots_told (map slot_now slots.now) (entry_meanings entries.now)) }
+    // A refusal takes no memory.
+    ensures memory { IfErr result (λ _. IsTrue (takes_memory (slots_told (map slot_now slots.now) (entry_meanings entries.now)))) }
 {
     if !all_have_slots(slots, entries) {
         return Ok(Answer::Error(ErrorCode::INVALID_SLOT));
@@ -163,7 +172,9 @@ fn entry_slot(slots: &[SlotState], entry: &[Scalar]) -> Option<Value>
 
 /// The `this` of a frame of a thread.
 fn this_object(alloc: Global, state: &MachineState, content: &[Datum]) -> Result<Answer, NoMemory>
-    ensures { IfOk result (λ a. a ≡ of_frame (frames_at (state_now state.now)) (this_answer (script_part state.now.script)) (meanings content.now)) }
+    ensures value { IfOk result (λ a. a ≡ of_frame (frames_at (state_now state.now)) (this_answer (script_part state.now.script)) (meanings content.now)) }
+    // A refusal takes no memory.
+    ensures memory { IfErr result (λ _. IsTrue (takes_memory (of_frame (frames_at (state_now state.now)) (this_answer (script_part state.now.script)) (meanings content.now)))) }
 {
     match frame_asked(state, content) {
         Ok((frame, [])) => {

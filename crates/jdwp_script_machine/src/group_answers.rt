@@ -1,7 +1,8 @@
 //! What is answered of thread groups (JDWP specification, "ThreadGroupReference").
-ghost use Rattle.std.specs.Prelude.{◌≡◌, map, IfOk};
+ghost use Rattle.std.specs.Prelude.{◌≡◌, map, IfOk, IfErr, IsTrue};
 ghost use Rattle.jdwp_layout.specs.Meanings.{meanings, entry_meanings};
 ghost use Rattle.jdwp_script.specs.Meanings.{script_part};
+ghost use Rattle.jdwp_machine.specs.Laws.{takes_memory};
 ghost use Rattle.jdwp_script_machine.specs.States.{is_living};
 ghost use Rattle.jdwp_script_machine.specs.StateMeanings.{life_now, thread_now, state_now};
 ghost use Rattle.jdwp_script_machine.specs.Requests.{of_group};
@@ -24,14 +25,16 @@ use std::alloc::Global;
 /// threads that live in it and the groups right below it, each by rising id.
 ///
 /// # Errors
-/// `NoMemory` where an allocation was refused.
+/// `NoMemory` where an allocation was refused; a refusal takes no memory.
 pub(crate) fn group_answer(
     alloc: Global,
     state: &MachineState,
     number: u8,
     content: &[Datum],
 ) -> Result<Answer, NoMemory>
-    ensures { IfOk result (λ a. a ≡ group_answer (state_now state.now) number (meanings content.now)) }
+    ensures value { IfOk result (λ a. a ≡ group_answer (state_now state.now) number (meanings content.now)) }
+    // A refusal takes no memory.
+    ensures memory { IfErr result (λ _. IsTrue (takes_memory (group_answer (state_now state.now) number (meanings content.now)))) }
 {
     match number {
         GROUP_NAME => name(alloc, &state.script, content),
@@ -43,7 +46,9 @@ pub(crate) fn group_answer(
 
 /// The name of a group.
 fn name(alloc: Global, script: &Script, content: &[Datum]) -> Result<Answer, NoMemory>
-    ensures { IfOk result (λ a. a ≡ of_group (script_part script.now) group_name_answer (meanings content.now)) }
+    ensures value { IfOk result (λ a. a ≡ of_group (script_part script.now) group_name_answer (meanings content.now)) }
+    // A refusal takes no memory.
+    ensures memory { IfErr result (λ _. IsTrue (takes_memory (of_group (script_part script.now) group_name_answer (meanings content.now)))) }
 {
     match group_asked(script, content) {
         Ok((group, [])) => of_text(alloc, &group.name),
@@ -54,7 +59,9 @@ fn name(alloc: Global, script: &Script, content: &[Datum]) -> Result<Answer, NoM
 
 /// The parent of a group.
 fn parent(alloc: Global, script: &Script, content: &[Datum]) -> Result<Answer, NoMemory>
-    ensures { IfOk result (λ a. a ≡ of_group (script_part script.now) parent_answer (meanings content.now)) }
+    ensures value { IfOk result (λ a. a ≡ of_group (script_part script.now) parent_answer (meanings content.now)) }
+    // A refusal takes no memory.
+    ensures memory { IfErr result (λ _. IsTrue (takes_memory (of_group (script_part script.now) parent_answer (meanings content.now)))) }
 {
     match group_asked(script, content) {
         Ok((group, [])) => of_scalar(alloc, Scalar::ObjectId(group.parent)),
@@ -65,7 +72,9 @@ fn parent(alloc: Global, script: &Script, content: &[Datum]) -> Result<Answer, N
 
 /// The threads and the groups right below a group.
 fn children(alloc: Global, state: &MachineState, content: &[Datum]) -> Result<Answer, NoMemory>
-    ensures { IfOk result (λ a. a ≡ of_group (script_part state.now.script) (children_answer (state_now state.now)) (meanings content.now)) }
+    ensures value { IfOk result (λ a. a ≡ of_group (script_part state.now.script) (children_answer (state_now state.now)) (meanings content.now)) }
+    // A refusal takes no memory.
+    ensures memory { IfErr result (λ _. IsTrue (takes_memory (of_group (script_part state.now.script) (children_answer (state_now state.now)) (meanings content.now)))) }
 {
     match group_asked(&state.script, content) {
         Ok((group, [])) => children_of(alloc, state, group.id),
@@ -76,7 +85,9 @@ fn children(alloc: Global, state: &MachineState, content: &[Datum]) -> Result<An
 
 /// The threads and the groups right below this group.
 fn children_of(alloc: Global, state: &MachineState, group: ObjectId) -> Result<Answer, NoMemory>
-    ensures { IfOk result (λ a. a ≡ children (state_now state.now) group.0) }
+    ensures value { IfOk result (λ a. a ≡ children (state_now state.now) group.0) }
+    // A refusal takes no memory.
+    ensures memory { IfErr result (λ _. IsTrue (takes_memory (children (state_now state.now) group.0))) }
 {
     let threads = threads_below(alloc, state, group)?;
     let groups = groups_below(alloc, &state.script, group)?;

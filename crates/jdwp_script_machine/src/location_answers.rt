@@ -1,7 +1,8 @@
 //! Whether a location is one at which a breakpoint may be set (JDWP specification, "EventRequest": Set).
-ghost use Rattle.std.specs.Prelude.{◌≡◌, [], ◌∷◌, IfOk};
+ghost use Rattle.std.specs.Prelude.{◌≡◌, [], ◌∷◌, IfOk, IfErr, IsTrue};
 ghost use Rattle.jdwp_layout.specs.Meanings.{One, Byte, Many, meanings, scalar_meanings, entry_meanings};
 ghost use Rattle.jdwp_script.specs.Meanings.{method_part, class_part, script_part};
+ghost use Rattle.jdwp_machine.specs.Laws.{takes_memory};
 ghost use Rattle.jdwp_script_machine.specs.ThreadAnswers.{index_answer, location_in_class, location_answer, set_answer};
 
 use crate::places::{class_of, method_of};
@@ -18,13 +19,15 @@ use std::alloc::Global;
 /// location is one of the script, and else why it is none. Other requests are not implemented here.
 ///
 /// # Errors
-/// `NoMemory` where an allocation was refused.
+/// `NoMemory` where an allocation was refused; a refusal takes no memory.
 pub(crate) fn set_answer(
     alloc: Global,
     script: &Script,
     content: &[Datum],
 ) -> Result<Answer, NoMemory>
-    ensures { IfOk result (λ a. a ≡ set_answer (script_part script.now) (meanings content.now)) }
+    ensures value { IfOk result (λ a. a ≡ set_answer (script_part script.now) (meanings content.now)) }
+    // A refusal takes no memory.
+    ensures memory { IfErr result (λ _. IsTrue (takes_memory (set_answer (script_part script.now) (meanings content.now)))) }
 {
     match content {
         [
@@ -44,7 +47,9 @@ fn by_modifiers(
     policy: u8,
     modifiers: &[Vec<Scalar>],
 ) -> Result<Answer, NoMemory>
-    ensures { IfOk result (λ a. a ≡ set_answer (script_part script.now) (One (Byte kind) ∷ One (Byte policy) ∷ Many (entry_meanings modifiers.now) ∷ [])) }
+    ensures value { IfOk result (λ a. a ≡ set_answer (script_part script.now) (One (Byte kind) ∷ One (Byte policy) ∷ Many (entry_meanings modifiers.now) ∷ [])) }
+    // A refusal takes no memory.
+    ensures memory { IfErr result (λ _. IsTrue (takes_memory (set_answer (script_part script.now) (One (Byte kind) ∷ One (Byte policy) ∷ Many (entry_meanings modifiers.now) ∷ [])))) }
 {
     match modifiers {
         [modifier] => by_modifier(alloc, script, kind, policy, modifier),
@@ -60,7 +65,9 @@ fn by_modifier(
     policy: u8,
     modifier: &[Scalar],
 ) -> Result<Answer, NoMemory>
-    ensures { IfOk result (λ a. a ≡ set_answer (script_part script.now) (One (Byte kind) ∷ One (Byte policy) ∷ Many (scalar_meanings modifier.now ∷ []) ∷ [])) }
+    ensures value { IfOk result (λ a. a ≡ set_answer (script_part script.now) (One (Byte kind) ∷ One (Byte policy) ∷ Many (scalar_meanings modifier.now ∷ []) ∷ [])) }
+    // A refusal takes no memory.
+    ensures memory { IfErr result (λ _. IsTrue (takes_memory (set_answer (script_part script.now) (One (Byte kind) ∷ One (Byte policy) ∷ Many (scalar_meanings modifier.now ∷ []) ∷ [])))) }
 {
     match modifier {
         [Scalar::Byte(modifier), Scalar::Location(location)] => {
@@ -78,7 +85,9 @@ fn by_modifier(
 
 /// Success where the location is one of the script.
 fn location_answer(alloc: Global, script: &Script, location: Location) -> Result<Answer, NoMemory>
-    ensures { IfOk result (λ a. a ≡ location_answer (script_part script.now) location) }
+    ensures value { IfOk result (λ a. a ≡ location_answer (script_part script.now) location) }
+    // A refusal takes no memory.
+    ensures memory { IfErr result (λ _. IsTrue (takes_memory (location_answer (script_part script.now) location))) }
 {
     match location {
         Location::Null => Ok(Answer::Error(ErrorCode::INVALID_LOCATION)),
@@ -96,7 +105,9 @@ fn location_answer(alloc: Global, script: &Script, location: Location) -> Result
 
 /// Success where the class has the method, and the method the index.
 fn in_class(alloc: Global, class: &Class, method: MethodId, index: u64) -> Result<Answer, NoMemory>
-    ensures { IfOk result (λ a. a ≡ location_in_class method.0 index (class_part class.now)) }
+    ensures value { IfOk result (λ a. a ≡ location_in_class method.0 index (class_part class.now)) }
+    // A refusal takes no memory.
+    ensures memory { IfErr result (λ _. IsTrue (takes_memory (location_in_class method.0 index (class_part class.now)))) }
 {
     match method_of(class, method) {
         Some(method) => in_method(alloc, method, index),
@@ -106,7 +117,9 @@ fn in_class(alloc: Global, class: &Class, method: MethodId, index: u64) -> Resul
 
 /// Success where the index is not above the method's last one.
 fn in_method(alloc: Global, method: &Method, index: u64) -> Result<Answer, NoMemory>
-    ensures { IfOk result (λ a. a ≡ index_answer index (method_part method.now)) }
+    ensures value { IfOk result (λ a. a ≡ index_answer index (method_part method.now)) }
+    // A refusal takes no memory.
+    ensures memory { IfErr result (λ _. IsTrue (takes_memory (index_answer index (method_part method.now)))) }
 {
     if index > method.last {
         return Ok(Answer::Error(ErrorCode::INVALID_LOCATION));

@@ -6,7 +6,8 @@ ghost use Rattle.jdwp_script.specs.Meanings.{class_part, script_part};
 ghost use Rattle.jdwp_script_machine.specs.Requests.{alone};
 ghost use Rattle.jdwp_script_machine.specs.StateMeanings.{state_now};
 ghost use Rattle.jdwp_script_machine.specs.ClassAnswers.{version, class_entry, classes_by_signature, incapable, disposed, virtual_machine_answer};
-ghost use Rattle.jdwp_script_machine.specs.ClassQuestions.{machine_answer_to, takes_memory};
+ghost use Rattle.jdwp_machine.specs.Laws.{takes_memory};
+ghost use Rattle.jdwp_script_machine.specs.ClassQuestions.{machine_answer_to};
 
 use crate::class_entries::{ClassEntry, GenericClassEntry};
 use crate::class_look_ups::status;

@@ -6,7 +6,8 @@ ghost use Rattle.jdwp_script.specs.Meanings.{class_part, method_part, script_par
 ghost use Rattle.jdwp_script_machine.specs.Requests.{Asks, alone, of_method_in, of_method};
 ghost use Rattle.jdwp_script_machine.specs.StateMeanings.{state_now};
 ghost use Rattle.jdwp_script_machine.specs.ClassAnswers.{lines_answer, method_answer};
-ghost use Rattle.jdwp_script_machine.specs.ClassQuestions.{method_answer_to, takes_memory};
+ghost use Rattle.jdwp_machine.specs.Laws.{takes_memory};
+ghost use Rattle.jdwp_script_machine.specs.ClassQuestions.{method_answer_to};
 
 use crate::asked::{class_asked, method_asked};
 use crate::class_entries::{GenericVariableEntry, LineEntry, VariableEntry, long_of_index};

@@ -1,7 +1,8 @@
 //! What is answered of objects and strings (JDWP specification, "ObjectReference" and "StringReference").
-ghost use Rattle.std.specs.Prelude.{◌≡◌, IfOk};
+ghost use Rattle.std.specs.Prelude.{◌≡◌, IfOk, IfErr, IsTrue};
 ghost use Rattle.jdwp_layout.specs.Meanings.{meanings};
 ghost use Rattle.jdwp_script.specs.Meanings.{class_part, object_part, script_part};
+ghost use Rattle.jdwp_machine.specs.Laws.{takes_memory};
 ghost use Rattle.jdwp_script_machine.specs.StateMeanings.{state_now};
 ghost use Rattle.jdwp_wire.specs.ErrorCodes.{INVALID_CLASS, INVALID_STRING};
 ghost use Rattle.jdwp_script_machine.specs.Sites.{class_in};
@@ -27,14 +28,16 @@ use std::alloc::Global;
 /// collected, which it never is; disabling and enabling collection does nothing.
 ///
 /// # Errors
-/// `NoMemory` where an allocation was refused.
+/// `NoMemory` where an allocation was refused; a refusal takes no memory.
 pub(crate) fn object_answer(
     alloc: Global,
     state: &MachineState,
     number: u8,
     content: &[Datum],
 ) -> Result<Answer, NoMemory>
-    ensures { IfOk result (λ a. a ≡ object_answer (state_now state.now) number (meanings content.now)) }
+    ensures value { IfOk result (λ a. a ≡ object_answer (state_now state.now) number (meanings content.now)) }
+    // A refusal takes no memory.
+    ensures memory { IfErr result (λ _. IsTrue (takes_memory (object_answer (state_now state.now) number (meanings content.now)))) }
 {
     let script = &state.script;
     match number {
@@ -48,7 +51,9 @@ pub(crate) fn object_answer(
 
 /// The type of an object.
 fn object_type(alloc: Global, script: &Script, content: &[Datum]) -> Result<Answer, NoMemory>
-    ensures { IfOk result (λ a. a ≡ of_object (script_part script.now) (object_type_answer (script_part script.now)) (meanings content.now)) }
+    ensures value { IfOk result (λ a. a ≡ of_object (script_part script.now) (object_type_answer (script_part script.now)) (meanings content.now)) }
+    // A refusal takes no memory.
+    ensures memory { IfErr result (λ _. IsTrue (takes_memory (of_object (script_part script.now) (object_type_answer (script_part script.now)) (meanings content.now)))) }
 {
     match object_asked(script, content) {
         Ok((object, [])) => type_of(alloc, script, object),
@@ -59,7 +64,9 @@ fn object_type(alloc: Global, script: &Script, content: &[Datum]) -> Result<Answ
 
 /// The type of this object.
 fn type_of(alloc: Global, script: &Script, object: &Object) -> Result<Answer, NoMemory>
-    ensures { IfOk result (λ a. a ≡ found_or INVALID_CLASS type_answer (class_in (script_part script.now) (object_part object.now).class)) }
+    ensures value { IfOk result (λ a. a ≡ found_or INVALID_CLASS type_answer (class_in (script_part script.now) (object_part object.now).class)) }
+    // A refusal takes no memory.
+    ensures memory { IfErr result (λ _. IsTrue (takes_memory (found_or INVALID_CLASS type_answer (class_in (script_part script.now) (object_part object.now).class)))) }
 {
     match class_of(script, object.class) {
         Some(class) => class_told(alloc, class),
@@ -69,7 +76,9 @@ fn type_of(alloc: Global, script: &Script, object: &Object) -> Result<Answer, No
 
 /// The tag and the id of a class.
 fn class_told(alloc: Global, class: &Class) -> Result<Answer, NoMemory>
-    ensures { IfOk result (λ a. a ≡ type_answer (class_part class.now)) }
+    ensures value { IfOk result (λ a. a ≡ type_answer (class_part class.now)) }
+    // A refusal takes no memory.
+    ensures memory { IfErr result (λ _. IsTrue (takes_memory (type_answer (class_part class.now)))) }
 {
     let tag = Scalar::Byte(class.tag.byte());
     let id = Scalar::ReferenceTypeId(class.id);
@@ -78,7 +87,9 @@ fn class_told(alloc: Global, class: &Class) -> Result<Answer, NoMemory>
 
 /// The values of fields of an object.
 fn held_values(alloc: Global, script: &Script, content: &[Datum]) -> Result<Answer, NoMemory>
-    ensures { IfOk result (λ a. a ≡ of_object (script_part script.now) held_answer (meanings content.now)) }
+    ensures value { IfOk result (λ a. a ≡ of_object (script_part script.now) held_answer (meanings content.now)) }
+    // A refusal takes no memory.
+    ensures memory { IfErr result (λ _. IsTrue (takes_memory (of_object (script_part script.now) held_answer (meanings content.now)))) }
 {
     match object_asked(script, content) {
         Ok((object, rest)) => held_by(alloc, object, rest),
@@ -88,7 +99,9 @@ fn held_values(alloc: Global, script: &Script, content: &[Datum]) -> Result<Answ
 
 /// The values of fields of this object.
 fn held_by(alloc: Global, object: &Object, content: &[Datum]) -> Result<Answer, NoMemory>
-    ensures { IfOk result (λ a. a ≡ held_answer (object_part object.now) (meanings content.now)) }
+    ensures value { IfOk result (λ a. a ≡ held_answer (object_part object.now) (meanings content.now)) }
+    // A refusal takes no memory.
+    ensures memory { IfErr result (λ _. IsTrue (takes_memory (held_answer (object_part object.now) (meanings content.now)))) }
 {
     match entries_of(content) {
         Some(entries) => values_asked(alloc, object, entries),
@@ -122,7 +135,9 @@ fn collection(alloc: Global, script: &Script, content: &[Datum]) -> Answer
 
 /// Whether an object was collected: no object ever is.
 fn collected(alloc: Global, script: &Script, content: &[Datum]) -> Result<Answer, NoMemory>
-    ensures { IfOk result (λ a. a ≡ of_object (script_part script.now) collected_answer (meanings content.now)) }
+    ensures value { IfOk result (λ a. a ≡ of_object (script_part script.now) collected_answer (meanings content.now)) }
+    // A refusal takes no memory.
+    ensures memory { IfErr result (λ _. IsTrue (takes_memory (of_object (script_part script.now) collected_answer (meanings content.now)))) }
 {
     match object_asked(script, content) {
         Ok((_, [])) => of_scalar(alloc, Scalar::Boolean(false)),
@@ -134,14 +149,16 @@ fn collected(alloc: Global, script: &Script, content: &[Datum]) -> Result<Answer
 /// What is answered of a string to the command of this number: its text.
 ///
 /// # Errors
-/// `NoMemory` where an allocation was refused.
+/// `NoMemory` where an allocation was refused; a refusal takes no memory.
 pub(crate) fn string_answer(
     alloc: Global,
     state: &MachineState,
     number: u8,
     content: &[Datum],
 ) -> Result<Answer, NoMemory>
-    ensures { IfOk result (λ a. a ≡ string_answer (state_now state.now) number (meanings content.now)) }
+    ensures value { IfOk result (λ a. a ≡ string_answer (state_now state.now) number (meanings content.now)) }
+    // A refusal takes no memory.
+    ensures memory { IfErr result (λ _. IsTrue (takes_memory (string_answer (state_now state.now) number (meanings content.now)))) }
 {
     match number {
         STRING_VALUE => string_value(alloc, &state.script, content),
@@ -151,7 +168,9 @@ pub(crate) fn string_answer(
 
 /// The text of a string.
 fn string_value(alloc: Global, script: &Script, content: &[Datum]) -> Result<Answer, NoMemory>
-    ensures { IfOk result (λ a. a ≡ of_object (script_part script.now) string_value_answer (meanings content.now)) }
+    ensures value { IfOk result (λ a. a ≡ of_object (script_part script.now) string_value_answer (meanings content.now)) }
+    // A refusal takes no memory.
+    ensures memory { IfErr result (λ _. IsTrue (takes_memory (of_object (script_part script.now) string_value_answer (meanings content.now)))) }
 {
     match object_asked(script, content) {
         Ok((object, [])) => text_of(alloc, object),
@@ -162,7 +181,9 @@ fn string_value(alloc: Global, script: &Script, content: &[Datum]) -> Result<Ans
 
 /// The text of this object, where it is a string.
 fn text_of(alloc: Global, object: &Object) -> Result<Answer, NoMemory>
-    ensures { IfOk result (λ a. a ≡ found_or INVALID_STRING text_answer (object_part object.now).text) }
+    ensures value { IfOk result (λ a. a ≡ found_or INVALID_STRING text_answer (object_part object.now).text) }
+    // A refusal takes no memory.
+    ensures memory { IfErr result (λ _. IsTrue (takes_memory (found_or INVALID_STRING text_answer (object_part object.now).text))) }
 {
     match &object.text {
         Some(content) => of_text(alloc, content),

@@ -5,9 +5,10 @@ ghost use Rattle.jdwp_layout.specs.Meanings.{ScalarMeaning, meanings, entry_mean
 ghost use Rattle.jdwp_script.specs.Meanings.{class_part};
 ghost use Rattle.jdwp_script_machine.specs.Requests.{of_entries};
 ghost use Rattle.jdwp_script_machine.specs.ClassAnswers.{static_value, field_values, answer_entries, statics_answer};
-ghost use Rattle.jdwp_script_machine.specs.ClassQuestions.{by_entries, takes_memory};
+ghost use Rattle.jdwp_machine.specs.Laws.{takes_memory};
+ghost use Rattle.jdwp_script_machine.specs.ClassQuestions.{by_entries};
 
-use crate::field_values::{Fielded, value_asked, values_asked};
+use crate::field_values::{Fielded, values_asked};
 use crate::places::field_of;
 use jdwp_layout::{Answer, Datum, Scalar};
 use jdwp_script::{Class, Literal};
@@ -46,34 +47,9 @@ pub(crate) fn static_values(
     ensures memory { IfErr result (λ _. IsTrue (takes_memory (statics_answer (class_part class.now) (meanings content.now)))) }
 {
     match entries_asked(content) {
-        Some(entries) => values_of(alloc, class, entries),
+        Some(entries) => values_asked(alloc, class, entries),
         None => Ok(Answer::Error(ErrorCode::ILLEGAL_ARGUMENT)),
     }
-}
-
-/// Whether each entry names a static field of the class.
-fn are_static(class: &Class, entries: &[Vec<Scalar>]) -> bool
-    ensures { result ≡ takes_memory (answer_entries (field_values (static_value (class_part class.now)) (entry_meanings entries.now))) }
-{
-    for entry in entries {
-        if value_asked(class, entry).is_none() {
-            return false;
-        }
-    }
-    true
-}
-
-/// The answer with the value of each field that an entry names; `INVALID_FIELDID` where one names none.
-#[tactic(auto, using(crate::proofs::StaticValues::refused_as))]
-fn values_of(alloc: Global, class: &Class, entries: &[Vec<Scalar>]) -> Result<Answer, NoMemory>
-    ensures value { IfOk result (λ a. a ≡ answer_entries (field_values (static_value (class_part class.now)) (entry_meanings entries.now))) }
-    // A refusal takes no memory.
-    ensures memory { IfErr result (λ _. IsTrue (takes_memory (answer_entries (field_values (static_value (class_part class.now)) (entry_meanings entries.now))))) }
-{
-    if !are_static(class, entries) {
-        return Ok(Answer::Error(ErrorCode::INVALID_FIELDID));
-    }
-    values_asked(alloc, class, entries)
 }
 
 impl Fielded for Class {

@@ -1,7 +1,8 @@
 //! What is answered of threads (JDWP specification, "ThreadReference").
-ghost use Rattle.std.specs.Prelude.{◌≡◌, map, true, IfOk};
+ghost use Rattle.std.specs.Prelude.{◌≡◌, map, true, IfOk, IfErr, IsTrue};
 ghost use Rattle.jdwp_layout.specs.Meanings.{meanings, entry_meaning};
 ghost use Rattle.jdwp_script.specs.Meanings.{script_part};
+ghost use Rattle.jdwp_machine.specs.Laws.{takes_memory};
 ghost use Rattle.jdwp_script_machine.specs.StateMeanings.{frame_now, state_now};
 ghost use Rattle.jdwp_script_machine.specs.Requests.{of_thread, of_frames, part_of};
 ghost use Rattle.jdwp_script_machine.specs.ThreadAnswers.{frames_at, thread_name_answer, thread_group_answer, frame_entry, frames_listed, frames_answer, count_answer, frame_count_answer, thread_answer_by};
@@ -28,7 +29,9 @@ pub(crate) fn thread_answer(
     number: u8,
     content: &[Datum],
 ) -> Result<Answer, NoMemory>
-    ensures { IfOk result (λ a. a ≡ thread_answer_by (script_part state.now.script) (frames_at (state_now state.now)) number (meanings content.now)) }
+    ensures value { IfOk result (λ a. a ≡ thread_answer_by (script_part state.now.script) (frames_at (state_now state.now)) number (meanings content.now)) }
+    // A refusal takes no memory.
+    ensures memory { IfErr result (λ _. IsTrue (takes_memory (thread_answer_by (script_part state.now.script) (frames_at (state_now state.now)) number (meanings content.now)))) }
 {
     match number {
         THREAD_NAME => name(alloc, &state.script, content),
@@ -41,7 +44,9 @@ pub(crate) fn thread_answer(
 
 /// The name of a thread.
 fn name(alloc: Global, script: &Script, content: &[Datum]) -> Result<Answer, NoMemory>
-    ensures { IfOk result (λ a. a ≡ of_thread (script_part script.now) thread_name_answer (meanings content.now)) }
+    ensures value { IfOk result (λ a. a ≡ of_thread (script_part script.now) thread_name_answer (meanings content.now)) }
+    // A refusal takes no memory.
+    ensures memory { IfErr result (λ _. IsTrue (takes_memory (of_thread (script_part script.now) thread_name_answer (meanings content.now)))) }
 {
     match thread_asked(script, content) {
         Ok((thread, [])) => of_text(alloc, &thread.name),
@@ -52,7 +57,9 @@ fn name(alloc: Global, script: &Script, content: &[Datum]) -> Result<Answer, NoM
 
 /// The group of a thread.
 fn group(alloc: Global, script: &Script, content: &[Datum]) -> Result<Answer, NoMemory>
-    ensures { IfOk result (λ a. a ≡ of_thread (script_part script.now) thread_group_answer (meanings content.now)) }
+    ensures value { IfOk result (λ a. a ≡ of_thread (script_part script.now) thread_group_answer (meanings content.now)) }
+    // A refusal takes no memory.
+    ensures memory { IfErr result (λ _. IsTrue (takes_memory (of_thread (script_part script.now) thread_group_answer (meanings content.now)))) }
 {
     match thread_asked(script, content) {
         Ok((thread, [])) => of_scalar(alloc, Scalar::ObjectId(thread.group)),
@@ -63,7 +70,9 @@ fn group(alloc: Global, script: &Script, content: &[Datum]) -> Result<Answer, No
 
 /// Some frames of a thread.
 fn frames(alloc: Global, state: &MachineState, content: &[Datum]) -> Result<Answer, NoMemory>
-    ensures { IfOk result (λ a. a ≡ of_frames (frames_at (state_now state.now)) (frames_answer (script_part state.now.script)) (meanings content.now)) }
+    ensures value { IfOk result (λ a. a ≡ of_frames (frames_at (state_now state.now)) (frames_answer (script_part state.now.script)) (meanings content.now)) }
+    // A refusal takes no memory.
+    ensures memory { IfErr result (λ _. IsTrue (takes_memory (of_frames (frames_at (state_now state.now)) (frames_answer (script_part state.now.script)) (meanings content.now)))) }
 {
     match frames_asked(state, content) {
         Ok((frames, rest)) => some_of(alloc, &state.script, frames, rest),
@@ -79,7 +88,9 @@ fn some_of(
     frames: &[FrameState],
     rest: &[Datum],
 ) -> Result<Answer, NoMemory>
-    ensures { IfOk result (λ a. a ≡ frames_answer (script_part script.now) (map frame_now frames.now) (meanings rest.now)) }
+    ensures value { IfOk result (λ a. a ≡ frames_answer (script_part script.now) (map frame_now frames.now) (meanings rest.now)) }
+    // A refusal takes no memory.
+    ensures memory { IfErr result (λ _. IsTrue (takes_memory (frames_answer (script_part script.now) (map frame_now frames.now) (meanings rest.now)))) }
 {
     match range_of(rest) {
         Some((from, count)) => part_listed(alloc, script, frames, from, count),
@@ -96,7 +107,9 @@ fn part_listed(
     from: i32,
     count: i32,
 ) -> Result<Answer, NoMemory>
-    ensures { IfOk result (λ a. a ≡ part_of true (frames_listed (script_part script.now)) (map frame_now frames.now) from count) }
+    ensures value { IfOk result (λ a. a ≡ part_of true (frames_listed (script_part script.now)) (map frame_now frames.now) from count) }
+    // A refusal takes no memory.
+    ensures memory { IfErr result (λ _. IsTrue (takes_memory (part_of true (frames_listed (script_part script.now)) (map frame_now frames.now) from count))) }
 {
     match part_of(true, frames, from, count) {
         Ok(part) => listed(alloc, script, part),
@@ -106,7 +119,9 @@ fn part_listed(
 
 /// These frames, each with its location.
 fn listed(alloc: Global, script: &Script, frames: &[FrameState]) -> Result<Answer, NoMemory>
-    ensures { IfOk result (λ a. a ≡ frames_listed (script_part script.now) (map frame_now frames.now)) }
+    ensures value { IfOk result (λ a. a ≡ frames_listed (script_part script.now) (map frame_now frames.now)) }
+    // A refusal takes no memory.
+    ensures memory { IfErr result (λ _. IsTrue (takes_memory (frames_listed (script_part script.now) (map frame_now frames.now)))) }
 {
     let mut entries = Vec::with_capacity(alloc, frames.len())?;
     for frame in frames {
@@ -125,7 +140,9 @@ fn entry_of(alloc: Global, script: &Script, frame: &FrameState) -> Result<Vec<Sc
 
 /// How many frames a thread has.
 fn frame_count(alloc: Global, state: &MachineState, content: &[Datum]) -> Result<Answer, NoMemory>
-    ensures { IfOk result (λ a. a ≡ of_frames (frames_at (state_now state.now)) frame_count_answer (meanings content.now)) }
+    ensures value { IfOk result (λ a. a ≡ of_frames (frames_at (state_now state.now)) frame_count_answer (meanings content.now)) }
+    // A refusal takes no memory.
+    ensures memory { IfErr result (λ _. IsTrue (takes_memory (of_frames (frames_at (state_now state.now)) frame_count_answer (meanings content.now)))) }
 {
     match frames_asked(state, content) {
         Ok((frames, [])) => count_of(alloc, frames),
@@ -136,7 +153,9 @@ fn frame_count(alloc: Global, state: &MachineState, content: &[Datum]) -> Result
 
 /// How many these frames are.
 fn count_of(alloc: Global, frames: &[FrameState]) -> Result<Answer, NoMemory>
-    ensures { IfOk result (λ a. a ≡ count_answer (map frame_now frames.now)) }
+    ensures value { IfOk result (λ a. a ≡ count_answer (map frame_now frames.now)) }
+    // A refusal takes no memory.
+    ensures memory { IfErr result (λ _. IsTrue (takes_memory (count_answer (map frame_now frames.now)))) }
 {
     match i32::try_from(frames.len()) {
         Ok(count) => of_scalar(alloc, Scalar::Int(count)),

@@ -5,6 +5,7 @@ ghost use Rattle.jdwp_script_machine.specs.Machines.{read_machine};
 ghost use Rattle.jdwp_script_machine.specs.ScriptMeaning.{script_meaning};
 ghost use Rattle.jdwp_script_machine.specs.States.{State};
 ghost use Rattle.jdwp_engine.specs.Streams.{story_of};
+ghost use Rattle.jdwp_target.specs.Options.{LivesWithin};
 ghost use Rattle.jdwp_serve.specs.Serving.{ServesNew};
 
 use jdwp_debuggee::Settings;
@@ -36,7 +37,8 @@ pub fn serve_script<R: Read, W: Write>(
     Ok(serve_session(alloc, machine, settings, pipe, rounds)?)
 }
 
-/// Serves one session of a new target over the machine for at most so many rounds, as `serve` does.
+/// Serves one session of a new target over the machine for at most so many rounds, as `serve` does. The machine has 1 to
+/// `settings.limits().live()` live threads.
 ///
 /// # Errors
 /// `NoMemory`, and then nothing was read or written.
@@ -47,9 +49,10 @@ pub fn serve_session<M: Machine + Drop, R: Read, W: Write>(
     pipe: &mut Streams<R, W>,
     rounds: u32,
 ) -> Result<Ended, jdwp_wire::NoMemory>
+    requires { LivesWithin M.meaning settings.limits machine }
     ensures served { IfOk result (ServesNew M.meaning settings machine rounds (story_of pipe.old) (story_of pipe.new)) }
     ensures memory { OnErr result (pipe.new ≡ pipe.old) }
 {
-    let mut target = Target::new(alloc, machine, settings)?;
+    let mut target = Target::with_settings(alloc, machine, settings)?;
     Ok(serve(&mut target, pipe, u64::from(rounds)))
 }

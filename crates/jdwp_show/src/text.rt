@@ -1,7 +1,7 @@
 //! Text that grows until an allocation is refused.
-ghost use Rattle.std.specs.Prelude.{◌≡◌, [], IfOk, OnOk, false, true};
+ghost use Rattle.std.specs.Prelude.{◌≡◌, ◌+◌, ◌<◌, [], length, IfOk, OnErr, OnOk, false, true};
 ghost use Rattle.std.specs.Char.{encode_utf8};
-ghost use Rattle.std.specs.String.{string_bytes};
+ghost use Rattle.std.specs.String.{string_bytes, string_capacity, string_len};
 ghost use Rattle.jdwp_show.specs.Telling.{Grows};
 
 use jdwp_wire::NoMemory;
@@ -16,7 +16,8 @@ pub(crate) struct Text {
 
 impl Text {
     pub(crate) fn new(alloc: Global) -> Text
-        ensures { string_bytes result.string ≡ [] }
+        ensures bytes { string_bytes result.string ≡ [] }
+        ensures whole { result.refused ≡ false }
     {
         Text {
             string: String::new(alloc),
@@ -25,7 +26,8 @@ impl Text {
     }
 
     pub(crate) fn push_str(&mut self, string: &str)
-        ensures { Grows self.old string.now self.new }
+        ensures grows { Grows self.old string.now self.new }
+        ensures growth { self.old.refused ≡ false → self.new.refused ≡ true → string_capacity self.old.string < string_len self.old.string + length string.now }
     {
         if !self.refused {
             self.refused = self.string.push_str(string).is_err();
@@ -33,7 +35,8 @@ impl Text {
     }
 
     pub(crate) fn push(&mut self, c: char)
-        ensures { Grows self.old (encode_utf8 c) self.new }
+        ensures grows { Grows self.old (encode_utf8 c) self.new }
+        ensures growth { self.old.refused ≡ false → self.new.refused ≡ true → string_capacity self.old.string < string_len self.old.string + length (encode_utf8 c) }
     {
         if !self.refused {
             self.refused = self.string.push(c).is_err();
@@ -48,9 +51,10 @@ impl Text {
     }
 
     /// # Errors
-    /// `NoMemory` where an allocation was refused.
+    /// `NoMemory` where an allocation was refused, and only there.
     pub(crate) fn whole(&self) -> Result<(), NoMemory>
-        ensures { OnOk result (self.now.refused ≡ false) }
+        ensures ok { OnOk result (self.now.refused ≡ false) }
+        ensures err { OnErr result (self.now.refused ≡ true) }
     {
         if self.refused { Err(NoMemory) } else { Ok(()) }
     }
@@ -58,9 +62,10 @@ impl Text {
     /// The text.
     ///
     /// # Errors
-    /// `NoMemory` where an allocation was refused.
+    /// `NoMemory` where an allocation was refused, and only there.
     pub(crate) fn into_string(self) -> Result<String, NoMemory>
-        ensures { IfOk result (λ string. (self.refused ≡ false) × (string ≡ self.string)) }
+        ensures ok { IfOk result (λ string. (self.refused ≡ false) × (string ≡ self.string)) }
+        ensures err { OnErr result (self.refused ≡ true) }
     {
         let Text { string, refused } = self;
         if refused { Err(NoMemory) } else { Ok(string) }

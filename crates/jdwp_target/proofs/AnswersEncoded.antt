@@ -1,5 +1,5 @@
 -- What a command is answered is encoded by the bytes that are sent for it, whether it was carried out or refused.
-use Rattle.std.proofs.Common.{◌≡◌, ◌≢◌, ℕ, Bool, true, false, List, Result, Ok, Err, refl, sym, subst, arith}
+use Rattle.std.proofs.Common.{◌≡◌, ◌≢◌, ℕ, Bool, true, false, List, Some, Result, Ok, Err, refl, sym, subst, arith}
 use Rattle.jdwp_wire.specs.ErrorCodes.{ILLEGAL_ARGUMENT, NONE, NOT_IMPLEMENTED}
 use Rattle.jdwp_wire.specs.Streams.{Message, NextMessage, Packet, Whole}
 use Rattle.jdwp_wire.specs.Widths.{Widths}
@@ -14,15 +14,19 @@ use Rattle.jdwp_layout.specs.Meanings.{DatumMeaning}
 use Rattle.jdwp_layout.specs.Reads.{data_at}
 use Rattle.jdwp_machine.specs.Meanings.{Meaning}
 use Rattle.jdwp_debuggee.specs.Actions.{Command, Raw, action_of, is_implemented}
-use Rattle.jdwp_debuggee.specs.CommandReads.{asking, asking_of, asks, command_read, content_read, read_by, row_request}
+use Rattle.jdwp_debuggee.specs.CommandReads.{asked_meaning, asking, asking_of, asks, command_read, content_read, read_by, row_request}
 use Rattle.jdwp_debuggee.specs.Effects.{carried, does, effect, effect_by}
 use Rattle.jdwp_debuggee.specs.Sending.{EncodesAnswer, is_question}
 use Rattle.jdwp_debuggee.specs.Settings.{Settings}
 use Rattle.jdwp_debuggee.specs.State.{Moment}
+use Rattle.jdwp_debuggee.specs.Steps.{start_event}
 use Rattle.jdwp_debuggee.specs.declared.command as code
 use Rattle.jdwp_target.specs.Standings.{carried_out}
 use Rattle.jdwp_target.specs.Targets.{Target}
-use Rattle.jdwp_target.specs.Turns.{EncodesByKind, EncodesFor, EncodesNext}
+use Rattle.jdwp_target.specs.TurnParts.{IsRead}
+use Rattle.jdwp_target.specs.declared.turning.Came.TheVariants as came
+use Rattle.jdwp_target.specs.Sends.{IsEncoded}
+use Rattle.jdwp_target.specs.Turns.{EncodesByKind, EncodesFor, EncodesNext, EncodesStart}
 use Rattle.jdwp_target.proofs.RightTurns.{WasRead, asking-same, carried-shaken, was-read}
 
 -- ---- a command that is refused unread
@@ -90,14 +94,22 @@ carried-encoded m settings now w set number body a e shaken asked own =
 
 -- ---- by what there is to handle
 
-pub encodes-whole : {S : Type 0} (m : Meaning S) (v : Target S) (message : Message) (used : ℕ) → front_of v.end ≡ Whole message used → EncodesFor m v.settings v.moment message
+pub encodes-whole : {S : Type 0} (m : Meaning S) (v : Target S) (message : Message) (used : ℕ) → front_of v.end ≡ Whole message used → EncodesFor m v message
     → EncodesNext m (front_of v.end) v
 encodes-whole m v message used front h = subst (λ (x : NextMessage). EncodesNext m x v) (sym front) h
 
-pub encodes-command : {S : Type 0} (m : Meaning S) (settings : Settings) (now : Moment S) (header : Header) (body : List ℕ) (set number : ℕ) → header.kind ≡ kind.Command set number
-    → EncodesAnswer (m.sizes now.machine) set number (carried_out m settings now (command_read (m.sizes now.machine) set number body)).answer → EncodesFor m settings now (Packet header body)
-encodes-command m settings now header body set number is h = subst (λ (x : PacketKind). EncodesByKind m settings now x body) (sym is) h
+-- VM_START, where the handshake is the first
+pub encodes-start : {S : Type 0} (m : Meaning S) (v : Target S) (b : Bool) → (b ≡ false → IsEncoded (m.sizes v.moment.machine) (Some (start_event v.settings v.moment.state))) → EncodesStart m v b
+encodes-start m v true h = tt
+encodes-start m v false h = h refl
 
-pub encodes-ignored : {S : Type 0} (m : Meaning S) (settings : Settings) (now : Moment S) (header : Header) (body : List ℕ) (error : ErrorCode) → header.kind ≡ kind.Reply error
-    → EncodesFor m settings now (Packet header body)
-encodes-ignored m settings now header body error is = subst (λ (x : PacketKind). EncodesByKind m settings now x body) (sym is) tt
+pub encodes-command : {S : Type 0} (m : Meaning S) (v : Target S) (header : Header) (body : List ℕ) (w : Widths) (id : ℕ) (asked : code.Asked.Asked)
+    → IsRead w header.id header.kind body (came.Command id asked) → w ≡ m.sizes v.moment.machine
+    → ((set number : ℕ) (bytes : List ℕ) → asked_meaning asked ≡ asks (command_read (m.sizes v.moment.machine) set number bytes)
+    → EncodesAnswer (m.sizes v.moment.machine) set number (carried_out m v.settings v.moment (command_read (m.sizes v.moment.machine) set number bytes)).answer)
+    → EncodesFor m v (Packet header body)
+encodes-command m v header body w id asked (set, number, is, same, value, short) w-is h =
+    subst (λ (x : PacketKind). EncodesByKind m v x body) (sym is) (h set number body (subst (λ (x : Widths). asked_meaning asked ≡ asks (command_read x set number body)) w-is value))
+
+pub encodes-ignored : {S : Type 0} (m : Meaning S) (v : Target S) (header : Header) (body : List ℕ) (error : ErrorCode) → header.kind ≡ kind.Reply error → EncodesFor m v (Packet header body)
+encodes-ignored m v header body error is = subst (λ (x : PacketKind). EncodesByKind m v x body) (sym is) tt

@@ -24,7 +24,7 @@ use Rattle.jdwp_debuggee.specs.Settings.{Settings}
 use Rattle.jdwp_debuggee.specs.State.{Moment, State, Thread, count_of}
 use Rattle.jdwp_debuggee.specs.Steps.{Step, death_by, ended_by, happens, may_step, occurs, occurs_by, report_by}
 use Rattle.jdwp_target.specs.Closings.{Closes, IsDispose}
-use Rattle.jdwp_target.specs.Standings.{Act, Handles, Loses, Standing, Steps, carried_out, greets_by, handles, handles_packet, phase_after, react, replies_by, steps_apart, steps_at, steps_by, steps_in_session}
+use Rattle.jdwp_target.specs.Standings.{Act, Handles, Loses, Standing, Steps, behind, carried_out, established, greets_by, handles, handles_packet, phase_after, react, replies_by, steps_apart, steps_at, steps_by, steps_in_session}
 
 -- ---- tests
 
@@ -196,41 +196,42 @@ closes-of : (closes : Bool) → is_open_phase (phase_after closes) ≡ false →
 closes-of true e = refl
 closes-of false e = absurd cc
 
-replied-why : {S : Type 0} (w : Widths) (id : ℕ) (a : Action) (e : Effect S) (dies : Bool) → e.dies ≡ dies → Why a e → is_open_phase (replies_by w id e dies).after.phase ≡ false
-    → (is_dispose a ≡ true) ⊎ ((replies_by w id e dies).after.moment.state.alive ≡ false)
-replied-why w id a e true is why closed = inr (why.dies is)
-replied-why w id a e false is why closed = why.closes (closes-of e.closes closed)
+replied-why : {S : Type 0} (now : Standing S) (w : Widths) (id : ℕ) (a : Action) (e : Effect S) (dies : Bool) → e.dies ≡ dies → Why a e → is_open_phase (replies_by now w id e dies).after.phase ≡ false
+    → (is_dispose a ≡ true) ⊎ ((replies_by now w id e dies).after.moment.state.alive ≡ false)
+replied-why now w id a e true is why closed = inr (why.dies is)
+replied-why now w id a e false is why closed = why.closes (closes-of e.closes closed)
 
 -- why a message closed the session
 abbrev pub Ends : {S : Type 0} → Message → Standing S → Type 0
 Ends message after = IsDispose message ⊎ (after.moment.state.alive ≡ false)
 
-command-why : {S : Type 0} (m : Meaning S) (settings : Settings) (now : Moment S) (id set number : ℕ) (body : List ℕ) (r : Result Command ErrorCode) → command_read (m.sizes now.machine) set number body ≡ r
-    → is_open_phase (replies_by (m.sizes now.machine) id (carried_out m settings now r) (carried_out m settings now r).dies).after.phase ≡ false
+command-why : {S : Type 0} (m : Meaning S) (settings : Settings) (now : Standing S) (id set number : ℕ) (body : List ℕ) (r : Result Command ErrorCode) → command_read (m.sizes now.moment.machine) set number body ≡ r
+    → is_open_phase (replies_by now (m.sizes now.moment.machine) id (carried_out m settings now.moment r) (carried_out m settings now.moment r).dies).after.phase ≡ false
     → ((set ≡ VIRTUAL_MACHINE) × (number ≡ DISPOSE.number) × (body ≡ []))
-    ⊎ ((replies_by (m.sizes now.machine) id (carried_out m settings now r) (carried_out m settings now r).dies).after.moment.state.alive ≡ false)
+    ⊎ ((replies_by now (m.sizes now.moment.machine) id (carried_out m settings now.moment r) (carried_out m settings now.moment r).dies).after.moment.state.alive ≡ false)
 command-why m settings now id set number body (Err error) e closed = absurd cc
 command-why m settings now id set number body (Ok c) e closed =
-    elim (replied-why (m.sizes now.machine) id (action_of c) (carried_out m settings now (Ok c)) _ refl (effect-why m settings now c _) closed) [
-      | inl d ↦ inl (dispose-read (m.sizes now.machine) set number body c e d)
+    elim (replied-why now (m.sizes now.moment.machine) id (action_of c) (carried_out m settings now.moment (Ok c)) _ refl (effect-why m settings now.moment c _) closed) [
+      | inl d ↦ inl (dispose-read (m.sizes now.moment.machine) set number body c e d)
       | inr d ↦ inr d
     ]
 
-packet-why : {S : Type 0} (m : Meaning S) (settings : Settings) (now : Moment S) (id : ℕ) (k : PacketKind) (body : List ℕ) → is_open_phase (handles_packet m settings now id k body).after.phase ≡ false
-    → ((k ≡ kind.Command VIRTUAL_MACHINE DISPOSE.number) × (body ≡ [])) ⊎ ((handles_packet m settings now id k body).after.moment.state.alive ≡ false)
+packet-why : {S : Type 0} (m : Meaning S) (settings : Settings) (now : Standing S) (id : ℕ) (k : PacketKind) (body : List ℕ) → is_open_phase (handles_packet m settings (established now) id k body).after.phase ≡ false
+    → ((k ≡ kind.Command VIRTUAL_MACHINE DISPOSE.number) × (body ≡ [])) ⊎ ((handles_packet m settings (established now) id k body).after.moment.state.alive ≡ false)
 packet-why m settings now id (kind.Command set number) body closed =
-    elim (command-why m settings now id set number body _ refl closed) [
+    elim (command-why m settings (established now) id set number body _ refl closed) [
       | inl d ↦ inl (rw (d.0, d.1) refl, d.2)
       | inr d ↦ inr d
     ]
 packet-why m settings now id (kind.Reply error) body closed = absurd cc
 
-greeted-open : {S : Type 0} (m : Meaning S) (settings : Settings) (now : Moment S) (b : Bool) → is_open_phase (greets_by m settings now b).after.phase ≡ true
+greeted-open : {S : Type 0} (m : Meaning S) (settings : Settings) (now : Standing S) (b : Bool) → is_open_phase (greets_by m settings (established now) b).after.phase ≡ true
 greeted-open m settings now true = refl
 greeted-open m settings now false = refl
 
-pub message-why : {S : Type 0} (m : Meaning S) (settings : Settings) (now : Moment S) (message : Message) → is_open_phase (handles m settings now message).after.phase ≡ false → Ends message (handles m settings now message).after
-message-why m settings now Handshake closed = absurd (let e = sym (greeted-open m settings now now.state.handshaken) ∙ closed in cc)
+pub message-why : {S : Type 0} (m : Meaning S) (settings : Settings) (now : Standing S) (message : Message) → is_open_phase (handles m settings (established now) message).after.phase ≡ false
+    → Ends message (handles m settings (established now) message).after
+message-why m settings now Handshake closed = absurd (let e = sym (greeted-open m settings now now.moment.state.handshaken) ∙ closed in cc)
 message-why m settings now (Packet header body) closed = packet-why m settings now header.id header.kind body closed
 
 -- ---- what a step closes
@@ -255,25 +256,25 @@ occurs-dies : {S : Type 0} (m : Meaning S) (now : Moment S) (t : ℕ) (b : Bool)
 occurs-dies m now t true e = ended-dies _ _ e
 occurs-dies m now t false e = happens-dies m now t _ _ e
 
-in-session : {S : Type 0} (w : Widths) (id : ℕ) (o : Step S) (dies : Bool) → (dies ≡ true → o.after.state.alive ≡ false) → is_open_phase (steps_in_session w id o dies).after.phase ≡ false
-    → (steps_in_session w id o dies).after.moment.state.alive ≡ false
-in-session w id o true dead closed = dead refl
-in-session w id o false dead closed = absurd cc
+in-session : {S : Type 0} (w : Widths) (id : ℕ) (o : Step S) (now : Standing S) (dies : Bool) → is_open_phase now.phase ≡ true → (dies ≡ true → o.after.state.alive ≡ false)
+    → is_open_phase (steps_in_session w id o now dies).after.phase ≡ false → (steps_in_session w id o now dies).after.moment.state.alive ≡ false
+in-session w id o now true opened dead closed = dead refl
+in-session w id o now false opened dead closed = absurd (let e = sym opened ∙ closed in cc)
 
-apart : {S : Type 0} (phase : Phase) (o : Step S) (dies : Bool) → is_open_phase phase ≡ true → (dies ≡ true → o.after.state.alive ≡ false) → is_open_phase (steps_apart phase o dies).after.phase ≡ false
-    → (steps_apart phase o dies).after.moment.state.alive ≡ false
-apart phase o true opened dead closed = dead refl
-apart phase o false opened dead closed = absurd (let e = sym opened ∙ closed in cc)
+apart : {S : Type 0} (now : Standing S) (dies : Bool) → is_open_phase now.phase ≡ true → (dies ≡ true → now.moment.state.alive ≡ false) → is_open_phase (steps_apart now dies).after.phase ≡ false
+    → (steps_apart now dies).after.moment.state.alive ≡ false
+apart now true opened dead closed = dead refl
+apart now false opened dead closed = absurd (let e = sym opened ∙ closed in cc)
 
-at-phase : {S : Type 0} (w : Widths) (id : ℕ) (o : Step S) (phase : Phase) → is_open_phase phase ≡ true → (o.dies ≡ true → o.after.state.alive ≡ false) → is_open_phase (steps_at w id o phase).after.phase ≡ false
-    → (steps_at w id o phase).after.moment.state.alive ≡ false
-at-phase w id o Established opened dead closed = in-session w id o o.dies dead closed
-at-phase w id o AwaitingHandshake opened dead closed = apart AwaitingHandshake o o.dies opened dead closed
-at-phase w id o Closed opened dead closed = absurd cc
+at-phase : {S : Type 0} (w : Widths) (id : ℕ) (o : Step S) (now : Standing S) (phase : Phase) → is_open_phase now.phase ≡ true → (o.dies ≡ true → o.after.state.alive ≡ false)
+    → is_open_phase (steps_at w id o (behind o now) phase).after.phase ≡ false → (steps_at w id o (behind o now) phase).after.moment.state.alive ≡ false
+at-phase w id o now Established opened dead closed = in-session w id o (behind o now) o.dies opened dead closed
+at-phase w id o now AwaitingHandshake opened dead closed = apart (behind o now) o.dies opened dead closed
+at-phase w id o now Closed opened dead closed = apart (behind o now) o.dies opened dead closed
 
 pub step-why : {S : Type 0} (m : Meaning S) (now : Standing S) (t : ℕ) (may : Bool) → is_open_phase now.phase ≡ true → is_open_phase (steps_by m now t may).after.phase ≡ false
     → (steps_by m now t may).after.moment.state.alive ≡ false
-step-why m now t true opened closed = at-phase _ _ (occurs m now.moment t) now.phase opened (occurs-dies m now.moment t _) closed
+step-why m now t true opened closed = at-phase _ _ (occurs m now.moment t) now now.phase opened (occurs-dies m now.moment t _) closed
 step-why m now t false opened closed = absurd (let e = sym opened ∙ closed in cc)
 
 pub may-alive : {S : Type 0} (m : Meaning S) (settings : Settings) (now : Moment S) (t : ℕ) → may_step m settings now t ≡ true → now.state.alive ≡ true
@@ -283,6 +284,6 @@ may-alive m settings now t e = (both _ _ (both _ _ e).1).0
 
 pub act-why : {S : Type 0} (m : Meaning S) (settings : Settings) (now : Standing S) (act : Act) → is_open_phase now.phase ≡ true → is_open_phase (react m settings now act).after.phase ≡ false
     → Closes act (react m settings now act).after
-act-why m settings now (Handles message) opened closed = message-why m settings now.moment message closed
+act-why m settings now (Handles message) opened closed = message-why m settings now message closed
 act-why m settings now (Steps t) opened closed = step-why m now t _ opened closed
 act-why m settings now Loses opened closed = tt

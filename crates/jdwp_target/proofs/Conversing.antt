@@ -8,36 +8,35 @@ use Rattle.jdwp_wire.specs.declared.packet.PacketKind.{PacketKind}
 use Rattle.jdwp_wire.specs.declared.packet.PacketKind.TheVariants as kind
 use Rattle.jdwp_end.specs.declared.phase.Phase.{Phase}
 use Rattle.jdwp_end.specs.declared.phase.Phase.TheVariants.{Closed, AwaitingHandshake, Established}
-use Rattle.jdwp_end.proofs.Fronts.{IsDue}
+use Rattle.jdwp_end.specs.FrontLaws.{IsDue}
 use Rattle.jdwp_event.specs.Composites.{CompositeMeaning}
 use Rattle.jdwp_machine.specs.Meanings.{Meaning}
 use Rattle.jdwp_debuggee.specs.CommandReads.{command_read}
 use Rattle.jdwp_debuggee.specs.Effects.{Effect}
 use Rattle.jdwp_debuggee.specs.Settings.{Settings}
-use Rattle.jdwp_debuggee.specs.State.{Moment}
 use Rattle.jdwp_debuggee.specs.Steps.{Step, may_step, occurs}
-use Rattle.jdwp_target.specs.Standings.{Act, Handles, Steps, Loses, Standing, after, handled, react, sent, stands, carried_out, greets_by, handles, handles_packet, phase_after, replies_by, reports, steps_apart, steps_at, steps_by, steps_in_session}
+use Rattle.jdwp_target.specs.Standings.{Act, Handles, Steps, Loses, Standing, after, behind, established, handled, react, sent, carried_out, greets_by, handles, handles_packet, phase_after, replies_by, reports, steps_apart, steps_at, steps_by, steps_in_session}
 
 -- ---- the phase after an act
 
-replied : {S : Type 0} (w : Widths) (id : ℕ) (e : Effect S) (dies : Bool) → ((replies_by w id e dies).after.phase ≡ Closed) ⊎ ((replies_by w id e dies).after.phase ≡ Established)
-replied w id e true = inl refl
-replied w id e false = elim e.closes as (λ b. (phase_after b ≡ Closed) ⊎ (phase_after b ≡ Established)) [ true ↦ inl refl | false ↦ inr refl ]
+replied : {S : Type 0} (now : Standing S) (w : Widths) (id : ℕ) (e : Effect S) (dies : Bool) → ((replies_by now w id e dies).after.phase ≡ Closed) ⊎ ((replies_by now w id e dies).after.phase ≡ Established)
+replied now w id e true = inl refl
+replied now w id e false = elim e.closes as (λ b. (phase_after b ≡ Closed) ⊎ (phase_after b ≡ Established)) [ true ↦ inl refl | false ↦ inr refl ]
 
-packet-phase : {S : Type 0} (m : Meaning S) (settings : Settings) (now : Moment S) (id : ℕ) (k : PacketKind) (body : List ℕ)
-    → ((handles_packet m settings now id k body).after.phase ≡ Closed) ⊎ ((handles_packet m settings now id k body).after.phase ≡ Established)
+packet-phase : {S : Type 0} (m : Meaning S) (settings : Settings) (now : Standing S) (id : ℕ) (k : PacketKind) (body : List ℕ)
+    → ((handles_packet m settings (established now) id k body).after.phase ≡ Closed) ⊎ ((handles_packet m settings (established now) id k body).after.phase ≡ Established)
 packet-phase m settings now id (kind.Command set number) body =
-    let e = carried_out m settings now (command_read (m.sizes now.machine) set number body) in
-    replied (m.sizes now.machine) id e e.dies
+    let e = carried_out m settings now.moment (command_read (m.sizes now.moment.machine) set number body) in
+    replied (established now) (m.sizes now.moment.machine) id e e.dies
 packet-phase m settings now id (kind.Reply error) body = inr refl
 
-greeted-phase : {S : Type 0} (m : Meaning S) (settings : Settings) (now : Moment S) (b : Bool) → (greets_by m settings now b).after.phase ≡ Established
+greeted-phase : {S : Type 0} (m : Meaning S) (settings : Settings) (now : Standing S) (b : Bool) → (greets_by m settings (established now) b).after.phase ≡ Established
 greeted-phase m settings now true = refl
 greeted-phase m settings now false = refl
 
-pub message-phase : {S : Type 0} (m : Meaning S) (settings : Settings) (now : Moment S) (message : Message)
-    → ((handles m settings now message).after.phase ≡ Closed) ⊎ ((handles m settings now message).after.phase ≡ Established)
-message-phase m settings now Handshake = inr (greeted-phase m settings now now.state.handshaken)
+pub message-phase : {S : Type 0} (m : Meaning S) (settings : Settings) (now : Standing S) (message : Message)
+    → ((handles m settings (established now) message).after.phase ≡ Closed) ⊎ ((handles m settings (established now) message).after.phase ≡ Established)
+message-phase m settings now Handshake = inr (greeted-phase m settings now now.moment.state.handshaken)
 message-phase m settings now (Packet header body) = packet-phase m settings now header.id header.kind body
 
 -- ---- nothing is sent before the handshake is handled
@@ -46,30 +45,34 @@ no-wait : (phase : Phase) → (phase ≡ Closed) ⊎ (phase ≡ Established) →
 no-wait phase (inl e) w = cc
 no-wait phase (inr e) w = cc
 
-apart-silent : {S : Type 0} (phase : Phase) (o : Step S) (dies : Bool) → (steps_apart phase o dies).sends ≡ []
-apart-silent phase o true = refl
-apart-silent phase o false = refl
+apart-silent : {S : Type 0} (now : Standing S) (dies : Bool) → (steps_apart now dies).sends ≡ []
+apart-silent now true = refl
+apart-silent now false = refl
 
-apart-closed : {S : Type 0} (o : Step S) (dies : Bool) → (steps_apart Closed o dies).after.phase ≡ Closed
-apart-closed o true = refl
-apart-closed o false = refl
+apart-closed : {S : Type 0} (now : Standing S) (dies : Bool) → now.phase ≡ Closed → (steps_apart now dies).after.phase ≡ Closed
+apart-closed now true is = refl
+apart-closed now false is = is
 
-session-phase : {S : Type 0} (w : Widths) (id : ℕ) (o : Step S) (dies : Bool) → ((steps_in_session w id o dies).after.phase ≡ Closed) ⊎ ((steps_in_session w id o dies).after.phase ≡ Established)
-session-phase w id o true = inl refl
-session-phase w id o false = inr refl
+session-phase : {S : Type 0} (w : Widths) (id : ℕ) (o : Step S) (now : Standing S) (dies : Bool) → now.phase ≡ Established
+    → ((steps_in_session w id o now dies).after.phase ≡ Closed) ⊎ ((steps_in_session w id o now dies).after.phase ≡ Established)
+session-phase w id o now true is = inl refl
+session-phase w id o now false is = inr is
 
-step-waits : {S : Type 0} (w : Widths) (id : ℕ) (o : Step S) (phase : Phase) → (steps_at w id o phase).after.phase ≡ AwaitingHandshake → (phase ≡ AwaitingHandshake) × ((steps_at w id o phase).sends ≡ [])
-step-waits w id o Established e = absurd (no-wait _ (session-phase w id o o.dies) e)
-step-waits w id o AwaitingHandshake e = (refl, apart-silent AwaitingHandshake o o.dies)
-step-waits w id o Closed e = absurd (no-wait _ (inl (apart-closed o o.dies)) e)
+step-waits : {S : Type 0} (w : Widths) (id : ℕ) (o : Step S) (now : Standing S) (phase : Phase) → now.phase ≡ phase → (steps_at w id o now phase).after.phase ≡ AwaitingHandshake
+    → (phase ≡ AwaitingHandshake) × ((steps_at w id o now phase).sends ≡ [])
+step-waits w id o now Established is e = absurd (no-wait _ (session-phase w id o now o.dies is) e)
+step-waits w id o now AwaitingHandshake is e = (refl, apart-silent now o.dies)
+step-waits w id o now Closed is e = absurd (no-wait _ (inl (apart-closed now o.dies is)) e)
 
 step-by-waits : {S : Type 0} (m : Meaning S) (now : Standing S) (t : ℕ) (may : Bool) → (steps_by m now t may).after.phase ≡ AwaitingHandshake → (now.phase ≡ AwaitingHandshake) × ((steps_by m now t may).sends ≡ [])
 step-by-waits m now t false e = (e, refl)
-step-by-waits m now t true e = step-waits (m.sizes now.moment.machine) now.moment.state.next_packet (occurs m now.moment t) now.phase e
+step-by-waits m now t true e =
+    let o = occurs m now.moment t in
+    step-waits (m.sizes now.moment.machine) now.moment.state.next_packet o (behind o now) now.phase refl e
 
 act-waits : {S : Type 0} (m : Meaning S) (settings : Settings) (now : Standing S) (act : Act) → (react m settings now act).after.phase ≡ AwaitingHandshake
     → (now.phase ≡ AwaitingHandshake) × ((react m settings now act).sends ≡ [])
-act-waits m settings now (Handles message) e = absurd (no-wait _ (message-phase m settings now.moment message) e)
+act-waits m settings now (Handles message) e = absurd (no-wait _ (message-phase m settings now message) e)
 act-waits m settings now (Steps t) e = step-by-waits m now t (may_step m settings now.moment t) e
 act-waits m settings now Loses e = absurd cc
 
@@ -90,13 +93,13 @@ append-some : (xs ys : List Message) → ys ≢ [] → xs ++ ys ≢ []
 append-some [] ys some e = some e
 append-some (x ∷ xs) ys some e = cc
 
-greeting-some : {S : Type 0} (m : Meaning S) (settings : Settings) (now : Moment S) (b : Bool) (ys : List Message) → (greets_by m settings now b).sends ++ ys ≢ []
+greeting-some : {S : Type 0} (m : Meaning S) (settings : Settings) (now : Standing S) (b : Bool) (ys : List Message) → (greets_by m settings now b).sends ++ ys ≢ []
 greeting-some m settings now true ys e = cc
 greeting-some m settings now false ys e = cc
 
 pub some-sent : {S : Type 0} (m : Meaning S) (settings : Settings) (limit : ℕ) (now : Standing S) (acts : List Act) → IsConversation limit (handled acts) → handled acts ≢ [] → sent m settings now acts ≢ []
 some-sent m settings limit now [] c some = absurd (some refl)
-some-sent m settings limit now (Handles Handshake ∷ acts) c some = greeting-some m settings now.moment now.moment.state.handshaken (sent m settings (react m settings now (Handles Handshake)).after acts)
+some-sent m settings limit now (Handles Handshake ∷ acts) c some = greeting-some m settings (established now) now.moment.state.handshaken (sent m settings (react m settings now (Handles Handshake)).after acts)
 some-sent m settings limit now (Handles (Packet header body) ∷ acts) c some = absurd c
 some-sent m settings limit now (Steps t ∷ acts) c some =
     append-some (react m settings now (Steps t)).sends (sent m settings (react m settings now (Steps t)).after acts)
@@ -117,28 +120,29 @@ goes-on limit (Packet header body ∷ xs) ys c some all = absurd c
 nothing-more : (limit : ℕ) (xs ys : List Message) → IsConversation limit xs → ys ≡ [] → IsConversation limit (xs ++ ys)
 nothing-more limit xs ys c e = rw (e, append-nil xs) c
 
-reply-packets : {S : Type 0} (limit : ℕ) (w : Widths) (id : ℕ) (e : Effect S) (dies : Bool) → AreSendable limit (replies_by w id e dies).sends → AllByRecursion (IsPacketMessage limit) (replies_by w id e dies).sends
-reply-packets limit w id e true h = h
-reply-packets limit w id e false h = h
+reply-packets : {S : Type 0} (limit : ℕ) (now : Standing S) (w : Widths) (id : ℕ) (e : Effect S) (dies : Bool) → AreSendable limit (replies_by now w id e dies).sends
+    → AllByRecursion (IsPacketMessage limit) (replies_by now w id e dies).sends
+reply-packets limit now w id e true h = h
+reply-packets limit now w id e false h = h
 
-kind-packets : {S : Type 0} (limit : ℕ) (m : Meaning S) (settings : Settings) (now : Moment S) (id : ℕ) (k : PacketKind) (body : List ℕ)
+kind-packets : {S : Type 0} (limit : ℕ) (m : Meaning S) (settings : Settings) (now : Standing S) (id : ℕ) (k : PacketKind) (body : List ℕ)
     → AreSendable limit (handles_packet m settings now id k body).sends → AllByRecursion (IsPacketMessage limit) (handles_packet m settings now id k body).sends
 kind-packets limit m settings now id (kind.Command set number) body h =
-    let e = carried_out m settings now (command_read (m.sizes now.machine) set number body) in
-    reply-packets limit (m.sizes now.machine) id e e.dies h
+    let e = carried_out m settings now.moment (command_read (m.sizes now.moment.machine) set number body) in
+    reply-packets limit now (m.sizes now.moment.machine) id e e.dies h
 kind-packets limit m settings now id (kind.Reply error) body h = tt
 
-greeting : {S : Type 0} (limit : ℕ) (m : Meaning S) (settings : Settings) (now : Moment S) (b : Bool) → AreSendable limit (greets_by m settings now b).sends → IsConversation limit (greets_by m settings now b).sends
+greeting : {S : Type 0} (limit : ℕ) (m : Meaning S) (settings : Settings) (now : Standing S) (b : Bool) → AreSendable limit (greets_by m settings now b).sends → IsConversation limit (greets_by m settings now b).sends
 greeting limit m settings now true h = tt
 greeting limit m settings now false h = h.1
 
-pub handling-converses : {S : Type 0} (m : Meaning S) (settings : Settings) (now : Moment S) (phase : Phase) (limit : ℕ) (xs : List Message) (message : Message) → IsDue limit phase message
+pub handling-converses : {S : Type 0} (m : Meaning S) (settings : Settings) (now : Standing S) (phase : Phase) (limit : ℕ) (xs : List Message) (message : Message) → IsDue limit phase message
     → IsConversation limit xs → (phase ≡ AwaitingHandshake → xs ≡ []) → (phase ≡ Established → xs ≢ []) → AreSendable limit (handles m settings now message).sends
     → IsConversation limit (xs ++ (handles m settings now message).sends)
 handling-converses m settings now Closed limit xs message due c none some fits = absurd due
 handling-converses m settings now AwaitingHandshake limit xs message due c none some fits =
     let hello : AreSendable limit (handles m settings now Handshake).sends = subst (λ (x : Message). AreSendable limit (handles m settings now x).sends) due fits in
-    let whole : IsConversation limit (handles m settings now Handshake).sends = greeting limit m settings now now.state.handshaken hello in
+    let whole : IsConversation limit (handles m settings now Handshake).sends = greeting limit m settings now now.moment.state.handshaken hello in
     let one : IsConversation limit (handles m settings now message).sends = subst (λ (x : Message). IsConversation limit (handles m settings now x).sends) (sym due) whole in
     subst (λ (x : List Message). IsConversation limit (x ++ (handles m settings now message).sends)) (sym (none refl)) one
 handling-converses m settings now Established limit xs Handshake due c none some fits = absurd due
@@ -154,17 +158,20 @@ alone-packets : (limit : ℕ) (w : Widths) (id : ℕ) (c : Option CompositeMeani
 alone-packets limit w id None h = h
 alone-packets limit w id (Some c) h = h
 
-step-packets : {S : Type 0} (limit : ℕ) (w : Widths) (id : ℕ) (o : Step S) (dies : Bool) → AreSendable limit (steps_in_session w id o dies).sends → AllByRecursion (IsPacketMessage limit) (steps_in_session w id o dies).sends
-step-packets limit w id o true h = report-packets limit w id o.sends _ (λ k. k) h
-step-packets limit w id o false h = alone-packets limit w id o.sends h
+step-packets : {S : Type 0} (limit : ℕ) (w : Widths) (id : ℕ) (o : Step S) (now : Standing S) (dies : Bool) → AreSendable limit (steps_in_session w id o now dies).sends
+    → AllByRecursion (IsPacketMessage limit) (steps_in_session w id o now dies).sends
+step-packets limit w id o now true h = report-packets limit w id o.sends _ (λ k. k) h
+step-packets limit w id o now false h = alone-packets limit w id o.sends h
 
-at-converses : {S : Type 0} (limit : ℕ) (w : Widths) (id : ℕ) (o : Step S) (phase : Phase) (xs : List Message) → IsConversation limit xs → (phase ≡ Established → xs ≢ [])
-    → AreSendable limit (steps_at w id o phase).sends → IsConversation limit (xs ++ (steps_at w id o phase).sends)
-at-converses limit w id o Established xs c some fits = goes-on limit xs _ c (some refl) (step-packets limit w id o o.dies fits)
-at-converses limit w id o AwaitingHandshake xs c some fits = nothing-more limit xs _ c (apart-silent AwaitingHandshake o o.dies)
-at-converses limit w id o Closed xs c some fits = nothing-more limit xs _ c (apart-silent Closed o o.dies)
+at-converses : {S : Type 0} (limit : ℕ) (w : Widths) (id : ℕ) (o : Step S) (now : Standing S) (phase : Phase) (xs : List Message) → IsConversation limit xs → (phase ≡ Established → xs ≢ [])
+    → AreSendable limit (steps_at w id o now phase).sends → IsConversation limit (xs ++ (steps_at w id o now phase).sends)
+at-converses limit w id o now Established xs c some fits = goes-on limit xs _ c (some refl) (step-packets limit w id o now o.dies fits)
+at-converses limit w id o now AwaitingHandshake xs c some fits = nothing-more limit xs _ c (apart-silent now o.dies)
+at-converses limit w id o now Closed xs c some fits = nothing-more limit xs _ c (apart-silent now o.dies)
 
 pub stepping-converses : {S : Type 0} (m : Meaning S) (now : Standing S) (t : ℕ) (may : Bool) (limit : ℕ) (xs : List Message) → IsConversation limit xs → (now.phase ≡ Established → xs ≢ [])
     → AreSendable limit (steps_by m now t may).sends → IsConversation limit (xs ++ (steps_by m now t may).sends)
 stepping-converses m now t false limit xs c some fits = nothing-more limit xs [] c refl
-stepping-converses m now t true limit xs c some fits = at-converses limit (m.sizes now.moment.machine) now.moment.state.next_packet (occurs m now.moment t) now.phase xs c some fits
+stepping-converses m now t true limit xs c some fits =
+    let o = occurs m now.moment t in
+    at-converses limit (m.sizes now.moment.machine) now.moment.state.next_packet o (behind o now) now.phase xs c some fits

@@ -24,7 +24,7 @@ use Rattle.jdwp_debuggee.specs.State.{Thread, State, Moment, at_limit, count_of,
 use Rattle.jdwp_debuggee.specs.StepParts.{packet_after}
 use Rattle.jdwp_debuggee.specs.Steps.{Step, death_by, ended_by, ends, happens, may_step, occurs, occurs_by, report_by, seen, with_started}
 use Rattle.jdwp_target.specs.Lives.{Acts, AreNumbered, Begins, Deed, begun, begun_by, composite_ids, id_if_composite, sent_in_life}
-use Rattle.jdwp_target.specs.Standings.{Act, Handles, Loses, Reaction, Standing, Steps, carried_out, greets_by, handles_packet, react, replies_by, reports, stands, steps_apart, steps_at, steps_by, steps_in_session}
+use Rattle.jdwp_target.specs.Standings.{Act, Handles, Loses, Reaction, Standing, Steps, behind, carried_out, established, greets_by, handles_packet, react, replies_by, reports, stands, steps_apart, steps_at, steps_by, steps_in_session}
 
 -- ---- ids that follow one another
 
@@ -125,28 +125,28 @@ keeps-read : {S : Type 0} (m : Meaning S) (settings : Settings) (now : Moment S)
 keeps-read m settings now (Ok c) = keeps-by m settings now c (is_implemented c)
 keeps-read m settings now (Err e) = goes-on now _ refl refl refl
 
-replied-open : {S : Type 0} (w : Widths) (id : ℕ) (now : Moment S) (e : Effect S) (closes : Bool) → (closes ≡ true → e.after.state.requests ≡ []) → e.after.state.next_packet ≡ now.state.next_packet
-    → Numbers now (replies_by w id (record { after = e.after; answer = e.answer; dies = false; closes = closes }) false)
-replied-open w id now e true none packet = record { ids = packet; idle = none refl }
-replied-open w id now e false none packet = record { ids = packet; idle = tt }
+replied-open : {S : Type 0} (now : Standing S) (w : Widths) (id : ℕ) (e : Effect S) (closes : Bool) → (closes ≡ true → e.after.state.requests ≡ []) → e.after.state.next_packet ≡ now.moment.state.next_packet
+    → Numbers now.moment (replies_by now w id (record { after = e.after; answer = e.answer; dies = false; closes = closes }) false)
+replied-open now w id e true none packet = record { ids = packet; idle = none refl }
+replied-open now w id e false none packet = record { ids = packet; idle = tt }
 
-replied : {S : Type 0} (w : Widths) (id : ℕ) (now : Moment S) (e : Effect S) (dies : Bool) → (dies ≡ true → e.after.state.requests ≡ []) → Keeps now e → Numbers now (replies_by w id e dies)
-replied w id now e true dead k = record { ids = (k.packet, ap next_packet_id k.packet); idle = dead refl }
-replied w id now e false dead k = let r = replied-open w id now e e.closes k.closed k.packet in record { ids = r.ids; idle = r.idle }
+replied : {S : Type 0} (now : Standing S) (w : Widths) (id : ℕ) (e : Effect S) (dies : Bool) → (dies ≡ true → e.after.state.requests ≡ []) → Keeps now.moment e → Numbers now.moment (replies_by now w id e dies)
+replied now w id e true dead k = record { ids = (k.packet, ap next_packet_id k.packet); idle = dead refl }
+replied now w id e false dead k = let r = replied-open now w id e e.closes k.closed k.packet in record { ids = r.ids; idle = r.idle }
 
-handled-packet : {S : Type 0} (m : Meaning S) (settings : Settings) (now : Moment S) (id : ℕ) (k : PacketKind) (body : List ℕ) → Numbers now (handles_packet m settings now id k body)
+handled-packet : {S : Type 0} (m : Meaning S) (settings : Settings) (now : Standing S) (id : ℕ) (k : PacketKind) (body : List ℕ) → Numbers now.moment (handles_packet m settings (established now) id k body)
 handled-packet m settings now id (kind.Command set number) body =
-    let e = keeps-read m settings now (command_read (m.sizes now.machine) set number body) in
-    replied (m.sizes now.machine) id now _ _ e.dead e
+    let e = keeps-read m settings now.moment (command_read (m.sizes now.moment.machine) set number body) in
+    replied (established now) (m.sizes now.moment.machine) id _ _ e.dead e
 handled-packet m settings now id (kind.Reply error) body = record { ids = refl; idle = tt }
 
-greeted : {S : Type 0} (m : Meaning S) (settings : Settings) (now : Moment S) (b : Bool) → Numbers now (greets_by m settings now b)
+greeted : {S : Type 0} (m : Meaning S) (settings : Settings) (now : Standing S) (b : Bool) → Numbers now.moment (greets_by m settings (established now) b)
 greeted m settings now true = record { ids = refl; idle = tt }
 greeted m settings now false = record { ids = (refl, refl); idle = tt }
 
 handled-message : {S : Type 0} (m : Meaning S) (settings : Settings) (now : Standing S) (message : Message) → Numbers now.moment (react m settings now (Handles message))
-handled-message m settings now Handshake = greeted m settings now.moment now.moment.state.handshaken
-handled-message m settings now (Packet header body) = handled-packet m settings now.moment header.id header.kind body
+handled-message m settings now Handshake = greeted m settings now now.moment.state.handshaken
+handled-message m settings now (Packet header body) = handled-packet m settings now header.id header.kind body
 
 -- ---- steps
 
@@ -204,40 +204,41 @@ reports-follow : (w : Widths) (id : ℕ) (sends : Option CompositeMeaning) → F
 reports-follow w id None = refl
 reports-follow w id (Some c) = (refl, refl)
 
-session-numbers : {S : Type 0} (w : Widths) (now : Moment S) (o : Step S) (dies : Bool) → (dies ≡ true → o.after.state.requests ≡ []) → Stepping now o
-    → Numbers now (steps_in_session w now.state.next_packet o dies)
-session-numbers w now o true dead k =
-    let id = now.state.next_packet in
+session-numbers : {S : Type 0} (w : Widths) (now : Standing S) (o : Step S) (dies : Bool) → now.phase ≡ Established → (dies ≡ true → o.after.state.requests ≡ []) → Stepping now.moment o
+    → Numbers now.moment (steps_in_session w now.moment.state.next_packet o (behind o now) dies)
+session-numbers w now o true is dead k =
+    let id = now.moment.state.next_packet in
     let last = o.after.state.next_packet in
     let first : Follows id (composite_ids (reports w id o.sends)) last = subst (λ n. Follows id (composite_ids (reports w id o.sends)) n) (sym k.packet) (reports-follow w id o.sends) in
     record {
       ids = subst (λ l. Follows id l (next_packet_id last)) (sym (ids-append (reports w id o.sends) _)) (follows-append id last (next_packet_id last) (composite_ids (reports w id o.sends)) (last ∷ []) first (refl, refl));
       idle = dead refl;
     }
-session-numbers w now o false dead k =
-    let id = now.state.next_packet in
-    record { ids = subst (λ n. Follows id (composite_ids (reports w id o.sends)) n) (sym k.packet) (reports-follow w id o.sends); idle = tt }
+session-numbers w now o false is dead k =
+    let id = now.moment.state.next_packet in
+    record {
+      ids = subst (λ n. Follows id (composite_ids (reports w id o.sends)) n) (sym k.packet) (reports-follow w id o.sends);
+      idle = subst (λ (p : Phase). IdleAt p o.after.state.requests) (sym is) tt;
+    }
 
 -- nothing is sent where no session is established, and no request reports
 silent-packet : {S : Type 0} (now : Moment S) (o : Step S) → Stepping now o → now.state.requests ≡ [] → o.after.state.next_packet ≡ now.state.next_packet
 silent-packet now o k none = k.packet ∙ ap (λ (s : Option CompositeMeaning). packet_after s now.state.next_packet) (k.none none)
 
-waiting-numbers : {S : Type 0} (now : Moment S) (o : Step S) (dies : Bool) → Stepping now o → now.state.requests ≡ [] → Numbers now (steps_apart AwaitingHandshake o dies)
-waiting-numbers now o true k none = record { ids = silent-packet now o k none; idle = k.stay none }
-waiting-numbers now o false k none = record { ids = silent-packet now o k none; idle = k.stay none }
+apart-numbers : {S : Type 0} (now : Standing S) (o : Step S) (dies : Bool) → Stepping now.moment o → now.moment.state.requests ≡ [] → IdleAt now.phase o.after.state.requests
+    → Numbers now.moment (steps_apart (behind o now) dies)
+apart-numbers now o true k none idle = record { ids = silent-packet now.moment o k none; idle = k.stay none }
+apart-numbers now o false k none idle = record { ids = silent-packet now.moment o k none; idle = idle }
 
-closed-numbers : {S : Type 0} (now : Moment S) (o : Step S) (dies : Bool) → Stepping now o → now.state.requests ≡ [] → Numbers now (steps_apart Closed o dies)
-closed-numbers now o true k none = record { ids = silent-packet now o k none; idle = k.stay none }
-closed-numbers now o false k none = record { ids = silent-packet now o k none; idle = k.stay none }
-
-phase-numbers : {S : Type 0} (w : Widths) (now : Moment S) (o : Step S) (phase : Phase) → Stepping now o → IdleAt phase now.state.requests → Numbers now (steps_at w now.state.next_packet o phase)
-phase-numbers w now o Established k idle = session-numbers w now o o.dies k.dead k
-phase-numbers w now o AwaitingHandshake k idle = waiting-numbers now o o.dies k idle
-phase-numbers w now o Closed k idle = closed-numbers now o o.dies k idle
+phase-numbers : {S : Type 0} (w : Widths) (now : Standing S) (o : Step S) (phase : Phase) → now.phase ≡ phase → Stepping now.moment o → IdleAt phase now.moment.state.requests
+    → Numbers now.moment (steps_at w now.moment.state.next_packet o (behind o now) phase)
+phase-numbers w now o Established is k idle = session-numbers w now o o.dies is k.dead k
+phase-numbers w now o AwaitingHandshake is k idle = apart-numbers now o o.dies k idle (subst (λ (p : Phase). IdleAt p o.after.state.requests) (sym is) (k.stay idle))
+phase-numbers w now o Closed is k idle = apart-numbers now o o.dies k idle (subst (λ (p : Phase). IdleAt p o.after.state.requests) (sym is) (k.stay idle))
 
 stepped-numbers : {S : Type 0} (m : Meaning S) (now : Standing S) (t : ℕ) (may : Bool) → Idle now → Numbers now.moment (steps_by m now t may)
 stepped-numbers m now t false idle = record { ids = refl; idle = idle }
-stepped-numbers m now t true idle = phase-numbers (m.sizes now.moment.machine) now.moment (occurs m now.moment t) now.phase (occurs-steps m now.moment t (is_marked now.moment.state t)) idle
+stepped-numbers m now t true idle = phase-numbers (m.sizes now.moment.machine) now (occurs m now.moment t) now.phase refl (occurs-steps m now.moment t (is_marked now.moment.state t)) idle
 
 -- ---- a life
 

@@ -1,5 +1,6 @@
 -- Turns of a target over any machine.
-use Rattle.std.proofs.Common.{◌≡◌, ◌∙◌, ℕ, ◌+◌, ◌≤◌, List, [], ◌∷◌, ◌++◌, ◌==◌, length, Bool, true, false, not, ◌&&◌, ◌||◌, Some, None, Result, Ok, Err, pos, sym, ap, refl, subst, arith}
+use Rattle.std.proofs.Common.{◌≡◌, ◌∙◌, ℕ, ◌+◌, ◌≤◌, List, [], ◌∷◌, ◌++◌, ◌==◌, length, Bool, true, false, not, ◌&&◌, ◌||◌, Some, None, Result, Ok, Err, IsOk, pos, sym, ap, refl, subst, arith}
+use Rattle.std.proofs.lemmas.Bool.{leb-false}
 use Rattle.std.proofs.lemmas.List.{append-nil, length-append}
 use Rattle.byteorder.specs.Endian.{big_bytes}
 use Rattle.byteorder.specs.Numbers.{length-bytes_high_first}
@@ -19,7 +20,7 @@ use Rattle.jdwp_end.specs.declared.phase.Phase.{Phase}
 use Rattle.jdwp_end.specs.declared.phase.Phase.TheVariants.{Closed, AwaitingHandshake, Established}
 use Rattle.jdwp_end.specs.Ends.{End, HasPacket, front_of, most_outgoing, with_enqueued}
 use Rattle.jdwp_end.specs.Ends as ends
-use Rattle.jdwp_end.proofs.Fronts.{IsDue, in-front}
+use Rattle.jdwp_end.specs.FrontLaws.{IsDue, front-whole, in-front}
 use Rattle.jdwp_layout.specs.Meanings.{DatumMeaning}
 use Rattle.jdwp_layout.specs.CommandTable.{row_at}
 use Rattle.jdwp_layout.specs.CommandNumbers.{EVENT, COMPOSITE}
@@ -30,40 +31,38 @@ use Rattle.jdwp_event.specs.Modifiers.{modifiers_of}
 use Rattle.jdwp_machine.specs.Meanings.{Meaning}
 use Rattle.jdwp_debuggee.specs.Actions
 use Rattle.jdwp_debuggee.specs.Actions.{Action, Command, Raw, action_of, is_implemented}
-use Rattle.jdwp_debuggee.specs.CommandReads.{Asking, action_meaning, asking, asking_of, asks, command_read, content_read, read_by, row_request, with_content}
+use Rattle.jdwp_debuggee.specs.CommandReads.{Asking, action_meaning, asked_meaning, asking, asking_of, asks, command_read, content_read, is_short, read_by, row_request, with_content}
 use Rattle.jdwp_debuggee.specs.Debuggees.{Debuggee, at_moment}
 use Rattle.jdwp_debuggee.specs.Effects.{Effect, carried, carried_by, does, effect_by, raises_counts, suspend_by, set_by, suspend_thread_by, suspend_thread_at, resume_thread_by, slots_by, slots_at}
 use Rattle.jdwp_debuggee.specs.Facts.{is_dispose, is_exit}
 use Rattle.jdwp_debuggee.specs.Refusals.{set_refusal}
-use Rattle.jdwp_debuggee.specs.Sending.{Did, IsSent, answer_bytes, error_of, sent_bytes}
+use Rattle.jdwp_debuggee.specs.Sending.{Did, IsSent, answer_bytes, error_of, is_short_asked, sent_bytes}
 use Rattle.jdwp_debuggee.specs.Settings.{Settings}
 use Rattle.jdwp_debuggee.specs.State.{Moment, at_limit, count_of}
 use Rattle.jdwp_debuggee.specs.declared.command as code
 use Rattle.jdwp_debuggee.specs.declared.reply.Reply.TheVariants as reply
 use Rattle.jdwp_debuggee.specs.declared.reply.Sent.{Sent}
 use Rattle.jdwp_debuggee.specs.declared.reply.Sent.TheVariants as sent
+use Rattle.jdwp_target.specs.declared.target.TargetFault.{TargetFault}
 use Rattle.jdwp_target.specs.declared.target.TargetFault.TheVariants as fault
 use Rattle.jdwp_target.specs.declared.target.Turn.{Turn}
 use Rattle.jdwp_target.specs.declared.target.Turn.TheVariants as turn
+use Rattle.jdwp_target.specs.declared.turning.Came.TheVariants as came
 use Rattle.jdwp_target.specs.declared.turning.Done.{Done}
 use Rattle.jdwp_target.specs.Insides.{IsRight, target_of}
 use Rattle.jdwp_target.specs.Sends.{reply_to, report_of}
-use Rattle.jdwp_target.specs.Standings.{carried_out, greets_by, handles, phase_after, replies_by}
+use Rattle.jdwp_target.specs.Standings.{Standing, carried_out, greets_by, handles, phase_after, replies_by, stands}
 use Rattle.jdwp_target.specs.Targets.{Ran, Target, in_phase, with_handled}
 use Rattle.jdwp_target.specs.StepParts.{debuggee_after, end_after}
-use Rattle.jdwp_target.specs.TurnParts.{IsDone, IsHandled, after_deaths, closed_where, deaths, reply_of}
-use Rattle.jdwp_target.specs.Turns.{NeedsMemory, SendsAt, TurnsAt, told_of, told_of_packet}
+use Rattle.jdwp_target.specs.TurnParts.{IsDone, IsHandled, IsRead, after_deaths, closed_where, deaths, reply_of}
+use Rattle.jdwp_target.specs.Turns.{NeedsMemory, SendsAt, TurnsAt, kind_needs_memory, told_of, told_of_packet}
 use Rattle.jdwp_target.proofs.EnqueueLemmas.{two_enqueued}
 use Rattle.jdwp_target.proofs.TargetRuns.{ran-handled}
 
--- what was read of the bytes that are lent is the packet in front
-pub packet-there : (end : End) (limits : Limits) (bytes : List ℕ) (used : ℕ) (header : Header) (body : List ℕ) → HasPacket used end → limits ≡ end.limits
-    → ((h : Header) (b : List ℕ) → front_of end ≡ Whole (Packet h b) used → front end.limits.packet bytes ≡ frames.Whole h b used)
-    → ((h : Header) (b : List ℕ) (n : ℕ) → front limits.packet bytes ≡ frames.Whole h b n → (header ≡ h) × (body ≡ b)) → front_of end ≡ Whole (Packet header body) used
-packet-there end limits bytes used header body there same lent read =
-    let found : front limits.packet bytes ≡ frames.Whole there.0 there.1 used = ap (λ (l : Limits). front l.packet bytes) same ∙ lent there.0 there.1 there.2 in
-    let is = read there.0 there.1 used found in
-    rw (is.0, is.1) there.2
+-- in front of the bytes that are lent stands the packet in front of the end
+pub packet-lent : (end : End) (limits : Limits) (bytes : List ℕ) (used : ℕ) (header : Header) (body : List ℕ) → front_of end ≡ Whole (Packet header body) used → limits ≡ end.limits
+    → ((h : Header) (b : List ℕ) → front_of end ≡ Whole (Packet h b) used → front end.limits.packet bytes ≡ frames.Whole h b used) → front limits.packet bytes ≡ frames.Whole header body used
+packet-lent end limits bytes used header body front-is same lent = ap (λ (l : Limits). front l.packet bytes) same ∙ lent header body front-is
 
 -- a packet comes in an established session
 packet-phase : (limit : ℕ) (phase : Phase) (header : Header) (body : List ℕ) → IsDue limit phase (Packet header body) → phase ≡ Established
@@ -247,31 +246,26 @@ closes-by a b dispose exit other =
       ] dispose (λ e. off e refl)
     ] exit other
 
--- what wants memory is not short
-pub not-short : (b s : Bool) → (b ≡ true → s ≡ true) → s ≡ false → b ≡ false
-not-short true s h e = absurd (let on = h refl in cc)
-not-short false s h e = refl
-
 -- ---- what a reply leaves
 
-died : {S : Type 0} (w : Widths) (id : ℕ) (e : Effect S) (b : Bool) (d : Debuggee S) → after_deaths b (at_moment e.after d) ≡ debuggee_after (replies_by w id e b) d
-died w id e true d = refl
-died w id e false d = refl
+died : {S : Type 0} (now : Standing S) (w : Widths) (id : ℕ) (e : Effect S) (b : Bool) (d : Debuggee S) → after_deaths b (at_moment e.after d) ≡ debuggee_after (replies_by now w id e b) d
+died now w id e true d = refl
+died now w id e false d = refl
 
-closed-by : {S : Type 0} (w : Widths) (id : ℕ) (e : Effect S) (b : Bool) (message : Message) (used : ℕ) (end : End)
+closed-by : {S : Type 0} (now : Standing S) (w : Widths) (id : ℕ) (e : Effect S) (b : Bool) (message : Message) (used : ℕ) (end : End)
     → closed_where (b || e.closes) (with_enqueued (stream (reply_to w id e.answer ∷ deaths w e.after.state.next_packet b)) (ends.with_handled message used end))
-    ≡ end_after (replies_by w id e b) (ends.with_handled message used end)
-closed-by w id e true message used end = refl
-closed-by w id e false message used end =
+    ≡ end_after (replies_by now w id e b) (ends.with_handled message used end)
+closed-by now w id e true message used end = refl
+closed-by now w id e false message used end =
     elim e.closes as (λ (x : Bool). closed_where x (with_enqueued (stream (reply_to w id e.answer ∷ [])) (ends.with_handled message used end))
     ≡ in_phase (phase_after x) (with_enqueued (stream (reply_to w id e.answer ∷ [])) (ends.with_handled message used end))) [
       | true ↦ refl
       | false ↦ refl
     ]
 
-shaken-by : {S : Type 0} (w : Widths) (id : ℕ) (e : Effect S) (b : Bool) → (replies_by w id e b).after.moment.state.handshaken ≡ e.after.state.handshaken
-shaken-by w id e true = refl
-shaken-by w id e false = refl
+shaken-by : {S : Type 0} (now : Standing S) (w : Widths) (id : ℕ) (e : Effect S) (b : Bool) → (replies_by now w id e b).after.moment.state.handshaken ≡ e.after.state.handshaken
+shaken-by now w id e true = refl
+shaken-by now w id e false = refl
 
 reply-is : (w : Widths) (id : ℕ) (x : Sent) {S : Type 0} (e : Effect S) → IsSent w e.answer x → reply_of w id x ≡ reply_to w id e.answer
 reply-is w id x e is = rw (is.error, is.bytes) refl
@@ -291,17 +285,17 @@ sent-is w id {S = S} e d mid done end h =
     ∙ ap (λ (b : Bool). closed_where (e.dies || e.closes) (with_enqueued (stream (reply_to w id e.answer ∷ deaths w e.after.state.next_packet b)) end)) h.dies))
 
 -- what is sent for it
-died-sends : {S : Type 0} (w : Widths) (id : ℕ) (e : Effect S) (b : Bool) → reply_to w id e.answer ∷ deaths w e.after.state.next_packet b ≡ (replies_by w id e b).sends
-died-sends w id e true = refl
-died-sends w id e false = refl
+died-sends : {S : Type 0} (now : Standing S) (w : Widths) (id : ℕ) (e : Effect S) (b : Bool) → reply_to w id e.answer ∷ deaths w e.after.state.next_packet b ≡ (replies_by now w id e b).sends
+died-sends now w id e true = refl
+died-sends now w id e false = refl
 
-sends-are : {S : Type 0} (limit : ℕ) (w : Widths) (id : ℕ) (e : Effect S) (d mid : Debuggee S) (done : Done) → IsDone w e d mid done
-    → AreSendable limit (reply_of w id done.sent ∷ deaths w mid.moment.state.next_packet done.dies) → AreSendable limit (replies_by w id e e.dies).sends
-sends-are {S = S} limit w id e d mid done h fits =
+sends-are : {S : Type 0} (limit : ℕ) (now : Standing S) (w : Widths) (id : ℕ) (e : Effect S) (d mid : Debuggee S) (done : Done) → IsDone w e d mid done
+    → AreSendable limit (reply_of w id done.sent ∷ deaths w mid.moment.state.next_packet done.dies) → AreSendable limit (replies_by now w id e e.dies).sends
+sends-are {S = S} limit now w id e d mid done h fits =
     subst (λ (x : List Message). AreSendable limit x)
     (ap (λ (x : Message). x ∷ deaths w mid.moment.state.next_packet done.dies) (reply-is w id done.sent e h.sends)
     ∙ (ap (λ (x : Debuggee S). reply_to w id e.answer ∷ deaths w x.moment.state.next_packet done.dies) h.after
-    ∙ (ap (λ (b : Bool). reply_to w id e.answer ∷ deaths w e.after.state.next_packet b) h.dies ∙ died-sends w id e e.dies)))
+    ∙ (ap (λ (b : Bool). reply_to w id e.answer ∷ deaths w e.after.state.next_packet b) h.dies ∙ died-sends now w id e e.dies)))
     fits
 
 -- a command was handled
@@ -314,7 +308,8 @@ command-handled : {S : Type 0} (m : Meaning S) (d mid new : Debuggee S) (header 
 command-handled {S = S} m d mid new header body used set number end after done is h shaken new-is after-is fits =
     let w = m.sizes d.moment.machine in
     let e = carried_out m d.settings d.moment (command_read w set number body) in
-    let debuggee : new ≡ debuggee_after (replies_by w header.id e e.dies) d = new-is ∙ (rw (h.dies, h.after) refl ∙ died w header.id e e.dies d) in
+    let now = stands d.moment Established in
+    let debuggee : new ≡ debuggee_after (replies_by now w header.id e e.dies) d = new-is ∙ (rw (h.dies, h.after) refl ∙ died now w header.id e e.dies d) in
     let message = Packet (record { length = header.length; id = header.id; kind = kind.Command set number }) body in
     let left : after ≡ closed_where done.closes (with_enqueued (stream (reply_of w header.id done.sent ∷ deaths w mid.moment.state.next_packet done.dies)) (ends.with_handled message used end)) =
     subst
@@ -323,13 +318,13 @@ command-handled {S = S} m d mid new header body used set number end after done i
     is after-is in
     handled-kind m header body (kind.Command set number) used d new end after is (record {
       debuggee = debuggee;
-      left = left ∙ (sent-is w header.id e d mid done (ends.with_handled message used end) h ∙ closed-by w header.id e e.dies message used end);
-      handshaken = ap (λ (x : Debuggee S). x.moment.state.handshaken) debuggee ∙ (shaken-by w header.id e e.dies ∙ (h.handshaken ∙ shaken));
-      sends = sends-are end.limits.packet w header.id e d mid done h fits;
+      left = left ∙ (sent-is w header.id e d mid done (ends.with_handled message used end) h ∙ closed-by now w header.id e e.dies message used end);
+      handshaken = ap (λ (x : Debuggee S). x.moment.state.handshaken) debuggee ∙ (shaken-by now w header.id e e.dies ∙ (h.handshaken ∙ shaken));
+      sends = sends-are end.limits.packet now w header.id e d mid done h fits;
     })
 
 -- the same, where the widths and the end without the message have names of their own
-pub command-replied : {S : Type 0} (m : Meaning S) (d mid new : Debuggee S) (header : Header) (body : List ℕ) (used set number : ℕ) (end off after : End) (done : Done) (w : Widths) → header.kind ≡ kind.Command set number
+command-replied : {S : Type 0} (m : Meaning S) (d mid new : Debuggee S) (header : Header) (body : List ℕ) (used set number : ℕ) (end off after : End) (done : Done) (w : Widths) → header.kind ≡ kind.Command set number
     → IsDone (m.sizes d.moment.machine) (carried_out m d.settings d.moment (command_read (m.sizes d.moment.machine) set number body)) d mid done → d.moment.state.handshaken ≡ true
     → new ≡ after_deaths done.dies mid → w ≡ m.sizes d.moment.machine → off ≡ ends.with_handled (Packet header body) used end
     → after ≡ closed_where done.closes (with_enqueued (stream (reply_of w header.id done.sent ∷ deaths w mid.moment.state.next_packet done.dies)) off)
@@ -348,6 +343,23 @@ command-replied m d mid new header body used set number end off after done w is 
     ∙ ap (λ (x : End). closed_where done.closes (with_enqueued (stream (reply_of (m.sizes d.moment.machine) header.id done.sent ∷ deaths (m.sizes d.moment.machine) mid.moment.state.next_packet done.dies)) x)) off-is))
     (subst (λ (x : Widths). AreSendable end.limits.packet (reply_of x header.id done.sent ∷ deaths x mid.moment.state.next_packet done.dies)) w-is sends)
 
+-- the same of a command as it was read
+pub command-came : {S : Type 0} (m : Meaning S) (d mid new : Debuggee S) (header : Header) (body : List ℕ) (used : ℕ) (end off after : End) (done : Done) (w : Widths) (id : ℕ) (asked : code.Asked.Asked)
+    → IsRead w header.id header.kind body (came.Command id asked) → w ≡ m.sizes d.moment.machine
+    → ((set number : ℕ) (bytes : List ℕ) → asked_meaning asked ≡ asks (command_read (m.sizes d.moment.machine) set number bytes)
+    → IsDone (m.sizes d.moment.machine) (carried_out m d.settings d.moment (command_read (m.sizes d.moment.machine) set number bytes)) d mid done)
+    → d.moment.state.handshaken ≡ true → new ≡ after_deaths done.dies mid → off ≡ ends.with_handled (Packet header body) used end
+    → after ≡ closed_where done.closes (with_enqueued (stream (reply_of w id done.sent ∷ deaths w mid.moment.state.next_packet done.dies)) off)
+    → end.limits ≡ d.settings.limits → least_packet_limit ≤ end.limits.packet
+    → ((limit : ℕ) → least_packet_limit ≤ limit → 11 + length (sent_bytes w done.sent) ≤ limit → AreSendable limit (reply_of w id done.sent ∷ deaths w mid.moment.state.next_packet done.dies))
+    → IsHandled m (Packet header body) used d new end after
+command-came m d mid new header body used end off after done w id asked (set, number, is, same, value, short) w-is did shaken new-is off-is after-is limits least fits =
+    command-replied m d mid new header body used set number end off after done w is
+    (did set number body (subst (λ (x : Widths). asked_meaning asked ≡ asks (command_read x set number body)) w-is value)) shaken new-is w-is off-is
+    (after-is ∙ ap (λ (n : ℕ). closed_where done.closes (with_enqueued (stream (reply_of w n done.sent ∷ deaths w mid.moment.state.next_packet done.dies)) off)) same)
+    limits least
+    (λ limit enough within. subst (λ (n : ℕ). AreSendable limit (reply_of w n done.sent ∷ deaths w mid.moment.state.next_packet done.dies)) same (fits limit enough within))
+
 -- nothing was put
 nothing-put : (message : Message) (used : ℕ) (end : End) → ends.with_handled message used end ≡ in_phase Established (with_enqueued [] (ends.with_handled message used end))
 nothing-put message used end = rw (append-nil end.outgoing, append-nil end.session.enqueued) refl
@@ -363,25 +375,25 @@ reply-handled m d header body used error end after is shaken after-is =
 
 -- the handshake was answered
 greeted-end : {S : Type 0} (m : Meaning S) (settings : Settings) (now : Moment S) (b : Bool) (end : End)
-    → with_enqueued (stream (greets_by m settings now b).sends) (ends.with_handled Handshake 14 end) ≡ end_after (greets_by m settings now b) (ends.with_handled Handshake 14 end)
+    → with_enqueued (stream (greets_by m settings (stands now Established) b).sends) (ends.with_handled Handshake 14 end) ≡ end_after (greets_by m settings (stands now Established) b) (ends.with_handled Handshake 14 end)
 greeted-end m settings now true end = refl
 greeted-end m settings now false end = refl
 
-greeted-shaken : {S : Type 0} (m : Meaning S) (settings : Settings) (now : Moment S) (b : Bool) → now.state.handshaken ≡ b → (greets_by m settings now b).after.moment.state.handshaken ≡ true
+greeted-shaken : {S : Type 0} (m : Meaning S) (settings : Settings) (now : Moment S) (b : Bool) → now.state.handshaken ≡ b → (greets_by m settings (stands now Established) b).after.moment.state.handshaken ≡ true
 greeted-shaken m settings now true e = e
 greeted-shaken m settings now false e = refl
 
 pub greeted : {S : Type 0} (m : Meaning S) (d new : Debuggee S) (end mid after : End) → mid ≡ ends.with_handled Handshake 14 end
-    → new ≡ debuggee_after (greets_by m d.settings d.moment d.moment.state.handshaken) d
-    → after ≡ with_enqueued (stream (greets_by m d.settings d.moment d.moment.state.handshaken).sends) mid
-    → end.limits ≡ d.settings.limits → AreSendable d.settings.limits.packet (greets_by m d.settings d.moment d.moment.state.handshaken).sends → IsHandled m Handshake 14 d new end after
+    → new ≡ debuggee_after (greets_by m d.settings (stands d.moment Established) d.moment.state.handshaken) d
+    → after ≡ with_enqueued (stream (greets_by m d.settings (stands d.moment Established) d.moment.state.handshaken).sends) mid
+    → end.limits ≡ d.settings.limits → AreSendable d.settings.limits.packet (greets_by m d.settings (stands d.moment Established) d.moment.state.handshaken).sends → IsHandled m Handshake 14 d new end after
 greeted {S = S} m d new end mid after mid-is new-is after-is limits fits =
     let b = d.moment.state.handshaken in
     record {
       debuggee = new-is;
-      left = after-is ∙ (ap (λ (x : End). with_enqueued (stream (greets_by m d.settings d.moment b).sends) x) mid-is ∙ greeted-end m d.settings d.moment b end);
+      left = after-is ∙ (ap (λ (x : End). with_enqueued (stream (greets_by m d.settings (stands d.moment Established) b).sends) x) mid-is ∙ greeted-end m d.settings d.moment b end);
       handshaken = ap (λ (x : Debuggee S). x.moment.state.handshaken) new-is ∙ greeted-shaken m d.settings d.moment b refl;
-      sends = subst (λ (l : Limits). AreSendable l.packet (greets_by m d.settings d.moment b).sends) (sym limits) fits;
+      sends = subst (λ (l : Limits). AreSendable l.packet (greets_by m d.settings (stands d.moment Established) b).sends) (sym limits) fits;
     }
 
 -- ---- the target behind a message
@@ -408,22 +420,63 @@ right-handled m d new began phases steps end after message used right fits front
 }
 
 pub turns-whole : {S : Type 0} (m : Meaning S) (old new : Target S) (message : Message) (used : ℕ) (told : Turn) → front_of old.end ≡ Whole message used
-    → told ≡ told_of m old.settings old.moment message → new ≡ with_handled m message used old → TurnsAt m (front_of old.end) old (Ok told) new
+    → told ≡ told_of m old message → new ≡ with_handled m message used old → TurnsAt m (front_of old.end) old (Ok told) new
 turns-whole m old new message used told front tells same = subst (λ (x : NextMessage). TurnsAt m x old (Ok told) new) (sym front) (tells, same)
 
-pub turns-wanting : {S : Type 0} (m : Meaning S) (old new : Target S) (message : Message) (used : ℕ) → front_of old.end ≡ Whole message used
-    → NeedsMemory message → new ≡ old → TurnsAt m (front_of old.end) old (Err fault.NoMemory) new
-turns-wanting m old new message used front needs same = subst (λ (x : NextMessage). TurnsAt m x old (Err fault.NoMemory) new) (sym front) (refl, needs, same)
-
 pub sends-whole : {S : Type 0} (m : Meaning S) (old : Target S) (message : Message) (used : ℕ) → front_of old.end ≡ Whole message used
-    → AreSendable old.end.limits.packet (handles m old.settings old.moment message).sends → SendsAt m (front_of old.end) old
+    → AreSendable old.end.limits.packet (handles m old.settings (stands old.moment Established) message).sends → SendsAt m (front_of old.end) old
 sends-whole m old message used front fits = subst (λ (x : NextMessage). SendsAt m x old) (sym front) fits
 
--- what is told of a command
-pub told-command : {S : Type 0} (m : Meaning S) (settings : Settings) (now : Moment S) (header : Header) (body : List ℕ) (set number : ℕ) (error : ErrorCode) → header.kind ≡ kind.Command set number
-    → error ≡ error_of (carried_out m settings now (command_read (m.sizes now.machine) set number body)).answer → turn.Replied header.id error ≡ told_of m settings now (Packet header body)
-told-command m settings now header body set number error is e =
-    subst (λ (x : PacketKind). turn.Replied header.id error ≡ told_of_packet m settings now header.id x body) (sym is) (ap (λ (x : ErrorCode). turn.Replied header.id x) e)
+-- ---- room, and want of memory
+
+-- where something is in front, less than a packet may have waits to leave
+pub front-room : (end : End) (message : Message) (used : ℕ) → front_of end ≡ Whole message used → length end.outgoing + 1 ≤ end.limits.packet
+front-room end message used found = omega (arith, leb-false end.limits.packet (length end.outgoing) (front-whole end message used found).0)
+
+-- there is room for what is sent for a command
+pub command-room : {S : Type 0} (m : Meaning S) (d mid : Debuggee S) (header : Header) (body : List ℕ) (used : ℕ) (end : End) (done : Done) (w : Widths) (id : ℕ) (asked : code.Asked.Asked)
+    → IsRead w header.id header.kind body (came.Command id asked) → w ≡ m.sizes d.moment.machine
+    → ((set number : ℕ) (bytes : List ℕ) → asked_meaning asked ≡ asks (command_read (m.sizes d.moment.machine) set number bytes)
+    → IsDone (m.sizes d.moment.machine) (carried_out m d.settings d.moment (command_read (m.sizes d.moment.machine) set number bytes)) d mid done)
+    → end.limits ≡ d.settings.limits → least_packet_limit ≤ end.limits.packet → front_of end ≡ Whole (Packet header body) used
+    → length end.outgoing + (11 + length (sent_bytes w done.sent)) ≤ most_outgoing end.limits
+command-room m d mid header body used end done w id asked (set, number, is, same, value, short) w-is did limits least front =
+    let one = did set number body (subst (λ (x : Widths). asked_meaning asked ≡ asks (command_read x set number body)) w-is value) in
+    let small : 11 + length (sent_bytes w done.sent) ≤ end.limits.packet = rw (w-is, limits) (one.fits (subst (λ (x : Limits). least_packet_limit ≤ x.packet) limits least)) in
+    let room = front-room end (Packet header body) used front in
+    omega (arith, room, small)
+
+reads-long : (r : Result Command ErrorCode) → is_short_asked (asks r) ≡ false → IsOk r
+reads-long (Ok c) long = refl
+reads-long (Err e) long = absurd (cc)
+
+not-short : (a b : Bool) → (a ≡ true → b ≡ true) → b ≡ false → a ≡ false
+not-short true b short long = absurd (let same = short refl in cc)
+not-short false b short long = refl
+
+-- a command whose data read, and that is no short one, may want memory
+pub command-needs : {S : Type 0} (m : Meaning S) (old : Target S) (header : Header) (body : List ℕ) (w : Widths) (id : ℕ) (asked : code.Asked.Asked)
+    → IsRead w header.id header.kind body (came.Command id asked) → w ≡ m.sizes old.moment.machine → is_short_asked (asked_meaning asked) ≡ false → NeedsMemory m old (Packet header body)
+command-needs m old header body w id asked (set, number, is, same, value, short) w-is long =
+    let read : asked_meaning asked ≡ asks (command_read (m.sizes old.moment.machine) set number body) = subst (λ (x : Widths). asked_meaning asked ≡ asks (command_read x set number body)) w-is value in
+    let reads = reads-long (command_read (m.sizes old.moment.machine) set number body) (subst (λ (x : Result Asking ErrorCode). is_short_asked x ≡ false) read long) in
+    subst (λ (x : PacketKind). kind_needs_memory m old x body) (sym is) (not-short (is_short set number) (is_short_asked (asked_meaning asked)) short long, reads)
+
+pub turns-wanting : {S : Type 0} (m : Meaning S) (old new : Target S) (message : Message) (used : ℕ) (result : Result Turn TargetFault) → front_of old.end ≡ Whole message used
+    → result ≡ Err fault.NoMemory → NeedsMemory m old message → new ≡ old → TurnsAt m (front_of old.end) old result new
+turns-wanting m old new message used result front is needs same =
+    subst (λ (x : NextMessage). TurnsAt m x old result new) (sym front) (subst (λ (x : Result Turn TargetFault). TurnsAt m (Whole message used) old x new) (sym is) (refl, needs, same))
+
+-- what is told of a command as it was read
+pub told-command : {S : Type 0} (m : Meaning S) (old : Target S) (header : Header) (body : List ℕ) (w : Widths) (id : ℕ) (asked : code.Asked.Asked) (error : ErrorCode)
+    → IsRead w header.id header.kind body (came.Command id asked) → w ≡ m.sizes old.moment.machine
+    → ((set number : ℕ) (bytes : List ℕ) → asked_meaning asked ≡ asks (command_read (m.sizes old.moment.machine) set number bytes)
+    → error ≡ error_of (carried_out m old.settings old.moment (command_read (m.sizes old.moment.machine) set number bytes)).answer)
+    → turn.Replied id error ≡ told_of m old (Packet header body)
+told-command m old header body w id asked error (set, number, is, same, value, short) w-is e =
+    let tells = e set number body (subst (λ (x : Widths). asked_meaning asked ≡ asks (command_read x set number body)) w-is value) in
+    subst (λ (x : PacketKind). turn.Replied id error ≡ told_of_packet m old header.id x body) (sym is)
+    (ap (λ (n : ℕ). turn.Replied n error) same ∙ ap (λ (x : ErrorCode). turn.Replied header.id x) tells)
 
 -- ---- VM_START
 

@@ -1,6 +1,6 @@
 -- What is sent are packets within the limit.
-use Rattle.std.proofs.Common.{◌≡◌, ℕ, ◌+◌, ◌≤◌, ◌<◌, ◌^◌, ◌++◌, List, [], ◌∷◌, length, Bool, true, false, Option, Some, None, refl, arith}
-use Rattle.jdwp_wire.specs.Frames.{IsPacket, KindFits}
+use Rattle.std.proofs.Common.{ℕ, ◌+◌, ◌≤◌, ◌<◌, ◌^◌, ◌++◌, List, ◌∷◌, length, Bool, true, false, Option, Some, None, refl, arith}
+use Rattle.jdwp_wire.specs.Frames.{KindFits}
 use Rattle.jdwp_wire.specs.Streams.{Message, AreSendable, IsSendable}
 use Rattle.jdwp_wire.specs.Widths.{Widths}
 use Rattle.jdwp_wire.specs.declared.packet.PacketKind.{PacketKind}
@@ -14,7 +14,7 @@ use Rattle.jdwp_debuggee.specs.Sending.{FitsPacket, sent_bytes, sent_error}
 use Rattle.jdwp_debuggee.specs.Steps.{Step}
 use Rattle.jdwp_debuggee.specs.declared.reply.Sent.{Sent}
 use Rattle.jdwp_target.specs.Sends.{packet_with, report_of}
-use Rattle.jdwp_target.specs.Standings.{reports, steps_apart, steps_at, steps_in_session}
+use Rattle.jdwp_target.specs.Standings.{Standing, reports, steps_apart, steps_at, steps_in_session}
 use Rattle.jdwp_target.specs.StepParts.{CanBeReported}
 use Rattle.jdwp_target.specs.TurnParts.{deaths, reply_of}
 
@@ -46,17 +46,17 @@ report-alone : (w : Widths) (end : End) (id : ℕ) (c : Option CompositeMeaning)
 report-alone w end id None can small = tt
 report-alone w end id (Some c) can small = (report-fits end.limits.packet w id c can.within small, tt)
 
-session-fits : {S : Type 0} (w : Widths) (end : End) (id : ℕ) (o : Step S) (dies : Bool) → FitsPacket w end.limits.packet vm_death → CanBeReported w end o.sends → id < 2 ^ 32 → o.after.state.next_packet < 2 ^ 32
-    → AreSendable end.limits.packet (steps_in_session w id o dies).sends
-session-fits w end id o true death can small after = report-before w end id o.sends _ can small (report-fits end.limits.packet w o.after.state.next_packet vm_death death.within after, tt)
-session-fits w end id o false death can small after = report-alone w end id o.sends can small
+session-fits : {S : Type 0} (w : Widths) (end : End) (id : ℕ) (o : Step S) (now : Standing S) (dies : Bool) → FitsPacket w end.limits.packet vm_death → CanBeReported w end o.sends → id < 2 ^ 32 → o.after.state.next_packet < 2 ^ 32
+    → AreSendable end.limits.packet (steps_in_session w id o now dies).sends
+session-fits w end id o now true death can small after = report-before w end id o.sends _ can small (report-fits end.limits.packet w o.after.state.next_packet vm_death death.within after, tt)
+session-fits w end id o now false death can small after = report-alone w end id o.sends can small
 
-apart-fits : {S : Type 0} (limit : ℕ) (phase : Phase) (o : Step S) (dies : Bool) → AreSendable limit (steps_apart phase o dies).sends
-apart-fits limit phase o true = tt
-apart-fits limit phase o false = tt
+apart-fits : {S : Type 0} (limit : ℕ) (now : Standing S) (dies : Bool) → AreSendable limit (steps_apart now dies).sends
+apart-fits limit now true = tt
+apart-fits limit now false = tt
 
-pub step-fits : {S : Type 0} (w : Widths) (end : End) (id : ℕ) (o : Step S) (phase : Phase) → FitsPacket w end.limits.packet vm_death → CanBeReported w end o.sends → id < 2 ^ 32 → o.after.state.next_packet < 2 ^ 32
-    → AreSendable end.limits.packet (steps_at w id o phase).sends
-step-fits w end id o Established death can small after = session-fits w end id o o.dies death can small after
-step-fits w end id o AwaitingHandshake death can small after = apart-fits end.limits.packet AwaitingHandshake o o.dies
-step-fits w end id o Closed death can small after = apart-fits end.limits.packet Closed o o.dies
+pub step-fits : {S : Type 0} (w : Widths) (end : End) (id : ℕ) (o : Step S) (now : Standing S) (phase : Phase) → FitsPacket w end.limits.packet vm_death → CanBeReported w end o.sends → id < 2 ^ 32 → o.after.state.next_packet < 2 ^ 32
+    → AreSendable end.limits.packet (steps_at w id o now phase).sends
+step-fits w end id o now Established death can small after = session-fits w end id o now o.dies death can small after
+step-fits w end id o now AwaitingHandshake death can small after = apart-fits end.limits.packet now o.dies
+step-fits w end id o now Closed death can small after = apart-fits end.limits.packet now o.dies

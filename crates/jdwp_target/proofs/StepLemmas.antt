@@ -20,7 +20,7 @@ use Rattle.jdwp_debuggee.specs.StepParts as debuggee
 use Rattle.jdwp_debuggee.specs.Steps.{Step, death_by, ended_by, happens, may_step, occurs, occurs_by, report_by, seen, with_started}
 use Rattle.jdwp_debuggee.specs.declared.steps.StepDone.{StepDone}
 use Rattle.jdwp_target.specs.Insides.{IsRight, target_of}
-use Rattle.jdwp_target.specs.Standings.{Reaction, Steps, react, stands, steps_apart, steps_at, steps_by, steps_in_session}
+use Rattle.jdwp_target.specs.Standings.{Reaction, Standing, Steps, behind, react, reports_step, stands, steps_apart, steps_at, steps_by, steps_in_session}
 use Rattle.jdwp_target.specs.StepParts.{CanBeReported, CanLeave, debuggee_after, end_after, step_of}
 use Rattle.jdwp_target.specs.Targets.{Ran, Target, standing}
 use Rattle.jdwp_target.specs.Turns.{SendsWhere, is_frozen}
@@ -84,37 +84,37 @@ occurs-alone m now t e = occurs-alone-by m now t (is_marked now.state t) e
 abbrev stepped_by : {S : Type 0} → Meaning S → ℕ → Debuggee S → End → Reaction S
 stepped_by m t d end = react m d.settings (stands d.moment end.phase) (Steps t)
 
-apart-phase : {S : Type 0} (phase : Phase) (o : Step S) (dies : Bool) → (steps_apart phase o dies).after.phase ≡ Established → phase ≡ Established
-apart-phase phase o true e = absurd cc
-apart-phase phase o false e = e
+apart-phase : {S : Type 0} (now : Standing S) (dies : Bool) → (steps_apart now dies).after.phase ≡ Established → now.phase ≡ Established
+apart-phase now true e = absurd cc
+apart-phase now false e = e
 
-apart-moment : {S : Type 0} (phase : Phase) (o : Step S) (dies : Bool) → (steps_apart phase o dies).after.moment ≡ o.after
-apart-moment phase o true = refl
-apart-moment phase o false = refl
+apart-moment : {S : Type 0} (now : Standing S) (dies : Bool) → (steps_apart now dies).after.moment ≡ now.moment
+apart-moment now true = refl
+apart-moment now false = refl
 
 -- an end that is established after a step was so before it
-at-phase : {S : Type 0} (w : Widths) (id : ℕ) (o : Step S) (phase : Phase) → (steps_at w id o phase).after.phase ≡ Established → phase ≡ Established
-at-phase w id o Established e = refl
-at-phase w id o AwaitingHandshake e = apart-phase AwaitingHandshake o o.dies e
-at-phase w id o Closed e = apart-phase Closed o o.dies e
+at-phase : {S : Type 0} (w : Widths) (id : ℕ) (o : Step S) (now : Standing S) (phase : Phase) → now.phase ≡ phase → (steps_at w id o now phase).after.phase ≡ Established → now.phase ≡ Established
+at-phase w id o now Established is e = is
+at-phase w id o now AwaitingHandshake is e = apart-phase now o.dies e
+at-phase w id o now Closed is e = apart-phase now o.dies e
 
-session-handshaken : {S : Type 0} (w : Widths) (id : ℕ) (o : Step S) (dies : Bool) → (steps_in_session w id o dies).after.moment.state.handshaken ≡ o.after.state.handshaken
-session-handshaken w id o true = refl
-session-handshaken w id o false = refl
+session-handshaken : {S : Type 0} (w : Widths) (id : ℕ) (o : Step S) (now : Standing S) (dies : Bool) → (steps_in_session w id o (behind o now) dies).after.moment.state.handshaken ≡ o.after.state.handshaken
+session-handshaken w id o now true = refl
+session-handshaken w id o now false = refl
 
-at-handshaken : {S : Type 0} (w : Widths) (id : ℕ) (o : Step S) (phase : Phase) → (steps_at w id o phase).after.moment.state.handshaken ≡ o.after.state.handshaken
-at-handshaken w id o Established = session-handshaken w id o o.dies
-at-handshaken w id o AwaitingHandshake = rw (apart-moment AwaitingHandshake o o.dies) refl
-at-handshaken w id o Closed = rw (apart-moment Closed o o.dies) refl
+at-handshaken : {S : Type 0} (w : Widths) (id : ℕ) (o : Step S) (now : Standing S) (phase : Phase) → (steps_at w id o (behind o now) phase).after.moment.state.handshaken ≡ o.after.state.handshaken
+at-handshaken w id o now Established = session-handshaken w id o now o.dies
+at-handshaken {S = S} w id o now AwaitingHandshake = ap (λ (x : Moment S). x.state.handshaken) (apart-moment (behind o now) o.dies)
+at-handshaken {S = S} w id o now Closed = ap (λ (x : Moment S). x.state.handshaken) (apart-moment (behind o now) o.dies)
 
-by-handshaken : {S : Type 0} (m : Meaning S) (t : ℕ) (now : Moment S) (phase : Phase) (may : Bool) → (phase ≡ Established → now.state.handshaken ≡ true)
-    → (steps_by m (stands now phase) t may).after.phase ≡ Established → (steps_by m (stands now phase) t may).after.moment.state.handshaken ≡ true
-by-handshaken m t now phase false had e = had e
-by-handshaken m t now phase true had e =
-    let w = m.sizes now.machine in
-    let id = now.state.next_packet in
-    let o = occurs m now t in
-    rw (at-handshaken w id o phase, occurs-handshaken m now t) (had (at-phase w id o phase e))
+by-handshaken : {S : Type 0} (m : Meaning S) (t : ℕ) (now : Standing S) (may : Bool) → (now.phase ≡ Established → now.moment.state.handshaken ≡ true)
+    → (steps_by m now t may).after.phase ≡ Established → (steps_by m now t may).after.moment.state.handshaken ≡ true
+by-handshaken m t now false had e = had e
+by-handshaken m t now true had e =
+    let w = m.sizes now.moment.machine in
+    let id = now.moment.state.next_packet in
+    let o = occurs m now.moment t in
+    at-handshaken w id o now now.phase ∙ (occurs-handshaken m now.moment t ∙ had (at-phase w id o (behind o now) now.phase refl e))
 
 -- a target is as it should be after a step
 pub right-stepped : {S : Type 0} (m : Meaning S) (t : ℕ) (d : Debuggee S) (began : List (Debuggee S)) (phases : List Phase) (steps : ℕ) (end : End) → may_step m d.settings d.moment t ≡ true
@@ -129,7 +129,7 @@ right-stepped {S = S} m t d began phases steps end may sends k =
     let ran : Ran m (target_of d (first ∷ rest) phases steps end) = subst (λ (b : List (Debuggee S)). Ran m (target_of d b phases steps end)) split k.ran in
     record {
       some = k.some;
-      handshaken = λ e. by-handshaken m t d.moment end.phase (may_step m d.settings d.moment t) k.handshaken e;
+      handshaken = λ e. by-handshaken m t (stands d.moment end.phase) (may_step m d.settings d.moment t) k.handshaken e;
       limits = k.limits;
       ran = subst (λ (b : List (Debuggee S)). Ran m (target_of new b phases (steps + 1) newer)) (sym split) (ran-stepped m (target_of d (first ∷ rest) phases steps end) t may sends ran);
     }
@@ -140,13 +140,13 @@ same-step : {S : Type 0} (d e : Debuggee S) (o : Step S) (done : StepDone) → e
 same-step d e o done after sends ends dies = rw (after, sends, ends, dies) refl
 
 acts : {S : Type 0} (m : Meaning S) (t : ℕ) (d : Debuggee S) (end : End) → may_step m d.settings d.moment t ≡ true
-    → stepped_by m t d end ≡ steps_at (m.sizes d.moment.machine) d.moment.state.next_packet (occurs m d.moment t) end.phase
+    → stepped_by m t d end ≡ reports_step (m.sizes d.moment.machine) d.moment.state.next_packet (occurs m d.moment t) (stands d.moment end.phase)
 acts m t d end may = rw may refl
 
 -- The debuggee made a step (`e`), and was told of (`f`), and so was the end.
 pub stepped-debuggee : {S : Type 0} (m : Meaning S) (t : ℕ) (d e f : Debuggee S) (end : End) (w : Widths) (id : ℕ) (done : StepDone)
     → debuggee.Steps m t d e done → w ≡ m.sizes d.moment.machine → id ≡ d.moment.state.next_packet
-    → f ≡ debuggee_after (steps_at w id (step_of e done) end.phase) e
+    → f ≡ debuggee_after (reports_step w id (step_of e done) (stands e.moment end.phase)) e
     → f ≡ debuggee_after (stepped_by m t d end) d
 stepped-debuggee m t d e f end w id done s sizes packet is =
     let o : step_of e done ≡ occurs m d.moment t = same-step d e (occurs m d.moment t) done s.after s.sends s.ends s.dies in
@@ -154,18 +154,18 @@ stepped-debuggee m t d e f end w id done s sizes packet is =
 
 pub stepped-end : {S : Type 0} (m : Meaning S) (t : ℕ) (d e : Debuggee S) (end new : End) (w : Widths) (id : ℕ) (done : StepDone)
     → debuggee.Steps m t d e done → w ≡ m.sizes d.moment.machine → id ≡ d.moment.state.next_packet
-    → new ≡ end_after (steps_at w id (step_of e done) end.phase) end
+    → new ≡ end_after (reports_step w id (step_of e done) (stands e.moment end.phase)) end
     → new ≡ end_after (stepped_by m t d end) end
 stepped-end m t d e end new w id done s sizes packet is =
     let o : step_of e done ≡ occurs m d.moment t = same-step d e (occurs m d.moment t) done s.after s.sends s.ends s.dies in
-    rw (is, o, sizes, packet, acts m t d end s.may) refl
+    rw (is, o, sizes, packet, s.after, acts m t d end s.may) refl
 
 pub stepped-sends : {S : Type 0} (m : Meaning S) (t : ℕ) (d e : Debuggee S) (end : End) (w : Widths) (id limit : ℕ) (done : StepDone)
     → debuggee.Steps m t d e done → w ≡ m.sizes d.moment.machine → id ≡ d.moment.state.next_packet
-    → AreSendable limit (steps_at w id (step_of e done) end.phase).sends → AreSendable limit (stepped_by m t d end).sends
+    → AreSendable limit (reports_step w id (step_of e done) (stands e.moment end.phase)).sends → AreSendable limit (stepped_by m t d end).sends
 stepped-sends m t d e end w id limit done s sizes packet sends =
     let o : step_of e done ≡ occurs m d.moment t = same-step d e (occurs m d.moment t) done s.after s.sends s.ends s.dies in
-    rw (acts m t d end s.may) (rw (o, sizes, packet) at sends)
+    rw (acts m t d end s.may) (rw (o, sizes, packet, s.after) at sends)
 
 pub sends-where : {S : Type 0} (m : Meaning S) (t : ℕ) (v : Target S) → is_paused v.end ≡ false → may_step m v.settings v.moment t ≡ true
     → AreSendable v.end.limits.packet (react m v.settings (standing v) (Steps t)).sends → SendsWhere m t v (is_frozen m t v)

@@ -9,13 +9,13 @@ use Rattle.jdwp_end.specs.declared.phase.Phase.TheVariants.{Closed, AwaitingHand
 use Rattle.jdwp_end.specs.Ends.{End, front_of, is_open}
 use Rattle.jdwp_end.specs.Ends as ends
 use Rattle.jdwp_end.specs.Runs.{Carries}
-use Rattle.jdwp_end.proofs.Carrying.{carries-new, carries-opened, carries-fed, carries-handled, carries-enqueued, carries-closed, carries-taken, carries-lost, stream-append}
-use Rattle.jdwp_end.proofs.Fronts.{due-open, in-front}
+use Rattle.jdwp_end.specs.CarryingLaws.{carries-new, carries-opened, carries-fed, carries-handled, carries-enqueued, carries-closed, carries-taken, carries-lost, stream-append}
+use Rattle.jdwp_end.specs.FrontLaws.{due-open, in-front}
 use Rattle.jdwp_machine.specs.Meanings.{Meaning}
 use Rattle.jdwp_debuggee.specs.Settings.{Settings}
 use Rattle.jdwp_debuggee.specs.State.{Moment}
 use Rattle.jdwp_debuggee.specs.Steps.{Step, may_step, occurs}
-use Rattle.jdwp_target.specs.Standings.{Act, Handles, Steps, Loses, Standing, Reaction, after, handled, has_loss, react, sent, steps_made, InOrder, MayCome, steps_apart, steps_at, steps_by, steps_in_session}
+use Rattle.jdwp_target.specs.Standings.{Act, Handles, Steps, Loses, Standing, Reaction, after, behind, established, handled, has_loss, react, sent, steps_made, InOrder, MayCome, steps_apart, steps_at, steps_by, steps_in_session}
 use Rattle.jdwp_target.proofs.Conversing.{handling-converses, message-phase, some-sent, stepping-converses, waits-silent}
 use Rattle.jdwp_target.specs.Targets.{Target, Ran, in_phase, lost, new_target, opened, standing, with_fed, with_handled, with_step, with_taken}
 
@@ -157,32 +157,35 @@ carries-nothing end ms c = rw (append-nil end.outgoing, append-nil end.session.e
 
 -- ---- steps
 
-apart : (phase : Phase) (end : End) (ms : List Message) {S : Type 0} (o : Step S) (dies : Bool) → end.phase ≡ phase → Carries end ms
-    → Carries (in_phase (steps_apart phase o dies).after.phase (ends.with_enqueued (stream (steps_apart phase o dies).sends) end)) ms
-apart phase end ms o true e c = carries-phase Closed (ends.with_enqueued [] end) ms (inl refl) (carries-nothing end ms c)
-apart phase end ms o false e c = carries-phase phase (ends.with_enqueued [] end) ms (inr (sym e)) (carries-nothing end ms c)
+apart : (end : End) (ms : List Message) {S : Type 0} (now : Standing S) (dies : Bool) → now.phase ≡ end.phase → Carries end ms
+    → Carries (in_phase (steps_apart now dies).after.phase (ends.with_enqueued (stream (steps_apart now dies).sends) end)) ms
+apart end ms now true e c = carries-phase Closed (ends.with_enqueued [] end) ms (inl refl) (carries-nothing end ms c)
+apart end ms now false e c = carries-phase now.phase (ends.with_enqueued [] end) ms (inr e) (carries-nothing end ms c)
 
-in-session : {S : Type 0} (w : Widths) (id : ℕ) (o : Step S) (dies : Bool) → ((steps_in_session w id o dies).after.phase ≡ Closed) ⊎ ((steps_in_session w id o dies).after.phase ≡ Established)
-in-session w id o true = inl refl
-in-session w id o false = inr refl
+in-session : {S : Type 0} (w : Widths) (id : ℕ) (o : Step S) (now : Standing S) (dies : Bool) (phase : Phase) → now.phase ≡ phase
+    → ((steps_in_session w id o now dies).after.phase ≡ Closed) ⊎ ((steps_in_session w id o now dies).after.phase ≡ phase)
+in-session w id o now true phase e = inl refl
+in-session w id o now false phase e = inr e
 
 open-established : (end : End) → end.phase ≡ Established → is_open end ≡ true
 open-established end e = rw e refl
 
-carries-step-at : (end : End) (ms : List Message) {S : Type 0} (w : Widths) (id : ℕ) (o : Step S) (phase : Phase) → end.phase ≡ phase → Carries end ms
-    → Carries (in_phase (steps_at w id o phase).after.phase (ends.with_enqueued (stream (steps_at w id o phase).sends) end)) ms
-carries-step-at end ms w id o Established e c =
-    let bytes = stream (steps_in_session w id o o.dies).sends in
-    carries-phase (steps_in_session w id o o.dies).after.phase (ends.with_enqueued bytes end) ms
-    (rw e (in-session w id o o.dies))
+carries-step-at : (end : End) (ms : List Message) {S : Type 0} (w : Widths) (id : ℕ) (o : Step S) (now : Standing S) (phase : Phase) → now.phase ≡ end.phase → end.phase ≡ phase → Carries end ms
+    → Carries (in_phase (steps_at w id o now phase).after.phase (ends.with_enqueued (stream (steps_at w id o now phase).sends) end)) ms
+carries-step-at end ms w id o now Established same e c =
+    let bytes = stream (steps_in_session w id o now o.dies).sends in
+    carries-phase (steps_in_session w id o now o.dies).after.phase (ends.with_enqueued bytes end) ms
+    (in-session w id o now o.dies end.phase same)
     (carries-enqueued end ms bytes (open-established end e) c)
-carries-step-at end ms w id o AwaitingHandshake e c = apart AwaitingHandshake end ms o o.dies e c
-carries-step-at end ms w id o Closed e c = apart Closed end ms o o.dies e c
+carries-step-at end ms w id o now AwaitingHandshake same e c = apart end ms now o.dies same c
+carries-step-at end ms w id o now Closed same e c = apart end ms now o.dies same c
 
 carries-step : {S : Type 0} (m : Meaning S) (v : Target S) (t : ℕ) (may : Bool) (ms : List Message) → Carries v.end ms
     → Carries (in_phase (steps_by m (standing v) t may).after.phase (ends.with_enqueued (stream (steps_by m (standing v) t may).sends) v.end)) ms
 carries-step m v t false ms c = carries-phase v.end.phase (ends.with_enqueued [] v.end) ms (inr refl) (carries-nothing v.end ms c)
-carries-step m v t true ms c = carries-step-at v.end ms (m.sizes v.moment.machine) v.moment.state.next_packet (occurs m v.moment t) v.end.phase refl c
+carries-step m v t true ms c =
+    let o = occurs m v.moment t in
+    carries-step-at v.end ms (m.sizes v.moment.machine) v.moment.state.next_packet o (behind o (standing v)) v.end.phase refl refl c
 
 pub ran-stepped : {S : Type 0} (m : Meaning S) (v : Target S) (t : ℕ) → may_step m v.settings v.moment t ≡ true
     → AreSendable v.end.limits.packet (react m v.settings (standing v) (Steps t)).sends → Ran m v → Ran m (with_step m t v)
@@ -203,13 +206,13 @@ ran-handled m v message used fits front sends ran =
     let ms = handled ran.acts ++ message ∷ [] in
     let h : Carries (ends.with_handled message used v.end) ms = carries-handled v.end (handled ran.acts) message used fits front ran.carries in
     let e : Carries (ends.with_enqueued (stream r.sends) (ends.with_handled message used v.end)) ms = carries-enqueued (ends.with_handled message used v.end) ms (stream r.sends) refl h in
-    let c : Carries (with_handled m message used v).end ms = carries-phase r.after.phase (ends.with_enqueued (stream r.sends) (ends.with_handled message used v.end)) ms (message-phase m v.settings v.moment message) e in
+    let c : Carries (with_handled m message used v).end ms = carries-phase r.after.phase (ends.with_enqueued (stream r.sends) (ends.with_handled message used v.end)) ms (message-phase m v.settings (standing v) message) e in
     let due = (in-front v.end message used fits front).1 in
     let opened : is_open v.end ≡ true = due-open v.end.limits.packet v.end.phase message due in
     goes-on m v (with_handled m message used v) (Handles message) ran refl refl refl opened (ran.lost ∙ sym (loss-message ran.acts message)) (ran.steps ∙ sym (count-message ran.acts message))
     (subst (Carries (with_handled m message used v).end) (sym (handled-message ran.acts message)) c)
     refl
-    (handling-converses m v.settings v.moment v.end.phase v.end.limits.packet (sent m v.settings v.began ran.acts) message due ran.conversation (none-sent m v ran) (was-sent m v ran) sends)
+    (handling-converses m v.settings (established (standing v)) v.end.phase v.end.limits.packet (sent m v.settings v.began ran.acts) message due ran.conversation (none-sent m v ran) (was-sent m v ran) sends)
     refl
 
 -- ---- the acts of a run, after each call

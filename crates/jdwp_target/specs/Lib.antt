@@ -1,3 +1,4 @@
+pub mod Options
 pub mod Sends
 pub mod Standings
 pub mod Targets

@@ -38,22 +38,30 @@ pub record Reaction (S : Type 0) : Type 0 where
 abbrev pub stands : {S : Type 0} → Moment S → Phase → Standing S
 stands now phase = record { moment = now; phase = phase }
 
+-- it stands so, and nothing is sent
+abbrev pub silent : {S : Type 0} → Standing S → Reaction S
+silent after = record { after = after; sends = [] }
+
+-- the session is established, as any message that is handled finds or makes it
+abbrev pub established : {S : Type 0} → Standing S → Standing S
+established now = record now { phase = Established }
+
 -- ---- the handshake
 
 -- It is answered, and the first of the target's life is followed by VM_START, which takes a packet id and whose policy ALL suspends
 -- every thread.
-abbrev pub greets_by : {S : Type 0} → Meaning S → Settings → Moment S → Bool → Reaction S
-greets_by m settings now true = record { after = stands now Established; sends = Handshake ∷ [] }
-greets_by m settings now false = record {
-  after = stands (record { state = handshaken settings now.state; machine = now.machine }) Established;
-  sends = Handshake ∷ report_of (m.sizes now.machine) now.state.next_packet (start_event settings now.state) ∷ [];
+abbrev pub greets_by : {S : Type 0} → Meaning S → Settings → Standing S → Bool → Reaction S
+greets_by m settings now true = record (silent now) { sends = Handshake ∷ [] }
+greets_by m settings now false = record (silent now) {
+  after = record now { moment = record now.moment { state = handshaken settings now.moment.state } };
+  sends = Handshake ∷ report_of (m.sizes now.moment.machine) now.moment.state.next_packet (start_event settings now.moment.state) ∷ [];
 }
 
 -- ---- commands
 
 -- VM_DEATH takes a packet id
 abbrev pub after_death : {S : Type 0} → Moment S → Moment S
-after_death now = record { state = with_packet now.state; machine = now.machine }
+after_death now = record now { state = with_packet now.state }
 
 -- a command as it was read, or why it is refused
 abbrev pub carried_out : {S : Type 0} → Meaning S → Settings → Moment S → Result Command ErrorCode → Effect S
@@ -65,20 +73,28 @@ phase_after true = Closed
 phase_after false = Established
 
 -- The reply is put behind the effect, and where the machine died VM_DEATH behind the reply.
-abbrev pub replies_by : {S : Type 0} → Widths → ℕ → Effect S → Bool → Reaction S
-replies_by w id e true = record { after = stands (after_death e.after) Closed; sends = reply_to w id e.answer ∷ report_of w e.after.state.next_packet vm_death ∷ [] }
-replies_by w id e false = record { after = stands e.after (phase_after e.closes); sends = reply_to w id e.answer ∷ [] }
+abbrev pub replies_by : {S : Type 0} → Standing S → Widths → ℕ → Effect S → Bool → Reaction S
+replies_by now w id e true = record (silent now) {
+  after = record now { moment = after_death e.after; phase = Closed };
+  sends = reply_to w id e.answer ∷ report_of w e.after.state.next_packet vm_death ∷ [];
+}
+replies_by now w id e false = record (silent now) {
+  after = record now { moment = e.after; phase = phase_after e.closes };
+  sends = reply_to w id e.answer ∷ [];
+}
 
-abbrev pub replies : {S : Type 0} → Widths → ℕ → Effect S → Reaction S
-replies w id e = replies_by w id e e.dies
+abbrev pub replies : {S : Type 0} → Standing S → Widths → ℕ → Effect S → Reaction S
+replies now w id e = replies_by now w id e e.dies
 
 -- a reply that comes to a target is ignored
-abbrev pub handles_packet : {S : Type 0} → Meaning S → Settings → Moment S → ℕ → PacketKind → List ℕ → Reaction S
-handles_packet m settings now id (kind.Command set number) body = replies (m.sizes now.machine) id (carried_out m settings now (command_read (m.sizes now.machine) set number body))
-handles_packet m settings now id (kind.Reply error) body = record { after = stands now Established; sends = [] }
+abbrev pub handles_packet : {S : Type 0} → Meaning S → Settings → Standing S → ℕ → PacketKind → List ℕ → Reaction S
+handles_packet m settings now id (kind.Command set number) body =
+    replies now (m.sizes now.moment.machine) id (carried_out m settings now.moment (command_read (m.sizes now.moment.machine) set number body))
+handles_packet m settings now id (kind.Reply error) body = silent now
 
-abbrev pub handles : {S : Type 0} → Meaning S → Settings → Moment S → Message → Reaction S
-handles m settings now Handshake = greets_by m settings now now.state.handshaken
+-- a message, in an established session
+abbrev pub handles : {S : Type 0} → Meaning S → Settings → Standing S → Message → Reaction S
+handles m settings now Handshake = greets_by m settings now now.moment.state.handshaken
 handles m settings now (Packet header body) = handles_packet m settings now header.id header.kind body
 
 -- ---- steps
@@ -87,36 +103,49 @@ abbrev pub reports : Widths → ℕ → Option CompositeMeaning → List Message
 reports w id None = []
 reports w id (Some c) = report_of w id c ∷ []
 
--- In a session whose handshake is done: what the step reports is sent; and where the machine died, VM_DEATH, and the session closes.
-abbrev pub steps_in_session : {S : Type 0} → Widths → ℕ → Step S → Bool → Reaction S
-steps_in_session w id o true = record { after = stands (after_death o.after) Closed; sends = reports w id o.sends ++ report_of w o.after.state.next_packet vm_death ∷ [] }
-steps_in_session w id o false = record { after = stands o.after Established; sends = reports w id o.sends }
+-- how the target stands behind a step, before anything is sent for it
+abbrev pub behind : {S : Type 0} → Step S → Standing S → Standing S
+behind o now = record now { moment = o.after }
+
+-- What a step calls for, where the target stands so behind it. In a session whose handshake is done what the step reports is sent; and where
+-- the machine died, VM_DEATH, and the session closes.
+abbrev pub steps_in_session : {S : Type 0} → Widths → ℕ → Step S → Standing S → Bool → Reaction S
+steps_in_session w id o now true = record (silent now) {
+  after = record now { moment = after_death o.after; phase = Closed };
+  sends = reports w id o.sends ++ report_of w o.after.state.next_packet vm_death ∷ [];
+}
+steps_in_session w id o now false = record (silent now) { sends = reports w id o.sends }
 
 -- Where the handshake is waited for, or there is no session, nothing is sent, and the session closes where the machine died.
-abbrev pub steps_apart : {S : Type 0} → Phase → Step S → Bool → Reaction S
-steps_apart phase o true = record { after = stands o.after Closed; sends = [] }
-steps_apart phase o false = record { after = stands o.after phase; sends = [] }
+abbrev pub steps_apart : {S : Type 0} → Standing S → Bool → Reaction S
+steps_apart now true = silent (record now { phase = Closed })
+steps_apart now false = silent now
 
-abbrev pub steps_at : {S : Type 0} → Widths → ℕ → Step S → Phase → Reaction S
-steps_at w id o Established = steps_in_session w id o o.dies
-steps_at w id o AwaitingHandshake = steps_apart AwaitingHandshake o o.dies
-steps_at w id o Closed = steps_apart Closed o o.dies
+-- by the phase of the session
+abbrev pub steps_at : {S : Type 0} → Widths → ℕ → Step S → Standing S → Phase → Reaction S
+steps_at w id o now Established = steps_in_session w id o now o.dies
+steps_at w id o now AwaitingHandshake = steps_apart now o.dies
+steps_at w id o now Closed = steps_apart now o.dies
+
+-- a step is made where the target stands so, and what it reports is sent
+abbrev pub reports_step : {S : Type 0} → Widths → ℕ → Step S → Standing S → Reaction S
+reports_step w id o now = steps_at w id o (behind o now) now.phase
 
 -- nothing happens where the thread may not step
 abbrev pub steps_by : {S : Type 0} → Meaning S → Standing S → ℕ → Bool → Reaction S
-steps_by m now t false = record { after = now; sends = [] }
-steps_by m now t true = steps_at (m.sizes now.moment.machine) now.moment.state.next_packet (occurs m now.moment t) now.phase
+steps_by m now t false = silent now
+steps_by m now t true = reports_step (m.sizes now.moment.machine) now.moment.state.next_packet (occurs m now.moment t) now
 
 -- ---- all of it
 
 abbrev pub reset_moment : {S : Type 0} → Moment S → Moment S
-reset_moment now = record { state = reset now.state; machine = now.machine }
+reset_moment now = record now { state = reset now.state }
 
 -- what each act does
 abbrev pub react : {S : Type 0} → Meaning S → Settings → Standing S → Act → Reaction S
-react m settings now (Handles message) = handles m settings now.moment message
+react m settings now (Handles message) = handles m settings (established now) message
 react m settings now (Steps t) = steps_by m now t (may_step m settings now.moment t)
-react m settings now Loses = record { after = stands (reset_moment now.moment) Closed; sends = [] }
+react m settings now Loses = silent (record now { moment = reset_moment now.moment; phase = Closed })
 
 -- the messages that these acts handled
 abbrev pub handled : List Act → List Message

@@ -1,5 +1,5 @@
 -- What turns and steps of a target over any machine answer, and what they leave.
-use Rattle.std.specs.Prelude.{◌≡◌, ℕ, ⊤, Bool, true, false, ◌||◌, not, List, Option, Some, None, Result, Ok, Err, MatchResult}
+use Rattle.std.specs.Prelude.{◌≡◌, ℕ, ⊤, Bool, true, false, ◌||◌, not, List, Option, Some, None, Result, Ok, Err, IsOk, MatchResult}
 use Rattle.jdwp_wire.specs.Streams.{Message, Handshake, Packet, NextMessage, Whole, More, Fault, AreSendable}
 use Rattle.jdwp_wire.specs.declared.packet.PacketKind.{PacketKind}
 use Rattle.jdwp_wire.specs.declared.packet.PacketKind.TheVariants as kind
@@ -8,8 +8,6 @@ use Rattle.jdwp_event.specs.Composites.{CompositeMeaning}
 use Rattle.jdwp_machine.specs.Meanings.{Meaning}
 use Rattle.jdwp_debuggee.specs.CommandReads.{command_read, is_short}
 use Rattle.jdwp_debuggee.specs.Sending.{EncodesAnswer, error_of}
-use Rattle.jdwp_debuggee.specs.Settings.{Settings}
-use Rattle.jdwp_debuggee.specs.State.{Moment}
 use Rattle.jdwp_debuggee.specs.StepParts.{is_ready}
 use Rattle.jdwp_debuggee.specs.Steps.{Step, may_step, occurs, start_event}
 use Rattle.jdwp_target.specs.declared.target.Stepped.{Stepped}
@@ -25,48 +23,49 @@ use Rattle.jdwp_target.specs.Targets.{Target, lost, standing, with_handled, with
 -- ---- turns
 
 -- what a turn tells of a message
-abbrev pub told_of_packet : {S : Type 0} → Meaning S → Settings → Moment S → ℕ → PacketKind → List ℕ → Turn
-told_of_packet m settings now id (kind.Command set number) body = Replied id (error_of (carried_out m settings now (command_read (m.sizes now.machine) set number body)).answer)
-told_of_packet m settings now id (kind.Reply error) body = Ignored
+abbrev pub told_of_packet : {S : Type 0} → Meaning S → Target S → ℕ → PacketKind → List ℕ → Turn
+told_of_packet m old id (kind.Command set number) body =
+    Replied id (error_of (carried_out m old.settings old.moment (command_read (m.sizes old.moment.machine) set number body)).answer)
+told_of_packet m old id (kind.Reply error) body = Ignored
 
-abbrev pub told_of : {S : Type 0} → Meaning S → Settings → Moment S → Message → Turn
-told_of m settings now Handshake = Hello
-told_of m settings now (Packet header body) = told_of_packet m settings now header.id header.kind body
+abbrev pub told_of : {S : Type 0} → Meaning S → Target S → Message → Turn
+told_of m old Handshake = Hello
+told_of m old (Packet header body) = told_of_packet m old header.id header.kind body
 
--- the messages that may call for memory: all commands but the twelve that are short
-abbrev pub kind_needs_memory : PacketKind → Type 0
-kind_needs_memory (kind.Command set number) = is_short set number ≡ false
-kind_needs_memory (kind.Reply error) = ⊥
+-- the messages that may call for memory: commands whose data read, but for the twelve that are short
+abbrev pub kind_needs_memory : {S : Type 0} → Meaning S → Target S → PacketKind → List ℕ → Type 0
+kind_needs_memory m old (kind.Command set number) body = (is_short set number ≡ false) × IsOk (command_read (m.sizes old.moment.machine) set number body)
+kind_needs_memory m old (kind.Reply error) body = ⊥
 
-abbrev pub NeedsMemory : Message → Type 0
-NeedsMemory Handshake = ⊥
-NeedsMemory (Packet header body) = kind_needs_memory header.kind
+abbrev pub NeedsMemory : {S : Type 0} → Meaning S → Target S → Message → Type 0
+NeedsMemory m old Handshake = ⊥
+NeedsMemory m old (Packet header body) = kind_needs_memory m old header.kind body
 
 -- What a turn answers, and what the target is after it, by what there is to handle.
 abbrev pub TurnsAt : {S : Type 0} → Meaning S → NextMessage → Target S → Result Turn TargetFault → Target S → Type 0
 TurnsAt m (Whole message used) old result new =
     MatchResult result
-    (λ turn. (turn ≡ told_of m old.settings old.moment message) × (new ≡ with_handled m message used old))
-    (λ fault. (fault ≡ NoMemory) × NeedsMemory message × (new ≡ old))
+    (λ turn. (turn ≡ told_of m old message) × (new ≡ with_handled m message used old))
+    (λ fault. (fault ≡ NoMemory) × NeedsMemory m old message × (new ≡ old))
 TurnsAt m More old result new = (result ≡ Ok Nothing) × (new ≡ old)
 TurnsAt m (Fault fault) old result new = (result ≡ Err (Frame fault)) × (new ≡ lost old)
 
 -- What a turn sends is encoded by its bytes: VM_START behind the first handshake of the target's life, and the answer to a command.
-abbrev pub EncodesStart : {S : Type 0} → Meaning S → Settings → Moment S → Bool → Type 0
-EncodesStart m settings now true = ⊤
-EncodesStart m settings now false = IsEncoded (m.sizes now.machine) (Some (start_event settings now.state))
+abbrev pub EncodesStart : {S : Type 0} → Meaning S → Target S → Bool → Type 0
+EncodesStart m old true = ⊤
+EncodesStart m old false = IsEncoded (m.sizes old.moment.machine) (Some (start_event old.settings old.moment.state))
 
-abbrev pub EncodesByKind : {S : Type 0} → Meaning S → Settings → Moment S → PacketKind → List ℕ → Type 0
-EncodesByKind m settings now (kind.Command set number) body =
-    EncodesAnswer (m.sizes now.machine) set number (carried_out m settings now (command_read (m.sizes now.machine) set number body)).answer
-EncodesByKind m settings now (kind.Reply error) body = ⊤
+abbrev pub EncodesByKind : {S : Type 0} → Meaning S → Target S → PacketKind → List ℕ → Type 0
+EncodesByKind m old (kind.Command set number) body =
+    EncodesAnswer (m.sizes old.moment.machine) set number (carried_out m old.settings old.moment (command_read (m.sizes old.moment.machine) set number body)).answer
+EncodesByKind m old (kind.Reply error) body = ⊤
 
-abbrev pub EncodesFor : {S : Type 0} → Meaning S → Settings → Moment S → Message → Type 0
-EncodesFor m settings now Handshake = EncodesStart m settings now now.state.handshaken
-EncodesFor m settings now (Packet header body) = EncodesByKind m settings now header.kind body
+abbrev pub EncodesFor : {S : Type 0} → Meaning S → Target S → Message → Type 0
+EncodesFor m old Handshake = EncodesStart m old old.moment.state.handshaken
+EncodesFor m old (Packet header body) = EncodesByKind m old header.kind body
 
 abbrev pub EncodesNext : {S : Type 0} → Meaning S → NextMessage → Target S → Type 0
-EncodesNext m (Whole message used) old = EncodesFor m old.settings old.moment message
+EncodesNext m (Whole message used) old = EncodesFor m old message
 EncodesNext m More old = ⊤
 EncodesNext m (Fault fault) old = ⊤
 

@@ -5,6 +5,7 @@
 
 mod laws;
 mod numbers;
+mod options;
 mod sending;
 mod stepping;
 mod target;
@@ -13,4 +14,5 @@ mod turning;
 pub use laws::{
     closes_for_a_reason, encodes_start_and_death, goes_on_at_each_call, numbers_composites_in_order,
 };
+pub use options::TargetOptions;
 pub use target::{Stepped, Target, TargetFault, Turn};

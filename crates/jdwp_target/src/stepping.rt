@@ -3,7 +3,7 @@ ghost use Rattle.std.specs.Prelude.{◌≡◌, IfOk};
 ghost use Rattle.jdwp_wire.specs.Streams.{AreSendable};
 ghost use Rattle.jdwp_end.specs.declared.phase.Phase.TheVariants.{Established};
 ghost use Rattle.jdwp_target.specs.Sends.{EncodesSent, IsEncoded};
-ghost use Rattle.jdwp_target.specs.Standings.{steps_at, steps_in_session};
+ghost use Rattle.jdwp_target.specs.Standings.{reports_step, stands, steps_in_session};
 ghost use Rattle.jdwp_target.specs.StepParts.{CanTell, debuggee_after, end_after, step_of, told_of_done};
 ghost use Rattle.jdwp_target.specs.Turns.{EncodesWhere, SendsWhere, StepsAt, is_frozen};
 
@@ -56,7 +56,7 @@ fn fits_step<M: Machine>(
     _end: &End,
 )
     requires { CanTell sizes.now _end.now done.now }
-    ensures { AreSendable _end.now.limits.packet (steps_at sizes.now packet (step_of debuggee.now done.now) _end.now.phase).sends }
+    ensures { AreSendable _end.now.limits.packet (reports_step sizes.now packet (step_of debuggee.now done.now) (stands debuggee.now.moment _end.now.phase)).sends }
 {
     fits_vm_death();
     fits_id(packet);
@@ -72,8 +72,8 @@ fn tell<M: Machine>(
     end: &mut End,
 )
     requires { CanTell sizes.now end.old done.now }
-    ensures debuggee { debuggee.new ≡ debuggee_after (steps_at sizes.now packet (step_of debuggee.old done.now) end.old.phase) debuggee.old }
-    ensures end { end.new ≡ end_after (steps_at sizes.now packet (step_of debuggee.old done.now) end.old.phase) end.old }
+    ensures debuggee { debuggee.new ≡ debuggee_after (reports_step sizes.now packet (step_of debuggee.old done.now) (stands debuggee.old.moment end.old.phase)) debuggee.old }
+    ensures end { end.new ≡ end_after (reports_step sizes.now packet (step_of debuggee.old done.now) (stands debuggee.old.moment end.old.phase)) end.old }
     ensures encoded { EncodesSent sizes.now end.old.phase done.now.sends }
 {
     if end.is_established() {
@@ -94,8 +94,8 @@ fn report<M: Machine>(
 )
     requires established { end.old.phase ≡ Established }
     requires can { CanTell sizes.now end.old done.now }
-    ensures debuggee { debuggee.new ≡ debuggee_after (steps_in_session sizes.now packet (step_of debuggee.old done.now) done.now.dies) debuggee.old }
-    ensures end { end.new ≡ end_after (steps_in_session sizes.now packet (step_of debuggee.old done.now) done.now.dies) end.old }
+    ensures debuggee { debuggee.new ≡ debuggee_after (steps_in_session sizes.now packet (step_of debuggee.old done.now) (stands debuggee.old.moment Established) done.now.dies) debuggee.old }
+    ensures end { end.new ≡ end_after (steps_in_session sizes.now packet (step_of debuggee.old done.now) (stands debuggee.old.moment Established) done.now.dies) end.old }
     ensures encoded { IsEncoded sizes.now done.now.sends }
 {
     if done.dies {

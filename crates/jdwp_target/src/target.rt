@@ -1,19 +1,22 @@
 //! The debuggee's end of a session.
 ghost use Rattle.std.specs.Prelude.{◌≡◌, ◌≤◌, ◌<◌, ◌++◌, ◌↔◌, ℕ, [], true, false, IfOk, IfSome, IsTrue, is_some, length, take, drop, min};
 ghost use Rattle.jdwp_wire.specs.Bytes.{IsBytes};
+ghost use Rattle.jdwp_wire.specs.Limits.{standard_limits};
 ghost use Rattle.jdwp_wire.specs.Streams.{More};
 ghost use Rattle.jdwp_end.specs.Ends as ends;
 ghost use Rattle.jdwp_end.specs.Ends.{front_of, most_outgoing, room_of};
 ghost use Rattle.jdwp_machine.specs.Meanings.{has, numbers};
 ghost use Rattle.jdwp_debuggee.specs.State as spec;
+ghost use Rattle.jdwp_target.specs.Options.{LivesWithin, settings_at};
 ghost use Rattle.jdwp_target.specs.Targets.{Ran, lost, new_target, opened, with_fed, with_taken};
 
+use crate::options::TargetOptions;
 use jdwp_debuggee::{Debuggee, Settings};
 use jdwp_end::{End, Phase};
 use jdwp_event::Requests;
 use jdwp_machine::Machine;
 use jdwp_value::ObjectId;
-use jdwp_wire::{ErrorCode, FrameFault, NoMemory};
+use jdwp_wire::{ErrorCode, FrameFault, Limits, NoMemory};
 use std::alloc::Global;
 use std::marker::Model;
 use thiserror::Error;
@@ -93,11 +96,28 @@ impl<M: Machine> Model for Target<M> {
 }
 
 impl<M: Machine + Drop> Target<M> {
-    /// A closed target over this machine, before its first session. All its buffers are made here.
+    /// A closed target over this machine, before its first session, within the standard limits. The machine has 1 to 64 live threads. All
+    /// buffers of the target are made here.
     ///
     /// # Errors
     /// `NoMemory` where an allocation was refused.
-    pub fn new(alloc: Global, machine: M, settings: Settings) -> Result<Target<M>, NoMemory>
+    pub fn new(alloc: Global, machine: M, options: TargetOptions) -> Result<Target<M>, NoMemory>
+        requires { LivesWithin M.meaning standard_limits machine }
+        ensures { IfOk result (λ t. t ≡ new_target (settings_at standard_limits options) (record { state = spec.new_state (M.meaning.live machine); machine = machine })) }
+    {
+        Target::with_settings(alloc, machine, options.settings(Limits::standard()))
+    }
+
+    /// The same with these settings, within their limits: the machine has 1 to `settings.limits().live()` live threads.
+    ///
+    /// # Errors
+    /// `NoMemory` where an allocation was refused.
+    pub fn with_settings(
+        alloc: Global,
+        machine: M,
+        settings: Settings,
+    ) -> Result<Target<M>, NoMemory>
+        requires { LivesWithin M.meaning settings.limits machine }
         ensures { IfOk result (λ t. t ≡ new_target settings (record { state = spec.new_state (M.meaning.live machine); machine = machine })) }
     {
         let end = End::new(alloc, settings.limits())?;

@@ -1,6 +1,7 @@
 //! Messages as a target over any machine handles them.
-ghost use Rattle.std.specs.Prelude.{◌≡◌, ◌≤◌, ◌+◌, ◌∷◌, ℕ, List, None, true, false, length, IfOk, IfErr, OnErr};
+ghost use Rattle.std.specs.Prelude.{◌≡◌, ◌≤◌, ◌+◌, ◌∷◌, ℕ, List, Some, None, true, false, length, IfOk, IfErr, OnErr};
 ghost use Rattle.jdwp_end.specs.Ends.{front_of, most_outgoing, with_enqueued};
+ghost use Rattle.jdwp_end.specs.declared.phase.Phase.TheVariants.{Established};
 ghost use Rattle.jdwp_event.specs.Composites.{vm_start};
 ghost use Rattle.jdwp_event.specs.Constants.{policy_byte};
 ghost use Rattle.jdwp_wire.specs.Frames as frames;
@@ -9,13 +10,14 @@ ghost use Rattle.jdwp_wire.specs.Numbers.{id_refusal};
 ghost use Rattle.jdwp_wire.specs.Streams.{AreSendable, message_bytes, stream};
 ghost use Rattle.jdwp_wire.specs.declared.packet.Header.{Header};
 ghost use Rattle.jdwp_wire.specs.Limits.{least_packet_limit, most_packet_limit};
-ghost use Rattle.jdwp_debuggee.specs.CommandReads.{command_read, is_short};
-ghost use Rattle.jdwp_debuggee.specs.Sending.{EncodesAnswer, sent_bytes, sent_error};
-ghost use Rattle.jdwp_target.specs.Sends.{report_of};
-ghost use Rattle.jdwp_target.specs.Standings.{carried_out, greets_by};
+ghost use Rattle.jdwp_debuggee.specs.CommandReads.{asked_meaning, asks, command_read};
+ghost use Rattle.jdwp_debuggee.specs.Sending.{EncodesAnswer, is_short_asked, sent_bytes, sent_error};
+ghost use Rattle.jdwp_debuggee.specs.Steps.{start_event};
+ghost use Rattle.jdwp_target.specs.Sends.{IsEncoded, report_of};
+ghost use Rattle.jdwp_target.specs.Standings.{carried_out, greets_by, stands};
 ghost use Rattle.jdwp_target.specs.StepParts.{debuggee_after};
-ghost use Rattle.jdwp_target.specs.TurnParts.{HoldsPacket, IsDone, after_deaths, closed_where, deaths, reply_of};
-ghost use Rattle.jdwp_target.specs.Turns.{EncodesNext, EncodesStart, SendsAt, TurnsAt};
+ghost use Rattle.jdwp_target.specs.TurnParts.{HoldsPacket, IsDone, ReadsPacket, after_deaths, closed_where, deaths, reply_of};
+ghost use Rattle.jdwp_target.specs.Turns.{EncodesNext, SendsAt, TurnsAt};
 
 use crate::numbers::{enqueue_int, fits_code, fits_id};
 use crate::sending::{enqueue_composite_header, enqueue_death, enqueue_reply};
@@ -29,6 +31,15 @@ use jdwp_wire::{
     next_packet_within,
 };
 use std::alloc::Global;
+
+/// What came in a packet.
+#[derive(Drop)]
+pub(crate) enum Came {
+    /// A command: its id, and what it comes to.
+    Command(u32, Asked),
+    /// A reply, which means nothing to a target.
+    Reply,
+}
 
 /// What became of a command: what is sent for it, whether the machine died by it, and whether the session closes behind it.
 #[derive(Drop)]
@@ -45,9 +56,9 @@ impl<M: Machine + Drop> Target<M> {
     ///
     /// # Errors
     /// `Frame` exactly where the bytes in front begin no message; the end is then as after `lose`. `NoMemory` where an allocation
-    /// was refused, which only commands call for that are none of these: VirtualMachine's Suspend, Resume, HoldEvents,
-    /// ReleaseEvents, IDSizes and Dispose; ThreadReference's Suspend, Resume, Status and SuspendCount; EventRequest's Clear and
-    /// ClearAllBreakpoints. Then nothing has changed.
+    /// was refused, which only commands call for whose data read and that are none of these: VirtualMachine's Suspend, Resume,
+    /// HoldEvents, ReleaseEvents, IDSizes and Dispose; ThreadReference's Suspend, Resume, Status and SuspendCount; EventRequest's
+    /// Clear and ClearAllBreakpoints. Then nothing has changed.
     pub fn turn(&mut self) -> Result<Turn, TargetFault>
         ensures turns { TurnsAt M.meaning (front_of self.old.end) self.old result self.new }
         ensures encoded { IfOk result (λ _. EncodesNext M.meaning (front_of self.old.end) self.old) }
@@ -66,14 +77,14 @@ impl<M: Machine + Drop> Target<M> {
             }
             Front::Packet(used) => {
                 let limits = self.end.limits();
-                let packet = read_packet(self.end.packet_in_front(used), &limits);
-                let id = packet.header.id;
-                let PacketKind::Command { set, number } = packet.header.kind else {
+                let sizes = self.debuggee.sizes();
+                let bytes = self.end.packet_in_front(used);
+                let came = read_packet(self.alloc, bytes, &limits, &sizes)?;
+                let Came::Command(id, asked) = came else {
                     self.end.take_off(used);
                     return Ok(Turn::Ignored);
                 };
-                let sizes = self.debuggee.sizes();
-                let done = handle(&mut self.debuggee, self.alloc, set, number, packet.body)?;
+                let done = handle(&mut self.debuggee, self.alloc, asked)?;
                 fits_reply(id, &done, &sizes, &self.debuggee);
                 self.end.take_off(used);
                 reply(id, &done, &sizes, &mut self.debuggee, &mut self.end);
@@ -83,25 +94,48 @@ impl<M: Machine + Drop> Target<M> {
     }
 }
 
-/// The packet in front of these bytes, where it lies.
-fn read_packet<'a>(bytes: &'a [u8], limits: &Limits) -> PacketRef<'a>
+/// What came in the packet in front of these bytes, read where it lies. Nothing of them is kept.
+///
+/// # Errors
+/// `NoMemory` where an allocation was refused, at a command whose data read and that is none of the twelve short ones.
+fn read_packet(
+    alloc: Global,
+    bytes: &[u8],
+    limits: &Limits,
+    sizes: &IdSizes,
+) -> Result<Came, NoMemory>
     requires { HoldsPacket limits.now.packet bytes.now }
-    ensures { (header : Header) (body : List ℕ) (used : ℕ) → front limits.now.packet bytes.now ≡ frames.Whole header body used → (result.header ≡ header) × (result.body.now ≡ body) }
+    ensures { (header : Header) (body : List ℕ) (used : ℕ) → front limits.now.packet bytes.now ≡ frames.Whole header body used → ReadsPacket sizes.now header body result }
 {
     match next_packet_within(bytes, limits) {
-        Next::Whole(packet, _) => packet,
-        Next::More => unreachable!(),
-        Next::Fault(_) => unreachable!(),
+        Next::Whole(packet, _) => read_came(alloc, &packet, sizes),
+        Next::More | Next::Fault(_) => unreachable!(),
+    }
+}
+
+/// What came in this packet.
+///
+/// # Errors
+/// As those of `read_packet`.
+fn read_came(alloc: Global, packet: &PacketRef<'_>, sizes: &IdSizes) -> Result<Came, NoMemory>
+    ensures { ReadsPacket sizes.now packet.now.header packet.now.body.now result }
+{
+    match packet.header.kind {
+        PacketKind::Command { set, number } => {
+            let asked = read_command(alloc, set, number, sizes, packet.body)?;
+            Ok(Came::Command(packet.header.id, asked))
+        }
+        PacketKind::Reply { .. } => Ok(Came::Reply),
     }
 }
 
 /// Answers the handshake; behind the first of the target's life follows VM_START. It takes no memory.
 fn greet<M: Machine>(debuggee: &mut Debuggee<M>, end: &mut End)
     requires { length end.old.outgoing + 43 ≤ most_outgoing end.old.limits }
-    ensures debuggee { debuggee.new ≡ debuggee_after (greets_by M.meaning debuggee.old.settings debuggee.old.moment debuggee.old.moment.state.handshaken) debuggee.old }
-    ensures end { end.new ≡ with_enqueued (stream (greets_by M.meaning debuggee.old.settings debuggee.old.moment debuggee.old.moment.state.handshaken).sends) end.old }
-    ensures encoded { EncodesStart M.meaning debuggee.old.settings debuggee.old.moment debuggee.old.moment.state.handshaken }
-    ensures packets { AreSendable debuggee.old.settings.limits.packet (greets_by M.meaning debuggee.old.settings debuggee.old.moment debuggee.old.moment.state.handshaken).sends }
+    ensures debuggee { debuggee.new ≡ debuggee_after (greets_by M.meaning debuggee.old.settings (stands debuggee.old.moment Established) debuggee.old.moment.state.handshaken) debuggee.old }
+    ensures end { end.new ≡ with_enqueued (stream (greets_by M.meaning debuggee.old.settings (stands debuggee.old.moment Established) debuggee.old.moment.state.handshaken).sends) end.old }
+    ensures encoded { debuggee.old.moment.state.handshaken ≡ false → IsEncoded (M.meaning.sizes debuggee.old.moment.machine) (Some (start_event debuggee.old.settings debuggee.old.moment.state)) }
+    ensures packets { AreSendable debuggee.old.settings.limits.packet (greets_by M.meaning debuggee.old.settings (stands debuggee.old.moment Established) debuggee.old.moment.state.handshaken).sends }
 {
     end.enqueue(&HANDSHAKE);
     let sizes = debuggee.sizes();
@@ -125,24 +159,22 @@ fn enqueue_start(start: Start, sizes: &IdSizes, end: &mut End)
     end.put(&start.thread, sizes);
 }
 
-/// Carries out the command of this set and number with these data, or refuses it.
+/// Carries out what a command comes to, or refuses it.
 ///
 /// # Errors
-/// `NoMemory` where an allocation was refused, which the twelve short commands never answer; then nothing has changed.
+/// `NoMemory` where an allocation was refused, which what wants no memory never answers; then nothing has changed.
 fn handle<M: Machine>(
     debuggee: &mut Debuggee<M>,
     alloc: Global,
-    set: u8,
-    number: u8,
-    body: &[u8],
+    asked: Asked,
 ) -> Result<Done, NoMemory>
     requires { debuggee.old.moment.state.handshaken ≡ true }
-    ensures ok { IfOk result (λ done. IsDone (M.meaning.sizes debuggee.old.moment.machine) (carried_out M.meaning debuggee.old.settings debuggee.old.moment (command_read (M.meaning.sizes debuggee.old.moment.machine) set number body.now)) debuggee.old debuggee.new done) }
-    ensures encoded { IfOk result (λ _. EncodesAnswer (M.meaning.sizes debuggee.old.moment.machine) set number (carried_out M.meaning debuggee.old.settings debuggee.old.moment (command_read (M.meaning.sizes debuggee.old.moment.machine) set number body.now)).answer) }
+    ensures ok { IfOk result (λ done. (set number : ℕ) (body : List ℕ) → asked_meaning asked ≡ asks (command_read (M.meaning.sizes debuggee.old.moment.machine) set number body) → IsDone (M.meaning.sizes debuggee.old.moment.machine) (carried_out M.meaning debuggee.old.settings debuggee.old.moment (command_read (M.meaning.sizes debuggee.old.moment.machine) set number body)) debuggee.old debuggee.new done) }
+    ensures encoded { IfOk result (λ _. (set number : ℕ) (body : List ℕ) → asked_meaning asked ≡ asks (command_read (M.meaning.sizes debuggee.old.moment.machine) set number body) → EncodesAnswer (M.meaning.sizes debuggee.old.moment.machine) set number (carried_out M.meaning debuggee.old.settings debuggee.old.moment (command_read (M.meaning.sizes debuggee.old.moment.machine) set number body)).answer) }
     ensures err { OnErr result (debuggee.new ≡ debuggee.old) }
-    ensures memory { IfErr result (λ _. is_short set number ≡ false) }
+    ensures memory { IfErr result (λ _. is_short_asked (asked_meaning asked) ≡ false) }
 {
-    match read_command(alloc, set, number, &debuggee.sizes(), body)? {
+    match asked {
         Asked::Refuses(error) => Ok(Done {
             sent: Sent::Short(Reply::Refused(error)),
             dies: false,

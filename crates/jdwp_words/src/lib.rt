@@ -3,4 +3,4 @@
 
 mod words;
 
-pub use words::{Attach, ServeScript, Words, read};
+pub use words::{Attach, Pair, Peer, ServeScript, SessionFiles, Words, read};

@@ -1,7 +1,7 @@
 //! What the words of the command line say.
-ghost use Rattle.std.specs.Prelude.{◌≡◌, IfOk};
+ghost use Rattle.std.specs.Prelude.{◌≡◌, IfOk, true};
 ghost use Rattle.jdwp_words.specs.Commands as commands;
-ghost use Rattle.jdwp_words.specs.Commands.{AttachesOnlyWhere};
+ghost use Rattle.jdwp_words.specs.Commands.{KeepsFile, KeepsFiles, RunsPlanOnlyWhere};
 
 use clap::error::ErrorKind;
 use clap::{Arg, ArgAction, ArgMatches, Command, Error, value_parser};
@@ -12,44 +12,76 @@ use jdwp_wire::number::GREATEST_INT;
 use std::alloc::{AllocError, Global};
 use std::convert::AsStr;
 
+/// The greatest suspend count that a Suspend gives, where no option says another.
+const COUNT_LIMIT: u32 = 65_535;
+
 /// A command, with its files and options.
 #[derive(Clone, Copy, Debug, PartialEq, Eq)]
 pub enum Words<'a> {
-    /// `serve-script MACHINE`: a target serves one session, that of a file.
+    /// `serve-script MACHINE`: a target serves the session of a file, or those of a port.
     ServeScript(ServeScript<'a>),
-    /// `attach PLAN`: a debugger runs a plan in one session, that of a file.
+    /// `attach PLAN`: a debugger runs a plan in one session, over files or at a port.
     Attach(Attach<'a>),
+    /// `pair MACHINE PLAN`: a debugger runs a plan in a session with a target, both in this process.
+    Pair(Pair<'a>),
     /// `show FILE`: a capture is shown in words.
     Show(&'a str),
     /// `check FILE`: a capture is judged.
     Check(&'a str),
 }
 
-/// `serve-script MACHINE --from F --to F [--start all|none] [--count-limit N] [--turns N]`.
+/// Where the other end of a session is.
+#[derive(Clone, Copy, Debug, PartialEq, Eq)]
+pub enum Peer<'a> {
+    /// In files: its bytes are read from one, and this end's are written to the other.
+    Files(SessionFiles<'a>),
+    /// Behind a port of this machine, 1 to 65,535.
+    Port(u16),
+}
+
+/// `--from F --to F`.
+#[derive(Clone, Copy, Debug, PartialEq, Eq)]
+pub struct SessionFiles<'a> {
+    /// The file that the other end's bytes are read from.
+    pub from: &'a str,
+    /// The file that this end's bytes are written to.
+    pub to: &'a str,
+}
+
+/// `serve-script MACHINE (--from F --to F | --port N) [--start all|none] [--count-limit N] [--turns N]`.
 #[derive(Clone, Copy, Debug, PartialEq, Eq)]
 pub struct ServeScript<'a> {
     /// The file of the machine's script.
     pub machine: &'a str,
-    /// The file that the debugger's bytes are read from.
-    pub from: &'a str,
-    /// The file that the target's bytes are written to.
-    pub to: &'a str,
+    /// Where the debugger is.
+    pub peer: Peer<'a>,
     /// Whether every thread is suspended when the target starts, and the greatest suspend count that a Suspend gives.
     pub settings: Settings,
-    /// How many rounds the session has at most.
+    /// How many rounds a session has at most.
     pub turns: u32,
 }
 
-/// `attach PLAN --from F --to F [--turns N]`.
+/// `attach PLAN (--from F --to F | --port N) [--turns N]`.
 #[derive(Clone, Copy, Debug, PartialEq, Eq)]
 pub struct Attach<'a> {
     /// The file of the plan.
     pub plan: &'a str,
-    /// The file that the target's bytes are read from.
-    pub from: &'a str,
-    /// The file that the debugger's bytes are written to.
-    pub to: &'a str,
+    /// Where the target is.
+    pub peer: Peer<'a>,
     /// How many turns the session has at most.
+    pub turns: u32,
+}
+
+/// `pair MACHINE PLAN --memory [--start all|none] [--turns N]`.
+#[derive(Clone, Copy, Debug, PartialEq, Eq)]
+pub struct Pair<'a> {
+    /// The file of the machine's script.
+    pub machine: &'a str,
+    /// The file of the plan.
+    pub plan: &'a str,
+    /// Whether every thread is suspended when the target starts.
+    pub settings: Settings,
+    /// How many rounds the session has at most.
     pub turns: u32,
 }
 
@@ -60,6 +92,7 @@ enum Name {
     Check,
     ServeScript,
     Attach,
+    Pair,
 }
 
 impl Name {
@@ -70,6 +103,7 @@ impl Name {
             Name::Check => "jdwp check",
             Name::ServeScript => "jdwp serve-script",
             Name::Attach => "jdwp attach",
+            Name::Pair => "jdwp pair",
         }
     }
 }
@@ -77,15 +111,66 @@ impl Name {
 /// Reads the words, the first of which is the program's name.
 ///
 /// # Errors
-/// `Words` where they are no command, an option is unknown, stands twice or has no such value, or help is asked for. `NoMemory` where an
-/// allocation was refused.
+/// `Words` where they are no command, an option is unknown, stands twice or has no such value, the file of `--to` is named as one that is
+/// read, or help is asked for. `NoMemory` where an allocation was refused.
 pub fn read<'a, S: AsStr>(alloc: Global, words: &'a [S]) -> Result<Words<'a>, Fault<'a>>
-    ensures { IfOk result (AttachesOnlyWhere (commands.is_attach S.text words.now)) }
+    ensures runs { IfOk result (RunsPlanOnlyWhere (commands.runs_plan S.text words.now)) }
+    ensures keeps { IfOk result KeepsFiles }
 {
-    match command(alloc)?.try_get_matches_from(words) {
-        Ok(matches) => read_matches(alloc, &matches, words),
-        Err(error) => Err(refused(alloc, &error)),
+    let said = match command(alloc)?.try_get_matches_from(words) {
+        Ok(matches) => read_matches(alloc, &matches, words)?,
+        Err(error) => return Err(refused(alloc, &error)),
+    };
+    match emptied(&said) {
+        None => Ok(said),
+        Some(file) => Err(emptying(alloc, file, name_of(&said))),
     }
+}
+
+/// Which of the files that are read the words also write to, by the word that stands for it; None where they keep them all.
+fn emptied(words: &Words<'_>) -> Option<&'static str>
+    ensures { result ≡ None → KeepsFiles words.now }
+{
+    match words {
+        Words::ServeScript(words) => emptied_of(&words.peer, words.machine, "MACHINE"),
+        Words::Attach(words) => emptied_of(&words.peer, words.plan, "PLAN"),
+        Words::Pair(_) | Words::Show(_) | Words::Check(_) => None,
+    }
+}
+
+/// The same of one file, which the words of the command name so, and of what is read from the other end.
+fn emptied_of(peer: &Peer<'_>, read: &str, name: &'static str) -> Option<&'static str>
+    ensures { result ≡ None → KeepsFile peer.now read.now }
+{
+    match peer {
+        Peer::Files(files) if files.to == read => Some(name),
+        Peer::Files(files) if files.to == files.from => Some("--from"),
+        Peer::Files(_) | Peer::Port(_) => None,
+    }
+}
+
+/// The name of the command that the words say.
+fn name_of(words: &Words<'_>) -> Name {
+    match words {
+        Words::ServeScript(_) => Name::ServeScript,
+        Words::Attach(_) => Name::Attach,
+        Words::Pair(_) => Name::Pair,
+        Words::Show(_) => Name::Show,
+        Words::Check(_) => Name::Check,
+    }
+}
+
+/// The file of `--to` is named as this one, which is read.
+fn emptying<'a>(alloc: Global, file: &str, of: Name) -> Fault<'a> {
+    match emptying_message(alloc, file) {
+        Ok(message) => bad_words(alloc, named_in_full(alloc, of), message.as_str()),
+        Err(_) => Fault::NoMemory,
+    }
+}
+
+/// That the file of `--to` would be emptied before it is read.
+fn emptying_message(alloc: Global, file: &str) -> Result<String, AllocError> {
+    format!(in alloc; "'--to' names the file of '{file}': writing to it would empty it")
 }
 
 /// The command that clap found in the words.
@@ -94,23 +179,37 @@ fn read_matches<'a, S: AsStr>(
     matches: &ArgMatches<'a>,
     words: &[S],
 ) -> Result<Words<'a>, Fault<'a>>
-    ensures { IfOk result (AttachesOnlyWhere (commands.is_attach S.text words.now)) }
+    ensures { IfOk result (RunsPlanOnlyWhere (commands.runs_plan S.text words.now)) }
 {
     match matches.subcommand() {
         Some(("show", found)) => Ok(Words::Show(value(alloc, found, "file")?)),
         Some(("check", found)) => Ok(Words::Check(value(alloc, found, "file")?)),
         Some(("serve-script", found)) => Ok(Words::ServeScript(read_serve_script(alloc, found)?)),
-        Some((_, found)) if is_attach(words) => Ok(Words::Attach(read_attach(alloc, found)?)),
+        Some((name, found)) if runs_plan(words) => read_session(alloc, name, found),
         _ => Err(bad_words(alloc, command(alloc), "a command is missing")),
     }
 }
 
-/// Whether the word behind the program's name is `attach`.
-fn is_attach<S: AsStr>(words: &[S]) -> bool
-    ensures { result ≡ commands.is_attach S.text words.now }
+/// The command of this name that clap found, which runs a plan.
+fn read_session<'a>(
+    alloc: Global,
+    name: &str,
+    found: &ArgMatches<'a>,
+) -> Result<Words<'a>, Fault<'a>>
+    ensures { IfOk result (RunsPlanOnlyWhere true) }
+{
+    if name == "pair" {
+        return Ok(Words::Pair(read_pair(alloc, found)?));
+    }
+    Ok(Words::Attach(read_attach(alloc, found)?))
+}
+
+/// Whether the word behind the program's name is that of a command that runs a plan: `attach` or `pair`.
+fn runs_plan<S: AsStr>(words: &[S]) -> bool
+    ensures { result ≡ commands.runs_plan S.text words.now }
 {
     match words {
-        [_, command, ..] => command.as_str() == "attach",
+        [_, command, ..] => command.as_str() == "attach" || command.as_str() == "pair",
         _ => false,
     }
 }
@@ -119,22 +218,26 @@ fn read_serve_script<'a>(
     alloc: Global,
     found: &ArgMatches<'a>,
 ) -> Result<ServeScript<'a>, Fault<'a>> {
+    let count_limit = number(alloc, found, "count-limit", Name::ServeScript)?;
     Ok(ServeScript {
-        settings: read_settings(alloc, found)?,
+        settings: read_settings(alloc, found, count_limit, Name::ServeScript)?,
         machine: value(alloc, found, "machine")?,
-        from: value(alloc, found, "from")?,
-        to: value(alloc, found, "to")?,
+        peer: read_peer(alloc, found, Name::ServeScript)?,
         turns: number(alloc, found, "turns", Name::ServeScript)?,
     })
 }
 
-/// The settings of the target.
-fn read_settings<'a>(alloc: Global, found: &ArgMatches<'a>) -> Result<Settings, Fault<'a>> {
+/// The settings of a target with this count limit, which the options of this command say.
+fn read_settings<'a>(
+    alloc: Global,
+    found: &ArgMatches<'a>,
+    count_limit: u32,
+    of: Name,
+) -> Result<Settings, Fault<'a>> {
     let start = value(alloc, found, "start")?;
-    let count_limit = number(alloc, found, "count-limit", Name::ServeScript)?;
     match settings(start, count_limit) {
         Some(settings) => Ok(settings),
-        None => Err(bad_words(alloc, serve_script(alloc), "the options don't read")),
+        None => Err(bad_words(alloc, named_in_full(alloc, of), "the options don't read")),
     }
 }
 
@@ -146,10 +249,38 @@ fn settings(start: &str, count_limit: u32) -> Option<Settings> {
 fn read_attach<'a>(alloc: Global, found: &ArgMatches<'a>) -> Result<Attach<'a>, Fault<'a>> {
     Ok(Attach {
         plan: value(alloc, found, "plan")?,
-        from: value(alloc, found, "from")?,
-        to: value(alloc, found, "to")?,
+        peer: read_peer(alloc, found, Name::Attach)?,
         turns: number(alloc, found, "turns", Name::Attach)?,
     })
+}
+
+fn read_pair<'a>(alloc: Global, found: &ArgMatches<'a>) -> Result<Pair<'a>, Fault<'a>> {
+    Ok(Pair {
+        settings: read_settings(alloc, found, COUNT_LIMIT, Name::Pair)?,
+        machine: value(alloc, found, "machine")?,
+        plan: value(alloc, found, "plan")?,
+        turns: number(alloc, found, "turns", Name::Pair)?,
+    })
+}
+
+/// Where the other end is that a command of this name has a session with.
+fn read_peer<'a>(alloc: Global, found: &ArgMatches<'a>, of: Name) -> Result<Peer<'a>, Fault<'a>> {
+    if found.contains_id("port") {
+        return Ok(Peer::Port(port_number(alloc, found, of)?));
+    }
+    Ok(Peer::Files(SessionFiles {
+        from: value(alloc, found, "from")?,
+        to: value(alloc, found, "to")?,
+    }))
+}
+
+/// The number of a port.
+fn port_number<'a>(alloc: Global, found: &ArgMatches<'a>, of: Name) -> Result<u16, Fault<'a>> {
+    let number = number(alloc, found, "port", of)?;
+    match u16::try_from(number) {
+        Ok(port) => Ok(port),
+        Err(_) => Err(bad_words(alloc, named_in_full(alloc, of), "a port is 1 to 65535")),
+    }
 }
 
 /// The value of an argument that is required or has a default.
@@ -231,6 +362,7 @@ fn without_line_end(mut text: String) -> String {
 fn command<'a>(alloc: Global) -> Result<Command<'a>, AllocError> {
     let commands = commands(alloc)?;
     Command::new(alloc, "jdwp")
+        .bin_name("jdwp")?
         .about("Ends of the Java Debug Wire Protocol (JDWP, Java SE 11)")
         .subcommand_required(true)
         .subcommands(commands)
@@ -239,7 +371,13 @@ fn command<'a>(alloc: Global) -> Result<Command<'a>, AllocError> {
 /// The commands of the program, in the order in which help tells them.
 fn commands<'a>(alloc: Global) -> Result<Vec<Command<'a>>, AllocError> {
     let mut commands = Vec::new(alloc);
-    for name in [Name::Show, Name::Check, Name::ServeScript, Name::Attach] {
+    for name in [
+        Name::Show,
+        Name::Check,
+        Name::ServeScript,
+        Name::Attach,
+        Name::Pair,
+    ] {
         commands.push(named(alloc, name)?)?;
     }
     Ok(commands)
@@ -252,6 +390,7 @@ fn named<'a>(alloc: Global, name: Name) -> Result<Command<'a>, AllocError> {
         Name::Check => check(alloc),
         Name::ServeScript => serve_script(alloc),
         Name::Attach => attach_command(alloc),
+        Name::Pair => pair_command(alloc),
     }
 }
 
@@ -270,26 +409,45 @@ fn check<'a>(alloc: Global) -> Result<Command<'a>, AllocError> {
 fn serve_script<'a>(alloc: Global) -> Result<Command<'a>, AllocError> {
     let arguments = vec![in alloc;
         machine(alloc),
-        from(alloc, "What the debugger sent, in bytes"),
-        to(alloc, "Where the target's bytes are written"),
+        from(alloc, "What the debugger sent, in bytes")?,
+        to(alloc, "Where the target's bytes are written")?,
+        port(alloc, "The port of 127.0.0.1 at which debuggers connect")?,
         start(alloc),
         count_limit(alloc),
-        turns(alloc, "How many rounds the session has at most"),
+        turns(alloc, "How many rounds a session has at most"),
     ]?;
     Command::new(alloc, "serve-script")
-        .about("Serves the session of one debugger, from a file of its bytes")
+        .about(
+            "Serves the session of one debugger, from a file of its bytes, or sessions at a port",
+        )
         .args(arguments)
 }
 
 fn attach_command<'a>(alloc: Global) -> Result<Command<'a>, AllocError> {
     let arguments = vec![in alloc;
         plan(alloc),
-        from(alloc, "What the target sent, in bytes"),
-        to(alloc, "Where the debugger's bytes are written"),
+        from(alloc, "What the target sent, in bytes")?,
+        to(alloc, "Where the debugger's bytes are written")?,
+        port(alloc, "The port of 127.0.0.1 at which the target listens")?,
         turns(alloc, "How many turns the session has at most"),
     ]?;
     Command::new(alloc, "attach")
-        .about("Runs a plan as the debugger of one session, from a file of the target's bytes")
+        .about(
+            "Runs a plan as the debugger of one session, from a file of the target's bytes, or at a port",
+        )
+        .args(arguments)
+}
+
+fn pair_command<'a>(alloc: Global) -> Result<Command<'a>, AllocError> {
+    let arguments = vec![in alloc;
+        machine(alloc),
+        plan(alloc),
+        memory(alloc),
+        start(alloc),
+        turns(alloc, "How many rounds the session has at most"),
+    ]?;
+    Command::new(alloc, "pair")
+        .about("Runs a plan as the debugger of a script's machine, both ends in this process")
         .args(arguments)
 }
 
@@ -306,13 +464,29 @@ fn plan<'a>(alloc: Global) -> Arg<'a> {
 }
 
 /// The file that a session's bytes are read from.
-fn from<'a>(alloc: Global, help: &'a str) -> Arg<'a> {
-    option(alloc, "from", "FILE", help).required(true)
+fn from<'a>(alloc: Global, help: &'a str) -> Result<Arg<'a>, AllocError> {
+    option(alloc, "from", "FILE", help).required_unless_present("port")
 }
 
 /// The file that a session's bytes are written to.
-fn to<'a>(alloc: Global, help: &'a str) -> Arg<'a> {
-    option(alloc, "to", "FILE", help).required(true)
+fn to<'a>(alloc: Global, help: &'a str) -> Result<Arg<'a>, AllocError> {
+    option(alloc, "to", "FILE", help).required_unless_present("port")
+}
+
+/// The port that a session is at, in place of files.
+fn port<'a>(alloc: Global, help: &'a str) -> Result<Arg<'a>, AllocError> {
+    option(alloc, "port", "N", help)
+        .value_parser(value_parser!(u32).range(1..=65535))
+        .conflicts_with_all(&["from", "to"])
+}
+
+/// That both ends of a session are joined by memory alone.
+fn memory<'a>(alloc: Global) -> Arg<'a> {
+    Arg::new(alloc, "memory")
+        .long("memory")
+        .help("Bytes go from one end to the other in memory")
+        .action(ArgAction::SetTrue)
+        .required(true)
 }
 
 /// Which threads begin suspended.

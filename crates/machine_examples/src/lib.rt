@@ -7,6 +7,10 @@ mod asserts;
 #[cfg(test)]
 mod data_words;
 #[cfg(test)]
+mod detail_tests;
+#[cfg(test)]
+mod extreme_tests;
+#[cfg(test)]
 mod layout_tests;
 #[cfg(test)]
 mod limit_tests;

@@ -54,7 +54,7 @@ const DIAMONDS: &str = "{\"name\":\"D\",\"sizes\":[8,8,8,8,8],
  [\"call\",30,11,20,0,[]],[\"return\",[\"V\",0]]]}]}";
 
 /// Objects, fields, text and an array, with ids of one byte. After three steps thread 1 has two frames.
-const OBJECTS: &str = "{\"name\":\"C\",\"sizes\":[1,1,1,1,1],
+pub(crate) const OBJECTS: &str = "{\"name\":\"C\",\"sizes\":[1,1,1,1,1],
 \"groups\":[{\"id\":5,\"name\":\"main\",\"parent\":0},{\"id\":6,\"name\":\"pool\",\"parent\":5}],
 \"classes\":[{\"id\":10,\"tag\":1,\"signature\":\"LMain;\",\"modifiers\":1,
  \"super\":0,\"interfaces\":[],\"source\":\"Main.java\",
@@ -110,7 +110,7 @@ enum Act {
     Writes(u64, u64, &'static [(i32, Value)], u16),
 }
 
-fn machine(alloc: Global, text: &str) -> Result<ScriptMachine, Fail> {
+pub(crate) fn machine(alloc: Global, text: &str) -> Result<ScriptMachine, Fail> {
     match ScriptMachine::read(alloc, text) {
         Ok(machine) => Ok(machine),
         Err(_) => Err(Fail::from("the script is refused")),
@@ -354,7 +354,12 @@ fn classes_reached_by_many_ways(rt: HostRuntime) -> Result<(), Fail> {
     goes_as_told(&rt, rt.alloc(), DIAMONDS, &A_CALL)
 }
 
-fn query_of(alloc: Global, row: (u8, u8), data: &str, command: (u8, u8)) -> Result<Query, Fail> {
+pub(crate) fn query_of(
+    alloc: Global,
+    row: (u8, u8),
+    data: &str,
+    command: (u8, u8),
+) -> Result<Query, Fail> {
     let sizes = IdSizes::new(1, 1, 1, 1, 1)?;
     let bytes = bytes_of(alloc, data)?;
     let items = read(alloc, &request_of(row.0, row.1)?, &sizes, &bytes)?;

@@ -1,9 +1,11 @@
 //! Sessions of a debugger by a plan, byte for byte and line for line.
 use crate::asserts::{expect_same, expect_same_for};
+use jdwp_attach::Attached;
 use jdwp_engine::{Ended, Streams};
 use jdwp_plan::{LineFault, PlanFault};
 use jdwp_program::{Fault, Outcome, attach_plan, report_fault, report_outcome};
 use std::alloc::Global;
+use std::io;
 use std::io::Cursor;
 use std::process::Abort;
 use std::test::Fail;
@@ -43,20 +45,21 @@ const LINES: &str = "< hello
 /// What came of a plan, and what was sent and printed.
 #[derive(Drop)]
 struct Ran {
-    result: Result<Ended, PlanFault>,
+    result: Result<Attached, PlanFault>,
     to: Vec<u8>,
     lines: Vec<u8>,
 }
 
 fn run(alloc: Global, plan: &str, from: &[u8], turns: u32) -> Ran {
     let mut pipe = Streams::new(from, Cursor::new(Vec::new(alloc)));
-    let mut out = Cursor::new(Vec::new(alloc));
+    let mut out = Streams::new(io::empty(), Cursor::new(Vec::new(alloc)));
     let result = attach_plan(alloc, plan, &mut pipe, &mut out, turns);
     let (_, to) = pipe.into_parts();
+    let (_, lines) = out.into_parts();
     Ran {
         result,
         to: to.into_inner(),
-        lines: out.into_inner(),
+        lines: lines.into_inner(),
     }
 }
 
@@ -66,8 +69,8 @@ fn is_part(rt: &impl Abort, bytes: &[u8], whole: &[u8], count: usize, place: usi
 }
 
 /// The run ends so, and so many bytes of the session were sent and printed.
-fn has_run(rt: &impl Abort, ran: &Ran, ended: Ended, sent: usize, printed: usize) {
-    expect_same_for(rt, &ran.result, &Ok(ended), &sent);
+fn has_run(rt: &impl Abort, ran: &Ran, how: Attached, sent: usize, printed: usize) {
+    expect_same_for(rt, &ran.result, &Ok(how), &sent);
     is_part(rt, &ran.to, &TO, sent, sent);
     is_part(rt, &ran.lines, LINES.as_bytes(), printed, sent);
 }
@@ -75,35 +78,90 @@ fn has_run(rt: &impl Abort, ran: &Ran, ended: Ended, sent: usize, printed: usize
 #[test]
 fn a_plan_is_run_to_its_end(rt: HostRuntime) {
     let ran = run(rt.alloc(), PLAN, &FROM, 1000);
-    has_run(&rt, &ran, Ended::Done, TO.len(), LINES.len());
+    let done = Attached::Ended(Ended::Done);
+    has_run(&rt, &ran, done, TO.len(), LINES.len());
 }
 
+/// Three commands, the last of which no target has, and Dispose.
+const THIRD_IS_NONE: &str = "ask 1 8\nask 11 12 0000000000000001\nask 1 99\nask 1 6";
+
+/// The command of the first line is refused by 36.
+const AT_1: Attached = Attached::RefusedLine {
+    line: 1,
+    number: 36,
+};
+
+/// The same of the third line, and of the fourth.
+const AT_3: Attached = Attached::RefusedLine {
+    line: 3,
+    number: 36,
+};
+
+const AT_4: Attached = Attached::RefusedLine {
+    line: 4,
+    number: 36,
+};
+
 /// The plan, how many of the target's bytes come, the turns, and the end; how many bytes are sent and printed.
-static ENDS: [(&str, usize, u32, Ended, usize, usize); 6] = [
+static ENDS: [(&str, usize, u32, Attached, usize, usize); 9] = [
     // No turn is left: the handshake was written.
-    (PLAN, 111, 0, Ended::TurnLimit, 14, 0),
+    (PLAN, 111, 0, Attached::Ended(Ended::TurnLimit), 14, 0),
     // The input ends before the reply to Dispose, before the widths of ids, and before the handshake.
-    (PLAN, 110, 1000, Ended::LostByRead, 66, 167),
-    (PLAN, 43, 1000, Ended::LostByRead, 25, 8),
-    (PLAN, 0, 1000, Ended::LostByRead, 14, 0),
-    // A command that no target has.
-    ("ask 1 99", 111, 1000, Ended::Refused(36), 25, 89),
-    // Data that the layout refuses.
-    ("ask 1 8 00", 111, 1000, Ended::Refused(36), 25, 89),
+    (PLAN, 110, 1000, Attached::Ended(Ended::LostByRead), 66, 167),
+    (PLAN, 43, 1000, Attached::Ended(Ended::LostByRead), 25, 8),
+    (PLAN, 0, 1000, Attached::Ended(Ended::LostByRead), 14, 0),
+    // A command that no target has, in the first line, in the third, and where the second asks nothing.
+    ("ask 1 99", 111, 1000, AT_1, 25, 89),
+    (THIRD_IS_NONE, 111, 1000, AT_3, 55, 89),
+    (
+        "ask 1 8\nanswers\nask 1 99\nask 1 6",
+        111,
+        1000,
+        AT_3,
+        36,
+        124,
+    ),
+    // Data that the layout refuses, in the first line and in the last.
+    ("ask 1 8 00", 111, 1000, AT_1, 25, 89),
+    (
+        "answers\nanswers\nanswers\nask 1 8 00",
+        74,
+        1000,
+        AT_4,
+        25,
+        89,
+    ),
 ];
 
 #[test]
 fn ends_of_runs(rt: HostRuntime) {
-    for &(plan, count, turns, ended, sent, printed) in ENDS.iter() {
+    for &(plan, count, turns, how, sent, printed) in ENDS.iter() {
         let from = &FROM[..count.min(FROM.len())];
-        has_run(
-            &rt,
-            &run(rt.alloc(), plan, from, turns),
-            ended,
-            sent,
-            printed,
-        );
+        has_run(&rt, &run(rt.alloc(), plan, from, turns), how, sent, printed);
     }
+}
+
+/// So many lines that suspend all threads.
+fn suspends(alloc: Global, times: u32) -> Result<String, Fail> {
+    let mut plan = String::new(alloc);
+    for _ in 0..times {
+        plan.push_str("ask 1 8\n")?;
+    }
+    Ok(plan)
+}
+
+/// 64 commands may wait for their answers: the 65th line is refused, and what the lines before it ask was sent.
+#[test]
+fn the_65th_command_is_refused(rt: HostRuntime) -> Result<(), Fail> {
+    let plan = suspends(rt.alloc(), 65)?;
+    let ran = run(rt.alloc(), &plan, &FROM, 1000);
+    let how = Attached::RefusedLine {
+        line: 65,
+        number: 32,
+    };
+    expect_same(&rt, &ran.result, &Ok(how));
+    expect_same(&rt, &ran.to.len(), &(14 + 11 + 64 * 11));
+    Ok(())
 }
 
 /// A reply with an error that has data, under the id 2.
@@ -146,7 +204,8 @@ fn is_refused(
     printed: usize,
 ) {
     let ran = run(alloc, plan, from, 1000);
-    has_run(rt, &ran, Ended::Refused(number), sent, printed);
+    let how = Attached::Ended(Ended::Refused(number));
+    has_run(rt, &ran, how, sent, printed);
 }
 
 #[test]
@@ -154,7 +213,7 @@ fn a_bad_reply_is_refused(rt: HostRuntime) -> Result<(), Fail> {
     // A bad reply, to Suspend.
     let from = followed(rt.alloc(), 74, &BAD_REPLY, 1)?;
     is_refused(&rt, rt.alloc(), "ask 1 8\nanswers", &from, 43, 36, 89);
-    let told = "jdwp: fault 43: a reply whose data do not read\n";
+    let told = "jdwp: fault 43: a reply whose data do not read, or an error reply with data\n";
     is_told(&rt, rt.alloc(), 43, told);
     Ok(())
 }
@@ -177,8 +236,55 @@ fn composites_too_many_are_refused(rt: HostRuntime) -> Result<(), Fail> {
 
 #[test]
 fn a_command_that_no_target_has_is_told(rt: HostRuntime) {
-    let told = "jdwp: fault 36: no command of a target, or data that do not read in its layout\n";
+    let told =
+        "jdwp: fault 36: a command of the plan that no target has, or data that do not read in its layout\n";
     is_told(&rt, rt.alloc(), 36, told);
+}
+
+/// 5,000 bytes: 0 to 249, again and again.
+fn long_data(alloc: Global) -> Result<Vec<u8>, Fail> {
+    let mut bytes = Vec::new(alloc);
+    for _ in 0..20u32 {
+        for byte in 0..250u8 {
+            bytes.push(byte)?;
+        }
+    }
+    Ok(bytes)
+}
+
+/// The same in hex digits.
+fn digits_of(alloc: Global, bytes: &[u8]) -> Result<String, Fail> {
+    let mut digits = String::new(alloc);
+    for byte in bytes {
+        write!(digits, "{byte:02x}")?;
+    }
+    Ok(digits)
+}
+
+/// A packet under the id 2 with this kind and these 5,000 bytes.
+fn long_packet(alloc: Global, kind: [u8; 3], data: &[u8]) -> Result<Vec<u8>, Fail> {
+    let mut packet = Vec::from_slice(alloc, &[0, 0, 0x13, 0x93, 0, 0, 0, 2])?;
+    packet.extend_from_slice(&kind)?;
+    packet.extend_from_slice(data)?;
+    Ok(packet)
+}
+
+/// VirtualMachine.ClassPaths, whose data are not read: both ends send more than is written or read at once.
+#[test]
+fn raw_data_longer_than_a_read(rt: HostRuntime) -> Result<(), Fail> {
+    let alloc = rt.alloc();
+    let data = long_data(alloc)?;
+    let digits = digits_of(alloc, &data)?;
+    let plan = format!(in alloc; "ask 1 13 {digits}")?;
+    let reply = long_packet(alloc, [0x80, 0, 0], &data)?;
+    let from = followed(alloc, 74, &reply, 1)?;
+    let ran = run(alloc, &plan, &from, 1000);
+    expect_same(&rt, &ran.result, &Ok(Attached::Ended(Ended::Done)));
+    let asked = long_packet(alloc, [0, 1, 13], &data)?;
+    expect_same(&rt, &ran.to.get(25..), &Some(asked.as_slice()));
+    let line = format!(in alloc; "< 2 reply VirtualMachine.ClassPaths 0 raw {digits}\n")?;
+    expect_same(&rt, &ran.lines.get(89..), &Some(line.as_bytes()));
+    Ok(())
 }
 
 const BAD_WORD: PlanFault = PlanFault::Line(2, LineFault::FirstWord);
@@ -198,8 +304,9 @@ fn plans_with_a_fault_begin_no_session(rt: HostRuntime) {
 #[test]
 fn faults_of_plans_are_told(rt: HostRuntime) {
     let mut err = Cursor::new(Vec::new(rt.alloc()));
-    expect_same(&rt, &report_fault(&Fault::from(BAD_WORD), &mut err), &1);
+    let fault = Fault::of_plan("p", "ask 1 8\nanswer\n", BAD_WORD);
+    expect_same(&rt, &report_fault(&fault, &mut err), &1);
     let told =
-        "jdwp: line 2 of the plan: a first word that is not `ask`, `answers`, `events` or `mirror`\n";
+        "jdwp: p: line 2 of the plan: a first word that is not `ask`, `answers`, `events` or `mirror`\n";
     expect_same(&rt, &err.into_inner().as_slice(), &told.as_bytes());
 }

@@ -12,3 +12,5 @@ mod plan_tests;
 mod program_tests;
 #[cfg(test)]
 mod session_tests;
+#[cfg(test)]
+mod text_tests;

@@ -1,11 +1,12 @@
 //! What is told, on writers in memory.
 use crate::asserts::{expect_same, expect_same_for};
 use jdwp_engine::Ended;
+use jdwp_plan::{LineFault, PlanFault};
 use jdwp_program::{
-    Fault, FileCause, Outcome, TellFault, Told, check_capture, decimal, is_all, report_fault,
-    report_outcome, show_capture, text_of,
+    Fault, FileCause, Loss, Outcome, Side, TellFault, Told, Watched, check_capture, decimal,
+    is_all, report_fault, report_outcome, show_capture, text_of,
 };
-use jdwp_script::{Member, ScriptFault};
+use jdwp_script::{Cause, Detail, Entry, Member, Path, ScriptFault};
 use jdwp_wire::Limits;
 use std::alloc::Global;
 use std::io;
@@ -203,19 +204,73 @@ fn faults_of_files_are_told(rt: HostRuntime) {
     is_told_of_file(&rt, alloc, FileCause::Folder, folder);
     let no_text = "jdwp: a/b: not UTF-8 at byte 7, counted from 0\n";
     is_told_of_file(&rt, alloc, FileCause::NotUtf8(7), no_text);
+    let also_read = "jdwp: a/b: a file that is read, too: writing to it would empty it\n";
+    is_told_of_file(&rt, alloc, FileCause::AlsoRead, also_read);
     let full = io::Error::from(ErrorKind::StorageFull);
     let no_space = "jdwp: a/b: no storage space\n";
     is_told_of_file(&rt, alloc, FileCause::Other(full), no_space);
 }
 
+/// The fault of the script a/b is told so where nothing more is known.
+fn is_told_of_script(rt: &impl Abort, alloc: Global, fault: ScriptFault, status: u8, text: &str) {
+    let fault = Fault::of_script("a/b", fault, Detail::UNSAID);
+    is_told(rt, alloc, fault, status, text);
+}
+
 #[test]
 fn faults_of_scripts_are_told(rt: HostRuntime) {
-    let missing = Fault::Script(ScriptFault::Missing(Member::Last));
-    let text = "jdwp: fault 22: the member last is missing or of another type\n";
-    is_told(&rt, rt.alloc(), missing, 1, text);
-    let reference = Fault::Script(ScriptFault::BadReference);
-    let text = "jdwp: fault 25: a bad reference\n";
-    is_told(&rt, rt.alloc(), reference, 1, text);
+    let alloc = rt.alloc();
+    let missing = ScriptFault::Missing(Member::Last);
+    let text = "jdwp: a/b: fault 22: the member last is missing or of another type\n";
+    is_told_of_script(&rt, alloc, missing, 1, text);
+    let text = "jdwp: a/b: fault 25: a bad reference\n";
+    is_told_of_script(&rt, alloc, ScriptFault::BadReference, 1, text);
+    let text = "jdwp: no memory\n";
+    is_told_of_script(&rt, alloc, ScriptFault::NoMemory, 3, text);
+}
+
+/// A fault of a script is followed by what is known beside it.
+#[test]
+fn details_of_scripts_are_told(rt: HostRuntime) {
+    let class = Entry {
+        list: Member::Classes,
+        place: 0,
+    };
+    let method = Entry {
+        list: Member::Methods,
+        place: 2,
+    };
+    let detail = Detail {
+        cause: Cause::Long(512),
+        path: Path {
+            outer: Some(class),
+            middle: Some(method),
+            inner: None,
+        },
+    };
+    let fault = Fault::of_script("M.json", ScriptFault::OverLimit, detail);
+    let text =
+        "jdwp: M.json: fault 26: a limit is passed: a text of more than 512 bytes, in classes[0].methods[2]\n";
+    is_told(&rt, rt.alloc(), fault, 1, text);
+}
+
+/// The fault of the plan p, whose text begins so, is told by this status and this text.
+fn is_told_of_plan(rt: &impl Abort, alloc: Global, begin: &str, status: u8, text: &str) {
+    let fault = PlanFault::Line(1, LineFault::Blank);
+    is_told(rt, alloc, Fault::of_plan("p", begin, fault), status, text);
+}
+
+#[test]
+fn faults_of_plans_name_the_file(rt: HostRuntime) {
+    let alloc = rt.alloc();
+    let text = "jdwp: p: line 1 of the plan: an empty line\n";
+    is_told_of_plan(&rt, alloc, "\nmirror\n", 1, text);
+    is_told_of_plan(&rt, alloc, "", 1, text);
+    is_told_of_plan(&rt, alloc, "mirror\n\u{feff}", 1, text);
+    let mark = "jdwp: p: a byte order mark stands before the first line of the plan\n";
+    is_told_of_plan(&rt, alloc, "\u{feff}mirror\n", 1, mark);
+    let fault = Fault::of_plan("p", "\u{feff}", PlanFault::NoMemory);
+    is_told(&rt, alloc, fault, 3, "jdwp: no memory\n");
 }
 
 #[test]
@@ -237,7 +292,7 @@ fn faults_of_the_program_are_told(rt: HostRuntime) {
 }
 
 /// How a run ends, its status, and what is told.
-static ENDS: [(Outcome, u8, &str); 22] = [
+static ENDS: [(Outcome<'static>, u8, &str); 26] = [
     (Outcome::Session(Ended::Done), 0, ""),
     (
         Outcome::Session(Ended::Refused(0)),
@@ -272,7 +327,7 @@ static ENDS: [(Outcome, u8, &str); 22] = [
     (
         Outcome::Session(Ended::Refused(32)),
         1,
-        "jdwp: fault 32: as many commands wait as may\n",
+        "jdwp: fault 32: 64 commands wait for their answers, and no more may\n",
     ),
     (
         Outcome::Session(Ended::Refused(33)),
@@ -287,7 +342,7 @@ static ENDS: [(Outcome, u8, &str); 22] = [
     (
         Outcome::Session(Ended::Refused(36)),
         1,
-        "jdwp: fault 36: no command of a target, or data that do not read in its layout\n",
+        "jdwp: fault 36: a command of the plan that no target has, or data that do not read in its layout\n",
     ),
     (
         Outcome::Session(Ended::Refused(42)),
@@ -297,7 +352,7 @@ static ENDS: [(Outcome, u8, &str); 22] = [
     (
         Outcome::Session(Ended::Refused(43)),
         1,
-        "jdwp: fault 43: a reply whose data do not read\n",
+        "jdwp: fault 43: a reply whose data do not read, or an error reply with data\n",
     ),
     (
         Outcome::Session(Ended::Refused(44)),
@@ -307,7 +362,7 @@ static ENDS: [(Outcome, u8, &str); 22] = [
     (
         Outcome::Session(Ended::Refused(45)),
         1,
-        "jdwp: fault 45: a composite that no target sends, or another command\n",
+        "jdwp: fault 45: events that don't fit the suspend counts known, or another command\n",
     ),
     (
         Outcome::Session(Ended::LostByRead),
@@ -323,14 +378,30 @@ static ENDS: [(Outcome, u8, &str); 22] = [
     (
         Outcome::Session(Ended::TurnLimit),
         4,
-        "jdwp: the turn limit is reached\n",
+        "jdwp: the turn limit of --turns is reached\n",
+    ),
+    (
+        Outcome::Lost(Loss::FileEnded("F")),
+        2,
+        "jdwp: F: the file ended before the session did\n",
+    ),
+    (Outcome::Lost(Loss::ReaderGone), 2, ""),
+    (
+        Outcome::RefusedLine(3, 36),
+        1,
+        "jdwp: line 3 of the plan: fault 36: a command of the plan that no target has, or data that do not read in its layout\n",
+    ),
+    (
+        Outcome::RefusedLine(65, 32),
+        1,
+        "jdwp: line 65 of the plan: fault 32: 64 commands wait for their answers, and no more may\n",
     ),
     (Outcome::Capture(Told::Faultless), 0, ""),
     (Outcome::Capture(Told::Faulty), 1, ""),
     (Outcome::Capture(Told::Unread), 2, ""),
 ];
 
-fn has_ended(rt: &impl Abort, alloc: Global, outcome: Outcome, status: u8, text: &str) {
+fn has_ended(rt: &impl Abort, alloc: Global, outcome: Outcome<'_>, status: u8, text: &str) {
     let mut err = whole(alloc);
     expect_same_for(rt, &report_outcome(outcome, &mut err), &status, &text);
     expect_same_for(rt, &err.bytes.as_slice(), &text.as_bytes(), &text);
@@ -426,11 +497,107 @@ fn numbers_are_digits_alone(rt: HostRuntime) {
     }
 }
 
-/// A script that is refused is status 1, and one for which memory is wanted 3.
+/// Gives no byte: its reads fail so, or it is at its end.
+#[derive(Drop)]
+struct Dry {
+    kind: Option<ErrorKind>,
+}
+
+impl io::Read for Dry {
+    fn read(&mut self, _buffer: &mut [u8]) -> io::Result<usize> {
+        match self.kind {
+            Some(kind) => Err(io::Error::from(kind)),
+            None => Ok(0),
+        }
+    }
+}
+
+/// The file F that reads failed on so, if they did.
+fn read_side(kind: Option<ErrorKind>) -> Result<Side<'static>, Fail> {
+    let mut reader = Watched::new(Dry { kind });
+    let mut buffer = [0u8; 4];
+    let _ = io::Read::read(&mut reader, &mut buffer);
+    Ok(Side {
+        path: "F",
+        failure: reader.failure(),
+    })
+}
+
+/// The error of a writer to which three bytes were written one by one, where the call of this number failed so.
+fn write_failure(alloc: Global, call: usize, kind: ErrorKind) -> Option<io::Error> {
+    let mut writer = Watched::new(Output::new(alloc, 1, call, kind));
+    for byte in [1u8, 2, 3] {
+        let _ = writer.write(&[byte]);
+    }
+    writer.failure()
+}
+
+/// Where a session was lost, as it is told.
+fn is_lost(
+    rt: &impl Abort,
+    alloc: Global,
+    ended: Ended,
+    sides: (Side<'_>, Side<'_>),
+    output: Option<io::Error>,
+    text: &str,
+) {
+    let outcome = Outcome::of_session(ended, sides.0, sides.1, output);
+    has_ended(rt, alloc, outcome, 2, text);
+}
+
+/// A read at the end of the file is told apart from one that failed.
 #[test]
-fn refused_scripts_have_their_status(rt: HostRuntime) {
-    let fault = Fault::from(ScriptFault::BadReference);
-    expect_same(&rt, &fault.status(), &1);
-    let fault = Fault::from(ScriptFault::NoMemory);
-    expect_same(&rt, &fault.status(), &3);
+fn losses_at_a_read_are_told(rt: HostRuntime) -> Result<(), Fail> {
+    let to = Side {
+        path: "T",
+        failure: None,
+    };
+    let ended = "jdwp: F: the file ended before the session did\n";
+    let sides = (read_side(None)?, to);
+    is_lost(&rt, rt.alloc(), Ended::LostByRead, sides, None, ended);
+    let interrupted = (read_side(Some(ErrorKind::Interrupted))?, to);
+    is_lost(&rt, rt.alloc(), Ended::LostByRead, interrupted, None, ended);
+    let failed = (read_side(Some(ErrorKind::PermissionDenied))?, to);
+    let text = "jdwp: F: can't be read: permission denied\n";
+    is_lost(&rt, rt.alloc(), Ended::LostByRead, failed, None, text);
+    Ok(())
+}
+
+/// A write that failed is that to the file where it failed, and else that to the output.
+#[test]
+fn losses_at_a_write_are_told(rt: HostRuntime) -> Result<(), Fail> {
+    let alloc = rt.alloc();
+    let full = write_failure(alloc, 2, ErrorKind::StorageFull);
+    let gone = write_failure(alloc, 1, ErrorKind::BrokenPipe);
+    let from = read_side(None)?;
+    let kept = Side {
+        path: "T",
+        failure: write_failure(alloc, 2, ErrorKind::Interrupted),
+    };
+    let failed = Side {
+        path: "T",
+        failure: full,
+    };
+    let by_write = Ended::LostByWrite;
+    let text = "jdwp: T: can't be written: no storage space\n";
+    is_lost(&rt, alloc, by_write, (from, failed), None, text);
+    is_lost(&rt, alloc, by_write, (from, failed), gone, text);
+    let text = "jdwp: the output can't be written: no storage space\n";
+    is_lost(&rt, alloc, by_write, (from, kept), full, text);
+    is_lost(&rt, alloc, by_write, (from, kept), gone, "");
+    let text = "jdwp: the connection is lost at a write\n";
+    is_lost(&rt, alloc, by_write, (from, kept), None, text);
+    let none_taken = write_failure(alloc, 3, ErrorKind::WriteZero);
+    assert!(&rt; none_taken.is_some());
+    Ok(())
+}
+
+/// Only a loss is told by the files.
+#[test]
+fn other_ends_are_told_without_files(rt: HostRuntime) -> Result<(), Fail> {
+    let from = read_side(Some(ErrorKind::PermissionDenied))?;
+    let output = write_failure(rt.alloc(), 1, ErrorKind::StorageFull);
+    let outcome = Outcome::of_session(Ended::Done, from, from, output);
+    has_ended(&rt, rt.alloc(), outcome, 0, "");
+    Ok(())
 }

@@ -295,7 +295,7 @@ const READY_LINES: &str = "< hello
 ";
 
 /// A plan that is carried out whole.
-static FINISHED: [Case; 5] = [
+static FINISHED: [Case; 7] = [
     Case {
         from: &READY,
         to: &[HANDSHAKE, ASKS_SIZES],
@@ -336,6 +336,43 @@ thread 1 1 held
 < 3 Event.Composite 0 [(6, 0, #3)]
 < 4 Event.Composite 0 [(7, 0, #2)]
 < 1 reply VirtualMachine.IDSizes 0 8 8 8 8 8
+",
+        ..CASE
+    },
+    // Replies that come in another order are told under the commands that they answer.
+    Case {
+        from: &[
+            HANDSHAKE,
+            EIGHT,
+            "0000000f 00000003 80 0000 00000001",
+            "0000000b 00000002 80 0000",
+        ],
+        plan: &[
+            Line::Ask(1, 8, ""),
+            Line::Ask(11, 12, "0000000000000001"),
+            Line::Answers,
+        ],
+        to: &[
+            HANDSHAKE,
+            ASKS_SIZES,
+            "0000000b 00000002 00 01 08",
+            "00000013 00000003 00 0b 0c 0000000000000001",
+        ],
+        lines: "< hello
+< 1 reply VirtualMachine.IDSizes 0 8 8 8 8 8
+< 3 reply ThreadReference.SuspendCount 0 1
+< 2 reply VirtualMachine.Suspend 0
+",
+        ..CASE
+    },
+    // Data that are not read are told as they are.
+    Case {
+        from: &[HANDSHAKE, EIGHT, "0000000d 00000002 80 0000 0a0b"],
+        plan: &[Line::Ask(1, 18, "00000000"), Line::Answers],
+        to: &[HANDSHAKE, ASKS_SIZES, "0000000f 00000002 00 01 12 00000000"],
+        lines: "< hello
+< 1 reply VirtualMachine.IDSizes 0 8 8 8 8 8
+< 2 reply VirtualMachine.RedefineClasses 0 raw 0a0b
 ",
         ..CASE
     },
@@ -403,7 +440,7 @@ request 7 6 2
 ];
 
 /// A run that is refused: by what the target sent, or by the debugger at a line of the plan.
-static REFUSED: [Case; 10] = [
+static REFUSED: [Case; 14] = [
     // no handshake
     Case {
         from: &["4a4457502d48616e647368616b66"],
@@ -511,10 +548,44 @@ static REFUSED: [Case; 10] = [
         lines: READY_LINES,
         ..CASE
     },
+    // The last flush fails behind a refusal, of the lines or of what is sent, which is flushed before each read, too: the run stays refused.
+    Case {
+        from: &["4a4457502d48616e647368616b66"],
+        print_flush_fails: 1,
+        ended: Ended::Refused(4),
+        to: &[HANDSHAKE],
+        ..CASE
+    },
+    Case {
+        from: &["4a4457502d48616e647368616b66"],
+        write_flush_fails: 2,
+        ended: Ended::Refused(4),
+        to: &[HANDSHAKE],
+        ..CASE
+    },
+    Case {
+        from: &READY,
+        plan: &[Line::Ask(64, 100, "00 00000000")],
+        print_flush_fails: 1,
+        ended: Ended::Refused(36),
+        to: &[HANDSHAKE, ASKS_SIZES],
+        lines: READY_LINES,
+        ..CASE
+    },
+    Case {
+        from: &READY,
+        plan: &[Line::Ask(64, 100, "00 00000000")],
+        write_flush_fails: 2,
+        print_flush_fails: 1,
+        ended: Ended::Refused(36),
+        to: &[HANDSHAKE, ASKS_SIZES],
+        lines: READY_LINES,
+        ..CASE
+    },
 ];
 
 /// A run that is lost, or that used all turns.
-static LOST: [Case; 13] = [
+static LOST: [Case; 11] = [
     Case {
         ended: Ended::LostByRead,
         to: &[HANDSHAKE],
@@ -557,7 +628,7 @@ static LOST: [Case; 13] = [
         lines: "< hello\n",
         ..CASE
     },
-    // A flush that fails at the end: a run that was done is lost, and so is one that used all turns, and one that was refused.
+    // A flush that fails at the end: a run that was done is lost, and so is one that used all turns.
     Case {
         from: &READY,
         print_flush_fails: 1,
@@ -568,13 +639,6 @@ static LOST: [Case; 13] = [
     },
     Case {
         turns: 0,
-        print_flush_fails: 1,
-        ended: Ended::LostByWrite,
-        to: &[HANDSHAKE],
-        ..CASE
-    },
-    Case {
-        from: &["4a4457502d48616e647368616b66"],
         print_flush_fails: 1,
         ended: Ended::LostByWrite,
         to: &[HANDSHAKE],
@@ -599,13 +663,6 @@ static LOST: [Case; 13] = [
     Case {
         turns: 0,
         write_flush_fails: 1,
-        ended: Ended::LostByWrite,
-        to: &[HANDSHAKE],
-        ..CASE
-    },
-    Case {
-        from: &["4a4457502d48616e647368616b66"],
-        write_flush_fails: 2,
         ended: Ended::LostByWrite,
         to: &[HANDSHAKE],
         ..CASE

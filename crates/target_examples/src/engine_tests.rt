@@ -21,6 +21,8 @@ enum Event {
     Interrupted,
     /// The call moves no byte.
     Stops,
+    /// The call would have to wait.
+    WouldBlock,
 }
 
 /// An event at a call, counted from 1.
@@ -48,6 +50,7 @@ impl Plan {
             Event::Fails => Err(io::Error::from(ErrorKind::ConnectionReset)),
             Event::Interrupted => Err(io::Error::from(ErrorKind::Interrupted)),
             Event::Stops => Ok(0),
+            Event::WouldBlock => Err(io::Error::from(ErrorKind::WouldBlock)),
         })
     }
 }
@@ -449,6 +452,26 @@ fn an_interrupted_call_is_repeated(rt: HostRuntime) -> Result<(), Fail> {
             &ANSWERS_SUSPENDED,
             &call,
         )?;
+    }
+    Ok(())
+}
+
+/// The session where the reader would have to wait at this call, which is its last.
+fn would_block(rt: &impl Abort, alloc: Global, call: u32) -> Result<(), Fail> {
+    let event = Event::WouldBlock;
+    let reader = reading(&SESSION, 20, Plan { call, event });
+    let writer = writing(alloc, 5000, UNDISTURBED);
+    let session = served_on(alloc, true, reader, writer, ROUNDS)?;
+    expect_same_for(rt, &session.ended, &Ended::LostByRead, &call);
+    expect_same(rt, &session.reader.calls, &call);
+    Ok(())
+}
+
+/// Only a call that was interrupted is made again.
+#[test]
+fn a_read_that_would_block_is_a_failed_read(rt: HostRuntime) -> Result<(), Fail> {
+    for call in [1u32, 2, 4] {
+        would_block(&rt, rt.alloc(), call)?;
     }
     Ok(())
 }

@@ -9,7 +9,13 @@ mod engine_tests;
 #[cfg(test)]
 mod example_tests;
 #[cfg(test)]
+mod extreme_tests;
+#[cfg(test)]
+mod falling;
+#[cfg(test)]
 mod request_tests;
+#[cfg(test)]
+mod round_tests;
 #[cfg(test)]
 mod serve_tests;
 #[cfg(test)]

@@ -11,20 +11,22 @@ use std::io;
 use std::io::{ErrorKind, Write};
 use std::test::Fail;
 
-/// Keeps what is written. Each flush fails where it says so.
+/// Keeps what is written. The flush of this number fails, counted from 1.
 #[derive(Drop)]
 struct Output {
     bytes: Vec<u8>,
     calls: usize,
-    flush_fails: bool,
+    flushes: u32,
+    failing_flush: u32,
 }
 
 impl Output {
-    fn new(alloc: Global, flush_fails: bool) -> Output {
+    fn new(alloc: Global, failing_flush: u32) -> Output {
         Output {
             bytes: Vec::new(alloc),
             calls: 0,
-            flush_fails,
+            flushes: 0,
+            failing_flush,
         }
     }
 }
@@ -37,7 +39,8 @@ impl Write for Output {
     }
 
     fn flush(&mut self) -> io::Result<()> {
-        if self.flush_fails {
+        self.flushes = self.flushes.saturating_add(1);
+        if self.flushes == self.failing_flush {
             return Err(io::Error::from(ErrorKind::BrokenPipe));
         }
         Ok(())
@@ -82,16 +85,20 @@ fn served(
 
 #[test]
 fn a_session_is_served(rt: HostRuntime) -> Result<(), Fail> {
-    let rows: [(&[u8], u32, bool, Ended, usize); 5] = [
-        (&SESSION, 6, false, Ended::Done, 111),
-        (&SESSION, 5, false, Ended::TurnLimit, 100),
-        (&SESSION[..65], 9, false, Ended::LostByRead, 100),
+    let rows: [(&[u8], u32, u32, Ended, usize); 8] = [
+        (&SESSION, 6, 0, Ended::Done, 111),
+        (&SESSION, 5, 0, Ended::TurnLimit, 100),
+        (&SESSION[..65], 9, 0, Ended::LostByRead, 100),
         // A flush stands before each read, and one at the end.
-        (&SESSION, 6, true, Ended::LostByWrite, 0),
-        (&SESSION, 0, true, Ended::LostByWrite, 0),
+        (&SESSION, 6, 1, Ended::LostByWrite, 0),
+        (&SESSION, 0, 1, Ended::LostByWrite, 0),
+        // The last one makes a session lost, but for one that is refused: its fault is told.
+        (&SESSION, 6, 2, Ended::LostByWrite, 111),
+        (b"JDWP-HandshakE", 6, 0, Ended::Refused(4), 0),
+        (b"JDWP-HandshakE", 6, 2, Ended::Refused(4), 0),
     ];
-    for (input, rounds, flush_fails, want, written) in rows {
-        let writer = Output::new(rt.alloc(), flush_fails);
+    for (input, rounds, failing_flush, want, written) in rows {
+        let writer = Output::new(rt.alloc(), failing_flush);
         let (ended, bytes) = served(rt.alloc(), input, writer, rounds)?;
         expect_same(&rt, &ended, &want);
         expect_same(&rt, &bytes.as_slice(), &&ANSWERS[..written.min(111)]);
@@ -104,7 +111,7 @@ fn a_session_is_served(rt: HostRuntime) -> Result<(), Fail> {
 fn a_script_is_refused(rt: HostRuntime) -> Result<(), Fail> {
     let alloc = rt.alloc();
     let settings = Settings::new(false, 65535, Limits::standard()).ok_or("a count limit")?;
-    let mut pipe = Streams::new(SESSION.as_slice(), Output::new(alloc, false));
+    let mut pipe = Streams::new(SESSION.as_slice(), Output::new(alloc, 0));
     let ended = serve_script(alloc, "A", settings, &mut pipe, 6);
     expect_same(&rt, &ended, &Err(ScriptFault::NotJson));
     let (rest, writer) = pipe.into_parts();

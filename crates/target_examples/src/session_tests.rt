@@ -1,10 +1,10 @@
 //! Sessions of a target over machine scripts, byte for byte.
-use crate::asserts::expect_same;
+use crate::asserts::{expect_same, expect_same_for};
 use crate::sessions::{
     Act, GREETING, HANDSHAKE, MACHINE_A, Target, WITH_A_SLOT, bytes, goes_as_told, greet, sends,
     target,
 };
-use jdwp_target::{Stepped, TargetFault, Turn};
+use jdwp_target::{Stepped, TargetFault, TargetOptions, Turn};
 use jdwp_value::ObjectId;
 use jdwp_wire::{ErrorCode, FrameFault};
 use std::alloc::Global;
@@ -46,6 +46,21 @@ fn goes_with_a(alloc: Global, start_all: bool, trial: Trial) -> Result<bool, Fai
 fn goes_well(rt: &impl Abort, alloc: Global, start_all: bool, trial: Trial) -> Result<(), Fail> {
     expect_same(rt, &goes_with_a(alloc, start_all, trial)?, &true);
     Ok(())
+}
+
+/// A count limit is a positive int.
+#[test]
+fn options_with_each_count_limit(rt: HostRuntime) {
+    let rows: [(bool, u32, bool); 4] = [
+        (false, 0, false),
+        (true, 1, true),
+        (false, 2_147_483_647, true),
+        (false, 2_147_483_648, false),
+    ];
+    for (start_all, count_limit, want) in rows {
+        let options = TargetOptions::new(start_all, count_limit);
+        expect_same_for(&rt, &options.is_some(), &want, &options);
+    }
 }
 
 /// Whether the handshake is answered once its last byte came, and followed by VM_START; no second session begins.

@@ -1,10 +1,9 @@
 //! Targets over machine scripts, what is done with them, and what is to come of it.
 use crate::asserts::expect_same;
-use jdwp_debuggee::Settings;
 use jdwp_script_machine::ScriptMachine;
-use jdwp_target::{Stepped, TargetFault, Turn};
+use jdwp_target::{Stepped, TargetFault, TargetOptions, Turn};
 use jdwp_value::ObjectId;
-use jdwp_wire::{ErrorCode, FrameFault, Limits};
+use jdwp_wire::{ErrorCode, FrameFault};
 use std::alloc::Global;
 use std::process::Abort;
 use std::test::Fail;
@@ -87,13 +86,13 @@ pub(crate) fn target(
     start_all: bool,
     count_limit: u32,
 ) -> Result<Target, Fail> {
-    let Some(settings) = Settings::new(start_all, count_limit, Limits::standard()) else {
+    let Some(options) = TargetOptions::new(start_all, count_limit) else {
         return Err(Fail::from("the count limit is refused"));
     };
     let Ok(machine) = ScriptMachine::read(alloc, script) else {
         return Err(Fail::from("the script is refused"));
     };
-    match Target::new(alloc, machine, settings) {
+    match Target::new(alloc, machine, options) {
         Ok(target) => Ok(target),
         Err(_) => Err(Fail::from("no memory")),
     }

@@ -1,15 +1,14 @@
-use Rattle.std.proofs.lemmas.Grind.{common_steps}
-use Rattle.std.proofs.Common.{refl, arith}
-use Rattle.jdwp_attach.proofs.Ending.{printed-memory, printed-part}
+use Rattle.std.proofs.Common.{refl}
+use Rattle.std.specs.String.{string_bytes}
+use Rattle.jdwp_plan.specs.declared.plan_line.PlanLine.TheVariants as line
+use Rattle.jdwp_attach.proofs.Ending.{line-memory, mirror-part}
 use Rattle.jdwp_attach.proofs.attaching.tell_mirror.Goals as goal
 
-pub returns-in-Err-NoMemory-clause-ends : goal.returns-in-Err-NoMemory-clause-ends
-returns-in-Err-NoMemory-clause-ends g c = λ pipe left.
-    printed-memory pipe (g.W.Pipe.story c.args.out.now) (g.W.Pipe.story c.print_mirror.new.out) c.args.debugger.now c.args.debugger.now left (rw c.in-Err-NoMemory.field-0-is at c.in-Err-NoMemory.ensures.err) refl
+pub returns-clause-ends : goal.returns-clause-ends
+returns-clause-ends g c = λ pipe left.
+    mirror-part pipe (g.W.Pipe.story c.args.out.now) (g.W.Pipe.story c.write_all.new.pipe) c.args.debugger.now c.lose.new.self left (string_bytes c.in-Ok.text) (rw c.mirror.ensures at c.in-Ok.ensures)
+    (rw c.as_bytes.ensures.value at c.if-write_all.ensures.fails refl) c.lose.ensures.lost
 
-pub returns-in-Err-Failed-clause-ends : goal.returns-in-Err-Failed-clause-ends
-returns-in-Err-Failed-clause-ends g c = λ pipe left.
-    printed-part pipe (g.W.Pipe.story c.args.out.now) (g.W.Pipe.story c.print_mirror.new.out) c.args.debugger.now c.lose.new.self left (rw c.in-Err-Failed.field-0-is at c.in-Err-Failed.ensures.err) c.lose.ensures.lost
-
-pub returns-in-Ok : goal.returns-in-Ok
-returns-in-Ok c = grind (arith, common_steps)
+pub returns-in_default-clause-ends : goal.returns-in_default-clause-ends
+returns-in_default-clause-ends g c = λ pipe left.
+    line-memory line.Mirror pipe (g.W.Pipe.story c.args.out.now) c.args.debugger.now left

@@ -1,5 +1,7 @@
 use Rattle.std.proofs.Common.{◌≡◌, refl, rules}
 use Rattle.jdwp_engine.specs.Run.{flushed}
+use Rattle.jdwp_engine.specs.Sessions.{CantFlush}
+use Rattle.jdwp_engine.proofs.Rounding.{flushed-last}
 use Rattle.jdwp_engine.proofs.Runs.{flush-ends, flushed-ends, flushed-goes}
 use Rattle.jdwp_engine.proofs.serving.flush_and_go.Goals as goal
 
@@ -24,3 +26,16 @@ returns-clause-ends g c =
     let left : g.P.Pipe.story c.flush_all.new.pipe ≡ flushed (g.P.Pipe.story c.args.pipe.now) = c.if-not-flush_all.ensures.all (search rules) in
     flushed-ends g.M.Machine.meaning (g.P.Pipe.story c.args.pipe.now) (g.P.Pipe.story c.flush_all.new.pipe) (g.P.Pipe.story c.step_or_read.new.pipe) c.args.target.now c.step_or_read.new.target
     c.step_or_read.result left c.step_or_read.ensures.ends
+
+pub returns-then-not-flush_all-clause-last : goal.returns-then-not-flush_all-clause-last
+returns-then-not-flush_all-clause-last g c = CantFlush c.requires.asks (c.if-not-flush_all.ensures.fails refl) c.lose.ensures
+
+pub returns-clause-round : goal.returns-clause-round
+returns-clause-round g c = λ e.
+    c.step_or_read.ensures.round e (g.P.Pipe.story c.args.pipe.now) (c.if-not-flush_all.ensures.all (search rules))
+
+pub returns-clause-last : goal.returns-clause-last
+returns-clause-last g c =
+    let left : g.P.Pipe.story c.flush_all.new.pipe ≡ flushed (g.P.Pipe.story c.args.pipe.now) = c.if-not-flush_all.ensures.all (search rules) in
+    flushed-last g.M.Machine.meaning c.args.target.now c.step_or_read.new.target (g.P.Pipe.story c.args.pipe.now) (g.P.Pipe.story c.flush_all.new.pipe) (g.P.Pipe.story c.step_or_read.new.pipe)
+    c.step_or_read.result left c.step_or_read.ensures.last

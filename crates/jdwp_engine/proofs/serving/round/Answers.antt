@@ -1,4 +1,7 @@
+use Rattle.std.proofs.Common.{refl}
 use Rattle.jdwp_end.specs.Ends.{front_of}
+use Rattle.jdwp_engine.specs.Sessions.{Faults, Turns, WantsToTurn, Writes}
+use Rattle.jdwp_engine.proofs.Rounding.{writes-last}
 use Rattle.jdwp_engine.proofs.Runs.{fault-next-ends, memory-next-ends, message-ends, message-goes}
 use Rattle.jdwp_engine.proofs.Turns.{nothing-More}
 use Rattle.jdwp_engine.proofs.serving.round.Goals as goal
@@ -19,13 +22,13 @@ returns-in-Err-NoMemory-clause-ends g c =
 pub returns-in_default-clause-goes : goal.returns-in_default-clause-goes
 returns-in_default-clause-goes g c = λ e.
     message-goes g.M.Machine.meaning (g.P.Pipe.story c.args.pipe.now) (g.P.Pipe.story c.write_and_go.new.pipe) c.args.target.now c.turn.new.self c.write_and_go.new.target
-    c.in-Ok.turn c.session.ensures.bytes c.in-Ok.ensures.packets c.session.ensures.ran c.in-Ok.ensures.turns c.in_default.not-Nothing (c.write_and_go.ensures.goes e)
+    c.in-Ok.turn c.closes_for_a_reason.ensures c.requires.is_open c.session.ensures.bytes c.session.ensures.ran c.in-Ok.ensures.turns c.in_default.not-Nothing (c.write_and_go.ensures.goes e)
 
 pub returns-in_default-clause-ends : goal.returns-in_default-clause-ends
 returns-in_default-clause-ends g c =
     let w = c.write_and_go.ensures in
     message-ends g.M.Machine.meaning (g.P.Pipe.story c.args.pipe.now) (g.P.Pipe.story c.write_and_go.new.pipe) c.args.target.now c.turn.new.self c.write_and_go.new.target
-    c.in-Ok.turn c.write_and_go.result c.session.ensures.bytes c.in-Ok.ensures.packets c.session.ensures.ran c.in-Ok.ensures.turns c.in_default.not-Nothing w.ends w.done w.fails
+    c.in-Ok.turn c.write_and_go.result c.closes_for_a_reason.ensures c.requires.is_open c.session.ensures.bytes c.session.ensures.ran c.in-Ok.ensures.turns c.in_default.not-Nothing w.ends w.done w.fails
 
 pub flush_and_go-requires-clause-asks : goal.flush_and_go-requires-clause-asks
 flush_and_go-requires-clause-asks g c =
@@ -42,3 +45,34 @@ returns-in-Nothing-clause-goes g c = λ e.
     let more = nothing-More g.M.Machine.meaning (front_of c.args.target.now.end) c.args.target.now c.turn.new.self (rw c.in-Nothing.is at c.in-Ok.ensures.turns) in
     let goes = c.flush_and_go.ensures.goes e in
     rw more.1 at goes
+
+pub returns-in-Err-Frame-clause-last : goal.returns-in-Err-Frame-clause-last
+returns-in-Err-Frame-clause-last g c =
+    let turned = rw c.in-Err-Frame.field-0-is at c.in-Err-Frame.ensures.turns in
+    rw c.number.ensures (Faults c.in-Err-Frame.fault turned refl)
+
+pub returns-in-Err-NoMemory-clause-last : goal.returns-in-Err-NoMemory-clause-last
+returns-in-Err-NoMemory-clause-last g c = WantsToTurn (rw c.in-Err-NoMemory.field-0-is at c.in-Err-NoMemory.ensures.turns) refl
+
+pub returns-in_default-clause-round : goal.returns-in_default-clause-round
+returns-in_default-clause-round g c = λ e.
+    let on = c.write_and_go.ensures.goes e in
+    Writes c.turn.new.self (g.P.Pipe.story c.args.pipe.now) (Turns c.in-Ok.turn c.turn.new.self c.in_default.not-Nothing c.in-Ok.ensures.turns) on.0 on.1
+
+pub returns-in_default-clause-last : goal.returns-in_default-clause-last
+returns-in_default-clause-last g c =
+    let w = c.write_and_go.ensures in
+    writes-last g.M.Machine.meaning c.args.target.now c.turn.new.self c.write_and_go.new.target (g.P.Pipe.story c.args.pipe.now) (g.P.Pipe.story c.args.pipe.now) (g.P.Pipe.story c.write_and_go.new.pipe)
+    c.write_and_go.result (Turns c.in-Ok.turn c.turn.new.self c.in_default.not-Nothing c.in-Ok.ensures.turns) w.ends w.done w.fails
+
+pub returns-in-Nothing-clause-round : goal.returns-in-Nothing-clause-round
+returns-in-Nothing-clause-round g c = λ e.
+    let more = nothing-More g.M.Machine.meaning (front_of c.args.target.now.end) c.args.target.now c.turn.new.self (rw c.in-Nothing.is at c.in-Ok.ensures.turns) in
+    let on = c.flush_and_go.ensures.round e in
+    rw more.1 at on
+
+pub returns-in-Nothing-clause-last : goal.returns-in-Nothing-clause-last
+returns-in-Nothing-clause-last g c =
+    let more = nothing-More g.M.Machine.meaning (front_of c.args.target.now.end) c.args.target.now c.turn.new.self (rw c.in-Nothing.is at c.in-Ok.ensures.turns) in
+    let on = c.flush_and_go.ensures.last in
+    rw more.1 at on

@@ -1,4 +1,5 @@
-use Rattle.std.proofs.Common.{refl, arith, rules}
+use Rattle.std.proofs.Common.{◌≡◌, ℕ, refl, arith, rules, subst}
+use Rattle.jdwp_engine.specs.Sessions.{All, NoRound, OneMore, Rounds, Until}
 use Rattle.jdwp_engine.proofs.Runs.{cost-opened, going-opened}
 use Rattle.jdwp_engine.proofs.serving.run_rounds.Goals as goal
 
@@ -15,12 +16,14 @@ loop-done-preserved g c =
     let h = c.in_default.ensures.goes refl in
     record {
       going = h.1 c.args.target.now (g.P.Pipe.story c.args.pipe.now) c.loop-done.invariant.going;
+      rounds = OneMore c.loop-done._done c.loop-done.target c.round.new.target (g.P.Pipe.story c.loop-done.pipe) (g.P.Pipe.story c.round.new.pipe) c.loop-done.invariant.rounds (c.in_default.ensures.round refl);
       costs = omega (arith, h.0, c.loop-done.invariant.costs);
     }
 
 pub loop-done-init : goal.loop-done-init
 loop-done-init g c = record {
   going = going-opened (g.P.Pipe.story c.args.pipe.now) c.args.target.now c.requires.opened;
+  rounds = NoRound;
   costs = omega (arith, cost-opened (g.P.Pipe.story c.args.pipe.now) c.args.target.now c.requires.opened);
 }
 
@@ -35,3 +38,14 @@ returns-in-Ends-clause-limit g c =
 pub returns-clause-ended : goal.returns-clause-ended
 returns-clause-ended g c =
     search rules
+
+pub returns-in-Ends-clause-rounds : goal.returns-in-Ends-clause-rounds
+returns-in-Ends-clause-rounds g c =
+    Until c.loop-done._done c.loop-done.target c.round.new.target (g.P.Pipe.story c.loop-done.pipe) (g.P.Pipe.story c.round.new.pipe) c.in-Ends.ended (omega (arith, c.loop-done-test.true))
+    c.loop-done.invariant.rounds c.in-Ends.ensures.last
+
+pub returns-clause-rounds : goal.returns-clause-rounds
+returns-clause-rounds g c =
+    let all : c.loop-done._done ≡ c.args.rounds = omega (arith, c.loop-done-test.false) in
+    All c.loop-done.target (g.P.Pipe.story c.loop-done.pipe)
+    (subst (λ (n : ℕ). Rounds g.M.Machine.meaning c.args.target.now (g.P.Pipe.story c.args.pipe.now) n c.loop-done.target (g.P.Pipe.story c.loop-done.pipe)) all c.loop-done.invariant.rounds)

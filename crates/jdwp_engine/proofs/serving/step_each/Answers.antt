@@ -2,11 +2,11 @@ use Rattle.std.proofs.Common.{ℕ, List, Option, refl, subst}
 use Rattle.jdwp_value.specs.declared.id.ObjectId.{ObjectId}
 use Rattle.jdwp_engine.specs.Rounds.{IsNext, id_in}
 use Rattle.jdwp_engine.proofs.Advancing.{stops}
-use Rattle.jdwp_engine.proofs.Onward.{steps-on, steps-over}
+use Rattle.jdwp_engine.proofs.Onward.{steps-begin, steps-on, steps-over, steps-stop}
 use Rattle.jdwp_engine.proofs.serving.step_each.Goals as goal
 
 pub loop-thread-init : goal.loop-thread-init
-loop-thread-init g c = record { made = refl; each = λ more new rest. rest }
+loop-thread-init g c = record { made = refl; each = steps-begin g.M.Machine.meaning c.args.target.now }
 
 pub loop-thread-preserved : goal.loop-thread-preserved
 loop-thread-preserved g c =
@@ -36,3 +36,12 @@ pub returns-in-Err-clause-memory : goal.returns-in-Err-clause-memory
 returns-in-Err-clause-memory g c =
     let memory = c.in-Err.ensures.memory in
     stops c.args.target.now c.loop-thread.target c.step_one.new.target c.loop-thread.has_stepped c.requires c.loop-thread.invariant.made memory.0 memory.1
+
+pub returns-in-Err-clause-each : goal.returns-in-Err-clause-each
+returns-in-Err-clause-each g c =
+    let live : List ℕ = g.M.Machine.meaning.live c.loop-thread.target.moment.machine in
+    steps-stop g.M.Machine.meaning c.args.target.now c.loop-thread.target c.step_one.new.target c.loop-thread.has_stepped (id_in c.loop-thread.last) c.in-Some.thread.0 c.in-Err.fault
+    c.loop-thread.invariant.each
+    (subst (λ (f : Option ObjectId). IsNext live (id_in c.loop-thread.last) (id_in f)) c.in-Some.is
+    (subst (λ (ids : List ℕ). IsNext ids (id_in c.loop-thread.last) (id_in c.least_above.result)) c.live.ensures.live c.least_above.ensures))
+    c.in-Err.ensures.wants

@@ -17,7 +17,7 @@ returns-in_default-clause-goes g c = λ first opened p.
     let m = g.M.Machine.meaning in
     let old = c.args.target.now in
     let made = made-step m c.args.thread.0 old c.step.new.self c.in-Ok.stepped (is_paused old.end) (may_step m old.settings old.moment c.args.thread.0) c.in_default.not-Frozen c.in-Ok.ensures.steps in
-    step-made m first old c.step.new.self c.args.thread.0 c.args.has_stepped opened p made.0 made.1
+    step-made m first old c.step.new.self c.args.thread.0 c.args.has_stepped c.closes_for_a_reason.ensures opened p made.0 made.1
 
 pub returns-in-Frozen-clause-steps : goal.returns-in-Frozen-clause-steps
 returns-in-Frozen-clause-steps g c = (c.in-Ok.stepped, c.in-Ok.ensures.steps, made-none c.args.has_stepped c.in-Ok.stepped c.in-Frozen.is)

@@ -5,8 +5,8 @@ use Rattle.jdwp_model.proofs.headline.holds_only_suspended_threads.Goals as goal
 pub returns : goal.returns
 returns g c =
     let m = g.M.Machine.meaning in
-    let law = g.met.M.Machine.lawful in
+    let rests = c.rests_on_laws.ensures in
     record {
-      suspended = always m law HeldIsSuspended (held_is_suspended m);
-      covered = always m law HeldIsCovered (held_is_covered m);
+      suspended = always m rests HeldIsSuspended (held_is_suspended m);
+      covered = always m rests HeldIsCovered (held_is_covered m);
     }

@@ -5,4 +5,4 @@ use Rattle.jdwp_model.proofs.headline.idle_turns_change_nothing.Goals as goal
 pub returns : goal.returns
 returns g c =
     let m = g.M.Machine.meaning in
-    at_each_turn m g.met.M.Machine.lawful (IdlesUnchanged m) (idles_unchanged m)
+    at_each_turn m c.rests_on_laws.ensures (IdlesUnchanged m) (idles_unchanged m)

@@ -5,9 +5,9 @@ use Rattle.jdwp_model.proofs.headline.meets_no_fault.Goals as goal
 pub returns : goal.returns
 returns g c =
     let m = g.M.Machine.meaning in
-    let law = g.met.M.Machine.lawful in
+    let rests = c.rests_on_laws.ensures in
     record {
-      debugger = always_whole m law NoPacketIsRefused (no_packet_is_refused m);
-      target = always_whole m law NoCallIsRefused (no_call_is_refused m);
-      waiting = always_whole m law FewWait (few_wait m);
+      debugger = always_whole m rests NoPacketIsRefused (no_packet_is_refused m);
+      target = always_whole m rests NoCallIsRefused (no_call_is_refused m);
+      waiting = always_whole m rests FewWait (few_wait m);
     }

@@ -5,8 +5,8 @@ use Rattle.jdwp_model.proofs.headline.turns_close_at_ends_alone.Goals as goal
 pub returns : goal.returns
 returns g c =
     let m = g.M.Machine.meaning in
-    let law = g.met.M.Machine.lawful in
+    let rests = c.rests_on_laws.ensures in
     record {
-      target = at_each_turn m law (TurnsLoseNothing m) (turns_lose_nothing m);
-      debugger = at_each_turn m law TurnsCloseAtEnds (turns_close_at_ends m);
+      target = at_each_turn m rests (TurnsLoseNothing m) (turns_lose_nothing m);
+      debugger = at_each_turn m rests TurnsCloseAtEnds (turns_close_at_ends m);
     }

@@ -4,7 +4,8 @@ use Rattle.jdwp_script.specs.Parts.{ClassPart}
 use Rattle.jdwp_script.specs.Meanings.{class_part}
 use Rattle.jdwp_script_machine.specs.Requests.{alone}
 use Rattle.jdwp_script_machine.specs.StateMeanings.{state_now}
-use Rattle.jdwp_script_machine.specs.ClassQuestions.{class_answer_to, takes_memory}
+use Rattle.jdwp_machine.specs.Laws.{takes_memory}
+use Rattle.jdwp_script_machine.specs.ClassQuestions.{class_answer_to}
 use Rattle.jdwp_script_machine.proofs.Alone.{alone_none, alone_more}
 use Rattle.jdwp_script_machine.proofs.class_answers.of_class.Goals as goal
 

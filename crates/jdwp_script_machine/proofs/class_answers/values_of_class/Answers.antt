@@ -1,7 +1,7 @@
 use Rattle.std.proofs.Common.{◌≡◌, IfOk, IfErr, IsTrue, sym, subst}
 use Rattle.jdwp_layout.specs.declared.answer.Answer.{Answer}
 use Rattle.jdwp_script_machine.specs.ClassAnswers.{statics_answer}
-use Rattle.jdwp_script_machine.specs.ClassQuestions.{takes_memory}
+use Rattle.jdwp_machine.specs.Laws.{takes_memory}
 use Rattle.jdwp_script_machine.proofs.class_answers.values_of_class.Goals as goal
 
 pub returns-in-Ok : goal.returns-in-Ok

@@ -1,9 +1,12 @@
 use Rattle.jdwp_script.specs.Meanings.{script_part}
 use Rattle.jdwp_script_machine.specs.ThreadAnswers.{this_answer}
-use Rattle.jdwp_script_machine.proofs.Alone.{answers_alone}
+use Rattle.jdwp_script_machine.proofs.Alone.{answers_alone, data_alone}
 use Rattle.jdwp_script_machine.proofs.frame_answers.this_object.Goals as goal
 
 pub returns-in-Ok-default-empty : goal.returns-in-Ok-default-empty
 returns-in-Ok-default-empty c =
     let found = c.in-Ok-default-empty in
-    answers_alone c.of_scalar.result _ _ found.field-0-1.now (found.ensures (this_answer (script_part c.args.state.now.script))) found.len_below (rw c.tagged-this.ensures at c.of_scalar.ensures)
+    record {
+      value = answers_alone c.of_scalar.result _ _ found.field-0-1.now (found.ensures (this_answer (script_part c.args.state.now.script))) found.len_below (rw c.tagged-this.ensures at c.of_scalar.ensures);
+      memory = data_alone c.of_scalar.result _ _ found.field-0-1.now (found.ensures (this_answer (script_part c.args.state.now.script))) found.len_below (rw c.tagged-this.ensures at c.of_scalar.ensures);
+    }

@@ -1,7 +1,8 @@
 use Rattle.std.proofs.Common.{◌≡◌, IfOk, IfErr, IsTrue, sym, subst}
 use Rattle.jdwp_layout.specs.declared.answer.Answer.{Answer}
 use Rattle.jdwp_script_machine.specs.Requests.{alone, of_method_in}
-use Rattle.jdwp_script_machine.specs.ClassQuestions.{method_answer_to, takes_memory}
+use Rattle.jdwp_machine.specs.Laws.{takes_memory}
+use Rattle.jdwp_script_machine.specs.ClassQuestions.{method_answer_to}
 use Rattle.jdwp_script_machine.proofs.method_answers.of_method.Goals as goal
 
 pub returns-in-Ok : goal.returns-in-Ok

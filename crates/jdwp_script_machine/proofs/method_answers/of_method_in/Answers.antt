@@ -3,7 +3,8 @@ use Rattle.std.proofs.Common.{◌≡◌, IfOk, IfErr, IsTrue, sym, ◌∙◌, su
 use Rattle.jdwp_layout.specs.declared.answer.Answer.{Answer}
 use Rattle.jdwp_script.specs.Meanings.{method_part}
 use Rattle.jdwp_script_machine.specs.Requests.{alone}
-use Rattle.jdwp_script_machine.specs.ClassQuestions.{method_answer_to, takes_memory}
+use Rattle.jdwp_machine.specs.Laws.{takes_memory}
+use Rattle.jdwp_script_machine.specs.ClassQuestions.{method_answer_to}
 use Rattle.jdwp_script_machine.proofs.Alone.{alone_none}
 use Rattle.jdwp_script_machine.proofs.method_answers.of_method_in.Goals as goal
 

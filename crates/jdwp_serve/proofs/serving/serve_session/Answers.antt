@@ -5,5 +5,15 @@ pub returns-clause-served : goal.returns-clause-served
 returns-clause-served g c =
     let in-order = (rw c.in_ok-target.ensures at c.serve.ensures.in_order) refl refl in
     let ended = (rw c.in_ok-target.ensures at c.serve.ensures.ended) refl refl in
+    let by-rounds = (rw (c.in_ok-target.ensures, c.from.ensures) at c.serve.ensures.rounds) refl refl in
+    let at-most = (rw (c.in_ok-target.ensures, c.from.ensures) at c.serve.ensures.at_most) refl refl in
     let limit = rw c.from.ensures at c.serve.ensures.limit in
-    (c.serve.new.target, c.serve.ensures.ran, in-order, ended, limit)
+    record {
+      target = c.serve.new.target;
+      ran = c.serve.ensures.ran;
+      in_order = in-order;
+      may_end = ended;
+      by_rounds = by-rounds;
+      at_most = at-most;
+      all_used = limit;
+    }

@@ -6,4 +6,4 @@ pub returns-in-Null : goal.returns-in-Null
 returns-in-Null c = search rules
 
 pub returns-in-At : goal.returns-in-At
-returns-in-At c = rw c.in-At.is (joined (joined (joined (joined (joined (joined c.push_type_tag.ensures c.push_str-in-At.ensures) c.push_id.ensures) c.push_str-in-At-2.ensures) c.push_id-in-At.ensures) c.push_str-in-At-3.ensures) c.push_number.ensures)
+returns-in-At c = rw c.in-At.is (joined (joined (joined (joined (joined (joined c.push_type_tag.ensures c.push_str-in-At.ensures.grows) c.push_id.ensures) c.push_str-in-At-2.ensures.grows) c.push_id-in-At.ensures) c.push_str-in-At-3.ensures.grows) c.push_number.ensures)

@@ -3,4 +3,4 @@ use Rattle.jdwp_show.proofs.TextLemmas.{joined, all_grown}
 use Rattle.jdwp_show.proofs.message_line.composite_line.Goals as goal
 
 pub returns : goal.returns
-returns c = IfOk-weaker c.into_string.result _ _ (λ line kept. all_grown line c.new-line.ensures (joined c.push_composite_start.ensures c.push_composite.ensures) kept.0 kept.1) c.into_string.ensures
+returns c = IfOk-weaker c.into_string.result _ _ (λ line kept. all_grown line c.new-line.ensures.bytes (joined c.push_composite_start.ensures c.push_composite.ensures) kept.0 kept.1) c.into_string.ensures.ok

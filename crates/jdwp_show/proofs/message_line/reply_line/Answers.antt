@@ -3,4 +3,4 @@ use Rattle.jdwp_show.proofs.TextLemmas.{joined, all_grown}
 use Rattle.jdwp_show.proofs.message_line.reply_line.Goals as goal
 
 pub returns : goal.returns
-returns c = IfOk-weaker c.into_string.result _ _ (λ line kept. all_grown line c.new-line.ensures (joined (joined c.push_reply_start.ensures c.push_data.ensures) c.push_raw.ensures) kept.0 kept.1) c.into_string.ensures
+returns c = IfOk-weaker c.into_string.result _ _ (λ line kept. all_grown line c.new-line.ensures.bytes (joined (joined c.push_reply_start.ensures c.push_data.ensures) c.push_raw.ensures) kept.0 kept.1) c.into_string.ensures.ok

@@ -4,4 +4,4 @@ use Rattle.jdwp_show.proofs.TextLemmas.{joined, grows_as}
 use Rattle.jdwp_show.proofs.message_text.push_hello.Goals as goal
 
 pub returns : goal.returns
-returns c = grows_as (append_assoc (mark c.args.sender) (codes " ") _) (joined c.push_mark.ensures c.push_str.ensures)
+returns c = grows_as (append_assoc (mark c.args.sender) (codes " ") _) (joined c.push_mark.ensures c.push_str.ensures.grows)

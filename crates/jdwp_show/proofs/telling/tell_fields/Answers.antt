@@ -13,4 +13,4 @@ returns-then-fields-eq1 c =
 pub returns : goal.returns
 returns c =
     let many : length c.args.fields.now ≡ 1 → ⊥ = λ one. omega (arith, one) in
-    many_told (field_at c.args.sizes.now c.args.whole) c.args.fields.now c.args.text.now _ _ _ c.args.rest.now c.in_ok-rest.rest.now many c.push_str.ensures c.in_ok-rest.ensures c.push_str-2.ensures
+    many_told (field_at c.args.sizes.now c.args.whole) c.args.fields.now c.args.text.now _ _ _ c.args.rest.now c.in_ok-rest.rest.now many c.push_str.ensures.grows c.in_ok-rest.ensures c.push_str-2.ensures.grows

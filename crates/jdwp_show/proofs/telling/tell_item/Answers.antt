@@ -11,7 +11,7 @@ returns-in-One c = rw c.in-One.is (IfOk-weaker c.tell_field.result _ _ (λ after
 pub returns-in_ok-rest-in-Many : goal.returns-in_ok-rest-in-Many
 returns-in_ok-rest-in-Many c =
     let told = list_told (entry_at c.args.sizes.now c.args.whole (entry_shape c.in-Many.entry)) c.args.whole c.in_ok-count-in-Many.count c.args.text.now _ _ _ c.args.rest.now c.in_ok-count-in-Many.rest.now c.in_ok-rest-in-Many.rest.now
-    c.in_ok-count-in-Many.ensures.value c.push_str.ensures c.in_ok-rest-in-Many.ensures c.push_str-in-Many.ensures in
+    c.in_ok-count-in-Many.ensures.value c.push_str.ensures.grows c.in_ok-rest-in-Many.ensures c.push_str-in-Many.ensures.grows in
     rw c.in-Many.is told
 
 pub returns-in_ok-region-in-Region : goal.returns-in_ok-region-in-Region

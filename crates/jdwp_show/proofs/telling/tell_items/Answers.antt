@@ -19,7 +19,7 @@ loop-item-preserved c =
     let lt : i < length items = omega arith in
     let below : i < length (shapes items) = rw (length-map items item_shape) lt in
     each_told datum_text (λ n. codes " ") data_text data_grow (item_at c.args.sizes.now c.args.whole) (shapes items) (item_shape (get_or items i d)) i c.loop-item.rest.now c.in_ok-after.after.now _ _ _ _ _
-    below (sym (get_or-map item_shape items i d (item_shape (get_or items i d)) lt)) c.push_str.ensures c.in_ok-after.ensures c.loop-item.invariant
+    below (sym (get_or-map item_shape items i d (item_shape (get_or items i d)) lt)) c.push_str.ensures.grows c.in_ok-after.ensures c.loop-item.invariant
 
 pub returns : goal.returns
 returns c =

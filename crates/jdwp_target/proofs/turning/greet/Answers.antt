@@ -37,11 +37,10 @@ enqueue_start-requires c = grind (arith, common_steps)
 pub returns-in-Some-clause-encoded : goal.returns-in-Some-clause-encoded
 returns-in-Some-clause-encoded g c =
     let old = c.args.debuggee.now in
-    let off : old.moment.state.handshaken ≡ false = search rules in
     let w = g.M.Machine.meaning.sizes old.moment.machine in
     let start = c.in-Some.start in
     let sent : IsEncoded w (Some (vm_start (policy_byte start.policy) start.thread.0)) = start-encoded w (policy_byte start.policy) start.thread.0 (policy-small start.policy) c.in-Some.ensures.fits in
-    rw off (subst (λ (e : CompositeMeaning). IsEncoded w (Some e)) c.in-Some.ensures.says sent)
+    λ off. subst (λ (e : CompositeMeaning). IsEncoded w (Some e)) c.in-Some.ensures.says sent
 
 pub returns-in-Some-clause-packets : goal.returns-in-Some-clause-packets
 returns-in-Some-clause-packets g c =
@@ -59,4 +58,4 @@ returns-in_default-clause-packets g c =
 pub returns-in_default-clause-encoded : goal.returns-in_default-clause-encoded
 returns-in_default-clause-encoded g c =
     let on : c.args.debuggee.now.moment.state.handshaken ≡ true = search rules in
-    rw on (search rules)
+    λ off. absurd (cc)

@@ -10,7 +10,7 @@ invariant_of-self-2 g c =
     let free = rw (← c.self.view_is) at c.requires in
     let origin = rw same at c.in_ok-origin.ensures in
     let number : c.unwrap-asked_id.result ≡ c.self.inside.next_request = search rules in
-    let request = rw (origin, number) at c.in_ok-request.ensures in
+    let request = rw (origin, number) at c.in_ok-request.ensures.value in
     rw c.in_ok-insert.ensures.ok (kept-set-by g.M.Machine.meaning _ c.args.kind c.args.policy (modifiers_meaning c.args.modifiers) c.in_ok-request.request c.self.invariant free request)
 
 pub returns-clause-ok : goal.returns-clause-ok
@@ -19,5 +19,5 @@ returns-clause-ok g c =
     let free = rw (← c.self.view_is) at c.requires in
     let origin = rw same at c.in_ok-origin.ensures in
     let number : c.unwrap-asked_id.result ≡ c.self.inside.next_request = search rules in
-    let request = rw (origin, number) at c.in_ok-request.ensures in
+    let request = rw (origin, number) at c.in_ok-request.ensures.value in
     rw (← c.self.view_is, c.in_ok-insert.ensures.ok) (carries-set g.M.Machine.meaning _ c.args.kind c.args.policy (modifiers_meaning c.args.modifiers) c.in_ok-request.request c.self.invariant free request)

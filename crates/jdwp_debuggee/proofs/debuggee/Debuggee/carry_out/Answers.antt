@@ -4,6 +4,7 @@ use Rattle.jdwp_debuggee.specs.CommandReads.{Asking}
 use Rattle.jdwp_debuggee.specs.Debuggees.{CarriesOut}
 use Rattle.jdwp_debuggee.specs.Replies.{reply_meaning}
 use Rattle.jdwp_debuggee.proofs.Encoded.{threads-told}
+use Rattle.jdwp_debuggee.proofs.Wanting.{both-wanted, short-wants}
 use Rattle.jdwp_debuggee.proofs.Writable.{frames-did, short-did, short-fails, short-sent, short-stays, thread-did}
 use Rattle.jdwp_debuggee.proofs.debuggee.Debuggee.carry_out.Goals as goal
 
@@ -93,3 +94,20 @@ returns-in-AskThread-clause-ok g c = rw c.in-AskThread.is (thread-did g.M.Machin
 
 pub returns-in-AllThreads-clause-encoded : goal.returns-in-AllThreads-clause-encoded
 returns-in-AllThreads-clause-encoded g c = rw c.in-AllThreads.is (threads-told g.M.Machine.meaning c.args.self.now None c.ask_all_threads.result c.ask_all_threads.ensures.encoded)
+
+pub returns-in-Exit-clause-wants : goal.returns-in-Exit-clause-wants
+returns-in-Exit-clause-wants g c = rw (c.short.ensures, c.in-Exit.is) (short-wants _ c.exit.result c.exit.ensures.memory)
+
+pub returns-in-SetRequest-clause-wants : goal.returns-in-SetRequest-clause-wants
+returns-in-SetRequest-clause-wants g c = rw (c.short-in-SetRequest.ensures, c.in-SetRequest.is) (short-wants _ c.set_request.result c.set_request.ensures.memory)
+
+pub returns-in-SetSlots-clause-wants : goal.returns-in-SetSlots-clause-wants
+returns-in-SetSlots-clause-wants g c =
+    rw (c.short-in-SetSlots.ensures, c.in-SetSlots.is)
+    (short-wants _ c.set_slots.result (both-wanted _ _ c.set_slots.result c.set_slots.ensures.suspended (rw c.deref.ensures.value at c.set_slots.ensures.memory)))
+
+pub returns-in-AskFrames-clause-wants : goal.returns-in-AskFrames-clause-wants
+returns-in-AskFrames-clause-wants g c = rw c.in-AskFrames.is (both-wanted _ _ c.ask_frames.result c.ask_frames.ensures.suspended c.ask_frames.ensures.memory)
+
+pub returns-in-AskThread-clause-wants : goal.returns-in-AskThread-clause-wants
+returns-in-AskThread-clause-wants g c = rw c.in-AskThread.is (both-wanted _ _ c.ask_thread.result c.ask_thread.ensures.lives c.ask_thread.ensures.memory)

@@ -1,7 +1,7 @@
 use Rattle.std.proofs.Common.{rules, ◌≡◌, take}
 use Rattle.jdwp_wire.specs.Bytes.{IsBytes}
 use Rattle.jdwp_wire.specs.Streams.{message_bytes}
-use Rattle.jdwp_end.proofs.Fronts.{in-front}
+use Rattle.jdwp_end.specs.FrontLaws.{in-front}
 use Rattle.jdwp_end.proofs.end.End.take_off.Goals as goal
 
 pub returns : goal.returns

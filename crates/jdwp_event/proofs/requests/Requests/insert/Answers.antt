@@ -1,8 +1,9 @@
-use Rattle.std.proofs.Common.{◌≡◌, ◌∙◌, ◌<◌, length, get_or, sym, subst, arith, List}
+use Rattle.std.proofs.Common.{◌≡◌, ◌∙◌, ◌<◌, length, drop, get_or, sym, subst, arith, List, Result, Ok, Err}
+use Rattle.std.specs.Prelude.{IfErr}
 use Rattle.jdwp_event.specs.Requests.{Request}
 use Rattle.jdwp_event.specs.RequestLists.{AreRising, placed}
 use Rattle.jdwp_event.specs.KindsAsked.{AreAsked}
-use Rattle.jdwp_event.proofs.Rising.{placed_there, placed_between, placed_rising}
+use Rattle.jdwp_event.proofs.Rising.{StartsPast, absent, past, placed_there, placed_between, placed_rising}
 use Rattle.jdwp_event.proofs.requests.Requests.insert.Goals as goal
 use Rattle.jdwp_event.proofs.requests.Requests.insert.Goals.{else-place-len-via-then-place-len+else-id, else-place-len-via-else-place-len}
 
@@ -38,3 +39,21 @@ invariant_of-self-2 c =
       subst (λ (xs : List Request). AreRising xs) (sym e) (placed_rising c.args.request c.self.inside.entries.items c.self.invariant.0),
       subst (λ (xs : List Request). AreAsked c.asked_by-self-inside-2.result xs) c.deref-2.ensures.value c.asked_by-self-inside-2.ensures,
     )
+
+if_err : {X E : Type 0} (P : Type 0) (r : Result X E) → P → IfErr r (λ _. P)
+if_err P (Ok x) p = tt
+if_err P (Err e) p = p
+
+pub returns-in_err-insert-clause-memory : goal.returns-in_err-insert-clause-memory
+returns-in_err-insert-clause-memory c =
+    let below = rw (c.deref.ensures.value, c.id.ensures.is) at c.place_for-place.ensures.below in
+    let above = rw (c.deref.ensures.value, c.id.ensures.is) at c.place_for-place.ensures.above in
+    let list = c.self.inside.entries.items in
+    let id = c.args.request.asked.id in
+    let p = c.place_for-place.result in
+    let starts : StartsPast id (drop p list) = elim c.else-place-len.branch [
+      | else-place-len-via-then-place-len+else-id w ↦ past id list p w.index.result.now above
+          (λ lt e. let f : w.index.result.now.asked.id ≡ id = rw (w.index.ensures) e in w.if-id.false (w.id-then-place-len.ensures.is ∙ (f ∙ sym w.id-then-place-len-2.ensures.is)))
+      | else-place-len-via-else-place-len w ↦ past id list p c.args.request above (λ lt e. absurd (omega arith))
+    ] in
+    rw (← c.self.view_is) (if_err _ c.from_residual.result (absent id list p c.self.invariant.0 below starts))

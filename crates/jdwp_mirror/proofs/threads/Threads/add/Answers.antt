@@ -14,7 +14,7 @@ invariant_of-self-in-Ok c =
     let k = c.args.known in
     let n = c.in_ok-number.number in
     let unknown : count_in (values_of i.entries.entries) k.id.0 ≡ None = cc in
-    let entries = c.in-Ok.ensures.entries ∙ inserted-last i.entries.entries n k (recursion_from_All _ (keys_of i.entries.entries) c.in_ok-number.ensures) in
+    let entries = c.in-Ok.ensures.entries ∙ inserted-last i.entries.entries n k (recursion_from_All _ (keys_of i.entries.entries) c.in_ok-number.ensures.above) in
     let values = ap values_of entries ∙ values-added i.entries.entries n k in (
       subst AreSound (sym values) (sound-added (values_of i.entries.entries) k unknown c.requires.counted c.self.invariant.0),
       numbered-added i.entries c.insert-2.new.self i.numbers c.insert.new.self n k c.self.invariant.1 unknown entries c.in-Ok.ensures.ordered c.in_ok-insert.ensures.updates,
@@ -37,5 +37,5 @@ returns-in-Ok-clause-ok c =
     let i = c.self.inside in
     let k = c.args.known in
     let n = c.in_ok-number.number in
-    let entries = c.in-Ok.ensures.entries ∙ inserted-last i.entries.entries n k (recursion_from_All _ (keys_of i.entries.entries) c.in_ok-number.ensures) in
+    let entries = c.in-Ok.ensures.entries ∙ inserted-last i.entries.entries n k (recursion_from_All _ (keys_of i.entries.entries) c.in_ok-number.ensures.above) in
     ap values_of entries ∙ (values-added i.entries.entries n k ∙ ap (λ ks. ks ++ k ∷ []) c.self.view_is)

@@ -2,9 +2,11 @@ use Rattle.std.proofs.lemmas.Grind.{common_steps}
 use Rattle.std.proofs.Common.{◌≡◌, ◌∙◌, length, rules, refl, arith}
 use Rattle.jdwp_wire.specs.Streams.{Handshake, Packet, Whole}
 use Rattle.jdwp_end.specs.Ends.{front_of}
+use Rattle.jdwp_target.specs.declared.turning.Came.TheVariants as came
 use Rattle.jdwp_target.specs.Insides.{target_of}
-use Rattle.jdwp_target.proofs.AnswersEncoded.{encodes-command, encodes-ignored, encodes-whole}
-use Rattle.jdwp_target.proofs.RightTurns.{command-replied, greeted, handled-view, packet-handshaken, packet-there, reply-handled, right-handled, sends-whole, told-command, turns-whole}
+use Rattle.jdwp_target.specs.TurnParts.{IsRead}
+use Rattle.jdwp_target.proofs.AnswersEncoded.{encodes-command, encodes-ignored, encodes-start, encodes-whole}
+use Rattle.jdwp_target.proofs.RightTurns.{command-came, command-needs, command-room, front-room, greeted, handled-view, packet-handshaken, packet-lent, reply-handled, right-handled, sends-whole, told-command, turns-wanting, turns-whole}
 use Rattle.jdwp_target.proofs.target.Target.turn.Goals as goal
 use Rattle.jdwp_target.proofs.target.Target.turn.Goals.{in-Written-1, in-Short-1}
 
@@ -28,82 +30,8 @@ pub returns-in-Handshake-clause-encoded : goal.returns-in-Handshake-clause-encod
 returns-in-Handshake-clause-encoded g c =
     let t = c.self.inside in
     let front : front_of t.end ≡ Whole Handshake 14 = search rules in
-    rw (← c.self.view_is) (encodes-whole g.M.Machine.meaning (target_of t.debuggee t.began.items t.phases.items (length t.steps.items) t.end) Handshake 14 front c.greet.ensures.encoded)
-
-pub invariant_of-self-in_default : goal.invariant_of-self-in_default
-invariant_of-self-in_default g c =
-    let t = c.self.inside in
-    let header = c.read_packet-packet.result.header in
-    let body = c.read_packet-packet.result.body.now in
-    let used = c.in-Packet.used in
-    let front : front_of t.end ≡ Whole (Packet header body) used =
-    packet-there t.end c.limits-limits.result c.packet_in_front.result.now used header body c.in-Packet.ensures.front c.limits-limits.ensures c.packet_in_front.ensures.packet c.read_packet-packet.ensures in
-    let shaken = packet-handshaken g.M.Machine.meaning t.debuggee t.began.items t.phases.items (length t.steps.items) t.end header body used c.self.invariant c.front.ensures.bytes front in
-    let h = reply-handled g.M.Machine.meaning t.debuggee header body used _ t.end _ c.in_default.is shaken (c.take_off-in_default.ensures (Packet header body) front) in
-    right-handled g.M.Machine.meaning t.debuggee _ t.began.items t.phases.items (length t.steps.items) t.end _ (Packet header body) used c.self.invariant c.front.ensures.bytes front h
-
-pub invariant_of-self-in_ok-done-in-Packet : goal.invariant_of-self-in_ok-done-in-Packet
-invariant_of-self-in_ok-done-in-Packet g c =
-    let t = c.self.inside in
-    let header = c.read_packet-packet.result.header in
-    let body = c.read_packet-packet.result.body.now in
-    let used = c.in-Packet.used in
-    let front : front_of t.end ≡ Whole (Packet header body) used =
-    packet-there t.end c.limits-limits.result c.packet_in_front.result.now used header body c.in-Packet.ensures.front c.limits-limits.ensures c.packet_in_front.ensures.packet c.read_packet-packet.ensures in
-    let shaken = packet-handshaken g.M.Machine.meaning t.debuggee t.began.items t.phases.items (length t.steps.items) t.end header body used c.self.invariant c.front.ensures.bytes front in
-    let off = c.take_off-in-Packet.ensures (Packet header body) front in
-    let h =
-    command-replied g.M.Machine.meaning t.debuggee c.handle.new.debuggee c.reply.new.debuggee header body used c.in-Command.set c.in-Command.number t.end c.take_off-in-Packet.new.self c.reply.new.end c.in_ok-done-in-Packet.done
-    c.sizes-sizes.result c.in-Command.is
-    c.in_ok-done-in-Packet.ensures.ok shaken c.reply.ensures.debuggee c.sizes-sizes.ensures off c.reply.ensures.end c.self.invariant.limits c.front.ensures.least c.fits_reply.ensures in
-    right-handled g.M.Machine.meaning t.debuggee _ t.began.items t.phases.items (length t.steps.items) t.end _ (Packet header body) used c.self.invariant c.front.ensures.bytes front h
-
-pub invariant_of-self-in_ok-done-in-Packet-2 : goal.invariant_of-self-in_ok-done-in-Packet-2
-invariant_of-self-in_ok-done-in-Packet-2 g c =
-    let t = c.self.inside in
-    let header = c.read_packet-packet.result.header in
-    let body = c.read_packet-packet.result.body.now in
-    let used = c.in-Packet.used in
-    let front : front_of t.end ≡ Whole (Packet header body) used =
-    packet-there t.end c.limits-limits.result c.packet_in_front.result.now used header body c.in-Packet.ensures.front c.limits-limits.ensures c.packet_in_front.ensures.packet c.read_packet-packet.ensures in
-    let shaken = packet-handshaken g.M.Machine.meaning t.debuggee t.began.items t.phases.items (length t.steps.items) t.end header body used c.self.invariant c.front.ensures.bytes front in
-    let off = c.take_off-in-Packet.ensures (Packet header body) front in
-    let h =
-    command-replied g.M.Machine.meaning t.debuggee c.handle.new.debuggee c.reply.new.debuggee header body used c.in-Command.set c.in-Command.number t.end c.take_off-in-Packet.new.self c.reply.new.end c.in_ok-done-in-Packet.done
-    c.sizes-sizes.result c.in-Command.is
-    c.in_ok-done-in-Packet.ensures.ok shaken c.reply.ensures.debuggee c.sizes-sizes.ensures off c.reply.ensures.end c.self.invariant.limits c.front.ensures.least c.fits_reply.ensures in
-    right-handled g.M.Machine.meaning t.debuggee _ t.began.items t.phases.items (length t.steps.items) t.end _ (Packet header body) used c.self.invariant c.front.ensures.bytes front h
-
-pub returns-in_ok-done-in-Packet-clause-turns : goal.returns-in_ok-done-in-Packet-clause-turns
-returns-in_ok-done-in-Packet-clause-turns g c =
-    let t = c.self.inside in
-    let header = c.read_packet-packet.result.header in
-    let body = c.read_packet-packet.result.body.now in
-    let used = c.in-Packet.used in
-    let front : front_of t.end ≡ Whole (Packet header body) used =
-    packet-there t.end c.limits-limits.result c.packet_in_front.result.now used header body c.in-Packet.ensures.front c.limits-limits.ensures c.packet_in_front.ensures.packet c.read_packet-packet.ensures in
-    let shaken = packet-handshaken g.M.Machine.meaning t.debuggee t.began.items t.phases.items (length t.steps.items) t.end header body used c.self.invariant c.front.ensures.bytes front in
-    let off = c.take_off-in-Packet.ensures (Packet header body) front in
-    let h =
-    command-replied g.M.Machine.meaning t.debuggee c.handle.new.debuggee c.reply.new.debuggee header body used c.in-Command.set c.in-Command.number t.end c.take_off-in-Packet.new.self c.reply.new.end c.in_ok-done-in-Packet.done
-    c.sizes-sizes.result c.in-Command.is
-    c.in_ok-done-in-Packet.ensures.ok shaken c.reply.ensures.debuggee c.sizes-sizes.ensures off c.reply.ensures.end c.self.invariant.limits c.front.ensures.least c.fits_reply.ensures in
-    let same : c.match-done.self ≡ target_of c.reply.new.debuggee t.began.items t.phases.items (length t.steps.items) c.reply.new.end = elim c.match-done.branch [ in-Written-1 w ↦ w.self-is | in-Short-1 w ↦ w.self-is ] in
-    rw (← c.self.view_is)
-    (turns-whole g.M.Machine.meaning (target_of t.debuggee t.began.items t.phases.items (length t.steps.items) t.end) c.match-done.self (Packet header body) used _ front
-    (told-command g.M.Machine.meaning t.debuggee.settings t.debuggee.moment header body c.in-Command.set c.in-Command.number c.error_of.result c.in-Command.is (c.error_of.ensures ∙ c.in_ok-done-in-Packet.ensures.ok.sends.error))
-    (same ∙ handled-view g.M.Machine.meaning t.debuggee c.reply.new.debuggee t.began.items t.phases.items (length t.steps.items) t.end c.reply.new.end (Packet header body) used c.self.invariant h))
-
-pub returns-in_ok-done-in-Packet-clause-encoded : goal.returns-in_ok-done-in-Packet-clause-encoded
-returns-in_ok-done-in-Packet-clause-encoded g c =
-    let t = c.self.inside in
-    let header = c.read_packet-packet.result.header in
-    let body = c.read_packet-packet.result.body.now in
-    let front : front_of t.end ≡ Whole (Packet header body) c.in-Packet.used =
-    packet-there t.end c.limits-limits.result c.packet_in_front.result.now c.in-Packet.used header body c.in-Packet.ensures.front c.limits-limits.ensures c.packet_in_front.ensures.packet c.read_packet-packet.ensures in
-    rw (← c.self.view_is)
-    (encodes-whole g.M.Machine.meaning (target_of t.debuggee t.began.items t.phases.items (length t.steps.items) t.end) (Packet header body) c.in-Packet.used front
-    (encodes-command g.M.Machine.meaning t.debuggee.settings t.debuggee.moment header body c.in-Command.set c.in-Command.number c.in-Command.is c.in_ok-done-in-Packet.ensures.encoded))
+    let old = target_of t.debuggee t.began.items t.phases.items (length t.steps.items) t.end in
+    rw (← c.self.view_is) (encodes-whole g.M.Machine.meaning old Handshake 14 front (encodes-start g.M.Machine.meaning old t.debuggee.moment.state.handshaken c.greet.ensures.encoded))
 
 pub returns-in-Handshake-clause-packets : goal.returns-in-Handshake-clause-packets
 returns-in-Handshake-clause-packets g c =
@@ -112,64 +40,199 @@ returns-in-Handshake-clause-packets g c =
     let h = greeted g.M.Machine.meaning t.debuggee _ t.end _ _ (c.take_off.ensures Handshake front) c.greet.ensures.debuggee c.greet.ensures.end c.self.invariant.limits c.greet.ensures.packets in
     rw (← c.self.view_is) (sends-whole g.M.Machine.meaning (target_of t.debuggee t.began.items t.phases.items (length t.steps.items) t.end) Handshake 14 front h.sends)
 
-pub returns-in_ok-done-in-Packet-clause-packets : goal.returns-in_ok-done-in-Packet-clause-packets
-returns-in_ok-done-in-Packet-clause-packets g c =
+pub invariant_of-self-in_default : goal.invariant_of-self-in_default
+invariant_of-self-in_default g c =
+    let m = g.M.Machine.meaning in
     let t = c.self.inside in
-    let header = c.read_packet-packet.result.header in
-    let body = c.read_packet-packet.result.body.now in
+    let header = c.in-Packet.ensures.front.0 in
+    let body = c.in-Packet.ensures.front.1 in
     let used = c.in-Packet.used in
-    let front : front_of t.end ≡ Whole (Packet header body) used =
-    packet-there t.end c.limits-limits.result c.packet_in_front.result.now used header body c.in-Packet.ensures.front c.limits-limits.ensures c.packet_in_front.ensures.packet c.read_packet-packet.ensures in
-    let shaken = packet-handshaken g.M.Machine.meaning t.debuggee t.began.items t.phases.items (length t.steps.items) t.end header body used c.self.invariant c.front.ensures.bytes front in
+    let front : front_of t.end ≡ Whole (Packet header body) used = c.in-Packet.ensures.front.2 in
+    let found = packet-lent t.end c.limits-limits.result c.packet_in_front-bytes.result.now used header body front c.limits-limits.ensures c.packet_in_front-bytes.ensures.packet in
+    let shaken = packet-handshaken m t.debuggee t.began.items t.phases.items (length t.steps.items) t.end header body used c.self.invariant c.front.ensures.bytes front in
+    let read : IsRead c.sizes-sizes.result header.id header.kind body came.Reply = rw c.in_default.is at (c.in_ok-came-in-Packet.ensures header body used found) in
+    let h = reply-handled m t.debuggee header body used read.0 t.end _ read.1 shaken (c.take_off-in_default.ensures (Packet header body) front) in
+    right-handled m t.debuggee _ t.began.items t.phases.items (length t.steps.items) t.end _ (Packet header body) used c.self.invariant c.front.ensures.bytes front h
+
+pub invariant_of-self-in_ok-done-in-Packet : goal.invariant_of-self-in_ok-done-in-Packet
+invariant_of-self-in_ok-done-in-Packet g c =
+    let m = g.M.Machine.meaning in
+    let t = c.self.inside in
+    let header = c.in-Packet.ensures.front.0 in
+    let body = c.in-Packet.ensures.front.1 in
+    let used = c.in-Packet.used in
+    let front : front_of t.end ≡ Whole (Packet header body) used = c.in-Packet.ensures.front.2 in
+    let found = packet-lent t.end c.limits-limits.result c.packet_in_front-bytes.result.now used header body front c.limits-limits.ensures c.packet_in_front-bytes.ensures.packet in
+    let shaken = packet-handshaken m t.debuggee t.began.items t.phases.items (length t.steps.items) t.end header body used c.self.invariant c.front.ensures.bytes front in
+    let read : IsRead c.sizes-sizes.result header.id header.kind body (came.Command c.in-Command.id c.in-Command.asked) = rw c.in-Command.is at (c.in_ok-came-in-Packet.ensures header body used found) in
     let off = c.take_off-in-Packet.ensures (Packet header body) front in
     let h =
-    command-replied g.M.Machine.meaning t.debuggee c.handle.new.debuggee c.reply.new.debuggee header body used c.in-Command.set c.in-Command.number t.end c.take_off-in-Packet.new.self c.reply.new.end c.in_ok-done-in-Packet.done
-    c.sizes-sizes.result c.in-Command.is
-    c.in_ok-done-in-Packet.ensures.ok shaken c.reply.ensures.debuggee c.sizes-sizes.ensures off c.reply.ensures.end c.self.invariant.limits c.front.ensures.least c.fits_reply.ensures in
-    rw (← c.self.view_is) (sends-whole g.M.Machine.meaning (target_of t.debuggee t.began.items t.phases.items (length t.steps.items) t.end) (Packet header body) used front h.sends)
+    command-came m t.debuggee c.handle.new.debuggee c.reply.new.debuggee header body used t.end c.take_off-in-Packet.new.self c.reply.new.end c.in_ok-done-in-Packet.done
+    c.sizes-sizes.result c.in-Command.id c.in-Command.asked read c.sizes-sizes.ensures c.in_ok-done-in-Packet.ensures.ok shaken c.reply.ensures.debuggee off c.reply.ensures.end
+    c.self.invariant.limits c.front.ensures.least c.fits_reply.ensures in
+    right-handled m t.debuggee _ t.began.items t.phases.items (length t.steps.items) t.end _ (Packet header body) used c.self.invariant c.front.ensures.bytes front h
+
+pub invariant_of-self-in_ok-done-in-Packet-2 : goal.invariant_of-self-in_ok-done-in-Packet-2
+invariant_of-self-in_ok-done-in-Packet-2 g c =
+    let m = g.M.Machine.meaning in
+    let t = c.self.inside in
+    let header = c.in-Packet.ensures.front.0 in
+    let body = c.in-Packet.ensures.front.1 in
+    let used = c.in-Packet.used in
+    let front : front_of t.end ≡ Whole (Packet header body) used = c.in-Packet.ensures.front.2 in
+    let found = packet-lent t.end c.limits-limits.result c.packet_in_front-bytes.result.now used header body front c.limits-limits.ensures c.packet_in_front-bytes.ensures.packet in
+    let shaken = packet-handshaken m t.debuggee t.began.items t.phases.items (length t.steps.items) t.end header body used c.self.invariant c.front.ensures.bytes front in
+    let read : IsRead c.sizes-sizes.result header.id header.kind body (came.Command c.in-Command.id c.in-Command.asked) = rw c.in-Command.is at (c.in_ok-came-in-Packet.ensures header body used found) in
+    let off = c.take_off-in-Packet.ensures (Packet header body) front in
+    let h =
+    command-came m t.debuggee c.handle.new.debuggee c.reply.new.debuggee header body used t.end c.take_off-in-Packet.new.self c.reply.new.end c.in_ok-done-in-Packet.done
+    c.sizes-sizes.result c.in-Command.id c.in-Command.asked read c.sizes-sizes.ensures c.in_ok-done-in-Packet.ensures.ok shaken c.reply.ensures.debuggee off c.reply.ensures.end
+    c.self.invariant.limits c.front.ensures.least c.fits_reply.ensures in
+    right-handled m t.debuggee _ t.began.items t.phases.items (length t.steps.items) t.end _ (Packet header body) used c.self.invariant c.front.ensures.bytes front h
+
+pub returns-in_ok-done-in-Packet-clause-turns : goal.returns-in_ok-done-in-Packet-clause-turns
+returns-in_ok-done-in-Packet-clause-turns g c =
+    let m = g.M.Machine.meaning in
+    let t = c.self.inside in
+    let header = c.in-Packet.ensures.front.0 in
+    let body = c.in-Packet.ensures.front.1 in
+    let used = c.in-Packet.used in
+    let front : front_of t.end ≡ Whole (Packet header body) used = c.in-Packet.ensures.front.2 in
+    let found = packet-lent t.end c.limits-limits.result c.packet_in_front-bytes.result.now used header body front c.limits-limits.ensures c.packet_in_front-bytes.ensures.packet in
+    let shaken = packet-handshaken m t.debuggee t.began.items t.phases.items (length t.steps.items) t.end header body used c.self.invariant c.front.ensures.bytes front in
+    let read : IsRead c.sizes-sizes.result header.id header.kind body (came.Command c.in-Command.id c.in-Command.asked) = rw c.in-Command.is at (c.in_ok-came-in-Packet.ensures header body used found) in
+    let off = c.take_off-in-Packet.ensures (Packet header body) front in
+    let h =
+    command-came m t.debuggee c.handle.new.debuggee c.reply.new.debuggee header body used t.end c.take_off-in-Packet.new.self c.reply.new.end c.in_ok-done-in-Packet.done
+    c.sizes-sizes.result c.in-Command.id c.in-Command.asked read c.sizes-sizes.ensures c.in_ok-done-in-Packet.ensures.ok shaken c.reply.ensures.debuggee off c.reply.ensures.end
+    c.self.invariant.limits c.front.ensures.least c.fits_reply.ensures in
+    let old = target_of t.debuggee t.began.items t.phases.items (length t.steps.items) t.end in
+    let same : c.match-done.self ≡ target_of c.reply.new.debuggee t.began.items t.phases.items (length t.steps.items) c.reply.new.end = elim c.match-done.branch [ in-Written-1 w ↦ w.self-is | in-Short-1 w ↦ w.self-is ] in
+    let told =
+    told-command m old header body c.sizes-sizes.result c.in-Command.id c.in-Command.asked c.error_of.result read c.sizes-sizes.ensures
+    (λ set number bytes asks. c.error_of.ensures ∙ (c.in_ok-done-in-Packet.ensures.ok set number bytes asks).sends.error) in
+    rw (← c.self.view_is)
+    (turns-whole m old c.match-done.self (Packet header body) used _ front told
+    (same ∙ handled-view m t.debuggee c.reply.new.debuggee t.began.items t.phases.items (length t.steps.items) t.end c.reply.new.end (Packet header body) used c.self.invariant h))
+
+pub returns-in_ok-done-in-Packet-clause-encoded : goal.returns-in_ok-done-in-Packet-clause-encoded
+returns-in_ok-done-in-Packet-clause-encoded g c =
+    let m = g.M.Machine.meaning in
+    let t = c.self.inside in
+    let header = c.in-Packet.ensures.front.0 in
+    let body = c.in-Packet.ensures.front.1 in
+    let used = c.in-Packet.used in
+    let front : front_of t.end ≡ Whole (Packet header body) used = c.in-Packet.ensures.front.2 in
+    let found = packet-lent t.end c.limits-limits.result c.packet_in_front-bytes.result.now used header body front c.limits-limits.ensures c.packet_in_front-bytes.ensures.packet in
+    let read : IsRead c.sizes-sizes.result header.id header.kind body (came.Command c.in-Command.id c.in-Command.asked) = rw c.in-Command.is at (c.in_ok-came-in-Packet.ensures header body used found) in
+    let old = target_of t.debuggee t.began.items t.phases.items (length t.steps.items) t.end in
+    rw (← c.self.view_is)
+    (encodes-whole m old (Packet header body) used front
+    (encodes-command m old header body c.sizes-sizes.result c.in-Command.id c.in-Command.asked read c.sizes-sizes.ensures c.in_ok-done-in-Packet.ensures.encoded))
+
+pub returns-in_ok-done-in-Packet-clause-packets : goal.returns-in_ok-done-in-Packet-clause-packets
+returns-in_ok-done-in-Packet-clause-packets g c =
+    let m = g.M.Machine.meaning in
+    let t = c.self.inside in
+    let header = c.in-Packet.ensures.front.0 in
+    let body = c.in-Packet.ensures.front.1 in
+    let used = c.in-Packet.used in
+    let front : front_of t.end ≡ Whole (Packet header body) used = c.in-Packet.ensures.front.2 in
+    let found = packet-lent t.end c.limits-limits.result c.packet_in_front-bytes.result.now used header body front c.limits-limits.ensures c.packet_in_front-bytes.ensures.packet in
+    let shaken = packet-handshaken m t.debuggee t.began.items t.phases.items (length t.steps.items) t.end header body used c.self.invariant c.front.ensures.bytes front in
+    let read : IsRead c.sizes-sizes.result header.id header.kind body (came.Command c.in-Command.id c.in-Command.asked) = rw c.in-Command.is at (c.in_ok-came-in-Packet.ensures header body used found) in
+    let off = c.take_off-in-Packet.ensures (Packet header body) front in
+    let h =
+    command-came m t.debuggee c.handle.new.debuggee c.reply.new.debuggee header body used t.end c.take_off-in-Packet.new.self c.reply.new.end c.in_ok-done-in-Packet.done
+    c.sizes-sizes.result c.in-Command.id c.in-Command.asked read c.sizes-sizes.ensures c.in_ok-done-in-Packet.ensures.ok shaken c.reply.ensures.debuggee off c.reply.ensures.end
+    c.self.invariant.limits c.front.ensures.least c.fits_reply.ensures in
+    let old = target_of t.debuggee t.began.items t.phases.items (length t.steps.items) t.end in
+    rw (← c.self.view_is) (sends-whole m old (Packet header body) used front h.sends)
 
 pub returns-in_default-clause-packets : goal.returns-in_default-clause-packets
 returns-in_default-clause-packets g c =
+    let m = g.M.Machine.meaning in
     let t = c.self.inside in
-    let header = c.read_packet-packet.result.header in
-    let body = c.read_packet-packet.result.body.now in
+    let header = c.in-Packet.ensures.front.0 in
+    let body = c.in-Packet.ensures.front.1 in
     let used = c.in-Packet.used in
-    let front : front_of t.end ≡ Whole (Packet header body) used =
-    packet-there t.end c.limits-limits.result c.packet_in_front.result.now used header body c.in-Packet.ensures.front c.limits-limits.ensures c.packet_in_front.ensures.packet c.read_packet-packet.ensures in
-    let shaken = packet-handshaken g.M.Machine.meaning t.debuggee t.began.items t.phases.items (length t.steps.items) t.end header body used c.self.invariant c.front.ensures.bytes front in
-    let h = reply-handled g.M.Machine.meaning t.debuggee header body used _ t.end _ c.in_default.is shaken (c.take_off-in_default.ensures (Packet header body) front) in
-    rw (← c.self.view_is) (sends-whole g.M.Machine.meaning (target_of t.debuggee t.began.items t.phases.items (length t.steps.items) t.end) (Packet header body) used front h.sends)
+    let front : front_of t.end ≡ Whole (Packet header body) used = c.in-Packet.ensures.front.2 in
+    let found = packet-lent t.end c.limits-limits.result c.packet_in_front-bytes.result.now used header body front c.limits-limits.ensures c.packet_in_front-bytes.ensures.packet in
+    let shaken = packet-handshaken m t.debuggee t.began.items t.phases.items (length t.steps.items) t.end header body used c.self.invariant c.front.ensures.bytes front in
+    let read : IsRead c.sizes-sizes.result header.id header.kind body came.Reply = rw c.in_default.is at (c.in_ok-came-in-Packet.ensures header body used found) in
+    let h = reply-handled m t.debuggee header body used read.0 t.end _ read.1 shaken (c.take_off-in_default.ensures (Packet header body) front) in
+    let old = target_of t.debuggee t.began.items t.phases.items (length t.steps.items) t.end in
+    rw (← c.self.view_is) (sends-whole m old (Packet header body) used front h.sends)
 
 pub returns-in_default-clause-turns : goal.returns-in_default-clause-turns
-returns-in_default-clause-turns g c = search rules
+returns-in_default-clause-turns g c =
+    search rules
 
 pub returns-in_default-clause-encoded : goal.returns-in_default-clause-encoded
 returns-in_default-clause-encoded g c =
+    let m = g.M.Machine.meaning in
     let t = c.self.inside in
-    let header = c.read_packet-packet.result.header in
-    let body = c.read_packet-packet.result.body.now in
-    let front : front_of t.end ≡ Whole (Packet header body) c.in-Packet.used =
-    packet-there t.end c.limits-limits.result c.packet_in_front.result.now c.in-Packet.used header body c.in-Packet.ensures.front c.limits-limits.ensures c.packet_in_front.ensures.packet c.read_packet-packet.ensures in
-    rw (← c.self.view_is)
-    (encodes-whole g.M.Machine.meaning (target_of t.debuggee t.began.items t.phases.items (length t.steps.items) t.end) (Packet header body) c.in-Packet.used front
-    (encodes-ignored g.M.Machine.meaning t.debuggee.settings t.debuggee.moment header body _ c.in_default.is))
+    let header = c.in-Packet.ensures.front.0 in
+    let body = c.in-Packet.ensures.front.1 in
+    let used = c.in-Packet.used in
+    let front : front_of t.end ≡ Whole (Packet header body) used = c.in-Packet.ensures.front.2 in
+    let found = packet-lent t.end c.limits-limits.result c.packet_in_front-bytes.result.now used header body front c.limits-limits.ensures c.packet_in_front-bytes.ensures.packet in
+    let read : IsRead c.sizes-sizes.result header.id header.kind body came.Reply = rw c.in_default.is at (c.in_ok-came-in-Packet.ensures header body used found) in
+    let old = target_of t.debuggee t.began.items t.phases.items (length t.steps.items) t.end in
+    rw (← c.self.view_is) (encodes-whole m old (Packet header body) used front (encodes-ignored m old header body read.0 read.1))
 
 pub greet-requires : goal.greet-requires
 greet-requires c = grind (arith, common_steps)
 
 pub handle-requires : goal.handle-requires
 handle-requires g c =
+    let m = g.M.Machine.meaning in
     let t = c.self.inside in
-    let header = c.read_packet-packet.result.header in
-    let body = c.read_packet-packet.result.body.now in
+    let header = c.in-Packet.ensures.front.0 in
+    let body = c.in-Packet.ensures.front.1 in
     let used = c.in-Packet.used in
-    let front : front_of t.end ≡ Whole (Packet header body) used =
-    packet-there t.end c.limits-limits.result c.packet_in_front.result.now used header body c.in-Packet.ensures.front c.limits-limits.ensures c.packet_in_front.ensures.packet c.read_packet-packet.ensures in
-    packet-handshaken g.M.Machine.meaning t.debuggee t.began.items t.phases.items (length t.steps.items) t.end header body used c.self.invariant c.front.ensures.bytes front
+    let front : front_of t.end ≡ Whole (Packet header body) used = c.in-Packet.ensures.front.2 in
+    packet-handshaken m t.debuggee t.began.items t.phases.items (length t.steps.items) t.end header body used c.self.invariant c.front.ensures.bytes front
 
 pub returns-in-Fault-clause-turns : goal.returns-in-Fault-clause-turns
 returns-in-Fault-clause-turns g c =
     search rules
 
-pub packet_in_front-requires : goal.packet_in_front-requires
-packet_in_front-requires g c = c.in-Packet.ensures.front
+pub packet_in_front-bytes-requires : goal.packet_in_front-bytes-requires
+packet_in_front-bytes-requires g c = c.in-Packet.ensures.front
+
+pub returns-in_err-done-in-Packet-clause-turns : goal.returns-in_err-done-in-Packet-clause-turns
+returns-in_err-done-in-Packet-clause-turns g c =
+    let m = g.M.Machine.meaning in
+    let t = c.self.inside in
+    let header = c.in-Packet.ensures.front.0 in
+    let body = c.in-Packet.ensures.front.1 in
+    let used = c.in-Packet.used in
+    let front : front_of t.end ≡ Whole (Packet header body) used = c.in-Packet.ensures.front.2 in
+    let found = packet-lent t.end c.limits-limits.result c.packet_in_front-bytes.result.now used header body front c.limits-limits.ensures c.packet_in_front-bytes.ensures.packet in
+    let read : IsRead c.sizes-sizes.result header.id header.kind body (came.Command c.in-Command.id c.in-Command.asked) = rw c.in-Command.is at (c.in_ok-came-in-Packet.ensures header body used found) in
+    let old = target_of t.debuggee t.began.items t.phases.items (length t.steps.items) t.end in
+    let needs = command-needs m old header body c.sizes-sizes.result c.in-Command.id c.in-Command.asked read c.sizes-sizes.ensures c.in_err-done-in-Packet.ensures.memory in
+    rw (← c.self.view_is) (turns-wanting m old _ (Packet header body) used _ front (search rules) needs (search rules))
+
+pub reply-requires-clause-short : goal.reply-requires-clause-short
+reply-requires-clause-short g c =
+    let t = c.self.inside in
+    let message = Packet c.in-Packet.ensures.front.0 c.in-Packet.ensures.front.1 in
+    let front : front_of t.end ≡ Whole message c.in-Packet.used = c.in-Packet.ensures.front.2 in
+    let room = front-room t.end message c.in-Packet.used front in
+    rw (c.take_off-in-Packet.ensures message front) (omega (arith, room, c.front.ensures.least))
+
+pub reply-requires-clause-room : goal.reply-requires-clause-room
+reply-requires-clause-room g c =
+    let m = g.M.Machine.meaning in
+    let t = c.self.inside in
+    let header = c.in-Packet.ensures.front.0 in
+    let body = c.in-Packet.ensures.front.1 in
+    let used = c.in-Packet.used in
+    let front : front_of t.end ≡ Whole (Packet header body) used = c.in-Packet.ensures.front.2 in
+    let found = packet-lent t.end c.limits-limits.result c.packet_in_front-bytes.result.now used header body front c.limits-limits.ensures c.packet_in_front-bytes.ensures.packet in
+    let read : IsRead c.sizes-sizes.result header.id header.kind body (came.Command c.in-Command.id c.in-Command.asked) = rw c.in-Command.is at (c.in_ok-came-in-Packet.ensures header body used found) in
+    rw (c.take_off-in-Packet.ensures (Packet header body) front)
+    (command-room m t.debuggee c.handle.new.debuggee header body used t.end c.in_ok-done-in-Packet.done c.sizes-sizes.result c.in-Command.id c.in-Command.asked read c.sizes-sizes.ensures
+    c.in_ok-done-in-Packet.ensures.ok c.self.invariant.limits c.front.ensures.least front)

@@ -1,0 +1,90 @@
+//! Runs of the program without files between its ends.
+use crate::asserts::expect_same;
+use crate::tests::{MACHINE, is_refused, is_run, remove};
+use std::fs;
+use std::net::{Ipv4Addr, Net, OpenListener, SocketAddr};
+use std::process::Abort;
+use std::test::Fail;
+
+/// A breakpoint that suspends all threads, then Resume; and the mirror once it was reached.
+const PLAN: &str = "ask 15 1 0202000000010701000000000000000a00000000000000140000000000000003
+ask 1 9
+events 2
+mirror
+";
+
+/// What is printed of it.
+const PRINTED: &str = "< hello
+< 1 Event.Composite 2 [(90, 0, #1)]
+< 1 reply VirtualMachine.IDSizes 0 8 8 8 8 8
+< 2 reply EventRequest.Set 0 1
+< 3 reply VirtualMachine.Resume 0
+< 2 Event.Composite 2 [(2, 1, #1, 1:#10:#20:3)]
+thread 1 1 held
+request 1 2 2
+";
+
+#[test]
+fn both_ends_run_a_plan(rt: HostRuntime) -> Result<(), Fail> {
+    let (machine, plan) = ("pair_machine", "pair_plan");
+    fs::write(&rt, machine, MACHINE)?;
+    fs::write(&rt, plan, PLAN)?;
+    let words = ["pair", machine, plan, "--memory", "--start", "all"];
+    is_run(&rt, &words, 0, PRINTED, "")?;
+    remove(&rt, &[machine, plan])
+}
+
+/// A command that no target has is told with its line.
+#[test]
+fn a_line_that_is_refused_is_told(rt: HostRuntime) -> Result<(), Fail> {
+    let (machine, plan) = ("pair_other_machine", "pair_other_plan");
+    fs::write(&rt, machine, MACHINE)?;
+    fs::write(&rt, plan, "ask 1 8\nanswers\nask 1 99\n")?;
+    let words = ["pair", machine, plan, "--memory", "--start", "none"];
+    let printed = "< hello
+< 1 Event.Composite 0 [(90, 0, #1)]
+< 1 reply VirtualMachine.IDSizes 0 8 8 8 8 8
+< 2 reply VirtualMachine.Suspend 0
+";
+    let told =
+        "jdwp: line 3 of the plan: fault 36: a command of the plan that no target has, or data that do not read in its layout\n";
+    is_run(&rt, &words, 1, printed, told)?;
+    remove(&rt, &[machine, plan])
+}
+
+/// A script and a plan that are refused are told with their files, the script first.
+#[test]
+fn files_of_both_ends_are_judged(rt: HostRuntime) -> Result<(), Fail> {
+    let (machine, plan) = ("pair_bad_machine", "pair_bad_plan");
+    fs::write(&rt, machine, "{")?;
+    fs::write(&rt, plan, "asks\n")?;
+    let words = ["pair", machine, plan, "--memory"];
+    assert!(rt; is_refused(&rt, &words, &["pair_bad_machine: fault 21: "])?);
+    fs::write(&rt, machine, MACHINE)?;
+    assert!(rt; is_refused(&rt, &words, &["pair_bad_plan: line 1 of the plan: "])?);
+    remove(&rt, &[machine, plan])
+}
+
+/// At a port where nobody listens there is no session: the first one is the system's own, which no test takes.
+#[test]
+fn a_port_where_nobody_listens_is_told(rt: HostRuntime) -> Result<(), Fail> {
+    let plan = "port_plan";
+    fs::write(&rt, plan, "ask 1 8\n")?;
+    let words = ["attach", plan, "--port", "1"];
+    is_run(&rt, &words, 2, "", "jdwp: port 1: connection refused\n")?;
+    remove(&rt, &[plan])
+}
+
+/// A port that another listens at can't be taken.
+#[test]
+fn a_port_in_use_is_told(rt: HostRuntime) -> Result<(), Fail> {
+    let machine = "port_machine";
+    fs::write(&rt, machine, MACHINE)?;
+    let listener = rt.bind(SocketAddr::from((Ipv4Addr::LOCALHOST, 0)))?;
+    let port = listener.local_addr()?.port();
+    let number = port.to_string(rt.alloc())?;
+    let told = format!(in rt.alloc(); "jdwp: port {port}: address in use\n")?;
+    let words = ["serve-script", machine, "--port", number.as_str()];
+    is_run(&rt, &words, 2, "", told.as_str())?;
+    remove(&rt, &[machine])
+}

@@ -1,0 +1,50 @@
+-- When memory may be wanted.
+use Rattle.std.proofs.Common.{◌≡◌, ℕ, List, Some, Result, Ok, Err, refl}
+use Rattle.std.specs.Prelude.{IfErr, IsOk}
+use Rattle.jdwp_wire.specs.declared.data_fault.DataFault.{DataFault}
+use Rattle.jdwp_wire.specs.declared.data_fault.DataFault.TheVariants as fault
+use Rattle.jdwp_wire.specs.declared.no_memory.NoMemory.{NoMemory}
+use Rattle.jdwp_wire.specs.Widths.{Widths}
+use Rattle.jdwp_layout.specs.Grammar.{EncodesData}
+use Rattle.jdwp_layout.specs.Meanings.{DatumMeaning}
+use Rattle.jdwp_layout.specs.Reads.{data_at}
+use Rattle.jdwp_layout.specs.Shapes.{ItemShape}
+use Rattle.jdwp_layout.proofs.GrammarLaws.{data_again}
+use Rattle.jdwp_debuggee.specs.CommandReads.{command_read}
+use Rattle.jdwp_debuggee.specs.ReadParts.{implemented_request}
+use Rattle.jdwp_debuggee.specs.Sending.{sent_short}
+use Rattle.jdwp_debuggee.specs.declared.command.Asked.{Asked}
+use Rattle.jdwp_debuggee.specs.declared.reply.Reply.{Reply}
+use Rattle.jdwp_debuggee.proofs.Read.{read_is}
+
+-- ---- reading
+
+-- a command whose data read
+pub read-whole : (w : Widths) (set number : ℕ) (bytes : List ℕ) (items : List ItemShape) (content : List DatumMeaning) → implemented_request set number ≡ Some items
+    → data_at w items bytes ≡ Ok content → IsOk (command_read w set number bytes)
+read-whole w set number bytes items content e found = rw (read_is w set number bytes items e, found) refl
+
+-- memory is wanted only for data that are encoded
+pub read-encoded : (w : Widths) (set number : ℕ) (bytes : List ℕ) (items : List ItemShape) (found : DataFault) (answer : Result Asked NoMemory) → implemented_request set number ≡ Some items
+    → (found ≡ fault.NoMemory → (xs : List DatumMeaning) × EncodesData w items xs bytes)
+    → IfErr answer (λ _. found ≡ fault.NoMemory) → IfErr answer (λ _. IsOk (command_read w set number bytes))
+read-encoded w set number bytes items found (Ok asked) e hides is = tt
+read-encoded w set number bytes items found (Err error) e hides is =
+    let encoded = hides is in
+    read-whole w set number bytes items encoded.0 e (data_again w items bytes encoded.0 encoded.1)
+
+-- ---- what is answered
+
+pub if-err : {X E : Type 0} (P : Type 0) (r : Result X E) → P → IfErr r (λ _. P)
+if-err P (Ok x) p = tt
+if-err P (Err e) p = p
+
+-- both hold where memory is wanted
+pub both-wanted : {X E : Type 0} (P Q : Type 0) (r : Result X E) → IfErr r (λ _. P) → IfErr r (λ _. Q) → IfErr r (λ _. P × Q)
+both-wanted P Q (Ok x) p q = tt
+both-wanted P Q (Err e) p q = (p, q)
+
+-- a reply that takes no memory to send
+pub short-wants : {E : Type 0} (P : Type 0) (r : Result Reply E) → IfErr r (λ _. P) → IfErr (sent_short r) (λ _. P)
+short-wants P (Ok reply) h = tt
+short-wants P (Err e) h = h

@@ -1,0 +1,65 @@
+-- When memory may be wanted to carry out a command: what refuses it wants none.
+use Rattle.std.specs.Prelude.{◌≡◌, ℕ, ◌≤◌, ◌==◌, nat_le, Bool, false, true, not, List, [], length, Option, Some, None, IsTrue}
+use Rattle.jdwp_wire.specs.declared.error_code.ErrorCode.{ErrorCode}
+use Rattle.jdwp_wire.specs.ErrorCodes.{ILLEGAL_ARGUMENT}
+use Rattle.jdwp_event.specs.Composites.{POLICY_ALL}
+use Rattle.jdwp_event.specs.Modifiers.{ModifierMeaning}
+use Rattle.jdwp_machine.specs.declared.query.Query.{Query}
+use Rattle.jdwp_machine.specs.Laws.{takes_memory}
+use Rattle.jdwp_machine.specs.Meanings.{Meaning}
+use Rattle.jdwp_debuggee.specs.Actions
+use Rattle.jdwp_debuggee.specs.Actions.{Action}
+use Rattle.jdwp_debuggee.specs.CommandReads.{Asking}
+use Rattle.jdwp_debuggee.specs.Refusals.{is_some_count, kind_refusal, modifiers_refusal, or_else, room_refusal, shape_refusal, unless}
+use Rattle.jdwp_debuggee.specs.Settings.{Settings}
+use Rattle.jdwp_debuggee.specs.State.{State, Moment, count_of}
+
+-- ---- threads
+
+-- a thread lives
+abbrev pub is_live : State → ℕ → Bool
+is_live state t = is_some_count (count_of state t)
+
+abbrev pub is_positive : Option ℕ → Bool
+is_positive None = false
+is_positive (Some count) = not (count == 0)
+
+-- it lives, and is suspended
+abbrev pub is_suspended : State → ℕ → Bool
+is_suspended state t = is_positive (count_of state t)
+
+-- ---- event requests
+
+-- the refusals of a Set that come before those of its modifiers: by its kind, its policy, and room
+abbrev pub early_refusal : Settings → State → ℕ → ℕ → Option ErrorCode
+early_refusal settings state byte policy =
+    or_else (kind_refusal byte) (
+    or_else (unless (nat_le policy POLICY_ALL) ILLEGAL_ARGUMENT) (
+    room_refusal settings state))
+
+-- those that come after: the first of its modifiers', and of what a request of the kind must have
+abbrev pub late_refusal : {S : Type 0} → Meaning S → Moment S → ℕ → List ModifierMeaning → Option ErrorCode
+late_refusal m now byte modifiers = or_else (modifiers_refusal m now byte modifiers) (shape_refusal byte modifiers)
+
+-- ---- actions
+
+-- a question that the machine answers with data
+abbrev pub AsksData : {S : Type 0} → Meaning S → S → Option Query → Type 0
+AsksData m s None = ⊥
+AsksData m s (Some query) = IsTrue (takes_memory (m.query s query))
+
+-- An action may want memory: Exit where threads live; a Set that is not refused before its modifiers; and what the machine is asked,
+-- where the thread is as it has to be and the machine does not refuse it. No other action wants any.
+abbrev pub MayWant : {S : Type 0} → Meaning S → Settings → Moment S → Option Query → Action → Type 0
+MayWant m settings now question Actions.Exit = m.live now.machine ≡ [] → ⊥
+MayWant m settings now question (Actions.SetRequest byte policy entries) = early_refusal settings now.state byte policy ≡ None
+MayWant m settings now question (Actions.SetSlots t f values) = (is_suspended now.state t ≡ true) × IsTrue (takes_memory (m.write_answer now.machine t f values))
+MayWant m settings now question (Actions.AskFrames t) = (is_suspended now.state t ≡ true) × AsksData m now.machine question
+MayWant m settings now question (Actions.AskThread t) = (is_live now.state t ≡ true) × AsksData m now.machine question
+MayWant m settings now question Actions.AllThreads = length now.state.threads ≤ settings.limits.packet
+MayWant m settings now question Actions.Ask = AsksData m now.machine question
+MayWant m settings now question action = ⊥
+
+-- the same of what was asked for
+abbrev pub MayWantFor : {S : Type 0} → Meaning S → Settings → Moment S → Asking → Type 0
+MayWantFor m settings now asking = MayWant m settings now asking.question asking.action

@@ -1,0 +1,80 @@
+-- How the rounds of a session follow from what each call did.
+use Rattle.std.proofs.Common.{◌≡◌, ◌∙◌, Bool, true, false, None, Result, Ok, Err, ◌⊎◌, inl, inr, sym, ap, subst}
+use Rattle.jdwp_wire.specs.Streams.{More}
+use Rattle.jdwp_end.specs.Ends.{front_of, is_open}
+use Rattle.jdwp_machine.specs.Meanings.{Meaning}
+use Rattle.jdwp_target.specs.declared.target.TargetFault.{TargetFault}
+use Rattle.jdwp_target.specs.Targets.{Target, Ran}
+use Rattle.jdwp_engine.specs.declared.ended.Ended.{Ended}
+use Rattle.jdwp_engine.specs.declared.ended.Ended.TheVariants.{Done, LostByRead, LostByWrite, Refused, NoMemory, TurnLimit}
+use Rattle.jdwp_engine.specs.declared.serving.Next.{Next}
+use Rattle.jdwp_engine.specs.declared.serving.Next.TheVariants.{Goes, Ends}
+use Rattle.jdwp_engine.specs.Next.{IfEnds}
+use Rattle.jdwp_engine.specs.Rounds.{StepsEach}
+use Rattle.jdwp_engine.specs.Run.{LosesAtRead, LosesAtWrite, WritesAll, flushed}
+use Rattle.jdwp_engine.specs.Sessions.{LastRound, Moves, Steps, CantRead, CantWrite, Closes, unflushed_end}
+use Rattle.jdwp_engine.specs.Story.{Story}
+
+-- a step of each live thread, behind a flush
+pub moved : {S : Type 0} (m : Meaning S) (old mid : Target S) (before now : Story) (came : Result Bool TargetFault) → front_of old.end ≡ More → StepsEach m None old came mid → now ≡ flushed before
+    → Moves m old before came mid now
+moved m old mid before now came asks each e = subst (λ (x : Story). Moves m old before came mid x) (sym e) (Steps came mid asks each)
+
+-- what was put was written, and the session closed; or a write failed
+pub writes-last : {S : Type 0} (m : Meaning S) (old mid new : Target S) (before now after : Story) (next : Next) → Moves m old before (Ok true) mid now
+    → IfEnds next (λ ended. (ended ≡ Done) ⊎ (ended ≡ LostByWrite))
+    → (next ≡ Ends Done → (is_open mid.end ≡ false) × WritesAll mid new now after × Ran m new)
+    → (next ≡ Ends LostByWrite → LosesAtWrite m mid new now after)
+    → IfEnds next (LastRound m old before new after)
+writes-last m old mid new before now after Goes moves which done fails = tt
+writes-last m old mid new before now after (Ends ended) moves which done fails =
+    elim which [
+      | inl is ↦ let d = done (ap Ends is) in rw is (Closes mid now moves d.0 d.1)
+      | inr is ↦ rw is (CantWrite (Ok true) mid now moves (λ e. cc) (fails (ap Ends is)))
+    ]
+
+-- the same behind steps
+pub steps-last : {S : Type 0} (m : Meaning S) (old mid new : Target S) (now after : Story) (next : Next) → front_of old.end ≡ More → StepsEach m None old (Ok true) mid
+    → IfEnds next (λ ended. (ended ≡ Done) ⊎ (ended ≡ LostByWrite))
+    → (next ≡ Ends Done → (is_open mid.end ≡ false) × WritesAll mid new now after × Ran m new)
+    → (next ≡ Ends LostByWrite → LosesAtWrite m mid new now after)
+    → IfEnds next (λ ended. (before : Story) → now ≡ flushed before → LastRound m old before new after ended)
+steps-last m old mid new now after Goes asks each which done fails = tt
+steps-last m old mid new now after (Ends ended) asks each which done fails =
+    λ before e. writes-last m old mid new before now after (Ends ended) (moved m old mid before now (Ok true) asks each e) which done fails
+
+-- a step wanted memory, the session is open, and a write failed
+pub starved-last : {S : Type 0} (m : Meaning S) (old mid new : Target S) (now after : Story) (fault : TargetFault) (ended : Ended) → front_of old.end ≡ More → StepsEach m None old (Err fault) mid → is_open mid.end ≡ true
+    → (ended ≡ Done) ⊎ (ended ≡ LostByWrite)
+    → (Ends ended ≡ Ends Done → (is_open mid.end ≡ false) × WritesAll mid new now after × Ran m new)
+    → (Ends ended ≡ Ends LostByWrite → LosesAtWrite m mid new now after)
+    → (before : Story) → now ≡ flushed before → LastRound m old before new after ended
+starved-last m old mid new now after fault ended asks each opened which done fails before e =
+    elim which [
+      | inl is ↦ absurd (let shut = (done (ap Ends is)).0 in let both = sym opened ∙ shut in cc)
+      | inr is ↦ rw is (CantWrite (Err fault) mid now (moved m old mid before now (Err fault) asks each e) (λ e. cc) (fails (ap Ends is)))
+    ]
+
+-- no step was made, and the read failed
+pub reads-last : {S : Type 0} (m : Meaning S) (old mid new : Target S) (now after : Story) (next : Next) → front_of old.end ≡ More → StepsEach m None old (Ok false) mid
+    → IfEnds next (λ ended. (ended ≡ LostByRead) × LosesAtRead mid new now after)
+    → IfEnds next (λ ended. (before : Story) → now ≡ flushed before → LastRound m old before new after ended)
+reads-last m old mid new now after Goes asks each which = tt
+reads-last m old mid new now after (Ends ended) asks each (is, loses) =
+    λ before e. rw is (CantRead mid now (moved m old mid before now (Ok false) asks each e) loses)
+
+-- behind the flush that stood before
+pub flushed-last : {S : Type 0} (m : Meaning S) (old new : Target S) (before now after : Story) (next : Next) → now ≡ flushed before
+    → IfEnds next (λ ended. (before : Story) → now ≡ flushed before → LastRound m old before new after ended)
+    → IfEnds next (LastRound m old before new after)
+flushed-last m old new before now after Goes e last = tt
+flushed-last m old new before now after (Ends ended) e last = last before e
+
+-- a flush that fails uses up no rounds
+pub no-limit : (how : Ended) → unflushed_end how ≡ TurnLimit → ⊥
+no-limit Done e = cc
+no-limit LostByRead e = cc
+no-limit LostByWrite e = cc
+no-limit (Refused number) e = cc
+no-limit NoMemory e = cc
+no-limit TurnLimit e = cc

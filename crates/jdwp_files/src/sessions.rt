@@ -1,0 +1,169 @@
+//! Sessions without files: at a port, and with both ends in this process.
+ghost use Rattle.std.specs.Prelude.{◌≡◌, List, map, Ok, IfErr, IfOk, OnErr};
+ghost use Rattle.std.specs.Io.KnownBytes.{Keeps};
+ghost use Rattle.std.specs.Str.{IsUtf8};
+ghost use Rattle.std.specs.Str.Lines.{lines};
+ghost use Rattle.jdwp_script_machine.specs.Machines.{read_machine};
+ghost use Rattle.jdwp_script_machine.specs.ScriptMeaning.{script_meaning};
+ghost use Rattle.jdwp_script_machine.specs.States.{State};
+ghost use Rattle.jdwp_target.specs.Options.{LivesWithin};
+ghost use Rattle.jdwp_plan.specs.declared.plan_line.PlanLine as declared;
+ghost use Rattle.jdwp_plan.specs.PlanLines.{said_by};
+ghost use Rattle.jdwp_plan.specs.Plans.{Says};
+ghost use Rattle.jdwp_pair.specs.PlanRuns.{PairsNew};
+ghost use Rattle.jdwp_files.specs.Refusals.{RefusesPlan, RefusesScript};
+
+use crate::files::{read, text};
+use jdwp_attach::Attached;
+use jdwp_debugger::Debugger;
+use jdwp_engine::{Ended, Pipe, Streams};
+use jdwp_pair::{PairEnded, pair_session};
+use jdwp_plan::{PlanLine, read_plan};
+use jdwp_port::{attach_stream, bind, connect, serve_sessions};
+use jdwp_program::{Fault, Outcome, Watched, report_outcome};
+use jdwp_script_machine::ScriptMachine;
+use jdwp_target::Target;
+use jdwp_wire::Limits;
+use jdwp_words::{Attach, Pair, ServeScript};
+use std::alloc::Global;
+use std::io;
+use std::io::Write;
+use std::net::Net;
+use std::rt::Files;
+
+/// Serves sessions at a port over the machine of a script, one after the other, until the machine dies or a session uses up its rounds. The
+/// fault of a session that is refused is told on `err`, and the next debugger is awaited.
+///
+/// # Errors
+/// `File` where the script's can't be read or is not UTF-8; `Script` where it is refused; `Port` where the port can't be taken or gives no
+/// connection; `NoMemory`.
+pub fn serve_port<'a, R: Files + AllocGlobal + Net, E: Write>(
+    rt: &R,
+    words: &ServeScript<'a>,
+    port: u16,
+    err: &mut E,
+) -> Result<Outcome<'a>, Fault<'a>> {
+    let bytes = read(rt, words.machine)?;
+    let machine = machine_of(rt.alloc(), words.machine, &bytes, &words.settings.limits())?;
+    let mut target = Target::with_settings(rt.alloc(), machine, words.settings)?;
+    let listener = bind(rt, port)?;
+    let rounds = u64::from(words.turns);
+    let tell = |number| {
+        let _ = report_outcome(Outcome::Session(Ended::Refused(number)), err);
+    };
+    let ended = serve_sessions(rt.alloc(), &mut target, &listener, rounds, tell)?;
+    Ok(Outcome::Session(ended))
+}
+
+/// Runs a plan as the debugger of the target that listens at a port, and prints what it reads.
+///
+/// # Errors
+/// `File` where the plan's can't be read or is not UTF-8; `Plan` where it is refused; `Port` where the port can't be reached; `NoMemory`.
+/// Then nothing was printed.
+pub fn attach_port<'a, R: Files + AllocGlobal + Net, O: Write>(
+    rt: &R,
+    words: &Attach<'a>,
+    port: u16,
+    out: &mut O,
+) -> Result<Outcome<'a>, Fault<'a>>
+    ensures unprinted { OnErr result (Keeps (O.contents out.old) (O.contents out.new)) }
+{
+    let bytes = read(rt, words.plan)?;
+    let plan = plan_of(rt.alloc(), words.plan, &bytes)?;
+    let mut debugger = Debugger::new(rt.alloc())?;
+    let stream = connect(rt, port)?;
+    let mut printed = Streams::new(io::empty(), Watched::new(out));
+    let turns = u64::from(words.turns);
+    let how = attach_stream(
+        rt.alloc(),
+        &mut debugger,
+        port,
+        stream,
+        plan.as_slice(),
+        &mut printed,
+        turns,
+    )?;
+    let (_, output) = printed.into_parts();
+    Ok(Outcome::without_files(how, output.failure()))
+}
+
+/// Runs a plan as the debugger of the machine of a script, both ends in this process, and prints what the debugger reads.
+///
+/// # Errors
+/// `File` where one can't be read or is not UTF-8; `Script` or `Plan` where one is refused; `NoMemory`. Then nothing was printed.
+pub fn pair_files<'a, R: Files + AllocGlobal, O: Write>(
+    rt: &R,
+    words: &Pair<'a>,
+    out: &mut O,
+) -> Result<Outcome<'a>, Fault<'a>>
+    ensures unprinted { OnErr result (Keeps (O.contents out.old) (O.contents out.new)) }
+{
+    let script = read(rt, words.machine)?;
+    let bytes = read(rt, words.plan)?;
+    let mut printed = Streams::new(io::empty(), Watched::new(out));
+    let ended = pair_bytes(rt.alloc(), words, &script, &bytes, &mut printed)?;
+    let (_, output) = printed.into_parts();
+    Ok(Outcome::without_files(how_of(ended), output.failure()))
+}
+
+/// Runs the plan of these bytes with the machine of the script of those.
+fn pair_bytes<'a, O: Pipe>(
+    alloc: Global,
+    words: &Pair<'a>,
+    script: &[u8],
+    plan: &[u8],
+    out: &mut O,
+) -> Result<PairEnded, Fault<'a>>
+    ensures paired { IfOk result (λ ended. (machine : State) × (said : List declared.PlanLine) × (read_machine words.now.settings.limits.live script.now ≡ Ok machine)
+        × Says (lines plan.now) (map said_by said) × PairsNew script_meaning words.now.settings machine said ended) }
+    ensures unprinted { OnErr result (out.new ≡ out.old) }
+{
+    let machine = machine_of(alloc, words.machine, script, &words.settings.limits())?;
+    let lines = plan_of(alloc, words.plan, plan)?;
+    let (settings, turns) = (words.settings, words.turns);
+    Ok(pair_session(alloc, machine, settings, lines.as_slice(), out, turns)?)
+}
+
+/// The machine of the script of these bytes of a file.
+fn machine_of<'a>(
+    alloc: Global,
+    file: &'a str,
+    bytes: &[u8],
+    limits: &Limits,
+) -> Result<ScriptMachine, Fault<'a>>
+    ensures machine { IfOk result (λ machine. IsUtf8 bytes.now × (read_machine limits.now.live bytes.now ≡ Ok machine)) }
+    ensures lives { IfOk result (λ machine. LivesWithin script_meaning limits.now machine) }
+    ensures fault { IfErr result (RefusesScript limits.now file.entry bytes.now) }
+{
+    let script = text(file, bytes)?;
+    match ScriptMachine::read_with(alloc, script, limits) {
+        Ok(machine) => Ok(machine),
+        Err(fault) => {
+            let detail = fault.detail(alloc, script, limits);
+            Err(Fault::of_script(file, fault, detail))
+        }
+    }
+}
+
+/// The lines of the plan of these bytes of a file.
+fn plan_of<'a>(alloc: Global, file: &'a str, bytes: &[u8]) -> Result<Vec<PlanLine>, Fault<'a>>
+    ensures plan { IfOk result (λ plan. IsUtf8 bytes.now × Says (lines bytes.now) (map said_by plan.items)) }
+    ensures fault { IfErr result (RefusesPlan file.entry bytes.now) }
+{
+    let plan = text(file, bytes)?;
+    match read_plan(alloc, plan) {
+        Ok(lines) => Ok(lines),
+        Err(fault) => Err(Fault::of_plan(file, plan, fault)),
+    }
+}
+
+/// How a run of both ends ended, as that of a plan.
+fn how_of(ended: PairEnded) -> Attached {
+    match ended {
+        PairEnded::Done => Attached::Ended(Ended::Done),
+        PairEnded::RefusedLine { line, number } => Attached::RefusedLine { line, number },
+        PairEnded::LostByWrite => Attached::Ended(Ended::LostByWrite),
+        PairEnded::NoMemory => Attached::Ended(Ended::NoMemory),
+        PairEnded::TurnLimit => Attached::Ended(Ended::TurnLimit),
+    }
+}

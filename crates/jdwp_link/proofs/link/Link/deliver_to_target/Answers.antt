@@ -1,0 +1,21 @@
+use Rattle.std.proofs.Common.{◌-◌, ◌∙◌, ap, min, refl}
+use Rattle.jdwp_link.specs.Insides.{link_of}
+use Rattle.jdwp_link.proofs.Done.{to-target-done}
+use Rattle.jdwp_link.proofs.link.Link.deliver_to_target.Goals as goal
+
+pub invariant_of-self : goal.invariant_of-self
+invariant_of-self g c =
+    let s = c.self.inside in
+    let q = c.queue_to_target-kept in
+    (to-target-done g.M.Machine.meaning (link_of s.target s.debugger s.to_target.bytes s.to_debugger.bytes s.did) s.to_target q.new.queue q.new.target c.pieces_to_target.new.target c.pieces_to_target.new.debugger c.args.most q.result c.min-left.result
+    c.waiting.result c.room.result s.to_debugger.capacity c.laws.ensures.finds c.self.invariant refl q.ensures.count q.ensures.left q.ensures.fed c.waiting.ensures.count c.room.ensures.room (c.min-left.ensures ∙ ap (λ k. min k (c.args.most - q.result)) c.min.ensures)
+    c.pieces_to_target.ensures.taken c.pieces_to_target.ensures.fed c.keeps.ensures.target c.keeps.ensures.debugger).right
+
+pub returns : goal.returns
+returns g c =
+    let s = c.self.inside in
+    let q = c.queue_to_target-kept in
+    rw (← c.self.view_is)
+    ((to-target-done g.M.Machine.meaning (link_of s.target s.debugger s.to_target.bytes s.to_debugger.bytes s.did) s.to_target q.new.queue q.new.target c.pieces_to_target.new.target c.pieces_to_target.new.debugger c.args.most q.result c.min-left.result
+    c.waiting.result c.room.result s.to_debugger.capacity c.laws.ensures.finds c.self.invariant refl q.ensures.count q.ensures.left q.ensures.fed c.waiting.ensures.count c.room.ensures.room (c.min-left.ensures ∙ ap (λ k. min k (c.args.most - q.result)) c.min.ensures)
+    c.pieces_to_target.ensures.taken c.pieces_to_target.ensures.fed c.keeps.ensures.target c.keeps.ensures.debugger).goes)

@@ -1,0 +1,25 @@
+use Rattle.std.proofs.Common.{◌≡◌, ◌≤◌, ◌∙◌, ap, arith, length, take}
+use Rattle.std.proofs.lemmas.List.{length-take-le}
+use Rattle.jdwp_debugger.specs.Debuggers as debuggers
+use Rattle.jdwp_exchange.specs.Exchange.{moved}
+use Rattle.jdwp_target.specs.Targets as targets
+use Rattle.jdwp_link.proofs.Pieces.{all-left, to-target-more, to-target-start}
+use Rattle.jdwp_link.proofs.moving.pieces_to_target.Goals as goal
+
+pub loop-left-init : goal.loop-left-init
+loop-left-init g c = to-target-start c.args.count c.args.debugger.now c.args.target.now
+
+pub loop-left-preserved : goal.loop-left-preserved
+loop-left-preserved g c =
+    let l = c.loop-left in
+    let piece : c.min-piece.result ≤ l.left = omega (arith, c.min-piece.ensures) in
+    let size : length (take c.min-piece.result l.buffer) ≡ c.min-piece.result = length-take-le c.min-piece.result l.buffer (omega (arith, c.min-piece.ensures)) in
+    let more = to-target-more c.args.count l.left c.min-piece.result c.args.debugger.now l.debugger c.to_target.new.debugger c.args.target.now l.target c.to_target.new.target piece l.invariant.0 c.requires.waiting c.requires.room l.invariant.1 l.invariant.2
+    (c.to_target.ensures.taken ∙ ap (λ n. debuggers.with_taken (moved n l.debugger.end l.target.end) l.debugger) size) (c.to_target.ensures.fed ∙ ap (λ n. targets.with_fed (moved n l.debugger.end l.target.end) l.target) size) in
+    (omega (arith, l.invariant.0), more.0, more.1)
+
+pub returns-clause-taken : goal.returns-clause-taken
+returns-clause-taken g c = c.loop-left.invariant.1 ∙ ap (λ b. debuggers.with_taken b c.args.debugger.now) (all-left c.args.count c.loop-left.left c.args.debugger.now.end.outgoing c.loop-left-test.false)
+
+pub returns-clause-fed : goal.returns-clause-fed
+returns-clause-fed g c = c.loop-left.invariant.2 ∙ ap (λ b. targets.with_fed b c.args.target.now) (all-left c.args.count c.loop-left.left c.args.debugger.now.end.outgoing c.loop-left-test.false)

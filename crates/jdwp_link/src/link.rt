@@ -1,0 +1,158 @@
+//! A target and a debugger, and the bytes between them.
+ghost use Rattle.std.specs.Prelude.{◌≡◌, ◌≤◌, ◌<◌, IfErr, IfOk, get_or, length, take};
+ghost use Rattle.jdwp_debuggee.specs.State as state;
+ghost use Rattle.jdwp_model.specs.Events.{Attach};
+ghost use Rattle.jdwp_model.specs.Headline.{MayBegin};
+ghost use Rattle.jdwp_model.specs.World.{World, opening};
+ghost use Rattle.jdwp_target.specs.Options.{LivesWithin, settings_at};
+ghost use Rattle.jdwp_wire.specs.Limits.{standard_limits};
+ghost use Rattle.jdwp_link.specs.Clauses.{CountsAtMost, HoldsSuspended, MayStop, MirrorsSeen, Ran, StaysTrue};
+ghost use Rattle.jdwp_link.specs.Links.{new_link};
+ghost use Rattle.jdwp_link.specs.Stands.{StandsFor};
+ghost use Rattle.jdwp_link.specs.Told.{event_meanings};
+
+use crate::events::{LinkEvent, Outcome, Stopped};
+use crate::happening::keeps;
+use crate::laws::laws;
+use byte_queue::ByteQueue;
+use jdwp_debuggee::Settings;
+use jdwp_debugger::Debugger;
+use jdwp_machine::Machine;
+use jdwp_target::{Target, TargetOptions};
+use jdwp_wire::{Limits, NoMemory};
+use std::alloc::Global;
+use std::marker::Model;
+
+/// A target and a debugger in one process, and the bytes between them.
+#[derive(Drop)]
+pub struct Link<M: Machine> {
+    pub(crate) alloc: Global,
+    pub(crate) target: Target<M>,
+    pub(crate) debugger: Debugger,
+    /// What a debugger that lost the connection had put, and did not come to the target.
+    pub(crate) to_target: ByteQueue,
+    /// What a target that lost the connection had put, and did not come to the debugger.
+    pub(crate) to_debugger: ByteQueue,
+    pub(crate) did: bool,
+}
+
+impl<M: Machine> Model for Link<M> {
+    ghost use Rattle.jdwp_link.specs.Links as links;
+    ghost use Rattle.jdwp_link.specs.Insides.{link_of, IsRight};
+
+    ghost Value = { links.Link M };
+
+    ghost view = { λ l. link_of l.target l.debugger l.to_target.bytes l.to_debugger.bytes l.did };
+
+    ghost invariant = { λ l. IsRight M.meaning (link_of l.target l.debugger l.to_target.bytes l.to_debugger.bytes l.did) l.to_target.capacity l.to_debugger.capacity };
+}
+
+impl<M: Machine + Drop> Link<M> {
+    /// A link of a target over this machine and a debugger, both before their first session, within the standard limits. The machine has 1
+    /// to 64 live threads. All buffers of the link are made here.
+    ///
+    /// # Errors
+    /// `NoMemory` where an allocation was refused.
+    pub fn new(alloc: Global, machine: M, options: TargetOptions) -> Result<Link<M>, NoMemory>
+        requires { LivesWithin M.meaning standard_limits machine }
+        ensures link { IfOk result (λ l. l ≡ new_link (settings_at standard_limits options) (record { state = state.new_state (M.meaning.live machine); machine = machine })) }
+        ensures stands { IfOk result (λ l. StandsFor M.meaning l (opening M.meaning machine)) }
+    {
+        Link::with_settings(alloc, machine, options.settings(Limits::standard()))
+    }
+
+    /// The same with these settings, within their limits: the machine has 1 to `settings.limits().live()` live threads.
+    ///
+    /// # Errors
+    /// `NoMemory` where an allocation was refused.
+    pub fn with_settings(alloc: Global, machine: M, settings: Settings) -> Result<Link<M>, NoMemory>
+        requires { LivesWithin M.meaning settings.limits machine }
+        ensures link { IfOk result (λ l. l ≡ new_link settings (record { state = state.new_state (M.meaning.live machine); machine = machine })) }
+        ensures stands { IfOk result (λ l. StandsFor M.meaning l (opening M.meaning machine)) }
+    {
+        let most = settings.limits().packet() as usize * 2;
+        begins(&machine, &settings);
+        let target = Target::with_settings(alloc, machine, settings)?;
+        let debugger = Debugger::with_limits(alloc, 1, settings.limits())?;
+        let to_target = ByteQueue::new(alloc, most)?;
+        let to_debugger = ByteQueue::new(alloc, most)?;
+        Ok(Link {
+            alloc,
+            target,
+            debugger,
+            to_target,
+            to_debugger,
+            did: false,
+        })
+    }
+
+    /// Does these events, one after the other, and answers what is told of them, in order.
+    ///
+    /// # Errors
+    /// `Stopped` where an event met want of memory; the link and what is told are those of the events before it. An `Ask` may stop a run;
+    /// a turn of the target at a whole command whose data read and that is none of the twelve short ones; a turn of the debugger at a whole
+    /// message; a step that nothing but a thread too many forbids; and a loss at the debugger where tickets wait. No other event does.
+    pub fn run(&mut self, events: &[LinkEvent]) -> Result<Vec<Outcome>, Stopped>
+        ensures ok { IfOk result (λ told. Ran M.meaning (event_meanings events.now) self.old self.new told.items) }
+        ensures err { IfErr result (λ stopped. (stopped.event < length events.now) × Ran M.meaning (take stopped.event (event_meanings events.now)) self.old self.new stopped.outcomes.items) }
+        ensures memory { IfErr result (λ stopped. MayStop M.meaning self.new (get_or (event_meanings events.now) stopped.event Attach)) }
+        ensures mirror { (x : World M) → StandsFor M.meaning self.new x → MirrorsSeen self.new x }
+        ensures held { HoldsSuspended self.new }
+        ensures at_most { (x : World M) → StandsFor M.meaning self.new x → CountsAtMost self.new x }
+        ensures stays { (x : World M) → StandsFor M.meaning self.new x → StaysTrue M.meaning self.new x }
+    {
+        let mut outcomes = Vec::new(self.alloc);
+        for (place, event) in events.iter().enumerate() {
+            if let Err(NoMemory) = self.happen(event, &mut outcomes) {
+                self.shows();
+                return Err(Stopped {
+                    event: place,
+                    outcomes,
+                });
+            }
+        }
+        self.shows();
+        Ok(outcomes)
+    }
+
+    /// What a debugger may rely on now. It changes nothing.
+    fn shows(&self)
+        ensures mirror { (x : World M) → StandsFor M.meaning self.now x → MirrorsSeen self.now x }
+        ensures held { HoldsSuspended self.now }
+        ensures at_most { (x : World M) → StandsFor M.meaning self.now x → CountsAtMost self.now x }
+        ensures stays { (x : World M) → StandsFor M.meaning self.now x → StaysTrue M.meaning self.now x }
+    {
+        laws::<M>();
+        keeps(&self.target, &self.debugger);
+    }
+
+    /// The target.
+    pub fn target(&self) -> &Target<M>
+        ensures { result.now ≡ self.now.target }
+    {
+        &self.target
+    }
+
+    /// The debugger.
+    pub fn debugger(&self) -> &Debugger
+        ensures { result.now ≡ self.now.debugger }
+    {
+        &self.debugger
+    }
+
+    /// Whether the last event that `run` did was a turn that handled a message, or a step that was made; false before the first.
+    pub fn did(&self) -> bool
+        ensures { result ≡ self.now.did }
+    {
+        self.did
+    }
+}
+
+/// A machine in which a thread lives may begin a session with these settings. It does nothing.
+fn begins<M: Machine>(machine: &M, settings: &Settings)
+    requires { LivesWithin M.meaning settings.now.limits machine.now }
+    ensures { MayBegin M.meaning settings.now machine.now }
+{
+    let _live = machine.live();
+    let _limit = settings.count_limit();
+}

@@ -1,0 +1,6 @@
+use Rattle.jdwp_pair.specs.PlanRuns.{GoesOn}
+use Rattle.jdwp_pair.proofs.pairing.run_rounds.Given as goal
+
+-- it went on so far
+abbrev pub invariant-loop : goal.invariant-loop
+invariant-loop g l = GoesOn g.M.Machine.meaning l.plan l.fn.run.carried l.fn.run.composites l.fn.link l.run.carried l.run.composites l.link

@@ -1,0 +1,10 @@
+use Rattle.std.proofs.Common.{◌≡◌}
+use Rattle.jdwp_pair.specs.Events.{Leads}
+use Rattle.jdwp_pair.proofs.parts.run_debugger.Given as goal
+
+-- the events so far
+abbrev pub invariant-loop : goal.invariant-loop
+invariant-loop g l = record {
+  leads : Leads g.M.Machine.meaning l.fn.link l.link l.fn.run.composites l.run.composites;
+  carried : l.run.carried ≡ l.fn.run.carried;
+}

@@ -1,0 +1,16 @@
+use Rattle.std.proofs.Common.{◌-◌, ◌^◌, ◌+◌, ℕ, Option, Some, None}
+use Rattle.jdwp_engine.specs.Rounds.{id_in}
+use Rattle.jdwp_pair.specs.Events.{Moves}
+use Rattle.jdwp_pair.proofs.stepping.step_each.Given as goal
+
+-- above all that were stepped
+abbrev pub above : Option ℕ → ℕ
+above None = 0
+above (Some last) = last + 1
+
+-- the steps so far
+abbrev pub invariant-loop-thread : goal.invariant-loop-thread
+invariant-loop-thread g l = Moves g.M.Machine.meaning l.fn.link l.link
+
+abbrev pub decreases-loop-thread : goal.decreases-loop-thread
+decreases-loop-thread g l = 2 ^ 64 - above (id_in l.last)

@@ -1,0 +1,139 @@
+//! The commands that a plan asks.
+ghost use Rattle.std.specs.Prelude.{◌≡◌, IfErr, IfOk, None, OnOk, Some};
+ghost use Rattle.jdwp_debugger.specs.RefusedNumbers.{refused_number};
+ghost use Rattle.jdwp_pair.specs.declared.asking.Unread.TheVariants as unread;
+ghost use Rattle.jdwp_pair.specs.Events.{refusal_in};
+ghost use Rattle.jdwp_pair.specs.PlanRuns.{AsksFor, EndsAsking, command_by};
+
+use crate::ended::PairEnded;
+use crate::happening::happen;
+use crate::run::{Run, Waiting};
+use jdwp_debugger::{Command, Refused, Ticket};
+use jdwp_layout::{layout_of, read};
+use jdwp_link::{Link, LinkEvent, Outcome};
+use jdwp_machine::Machine;
+use jdwp_wire::{DataFault, IdSizes};
+use std::alloc::{AllocError, Global};
+
+/// Why a line is no command.
+#[derive(Clone, Copy)]
+enum Unread {
+    /// The bytes do not read by the layout of the request.
+    BadData,
+    /// An allocation was refused.
+    NoMemory,
+}
+
+impl From<AllocError> for Unread {
+    ghost from_gives = { λ _ e. e ≡ unread.NoMemory };
+
+    fn from(_error: AllocError) -> Unread {
+        Unread::NoMemory
+    }
+}
+
+/// Asks the command of the line at this place, counted from 1.
+///
+/// # Errors
+/// `RefusedLine` with the place and the number of the refusal: 36 where the bytes do not read by the layout of the request, else that of the
+/// debugger. `NoMemory` where an allocation was refused.
+pub(crate) fn ask_line<M: Machine + Drop>(
+    alloc: Global,
+    link: &mut Link<M>,
+    run: &mut Run,
+    place: usize,
+    set: u8,
+    number: u8,
+    bytes: &[u8],
+) -> Result<(), PairEnded>
+    ensures asks { OnOk result (AsksFor M.meaning (command_by link.old.debugger.sizes set number bytes.now) link.old link.new) }
+    ensures ends { IfErr result (λ ended. EndsAsking M.meaning (command_by link.old.debugger.sizes set number bytes.now) place ended link.old link.new) }
+    ensures carried { run.new.carried ≡ run.old.carried }
+    ensures composites { run.new.composites ≡ run.old.composites }
+{
+    let command = match command_of(alloc, link.debugger().sizes(), set, number, bytes) {
+        Ok(command) => command,
+        Err(Unread::NoMemory) => return Err(PairEnded::NoMemory),
+        Err(Unread::BadData) => return Err(refused_at(place, Refused::BadCommand)),
+    };
+    if run.waiting.reserve(1).is_err() {
+        return Err(PairEnded::NoMemory);
+    }
+    let Ok(outcomes) = happen(link, LinkEvent::Ask(command)) else {
+        return Err(PairEnded::NoMemory);
+    };
+    if let Some(refused) = refusal_in(&outcomes) {
+        return Err(refused_at(place, refused));
+    }
+    if let Some(ticket) = ticket_in(&outcomes) {
+        run.waiting.push_reserved(Waiting {
+            ticket,
+            set,
+            number,
+        });
+    }
+    Ok(())
+}
+
+/// How the run ends at a command that was refused, of the line at this place.
+fn refused_at(place: usize, refused: Refused) -> PairEnded
+    ensures { result ≡ PairEnded.RefusedLine place (refused_number refused) }
+{
+    PairEnded::RefusedLine {
+        line: place,
+        number: refused.number(),
+    }
+}
+
+/// The command of a line: its bytes are read by the layout of the request, or stay as they are where it has none, or where the widths of ids
+/// are not known.
+///
+/// # Errors
+/// `BadData` where they do not read; `NoMemory` where an allocation was refused.
+fn command_of(
+    alloc: Global,
+    sizes: Option<IdSizes>,
+    set: u8,
+    number: u8,
+    bytes: &[u8],
+) -> Result<Command, Unread>
+    ensures ok { IfOk result (λ command. command_by sizes set number bytes.now ≡ Some command) }
+    ensures err { IfErr result (λ e. e ≡ Unread.BadData → command_by sizes set number bytes.now ≡ None) }
+{
+    let Some(sizes) = sizes else {
+        return Ok(Command::raw(set, number, Vec::from_slice(alloc, bytes)?));
+    };
+    let layouts = match layout_of(set, number) {
+        Some(row) => row.layouts,
+        None => None,
+    };
+    match layouts {
+        Some(layouts) => match read(alloc, &layouts.request, &sizes, bytes) {
+            Ok(items) => Ok(Command::new(set, number, items)),
+            Err(DataFault::NoMemory) => Err(Unread::NoMemory),
+            Err(_) => Err(Unread::BadData),
+        },
+        None => Ok(Command::raw(set, number, Vec::from_slice(alloc, bytes)?)),
+    }
+}
+
+/// The first refusal that is told of.
+fn refusal_in(outcomes: &[Outcome]) -> Option<Refused>
+    ensures { result ≡ refusal_in outcomes.now }
+{
+    match outcomes {
+        [] => None,
+        [Outcome::Refused(refused), ..] => Some(*refused),
+        [_, rest @ ..] => refusal_in(rest),
+    }
+}
+
+/// The ticket under which a command was asked.
+fn ticket_in(outcomes: &[Outcome]) -> Option<Ticket> {
+    for outcome in outcomes {
+        if let Outcome::Asked(ticket) = outcome {
+            return Some(*ticket);
+        }
+    }
+    None
+}

@@ -1,0 +1,21 @@
+//! How a run of both ends ends.
+
+/// Why a run of both ends ended.
+#[derive(Clone, Copy, Debug, PartialEq, Eq)]
+pub enum PairEnded {
+    /// The plan was carried out and what it asked was answered, or the debugger disposed of the session, or the machine is dead.
+    Done,
+    /// The command of a line of the plan was refused.
+    RefusedLine {
+        /// The line, counted from 1.
+        line: usize,
+        /// The number of the refusal, 31 to 36.
+        number: u16,
+    },
+    /// A write of what is printed failed, or took 0 of some bytes, or a flush failed.
+    LostByWrite,
+    /// An allocation was refused.
+    NoMemory,
+    /// All rounds were used, or nothing happened in one.
+    TurnLimit,
+}

@@ -1,0 +1,235 @@
+//! The engine that runs both ends by a plan.
+ghost use Rattle.std.specs.Prelude.{◌≡◌, ◌⊎◌, ◌∷◌, List, Err, IfErr, IfOk, Ok, OnErr, OnOk};
+ghost use Rattle.jdwp_script_machine.specs.Machines.{read_machine};
+ghost use Rattle.jdwp_script_machine.specs.ScriptMeaning.{script_meaning};
+ghost use Rattle.jdwp_script_machine.specs.States.{State};
+ghost use Rattle.jdwp_target.specs.Options.{LivesWithin};
+ghost use Rattle.jdwp_model.specs.Events as events;
+ghost use Rattle.jdwp_link.specs.declared.events.Outcome as declared;
+ghost use Rattle.jdwp_link.specs.Clauses.{Ran};
+ghost use Rattle.jdwp_pair.specs.Events.{LosesBoth, MayLose, Moves};
+ghost use Rattle.jdwp_pair.specs.PlanRuns.{EndsSo, EndsTelling, FinishesSo, GoesOn, Pairs, PairsNew, unflushed_end};
+
+use crate::ended::PairEnded;
+use crate::happening::{begin, happen};
+use crate::lines::{is_finished, next_line};
+use crate::parts::{run_debugger, run_target};
+use crate::run::Run;
+use crate::stepping::step_each;
+use crate::telling::tell_lost;
+use jdwp_debuggee::Settings;
+use jdwp_engine::{Pipe, flush_all};
+use jdwp_link::{Link, LinkEvent};
+use jdwp_machine::Machine;
+use jdwp_plan::PlanLine;
+use jdwp_script::ScriptFault;
+use jdwp_script_machine::ScriptMachine;
+use jdwp_wire::NoMemory;
+use std::alloc::Global;
+
+/// Runs a new target over the machine of this script and a new debugger by the plan for at most so many rounds, as `pair` does. As many
+/// threads may live at the beginning as the limits of the settings have live threads.
+///
+/// # Errors
+/// The first fault of the script, or `NoMemory` where an allocation was refused; and then nothing was printed.
+pub fn pair_script<W: Pipe>(
+    alloc: Global,
+    script: &str,
+    settings: Settings,
+    plan: &[PlanLine],
+    out: &mut W,
+    rounds: u32,
+) -> Result<PairEnded, ScriptFault>
+    ensures paired { IfOk result (λ ended. (machine : State) × (read_machine settings.limits.live script.now ≡ Ok machine) × PairsNew script_meaning settings machine plan.now ended) }
+    ensures fault { IfErr result (λ fault. (fault ≡ ScriptFault.NoMemory) ⊎ (read_machine settings.limits.live script.now ≡ Err fault)) }
+    ensures unprinted { OnErr result (out.new ≡ out.old) }
+{
+    let machine = ScriptMachine::read_with(alloc, script, &settings.limits())?;
+    Ok(pair_session(alloc, machine, settings, plan, out, rounds)?)
+}
+
+/// Runs a new target over this machine and a new debugger by the plan for at most so many rounds, as `pair` does. The machine has 1 to
+/// `settings.limits().live()` live threads.
+///
+/// # Errors
+/// `NoMemory`, and then nothing was printed.
+pub fn pair_session<M: Machine + Drop, W: Pipe>(
+    alloc: Global,
+    machine: M,
+    settings: Settings,
+    plan: &[PlanLine],
+    out: &mut W,
+    rounds: u32,
+) -> Result<PairEnded, NoMemory>
+    requires { LivesWithin M.meaning settings.limits machine }
+    ensures paired { IfOk result (PairsNew M.meaning settings machine plan.now) }
+    ensures unprinted { OnErr result (out.new ≡ out.old) }
+{
+    let mut link = Link::with_settings(alloc, machine, settings)?;
+    Ok(pair(alloc, &mut link, plan, out, u64::from(rounds)))
+}
+
+/// Runs both ends of a link by the plan, for at most so many rounds.
+///
+/// It begins with a session (`Attach`), which changes nothing where an end is open, tickets wait or the machine is dead; then the run goes on
+/// with what there is. In a round the next line of the plan is carried out, if it can be; all bytes come to the target, and it
+/// turns until it handles nothing; where it handled nothing in this round, each live thread makes a step, by rising id; and all bytes come to
+/// the debugger, which turns until it handles nothing. Bytes come by at most 4,096 at once. What the debugger reads is printed to `out` in the
+/// lines of `show`, and `lost TICKET` for each ticket that is lost.
+///
+/// No line is carried out before the widths of ids are known. Then `ask` asks a command at once, `answers` waits until no command waits
+/// for its answer, `events` until so many composites were read in the session, and `mirror` prints what the debugger knows. The run is done
+/// where all lines were carried out and no command waits, and then both ends lose the connection; and at the turn that reads an answer without an
+/// error to Dispose or the death of the machine, whatever lines are left. A round in which nothing happens ends it as `TurnLimit`. `out` is
+/// flushed at the end, whatever ends the run; where that fails it is `LostByWrite`, but for a command that was refused.
+pub fn pair<M: Machine + Drop, W: Pipe>(
+    alloc: Global,
+    link: &mut Link<M>,
+    plan: &[PlanLine],
+    out: &mut W,
+    rounds: u64,
+) -> PairEnded
+    ensures by_plan { Pairs M.meaning plan.now result link.old link.new }
+    ensures ran { (later : List events.LinkEvent) × (outcomes : List declared.Outcome) × Ran M.meaning (events.Attach ∷ later) link.old link.new outcomes }
+{
+    let ended = run_plan(alloc, link, plan, out, rounds);
+    if flush_all(out) {
+        ended
+    } else {
+        unflushed(ended)
+    }
+}
+
+/// How a run ends whose last flush failed. A refusal is told as one.
+fn unflushed(ended: PairEnded) -> PairEnded
+    ensures { result ≡ unflushed_end ended }
+{
+    match ended {
+        PairEnded::RefusedLine { line, number } => PairEnded::RefusedLine { line, number },
+        PairEnded::Done | PairEnded::LostByWrite | PairEnded::NoMemory | PairEnded::TurnLimit => {
+            PairEnded::LostByWrite
+        }
+    }
+}
+
+/// Runs a session by the plan. Where it is finished, both ends lose the connection.
+fn run_plan<M: Machine + Drop, W: Pipe>(
+    alloc: Global,
+    link: &mut Link<M>,
+    plan: &[PlanLine],
+    out: &mut W,
+    rounds: u64,
+) -> PairEnded
+    ensures { Pairs M.meaning plan.now result link.old link.new }
+{
+    let mut run = Run {
+        carried: 0,
+        begun: false,
+        composites: 0,
+        waiting: Vec::new(alloc),
+    };
+    begin(link);
+    if let Err(ended) = run_rounds(alloc, link, plan, out, &mut run, rounds) {
+        return ended;
+    }
+    match lose_both(alloc, link, out, &mut run) {
+        Ok(()) => PairEnded::Done,
+        Err(ended) => ended,
+    }
+}
+
+/// The debugger notices that the connection is lost, and then the target.
+///
+/// # Errors
+/// `LostByWrite` where a write failed; `NoMemory` where an allocation was refused.
+fn lose_both<M: Machine + Drop, W: Pipe>(
+    alloc: Global,
+    link: &mut Link<M>,
+    out: &mut W,
+    run: &mut Run,
+) -> Result<(), PairEnded>
+    ensures loses { OnOk result (LosesBoth M.meaning link.old link.new) }
+    ensures ends { IfErr result (λ ended. EndsTelling ended × MayLose M.meaning link.old link.new) }
+{
+    let Ok(outcomes) = happen(link, LinkEvent::DebuggerLoses) else {
+        return Err(PairEnded::NoMemory);
+    };
+    if let Err(ended) = tell_lost(alloc, &outcomes, out, run) {
+        return Err(ended);
+    }
+    match happen(link, LinkEvent::TargetLoses) {
+        Ok(_) => Ok(()),
+        Err(_) => Err(PairEnded::NoMemory),
+    }
+}
+
+/// Runs rounds until the plan is finished.
+///
+/// # Errors
+/// Why the run ends before.
+fn run_rounds<M: Machine + Drop, W: Pipe>(
+    alloc: Global,
+    link: &mut Link<M>,
+    plan: &[PlanLine],
+    out: &mut W,
+    run: &mut Run,
+    rounds: u64,
+) -> Result<(), PairEnded>
+    ensures finished { OnOk result (FinishesSo M.meaning plan.now run.old.carried run.old.composites link.old link.new) }
+    ensures ends { IfErr result (λ ended. EndsSo M.meaning plan.now run.old.carried run.old.composites link.old ended link.new) }
+{
+    for _ in 0..rounds {
+        match round(alloc, link, plan, out, run) {
+            Ok(true) => {}
+            Ok(false) => return Err(PairEnded::TurnLimit),
+            Err(ended) => return Err(ended),
+        }
+        if is_finished(link.debugger(), plan, run) {
+            return Ok(());
+        }
+    }
+    Err(PairEnded::TurnLimit)
+}
+
+/// One round. Whether something happened: a line was carried out, an end handled a message, or a thread made a step.
+///
+/// # Errors
+/// Why the run ends.
+fn round<M: Machine + Drop, W: Pipe>(
+    alloc: Global,
+    link: &mut Link<M>,
+    plan: &[PlanLine],
+    out: &mut W,
+    run: &mut Run,
+) -> Result<bool, PairEnded>
+    ensures goes { OnOk result (GoesOn M.meaning plan.now run.old.carried run.old.composites link.old run.new.carried run.new.composites link.new) }
+    ensures ends { IfErr result (λ ended. EndsSo M.meaning plan.now run.old.carried run.old.composites link.old ended link.new) }
+{
+    let carried = match next_line(alloc, link, plan, out, run) {
+        Ok(carried) => carried,
+        Err(ended) => return Err(ended),
+    };
+    let Ok(moved) = run_machine(link) else {
+        return Err(PairEnded::NoMemory);
+    };
+    match run_debugger(alloc, link, out, run) {
+        Ok(read) => {
+            run.begun = run.begun || link.debugger().sizes().is_some();
+            Ok(carried || moved || read)
+        }
+        Err(ended) => Err(ended),
+    }
+}
+
+/// All bytes under way come to the target, and it handles them; where it handled nothing, each live thread makes a step. Whether something was done.
+///
+/// # Errors
+/// `NoMemory` where an allocation was refused.
+fn run_machine<M: Machine + Drop>(link: &mut Link<M>) -> Result<bool, NoMemory>
+    ensures { Moves M.meaning link.old link.new }
+{
+    if run_target(link)? {
+        return Ok(true);
+    }
+    step_each(link)
+}

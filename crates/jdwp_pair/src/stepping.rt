@@ -1,0 +1,63 @@
+//! Steps of threads.
+ghost use Rattle.std.specs.Prelude.{◌≡◌, true, IfSome};
+ghost use Rattle.jdwp_engine.specs.Rounds.{id_in, is_above};
+ghost use Rattle.jdwp_pair.specs.Events.{Moves};
+
+use crate::happening::act;
+use jdwp_link::{Link, LinkEvent};
+use jdwp_machine::Machine;
+use jdwp_value::ObjectId;
+use jdwp_wire::NoMemory;
+
+/// One step of each live thread, by rising id, and whether one of them stepped. Threads that a step starts are among them where their
+/// ids are higher.
+///
+/// # Errors
+/// `NoMemory` where a step wanted memory; those of lower ids were made.
+pub(crate) fn step_each<M: Machine + Drop>(link: &mut Link<M>) -> Result<bool, NoMemory>
+    ensures { Moves M.meaning link.old link.new }
+{
+    let mut has_stepped = false;
+    let mut last: Option<ObjectId> = None;
+    while let Some(thread) = least_above(link.target().live(), last) {
+        act(link, LinkEvent::Step(thread))?;
+        has_stepped = has_stepped || link.did();
+        last = Some(thread);
+    }
+    Ok(has_stepped)
+}
+
+/// The least of these ids that is above `last`, or of all.
+fn least_above(threads: &[ObjectId], last: Option<ObjectId>) -> Option<ObjectId>
+    ensures { IfSome result (λ thread. is_above (id_in last) thread.0 ≡ true) }
+{
+    let mut found: Option<ObjectId> = None;
+    for thread in threads {
+        found = nearer(found, *thread, last);
+    }
+    found
+}
+
+/// The least above `last` of those of which `found` is, and this one.
+fn nearer(found: Option<ObjectId>, thread: ObjectId, last: Option<ObjectId>) -> Option<ObjectId>
+    requires { IfSome found (λ other. is_above (id_in last) other.0 ≡ true) }
+    ensures { IfSome result (λ one. is_above (id_in last) one.0 ≡ true) }
+{
+    if !is_above(last, thread) {
+        return found;
+    }
+    match found {
+        Some(other) if other.0 <= thread.0 => Some(other),
+        _ => Some(thread),
+    }
+}
+
+/// Whether the thread is above `last`, or there is none.
+fn is_above(last: Option<ObjectId>, thread: ObjectId) -> bool
+    ensures { result ≡ is_above (id_in last) thread.0 }
+{
+    match last {
+        None => true,
+        Some(last) => last.0 < thread.0,
+    }
+}

@@ -1,0 +1,4 @@
+pub mod Attached
+pub mod Faults
+pub mod Listeners
+pub mod Served

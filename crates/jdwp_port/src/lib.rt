@@ -1,0 +1,16 @@
+//! Sessions of the Java Debug Wire Protocol on TCP ports of this machine, 127.0.0.1.
+//!
+//! `bind` listens on a port, where `serve_sessions` serves one debugger after the other with one target; `connect` reaches a port, and
+//! `attach_stream` runs a debugger there.
+#![tactic(auto)]
+
+mod attaching;
+mod connection;
+mod faults;
+mod listening;
+mod serving;
+
+pub use attaching::{attach_stream, connect};
+pub use faults::{PortCause, PortFault};
+pub use listening::{PortListener, bind};
+pub use serving::{serve_next, serve_sessions, serve_stream};

@@ -1,0 +1,40 @@
+-- How a session over files ended, and where it was lost.
+use Rattle.std.specs.Prelude.{◌≡◌, ◌≢◌, Option, None, Some}
+use Rattle.std.specs.IoError.{error_kind}
+use Rattle.std.specs.declared.io.Error.{Error}
+use Rattle.std.specs.declared.io.ErrorKind.TheVariants.{BrokenPipe}
+use Rattle.jdwp_engine.specs.declared.ended.Ended.{Ended}
+use Rattle.jdwp_engine.specs.declared.ended.Ended.TheVariants.{LostByRead, LostByWrite}
+use Rattle.jdwp_attach.specs.declared.attached.Attached.{Attached}
+use Rattle.jdwp_attach.specs.declared.attached.Attached.TheVariants as run
+use Rattle.jdwp_program.specs.declared.losing.Side.{Side}
+use Rattle.jdwp_program.specs.declared.losing.Loss.TheVariants.{FileEnded, Unread, Unwritten, Output, ReaderGone}
+use Rattle.jdwp_program.specs.declared.outcome.Outcome.{Outcome}
+use Rattle.jdwp_program.specs.declared.outcome.Outcome.TheVariants.{Session, Lost, RefusedLine, Capture}
+
+-- What is told of a session that ended so, which read from the first file, wrote to the second and printed on an output that failed so, if
+-- it did. A read that failed without an error found the file's end. Of a write that failed the file's error is told, and that of the output
+-- where the file had none.
+abbrev pub IsEndOf : Ended → Side → Side → Option Error → Outcome → Type 0
+IsEndOf ended from to output (Lost (FileEnded path)) = (ended ≡ LostByRead) × (path ≡ from.path) × (from.failure ≡ None)
+IsEndOf ended from to output (Lost (Unread path error)) = (ended ≡ LostByRead) × (path ≡ from.path) × (from.failure ≡ Some error)
+IsEndOf ended from to output (Lost (Unwritten path error)) = (ended ≡ LostByWrite) × (path ≡ to.path) × (to.failure ≡ Some error)
+IsEndOf ended from to output (Lost (Output error)) = (ended ≡ LostByWrite) × (to.failure ≡ None) × (output ≡ Some error) × (error_kind error ≢ BrokenPipe)
+IsEndOf ended from to output (Lost ReaderGone) = (ended ≡ LostByWrite) × (to.failure ≡ None) × (error : Error) × (output ≡ Some error) × (error_kind error ≡ BrokenPipe)
+IsEndOf ended from to output (Session told) = (told ≡ ended) × (ended ≢ LostByRead) × (ended ≡ LostByWrite → (to.failure ≡ None) × (output ≡ None))
+IsEndOf ended from to output (RefusedLine line number) = ⊥
+IsEndOf ended from to output (Capture told) = ⊥
+
+-- What is told of the session of a plan: where the command of a line was refused, this line and the number of the refusal; else the same.
+abbrev pub IsEndOfPlan : Attached → Side → Side → Option Error → Outcome → Type 0
+IsEndOfPlan (run.RefusedLine line number) from to output outcome = outcome ≡ RefusedLine line number
+IsEndOfPlan (run.Ended ended) from to output outcome = IsEndOf ended from to output outcome
+
+-- What is told of the session of a plan over no files, which printed on an output that failed so, if it did: where the command of a line was
+-- refused, this line; else how it ended, but where a write failed and the output did, that alone.
+abbrev pub IsEndWithoutFiles : Attached → Option Error → Outcome → Type 0
+IsEndWithoutFiles (run.RefusedLine line number) output outcome = outcome ≡ RefusedLine line number
+IsEndWithoutFiles (run.Ended ended) output (Lost (Output error)) = (ended ≡ LostByWrite) × (output ≡ Some error) × (error_kind error ≢ BrokenPipe)
+IsEndWithoutFiles (run.Ended ended) output (Lost ReaderGone) = (ended ≡ LostByWrite) × (error : Error) × (output ≡ Some error) × (error_kind error ≡ BrokenPipe)
+IsEndWithoutFiles (run.Ended ended) output (Session told) = (told ≡ ended) × (ended ≡ LostByWrite → output ≡ None)
+IsEndWithoutFiles (run.Ended ended) output other = ⊥

@@ -1,0 +1,8 @@
+//! The lines that tell what a debugger read and what it knows, in the forms of `show`.
+#![tactic(auto)]
+
+mod lines;
+mod mirrors;
+
+pub use lines::{answered_line, hello_line, seen_line, sizes_line};
+pub use mirrors::mirror_text;

@@ -1,0 +1,2 @@
+pub mod SpinningMachine
+pub mod SpinningLaws

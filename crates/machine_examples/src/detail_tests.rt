@@ -1,0 +1,529 @@
+//! What is told of scripts that are refused, beside their faults.
+use crate::asserts::expect_same_for;
+use crate::script_tests::{MACHINE_A, MACHINE_B, edited};
+use jdwp_script::{Cause, Detail, IdKind, Path, Script};
+use jdwp_wire::Limits;
+use std::alloc::Global;
+use std::process::Abort;
+use std::test::Fail;
+
+/// The fault of a text in words with what is known beside it, where so many threads may live at the beginning.
+fn told_with(alloc: Global, text: &str, live: u32) -> Result<String, Fail> {
+    let limits = Limits::new(65_536, live, 64, 64).ok_or("limits")?;
+    match Script::read_with(alloc, text, &limits) {
+        Ok(_) => Err(Fail::from("a script that reads")),
+        Err(fault) => {
+            let detail = fault.detail(alloc, text, &limits);
+            Ok(format!(in alloc; "{fault}{detail}")?)
+        }
+    }
+}
+
+fn is_told(rt: &impl Abort, alloc: Global, text: &str, words: &str) -> Result<(), Fail> {
+    let told = told_with(alloc, text, 64)?;
+    expect_same_for(rt, &told.as_str(), &words, &words);
+    Ok(())
+}
+
+/// What gives way in a script, what comes for it, and what is told.
+type Edit = (&'static str, &'static str, &'static str);
+
+fn are_told(rt: &impl Abort, alloc: Global, script: &str, edits: &[Edit]) -> Result<(), Fail> {
+    for (old, new, words) in edits {
+        is_told(rt, alloc, edited(alloc, script, old, new)?.as_str(), words)?;
+    }
+    Ok(())
+}
+
+#[test]
+fn texts_that_are_no_json(rt: HostRuntime) -> Result<(), Fail> {
+    let mark = "fault 21: the text is not JSON: it begins with a byte order mark";
+    is_told(&rt, rt.alloc(), "\u{feff}{}", mark)?;
+    let place = "fault 21: the text is not JSON: line 2, column 3";
+    is_told(&rt, rt.alloc(), "[1,\n2 3]", place)
+}
+
+/// Members that are missing or of another type.
+static MISSING: [Edit; 14] = [
+    (
+        "\"name\":\"B\"",
+        "\"name\":5",
+        "fault 22: the member name is missing or of another type",
+    ),
+    (
+        "\"threads\":",
+        "\"thread\":",
+        "fault 22: the member threads is missing or of another type",
+    ),
+    (
+        "\"name\":\"pool\",",
+        "",
+        "fault 22: the member name is missing or of another type, in groups[1]",
+    ),
+    (
+        "\"signature\":\"LJob;\",",
+        "",
+        "fault 22: the member signature is missing or of another type, in classes[0]",
+    ),
+    (
+        "\"interfaces\":[10]",
+        "\"interfaces\":[\"LJob;\"]",
+        "fault 22: the member interfaces is missing or of another type, in classes[1].interfaces[0]",
+    ),
+    (
+        "\"id\":41,",
+        "\"id\":\"41\",",
+        "fault 22: the member id is missing or of another type, in classes[1].fields[1]",
+    ),
+    (
+        "\"name\":\"run\",\"signature\":\"()V\"",
+        "\"name\":\"run\"",
+        "fault 22: the member signature is missing or of another type, in classes[1].methods[0]",
+    ),
+    (
+        "\"last\":9,",
+        "",
+        "fault 22: the member last is missing or of another type, in classes[1].methods[0]",
+    ),
+    (
+        "[3,2]]",
+        "[3]]",
+        "fault 22: the member lines is missing or of another type, in classes[1].methods[0].lines[1]",
+    ),
+    (
+        "\"slot\":0}",
+        "\"slot\":-1}",
+        "fault 22: the member slot is missing or of another type, in classes[1].methods[0].slots[0]",
+    ),
+    (
+        "[40,[\"I\",1]]",
+        "[40]",
+        "fault 22: the member fields is missing or of another type, in objects[0].fields[0]",
+    ),
+    (
+        "\"text\":\"hello\"",
+        "\"text\":1",
+        "fault 22: the member text is missing or of another type, in objects[1]",
+    ),
+    (
+        "\"group\":6,",
+        "",
+        "fault 22: the member group is missing or of another type, in threads[1]",
+    ),
+    (
+        "[\"go\",3]",
+        "[\"goes\",3]",
+        "fault 22: the member steps is missing or of another type, in threads[0].steps[3]",
+    ),
+];
+
+#[test]
+fn missing_members_are_told_with_their_place(rt: HostRuntime) -> Result<(), Fail> {
+    are_told(&rt, rt.alloc(), MACHINE_B, &MISSING)
+}
+
+/// Ids that stand twice.
+static TWICE: [Edit; 5] = [
+    (
+        "\"id\":51,",
+        "\"id\":5,",
+        "fault 23: an id stands twice: 5 of a thread, group or object",
+    ),
+    (
+        "\"id\":11,\"tag\"",
+        "\"id\":10,\"tag\"",
+        "fault 23: an id stands twice: 10 of a class",
+    ),
+    (
+        "\"id\":41,",
+        "\"id\":40,",
+        "fault 23: an id stands twice: 40 of a field",
+    ),
+    (
+        "\"fields\":[],\"methods\":[]",
+        "\"fields\":[],\"methods\":[{\"id\":20,\"name\":\"run\",\"signature\":\"()V\",\"modifiers\":1,\"args\":0,\"last\":0,\"lines\":[],\"slots\":[]}]",
+        "fault 23: an id stands twice: 20 of a method",
+    ),
+    (
+        "[\"go\",3]",
+        "[\"call\",30,11,20,0,[]]",
+        "fault 23: an id stands twice: 30 of a frame",
+    ),
+];
+
+#[test]
+fn ids_that_stand_twice_are_told(rt: HostRuntime) -> Result<(), Fail> {
+    are_told(&rt, rt.alloc(), MACHINE_B, &TWICE)
+}
+
+/// Widths, ids that do not fit them, and where.
+static WIDE: [(&str, Edit); 7] = [
+    (
+        "[8,0,8,9,8]",
+        (
+            "\"name\":\"B\"",
+            "\"name\":\"B\"",
+            "fault 24: an id is too wide: a width of 0 in place of 1 to 8",
+        ),
+    ),
+    (
+        "[8,8,8,8,9]",
+        (
+            "\"name\":\"B\"",
+            "\"name\":\"B\"",
+            "fault 24: an id is too wide: a width of 9 in place of 1 to 8",
+        ),
+    ),
+    (
+        "[8,8,1,8,8]",
+        (
+            "\"id\":6,",
+            "\"id\":256,",
+            "fault 24: an id is too wide, in groups[1]",
+        ),
+    ),
+    (
+        "[1,8,8,8,8]",
+        (
+            "\"id\":41,",
+            "\"id\":256,",
+            "fault 24: an id is too wide, in classes[1].fields[1]",
+        ),
+    ),
+    (
+        "[8,1,8,8,8]",
+        (
+            "\"id\":20,",
+            "\"id\":256,",
+            "fault 24: an id is too wide, in classes[1].methods[0]",
+        ),
+    ),
+    (
+        "[8,8,1,8,8]",
+        (
+            "[41,[\"L\",51]]",
+            "[41,[\"L\",256]]",
+            "fault 24: an id is too wide, in objects[0].fields[1]",
+        ),
+    ),
+    (
+        "[8,8,8,8,1]",
+        (
+            "[\"call\",30",
+            "[\"call\",256",
+            "fault 24: an id is too wide, in threads[0].steps[2]",
+        ),
+    ),
+];
+
+#[test]
+fn wide_ids_are_told_with_their_place(rt: HostRuntime) -> Result<(), Fail> {
+    for (sizes, edit) in WIDE.iter() {
+        let script = edited(rt.alloc(), MACHINE_B, "[8,8,8,8,8]", sizes)?;
+        are_told(&rt, rt.alloc(), script.as_str(), &[*edit])?;
+    }
+    Ok(())
+}
+
+/// Bad references.
+static BAD: [Edit; 36] = [
+    ("\"id\":6,", "\"id\":0,", "the group has id 0, in groups[1]"),
+    (
+        "\"id\":6,\"name\":\"pool\",\"parent\":5",
+        "\"id\":6,\"name\":\"pool\",\"parent\":6",
+        "no group 6 is known here, in groups[1]",
+    ),
+    (
+        "\"id\":10,\"tag\"",
+        "\"id\":0,\"tag\"",
+        "the class has id 0, in classes[0]",
+    ),
+    (
+        "\"super\":0,\"interfaces\":[],\"source\":null",
+        "\"super\":11,\"interfaces\":[],\"source\":null",
+        "no class 11 is known here, in classes[0]",
+    ),
+    (
+        "\"interfaces\":[10]",
+        "\"interfaces\":[11]",
+        "no class 11 is known here, in classes[1]",
+    ),
+    (
+        "\"interfaces\":[10]",
+        "\"interfaces\":[0]",
+        "no class 0 is known here, in classes[1]",
+    ),
+    (
+        "[\"I\",7]",
+        "[\"I\",4294967296]",
+        "bits 4294967296 past the width of their tag, in classes[1].fields[0]",
+    ),
+    (
+        "[\"I\",7]",
+        "[\"L\",99]",
+        "no thread, group or object 99 is known here, in classes[1].fields[0]",
+    ),
+    (
+        "\"id\":40,",
+        "\"id\":0,",
+        "the field has id 0, in classes[1].fields[0]",
+    ),
+    (
+        "\"id\":20,",
+        "\"id\":0,",
+        "the method has id 0, in classes[1].methods[0]",
+    ),
+    (
+        "[3,2]]",
+        "[10,2]]",
+        "lines that don't rise up to the method's last index, in classes[1].methods[0]",
+    ),
+    (
+        "\"id\":50,\"class\":11",
+        "\"id\":50,\"class\":12",
+        "no class 12 is known here, in objects[0]",
+    ),
+    (
+        "\"id\":50,\"class\"",
+        "\"id\":0,\"class\"",
+        "the object has id 0, in objects[0]",
+    ),
+    (
+        "[40,[\"I\",1]]",
+        "[42,[\"I\",1]]",
+        "no field 42 is known here, in objects[0].fields[0]",
+    ),
+    (
+        "[41,[\"L\",51]]",
+        "[40,[\"L\",51]]",
+        "40 of a field, in objects[0]",
+    ),
+    (
+        "[41,[\"L\",51]]",
+        "[41,[\"L\",52]]",
+        "no thread, group or object 52 is known here, in objects[0].fields[1]",
+    ),
+    (
+        "[50,0]",
+        "[50,52]",
+        "no thread, group or object 52 is known here, in objects[1]",
+    ),
+    (
+        "\"group\":6",
+        "\"group\":7",
+        "no group 7 is known here, in threads[1]",
+    ),
+    (
+        "\"id\":2,\"name\":\"work\"",
+        "\"id\":0,\"name\":\"work\"",
+        "no thread 2 is known here, in threads[0].steps[1]",
+    ),
+    (
+        "\"id\":1,\"name\":\"main\"",
+        "\"id\":0,\"name\":\"main\"",
+        "the thread has id 0, in threads[0]",
+    ),
+    (
+        "[\"call\",30",
+        "[\"call\",0",
+        "the frame has id 0, in threads[0].steps[2]",
+    ),
+    (
+        "30,11,20,50",
+        "30,12,20,50",
+        "no class 12 is known here, in threads[0].steps[2]",
+    ),
+    (
+        "30,11,20,50",
+        "30,11,21,50",
+        "no method 21 is known here, in threads[0].steps[2]",
+    ),
+    (
+        "30,11,20,50",
+        "30,11,20,5",
+        "no object 5 is known here, in threads[0].steps[2]",
+    ),
+    (
+        "[[0,[\"L\",50]]]",
+        "[[0,[\"L\",50]],[0,[\"I\",1]]]",
+        "the slot 0 stands twice, in threads[0].steps[2]",
+    ),
+    (
+        "[[0,[\"L\",50]]]",
+        "[[0,[\"L\",99]]]",
+        "no thread, group or object 99 is known here, in threads[0].steps[2]",
+    ),
+    (
+        "[\"go\",3]",
+        "[\"go\",10]",
+        "an index 10 past the method's last, in threads[0].steps[3]",
+    ),
+    (
+        "[\"prepare\",11]",
+        "[\"go\",0]",
+        "a step without a frame, in threads[0].steps[0]",
+    ),
+    (
+        "[\"prepare\",11]",
+        "[\"return\",[\"V\",0]]",
+        "a step without a frame, in threads[0].steps[0]",
+    ),
+    (
+        "[\"throw\",51",
+        "[\"throw\",5",
+        "no object 5 is known here, in threads[0].steps[4]",
+    ),
+    (
+        "[11,20,9]",
+        "[11,20,10]",
+        "an index 10 past the method's last, in threads[0].steps[4]",
+    ),
+    (
+        "[11,20,9]",
+        "[10,20,9]",
+        "no method 20 is known here, in threads[0].steps[4]",
+    ),
+    (
+        "[\"prepare\",11]",
+        "[\"prepare\",12]",
+        "no class 12 is known here, in threads[0].steps[0]",
+    ),
+    (
+        "[\"prepare\",11]",
+        "[\"prepare\",11],[\"prepare\",11]",
+        "the class 11 begins a second time",
+    ),
+    (
+        "[\"start\",2]",
+        "[\"start\",2],[\"start\",2]",
+        "the thread 2 begins a second time",
+    ),
+    (
+        "[\"start\",2]",
+        "[\"start\",2],[\"start\",1]",
+        "no thread lives at the beginning",
+    ),
+];
+
+#[test]
+fn bad_references_are_told_with_their_place(rt: HostRuntime) -> Result<(), Fail> {
+    for (old, new, words) in BAD.iter() {
+        let script = edited(rt.alloc(), MACHINE_B, old, new)?;
+        let told = format!(in rt.alloc(); "fault 25: a bad reference: {words}")?;
+        is_told(&rt, rt.alloc(), script.as_str(), told.as_str())?;
+    }
+    Ok(())
+}
+
+/// A text of so many times this one.
+fn times(alloc: Global, text: &str, count: usize) -> Result<String, Fail> {
+    Ok(text.repeat(alloc, count)?)
+}
+
+/// Machine B with so many times `more` in place of `old`, between `front` and `back`, is told so.
+fn is_told_of(
+    rt: &impl Abort,
+    alloc: Global,
+    old: &str,
+    parts: (&str, &str, usize, &str),
+    words: &str,
+) -> Result<(), Fail> {
+    let (front, more, count, back) = parts;
+    let more = times(alloc, more, count)?;
+    let new = format!(in alloc; "{front}{more}{back}")?;
+    let script = edited(alloc, MACHINE_B, old, new.as_str())?;
+    let told = format!(in alloc; "fault 26: a limit is passed: {words}")?;
+    is_told(rt, alloc, script.as_str(), told.as_str())
+}
+
+#[test]
+fn limits_of_texts_are_told(rt: HostRuntime) -> Result<(), Fail> {
+    let alloc = rt.alloc();
+    let long = "a text of more than 512 bytes";
+    is_told_of(&rt, alloc, "\"B\"", ("\"", "x", 513, "\""), long)?;
+    let long = "a text of more than 512 bytes, in groups[1]";
+    is_told_of(&rt, alloc, "\"pool\"", ("\"", "x", 513, "\""), long)?;
+    let long = "a text of more than 512 bytes, in classes[0]";
+    is_told_of(&rt, alloc, "\"LJob;\"", ("\"", "x", 513, "\""), long)?;
+    let long = "a text of more than 512 bytes, in classes[1].fields[0]";
+    is_told_of(&rt, alloc, "\"count\"", ("\"", "x", 513, "\""), long)?;
+    let long = "a text of more than 512 bytes, in classes[1].methods[0]";
+    is_told_of(&rt, alloc, "\"run\"", ("\"", "x", 513, "\""), long)?;
+    let long = "a text of more than 512 bytes, in classes[1].methods[0].slots[0]";
+    is_told_of(&rt, alloc, "\"this\"", ("\"", "x", 513, "\""), long)?;
+    let long = "a text of more than 65000 bytes, in objects[1]";
+    is_told_of(&rt, alloc, "\"hello\"", ("\"", "x", 65_001, "\""), long)?;
+    let long = "a text of more than 512 bytes, in threads[1]";
+    is_told_of(&rt, alloc, "\"work\"", ("\"", "x", 513, "\""), long)
+}
+
+#[test]
+fn limits_of_lists_are_told(rt: HostRuntime) -> Result<(), Fail> {
+    let alloc = rt.alloc();
+    let group = "{\"id\":7,\"name\":\"\",\"parent\":0},";
+    let many = "more than 1024 entries of groups";
+    is_told_of(
+        &rt,
+        alloc,
+        "\"groups\":[",
+        ("\"groups\":[", group, 1_024, ""),
+        many,
+    )?;
+    let many = "more than 256 entries of interfaces, in classes[1]";
+    is_told_of(&rt, alloc, "[10]", ("[", "10,", 256, "10]"), many)?;
+    let many = "more than 256 entries of lines, in classes[1].methods[0]";
+    is_told_of(&rt, alloc, "[[0,1],", ("[", "[0,1],", 256, ""), many)?;
+    let many = "more than 256 entries of fields, in objects[0]";
+    let field = "[40,[\"I\",1]],";
+    is_told_of(&rt, alloc, "[[40,", ("[", field, 255, "[40,"), many)?;
+    let many = "more than 4096 entries of array, in objects[1]";
+    is_told_of(&rt, alloc, "[50,0]", ("[", "50,", 4_096, "0]"), many)?;
+    let many = "more than 65536 entries of steps, in threads[0]";
+    is_told_of(
+        &rt,
+        alloc,
+        "[\"go\",3]",
+        ("", "[\"go\",3],", 65_536, "[\"go\",3]"),
+        many,
+    )?;
+    let many = "more than 256 entries of slots, in threads[0].steps[2]";
+    let slot = "[0,[\"L\",50]],";
+    is_told_of(
+        &rt,
+        alloc,
+        "[[0,[\"L\",50]]]",
+        ("[", slot, 256, "[0,[\"L\",50]]]"),
+        many,
+    )?;
+    let deep = "more than 256 frames at once, in threads[0]";
+    let call = "[\"call\",30,11,20,50,[]],";
+    is_told_of(
+        &rt,
+        alloc,
+        "[\"go\",3]",
+        ("", call, 256, "[\"go\",3]"),
+        deep,
+    )
+}
+
+#[test]
+fn too_many_threads_at_the_beginning_are_told(rt: HostRuntime) -> Result<(), Fail> {
+    let told = told_with(rt.alloc(), MACHINE_A, 1)?;
+    let words = "fault 26: a limit is passed: more than 1 threads at the beginning";
+    expect_same_for(&rt, &told.as_str(), &words, &words);
+    Ok(())
+}
+
+/// Of a fault of which nothing is known, nothing is told.
+#[test]
+fn nothing_is_told_where_nothing_is_known(rt: HostRuntime) -> Result<(), Fail> {
+    let told = Detail::UNSAID.to_string(rt.alloc())?;
+    expect_same_for(&rt, &told.as_str(), &"", &"unsaid");
+    let twice = Detail {
+        cause: Cause::Twice(IdKind::Class, 7),
+        path: Path::ROOT,
+    };
+    let told = twice.to_string(rt.alloc())?;
+    expect_same_for(&rt, &told.as_str(), &": 7 of a class", &"twice");
+    Ok(())
+}

@@ -1,0 +1,6 @@
+-- What contracts of users cite.
+pub use Rattle.jdwp_show.specs.Sessions
+pub use Rattle.jdwp_debuggee.specs.State
+pub use Rattle.jdwp_debugger.specs.Debuggers
+pub use Rattle.jdwp_model.specs.Seen
+pub use Rattle.jdwp_link.specs.Clauses

@@ -1,0 +1,9 @@
+//! Runs of both ends by plans: tests of `jdwp_pair`, which call what anybody can call.
+#![tactic(auto)]
+
+#[cfg(test)]
+mod asserts;
+#[cfg(test)]
+mod pair_tests;
+#[cfg(test)]
+mod runs;

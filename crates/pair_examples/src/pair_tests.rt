@@ -1,0 +1,333 @@
+//! Runs of both ends by plans over machine A, line for line.
+use crate::asserts::expect_same;
+use crate::runs::{CASE, Case, Writer, passes, run_text};
+use jdwp_pair::PairEnded;
+use std::alloc::Global;
+use std::process::Abort;
+use std::test::Fail;
+
+/// A breakpoint is set at index 3, and all threads are resumed.
+const BREAKPOINT: &str = "ask 15 1 0202000000010701000000000000000a00000000000000140000000000000003
+ask 1 9
+events 2
+mirror
+";
+
+/// The run in full: thread 1 steps twice, and thread 2 ends.
+const WHOLE: Case = Case {
+    plan: BREAKPOINT,
+    lines: "< hello
+< 1 Event.Composite 2 [(90, 0, #1)]
+< 1 reply VirtualMachine.IDSizes 0 8 8 8 8 8
+< 2 reply EventRequest.Set 0 1
+< 3 reply VirtualMachine.Resume 0
+< 2 Event.Composite 2 [(2, 1, #1, 1:#10:#20:3)]
+thread 1 1 held
+request 1 2 2
+",
+    ..CASE
+};
+
+#[test]
+fn a_breakpoint_is_reached(rt: HostRuntime) -> Result<(), Fail> {
+    passes(&rt, rt.alloc(), &WHOLE)
+}
+
+/// The widths of ids are known.
+const READY: &str = "< hello
+< 1 Event.Composite 2 [(90, 0, #1)]
+< 1 reply VirtualMachine.IDSizes 0 8 8 8 8 8
+";
+
+/// Runs that are done.
+static DONE: [Case; 8] = [
+    Case {
+        lines: READY,
+        ..CASE
+    },
+    // What was asked last is answered before the run is done.
+    Case {
+        plan: "ask 1 8",
+        lines: "< hello
+< 1 Event.Composite 2 [(90, 0, #1)]
+< 1 reply VirtualMachine.IDSizes 0 8 8 8 8 8
+< 2 reply VirtualMachine.Suspend 0
+",
+        ..CASE
+    },
+    Case {
+        plan: "mirror\nanswers\nevents 1\nmirror",
+        lines: "< hello
+< 1 Event.Composite 2 [(90, 0, #1)]
+< 1 reply VirtualMachine.IDSizes 0 8 8 8 8 8
+thread 1 1 held
+thread 1 1 held
+",
+        ..CASE
+    },
+    // No thread begins suspended. Dispose ends the session.
+    Case {
+        start_all: false,
+        plan: "ask 1 8\nask 11 12 0000000000000001\nask 1 6\nanswers\n",
+        lines: "< hello
+< 1 Event.Composite 0 [(90, 0, #1)]
+< 1 reply VirtualMachine.IDSizes 0 8 8 8 8 8
+< 2 reply VirtualMachine.Suspend 0
+< 3 reply ThreadReference.SuspendCount 0 1
+< 4 reply VirtualMachine.Dispose 0
+",
+        ..CASE
+    },
+    // It does so whatever lines are left.
+    Case {
+        plan: "ask 1 6\nask 1 8\nevents 9\nmirror\n",
+        lines: "< hello
+< 1 Event.Composite 2 [(90, 0, #1)]
+< 1 reply VirtualMachine.IDSizes 0 8 8 8 8 8
+< 2 reply VirtualMachine.Dispose 0
+",
+        ..CASE
+    },
+    // So does the death of the machine, by Exit, or where its last thread has run out.
+    Case {
+        plan: "ask 1 10 00000000\nmirror\nask 1 8",
+        lines: "< hello
+< 1 Event.Composite 2 [(90, 0, #1)]
+< 1 reply VirtualMachine.IDSizes 0 8 8 8 8 8
+< 2 reply VirtualMachine.Exit 0
+< 2 Event.Composite 0 [(99, 0)]
+",
+        ..CASE
+    },
+    Case {
+        plan: "ask 1 9\nevents 5\nmirror",
+        lines: "< hello
+< 1 Event.Composite 2 [(90, 0, #1)]
+< 1 reply VirtualMachine.IDSizes 0 8 8 8 8 8
+< 2 reply VirtualMachine.Resume 0
+< 2 Event.Composite 0 [(99, 0)]
+",
+        ..CASE
+    },
+    Case {
+        start_all: false,
+        plan: "events 2",
+        lines: "< hello
+< 1 Event.Composite 0 [(90, 0, #1)]
+< 1 reply VirtualMachine.IDSizes 0 8 8 8 8 8
+< 2 Event.Composite 0 [(99, 0)]
+",
+        ..CASE
+    },
+];
+
+/// Commands that are refused, at their lines.
+static REFUSED: [Case; 4] = [
+    // a command that no target has
+    Case {
+        plan: "ask 1 8\nask 1 99\nanswers",
+        ended: PairEnded::RefusedLine {
+            line: 2,
+            number: 36,
+        },
+        lines: "< hello
+< 1 Event.Composite 2 [(90, 0, #1)]
+< 1 reply VirtualMachine.IDSizes 0 8 8 8 8 8
+< 2 reply VirtualMachine.Suspend 0
+",
+        ..CASE
+    },
+    // data that the layout refuses
+    Case {
+        plan: "mirror\nanswers\nask 1 8 00",
+        ended: PairEnded::RefusedLine {
+            line: 3,
+            number: 36,
+        },
+        lines: "< hello
+< 1 Event.Composite 2 [(90, 0, #1)]
+< 1 reply VirtualMachine.IDSizes 0 8 8 8 8 8
+thread 1 1 held
+",
+        ..CASE
+    },
+    // A command of the sets that go to a debugger. The last flush fails, and the refusal is told.
+    Case {
+        plan: "ask 64 100 00",
+        flush_fails: 1,
+        ended: PairEnded::RefusedLine {
+            line: 1,
+            number: 36,
+        },
+        lines: READY,
+        ..CASE
+    },
+    Case {
+        plan: "ask 11 12 00000000000001",
+        ended: PairEnded::RefusedLine {
+            line: 1,
+            number: 36,
+        },
+        lines: READY,
+        ..CASE
+    },
+];
+
+/// Runs whose rounds are used, and runs in which nothing happens any more.
+static LIMITED: [Case; 6] = [
+    Case {
+        rounds: 0,
+        ended: PairEnded::TurnLimit,
+        ..CASE
+    },
+    Case {
+        rounds: 1,
+        ended: PairEnded::TurnLimit,
+        lines: "< hello\n",
+        ..CASE
+    },
+    // The end of the plan takes no round.
+    Case {
+        rounds: 2,
+        lines: READY,
+        ..CASE
+    },
+    Case {
+        plan: BREAKPOINT,
+        rounds: 7,
+        ended: PairEnded::TurnLimit,
+        lines: "< hello
+< 1 Event.Composite 2 [(90, 0, #1)]
+< 1 reply VirtualMachine.IDSizes 0 8 8 8 8 8
+< 2 reply EventRequest.Set 0 1
+< 3 reply VirtualMachine.Resume 0
+< 2 Event.Composite 2 [(2, 1, #1, 1:#10:#20:3)]
+",
+        ..CASE
+    },
+    Case { rounds: 8, ..WHOLE },
+    // All threads are suspended, and no event comes.
+    Case {
+        plan: "events 2",
+        ended: PairEnded::TurnLimit,
+        lines: READY,
+        ..CASE
+    },
+];
+
+/// Writes and flushes that fail.
+static UNWRITTEN: [Case; 5] = [
+    Case {
+        write_fails: 1,
+        ended: PairEnded::LostByWrite,
+        ..CASE
+    },
+    Case {
+        write_fails: 2,
+        ended: PairEnded::LostByWrite,
+        lines: "< hello\n",
+        ..CASE
+    },
+    // that of the mirror
+    Case {
+        plan: "mirror\nask 1 8",
+        write_fails: 3,
+        ended: PairEnded::LostByWrite,
+        lines: READY,
+        ..CASE
+    },
+    Case {
+        flush_fails: 1,
+        ended: PairEnded::LostByWrite,
+        lines: READY,
+        ..CASE
+    },
+    Case {
+        rounds: 1,
+        flush_fails: 1,
+        ended: PairEnded::LostByWrite,
+        lines: "< hello\n",
+        ..CASE
+    },
+];
+
+#[test]
+fn plans_are_run_to_their_end(rt: HostRuntime) -> Result<(), Fail> {
+    for case in DONE.iter() {
+        passes(&rt, rt.alloc(), case)?;
+    }
+    Ok(())
+}
+
+#[test]
+fn refused_commands_end_a_run(rt: HostRuntime) -> Result<(), Fail> {
+    for case in REFUSED.iter() {
+        passes(&rt, rt.alloc(), case)?;
+    }
+    Ok(())
+}
+
+#[test]
+fn rounds_are_limited(rt: HostRuntime) -> Result<(), Fail> {
+    for case in LIMITED.iter() {
+        passes(&rt, rt.alloc(), case)?;
+    }
+    Ok(())
+}
+
+#[test]
+fn an_output_that_fails_ends_a_run(rt: HostRuntime) -> Result<(), Fail> {
+    for case in UNWRITTEN.iter() {
+        passes(&rt, rt.alloc(), case)?;
+    }
+    Ok(())
+}
+
+/// A plan that asks RedefineClasses with so many bytes of data.
+fn long_plan(alloc: Global, count: usize) -> Result<String, Fail> {
+    let mut plan = String::new(alloc);
+    plan.push_str("ask 1 18 ")?;
+    for _ in 0..count {
+        plan.push_str("00")?;
+    }
+    Ok(plan)
+}
+
+/// A plan with a command of so many bytes of data ends so, and prints this.
+fn is_run_long(
+    rt: &impl Abort,
+    alloc: Global,
+    count: usize,
+    want: PairEnded,
+    told: &str,
+) -> Result<(), Fail> {
+    let plan = long_plan(alloc, count)?;
+    let writer = Writer::failing(alloc, 0, 0);
+    let (ended, lines) = run_text(alloc, true, &plan, writer, 3)?;
+    expect_same(rt, &ended, &want);
+    expect_same(rt, &lines.as_slice(), &told.as_bytes());
+    Ok(())
+}
+
+/// What a target answers that redefines no classes.
+const NOT_IMPLEMENTED: &str = "< hello
+< 1 Event.Composite 2 [(90, 0, #1)]
+< 1 reply VirtualMachine.IDSizes 0 8 8 8 8 8
+< 2 reply VirtualMachine.RedefineClasses 99
+";
+
+/// Bytes come by at most 4,096 at once, and all of them in one round.
+#[test]
+fn long_commands_come_in_one_round(rt: HostRuntime) -> Result<(), Fail> {
+    is_run_long(&rt, rt.alloc(), 4_085, PairEnded::Done, NOT_IMPLEMENTED)?;
+    is_run_long(&rt, rt.alloc(), 65_525, PairEnded::Done, NOT_IMPLEMENTED)
+}
+
+#[test]
+fn a_command_that_is_too_long_is_refused(rt: HostRuntime) -> Result<(), Fail> {
+    let refused = PairEnded::RefusedLine {
+        line: 1,
+        number: 34,
+    };
+    is_run_long(&rt, rt.alloc(), 65_526, refused, READY)
+}

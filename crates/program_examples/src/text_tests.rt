@@ -1,0 +1,103 @@
+//! The texts of faults, each.
+use crate::asserts::expect_same;
+use jdwp_debugger::{DebuggerFault, Refused};
+use jdwp_plan::{LineFault, PlanFault};
+use std::alloc::Global;
+use std::process::Abort;
+use std::test::Fail;
+
+/// What is wrong with a line, in words.
+static LINES: [(LineFault, &str); 9] = [
+    (LineFault::Blank, "an empty line"),
+    (
+        LineFault::Spacing,
+        "words that are not parted by one space each",
+    ),
+    (
+        LineFault::FirstWord,
+        "a first word that is not `ask`, `answers`, `events` or `mirror`",
+    ),
+    (
+        LineFault::WordCount,
+        "no line `ask SET NUMBER`, `ask SET NUMBER HEX`, `answers`, `events N` or `mirror`",
+    ),
+    (
+        LineFault::Set,
+        "a command set that is not a number from 0 to 255",
+    ),
+    (
+        LineFault::Number,
+        "a command that is not a number from 0 to 255",
+    ),
+    (LineFault::OddDigits, "data of an odd number of hex digits"),
+    (LineFault::Digits, "data that are not hex digits"),
+    (
+        LineFault::Count,
+        "a number of events that is not a number below 4294967296",
+    ),
+];
+
+/// A fault of a line of a plan, in words behind the line's number.
+fn is_told_of_line(
+    rt: &impl Abort,
+    alloc: Global,
+    fault: LineFault,
+    words: &str,
+) -> Result<(), Fail> {
+    let told = PlanFault::Line(7, fault).to_string(alloc)?;
+    let wanted = format!(in alloc; "line 7 of the plan: {words}")?;
+    expect_same(rt, &told.as_str(), &wanted.as_str());
+    Ok(())
+}
+
+#[test]
+fn faults_of_lines_in_words(rt: HostRuntime) -> Result<(), Fail> {
+    for &(fault, words) in LINES.iter() {
+        is_told_of_line(&rt, rt.alloc(), fault, words)?;
+    }
+    Ok(())
+}
+
+/// Why a debugger refuses a command, in words.
+static REFUSALS: [(Refused, &str); 6] = [
+    (
+        Refused::NotReady,
+        "fault 31: the widths of ids are not known",
+    ),
+    (Refused::Busy, "fault 32: too much waits"),
+    (Refused::Closed, "fault 33: the debugger is closed"),
+    (Refused::TooLong, "fault 34: the command is too long"),
+    (Refused::NoMemory, "fault 35: no memory"),
+    (Refused::BadCommand, "fault 36: a bad command"),
+];
+
+#[test]
+fn refusals_of_commands_in_words(rt: HostRuntime) -> Result<(), Fail> {
+    for &(refused, words) in REFUSALS.iter() {
+        expect_same(&rt, &refused.to_string(rt.alloc())?.as_str(), &words);
+    }
+    Ok(())
+}
+
+/// Why a debugger's turn failed, in words.
+static TURNS: [(DebuggerFault, &str); 5] = [
+    (
+        DebuggerFault::UnknownReply,
+        "fault 42: a reply to no outstanding command",
+    ),
+    (DebuggerFault::BadReply, "fault 43: a bad reply"),
+    (
+        DebuggerFault::TooManyParked,
+        "fault 44: too many events before the widths of ids are known",
+    ),
+    (DebuggerFault::BadEvent, "fault 45: a bad event"),
+    (DebuggerFault::NoMemory, "no memory"),
+];
+
+#[test]
+fn faults_of_turns_in_words(rt: HostRuntime) -> Result<(), Fail> {
+    for &(fault, words) in TURNS.iter() {
+        expect_same(&rt, &fault.to_string(rt.alloc())?.as_str(), &words);
+    }
+    Ok(())
+}

@@ -1,0 +1,2 @@
+pub mod FallingMachine
+pub mod FallingLaws
