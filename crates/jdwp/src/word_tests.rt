@@ -363,25 +363,43 @@ fn options_have_defaults(rt: HostRuntime) -> Result<(), Fail> {
     Ok(())
 }
 
-/// A port in place of files.
-#[test]
-fn ports_are_read(rt: HostRuntime) -> Result<(), Fail> {
+/// The words of `serve-script` at this port are read so.
+fn serves_at(rt: &impl Abort, alloc: Global, words: &[&str], port: u16) -> Result<(), Fail> {
     let settings = Settings::new(true, 65535, Limits::standard()).ok_or("a count limit")?;
-    let served = Words::ServeScript(ServeScript {
+    let want = Words::ServeScript(ServeScript {
         machine: "m",
-        peer: Peer::Port(8000),
+        peer: Peer::Port(port),
         settings,
         turns: 100000,
     });
-    let words = ["jdwp", "serve-script", "m", "--port", "8000"];
-    are_read(&rt, rt.alloc(), &words, &served)?;
-    let attached = Words::Attach(Attach {
+    are_read(rt, alloc, words, &want)
+}
+
+/// The words of `attach` at this port are read so.
+fn attaches_at(rt: &impl Abort, alloc: Global, words: &[&str], port: u16) -> Result<(), Fail> {
+    let want = Words::Attach(Attach {
         plan: "p",
-        peer: Peer::Port(65535),
+        peer: Peer::Port(port),
         turns: 5,
     });
-    let words = ["jdwp", "attach", "p", "--port=65535", "--turns", "5"];
-    are_read(&rt, rt.alloc(), &words, &attached)
+    are_read(rt, alloc, words, &want)
+}
+
+/// A port in place of files.
+#[test]
+fn ports_are_read(rt: HostRuntime) -> Result<(), Fail> {
+    serves_at(
+        &rt,
+        rt.alloc(),
+        &["jdwp", "serve-script", "m", "--port", "8000"],
+        8000,
+    )?;
+    attaches_at(
+        &rt,
+        rt.alloc(),
+        &["jdwp", "attach", "p", "--port=65535", "--turns", "5"],
+        65535,
+    )
 }
 
 /// Both ends in one process, with options.
