@@ -1,9 +1,6 @@
 //! Runs of the program without files between its ends.
-use crate::asserts::expect_same;
 use crate::tests::{MACHINE, is_refused, is_run, remove};
 use std::fs;
-use std::net::{Ipv4Addr, Net, OpenListener, SocketAddr};
-use std::process::Abort;
 use std::test::Fail;
 
 /// A breakpoint that suspends all threads, then Resume; and the mirror once it was reached.
@@ -73,18 +70,4 @@ fn a_port_where_nobody_listens_is_told(rt: HostRuntime) -> Result<(), Fail> {
     let words = ["attach", plan, "--port", "1"];
     is_run(&rt, &words, 2, "", "jdwp: port 1: connection refused\n")?;
     remove(&rt, &[plan])
-}
-
-/// A port that another listens at can't be taken.
-#[test]
-fn a_port_in_use_is_told(rt: HostRuntime) -> Result<(), Fail> {
-    let machine = "port_machine";
-    fs::write(&rt, machine, MACHINE)?;
-    let listener = rt.bind(SocketAddr::from((Ipv4Addr::LOCALHOST, 0)))?;
-    let port = listener.local_addr()?.port();
-    let number = port.to_string(rt.alloc())?;
-    let told = format!(in rt.alloc(); "jdwp: port {port}: address in use\n")?;
-    let words = ["serve-script", machine, "--port", number.as_str()];
-    is_run(&rt, &words, 2, "", told.as_str())?;
-    remove(&rt, &[machine])
 }
