@@ -1,9 +1,9 @@
 //! Suspend counts, asked in rounds (JDWP specification, "Protocol Details": ThreadReference.SuspendCount).
 use anyhow::Context;
 use jdwp_debugger::{Command, Debugger, Read};
-use jdwp_exchange::{to_debugger, to_target};
 use jdwp_layout::numbers::{SUSPEND_COUNT, THREAD_REFERENCE};
 use jdwp_layout::{Datum, Scalar};
+use jdwp_link::{Memory, Side, deliver};
 use jdwp_script_machine::ScriptMachine;
 use jdwp_target::{TargetOptions, Turn};
 use jdwp_value::ObjectId;
@@ -83,13 +83,13 @@ fn exchange(
     target: &mut Target,
     buffer: &mut [u8; CHUNK],
 ) -> anyhow::Result<u32> {
-    to_target(debugger, target, buffer);
+    deliver(debugger, target, &mut Memory, Side::Debugger, buffer);
     for _ in 0..=AT_ONCE {
         if let Turn::Nothing = target.turn()? {
             break;
         }
     }
-    to_debugger(target, debugger, buffer);
+    deliver(target, debugger, &mut Memory, Side::Target, buffer);
     let mut answered = 0u32;
     for _ in 0..=AT_ONCE {
         match debugger.turn(alloc)? {

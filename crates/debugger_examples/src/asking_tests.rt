@@ -348,6 +348,7 @@ fn refusals_have_their_numbers(rt: HostRuntime) -> Result<(), Fail> {
         expect_same(&rt, &refused.number(), number);
     }
     let text = format!(in rt.alloc(); "{}", Refused::BadCommand)?;
-    expect_same(&rt, &text.as_str(), &"fault 36: a bad command");
+    let said = "fault 36: a command that no target has, or data that do not read in its layout";
+    expect_same(&rt, &text.as_str(), &said);
     Ok(())
 }

@@ -21,6 +21,7 @@ thread 1 1 held
 request 1 2 2
 ";
 
+/// Over memory and over a connection the same is printed.
 #[test]
 fn both_ends_run_a_plan(rt: HostRuntime) -> Result<(), Fail> {
     let (machine, plan) = ("pair_machine", "pair_plan");
@@ -28,6 +29,41 @@ fn both_ends_run_a_plan(rt: HostRuntime) -> Result<(), Fail> {
     fs::write(&rt, plan, PLAN)?;
     let words = ["pair", machine, plan, "--memory", "--start", "all"];
     is_run(&rt, &words, 0, PRINTED, "")?;
+    is_run(&rt, &["pair", machine, plan], 0, PRINTED, "")?;
+    remove(&rt, &[machine, plan])
+}
+
+/// All threads are suspended; both ends lose the connection; and in the next session nobody is.
+const LOSSES: &str = "ask 1 8
+answers
+lose target
+lose debugger
+attach
+ask 11 12 0000000000000001
+answers
+mirror
+";
+
+/// What is printed of it.
+const LOST: &str = "< hello
+< 1 Event.Composite 0 [(90, 0, #1)]
+< 1 reply VirtualMachine.IDSizes 0 8 8 8 8 8
+< 2 reply VirtualMachine.Suspend 0
+< hello
+< 3 reply VirtualMachine.IDSizes 0 8 8 8 8 8
+< 4 reply ThreadReference.SuspendCount 0 0
+thread 1 0 free
+";
+
+#[test]
+fn both_ends_begin_anew(rt: HostRuntime) -> Result<(), Fail> {
+    let (machine, plan) = ("loss_machine", "loss_plan");
+    fs::write(&rt, machine, MACHINE)?;
+    fs::write(&rt, plan, LOSSES)?;
+    let words = ["pair", machine, plan, "--start", "none"];
+    is_run(&rt, &words, 0, LOST, "")?;
+    let words = ["pair", machine, plan, "--start", "none", "--memory"];
+    is_run(&rt, &words, 0, LOST, "")?;
     remove(&rt, &[machine, plan])
 }
 
@@ -44,7 +80,7 @@ fn a_line_that_is_refused_is_told(rt: HostRuntime) -> Result<(), Fail> {
 < 2 reply VirtualMachine.Suspend 0
 ";
     let told =
-        "jdwp: line 3 of the plan: fault 36: a command of the plan that no target has, or data that do not read in its layout\n";
+        "jdwp: line 3 of the plan: fault 36: a command that no target has, or data that do not read in its layout\n";
     is_run(&rt, &words, 1, printed, told)?;
     remove(&rt, &[machine, plan])
 }

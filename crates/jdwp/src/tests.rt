@@ -672,12 +672,12 @@ static TOLD_OF_PLANS: [(&str, u8, &str); 5] = [
     (
         "ask 1 99\n",
         1,
-        "jdwp: line 1 of the plan: fault 36: a command of the plan that no target has, or data that do not read in its layout\n",
+        "jdwp: line 1 of the plan: fault 36: a command that no target has, or data that do not read in its layout\n",
     ),
     (
         "ask 1 8\nmirror\nask 1 8 00\nask 1 6\n",
         1,
-        "jdwp: line 3 of the plan: fault 36: a command of the plan that no target has, or data that do not read in its layout\n",
+        "jdwp: line 3 of the plan: fault 36: a command that no target has, or data that do not read in its layout\n",
     ),
     (
         "events 5\n",
@@ -699,6 +699,37 @@ fn ends_of_plans_are_told(rt: HostRuntime) -> Result<(), Fail> {
         let words = ["jdwp", "attach", plan, "--from", from, "--to", to];
         expect_same_for(&rt, &run(&rt, &words, &mut out, &mut err), &status, &text);
         expect_same_for(&rt, &err.get_ref().as_slice(), &told.as_bytes(), &text);
+    }
+    remove(&rt, &[plan, from, to])
+}
+
+/// A plan with a line of `pair` alone, and what `attach` tells of it.
+static OF_PAIR: [(&str, &str); 3] = [
+    (
+        "lose target\n",
+        "jdwp: of_pair_plan: line 1 of the plan: a line of `pair` alone\n",
+    ),
+    (
+        "ask 1 8\nlose debugger\n",
+        "jdwp: of_pair_plan: line 2 of the plan: a line of `pair` alone\n",
+    ),
+    (
+        "ask 1 8\nanswers\nattach\nanswer\n",
+        "jdwp: of_pair_plan: line 3 of the plan: a line of `pair` alone\n",
+    ),
+];
+
+/// Nothing is sent or printed then, and the plan is told before a port at which nobody listens.
+#[test]
+fn lines_of_pair_are_refused_by_attach(rt: HostRuntime) -> Result<(), Fail> {
+    let (plan, from, to) = ("of_pair_plan", "of_pair_from", "of_pair_to");
+    fs::write(&rt, from, ANSWERS.as_slice())?;
+    for &(text, told) in OF_PAIR.iter() {
+        fs::write(&rt, plan, text)?;
+        let words = ["attach", plan, "--from", from, "--to", to];
+        is_run(&rt, &words, 1, "", told)?;
+        holds(&rt, to, &[])?;
+        is_run(&rt, &["attach", plan, "--port", "1"], 1, "", told)?;
     }
     remove(&rt, &[plan, from, to])
 }
@@ -734,8 +765,7 @@ fn the_line_of_a_refused_command_is_told(rt: HostRuntime) -> Result<(), Fail> {
         plan.push_str("ask 1 8\n")?;
     }
     fs::write(&rt, "by_lines_plan", plan.as_str())?;
-    let refused =
-        "jdwp: line 65 of the plan: fault 32: 64 commands wait for their answers, and no more may\n";
+    let refused = "jdwp: line 65 of the plan: fault 32: too much waits: 64 commands at most\n";
     plan_ends(&rt, &ANSWERS, refused)?;
     plan_ends(&rt, b"JDWP-HandshakE", "jdwp: fault 4: not the handshake\n")?;
     remove(&rt, &["by_lines_plan", "by_lines_from", "by_lines_to"])

@@ -4,7 +4,7 @@ use crate::tests::{MACHINE, SESSION, is_not_made, is_refused, remove, status_of}
 use jdwp_debuggee::Settings;
 use jdwp_program::Fault;
 use jdwp_wire::Limits;
-use jdwp_words::{Attach, Pair, Peer, ServeScript, SessionFiles, Words};
+use jdwp_words::{Attach, Between, Pair, Peer, ServeScript, SessionFiles, Words};
 use std::alloc::Global;
 use std::fs;
 use std::net::Net;
@@ -145,7 +145,7 @@ fn other_words_are_refused(rt: HostRuntime) -> Result<(), Fail> {
 }
 
 /// Words that are refused, and texts that are told.
-static HELP: [(&[&str], &[&str]); 14] = [
+static HELP: [(&[&str], &[&str]); 15] = [
     (
         &[],
         &[
@@ -187,6 +187,19 @@ static HELP: [(&[&str], &[&str]); 14] = [
             "<PLAN>",
             "--from <FILE>",
             "--to <FILE>",
+            "--turns <N>",
+        ],
+    ),
+    (
+        &["pair", "--help"],
+        &[
+            "Runs a plan",
+            "Usage: jdwp pair ",
+            "<MACHINE>",
+            "<PLAN>",
+            "a connection at 127.0.0.1",
+            "--memory",
+            "--start <WHICH>",
             "--turns <N>",
         ],
     ),
@@ -405,13 +418,14 @@ fn ports_are_read(rt: HostRuntime) -> Result<(), Fail> {
 /// Both ends in one process, with options.
 #[test]
 fn words_of_pair_are_read(rt: HostRuntime) -> Result<(), Fail> {
-    let rows: [(&[&str], bool, u32); 3] = [
-        (&[], true, 100000),
-        (&["--start", "none"], false, 100000),
-        (&["--turns", "7"], true, 7),
+    let rows: [(&[&str], Between, bool, u32); 4] = [
+        (&[], Between::Loopback, true, 100000),
+        (&["--memory"], Between::Memory, true, 100000),
+        (&["--start", "none"], Between::Loopback, false, 100000),
+        (&["--turns", "7", "--memory"], Between::Memory, true, 7),
     ];
-    for (more, start_all, turns) in rows {
-        pairs(&rt, rt.alloc(), more, start_all, turns)?;
+    for (more, between, start_all, turns) in rows {
+        pairs(&rt, rt.alloc(), more, between, start_all, turns)?;
     }
     Ok(())
 }
@@ -421,16 +435,18 @@ fn pairs(
     rt: &impl Abort,
     alloc: Global,
     more: &[&str],
+    between: Between,
     start_all: bool,
     turns: u32,
 ) -> Result<(), Fail> {
     let mut words = Vec::new(alloc);
-    words.extend_from_slice(&["jdwp", "pair", "m", "p", "--memory"])?;
+    words.extend_from_slice(&["jdwp", "pair", "m", "p"])?;
     words.extend_from_slice(more)?;
     let settings = Settings::new(start_all, 65535, Limits::standard()).ok_or("a count limit")?;
     let want = Words::Pair(Pair {
         machine: "m",
         plan: "p",
+        between,
         settings,
         turns,
     });
@@ -438,7 +454,7 @@ fn pairs(
 }
 
 /// Words about ports and about both ends that are refused.
-static REFUSED_PEERS: [&[&str]; 13] = [
+static REFUSED_PEERS: [&[&str]; 14] = [
     &["serve-script", "m", "--port"],
     &["serve-script", "m", "--port", "0"],
     &["serve-script", "m", "--port", "65536"],
@@ -457,9 +473,10 @@ static REFUSED_PEERS: [&[&str]; 13] = [
     ],
     &["attach", "p", "--port", "80", "--to", "t"],
     &["attach", "p"],
+    &["pair", "m"],
     &["pair", "m", "--memory"],
-    &["pair", "m", "p"],
     &["pair", "m", "p", "--memory", "--memory"],
+    &["pair", "m", "p", "--port", "80"],
     &["pair", "m", "p", "--memory", "--count-limit", "5"],
 ];
 

@@ -17,15 +17,16 @@ use Rattle.jdwp_debugger.specs.Asking.{HasAsked, IsRefusal, refusal_of_ask}
 use Rattle.jdwp_debugger.specs.RefusedNumbers.{refused_number}
 use Rattle.jdwp_debugger.specs.Debuggers.{Debugger, attached, has_tickets, lost, with_taken}
 use Rattle.jdwp_debugger.specs.DebuggerTurns.{TurnsAt, refused}
-use Rattle.jdwp_engine.specs.declared.ended.Ended.{Ended}
-use Rattle.jdwp_engine.specs.declared.ended.Ended.TheVariants.{Done, LostByRead, LostByWrite, Refused, NoMemory, TurnLimit}
-use Rattle.jdwp_engine.specs.Run.{FailsFlush, FailsRead, FailsWrite, flushed, with_written}
-use Rattle.jdwp_engine.specs.Sessions.{unflushed_end}
-use Rattle.jdwp_engine.specs.Story.{Story}
+use Rattle.jdwp_pipe.specs.declared.ended.Ended.{Ended}
+use Rattle.jdwp_pipe.specs.declared.ended.Ended.TheVariants.{Done, LostByRead, LostByWrite, Refused, NoMemory, TurnLimit}
+use Rattle.jdwp_pipe.specs.Endings.{unflushed_end}
+use Rattle.jdwp_pipe.specs.Story.{FailsFlush, FailsRead, FailsWrite, Story, flushed, with_written}
 use Rattle.jdwp_plan.specs.declared.plan_line.PlanLine.{PlanLine}
 use Rattle.jdwp_plan.specs.declared.plan_line.PlanLine.TheVariants as line
+use Rattle.jdwp_plan.specs.Lines.{is_of_pair}
+use Rattle.jdwp_plan.specs.PlanLines.{said_by}
 use Rattle.jdwp_attach.specs.PlanAsks.{AsksInOrder, IsBeginning, Stands, asks, command_asked}
-use Rattle.jdwp_attach.specs.PlanRuns.{Attaches, Leaves, Stays, EndsFailed, EndsRefused, EndsSo, HasLeft, HasLeftOrFails, IsAsk, IsFinished, LineEndsSo, MayEnd, ReadsEnd, RefusesCommand, RefusesLineAt, Tells, TellsInOrder, TellsPart, told_number, unflushed_debugger}
+use Rattle.jdwp_attach.specs.PlanRuns.{Attaches, Leaves, Stays, EndsFailed, EndsRefused, EndsSo, HasLeft, HasLeftOrFails, IsAsk, IsFinished, LineEndsSo, MayEnd, ReadsEnd, RefusesBy, RefusesCommand, RefusesLineAt, Tells, TellsInOrder, TellsPart, told_number, unflushed_debugger}
 use Rattle.jdwp_attach.specs.Runs.{FailsLastFlush, Finishes, InOrder, IsGoing, LosesAtRead, LosesAtWrite, Reaches, Standing, at}
 use Rattle.jdwp_tell.specs.Telling.{TellsMirror}
 use Rattle.jdwp_attach.proofs.Moves.{asked-moves, begins-all, begins-behind, begins-line, begins-none, line-split, printed-again, written-none}
@@ -179,11 +180,16 @@ turn-ends s o old mid new left left' code.BadEvent ended turned h = rw h.0 (turn
 
 -- ---- commands that were refused
 
--- the debugger refuses the command of the line behind those that were carried out
-pub line-refused : (done rest : List PlanLine) (line : PlanLine) (base : Standing) (s o : Story) (d : Debugger) (left set number refused : ℕ) (bytes : List ℕ) (w : Widths)
-    → IsGoing done base (at s o d left) → IsAsk line set number bytes → d.sizes ≡ Some w → RefusesCommand d refused (command_asked w set number bytes)
-    → RefusesLineAt (done ++ line ∷ rest) (length done + 1) base.debugger refused d
-line-refused done rest line base s o d left set number refused bytes w k asks-it known refuses =
+-- the debugger refuses the command of a line
+pub ask-refuses : (line : PlanLine) (d : Debugger) (set number refused : ℕ) (bytes : List ℕ) (w : Widths) → IsAsk line set number bytes → RefusesCommand d refused (command_asked w set number bytes)
+    → RefusesBy line w d refused
+ask-refuses (line.Ask s n carried) d set number refused bytes w h refuses = rw (h.0, h.1, h.2) refuses
+ask-refuses other d set number refused bytes w h refuses = absurd h
+
+-- the line behind those that were carried out is refused
+pub line-refused : (done rest : List PlanLine) (line : PlanLine) (base : Standing) (s o : Story) (d : Debugger) (left refused : ℕ) (w : Widths) → IsGoing done base (at s o d left) → d.sizes ≡ Some w
+    → RefusesBy line w d refused → RefusesLineAt (done ++ line ∷ rest) (length done + 1) base.debugger refused d
+line-refused done rest line base s o d left refused w k known refuses =
     let knows = stands-known done base.debugger d (ap (λ (x : Option Widths). is_some x) known) k.stands in
     let same : knows.0 ≡ w = let e = sym knows.1 ∙ known in cc in
     record {
@@ -195,27 +201,23 @@ line-refused done rest line base s o d left set number refused bytes w k asks-it
       told = k.told;
       reached = k.reached;
       asked = k.asked;
-      set = set;
-      command = number;
-      carried = bytes;
-      asks_it = asks-it;
       widths = w;
       known = known;
       put = rw (← same) knows.2;
       refused = refuses;
     }
 
-asked-refused : (done rest : List PlanLine) (line : PlanLine) (base : Standing) (s o : Story) (d new : Debugger) (left set number refused : ℕ) (bytes : List ℕ) (w : Widths)
-    → IsGoing done base (at s o d left) → IsAsk line set number bytes → d.sizes ≡ Some w → RefusesCommand d refused (command_asked w set number bytes) → new ≡ lost d
+line-stops : (done rest : List PlanLine) (line : PlanLine) (base : Standing) (s o : Story) (d new : Debugger) (left refused : ℕ) (w : Widths) → IsGoing done base (at s o d left) → d.sizes ≡ Some w
+    → RefusesBy line w d refused → new ≡ lost d
     → InOrder (done ++ line ∷ rest) base s o new × MayEnd (done ++ line ∷ rest) (Refused refused) base (flushed s) (flushed o) new
-asked-refused done rest line base s o d new left set number refused bytes w k asks-it known refuses is =
+line-stops done rest line base s o d new left refused w k known refuses is =
     rw is (
       going-in-order (done ++ line ∷ rest) done base s o d left (lost d) (begins-line done rest line) k (same-lost d),
       (
         (
           d,
           (
-            inr (length done + 1, line-refused done rest line base s o d left set number refused bytes w k asks-it known refuses),
+            inr (length done + 1, line-refused done rest line base s o d left refused w k known refuses),
             going-told (done ++ line ∷ rest) done base s o d left (begins-line done rest line) k,
           ),
           k.kept,
@@ -229,12 +231,13 @@ pub unread-ends : (line : PlanLine) (s o : Story) (d new : Debugger) (left left'
     → command_asked w set number bytes ≡ None → EndsRefused refusal.BadCommand d new ended → LineEndsSo line (at s o d left) (at s o new left') ended
 unread-ends line s o d new left left' set number bytes w ended asks-it known unread is =
     subst (λ (e : Ended). LineEndsSo line (at s o d left) (at s o new left') e) (sym is.0)
-    (λ done rest base k. asked-refused done rest line base s o d new left set number (refused_number refusal.BadCommand) bytes w k asks-it known (rw unread refl) is.1)
+    (λ done rest base k.
+    line-stops done rest line base s o d new left (refused_number refusal.BadCommand) w k known (ask-refuses line d set number _ bytes w asks-it (rw unread refl)) is.1)
 
 refuses-some : (line : PlanLine) (s o : Story) (d new : Debugger) (left left' set number : ℕ) (bytes : List ℕ) (w : Widths) (command : Command) (r : asking.Refused) → IsAsk line set number bytes
     → d.sizes ≡ Some w → command_asked w set number bytes ≡ Some command → refusal_of_ask d command ≡ Some r → new ≡ lost d → LineEndsSo line (at s o d left) (at s o new left') (Refused (refused_number r))
 refuses-some line s o d new left left' set number bytes w command r asks-it known is-command refuses is done rest base k =
-    asked-refused done rest line base s o d new left set number (refused_number r) bytes w k asks-it known (rw is-command (r, refuses, refl)) is
+    line-stops done rest line base s o d new left (refused_number r) w k known (ask-refuses line d set number _ bytes w asks-it (rw is-command (r, refuses, refl))) is
 
 pub refused-ends : (line : PlanLine) (s o : Story) (old mid new : Debugger) (left left' set number : ℕ) (bytes : List ℕ) (w : Widths) (command : Command) (r : asking.Refused) (ended : Ended)
     → IsAsk line set number bytes → old.sizes ≡ Some w → command_asked w set number bytes ≡ Some command → (mid ≡ old) × IsRefusal r (refusal_of_ask old command) → EndsRefused r mid new ended
@@ -251,6 +254,27 @@ refused-ends line s o old mid new left left' set number bytes w command refusal.
     rw e.0 (refuses-some line s o old new left left' set number bytes w command refusal.BadCommand a known c h.1 (e.1 ∙ ap (λ (x : Debugger). lost x) h.0))
 refused-ends line s o old mid new left left' set number bytes w command refusal.TooLong ended a known c h e =
     rw e.0 (refuses-some line s o old new left left' set number bytes w command refusal.TooLong a known c h.1 (e.1 ∙ ap (λ (x : Debugger). lost x) h.0))
+
+-- a line of `pair` alone
+pub is-of-pair : (l : PlanLine) → (l ≡ line.LoseTarget) ⊎ ((l ≡ line.LoseDebugger) ⊎ (l ≡ line.Attach)) → is_of_pair (said_by l) ≡ true
+is-of-pair l (inl is) = rw is refl
+is-of-pair l (inr (inl is)) = rw is refl
+is-of-pair l (inr (inr is)) = rw is refl
+
+pub pair-refuses : (line : PlanLine) (w : Widths) (d : Debugger) → is_of_pair (said_by line) ≡ true → RefusesBy line w d 0
+pair-refuses line.LoseTarget w d h = refl
+pair-refuses line.LoseDebugger w d h = refl
+pair-refuses line.Attach w d h = refl
+pair-refuses (line.Ask set number bytes) w d h = absurd (cc)
+pair-refuses line.Answers w d h = absurd (cc)
+pair-refuses (line.Events count) w d h = absurd (cc)
+pair-refuses line.Mirror w d h = absurd (cc)
+
+pub pair-ends : (line : PlanLine) (s o : Story) (d new : Debugger) (left left' : ℕ) → is_of_pair (said_by line) ≡ true → is_some d.sizes ≡ true → new ≡ lost d
+    → LineEndsSo line (at s o d left) (at s o new left') (Refused 0)
+pair-ends line s o d new left left' of-pair known is done rest base k =
+    let knows = stands-known done base.debugger d known k.stands in
+    line-stops done rest line base s o d new left 0 knows.0 k knows.1 (pair-refuses line knows.0 d of-pair) is
 
 -- a command that was asked is that of the line behind those that were carried out
 pub asked-in-order : (done rest : List PlanLine) (line : PlanLine) (base : Standing) (s o : Story) (old mid : Debugger) (left set number : ℕ) (bytes : List ℕ) (w : Widths) (command : Command)

@@ -1,7 +1,7 @@
 -- How a run of a plan goes on from one call to the next.
-use Rattle.std.proofs.Common.{◌≡◌, ◌∙◌, ℕ, ◌<◌, ◌≤◌, ◌+◌, ◌++◌, List, [], ◌∷◌, length, Bool, true, false, Result, Ok, Err, OnOk, IfErr, Option, Some, None, is_some, ◌||◌, get_or, take, drop, min, sym, ap, refl, append_assoc, arith}
+use Rattle.std.proofs.Common.{◌≡◌, ◌∙◌, ℕ, ◌<◌, ◌≤◌, ◌+◌, ◌++◌, List, [], ◌∷◌, length, Bool, true, false, Result, Ok, Err, OnOk, IfErr, Option, Some, None, is_some, ◌||◌, get_or, take, drop, sym, ap, refl, append_assoc, arith}
 use Rattle.std.proofs.lemmas.Grind.{common_steps}
-use Rattle.std.proofs.lemmas.List.{append-nil, drop-drop, drop_more, length-append, length-take, take-append-drop, take_all, take_at, take_more}
+use Rattle.std.proofs.lemmas.List.{append-nil, drop_more, take-append-drop, take_all, take_more}
 use Rattle.jdwp_end.specs.Ends.{front_of, is_open}
 use Rattle.jdwp_debugger.specs.Asking.{HasAsked, command_bytes}
 use Rattle.std.specs.Borrow.{Bor}
@@ -10,8 +10,7 @@ use Rattle.jdwp_debugger.specs.declared.pending.Ticket.{Ticket}
 use Rattle.jdwp_debugger.specs.Debuggers.{Asked, Debugger, Unanswered, and_then, at_place, has_tickets, seen_unanswered, unanswered, with_fed, with_taken}
 use Rattle.jdwp_debugger.specs.DebuggerTurns.{TurnsAt}
 use Rattle.jdwp_debugger.specs.declared.turning.Read.TheVariants as read
-use Rattle.jdwp_engine.specs.Run.{FailsWrite, flushed, with_written}
-use Rattle.jdwp_engine.specs.Story.{Story}
+use Rattle.jdwp_pipe.specs.Story.{Story, flushed, with_written}
 use Rattle.jdwp_plan.specs.declared.plan_line.PlanLine.{PlanLine}
 use Rattle.jdwp_plan.specs.declared.plan_line.PlanLine.TheVariants as line
 use Rattle.jdwp_attach.specs.PlanAsks.{IsBeginning, Stands, asks, asks_of}
@@ -63,32 +62,6 @@ written-twice x y s = simp append_assoc
 
 pub printed-again : (a b c : Story) (x y z : List ℕ) → b ≡ with_written x a → c ≡ with_written y b → z ≡ x ++ y → c ≡ with_written z a
 printed-again a b c x y z e f g = f ∙ ap (λ (s : Story). with_written y s) e ∙ written-twice x y a ∙ ap (λ (t : List ℕ). with_written t a) (sym g)
-
--- a write that failed behind bytes that were written
-pub fails-after : (s t : Story) (done chunk more whole : List ℕ) → whole ≡ done ++ chunk ++ more → FailsWrite (with_written done s) t chunk → FailsWrite s t whole
-fails-after s t done chunk more whole e f =
-    let w = f.written in
-    record {
-      written = (
-        done ++ w.0,
-        w.1 ∙ append_assoc s.written done w.0,
-        (w.2.0 ++ more, grind (arith, common_steps, e, w.2.1, append_assoc)),
-      );
-      failed_writes = f.failed_writes;
-      read = f.read;
-      early = f.early;
-    }
-
--- ---- bytes that leave
-
-pub taken-again : (old now new : Debugger) (done more : List ℕ) → now ≡ with_taken done old → new ≡ with_taken more now → new ≡ with_taken (done ++ more) old
-taken-again old now new done more e h = rw (h, e) (grind (arith, common_steps, append_assoc, drop-drop, length-append))
-
--- what was moved to the front of a buffer
-pub front-taken : (out buffer out' : List ℕ) (count : ℕ) → count ≡ min (length buffer) (length out) → out' ≡ take count out ++ drop count buffer → take count out' ≡ take count out
-front-taken out buffer out' count counts e =
-    let fits : length (take count out) ≡ count = omega (arith, counts, length-take count out) in
-    ap (λ (xs : List ℕ). take count xs) e ∙ take_at (take count out) (drop count buffer) count fits
 
 -- ---- what goes on
 

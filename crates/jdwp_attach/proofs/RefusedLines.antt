@@ -1,5 +1,5 @@
 -- Which line is told where a run of a plan ends.
-use Rattle.std.proofs.Common.{◌≡◌, ◌∙◌, ℕ, ◌<◌, ◌≤◌, ◌+◌, ◌++◌, ◌⊎◌, List, ◌∷◌, length, Result, Ok, Err, IfErr, Some, None, Option, inl, inr, get_or, take, drop, sym, ap, refl, subst, arith}
+use Rattle.std.proofs.Common.{◌≡◌, ◌∙◌, ℕ, ◌<◌, ◌≤◌, ◌+◌, ◌++◌, ◌⊎◌, true, is_some, List, ◌∷◌, length, Result, Ok, Err, IfErr, Some, None, Option, inl, inr, get_or, take, drop, sym, ap, refl, subst, arith}
 use Rattle.std.proofs.lemmas.List.{length-take}
 use Rattle.jdwp_wire.specs.Widths.{Widths}
 use Rattle.jdwp_wire.specs.declared.frame.FrameFault.TheVariants as frame
@@ -11,27 +11,29 @@ use Rattle.jdwp_debugger.specs.declared.faults.DebuggerFault.TheVariants as code
 use Rattle.jdwp_debugger.specs.Asking.{IsRefusal, refusal_of_ask}
 use Rattle.jdwp_debugger.specs.RefusedNumbers.{refused_number}
 use Rattle.jdwp_debugger.specs.Debuggers.{Debugger, lost}
-use Rattle.jdwp_engine.specs.declared.ended.Ended.{Ended}
-use Rattle.jdwp_engine.specs.declared.ended.Ended.TheVariants.{Done, LostByRead, LostByWrite, Refused, NoMemory, TurnLimit}
-use Rattle.jdwp_engine.specs.Run.{flushed}
-use Rattle.jdwp_engine.specs.Story.{Story}
+use Rattle.jdwp_pipe.specs.declared.ended.Ended.{Ended}
+use Rattle.jdwp_pipe.specs.declared.ended.Ended.TheVariants.{Done, LostByRead, LostByWrite, Refused, NoMemory, TurnLimit}
+use Rattle.jdwp_pipe.specs.Story.{Story, flushed}
 use Rattle.jdwp_plan.specs.declared.plan_line.PlanLine.{PlanLine}
 use Rattle.jdwp_plan.specs.declared.plan_line.PlanLine.TheVariants as line
+use Rattle.jdwp_plan.specs.Lines.{is_of_pair}
+use Rattle.jdwp_plan.specs.PlanLines.{said_by}
 use Rattle.jdwp_attach.specs.declared.attached.Attached.{Attached}
 use Rattle.jdwp_attach.specs.declared.attached.Attached.TheVariants as run
-use Rattle.jdwp_attach.specs.PlanAsks.{asks_of, command_asked}
-use Rattle.jdwp_attach.specs.PlanRuns.{EndsFailed, EndsRefused, IsAsk, IsByTurn, LineEndsSo, LineTells, MayEnd, RefusesCommand, TellsNoLine, TellsRefused, ended_at, ended_of, told_number}
+use Rattle.jdwp_attach.specs.PlanAsks.{command_asked}
+use Rattle.jdwp_attach.specs.PlanRuns.{EndsFailed, EndsRefused, IsAsk, IsByTurn, LineEndsSo, LineTells, MayEnd, RefusesBy, RefusesCommand, TellsNoLine, TellsRefused, ended_at, ended_of, told_number}
 use Rattle.jdwp_attach.specs.Runs.{Finishes, InOrder, IsGoing, LosesAtRead, Standing, at}
-use Rattle.jdwp_attach.proofs.Ending.{line-refused}
+use Rattle.jdwp_attach.proofs.Ending.{ask-refuses, line-refused, pair-refuses}
 use Rattle.jdwp_attach.proofs.Moves.{line-split}
+use Rattle.jdwp_attach.proofs.Stages.{stands-known}
 
 -- ---- numbers
 
-turn-number : (fault : DebuggerFault) → (told_number fault ≤ 4) ⊎ (41 ≤ told_number fault)
-turn-number (code.Frame frame.ShortLength) = inl (omega arith)
-turn-number (code.Frame frame.TooLong) = inl (omega arith)
-turn-number (code.Frame frame.BadFlags) = inl (omega arith)
-turn-number (code.Frame (frame.BadHandshake place)) = inl (omega arith)
+turn-number : (fault : DebuggerFault) → ((1 ≤ told_number fault) × (told_number fault ≤ 4)) ⊎ (41 ≤ told_number fault)
+turn-number (code.Frame frame.ShortLength) = inl (omega arith, omega arith)
+turn-number (code.Frame frame.TooLong) = inl (omega arith, omega arith)
+turn-number (code.Frame frame.BadFlags) = inl (omega arith, omega arith)
+turn-number (code.Frame (frame.BadHandshake place)) = inl (omega arith, omega arith)
 turn-number code.UnknownReply = inr (omega arith)
 turn-number code.BadReply = inr (omega arith)
 turn-number code.TooManyParked = inr (omega arith)
@@ -50,25 +52,39 @@ command-number : (d : Debugger) (number : ℕ) (command : Option Command) → Re
 command-number d number None is = (omega (arith, is), omega (arith, is))
 command-number d number (Some command) (r, refuses, is) = rw is (refusal-number r)
 
--- no number is that of a turn's fault and that of a command's refusal
-turn-no-line : (fault : DebuggerFault) (d : Debugger) (number : ℕ) (command : Option Command) → number ≡ told_number fault → RefusesCommand d number command → ⊥
-turn-no-line fault d number command is refuses =
-    let n = command-number d number command refuses in
-    elim (turn-number fault) [
-      | inl low ↦ omega (arith, low, n.0, is)
-      | inr high ↦ omega (arith, high, n.1, is)
+line-number : (line : PlanLine) (w : Widths) (d : Debugger) (number : ℕ) → RefusesBy line w d number → (number ≡ 0) ⊎ ((31 ≤ number) × (number ≤ 36))
+line-number (line.Ask set n bytes) w d number refuses = inr (command-number d number (command_asked w set n bytes.items) refuses)
+line-number line.LoseTarget w d number refuses = inl refuses
+line-number line.LoseDebugger w d number refuses = inl refuses
+line-number line.Attach w d number refuses = inl refuses
+line-number line.Answers w d number refuses = absurd refuses
+line-number (line.Events count) w d number refuses = absurd refuses
+line-number line.Mirror w d number refuses = absurd refuses
+
+-- no number is that of a turn's fault and that of a line's refusal
+turn-no-line : (fault : DebuggerFault) (line : PlanLine) (w : Widths) (d : Debugger) (number : ℕ) → number ≡ told_number fault → RefusesBy line w d number → ⊥
+turn-no-line fault line w d number is refuses =
+    elim (line-number line w d number refuses) [
+      | inl none ↦ elim (turn-number fault) [
+        | inl low ↦ omega (arith, low.0, none, is)
+        | inr high ↦ omega (arith, high, none, is)
+      ]
+      | inr n ↦ elim (turn-number fault) [
+        | inl low ↦ omega (arith, low.1, n.0, is)
+        | inr high ↦ omega (arith, high, n.1, is)
+      ]
     ]
 
 -- ---- no line
 
--- a run that ended so where no command was refused
+-- a run that ended so where no line was refused
 pub no-line : (plan : List PlanLine) (ended : Ended) (base : Standing) (s o : Story) (d : Debugger) → IsByTurn ended → MayEnd plan ended base s o d → TellsNoLine ended base.debugger d
 no-line plan (Refused number) base s o d (fault, is) m =
     let how = m.0 in (
       how.0,
       elim how.1.0 [
         | inl turn ↦ turn
-        | inr (place, r) ↦ absurd (turn-no-line fault how.0 number (command_asked r.widths r.set r.command r.carried) is r.refused)
+        | inr (place, r) ↦ absurd (turn-no-line fault r.line r.widths how.0 number is r.refused)
       ],
       how.2,
       how.3,
@@ -114,6 +130,9 @@ memory-tells (line.Ask set number bytes) old d done rest base k = tt
 memory-tells line.Answers old d done rest base k = tt
 memory-tells (line.Events count) old d done rest base k = tt
 memory-tells line.Mirror old d done rest base k = tt
+memory-tells line.LoseTarget old d done rest base k = tt
+memory-tells line.LoseDebugger old d done rest base k = tt
+memory-tells line.Attach old d done rest base k = tt
 
 -- a write failed at a line
 pub lost-tells : (line : PlanLine) (old : Standing) (d : Debugger) → LineTells line old d LostByWrite
@@ -121,16 +140,32 @@ lost-tells (line.Ask set number bytes) old d done rest base k = tt
 lost-tells line.Answers old d done rest base k = tt
 lost-tells (line.Events count) old d done rest base k = tt
 lost-tells line.Mirror old d done rest base k = tt
+lost-tells line.LoseTarget old d done rest base k = tt
+lost-tells line.LoseDebugger old d done rest base k = tt
+lost-tells line.Attach old d done rest base k = tt
 
--- a line that asks nothing
-pub turns-tell : (line : PlanLine) (old new : Standing) (ended : Ended) → asks_of line ≡ 0 → IsByTurn ended → LineEndsSo line old new ended → LineTells line old new.debugger ended
-turns-tell (line.Ask set number bytes) old new ended none by ends done rest base k = absurd (omega (arith, none))
-turns-tell line.Answers old new ended none by ends done rest base k =
-    no-line (done ++ line.Answers ∷ rest) ended base (flushed new.pipe) (flushed new.out) new.debugger by (ends done rest base k).1
-turns-tell (line.Events count) old new ended none by ends done rest base k =
-    no-line (done ++ line.Events count ∷ rest) ended base (flushed new.pipe) (flushed new.out) new.debugger by (ends done rest base k).1
-turns-tell line.Mirror old new ended none by ends done rest base k =
-    no-line (done ++ line.Mirror ∷ rest) ended base (flushed new.pipe) (flushed new.out) new.debugger by (ends done rest base k).1
+-- a line that is not refused
+pub turns-tell : (line : PlanLine) (old new : Standing) (ended : Ended) → ((place : ℕ) → ended_at line place ended ≡ run.Ended ended) → IsByTurn ended → LineEndsSo line old new ended
+    → LineTells line old new.debugger ended
+turns-tell line old new ended none by ends done rest base k =
+    subst (λ (how : Attached). TellsRefused (done ++ line ∷ rest) how base.debugger new.debugger) (sym (none (length done + 1)))
+    (no-line (done ++ line ∷ rest) ended base (flushed new.pipe) (flushed new.out) new.debugger by (ends done rest base k).1)
+
+-- a line of `pair` alone
+pair-ended : (line : PlanLine) (place refused : ℕ) → is_of_pair (said_by line) ≡ true → ended_at line place (Refused refused) ≡ run.RefusedLine place refused
+pair-ended line.LoseTarget place refused h = refl
+pair-ended line.LoseDebugger place refused h = refl
+pair-ended line.Attach place refused h = refl
+pair-ended (line.Ask set number bytes) place refused h = absurd (cc)
+pair-ended line.Answers place refused h = absurd (cc)
+pair-ended (line.Events count) place refused h = absurd (cc)
+pair-ended line.Mirror place refused h = absurd (cc)
+
+pub pair-tells : (line : PlanLine) (s o : Story) (d new : Debugger) (left : ℕ) → is_of_pair (said_by line) ≡ true → is_some d.sizes ≡ true → new ≡ lost d → LineTells line (at s o d left) new (Refused 0)
+pair-tells line s o d new left of-pair known is done rest base k =
+    let knows = stands-known done base.debugger d known k.stands in
+    subst (λ (how : Attached). TellsRefused (done ++ line ∷ rest) how base.debugger new) (sym (pair-ended line (length done + 1) 0 of-pair))
+    (d, line-refused done rest line base s o d left 0 knows.0 k knows.1 (pair-refuses line knows.0 d of-pair), k.kept, is)
 
 -- a line that asks a command
 ask-ended : (line : PlanLine) (set number : ℕ) (bytes : List ℕ) (place refused : ℕ) → IsAsk line set number bytes → ended_at line place (Refused refused) ≡ run.RefusedLine place refused
@@ -142,7 +177,7 @@ ask-tells : (line : PlanLine) (s o : Story) (d new : Debugger) (left set number 
     → RefusesCommand d refused (command_asked w set number bytes) → new ≡ lost d → LineTells line (at s o d left) new (Refused refused)
 ask-tells line s o d new left set number refused bytes w asks-it known refuses is done rest base k =
     subst (λ (how : Attached). TellsRefused (done ++ line ∷ rest) how base.debugger new) (sym (ask-ended line set number bytes (length done + 1) refused asks-it))
-    (d, line-refused done rest line base s o d left set number refused bytes w k asks-it known refuses, k.kept, is)
+    (d, line-refused done rest line base s o d left refused w k known (ask-refuses line d set number refused bytes w asks-it refuses), k.kept, is)
 
 -- its bytes do not read
 pub unread-tells : (line : PlanLine) (s o : Story) (d new : Debugger) (left set number : ℕ) (bytes : List ℕ) (w : Widths) (ended : Ended) → IsAsk line set number bytes → d.sizes ≡ Some w
@@ -205,6 +240,24 @@ ended-so (line.Ask set number bytes) place TurnLimit = refl
 ended-so line.Answers place ended = refl
 ended-so (line.Events count) place ended = refl
 ended-so line.Mirror place ended = refl
+ended-so line.LoseTarget place (Refused refused) = refl
+ended-so line.LoseTarget place Done = refl
+ended-so line.LoseTarget place LostByRead = refl
+ended-so line.LoseTarget place LostByWrite = refl
+ended-so line.LoseTarget place NoMemory = refl
+ended-so line.LoseTarget place TurnLimit = refl
+ended-so line.LoseDebugger place (Refused refused) = refl
+ended-so line.LoseDebugger place Done = refl
+ended-so line.LoseDebugger place LostByRead = refl
+ended-so line.LoseDebugger place LostByWrite = refl
+ended-so line.LoseDebugger place NoMemory = refl
+ended-so line.LoseDebugger place TurnLimit = refl
+ended-so line.Attach place (Refused refused) = refl
+ended-so line.Attach place Done = refl
+ended-so line.Attach place LostByRead = refl
+ended-so line.Attach place LostByWrite = refl
+ended-so line.Attach place NoMemory = refl
+ended-so line.Attach place TurnLimit = refl
 
 -- and of how it ended
 pub run-told : (plan : List PlanLine) (how : Attached) (line : PlanLine) (place : ℕ) (ended : Ended) (base : Standing) (s o : Story) (d : Debugger) → how ≡ ended_at line place ended

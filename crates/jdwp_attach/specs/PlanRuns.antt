@@ -20,11 +20,10 @@ use Rattle.jdwp_mirror.specs.Messages.{Reply, Report}
 use Rattle.jdwp_mirror.specs.Mirror.{ends}
 use Rattle.jdwp_debugger.specs.FaultNumbers.{fault_number}
 use Rattle.jdwp_debugger.specs.RefusedNumbers.{refused_number}
-use Rattle.jdwp_engine.specs.declared.ended.Ended.{Ended}
-use Rattle.jdwp_engine.specs.declared.ended.Ended.TheVariants.{Done, LostByRead, LostByWrite, Refused, NoMemory, TurnLimit}
-use Rattle.jdwp_engine.specs.Run.{flushed}
-use Rattle.jdwp_engine.specs.Sessions.{unflushed_end}
-use Rattle.jdwp_engine.specs.Story.{Story}
+use Rattle.jdwp_pipe.specs.declared.ended.Ended.{Ended}
+use Rattle.jdwp_pipe.specs.declared.ended.Ended.TheVariants.{Done, LostByRead, LostByWrite, Refused, NoMemory, TurnLimit}
+use Rattle.jdwp_pipe.specs.Endings.{unflushed_end}
+use Rattle.jdwp_pipe.specs.Story.{Story, flushed}
 use Rattle.jdwp_plan.specs.declared.plan_line.PlanLine.{PlanLine}
 use Rattle.jdwp_plan.specs.declared.plan_line.PlanLine.TheVariants as line
 use Rattle.jdwp_attach.specs.declared.attached.Attached.{Attached}
@@ -102,7 +101,17 @@ abbrev pub IsAsk : PlanLine → ℕ → ℕ → List ℕ → Type 0
 IsAsk (line.Ask set number bytes) s n carried = (set ≡ s) × (number ≡ n) × (bytes.items ≡ carried)
 IsAsk other s n carried = ⊥
 
--- It refused the command of this line of the plan, counted from 1; the lines before it were carried out, and what they ask was asked.
+-- The number by which a line is refused, in ids so wide: that of the debugger's refusal of its command, or 0 for a line of `pair` alone. No
+-- other line is.
+abbrev pub RefusesBy : PlanLine → Widths → Debugger → ℕ → Type 0
+RefusesBy (line.Ask set number bytes) w d refusal = RefusesCommand d refusal (command_asked w set number bytes.items)
+RefusesBy line.LoseTarget w d refusal = refusal ≡ 0
+RefusesBy line.LoseDebugger w d refusal = refusal ≡ 0
+RefusesBy line.Attach w d refusal = refusal ≡ 0
+RefusesBy other w d refusal = ⊥
+
+-- It refused this line of the plan, counted from 1; the lines before it were carried out, and what they ask was asked and put, and nothing
+-- else.
 pub record RefusesLineAt (plan : List PlanLine) (place : ℕ) (base : Debugger) (number : ℕ) (d : Debugger) : Type 0 where
   pub done : List PlanLine
   pub line : PlanLine
@@ -112,16 +121,12 @@ pub record RefusesLineAt (plan : List PlanLine) (place : ℕ) (base : Debugger) 
   pub told : List ℕ
   pub reached : Reaches base done told d
   pub asked : d.tickets ≡ base.tickets + asks done
-  pub set : ℕ
-  pub command : ℕ
-  pub carried : List ℕ
-  pub asks_it : IsAsk line set command carried
   pub widths : Widths
   pub known : d.sizes ≡ Some widths
   pub put : HasPut widths done base d
-  pub refused : RefusesCommand d number (command_asked widths set command carried)
+  pub refused : RefusesBy line widths d number
 
--- it refused the command of a line of the plan
+-- it refused a line of the plan
 abbrev pub RefusesLine : List PlanLine → Debugger → ℕ → Debugger → Type 0
 RefusesLine plan base number d = (place : ℕ) × RefusesLineAt plan place base number d
 
@@ -167,14 +172,17 @@ abbrev pub TellsNoLine : Ended → Debugger → Debugger → Type 0
 TellsNoLine (Refused number) base d = IsLostFrom (RefusesTurn base number) d
 TellsNoLine ended base d = Unit {0}
 
--- The line that is told is that whose command was refused.
+-- The line that is told is that which was refused.
 abbrev pub TellsRefused : List PlanLine → Attached → Debugger → Debugger → Type 0
 TellsRefused plan (run.Ended ended) base d = TellsNoLine ended base d
 TellsRefused plan (run.RefusedLine line number) base d = IsLostFrom (RefusesLineAt plan line base number) d
 
--- what is told where a run ended so at this line, counted from 1: the line where its command was refused
+-- what is told where a run ended so at this line, counted from 1: the line where it was refused
 abbrev pub ended_at : PlanLine → ℕ → Ended → Attached
 ended_at (line.Ask set number bytes) place (Refused refusal) = run.RefusedLine place refusal
+ended_at line.LoseTarget place (Refused refusal) = run.RefusedLine place refusal
+ended_at line.LoseDebugger place (Refused refusal) = run.RefusedLine place refusal
+ended_at line.Attach place (Refused refusal) = run.RefusedLine place refusal
 ended_at other place ended = run.Ended ended
 
 -- a refusal is that of a turn: its number is that of a fault of what the target sent

@@ -32,10 +32,13 @@ HandlesComposites count d = (messages : List Message) × HasHandled messages d �
 -- ---- what a line waits for
 
 -- no command waits for its reply; so many composites were handled, those that wait for the widths of ids among them; other lines wait for
--- nothing
+-- nothing, but those of `pair` alone, which are never passed
 abbrev pub IsThere : PlanLine → Debugger → Type 0
 IsThere line.Answers d = has_tickets d.pending ≡ false
 IsThere (line.Events count) d = HandlesComposites count d
+IsThere line.LoseTarget d = ⊥
+IsThere line.LoseDebugger d = ⊥
+IsThere line.Attach d = ⊥
 IsThere other d = Unit {0}
 
 -- ---- what a run counts

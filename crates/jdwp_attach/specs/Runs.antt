@@ -9,10 +9,10 @@ use Rattle.jdwp_debugger.specs.declared.turning.Read.TheVariants as read
 use Rattle.jdwp_debugger.specs.Asking.{HasAsked}
 use Rattle.jdwp_debugger.specs.Debuggers.{Debugger, lost, with_fed, with_taken}
 use Rattle.jdwp_debugger.specs.DebuggerTurns.{TurnsAt}
-use Rattle.jdwp_engine.specs.declared.ended.Ended.{Ended}
-use Rattle.jdwp_engine.specs.declared.ended.Ended.TheVariants as ended
-use Rattle.jdwp_engine.specs.Run.{FailsFlush, FailsRead, FailsWrite, flushed, with_read, with_written}
-use Rattle.jdwp_engine.specs.Story.{Story}
+use Rattle.jdwp_pipe.specs.declared.ended.Ended.{Ended}
+use Rattle.jdwp_pipe.specs.declared.ended.Ended.TheVariants as ended
+use Rattle.jdwp_pipe.specs.Moving as moving
+use Rattle.jdwp_pipe.specs.Story.{FailsFlush, FailsRead, FailsWrite, Story, flushed, with_written}
 use Rattle.jdwp_plan.specs.declared.plan_line.PlanLine.{PlanLine}
 use Rattle.jdwp_plan.specs.declared.plan_line.PlanLine.TheVariants as line
 use Rattle.jdwp_attach.specs.PlanAsks.{AsksInOrder, Stands, asks}
@@ -96,21 +96,13 @@ GoesOn old new = (done : List PlanLine) (base : Standing) → IsGoing done base 
 
 -- bytes were read and fed, for which there was room
 abbrev pub ReadsMore : Debugger → Debugger → Story → Story → Type 0
-ReadsMore old new before after = (more : List ℕ) × (new ≡ with_fed more old) × (after ≡ with_read more before) × (length more ≤ room_of old.end)
+ReadsMore = moving.ReadsMore (λ (d : Debugger). d.end) with_fed
 
 -- A flush failed, or a read behind it failed or gave 0 with room, and the debugger lost the connection.
 abbrev pub LosesAtRead : Ended → Debugger → Debugger → Story → Story → Type 0
 LosesAtRead ended.LostByWrite old new before after = (new ≡ lost old) × FailsFlush before after
 LosesAtRead ended.LostByRead old new before after = (new ≡ lost old) × FailsRead (flushed before) after
 LosesAtRead ended old new before after = ⊥
-
--- all that waited to leave was taken and written
-abbrev pub WritesAll : Debugger → Debugger → Story → Story → Type 0
-WritesAll old new before after = (new ≡ with_taken old.end.outgoing old) × (after ≡ with_written old.end.outgoing before)
-
--- some of what waited to leave was taken, some of that was written, and then a write failed
-abbrev pub FailsOut : Debugger → Debugger → Story → Story → Type 0
-FailsOut old new before after = (taken : List ℕ) × (new ≡ with_taken taken old) × IsFront taken old.end.outgoing × FailsWrite before after taken
 
 -- A write failed, of what waited to leave or of this text behind it, and the debugger lost the connection.
 pub record LosesAtWrite (text : List ℕ) (old new : Standing) : Type 0 where

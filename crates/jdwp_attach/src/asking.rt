@@ -1,5 +1,6 @@
 //! The commands that a plan asks.
 ghost use Rattle.std.specs.Prelude.{◌≡◌, [], ◌∷◌, ◌++◌, ◌+◌, true, is_some, IfErr, IfOk, None, OnOk, Some};
+ghost use Rattle.jdwp_pipe.specs.Story.{Story};
 ghost use Rattle.jdwp_plan.specs.declared.plan_line.PlanLine.{PlanLine};
 ghost use Rattle.jdwp_attach.specs.declared.asking.Unread.TheVariants as unread;
 ghost use Rattle.jdwp_attach.specs.Naming.{Names};
@@ -7,13 +8,11 @@ ghost use Rattle.jdwp_attach.specs.PlanAsks.{command_asked};
 ghost use Rattle.jdwp_attach.specs.PlanRuns.{EndsRefused, IsAsk, LineEndsSo, LineGoesOn, LineTells};
 ghost use Rattle.jdwp_attach.specs.PlanWaits.{Counts};
 ghost use Rattle.jdwp_attach.specs.Runs.{IsReady, at};
-ghost use Rattle.jdwp_engine.specs.Story.{Story};
 
 use crate::run::{Run, Waiting};
-use crate::turning::write_out;
 use jdwp_debugger::{Command, Debugger, Refused};
-use jdwp_engine::{Ended, Pipe};
 use jdwp_layout::{layout_of, read};
+use jdwp_pipe::{Ended, Pipe, write_out};
 use jdwp_wire::{DataFault, IdSizes};
 use std::alloc::{AllocError, Global};
 
@@ -45,8 +44,10 @@ fn command_of(
     number: u8,
     bytes: &[u8],
 ) -> Result<Command, Unread>
-    ensures ok { IfOk result (λ command. command_asked sizes.now set number bytes.now ≡ Some command) }
-    ensures err { IfErr result (λ e. e ≡ Unread.BadData → command_asked sizes.now set number bytes.now ≡ None) }
+    ensures ok { IfOk result (λ command. command_asked sizes.now set number bytes.now
+        ≡ Some command) }
+    ensures err { IfErr result (λ e. e ≡ Unread.BadData
+        → command_asked sizes.now set number bytes.now ≡ None) }
 {
     let layouts = match layout_of(set, number) {
         Some(row) => row.layouts,
@@ -80,13 +81,20 @@ pub(crate) fn ask_line<P: Pipe>(
     requires known { is_some debugger.old.sizes ≡ true }
     requires counts { Counts run.old.composites debugger.old }
     requires names { Names run.old.waiting.items debugger.old }
-    ensures goes { OnOk result ((out : Story) (line : PlanLine) → IsAsk line set number bytes.now → LineGoesOn line (at (P.story pipe.old) out debugger.old run.old.left) (at (P.story pipe.new) out debugger.new run.new.left)) }
+    ensures goes { OnOk result ((out : Story) (line : PlanLine) → IsAsk line set number bytes.now
+        → LineGoesOn line (at (P.story pipe.old) out debugger.old run.old.left)
+        (at (P.story pipe.new) out debugger.new run.new.left)) }
     ensures ready { OnOk result (IsReady debugger.new) }
     ensures known { OnOk result (is_some debugger.new.sizes ≡ true) }
     ensures counts { OnOk result (Counts run.new.composites debugger.new) }
     ensures names { OnOk result (Names run.new.waiting.items debugger.new) }
-    ensures tells { IfErr result (λ ended. (out : Story) (line : PlanLine) → IsAsk line set number bytes.now → LineTells line (at (P.story pipe.old) out debugger.old run.old.left) debugger.new ended) }
-    ensures ends { IfErr result (λ ended. (out : Story) (line : PlanLine) → IsAsk line set number bytes.now → LineEndsSo line (at (P.story pipe.old) out debugger.old run.old.left) (at (P.story pipe.new) out debugger.new run.new.left) ended) }
+    ensures tells { IfErr result (λ ended. (out : Story) (line : PlanLine)
+        → IsAsk line set number bytes.now
+        → LineTells line (at (P.story pipe.old) out debugger.old run.old.left) debugger.new ended) }
+    ensures ends { IfErr result (λ ended. (out : Story) (line : PlanLine)
+        → IsAsk line set number bytes.now
+        → LineEndsSo line (at (P.story pipe.old) out debugger.old run.old.left)
+        (at (P.story pipe.new) out debugger.new run.new.left) ended) }
 {
     let Some(sizes) = debugger.sizes() else {
         unreachable!();

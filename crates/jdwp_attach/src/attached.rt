@@ -1,18 +1,18 @@
 //! How a run of a plan ends.
 ghost use Rattle.std.specs.Prelude.{◌≡◌};
 
-use jdwp_engine::Ended;
+use jdwp_pipe::Ended;
 
-/// How a run of a plan ended, and at which of its lines where the command of one was refused.
+/// How a run of a plan ended, and at which of its lines where one was refused.
 #[derive(Clone, Copy, Debug, PartialEq, Eq)]
 pub enum Attached {
     /// The session ended so. If it was refused, what the target sent was.
     Ended(Ended),
-    /// The debugger refused the command of a line of the plan.
+    /// The debugger refused the command of a line of the plan, or the line is one of `pair` alone.
     RefusedLine {
         /// The line, counted from 1.
         line: usize,
-        /// The number of the refusal, 31 to 36.
+        /// The number of the refusal, 31 to 36, or 0 for a line of `pair` alone.
         number: u16,
     },
 }

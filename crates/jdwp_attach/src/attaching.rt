@@ -3,11 +3,10 @@ ghost use Rattle.std.specs.Prelude.{◌≡◌, ◌||◌, [], ℕ, List, true, fa
 ghost use Rattle.jdwp_end.specs.Ends.{is_open};
 ghost use Rattle.jdwp_debugger.specs.Debuggers as model;
 ghost use Rattle.jdwp_debugger.specs.Debuggers.{attached, has_tickets};
+ghost use Rattle.jdwp_pipe.specs.Endings.{unflushed_end};
+ghost use Rattle.jdwp_pipe.specs.Story.{Story, flushed, with_written};
 ghost use Rattle.jdwp_plan.specs.declared.plan_line.PlanLine as declared;
 ghost use Rattle.jdwp_plan.specs.declared.plan_line.PlanLine.TheVariants as line;
-ghost use Rattle.jdwp_engine.specs.Run.{flushed, with_written};
-ghost use Rattle.jdwp_engine.specs.Sessions.{unflushed_end};
-ghost use Rattle.jdwp_engine.specs.Story.{Story};
 ghost use Rattle.jdwp_attach.specs.Naming.{Names};
 ghost use Rattle.jdwp_attach.specs.PlanRuns.{Attaches, EndsSo, IsByTurn, LineEndsSo, LineGoesOn, LineTells, MayEnd, TellsRefused, ended_at, ended_of, unflushed_debugger};
 ghost use Rattle.jdwp_attach.specs.PlanWaits.{Counts, HandlesComposites};
@@ -16,10 +15,10 @@ ghost use Rattle.jdwp_tell.specs.Telling.{TellsMirror};
 
 use crate::asking::ask_line;
 use crate::attached::Attached;
-use crate::run::{CHUNK, Run};
-use crate::turning::{turn_once, write_out};
+use crate::run::Run;
+use crate::turning::turn_once;
 use jdwp_debugger::Debugger;
-use jdwp_engine::{Ended, Pipe, flush_all, write_all};
+use jdwp_pipe::{CHUNK, Ended, Pipe, flush_all, write_all, write_out};
 use jdwp_plan::PlanLine;
 use jdwp_tell::mirror_text;
 use std::alloc::Global;
@@ -29,14 +28,15 @@ use std::alloc::Global;
 /// It begins with `attach`; a debugger whose session is open, or tickets of whose last session wait for `lose`, is `Refused(0)`, with
 /// nothing touched. It turns until the widths of ids are known. Then it carries out the lines of the plan: `ask` asks a command, `answers`
 /// turns until no command waits for its answer, `events` turns until so many composites were read in the session, and `mirror` prints what
-/// the debugger knows; no other line makes a turn. After the last line it turns until no command waits, and the debugger loses the
+/// the debugger knows; no other line makes a turn. At a line of `pair` alone the run ends as `Refused(0)`, with nothing asked or written for
+/// it. After the last line it turns until no command waits, and the debugger loses the
 /// connection. A turn that handles nothing is followed by a flush of the pipe and one read of at most 4,096 bytes and of what the debugger
 /// has room for, which are fed; nothing is read elsewhere. What waits to leave is written after each turn, and what it read is printed to `out` in the lines of `show`: the composites that
 /// waited for the widths of ids at the turn in which they are read. The run is done where the plan is finished, and at the turn that reads
 /// an answer without an error to Dispose or the death of the machine, whatever lines are left. Where the input ends, or a read, a write or
 /// a flush fails, those to `out` among them, the debugger loses the connection; the pipe and `out` are flushed at the end of the session,
 /// whatever ends it. A write or a flush that fails is `LostByWrite`, wherever it comes, but for the last flush behind a refusal of what the
-/// target sent or of a command of the plan, which stays `Refused`.
+/// target sent or of a line of the plan, which stays `Refused`.
 pub fn attach<P: Pipe, W: Pipe>(
     alloc: Global,
     debugger: &mut Debugger,
@@ -45,16 +45,24 @@ pub fn attach<P: Pipe, W: Pipe>(
     out: &mut W,
     turns: u64,
 ) -> Ended
-    ensures refused { (is_open debugger.old.end || has_tickets debugger.old.pending) ≡ true → (result ≡ Ended.Refused 0) × (debugger.new ≡ debugger.old) × (P.story pipe.new ≡ P.story pipe.old) × (W.story out.new ≡ W.story out.old) }
-    ensures in_order { (is_open debugger.old.end || has_tickets debugger.old.pending) ≡ false → InOrder plan.now (at (P.story pipe.old) (W.story out.old) (attached debugger.old) turns) (P.story pipe.new) (W.story out.new) debugger.new }
-    ensures ended { (is_open debugger.old.end || has_tickets debugger.old.pending) ≡ false → MayEnd plan.now result (at (P.story pipe.old) (W.story out.old) (attached debugger.old) turns) (P.story pipe.new) (W.story out.new) debugger.new }
-    ensures last_flush { (is_open debugger.old.end || has_tickets debugger.old.pending) ≡ false → Attaches plan.now (at (P.story pipe.old) (W.story out.old) (attached debugger.old) turns) result (P.story pipe.new) (W.story out.new) debugger.new }
+    ensures refused { (is_open debugger.old.end || has_tickets debugger.old.pending) ≡ true
+        → (result ≡ Ended.Refused 0) × (debugger.new ≡ debugger.old)
+        × (P.story pipe.new ≡ P.story pipe.old) × (W.story out.new ≡ W.story out.old) }
+    ensures in_order { (is_open debugger.old.end || has_tickets debugger.old.pending) ≡ false
+        → InOrder plan.now (at (P.story pipe.old) (W.story out.old) (attached debugger.old) turns)
+        (P.story pipe.new) (W.story out.new) debugger.new }
+    ensures ended { (is_open debugger.old.end || has_tickets debugger.old.pending) ≡ false
+        → MayEnd plan.now result (at (P.story pipe.old) (W.story out.old) (attached debugger.old)
+        turns) (P.story pipe.new) (W.story out.new) debugger.new }
+    ensures last_flush { (is_open debugger.old.end || has_tickets debugger.old.pending) ≡ false
+        → Attaches plan.now (at (P.story pipe.old) (W.story out.old) (attached debugger.old) turns)
+        result (P.story pipe.new) (W.story out.new) debugger.new }
 {
     attach_by_lines(alloc, debugger, pipe, plan, out, turns).ended()
 }
 
-/// Runs the debugger on the pipe for one session by the plan, for at most so many turns, as `attach` does, and tells the line whose command
-/// the debugger refused, if the session ended by that.
+/// Runs the debugger on the pipe for one session by the plan, for at most so many turns, as `attach` does, and tells the line that was
+/// refused, if the session ended by that: one whose command the debugger refused, or one of `pair` alone.
 pub fn attach_by_lines<P: Pipe, W: Pipe>(
     alloc: Global,
     debugger: &mut Debugger,
@@ -63,11 +71,20 @@ pub fn attach_by_lines<P: Pipe, W: Pipe>(
     out: &mut W,
     turns: u64,
 ) -> Attached
-    ensures refused { (is_open debugger.old.end || has_tickets debugger.old.pending) ≡ true → (result ≡ Attached.Ended (Ended.Refused 0)) × (debugger.new ≡ debugger.old) × (P.story pipe.new ≡ P.story pipe.old) × (W.story out.new ≡ W.story out.old) }
-    ensures in_order { (is_open debugger.old.end || has_tickets debugger.old.pending) ≡ false → InOrder plan.now (at (P.story pipe.old) (W.story out.old) (attached debugger.old) turns) (P.story pipe.new) (W.story out.new) debugger.new }
-    ensures ended { (is_open debugger.old.end || has_tickets debugger.old.pending) ≡ false → MayEnd plan.now (ended_of result) (at (P.story pipe.old) (W.story out.old) (attached debugger.old) turns) (P.story pipe.new) (W.story out.new) debugger.new }
-    ensures last_flush { (is_open debugger.old.end || has_tickets debugger.old.pending) ≡ false → Attaches plan.now (at (P.story pipe.old) (W.story out.old) (attached debugger.old) turns) (ended_of result) (P.story pipe.new) (W.story out.new) debugger.new }
-    ensures line { (is_open debugger.old.end || has_tickets debugger.old.pending) ≡ false → TellsRefused plan.now result (attached debugger.old) debugger.new }
+    ensures refused { (is_open debugger.old.end || has_tickets debugger.old.pending) ≡ true
+        → (result ≡ Attached.Ended (Ended.Refused 0)) × (debugger.new ≡ debugger.old)
+        × (P.story pipe.new ≡ P.story pipe.old) × (W.story out.new ≡ W.story out.old) }
+    ensures in_order { (is_open debugger.old.end || has_tickets debugger.old.pending) ≡ false
+        → InOrder plan.now (at (P.story pipe.old) (W.story out.old) (attached debugger.old) turns)
+        (P.story pipe.new) (W.story out.new) debugger.new }
+    ensures ended { (is_open debugger.old.end || has_tickets debugger.old.pending) ≡ false
+        → MayEnd plan.now (ended_of result) (at (P.story pipe.old) (W.story out.old)
+        (attached debugger.old) turns) (P.story pipe.new) (W.story out.new) debugger.new }
+    ensures last_flush { (is_open debugger.old.end || has_tickets debugger.old.pending) ≡ false
+        → Attaches plan.now (at (P.story pipe.old) (W.story out.old) (attached debugger.old) turns)
+        (ended_of result) (P.story pipe.new) (W.story out.new) debugger.new }
+    ensures line { (is_open debugger.old.end || has_tickets debugger.old.pending) ≡ false
+        → TellsRefused plan.now result (attached debugger.old) debugger.new }
 {
     if !debugger.attach() {
         return Attached::Ended(Ended::Refused(0));
@@ -82,8 +99,10 @@ pub fn attach_by_lines<P: Pipe, W: Pipe>(
 
 /// Flushes both, and says whether that succeeded.
 fn flush_both<P: Pipe, W: Pipe>(pipe: &mut P, out: &mut W) -> bool
-    ensures all { IsTrue result → (P.story pipe.new ≡ flushed (P.story pipe.old)) × (W.story out.new ≡ flushed (W.story out.old)) }
-    ensures fails { result ≡ false → FailsLastFlush (P.story pipe.old) (W.story out.old) (P.story pipe.new) (W.story out.new) }
+    ensures all { IsTrue result → (P.story pipe.new ≡ flushed (P.story pipe.old))
+        × (W.story out.new ≡ flushed (W.story out.old)) }
+    ensures fails { result ≡ false → FailsLastFlush (P.story pipe.old) (W.story out.old)
+        (P.story pipe.new) (W.story out.new) }
 {
     let left = flush_all(pipe);
     let printed = flush_all(out);
@@ -94,8 +113,13 @@ fn flush_both<P: Pipe, W: Pipe>(pipe: &mut P, out: &mut W) -> bool
 fn lose_what_is_kept(debugger: &mut Debugger, how: Attached) -> Attached
     ensures how { ended_of result ≡ unflushed_end (ended_of how) }
     ensures left { debugger.new ≡ unflushed_debugger (ended_of how) debugger.old }
-    ensures ends { (plan : List declared.PlanLine) (base : Standing) (pipe out pipe' out' : Story) → InOrder plan base pipe out debugger.old → MayEnd plan (ended_of how) base (flushed pipe) (flushed out) debugger.old → FailsLastFlush pipe out pipe' out' → InOrder plan base pipe' out' debugger.new × MayEnd plan (ended_of result) base pipe' out' debugger.new }
-    ensures line { (plan : List declared.PlanLine) (base : model.Debugger) → TellsRefused plan how base debugger.old → TellsRefused plan result base debugger.new }
+    ensures ends { (plan : List declared.PlanLine) (base : Standing) (pipe out pipe' out' : Story)
+        → InOrder plan base pipe out debugger.old → MayEnd plan (ended_of how) base (flushed pipe)
+        (flushed out) debugger.old → FailsLastFlush pipe out pipe' out'
+        → InOrder plan base pipe' out' debugger.new
+        × MayEnd plan (ended_of result) base pipe' out' debugger.new }
+    ensures line { (plan : List declared.PlanLine) (base : model.Debugger)
+        → TellsRefused plan how base debugger.old → TellsRefused plan result base debugger.new }
 {
     match how.ended() {
         Ended::Refused(_) => how,
@@ -120,8 +144,11 @@ fn run_session<P: Pipe, W: Pipe>(
 ) -> Attached
     requires { debugger.old ≡ attached debugger.old }
     ensures line { TellsRefused plan.now result debugger.old debugger.new }
-    ensures in_order { InOrder plan.now (at (P.story pipe.old) (W.story out.old) debugger.old turns) (P.story pipe.new) (W.story out.new) debugger.new }
-    ensures ended { MayEnd plan.now (ended_of result) (at (P.story pipe.old) (W.story out.old) debugger.old turns) (flushed (P.story pipe.new)) (flushed (W.story out.new)) debugger.new }
+    ensures in_order { InOrder plan.now (at (P.story pipe.old) (W.story out.old) debugger.old turns)
+        (P.story pipe.new) (W.story out.new) debugger.new }
+    ensures ended { MayEnd plan.now (ended_of result) (at (P.story pipe.old)
+        (W.story out.old) debugger.old turns) (flushed (P.story pipe.new))
+        (flushed (W.story out.new)) debugger.new }
 {
     let mut run = Run {
         left: turns,
@@ -153,11 +180,17 @@ fn run_plan<P: Pipe, W: Pipe>(
     requires begun { debugger.old ≡ attached debugger.old }
     requires none { run.old.composites ≡ 0 }
     requires unasked { run.old.waiting.items ≡ [] }
-    ensures finished { OnOk result (IsGoing plan.now (at (P.story pipe.old) (W.story out.old) debugger.old run.old.left) (at (P.story pipe.new) (W.story out.new) debugger.new run.new.left)) }
+    ensures finished { OnOk result (IsGoing plan.now (at (P.story pipe.old)
+        (W.story out.old) debugger.old run.old.left) (at (P.story pipe.new)
+        (W.story out.new) debugger.new run.new.left)) }
     ensures known { OnOk result (is_some debugger.new.sizes ≡ true) }
     ensures answered { OnOk result (has_tickets debugger.new.pending ≡ false) }
     ensures line { IfErr result (λ how. TellsRefused plan.now how debugger.old debugger.new) }
-    ensures ends { IfErr result (λ how. InOrder plan.now (at (P.story pipe.old) (W.story out.old) debugger.old run.old.left) (P.story pipe.new) (W.story out.new) debugger.new × MayEnd plan.now (ended_of how) (at (P.story pipe.old) (W.story out.old) debugger.old run.old.left) (flushed (P.story pipe.new)) (flushed (W.story out.new)) debugger.new) }
+    ensures ends { IfErr result (λ how.
+        InOrder plan.now (at (P.story pipe.old) (W.story out.old) debugger.old run.old.left)
+        (P.story pipe.new) (W.story out.new) debugger.new
+        × MayEnd plan.now (ended_of how) (at (P.story pipe.old) (W.story out.old) debugger.old
+        run.old.left) (flushed (P.story pipe.new)) (flushed (W.story out.new)) debugger.new) }
 {
     if let Err(ended) = write_hello(debugger, pipe, &mut run.buffer) {
         return Err(Attached::Ended(ended));
@@ -176,12 +209,15 @@ fn run_plan<P: Pipe, W: Pipe>(
     }
 }
 
-/// What is told where a run ended so at this line, counted from 1: the line where its command was refused.
+/// What is told where a run ended so at this line, counted from 1: the line where it was refused.
 fn ended_at(line: &PlanLine, place: usize, ended: Ended) -> Attached
     ensures { result ≡ ended_at line.now place ended }
 {
     match (line, ended) {
-        (PlanLine::Ask { .. }, Ended::Refused(number)) => Attached::RefusedLine {
+        (
+            PlanLine::Ask { .. } | PlanLine::LoseTarget | PlanLine::LoseDebugger | PlanLine::Attach,
+            Ended::Refused(number),
+        ) => Attached::RefusedLine {
             line: place,
             number,
         },
@@ -199,12 +235,17 @@ fn write_hello<P: Pipe>(
     buffer: &mut [u8; CHUNK],
 ) -> Result<(), Ended>
     requires { debugger.old ≡ attached debugger.old }
-    ensures goes { OnOk result ((out : Story) (left : ℕ) → IsGoing [] (at (P.story pipe.old) out debugger.old left) (at (P.story pipe.new) out debugger.new left)) }
+    ensures goes { OnOk result ((out : Story) (left : ℕ)
+        → IsGoing [] (at (P.story pipe.old) out debugger.old left)
+        (at (P.story pipe.new) out debugger.new left)) }
     ensures ready { OnOk result (IsReady debugger.new) }
     ensures counts { OnOk result (Counts 0 debugger.new) }
     ensures names { OnOk result (Names [] debugger.new) }
     ensures by_turn { IfErr result IsByTurn }
-    ensures ends { IfErr result (λ ended. (plan : List declared.PlanLine) (out : Story) (left : ℕ) → InOrder plan (at (P.story pipe.old) out debugger.old left) (P.story pipe.new) out debugger.new × MayEnd plan ended (at (P.story pipe.old) out debugger.old left) (flushed (P.story pipe.new)) (flushed out) debugger.new) }
+    ensures ends { IfErr result (λ ended. (plan : List declared.PlanLine) (out : Story) (left : ℕ)
+        → InOrder plan (at (P.story pipe.old) out debugger.old left) (P.story pipe.new) out
+        debugger.new × MayEnd plan ended (at (P.story pipe.old) out debugger.old left)
+        (flushed (P.story pipe.new)) (flushed out) debugger.new) }
 {
     if !write_out(debugger, pipe, buffer) {
         debugger.lose();
@@ -227,13 +268,15 @@ fn until_sizes<P: Pipe, W: Pipe>(
     requires ready { IsReady debugger.old }
     requires counts { Counts run.old.composites debugger.old }
     requires names { Names run.old.waiting.items debugger.old }
-    ensures goes { OnOk result (GoesOn (at (P.story pipe.old) (W.story out.old) debugger.old run.old.left) (at (P.story pipe.new) (W.story out.new) debugger.new run.new.left)) }
+    ensures goes { OnOk result (GoesOn (at (P.story pipe.old) (W.story out.old) debugger.old
+        run.old.left) (at (P.story pipe.new) (W.story out.new) debugger.new run.new.left)) }
     ensures ready { OnOk result (IsReady debugger.new) }
     ensures known { OnOk result (is_some debugger.new.sizes ≡ true) }
     ensures counts { OnOk result (Counts run.new.composites debugger.new) }
     ensures names { OnOk result (Names run.new.waiting.items debugger.new) }
     ensures by_turn { IfErr result IsByTurn }
-    ensures ends { IfErr result (EndsSo (at (P.story pipe.old) (W.story out.old) debugger.old run.old.left) (at (P.story pipe.new) (W.story out.new) debugger.new run.new.left)) }
+    ensures ends { IfErr result (EndsSo (at (P.story pipe.old) (W.story out.old) debugger.old
+        run.old.left) (at (P.story pipe.new) (W.story out.new) debugger.new run.new.left)) }
 {
     while debugger.sizes().is_none() {
         if let Err(ended) = turn_once(alloc, debugger, pipe, out, run) {
@@ -259,13 +302,18 @@ fn carry_out<P: Pipe, W: Pipe>(
     requires known { is_some debugger.old.sizes ≡ true }
     requires counts { Counts run.old.composites debugger.old }
     requires names { Names run.old.waiting.items debugger.old }
-    ensures goes { OnOk result (LineGoesOn line.now (at (P.story pipe.old) (W.story out.old) debugger.old run.old.left) (at (P.story pipe.new) (W.story out.new) debugger.new run.new.left)) }
+    ensures goes { OnOk result (LineGoesOn line.now (at (P.story pipe.old)
+        (W.story out.old) debugger.old run.old.left) (at (P.story pipe.new)
+        (W.story out.new) debugger.new run.new.left)) }
     ensures ready { OnOk result (IsReady debugger.new) }
     ensures known { OnOk result (is_some debugger.new.sizes ≡ true) }
     ensures counts { OnOk result (Counts run.new.composites debugger.new) }
     ensures names { OnOk result (Names run.new.waiting.items debugger.new) }
-    ensures tells { IfErr result (LineTells line.now (at (P.story pipe.old) (W.story out.old) debugger.old run.old.left) debugger.new) }
-    ensures ends { IfErr result (LineEndsSo line.now (at (P.story pipe.old) (W.story out.old) debugger.old run.old.left) (at (P.story pipe.new) (W.story out.new) debugger.new run.new.left)) }
+    ensures tells { IfErr result (LineTells line.now (at (P.story pipe.old)
+        (W.story out.old) debugger.old run.old.left) debugger.new) }
+    ensures ends { IfErr result (LineEndsSo line.now (at (P.story pipe.old)
+        (W.story out.old) debugger.old run.old.left) (at (P.story pipe.new)
+        (W.story out.new) debugger.new run.new.left)) }
 {
     match line {
         PlanLine::Ask { set, number, data } => {
@@ -274,6 +322,10 @@ fn carry_out<P: Pipe, W: Pipe>(
         PlanLine::Answers => until_answered(alloc, debugger, pipe, out, run),
         PlanLine::Events(count) => until_events(alloc, debugger, pipe, out, run, *count),
         PlanLine::Mirror => tell_mirror(alloc, debugger, out),
+        PlanLine::LoseTarget | PlanLine::LoseDebugger | PlanLine::Attach => {
+            debugger.lose();
+            Err(Ended::Refused(0))
+        }
     }
 }
 
@@ -292,14 +344,16 @@ fn until_answered<P: Pipe, W: Pipe>(
     requires known { is_some debugger.old.sizes ≡ true }
     requires counts { Counts run.old.composites debugger.old }
     requires names { Names run.old.waiting.items debugger.old }
-    ensures goes { OnOk result (GoesOn (at (P.story pipe.old) (W.story out.old) debugger.old run.old.left) (at (P.story pipe.new) (W.story out.new) debugger.new run.new.left)) }
+    ensures goes { OnOk result (GoesOn (at (P.story pipe.old) (W.story out.old) debugger.old
+        run.old.left) (at (P.story pipe.new) (W.story out.new) debugger.new run.new.left)) }
     ensures ready { OnOk result (IsReady debugger.new) }
     ensures known { OnOk result (is_some debugger.new.sizes ≡ true) }
     ensures counts { OnOk result (Counts run.new.composites debugger.new) }
     ensures names { OnOk result (Names run.new.waiting.items debugger.new) }
     ensures answered { OnOk result (has_tickets debugger.new.pending ≡ false) }
     ensures by_turn { IfErr result IsByTurn }
-    ensures ends { IfErr result (EndsSo (at (P.story pipe.old) (W.story out.old) debugger.old run.old.left) (at (P.story pipe.new) (W.story out.new) debugger.new run.new.left)) }
+    ensures ends { IfErr result (EndsSo (at (P.story pipe.old) (W.story out.old) debugger.old
+        run.old.left) (at (P.story pipe.new) (W.story out.new) debugger.new run.new.left)) }
 {
     while debugger.unanswered(0).is_some() {
         if let Err(ended) = turn_once(alloc, debugger, pipe, out, run) {
@@ -325,14 +379,16 @@ fn until_events<P: Pipe, W: Pipe>(
     requires known { is_some debugger.old.sizes ≡ true }
     requires counts { Counts run.old.composites debugger.old }
     requires names { Names run.old.waiting.items debugger.old }
-    ensures goes { OnOk result (GoesOn (at (P.story pipe.old) (W.story out.old) debugger.old run.old.left) (at (P.story pipe.new) (W.story out.new) debugger.new run.new.left)) }
+    ensures goes { OnOk result (GoesOn (at (P.story pipe.old) (W.story out.old) debugger.old
+        run.old.left) (at (P.story pipe.new) (W.story out.new) debugger.new run.new.left)) }
     ensures ready { OnOk result (IsReady debugger.new) }
     ensures known { OnOk result (is_some debugger.new.sizes ≡ true) }
     ensures counts { OnOk result (Counts run.new.composites debugger.new) }
     ensures names { OnOk result (Names run.new.waiting.items debugger.new) }
     ensures handled { OnOk result (HandlesComposites count debugger.new) }
     ensures by_turn { IfErr result IsByTurn }
-    ensures ends { IfErr result (EndsSo (at (P.story pipe.old) (W.story out.old) debugger.old run.old.left) (at (P.story pipe.new) (W.story out.new) debugger.new run.new.left)) }
+    ensures ends { IfErr result (EndsSo (at (P.story pipe.old) (W.story out.old) debugger.old
+        run.old.left) (at (P.story pipe.new) (W.story out.new) debugger.new run.new.left)) }
 {
     while run.composites < u64::from(count) {
         if let Err(ended) = turn_once(alloc, debugger, pipe, out, run) {
@@ -347,10 +403,13 @@ fn until_events<P: Pipe, W: Pipe>(
 /// # Errors
 /// Why the run ends.
 fn tell_mirror<W: Pipe>(alloc: Global, debugger: &mut Debugger, out: &mut W) -> Result<(), Ended>
-    ensures goes { OnOk result ((text : List ℕ) × TellsMirror debugger.old.mirror text × (W.story out.new ≡ with_written text (W.story out.old))) }
+    ensures goes { OnOk result ((text : List ℕ) × TellsMirror debugger.old.mirror text
+        × (W.story out.new ≡ with_written text (W.story out.old))) }
     ensures kept { OnOk result (debugger.new ≡ debugger.old) }
     ensures by_turn { IfErr result IsByTurn }
-    ensures ends { IfErr result (λ ended. (pipe : Story) (left : ℕ) → LineEndsSo line.Mirror (at pipe (W.story out.old) debugger.old left) (at pipe (W.story out.new) debugger.new left) ended) }
+    ensures ends { IfErr result (λ ended. (pipe : Story) (left : ℕ)
+        → LineEndsSo line.Mirror (at pipe (W.story out.old) debugger.old left)
+        (at pipe (W.story out.new) debugger.new left) ended) }
 {
     let Ok(text) = mirror_text(alloc, debugger.mirror()) else {
         return Err(Ended::NoMemory);

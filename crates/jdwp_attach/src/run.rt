@@ -1,9 +1,7 @@
 //! What a run has left, and what it keeps between turns.
 
 use jdwp_debugger::Ticket;
-
-/// How many bytes are read or written at once at most.
-pub(crate) const CHUNK: usize = 4096;
+use jdwp_pipe::CHUNK;
 
 /// A command that was asked and not answered.
 #[derive(Clone, Copy, Drop)]

@@ -26,9 +26,15 @@ pub(crate) fn turn_text(
     waiting: &mut Vec<Waiting>,
     read: &Read,
 ) -> Result<String, NoMemory>
-    requires { (waited : List Unanswered) × (waiting.old.items ≡ map kept_name waited) × CanTell waited (told read.now) debugger.now.last debugger.now.sizes }
-    ensures text { IfOk result (λ text. (waited : List Unanswered) → waiting.old.items ≡ map kept_name waited → string_bytes text ≡ turn_lines waited (told read.now) debugger.now.last debugger.now.sizes) }
-    ensures waits { OnOk result ((waited : List Unanswered) → waiting.old.items ≡ map kept_name waited → waiting.new.items ≡ map kept_name (waiting_after (told read.now) waited)) }
+    requires { (waited : List Unanswered) × (waiting.old.items ≡ map kept_name waited)
+        × CanTell waited (told read.now) debugger.now.last debugger.now.sizes }
+    ensures text { IfOk result (λ text. (waited : List Unanswered)
+        → waiting.old.items ≡ map kept_name waited
+        → string_bytes text ≡ turn_lines waited (told read.now) debugger.now.last
+        debugger.now.sizes) }
+    ensures waits { OnOk result ((waited : List Unanswered)
+        → waiting.old.items ≡ map kept_name waited
+        → waiting.new.items ≡ map kept_name (waiting_after (told read.now) waited)) }
 {
     match read {
         Read::Nothing | Read::Parked => Ok(String::new(alloc)),
@@ -56,7 +62,8 @@ fn sizes_text(
     sizes: &IdSizes,
 ) -> Result<String, NoMemory>
     requires { HasHeads composites.now heads.now }
-    ensures { IfOk result (λ text. string_bytes text ≡ sizes_lines composites.now heads.now (Some sizes.now)) }
+    ensures { IfOk result (λ text. string_bytes text ≡ sizes_lines composites.now heads.now
+        (Some sizes.now)) }
 {
     let [Head::Packet(header), rest @ ..] = heads else {
         unreachable!();
@@ -74,7 +81,9 @@ fn sizes_text(
 /// Takes the command that was asked under this ticket off those that wait.
 fn take_waiting(waiting: &mut Vec<Waiting>, ticket: Ticket) -> Waiting
     requires { list_any (is_under ticket.0) waiting.old.items ≡ true }
-    ensures { (waited : List Unanswered) → waiting.old.items ≡ map kept_name waited → (command_under ticket.0 waited ≡ Some (named result.set result.number)) × (waiting.new.items ≡ map kept_name (without ticket.0 waited)) }
+    ensures { (waited : List Unanswered) → waiting.old.items ≡ map kept_name waited
+        → (command_under ticket.0 waited ≡ Some (named result.set result.number))
+        × (waiting.new.items ≡ map kept_name (without ticket.0 waited)) }
 {
     let place = place_of(waiting, ticket);
     waiting.remove(place)

@@ -1,20 +1,19 @@
 //! Turns of a run.
-ghost use Rattle.std.specs.Prelude.{◌≡◌, ◌<◌, ◌≤◌, ◌+◌, [], List, true, false, length, map, is_some, OnOk, IfErr, IsTrue};
-ghost use Rattle.jdwp_end.specs.Ends.{front_of, is_open, room_of};
-ghost use Rattle.jdwp_wire.specs.Streams.{More};
-ghost use Rattle.jdwp_debugger.specs.Debuggers.{Unanswered, lost, with_fed};
-ghost use Rattle.jdwp_engine.specs.Run.{FailsRead, flushed};
-ghost use Rattle.jdwp_debugger.specs.DebuggerTurns.{TurnsAt, told};
+ghost use Rattle.std.specs.Prelude.{◌≡◌, ◌<◌, List, true, map, is_some, OnOk, IfErr};
+ghost use Rattle.jdwp_end.specs.Ends.{is_open, room_of};
+ghost use Rattle.jdwp_debugger.specs.Debuggers.{Unanswered};
+ghost use Rattle.jdwp_pipe.specs.Story.{flushed};
+ghost use Rattle.jdwp_debugger.specs.DebuggerTurns.{told};
 ghost use Rattle.jdwp_attach.specs.Naming.{CanTell, Names, kept_name, waiting_after};
 ghost use Rattle.jdwp_attach.specs.PlanRuns.{EndsFailed, EndsSo, IsByTurn, told_number};
 ghost use Rattle.jdwp_attach.specs.PlanWaits.{Counts, composites_of};
-ghost use Rattle.jdwp_attach.specs.Runs.{FailsOut, Finishes, GoesOn, IsReady, LosesAtRead, PutsAndTells, ReadsMore, WritesAll, at};
+ghost use Rattle.jdwp_attach.specs.Runs.{Finishes, GoesOn, IsReady, LosesAtRead, PutsAndTells, ReadsMore, at};
 ghost use Rattle.jdwp_tell.specs.Telling.{turn_lines};
 
-use crate::run::{CHUNK, Run};
+use crate::run::Run;
 use crate::telling::turn_text;
 use jdwp_debugger::{Debugger, DebuggerFault, Read};
-use jdwp_engine::{Ended, Pipe, flush_all, write_all};
+use jdwp_pipe::{CHUNK, Ended, NoInput, Pipe, flush_all, read_and_feed, write_all, write_out};
 use std::alloc::Global;
 
 /// One turn, and if it handled nothing a flush and one read. What waits to leave is written, and what was read is told.
@@ -31,14 +30,17 @@ pub(crate) fn turn_once<P: Pipe, W: Pipe>(
     requires ready { IsReady debugger.old }
     requires counts { Counts run.old.composites debugger.old }
     requires names { Names run.old.waiting.items debugger.old }
-    ensures goes { OnOk result (GoesOn (at (P.story pipe.old) (W.story out.old) debugger.old run.old.left) (at (P.story pipe.new) (W.story out.new) debugger.new run.new.left)) }
+    ensures goes { OnOk result (GoesOn (at (P.story pipe.old) (W.story out.old) debugger.old
+        run.old.left) (at (P.story pipe.new) (W.story out.new) debugger.new run.new.left)) }
     ensures ready { OnOk result (IsReady debugger.new) }
-    ensures known { OnOk result (is_some debugger.old.sizes ≡ true → is_some debugger.new.sizes ≡ true) }
+    ensures known { OnOk result (is_some debugger.old.sizes ≡ true
+        → is_some debugger.new.sizes ≡ true) }
     ensures left { OnOk result (run.new.left < run.old.left) }
     ensures counts { OnOk result (Counts run.new.composites debugger.new) }
     ensures names { OnOk result (Names run.new.waiting.items debugger.new) }
     ensures by_turn { IfErr result IsByTurn }
-    ensures ends { IfErr result (EndsSo (at (P.story pipe.old) (W.story out.old) debugger.old run.old.left) (at (P.story pipe.new) (W.story out.new) debugger.new run.new.left)) }
+    ensures ends { IfErr result (EndsSo (at (P.story pipe.old) (W.story out.old) debugger.old
+        run.old.left) (at (P.story pipe.new) (W.story out.new) debugger.new run.new.left)) }
 {
     debugger.session();
     if run.left == 0 {
@@ -106,49 +108,22 @@ fn flush_and_read<P: Pipe>(
     buffer: &mut [u8; CHUNK],
 ) -> Result<(), Ended>
     requires { 0 < room_of debugger.old.end }
-    ensures goes { OnOk result (ReadsMore debugger.old debugger.new (flushed (P.story pipe.old)) (P.story pipe.new)) }
-    ensures ends { IfErr result (λ ended. LosesAtRead ended debugger.old debugger.new (P.story pipe.old) (P.story pipe.new)) }
+    ensures goes { OnOk result (ReadsMore debugger.old debugger.new (flushed (P.story pipe.old))
+        (P.story pipe.new)) }
+    ensures ends { IfErr result (λ ended. LosesAtRead ended debugger.old debugger.new
+        (P.story pipe.old) (P.story pipe.new)) }
 {
     if !flush_all(pipe) {
         debugger.lose();
         return Err(Ended::LostByWrite);
     }
-    read_and_feed(debugger, pipe, buffer)
-}
-
-/// Reads once, where all that was written has left, and feeds what came.
-///
-/// # Errors
-/// `LostByRead` where the read failed, or gave 0.
-fn read_and_feed<P: Pipe>(
-    debugger: &mut Debugger,
-    pipe: &mut P,
-    buffer: &mut [u8; CHUNK],
-) -> Result<(), Ended>
-    requires room { 0 < room_of debugger.old.end }
-    requires left { (P.story pipe.old).unflushed ≡ [] }
-    ensures goes { OnOk result (ReadsMore debugger.old debugger.new (P.story pipe.old) (P.story pipe.new)) }
-    ensures ends { IfErr result (λ ended. (ended ≡ Ended.LostByRead) × (debugger.new ≡ lost debugger.old) × FailsRead (P.story pipe.old) (P.story pipe.new)) }
-{
-    let room = debugger.room().min(CHUNK);
-    match pipe.read(&mut buffer[..room]) {
-        Ok(0) | Err(_) => {
+    match read_and_feed(debugger, pipe, buffer) {
+        Ok(()) => Ok(()),
+        Err(NoInput) => {
             debugger.lose();
             Err(Ended::LostByRead)
         }
-        Ok(count) => {
-            feed_all(debugger, &buffer[..count]);
-            Ok(())
-        }
     }
-}
-
-/// Feeds all of the bytes.
-fn feed_all(debugger: &mut Debugger, bytes: &[u8])
-    requires { length bytes.now ≤ room_of debugger.old.end }
-    ensures { debugger.new ≡ with_fed bytes.now debugger.old }
-{
-    debugger.feed(bytes);
 }
 
 /// Writes what waits, tells what a turn read, and ends where that closed the session.
@@ -160,11 +135,21 @@ fn tell<P: Pipe, W: Pipe>(
     run: &mut Run,
     read: &Read,
 ) -> Result<(), Ended>
-    requires { (waited : List Unanswered) × (run.old.waiting.items ≡ map kept_name waited) × CanTell waited (told read.now) debugger.old.last debugger.old.sizes }
-    ensures goes { OnOk result ((waited : List Unanswered) → run.old.waiting.items ≡ map kept_name waited → (is_open debugger.old.end ≡ true) × PutsAndTells (turn_lines waited (told read.now) debugger.old.last debugger.old.sizes) (at (P.story pipe.old) (W.story out.old) debugger.old run.old.left) (at (P.story pipe.new) (W.story out.new) debugger.new run.new.left)) }
-    ensures waits { OnOk result ((waited : List Unanswered) → run.old.waiting.items ≡ map kept_name waited → run.new.waiting.items ≡ map kept_name (waiting_after (told read.now) waited)) }
+    requires { (waited : List Unanswered) × (run.old.waiting.items ≡ map kept_name waited)
+        × CanTell waited (told read.now) debugger.old.last debugger.old.sizes }
+    ensures goes { OnOk result ((waited : List Unanswered) → run.old.waiting.items
+        ≡ map kept_name waited → (is_open debugger.old.end ≡ true)
+        × PutsAndTells (turn_lines waited (told read.now) debugger.old.last debugger.old.sizes)
+        (at (P.story pipe.old) (W.story out.old) debugger.old run.old.left) (at (P.story pipe.new)
+        (W.story out.new) debugger.new run.new.left)) }
+    ensures waits { OnOk result ((waited : List Unanswered) → run.old.waiting.items
+        ≡ map kept_name waited → run.new.waiting.items
+        ≡ map kept_name (waiting_after (told read.now) waited)) }
     ensures counts { run.new.composites ≡ run.old.composites }
-    ensures ends { IfErr result (λ ended. (waited : List Unanswered) → run.old.waiting.items ≡ map kept_name waited → Finishes ended (turn_lines waited (told read.now) debugger.old.last debugger.old.sizes) (at (P.story pipe.old) (W.story out.old) debugger.old run.old.left) (at (P.story pipe.new) (W.story out.new) debugger.new run.new.left)) }
+    ensures ends { IfErr result (λ ended. (waited : List Unanswered) → run.old.waiting.items
+        ≡ map kept_name waited → Finishes ended (turn_lines waited (told read.now) debugger.old.last
+        debugger.old.sizes) (at (P.story pipe.old) (W.story out.old) debugger.old run.old.left)
+        (at (P.story pipe.new) (W.story out.new) debugger.new run.new.left)) }
 {
     if !write_out(debugger, pipe, &mut run.buffer) {
         debugger.lose();
@@ -183,22 +168,4 @@ fn tell<P: Pipe, W: Pipe>(
         debugger.lose();
         Err(Ended::Done)
     }
-}
-
-/// Writes all that waits to leave, or says that a write failed.
-pub(crate) fn write_out<P: Pipe>(
-    debugger: &mut Debugger,
-    pipe: &mut P,
-    buffer: &mut [u8; CHUNK],
-) -> bool
-    ensures all { IsTrue result → WritesAll debugger.old debugger.new (P.story pipe.old) (P.story pipe.new) }
-    ensures fails { result ≡ false → FailsOut debugger.old debugger.new (P.story pipe.old) (P.story pipe.new) }
-{
-    while debugger.waiting() > 0 {
-        let count = debugger.take(buffer);
-        if !write_all(pipe, &buffer[..count]) {
-            return false;
-        }
-    }
-    true
 }

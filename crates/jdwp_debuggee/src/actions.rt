@@ -49,7 +49,8 @@ impl<M: Machine> Debuggee<M> {
 
     /// VirtualMachine.ReleaseEvents: threads may step again.
     pub fn release_events(&mut self) -> Reply
-        ensures { CarriesOut M.meaning action.ReleaseEvents self.old self.new (reply_meaning result) }
+        ensures { CarriesOut M.meaning action.ReleaseEvents self.old self.new
+            (reply_meaning result) }
     {
         self.held = false;
         Reply::Done
@@ -65,7 +66,8 @@ impl<M: Machine> Debuggee<M> {
     /// ThreadReference.Suspend: the thread's suspend count rises by one; `INTERNAL` before the first handshake, `INVALID_THREAD`
     /// where it is not alive, `INTERNAL` where it stands at the count limit.
     pub fn suspend_thread(&mut self, thread: ObjectId) -> Reply
-        ensures { CarriesOut M.meaning (action.SuspendThread thread.0) self.old self.new (reply_meaning result) }
+        ensures { CarriesOut M.meaning (action.SuspendThread thread.0) self.old self.new
+            (reply_meaning result) }
     {
         match self.threads.count(thread) {
             _ if !self.handshaken => Reply::Refused(ErrorCode::INTERNAL),
@@ -82,7 +84,8 @@ impl<M: Machine> Debuggee<M> {
 
     /// ThreadReference.Resume: the thread's suspend count falls by one, if it is positive; `INVALID_THREAD` where it is not alive.
     pub fn resume_thread(&mut self, thread: ObjectId) -> Reply
-        ensures { CarriesOut M.meaning (action.ResumeThread thread.0) self.old self.new (reply_meaning result) }
+        ensures { CarriesOut M.meaning (action.ResumeThread thread.0) self.old self.new
+            (reply_meaning result) }
     {
         if !self.threads.is_live(thread) {
             return Reply::Refused(ErrorCode::INVALID_THREAD);
@@ -93,7 +96,8 @@ impl<M: Machine> Debuggee<M> {
 
     /// ThreadReference.SuspendCount; `INVALID_THREAD` where the thread is not alive.
     pub fn ask_suspend_count(&self, thread: ObjectId) -> Reply
-        ensures { CarriesOut M.meaning (action.SuspendCount thread.0) self.now self.now (reply_meaning result) }
+        ensures { CarriesOut M.meaning (action.SuspendCount thread.0) self.now self.now
+            (reply_meaning result) }
     {
         match self.threads.count(thread) {
             None => Reply::Refused(ErrorCode::INVALID_THREAD),
@@ -103,7 +107,8 @@ impl<M: Machine> Debuggee<M> {
 
     /// ThreadReference.Status; `INVALID_THREAD` where the thread is not alive.
     pub fn ask_status(&self, thread: ObjectId) -> Reply
-        ensures { CarriesOut M.meaning (action.ThreadStatus thread.0) self.now self.now (reply_meaning result) }
+        ensures { CarriesOut M.meaning (action.ThreadStatus thread.0) self.now self.now
+            (reply_meaning result) }
     {
         match self.threads.count(thread) {
             None => Reply::Refused(ErrorCode::INVALID_THREAD),
@@ -113,7 +118,8 @@ impl<M: Machine> Debuggee<M> {
 
     /// EventRequest.Clear: the request of this kind and id goes, if there is one.
     pub fn clear_request(&mut self, kind: u8, id: i32) -> Reply
-        ensures { CarriesOut M.meaning (action.ClearRequest kind id) self.old self.new (reply_meaning result) }
+        ensures { CarriesOut M.meaning (action.ClearRequest kind id) self.old self.new
+            (reply_meaning result) }
     {
         self.requests.remove(kind, id);
         Reply::Done
@@ -121,7 +127,8 @@ impl<M: Machine> Debuggee<M> {
 
     /// EventRequest.ClearAllBreakpoints: all requests of the kind BREAKPOINT go.
     pub fn clear_breakpoints(&mut self) -> Reply
-        ensures { CarriesOut M.meaning action.ClearBreakpoints self.old self.new (reply_meaning result) }
+        ensures { CarriesOut M.meaning action.ClearBreakpoints self.old self.new
+            (reply_meaning result) }
     {
         self.requests.remove_breakpoints();
         Reply::Done

@@ -47,9 +47,12 @@ fn sent(
     answer: Answer,
 ) -> Result<Sent, NoMemory>
     requires { IsWritable sizes.now set number answer }
-    ensures value { IfOk result (λ sent. IsSent sizes.now (bounded settings.now sizes.now answer) sent) }
-    ensures encoded { IfOk result (λ sent. EncodesAnswer sizes.now set number (bounded settings.now sizes.now answer)) }
-    ensures fits { IfOk result (λ sent. least_packet_limit ≤ settings.now.limits.packet → 11 + length (sent_bytes sizes.now sent) ≤ settings.now.limits.packet) }
+    ensures value { IfOk result (λ sent.
+        IsSent sizes.now (bounded settings.now sizes.now answer) sent) }
+    ensures encoded { IfOk result (λ sent. EncodesAnswer sizes.now set number
+        (bounded settings.now sizes.now answer)) }
+    ensures fits { IfOk result (λ sent. least_packet_limit ≤ settings.now.limits.packet
+        → 11 + length (sent_bytes sizes.now sent) ≤ settings.now.limits.packet) }
     ensures memory { IfErr result (λ _. IsTrue (takes_memory answer)) }
 {
     let content = match answer {
@@ -85,11 +88,19 @@ impl<M: Machine> Debuggee<M> {
     /// # Errors
     /// `NoMemory` where an allocation was refused; where the machine refuses the command, it takes no memory.
     pub fn ask(&self, alloc: Global, query: &Query) -> Result<Sent, NoMemory>
-        ensures value { IfOk result (λ sent. IsSent (M.meaning.sizes self.now.moment.machine) (bounded self.now.settings (M.meaning.sizes self.now.moment.machine) (M.meaning.query self.now.moment.machine query.now)) sent) }
-        ensures encoded { IfOk result (λ sent. EncodesAnswer (M.meaning.sizes self.now.moment.machine) query.now.set query.now.number (bounded self.now.settings (M.meaning.sizes self.now.moment.machine) (M.meaning.query self.now.moment.machine query.now))) }
-        ensures fits { IfOk result (λ sent. least_packet_limit ≤ self.now.settings.limits.packet → 11 + length (sent_bytes (M.meaning.sizes self.now.moment.machine) sent) ≤ self.now.settings.limits.packet) }
+        ensures value { IfOk result (λ sent. IsSent (M.meaning.sizes self.now.moment.machine)
+            (bounded self.now.settings (M.meaning.sizes self.now.moment.machine)
+            (M.meaning.query self.now.moment.machine query.now)) sent) }
+        ensures encoded { IfOk result (λ sent.
+            EncodesAnswer (M.meaning.sizes self.now.moment.machine) query.now.set query.now.number
+            (bounded self.now.settings (M.meaning.sizes self.now.moment.machine)
+            (M.meaning.query self.now.moment.machine query.now))) }
+        ensures fits { IfOk result (λ sent. least_packet_limit ≤ self.now.settings.limits.packet
+            → 11 + length (sent_bytes (M.meaning.sizes self.now.moment.machine) sent)
+            ≤ self.now.settings.limits.packet) }
         // A refusal by the machine takes no memory.
-        ensures memory { IfErr result (λ _. IsTrue (takes_memory (M.meaning.query self.now.moment.machine query.now))) }
+        ensures memory { IfErr result (λ _.
+            IsTrue (takes_memory (M.meaning.query self.now.moment.machine query.now))) }
     {
         let answer = self.machine.query(query)?;
         let sizes = self.machine.sizes();
@@ -114,11 +125,20 @@ impl<M: Machine> Debuggee<M> {
         thread: ObjectId,
         query: &Query,
     ) -> Result<Sent, NoMemory>
-        ensures value { IfOk result (λ sent. (c : Command) → query_of c ≡ query.now → IsSent (M.meaning.sizes self.now.moment.machine) (does M.meaning self.now.settings self.now.moment c (action.AskThread thread.0)).answer sent) }
-        ensures encoded { IfOk result (λ sent. (c : Command) → query_of c ≡ query.now → EncodesAnswer (M.meaning.sizes self.now.moment.machine) c.set c.number (does M.meaning self.now.settings self.now.moment c (action.AskThread thread.0)).answer) }
-        ensures fits { IfOk result (λ sent. least_packet_limit ≤ self.now.settings.limits.packet → 11 + length (sent_bytes (M.meaning.sizes self.now.moment.machine) sent) ≤ self.now.settings.limits.packet) }
+        ensures value { IfOk result (λ sent. (c : Command) → query_of c ≡ query.now
+            → IsSent (M.meaning.sizes self.now.moment.machine)
+            (does M.meaning self.now.settings self.now.moment c (action.AskThread thread.0)).answer
+            sent) }
+        ensures encoded { IfOk result (λ sent. (c : Command) → query_of c ≡ query.now
+            → EncodesAnswer (M.meaning.sizes self.now.moment.machine) c.set c.number
+            (does M.meaning self.now.settings self.now.moment c
+            (action.AskThread thread.0)).answer) }
+        ensures fits { IfOk result (λ sent. least_packet_limit ≤ self.now.settings.limits.packet
+            → 11 + length (sent_bytes (M.meaning.sizes self.now.moment.machine) sent)
+            ≤ self.now.settings.limits.packet) }
         // A refusal by the machine takes no memory.
-        ensures memory { IfErr result (λ _. IsTrue (takes_memory (M.meaning.query self.now.moment.machine query.now))) }
+        ensures memory { IfErr result (λ _.
+            IsTrue (takes_memory (M.meaning.query self.now.moment.machine query.now))) }
         ensures lives { IfErr result (λ _. is_live self.now.moment.state thread.0 ≡ true) }
     {
         match self.threads.count(thread) {
@@ -138,11 +158,20 @@ impl<M: Machine> Debuggee<M> {
         thread: ObjectId,
         query: &Query,
     ) -> Result<Sent, NoMemory>
-        ensures value { IfOk result (λ sent. (c : Command) → query_of c ≡ query.now → IsSent (M.meaning.sizes self.now.moment.machine) (does M.meaning self.now.settings self.now.moment c (action.AskFrames thread.0)).answer sent) }
-        ensures encoded { IfOk result (λ sent. (c : Command) → query_of c ≡ query.now → EncodesAnswer (M.meaning.sizes self.now.moment.machine) c.set c.number (does M.meaning self.now.settings self.now.moment c (action.AskFrames thread.0)).answer) }
-        ensures fits { IfOk result (λ sent. least_packet_limit ≤ self.now.settings.limits.packet → 11 + length (sent_bytes (M.meaning.sizes self.now.moment.machine) sent) ≤ self.now.settings.limits.packet) }
+        ensures value { IfOk result (λ sent. (c : Command) → query_of c ≡ query.now
+            → IsSent (M.meaning.sizes self.now.moment.machine)
+            (does M.meaning self.now.settings self.now.moment c (action.AskFrames thread.0)).answer
+            sent) }
+        ensures encoded { IfOk result (λ sent. (c : Command) → query_of c ≡ query.now
+            → EncodesAnswer (M.meaning.sizes self.now.moment.machine) c.set c.number
+            (does M.meaning self.now.settings self.now.moment c
+            (action.AskFrames thread.0)).answer) }
+        ensures fits { IfOk result (λ sent. least_packet_limit ≤ self.now.settings.limits.packet
+            → 11 + length (sent_bytes (M.meaning.sizes self.now.moment.machine) sent)
+            ≤ self.now.settings.limits.packet) }
         // A refusal by the machine takes no memory.
-        ensures memory { IfErr result (λ _. IsTrue (takes_memory (M.meaning.query self.now.moment.machine query.now))) }
+        ensures memory { IfErr result (λ _.
+            IsTrue (takes_memory (M.meaning.query self.now.moment.machine query.now))) }
         ensures suspended { IfErr result (λ _. is_suspended self.now.moment.state thread.0 ≡ true) }
     {
         match self.threads.count(thread) {
@@ -164,10 +193,14 @@ impl<M: Machine> Debuggee<M> {
         frame: FrameId,
         values: &[(i32, Value)],
     ) -> Result<Reply, NoMemory>
-        ensures ok { IfOk result (λ reply. CarriesOut M.meaning (action.SetSlots thread.0 frame.0 values.now) self.old self.new (reply_meaning reply)) }
+        ensures ok { IfOk result (λ reply.
+            CarriesOut M.meaning (action.SetSlots thread.0 frame.0 values.now) self.old self.new
+            (reply_meaning reply)) }
         ensures err { OnErr result (self.new ≡ self.old) }
         // A refusal by the machine takes no memory.
-        ensures memory { IfErr result (λ _. IsTrue (takes_memory (M.meaning.write_answer self.old.moment.machine thread.0 frame.0 values.now))) }
+        ensures memory { IfErr result (λ _.
+            IsTrue (takes_memory (M.meaning.write_answer self.old.moment.machine thread.0 frame.0
+            values.now))) }
         ensures suspended { IfErr result (λ _. is_suspended self.old.moment.state thread.0 ≡ true) }
     {
         match self.threads.count(thread) {
@@ -185,10 +218,18 @@ impl<M: Machine> Debuggee<M> {
     /// # Errors
     /// `NoMemory` where an allocation was refused, and only where there are no more threads than a packet has bytes.
     pub fn ask_all_threads(&self, alloc: Global) -> Result<Sent, NoMemory>
-        ensures value { IfOk result (λ sent. IsSent (M.meaning.sizes self.now.moment.machine) (bounded self.now.settings (M.meaning.sizes self.now.moment.machine) (all_threads self.now.moment.state)) sent) }
-        ensures encoded { IfOk result (λ sent. EncodesAnswer (M.meaning.sizes self.now.moment.machine) commands.ALL_THREADS.set commands.ALL_THREADS.number (bounded self.now.settings (M.meaning.sizes self.now.moment.machine) (all_threads self.now.moment.state))) }
-        ensures fits { IfOk result (λ sent. least_packet_limit ≤ self.now.settings.limits.packet → 11 + length (sent_bytes (M.meaning.sizes self.now.moment.machine) sent) ≤ self.now.settings.limits.packet) }
-        ensures memory { IfErr result (λ _. length self.now.moment.state.threads ≤ self.now.settings.limits.packet) }
+        ensures value { IfOk result (λ sent. IsSent (M.meaning.sizes self.now.moment.machine)
+            (bounded self.now.settings (M.meaning.sizes self.now.moment.machine)
+            (all_threads self.now.moment.state)) sent) }
+        ensures encoded { IfOk result (λ sent.
+            EncodesAnswer (M.meaning.sizes self.now.moment.machine) commands.ALL_THREADS.set
+            commands.ALL_THREADS.number (bounded self.now.settings
+            (M.meaning.sizes self.now.moment.machine) (all_threads self.now.moment.state))) }
+        ensures fits { IfOk result (λ sent. least_packet_limit ≤ self.now.settings.limits.packet
+            → 11 + length (sent_bytes (M.meaning.sizes self.now.moment.machine) sent)
+            ≤ self.now.settings.limits.packet) }
+        ensures memory { IfErr result (λ _. length self.now.moment.state.threads
+            ≤ self.now.settings.limits.packet) }
     {
         if self.threads.len() > self.settings.limits().packet() as usize {
             return Ok(Sent::Short(Reply::Refused(ErrorCode::INTERNAL)));
@@ -209,7 +250,8 @@ impl<M: Machine> Debuggee<M> {
 
 /// The data of a list of these threads.
 fn listed(alloc: Global, threads: &[u64]) -> Result<Data, NoMemory>
-    ensures { IfOk result (λ content. content ≡ Many (map (λ (t : ℕ). Object t ∷ []) threads.now) ∷ []) }
+    ensures { IfOk result (λ content. content ≡ Many (map (λ (t : ℕ).
+        Object t ∷ []) threads.now) ∷ []) }
 {
     let mut entries = Vec::new(alloc);
     for thread in threads {

@@ -21,7 +21,8 @@ impl Action {
     pub fn closes(&self) -> bool
         ensures dispose { is_dispose (action_meaning self.now) ≡ true → result ≡ true }
         ensures exit { is_exit (action_meaning self.now) ≡ true → result ≡ true }
-        ensures other { is_dispose (action_meaning self.now) ≡ false → is_exit (action_meaning self.now) ≡ false → result ≡ false }
+        ensures other { is_dispose (action_meaning self.now) ≡ false
+            → is_exit (action_meaning self.now) ≡ false → result ≡ false }
     {
         matches!(self, Action::Dispose | Action::Exit)
     }
@@ -45,7 +46,9 @@ impl<M: Machine> Debuggee<M> {
     /// What a command is answered that asks neither the machine nor for its threads is encoded by the bytes that are sent for it. It
     /// does nothing.
     pub fn own_answers(&self)
-        ensures { (c : Command) → is_question (action_of c) ≡ false → EncodesAnswer (M.meaning.sizes self.now.moment.machine) c.set c.number (carried M.meaning self.now.settings self.now.moment c (action_of c)).answer }
+        ensures { (c : Command) → is_question (action_of c) ≡ false
+            → EncodesAnswer (M.meaning.sizes self.now.moment.machine) c.set c.number
+            (carried M.meaning self.now.settings self.now.moment c (action_of c)).answer }
     {
         self.settings.count_limit();
     }
@@ -57,11 +60,16 @@ impl<M: Machine> Debuggee<M> {
     /// action that is refused because a thread is not alive or runs, or by the machine, or a request whose kind or policy is refused or
     /// for which there is no room.
     pub fn carry_out(&mut self, alloc: Global, action: Action) -> Result<Sent, NoMemory>
-        ensures ok { IfOk result (λ sent. (c : Command) → asking action ≡ asking_of c → Did M.meaning c self.old self.new sent) }
-        ensures encoded { IfOk result (λ sent. (c : Command) → asking action ≡ asking_of c → is_question (action_of c) ≡ true → EncodesAnswer (M.meaning.sizes self.old.moment.machine) c.set c.number (carried M.meaning self.old.settings self.old.moment c (action_of c)).answer) }
+        ensures ok { IfOk result (λ sent. (c : Command) → asking action ≡ asking_of c
+            → Did M.meaning c self.old self.new sent) }
+        ensures encoded { IfOk result (λ sent. (c : Command) → asking action ≡ asking_of c
+            → is_question (action_of c) ≡ true
+            → EncodesAnswer (M.meaning.sizes self.old.moment.machine) c.set c.number
+            (carried M.meaning self.old.settings self.old.moment c (action_of c)).answer) }
         ensures err { OnErr result (self.new ≡ self.old) }
         ensures memory { IfErr result (λ _. is_short_action (action_meaning action) ≡ false) }
-        ensures wants { IfErr result (λ _. MayWantFor M.meaning self.old.settings self.old.moment (asking action)) }
+        ensures wants { IfErr result (λ _. MayWantFor M.meaning self.old.settings self.old.moment
+            (asking action)) }
     {
         match action {
             Action::Suspend => Ok(Sent::Short(self.suspend())),

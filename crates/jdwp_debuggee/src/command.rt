@@ -114,7 +114,8 @@ fn slot_of(entry: &[Scalar]) -> Option<(i32, Value)>
 /// The slots of the entries of a StackFrame.SetValues, with their values.
 #[tactic(auto, using(std::proofs::lemmas::Grind::common_steps, crate::proofs::Read::slots_more))]
 fn slots_of(alloc: Global, entries: &[Vec<Scalar>]) -> Result<Vec<(i32, Value)>, NoMemory>
-    ensures { IfOk result (λ slots. slots.items ≡ filter_map actions.slot_of (entry_meanings entries.now)) }
+    ensures { IfOk result (λ slots. slots.items ≡ filter_map actions.slot_of
+        (entry_meanings entries.now)) }
 {
     let mut slots = Vec::new(alloc);
     for entry in entries {
@@ -223,7 +224,8 @@ impl Action {
     /// # Errors
     /// `NoMemory` where an allocation was refused.
     pub fn of_command(alloc: Global, set: u8, number: u8, content: Data) -> Result<Action, NoMemory>
-        ensures { IfOk result (λ action. asking action ≡ asking_of (with_content set number content)) }
+        ensures { IfOk result (λ action. asking action
+            ≡ asking_of (with_content set number content)) }
     {
         let thread = if set == THREAD_REFERENCE || set == STACK_FRAME {
             object_in_front(&content)

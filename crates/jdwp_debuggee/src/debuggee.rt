@@ -82,7 +82,15 @@ impl<M: Machine> Debuggee<M> {
     pub fn new(alloc: Global, machine: M, settings: Settings) -> Result<Debuggee<M>, NoMemory>
     where
         M: Drop,
-        ensures { IfOk result (λ d. d ≡ record { settings = settings; moment = record { state = spec.new_state (M.meaning.live machine); machine = machine } }) }
+        ensures { IfOk result (λ d.
+            d ≡ record {
+              settings = settings;
+              moment = record {
+                state = spec.new_state
+                    (M.meaning.live machine);
+                machine = machine;
+              };
+            }) }
     {
         let threads = Threads::new(alloc, machine.live())?;
         settings.count_limit();
@@ -136,7 +144,8 @@ impl<M: Machine> Debuggee<M> {
     /// The threads that live, in the machine's order: exactly those that have a count.
     pub fn live(&self) -> &[ObjectId]
         ensures live { numbers result.now ≡ M.meaning.live self.now.moment.machine }
-        ensures counted { (t : ℕ) → has (numbers result.now) t ≡ is_some (spec.count_of self.now.moment.state t) }
+        ensures counted { (t : ℕ) → has (numbers result.now) t
+            ≡ is_some (spec.count_of self.now.moment.state t) }
     {
         self.machine.live()
     }
@@ -170,11 +179,15 @@ impl<M: Machine> Debuggee<M> {
     pub fn handshake(&mut self) -> Option<Start>
         ensures first { IsSome result ↔ self.old.moment.state.handshaken ≡ false }
         ensures later { IfNone result (self.new ≡ self.old) }
-        ensures state { OnSome result (self.new ≡ with_state (handshaken self.old.settings self.old.moment.state) self.old) }
-        ensures says { IfSome result (λ start. vm_start (policy_byte start.policy) start.thread.0 ≡ start_event self.old.settings self.old.moment.state) }
+        ensures state { OnSome result (self.new
+            ≡ with_state (handshaken self.old.settings self.old.moment.state) self.old) }
+        ensures says { IfSome result (λ start. vm_start (policy_byte start.policy) start.thread.0
+            ≡ start_event self.old.settings self.old.moment.state) }
         ensures packet { IfSome result (λ start. start.packet ≡ self.old.moment.state.next_packet) }
-        ensures fits { IfSome result (λ start. id_refusal (M.meaning.sizes self.old.moment.machine).object start.thread.0 ≡ None) }
-        ensures report { OnSome result (FitsPacket (M.meaning.sizes self.old.moment.machine) self.old.settings.limits.packet (start_event self.old.settings self.old.moment.state)) }
+        ensures fits { IfSome result (λ start.
+            id_refusal (M.meaning.sizes self.old.moment.machine).object start.thread.0 ≡ None) }
+        ensures report { OnSome result (FitsPacket (M.meaning.sizes self.old.moment.machine)
+            self.old.settings.limits.packet (start_event self.old.settings self.old.moment.state)) }
     {
         if self.handshaken {
             return None;

@@ -28,37 +28,46 @@ pub fn moves_counts_and_requests<M: Machine>()
 
 /// Commands that no line of the definitions names as changing something leave the state.
 pub fn leaves_state_at_plain_commands<M: Machine>()
-    ensures { (settings : Settings) (now : Moment M) (c : Command) → is_plain (action_of c) ≡ true → (effect M.meaning settings now c).after.state ≡ now.state }
+    ensures { (settings : Settings) (now : Moment M) (c : Command) → is_plain (action_of c) ≡ true
+        → (effect M.meaning settings now c).after.state ≡ now.state }
 {}
 
 /// Of all commands Exit and StackFrame.SetValues alone change the machine.
 pub fn changes_machine_at_exit_and_slots<M: Machine>()
-    ensures { (settings : Settings) (now : Moment M) (c : Command) → keeps_machine (action_of c) ≡ true → (effect M.meaning settings now c).after.machine ≡ now.machine }
+    ensures { (settings : Settings) (now : Moment M) (c : Command) → keeps_machine (action_of c)
+        ≡ true → (effect M.meaning settings now c).after.machine ≡ now.machine }
 {}
 
 /// IDSizes is never refused: it is answered the widths of the machine's ids.
 pub fn answers_id_sizes<M: Machine>()
-    ensures { (settings : Settings) (now : Moment M) (c : Command) → action_of c ≡ IdSizes → (effect M.meaning settings now c).answer ≡ sizes_answer (M.meaning.sizes now.machine) }
+    ensures { (settings : Settings) (now : Moment M) (c : Command) → action_of c ≡ IdSizes
+        → (effect M.meaning settings now c).answer ≡ sizes_answer (M.meaning.sizes now.machine) }
 {}
 
 /// A request whose policy is none of the three is refused.
 pub fn accepts_the_three_policies<M: Machine>()
-    ensures { (settings : Settings) (now : Moment M) (c : Command) (kind policy : ℕ) (entries : List (List ScalarMeaning)) → action_of c ≡ SetRequest kind policy entries → is_data (effect M.meaning settings now c).answer ≡ true → policy ≤ POLICY_ALL }
+    ensures { (settings : Settings) (now : Moment M) (c : Command) (kind policy : ℕ) (entries : List
+        (List ScalarMeaning)) → action_of c ≡ SetRequest kind policy entries
+        → is_data (effect M.meaning settings now c).answer ≡ true → policy ≤ POLICY_ALL }
 {}
 
 /// What a step reports for requests of the three policies has such a policy too, an event at least, and one thread in all events.
 pub fn reports_one_thread<M: Machine>()
-    ensures { (now : Moment M) (t : ℕ) (c : CompositeMeaning) → HavePolicies (all_asked now.state.requests) → (occurs M.meaning now t).sends ≡ Some c → IsReport c }
+    ensures { (now : Moment M) (t : ℕ) (c : CompositeMeaning)
+        → HavePolicies (all_asked now.state.requests) → (occurs M.meaning now t).sends ≡ Some c
+        → IsReport c }
 {}
 
 /// Where a thread lives, the thread that VM_START names is live, and no live thread has a lower id.
 pub fn starts_with_least_thread()
-    ensures { (state : State) → state.threads ≢ [] → IsLeastThread state.threads (least_thread state) }
+    ensures { (state : State) → state.threads ≢ []
+        → IsLeastThread state.threads (least_thread state) }
 {}
 
 /// A thread makes a step only where it lives and is not suspended, events are not held, and no thread stands at the count limit.
 pub fn steps_where_it_runs<M: Machine>()
-    ensures { (settings : Settings) (now : Moment M) (t : ℕ) → may_step M.meaning settings now t ≡ true → Runs settings now.state t }
+    ensures { (settings : Settings) (now : Moment M) (t : ℕ) → may_step M.meaning settings now t
+        ≡ true → Runs settings now.state t }
 {}
 
 /// VM_DEATH can be written at any widths, and fits each packet limit of 2,048 bytes or more.

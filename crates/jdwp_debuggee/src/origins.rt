@@ -18,7 +18,8 @@ use std::alloc::Global;
 
 /// The line after one more entry of a line table.
 fn line_after(index: u64, entry: &[Scalar], line: Option<u32>) -> Option<u32>
-    ensures { (entries : List (List ScalarMeaning)) → line_at index (scalar_meanings entry.now ∷ entries) line ≡ line_at index entries result }
+    ensures { (entries : List (List ScalarMeaning))
+        → line_at index (scalar_meanings entry.now ∷ entries) line ≡ line_at index entries result }
 {
     match entry {
         [Scalar::Long(start), Scalar::Int(number)] if start.cast_unsigned() <= index => {
@@ -82,7 +83,8 @@ fn line_of_newest<M: Machine>(
     machine: &M,
     frames: &[Vec<Scalar>],
 ) -> Result<Option<u32>, NoMemory>
-    ensures { IfOk result (λ line. line ≡ newest_line M.meaning machine.now (entry_meanings frames.now)) }
+    ensures { IfOk result (λ line. line ≡ newest_line M.meaning machine.now
+        (entry_meanings frames.now)) }
 {
     let Some(
         Location::At {
@@ -110,7 +112,8 @@ fn origin_in_answer<M: Machine>(
     answer: &Answer,
 ) -> Result<StepOrigin, NoMemory>
     requires { HasFewFrames answer.now }
-    ensures { IfOk result (λ origin. origin_meaning origin ≡ origin_by M.meaning machine.now answer.now) }
+    ensures { IfOk result (λ origin. origin_meaning origin
+        ≡ origin_by M.meaning machine.now answer.now) }
 {
     let nowhere = StepOrigin {
         frames: 0,
@@ -139,7 +142,8 @@ pub(crate) fn origin_of<M: Machine>(
     machine: &M,
     thread: ObjectId,
 ) -> Result<StepOrigin, NoMemory>
-    ensures { IfOk result (λ origin. origin_meaning origin ≡ origin_of M.meaning machine.now thread.0) }
+    ensures { IfOk result (λ origin. origin_meaning origin
+        ≡ origin_of M.meaning machine.now thread.0) }
 {
     // All of its frames: from 0, and -1 means the rest.
     let items = vec![in alloc;

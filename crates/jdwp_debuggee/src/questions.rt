@@ -16,7 +16,8 @@ pub(crate) fn ask<M: Machine>(
     number: u8,
     items: Vec<Datum>,
 ) -> Result<Answer, NoMemory>
-    ensures { IfOk result (λ answer. answer ≡ M.meaning.query machine.now (record { set = set; number = number; content = meanings items.items })) }
+    ensures { IfOk result (λ answer. answer ≡ M.meaning.query machine.now
+        (record { set = set; number = number; content = meanings items.items })) }
 {
     let query = Query {
         set,

@@ -26,7 +26,8 @@ use std::alloc::Global;
 fn bare(set: u8, number: u8, action: Action, bytes: &[u8]) -> Asked
     requires bare { IsBare (asking action) set number }
     requires short { is_short_action (action_meaning action) ≡ true }
-    ensures value { (w : Widths) → asked_meaning result ≡ asks (command_read w set number bytes.now) }
+    ensures value { (w : Widths) → asked_meaning result
+        ≡ asks (command_read w set number bytes.now) }
     ensures short { is_short_asked (asked_meaning result) ≡ true }
 {
     if bytes.is_empty() {
@@ -48,7 +49,9 @@ fn object(alloc: Global, sizes: &IdSizes, bytes: &[u8]) -> Option<ObjectId>
 
 /// What a command of ThreadReference comes to that carries a thread alone.
 fn read_of_thread(alloc: Global, number: u8, sizes: &IdSizes, bytes: &[u8]) -> Option<Asked>
-    ensures value { MatchOption result (is_short 11 number ≡ false) (λ asked. (is_short 11 number ≡ true) × (asked_meaning asked ≡ asks (command_read sizes.now 11 number bytes.now))) }
+    ensures value { MatchOption result (is_short 11 number ≡ false) (λ asked.
+        (is_short 11 number ≡ true)
+        × (asked_meaning asked ≡ asks (command_read sizes.now 11 number bytes.now))) }
     ensures short { IfSome result (λ asked. is_short_asked (asked_meaning asked) ≡ true) }
 {
     let thread = object(alloc, sizes, bytes);
@@ -89,7 +92,9 @@ fn read_clear(alloc: Global, sizes: &IdSizes, bytes: &[u8]) -> Asked
 
 /// What a command comes to that is read without memory; None where it is none of those.
 fn read_short(alloc: Global, set: u8, number: u8, sizes: &IdSizes, bytes: &[u8]) -> Option<Asked>
-    ensures value { MatchOption result (is_short set number ≡ false) (λ asked. (is_short set number ≡ true) × (asked_meaning asked ≡ asks (command_read sizes.now set number bytes.now))) }
+    ensures value { MatchOption result (is_short set number ≡ false) (λ asked.
+        (is_short set number ≡ true)
+        × (asked_meaning asked ≡ asks (command_read sizes.now set number bytes.now))) }
     ensures short { IfSome result (λ asked. is_short_asked (asked_meaning asked) ≡ true) }
 {
     match (set, number) {
@@ -116,7 +121,9 @@ fn read_short(alloc: Global, set: u8, number: u8, sizes: &IdSizes, bytes: &[u8])
 /// `NoMemory` where that is the fault.
 fn refused(fault: DataFault) -> Result<Asked, NoMemory>
     ensures memory { IfErr result (λ _. fault ≡ WantOfMemory) }
-    ensures value { (set number : ℕ) (found : Result (List DatumMeaning) DataFault) → Fails fault found → IfOk result (λ asked. asked_meaning asked ≡ asks (content_read set number found)) }
+    ensures value { (set number : ℕ) (found : Result (List DatumMeaning) DataFault)
+        → Fails fault found → IfOk result (λ asked. asked_meaning asked
+        ≡ asks (content_read set number found)) }
 {
     match fault {
         DataFault::NoMemory => Err(NoMemory),
@@ -159,8 +166,10 @@ pub fn read_command(
     sizes: &IdSizes,
     bytes: &[u8],
 ) -> Result<Asked, NoMemory>
-    ensures value { IfOk result (λ asked. asked_meaning asked ≡ asks (command_read sizes.now set number bytes.now)) }
-    ensures short { IfOk result (λ asked. is_short set number ≡ true → is_short_asked (asked_meaning asked) ≡ true) }
+    ensures value { IfOk result (λ asked. asked_meaning asked
+        ≡ asks (command_read sizes.now set number bytes.now)) }
+    ensures short { IfOk result (λ asked. is_short set number ≡ true
+        → is_short_asked (asked_meaning asked) ≡ true) }
     ensures memory { IfErr result (λ _. is_short set number ≡ false) }
     ensures reads { IfErr result (λ _. IsOk (command_read sizes.now set number bytes.now)) }
 {

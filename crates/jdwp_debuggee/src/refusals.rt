@@ -103,7 +103,8 @@ fn policy_refusal(byte: u8) -> Option<ErrorCode>
 
 /// A thread that is not alive.
 fn thread_refusal(threads: &Threads, thread: ObjectId) -> Option<ErrorCode>
-    ensures { result ≡ spec.unless (spec.is_some_count (count_in threads.now.list thread.0)) codes.INVALID_THREAD }
+    ensures { result ≡ spec.unless (spec.is_some_count (count_in threads.now.list thread.0))
+        codes.INVALID_THREAD }
 {
     unless(threads.is_live(thread), ErrorCode::INVALID_THREAD)
 }
@@ -115,7 +116,8 @@ fn class_refusal<M: Machine>(
     class: ReferenceTypeId,
     next: Option<ErrorCode>,
 ) -> Result<Option<ErrorCode>, NoMemory>
-    ensures { IfOk result (λ refusal. refusal ≡ spec.or_else (spec.class_refusal M.meaning machine.now class.0) next) }
+    ensures { IfOk result (λ refusal.
+        refusal ≡ spec.or_else (spec.class_refusal M.meaning machine.now class.0) next) }
 {
     let items = vec![in alloc; Datum::One(Scalar::ReferenceTypeId(class))]?;
     match ask(machine, REFERENCE_TYPE, SIGNATURE, items)? {
@@ -133,7 +135,8 @@ fn location_refusal<M: Machine>(
     location: Location,
     next: Option<ErrorCode>,
 ) -> Result<Option<ErrorCode>, NoMemory>
-    ensures { IfOk result (λ refusal. refusal ≡ spec.or_else (spec.location_refusal M.meaning machine.now location) next) }
+    ensures { IfOk result (λ refusal.
+        refusal ≡ spec.or_else (spec.location_refusal M.meaning machine.now location) next) }
 {
     // The question is a Set of a breakpoint there.
     let modifier = vec![in alloc; Scalar::Byte(LOCATION_ONLY), Scalar::Location(location)]?;
@@ -158,7 +161,8 @@ fn not_in(kinds: &[EventKind], byte: u8) -> Option<ErrorCode>
 
 /// A Step in a request of another kind, or of a size or depth that the specification does not name.
 fn step_refusal(byte: u8, size: i32, depth: i32) -> Option<ErrorCode>
-    ensures { result ≡ spec.unless (spec.is_kind kind.SingleStep byte && (spec.is_size size && spec.is_depth depth)) codes.ILLEGAL_ARGUMENT }
+    ensures { result ≡ spec.unless (spec.is_kind kind.SingleStep byte &&
+        (spec.is_size size && spec.is_depth depth)) codes.ILLEGAL_ARGUMENT }
 {
     unless(
         byte == EventKind::SingleStep.byte()
@@ -176,7 +180,8 @@ fn modifier_refusal<M: Machine>(
     byte: u8,
     modifier: &Modifier,
 ) -> Result<Option<ErrorCode>, NoMemory>
-    ensures value { IfOk result (λ refusal. refusal ≡ spec.modifier_refusal M.meaning (moment_of threads.now.list machine.now) byte (modifier_meaning modifier.now)) }
+    ensures value { IfOk result (λ refusal. refusal ≡ spec.modifier_refusal M.meaning
+        (moment_of threads.now.list machine.now) byte (modifier_meaning modifier.now)) }
     ensures memory { IfErr result (λ _. asks_machine (modifier_meaning modifier.now) ≡ true) }
 {
     match modifier {
@@ -221,8 +226,10 @@ fn modifiers_refusal<M: Machine>(
     modifiers: &[Modifier],
     next: Option<ErrorCode>,
 ) -> Result<Option<ErrorCode>, NoMemory>
-    ensures value { IfOk result (λ refusal. refusal ≡ spec.or_else (spec.modifiers_refusal M.meaning (moment_of threads.now.list machine.now) byte (map modifier_meaning modifiers.now)) next) }
-    ensures memory { IfErr result (λ _. list_any asks_machine (map modifier_meaning modifiers.now) ≡ true) }
+    ensures value { IfOk result (λ refusal. refusal ≡ spec.or_else (spec.modifiers_refusal M.meaning
+        (moment_of threads.now.list machine.now) byte (map modifier_meaning modifiers.now)) next) }
+    ensures memory { IfErr result (λ _. list_any asks_machine (map modifier_meaning modifiers.now)
+        ≡ true) }
 {
     for modifier in modifiers {
         let refusal = modifier_refusal(alloc, machine, threads, byte, modifier)?;
@@ -295,8 +302,11 @@ impl<M: Machine> Debuggee<M> {
         kind: u8,
         modifiers: &[Modifier],
     ) -> Result<Option<ErrorCode>, NoMemory>
-        ensures value { IfOk result (λ refusal. refusal ≡ late_refusal M.meaning self.now.moment kind (map modifier_meaning modifiers.now)) }
-        ensures memory { IfErr result (λ _. list_any asks_machine (map modifier_meaning modifiers.now) ≡ true) }
+        ensures value { IfOk result (λ refusal.
+            refusal ≡ late_refusal M.meaning self.now.moment kind
+            (map modifier_meaning modifiers.now)) }
+        ensures memory { IfErr result (λ _.
+            list_any asks_machine (map modifier_meaning modifiers.now) ≡ true) }
     {
         let last = shape_refusal(kind, modifiers);
         modifiers_refusal(alloc, &self.machine, &self.threads, kind, modifiers, last)
@@ -324,7 +334,9 @@ pub(crate) fn first_origin<M: Machine>(
     machine: &M,
     modifiers: &[Modifier],
 ) -> Result<StepOrigin, NoMemory>
-    ensures { IfOk result (λ origin. origin_meaning origin ≡ effects.first_origin M.meaning machine.now (effects.step_thread (map modifier_meaning modifiers.now))) }
+    ensures { IfOk result (λ origin. origin_meaning origin
+        ≡ effects.first_origin M.meaning machine.now (effects.step_thread
+        (map modifier_meaning modifiers.now))) }
 {
     match step_thread(modifiers) {
         Some(thread) => origin_of(alloc, machine, thread),

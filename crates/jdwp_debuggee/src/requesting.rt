@@ -52,7 +52,8 @@ impl<M: Machine> Debuggee<M> {
     /// # Errors
     /// `NoMemory` where an allocation was refused, and only where threads live; then nothing has changed.
     pub fn exit(&mut self, alloc: Global) -> Result<Reply, NoMemory>
-        ensures ok { IfOk result (λ reply. CarriesOut M.meaning action.Exit self.old self.new (reply_meaning reply)) }
+        ensures ok { IfOk result (λ reply. CarriesOut M.meaning action.Exit self.old self.new
+            (reply_meaning reply)) }
         ensures err { OnErr result (self.new ≡ self.old) }
         ensures memory { IfErr result (λ _. M.meaning.live self.old.moment.machine ≡ [] → ⊥) }
     {
@@ -77,9 +78,11 @@ impl<M: Machine> Debuggee<M> {
         policy: u8,
         entries: Vec<Vec<Scalar>>,
     ) -> Result<Reply, NoMemory>
-        ensures ok { IfOk result (λ reply. CarriesOut M.meaning (action.SetRequest kind policy (entry_meanings entries.items)) self.old self.new (reply_meaning reply)) }
+        ensures ok { IfOk result (λ reply. CarriesOut M.meaning (action.SetRequest kind policy
+            (entry_meanings entries.items)) self.old self.new (reply_meaning reply)) }
         ensures err { OnErr result (self.new ≡ self.old) }
-        ensures memory { IfErr result (λ _. early_refusal self.old.settings self.old.moment.state kind policy ≡ None) }
+        ensures memory { IfErr result (λ _. early_refusal self.old.settings self.old.moment.state
+            kind policy ≡ None) }
     {
         if let Some(error) = self.early_refusal(kind, policy) {
             return Ok(Reply::Refused(error));
@@ -102,8 +105,12 @@ impl<M: Machine> Debuggee<M> {
         policy: u8,
         modifiers: Vec<Modifier>,
     ) -> Result<Reply, NoMemory>
-        requires { set_refusal M.meaning self.old.settings self.old.moment kind policy (modifiers_meaning modifiers) ≡ None }
-        ensures ok { IfOk result (λ reply. (entries : List (List ScalarMeaning)) → modifiers_meaning modifiers ≡ modifiers_of entries → CarriesOut M.meaning (action.SetRequest kind policy entries) self.old self.new (reply_meaning reply)) }
+        requires { set_refusal M.meaning self.old.settings self.old.moment kind policy
+            (modifiers_meaning modifiers) ≡ None }
+        ensures ok { IfOk result (λ reply. (entries : List (List ScalarMeaning))
+            → modifiers_meaning modifiers ≡ modifiers_of entries
+            → CarriesOut M.meaning (action.SetRequest kind policy entries) self.old self.new
+            (reply_meaning reply)) }
         ensures err { OnErr result (self.new ≡ self.old) }
     {
         let origin = first_origin(alloc, &self.machine, modifiers.as_slice())?;

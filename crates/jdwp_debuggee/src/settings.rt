@@ -32,7 +32,8 @@ impl Settings {
     /// None exactly where the limit is outside 1 to 2,147,483,647.
     pub fn new(start_all: bool, count_limit: u32, limits: Limits) -> Option<Settings>
         ensures some { IsSome result ↔ IsCountLimit count_limit }
-        ensures same { IfSome result (λ s. s ≡ record { start_all = start_all; count_limit = count_limit; limits = limits }) }
+        ensures same { IfSome result (λ s.
+            s ≡ record { start_all = start_all; count_limit = count_limit; limits = limits }) }
     {
         if count_limit < 1 || count_limit > GREATEST_INT {
             return None;

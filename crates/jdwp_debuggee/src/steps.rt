@@ -125,9 +125,11 @@ impl<M: Machine> Debuggee<M> {
     /// thread's death was reported; then nothing has changed.
     pub fn step(&mut self, alloc: Global, thread: ObjectId) -> Result<Option<StepDone>, NoMemory>
         ensures exact { IfOk result (λ done. StepsOrNot M.meaning thread.0 self.old self.new done) }
-        ensures fits { IfOk result (λ done. SendFits (M.meaning.sizes self.old.moment.machine) self.old.settings.limits.packet done) }
+        ensures fits { IfOk result (λ done. SendFits (M.meaning.sizes self.old.moment.machine)
+            self.old.settings.limits.packet done) }
         ensures unchanged { OnErr result (self.new ≡ self.old) }
-        ensures memory { IfErr result (λ _. is_ready self.old.settings self.old.moment.state thread.0 ≡ true) }
+        ensures memory { IfErr result (λ _.
+            is_ready self.old.settings self.old.moment.state thread.0 ≡ true) }
         ensures unmarked { IfErr result (λ _. is_marked self.old.moment.state thread.0 ≡ false) }
     {
         if !self.is_ready(thread) {
@@ -153,7 +155,8 @@ impl<M: Machine> Debuggee<M> {
 
     /// Whether one thread more than there may be would start.
     fn is_full(&self, happening: &Happening) -> bool
-        ensures { result ≡ is_full_by (started happening.now) self.now.settings self.now.moment.state }
+        ensures { result ≡ is_full_by (started happening.now) self.now.settings
+            self.now.moment.state }
     {
         match thread_started(happening) {
             Some(_) => self.threads.len() >= self.settings.limits().live() as usize,
@@ -261,7 +264,8 @@ impl<M: Machine> Debuggee<M> {
         requires next { happening.now ≡ M.meaning.next self.old.moment.machine thread.0 }
         requires runs_on { runs_out happening.now ≡ false }
         requires sends { sends.now ≡ gathered happening.now self.old.moment.state.requests }
-        ensures ok { OnOk result (Steps M.meaning thread.0 self.old self.new (record { sends = sends.now; ends = false; dies = false })) }
+        ensures ok { OnOk result (Steps M.meaning thread.0 self.old self.new
+            (record { sends = sends.now; ends = false; dies = false })) }
         ensures err { OnErr result (self.new ≡ self.old) }
     {
         let started = thread_started(happening);

@@ -7,3 +7,4 @@ pub mod News
 pub mod DebuggerTurns
 pub mod Runs
 pub mod Judging
+pub mod TakingLaws

@@ -21,20 +21,20 @@ use thiserror::Error;
 #[derive(Clone, Copy, Debug, PartialEq, Eq, Error)]
 pub enum Refused {
     /// No session is open.
-    #[error("fault 33: the debugger is closed")]
+    #[error("fault 33: the session is closed")]
     Closed,
     /// The widths of ids are not known yet.
-    #[error("fault 31: the widths of ids are not known")]
+    #[error("fault 31: the widths of ids are not known yet")]
     NotReady,
     /// As many commands wait for replies as the limits allow, as many bytes wait to leave as a packet may have or more, or 2^64 - 1
     /// tickets were given.
     #[error("fault 32: too much waits")]
     Busy,
     /// It is no command of the sets 0 to 63 that the specification names, or its data are not those of the command.
-    #[error("fault 36: a bad command")]
+    #[error("fault 36: a command that no target has, or data that do not read in its layout")]
     BadCommand,
     /// Its packet would be longer than a packet may be.
-    #[error("fault 34: the command is too long")]
+    #[error("fault 34: a command longer than a packet may be")]
     TooLong,
     /// An allocation was refused.
     #[error("fault 35: no memory")]
@@ -89,7 +89,10 @@ pub(crate) enum Body<'a> {
 impl<'a> Body<'a> {
     /// What a command carries; None where it is none that the target may be asked, or its data don't fit.
     pub fn of(command: &'a Command, sizes: &IdSizes) -> Option<Body<'a>>
-        ensures { MatchOption result (is_for_target sizes.now command.now ≡ false) (λ b. (is_for_target sizes.now command.now ≡ true) × (body_bytes sizes.now b ≡ carried_bytes sizes.now command.now.carried) × (EncodesBody sizes.now b → EncodesCommand sizes.now command.now)) }
+        ensures { MatchOption result (is_for_target sizes.now command.now ≡ false) (λ b.
+            (is_for_target sizes.now command.now ≡ true)
+            × (body_bytes sizes.now b ≡ carried_bytes sizes.now command.now.carried)
+            × (EncodesBody sizes.now b → EncodesCommand sizes.now command.now)) }
     {
         if command.set() >= EVENT {
             return None;
@@ -119,7 +122,8 @@ impl<'a> Body<'a> {
     /// # Errors
     /// `NoMemory` where an allocation was refused.
     pub fn append(&self, sizes: &IdSizes, packet: &mut Vec<u8>) -> Result<(), NoMemory>
-        ensures bytes { OnOk result (packet.new.items ≡ packet.old.items ++ body_bytes sizes.now self.now) }
+        ensures bytes { OnOk result (packet.new.items
+            ≡ packet.old.items ++ body_bytes sizes.now self.now) }
         ensures encoded { OnOk result (EncodesBody sizes.now self.now) }
     {
         match self {
@@ -139,7 +143,12 @@ impl<'a> Body<'a> {
 
 /// Data of a layout; None where they don't fit it.
 fn laid_out<'a>(layout: Layout, items: &'a [Datum], sizes: &IdSizes) -> Option<Body<'a>>
-    ensures { MatchOption result (is_none (data_refusal sizes.now (shape layout) (meanings items.now)) ≡ false) (λ b. (data_refusal sizes.now (shape layout) (meanings items.now) ≡ None) × (body_bytes sizes.now b ≡ data_canonical sizes.now (meanings items.now)) × (EncodesBody sizes.now b → EncodesData sizes.now (shape layout) (meanings items.now) (data_canonical sizes.now (meanings items.now)))) }
+    ensures { MatchOption result (is_none (data_refusal sizes.now (shape layout)
+        (meanings items.now)) ≡ false) (λ b.
+        (data_refusal sizes.now (shape layout) (meanings items.now) ≡ None)
+        × (body_bytes sizes.now b ≡ data_canonical sizes.now (meanings items.now))
+        × (EncodesBody sizes.now b → EncodesData sizes.now (shape layout) (meanings items.now)
+        (data_canonical sizes.now (meanings items.now)))) }
 {
     match refusal(&layout, sizes, items) {
         None => Some(Body::Laid(layout, items)),
@@ -163,13 +172,17 @@ impl<'a> Admitted<'a> {
     /// # Errors
     /// `NoMemory` where an allocation was refused.
     pub fn packet(&self, alloc: Global, id: u32, command: &Command) -> Result<Vec<u8>, NoMemory>
-        requires bytes { body_bytes self.now.sizes self.now.body ≡ carried_bytes self.now.sizes command.now.carried }
+        requires bytes { body_bytes self.now.sizes self.now.body
+            ≡ carried_bytes self.now.sizes command.now.carried }
         requires size { self.now.size ≡ packet_length self.now.sizes command.now }
         requires fits { self.now.size < 2 ^ 32 }
-        ensures bytes { IfOk result (λ packet. packet.items ≡ command_bytes self.now.sizes id command.now) }
+        ensures bytes { IfOk result (λ packet. packet.items
+            ≡ command_bytes self.now.sizes id command.now) }
         ensures length { IfOk result (λ packet. length packet.items ≡ self.now.size) }
         ensures encoded { IfOk result (λ packet. EncodesBody self.now.sizes self.now.body) }
-        ensures sendable { (limit : ℕ) → self.now.size ≤ limit → IsPacket limit (command_header self.now.sizes id command.now) (carried_bytes self.now.sizes command.now.carried) }
+        ensures sendable { (limit : ℕ) → self.now.size ≤ limit
+            → IsPacket limit (command_header self.now.sizes id command.now)
+            (carried_bytes self.now.sizes command.now.carried) }
     {
         let header = Header {
             length: self.size as u32,

@@ -104,7 +104,8 @@ impl Debugger {
     /// Begins a session: both buffers are emptied, the handshake is to leave, nothing is known. False, and nothing changes, where a
     /// session is open or tickets of the last one wait for `lose`. Takes no memory.
     pub fn attach(&mut self) -> bool
-        ensures when { IsTrue result ↔ ((ends.is_open self.old.end ≡ false) × (has_tickets self.old.pending ≡ false)) }
+        ensures when { IsTrue result ↔ ((ends.is_open self.old.end ≡ false)
+            × (has_tickets self.old.pending ≡ false)) }
         ensures attached { IsTrue result → self.new ≡ attached self.old }
         ensures refused { result ≡ false → self.new ≡ self.old }
     {
@@ -129,8 +130,10 @@ impl Debugger {
     /// more, or 2^64 - 1 tickets were given; `BadCommand` where the sets 0 to 63 have no such command, or its data don't fit it;
     /// `TooLong` where its packet would have more bytes than one may have; `NoMemory` where an allocation was refused.
     pub fn ask(&mut self, alloc: Global, command: Command) -> Result<Ticket, Refused>
-        ensures ok { IfOk result (λ ticket. (refusal_of_ask self.old command ≡ None) × (ticket.0 ≡ self.old.tickets + 1) × HasAsked command self.old self.new) }
-        ensures err { IfErr result (λ e. (self.new ≡ self.old) × IsRefusal e (refusal_of_ask self.old command)) }
+        ensures ok { IfOk result (λ ticket. (refusal_of_ask self.old command ≡ None)
+            × (ticket.0 ≡ self.old.tickets + 1) × HasAsked command self.old self.new) }
+        ensures err { IfErr result (λ e. (self.new ≡ self.old)
+            × IsRefusal e (refusal_of_ask self.old command)) }
     {
         let id = next_free(&self.pending, self.next_id);
         let packet = self.packet_to_ask(alloc, id, &command)?;
@@ -303,18 +306,21 @@ impl Debugger {
     pub fn session(&self)
         ensures ran { Ran self.now }
         ensures pending { length self.now.pending ≤ self.now.end.limits.pending }
-        ensures limits { AreLimits self.now.end.limits.packet self.now.end.limits.live self.now.end.limits.requests self.now.end.limits.pending }
+        ensures limits { AreLimits self.now.end.limits.packet self.now.end.limits.live
+            self.now.end.limits.requests self.now.end.limits.pending }
         ensures parked { length self.now.parked ≤ PARKED_MOST }
         ensures distinct { AreDistinct self.now.pending }
         ensures own { AreOwn self.now.pending }
         ensures begins { self.now.end.phase ≡ AwaitingHandshake → Begins self.now }
-        ensures alone { ends.is_open self.now.end ≡ true → self.now.sizes ≡ None → IsSizesAlone self.now.pending }
+        ensures alone { ends.is_open self.now.end ≡ true → self.now.sizes ≡ None
+            → IsSizesAlone self.now.pending }
         ensures unlearned { self.now.sizes ≡ None → self.now.mirror ≡ empty_mirror }
         ensures unparked { (w : Widths) → self.now.sizes ≡ Some w → self.now.parked ≡ [] }
         ensures id { self.now.next_id < 2 ^ 32 }
         ensures bytes { IsBytes self.now.end.incoming }
         ensures flows { self.now.end.outgoing ≡ [] → ends.is_paused self.now.end ≡ false }
-        ensures room { front_of self.now.end ≡ More → ends.is_open self.now.end ≡ true → ends.is_paused self.now.end ≡ false → 0 < room_of self.now.end }
+        ensures room { front_of self.now.end ≡ More → ends.is_open self.now.end ≡ true
+            → ends.is_paused self.now.end ≡ false → 0 < room_of self.now.end }
     {
         self.end.invariants();
         let _id = self.next_id;

@@ -14,17 +14,17 @@ pub enum DebuggerFault {
     #[error("{0}")]
     Frame(FrameFault),
     /// A reply under an id under which no command waits.
-    #[error("fault 42: a reply to no outstanding command")]
+    #[error("fault 42: a reply to no command that waits")]
     UnknownReply,
     /// A reply without an error whose data do not read, or with a negative suspend count; one with an error and data; one to IDSizes
     /// with an error, or with a width outside 1 to 8.
-    #[error("fault 43: a bad reply")]
+    #[error("fault 43: a reply whose data do not read, or an error reply with data")]
     BadReply,
     /// A fifth composite before the widths of ids are known.
-    #[error("fault 44: too many events before the widths of ids are known")]
+    #[error("fault 44: more composites than may wait for the widths of ids")]
     TooManyParked,
     /// A command that is no composite, or a composite that no target may send.
-    #[error("fault 45: a bad event")]
+    #[error("fault 45: events that don't fit the suspend counts known, or another command")]
     BadEvent,
     /// An allocation was refused. Nothing changed.
     #[error("no memory")]

@@ -38,7 +38,8 @@ pub fn reads_what_was_asked()
 
 /// A composite that was sent is read as what was sent, whether it waited for the widths of ids or not. It does nothing.
 pub fn reads_what_was_reported()
-    ensures { (w : Widths) (c : CompositeMeaning) (code : List ℕ) → EncodesComposite w c code → composite_in w code ≡ Some c }
+    ensures { (w : Widths) (c : CompositeMeaning) (code : List ℕ) → EncodesComposite w c code
+        → composite_in w code ≡ Some c }
 {}
 
 /// A reply that was sent is read as the answer that was given to the command. It does nothing.
@@ -69,7 +70,8 @@ pub fn reads_id_sizes_at_any_widths()
 pub fn reads_widths()
     ensures read { (w : Widths) → AreWidths w.field w.method w.object w.reference w.frame
         → answer_in EIGHT id_sizes NONE (answer_bytes w (sizes_answer w)) ≡ Some (sizes_answer w) }
-    ensures widths { (w : Widths) → AreWidths w.field w.method w.object w.reference w.frame → widths_in (sizes_answer w) ≡ Some w }
+    ensures widths { (w : Widths) → AreWidths w.field w.method w.object w.reference w.frame
+        → widths_in (sizes_answer w) ≡ Some w }
 {
     reads_what_is_encoded();
 }

@@ -11,6 +11,7 @@ mod news;
 mod parked;
 mod pending;
 mod reading;
+mod session_end;
 mod turning;
 
 pub use asking::Refused;

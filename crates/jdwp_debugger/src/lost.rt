@@ -9,7 +9,7 @@ use std::marker::Model;
 const MOST: usize = 1_024;
 
 /// The tickets that were neither answered nor lost before, in the order asked: at most 1,024. It takes no memory.
-#[derive(Drop)]
+#[derive(Debug, Drop)]
 pub struct Lost {
     tickets: [Ticket; MOST],
     count: usize,

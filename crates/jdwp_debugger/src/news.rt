@@ -46,7 +46,8 @@ pub(crate) fn read_composite(
 
 /// What is the matter with an event whose data do not read.
 fn event_fault(fault: DataFault) -> DebuggerFault
-    ensures { (found : Result (CompositeMeaning × List ℕ) DataFault) → reading.Fails fault found → Fails result (required code.BadEvent (whole found)) }
+    ensures { (found : Result (CompositeMeaning × List ℕ) DataFault) → reading.Fails fault found
+        → Fails result (required code.BadEvent (whole found)) }
 {
     match fault {
         DataFault::NoMemory => DebuggerFault::NoMemory,
@@ -69,7 +70,8 @@ pub(crate) fn read_parked(
     sizes: &IdSizes,
     parked: &[Parked],
 ) -> Result<Vec<Composite>, DebuggerFault>
-    ensures { Tells (λ v. v.items) result (required code.BadEvent (composites_in sizes.now parked.now)) }
+    ensures { Tells (λ v. v.items) result (required code.BadEvent
+        (composites_in sizes.now parked.now)) }
 {
     let mut composites = Vec::new(alloc);
     for waiting in parked {
@@ -91,7 +93,8 @@ pub(crate) fn read_answer(
     error: ErrorCode,
     bytes: &[u8],
 ) -> Result<Answer, DebuggerFault>
-    ensures value { Tells (λ a. a) result (required code.BadReply (unless_bad command.now (answer_in sizes.now command.now error bytes.now))) }
+    ensures value { Tells (λ a. a) result (required code.BadReply (unless_bad command.now
+        (answer_in sizes.now command.now error bytes.now))) }
     ensures memory { IsErrOf result code.NoMemory → error.0 ≡ NONE.0 }
     ensures without_error { IfOk result (λ a. IsData a → error.0 ≡ NONE.0) }
 {
@@ -110,7 +113,8 @@ fn read_any_answer(
     error: ErrorCode,
     bytes: &[u8],
 ) -> Result<Answer, DebuggerFault>
-    ensures value { Tells (λ a. a) result (required code.BadReply (answer_in sizes.now command.now error bytes.now)) }
+    ensures value { Tells (λ a. a) result (required code.BadReply
+        (answer_in sizes.now command.now error bytes.now)) }
     ensures memory { IsErrOf result code.NoMemory → error.0 ≡ NONE.0 }
     ensures without_error { IfOk result (λ a. IsData a → error.0 ≡ NONE.0) }
 {
@@ -139,7 +143,8 @@ fn read_data(
     sizes: &IdSizes,
     bytes: &[u8],
 ) -> Result<Answer, DebuggerFault>
-    ensures { Tells (λ a. a) result (required code.BadReply (data_by sizes.now (found_layout layout) bytes.now)) }
+    ensures { Tells (λ a. a) result (required code.BadReply (data_by sizes.now
+        (found_layout layout) bytes.now)) }
 {
     let Some(layout) = layout else {
         let items = raw_items(alloc, bytes)?;
@@ -153,7 +158,8 @@ fn read_data(
 
 /// What is the matter with a reply whose data do not read.
 fn reply_fault(fault: DataFault) -> DebuggerFault
-    ensures { (found : Result (List DatumMeaning) DataFault) → reading.Fails fault found → Fails result (required code.BadReply (content_in found)) }
+    ensures { (found : Result (List DatumMeaning) DataFault) → reading.Fails fault found
+        → Fails result (required code.BadReply (content_in found)) }
 {
     match fault {
         DataFault::NoMemory => DebuggerFault::NoMemory,
@@ -176,7 +182,8 @@ fn raw_items(alloc: Global, bytes: &[u8]) -> Result<Vec<Datum>, NoMemory>
 }
 
 fn raw_entries(alloc: Global, bytes: &[u8]) -> Result<Vec<Vec<Scalar>>, NoMemory>
-    ensures { IfOk result (λ entries. entry_meanings entries.items ≡ map (λ (b : ℕ). Byte b ∷ []) bytes.now) }
+    ensures { IfOk result (λ entries. entry_meanings entries.items ≡ map (λ (b : ℕ).
+        Byte b ∷ []) bytes.now) }
 {
     let mut entries = Vec::with_capacity(alloc, bytes.len())?;
     for byte in bytes {

@@ -70,9 +70,11 @@ impl<'a> Known<'a> {
 
     /// What a packet says by its bytes.
     fn read_packet(&self, alloc: Global, packet: &PacketRef<'_>) -> Result<News, DebuggerFault>
-        ensures value { Tells news_meaning result (says (reading self.now) packet.now.header.id packet.now.header.kind packet.now.body.now) }
+        ensures value { Tells news_meaning result (says (reading self.now) packet.now.header.id
+            packet.now.header.kind packet.now.body.now) }
         ensures memory { IsErrOf result code.NoMemory → MayWantMemory packet.now.header.kind }
-        ensures wants { IfOk result (λ n. WantsMemory (news_meaning n) → MayWantMemory packet.now.header.kind) }
+        ensures wants { IfOk result (λ n. WantsMemory (news_meaning n)
+            → MayWantMemory packet.now.header.kind) }
     {
         match packet.header.kind {
             PacketKind::Command { set, number } => {
@@ -90,7 +92,8 @@ impl<'a> Known<'a> {
 
     /// What a composite says.
     fn read_event(&self, alloc: Global, bytes: &[u8]) -> Result<News, DebuggerFault>
-        ensures { Tells news_meaning result (event_says self.now.sizes self.now.parked.now bytes.now) }
+        ensures { Tells news_meaning result
+            (event_says self.now.sizes self.now.parked.now bytes.now) }
     {
         let Some(sizes) = self.sizes else {
             if self.parked.len() == MOST_PARKED {
@@ -112,7 +115,8 @@ impl<'a> Known<'a> {
         bytes: &[u8],
     ) -> Result<News, DebuggerFault>
         requires { place < length self.now.pending.now }
-        ensures value { Tells news_meaning result (reply_to (reading self.now) error bytes.now place (slice_get self.now.pending.now place)) }
+        ensures value { Tells news_meaning result (reply_to (reading self.now) error bytes.now place
+            (slice_get self.now.pending.now place)) }
         ensures memory { IsErrOf result code.NoMemory → error.0 ≡ NONE.0 }
         ensures wants { IfOk result (λ n. WantsMemory (news_meaning n) → error.0 ≡ NONE.0) }
     {
@@ -129,7 +133,8 @@ impl<'a> Known<'a> {
         ticket: Option<Ticket>,
         answer: Answer,
     ) -> Result<News, DebuggerFault>
-        ensures value { Tells news_meaning result (answer_says self.now.parked.now place ticket (Some answer)) }
+        ensures value { Tells news_meaning result (answer_says self.now.parked.now place ticket
+            (Some answer)) }
         ensures memory { IsErrOf result code.NoMemory → IsData answer }
         ensures wants { IfOk result (λ n. WantsMemory (news_meaning n) → IsData answer) }
     {
@@ -154,7 +159,8 @@ impl<'a> Known<'a> {
 
     /// What the answer to IDSizes says.
     fn read_sizes(&self, alloc: Global, place: usize, answer: Answer) -> Result<News, DebuggerFault>
-        ensures value { Tells news_meaning result (sizes_say self.now.parked.now place answer (widths_in answer)) }
+        ensures value { Tells news_meaning result (sizes_say self.now.parked.now place answer
+            (widths_in answer)) }
         ensures memory { IsErrOf result code.NoMemory → IsData answer }
         ensures wants { IfOk result (λ n. WantsMemory (news_meaning n) → IsData answer) }
     {

@@ -33,7 +33,7 @@ use jdwp_wire::{HANDSHAKE, Header, IdSizes, PacketKind};
 use std::alloc::Global;
 
 /// What a turn read.
-#[derive(Drop)]
+#[derive(Debug, Drop)]
 pub enum Read {
     /// Nothing: the end is closed or paused, or no message is whole.
     Nothing,
@@ -80,7 +80,9 @@ impl Debugger {
     fn handle_packet(&mut self, alloc: Global, used: usize) -> Result<Read, DebuggerFault>
         requires front { HasPacket used self.old.end }
         requires bytes { IsBytes self.old.end.incoming }
-        ensures { (header : Header) (body : List ℕ) → front_of self.old.end ≡ Whole (Packet header body) used → HandlesAt (Packet header body) used self.old result self.new }
+        ensures { (header : Header) (body : List ℕ) → front_of self.old.end
+            ≡ Whole (Packet header body) used
+            → HandlesAt (Packet header body) used self.old result self.new }
     {
         let limits = self.end.limits();
         let known = Known {
@@ -124,7 +126,8 @@ impl Debugger {
     ) -> Result<Read, DebuggerFault>
         requires said { IsSaid self.old header used (news_meaning news) }
         requires bytes { IsBytes self.old.end.incoming }
-        ensures { (body : List ℕ) → front_of self.old.end ≡ Whole (Packet header body) used → EntersAt header body used (news_meaning news) self.old result self.new }
+        ensures { (body : List ℕ) → front_of self.old.end ≡ Whole (Packet header body) used
+            → EntersAt header body used (news_meaning news) self.old result self.new }
     {
         match news {
             News::Waits(body) => self.park(header, used, body),
@@ -148,7 +151,9 @@ impl Debugger {
     fn park(&mut self, header: Header, used: usize, body: Vec<u8>) -> Result<Read, DebuggerFault>
         requires said { IsSaid self.old header used (news.Waits body.items) }
         requires bytes { IsBytes self.old.end.incoming }
-        ensures ok { IfOk result (λ r. (content : List ℕ) → front_of self.old.end ≡ Whole (Packet header content) used → Enters (Packet header content) used header (news.Waits body.items) self.old (told r) self.new) }
+        ensures ok { IfOk result (λ r. (content : List ℕ) → front_of self.old.end
+            ≡ Whole (Packet header content) used → Enters (Packet header content) used header
+            (news.Waits body.items) self.old (told r) self.new) }
         ensures err { IfErr result (λ fault. (fault ≡ code.NoMemory) × (self.new ≡ self.old)) }
     {
         self.parked.push(Parked { header, body })?;
@@ -166,7 +171,8 @@ impl Debugger {
     ) -> Result<Read, DebuggerFault>
         requires said { IsSaid self.old header used (news.Happens composite) }
         requires bytes { IsBytes self.old.end.incoming }
-        ensures { (content : List ℕ) → front_of self.old.end ≡ Whole (Packet header content) used → EntersAt header content used (news.Happens composite) self.old result self.new }
+        ensures { (content : List ℕ) → front_of self.old.end ≡ Whole (Packet header content) used
+            → EntersAt header content used (news.Happens composite) self.old result self.new }
     {
         if is_bad_composite(&self.mirror, &composite) {
             return self.fail(DebuggerFault::BadEvent);
@@ -191,7 +197,10 @@ impl Debugger {
     ) -> Result<Read, DebuggerFault>
         requires said { IsSaid self.old packet.0 packet.1 (news.Answers place ticket.0 answer) }
         requires bytes { IsBytes self.old.end.incoming }
-        ensures { (content : List ℕ) → front_of self.old.end ≡ Whole (Packet packet.0 content) packet.1 → EntersAt packet.0 content packet.1 (news.Answers place ticket.0 answer) self.old result self.new }
+        ensures { (content : List ℕ) → front_of self.old.end
+            ≡ Whole (Packet packet.0 content) packet.1
+            → EntersAt packet.0 content packet.1 (news.Answers place ticket.0 answer) self.old
+            result self.new }
     {
         let command = &self.pending[place].command;
         self.mirror.learn_reply(alloc, command, &answer)?;
@@ -214,8 +223,11 @@ impl Debugger {
         composites: &[Composite],
     ) -> Result<Mirror, DebuggerFault>
         requires { place < length self.now.pending }
-        ensures ok { IfOk result (λ m. (has_bad_event none_known (reports composites.now) ≡ false) × LearnedAll empty_mirror (reports composites.now ++ Reply None (command_at place self.now.pending) answer.now ∷ []) m) }
-        ensures err { IfErr result (λ fault. FailsOnly fault (has_bad_event none_known (reports composites.now))) }
+        ensures ok { IfOk result (λ m. (has_bad_event none_known (reports composites.now) ≡ false)
+            × LearnedAll empty_mirror (reports composites.now ++ Reply None
+            (command_at place self.now.pending) answer.now ∷ []) m) }
+        ensures err { IfErr result (λ fault.
+            FailsOnly fault (has_bad_event none_known (reports composites.now))) }
     {
         let mut mirror = Mirror::new(alloc);
         learn_each(&mut mirror, composites)?;
@@ -233,9 +245,12 @@ impl Debugger {
         sizes: IdSizes,
         closes: bool,
     )
-        requires said { (answer : Answer) × (composites : List CompositeMeaning) × IsSaid self.old header used (news.Measures place answer sizes composites) }
+        requires said { (answer : Answer) × (composites : List CompositeMeaning)
+            × IsSaid self.old header used (news.Measures place answer sizes composites) }
         requires bytes { IsBytes self.old.end.incoming }
-        ensures { (content : List ℕ) → front_of self.old.end ≡ Whole (Packet header content) used → self.new ≡ measured_where closes sizes (with_sizes (Packet header content) used header place mirror sizes self.old) }
+        ensures { (content : List ℕ) → front_of self.old.end ≡ Whole (Packet header content) used
+            → self.new ≡ measured_where closes sizes (with_sizes (Packet header content) used header
+            place mirror sizes self.old) }
     {
         self.end.take_off(used);
         self.last.clear();
@@ -321,8 +336,10 @@ fn sizes_header(id: u32) -> Header
 /// # Errors
 /// `BadEvent` where no target may send one of them; `NoMemory` where an allocation was refused.
 fn learn_each(mirror: &mut Mirror, composites: &[Composite]) -> Result<(), DebuggerFault>
-    ensures ok { OnOk result ((has_bad_event (count_in mirror.old.threads) (reports composites.now) ≡ false) × LearnedAll mirror.old (reports composites.now) mirror.new) }
-    ensures err { IfErr result (λ fault. FailsOnly fault (has_bad_event (count_in mirror.old.threads) (reports composites.now))) }
+    ensures ok { OnOk result ((has_bad_event (count_in mirror.old.threads) (reports composites.now)
+        ≡ false) × LearnedAll mirror.old (reports composites.now) mirror.new) }
+    ensures err { IfErr result (λ fault.
+        FailsOnly fault (has_bad_event (count_in mirror.old.threads) (reports composites.now))) }
 {
     match composites {
         [] => Ok(()),

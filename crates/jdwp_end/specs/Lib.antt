@@ -4,3 +4,4 @@ pub mod Runs
 pub mod Kept
 pub mod FrontLaws
 pub mod CarryingLaws
+pub mod TakingLaws

@@ -148,7 +148,8 @@ impl End {
     /// An open end that is not paused and asks for more has room for a byte.
     pub fn front(&self) -> Front
         ensures front { TellsFront result (front_of self.now) }
-        ensures room { front_of self.now ≡ More → ends.is_open self.now ≡ true → ends.is_paused self.now ≡ false → 0 < room_of self.now }
+        ensures room { front_of self.now ≡ More → ends.is_open self.now ≡ true
+            → ends.is_paused self.now ≡ false → 0 < room_of self.now }
         ensures bytes { IsBytes self.now.incoming }
         ensures least { least_packet_limit ≤ self.now.limits.packet }
         ensures most { self.now.limits.packet ≤ most_packet_limit }
@@ -178,7 +179,9 @@ impl End {
     pub fn packet_in_front(&self, used: usize) -> &[u8]
         requires { HasPacket used self.now }
         ensures bytes { result.now ≡ take used self.now.incoming }
-        ensures packet { (header : Header) (body : List ℕ) → front_of self.now ≡ Whole (Packet header body) used → front self.now.limits.packet result.now ≡ frames.Whole header body used }
+        ensures packet { (header : Header) (body : List ℕ)
+            → front_of self.now ≡ Whole (Packet header body) used
+            → front self.now.limits.packet result.now ≡ frames.Whole header body used }
     {
         let arrived = self.incoming.as_slice();
         are_bytes(arrived);
@@ -190,7 +193,8 @@ impl End {
     pub fn invariants(&self)
         ensures bytes { IsBytes self.now.incoming }
         ensures flows { self.now.outgoing ≡ [] → ends.is_paused self.now ≡ false }
-        ensures room { front_of self.now ≡ More → ends.is_open self.now ≡ true → ends.is_paused self.now ≡ false → 0 < room_of self.now }
+        ensures room { front_of self.now ≡ More → ends.is_open self.now ≡ true
+            → ends.is_paused self.now ≡ false → 0 < room_of self.now }
     {
         are_bytes(self.incoming.as_slice());
     }
@@ -198,7 +202,8 @@ impl End {
     /// Takes the message in front off, which takes so many bytes: it is handled.
     pub fn take_off(&mut self, used: usize)
         requires { (message : Message) × (front_of self.old ≡ Whole message used) }
-        ensures { (message : Message) → front_of self.old ≡ Whole message used → self.new ≡ with_handled message used self.old }
+        ensures { (message : Message) → front_of self.old ≡ Whole message used
+            → self.new ≡ with_handled message used self.old }
     {
         let bytes = self.incoming.as_slice();
         are_bytes(bytes);
@@ -219,9 +224,12 @@ impl End {
     /// Enqueues a value to leave. It takes no memory.
     pub fn put<T: Wire>(&mut self, value: &T, sizes: &IdSizes)
         requires writable { T.refusal sizes.now (T.meaning value.now) ≡ None }
-        requires room { length self.old.outgoing + length (T.canonical sizes.now (T.meaning value.now)) ≤ most_outgoing self.old.limits }
-        ensures enqueued { self.new ≡ with_enqueued (T.canonical sizes.now (T.meaning value.now)) self.old }
-        ensures encoded { T.encodes sizes.now (T.meaning value.now) (T.canonical sizes.now (T.meaning value.now)) }
+        requires room { length self.old.outgoing + length (T.canonical sizes.now
+            (T.meaning value.now)) ≤ most_outgoing self.old.limits }
+        ensures enqueued { self.new ≡ with_enqueued (T.canonical sizes.now
+            (T.meaning value.now)) self.old }
+        ensures encoded { T.encodes sizes.now (T.meaning value.now) (T.canonical sizes.now
+            (T.meaning value.now)) }
     {
         let before = self.outgoing.len();
         self.outgoing.put(value, sizes);

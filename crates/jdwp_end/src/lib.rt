@@ -7,8 +7,10 @@ mod front;
 mod laws;
 mod phase;
 mod session;
+mod session_end;
 
 pub use end::End;
 pub use front::Front;
 pub use laws::finds_first_message;
 pub use phase::Phase;
+pub use session_end::SessionEnd;

@@ -56,7 +56,8 @@ impl Session {
 
     /// A message of these bytes was handled.
     pub fn handle(&mut self, bytes: &[u8])
-        ensures { self.new ≡ record self.old { handled = self.old.handled ++ bytes.now; turns = self.old.turns + 1 } }
+        ensures { self.new ≡ record
+            self.old { handled = self.old.handled ++ bytes.now; turns = self.old.turns + 1 } }
     {
         self.handled.extend(bytes);
         self.turns.push(&());

@@ -1,6 +1,5 @@
 pub mod Advancing
 pub mod Fronts
-pub mod Known
 pub mod Onward
 pub mod Rounding
 pub mod Runs

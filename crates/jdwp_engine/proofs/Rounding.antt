@@ -5,15 +5,16 @@ use Rattle.jdwp_end.specs.Ends.{front_of, is_open}
 use Rattle.jdwp_machine.specs.Meanings.{Meaning}
 use Rattle.jdwp_target.specs.declared.target.TargetFault.{TargetFault}
 use Rattle.jdwp_target.specs.Targets.{Target, Ran}
-use Rattle.jdwp_engine.specs.declared.ended.Ended.{Ended}
-use Rattle.jdwp_engine.specs.declared.ended.Ended.TheVariants.{Done, LostByRead, LostByWrite, Refused, NoMemory, TurnLimit}
+use Rattle.jdwp_pipe.specs.declared.ended.Ended.{Ended}
+use Rattle.jdwp_pipe.specs.declared.ended.Ended.TheVariants.{Done, LostByRead, LostByWrite, Refused, NoMemory, TurnLimit}
+use Rattle.jdwp_pipe.specs.Endings.{unflushed_end}
+use Rattle.jdwp_pipe.specs.Story.{Story, flushed}
 use Rattle.jdwp_engine.specs.declared.serving.Next.{Next}
 use Rattle.jdwp_engine.specs.declared.serving.Next.TheVariants.{Goes, Ends}
 use Rattle.jdwp_engine.specs.Next.{IfEnds}
 use Rattle.jdwp_engine.specs.Rounds.{StepsEach}
-use Rattle.jdwp_engine.specs.Run.{LosesAtRead, LosesAtWrite, WritesAll, flushed}
-use Rattle.jdwp_engine.specs.Sessions.{LastRound, Moves, Steps, CantRead, CantWrite, Closes, unflushed_end}
-use Rattle.jdwp_engine.specs.Story.{Story}
+use Rattle.jdwp_engine.specs.Run.{LosesAtRead, LosesAtWrite, WritesAll}
+use Rattle.jdwp_engine.specs.Sessions.{LastRound, Moves, Steps, CantRead, CantWrite, Closes}
 
 -- a step of each live thread, behind a flush
 pub moved : {S : Type 0} (m : Meaning S) (old mid : Target S) (before now : Story) (came : Result Bool TargetFault) → front_of old.end ≡ More → StepsEach m None old came mid → now ≡ flushed before

@@ -1,15 +1,15 @@
 -- How the facts of an engine's run go on from one call to the next.
-use Rattle.std.proofs.Common.{◌≡◌, ◌≢◌, ◌∙◌, ℕ, ◌≤◌, ◌++◌, List, [], ◌∷◌, length, Bool, true, false, Ok, Err, ◌⊎◌, inl, inr, min, nat_le, take, drop, sym, ap, refl, subst, append_assoc, arith}
+use Rattle.std.proofs.Common.{◌≡◌, ◌≢◌, ◌∙◌, ℕ, ◌≤◌, ◌++◌, List, [], ◌∷◌, length, Bool, true, false, Ok, Err, ◌⊎◌, inl, inr, nat_le, take, drop, sym, ap, refl, subst, append_assoc, arith}
 use Rattle.std.proofs.lemmas.Bool.{leb-false, lt-leb}
 use Rattle.std.proofs.lemmas.Grind.{common_steps}
-use Rattle.std.proofs.lemmas.List.{append-nil, length-drop, length-take, length-append, take_at, take-append-drop, take_all, drop-drop}
+use Rattle.std.proofs.lemmas.List.{append-nil, length-drop, take_all}
 use Rattle.jdwp_wire.specs.Bytes.{IsBytes}
 use Rattle.jdwp_wire.specs.FaultNumbers.{fault_number}
 use Rattle.jdwp_wire.specs.Streams.{Message, More}
 use Rattle.jdwp_wire.specs.declared.frame.FrameFault.{FrameFault}
 use Rattle.jdwp_end.specs.Ends.{front_of, is_open, is_paused, next_of}
 use Rattle.jdwp_end.specs.Ends as ends
-use Rattle.jdwp_end.specs.Runs.{Carries}
+use Rattle.jdwp_end.specs.Runs.{Carries, IsFront}
 use Rattle.jdwp_end.specs.CarryingLaws.{carries-taken}
 use Rattle.jdwp_end.specs.FrontLaws.{front-fault, front-next, front-whole}
 use Rattle.jdwp_machine.specs.Meanings.{Meaning}
@@ -20,31 +20,28 @@ use Rattle.jdwp_target.specs.Closings.{ClosesForReason}
 use Rattle.jdwp_target.specs.Standings.{handled}
 use Rattle.jdwp_target.specs.Targets.{Target, Ran, lost, opened, with_fed, with_taken}
 use Rattle.jdwp_target.specs.Turns.{TurnsAt}
-use Rattle.jdwp_engine.specs.declared.ended.Ended.{Ended}
-use Rattle.jdwp_engine.specs.declared.ended.Ended.TheVariants.{Done, LostByRead, LostByWrite, Refused, TurnLimit}
-use Rattle.jdwp_engine.specs.declared.ended.Ended.TheVariants as ended
+use Rattle.jdwp_pipe.specs.declared.ended.Ended.{Ended}
+use Rattle.jdwp_pipe.specs.declared.ended.Ended.TheVariants as ended
+use Rattle.jdwp_pipe.specs.declared.ended.Ended.TheVariants.{Done, LostByRead, LostByWrite, Refused, TurnLimit}
+use Rattle.jdwp_pipe.specs.Story.{FailsFlush, FailsRead, FailsWrite, Story, flushed, with_read, with_written}
 use Rattle.jdwp_engine.specs.declared.serving.Next.{Next}
 use Rattle.jdwp_engine.specs.declared.serving.Next.TheVariants.{Goes, Ends}
 use Rattle.jdwp_engine.specs.Next.{IfEnds}
 use Rattle.jdwp_engine.specs.Outcome.{CallsForMemory, EndsSo, FrontIs, IsFaultOf, IsLost, MayEnd, MayStep}
-use Rattle.jdwp_engine.specs.Run.{FailsFlush, FailsRead, FailsWrite, GoesOn, InOrder, IsGoing, LosesAtRead, LosesAtWrite, ReadsMore, WritesAll, cost, flushed, with_read, with_written}
+use Rattle.jdwp_engine.specs.Run.{GoesOn, InOrder, IsGoing, LosesAtRead, LosesAtWrite, ReadsMore, WritesAll, cost}
 use Rattle.jdwp_engine.specs.Steps.{Advances, StepsIf, StepsOn}
-use Rattle.jdwp_engine.specs.Story.{Story}
 use Rattle.jdwp_engine.proofs.Advancing.{HasEnded, message-advances}
 use Rattle.jdwp_engine.proofs.Fronts.{front-left}
 use Rattle.jdwp_engine.proofs.Turns.{frame-Fault, handled-Whole, no_memory-Whole}
 
 -- ---- a write that fails
 
-pub fails-after : (s t : Story) (done chunk more whole : List ℕ) → whole ≡ done ++ chunk ++ more → FailsWrite (with_written done s) t chunk → FailsWrite s t whole
-fails-after s t done chunk more whole e f =
+-- of what was taken of some bytes some was written: a beginning of all of them
+pub fails-whole : (s t : Story) (taken whole : List ℕ) → IsFront taken whole → FailsWrite s t taken → FailsWrite s t whole
+fails-whole s t taken whole front f =
     let w = f.written in
     record {
-      written = (
-        done ++ w.0,
-        w.1 ∙ append_assoc s.written done w.0,
-        (w.2.0 ++ more, grind (arith, common_steps, e, w.2.1, append_assoc)),
-      );
+      written = (w.0, w.1, (w.2.0 ++ front.0, front.1 ∙ ap (λ (x : List ℕ). x ++ front.0) w.2.1 ∙ append_assoc w.0 w.2.0 front.0));
       failed_writes = f.failed_writes;
       read = f.read;
       early = f.early;
@@ -182,20 +179,6 @@ lost-in-order base start s target k = stays-in-order base start s s target (lost
 
 same-in-order : {S : Type 0} (base : Target S) (start s : Story) (target : Target S) → IsGoing base start s target → InOrder base start s target
 same-in-order base start s target k = stays-in-order base start s s target target k refl refl refl refl refl refl refl refl
-
--- ---- bytes that leave
-
--- the front of the buffer, into which they were taken, and then what waits
-pub taken-front : (done out buffer out' : List ℕ) (count : ℕ) → count ≡ min (length buffer) (length out) → out' ≡ take count out ++ drop count buffer
-    → done ++ out ≡ done ++ take count out' ++ drop count out
-taken-front done out buffer out' count counts e =
-    let fits : length (take count out) ≡ count = omega (arith, counts, length-take count out) in
-    let front : take count out' ≡ take count out = ap (λ (xs : List ℕ). take count xs) e ∙ take_at (take count out) (drop count buffer) count fits in
-    ap (λ (xs : List ℕ). done ++ xs) (sym (take-append-drop count out) ∙ ap (λ (xs : List ℕ). xs ++ drop count out) (sym front))
-    ∙ sym (append_assoc done (take count out') (drop count out))
-
-pub taken-again : {S : Type 0} (old now new : Target S) (done more : List ℕ) → now ≡ with_taken done old → new ≡ with_taken more now → new ≡ with_taken (done ++ more) old
-taken-again old now new done more e h = rw (h, e) (grind (arith, common_steps, append_assoc, drop-drop, length-append))
 
 -- ---- rounds
 

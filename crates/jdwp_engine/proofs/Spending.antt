@@ -8,12 +8,12 @@ use Rattle.jdwp_target.specs.declared.target.TargetFault.{TargetFault}
 use Rattle.jdwp_target.specs.declared.target.Turn.{Turn}
 use Rattle.jdwp_target.specs.Targets.{Target, opened}
 use Rattle.jdwp_target.specs.Turns.{StepsWhere, TurnsAt, is_frozen}
-use Rattle.jdwp_engine.specs.declared.ended.Ended.{Ended}
-use Rattle.jdwp_engine.specs.declared.ended.Ended.TheVariants.{Done, LostByRead, LostByWrite, Refused, NoMemory, TurnLimit}
+use Rattle.jdwp_pipe.specs.declared.ended.Ended.{Ended}
+use Rattle.jdwp_pipe.specs.declared.ended.Ended.TheVariants.{Done, LostByRead, LostByWrite, Refused, NoMemory, TurnLimit}
+use Rattle.jdwp_pipe.specs.Story.{Story}
 use Rattle.jdwp_engine.specs.Rounds.{StepsEach, Over, Wants}
 use Rattle.jdwp_engine.specs.Rounds as rounds
 use Rattle.jdwp_engine.specs.Sessions.{LastRound, Moves, Round, Rounds, Runs, Serves, Turns, Steps, Writes, Reads, Closes, CantWrite, CantFlush, CantRead, Faults, WantsToTurn, WantsToStep, NoRound, OneMore, All, Until, Leaves, Stays, unflushed_target}
-use Rattle.jdwp_engine.specs.Story.{Story}
 
 -- turns that handled a message, and reads with room
 abbrev turns : {S : Type 0} → Target S → ℕ

@@ -4,5 +4,3 @@ pub mod Rounds
 pub mod Run
 pub mod Sessions
 pub mod Steps
-pub mod Story
-pub mod Streams

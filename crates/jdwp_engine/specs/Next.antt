@@ -1,5 +1,5 @@
 -- What an engine does after a round.
-use Rattle.jdwp_engine.specs.declared.ended.Ended.{Ended}
+use Rattle.jdwp_pipe.specs.declared.ended.Ended.{Ended}
 use Rattle.jdwp_engine.specs.declared.serving.Next.{Next}
 use Rattle.jdwp_engine.specs.declared.serving.Next.TheVariants.{Goes, Ends}
 

@@ -6,7 +6,7 @@ use Rattle.jdwp_end.specs.Runs.{IsFront}
 use Rattle.jdwp_machine.specs.Meanings.{Meaning}
 use Rattle.jdwp_target.specs.Standings.{stands}
 use Rattle.jdwp_target.specs.Targets.{Target, Ran, lost, with_fed, with_taken}
-use Rattle.jdwp_engine.specs.Story.{Story}
+use Rattle.jdwp_pipe.specs.Story.{FailsRead, FailsWrite, Story, with_read, with_written}
 
 -- From this target and this story on: the session began at its moment, the target was fed what was read, in order, what was written
 -- is a beginning of what the target enqueued, and all of it where no write failed, and before each read all that was written had left.
@@ -33,51 +33,18 @@ pub record IsGoing {S : Type 0} (base : Target S) (start now : Story) (target : 
   pub ends : now.ends ≡ start.ends
   pub prompt : now.early ≡ start.early
 
--- all of the bytes were written, and nothing else happened: they stand in a buffer, or left
-abbrev pub with_written : List ℕ → Story → Story
-with_written bytes story = record story { written = story.written ++ bytes; unflushed = story.unflushed ++ bytes }
-
--- all that was written left
-abbrev pub flushed : Story → Story
-flushed story = record story { unflushed = [] }
-
 -- all that waited to leave was taken and written
 abbrev pub WritesAll : {S : Type 0} → Target S → Target S → Story → Story → Type 0
 WritesAll old new before after = (new ≡ with_taken old.end.outgoing old) × (after ≡ with_written old.end.outgoing before)
-
--- some of the bytes were written, and then a write failed
-pub record FailsWrite (old new : Story) (bytes : List ℕ) : Type 0 where
-  pub written : (some : List ℕ) × (new.written ≡ old.written ++ some) × IsFront some bytes
-  pub failed_writes : old.failed_writes < new.failed_writes
-  pub read : new.read ≡ old.read
-  pub early : new.early ≡ old.early
-
--- a flush failed, and nothing else happened
-abbrev pub FailsFlush : Story → Story → Type 0
-FailsFlush old new = new ≡ record old { failed_writes = old.failed_writes + 1 }
 
 -- a write of what waited to leave failed, and the target lost the connection
 abbrev pub LosesAtWrite : {S : Type 0} → Meaning S → Target S → Target S → Story → Story → Type 0
 LosesAtWrite m old new before after =
     FailsWrite before after old.end.outgoing × ((taken : List ℕ) × Ran m (with_taken taken old) × (new ≡ lost (with_taken taken old))) × (after.rooms ≡ before.rooms)
 
--- the bytes were read, by one read with room, before which all that was written had left
-abbrev pub with_read : List ℕ → Story → Story
-with_read bytes story = record story { read = story.read ++ bytes; rooms = story.rooms + 1 }
-
 -- bytes were read and fed
 abbrev pub ReadsMore : {S : Type 0} → Target S → Target S → Story → Story → Type 0
 ReadsMore old new before after = (more : List ℕ) × (new ≡ with_fed more old) × (after ≡ with_read more before)
-
--- a read with room failed, or gave 0, and all that was written had left before it
-pub record FailsRead (old new : Story) : Type 0 where
-  pub read : new.read ≡ old.read
-  pub written : new.written ≡ old.written
-  pub unflushed : new.unflushed ≡ old.unflushed
-  pub early : new.early ≡ old.early
-  pub rooms : new.rooms ≡ old.rooms + 1
-  pub failed_writes : new.failed_writes ≡ old.failed_writes
-  pub fails : old.failed_reads + old.ends < new.failed_reads + new.ends
 
 -- a read failed, and the target lost the connection
 abbrev pub LosesAtRead : {S : Type 0} → Target S → Target S → Story → Story → Type 0

@@ -12,11 +12,12 @@ use Rattle.jdwp_target.specs.declared.target.Turn.{Turn}
 use Rattle.jdwp_target.specs.declared.target.Turn.TheVariants.{Nothing}
 use Rattle.jdwp_target.specs.Targets.{Target, lost}
 use Rattle.jdwp_target.specs.Turns.{TurnsAt}
-use Rattle.jdwp_engine.specs.declared.ended.Ended.{Ended}
-use Rattle.jdwp_engine.specs.declared.ended.Ended.TheVariants.{Done, LostByRead, LostByWrite, Refused, NoMemory, TurnLimit}
+use Rattle.jdwp_pipe.specs.declared.ended.Ended.{Ended}
+use Rattle.jdwp_pipe.specs.declared.ended.Ended.TheVariants.{Done, LostByRead, LostByWrite, Refused, NoMemory, TurnLimit}
+use Rattle.jdwp_pipe.specs.Endings.{unflushed_end}
+use Rattle.jdwp_pipe.specs.Story.{FailsFlush, Story, flushed}
 use Rattle.jdwp_engine.specs.Rounds.{StepsEach}
-use Rattle.jdwp_engine.specs.Run.{FailsFlush, LosesAtRead, LosesAtWrite, ReadsMore, WritesAll, flushed}
-use Rattle.jdwp_engine.specs.Story.{Story}
+use Rattle.jdwp_engine.specs.Run.{LosesAtRead, LosesAtWrite, ReadsMore, WritesAll}
 
 -- ---- a round
 
@@ -56,16 +57,7 @@ pub data Runs {S : Type 0} (m : Meaning S) (rounds : ℕ) (base : Target S) (sta
   Until : (n : ℕ) (old new : Target S) (before after : Story) (how : Ended) → n < rounds → Rounds m base start n old before → LastRound m old before new after how
       → Runs m rounds base start how new after
 
--- how a session ends whose last flush failed: a frame fault is told as one
-abbrev pub unflushed_end : Ended → Ended
-unflushed_end (Refused number) = Refused number
-unflushed_end Done = LostByWrite
-unflushed_end LostByRead = LostByWrite
-unflushed_end LostByWrite = LostByWrite
-unflushed_end NoMemory = LostByWrite
-unflushed_end TurnLimit = LostByWrite
-
--- and what it leaves: the connection is lost, where it was not before
+-- what a session leaves whose last flush failed: the connection is lost, where it was not before
 abbrev pub unflushed_target : {S : Type 0} → Ended → Target S → Target S
 unflushed_target Done target = lost target
 unflushed_target NoMemory target = lost target

@@ -1,28 +1,25 @@
 //! The engine that runs a target on a pipe.
-ghost use Rattle.std.specs.Prelude.{◌≡◌, ◌⊎◌, ◌<◌, ◌≤◌, ◌+◌, ◌++◌, ◌∷◌, ◌||◌, [], ℕ, Bool, List, None, Ok, Err, length, true, false, IsTrue, IfOk, IfErr, OnErr};
+ghost use Rattle.std.specs.Prelude.{◌≡◌, ◌⊎◌, ◌<◌, ◌≤◌, ◌+◌, ◌++◌, ◌∷◌, ◌||◌, [], ℕ, Bool, List, None, Ok, Err, true, false, IfOk, IfErr, OnErr};
 ghost use Rattle.jdwp_end.specs.Ends.{front_of, is_open, is_paused, room_of};
 ghost use Rattle.jdwp_wire.specs.Streams.{More};
 ghost use Rattle.jdwp_machine.specs.Meanings.{numbers};
 ghost use Rattle.jdwp_target.specs.declared.target.Stepped as declared;
 ghost use Rattle.jdwp_target.specs.Targets as spec;
-ghost use Rattle.jdwp_target.specs.Targets.{Ran, opened, with_fed, with_taken};
+ghost use Rattle.jdwp_target.specs.Targets.{Ran, opened};
 ghost use Rattle.jdwp_target.specs.Turns.{StepsAt};
+ghost use Rattle.jdwp_pipe.specs.Endings.{unflushed_end};
+ghost use Rattle.jdwp_pipe.specs.Story.{FailsFlush, Story, flushed};
 ghost use Rattle.jdwp_engine.specs.Next.{IfEnds};
 ghost use Rattle.jdwp_engine.specs.Outcome.{EndsSo, MayEnd, MayStep};
-ghost use Rattle.jdwp_engine.specs.Run.{FailsFlush, FailsWrite, GoesOn, InOrder, LosesAtRead, LosesAtWrite, ReadsMore, WritesAll, cost, flushed, with_written};
+ghost use Rattle.jdwp_engine.specs.Run.{GoesOn, InOrder, LosesAtRead, LosesAtWrite, ReadsMore, WritesAll, cost};
 ghost use Rattle.jdwp_engine.specs.Rounds.{IsNext, StepsEach, id_in, is_above, is_step};
-ghost use Rattle.jdwp_engine.specs.Sessions.{LastRound, Round, Runs, Serves, unflushed_end, unflushed_target};
+ghost use Rattle.jdwp_engine.specs.Sessions.{LastRound, Round, Runs, Serves, unflushed_target};
 ghost use Rattle.jdwp_engine.specs.Steps.{StepsIf};
-ghost use Rattle.jdwp_engine.specs.Story.{Story};
 
-use crate::ended::Ended;
-use crate::pipe::Pipe;
 use jdwp_machine::Machine;
+use jdwp_pipe::{CHUNK, Ended, NoInput, Pipe, flush_all, read_and_feed, write_out};
 use jdwp_target::{Stepped, Target, TargetFault, Turn, closes_for_a_reason};
 use jdwp_value::ObjectId;
-
-/// How many bytes are read or written at once at most.
-const CHUNK: usize = 4096;
 
 /// Runs the target on the pipe for one session, for at most so many rounds.
 ///
@@ -34,13 +31,23 @@ const CHUNK: usize = 4096;
 /// that fails is `LostByWrite`, wherever it comes, but for the last flush behind a frame fault, which stays `Refused`. Where a turn or a
 /// step wants memory the session ends with `NoMemory` and stays open. It takes no memory of its own.
 pub fn serve<M: Machine + Drop, P: Pipe>(target: &mut Target<M>, pipe: &mut P, rounds: u64) -> Ended
-    ensures refused { is_open target.old.end ≡ true → (result ≡ Ended.Refused 0) × (target.new ≡ target.old) × (P.story pipe.new ≡ P.story pipe.old) }
-    ensures dead { is_open target.old.end ≡ false → target.old.moment.state.alive ≡ false → (result ≡ Ended.Done) × (target.new ≡ target.old) × (P.story pipe.new ≡ P.story pipe.old) }
-    ensures in_order { is_open target.old.end ≡ false → target.old.moment.state.alive ≡ true → InOrder target.old (P.story pipe.old) (P.story pipe.new) target.new }
-    ensures ended { is_open target.old.end ≡ false → target.old.moment.state.alive ≡ true → MayEnd M.meaning result (P.story pipe.old) (P.story pipe.new) target.new }
-    ensures rounds { is_open target.old.end ≡ false → target.old.moment.state.alive ≡ true → Serves M.meaning rounds (opened target.old) (P.story pipe.old) result target.new (P.story pipe.new) }
-    ensures limit { result ≡ Ended.TurnLimit → rounds + (P.story pipe.old).rooms ≤ cost (P.story pipe.new) target.new }
-    ensures at_most { is_open target.old.end ≡ false → target.old.moment.state.alive ≡ true → target.new.end.session.turns + (P.story pipe.new).rooms ≤ rounds + (P.story pipe.old).rooms }
+    ensures refused { is_open target.old.end ≡ true → (result ≡ Ended.Refused 0)
+        × (target.new ≡ target.old) × (P.story pipe.new ≡ P.story pipe.old) }
+    ensures dead { is_open target.old.end ≡ false → target.old.moment.state.alive ≡ false
+        → (result ≡ Ended.Done) × (target.new ≡ target.old)
+        × (P.story pipe.new ≡ P.story pipe.old) }
+    ensures in_order { is_open target.old.end ≡ false → target.old.moment.state.alive ≡ true
+        → InOrder target.old (P.story pipe.old) (P.story pipe.new) target.new }
+    ensures ended { is_open target.old.end ≡ false → target.old.moment.state.alive ≡ true
+        → MayEnd M.meaning result (P.story pipe.old) (P.story pipe.new) target.new }
+    ensures rounds { is_open target.old.end ≡ false → target.old.moment.state.alive ≡ true
+        → Serves M.meaning rounds (opened target.old) (P.story pipe.old) result target.new
+        (P.story pipe.new) }
+    ensures limit { result ≡ Ended.TurnLimit → rounds + (P.story pipe.old).rooms
+        ≤ cost (P.story pipe.new) target.new }
+    ensures at_most { is_open target.old.end ≡ false → target.old.moment.state.alive ≡ true
+        → target.new.end.session.turns + (P.story pipe.new).rooms
+        ≤ rounds + (P.story pipe.old).rooms }
     ensures ran { Ran M.meaning target.new }
 {
     if target.is_open() {
@@ -65,8 +72,10 @@ fn run_session<M: Machine + Drop, P: Pipe>(
     requires opened { target.old ≡ opened target.old }
     ensures in_order { InOrder target.old (P.story pipe.old) (P.story pipe.new) target.new }
     ensures ended { MayEnd M.meaning result (P.story pipe.old) (P.story pipe.new) target.new }
-    ensures limit { result ≡ Ended.TurnLimit → rounds + (P.story pipe.old).rooms ≤ cost (P.story pipe.new) target.new }
-    ensures rounds { Serves M.meaning rounds target.old (P.story pipe.old) result target.new (P.story pipe.new) }
+    ensures limit { result ≡ Ended.TurnLimit → rounds + (P.story pipe.old).rooms
+        ≤ cost (P.story pipe.new) target.new }
+    ensures rounds { Serves M.meaning rounds target.old (P.story pipe.old) result target.new
+        (P.story pipe.new) }
 {
     let ended = run_rounds(target, pipe, rounds);
     target.session();
@@ -81,7 +90,10 @@ fn lose_what_is_kept<M: Machine + Drop>(target: &mut Target<M>, ended: Ended) ->
     requires { Ran M.meaning target.old }
     ensures how { result ≡ unflushed_end ended }
     ensures left { target.new ≡ unflushed_target ended target.old }
-    ensures ends { (base : spec.Target M) (start now after : Story) → InOrder base start now target.old → MayEnd M.meaning ended start (flushed now) target.old → FailsFlush now after → InOrder base start after target.new × MayEnd M.meaning result start after target.new }
+    ensures ends { (base : spec.Target M) (start now after : Story)
+        → InOrder base start now target.old → MayEnd M.meaning ended start (flushed now) target.old
+        → FailsFlush now after → InOrder base start after target.new
+        × MayEnd M.meaning result start after target.new }
 {
     match ended {
         Ended::Refused(number) => Ended::Refused(number),
@@ -101,9 +113,12 @@ fn run_rounds<M: Machine + Drop, P: Pipe>(
 ) -> Ended
     requires opened { target.old ≡ opened target.old }
     ensures in_order { InOrder target.old (P.story pipe.old) (P.story pipe.new) target.new }
-    ensures ended { MayEnd M.meaning result (P.story pipe.old) (flushed (P.story pipe.new)) target.new }
-    ensures limit { result ≡ Ended.TurnLimit → rounds + (P.story pipe.old).rooms ≤ cost (P.story pipe.new) target.new }
-    ensures rounds { Runs M.meaning rounds target.old (P.story pipe.old) result target.new (P.story pipe.new) }
+    ensures ended { MayEnd M.meaning result (P.story pipe.old)
+        (flushed (P.story pipe.new)) target.new }
+    ensures limit { result ≡ Ended.TurnLimit → rounds + (P.story pipe.old).rooms
+        ≤ cost (P.story pipe.new) target.new }
+    ensures rounds { Runs M.meaning rounds target.old (P.story pipe.old) result target.new
+        (P.story pipe.new) }
 {
     let mut buffer = [0; CHUNK];
     for _done in 0..rounds {
@@ -130,10 +145,14 @@ fn round<M: Machine + Drop, P: Pipe>(
 ) -> Next
     requires is_open { is_open target.old.end ≡ true }
     requires idle { target.old.end.outgoing ≡ [] }
-    ensures goes { result ≡ Next.Goes → GoesOn target.old target.new (P.story pipe.old) (P.story pipe.new) }
-    ensures ends { IfEnds result (EndsSo M.meaning target.old target.new (P.story pipe.old) (P.story pipe.new)) }
-    ensures round { result ≡ Next.Goes → Round M.meaning target.old (P.story pipe.old) target.new (P.story pipe.new) }
-    ensures last { IfEnds result (LastRound M.meaning target.old (P.story pipe.old) target.new (P.story pipe.new)) }
+    ensures goes { result ≡ Next.Goes → GoesOn target.old target.new (P.story pipe.old)
+        (P.story pipe.new) }
+    ensures ends { IfEnds result (EndsSo M.meaning target.old target.new (P.story pipe.old)
+        (P.story pipe.new)) }
+    ensures round { result ≡ Next.Goes → Round M.meaning target.old (P.story pipe.old) target.new
+        (P.story pipe.new) }
+    ensures last { IfEnds result (LastRound M.meaning target.old (P.story pipe.old) target.new
+        (P.story pipe.new)) }
 {
     closes_for_a_reason::<M>();
     target.session();
@@ -159,10 +178,14 @@ fn flush_and_go<M: Machine + Drop, P: Pipe>(
     requires asks { front_of target.old.end ≡ More }
     requires flows { is_paused target.old.end ≡ false }
     requires room { 0 < room_of target.old.end }
-    ensures goes { result ≡ Next.Goes → GoesOn target.old target.new (P.story pipe.old) (P.story pipe.new) }
-    ensures ends { IfEnds result (EndsSo M.meaning target.old target.new (P.story pipe.old) (P.story pipe.new)) }
-    ensures round { result ≡ Next.Goes → Round M.meaning target.old (P.story pipe.old) target.new (P.story pipe.new) }
-    ensures last { IfEnds result (LastRound M.meaning target.old (P.story pipe.old) target.new (P.story pipe.new)) }
+    ensures goes { result ≡ Next.Goes → GoesOn target.old target.new (P.story pipe.old)
+        (P.story pipe.new) }
+    ensures ends { IfEnds result (EndsSo M.meaning target.old target.new (P.story pipe.old)
+        (P.story pipe.new)) }
+    ensures round { result ≡ Next.Goes → Round M.meaning target.old (P.story pipe.old) target.new
+        (P.story pipe.new) }
+    ensures last { IfEnds result (LastRound M.meaning target.old (P.story pipe.old) target.new
+        (P.story pipe.new)) }
 {
     target.session();
     if !flush_all(pipe) {
@@ -184,14 +207,18 @@ fn step_or_read<M: Machine + Drop, P: Pipe>(
     requires flows { is_paused target.old.end ≡ false }
     requires room { 0 < room_of target.old.end }
     requires left { (P.story pipe.old).unflushed ≡ [] }
-    ensures goes { result ≡ Next.Goes → GoesOn target.old target.new (P.story pipe.old) (P.story pipe.new) }
-    ensures ends { IfEnds result (EndsSo M.meaning target.old target.new (P.story pipe.old) (P.story pipe.new)) }
-    ensures round { result ≡ Next.Goes → (before : Story) → P.story pipe.old ≡ flushed before → Round M.meaning target.old before target.new (P.story pipe.new) }
-    ensures last { IfEnds result (λ ended. (before : Story) → P.story pipe.old ≡ flushed before → LastRound M.meaning target.old before target.new (P.story pipe.new) ended) }
+    ensures goes { result ≡ Next.Goes → GoesOn target.old target.new (P.story pipe.old)
+        (P.story pipe.new) }
+    ensures ends { IfEnds result (EndsSo M.meaning target.old target.new (P.story pipe.old)
+        (P.story pipe.new)) }
+    ensures round { result ≡ Next.Goes → (before : Story) → P.story pipe.old ≡ flushed before
+        → Round M.meaning target.old before target.new (P.story pipe.new) }
+    ensures last { IfEnds result (λ ended. (before : Story) → P.story pipe.old ≡ flushed before
+        → LastRound M.meaning target.old before target.new (P.story pipe.new) ended) }
 {
     target.session();
     match step_each(target) {
-        Ok(false) => read_and_feed(target, pipe, buffer),
+        Ok(false) => read_and_go(target, pipe, buffer),
         Ok(true) => write_and_go(target, pipe, buffer),
         Err(_) => match write_and_go(target, pipe, buffer) {
             Next::Goes => Next::Ends(Ended::NoMemory),
@@ -209,7 +236,8 @@ fn step_each<M: Machine + Drop>(target: &mut Target<M>) -> Result<bool, TargetFa
     requires { is_open target.old.end ≡ true }
     ensures stepped { IfOk result (StepsIf target.old target.new) }
     ensures each { StepsEach M.meaning None target.old result target.new }
-    ensures memory { OnErr result (((stepped : Bool) × StepsIf target.old target.new stepped) × (is_open target.new.end ≡ true) × MayStep target.new) }
+    ensures memory { OnErr result (((stepped : Bool) × StepsIf target.old target.new stepped)
+        × (is_open target.new.end ≡ true) × MayStep target.new) }
 {
     let mut has_stepped = false;
     let mut last: Option<ObjectId> = None;
@@ -229,9 +257,13 @@ fn step_one<M: Machine + Drop>(
     thread: ObjectId,
     has_stepped: bool,
 ) -> Result<bool, TargetFault>
-    ensures goes { IfOk result (λ now. (first : spec.Target M) → is_open first.end ≡ true → StepsIf first target.old has_stepped → StepsIf first target.new now) }
-    ensures steps { IfOk result (λ now. (stepped : declared.Stepped) × StepsAt M.meaning thread.0 target.old (Ok stepped) target.new × (now ≡ (has_stepped || is_step stepped))) }
-    ensures wants { IfErr result (λ fault. StepsAt M.meaning thread.0 target.old (Err fault) target.new) }
+    ensures goes { IfOk result (λ now. (first : spec.Target M) → is_open first.end ≡ true
+        → StepsIf first target.old has_stepped → StepsIf first target.new now) }
+    ensures steps { IfOk result (λ now. (stepped : declared.Stepped)
+        × StepsAt M.meaning thread.0 target.old (Ok stepped) target.new
+        × (now ≡ (has_stepped || is_step stepped))) }
+    ensures wants { IfErr result (λ fault. StepsAt M.meaning thread.0 target.old
+        (Err fault) target.new) }
     ensures memory { OnErr result (MayStep target.old × (target.new ≡ target.old)) }
 {
     closes_for_a_reason::<M>();
@@ -258,7 +290,8 @@ fn least_above(threads: &[ObjectId], last: Option<ObjectId>) -> Option<ObjectId>
 
 /// The least above `last` of those of which `found` is, and this one.
 fn nearer(found: Option<ObjectId>, thread: ObjectId, last: Option<ObjectId>) -> Option<ObjectId>
-    ensures { (ids : List ℕ) → IsNext ids (id_in last) (id_in found) → IsNext (ids ++ thread.0 ∷ []) (id_in last) (id_in result) }
+    ensures { (ids : List ℕ) → IsNext ids (id_in last) (id_in found)
+        → IsNext (ids ++ thread.0 ∷ []) (id_in last) (id_in result) }
 {
     if !is_above(last, thread) {
         return found;
@@ -279,36 +312,26 @@ fn is_above(last: Option<ObjectId>, thread: ObjectId) -> bool
     }
 }
 
-/// Reads once, where all that was written has left, and feeds what came.
-fn read_and_feed<M: Machine + Drop, P: Pipe>(
+/// Reads once, where all that was written has left, and feeds what came, or ends where nothing did.
+fn read_and_go<M: Machine + Drop, P: Pipe>(
     target: &mut Target<M>,
     pipe: &mut P,
     buffer: &mut [u8; CHUNK],
 ) -> Next
     requires room { 0 < room_of target.old.end }
     requires left { (P.story pipe.old).unflushed ≡ [] }
-    ensures goes { result ≡ Next.Goes → ReadsMore target.old target.new (P.story pipe.old) (P.story pipe.new) }
-    ensures ends { IfEnds result (λ ended. (ended ≡ Ended.LostByRead) × LosesAtRead target.old target.new (P.story pipe.old) (P.story pipe.new)) }
+    ensures goes { result ≡ Next.Goes → ReadsMore target.old target.new (P.story pipe.old)
+        (P.story pipe.new) }
+    ensures ends { IfEnds result (λ ended. (ended ≡ Ended.LostByRead)
+        × LosesAtRead target.old target.new (P.story pipe.old) (P.story pipe.new)) }
 {
-    let room = target.room().min(CHUNK);
-    match pipe.read(&mut buffer[..room]) {
-        Ok(0) | Err(_) => {
+    match read_and_feed(target, pipe, buffer) {
+        Ok(()) => Next::Goes,
+        Err(NoInput) => {
             target.lose();
             Next::Ends(Ended::LostByRead)
         }
-        Ok(count) => {
-            feed_all(target, &buffer[..count]);
-            Next::Goes
-        }
     }
-}
-
-/// Feeds all of the bytes.
-fn feed_all<M: Machine + Drop>(target: &mut Target<M>, bytes: &[u8])
-    requires { length bytes.now ≤ room_of target.old.end }
-    ensures { target.new ≡ with_fed bytes.now target.old }
-{
-    target.feed(bytes);
 }
 
 /// Writes what waits, and ends where a write fails or the session has closed.
@@ -317,10 +340,14 @@ fn write_and_go<M: Machine + Drop, P: Pipe>(
     pipe: &mut P,
     buffer: &mut [u8; CHUNK],
 ) -> Next
-    ensures goes { result ≡ Next.Goes → (is_open target.old.end ≡ true) × WritesAll target.old target.new (P.story pipe.old) (P.story pipe.new) }
-    ensures done { result ≡ Next.Ends Ended.Done → (is_open target.old.end ≡ false) × WritesAll target.old target.new (P.story pipe.old) (P.story pipe.new) × Ran M.meaning target.new }
+    ensures goes { result ≡ Next.Goes → (is_open target.old.end ≡ true)
+        × WritesAll target.old target.new (P.story pipe.old) (P.story pipe.new) }
+    ensures done { result ≡ Next.Ends Ended.Done → (is_open target.old.end ≡ false)
+        × WritesAll target.old target.new (P.story pipe.old) (P.story pipe.new)
+        × Ran M.meaning target.new }
     ensures ends { IfEnds result (λ ended. (ended ≡ Ended.Done) ⊎ (ended ≡ Ended.LostByWrite)) }
-    ensures fails { result ≡ Next.Ends Ended.LostByWrite → LosesAtWrite M.meaning target.old target.new (P.story pipe.old) (P.story pipe.new) }
+    ensures fails { result ≡ Next.Ends Ended.LostByWrite
+        → LosesAtWrite M.meaning target.old target.new (P.story pipe.old) (P.story pipe.new) }
 {
     let written = write_out(target, pipe, buffer);
     target.session();
@@ -333,48 +360,4 @@ fn write_and_go<M: Machine + Drop, P: Pipe>(
     } else {
         Next::Ends(Ended::Done)
     }
-}
-
-/// Writes all that waits to leave, or says that a write failed.
-fn write_out<M: Machine + Drop, P: Pipe>(
-    target: &mut Target<M>,
-    pipe: &mut P,
-    buffer: &mut [u8; CHUNK],
-) -> bool
-    ensures all { IsTrue result → WritesAll target.old target.new (P.story pipe.old) (P.story pipe.new) }
-    ensures fails { result ≡ false → FailsWrite (P.story pipe.old) (P.story pipe.new) target.old.end.outgoing }
-    ensures kept { (taken : List ℕ) × (target.new ≡ with_taken taken target.old) }
-    ensures rooms { (P.story pipe.new).rooms ≡ (P.story pipe.old).rooms }
-{
-    while target.waiting() > 0 {
-        let count = target.take(buffer);
-        if !write_all(pipe, &buffer[..count]) {
-            return false;
-        }
-    }
-    true
-}
-
-/// Writes all of the bytes, or says that a write failed.
-pub fn write_all<P: Pipe>(pipe: &mut P, bytes: &[u8]) -> bool
-    ensures all { IsTrue result → P.story pipe.new ≡ with_written bytes.now (P.story pipe.old) }
-    ensures fails { result ≡ false → FailsWrite (P.story pipe.old) (P.story pipe.new) bytes.now }
-    ensures rooms { (P.story pipe.new).rooms ≡ (P.story pipe.old).rooms }
-{
-    let mut rest = bytes;
-    while !rest.is_empty() {
-        match pipe.write(rest) {
-            Ok(0) | Err(_) => return false,
-            Ok(count) => rest = &rest[count..],
-        }
-    }
-    true
-}
-
-/// Sees that all that was written leaves, or says that the flush failed.
-pub fn flush_all<P: Pipe>(pipe: &mut P) -> bool
-    ensures all { IsTrue result → P.story pipe.new ≡ flushed (P.story pipe.old) }
-    ensures fails { result ≡ false → FailsFlush (P.story pipe.old) (P.story pipe.new) }
-{
-    pipe.flush().is_ok()
 }

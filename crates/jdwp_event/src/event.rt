@@ -228,7 +228,8 @@ impl Composite {
 
 /// The policy and the entries of data that are a byte and a list.
 fn policy_and_entries(carried: Data) -> Option<(u8, Vec<Vec<Scalar>>)>
-    ensures { option_map (λ p. with_policy p.0 (entry_meanings p.1.items)) result ≡ composite_of carried }
+    ensures { option_map (λ p. with_policy p.0 (entry_meanings p.1.items)) result
+        ≡ composite_of carried }
 {
     let mut items = carried.into_items();
     let Some(Datum::Many(entries)) = items.pop() else {

@@ -16,5 +16,6 @@ pub fn composites_have_their_layout()
 
 /// A composite is written as its data are. It does nothing.
 pub fn composites_have_their_bytes()
-    ensures { (w : Widths) (c : CompositeMeaning) → composite_canonical w c ≡ data_canonical w (composite_data c) }
+    ensures { (w : Widths) (c : CompositeMeaning) → composite_canonical w c
+        ≡ data_canonical w (composite_data c) }
 {}

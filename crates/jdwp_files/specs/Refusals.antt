@@ -8,7 +8,7 @@ use Rattle.jdwp_script.specs.declared.fault.ScriptFault.{ScriptFault}
 use Rattle.jdwp_script.specs.declared.fault.ScriptFault.TheVariants as script
 use Rattle.jdwp_script_machine.specs.Machines.{read_machine}
 use Rattle.jdwp_plan.specs.declared.plan_fault.PlanFault.{PlanFault}
-use Rattle.jdwp_plan.specs.Plans.{IsFirstFault}
+use Rattle.jdwp_plan.specs.Plans.{IsFirstFault, IsFirstFaultForAttach}
 use Rattle.jdwp_program.specs.declared.fault.Fault.{Fault}
 use Rattle.jdwp_program.specs.declared.fault.Fault.TheVariants as fault
 use Rattle.jdwp_program.specs.declared.fault.FileCause.{FileCause}
@@ -28,3 +28,9 @@ RefusesScript limits file bytes told =
 abbrev pub RefusesPlan : Bor (List ℕ) → List ℕ → Fault → Type 0
 RefusesPlan file bytes told =
     IsFileNotText file bytes told ⊎ ((refused : PlanFault) × (told ≡ fault_of_plan file bytes refused) × IsFirstFault (lines bytes) refused)
+
+-- the same of a plan of `attach`, of which no line is of `pair` alone
+abbrev pub RefusesAttachPlan : Bor (List ℕ) → List ℕ → Fault → Type 0
+RefusesAttachPlan file bytes told =
+    IsFileNotText file bytes told
+    ⊎ ((refused : PlanFault) × (told ≡ fault_of_plan file bytes refused) × IsFirstFaultForAttach (lines bytes) refused)

@@ -6,17 +6,17 @@ ghost use Rattle.std.specs.Str.Lines.{lines};
 ghost use Rattle.jdwp_script_machine.specs.Machines.{read_machine};
 ghost use Rattle.jdwp_script_machine.specs.ScriptMeaning.{script_meaning};
 ghost use Rattle.jdwp_script_machine.specs.States.{State};
-ghost use Rattle.jdwp_engine.specs.Streams.{story_of};
+ghost use Rattle.jdwp_pipe.specs.Streams.{story_of};
 ghost use Rattle.jdwp_serve.specs.Serving.{ServesNew};
 ghost use Rattle.jdwp_plan.specs.declared.plan_line.PlanLine.{PlanLine};
 ghost use Rattle.jdwp_plan.specs.PlanLines.{said_by};
-ghost use Rattle.jdwp_plan.specs.Plans.{Says};
+ghost use Rattle.jdwp_plan.specs.Plans.{SaysForAttach};
 ghost use Rattle.jdwp_program.specs.Attaching.{AttachesNew, begun};
 ghost use Rattle.jdwp_program.specs.Outputs.{LeavesCaptureTold};
-ghost use Rattle.jdwp_files.specs.Refusals.{IsFileNotText, RefusesScript, RefusesPlan};
+ghost use Rattle.jdwp_files.specs.Refusals.{IsFileNotText, RefusesAttachPlan, RefusesScript};
 
 use jdwp_attach::Attached;
-use jdwp_engine::{Ended, Pipe, Streams};
+use jdwp_pipe::{Ended, Pipe, Streams};
 use jdwp_program::{
     Fault, FileCause, Outcome, Side, Told, Watched, attach_plan, check_capture, show_capture,
     text_of,
@@ -119,7 +119,8 @@ fn serve_bytes<'a, I: Read, O: Write>(
 ) -> Result<Ended, Fault<'a>>
     ensures served { IfOk result (λ ended. IsUtf8 bytes.now × (machine : State) × (read_machine words.now.settings.limits.live bytes.now ≡ Ok machine)
         × ServesNew script_meaning words.now.settings machine words.now.turns (story_of pipe.old) (story_of pipe.new) ended) }
-    ensures fault { IfErr result (RefusesScript words.now.settings.limits words.now.machine bytes.now) }
+    ensures fault { IfErr result (RefusesScript words.now.settings.limits
+        words.now.machine bytes.now) }
     ensures untouched { OnErr result (pipe.new ≡ pipe.old) }
 {
     let script = text(words.machine, bytes)?;
@@ -165,9 +166,9 @@ fn attach_bytes<'a, I: Read, W: Write, O: Pipe>(
     pipe: &mut Streams<I, W>,
     out: &mut O,
 ) -> Result<Attached, Fault<'a>>
-    ensures ran { IfOk result (λ how. IsUtf8 bytes.now × (said : List PlanLine) × Says (lines bytes.now) (map said_by said)
+    ensures ran { IfOk result (λ how. IsUtf8 bytes.now × (said : List PlanLine) × SaysForAttach (lines bytes.now) (map said_by said)
         × AttachesNew said (begun words.now.turns (story_of pipe.old) (O.story out.old)) (story_of pipe.new) (O.story out.new) how) }
-    ensures fault { IfErr result (RefusesPlan words.now.plan bytes.now) }
+    ensures fault { IfErr result (RefusesAttachPlan words.now.plan bytes.now) }
     ensures untouched { OnErr result (pipe.new ≡ pipe.old) }
     ensures unprinted { OnErr result (out.new ≡ out.old) }
 {
@@ -239,7 +240,8 @@ fn writer<'a, R: Files + AllocGlobal>(
 
 /// The bytes of a file as text.
 pub(crate) fn text<'a, 'b>(file: &'a str, bytes: &'b [u8]) -> Result<&'b str, Fault<'a>>
-    ensures { MatchResult result (λ text. (text.now ≡ bytes.now) × IsUtf8 bytes.now) (IsFileNotText file.entry bytes.now) }
+    ensures { MatchResult result (λ text. (text.now ≡ bytes.now)
+        × IsUtf8 bytes.now) (IsFileNotText file.entry bytes.now) }
 {
     match text_of(bytes) {
         Ok(text) => Ok(text),

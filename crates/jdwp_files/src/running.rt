@@ -28,7 +28,8 @@ where
     ensures bound { result ≤ 4 }
     // Unless the command runs a plan, on `out` is nothing, or what is told of a capture: all of it, the status saying whether it has a
     // fault, or a beginning.
-    ensures leaves { runs_plan S.text words.now ≡ false → Leaves result (O.contents out.old) (O.contents out.new) }
+    ensures leaves { runs_plan S.text words.now ≡ false
+        → Leaves result (O.contents out.old) (O.contents out.new) }
 {
     match execute(rt, words, out, err) {
         Ok(outcome) => report_outcome(outcome, err),
@@ -47,7 +48,8 @@ where
     S: AsStr,
     O: Write,
     E: Write,
-    ensures { runs_plan S.text words.now ≡ false → LeavesOutcome result (O.contents out.old) (O.contents out.new) }
+    ensures { runs_plan S.text words.now ≡ false → LeavesOutcome result (O.contents out.old)
+        (O.contents out.new) }
 {
     match jdwp_words::read(rt.alloc(), words)? {
         Words::ServeScript(words) => match words.peer {

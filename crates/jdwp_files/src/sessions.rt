@@ -1,5 +1,5 @@
 //! Sessions without files: at a port, and with both ends in this process.
-ghost use Rattle.std.specs.Prelude.{◌≡◌, List, map, Ok, IfErr, IfOk, OnErr};
+ghost use Rattle.std.specs.Prelude.{◌≡◌, List, map, Ok, IfErr, IfOk, OnErr, false, is_some};
 ghost use Rattle.std.specs.Io.KnownBytes.{Keeps};
 ghost use Rattle.std.specs.Str.{IsUtf8};
 ghost use Rattle.std.specs.Str.Lines.{lines};
@@ -9,22 +9,25 @@ ghost use Rattle.jdwp_script_machine.specs.States.{State};
 ghost use Rattle.jdwp_target.specs.Options.{LivesWithin};
 ghost use Rattle.jdwp_plan.specs.declared.plan_line.PlanLine as declared;
 ghost use Rattle.jdwp_plan.specs.PlanLines.{said_by};
-ghost use Rattle.jdwp_plan.specs.Plans.{Says};
+ghost use Rattle.jdwp_plan.specs.Plans.{Says, SaysForAttach};
+ghost use Rattle.jdwp_pair.specs.Connections.{is_disconnected};
 ghost use Rattle.jdwp_pair.specs.PlanRuns.{PairsNew};
-ghost use Rattle.jdwp_files.specs.Refusals.{RefusesPlan, RefusesScript};
+ghost use Rattle.jdwp_files.specs.Pairs.{how_of};
+ghost use Rattle.jdwp_files.specs.Refusals.{RefusesAttachPlan, RefusesPlan, RefusesScript};
 
 use crate::files::{read, text};
 use jdwp_attach::Attached;
 use jdwp_debugger::Debugger;
-use jdwp_engine::{Ended, Pipe, Streams};
-use jdwp_pair::{PairEnded, pair_session};
-use jdwp_plan::{PlanLine, read_plan};
+use jdwp_link::Memory;
+use jdwp_pair::{Connection, Loopback, PairEnded, pair_session};
+use jdwp_pipe::{Ended, Pipe, Streams};
+use jdwp_plan::{PlanLine, read_attach_plan, read_plan};
 use jdwp_port::{attach_stream, bind, connect, serve_sessions};
 use jdwp_program::{Fault, Outcome, Watched, report_outcome};
 use jdwp_script_machine::ScriptMachine;
 use jdwp_target::Target;
 use jdwp_wire::Limits;
-use jdwp_words::{Attach, Pair, ServeScript};
+use jdwp_words::{Attach, Between, Pair, ServeScript};
 use std::alloc::Global;
 use std::io;
 use std::io::Write;
@@ -69,7 +72,7 @@ pub fn attach_port<'a, R: Files + AllocGlobal + Net, O: Write>(
     ensures unprinted { OnErr result (Keeps (O.contents out.old) (O.contents out.new)) }
 {
     let bytes = read(rt, words.plan)?;
-    let plan = plan_of(rt.alloc(), words.plan, &bytes)?;
+    let plan = attach_plan_of(rt.alloc(), words.plan, &bytes)?;
     let mut debugger = Debugger::new(rt.alloc())?;
     let stream = connect(rt, port)?;
     let mut printed = Streams::new(io::empty(), Watched::new(out));
@@ -87,11 +90,12 @@ pub fn attach_port<'a, R: Files + AllocGlobal + Net, O: Write>(
     Ok(Outcome::without_files(how, output.failure()))
 }
 
-/// Runs a plan as the debugger of the machine of a script, both ends in this process, and prints what the debugger reads.
+/// Runs a plan as the debugger of the machine of a script, both ends in this process, and prints what the debugger reads. Bytes go from one
+/// end to the other in memory, or over a connection of this machine to itself.
 ///
 /// # Errors
 /// `File` where one can't be read or is not UTF-8; `Script` or `Plan` where one is refused; `NoMemory`. Then nothing was printed.
-pub fn pair_files<'a, R: Files + AllocGlobal, O: Write>(
+pub fn pair_files<'a, R: Files + AllocGlobal + Net, O: Write>(
     rt: &R,
     words: &Pair<'a>,
     out: &mut O,
@@ -99,29 +103,56 @@ pub fn pair_files<'a, R: Files + AllocGlobal, O: Write>(
     ensures unprinted { OnErr result (Keeps (O.contents out.old) (O.contents out.new)) }
 {
     let script = read(rt, words.machine)?;
-    let bytes = read(rt, words.plan)?;
+    let plan = read(rt, words.plan)?;
+    match words.between {
+        Between::Memory => pair_over(rt.alloc(), words, &mut Memory, &script, &plan, out),
+        Between::Loopback => {
+            let mut loopback = Loopback::new(rt);
+            pair_over(rt.alloc(), words, &mut loopback, &script, &plan, out)
+        }
+    }
+}
+
+/// Runs the plan of these bytes with the machine of the script of those, over a connection.
+fn pair_over<'a, C: Connection, O: Write>(
+    alloc: Global,
+    words: &Pair<'a>,
+    connection: &mut C,
+    script: &[u8],
+    plan: &[u8],
+    out: &mut O,
+) -> Result<Outcome<'a>, Fault<'a>>
+    ensures unprinted { OnErr result (Keeps (O.contents out.old) (O.contents out.new)) }
+{
     let mut printed = Streams::new(io::empty(), Watched::new(out));
-    let ended = pair_bytes(rt.alloc(), words, &script, &bytes, &mut printed)?;
+    let ended = pair_bytes(alloc, words, connection, script, plan, &mut printed)?;
     let (_, output) = printed.into_parts();
-    Ok(Outcome::without_files(how_of(ended), output.failure()))
+    match connection.failure() {
+        Some(fault) => Ok(Outcome::lost_port(fault)),
+        None => Ok(Outcome::without_files(how_of(ended), output.failure())),
+    }
 }
 
 /// Runs the plan of these bytes with the machine of the script of those.
-fn pair_bytes<'a, O: Pipe>(
+fn pair_bytes<'a, C: Connection, O: Pipe>(
     alloc: Global,
     words: &Pair<'a>,
+    connection: &mut C,
     script: &[u8],
     plan: &[u8],
     out: &mut O,
 ) -> Result<PairEnded, Fault<'a>>
     ensures paired { IfOk result (λ ended. (machine : State) × (said : List declared.PlanLine) × (read_machine words.now.settings.limits.live script.now ≡ Ok machine)
         × Says (lines plan.now) (map said_by said) × PairsNew script_meaning words.now.settings machine said ended) }
+    ensures failed { IfOk result (λ ended. is_some (C.failed_by connection.new)
+        ≡ is_disconnected ended) }
     ensures unprinted { OnErr result (out.new ≡ out.old) }
 {
     let machine = machine_of(alloc, words.machine, script, &words.settings.limits())?;
     let lines = plan_of(alloc, words.plan, plan)?;
     let (settings, turns) = (words.settings, words.turns);
-    Ok(pair_session(alloc, machine, settings, lines.as_slice(), out, turns)?)
+    let ended = pair_session(alloc, machine, settings, connection, &lines, out, turns)?;
+    Ok(ended)
 }
 
 /// The machine of the script of these bytes of a file.
@@ -131,7 +162,8 @@ fn machine_of<'a>(
     bytes: &[u8],
     limits: &Limits,
 ) -> Result<ScriptMachine, Fault<'a>>
-    ensures machine { IfOk result (λ machine. IsUtf8 bytes.now × (read_machine limits.now.live bytes.now ≡ Ok machine)) }
+    ensures machine { IfOk result (λ machine. IsUtf8 bytes.now
+        × (read_machine limits.now.live bytes.now ≡ Ok machine)) }
     ensures lives { IfOk result (λ machine. LivesWithin script_meaning limits.now machine) }
     ensures fault { IfErr result (RefusesScript limits.now file.entry bytes.now) }
 {
@@ -147,7 +179,8 @@ fn machine_of<'a>(
 
 /// The lines of the plan of these bytes of a file.
 fn plan_of<'a>(alloc: Global, file: &'a str, bytes: &[u8]) -> Result<Vec<PlanLine>, Fault<'a>>
-    ensures plan { IfOk result (λ plan. IsUtf8 bytes.now × Says (lines bytes.now) (map said_by plan.items)) }
+    ensures plan { IfOk result (λ plan. IsUtf8 bytes.now
+        × Says (lines bytes.now) (map said_by plan.items)) }
     ensures fault { IfErr result (RefusesPlan file.entry bytes.now) }
 {
     let plan = text(file, bytes)?;
@@ -157,12 +190,33 @@ fn plan_of<'a>(alloc: Global, file: &'a str, bytes: &[u8]) -> Result<Vec<PlanLin
     }
 }
 
-/// How a run of both ends ended, as that of a plan.
-fn how_of(ended: PairEnded) -> Attached {
+/// The lines of the plan of `attach` of these bytes of a file.
+fn attach_plan_of<'a>(
+    alloc: Global,
+    file: &'a str,
+    bytes: &[u8],
+) -> Result<Vec<PlanLine>, Fault<'a>>
+    ensures plan { IfOk result (λ plan. IsUtf8 bytes.now
+        × SaysForAttach (lines bytes.now) (map said_by plan.items)) }
+    ensures fault { IfErr result (RefusesAttachPlan file.entry bytes.now) }
+{
+    let plan = text(file, bytes)?;
+    match read_attach_plan(alloc, plan) {
+        Ok(lines) => Ok(lines),
+        Err(fault) => Err(Fault::of_plan(file, plan, fault)),
+    }
+}
+
+/// How a run of both ends ended whose connection did not fail, as that of a plan.
+fn how_of(ended: PairEnded) -> Attached
+    requires { is_disconnected ended ≡ false }
+    ensures { result ≡ how_of ended }
+{
     match ended {
         PairEnded::Done => Attached::Ended(Ended::Done),
         PairEnded::RefusedLine { line, number } => Attached::RefusedLine { line, number },
         PairEnded::LostByWrite => Attached::Ended(Ended::LostByWrite),
+        PairEnded::LostConnection => unreachable!(),
         PairEnded::NoMemory => Attached::Ended(Ended::NoMemory),
         PairEnded::TurnLimit => Attached::Ended(Ended::TurnLimit),
     }

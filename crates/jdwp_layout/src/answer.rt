@@ -9,7 +9,7 @@ use std::marker::Model;
 
 /// The data of a packet: what its row's layout says, item by item. Contracts see what they say, apart from where they
 /// lie in memory.
-#[derive(Drop)]
+#[derive(Debug, Drop)]
 pub struct Data {
     items: Vec<Datum>,
 }
@@ -61,7 +61,7 @@ impl Data {
 
 /// What a command is answered: data in the layout of its row's reply, or an error, which has no data
 /// (JDWP specification, "Packets": a reply's error code and data).
-#[derive(Drop)]
+#[derive(Debug, Drop)]
 pub enum Answer {
     /// The command succeeded.
     Data(Data),

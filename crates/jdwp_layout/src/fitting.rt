@@ -53,7 +53,8 @@ fn datum_size(value: &Datum, sizes: &IdSizes) -> Option<usize>
 
 /// How many bytes the entries of a list take; None past `usize`.
 fn entries_size(entries: &[Vec<Scalar>], sizes: &IdSizes) -> Option<usize>
-    ensures { result ≡ in_usize (length (flat_map (entry_canonical sizes.now) (entry_meanings entries.now))) }
+    ensures { result ≡ in_usize (length (flat_map (entry_canonical sizes.now)
+        (entry_meanings entries.now))) }
 {
     let mut total: usize = 0;
     for scalars in entries {
@@ -99,7 +100,8 @@ fn refusal_of_item(item: Item, sizes: &IdSizes, value: &Datum) -> Option<DataFau
 }
 
 fn refusal_of_list(entry: Entry, sizes: &IdSizes, entries: &[Vec<Scalar>]) -> Option<DataFault>
-    ensures { result ≡ list_refusal (entry_refusal sizes.now (entry_shape entry)) (entry_meanings entries.now) }
+    ensures { result ≡ list_refusal (entry_refusal sizes.now (entry_shape entry))
+        (entry_meanings entries.now) }
 {
     if entries.len() > GREATEST_INT as usize {
         return Some(DataFault::BadSize);
@@ -132,7 +134,8 @@ fn refusal_of_kind(
     sizes: &IdSizes,
     scalars: &[Scalar],
 ) -> Option<DataFault>
-    ensures { result ≡ fields_of_refusal sizes.now (found_fields found.entry) (scalar_meanings scalars.now) }
+    ensures { result ≡ fields_of_refusal sizes.now (found_fields found.entry)
+        (scalar_meanings scalars.now) }
 {
     match found {
         None => Some(DataFault::BadSize),

@@ -6,7 +6,7 @@ use Rattle.jdwp_end.specs.Ends as ends
 use Rattle.jdwp_end.specs.Ends.{End, room_of}
 use Rattle.jdwp_debugger.specs.Debuggers.{Debugger}
 use Rattle.jdwp_debugger.specs.Debuggers as debuggers
-use Rattle.jdwp_exchange.specs.Exchange.{moved}
+use Rattle.jdwp_link.specs.Moving.{moved}
 use Rattle.jdwp_target.specs.Targets.{Target}
 use Rattle.jdwp_target.specs.Targets as targets
 use Rattle.jdwp_link.proofs.Moves.{fed-none, fed-twice, piece-is, pieces, taken-none, taken-twice}

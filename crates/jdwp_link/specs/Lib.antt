@@ -6,3 +6,4 @@ pub mod Clauses
 pub mod Laws
 pub mod Insides
 pub mod EventParts
+pub mod Moving

@@ -5,7 +5,7 @@ use jdwp_layout::Answer;
 use jdwp_value::ObjectId;
 
 /// One thing that happens to a link.
-#[derive(Drop)]
+#[derive(Debug, Drop)]
 pub enum LinkEvent {
     /// A new session begins, where both ends are closed, no ticket waits and the machine lives. Nothing is under way but the debugger's
     /// handshake.
@@ -29,7 +29,7 @@ pub enum LinkEvent {
 }
 
 /// What is told of an event.
-#[derive(Drop)]
+#[derive(Debug, Drop)]
 pub enum Outcome {
     /// A command was sent under this ticket.
     Asked(Ticket),
@@ -44,7 +44,7 @@ pub enum Outcome {
 }
 
 /// A run of events met want of memory.
-#[derive(Drop)]
+#[derive(Debug, Drop)]
 pub struct Stopped {
     /// How many events were done before the one that met it.
     pub event: usize,

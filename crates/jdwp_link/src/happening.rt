@@ -21,6 +21,7 @@ use crate::telling::{
     PENDING_MOST, TOLD_MOST, ask_debugger, have_tickets, lose_and_tell, read_nothing, settle,
     tell_read,
 };
+use crate::way::Way;
 use byte_queue::ByteQueue;
 use jdwp_debugger::{Command, Debugger, DebuggerFault};
 use jdwp_machine::Machine;
@@ -33,19 +34,22 @@ impl<M: Machine + Drop> Link<M> {
     ///
     /// # Errors
     /// `NoMemory` where an allocation was refused; then nothing has changed.
-    pub(crate) fn happen(
+    pub(crate) fn happen<W: Way>(
         &mut self,
+        way: &mut W,
         event: &LinkEvent,
         outcomes: &mut Vec<Outcome>,
     ) -> Result<(), NoMemory>
-        ensures ok { OnOk result (Tells M.meaning (event_meaning event.now) self.old self.new outcomes.old.items outcomes.new.items) }
-        ensures err { OnErr result (Stops M.meaning (event_meaning event.now) self.old self.new outcomes.old.items outcomes.new.items) }
+        ensures ok { OnOk result (Tells M.meaning (event_meaning event.now) self.old self.new
+            outcomes.old.items outcomes.new.items) }
+        ensures err { OnErr result (Stops M.meaning (event_meaning event.now) self.old self.new
+            outcomes.old.items outcomes.new.items) }
     {
         match event {
             LinkEvent::Attach => self.attach(),
             LinkEvent::Ask(command) => return self.ask(command, outcomes),
-            LinkEvent::ToTarget(most) => self.deliver_to_target(*most),
-            LinkEvent::ToDebugger(most) => self.deliver_to_debugger(*most),
+            LinkEvent::ToTarget(most) => self.deliver_to_target(way, *most),
+            LinkEvent::ToDebugger(most) => self.deliver_to_debugger(way, *most),
             LinkEvent::TargetTurn => return self.turn_at_target(),
             LinkEvent::DebuggerTurn => return self.turn_at_debugger(outcomes),
             LinkEvent::Step(thread) => return self.step(*thread),
@@ -76,8 +80,10 @@ impl<M: Machine + Drop> Link<M> {
         command: &Command,
         outcomes: &mut Vec<Outcome>,
     ) -> Result<(), NoMemory>
-        ensures ok { OnOk result (Tells M.meaning (events.Ask command.now) self.old self.new outcomes.old.items outcomes.new.items) }
-        ensures err { OnErr result (Stops M.meaning (events.Ask command.now) self.old self.new outcomes.old.items outcomes.new.items) }
+        ensures ok { OnOk result (Tells M.meaning (events.Ask command.now) self.old self.new
+            outcomes.old.items outcomes.new.items) }
+        ensures err { OnErr result (Stops M.meaning (events.Ask command.now) self.old self.new
+            outcomes.old.items outcomes.new.items) }
     {
         laws::<M>();
         keeps(&self.target, &self.debugger);
@@ -90,8 +96,9 @@ impl<M: Machine + Drop> Link<M> {
         Ok(())
     }
 
-    /// At most so many of the bytes under way come to the target: first what a debugger that lost the connection had put.
-    pub(crate) fn deliver_to_target(&mut self, most: usize)
+    /// At most so many of the bytes under way come to the target: first what a debugger that lost the connection had put, which is not
+    /// carried, and then what waits at the debugger, carried by the way.
+    pub(crate) fn deliver_to_target<W: Way>(&mut self, way: &mut W, most: usize)
         ensures { Goes M.meaning (events.ToTarget most) self.old self.new [] }
     {
         laws::<M>();
@@ -101,13 +108,14 @@ impl<M: Machine + Drop> Link<M> {
             .waiting()
             .min(self.target.room())
             .min(most - kept);
-        pieces_to_target(&mut self.debugger, &mut self.target, left);
+        pieces_to_target(&mut self.debugger, &mut self.target, way, left);
         self.did = false;
         keeps(&self.target, &self.debugger);
     }
 
-    /// At most so many of the bytes under way come to the debugger: first what a target that lost the connection had put.
-    pub(crate) fn deliver_to_debugger(&mut self, most: usize)
+    /// At most so many of the bytes under way come to the debugger: first what a target that lost the connection had put, which is not
+    /// carried, and then what waits at the target, carried by the way.
+    pub(crate) fn deliver_to_debugger<W: Way>(&mut self, way: &mut W, most: usize)
         ensures { Goes M.meaning (events.ToDebugger most) self.old self.new [] }
     {
         laws::<M>();
@@ -117,7 +125,7 @@ impl<M: Machine + Drop> Link<M> {
             .waiting()
             .min(self.debugger.room())
             .min(most - kept);
-        pieces_to_debugger(&mut self.target, &mut self.debugger, left);
+        pieces_to_debugger(&mut self.target, &mut self.debugger, way, left);
         self.did = false;
         keeps(&self.target, &self.debugger);
     }
@@ -137,7 +145,8 @@ impl<M: Machine + Drop> Link<M> {
     /// `NoMemory` where an allocation was refused; then nothing has changed.
     pub(crate) fn step(&mut self, thread: ObjectId) -> Result<(), NoMemory>
         ensures ok { OnOk result (Goes M.meaning (events.Step thread.0) self.old self.new []) }
-        ensures err { OnErr result ((self.new ≡ self.old) × MayStop M.meaning self.old (events.Step thread.0)) }
+        ensures err { OnErr result ((self.new ≡ self.old)
+            × MayStop M.meaning self.old (events.Step thread.0)) }
     {
         laws::<M>();
         keeps(&self.target, &self.debugger);
@@ -158,7 +167,8 @@ impl<M: Machine + Drop> Link<M> {
     /// `NoMemory` where an allocation was refused; then nothing has changed.
     pub(crate) fn turn_at_target(&mut self) -> Result<(), NoMemory>
         ensures ok { OnOk result (Goes M.meaning events.TargetTurn self.old self.new []) }
-        ensures err { OnErr result ((self.new ≡ self.old) × MayStop M.meaning self.old events.TargetTurn) }
+        ensures err { OnErr result ((self.new ≡ self.old)
+            × MayStop M.meaning self.old events.TargetTurn) }
     {
         laws::<M>();
         keeps(&self.target, &self.debugger);
@@ -178,8 +188,10 @@ impl<M: Machine + Drop> Link<M> {
     /// # Errors
     /// `NoMemory` where an allocation was refused; then nothing has changed.
     pub(crate) fn lose_at_debugger(&mut self, outcomes: &mut Vec<Outcome>) -> Result<(), NoMemory>
-        ensures ok { OnOk result (Tells M.meaning events.DebuggerLoses self.old self.new outcomes.old.items outcomes.new.items) }
-        ensures err { OnErr result (Stops M.meaning events.DebuggerLoses self.old self.new outcomes.old.items outcomes.new.items) }
+        ensures ok { OnOk result (Tells M.meaning events.DebuggerLoses self.old self.new
+            outcomes.old.items outcomes.new.items) }
+        ensures err { OnErr result (Stops M.meaning events.DebuggerLoses self.old self.new
+            outcomes.old.items outcomes.new.items) }
     {
         laws::<M>();
         keeps(&self.target, &self.debugger);
@@ -197,8 +209,10 @@ impl<M: Machine + Drop> Link<M> {
     /// # Errors
     /// `NoMemory` where an allocation was refused; then nothing has changed.
     pub(crate) fn turn_at_debugger(&mut self, outcomes: &mut Vec<Outcome>) -> Result<(), NoMemory>
-        ensures ok { OnOk result (Tells M.meaning events.DebuggerTurn self.old self.new outcomes.old.items outcomes.new.items) }
-        ensures err { OnErr result (Stops M.meaning events.DebuggerTurn self.old self.new outcomes.old.items outcomes.new.items) }
+        ensures ok { OnOk result (Tells M.meaning events.DebuggerTurn self.old self.new
+            outcomes.old.items outcomes.new.items) }
+        ensures err { OnErr result (Stops M.meaning events.DebuggerTurn self.old self.new
+            outcomes.old.items outcomes.new.items) }
     {
         if self.debugger.has_front() {
             outcomes.reserve(TOLD_MOST)?;
@@ -226,8 +240,10 @@ impl<M: Machine + Drop> Link<M> {
     /// `NoMemory` where an allocation was refused; then nothing has changed.
     fn read_at_debugger(&mut self, outcomes: &mut Vec<Outcome>) -> Result<(), NoMemory>
         requires { vec_len outcomes.old + TOLD_MOST ≤ vec_capacity outcomes.old }
-        ensures ok { OnOk result (Tells M.meaning events.DebuggerTurn self.old self.new outcomes.old.items outcomes.new.items) }
-        ensures err { OnErr result (Stops M.meaning events.DebuggerTurn self.old self.new outcomes.old.items outcomes.new.items) }
+        ensures ok { OnOk result (Tells M.meaning events.DebuggerTurn self.old self.new
+            outcomes.old.items outcomes.new.items) }
+        ensures err { OnErr result (Stops M.meaning events.DebuggerTurn self.old self.new
+            outcomes.old.items outcomes.new.items) }
     {
         laws::<M>();
         keeps(&self.target, &self.debugger);
@@ -254,8 +270,10 @@ fn wanted(_fault: DebuggerFault) -> NoMemory
 /// Begins a session at both ends, where neither is open and the machine lives. No ticket may wait at a closed debugger.
 fn begin_session<M: Machine + Drop>(target: &mut Target<M>, debugger: &mut Debugger) -> bool
     requires { is_open debugger.old.end ≡ false → has_tickets debugger.old.pending ≡ false }
-    ensures when { result ≡ (not (is_open target.old.end) && (not (is_open debugger.old.end) && target.old.moment.state.alive)) }
-    ensures begun { result ≡ true → (target.new ≡ targets.opened target.old) × (debugger.new ≡ debuggers.attached debugger.old) }
+    ensures when { result ≡ (not (is_open target.old.end) &&
+        (not (is_open debugger.old.end) && target.old.moment.state.alive)) }
+    ensures begun { result ≡ true → (target.new ≡ targets.opened target.old)
+        × (debugger.new ≡ debuggers.attached debugger.old) }
     ensures same { result ≡ false → (target.new ≡ target.old) × (debugger.new ≡ debugger.old) }
 {
     if debugger.is_open() || !target.accept() {

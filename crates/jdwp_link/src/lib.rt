@@ -1,12 +1,16 @@
 //! A target and a debugger in one process, and the bytes between them: what a debugger shows as suspended is suspended.
 #![tactic(auto)]
 
+mod delivery;
 mod events;
 mod happening;
 mod laws;
 mod link;
 mod moving;
 mod telling;
+mod way;
 
+pub use delivery::deliver;
 pub use events::{LinkEvent, Outcome, Stopped};
 pub use link::Link;
+pub use way::{Memory, Side, Way};

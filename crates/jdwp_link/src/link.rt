@@ -14,6 +14,7 @@ ghost use Rattle.jdwp_link.specs.Told.{event_meanings};
 use crate::events::{LinkEvent, Outcome, Stopped};
 use crate::happening::keeps;
 use crate::laws::laws;
+use crate::way::{Memory, Way};
 use byte_queue::ByteQueue;
 use jdwp_debuggee::Settings;
 use jdwp_debugger::Debugger;
@@ -55,7 +56,8 @@ impl<M: Machine + Drop> Link<M> {
     /// `NoMemory` where an allocation was refused.
     pub fn new(alloc: Global, machine: M, options: TargetOptions) -> Result<Link<M>, NoMemory>
         requires { LivesWithin M.meaning standard_limits machine }
-        ensures link { IfOk result (λ l. l ≡ new_link (settings_at standard_limits options) (record { state = state.new_state (M.meaning.live machine); machine = machine })) }
+        ensures link { IfOk result (λ l. l ≡ new_link (settings_at standard_limits options)
+            (record { state = state.new_state (M.meaning.live machine); machine = machine })) }
         ensures stands { IfOk result (λ l. StandsFor M.meaning l (opening M.meaning machine)) }
     {
         Link::with_settings(alloc, machine, options.settings(Limits::standard()))
@@ -67,7 +69,12 @@ impl<M: Machine + Drop> Link<M> {
     /// `NoMemory` where an allocation was refused.
     pub fn with_settings(alloc: Global, machine: M, settings: Settings) -> Result<Link<M>, NoMemory>
         requires { LivesWithin M.meaning settings.limits machine }
-        ensures link { IfOk result (λ l. l ≡ new_link settings (record { state = state.new_state (M.meaning.live machine); machine = machine })) }
+        ensures link { IfOk result (λ l.
+            l ≡ new_link settings (record {
+              state = state.new_state
+                  (M.meaning.live machine);
+              machine = machine;
+            })) }
         ensures stands { IfOk result (λ l. StandsFor M.meaning l (opening M.meaning machine)) }
     {
         let most = settings.limits().packet() as usize * 2;
@@ -93,17 +100,48 @@ impl<M: Machine + Drop> Link<M> {
     /// a turn of the target at a whole command whose data read and that is none of the twelve short ones; a turn of the debugger at a whole
     /// message; a step that nothing but a thread too many forbids; and a loss at the debugger where tickets wait. No other event does.
     pub fn run(&mut self, events: &[LinkEvent]) -> Result<Vec<Outcome>, Stopped>
-        ensures ok { IfOk result (λ told. Ran M.meaning (event_meanings events.now) self.old self.new told.items) }
-        ensures err { IfErr result (λ stopped. (stopped.event < length events.now) × Ran M.meaning (take stopped.event (event_meanings events.now)) self.old self.new stopped.outcomes.items) }
-        ensures memory { IfErr result (λ stopped. MayStop M.meaning self.new (get_or (event_meanings events.now) stopped.event Attach)) }
+        ensures ok { IfOk result (λ told. Ran M.meaning (event_meanings events.now) self.old
+            self.new told.items) }
+        ensures err { IfErr result (λ stopped. (stopped.event < length events.now)
+            × Ran M.meaning (take stopped.event (event_meanings events.now)) self.old self.new
+            stopped.outcomes.items) }
+        ensures memory { IfErr result (λ stopped.
+            MayStop M.meaning self.new (get_or (event_meanings events.now) stopped.event Attach)) }
         ensures mirror { (x : World M) → StandsFor M.meaning self.new x → MirrorsSeen self.new x }
         ensures held { HoldsSuspended self.new }
         ensures at_most { (x : World M) → StandsFor M.meaning self.new x → CountsAtMost self.new x }
-        ensures stays { (x : World M) → StandsFor M.meaning self.new x → StaysTrue M.meaning self.new x }
+        ensures stays { (x : World M) → StandsFor M.meaning self.new x
+            → StaysTrue M.meaning self.new x }
+    {
+        self.run_over(&mut Memory, events)
+    }
+
+    /// The same, where the bytes that come to an end are carried there by a way, a piece of at most 4,096 bytes at a time: each is carried
+    /// whole before the end is fed with it. What an end had put that lost the connection is not carried. What the way does changes nothing.
+    ///
+    /// # Errors
+    /// Those of `run`.
+    pub fn run_over<W: Way>(
+        &mut self,
+        way: &mut W,
+        events: &[LinkEvent],
+    ) -> Result<Vec<Outcome>, Stopped>
+        ensures ok { IfOk result (λ told. Ran M.meaning (event_meanings events.now) self.old
+            self.new told.items) }
+        ensures err { IfErr result (λ stopped. (stopped.event < length events.now)
+            × Ran M.meaning (take stopped.event (event_meanings events.now)) self.old self.new
+            stopped.outcomes.items) }
+        ensures memory { IfErr result (λ stopped.
+            MayStop M.meaning self.new (get_or (event_meanings events.now) stopped.event Attach)) }
+        ensures mirror { (x : World M) → StandsFor M.meaning self.new x → MirrorsSeen self.new x }
+        ensures held { HoldsSuspended self.new }
+        ensures at_most { (x : World M) → StandsFor M.meaning self.new x → CountsAtMost self.new x }
+        ensures stays { (x : World M) → StandsFor M.meaning self.new x
+            → StaysTrue M.meaning self.new x }
     {
         let mut outcomes = Vec::new(self.alloc);
         for (place, event) in events.iter().enumerate() {
-            if let Err(NoMemory) = self.happen(event, &mut outcomes) {
+            if let Err(NoMemory) = self.happen(way, event, &mut outcomes) {
                 self.shows();
                 return Err(Stopped {
                     event: place,
@@ -120,7 +158,8 @@ impl<M: Machine + Drop> Link<M> {
         ensures mirror { (x : World M) → StandsFor M.meaning self.now x → MirrorsSeen self.now x }
         ensures held { HoldsSuspended self.now }
         ensures at_most { (x : World M) → StandsFor M.meaning self.now x → CountsAtMost self.now x }
-        ensures stays { (x : World M) → StandsFor M.meaning self.now x → StaysTrue M.meaning self.now x }
+        ensures stays { (x : World M) → StandsFor M.meaning self.now x
+            → StaysTrue M.meaning self.now x }
     {
         laws::<M>();
         keeps(&self.target, &self.debugger);

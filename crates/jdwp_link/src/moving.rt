@@ -4,9 +4,10 @@ ghost use Rattle.jdwp_debugger.specs.Debuggers as debuggers;
 ghost use Rattle.jdwp_end.specs.Ends.{room_of};
 ghost use Rattle.jdwp_target.specs.Targets as targets;
 
+use crate::delivery::deliver;
+use crate::way::{Side, Way};
 use byte_queue::ByteQueue;
 use jdwp_debugger::Debugger;
-use jdwp_exchange::{to_debugger, to_target};
 use jdwp_machine::Machine;
 use jdwp_target::Target;
 
@@ -46,41 +47,46 @@ pub(crate) fn queue_to_debugger(
 }
 
 /// Moves so many of the bytes that wait at the debugger to the target, which has room for them.
-pub(crate) fn pieces_to_target<M: Machine + Drop>(
+pub(crate) fn pieces_to_target<M: Machine + Drop, W: Way>(
     debugger: &mut Debugger,
     target: &mut Target<M>,
+    way: &mut W,
     count: usize,
 )
     requires waiting { count ≤ length debugger.old.end.outgoing }
     requires room { count ≤ room_of target.old.end }
-    ensures taken { debugger.new ≡ debuggers.with_taken (take count debugger.old.end.outgoing) debugger.old }
+    ensures taken { debugger.new ≡ debuggers.with_taken (take count debugger.old.end.outgoing)
+        debugger.old }
     ensures fed { target.new ≡ targets.with_fed (take count debugger.old.end.outgoing) target.old }
 {
     let mut buffer = [0; PIECE];
     let mut left = count;
     while left > 0 {
         let piece = left.min(PIECE);
-        to_target(debugger, target, &mut buffer[..piece]);
+        deliver(debugger, target, way, Side::Debugger, &mut buffer[..piece]);
         left -= piece;
     }
 }
 
 /// The same the other way.
-pub(crate) fn pieces_to_debugger<M: Machine + Drop>(
+pub(crate) fn pieces_to_debugger<M: Machine + Drop, W: Way>(
     target: &mut Target<M>,
     debugger: &mut Debugger,
+    way: &mut W,
     count: usize,
 )
     requires waiting { count ≤ length target.old.end.outgoing }
     requires room { count ≤ room_of debugger.old.end }
-    ensures taken { target.new ≡ targets.with_taken (take count target.old.end.outgoing) target.old }
-    ensures fed { debugger.new ≡ debuggers.with_fed (take count target.old.end.outgoing) debugger.old }
+    ensures taken { target.new ≡ targets.with_taken
+        (take count target.old.end.outgoing) target.old }
+    ensures fed { debugger.new ≡ debuggers.with_fed (take count target.old.end.outgoing)
+        debugger.old }
 {
     let mut buffer = [0; PIECE];
     let mut left = count;
     while left > 0 {
         let piece = left.min(PIECE);
-        to_debugger(target, debugger, &mut buffer[..piece]);
+        deliver(target, debugger, way, Side::Target, &mut buffer[..piece]);
         left -= piece;
     }
 }
@@ -89,7 +95,8 @@ pub(crate) fn pieces_to_debugger<M: Machine + Drop>(
 fn keep_target<M: Machine + Drop>(target: &mut Target<M>, queue: &mut ByteQueue)
     requires { length queue.old.bytes + length target.old.end.outgoing ≤ queue.old.capacity }
     ensures taken { target.new ≡ targets.with_taken target.old.end.outgoing target.old }
-    ensures kept { queue.new ≡ record queue.old { bytes = queue.old.bytes ++ target.old.end.outgoing } }
+    ensures kept { queue.new ≡ record
+        queue.old { bytes = queue.old.bytes ++ target.old.end.outgoing } }
 {
     let mut buffer = [0; PIECE];
     let mut left = target.waiting();
@@ -104,7 +111,8 @@ fn keep_target<M: Machine + Drop>(target: &mut Target<M>, queue: &mut ByteQueue)
 pub(crate) fn keep_debugger(debugger: &mut Debugger, queue: &mut ByteQueue)
     requires { length queue.old.bytes + length debugger.old.end.outgoing ≤ queue.old.capacity }
     ensures taken { debugger.new ≡ debuggers.with_taken debugger.old.end.outgoing debugger.old }
-    ensures kept { queue.new ≡ record queue.old { bytes = queue.old.bytes ++ debugger.old.end.outgoing } }
+    ensures kept { queue.new ≡ record
+        queue.old { bytes = queue.old.bytes ++ debugger.old.end.outgoing } }
 {
     let mut buffer = [0; PIECE];
     let mut left = debugger.waiting();
@@ -118,8 +126,10 @@ pub(crate) fn keep_debugger(debugger: &mut Debugger, queue: &mut ByteQueue)
 /// The connection is lost at a target: what waits to leave is kept.
 pub(crate) fn lose_and_keep<M: Machine + Drop>(target: &mut Target<M>, queue: &mut ByteQueue)
     requires { length queue.old.bytes + length target.old.end.outgoing ≤ queue.old.capacity }
-    ensures lost { target.new ≡ targets.lost (targets.with_taken target.old.end.outgoing target.old) }
-    ensures kept { queue.new ≡ record queue.old { bytes = queue.old.bytes ++ target.old.end.outgoing } }
+    ensures lost { target.new
+        ≡ targets.lost (targets.with_taken target.old.end.outgoing target.old) }
+    ensures kept { queue.new ≡ record
+        queue.old { bytes = queue.old.bytes ++ target.old.end.outgoing } }
 {
     keep_target(target, queue);
     target.lose();

@@ -56,9 +56,12 @@ pub(crate) fn read_nothing(debugger: &mut Debugger, alloc: Global)
 
 /// Tells what a turn read, and answers whether it handled a message. It takes no memory.
 pub(crate) fn tell_read(read: Read, outcomes: &mut Vec<Outcome>) -> bool
-    requires { vec_len outcomes.old + length (outcomes_of (turns.told read)) ≤ vec_capacity outcomes.old }
-    ensures items { outcomes.new.items ≡ outcomes.old.items ++ told (outcomes_of (turns.told read)) }
-    ensures len { vec_len outcomes.new ≡ vec_len outcomes.old + length (outcomes_of (turns.told read)) }
+    requires { vec_len outcomes.old + length (outcomes_of (turns.told read))
+        ≤ vec_capacity outcomes.old }
+    ensures items { outcomes.new.items ≡ outcomes.old.items ++ told
+        (outcomes_of (turns.told read)) }
+    ensures len { vec_len outcomes.new ≡ vec_len outcomes.old + length
+        (outcomes_of (turns.told read)) }
     ensures capacity { vec_capacity outcomes.new ≡ vec_capacity outcomes.old }
     ensures did { result ≡ told_did (turns.told read) }
 {
@@ -94,11 +97,16 @@ fn tell_seen(composites: Vec<Composite>, outcomes: &mut Vec<Outcome>)
 
 /// Where tickets wait at an end that closed, they are lost and told, and what waits to leave is kept. It takes no memory.
 pub(crate) fn settle(debugger: &mut Debugger, queue: &mut ByteQueue, outcomes: &mut Vec<Outcome>)
-    requires kept { is_left debugger.old ≡ true → length queue.old.bytes + length debugger.old.end.outgoing ≤ queue.old.capacity }
+    requires kept { is_left debugger.old ≡ true
+        → length queue.old.bytes + length debugger.old.end.outgoing ≤ queue.old.capacity }
     requires told { vec_len outcomes.old + PENDING_MOST ≤ vec_capacity outcomes.old }
     ensures debugger { debugger.new ≡ settled_debugger (is_left debugger.old) debugger.old }
-    ensures queue { queue.new ≡ record queue.old { bytes = settled_bytes (is_left debugger.old) debugger.old queue.old.bytes } }
-    ensures told { outcomes.new.items ≡ outcomes.old.items ++ lost_where (is_left debugger.old) debugger.old }
+    ensures queue { queue.new ≡ record queue.old {
+      bytes = settled_bytes (is_left debugger.old)
+          debugger.old queue.old.bytes;
+    } }
+    ensures told { outcomes.new.items ≡ outcomes.old.items ++ lost_where (is_left debugger.old)
+        debugger.old }
 {
     if has_left(debugger) {
         lose_and_tell(debugger, queue, outcomes);
@@ -112,10 +120,14 @@ pub(crate) fn lose_and_tell(
     outcomes: &mut Vec<Outcome>,
 )
     requires kept { length queue.old.bytes + length debugger.old.end.outgoing ≤ queue.old.capacity }
-    requires told { has_tickets debugger.old.pending ≡ true → vec_len outcomes.old + PENDING_MOST ≤ vec_capacity outcomes.old }
-    ensures debugger { debugger.new ≡ debuggers.lost (debuggers.with_taken debugger.old.end.outgoing debugger.old) }
-    ensures queue { queue.new ≡ record queue.old { bytes = queue.old.bytes ++ debugger.old.end.outgoing } }
-    ensures told { outcomes.new.items ≡ outcomes.old.items ++ lost_of (tickets_of debugger.old.pending) }
+    requires told { has_tickets debugger.old.pending ≡ true → vec_len outcomes.old + PENDING_MOST
+        ≤ vec_capacity outcomes.old }
+    ensures debugger { debugger.new ≡ debuggers.lost (debuggers.with_taken debugger.old.end.outgoing
+        debugger.old) }
+    ensures queue { queue.new
+        ≡ record queue.old { bytes = queue.old.bytes ++ debugger.old.end.outgoing } }
+    ensures told { outcomes.new.items ≡ outcomes.old.items ++ lost_of
+        (tickets_of debugger.old.pending) }
 {
     keep_debugger(debugger, queue);
     let lost = debugger.lose();
@@ -138,7 +150,8 @@ pub(crate) fn have_tickets(debugger: &Debugger) -> bool
 
 /// Tells the tickets that are lost. It takes no memory.
 fn tell_lost(tickets: &[Ticket], outcomes: &mut Vec<Outcome>)
-    requires { 0 < length tickets.now → vec_len outcomes.old + length tickets.now ≤ vec_capacity outcomes.old }
+    requires { 0 < length tickets.now → vec_len outcomes.old + length tickets.now
+        ≤ vec_capacity outcomes.old }
     ensures { outcomes.new.items ≡ outcomes.old.items ++ lost_of tickets.now }
 {
     for ticket in tickets {

@@ -56,7 +56,8 @@ pub trait Machine {
     fn query(&self, query: &Query) -> Result<Answer, NoMemory>
         ensures value { IfOk result (λ answer. answer ≡ meaning.query self.now query.now) }
         // A refusal takes no memory.
-        ensures memory { IfErr result (λ _. IsTrue (takes_memory (meaning.query self.now query.now))) };
+        ensures memory { IfErr result (λ _.
+            IsTrue (takes_memory (meaning.query self.now query.now))) };
 
     /// Writes slots of a frame of a live thread, all of them or none.
     ///
@@ -68,10 +69,13 @@ pub trait Machine {
         frame: FrameId,
         values: &[(i32, Value)],
     ) -> Result<Answer, NoMemory>
-        ensures ok { IfOk result (λ answer. (answer ≡ meaning.write_answer self.old thread.0 frame.0 values.now) × (self.new ≡ meaning.written self.old thread.0 frame.0 values.now)) }
+        ensures ok { IfOk result (λ answer.
+            (answer ≡ meaning.write_answer self.old thread.0 frame.0 values.now)
+            × (self.new ≡ meaning.written self.old thread.0 frame.0 values.now)) }
         ensures err { OnErr result (self.new ≡ self.old) }
         // A refusal takes no memory.
-        ensures memory { IfErr result (λ _. IsTrue (takes_memory (meaning.write_answer self.old thread.0 frame.0 values.now))) };
+        ensures memory { IfErr result (λ _.
+            IsTrue (takes_memory (meaning.write_answer self.old thread.0 frame.0 values.now))) };
 
     /// What every machine keeps.
     ghost lawful: { IsLawful meaning };

@@ -18,7 +18,7 @@ use std::alloc::Global;
 use std::marker::Model;
 
 /// What a command carries.
-#[derive(Drop)]
+#[derive(Debug, Drop)]
 pub enum Carried {
     /// Data in the layout of the command's row.
     Content(Data),
@@ -27,7 +27,7 @@ pub enum Carried {
 }
 
 /// A command: its set, its number and what it carries (JDWP specification, "Protocol Details").
-#[derive(Drop)]
+#[derive(Debug, Drop)]
 pub struct Command {
     set: u8,
     number: u8,
@@ -78,7 +78,12 @@ pub enum Act {
 impl Command {
     /// A command that carries data.
     pub fn new(set: u8, number: u8, items: Vec<Datum>) -> Command
-        ensures { result ≡ record { set = set; number = number; carried = actions.Content (meanings items.items) } }
+        ensures { result ≡ record {
+          set = set;
+          number = number;
+          carried = actions.Content
+              (meanings items.items);
+        } }
     {
         Command {
             set,
@@ -89,7 +94,12 @@ impl Command {
 
     /// A command that carries bytes, of a row whose data are not read.
     pub fn raw(set: u8, number: u8, bytes: Vec<u8>) -> Command
-        ensures { result ≡ record { set = set; number = number; carried = actions.Raw bytes.items } }
+        ensures { result ≡ record {
+          set = set;
+          number = number;
+          carried = actions.Raw
+              bytes.items;
+        } }
     {
         Command {
             set,

@@ -72,7 +72,8 @@ fn widths_of(
     reference: &Datum,
     frame: &Datum,
 ) -> Option<IdSizes>
-    ensures { result ≡ widths_if (datum_meaning field.now ∷ datum_meaning method.now ∷ datum_meaning object.now ∷ datum_meaning reference.now ∷ datum_meaning frame.now ∷ []) }
+    ensures { result ≡ widths_if (datum_meaning field.now ∷ datum_meaning method.now ∷ datum_meaning
+        object.now ∷ datum_meaning reference.now ∷ datum_meaning frame.now ∷ []) }
 {
     match IdSizes::new(
         width_in(field),

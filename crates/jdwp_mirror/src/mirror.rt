@@ -98,7 +98,8 @@ impl Mirror {
         command: &Command,
         answer: &Answer,
     ) -> Result<(), NoMemory>
-        ensures ok { OnOk result ((ticket : Ticket) → Learned self.old (Reply ticket command.now answer.now) self.new) }
+        ensures ok { OnOk result ((ticket : Ticket)
+            → Learned self.old (Reply ticket command.now answer.now) self.new) }
         ensures err { OnErr result (self.new ≡ self.old) }
         ensures memory { OnErr result (IsData answer.now) }
     {
@@ -116,7 +117,10 @@ impl Mirror {
     }
 
     fn learn_error(&mut self, command: &Command, error: ErrorCode)
-        ensures { self.new ≡ record self.old { threads = threads_after_error (id_found (thread_of command.now)) error self.old.threads } }
+        ensures { self.new ≡ record self.old {
+          threads = threads_after_error
+              (id_found (thread_of command.now)) error self.old.threads;
+        } }
     {
         if let Some(thread) = command.thread() {
             if error == ErrorCode::INVALID_THREAD {
@@ -126,8 +130,11 @@ impl Mirror {
     }
 
     fn learn_data(&mut self, alloc: Global, command: &Command, reply: &Data) -> Result<(), NoMemory>
-        ensures threads { OnOk result (self.new.threads ≡ threads_after_data (act_of (action_of command.now)) (id_found (thread_of command.now)) reply.now self.old.threads) }
-        ensures requests { OnOk result (self.new.requests ≡ requests_after_act (act_of (action_of command.now)) command.now.carried reply.now self.old.requests) }
+        ensures threads { OnOk result (self.new.threads ≡ threads_after_data
+            (act_of (action_of command.now)) (id_found (thread_of command.now)) reply.now
+            self.old.threads) }
+        ensures requests { OnOk result (self.new.requests ≡ requests_after_act
+            (act_of (action_of command.now)) command.now.carried reply.now self.old.requests) }
         ensures err { OnErr result (self.new ≡ self.old) }
     {
         match command.act() {
@@ -143,8 +150,10 @@ impl Mirror {
         command: &Command,
         reply: &Data,
     ) -> Result<(), NoMemory>
-        ensures threads { OnOk result (self.new.threads ≡ threads_after_others act (id_found (thread_of command.now)) reply.now self.old.threads) }
-        ensures requests { OnOk result (self.new.requests ≡ requests_after_others act command.now.carried reply.now self.old.requests) }
+        ensures threads { OnOk result (self.new.threads ≡ threads_after_others act
+            (id_found (thread_of command.now)) reply.now self.old.threads) }
+        ensures requests { OnOk result (self.new.requests
+            ≡ requests_after_others act command.now.carried reply.now self.old.requests) }
         ensures err { OnErr result (self.new ≡ self.old) }
     {
         let thread = command.thread();
@@ -161,7 +170,8 @@ impl Mirror {
     pub fn learn_composite(&mut self, composite: &Composite) -> Result<(), NoMemory>
         ensures ok { OnOk result (Learned self.old (Report composite.now) self.new) }
         ensures err { OnErr result (self.new ≡ self.old) }
-        ensures memory { OnErr result (IsOfUnknown self.old.threads (composite_thread composite.now)) }
+        ensures memory { OnErr result (IsOfUnknown self.old.threads
+            (composite_thread composite.now)) }
     {
         self.threads.are_sound();
         if has_event_of(composite, EventKind::VmDeath) {
@@ -173,9 +183,13 @@ impl Mirror {
     }
 
     fn learn_event(&mut self, composite: &Composite) -> Result<(), NoMemory>
-        ensures ok { OnOk result (self.new ≡ record self.old { threads = threads_after_event (id_found (composite_thread composite.now)) composite.now self.old.threads }) }
+        ensures ok { OnOk result (self.new ≡ record self.old {
+          threads = threads_after_event
+              (id_found (composite_thread composite.now)) composite.now self.old.threads;
+        }) }
         ensures err { OnErr result (self.new ≡ self.old) }
-        ensures memory { OnErr result (IsOfUnknown self.old.threads (composite_thread composite.now)) }
+        ensures memory { OnErr result (IsOfUnknown self.old.threads
+            (composite_thread composite.now)) }
     {
         let thread = thread_in(composite);
         if has_event_of(composite, EventKind::ThreadDeath)

@@ -56,7 +56,8 @@ pub fn listed_in(alloc: Global, reply: &Data) -> Result<BTreeSet<u64>, NoMemory>
 }
 
 fn listed_in_items(alloc: Global, items: &[Datum]) -> Result<BTreeSet<u64>, NoMemory>
-    ensures { IfOk result (λ listed. (t : ℕ) → contains nat_cmp listed t ≡ lists (meanings items.now) t) }
+    ensures { IfOk result (λ listed. (t : ℕ) → contains nat_cmp listed t
+        ≡ lists (meanings items.now) t) }
 {
     match items {
         [Datum::Many(entries)] => listed_among(alloc, entries),
@@ -65,7 +66,8 @@ fn listed_in_items(alloc: Global, items: &[Datum]) -> Result<BTreeSet<u64>, NoMe
 }
 
 fn listed_among(alloc: Global, entries: &[Vec<Scalar>]) -> Result<BTreeSet<u64>, NoMemory>
-    ensures { IfOk result (λ listed. (t : ℕ) → contains nat_cmp listed t ≡ list_any (begins_with_object t) (entry_meanings entries.now)) }
+    ensures { IfOk result (λ listed. (t : ℕ) → contains nat_cmp listed t
+        ≡ list_any (begins_with_object t) (entry_meanings entries.now)) }
 {
     let mut listed = BTreeSet::new(alloc);
     for entry in entries {

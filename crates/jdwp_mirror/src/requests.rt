@@ -23,7 +23,7 @@ use std::marker::Model;
 ///
 /// The kind and the policy are the bytes that were asked, and the id is the int that was answered, since a peer may take others
 /// than the specification's.
-#[derive(Drop)]
+#[derive(Debug, Drop)]
 pub struct KeptRequest {
     id: i32,
     kind: u8,
@@ -118,7 +118,8 @@ impl KeptRequests {
     /// # Errors
     /// `NoMemory` where an allocation was refused; nothing has changed.
     pub fn add(&mut self, alloc: Global, carried: &Carried, reply: &Data) -> Result<(), NoMemory>
-        ensures ok { OnOk result (self.new ≡ requests_after_data (set_action (carried_meaning carried.now)) reply.now self.old) }
+        ensures ok { OnOk result (self.new ≡ requests_after_data
+            (set_action (carried_meaning carried.now)) reply.now self.old) }
         ensures err { OnErr result (self.new ≡ self.old) }
     {
         match carried {
@@ -128,7 +129,9 @@ impl KeptRequests {
     }
 
     fn add_asked(&mut self, alloc: Global, asked: &[Datum], id: Option<i32>) -> Result<(), NoMemory>
-        ensures ok { OnOk result ((content : List DatumMeaning) → id ≡ given_id content → self.new ≡ requests_after_data (set_action (actions.Content (meanings asked.now))) content self.old) }
+        ensures ok { OnOk result ((content : List DatumMeaning) → id ≡ given_id content
+            → self.new ≡ requests_after_data (set_action (actions.Content (meanings asked.now)))
+            content self.old) }
         ensures err { OnErr result (self.new ≡ self.old) }
     {
         match (asked, id) {
@@ -149,7 +152,8 @@ impl KeptRequests {
 
     /// Removes what a command asked to be removed.
     pub fn remove_by(&mut self, act: Act, carried: &Carried)
-        ensures { (content : List DatumMeaning) → self.new ≡ requests_after_others act (carried_meaning carried.now) content self.old }
+        ensures { (content : List DatumMeaning)
+            → self.new ≡ requests_after_others act (carried_meaning carried.now) content self.old }
     {
         match act {
             Act::Clear => self.remove_asked(carried),
@@ -160,7 +164,9 @@ impl KeptRequests {
     }
 
     fn remove_asked(&mut self, carried: &Carried)
-        ensures { (content : List DatumMeaning) → self.new ≡ requests_after_data (clear_action (carried_meaning carried.now)) content self.old }
+        ensures { (content : List DatumMeaning)
+            → self.new ≡ requests_after_data (clear_action (carried_meaning carried.now))
+            content self.old }
     {
         match carried {
             Carried::Content(asked) => self.remove_in(asked.items()),
@@ -169,7 +175,9 @@ impl KeptRequests {
     }
 
     fn remove_in(&mut self, asked: &[Datum])
-        ensures { (content : List DatumMeaning) → self.new ≡ requests_after_data (clear_action (actions.Content (meanings asked.now))) content self.old }
+        ensures { (content : List DatumMeaning)
+            → self.new ≡ requests_after_data (clear_action (actions.Content (meanings asked.now)))
+            content self.old }
     {
         match asked {
             [Datum::One(Scalar::Byte(kind)), Datum::One(Scalar::Int(id))] => {
@@ -184,7 +192,8 @@ impl KeptRequests {
     /// # Errors
     /// `NoMemory` where an allocation was refused; nothing has changed.
     pub fn put(&mut self, request: KeptRequest) -> Result<(), NoMemory>
-        ensures ok { OnOk result (self.new ≡ filter (has_other_id request.id) self.old ++ request ∷ []) }
+        ensures ok { OnOk result (self.new
+            ≡ filter (has_other_id request.id) self.old ++ request ∷ []) }
         ensures err { OnErr result (self.new ≡ self.old) }
     {
         self.entries.reserve(1)?;
@@ -226,7 +235,8 @@ pub(crate) fn modifiers_in(
     alloc: Global,
     entries: &[Vec<Scalar>],
 ) -> Result<Vec<Modifier>, NoMemory>
-    ensures { IfOk result (λ modifiers. modifiers_meaning modifiers ≡ modifiers_of (entry_meanings entries.now)) }
+    ensures { IfOk result (λ modifiers. modifiers_meaning modifiers
+        ≡ modifiers_of (entry_meanings entries.now)) }
 {
     let mut modifiers = Vec::with_capacity(alloc, entries.len())?;
     for entry in entries {

@@ -400,7 +400,8 @@ fn next_number(entries: &BTreeMap<u64, Known>) -> Result<u64, NoMemory>
 }
 
 fn teach_all(entries: &mut BTreeMap<u64, Known>, lesson: Lesson)
-    ensures entries { entries.new.entries ≡ map (λ e. (e.0, taught_by lesson e.1)) entries.old.entries }
+    ensures entries { entries.new.entries ≡ map (λ e.
+        (e.0, taught_by lesson e.1)) entries.old.entries }
     ensures ordered { IsOrdered nat_cmp entries.new }
 {
     // All are retained: this says of each what it becomes.

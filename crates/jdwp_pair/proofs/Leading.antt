@@ -104,3 +104,17 @@ moves-as m old new k a = leads-counted m old new k 0 0 a (omega arith)
 
 pub moves-lead : {S : Type 0} (m : Meaning S) (old new : Link S) (x : ℕ) → Moves m old new → Leads m old new x x
 moves-lead m old new x a = leads-counted m old new 0 x x a (omega arith)
+
+-- what was counted is left out
+pub leads-move : {S : Type 0} (m : Meaning S) (old new : Link S) (x y : ℕ) → Leads m old new x y → Moves m old new
+leads-move m old new x y a = record { events = a.events; outcomes = a.outcomes; of_round = a.of_round; ran = a.ran; counted = omega arith }
+
+pub moves-on : {S : Type 0} (m : Meaning S) (old mid new : Link S) → Moves m old mid → Moves m mid new → Moves m old new
+moves-on m old mid new a b = leads-on m old mid new 0 0 0 a b
+
+pub moves-then : {S : Type 0} (m : Meaning S) (old mid late new : Link S) → Moves m old mid → Moves m mid late → Moves m late new → Moves m old new
+moves-then m old mid late new a b c = moves-on m old late new (moves-on m old mid late a b) c
+
+-- events of which none was counted, and others behind them
+pub leads-then : {S : Type 0} (m : Meaning S) (old mid late new : Link S) (x y z : ℕ) → Leads m old mid x y → Moves m mid late → Leads m late new y z → Leads m old new x z
+leads-then m old mid late new x y z a b c = leads-on m old late new x y z (leads-on m old mid late x y y a (moves-lead m mid late y b)) c

@@ -1,2 +1,4 @@
+pub mod Connections
 pub mod Events
+pub mod Loopbacks
 pub mod PlanRuns

@@ -1,10 +1,12 @@
 //! The commands that a plan asks.
-ghost use Rattle.std.specs.Prelude.{◌≡◌, IfErr, IfOk, None, OnOk, Some};
+ghost use Rattle.std.specs.Prelude.{◌≡◌, false, IfErr, IfOk, None, OnOk, Some, is_some};
 ghost use Rattle.jdwp_debugger.specs.RefusedNumbers.{refused_number};
 ghost use Rattle.jdwp_pair.specs.declared.asking.Unread.TheVariants as unread;
+ghost use Rattle.jdwp_pair.specs.Connections.{disconnects};
 ghost use Rattle.jdwp_pair.specs.Events.{refusal_in};
 ghost use Rattle.jdwp_pair.specs.PlanRuns.{AsksFor, EndsAsking, command_by};
 
+use crate::connection::Connection;
 use crate::ended::PairEnded;
 use crate::happening::happen;
 use crate::run::{Run, Waiting};
@@ -32,26 +34,40 @@ impl From<AllocError> for Unread {
     }
 }
 
+/// What a line asks: a command, and its data as they stand in the packet.
+#[derive(Clone, Copy)]
+pub(crate) struct Asked<'a> {
+    pub set: u8,
+    pub number: u8,
+    pub data: &'a [u8],
+}
+
 /// Asks the command of the line at this place, counted from 1.
 ///
 /// # Errors
-/// `RefusedLine` with the place and the number of the refusal: 36 where the bytes do not read by the layout of the request, else that of the
-/// debugger. `NoMemory` where an allocation was refused.
-pub(crate) fn ask_line<M: Machine + Drop>(
+/// `RefusedLine` with the place and the number of the refusal: 36 where the data do not read by the layout of the request, else that of the
+/// debugger. `NoMemory` where an allocation was refused; `LostConnection`.
+pub(crate) fn ask_line<M: Machine + Drop, C: Connection>(
     alloc: Global,
     link: &mut Link<M>,
+    connection: &mut C,
     run: &mut Run,
     place: usize,
-    set: u8,
-    number: u8,
-    bytes: &[u8],
+    asked: Asked<'_>,
 ) -> Result<(), PairEnded>
-    ensures asks { OnOk result (AsksFor M.meaning (command_by link.old.debugger.sizes set number bytes.now) link.old link.new) }
-    ensures ends { IfErr result (λ ended. EndsAsking M.meaning (command_by link.old.debugger.sizes set number bytes.now) place ended link.old link.new) }
+    requires { is_some (C.failed_by connection.old) ≡ false }
+    ensures asks { OnOk result (AsksFor M.meaning
+        (command_by link.old.debugger.sizes asked.entry.set asked.entry.number asked.entry.data.now)
+        link.old link.new) }
+    ensures ends { IfErr result (λ ended.
+        EndsAsking M.meaning (command_by link.old.debugger.sizes asked.entry.set asked.entry.number
+        asked.entry.data.now) place ended link.old link.new) }
     ensures carried { run.new.carried ≡ run.old.carried }
     ensures composites { run.new.composites ≡ run.old.composites }
+    ensures failed { is_some (C.failed_by connection.new) ≡ disconnects result }
 {
-    let command = match command_of(alloc, link.debugger().sizes(), set, number, bytes) {
+    let (set, number) = (asked.set, asked.number);
+    let command = match command_of(alloc, link.debugger().sizes(), set, number, asked.data) {
         Ok(command) => command,
         Err(Unread::NoMemory) => return Err(PairEnded::NoMemory),
         Err(Unread::BadData) => return Err(refused_at(place, Refused::BadCommand)),
@@ -59,9 +75,7 @@ pub(crate) fn ask_line<M: Machine + Drop>(
     if run.waiting.reserve(1).is_err() {
         return Err(PairEnded::NoMemory);
     }
-    let Ok(outcomes) = happen(link, LinkEvent::Ask(command)) else {
-        return Err(PairEnded::NoMemory);
-    };
+    let outcomes = happen(link, connection, LinkEvent::Ask(command))?;
     if let Some(refused) = refusal_in(&outcomes) {
         return Err(refused_at(place, refused));
     }
@@ -98,7 +112,8 @@ fn command_of(
     bytes: &[u8],
 ) -> Result<Command, Unread>
     ensures ok { IfOk result (λ command. command_by sizes set number bytes.now ≡ Some command) }
-    ensures err { IfErr result (λ e. e ≡ Unread.BadData → command_by sizes set number bytes.now ≡ None) }
+    ensures err { IfErr result (λ e. e ≡ Unread.BadData
+        → command_by sizes set number bytes.now ≡ None) }
 {
     let Some(sizes) = sizes else {
         return Ok(Command::raw(set, number, Vec::from_slice(alloc, bytes)?));

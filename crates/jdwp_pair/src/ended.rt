@@ -3,7 +3,8 @@
 /// Why a run of both ends ended.
 #[derive(Clone, Copy, Debug, PartialEq, Eq)]
 pub enum PairEnded {
-    /// The plan was carried out and what it asked was answered, or the debugger disposed of the session, or the machine is dead.
+    /// The plan was carried out and what it asked was answered, or the debugger read that the session is over: it was disposed of, or the
+    /// machine is dead.
     Done,
     /// The command of a line of the plan was refused.
     RefusedLine {
@@ -14,6 +15,8 @@ pub enum PairEnded {
     },
     /// A write of what is printed failed, or took 0 of some bytes, or a flush failed.
     LostByWrite,
+    /// What joins both ends failed, and `failure` of it says why. No line of a plan does that.
+    LostConnection,
     /// An allocation was refused.
     NoMemory,
     /// All rounds were used, or nothing happened in one.

@@ -1,54 +1,86 @@
 //! One event at a time.
-ghost use Rattle.std.specs.Prelude.{◌∷◌, [], IfOk, OnErr};
+ghost use Rattle.std.specs.Prelude.{◌≡◌, ◌∷◌, [], IfErr, IfOk, OnOk, is_some};
 ghost use Rattle.jdwp_model.specs.Events as events;
 ghost use Rattle.jdwp_link.specs.Clauses.{Ran};
 ghost use Rattle.jdwp_link.specs.Told.{event_meaning};
-ghost use Rattle.jdwp_pair.specs.Events.{Happens, IsOfRound, Leads, Moves, Stays, seen_in};
+ghost use Rattle.jdwp_pair.specs.Connections.{disconnects};
+ghost use Rattle.jdwp_pair.specs.Events.{Happens, IsOfRound, Leads, Moves, seen_in};
+ghost use Rattle.jdwp_pair.specs.PlanRuns.{EndsAt, EndsMoving};
 
+use crate::connection::Connection;
+use crate::ended::PairEnded;
+use crate::standing::may_begin;
 use jdwp_link::{Link, LinkEvent, Outcome};
 use jdwp_machine::Machine;
-use jdwp_wire::NoMemory;
 
 /// Does this event, and answers what is told of it.
 ///
 /// # Errors
-/// `NoMemory` where an allocation was refused; then it did not happen.
-pub(crate) fn happen<M: Machine + Drop>(
+/// `LostConnection` where the connection failed; `NoMemory` where an allocation was refused, and then it did not happen.
+pub(crate) fn happen<M: Machine + Drop, C: Connection>(
     link: &mut Link<M>,
+    connection: &mut C,
     event: LinkEvent,
-) -> Result<Vec<Outcome>, NoMemory>
-    ensures ok { IfOk result (λ told. Ran M.meaning (event_meaning event ∷ []) link.old link.new told.items) }
-    ensures err { OnErr result (Stays M.meaning link.old link.new) }
+) -> Result<Vec<Outcome>, PairEnded>
+    ensures ok { IfOk result (λ told.
+        Ran M.meaning (event_meaning event ∷ []) link.old link.new told.items) }
+    ensures ends { IfErr result (λ ended.
+        EndsAt M.meaning (event_meaning event) ended link.old link.new) }
+    ensures failed { is_some (C.failed_by connection.new) ≡ disconnects result }
 {
     let events = [event];
-    match link.run(&events) {
+    let ran = link.run_over(connection, &events);
+    if connection.failure().is_some() {
+        return Err(PairEnded::LostConnection);
+    }
+    match ran {
         Ok(outcomes) => Ok(outcomes),
-        Err(_) => Err(NoMemory),
+        Err(_) => Err(PairEnded::NoMemory),
     }
 }
 
 /// The same of an event of a round.
 ///
 /// # Errors
-/// `NoMemory` where an allocation was refused; then it did not happen.
-pub(crate) fn act<M: Machine + Drop>(
+/// Those of `happen`.
+pub(crate) fn act<M: Machine + Drop, C: Connection>(
     link: &mut Link<M>,
+    connection: &mut C,
     event: LinkEvent,
-) -> Result<Vec<Outcome>, NoMemory>
+) -> Result<Vec<Outcome>, PairEnded>
     requires { IsOfRound (event_meaning event) }
+    ensures happens { OnOk result (Happens M.meaning (event_meaning event) link.old link.new) }
     ensures leads { IfOk result (λ told. Leads M.meaning link.old link.new 0 (seen_in told.items)) }
     ensures moves { Moves M.meaning link.old link.new }
+    ensures ends { IfErr result EndsMoving }
+    ensures failed { is_some (C.failed_by connection.new) ≡ disconnects result }
 {
-    happen(link, event)
+    happen(link, connection, event)
 }
 
-/// A session begins, where both ends are closed, no ticket waits and the machine lives.
-pub(crate) fn begin<M: Machine + Drop>(link: &mut Link<M>)
-    ensures { Happens M.meaning events.Attach link.old link.new }
+/// A session begins, where it may: on a new connection.
+///
+/// # Errors
+/// `LostConnection` where the connection failed.
+pub(crate) fn attach<M: Machine + Drop, C: Connection>(
+    link: &mut Link<M>,
+    connection: &mut C,
+) -> Result<(), PairEnded>
+    ensures attaches { Happens M.meaning events.Attach link.old link.new }
+    ensures ends { IfErr result (λ ended. ended ≡ PairEnded.LostConnection) }
+    ensures failed { is_some (C.failed_by connection.new) ≡ disconnects result }
 {
+    let begins = may_begin(link);
     let events = [LinkEvent::Attach];
-    match link.run(&events) {
+    match link.run_over(connection, &events) {
         Ok(_) => {}
         Err(_) => unreachable!(),
+    }
+    if begins {
+        connection.attach();
+    }
+    match connection.failure() {
+        Some(_) => Err(PairEnded::LostConnection),
+        None => Ok(()),
     }
 }

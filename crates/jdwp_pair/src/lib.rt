@@ -2,14 +2,20 @@
 #![tactic(auto)]
 
 mod asking;
+mod connection;
 mod ended;
 mod happening;
 mod lines;
+mod loopback;
+mod losing;
 mod pairing;
 mod parts;
 mod run;
+mod standing;
 mod stepping;
 mod telling;
 
+pub use connection::Connection;
 pub use ended::PairEnded;
+pub use loopback::Loopback;
 pub use pairing::{pair, pair_script, pair_session};

@@ -1,16 +1,21 @@
 //! The lines of a plan.
-ghost use Rattle.std.specs.Prelude.{◌≡◌, ◌≤◌, false, IfErr, IsTrue, OnOk, length};
+ghost use Rattle.std.specs.Prelude.{◌≡◌, ◌≤◌, false, IfErr, IsTrue, OnOk, is_some, length};
 ghost use Rattle.jdwp_debugger.specs.Debuggers.{has_tickets};
-ghost use Rattle.jdwp_pair.specs.PlanRuns.{CarriesOut, EndsLine, EndsSo, GoesOn, IsDue};
+ghost use Rattle.jdwp_pair.specs.Connections.{disconnects};
+ghost use Rattle.jdwp_pair.specs.PlanRuns.{CarriesOut, EndsLine, EndsSo, GoesOn, IsDue, counted_behind};
 
-use crate::asking::ask_line;
+use crate::asking::{Asked, ask_line};
+use crate::connection::Connection;
 use crate::ended::PairEnded;
+use crate::happening::attach;
+use crate::losing::{lose_debugger, lose_target};
 use crate::run::Run;
+use crate::standing::{awaits_answers, may_begin};
 use crate::telling::tell_mirror;
 use jdwp_debugger::Debugger;
-use jdwp_engine::Pipe;
 use jdwp_link::Link;
 use jdwp_machine::Machine;
+use jdwp_pipe::Pipe;
 use jdwp_plan::PlanLine;
 use std::alloc::Global;
 
@@ -18,26 +23,31 @@ use std::alloc::Global;
 ///
 /// # Errors
 /// Why the run ends: `RefusedLine` where a command is not asked; `LostByWrite` where a write failed; `NoMemory` where an allocation was
-/// refused.
-pub(crate) fn next_line<M: Machine + Drop, W: Pipe>(
+/// refused; `LostConnection`.
+pub(crate) fn next_line<M: Machine + Drop, C: Connection, W: Pipe>(
     alloc: Global,
     link: &mut Link<M>,
+    connection: &mut C,
     plan: &[PlanLine],
     out: &mut W,
     run: &mut Run,
 ) -> Result<bool, PairEnded>
-    ensures goes { OnOk result (GoesOn M.meaning plan.now run.old.carried run.old.composites link.old run.new.carried run.new.composites link.new) }
-    ensures ends { IfErr result (λ ended. EndsSo M.meaning plan.now run.old.carried run.old.composites link.old ended link.new) }
+    requires { is_some (C.failed_by connection.old) ≡ false }
+    ensures goes { OnOk result (GoesOn M.meaning plan.now run.old.carried run.old.composites
+        link.old run.new.carried run.new.composites link.new) }
+    ensures ends { IfErr result (λ ended.
+        EndsSo M.meaning plan.now run.old.carried run.old.composites link.old ended link.new) }
+    ensures failed { is_some (C.failed_by connection.new) ≡ disconnects result }
 {
     if !run.begun || run.carried >= plan.len() {
         return Ok(false);
     }
     let line = &plan[run.carried];
-    if !is_due(link.debugger(), line, run.composites) {
+    if !is_due(link, line, run.composites) {
         return Ok(false);
     }
     let place = run.carried + 1;
-    match carry_out(alloc, link, line, out, run, place) {
+    match carry_out(alloc, link, connection, line, out, run, place) {
         Ok(()) => {
             run.carried = place;
             Ok(true)
@@ -46,15 +56,17 @@ pub(crate) fn next_line<M: Machine + Drop, W: Pipe>(
     }
 }
 
-/// Whether a line can be carried out now, so many composites having been read.
-fn is_due(debugger: &Debugger, line: &PlanLine, composites: u64) -> bool
-    ensures { IsTrue result → IsDue line.now composites debugger.now }
+/// Whether a line can be carried out now, so many composites having been read in the session.
+fn is_due<M: Machine + Drop>(link: &Link<M>, line: &PlanLine, composites: u64) -> bool
+    ensures { IsTrue result → IsDue M.meaning line.now composites link.now }
 {
+    let debugger = link.debugger();
     match line {
         PlanLine::Ask { .. } => debugger.sizes().is_some() || !debugger.is_open(),
-        PlanLine::Answers => debugger.unanswered(0).is_none(),
+        PlanLine::Answers => !awaits_answers(debugger),
         PlanLine::Events(count) => composites >= u64::from(*count),
-        PlanLine::Mirror => true,
+        PlanLine::Mirror | PlanLine::LoseTarget | PlanLine::LoseDebugger => true,
+        PlanLine::Attach => may_begin(link),
     }
 }
 
@@ -62,34 +74,52 @@ fn is_due(debugger: &Debugger, line: &PlanLine, composites: u64) -> bool
 ///
 /// # Errors
 /// Those of `next_line`.
-fn carry_out<M: Machine + Drop, W: Pipe>(
+fn carry_out<M: Machine + Drop, C: Connection, W: Pipe>(
     alloc: Global,
     link: &mut Link<M>,
+    connection: &mut C,
     line: &PlanLine,
     out: &mut W,
     run: &mut Run,
     place: usize,
 ) -> Result<(), PairEnded>
+    requires { is_some (C.failed_by connection.old) ≡ false }
     ensures carries { OnOk result (CarriesOut M.meaning line.now link.old link.new) }
-    ensures ends { IfErr result (λ ended. EndsLine M.meaning line.now place ended link.old link.new) }
+    ensures ends { IfErr result (λ ended.
+        EndsLine M.meaning line.now place ended link.old link.new) }
     ensures carried { run.new.carried ≡ run.old.carried }
-    ensures composites { run.new.composites ≡ run.old.composites }
+    ensures composites { OnOk result (run.new.composites
+        ≡ counted_behind line.now run.old.composites) }
+    ensures failed { is_some (C.failed_by connection.new) ≡ disconnects result }
 {
     match line {
         PlanLine::Ask { set, number, data } => {
-            ask_line(alloc, link, run, place, *set, *number, data)
+            let asked = Asked {
+                set: *set,
+                number: *number,
+                data,
+            };
+            ask_line(alloc, link, connection, run, place, asked)
         }
         PlanLine::Answers | PlanLine::Events(_) => Ok(()),
         PlanLine::Mirror => tell_mirror(alloc, link.debugger(), out),
+        PlanLine::LoseTarget => lose_target(link, connection),
+        PlanLine::LoseDebugger => lose_debugger(alloc, link, connection, out, run),
+        PlanLine::Attach => {
+            attach(link, connection)?;
+            run.composites = 0;
+            Ok(())
+        }
     }
 }
 
 /// Whether the plan is finished: all of its lines were carried out, and no command waits for its answer.
 pub(crate) fn is_finished(debugger: &Debugger, plan: &[PlanLine], run: &Run) -> bool
-    ensures { IsTrue result → (length plan.now ≤ run.now.carried) × (has_tickets debugger.now.pending ≡ false) }
+    ensures { IsTrue result → (length plan.now ≤ run.now.carried)
+        × (has_tickets debugger.now.pending ≡ false) }
 {
     if !run.begun || run.carried < plan.len() {
         return false;
     }
-    debugger.unanswered(0).is_none()
+    !awaits_answers(debugger)
 }

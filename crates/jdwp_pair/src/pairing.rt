@@ -1,5 +1,5 @@
 //! The engine that runs both ends by a plan.
-ghost use Rattle.std.specs.Prelude.{◌≡◌, ◌⊎◌, ◌∷◌, List, Err, IfErr, IfOk, Ok, OnErr, OnOk};
+ghost use Rattle.std.specs.Prelude.{◌≡◌, ◌⊎◌, ◌∷◌, List, Err, IfErr, IfOk, Ok, OnErr, OnOk, false, is_some};
 ghost use Rattle.jdwp_script_machine.specs.Machines.{read_machine};
 ghost use Rattle.jdwp_script_machine.specs.ScriptMeaning.{script_meaning};
 ghost use Rattle.jdwp_script_machine.specs.States.{State};
@@ -7,20 +7,22 @@ ghost use Rattle.jdwp_target.specs.Options.{LivesWithin};
 ghost use Rattle.jdwp_model.specs.Events as events;
 ghost use Rattle.jdwp_link.specs.declared.events.Outcome as declared;
 ghost use Rattle.jdwp_link.specs.Clauses.{Ran};
-ghost use Rattle.jdwp_pair.specs.Events.{LosesBoth, MayLose, Moves};
-ghost use Rattle.jdwp_pair.specs.PlanRuns.{EndsSo, EndsTelling, FinishesSo, GoesOn, Pairs, PairsNew, unflushed_end};
+ghost use Rattle.jdwp_pair.specs.Connections.{disconnects, is_disconnected};
+ghost use Rattle.jdwp_pair.specs.Events.{Moves};
+ghost use Rattle.jdwp_pair.specs.PlanRuns.{EndsMoving, EndsSo, FinishesSo, GoesOn, Pairs, PairsNew, unflushed_end};
 
+use crate::connection::Connection;
 use crate::ended::PairEnded;
-use crate::happening::{begin, happen};
+use crate::happening::attach;
 use crate::lines::{is_finished, next_line};
+use crate::losing::lose_both;
 use crate::parts::{run_debugger, run_target};
 use crate::run::Run;
 use crate::stepping::step_each;
-use crate::telling::tell_lost;
 use jdwp_debuggee::Settings;
-use jdwp_engine::{Pipe, flush_all};
-use jdwp_link::{Link, LinkEvent};
+use jdwp_link::Link;
 use jdwp_machine::Machine;
+use jdwp_pipe::{Pipe, flush_all};
 use jdwp_plan::PlanLine;
 use jdwp_script::ScriptFault;
 use jdwp_script_machine::ScriptMachine;
@@ -32,20 +34,27 @@ use std::alloc::Global;
 ///
 /// # Errors
 /// The first fault of the script, or `NoMemory` where an allocation was refused; and then nothing was printed.
-pub fn pair_script<W: Pipe>(
+pub fn pair_script<C: Connection, W: Pipe>(
     alloc: Global,
     script: &str,
     settings: Settings,
+    connection: &mut C,
     plan: &[PlanLine],
     out: &mut W,
     rounds: u32,
 ) -> Result<PairEnded, ScriptFault>
-    ensures paired { IfOk result (λ ended. (machine : State) × (read_machine settings.limits.live script.now ≡ Ok machine) × PairsNew script_meaning settings machine plan.now ended) }
-    ensures fault { IfErr result (λ fault. (fault ≡ ScriptFault.NoMemory) ⊎ (read_machine settings.limits.live script.now ≡ Err fault)) }
+    ensures paired { IfOk result (λ ended. (machine : State)
+        × (read_machine settings.limits.live script.now ≡ Ok machine)
+        × PairsNew script_meaning settings machine plan.now ended) }
+    ensures failed { IfOk result (λ ended. is_some (C.failed_by connection.new)
+        ≡ is_disconnected ended) }
+    ensures fault { IfErr result (λ fault. (fault ≡ ScriptFault.NoMemory)
+        ⊎ (read_machine settings.limits.live script.now ≡ Err fault)) }
     ensures unprinted { OnErr result (out.new ≡ out.old) }
 {
     let machine = ScriptMachine::read_with(alloc, script, &settings.limits())?;
-    Ok(pair_session(alloc, machine, settings, plan, out, rounds)?)
+    let ended = pair_session(alloc, machine, settings, connection, plan, out, rounds)?;
+    Ok(ended)
 }
 
 /// Runs a new target over this machine and a new debugger by the plan for at most so many rounds, as `pair` does. The machine has 1 to
@@ -53,23 +62,27 @@ pub fn pair_script<W: Pipe>(
 ///
 /// # Errors
 /// `NoMemory`, and then nothing was printed.
-pub fn pair_session<M: Machine + Drop, W: Pipe>(
+pub fn pair_session<M: Machine + Drop, C: Connection, W: Pipe>(
     alloc: Global,
     machine: M,
     settings: Settings,
+    connection: &mut C,
     plan: &[PlanLine],
     out: &mut W,
     rounds: u32,
 ) -> Result<PairEnded, NoMemory>
     requires { LivesWithin M.meaning settings.limits machine }
     ensures paired { IfOk result (PairsNew M.meaning settings machine plan.now) }
+    ensures failed { IfOk result (λ ended. is_some (C.failed_by connection.new)
+        ≡ is_disconnected ended) }
     ensures unprinted { OnErr result (out.new ≡ out.old) }
 {
     let mut link = Link::with_settings(alloc, machine, settings)?;
-    Ok(pair(alloc, &mut link, plan, out, u64::from(rounds)))
+    Ok(pair(alloc, &mut link, connection, plan, out, u64::from(rounds)))
 }
 
-/// Runs both ends of a link by the plan, for at most so many rounds.
+/// Runs both ends of a link by the plan, for at most so many rounds. Bytes go from one end to the other over the connection: over `Memory`,
+/// or over a `Loopback`, and what is printed is the same.
 ///
 /// It begins with a session (`Attach`), which changes nothing where an end is open, tickets wait or the machine is dead; then the run goes on
 /// with what there is. In a round the next line of the plan is carried out, if it can be; all bytes come to the target, and it
@@ -77,22 +90,31 @@ pub fn pair_session<M: Machine + Drop, W: Pipe>(
 /// the debugger, which turns until it handles nothing. Bytes come by at most 4,096 at once. What the debugger reads is printed to `out` in the
 /// lines of `show`, and `lost TICKET` for each ticket that is lost.
 ///
-/// No line is carried out before the widths of ids are known. Then `ask` asks a command at once, `answers` waits until no command waits
-/// for its answer, `events` until so many composites were read in the session, and `mirror` prints what the debugger knows. The run is done
-/// where all lines were carried out and no command waits, and then both ends lose the connection; and at the turn that reads an answer without an
-/// error to Dispose or the death of the machine, whatever lines are left. A round in which nothing happens ends it as `TurnLimit`. `out` is
-/// flushed at the end, whatever ends the run; where that fails it is `LostByWrite`, but for a command that was refused.
-pub fn pair<M: Machine + Drop, W: Pipe>(
+/// No line is carried out before the widths of ids are known for the first time. Then `ask` asks a command at once, but waits where a session
+/// began and they are not known yet; `answers` waits until no command waits for its answer, `events` until so many composites were read in
+/// the session, and `mirror` prints what the debugger knows. At `lose target` and `lose debugger` that end notices that the connection is
+/// lost, and closes its half; what it had put still comes. `attach` waits until both ends are closed, no command waits and a thread of the
+/// machine lives; then a session begins, on a new connection, of which no composite was read.
+///
+/// The run is done where all lines were carried out and no command waits, and then both ends lose the connection; and at the turn that reads
+/// an answer without an error to Dispose or the death of the machine, whatever lines are left. A round in which nothing happened ends it as
+/// `TurnLimit`; a line that was carried out is something. Where the connection failed the run ends as `LostConnection`, behind the event.
+/// `out` is flushed at the end, whatever ends the run; where that fails it is `LostByWrite`, but for a command that was refused and a
+/// connection that failed.
+pub fn pair<M: Machine + Drop, C: Connection, W: Pipe>(
     alloc: Global,
     link: &mut Link<M>,
+    connection: &mut C,
     plan: &[PlanLine],
     out: &mut W,
     rounds: u64,
 ) -> PairEnded
     ensures by_plan { Pairs M.meaning plan.now result link.old link.new }
-    ensures ran { (later : List events.LinkEvent) × (outcomes : List declared.Outcome) × Ran M.meaning (events.Attach ∷ later) link.old link.new outcomes }
+    ensures ran { (later : List events.LinkEvent) × (outcomes : List declared.Outcome)
+        × Ran M.meaning (events.Attach ∷ later) link.old link.new outcomes }
+    ensures failed { is_some (C.failed_by connection.new) ≡ is_disconnected result }
 {
-    let ended = run_plan(alloc, link, plan, out, rounds);
+    let ended = run_plan(alloc, link, connection, plan, out, rounds);
     if flush_all(out) {
         ended
     } else {
@@ -100,12 +122,12 @@ pub fn pair<M: Machine + Drop, W: Pipe>(
     }
 }
 
-/// How a run ends whose last flush failed. A refusal is told as one.
+/// How a run ends whose last flush failed. A refusal is told as one, and so is a connection that failed.
 fn unflushed(ended: PairEnded) -> PairEnded
     ensures { result ≡ unflushed_end ended }
 {
     match ended {
-        PairEnded::RefusedLine { line, number } => PairEnded::RefusedLine { line, number },
+        PairEnded::RefusedLine { .. } | PairEnded::LostConnection => ended,
         PairEnded::Done | PairEnded::LostByWrite | PairEnded::NoMemory | PairEnded::TurnLimit => {
             PairEnded::LostByWrite
         }
@@ -113,14 +135,16 @@ fn unflushed(ended: PairEnded) -> PairEnded
 }
 
 /// Runs a session by the plan. Where it is finished, both ends lose the connection.
-fn run_plan<M: Machine + Drop, W: Pipe>(
+fn run_plan<M: Machine + Drop, C: Connection, W: Pipe>(
     alloc: Global,
     link: &mut Link<M>,
+    connection: &mut C,
     plan: &[PlanLine],
     out: &mut W,
     rounds: u64,
 ) -> PairEnded
-    ensures { Pairs M.meaning plan.now result link.old link.new }
+    ensures pairs { Pairs M.meaning plan.now result link.old link.new }
+    ensures failed { is_some (C.failed_by connection.new) ≡ is_disconnected result }
 {
     let mut run = Run {
         carried: 0,
@@ -128,38 +152,15 @@ fn run_plan<M: Machine + Drop, W: Pipe>(
         composites: 0,
         waiting: Vec::new(alloc),
     };
-    begin(link);
-    if let Err(ended) = run_rounds(alloc, link, plan, out, &mut run, rounds) {
+    if let Err(ended) = attach(link, connection) {
         return ended;
     }
-    match lose_both(alloc, link, out, &mut run) {
+    if let Err(ended) = run_rounds(alloc, link, connection, plan, out, &mut run, rounds) {
+        return ended;
+    }
+    match lose_both(alloc, link, connection, out, &mut run) {
         Ok(()) => PairEnded::Done,
         Err(ended) => ended,
-    }
-}
-
-/// The debugger notices that the connection is lost, and then the target.
-///
-/// # Errors
-/// `LostByWrite` where a write failed; `NoMemory` where an allocation was refused.
-fn lose_both<M: Machine + Drop, W: Pipe>(
-    alloc: Global,
-    link: &mut Link<M>,
-    out: &mut W,
-    run: &mut Run,
-) -> Result<(), PairEnded>
-    ensures loses { OnOk result (LosesBoth M.meaning link.old link.new) }
-    ensures ends { IfErr result (λ ended. EndsTelling ended × MayLose M.meaning link.old link.new) }
-{
-    let Ok(outcomes) = happen(link, LinkEvent::DebuggerLoses) else {
-        return Err(PairEnded::NoMemory);
-    };
-    if let Err(ended) = tell_lost(alloc, &outcomes, out, run) {
-        return Err(ended);
-    }
-    match happen(link, LinkEvent::TargetLoses) {
-        Ok(_) => Ok(()),
-        Err(_) => Err(PairEnded::NoMemory),
     }
 }
 
@@ -167,19 +168,24 @@ fn lose_both<M: Machine + Drop, W: Pipe>(
 ///
 /// # Errors
 /// Why the run ends before.
-fn run_rounds<M: Machine + Drop, W: Pipe>(
+fn run_rounds<M: Machine + Drop, C: Connection, W: Pipe>(
     alloc: Global,
     link: &mut Link<M>,
+    connection: &mut C,
     plan: &[PlanLine],
     out: &mut W,
     run: &mut Run,
     rounds: u64,
 ) -> Result<(), PairEnded>
-    ensures finished { OnOk result (FinishesSo M.meaning plan.now run.old.carried run.old.composites link.old link.new) }
-    ensures ends { IfErr result (λ ended. EndsSo M.meaning plan.now run.old.carried run.old.composites link.old ended link.new) }
+    requires { is_some (C.failed_by connection.old) ≡ false }
+    ensures finished { OnOk result (FinishesSo M.meaning plan.now run.old.carried run.old.composites
+        link.old link.new) }
+    ensures ends { IfErr result (λ ended.
+        EndsSo M.meaning plan.now run.old.carried run.old.composites link.old ended link.new) }
+    ensures failed { is_some (C.failed_by connection.new) ≡ disconnects result }
 {
     for _ in 0..rounds {
-        match round(alloc, link, plan, out, run) {
+        match round(alloc, link, connection, plan, out, run) {
             Ok(true) => {}
             Ok(false) => return Err(PairEnded::TurnLimit),
             Err(ended) => return Err(ended),
@@ -195,24 +201,30 @@ fn run_rounds<M: Machine + Drop, W: Pipe>(
 ///
 /// # Errors
 /// Why the run ends.
-fn round<M: Machine + Drop, W: Pipe>(
+fn round<M: Machine + Drop, C: Connection, W: Pipe>(
     alloc: Global,
     link: &mut Link<M>,
+    connection: &mut C,
     plan: &[PlanLine],
     out: &mut W,
     run: &mut Run,
 ) -> Result<bool, PairEnded>
-    ensures goes { OnOk result (GoesOn M.meaning plan.now run.old.carried run.old.composites link.old run.new.carried run.new.composites link.new) }
-    ensures ends { IfErr result (λ ended. EndsSo M.meaning plan.now run.old.carried run.old.composites link.old ended link.new) }
+    requires { is_some (C.failed_by connection.old) ≡ false }
+    ensures goes { OnOk result (GoesOn M.meaning plan.now run.old.carried run.old.composites
+        link.old run.new.carried run.new.composites link.new) }
+    ensures ends { IfErr result (λ ended.
+        EndsSo M.meaning plan.now run.old.carried run.old.composites link.old ended link.new) }
+    ensures failed { is_some (C.failed_by connection.new) ≡ disconnects result }
 {
-    let carried = match next_line(alloc, link, plan, out, run) {
+    let carried = match next_line(alloc, link, connection, plan, out, run) {
         Ok(carried) => carried,
         Err(ended) => return Err(ended),
     };
-    let Ok(moved) = run_machine(link) else {
-        return Err(PairEnded::NoMemory);
+    let moved = match run_machine(link, connection) {
+        Ok(moved) => moved,
+        Err(ended) => return Err(ended),
     };
-    match run_debugger(alloc, link, out, run) {
+    match run_debugger(alloc, link, connection, out, run) {
         Ok(read) => {
             run.begun = run.begun || link.debugger().sizes().is_some();
             Ok(carried || moved || read)
@@ -224,12 +236,18 @@ fn round<M: Machine + Drop, W: Pipe>(
 /// All bytes under way come to the target, and it handles them; where it handled nothing, each live thread makes a step. Whether something was done.
 ///
 /// # Errors
-/// `NoMemory` where an allocation was refused.
-fn run_machine<M: Machine + Drop>(link: &mut Link<M>) -> Result<bool, NoMemory>
-    ensures { Moves M.meaning link.old link.new }
+/// `NoMemory` where an allocation was refused; `LostConnection`.
+fn run_machine<M: Machine + Drop, C: Connection>(
+    link: &mut Link<M>,
+    connection: &mut C,
+) -> Result<bool, PairEnded>
+    requires { is_some (C.failed_by connection.old) ≡ false }
+    ensures moves { Moves M.meaning link.old link.new }
+    ensures ends { IfErr result EndsMoving }
+    ensures failed { is_some (C.failed_by connection.new) ≡ disconnects result }
 {
-    if run_target(link)? {
+    if run_target(link, connection)? {
         return Ok(true);
     }
-    step_each(link)
+    step_each(link, connection)
 }

@@ -1,26 +1,35 @@
 //! Steps of threads.
-ghost use Rattle.std.specs.Prelude.{◌≡◌, true, IfSome};
+ghost use Rattle.std.specs.Prelude.{◌≡◌, true, false, IfErr, IfSome, is_some};
 ghost use Rattle.jdwp_engine.specs.Rounds.{id_in, is_above};
+ghost use Rattle.jdwp_pair.specs.Connections.{disconnects};
 ghost use Rattle.jdwp_pair.specs.Events.{Moves};
+ghost use Rattle.jdwp_pair.specs.PlanRuns.{EndsMoving};
 
+use crate::connection::Connection;
+use crate::ended::PairEnded;
 use crate::happening::act;
 use jdwp_link::{Link, LinkEvent};
 use jdwp_machine::Machine;
 use jdwp_value::ObjectId;
-use jdwp_wire::NoMemory;
 
 /// One step of each live thread, by rising id, and whether one of them stepped. Threads that a step starts are among them where their
 /// ids are higher.
 ///
 /// # Errors
-/// `NoMemory` where a step wanted memory; those of lower ids were made.
-pub(crate) fn step_each<M: Machine + Drop>(link: &mut Link<M>) -> Result<bool, NoMemory>
-    ensures { Moves M.meaning link.old link.new }
+/// `NoMemory` where a step wanted memory, and `LostConnection`; those of lower ids were made.
+pub(crate) fn step_each<M: Machine + Drop, C: Connection>(
+    link: &mut Link<M>,
+    connection: &mut C,
+) -> Result<bool, PairEnded>
+    requires { is_some (C.failed_by connection.old) ≡ false }
+    ensures moves { Moves M.meaning link.old link.new }
+    ensures ends { IfErr result EndsMoving }
+    ensures failed { is_some (C.failed_by connection.new) ≡ disconnects result }
 {
     let mut has_stepped = false;
     let mut last: Option<ObjectId> = None;
     while let Some(thread) = least_above(link.target().live(), last) {
-        act(link, LinkEvent::Step(thread))?;
+        act(link, connection, LinkEvent::Step(thread))?;
         has_stepped = has_stepped || link.did();
         last = Some(thread);
     }

@@ -6,14 +6,14 @@ ghost use Rattle.jdwp_pair.specs.PlanRuns.{EndsTelling};
 use crate::ended::PairEnded;
 use crate::run::{Run, Waiting};
 use jdwp_debugger::{Debugger, Head, Ticket};
-use jdwp_engine::{Pipe, write_all};
 use jdwp_layout::Answer;
 use jdwp_link::Outcome;
+use jdwp_pipe::{Pipe, write_all};
 use jdwp_tell::{answered_line, hello_line, mirror_text, seen_line, sizes_line};
 use jdwp_wire::{Header, IdSizes, NoMemory, PacketKind};
 use std::alloc::Global;
 
-/// Prints what is told of a turn of the debugger, and of the tickets that are lost with it.
+/// Prints what is told of a turn of the debugger, and of the tickets that are lost with it, and counts the composites that were read.
 ///
 /// # Errors
 /// `LostByWrite` where a write failed; `NoMemory` where an allocation was refused.
@@ -36,25 +36,8 @@ pub(crate) fn tell_turn<W: Pipe>(
         }
         Err(NoMemory) => return Err(PairEnded::NoMemory),
     }
-    tell_lost(alloc, outcomes, out, run)
-}
-
-/// Prints the tickets that are lost, and keeps what was told: how many composites were read, and which commands still wait.
-///
-/// # Errors
-/// `LostByWrite` where a write failed; `NoMemory` where an allocation was refused.
-pub(crate) fn tell_lost<W: Pipe>(
-    alloc: Global,
-    outcomes: &[Outcome],
-    out: &mut W,
-    run: &mut Run,
-) -> Result<(), PairEnded>
-    ensures counts { run.new.composites ≤ run.old.composites + seen_in outcomes.now }
-    ensures carried { run.new.carried ≡ run.old.carried }
-    ensures ends { IfErr result EndsTelling }
-{
     run.composites = run.composites.saturating_add(seen_in(outcomes));
-    tell_each(alloc, outcomes, out, &mut run.waiting)
+    tell_lost(alloc, outcomes, out, &mut run.waiting)
 }
 
 /// How many composites are told of.
@@ -81,7 +64,10 @@ fn is_seen(outcome: &Outcome) -> bool
 }
 
 /// Prints the tickets that are lost. Commands that are answered or lost wait no more.
-fn tell_each<W: Pipe>(
+///
+/// # Errors
+/// `LostByWrite` where a write failed; `NoMemory` where an allocation was refused.
+pub(crate) fn tell_lost<W: Pipe>(
     alloc: Global,
     outcomes: &[Outcome],
     out: &mut W,

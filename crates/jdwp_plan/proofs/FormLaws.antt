@@ -13,8 +13,8 @@ use Rattle.hex.specs.declared.error.FromHexError.TheVariants as unhex
 use Rattle.hex.specs.Hex.{decode_of, is_hex_digit}
 use Rattle.jdwp_plan.specs.declared.plan_fault.LineFault.{LineFault}
 use Rattle.jdwp_plan.specs.Forms.{space, IsNumber, IsHex, IsAskOf, Spells}
-use Rattle.jdwp_plan.specs.Lines.{Said, is_empty, words_of, number_of, data_by, data_of, asked, ask_by, alone, waited, events_by, line_by, line_of}
-use Rattle.jdwp_plan.specs.Lines.Said.{Ask, Answers, Events, Mirror}
+use Rattle.jdwp_plan.specs.Lines.{Said, is_empty, words_of, number_of, data_by, data_of, asked, ask_by, alone, waited, events_by, lose_by, line_by, line_of}
+use Rattle.jdwp_plan.specs.Lines.Said.{Ask, Answers, Events, Mirror, LoseTarget, LoseDebugger, Attach}
 use Rattle.jdwp_plan.proofs.NumberLaws.{number_of-digits, digits-number_of}
 
 -- ---- words have no space
@@ -99,6 +99,9 @@ spelled (Ask set number bytes) text h = ask_spelled set number bytes text h.0 h.
 spelled Answers text h = ap (λ (x : List ℕ). line_of x) h
 spelled (Events count) text h = events_spelled count text h.0 h.1 h.2
 spelled Mirror text h = ap (λ (x : List ℕ). line_of x) h
+spelled LoseTarget text h = ap (λ (x : List ℕ). line_of x) h
+spelled LoseDebugger text h = ap (λ (x : List ℕ). line_of x) h
+spelled Attach text h = ap (λ (x : List ℕ). line_of x) h
 
 -- ---- what a text is read as is spelled by it
 
@@ -156,6 +159,21 @@ events_worded (n ∷ []) said h =
     subst P a.2 (n, digits-number_of (2 ^ 32) n a.0 a.1, refl)
 events_worded (n ∷ other ∷ others) said h = absurd (cc)
 
+lose_worded : (others : List (List ℕ)) (said : Said) → lose_by others ≡ Ok said → Spells said (join_with_byte 32 (codes "lose" ∷ others))
+lose_worded [] said h = absurd (cc)
+lose_worded (end ∷ []) said h =
+    let P : List ℕ → Type 0 = λ x. Spells said (join_with_byte 32 (codes "lose" ∷ x ∷ [])) in
+    let Q : Said → Type 0 = λ x. Spells x (codes "lose target") in
+    let R : Said → Type 0 = λ x. Spells x (codes "lose debugger") in
+    elim (whose (bytes_eq end (codes "target")) _ _ said h) [
+      | inl p ↦ subst P (sym ((bytes_eq-Decides end (codes "target")).0 p.0)) (let e : LoseTarget ≡ said = cc (p.1) in subst Q e refl)
+      | inr p ↦ elim (whose (bytes_eq end (codes "debugger")) _ _ said p.1) [
+        | inl q ↦ subst P (sym ((bytes_eq-Decides end (codes "debugger")).0 q.0)) (let e : LoseDebugger ≡ said = cc (q.1) in subst R e refl)
+        | inr q ↦ absurd (cc (q.1))
+      ]
+    ]
+lose_worded (end ∷ other ∷ others) said h = absurd (cc)
+
 alone-ok : (line said : Said) (others : List (List ℕ)) → alone line others ≡ Ok said → (others ≡ []) × (line ≡ said)
 alone-ok line said [] h = (refl, cc)
 alone-ok line said (other ∷ others) h = absurd (cc)
@@ -180,7 +198,13 @@ worded (first ∷ others) said full h =
           | inl r ↦ subst P (sym ((bytes_eq-Decides first (codes "events")).0 r.0)) (events_worded others said r.1)
           | inr r ↦ elim (whose (bytes_eq first (codes "mirror")) _ _ said r.1) [
             | inl s ↦ alone_worded first others Mirror said ((bytes_eq-Decides first (codes "mirror")).0 s.0) s.1
-            | inr s ↦ absurd (cc (s.1))
+            | inr s ↦ elim (whose (bytes_eq first (codes "lose")) _ _ said s.1) [
+              | inl t ↦ subst P (sym ((bytes_eq-Decides first (codes "lose")).0 t.0)) (lose_worded others said t.1)
+              | inr t ↦ elim (whose (bytes_eq first (codes "attach")) _ _ said t.1) [
+                | inl u ↦ alone_worded first others Attach said ((bytes_eq-Decides first (codes "attach")).0 u.0) u.1
+                | inr u ↦ absurd (cc (u.1))
+              ]
+            ]
           ]
         ]
       ]

@@ -11,29 +11,30 @@ use Rattle.jdwp_plan.specs.PlanLines.{Gives, said_by, texts}
 use Rattle.jdwp_plan.specs.Plans.{read_well}
 
 -- a line more that reads
-pub one_more : (texts : List (List ℕ)) (k : ℕ) (text : List ℕ) (plan : List PlanLine) (line : PlanLine) → k < length texts → text ≡ get_or texts k text → line_of text ≡ Ok (said_by line)
-    → map line_of (take k texts) ≡ map read_well (map said_by plan) → map line_of (take (k + 1) texts) ≡ map read_well (map said_by (plan ++ line ∷ []))
-one_more texts k text plan line inside here read before =
-    ap (λ (x : List (List ℕ)). map line_of x) (take_more texts k text inside ∙ ap (λ (x : List ℕ). take k texts ++ x ∷ []) (sym here))
-    ∙ map-append line_of (take k texts) (text ∷ [])
-    ∙ ap (λ (x : List (Result Said LineFault)). x ++ line_of text ∷ []) before
+pub one_more : (says : List ℕ → Result Said LineFault) (texts : List (List ℕ)) (k : ℕ) (text : List ℕ) (plan : List PlanLine) (line : PlanLine) → k < length texts → text ≡ get_or texts k text
+    → says text ≡ Ok (said_by line) → map says (take k texts) ≡ map read_well (map said_by plan) → map says (take (k + 1) texts) ≡ map read_well (map said_by (plan ++ line ∷ []))
+one_more says texts k text plan line inside here read before =
+    ap (λ (x : List (List ℕ)). map says x) (take_more texts k text inside ∙ ap (λ (x : List ℕ). take k texts ++ x ∷ []) (sym here))
+    ∙ map-append says (take k texts) (text ∷ [])
+    ∙ ap (λ (x : List (Result Said LineFault)). x ++ says text ∷ []) before
     ∙ ap (λ (x : Result Said LineFault). map read_well (map said_by plan) ++ x ∷ []) read
     ∙ sym (map-append read_well (map said_by plan) (said_by line ∷ []))
     ∙ ap (λ (x : List Said). map read_well x) (sym (map-append said_by plan (line ∷ [])))
 
 -- a line with a fault
-pub one_faulty : (texts : List (List ℕ)) (k : ℕ) (text : List ℕ) (before : List Said) (fault : LineFault) → k < length texts → text ≡ get_or texts k text → line_of text ≡ Err fault
-    → map line_of (take k texts) ≡ map read_well before → map line_of texts ≡ map read_well before ++ Err fault ∷ map line_of (drop (k + 1) texts)
-one_faulty texts k text before fault inside here read so_far =
+pub one_faulty : (says : List ℕ → Result Said LineFault) (texts : List (List ℕ)) (k : ℕ) (text : List ℕ) (before : List Said) (fault : LineFault) → k < length texts → text ≡ get_or texts k text
+    → says text ≡ Err fault → map says (take k texts) ≡ map read_well before → map says texts ≡ map read_well before ++ Err fault ∷ map says (drop (k + 1) texts)
+one_faulty says texts k text before fault inside here read so_far =
     let at : drop k texts ≡ text ∷ drop (k + 1) texts = drop_more texts k text inside ∙ ap (λ (x : List ℕ). x ∷ drop (k + 1) texts) (sym here) in
-    ap (λ (x : List (List ℕ)). map line_of x) (sym (take-append-drop k texts) ∙ ap (λ (x : List (List ℕ)). take k texts ++ x) at)
-    ∙ map-append line_of (take k texts) (text ∷ drop (k + 1) texts)
-    ∙ ap (λ (x : List (Result Said LineFault)). x ++ line_of text ∷ map line_of (drop (k + 1) texts)) so_far
-    ∙ ap (λ (x : Result Said LineFault). map read_well before ++ x ∷ map line_of (drop (k + 1) texts)) read
+    ap (λ (x : List (List ℕ)). map says x) (sym (take-append-drop k texts) ∙ ap (λ (x : List (List ℕ)). take k texts ++ x) at)
+    ∙ map-append says (take k texts) (text ∷ drop (k + 1) texts)
+    ∙ ap (λ (x : List (Result Said LineFault)). x ++ says text ∷ map says (drop (k + 1) texts)) so_far
+    ∙ ap (λ (x : Result Said LineFault). map read_well before ++ x ∷ map says (drop (k + 1) texts)) read
 
 -- all lines were read
-pub all_read : (texts : List (List ℕ)) (k : ℕ) (plan : List Said) → length texts ≤ k → map line_of (take k texts) ≡ map read_well plan → map line_of texts ≡ map read_well plan
-all_read texts k plan past before = ap (λ (x : List (List ℕ)). map line_of x) (sym (take_all k texts past)) ∙ before
+pub all_read : (says : List ℕ → Result Said LineFault) (texts : List (List ℕ)) (k : ℕ) (plan : List Said) → length texts ≤ k → map says (take k texts) ≡ map read_well plan
+    → map says texts ≡ map read_well plan
+all_read says texts k plan past before = ap (λ (x : List (List ℕ)). map says x) (sym (take_all k texts past)) ∙ before
 
 -- words by what stands in memory
 pub any_empty : (words : List (Bor (List ℕ))) → list_any (λ word. is_empty word.now) words ≡ list_any is_empty (texts words)

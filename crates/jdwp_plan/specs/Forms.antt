@@ -3,7 +3,7 @@ use Rattle.std.specs.Prelude.{◌≡◌, ◌⊎◌, ◌<◌, ◌^◌, ℕ, List,
 use Rattle.std.specs.Str.Parse.{IsNumeral, digits_value}
 use Rattle.hex.specs.Hex.{decode_of}
 use Rattle.jdwp_plan.specs.Lines.{Said}
-use Rattle.jdwp_plan.specs.Lines.Said.{Ask, Answers, Events, Mirror}
+use Rattle.jdwp_plan.specs.Lines.Said.{Ask, Answers, Events, Mirror, LoseTarget, LoseDebugger, Attach}
 
 abbrev pub space : ℕ
 space = 32
@@ -22,9 +22,13 @@ IsAskOf set number bytes text =
     ((bytes ≡ []) × (text ≡ codes "ask " ++ (set ++ space ∷ number)))
     ⊎ ((digits : List ℕ) × IsHex digits bytes × (text ≡ codes "ask " ++ (set ++ space ∷ (number ++ space ∷ digits))))
 
--- The texts of what a line says: `ask SET NUMBER` and `ask SET NUMBER HEX`, `answers`, `events N`, `mirror`.
+-- The texts of what a line says: `ask SET NUMBER` and `ask SET NUMBER HEX`, `answers`, `events N`, `mirror`, `lose target`,
+-- `lose debugger`, `attach`.
 abbrev pub Spells : Said → List ℕ → Type 0
 Spells (Ask set number bytes) text = (s : List ℕ) × (n : List ℕ) × IsNumber (2 ^ 8) s set × IsNumber (2 ^ 8) n number × IsAskOf s n bytes text
 Spells Answers text = text ≡ codes "answers"
 Spells (Events count) text = (n : List ℕ) × IsNumber (2 ^ 32) n count × (text ≡ codes "events " ++ n)
 Spells Mirror text = text ≡ codes "mirror"
+Spells LoseTarget text = text ≡ codes "lose target"
+Spells LoseDebugger text = text ≡ codes "lose debugger"
+Spells Attach text = text ≡ codes "attach"

@@ -7,14 +7,24 @@ use Rattle.jdwp_plan.specs.declared.plan_fault.Refusal.{Refusal}
 use Rattle.jdwp_plan.specs.declared.plan_fault.Refusal.TheVariants as refusal
 use Rattle.jdwp_plan.specs.declared.plan_line.PlanLine.{PlanLine}
 use Rattle.jdwp_plan.specs.declared.plan_line.PlanLine.TheVariants as line
-use Rattle.jdwp_plan.specs.Lines.{Said}
-use Rattle.jdwp_plan.specs.Lines.Said.{Ask, Answers, Events, Mirror}
+use Rattle.jdwp_plan.specs.declared.reading.Command.{Command}
+use Rattle.jdwp_plan.specs.declared.reading.Command.TheVariants as command
+use Rattle.jdwp_plan.specs.Lines.{Said, attach_line_of, line_of}
+use Rattle.jdwp_plan.specs.Lines.Said.{Ask, Answers, Events, Mirror, LoseTarget, LoseDebugger, Attach}
 
 abbrev pub said_by : PlanLine → Said
 said_by (line.Ask set number bytes) = Ask set number bytes.items
 said_by line.Answers = Answers
 said_by (line.Events count) = Events count
 said_by line.Mirror = Mirror
+said_by line.LoseTarget = LoseTarget
+said_by line.LoseDebugger = LoseDebugger
+said_by line.Attach = Attach
+
+-- what a line of a plan for this command says
+abbrev pub line_for : Command → List ℕ → Result Said LineFault
+line_for command.Attach line = attach_line_of line
+line_for command.Pair line = line_of line
 
 abbrev pub bytes_of : Vec ℕ → List ℕ
 bytes_of bytes = bytes.items

@@ -10,4 +10,4 @@ mod values;
 pub use laws::reads_each_form;
 pub use plan_fault::{LineFault, PlanFault};
 pub use plan_line::PlanLine;
-pub use reading::read_plan;
+pub use reading::{read_attach_plan, read_plan};

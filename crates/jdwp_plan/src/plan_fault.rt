@@ -15,11 +15,12 @@ pub enum LineFault {
     /// Two spaces stand side by side, or one stands before the first word or behind the last.
     #[error("words that are not parted by one space each")]
     Spacing,
-    /// Its first word is not `ask`, `answers`, `events` or `mirror`.
-    #[error("a first word that is not `ask`, `answers`, `events` or `mirror`")]
+    /// Its first word is not `ask`, `answers`, `events`, `mirror`, `lose` or `attach`.
+    #[error("a first word that is not `ask`, `answers`, `events`, `mirror`, `lose` or `attach`")]
     FirstWord,
-    /// Other words follow the first than `ask SET NUMBER`, `ask SET NUMBER HEX`, `answers`, `events N` and `mirror` have.
-    #[error("no line `ask SET NUMBER`, `ask SET NUMBER HEX`, `answers`, `events N` or `mirror`")]
+    /// More or fewer words follow the first than in `ask SET NUMBER`, `ask SET NUMBER HEX`, `answers`, `events N`, `mirror`, `lose target`,
+    /// `lose debugger` and `attach`.
+    #[error("no line `ask SET NUMBER`, `ask SET NUMBER HEX`, `answers`, `events N`, `mirror`, `lose target`, `lose debugger` or `attach`")]
     WordCount,
     /// The command set of `ask` is not a number from 0 to 255.
     #[error("a command set that is not a number from 0 to 255")]
@@ -36,6 +37,12 @@ pub enum LineFault {
     /// What `events` waits for is not a number below 2^32.
     #[error("a number of events that is not a number below 4294967296")]
     Count,
+    /// What `lose` names is not `target` or `debugger`.
+    #[error("an end that is not `target` or `debugger`")]
+    End,
+    /// It is a line of `pair` alone, in a plan of `attach`.
+    #[error("a line of `pair` alone")]
+    PairAlone,
 }
 
 /// Why a plan is refused.

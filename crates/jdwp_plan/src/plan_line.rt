@@ -1,4 +1,5 @@
 //! The lines of a plan.
+ghost use Rattle.std.specs.Prelude.{◌≡◌};
 
 /// What one line of a plan says.
 #[derive(Debug, Drop)]
@@ -18,4 +19,27 @@ pub enum PlanLine {
     Events(u32),
     /// `mirror`: what the debugger knows is told.
     Mirror,
+    /// `lose target`: the target notices that the connection is lost. A line of `pair` alone.
+    LoseTarget,
+    /// `lose debugger`: the debugger notices that the connection is lost. A line of `pair` alone.
+    LoseDebugger,
+    /// `attach`: a new session begins. A line of `pair` alone.
+    Attach,
+}
+
+impl PlanLine {
+    ghost use Rattle.jdwp_plan.specs.Lines.{is_of_pair};
+    ghost use Rattle.jdwp_plan.specs.PlanLines.{said_by};
+
+    /// Whether `pair` alone carries the line out.
+    pub(crate) fn is_of_pair(&self) -> bool
+        ensures { result ≡ is_of_pair (said_by self.now) }
+    {
+        match self {
+            PlanLine::LoseTarget | PlanLine::LoseDebugger | PlanLine::Attach => true,
+            PlanLine::Ask { .. } | PlanLine::Answers | PlanLine::Events(_) | PlanLine::Mirror => {
+                false
+            }
+        }
+    }
 }

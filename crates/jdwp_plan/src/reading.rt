@@ -2,15 +2,22 @@
 ghost use Rattle.std.specs.Prelude.{◌≡◌, IfOk, IfErr, map};
 ghost use Rattle.std.specs.List.{list_any};
 ghost use Rattle.std.specs.Str.Lines.{lines};
-ghost use Rattle.jdwp_plan.specs.Lines.{line_of, line_by, ask_by, alone, events_by, words_of, is_empty};
+ghost use Rattle.jdwp_plan.specs.Lines.{alone, ask_by, events_by, is_empty, line_by, line_of, lose_by, words_of};
 ghost use Rattle.jdwp_plan.specs.Lines.Said.{Answers, Mirror};
-ghost use Rattle.jdwp_plan.specs.PlanLines.{Gives, said_by, texts};
-ghost use Rattle.jdwp_plan.specs.Plans.{Says, IsFirstFault};
+ghost use Rattle.jdwp_plan.specs.PlanLines.{Gives, line_for, said_by, texts};
+ghost use Rattle.jdwp_plan.specs.Plans.{IsFirstFault, IsFirstFaultBy, IsFirstFaultForAttach, Says, SaysBy, SaysForAttach};
 
 use crate::plan_fault::{LineFault, PlanFault, Refusal};
 use crate::plan_line::PlanLine;
 use crate::values::{byte_number, data, word_number};
 use std::alloc::{AllocError, Global};
+
+/// The command that a plan is read for.
+#[derive(Clone, Copy)]
+enum Command {
+    Attach,
+    Pair,
+}
 
 /// Reads the plan that a text is, line by line as `str::lines` parts them. A text without a line is a plan without a line.
 ///
@@ -20,15 +27,46 @@ pub fn read_plan(alloc: Global, text: &str) -> Result<Vec<PlanLine>, PlanFault>
     ensures read { IfOk result (λ plan. Says (lines text.now) (map said_by plan.items)) }
     ensures fault { IfErr result (IsFirstFault (lines text.now)) }
 {
+    read_lines(alloc, text, Command::Pair)
+}
+
+/// Reads the plan of `attach` that a text is, as `read_plan` does, but a line of `pair` alone is none of it.
+///
+/// # Errors
+/// `Line` with the number and the fault of the first line that is none of a plan of `attach`; `NoMemory` where an allocation was refused.
+pub fn read_attach_plan(alloc: Global, text: &str) -> Result<Vec<PlanLine>, PlanFault>
+    ensures read { IfOk result (λ plan. SaysForAttach (lines text.now) (map said_by plan.items)) }
+    ensures fault { IfErr result (IsFirstFaultForAttach (lines text.now)) }
+{
+    read_lines(alloc, text, Command::Attach)
+}
+
+/// Reads the plan that a text is for the command.
+fn read_lines(alloc: Global, text: &str, command: Command) -> Result<Vec<PlanLine>, PlanFault>
+    ensures read { IfOk result (λ plan. SaysBy (line_for command) (lines text.now)
+        (map said_by plan.items)) }
+    ensures fault { IfErr result (IsFirstFaultBy (line_for command) (lines text.now)) }
+{
     let mut plan = Vec::new(alloc);
     for line in text.lines() {
-        match read_line(alloc, line) {
+        match read_line_for(alloc, line, command) {
             Ok(line) => plan.push(line)?,
             Err(Refusal::Fault(fault)) => return Err(PlanFault::Line(plan.len() + 1, fault)),
             Err(Refusal::NoMemory) => return Err(PlanFault::NoMemory),
         }
     }
     Ok(plan)
+}
+
+/// Reads one line of a plan for the command.
+fn read_line_for(alloc: Global, line: &str, command: Command) -> Result<PlanLine, Refusal>
+    ensures { Gives said_by result (line_for command line.now) }
+{
+    let line = read_line(alloc, line)?;
+    match command {
+        Command::Attach if line.is_of_pair() => Err(Refusal::Fault(LineFault::PairAlone)),
+        Command::Attach | Command::Pair => Ok(line),
+    }
 }
 
 /// Reads one line.
@@ -74,6 +112,10 @@ fn read_words(alloc: Global, words: &[&str]) -> Result<PlanLine, Refusal>
         read_events(others)
     } else if *first == "mirror" {
         read_alone(others, PlanLine::Mirror)
+    } else if *first == "lose" {
+        read_lose(others)
+    } else if *first == "attach" {
+        read_alone(others, PlanLine::Attach)
     } else {
         Err(Refusal::Fault(LineFault::FirstWord))
     }
@@ -104,6 +146,22 @@ fn read_events(others: &[&str]) -> Result<PlanLine, Refusal>
     match others {
         [count] => Ok(PlanLine::Events(word_number(count).ok_or(LineFault::Count)?)),
         _ => Err(Refusal::Fault(LineFault::WordCount)),
+    }
+}
+
+/// Reads what follows `lose`.
+fn read_lose(others: &[&str]) -> Result<PlanLine, Refusal>
+    ensures { Gives said_by result (lose_by (texts others.now)) }
+{
+    let [end] = others else {
+        return Err(Refusal::Fault(LineFault::WordCount));
+    };
+    if *end == "target" {
+        Ok(PlanLine::LoseTarget)
+    } else if *end == "debugger" {
+        Ok(PlanLine::LoseDebugger)
+    } else {
+        Err(Refusal::Fault(LineFault::End))
     }
 }
 

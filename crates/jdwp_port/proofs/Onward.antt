@@ -4,8 +4,8 @@ use Rattle.std.proofs.lemmas.Fn.{FoldsTo-push}
 use Rattle.jdwp_end.specs.Ends.{is_open}
 use Rattle.jdwp_machine.specs.Meanings.{Meaning}
 use Rattle.jdwp_target.specs.Targets.{Target, lost}
-use Rattle.jdwp_engine.specs.declared.ended.Ended.{Ended}
-use Rattle.jdwp_engine.specs.declared.ended.Ended.TheVariants as ended
+use Rattle.jdwp_pipe.specs.declared.ended.Ended.{Ended}
+use Rattle.jdwp_pipe.specs.declared.ended.Ended.TheVariants as ended
 use Rattle.jdwp_port.specs.Served.{HasServed, IsSession, NoSession, OneMore, Serves, goes_on, lives}
 
 -- none was served yet, and nothing was told

@@ -7,7 +7,7 @@ use crate::connection::{address, close, halves};
 use crate::faults::PortFault;
 use jdwp_attach::{Attached, attach_by_lines};
 use jdwp_debugger::Debugger;
-use jdwp_engine::Pipe;
+use jdwp_pipe::Pipe;
 use jdwp_plan::PlanLine;
 use std::alloc::Global;
 use std::io::{Read, Write};
@@ -44,7 +44,8 @@ pub fn attach_stream<S, W>(
 where
     S: Read + Write + OpenStream + Drop,
     W: Pipe,
-    ensures ran { IfOk result (λ how. IsAttached plan.now turns debugger.old (W.story out.old) how debugger.new (W.story out.new)) }
+    ensures ran { IfOk result (λ how. IsAttached plan.now turns debugger.old
+        (W.story out.old) how debugger.new (W.story out.new)) }
     ensures err { IfErr result (IsOf port) }
     ensures untouched { OnErr result (debugger.new ≡ debugger.old) }
     ensures unprinted { OnErr result (out.new ≡ out.old) }

@@ -1,11 +1,11 @@
 //! A connection as a pipe, and its end.
 ghost use Rattle.std.specs.Prelude.{◌≡◌, IfErr, IfOk};
-ghost use Rattle.jdwp_engine.specs.Streams.{story_of};
-ghost use Rattle.jdwp_engine.specs.Story.{empty_story};
+ghost use Rattle.jdwp_pipe.specs.Streams.{story_of};
+ghost use Rattle.jdwp_pipe.specs.Story.{empty_story};
 ghost use Rattle.jdwp_port.specs.Faults.{IsOf};
 
 use crate::faults::PortFault;
-use jdwp_engine::{Ended, Streams};
+use jdwp_pipe::{Ended, Streams};
 use std::alloc::Global;
 use std::io::{BufWriter, ErrorKind, Read, Write};
 use std::net::{Ipv4Addr, OpenStream, Shutdown, SocketAddr};

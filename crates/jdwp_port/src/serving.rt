@@ -8,8 +8,9 @@ ghost use Rattle.jdwp_port.specs.Served.{IsSession, Serves, goes_on, lives};
 use crate::connection::{close, halves};
 use crate::faults::PortFault;
 use crate::listening::PortListener;
-use jdwp_engine::{Ended, serve};
+use jdwp_engine::serve;
 use jdwp_machine::Machine;
+use jdwp_pipe::Ended;
 use jdwp_target::Target;
 use std::alloc::Global;
 use std::io;
@@ -43,7 +44,8 @@ where
     F: FnMut(u16) + Drop,
     requires closed { is_open target.old.end ≡ false }
     requires callable { F.IsAlwaysCallable tell }
-    ensures serves { (told : F) × Serves M.meaning rounds target.old (λ f number g. F.step f number tt g) tell result target.new told }
+    ensures serves { (told : F) × Serves M.meaning rounds target.old (λ f number g.
+        F.step f number tt g) tell result target.new told }
     ensures err { IfErr result (IsOf (port_of listener.now)) }
     ensures closed { is_open target.new.end ≡ false }
 {

@@ -2,7 +2,7 @@
 use Rattle.std.specs.Prelude.{ℕ, List}
 use Rattle.jdwp_wire.specs.Limits.{standard_limits}
 use Rattle.jdwp_debugger.specs.Debuggers.{Debugger, attached, new_debugger}
-use Rattle.jdwp_engine.specs.Story.{Story}
+use Rattle.jdwp_pipe.specs.Story.{Story}
 use Rattle.jdwp_plan.specs.declared.plan_line.PlanLine.{PlanLine}
 use Rattle.jdwp_attach.specs.declared.attached.Attached.{Attached}
 use Rattle.jdwp_attach.specs.PlanRuns.{Attaches, MayEnd, TellsRefused, ended_of}
@@ -16,7 +16,7 @@ begun turns pipe out = at pipe out (attached (new_debugger standard_limits 1)) t
 -- so: it was fed what was read, in order; it was asked what the plan's lines ask, in order, up to where the run went; what was written is
 -- what it put, or a beginning where a write failed; what was printed is what was told on the way, or a beginning where memory was wanting
 -- or a write failed; the reason of this end stands; where the last flush failed, so does that of the end before it; and the line that is
--- told is that whose command was refused.
+-- told is that which was refused.
 pub record AttachesNew (plan : List PlanLine) (start : Standing) (pipe out : Story) (how : Attached) : Type 0 where
   pub debugger : Debugger
   pub in_order : InOrder plan start pipe out debugger

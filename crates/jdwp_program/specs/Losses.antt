@@ -1,14 +1,16 @@
--- How a session over files ended, and where it was lost.
+-- How a session ended, and where it was lost.
 use Rattle.std.specs.Prelude.{◌≡◌, ◌≢◌, Option, None, Some}
 use Rattle.std.specs.IoError.{error_kind}
 use Rattle.std.specs.declared.io.Error.{Error}
 use Rattle.std.specs.declared.io.ErrorKind.TheVariants.{BrokenPipe}
-use Rattle.jdwp_engine.specs.declared.ended.Ended.{Ended}
-use Rattle.jdwp_engine.specs.declared.ended.Ended.TheVariants.{LostByRead, LostByWrite}
+use Rattle.jdwp_pipe.specs.declared.ended.Ended.{Ended}
+use Rattle.jdwp_pipe.specs.declared.ended.Ended.TheVariants.{LostByRead, LostByWrite, NoMemory}
 use Rattle.jdwp_attach.specs.declared.attached.Attached.{Attached}
 use Rattle.jdwp_attach.specs.declared.attached.Attached.TheVariants as run
+use Rattle.jdwp_port.specs.declared.faults.PortFault.{PortFault}
+use Rattle.jdwp_port.specs.declared.faults.PortFault.TheVariants as port
 use Rattle.jdwp_program.specs.declared.losing.Side.{Side}
-use Rattle.jdwp_program.specs.declared.losing.Loss.TheVariants.{FileEnded, Unread, Unwritten, Output, ReaderGone}
+use Rattle.jdwp_program.specs.declared.losing.Loss.TheVariants.{FileEnded, Unread, Unwritten, Port, Output, ReaderGone}
 use Rattle.jdwp_program.specs.declared.outcome.Outcome.{Outcome}
 use Rattle.jdwp_program.specs.declared.outcome.Outcome.TheVariants.{Session, Lost, RefusedLine, Capture}
 
@@ -20,6 +22,7 @@ IsEndOf ended from to output (Lost (FileEnded path)) = (ended ≡ LostByRead) ×
 IsEndOf ended from to output (Lost (Unread path error)) = (ended ≡ LostByRead) × (path ≡ from.path) × (from.failure ≡ Some error)
 IsEndOf ended from to output (Lost (Unwritten path error)) = (ended ≡ LostByWrite) × (path ≡ to.path) × (to.failure ≡ Some error)
 IsEndOf ended from to output (Lost (Output error)) = (ended ≡ LostByWrite) × (to.failure ≡ None) × (output ≡ Some error) × (error_kind error ≢ BrokenPipe)
+IsEndOf ended from to output (Lost (Port number cause)) = ⊥
 IsEndOf ended from to output (Lost ReaderGone) = (ended ≡ LostByWrite) × (to.failure ≡ None) × (error : Error) × (output ≡ Some error) × (error_kind error ≡ BrokenPipe)
 IsEndOf ended from to output (Session told) = (told ≡ ended) × (ended ≢ LostByRead) × (ended ≡ LostByWrite → (to.failure ≡ None) × (output ≡ None))
 IsEndOf ended from to output (RefusedLine line number) = ⊥
@@ -38,3 +41,8 @@ IsEndWithoutFiles (run.Ended ended) output (Lost (Output error)) = (ended ≡ Lo
 IsEndWithoutFiles (run.Ended ended) output (Lost ReaderGone) = (ended ≡ LostByWrite) × (error : Error) × (output ≡ Some error) × (error_kind error ≡ BrokenPipe)
 IsEndWithoutFiles (run.Ended ended) output (Session told) = (told ≡ ended) × (ended ≡ LostByWrite → output ≡ None)
 IsEndWithoutFiles (run.Ended ended) output other = ⊥
+
+-- what is told of a session whose connection at a port failed so: want of memory alone, or that it was lost, and where
+abbrev pub lost_port : PortFault → Outcome
+lost_port (port.Port number cause) = Lost (Port number cause)
+lost_port port.NoMemory = Session NoMemory

@@ -1,16 +1,16 @@
 //! Sessions of a debugger by a plan, over any reader and writer and what is printed to.
 ghost use Rattle.std.specs.Prelude.{◌≡◌, List, map, IfOk, IfErr, OnErr};
 ghost use Rattle.std.specs.Str.Lines.{lines};
-ghost use Rattle.jdwp_engine.specs.Streams.{story_of};
+ghost use Rattle.jdwp_pipe.specs.Streams.{story_of};
 ghost use Rattle.jdwp_plan.specs.declared.plan_line.PlanLine as declared;
 ghost use Rattle.jdwp_plan.specs.PlanLines.{said_by};
-ghost use Rattle.jdwp_plan.specs.Plans.{IsFirstFault, Says};
+ghost use Rattle.jdwp_plan.specs.Plans.{IsFirstFaultForAttach, SaysForAttach};
 ghost use Rattle.jdwp_program.specs.Attaching.{AttachesNew, begun};
 
 use jdwp_attach::{Attached, attach_by_lines};
 use jdwp_debugger::Debugger;
-use jdwp_engine::{Pipe, Streams};
-use jdwp_plan::{PlanFault, PlanLine, read_plan};
+use jdwp_pipe::{Pipe, Streams};
+use jdwp_plan::{PlanFault, PlanLine, read_attach_plan};
 use std::alloc::Global;
 use std::io::{Read, Write};
 
@@ -18,7 +18,8 @@ use std::io::{Read, Write};
 /// reads and what the plan asks to be told of it is printed on `out`.
 ///
 /// # Errors
-/// The first fault of the plan, or `NoMemory` where an allocation was refused; and then nothing was read, written or printed.
+/// The first fault of the plan, which a line of `pair` alone is, too, or `NoMemory` where an allocation was refused; and then nothing was
+/// read, written or printed.
 pub fn attach_plan<R: Read, W: Write, O: Pipe>(
     alloc: Global,
     plan: &str,
@@ -26,12 +27,15 @@ pub fn attach_plan<R: Read, W: Write, O: Pipe>(
     out: &mut O,
     turns: u32,
 ) -> Result<Attached, PlanFault>
-    ensures ran { IfOk result (λ how. (lines_of : List declared.PlanLine) × Says (lines plan.now) (map said_by lines_of) × AttachesNew lines_of (begun turns (story_of pipe.old) (O.story out.old)) (story_of pipe.new) (O.story out.new) how) }
-    ensures fault { IfErr result (IsFirstFault (lines plan.now)) }
+    ensures ran { IfOk result (λ how. (lines_of : List declared.PlanLine)
+        × SaysForAttach (lines plan.now) (map said_by lines_of)
+        × AttachesNew lines_of (begun turns (story_of pipe.old) (O.story out.old))
+        (story_of pipe.new) (O.story out.new) how) }
+    ensures fault { IfErr result (IsFirstFaultForAttach (lines plan.now)) }
     ensures untouched { OnErr result (pipe.new ≡ pipe.old) }
     ensures unprinted { OnErr result (out.new ≡ out.old) }
 {
-    let plan = read_plan(alloc, plan)?;
+    let plan = read_attach_plan(alloc, plan)?;
     attach_session(alloc, plan.as_slice(), pipe, out, turns).map_err(|_| PlanFault::NoMemory)
 }
 
@@ -46,7 +50,8 @@ pub fn attach_session<R: Read, W: Write, O: Pipe>(
     out: &mut O,
     turns: u32,
 ) -> Result<Attached, jdwp_wire::NoMemory>
-    ensures ran { IfOk result (AttachesNew plan.now (begun turns (story_of pipe.old) (O.story out.old)) (story_of pipe.new) (O.story out.new)) }
+    ensures ran { IfOk result (AttachesNew plan.now (begun turns (story_of pipe.old)
+        (O.story out.old)) (story_of pipe.new) (O.story out.new)) }
     ensures untouched { OnErr result (pipe.new ≡ pipe.old) }
     ensures unprinted { OnErr result (out.new ≡ out.old) }
 {

@@ -57,7 +57,8 @@ impl From<AllocError> for TellFault {
 /// # Errors
 /// `Output` where the output didn't take all of it; `NoMemory`, and then nothing was printed.
 pub fn show_capture<O: Write>(alloc: Global, capture: &str, out: &mut O) -> Result<Told, TellFault>
-    ensures tells { Tells (first_fault capture.now) (shown_text capture.now) (O.contents out.old) (O.contents out.new) result }
+    ensures tells { Tells (first_fault capture.now) (shown_text capture.now) (O.contents out.old)
+        (O.contents out.new) result }
     // The same by the exit status.
     ensures leaves { LeavesTold result (O.contents out.old) (O.contents out.new) }
 {
@@ -69,7 +70,8 @@ pub fn show_capture<O: Write>(alloc: Global, capture: &str, out: &mut O) -> Resu
 /// # Errors
 /// As those of `show_capture`.
 pub fn check_capture<O: Write>(alloc: Global, capture: &str, out: &mut O) -> Result<Told, TellFault>
-    ensures tells { Tells (first_fault capture.now) (verdict_text (first_fault capture.now)) (O.contents out.old) (O.contents out.new) result }
+    ensures tells { Tells (first_fault capture.now) (verdict_text (first_fault capture.now))
+        (O.contents out.old) (O.contents out.new) result }
     ensures leaves { LeavesTold result (O.contents out.old) (O.contents out.new) }
 {
     tell(out, &judged(alloc, capture)?)
@@ -118,7 +120,8 @@ fn judged(alloc: Global, capture: &str) -> Result<Text, NoMemory>
 
 /// Appends the line and the number of a fault.
 fn push_fault(text: &mut String, line: usize, fault: CaptureFault) -> Result<(), AllocError>
-    ensures { OnOk result (string_bytes text.new ≡ string_bytes text.old ++ fault_line (line, fault)) }
+    ensures { OnOk result (string_bytes text.new ≡ string_bytes text.old ++ fault_line
+        (line, fault)) }
 {
     let number = fault.printed_number();
     writeln!(text, "line {line}: fault {number}")
@@ -126,7 +129,8 @@ fn push_fault(text: &mut String, line: usize, fault: CaptureFault) -> Result<(),
 
 /// Prints the text of a capture, in one piece where the output takes it so.
 fn tell<O: Write>(out: &mut O, told: &Text) -> Result<Told, TellFault>
-    ensures { Tells told.now.fault (string_bytes told.now.text) (O.contents out.old) (O.contents out.new) result }
+    ensures { Tells told.now.fault (string_bytes told.now.text) (O.contents out.old)
+        (O.contents out.new) result }
 {
     match print(out, told.text.as_bytes()).1 {
         Ok(()) if told.fault.is_none() => Ok(Told::Faultless),

@@ -175,7 +175,8 @@ impl<'a> From<AllocError> for Fault<'a> {
 /// # Errors
 /// `NotUtf8` where they are not UTF-8.
 pub fn text_of(bytes: &[u8]) -> Result<&str, FileCause>
-    ensures { MatchResult result (λ text. (text.now ≡ bytes.now) × IsUtf8 bytes.now) (IsNotText bytes.now) }
+    ensures { MatchResult result (λ text. (text.now ≡ bytes.now)
+        × IsUtf8 bytes.now) (IsNotText bytes.now) }
 {
     match std::str::from_utf8(bytes) {
         Ok(text) => Ok(text),

@@ -1,4 +1,5 @@
-//! Where a session over files was lost.
+//! Where a session was lost.
+use jdwp_port::PortCause;
 use std::io;
 use thiserror::Error;
 
@@ -21,6 +22,9 @@ pub enum Loss<'a> {
     /// The file can't be written.
     #[error("{0}: can't be written: {1}")]
     Unwritten(&'a str, io::Error),
+    /// The connection at this port failed, and why.
+    #[error("port {0}: {1}")]
+    Port(u16, PortCause),
     /// The output can't be written.
     #[error("the output can't be written: {0}")]
     Output(io::Error),

@@ -1,14 +1,16 @@
 //! What the words led to, and the exit status.
 ghost use Rattle.std.specs.Prelude.{◌≡◌, ◌≤◌};
-ghost use Rattle.jdwp_program.specs.Losses.{IsEndOf, IsEndOfPlan, IsEndWithoutFiles};
+ghost use Rattle.jdwp_program.specs.Losses.{IsEndOf, IsEndOfPlan, IsEndWithoutFiles, lost_port};
 ghost use Rattle.jdwp_program.specs.Statuses.{status_of_end, status_of_fault, status_of_told, status_of_outcome};
 
 use crate::captures::Told;
 use crate::fault::Fault;
 use crate::losing::{Loss, Side};
 use jdwp_attach::Attached;
-use jdwp_engine::Ended;
-use jdwp_wire::Limits;
+use jdwp_debugger::{DebuggerFault, Refused};
+use jdwp_pipe::Ended;
+use jdwp_port::PortFault;
+use jdwp_wire::{FrameFault, Limits};
 use std::io::{ErrorKind, Write};
 use std::{fmt, io};
 
@@ -89,6 +91,16 @@ impl<'a> Outcome<'a> {
             Attached::Ended(ended) => Outcome::Session(ended),
         }
     }
+
+    /// Of a session that was lost since its connection at a port failed so. Want of memory is told alone.
+    pub fn lost_port(fault: PortFault) -> Outcome<'a>
+        ensures { result ≡ lost_port fault }
+    {
+        match fault {
+            PortFault::Port(port, cause) => Outcome::Lost(Loss::Port(port, cause)),
+            PortFault::NoMemory => Outcome::Session(Ended::NoMemory),
+        }
+    }
 }
 
 /// Tells a fault in words behind `jdwp: `, and answers its exit status.
@@ -166,38 +178,61 @@ fn report_loss<E: Write>(loss: Loss<'_>, err: &mut E) {
 #[derive(Clone, Copy)]
 struct Refusal(u16);
 
+/// Faults of the bytes that are told by their number alone.
+const FRAME_FAULTS: [FrameFault; 3] = [
+    FrameFault::ShortLength,
+    FrameFault::TooLong,
+    FrameFault::BadFlags,
+];
+
+/// Why a debugger refuses a command.
+const REFUSED: [Refused; 5] = [
+    Refused::NotReady,
+    Refused::Closed,
+    Refused::TooLong,
+    Refused::NoMemory,
+    Refused::BadCommand,
+];
+
+/// What a debugger refuses of what it reads.
+const DEBUGGER_FAULTS: [DebuggerFault; 4] = [
+    DebuggerFault::UnknownReply,
+    DebuggerFault::BadReply,
+    DebuggerFault::TooManyParked,
+    DebuggerFault::BadEvent,
+];
+
 impl fmt::Display for Refusal {
     fn fmt<W: fmt::Write>(&self, f: &mut fmt::Formatter<W>) -> fmt::Result {
         let number = self.0;
-        match number {
-            32 => {
-                let most = Limits::standard().pending();
-                write!(
-                    f,
-                    "fault 32: {most} commands wait for their answers, and no more may"
-                )
+        for fault in &FRAME_FAULTS {
+            if fault.number() == number {
+                return write!(f, "{fault}");
             }
-            _ => write!(f, "fault {number}: {}", words_of(number)),
         }
+        for refused in &REFUSED {
+            if refused.number() == number {
+                return write!(f, "{refused}");
+            }
+        }
+        for fault in &DEBUGGER_FAULTS {
+            if fault.number() == number {
+                return write!(f, "{fault}");
+            }
+        }
+        if number == Refused::Busy.number() {
+            let most = Limits::standard().pending();
+            return write!(f, "{}: {most} commands at most", Refused::Busy);
+        }
+        write!(f, "fault {number}: {}", words_of(number))
     }
 }
 
-/// The words of a fault at which a session is refused, by its number.
+/// The words of a fault of which its number alone is known, and which its type tells with more.
 fn words_of(number: u16) -> &'static str {
     match number {
         0 => "the session is open already",
-        1 => "a packet length below 11",
-        2 => "a packet length above the limit",
-        3 => "packet flags other than 00 and 80",
         4 => "not the handshake",
-        31 => "the widths of ids are not known yet",
-        33 => "the session is closed",
-        34 => "a command longer than a packet may be",
-        36 => "a command of the plan that no target has, or data that do not read in its layout",
-        42 => "a reply to no command that waits",
-        43 => "a reply whose data do not read, or an error reply with data",
-        44 => "more composites than may wait for the widths of ids",
-        45 => "events that don't fit the suspend counts known, or another command",
         _ => "the bytes are refused",
     }
 }

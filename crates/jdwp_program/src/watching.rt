@@ -49,8 +49,10 @@ impl<R: Read> Read for Watched<R> {
 
     fn read(&mut self, buffer: &mut [u8]) -> io::Result<usize>
         ensures bound { IfOk result (λ count. count ≤ length buffer.new) }
-        ensures bytes { ReadConsumes (R.remaining (inner_of self.old)) (R.remaining (inner_of self.new)) result buffer.new }
-        ensures noted { IfErr result (λ error. Notes (failure_of self.old) error (failure_of self.new)) }
+        ensures bytes { ReadConsumes (R.remaining (inner_of self.old))
+            (R.remaining (inner_of self.new)) result buffer.new }
+        ensures noted { IfErr result (λ error. Notes (failure_of self.old) error
+            (failure_of self.new)) }
     {
         let read = self.inner.read(buffer);
         if let Err(error) = read {
@@ -65,8 +67,10 @@ impl<W: Write> Write for Watched<W> {
 
     fn write(&mut self, bytes: &[u8]) -> io::Result<usize>
         ensures bound { IfOk result (λ count. count ≤ length bytes.now) }
-        ensures bytes { WriteAppends (W.contents (inner_of self.old)) (W.contents (inner_of self.new)) result bytes.now }
-        ensures noted { IfErr result (λ error. Notes (failure_of self.old) error (failure_of self.new)) }
+        ensures bytes { WriteAppends (W.contents (inner_of self.old))
+            (W.contents (inner_of self.new)) result bytes.now }
+        ensures noted { IfErr result (λ error. Notes (failure_of self.old) error
+            (failure_of self.new)) }
     {
         let written = self.inner.write(bytes);
         match written {
@@ -79,7 +83,8 @@ impl<W: Write> Write for Watched<W> {
 
     fn flush(&mut self) -> io::Result<()>
         ensures bytes { Keeps (W.contents (inner_of self.old)) (W.contents (inner_of self.new)) }
-        ensures noted { IfErr result (λ error. Notes (failure_of self.old) error (failure_of self.new)) }
+        ensures noted { IfErr result (λ error. Notes (failure_of self.old) error
+            (failure_of self.new)) }
     {
         let flushed = self.inner.flush();
         if let Err(error) = flushed {

@@ -26,7 +26,8 @@ pub(crate) trait Gather<T> {
 
     /// Appends the ids that each part lists.
     final fn gather_each(&self, parts: &[T], ids: &mut Vec<u64>) -> Result<(), NoMemory>
-        ensures { OnOk result (ids.new.items ≡ ids.old.items ++ flat_map gathers (map meaning parts.now)) }
+        ensures { OnOk result (ids.new.items ≡ ids.old.items ++ flat_map gathers
+            (map meaning parts.now)) }
     {
         for part in parts {
             self.gather(part, ids)?;
@@ -45,14 +46,16 @@ pub(crate) trait Gather<T> {
 
     /// The set of the ids that the parts list.
     final fn id_set(&self, alloc: Global, parts: &[T]) -> Result<BTreeSet<u64>, NoMemory>
-        ensures { IfOk result (λ set. Holds set (is_in (flat_map gathers (map meaning parts.now)))) }
+        ensures { IfOk result (λ set.
+            Holds set (is_in (flat_map gathers (map meaning parts.now)))) }
     {
         set_of(alloc, &self.listed(alloc, parts)?)
     }
 
     /// Whether the parts list an id twice.
     final fn has_twice(&self, alloc: Global, parts: &[T]) -> Result<bool, NoMemory>
-        ensures { IfOk result (λ twice. twice ≡ is_twice (flat_map gathers (map meaning parts.now))) }
+        ensures { IfOk result (λ twice.
+            twice ≡ is_twice (flat_map gathers (map meaning parts.now))) }
     {
         stands_twice(alloc, &self.listed(alloc, parts)?)
     }

@@ -81,7 +81,8 @@ fn add_methods(
     methods: &[Method],
     lasts: &mut Lasts,
 ) -> Result<(), NoMemory>
-    ensures { OnOk result (last_by lasts.new ≡ with_methods class.0 (map method_part methods.now) (last_by lasts.old)) }
+    ensures { OnOk result (last_by lasts.new ≡ with_methods class.0 (map method_part methods.now)
+        (last_by lasts.old)) }
 {
     for method in methods {
         let _before = lasts.insert((class.0, method.id.0), method.last)?;

@@ -67,7 +67,8 @@ fn described(alloc: Global, text: &str) -> Result<Script, ScriptFault>
 /// The first fault of the script, or `NoMemory`.
 fn check(alloc: Global, script: &Script, live: usize) -> Result<(), ScriptFault>
     ensures none { OnOk result (first_fault live (script_part script.now) ≡ None) }
-    ensures first { IfErr result (λ fault. Fails fault (unless (first_fault live (script_part script.now)) (script_part script.now))) }
+    ensures first { IfErr result (λ fault.
+        Fails fault (unless (first_fault live (script_part script.now)) (script_part script.now))) }
 {
     if passes_limit(alloc, script, live)? {
         return Err(ScriptFault::OverLimit);

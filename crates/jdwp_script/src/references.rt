@@ -357,7 +357,8 @@ pub(crate) fn change_frames(
     frames: &mut Vec<u64>,
     step: &Step,
 ) -> Result<(), NoMemory>
-    ensures { OnOk result (frames.new.items ≡ frames_left (known_ids known.now) frames.old.items (step_part step.now)) }
+    ensures { OnOk result (frames.new.items ≡ frames_left (known_ids known.now) frames.old.items
+        (step_part step.now)) }
 {
     match step {
         Step::Call(call) => {
@@ -373,7 +374,8 @@ pub(crate) fn change_frames(
 
 /// Whether one of these steps may not stand where it does.
 fn steps_lost(alloc: Global, known: &KnownIds, steps: &[Step]) -> Result<bool, NoMemory>
-    ensures { IfOk result (λ lost. lost ≡ steps_lost (known_ids known.now) [] (map step_part steps.now)) }
+    ensures { IfOk result (λ lost. lost ≡ steps_lost (known_ids known.now) []
+        (map step_part steps.now)) }
 {
     let mut frames = Vec::new(alloc);
     for step in steps {
@@ -387,7 +389,8 @@ fn steps_lost(alloc: Global, known: &KnownIds, steps: &[Step]) -> Result<bool, N
 
 /// Whether one of these threads has id 0, an unknown group, or a step that may not stand where it does.
 fn threads_lost(alloc: Global, known: &KnownIds, threads: &[Thread]) -> Result<bool, NoMemory>
-    ensures { IfOk result (λ lost. lost ≡ list_any (thread_lost (known_ids known.now)) (map thread_part threads.now)) }
+    ensures { IfOk result (λ lost. lost ≡ list_any (thread_lost (known_ids known.now))
+        (map thread_part threads.now)) }
 {
     for thread in threads {
         if thread.id.0 == 0
@@ -402,7 +405,8 @@ fn threads_lost(alloc: Global, known: &KnownIds, threads: &[Thread]) -> Result<b
 
 /// Whether something stands where it may not, these ids being known.
 fn is_lost_among(alloc: Global, known: &KnownIds, script: &Script) -> Result<bool, NoMemory>
-    ensures { IfOk result (λ lost. lost ≡ is_lost_among (known_ids known.now) (script_part script.now)) }
+    ensures { IfOk result (λ lost. lost ≡ is_lost_among (known_ids known.now)
+        (script_part script.now)) }
 {
     Ok(
         groups_lost(alloc, &script.groups)?

@@ -36,9 +36,11 @@ pub(crate) fn answer_at(
     number: u8,
     content: &[Datum],
 ) -> Result<Answer, NoMemory>
-    ensures value { IfOk result (λ a. a ≡ answer_at (state_now state.now) set number (meanings content.now)) }
+    ensures value { IfOk result (λ a. a ≡ answer_at (state_now state.now) set number
+        (meanings content.now)) }
     // A refusal takes no memory.
-    ensures memory { IfErr result (λ _. IsTrue (takes_memory (answer_at (state_now state.now) set number (meanings content.now)))) }
+    ensures memory { IfErr result (λ _.
+        IsTrue (takes_memory (answer_at (state_now state.now) set number (meanings content.now)))) }
 {
     match set {
         VIRTUAL_MACHINE => virtual_machine_answer(alloc, state, number, content),
@@ -63,9 +65,12 @@ fn event_request_answer(
     number: u8,
     content: &[Datum],
 ) -> Result<Answer, NoMemory>
-    ensures value { IfOk result (λ a. a ≡ answer_at (state_now state.now) EVENT_REQUEST number (meanings content.now)) }
+    ensures value { IfOk result (λ a. a ≡ answer_at (state_now state.now) EVENT_REQUEST number
+        (meanings content.now)) }
     // A refusal takes no memory.
-    ensures memory { IfErr result (λ _. IsTrue (takes_memory (answer_at (state_now state.now) EVENT_REQUEST number (meanings content.now)))) }
+    ensures memory { IfErr result (λ _.
+        IsTrue (takes_memory (answer_at (state_now state.now) EVENT_REQUEST number
+        (meanings content.now)))) }
 {
     if number == SET_REQUEST {
         set_answer(alloc, &state.script, content)

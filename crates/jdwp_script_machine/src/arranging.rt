@@ -21,7 +21,8 @@ pub(crate) fn arrange(script: &mut Script)
 
 /// Arranges classes by rising id, and the fields and methods of each.
 fn arrange_classes(classes: &mut [Class])
-    ensures { map class_part classes.new ≡ map class_arranged (rising (λ (c : ClassPart). c.id) (map class_part classes.old)) }
+    ensures { map class_part classes.new ≡ map class_arranged (rising (λ (c : ClassPart).
+        c.id) (map class_part classes.old)) }
 {
     rise(classes);
     for class in classes.iter_mut() {

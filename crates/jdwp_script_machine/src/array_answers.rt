@@ -31,9 +31,11 @@ pub(crate) fn array_answer(
     number: u8,
     content: &[Datum],
 ) -> Result<Answer, NoMemory>
-    ensures value { IfOk result (λ a. a ≡ array_answer (state_now state.now) number (meanings content.now)) }
+    ensures value { IfOk result (λ a. a ≡ array_answer (state_now state.now) number
+        (meanings content.now)) }
     // A refusal takes no memory.
-    ensures memory { IfErr result (λ _. IsTrue (takes_memory (array_answer (state_now state.now) number (meanings content.now)))) }
+    ensures memory { IfErr result (λ _.
+        IsTrue (takes_memory (array_answer (state_now state.now) number (meanings content.now)))) }
 {
     match number {
         ARRAY_LENGTH => array_length(alloc, &state.script, content),
@@ -44,9 +46,12 @@ pub(crate) fn array_answer(
 
 /// The length of an array.
 fn array_length(alloc: Global, script: &Script, content: &[Datum]) -> Result<Answer, NoMemory>
-    ensures value { IfOk result (λ a. a ≡ of_object (script_part script.now) array_length_answer (meanings content.now)) }
+    ensures value { IfOk result (λ a. a ≡ of_object (script_part script.now) array_length_answer
+        (meanings content.now)) }
     // A refusal takes no memory.
-    ensures memory { IfErr result (λ _. IsTrue (takes_memory (of_object (script_part script.now) array_length_answer (meanings content.now)))) }
+    ensures memory { IfErr result (λ _.
+        IsTrue (takes_memory (of_object (script_part script.now) array_length_answer
+        (meanings content.now)))) }
 {
     match object_asked(script, content) {
         Ok((object, [])) => length_of(alloc, object),
@@ -57,9 +62,11 @@ fn array_length(alloc: Global, script: &Script, content: &[Datum]) -> Result<Ans
 
 /// The length of this object, where it is an array.
 fn length_of(alloc: Global, object: &Object) -> Result<Answer, NoMemory>
-    ensures value { IfOk result (λ a. a ≡ found_or INVALID_ARRAY length_answer (object_part object.now).array) }
+    ensures value { IfOk result (λ a. a ≡ found_or INVALID_ARRAY length_answer
+        (object_part object.now).array) }
     // A refusal takes no memory.
-    ensures memory { IfErr result (λ _. IsTrue (takes_memory (found_or INVALID_ARRAY length_answer (object_part object.now).array))) }
+    ensures memory { IfErr result (λ _. IsTrue (takes_memory (found_or INVALID_ARRAY length_answer
+        (object_part object.now).array))) }
 {
     match &object.array {
         Some(elements) => count_of(alloc, elements),
@@ -71,7 +78,8 @@ fn length_of(alloc: Global, object: &Object) -> Result<Answer, NoMemory>
 fn count_of(alloc: Global, elements: &Elements) -> Result<Answer, NoMemory>
     ensures value { IfOk result (λ a. a ≡ length_answer (elements_part elements.now)) }
     // A refusal takes no memory.
-    ensures memory { IfErr result (λ _. IsTrue (takes_memory (length_answer (elements_part elements.now)))) }
+    ensures memory { IfErr result (λ _.
+        IsTrue (takes_memory (length_answer (elements_part elements.now)))) }
 {
     match i32::try_from(elements.bits.len()) {
         Ok(count) => of_scalar(alloc, Scalar::Int(count)),
@@ -81,9 +89,12 @@ fn count_of(alloc: Global, elements: &Elements) -> Result<Answer, NoMemory>
 
 /// Some elements of an array.
 fn array_values(alloc: Global, script: &Script, content: &[Datum]) -> Result<Answer, NoMemory>
-    ensures value { IfOk result (λ a. a ≡ of_object (script_part script.now) (elements_answer (script_part script.now)) (meanings content.now)) }
+    ensures value { IfOk result (λ a. a ≡ of_object (script_part script.now) (elements_answer
+        (script_part script.now)) (meanings content.now)) }
     // A refusal takes no memory.
-    ensures memory { IfErr result (λ _. IsTrue (takes_memory (of_object (script_part script.now) (elements_answer (script_part script.now)) (meanings content.now)))) }
+    ensures memory { IfErr result (λ _.
+        IsTrue (takes_memory (of_object (script_part script.now) (elements_answer
+        (script_part script.now)) (meanings content.now)))) }
 {
     match object_asked(script, content) {
         Ok((object, rest)) => values_of(alloc, script, object, rest),
@@ -98,9 +109,12 @@ fn values_of(
     object: &Object,
     rest: &[Datum],
 ) -> Result<Answer, NoMemory>
-    ensures value { IfOk result (λ a. a ≡ elements_answer (script_part script.now) (object_part object.now) (meanings rest.now)) }
+    ensures value { IfOk result (λ a. a ≡ elements_answer (script_part script.now)
+        (object_part object.now) (meanings rest.now)) }
     // A refusal takes no memory.
-    ensures memory { IfErr result (λ _. IsTrue (takes_memory (elements_answer (script_part script.now) (object_part object.now) (meanings rest.now)))) }
+    ensures memory { IfErr result (λ _.
+        IsTrue (takes_memory (elements_answer (script_part script.now) (object_part object.now)
+        (meanings rest.now)))) }
 {
     match &object.array {
         Some(elements) => some_of(alloc, script, elements, rest),
@@ -116,9 +130,12 @@ fn some_of(
     elements: &Elements,
     rest: &[Datum],
 ) -> Result<Answer, NoMemory>
-    ensures value { IfOk result (λ a. a ≡ elements_asked (script_part script.now) (meanings rest.now) (elements_part elements.now)) }
+    ensures value { IfOk result (λ a. a ≡ elements_asked (script_part script.now)
+        (meanings rest.now) (elements_part elements.now)) }
     // A refusal takes no memory.
-    ensures memory { IfErr result (λ _. IsTrue (takes_memory (elements_asked (script_part script.now) (meanings rest.now) (elements_part elements.now)))) }
+    ensures memory { IfErr result (λ _.
+        IsTrue (takes_memory (elements_asked (script_part script.now) (meanings rest.now)
+        (elements_part elements.now)))) }
 {
     match range_of(rest) {
         Some((from, count)) => part_told(alloc, script, elements.tag, &elements.bits, from, count),
@@ -136,9 +153,12 @@ fn part_told(
     from: i32,
     count: i32,
 ) -> Result<Answer, NoMemory>
-    ensures value { IfOk result (λ a. a ≡ part_of false (region_answer (script_part script.now) tag) bits.now from count) }
+    ensures value { IfOk result (λ a. a ≡ part_of false (region_answer (script_part script.now) tag)
+        bits.now from count) }
     // A refusal takes no memory.
-    ensures memory { IfErr result (λ _. IsTrue (takes_memory (part_of false (region_answer (script_part script.now) tag) bits.now from count))) }
+    ensures memory { IfErr result (λ _.
+        IsTrue (takes_memory (part_of false (region_answer (script_part script.now) tag) bits.now
+        from count))) }
 {
     match part_of(false, bits, from, count) {
         Ok(part) => region(alloc, script, tag, part),
@@ -150,7 +170,8 @@ fn part_told(
 fn region(alloc: Global, script: &Script, tag: Tag, bits: &[u64]) -> Result<Answer, NoMemory>
     ensures value { IfOk result (λ a. a ≡ region_answer (script_part script.now) tag bits.now) }
     // A refusal takes no memory.
-    ensures memory { IfErr result (λ _. IsTrue (takes_memory (region_answer (script_part script.now) tag bits.now))) }
+    ensures memory { IfErr result (λ _.
+        IsTrue (takes_memory (region_answer (script_part script.now) tag bits.now))) }
 {
     let values = elements_of(alloc, script, tag, bits)?;
     match ArrayRegion::new(tag, values) {
@@ -166,7 +187,8 @@ fn elements_of(
     tag: Tag,
     bits: &[u64],
 ) -> Result<Vec<Value>, NoMemory>
-    ensures { IfOk result (λ values. values.items ≡ map (element (script_part script.now) tag) bits.now) }
+    ensures { IfOk result (λ values. values.items
+        ≡ map (element (script_part script.now) tag) bits.now) }
 {
     let mut values = Vec::with_capacity(alloc, bits.len())?;
     for each in bits {

@@ -21,7 +21,8 @@ pub(crate) fn class_asked<'a>(
     script: &'a Script,
     content: &'a [Datum],
 ) -> Result<(&'a Class, &'a [Datum]), ErrorCode>
-    ensures { (answer : ClassPart → Asks) → of_class (script_part script.now) answer (meanings content.now) ≡ by_asked class_part answer result }
+    ensures { (answer : ClassPart → Asks) → of_class (script_part script.now) answer
+        (meanings content.now) ≡ by_asked class_part answer result }
 {
     match content {
         [Datum::One(Scalar::ReferenceTypeId(id)), rest @ ..] => match class_of(script, *id) {
@@ -37,7 +38,8 @@ pub(crate) fn prepared_asked<'a>(
     state: &'a MachineState,
     content: &'a [Datum],
 ) -> Result<(&'a Class, &'a [Datum]), ErrorCode>
-    ensures { (answer : ClassPart → Asks) → of_prepared_class (state_now state.now) answer (meanings content.now) ≡ by_asked class_part answer result }
+    ensures { (answer : ClassPart → Asks) → of_prepared_class (state_now state.now) answer
+        (meanings content.now) ≡ by_asked class_part answer result }
 {
     match class_asked(&state.script, content) {
         Ok((class, rest)) => {
@@ -56,7 +58,8 @@ pub(crate) fn method_asked<'a>(
     class: &'a Class,
     content: &'a [Datum],
 ) -> Result<(&'a Method, &'a [Datum]), ErrorCode>
-    ensures { (answer : ClassPart → MethodPart → Asks) → of_method_in answer (class_part class.now) (meanings content.now) ≡ by_asked method_part (answer (class_part class.now)) result }
+    ensures { (answer : ClassPart → MethodPart → Asks) → of_method_in answer (class_part class.now)
+        (meanings content.now) ≡ by_asked method_part (answer (class_part class.now)) result }
 {
     match content {
         [Datum::One(Scalar::MethodId(id)), rest @ ..] => match method_of(class, *id) {
@@ -72,7 +75,8 @@ pub(crate) fn object_asked<'a>(
     script: &'a Script,
     content: &'a [Datum],
 ) -> Result<(&'a Object, &'a [Datum]), ErrorCode>
-    ensures { (answer : ObjectPart → Asks) → of_object (script_part script.now) answer (meanings content.now) ≡ by_asked object_part answer result }
+    ensures { (answer : ObjectPart → Asks) → of_object (script_part script.now) answer
+        (meanings content.now) ≡ by_asked object_part answer result }
 {
     match content {
         [Datum::One(Scalar::ObjectId(id)), rest @ ..] => match object_of(script, *id) {
@@ -88,7 +92,8 @@ pub(crate) fn group_asked<'a>(
     script: &'a Script,
     content: &'a [Datum],
 ) -> Result<(&'a Group, &'a [Datum]), ErrorCode>
-    ensures { (answer : GroupPart → Asks) → of_group (script_part script.now) answer (meanings content.now) ≡ by_asked group_part answer result }
+    ensures { (answer : GroupPart → Asks) → of_group (script_part script.now) answer
+        (meanings content.now) ≡ by_asked group_part answer result }
 {
     match content {
         [Datum::One(Scalar::ObjectId(id)), rest @ ..] => match group_of(script, *id) {
@@ -104,7 +109,8 @@ pub(crate) fn thread_asked<'a>(
     script: &'a Script,
     content: &'a [Datum],
 ) -> Result<(&'a Thread, &'a [Datum]), ErrorCode>
-    ensures { (answer : ThreadPart → Asks) → of_thread (script_part script.now) answer (meanings content.now) ≡ by_asked thread_part answer result }
+    ensures { (answer : ThreadPart → Asks) → of_thread (script_part script.now) answer
+        (meanings content.now) ≡ by_asked thread_part answer result }
 {
     match content {
         [Datum::One(Scalar::ObjectId(id)), rest @ ..] => match thread_of(script, *id) {
@@ -120,7 +126,8 @@ pub(crate) fn frames_asked<'a>(
     state: &'a MachineState,
     content: &'a [Datum],
 ) -> Result<(&'a [FrameState], &'a [Datum]), ErrorCode>
-    ensures { (answer : List FrameNow → Asks) → of_frames (frames_at (state_now state.now)) answer (meanings content.now) ≡ by_asked (map frame_now) answer result }
+    ensures { (answer : List FrameNow → Asks) → of_frames (frames_at (state_now state.now)) answer
+        (meanings content.now) ≡ by_asked (map frame_now) answer result }
 {
     match content {
         [Datum::One(Scalar::ObjectId(id)), rest @ ..] => match frames_of(state, *id) {
@@ -136,7 +143,8 @@ pub(crate) fn frame_asked<'a>(
     state: &'a MachineState,
     content: &'a [Datum],
 ) -> Result<(&'a FrameState, &'a [Datum]), ErrorCode>
-    ensures { (answer : FrameNow → Asks) → of_frame (frames_at (state_now state.now)) answer (meanings content.now) ≡ by_asked frame_now answer result }
+    ensures { (answer : FrameNow → Asks) → of_frame (frames_at (state_now state.now)) answer
+        (meanings content.now) ≡ by_asked frame_now answer result }
 {
     match frames_asked(state, content) {
         Ok((frames, rest)) => frame_among(frames, rest),
@@ -149,7 +157,8 @@ fn frame_among<'a>(
     frames: &'a [FrameState],
     content: &'a [Datum],
 ) -> Result<(&'a FrameState, &'a [Datum]), ErrorCode>
-    ensures { (answer : FrameNow → Asks) → of_frame_in answer (map frame_now frames.now) (meanings content.now) ≡ by_asked frame_now answer result }
+    ensures { (answer : FrameNow → Asks) → of_frame_in answer (map frame_now frames.now)
+        (meanings content.now) ≡ by_asked frame_now answer result }
 {
     match content {
         [Datum::One(Scalar::FrameId(id)), rest @ ..] => match frame_of(frames, *id) {

@@ -59,9 +59,12 @@ pub fn reference_type_answer(
     number: u8,
     content: &[Datum],
 ) -> Result<Answer, NoMemory>
-    ensures value { IfOk result (λ a. a ≡ reference_type_answer (state_now state.now) number (meanings content.now)) }
+    ensures value { IfOk result (λ a. a ≡ reference_type_answer (state_now state.now) number
+        (meanings content.now)) }
     // A refusal takes no memory.
-    ensures memory { IfErr result (λ _. IsTrue (takes_memory (reference_type_answer (state_now state.now) number (meanings content.now)))) }
+    ensures memory { IfErr result (λ _.
+        IsTrue (takes_memory (reference_type_answer (state_now state.now) number
+        (meanings content.now)))) }
 {
     match number {
         SIGNATURE => of_class(alloc, state, ClassQuestion::Signature, content),
@@ -96,9 +99,12 @@ pub fn class_type_answer(
     number: u8,
     content: &[Datum],
 ) -> Result<Answer, NoMemory>
-    ensures value { IfOk result (λ a. a ≡ class_type_answer (state_now state.now) number (meanings content.now)) }
+    ensures value { IfOk result (λ a. a ≡ class_type_answer (state_now state.now) number
+        (meanings content.now)) }
     // A refusal takes no memory.
-    ensures memory { IfErr result (λ _. IsTrue (takes_memory (class_type_answer (state_now state.now) number (meanings content.now)))) }
+    ensures memory { IfErr result (λ _.
+        IsTrue (takes_memory (class_type_answer (state_now state.now) number
+        (meanings content.now)))) }
 {
     match number {
         SUPERCLASS => of_class(alloc, state, ClassQuestion::Superclass, content),
@@ -113,9 +119,11 @@ fn of_class(
     question: ClassQuestion,
     content: &[Datum],
 ) -> Result<Answer, NoMemory>
-    ensures value { IfOk result (λ a. a ≡ of_class (state_now state.now).script (λ c. alone (class_answer_to (state_now state.now) question c)) (meanings content.now)) }
+    ensures value { IfOk result (λ a. a ≡ of_class (state_now state.now).script (λ c.
+        alone (class_answer_to (state_now state.now) question c)) (meanings content.now)) }
     // A refusal takes no memory.
-    ensures memory { IfErr result (λ _. IsTrue (takes_memory (of_class (state_now state.now).script (λ c. alone (class_answer_to (state_now state.now) question c)) (meanings content.now)))) }
+    ensures memory { IfErr result (λ _. IsTrue (takes_memory (of_class (state_now state.now).script
+        (λ c. alone (class_answer_to (state_now state.now) question c)) (meanings content.now)))) }
 {
     match class_asked(&state.script, content) {
         Ok((class, [])) => class_answer_to(alloc, state, question, class),
@@ -131,9 +139,12 @@ fn of_prepared(
     question: ClassQuestion,
     content: &[Datum],
 ) -> Result<Answer, NoMemory>
-    ensures value { IfOk result (λ a. a ≡ of_prepared_class (state_now state.now) (λ c. alone (class_answer_to (state_now state.now) question c)) (meanings content.now)) }
+    ensures value { IfOk result (λ a. a ≡ of_prepared_class (state_now state.now) (λ c.
+        alone (class_answer_to (state_now state.now) question c)) (meanings content.now)) }
     // A refusal takes no memory.
-    ensures memory { IfErr result (λ _. IsTrue (takes_memory (of_prepared_class (state_now state.now) (λ c. alone (class_answer_to (state_now state.now) question c)) (meanings content.now)))) }
+    ensures memory { IfErr result (λ _.
+        IsTrue (takes_memory (of_prepared_class (state_now state.now) (λ c.
+        alone (class_answer_to (state_now state.now) question c)) (meanings content.now)))) }
 {
     match prepared_asked(state, content) {
         Ok((class, [])) => class_answer_to(alloc, state, question, class),
@@ -148,9 +159,12 @@ fn values_of_class(
     state: &MachineState,
     content: &[Datum],
 ) -> Result<Answer, NoMemory>
-    ensures value { IfOk result (λ a. a ≡ of_prepared_class (state_now state.now) statics_answer (meanings content.now)) }
+    ensures value { IfOk result (λ a. a ≡ of_prepared_class (state_now state.now) statics_answer
+        (meanings content.now)) }
     // A refusal takes no memory.
-    ensures memory { IfErr result (λ _. IsTrue (takes_memory (of_prepared_class (state_now state.now) statics_answer (meanings content.now)))) }
+    ensures memory { IfErr result (λ _.
+        IsTrue (takes_memory (of_prepared_class (state_now state.now) statics_answer
+        (meanings content.now)))) }
 {
     match prepared_asked(state, content) {
         Ok((class, rest)) => static_values(alloc, class, rest),
@@ -165,9 +179,12 @@ fn class_answer_to(
     question: ClassQuestion,
     class: &Class,
 ) -> Result<Answer, NoMemory>
-    ensures value { IfOk result (λ a. a ≡ class_answer_to (state_now state.now) question (class_part class.now)) }
+    ensures value { IfOk result (λ a. a ≡ class_answer_to (state_now state.now) question
+        (class_part class.now)) }
     // A refusal takes no memory.
-    ensures memory { IfErr result (λ _. IsTrue (takes_memory (class_answer_to (state_now state.now) question (class_part class.now)))) }
+    ensures memory { IfErr result (λ _.
+        IsTrue (takes_memory (class_answer_to (state_now state.now) question
+        (class_part class.now)))) }
 {
     match question {
         ClassQuestion::Signature => of_text(alloc, &class.signature),
@@ -187,7 +204,8 @@ fn class_answer_to(
 
 /// The class's signature, and its generic signature, which is empty.
 fn generic_signature(alloc: Global, class: &Class) -> Result<Answer, NoMemory>
-    ensures { IfOk result (λ a. a ≡ Answer.Data (One (Text (string_bytes class.now.signature)) ∷ One (Text []) ∷ [])) }
+    ensures { IfOk result (λ a. a ≡ Answer.Data (One (Text (string_bytes class.now.signature)) ∷ One
+        (Text []) ∷ [])) }
 {
     let signature = text(alloc, &class.signature)?;
     of_pair(alloc, Datum::One(signature), Datum::One(empty_text(alloc)))
@@ -195,9 +213,11 @@ fn generic_signature(alloc: Global, class: &Class) -> Result<Answer, NoMemory>
 
 /// The name of the class's source file.
 fn source_file(alloc: Global, class: &Class) -> Result<Answer, NoMemory>
-    ensures value { IfOk result (λ a. a ≡ source_answer (option_map string_bytes class.now.source)) }
+    ensures value { IfOk result (λ a.
+        a ≡ source_answer (option_map string_bytes class.now.source)) }
     // A refusal takes no memory.
-    ensures memory { IfErr result (λ _. IsTrue (takes_memory (source_answer (option_map string_bytes class.now.source)))) }
+    ensures memory { IfErr result (λ _.
+        IsTrue (takes_memory (source_answer (option_map string_bytes class.now.source)))) }
 {
     match &class.source {
         Some(source) => of_text(alloc, source),

@@ -67,7 +67,8 @@ impl<'a> Tell<Class> for GenericClassEntry<'a> {
 
 /// A name and a signature, as fields.
 fn named(alloc: Global, name: &str, signature: &str) -> Result<(Scalar, Scalar), NoMemory>
-    ensures { IfOk result (λ p. scalar_meaning p.0 ≡ Text name.now × scalar_meaning p.1 ≡ Text signature.now) }
+    ensures { IfOk result (λ p. scalar_meaning p.0 ≡ Text name.now
+        × scalar_meaning p.1 ≡ Text signature.now) }
 {
     let name = text(alloc, name)?;
     let signature = text(alloc, signature)?;

@@ -26,7 +26,8 @@ pub(crate) trait Tell<T> {
 
     /// The list with the entry of each thing, in order.
     final fn tell_each(&self, alloc: Global, things: &[T]) -> Result<Datum, NoMemory>
-        ensures { IfOk result (λ datum. datum_meaning datum ≡ Many (map (tells self.now) (map meaning things.now))) }
+        ensures { IfOk result (λ datum. datum_meaning datum
+            ≡ Many (map (tells self.now) (map meaning things.now))) }
     {
         let mut entries = Vec::with_capacity(alloc, things.len())?;
         for thing in things {
@@ -37,7 +38,8 @@ pub(crate) trait Tell<T> {
 
     /// The answer that is the list with the entry of each thing, in order.
     final fn answer_each(&self, alloc: Global, things: &[T]) -> Result<Answer, NoMemory>
-        ensures { IfOk result (λ answer. answer ≡ Answer.Data (Many (map (tells self.now) (map meaning things.now)) ∷ [])) }
+        ensures { IfOk result (λ answer.
+            answer ≡ Answer.Data (Many (map (tells self.now) (map meaning things.now)) ∷ [])) }
     {
         of_datum(alloc, self.tell_each(alloc, things)?)
     }

@@ -35,9 +35,12 @@ pub(crate) fn values_asked<T: Fielded>(
     owner: &T,
     entries: &[Vec<Scalar>],
 ) -> Result<Answer, NoMemory>
-    ensures value { IfOk result (λ a. a ≡ answer_entries (field_values (T.held owner.now) (entry_meanings entries.now))) }
+    ensures value { IfOk result (λ a. a ≡ answer_entries (field_values (T.held owner.now)
+        (entry_meanings entries.now))) }
     // A refusal takes no memory.
-    ensures memory { IfErr result (λ _. IsTrue (takes_memory (answer_entries (field_values (T.held owner.now) (entry_meanings entries.now))))) }
+    ensures memory { IfErr result (λ _.
+        IsTrue (takes_memory (answer_entries (field_values (T.held owner.now)
+        (entry_meanings entries.now))))) }
 {
     if !have_values(owner, entries) {
         return Ok(Answer::Error(ErrorCode::INVALID_FIELDID));
@@ -47,7 +50,8 @@ pub(crate) fn values_asked<T: Fielded>(
 
 /// Whether each entry names a field with a value.
 fn have_values<T: Fielded>(owner: &T, entries: &[Vec<Scalar>]) -> bool
-    ensures { result ≡ takes_memory (answer_entries (field_values (T.held owner.now) (entry_meanings entries.now))) }
+    ensures { result ≡ takes_memory (answer_entries (field_values (T.held owner.now)
+        (entry_meanings entries.now))) }
 {
     for entry in entries {
         if value_asked(owner, entry).is_none() {
@@ -63,7 +67,8 @@ fn values_told<T: Fielded>(
     owner: &T,
     entries: &[Vec<Scalar>],
 ) -> Result<Answer, NoMemory>
-    ensures { IfOk result (λ a. a ≡ answer_entries (field_values (T.held owner.now) (entry_meanings entries.now))) }
+    ensures { IfOk result (λ a. a ≡ answer_entries (field_values (T.held owner.now)
+        (entry_meanings entries.now))) }
 {
     let mut values = Vec::new(alloc);
     for entry in entries {

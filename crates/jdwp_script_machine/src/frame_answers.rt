@@ -32,9 +32,12 @@ pub(crate) fn stack_frame_answer(
     number: u8,
     content: &[Datum],
 ) -> Result<Answer, NoMemory>
-    ensures value { IfOk result (λ a. a ≡ stack_frame_answer_by (script_part state.now.script) (frames_at (state_now state.now)) number (meanings content.now)) }
+    ensures value { IfOk result (λ a. a ≡ stack_frame_answer_by (script_part state.now.script)
+        (frames_at (state_now state.now)) number (meanings content.now)) }
     // A refusal takes no memory.
-    ensures memory { IfErr result (λ _. IsTrue (takes_memory (stack_frame_answer_by (script_part state.now.script) (frames_at (state_now state.now)) number (meanings content.now)))) }
+    ensures memory { IfErr result (λ _.
+        IsTrue (takes_memory (stack_frame_answer_by (script_part state.now.script)
+        (frames_at (state_now state.now)) number (meanings content.now)))) }
 {
     match number {
         GET_SLOTS => slot_values(alloc, state, content),
@@ -45,9 +48,12 @@ pub(crate) fn stack_frame_answer(
 
 /// The values of slots of a frame of a thread.
 fn slot_values(alloc: Global, state: &MachineState, content: &[Datum]) -> Result<Answer, NoMemory>
-    ensures value { IfOk result (λ a. a ≡ of_frame (frames_at (state_now state.now)) slots_answer (meanings content.now)) }
+    ensures value { IfOk result (λ a. a ≡ of_frame (frames_at (state_now state.now)) slots_answer
+        (meanings content.now)) }
     // A refusal takes no memory.
-    ensures memory { IfErr result (λ _. IsTrue (takes_memory (of_frame (frames_at (state_now state.now)) slots_answer (meanings content.now)))) }
+    ensures memory { IfErr result (λ _.
+        IsTrue (takes_memory (of_frame (frames_at (state_now state.now)) slots_answer
+        (meanings content.now)))) }
 {
     match frame_asked(state, content) {
         Ok((frame, rest)) => values_of(alloc, frame, rest),
@@ -57,9 +63,11 @@ fn slot_values(alloc: Global, state: &MachineState, content: &[Datum]) -> Result
 
 /// The values of slots of this frame.
 fn values_of(alloc: Global, frame: &FrameState, content: &[Datum]) -> Result<Answer, NoMemory>
-    ensures value { IfOk result (λ a. a ≡ slots_answer (frame_now frame.now) (meanings content.now)) }
+    ensures value { IfOk result (λ a. a ≡ slots_answer (frame_now frame.now)
+        (meanings content.now)) }
     // A refusal takes no memory.
-    ensures memory { IfErr result (λ _. IsTrue (takes_memory (slots_answer (frame_now frame.now) (meanings content.now)))) }
+    ensures memory { IfErr result (λ _.
+        IsTrue (takes_memory (slots_answer (frame_now frame.now) (meanings content.now)))) }
 {
     match entries_of(content) {
         Some(entries) => values_asked(alloc, &frame.slots, entries),
@@ -74,9 +82,11 @@ fn values_asked(
     slots: &[SlotState],
     entries: &[Vec<Scalar>],
 ) -> Result<Answer, NoMemory>
-    ensures value { IfOk result (λ a. a ≡ slots_told (map slot_now slots.now) (entry_meanings entries.now)) }
+    ensures value { IfOk result (λ a. a ≡ slots_told (map slot_now slots.now)
+        (entry_meanings entries.now)) }
     // A refusal takes no memory.
-    ensures memory { IfErr result (λ _. IsTrue (takes_memory (slots_told (map slot_now slots.now) (entry_meanings entries.now)))) }
+    ensures memory { IfErr result (λ _.
+        IsTrue (takes_memory (slots_told (map slot_now slots.now) (entry_meanings entries.now)))) }
 {
     if !all_have_slots(slots, entries) {
         return Ok(Answer::Error(ErrorCode::INVALID_SLOT));
@@ -90,7 +100,8 @@ fn values_asked(
 
 /// Whether every entry names a slot that is there.
 fn all_have_slots(slots: &[SlotState], entries: &[Vec<Scalar>]) -> bool
-    ensures { result ≡ list_all (entry_has_slot (map slot_now slots.now)) (entry_meanings entries.now) }
+    ensures { result ≡ list_all (entry_has_slot (map slot_now slots.now))
+        (entry_meanings entries.now) }
 {
     for entry in entries {
         if !entry_has_slot(slots, entry) {
@@ -150,7 +161,8 @@ fn values_listed(
     slots: &[SlotState],
     entries: &[Vec<Scalar>],
 ) -> Result<Vec<Vec<Scalar>>, NoMemory>
-    ensures { IfOk result (λ found. entry_meanings found.items ≡ slot_entries (map slot_now slots.now) (entry_meanings entries.now)) }
+    ensures { IfOk result (λ found. entry_meanings found.items
+        ≡ slot_entries (map slot_now slots.now) (entry_meanings entries.now)) }
 {
     let mut found = Vec::with_capacity(alloc, entries.len())?;
     for entry in entries {
@@ -172,9 +184,12 @@ fn entry_slot(slots: &[SlotState], entry: &[Scalar]) -> Option<Value>
 
 /// The `this` of a frame of a thread.
 fn this_object(alloc: Global, state: &MachineState, content: &[Datum]) -> Result<Answer, NoMemory>
-    ensures value { IfOk result (λ a. a ≡ of_frame (frames_at (state_now state.now)) (this_answer (script_part state.now.script)) (meanings content.now)) }
+    ensures value { IfOk result (λ a. a ≡ of_frame (frames_at (state_now state.now))
+        (this_answer (script_part state.now.script)) (meanings content.now)) }
     // A refusal takes no memory.
-    ensures memory { IfErr result (λ _. IsTrue (takes_memory (of_frame (frames_at (state_now state.now)) (this_answer (script_part state.now.script)) (meanings content.now)))) }
+    ensures memory { IfErr result (λ _.
+        IsTrue (takes_memory (of_frame (frames_at (state_now state.now))
+        (this_answer (script_part state.now.script)) (meanings content.now)))) }
 {
     match frame_asked(state, content) {
         Ok((frame, [])) => {

@@ -32,9 +32,11 @@ pub(crate) fn group_answer(
     number: u8,
     content: &[Datum],
 ) -> Result<Answer, NoMemory>
-    ensures value { IfOk result (λ a. a ≡ group_answer (state_now state.now) number (meanings content.now)) }
+    ensures value { IfOk result (λ a. a ≡ group_answer (state_now state.now) number
+        (meanings content.now)) }
     // A refusal takes no memory.
-    ensures memory { IfErr result (λ _. IsTrue (takes_memory (group_answer (state_now state.now) number (meanings content.now)))) }
+    ensures memory { IfErr result (λ _.
+        IsTrue (takes_memory (group_answer (state_now state.now) number (meanings content.now)))) }
 {
     match number {
         GROUP_NAME => name(alloc, &state.script, content),
@@ -46,9 +48,12 @@ pub(crate) fn group_answer(
 
 /// The name of a group.
 fn name(alloc: Global, script: &Script, content: &[Datum]) -> Result<Answer, NoMemory>
-    ensures value { IfOk result (λ a. a ≡ of_group (script_part script.now) group_name_answer (meanings content.now)) }
+    ensures value { IfOk result (λ a. a ≡ of_group (script_part script.now) group_name_answer
+        (meanings content.now)) }
     // A refusal takes no memory.
-    ensures memory { IfErr result (λ _. IsTrue (takes_memory (of_group (script_part script.now) group_name_answer (meanings content.now)))) }
+    ensures memory { IfErr result (λ _.
+        IsTrue (takes_memory (of_group (script_part script.now) group_name_answer
+        (meanings content.now)))) }
 {
     match group_asked(script, content) {
         Ok((group, [])) => of_text(alloc, &group.name),
@@ -59,9 +64,12 @@ fn name(alloc: Global, script: &Script, content: &[Datum]) -> Result<Answer, NoM
 
 /// The parent of a group.
 fn parent(alloc: Global, script: &Script, content: &[Datum]) -> Result<Answer, NoMemory>
-    ensures value { IfOk result (λ a. a ≡ of_group (script_part script.now) parent_answer (meanings content.now)) }
+    ensures value { IfOk result (λ a. a ≡ of_group (script_part script.now) parent_answer
+        (meanings content.now)) }
     // A refusal takes no memory.
-    ensures memory { IfErr result (λ _. IsTrue (takes_memory (of_group (script_part script.now) parent_answer (meanings content.now)))) }
+    ensures memory { IfErr result (λ _.
+        IsTrue (takes_memory (of_group (script_part script.now) parent_answer
+        (meanings content.now)))) }
 {
     match group_asked(script, content) {
         Ok((group, [])) => of_scalar(alloc, Scalar::ObjectId(group.parent)),
@@ -72,9 +80,12 @@ fn parent(alloc: Global, script: &Script, content: &[Datum]) -> Result<Answer, N
 
 /// The threads and the groups right below a group.
 fn children(alloc: Global, state: &MachineState, content: &[Datum]) -> Result<Answer, NoMemory>
-    ensures value { IfOk result (λ a. a ≡ of_group (script_part state.now.script) (children_answer (state_now state.now)) (meanings content.now)) }
+    ensures value { IfOk result (λ a. a ≡ of_group (script_part state.now.script) (children_answer
+        (state_now state.now)) (meanings content.now)) }
     // A refusal takes no memory.
-    ensures memory { IfErr result (λ _. IsTrue (takes_memory (of_group (script_part state.now.script) (children_answer (state_now state.now)) (meanings content.now)))) }
+    ensures memory { IfErr result (λ _.
+        IsTrue (takes_memory (of_group (script_part state.now.script) (children_answer
+        (state_now state.now)) (meanings content.now)))) }
 {
     match group_asked(&state.script, content) {
         Ok((group, [])) => children_of(alloc, state, group.id),
@@ -87,7 +98,8 @@ fn children(alloc: Global, state: &MachineState, content: &[Datum]) -> Result<An
 fn children_of(alloc: Global, state: &MachineState, group: ObjectId) -> Result<Answer, NoMemory>
     ensures value { IfOk result (λ a. a ≡ children (state_now state.now) group.0) }
     // A refusal takes no memory.
-    ensures memory { IfErr result (λ _. IsTrue (takes_memory (children (state_now state.now) group.0))) }
+    ensures memory { IfErr result (λ _.
+        IsTrue (takes_memory (children (state_now state.now) group.0))) }
 {
     let threads = threads_below(alloc, state, group)?;
     let groups = groups_below(alloc, &state.script, group)?;
@@ -100,7 +112,8 @@ fn threads_below(
     state: &MachineState,
     group: ObjectId,
 ) -> Result<Vec<Vec<Scalar>>, NoMemory>
-    ensures { IfOk result (λ found. entry_meanings found.items ≡ map thread_entry (threads_below (state_now state.now) group.0)) }
+    ensures { IfOk result (λ found. entry_meanings found.items
+        ≡ map thread_entry (threads_below (state_now state.now) group.0)) }
 {
     let mut found = Vec::new(alloc);
     for thread in &state.threads {
@@ -144,7 +157,8 @@ pub(crate) fn groups_below(
     script: &Script,
     parent: ObjectId,
 ) -> Result<Vec<Vec<Scalar>>, NoMemory>
-    ensures { IfOk result (λ found. entry_meanings found.items ≡ map group_entry (groups_below (script_part script.now) parent.0)) }
+    ensures { IfOk result (λ found. entry_meanings found.items
+        ≡ map group_entry (groups_below (script_part script.now) parent.0)) }
 {
     let mut found = Vec::new(alloc);
     for group in &script.groups {

@@ -52,7 +52,8 @@ pub(crate) fn next(
 
 /// The next step of a thread, if one is left.
 pub(crate) fn next_step<'a>(script: &'a Script, entry: &ThreadState) -> Option<&'a Step>
-    ensures step { option_map step_part (found result) ≡ next_step (script_part script.now) (thread_now entry.now) }
+    ensures step { option_map step_part (found result) ≡ next_step (script_part script.now)
+        (thread_now entry.now) }
     ensures room { IfSome result (λ _. entry.now.made + 1 < 2 ^ 64) }
 {
     match with_id(&script.threads, entry.id.0) {
@@ -85,7 +86,8 @@ fn occurrence(
     step: &Step,
 ) -> Result<Option<Occurrence>, NoMemory>
     requires { length frames.now ≤ FRAME_LIMIT }
-    ensures { IfOk result (λ o. option_map occurrence_meaning o ≡ occurrence (state_now state.now) (map frame_now frames.now) (step_part step.now)) }
+    ensures { IfOk result (λ o. option_map occurrence_meaning o ≡ occurrence (state_now state.now)
+        (map frame_now frames.now) (step_part step.now)) }
 {
     let script = &state.script;
     match step {
@@ -115,7 +117,8 @@ fn entered(
     frames: &[FrameState],
     call: &Call,
 ) -> Result<Option<Occurrence>, NoMemory>
-    ensures { IfOk result (λ o. option_map occurrence_meaning o ≡ occurrence (state_now state.now) (map frame_now frames.now) (part.Call (call_part call.now))) }
+    ensures { IfOk result (λ o. option_map occurrence_meaning o ≡ occurrence (state_now state.now)
+        (map frame_now frames.now) (part.Call (call_part call.now))) }
 {
     if frames.len() >= MOST_FRAMES {
         return Ok(None);
@@ -136,7 +139,9 @@ fn place_in(
     method: MethodId,
     index: u64,
 ) -> Result<Option<Place>, NoMemory>
-    ensures { IfOk result (λ place. option_map place_meaning place ≡ option_map (site_place (script_part script.now) frames index) (site_in (script_part script.now) class.0 method.0)) }
+    ensures { IfOk result (λ place. option_map place_meaning place
+        ≡ option_map (site_place (script_part script.now) frames index)
+        (site_in (script_part script.now) class.0 method.0)) }
 {
     match site_in(script, class, method) {
         None => Ok(None),
@@ -151,7 +156,8 @@ fn newest_place(
     frames: &[FrameState],
 ) -> Result<Option<Place>, NoMemory>
     requires { length frames.now ≤ FRAME_LIMIT }
-    ensures { IfOk result (λ place. option_map place_meaning place ≡ newest_place (script_part script.now) (map frame_now frames.now)) }
+    ensures { IfOk result (λ place. option_map place_meaning place
+        ≡ newest_place (script_part script.now) (map frame_now frames.now)) }
 {
     match frames {
         [] => Ok(None),
@@ -174,7 +180,8 @@ fn moved_to(
     index: u64,
 ) -> Result<Option<Place>, NoMemory>
     requires { length frames.now ≤ FRAME_LIMIT }
-    ensures { IfOk result (λ place. option_map place_meaning place ≡ newest_place (script_part script.now) (moved index (map frame_now frames.now))) }
+    ensures { IfOk result (λ place. option_map place_meaning place
+        ≡ newest_place (script_part script.now) (moved index (map frame_now frames.now))) }
 {
     match frames {
         [] => Ok(None),
@@ -197,7 +204,8 @@ fn threw(
     thrown: &Throw,
 ) -> Result<Option<Occurrence>, NoMemory>
     requires { length frames.now ≤ FRAME_LIMIT }
-    ensures { IfOk result (λ o. option_map occurrence_meaning o ≡ occurrence (state_now state.now) (map frame_now frames.now) (part.Throwing thrown.now)) }
+    ensures { IfOk result (λ o. option_map occurrence_meaning o ≡ occurrence (state_now state.now)
+        (map frame_now frames.now) (part.Throwing thrown.now)) }
 {
     let script = &state.script;
     let Some(place) = newest_place(alloc, script, frames)? else {
@@ -230,7 +238,8 @@ fn prepared(
     state: &MachineState,
     class: ReferenceTypeId,
 ) -> Result<Option<Occurrence>, NoMemory>
-    ensures { IfOk result (λ o. option_map occurrence_meaning o ≡ occurrence (state_now state.now) [] (part.Prepare class.0)) }
+    ensures { IfOk result (λ o. option_map occurrence_meaning o
+        ≡ occurrence (state_now state.now) [] (part.Prepare class.0)) }
 {
     let script = &state.script;
     match with_id(&script.classes, class.0) {

@@ -18,11 +18,13 @@ pub fn scripts_are_lawful()
 
 /// The machine of a script that passes no limit, has no id twice and none that is too wide begins in one of its states.
 pub fn scripts_begin_soundly()
-    ensures { (live : ℕ) (script : ScriptPart) → passes_limit live script ≡ false → has_id_twice script ≡ false → has_wide_id script ≡ false → IsSound (opening script) }
+    ensures { (live : ℕ) (script : ScriptPart) → passes_limit live script ≡ false
+        → has_id_twice script ≡ false → has_wide_id script ≡ false → IsSound (opening script) }
 {}
 
 /// Whatever threads step, end or have slots written, from where a script with no fault begins: a thread that lives has run out only
 /// where it has used up its steps, and a step that is left can be made.
 pub fn scripts_go_on()
-    ensures { (live : ℕ) (script : ScriptPart) (deeds : List Deed) → first_fault live script ≡ None → MayAllBe (opening script) deeds → CanGoOn (after_all (opening script) deeds) }
+    ensures { (live : ℕ) (script : ScriptPart) (deeds : List Deed) → first_fault live script ≡ None
+        → MayAllBe (opening script) deeds → CanGoOn (after_all (opening script) deeds) }
 {}

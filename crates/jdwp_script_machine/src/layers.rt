@@ -23,7 +23,8 @@ pub(crate) fn reached_within(
     most: usize,
     from: ReferenceTypeId,
 ) -> Result<BTreeSet<u64>, NoMemory>
-    ensures { IfOk result (λ found. Holds found (λ to. reaches_within (script_part script.now) most to from.0)) }
+    ensures { IfOk result (λ found. Holds found (λ to.
+        reaches_within (script_part script.now) most to from.0)) }
 {
     let mut found = BTreeSet::new(alloc);
     let mut layer = Vec::new(alloc);
@@ -44,7 +45,8 @@ fn next_layer(
     found: &mut BTreeSet<u64>,
     layer: &[u64],
 ) -> Result<Vec<u64>, NoMemory>
-    ensures found { OnOk result (Gains found.old found.new (some_above (script_part script.now) layer.now)) }
+    ensures found { OnOk result (Gains found.old found.new
+        (some_above (script_part script.now) layer.now)) }
     ensures listed { IfOk result (λ next. Gains found.old found.new (is_in next.items)) }
 {
     let mut next = Vec::new(alloc);
@@ -61,8 +63,11 @@ fn find_above(
     listed: &mut Vec<u64>,
     id: u64,
 ) -> Result<(), NoMemory>
-    ensures found { OnOk result (Gains found.old found.new (is_above (class_in (script_part script.now) id))) }
-    ensures listed { OnOk result ((before : IdSet ℕ) → Gains before found.old (is_in listed.old.items) → Gains before found.new (is_in listed.new.items)) }
+    ensures found { OnOk result (Gains found.old found.new
+        (is_above (class_in (script_part script.now) id))) }
+    ensures listed { OnOk result ((before : IdSet ℕ)
+        → Gains before found.old (is_in listed.old.items)
+        → Gains before found.new (is_in listed.new.items)) }
 {
     match with_id(&script.classes, id) {
         None => Ok(()),
@@ -80,8 +85,11 @@ fn find_each(
     listed: &mut Vec<u64>,
     ids: &[ReferenceTypeId],
 ) -> Result<(), NoMemory>
-    ensures found { OnOk result (Gains found.old found.new (is_in (map (λ (id : RefId). id.0) ids.now))) }
-    ensures listed { OnOk result ((before : IdSet ℕ) → Gains before found.old (is_in listed.old.items) → Gains before found.new (is_in listed.new.items)) }
+    ensures found { OnOk result (Gains found.old found.new (is_in (map (λ (id : RefId).
+        id.0) ids.now))) }
+    ensures listed { OnOk result ((before : IdSet ℕ)
+        → Gains before found.old (is_in listed.old.items)
+        → Gains before found.new (is_in listed.new.items)) }
 {
     for id in ids {
         find(found, listed, id.0)?;
@@ -92,7 +100,9 @@ fn find_each(
 /// Finds an id, and lists it where it was not found before.
 fn find(found: &mut BTreeSet<u64>, listed: &mut Vec<u64>, id: u64) -> Result<(), NoMemory>
     ensures found { OnOk result (Gains found.old found.new (λ n. id == n)) }
-    ensures listed { OnOk result ((before : IdSet ℕ) → Gains before found.old (is_in listed.old.items) → Gains before found.new (is_in listed.new.items)) }
+    ensures listed { OnOk result ((before : IdSet ℕ)
+        → Gains before found.old (is_in listed.old.items)
+        → Gains before found.new (is_in listed.new.items)) }
 {
     if found.insert(id)? {
         listed.push(id)?;

@@ -25,9 +25,11 @@ pub(crate) fn set_answer(
     script: &Script,
     content: &[Datum],
 ) -> Result<Answer, NoMemory>
-    ensures value { IfOk result (λ a. a ≡ set_answer (script_part script.now) (meanings content.now)) }
+    ensures value { IfOk result (λ a. a ≡ set_answer (script_part script.now)
+        (meanings content.now)) }
     // A refusal takes no memory.
-    ensures memory { IfErr result (λ _. IsTrue (takes_memory (set_answer (script_part script.now) (meanings content.now)))) }
+    ensures memory { IfErr result (λ _.
+        IsTrue (takes_memory (set_answer (script_part script.now) (meanings content.now)))) }
 {
     match content {
         [
@@ -47,9 +49,12 @@ fn by_modifiers(
     policy: u8,
     modifiers: &[Vec<Scalar>],
 ) -> Result<Answer, NoMemory>
-    ensures value { IfOk result (λ a. a ≡ set_answer (script_part script.now) (One (Byte kind) ∷ One (Byte policy) ∷ Many (entry_meanings modifiers.now) ∷ [])) }
+    ensures value { IfOk result (λ a. a ≡ set_answer (script_part script.now) (One (Byte kind) ∷ One
+        (Byte policy) ∷ Many (entry_meanings modifiers.now) ∷ [])) }
     // A refusal takes no memory.
-    ensures memory { IfErr result (λ _. IsTrue (takes_memory (set_answer (script_part script.now) (One (Byte kind) ∷ One (Byte policy) ∷ Many (entry_meanings modifiers.now) ∷ [])))) }
+    ensures memory { IfErr result (λ _.
+        IsTrue (takes_memory (set_answer (script_part script.now) (One (Byte kind) ∷ One
+        (Byte policy) ∷ Many (entry_meanings modifiers.now) ∷ [])))) }
 {
     match modifiers {
         [modifier] => by_modifier(alloc, script, kind, policy, modifier),
@@ -65,9 +70,12 @@ fn by_modifier(
     policy: u8,
     modifier: &[Scalar],
 ) -> Result<Answer, NoMemory>
-    ensures value { IfOk result (λ a. a ≡ set_answer (script_part script.now) (One (Byte kind) ∷ One (Byte policy) ∷ Many (scalar_meanings modifier.now ∷ []) ∷ [])) }
+    ensures value { IfOk result (λ a. a ≡ set_answer (script_part script.now) (One (Byte kind) ∷ One
+        (Byte policy) ∷ Many (scalar_meanings modifier.now ∷ []) ∷ [])) }
     // A refusal takes no memory.
-    ensures memory { IfErr result (λ _. IsTrue (takes_memory (set_answer (script_part script.now) (One (Byte kind) ∷ One (Byte policy) ∷ Many (scalar_meanings modifier.now ∷ []) ∷ [])))) }
+    ensures memory { IfErr result (λ _.
+        IsTrue (takes_memory (set_answer (script_part script.now) (One (Byte kind) ∷ One
+        (Byte policy) ∷ Many (scalar_meanings modifier.now ∷ []) ∷ [])))) }
 {
     match modifier {
         [Scalar::Byte(modifier), Scalar::Location(location)] => {
@@ -87,7 +95,8 @@ fn by_modifier(
 fn location_answer(alloc: Global, script: &Script, location: Location) -> Result<Answer, NoMemory>
     ensures value { IfOk result (λ a. a ≡ location_answer (script_part script.now) location) }
     // A refusal takes no memory.
-    ensures memory { IfErr result (λ _. IsTrue (takes_memory (location_answer (script_part script.now) location))) }
+    ensures memory { IfErr result (λ _.
+        IsTrue (takes_memory (location_answer (script_part script.now) location))) }
 {
     match location {
         Location::Null => Ok(Answer::Error(ErrorCode::INVALID_LOCATION)),
@@ -107,7 +116,8 @@ fn location_answer(alloc: Global, script: &Script, location: Location) -> Result
 fn in_class(alloc: Global, class: &Class, method: MethodId, index: u64) -> Result<Answer, NoMemory>
     ensures value { IfOk result (λ a. a ≡ location_in_class method.0 index (class_part class.now)) }
     // A refusal takes no memory.
-    ensures memory { IfErr result (λ _. IsTrue (takes_memory (location_in_class method.0 index (class_part class.now)))) }
+    ensures memory { IfErr result (λ _.
+        IsTrue (takes_memory (location_in_class method.0 index (class_part class.now)))) }
 {
     match method_of(class, method) {
         Some(method) => in_method(alloc, method, index),
@@ -119,7 +129,8 @@ fn in_class(alloc: Global, class: &Class, method: MethodId, index: u64) -> Resul
 fn in_method(alloc: Global, method: &Method, index: u64) -> Result<Answer, NoMemory>
     ensures value { IfOk result (λ a. a ≡ index_answer index (method_part method.now)) }
     // A refusal takes no memory.
-    ensures memory { IfErr result (λ _. IsTrue (takes_memory (index_answer index (method_part method.now)))) }
+    ensures memory { IfErr result (λ _.
+        IsTrue (takes_memory (index_answer index (method_part method.now)))) }
 {
     if index > method.last {
         return Ok(Answer::Error(ErrorCode::INVALID_LOCATION));

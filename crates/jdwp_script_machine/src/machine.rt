@@ -55,7 +55,8 @@ impl ScriptMachine {
     pub fn read(alloc: Global, text: &str) -> Result<ScriptMachine, ScriptFault>
         ensures value { Gives itself result (read_machine standard_limits.live text.now) }
         // A thread lives at the beginning, and no more than 64.
-        ensures live { IfOk result (λ m. (1 ≤ length (script_meaning.live m)) × (length (script_meaning.live m) ≤ standard_limits.live)) }
+        ensures live { IfOk result (λ m. (1 ≤ length (script_meaning.live m))
+            × (length (script_meaning.live m) ≤ standard_limits.live)) }
     {
         ScriptMachine::read_with(alloc, text, &Limits::standard())
     }
@@ -73,7 +74,8 @@ impl ScriptMachine {
     ) -> Result<ScriptMachine, ScriptFault>
         ensures value { Gives itself result (read_machine limits.now.live text.now) }
         // A thread lives at the beginning, and no more than the limit.
-        ensures live { IfOk result (λ m. (1 ≤ length (script_meaning.live m)) × (length (script_meaning.live m) ≤ limits.now.live)) }
+        ensures live { IfOk result (λ m. (1 ≤ length (script_meaning.live m))
+            × (length (script_meaning.live m) ≤ limits.now.live)) }
     {
         let script = Script::read_with(alloc, text, limits)?;
         let sizes = id_sizes(&script.sizes);
@@ -136,7 +138,8 @@ impl Machine for ScriptMachine {
 
 /// The widths that a script says.
 fn id_sizes(sizes: &Sizes) -> IdSizes
-    requires { AreWidths sizes.now.field sizes.now.method sizes.now.object sizes.now.reference sizes.now.frame }
+    requires { AreWidths sizes.now.field sizes.now.method sizes.now.object sizes.now.reference
+        sizes.now.frame }
     ensures { result ≡ widths sizes.now }
 {
     match IdSizes::new(

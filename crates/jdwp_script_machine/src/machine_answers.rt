@@ -49,9 +49,12 @@ pub fn virtual_machine_answer(
     number: u8,
     content: &[Datum],
 ) -> Result<Answer, NoMemory>
-    ensures value { IfOk result (λ a. a ≡ virtual_machine_answer (state_now state.now) number (meanings content.now)) }
+    ensures value { IfOk result (λ a. a ≡ virtual_machine_answer (state_now state.now) number
+        (meanings content.now)) }
     // A refusal takes no memory.
-    ensures memory { IfErr result (λ _. IsTrue (takes_memory (virtual_machine_answer (state_now state.now) number (meanings content.now)))) }
+    ensures memory { IfErr result (λ _.
+        IsTrue (takes_memory (virtual_machine_answer (state_now state.now) number
+        (meanings content.now)))) }
 {
     match number {
         VERSION => of_machine(alloc, state, MachineQuestion::Version, content),
@@ -82,9 +85,12 @@ fn of_machine(
     question: MachineQuestion,
     content: &[Datum],
 ) -> Result<Answer, NoMemory>
-    ensures value { IfOk result (λ a. a ≡ alone (machine_answer_to (state_now state.now) question) (meanings content.now)) }
+    ensures value { IfOk result (λ a. a ≡ alone (machine_answer_to (state_now state.now) question)
+        (meanings content.now)) }
     // A refusal takes no memory.
-    ensures memory { IfErr result (λ _. IsTrue (takes_memory (alone (machine_answer_to (state_now state.now) question) (meanings content.now)))) }
+    ensures memory { IfErr result (λ _.
+        IsTrue (takes_memory (alone (machine_answer_to (state_now state.now) question)
+        (meanings content.now)))) }
 {
     match content {
         [] => machine_answer_to(alloc, state, question),
@@ -100,7 +106,8 @@ fn machine_answer_to(
 ) -> Result<Answer, NoMemory>
     ensures value { IfOk result (λ a. a ≡ machine_answer_to (state_now state.now) question) }
     // A refusal takes no memory.
-    ensures memory { IfErr result (λ _. IsTrue (takes_memory (machine_answer_to (state_now state.now) question))) }
+    ensures memory { IfErr result (λ _.
+        IsTrue (takes_memory (machine_answer_to (state_now state.now) question))) }
 {
     let script = &state.script;
     match question {
@@ -165,9 +172,11 @@ fn classes_by_signature(
     state: &MachineState,
     content: &[Datum],
 ) -> Result<Answer, NoMemory>
-    ensures value { IfOk result (λ a. a ≡ classes_by_signature (state_now state.now) (meanings content.now)) }
+    ensures value { IfOk result (λ a. a ≡ classes_by_signature (state_now state.now)
+        (meanings content.now)) }
     // A refusal takes no memory.
-    ensures memory { IfErr result (λ _. IsTrue (takes_memory (classes_by_signature (state_now state.now) (meanings content.now)))) }
+    ensures memory { IfErr result (λ _.
+        IsTrue (takes_memory (classes_by_signature (state_now state.now) (meanings content.now)))) }
 {
     match content {
         [Datum::One(Scalar::String(signature))] => {
@@ -180,7 +189,9 @@ fn classes_by_signature(
 
 /// The list of the classes with this signature.
 fn classes_with(alloc: Global, state: &MachineState, signature: &str) -> Result<Datum, NoMemory>
-    ensures { IfOk result (λ d. datum_meaning d ≡ Many (map (class_entry (state_now state.now)) (filter (λ (c : ClassPart). bytes_eq c.signature signature.now) (map class_part state.now.script.classes.items)))) }
+    ensures { IfOk result (λ d. datum_meaning d ≡ Many (map (class_entry (state_now state.now))
+        (filter (λ (c : ClassPart). bytes_eq c.signature signature.now)
+        (map class_part state.now.script.classes.items)))) }
 {
     let mut entries = Vec::new(alloc);
     for class in &state.script.classes {
@@ -194,7 +205,8 @@ fn classes_with(alloc: Global, state: &MachineState, signature: &str) -> Result<
 
 /// The entry of the class in ClassesBySignature.
 fn class_entry(alloc: Global, state: &MachineState, class: &Class) -> Result<Vec<Scalar>, NoMemory>
-    ensures { IfOk result (λ e. scalar_meanings e.items ≡ class_entry (state_now state.now) (class_part class.now)) }
+    ensures { IfOk result (λ e. scalar_meanings e.items ≡ class_entry (state_now state.now)
+        (class_part class.now)) }
 {
     Ok(vec![in alloc;
         Scalar::Byte(class.tag.byte()),

@@ -43,9 +43,11 @@ pub fn method_answer(
     number: u8,
     content: &[Datum],
 ) -> Result<Answer, NoMemory>
-    ensures value { IfOk result (λ a. a ≡ method_answer (state_now state.now) number (meanings content.now)) }
+    ensures value { IfOk result (λ a. a ≡ method_answer (state_now state.now) number
+        (meanings content.now)) }
     // A refusal takes no memory.
-    ensures memory { IfErr result (λ _. IsTrue (takes_memory (method_answer (state_now state.now) number (meanings content.now)))) }
+    ensures memory { IfErr result (λ _.
+        IsTrue (takes_memory (method_answer (state_now state.now) number (meanings content.now)))) }
 {
     let script = &state.script;
     match number {
@@ -66,9 +68,11 @@ fn of_method(
     question: MethodQuestion,
     content: &[Datum],
 ) -> Result<Answer, NoMemory>
-    ensures value { IfOk result (λ a. a ≡ of_method (script_part script.now) (λ c m. alone (method_answer_to question m)) (meanings content.now)) }
+    ensures value { IfOk result (λ a. a ≡ of_method (script_part script.now) (λ c m.
+        alone (method_answer_to question m)) (meanings content.now)) }
     // A refusal takes no memory.
-    ensures memory { IfErr result (λ _. IsTrue (takes_memory (of_method (script_part script.now) (λ c m. alone (method_answer_to question m)) (meanings content.now)))) }
+    ensures memory { IfErr result (λ _. IsTrue (takes_memory (of_method (script_part script.now)
+        (λ c m. alone (method_answer_to question m)) (meanings content.now)))) }
 {
     match class_asked(script, content) {
         Ok((class, rest)) => of_method_in(alloc, class, question, rest),
@@ -83,9 +87,12 @@ fn of_method_in(
     question: MethodQuestion,
     content: &[Datum],
 ) -> Result<Answer, NoMemory>
-    ensures value { IfOk result (λ a. a ≡ of_method_in (λ c m. alone (method_answer_to question m)) (class_part class.now) (meanings content.now)) }
+    ensures value { IfOk result (λ a. a ≡ of_method_in (λ c m. alone (method_answer_to question m))
+        (class_part class.now) (meanings content.now)) }
     // A refusal takes no memory.
-    ensures memory { IfErr result (λ _. IsTrue (takes_memory (of_method_in (λ c m. alone (method_answer_to question m)) (class_part class.now) (meanings content.now)))) }
+    ensures memory { IfErr result (λ _.
+        IsTrue (takes_memory (of_method_in (λ c m. alone (method_answer_to question m))
+        (class_part class.now) (meanings content.now)))) }
 {
     match method_asked(class, content) {
         Ok((method, [])) => method_answer_to(alloc, question, method),
@@ -102,7 +109,8 @@ fn method_answer_to(
 ) -> Result<Answer, NoMemory>
     ensures value { IfOk result (λ a. a ≡ method_answer_to question (method_part method.now)) }
     // A refusal takes no memory.
-    ensures memory { IfErr result (λ _. IsTrue (takes_memory (method_answer_to question (method_part method.now)))) }
+    ensures memory { IfErr result (λ _.
+        IsTrue (takes_memory (method_answer_to question (method_part method.now)))) }
 {
     let args = Datum::One(Scalar::Int(method.args));
     match question {
@@ -125,7 +133,8 @@ fn method_answer_to(
 fn line_table(alloc: Global, method: &Method) -> Result<Answer, NoMemory>
     ensures value { IfOk result (λ a. a ≡ lines_answer method.now.last method.now.lines.items) }
     // A refusal takes no memory.
-    ensures memory { IfErr result (λ _. IsTrue (takes_memory (lines_answer method.now.last method.now.lines.items))) }
+    ensures memory { IfErr result (λ _.
+        IsTrue (takes_memory (lines_answer method.now.last method.now.lines.items))) }
 {
     if method.lines.is_empty() {
         return Ok(Answer::Error(ErrorCode::ABSENT_INFORMATION));

@@ -35,9 +35,11 @@ pub(crate) fn object_answer(
     number: u8,
     content: &[Datum],
 ) -> Result<Answer, NoMemory>
-    ensures value { IfOk result (λ a. a ≡ object_answer (state_now state.now) number (meanings content.now)) }
+    ensures value { IfOk result (λ a. a ≡ object_answer (state_now state.now) number
+        (meanings content.now)) }
     // A refusal takes no memory.
-    ensures memory { IfErr result (λ _. IsTrue (takes_memory (object_answer (state_now state.now) number (meanings content.now)))) }
+    ensures memory { IfErr result (λ _.
+        IsTrue (takes_memory (object_answer (state_now state.now) number (meanings content.now)))) }
 {
     let script = &state.script;
     match number {
@@ -51,9 +53,12 @@ pub(crate) fn object_answer(
 
 /// The type of an object.
 fn object_type(alloc: Global, script: &Script, content: &[Datum]) -> Result<Answer, NoMemory>
-    ensures value { IfOk result (λ a. a ≡ of_object (script_part script.now) (object_type_answer (script_part script.now)) (meanings content.now)) }
+    ensures value { IfOk result (λ a. a ≡ of_object (script_part script.now) (object_type_answer
+        (script_part script.now)) (meanings content.now)) }
     // A refusal takes no memory.
-    ensures memory { IfErr result (λ _. IsTrue (takes_memory (of_object (script_part script.now) (object_type_answer (script_part script.now)) (meanings content.now)))) }
+    ensures memory { IfErr result (λ _.
+        IsTrue (takes_memory (of_object (script_part script.now) (object_type_answer
+        (script_part script.now)) (meanings content.now)))) }
 {
     match object_asked(script, content) {
         Ok((object, [])) => type_of(alloc, script, object),
@@ -64,9 +69,12 @@ fn object_type(alloc: Global, script: &Script, content: &[Datum]) -> Result<Answ
 
 /// The type of this object.
 fn type_of(alloc: Global, script: &Script, object: &Object) -> Result<Answer, NoMemory>
-    ensures value { IfOk result (λ a. a ≡ found_or INVALID_CLASS type_answer (class_in (script_part script.now) (object_part object.now).class)) }
+    ensures value { IfOk result (λ a. a ≡ found_or INVALID_CLASS type_answer
+        (class_in (script_part script.now) (object_part object.now).class)) }
     // A refusal takes no memory.
-    ensures memory { IfErr result (λ _. IsTrue (takes_memory (found_or INVALID_CLASS type_answer (class_in (script_part script.now) (object_part object.now).class)))) }
+    ensures memory { IfErr result (λ _.
+        IsTrue (takes_memory (found_or INVALID_CLASS type_answer (class_in (script_part script.now)
+        (object_part object.now).class)))) }
 {
     match class_of(script, object.class) {
         Some(class) => class_told(alloc, class),
@@ -78,7 +86,8 @@ fn type_of(alloc: Global, script: &Script, object: &Object) -> Result<Answer, No
 fn class_told(alloc: Global, class: &Class) -> Result<Answer, NoMemory>
     ensures value { IfOk result (λ a. a ≡ type_answer (class_part class.now)) }
     // A refusal takes no memory.
-    ensures memory { IfErr result (λ _. IsTrue (takes_memory (type_answer (class_part class.now)))) }
+    ensures memory { IfErr result (λ _.
+        IsTrue (takes_memory (type_answer (class_part class.now)))) }
 {
     let tag = Scalar::Byte(class.tag.byte());
     let id = Scalar::ReferenceTypeId(class.id);
@@ -87,9 +96,12 @@ fn class_told(alloc: Global, class: &Class) -> Result<Answer, NoMemory>
 
 /// The values of fields of an object.
 fn held_values(alloc: Global, script: &Script, content: &[Datum]) -> Result<Answer, NoMemory>
-    ensures value { IfOk result (λ a. a ≡ of_object (script_part script.now) held_answer (meanings content.now)) }
+    ensures value { IfOk result (λ a. a ≡ of_object (script_part script.now) held_answer
+        (meanings content.now)) }
     // A refusal takes no memory.
-    ensures memory { IfErr result (λ _. IsTrue (takes_memory (of_object (script_part script.now) held_answer (meanings content.now)))) }
+    ensures memory { IfErr result (λ _.
+        IsTrue (takes_memory (of_object (script_part script.now) held_answer
+        (meanings content.now)))) }
 {
     match object_asked(script, content) {
         Ok((object, rest)) => held_by(alloc, object, rest),
@@ -99,9 +111,11 @@ fn held_values(alloc: Global, script: &Script, content: &[Datum]) -> Result<Answ
 
 /// The values of fields of this object.
 fn held_by(alloc: Global, object: &Object, content: &[Datum]) -> Result<Answer, NoMemory>
-    ensures value { IfOk result (λ a. a ≡ held_answer (object_part object.now) (meanings content.now)) }
+    ensures value { IfOk result (λ a. a ≡ held_answer (object_part object.now)
+        (meanings content.now)) }
     // A refusal takes no memory.
-    ensures memory { IfErr result (λ _. IsTrue (takes_memory (held_answer (object_part object.now) (meanings content.now)))) }
+    ensures memory { IfErr result (λ _. IsTrue (takes_memory (held_answer (object_part object.now)
+        (meanings content.now)))) }
 {
     match entries_of(content) {
         Some(entries) => values_asked(alloc, object, entries),
@@ -135,9 +149,12 @@ fn collection(alloc: Global, script: &Script, content: &[Datum]) -> Answer
 
 /// Whether an object was collected: no object ever is.
 fn collected(alloc: Global, script: &Script, content: &[Datum]) -> Result<Answer, NoMemory>
-    ensures value { IfOk result (λ a. a ≡ of_object (script_part script.now) collected_answer (meanings content.now)) }
+    ensures value { IfOk result (λ a. a ≡ of_object (script_part script.now) collected_answer
+        (meanings content.now)) }
     // A refusal takes no memory.
-    ensures memory { IfErr result (λ _. IsTrue (takes_memory (of_object (script_part script.now) collected_answer (meanings content.now)))) }
+    ensures memory { IfErr result (λ _.
+        IsTrue (takes_memory (of_object (script_part script.now) collected_answer
+        (meanings content.now)))) }
 {
     match object_asked(script, content) {
         Ok((_, [])) => of_scalar(alloc, Scalar::Boolean(false)),
@@ -156,9 +173,11 @@ pub(crate) fn string_answer(
     number: u8,
     content: &[Datum],
 ) -> Result<Answer, NoMemory>
-    ensures value { IfOk result (λ a. a ≡ string_answer (state_now state.now) number (meanings content.now)) }
+    ensures value { IfOk result (λ a. a ≡ string_answer (state_now state.now) number
+        (meanings content.now)) }
     // A refusal takes no memory.
-    ensures memory { IfErr result (λ _. IsTrue (takes_memory (string_answer (state_now state.now) number (meanings content.now)))) }
+    ensures memory { IfErr result (λ _.
+        IsTrue (takes_memory (string_answer (state_now state.now) number (meanings content.now)))) }
 {
     match number {
         STRING_VALUE => string_value(alloc, &state.script, content),
@@ -168,9 +187,12 @@ pub(crate) fn string_answer(
 
 /// The text of a string.
 fn string_value(alloc: Global, script: &Script, content: &[Datum]) -> Result<Answer, NoMemory>
-    ensures value { IfOk result (λ a. a ≡ of_object (script_part script.now) string_value_answer (meanings content.now)) }
+    ensures value { IfOk result (λ a. a ≡ of_object (script_part script.now) string_value_answer
+        (meanings content.now)) }
     // A refusal takes no memory.
-    ensures memory { IfErr result (λ _. IsTrue (takes_memory (of_object (script_part script.now) string_value_answer (meanings content.now)))) }
+    ensures memory { IfErr result (λ _.
+        IsTrue (takes_memory (of_object (script_part script.now) string_value_answer
+        (meanings content.now)))) }
 {
     match object_asked(script, content) {
         Ok((object, [])) => text_of(alloc, object),
@@ -181,9 +203,11 @@ fn string_value(alloc: Global, script: &Script, content: &[Datum]) -> Result<Ans
 
 /// The text of this object, where it is a string.
 fn text_of(alloc: Global, object: &Object) -> Result<Answer, NoMemory>
-    ensures value { IfOk result (λ a. a ≡ found_or INVALID_STRING text_answer (object_part object.now).text) }
+    ensures value { IfOk result (λ a. a ≡ found_or INVALID_STRING text_answer
+        (object_part object.now).text) }
     // A refusal takes no memory.
-    ensures memory { IfErr result (λ _. IsTrue (takes_memory (found_or INVALID_STRING text_answer (object_part object.now).text))) }
+    ensures memory { IfErr result (λ _.
+        IsTrue (takes_memory (found_or INVALID_STRING text_answer (object_part object.now).text))) }
 {
     match &object.text {
         Some(content) => of_text(alloc, content),

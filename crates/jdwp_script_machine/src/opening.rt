@@ -51,7 +51,8 @@ fn state_of(alloc: Global, script: Script) -> Result<MachineState, NoMemory>
 
 /// The threads of the script, as they begin.
 fn opening_threads(alloc: Global, script: &Script) -> Result<Vec<ThreadState>, NoMemory>
-    ensures { IfOk result (λ es. map thread_now es.items ≡ map (opening_thread (script_part script.now)) (script_part script.now).threads) }
+    ensures { IfOk result (λ es. map thread_now es.items
+        ≡ map (opening_thread (script_part script.now)) (script_part script.now).threads) }
 {
     let started = named_in(alloc, script, Sought::Starts)?;
     threads_of(alloc, script, &started)
@@ -59,7 +60,8 @@ fn opening_threads(alloc: Global, script: &Script) -> Result<Vec<ThreadState>, N
 
 /// The classes of the script, as they begin.
 fn opening_classes(alloc: Global, script: &Script) -> Result<Vec<ClassState>, NoMemory>
-    ensures { IfOk result (λ cs. map class_now cs.items ≡ map (opening_class (script_part script.now)) (script_part script.now).classes) }
+    ensures { IfOk result (λ cs. map class_now cs.items
+        ≡ map (opening_class (script_part script.now)) (script_part script.now).classes) }
 {
     let prepared = named_in(alloc, script, Sought::Prepares)?;
     classes_of(alloc, script, &prepared)
@@ -71,7 +73,8 @@ fn threads_of(
     started: &BTreeSet<u64>,
 ) -> Result<Vec<ThreadState>, NoMemory>
     requires { Holds started.now (λ t. some_step (starts_thread t) (script_part script.now)) }
-    ensures { IfOk result (λ es. map thread_now es.items ≡ map (opening_thread (script_part script.now)) (script_part script.now).threads) }
+    ensures { IfOk result (λ es. map thread_now es.items
+        ≡ map (opening_thread (script_part script.now)) (script_part script.now).threads) }
 {
     let mut threads = Vec::new(alloc);
     for thread in &script.threads {
@@ -98,7 +101,8 @@ fn classes_of(
     prepared: &BTreeSet<u64>,
 ) -> Result<Vec<ClassState>, NoMemory>
     requires { Holds prepared.now (λ c. some_step (prepares_class c) (script_part script.now)) }
-    ensures { IfOk result (λ cs. map class_now cs.items ≡ map (opening_class (script_part script.now)) (script_part script.now).classes) }
+    ensures { IfOk result (λ cs. map class_now cs.items
+        ≡ map (opening_class (script_part script.now)) (script_part script.now).classes) }
 {
     let mut classes = Vec::new(alloc);
     for class in &script.classes {
@@ -119,7 +123,8 @@ fn opening_class(id: ReferenceTypeId, is_prepared_later: bool) -> ClassState
 
 /// The ids that steps of the script name so.
 fn named_in(alloc: Global, script: &Script, sought: Sought) -> Result<BTreeSet<u64>, NoMemory>
-    ensures { IfOk result (λ found. Holds found (λ n. some_step (names sought n) (script_part script.now))) }
+    ensures { IfOk result (λ found. Holds found (λ n.
+        some_step (names sought n) (script_part script.now))) }
 {
     let mut found = BTreeSet::new(alloc);
     for thread in &script.threads {
@@ -130,7 +135,8 @@ fn named_in(alloc: Global, script: &Script, sought: Sought) -> Result<BTreeSet<u
 
 /// Adds the ids that the steps name so.
 fn add_named(found: &mut BTreeSet<u64>, steps: &[Step], sought: Sought) -> Result<(), NoMemory>
-    ensures { OnOk result (Gains found.old found.new (λ n. list_any (names sought n) (map step_part steps.now))) }
+    ensures { OnOk result (Gains found.old found.new (λ n.
+        list_any (names sought n) (map step_part steps.now))) }
 {
     for step in steps {
         add(found, named_by(step, sought))?;

@@ -31,7 +31,8 @@ pub(crate) fn method_of(class: &Class, id: MethodId) -> Option<&Method>
 
 /// The field of this id that a class has.
 pub(crate) fn field_of(class: &Class, id: FieldId) -> Option<&Field>
-    ensures { option_map field_part (found result) ≡ with_id (λ (f : FieldPart). f.id) id.0 (class_part class.now).fields }
+    ensures { option_map field_part (found result) ≡ with_id (λ (f : FieldPart).
+        f.id) id.0 (class_part class.now).fields }
 {
     with_id(&class.fields, id.0)
 }

@@ -11,7 +11,8 @@ use jdwp_wire::ErrorCode;
 
 /// The entries of the list that the data are; None where they are no list alone, or one of 2^31 entries or more.
 pub(crate) fn entries_of(content: &[Datum]) -> Option<&[Vec<Scalar>]>
-    ensures { (answer : List (List ScalarMeaning) → declared.Answer) → of_entries answer (meanings content.now) ≡ by_entries answer result }
+    ensures { (answer : List (List ScalarMeaning) → declared.Answer)
+        → of_entries answer (meanings content.now) ≡ by_entries answer result }
 {
     match content {
         [Datum::Many(entries)] => {
@@ -49,7 +50,8 @@ pub(crate) fn part_of<T>(
     from: i32,
     count: i32,
 ) -> Result<&[T], ErrorCode>
-    ensures { MatchResult result (λ found. part or_rest list.now from count ≡ Ok found.now) (λ e. part or_rest list.now from count ≡ Err e) }
+    ensures { MatchResult result (λ found. part or_rest list.now from count ≡ Ok found.now) (λ e.
+        part or_rest list.now from count ≡ Err e) }
 {
     let Ok(from) = usize::try_from(from) else {
         return Err(ErrorCode::INVALID_INDEX);

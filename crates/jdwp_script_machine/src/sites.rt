@@ -72,7 +72,8 @@ pub(crate) fn place(
     site: SiteRef<'_>,
     index: u64,
 ) -> Result<Place, NoMemory>
-    ensures { IfOk result (λ place. place_meaning place ≡ site_place (script_part script.now) frames index (site_part site.entry)) }
+    ensures { IfOk result (λ place. place_meaning place ≡ site_place (script_part script.now) frames
+        index (site_part site.entry)) }
 {
     Ok(Place {
         location: location_at(site, index),
@@ -104,7 +105,8 @@ pub(crate) fn class_seen(
     script: &Script,
     class: &Class,
 ) -> Result<ClassSeen, NoMemory>
-    ensures { IfOk result (λ seen. class_meaning seen ≡ class_seen (script_part script.now) (class_part class.now)) }
+    ensures { IfOk result (λ seen. class_meaning seen ≡ class_seen (script_part script.now)
+        (class_part class.now)) }
 {
     Ok(ClassSeen {
         signature: class.signature.clone()?,
@@ -132,7 +134,8 @@ pub(crate) fn reached(
 
 /// Whether no class of the script stands above this one, so that it reaches itself alone.
 fn stands_alone(script: &Script, from: ReferenceTypeId) -> bool
-    ensures { result ≡ stands_alone (script_part script.now) (class_in (script_part script.now) from.0) }
+    ensures { result ≡ stands_alone (script_part script.now)
+        (class_in (script_part script.now) from.0) }
 {
     match with_id(&script.classes, from.0) {
         None => true,
@@ -156,7 +159,8 @@ fn classes_with_id(
     script: &Script,
     wanted: ReferenceTypeId,
 ) -> Result<Vec<ReferenceTypeId>, NoMemory>
-    ensures { IfOk result (λ ids. ids_of ids ≡ filter (λ id. wanted.0 == id) (class_ids (script_part script.now).classes)) }
+    ensures { IfOk result (λ ids. ids_of ids ≡ filter (λ id. wanted.0 == id)
+        (class_ids (script_part script.now).classes)) }
 {
     let mut ids = Vec::new(alloc);
     for class in &script.classes {
@@ -200,7 +204,8 @@ pub(crate) fn tagged(script: &Script, id: ObjectId) -> TaggedId
 }
 
 fn tag_of(object: &Object) -> ObjectTag
-    ensures { result ≡ tag_by_contents (object_part object.now).text (object_part object.now).array }
+    ensures { result ≡ tag_by_contents (object_part object.now).text
+        (object_part object.now).array }
 {
     match (&object.text, &object.array) {
         (Some(_), _) => ObjectTag::String,

@@ -66,7 +66,8 @@ fn may_hold(script: &Script, value: Value) -> bool
 
 /// Whether each value's slot is there.
 fn all_have_slots(slots: &[SlotState], values: &[(i32, Value)]) -> bool
-    ensures { result ≡ list_all (λ (v : ℤ × Value). has_slot (map slot_now slots.now) v.0) values.now }
+    ensures { result ≡ list_all (λ (v : ℤ × Value).
+        has_slot (map slot_now slots.now) v.0) values.now }
 {
     for (number, _) in values {
         if !has_slot(slots, *number) {
@@ -107,7 +108,8 @@ fn found_suits(held: Option<Value>, asked: Tag) -> bool
 
 /// Whether a slot may hold each value.
 fn all_may_stand(script: &Script, values: &[(i32, Value)]) -> bool
-    ensures { result ≡ list_all (λ (v : ℤ × Value). may_hold (script_part script.now) v.1) values.now }
+    ensures { result ≡ list_all (λ (v : ℤ × Value).
+        may_hold (script_part script.now) v.1) values.now }
 {
     for (_, value) in values {
         if !may_hold(script, *value) {
@@ -190,7 +192,8 @@ fn write_frame(frame: &mut FrameState, id: FrameId, values: &[(i32, Value)])
 
 /// Writes values into slots of the frame of this id.
 fn write_frames(frames: &mut [FrameState], id: FrameId, values: &[(i32, Value)])
-    ensures { map frame_now frames.new ≡ map (frame_changed id.0 values.now) (map frame_now frames.old) }
+    ensures { map frame_now frames.new ≡ map (frame_changed id.0 values.now)
+        (map frame_now frames.old) }
 {
     for frame in frames.iter_mut() {
         write_frame(frame, id, values);
@@ -199,7 +202,8 @@ fn write_frames(frames: &mut [FrameState], id: FrameId, values: &[(i32, Value)])
 
 /// Writes values into slots of a frame of the thread, where it is that of the id.
 fn write_thread(thread: &mut ThreadState, id: ObjectId, frame: FrameId, values: &[(i32, Value)])
-    ensures { thread_now thread.new ≡ thread_changed id.0 frame.0 values.now (thread_now thread.old) }
+    ensures { thread_now thread.new ≡ thread_changed id.0 frame.0 values.now
+        (thread_now thread.old) }
 {
     if thread.id.0 == id.0 {
         write_frames(&mut thread.frames, frame, values);
@@ -208,7 +212,8 @@ fn write_thread(thread: &mut ThreadState, id: ObjectId, frame: FrameId, values: 
 
 /// Writes values into slots of a frame of the thread of this id.
 fn write_threads(threads: &mut [ThreadState], id: ObjectId, frame: FrameId, values: &[(i32, Value)])
-    ensures { map thread_now threads.new ≡ map (thread_changed id.0 frame.0 values.now) (map thread_now threads.old) }
+    ensures { map thread_now threads.new ≡ map (thread_changed id.0 frame.0 values.now)
+        (map thread_now threads.old) }
 {
     for thread in threads.iter_mut() {
         write_thread(thread, id, frame, values);
@@ -226,7 +231,8 @@ pub(crate) fn write_slots_of(
     values: &[(i32, Value)],
 ) -> Answer
     ensures answer { result ≡ write_answer (state_now state.old) thread.0 frame.0 values.now }
-    ensures state { state_now state.new ≡ written (state_now state.old) thread.0 frame.0 values.now }
+    ensures state { state_now state.new
+        ≡ written (state_now state.old) thread.0 frame.0 values.now }
 {
     match write_refusal(state, thread, frame, values) {
         Some(error) => Answer::Error(error),

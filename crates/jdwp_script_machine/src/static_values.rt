@@ -18,7 +18,8 @@ use std::alloc::Global;
 
 /// The entries that the data are, if they are one list, of fewer than 2^31 entries.
 pub(crate) fn entries_asked(content: &[Datum]) -> Option<&[Vec<Scalar>]>
-    ensures { (answer : List (List ScalarMeaning) → declared.Answer) → of_entries answer (meanings content.now) ≡ by_entries answer result }
+    ensures { (answer : List (List ScalarMeaning) → declared.Answer)
+        → of_entries answer (meanings content.now) ≡ by_entries answer result }
 {
     match content {
         [Datum::Many(entries)] => {
@@ -42,9 +43,11 @@ pub(crate) fn static_values(
     class: &Class,
     content: &[Datum],
 ) -> Result<Answer, NoMemory>
-    ensures value { IfOk result (λ a. a ≡ statics_answer (class_part class.now) (meanings content.now)) }
+    ensures value { IfOk result (λ a. a ≡ statics_answer (class_part class.now)
+        (meanings content.now)) }
     // A refusal takes no memory.
-    ensures memory { IfErr result (λ _. IsTrue (takes_memory (statics_answer (class_part class.now) (meanings content.now)))) }
+    ensures memory { IfErr result (λ _. IsTrue (takes_memory (statics_answer (class_part class.now)
+        (meanings content.now)))) }
 {
     match entries_asked(content) {
         Some(entries) => values_asked(alloc, class, entries),

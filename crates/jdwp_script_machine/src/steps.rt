@@ -52,10 +52,15 @@ fn make(
     step: &Step,
 ) -> Result<(), NoMemory>
     requires distinct { IsDistinct (λ (a b : ℕ). a == b) (thread_ids (map thread_now threads.old)) }
-    requires room { IfSome (with_id (λ (e : ThreadNow). e.id) thread.0 (map thread_now threads.old)) (λ e. e.made + 1 < 2 ^ 64) }
-    ensures threads { OnOk result (map thread_now threads.new ≡ changed (λ (e : ThreadNow). e.id) thread.0 (after_step (step_part step.now)) (with_started (step_part step.now) (map thread_now threads.old))) }
-    ensures classes { OnOk result (map class_now classes.new ≡ with_prepared (step_part step.now) (map class_now classes.old)) }
-    ensures err { OnErr result ((map thread_now threads.new ≡ map thread_now threads.old) × (classes.new ≡ classes.old)) }
+    requires room { IfSome (with_id (λ (e : ThreadNow). e.id) thread.0 (map thread_now threads.old))
+        (λ e. e.made + 1 < 2 ^ 64) }
+    ensures threads { OnOk result (map thread_now threads.new ≡ changed (λ (e : ThreadNow).
+        e.id) thread.0 (after_step (step_part step.now)) (with_started (step_part step.now)
+        (map thread_now threads.old))) }
+    ensures classes { OnOk result (map class_now classes.new ≡ with_prepared (step_part step.now)
+        (map class_now classes.old)) }
+    ensures err { OnErr result ((map thread_now threads.new ≡ map thread_now threads.old)
+        × (classes.new ≡ classes.old)) }
 {
     advance(alloc, threads, thread, step)?;
     start_by(threads, step);
@@ -65,7 +70,8 @@ fn make(
 
 /// Makes the thread live that the step starts, if it starts one.
 fn start_by(threads: &mut [ThreadState], step: &Step)
-    ensures { map thread_now threads.new ≡ with_started (step_part step.now) (map thread_now threads.old) }
+    ensures { map thread_now threads.new ≡ with_started (step_part step.now)
+        (map thread_now threads.old) }
 {
     match step {
         Step::Start(started) => start(threads, *started),
@@ -75,7 +81,8 @@ fn start_by(threads: &mut [ThreadState], step: &Step)
 
 /// Makes the class prepared that the step prepares, if it prepares one.
 fn prepare_by(classes: &mut [ClassState], step: &Step)
-    ensures { map class_now classes.new ≡ with_prepared (step_part step.now) (map class_now classes.old) }
+    ensures { map class_now classes.new ≡ with_prepared (step_part step.now)
+        (map class_now classes.old) }
 {
     match step {
         Step::Prepare(class) => prepare(classes, *class),
@@ -90,8 +97,10 @@ fn advance(
     thread: ObjectId,
     step: &Step,
 ) -> Result<(), NoMemory>
-    requires { IfSome (with_id (λ (e : ThreadNow). e.id) thread.0 (map thread_now threads.old)) (λ e. e.made + 1 < 2 ^ 64) }
-    ensures ok { OnOk result (map thread_now threads.new ≡ first_changed (λ (e : ThreadNow). e.id) thread.0 (after_step (step_part step.now)) (map thread_now threads.old)) }
+    requires { IfSome (with_id (λ (e : ThreadNow). e.id) thread.0 (map thread_now threads.old))
+        (λ e. e.made + 1 < 2 ^ 64) }
+    ensures ok { OnOk result (map thread_now threads.new ≡ first_changed (λ (e : ThreadNow).
+        e.id) thread.0 (after_step (step_part step.now)) (map thread_now threads.old)) }
     ensures err { OnErr result (map thread_now threads.new ≡ map thread_now threads.old) }
 {
     for entry in threads.iter_mut() {
@@ -106,7 +115,8 @@ fn advance(
 
 /// Makes a step in the frames of its thread.
 fn change_frames(alloc: Global, frames: &mut Vec<FrameState>, step: &Step) -> Result<(), NoMemory>
-    ensures ok { OnOk result (map frame_now frames.new.items ≡ frames_after (step_part step.now) (map frame_now frames.old.items)) }
+    ensures ok { OnOk result (map frame_now frames.new.items ≡ frames_after (step_part step.now)
+        (map frame_now frames.old.items)) }
     ensures err { OnErr result (map frame_now frames.new.items ≡ map frame_now frames.old.items) }
 {
     match step {
@@ -168,7 +178,8 @@ fn take_newest(frames: &mut Vec<FrameState>)
 
 /// Makes each thread with this id live.
 fn start(threads: &mut [ThreadState], thread: ObjectId)
-    ensures { map thread_now threads.new ≡ changed (λ (e : ThreadNow). e.id) thread.0 alive (map thread_now threads.old) }
+    ensures { map thread_now threads.new ≡ changed (λ (e : ThreadNow). e.id) thread.0 alive
+        (map thread_now threads.old) }
 {
     for entry in threads.iter_mut() {
         if entry.id.0 == thread.0 {
@@ -179,7 +190,8 @@ fn start(threads: &mut [ThreadState], thread: ObjectId)
 
 /// Makes each class with this id prepared.
 fn prepare(classes: &mut [ClassState], class: ReferenceTypeId)
-    ensures { map class_now classes.new ≡ changed (λ (c : ClassNow). c.id) class.0 ready (map class_now classes.old) }
+    ensures { map class_now classes.new ≡ changed (λ (c : ClassNow). c.id) class.0 ready
+        (map class_now classes.old) }
 {
     for entry in classes.iter_mut() {
         if entry.id.0 == class.0 {
@@ -196,7 +208,8 @@ pub(crate) fn end(state: &mut MachineState, thread: ObjectId)
 }
 
 fn end_each(threads: &mut [ThreadState], thread: ObjectId)
-    ensures { map thread_now threads.new ≡ changed (λ (e : ThreadNow). e.id) thread.0 gone (map thread_now threads.old) }
+    ensures { map thread_now threads.new ≡ changed (λ (e : ThreadNow). e.id) thread.0 gone
+        (map thread_now threads.old) }
 {
     for entry in threads.iter_mut() {
         if entry.id.0 == thread.0 {

@@ -29,9 +29,12 @@ pub(crate) fn thread_answer(
     number: u8,
     content: &[Datum],
 ) -> Result<Answer, NoMemory>
-    ensures value { IfOk result (λ a. a ≡ thread_answer_by (script_part state.now.script) (frames_at (state_now state.now)) number (meanings content.now)) }
+    ensures value { IfOk result (λ a. a ≡ thread_answer_by (script_part state.now.script)
+        (frames_at (state_now state.now)) number (meanings content.now)) }
     // A refusal takes no memory.
-    ensures memory { IfErr result (λ _. IsTrue (takes_memory (thread_answer_by (script_part state.now.script) (frames_at (state_now state.now)) number (meanings content.now)))) }
+    ensures memory { IfErr result (λ _.
+        IsTrue (takes_memory (thread_answer_by (script_part state.now.script)
+        (frames_at (state_now state.now)) number (meanings content.now)))) }
 {
     match number {
         THREAD_NAME => name(alloc, &state.script, content),
@@ -44,9 +47,12 @@ pub(crate) fn thread_answer(
 
 /// The name of a thread.
 fn name(alloc: Global, script: &Script, content: &[Datum]) -> Result<Answer, NoMemory>
-    ensures value { IfOk result (λ a. a ≡ of_thread (script_part script.now) thread_name_answer (meanings content.now)) }
+    ensures value { IfOk result (λ a. a ≡ of_thread (script_part script.now) thread_name_answer
+        (meanings content.now)) }
     // A refusal takes no memory.
-    ensures memory { IfErr result (λ _. IsTrue (takes_memory (of_thread (script_part script.now) thread_name_answer (meanings content.now)))) }
+    ensures memory { IfErr result (λ _.
+        IsTrue (takes_memory (of_thread (script_part script.now) thread_name_answer
+        (meanings content.now)))) }
 {
     match thread_asked(script, content) {
         Ok((thread, [])) => of_text(alloc, &thread.name),
@@ -57,9 +63,12 @@ fn name(alloc: Global, script: &Script, content: &[Datum]) -> Result<Answer, NoM
 
 /// The group of a thread.
 fn group(alloc: Global, script: &Script, content: &[Datum]) -> Result<Answer, NoMemory>
-    ensures value { IfOk result (λ a. a ≡ of_thread (script_part script.now) thread_group_answer (meanings content.now)) }
+    ensures value { IfOk result (λ a. a ≡ of_thread (script_part script.now) thread_group_answer
+        (meanings content.now)) }
     // A refusal takes no memory.
-    ensures memory { IfErr result (λ _. IsTrue (takes_memory (of_thread (script_part script.now) thread_group_answer (meanings content.now)))) }
+    ensures memory { IfErr result (λ _.
+        IsTrue (takes_memory (of_thread (script_part script.now) thread_group_answer
+        (meanings content.now)))) }
 {
     match thread_asked(script, content) {
         Ok((thread, [])) => of_scalar(alloc, Scalar::ObjectId(thread.group)),
@@ -70,9 +79,12 @@ fn group(alloc: Global, script: &Script, content: &[Datum]) -> Result<Answer, No
 
 /// Some frames of a thread.
 fn frames(alloc: Global, state: &MachineState, content: &[Datum]) -> Result<Answer, NoMemory>
-    ensures value { IfOk result (λ a. a ≡ of_frames (frames_at (state_now state.now)) (frames_answer (script_part state.now.script)) (meanings content.now)) }
+    ensures value { IfOk result (λ a. a ≡ of_frames (frames_at (state_now state.now))
+        (frames_answer (script_part state.now.script)) (meanings content.now)) }
     // A refusal takes no memory.
-    ensures memory { IfErr result (λ _. IsTrue (takes_memory (of_frames (frames_at (state_now state.now)) (frames_answer (script_part state.now.script)) (meanings content.now)))) }
+    ensures memory { IfErr result (λ _.
+        IsTrue (takes_memory (of_frames (frames_at (state_now state.now))
+        (frames_answer (script_part state.now.script)) (meanings content.now)))) }
 {
     match frames_asked(state, content) {
         Ok((frames, rest)) => some_of(alloc, &state.script, frames, rest),
@@ -88,9 +100,11 @@ fn some_of(
     frames: &[FrameState],
     rest: &[Datum],
 ) -> Result<Answer, NoMemory>
-    ensures value { IfOk result (λ a. a ≡ frames_answer (script_part script.now) (map frame_now frames.now) (meanings rest.now)) }
+    ensures value { IfOk result (λ a. a ≡ frames_answer (script_part script.now)
+        (map frame_now frames.now) (meanings rest.now)) }
     // A refusal takes no memory.
-    ensures memory { IfErr result (λ _. IsTrue (takes_memory (frames_answer (script_part script.now) (map frame_now frames.now) (meanings rest.now)))) }
+    ensures memory { IfErr result (λ _. IsTrue (takes_memory (frames_answer (script_part script.now)
+        (map frame_now frames.now) (meanings rest.now)))) }
 {
     match range_of(rest) {
         Some((from, count)) => part_listed(alloc, script, frames, from, count),
@@ -107,9 +121,12 @@ fn part_listed(
     from: i32,
     count: i32,
 ) -> Result<Answer, NoMemory>
-    ensures value { IfOk result (λ a. a ≡ part_of true (frames_listed (script_part script.now)) (map frame_now frames.now) from count) }
+    ensures value { IfOk result (λ a. a ≡ part_of true (frames_listed (script_part script.now))
+        (map frame_now frames.now) from count) }
     // A refusal takes no memory.
-    ensures memory { IfErr result (λ _. IsTrue (takes_memory (part_of true (frames_listed (script_part script.now)) (map frame_now frames.now) from count))) }
+    ensures memory { IfErr result (λ _.
+        IsTrue (takes_memory (part_of true (frames_listed (script_part script.now))
+        (map frame_now frames.now) from count))) }
 {
     match part_of(true, frames, from, count) {
         Ok(part) => listed(alloc, script, part),
@@ -119,9 +136,11 @@ fn part_listed(
 
 /// These frames, each with its location.
 fn listed(alloc: Global, script: &Script, frames: &[FrameState]) -> Result<Answer, NoMemory>
-    ensures value { IfOk result (λ a. a ≡ frames_listed (script_part script.now) (map frame_now frames.now)) }
+    ensures value { IfOk result (λ a. a ≡ frames_listed (script_part script.now)
+        (map frame_now frames.now)) }
     // A refusal takes no memory.
-    ensures memory { IfErr result (λ _. IsTrue (takes_memory (frames_listed (script_part script.now) (map frame_now frames.now)))) }
+    ensures memory { IfErr result (λ _. IsTrue (takes_memory (frames_listed (script_part script.now)
+        (map frame_now frames.now)))) }
 {
     let mut entries = Vec::with_capacity(alloc, frames.len())?;
     for frame in frames {
@@ -132,7 +151,8 @@ fn listed(alloc: Global, script: &Script, frames: &[FrameState]) -> Result<Answe
 
 /// A frame and its location.
 fn entry_of(alloc: Global, script: &Script, frame: &FrameState) -> Result<Vec<Scalar>, NoMemory>
-    ensures { IfOk result (λ e. entry_meaning e ≡ frame_entry (script_part script.now) (frame_now frame.now)) }
+    ensures { IfOk result (λ e. entry_meaning e ≡ frame_entry (script_part script.now)
+        (frame_now frame.now)) }
 {
     let place = location(script, frame.class, frame.method, frame.index);
     Ok(vec![in alloc; Scalar::FrameId(frame.id), Scalar::Location(place)]?)
@@ -140,9 +160,12 @@ fn entry_of(alloc: Global, script: &Script, frame: &FrameState) -> Result<Vec<Sc
 
 /// How many frames a thread has.
 fn frame_count(alloc: Global, state: &MachineState, content: &[Datum]) -> Result<Answer, NoMemory>
-    ensures value { IfOk result (λ a. a ≡ of_frames (frames_at (state_now state.now)) frame_count_answer (meanings content.now)) }
+    ensures value { IfOk result (λ a.
+        a ≡ of_frames (frames_at (state_now state.now)) frame_count_answer (meanings content.now)) }
     // A refusal takes no memory.
-    ensures memory { IfErr result (λ _. IsTrue (takes_memory (of_frames (frames_at (state_now state.now)) frame_count_answer (meanings content.now)))) }
+    ensures memory { IfErr result (λ _.
+        IsTrue (takes_memory (of_frames (frames_at (state_now state.now)) frame_count_answer
+        (meanings content.now)))) }
 {
     match frames_asked(state, content) {
         Ok((frames, [])) => count_of(alloc, frames),
@@ -155,7 +178,8 @@ fn frame_count(alloc: Global, state: &MachineState, content: &[Datum]) -> Result
 fn count_of(alloc: Global, frames: &[FrameState]) -> Result<Answer, NoMemory>
     ensures value { IfOk result (λ a. a ≡ count_answer (map frame_now frames.now)) }
     // A refusal takes no memory.
-    ensures memory { IfErr result (λ _. IsTrue (takes_memory (count_answer (map frame_now frames.now)))) }
+    ensures memory { IfErr result (λ _.
+        IsTrue (takes_memory (count_answer (map frame_now frames.now)))) }
 {
     match i32::try_from(frames.len()) {
         Ok(count) => of_scalar(alloc, Scalar::Int(count)),

@@ -4,12 +4,12 @@ use Rattle.jdwp_machine.specs.Meanings.{Meaning}
 use Rattle.jdwp_debuggee.specs.Settings.{Settings}
 use Rattle.jdwp_debuggee.specs.State.{new_state}
 use Rattle.jdwp_target.specs.Targets.{Target, Ran, new_target, opened}
-use Rattle.jdwp_engine.specs.declared.ended.Ended.{Ended}
-use Rattle.jdwp_engine.specs.declared.ended.Ended.TheVariants.{TurnLimit}
+use Rattle.jdwp_pipe.specs.declared.ended.Ended.{Ended}
+use Rattle.jdwp_pipe.specs.declared.ended.Ended.TheVariants.{TurnLimit}
 use Rattle.jdwp_engine.specs.Outcome.{MayEnd}
 use Rattle.jdwp_engine.specs.Run.{InOrder, cost}
 use Rattle.jdwp_engine.specs.Sessions.{Serves}
-use Rattle.jdwp_engine.specs.Story.{Story}
+use Rattle.jdwp_pipe.specs.Story.{Story}
 
 -- a target over a machine in this state, before its first session
 abbrev pub fresh : {S : Type 0} → Meaning S → Settings → S → Target S

@@ -4,13 +4,14 @@ ghost use Rattle.jdwp_script.specs.declared.fault.ScriptFault.TheVariants.{NoMem
 ghost use Rattle.jdwp_script_machine.specs.Machines.{read_machine};
 ghost use Rattle.jdwp_script_machine.specs.ScriptMeaning.{script_meaning};
 ghost use Rattle.jdwp_script_machine.specs.States.{State};
-ghost use Rattle.jdwp_engine.specs.Streams.{story_of};
+ghost use Rattle.jdwp_pipe.specs.Streams.{story_of};
 ghost use Rattle.jdwp_target.specs.Options.{LivesWithin};
 ghost use Rattle.jdwp_serve.specs.Serving.{ServesNew};
 
 use jdwp_debuggee::Settings;
-use jdwp_engine::{Ended, Streams, serve};
+use jdwp_engine::serve;
 use jdwp_machine::Machine;
+use jdwp_pipe::{Ended, Streams};
 use jdwp_script::ScriptFault;
 use jdwp_script_machine::ScriptMachine;
 use jdwp_target::Target;
@@ -29,8 +30,12 @@ pub fn serve_script<R: Read, W: Write>(
     pipe: &mut Streams<R, W>,
     rounds: u32,
 ) -> Result<Ended, ScriptFault>
-    ensures served { IfOk result (λ ended. (machine : State) × (read_machine settings.limits.live script.now ≡ Ok machine) × ServesNew script_meaning settings machine rounds (story_of pipe.old) (story_of pipe.new) ended) }
-    ensures fault { IfErr result (λ fault. (fault ≡ NoMemory) ⊎ (read_machine settings.limits.live script.now ≡ Err fault)) }
+    ensures served { IfOk result (λ ended. (machine : State)
+        × (read_machine settings.limits.live script.now ≡ Ok machine)
+        × ServesNew script_meaning settings machine rounds (story_of pipe.old)
+        (story_of pipe.new) ended) }
+    ensures fault { IfErr result (λ fault. (fault ≡ NoMemory)
+        ⊎ (read_machine settings.limits.live script.now ≡ Err fault)) }
     ensures untouched { OnErr result (pipe.new ≡ pipe.old) }
 {
     let machine = ScriptMachine::read_with(alloc, script, &settings.limits())?;
@@ -50,7 +55,8 @@ pub fn serve_session<M: Machine + Drop, R: Read, W: Write>(
     rounds: u32,
 ) -> Result<Ended, jdwp_wire::NoMemory>
     requires { LivesWithin M.meaning settings.limits machine }
-    ensures served { IfOk result (ServesNew M.meaning settings machine rounds (story_of pipe.old) (story_of pipe.new)) }
+    ensures served { IfOk result (ServesNew M.meaning settings machine rounds (story_of pipe.old)
+        (story_of pipe.new)) }
     ensures memory { OnErr result (pipe.new ≡ pipe.old) }
 {
     let mut target = Target::with_settings(alloc, machine, settings)?;

@@ -33,7 +33,8 @@ pub fn check(alloc: Global, text: &str) -> Result<Verdict, NoMemory>
     // Yes exactly where the capture begins a session.
     ensures yes { IfOk result (λ answer. (answer ≡ Verdict.Yes) ↔ BeginsSession text.now) }
     // No exactly with its first fault.
-    ensures no { IfOk result (λ answer. (line : ℕ) (fault : CaptureFault) → (answer ≡ Verdict.No line fault) ↔ IsFirstFault text.now line fault) }
+    ensures no { IfOk result (λ answer. (line : ℕ) (fault : CaptureFault)
+        → (answer ≡ Verdict.No line fault) ↔ IsFirstFault text.now line fault) }
     // The same as a function.
     ensures value { IfOk result (λ answer. answer ≡ verdict text.now) }
 {

@@ -7,7 +7,8 @@ ghost use Rattle.hex.specs.Hex.{decode_of, hex_digit_value};
 /// No pair is skipped, whatever those before it are, and each is read as one number: so compilers take many at once.
 pub(crate) fn decode_into(digits: &[u8], bytes: &mut [u8]) -> bool
     requires { length digits.now ≡ 2 * length bytes.old }
-    ensures { MatchResult (decode_of digits.now) (λ decoded. (result ≡ true) × (bytes.new ≡ decoded)) (λ e. result ≡ false) }
+    ensures { MatchResult (decode_of digits.now) (λ decoded. (result ≡ true)
+        × (bytes.new ≡ decoded)) (λ e. result ≡ false) }
 {
     let mut worst: u8 = 0;
     let (pairs, _) = digits.as_chunks::<2>();

@@ -45,7 +45,8 @@ pub(crate) trait Observer {
         item: &ItemRef,
     ) -> Result<(), NoMemory>
         requires { Holds sizes.now waits item.now.sender (thing item.now.found) }
-        ensures { OnOk result (said self.new ≡ says sizes.now (said self.old) waits (item_of item.now)) };
+        ensures { OnOk result (said self.new ≡ says sizes.now (said self.old) waits
+            (item_of item.now)) };
 }
 
 /// For the verdict alone.
@@ -98,8 +99,10 @@ pub(crate) fn find_broken<O: Observer>(
     observer: &mut O,
 ) -> Result<Option<Broken>, NoMemory>
     requires { IsUnderWay walk.old }
-    ensures broken { IfOk result (λ broken. option_map (λ b. (b.line, b.fault)) broken ≡ first_answer (fault_answer sizes.now) (rest_of walk.old)) }
-    ensures told { OnOk result (O.said observer.new ≡ told_each (O.says sizes.now) (O.said observer.old) [] (unanswered (fault_answer sizes.now) [] (rest_of walk.old))) }
+    ensures broken { IfOk result (λ broken. option_map (λ b. (b.line, b.fault)) broken
+        ≡ first_answer (fault_answer sizes.now) (rest_of walk.old)) }
+    ensures told { OnOk result (O.said observer.new ≡ told_each (O.says sizes.now)
+        (O.said observer.old) [] (unanswered (fault_answer sizes.now) [] (rest_of walk.old))) }
     ensures ended { IfOk result (λ broken. broken ≡ None → HasEnded walk.old walk.new) }
 {
     let mut pending = Pending::new(alloc);

@@ -18,7 +18,8 @@ ghost use Rattle.jdwp_show.specs.Waiting.{Waits, TellsWidths};
 /// them shows, if it does. Nothing else is found in them.
 pub fn finds_each_message()
     ensures found { (bytes : List ℕ) → IsBytes bytes → AreIn bytes (found bytes) }
-    ensures only { (bytes : List ℕ) (things : List Found) → AreIn bytes things → things ≡ found bytes }
+    ensures only { (bytes : List ℕ) (things : List Found) → AreIn bytes things
+        → things ≡ found bytes }
 {}
 
 /// The widths that a reply to VirtualMachine.IDSizes tells are the five ints that the layout of its row reads, each 1 to 8. Its first fault
@@ -33,22 +34,27 @@ pub fn tells_widths_by_layout()
 
 /// The items of one end, in order, are what is found in all that it sent: no message is lost at the end of a line, and none is made up.
 pub fn keeps_each_message()
-    ensures { (capture : List Line) (sender : Sender) → found_of sender (items_of capture) ≡ found (sent_by sender capture) }
+    ensures { (capture : List Line) (sender : Sender) → found_of sender (items_of capture)
+        ≡ found (sent_by sender capture) }
 {}
 
 /// A command waits under an id exactly where it stands among the items and none behind it speaks of its id.
 pub fn waits_where_it_stands()
-    ensures { (items : List Item) (id : ℕ) (command : Command) → (waiting items id ≡ Some command) ↔ Waits items id command }
+    ensures { (items : List Item) (id : ℕ) (command : Command)
+        → (waiting items id ≡ Some command) ↔ Waits items id command }
 {}
 
 /// Widths of ids hold for items exactly where an item tells them, and no item before it tells any or, like itself, breaks a rule of frames,
 /// ends or ids.
 pub fn tells_widths_first()
-    ensures { (items : List Item) (widths : Widths) → (widths_of items ≡ Some widths) ↔ TellsWidths items widths }
+    ensures { (items : List Item) (widths : Widths)
+        → (widths_of items ≡ Some widths) ↔ TellsWidths items widths }
 {}
 
 /// Each item stands in its line: among what its end sent it comes behind those of its items that were told before it, it is whole in the
 /// lines up to that one, and it was not whole before that line.
 pub fn stands_in_its_line()
-    ensures { (capture : List Line) (earlier later : List Item) (item : Item) → items_of capture ≡ earlier ++ item ∷ later → StandsIn capture item (length (found_of item.sender earlier)) }
+    ensures { (capture : List Line) (earlier later : List Item) (item : Item)
+        → items_of capture ≡ earlier ++ item ∷ later
+        → StandsIn capture item (length (found_of item.sender earlier)) }
 {}

@@ -36,7 +36,9 @@ pub fn reply_line(
     data: &[Datum],
     raw: &[u8],
 ) -> Result<String, NoMemory>
-    ensures { IfOk result (λ line. string_bytes line ≡ reply_start Target id (record { set = set; number = command }) error.0 ++ data_text (meanings «data».now) ++ raw_text raw.now) }
+    ensures { IfOk result (λ line. string_bytes line ≡ reply_start Target id
+        (record { set = set; number = command }) error.0 ++ data_text
+        (meanings «data».now) ++ raw_text raw.now) }
 {
     let mut line = Text::new(alloc);
     let number = command;

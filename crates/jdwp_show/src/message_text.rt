@@ -113,7 +113,8 @@ pub(crate) fn request_layout(command: Command) -> Option<Layout>
 
 /// The layout of the data of a reply, where they are read; with an error it has none.
 pub(crate) fn reply_layout(command: Command, error: ErrorCode) -> Option<Layout>
-    ensures { found_shape result ≡ (if error.0 == NONE.0 then reply_in (shapes_of command) else None) }
+    ensures { found_shape result ≡ (if error.0 == NONE.0 then reply_in
+        (shapes_of command) else None) }
 {
     if error != ErrorCode::NONE {
         return None;

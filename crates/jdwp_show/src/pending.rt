@@ -46,7 +46,8 @@ impl Pending {
     /// One item more. Answers the command that waited under its id before.
     #[inline(always)]
     pub(crate) fn record(&mut self, item: &ItemRef) -> Result<Option<Command>, NoMemory>
-        ensures waits { IfOk result (λ waits. waits ≡ under (waiting_in self.old) (thing item.now.found)) }
+        ensures waits { IfOk result (λ waits. waits ≡ under (waiting_in self.old)
+            (thing item.now.found)) }
         ensures after { OnOk result (IsAfter self.old item.now self.new) }
     {
         match item.found {

@@ -38,7 +38,8 @@ pub fn show(alloc: Global, text: &str) -> Result<Shown, NoMemory>
     // There is no fault exactly where the capture begins a session.
     ensures begins { IfOk result (λ shown. (shown.fault ≡ None) ↔ BeginsSession text.now) }
     // There is one exactly where it is the first.
-    ensures fault { IfOk result (λ shown. (line : ℕ) (fault : CaptureFault) → (shown.fault ≡ Some (line, fault)) ↔ IsFirstFault text.now line fault) }
+    ensures fault { IfOk result (λ shown. (line : ℕ) (fault : CaptureFault)
+        → (shown.fault ≡ Some (line, fault)) ↔ IsFirstFault text.now line fault) }
     // The same as a function: it is the fault by which `check` judges the capture.
     ensures value { IfOk result (λ shown. shown.fault ≡ first_fault text.now) }
     // The lines are those of the messages before the fault, and where there is none, how much is left over.

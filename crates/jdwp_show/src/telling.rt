@@ -27,7 +27,9 @@ pub(crate) fn tell_data(
     sizes: &IdSizes,
     bytes: &[u8],
 ) -> Result<(), DataFault>
-    ensures { OnOk result ((told : List DatumMeaning) × (data_at sizes.now (shapes items.now) bytes.now ≡ Ok told) × Grows text.old (data_text told) text.new) }
+    ensures { OnOk result ((told : List DatumMeaning)
+        × (data_at sizes.now (shapes items.now) bytes.now ≡ Ok told)
+        × Grows text.old (data_text told) text.new) }
 {
     let rest = tell_items(alloc, text, items, bytes, bytes.len(), sizes)?;
     if rest.is_empty() {
@@ -46,7 +48,8 @@ fn tell_items<'a>(
     whole: usize,
     sizes: &IdSizes,
 ) -> Result<&'a [u8], DataFault>
-    ensures { IfOk result (λ rest. IsTold data_text text.old text.new (items_at sizes.now whole (shapes items.now) bytes.now) rest.now) }
+    ensures { IfOk result (λ rest. IsTold data_text text.old text.new (items_at sizes.now whole
+        (shapes items.now) bytes.now) rest.now) }
 {
     let mut rest = bytes;
     for item in items {
@@ -65,7 +68,8 @@ fn tell_item<'a>(
     whole: usize,
     sizes: &IdSizes,
 ) -> Result<&'a [u8], DataFault>
-    ensures { IfOk result (λ after. IsTold datum_text text.old text.new (item_at sizes.now whole (item_shape item) rest.now) after.now) }
+    ensures { IfOk result (λ after. IsTold datum_text text.old text.new (item_at sizes.now whole
+        (item_shape item) rest.now) after.now) }
 {
     match item {
         Item::One(field) => tell_field(alloc, text, field, rest, whole, sizes),
@@ -94,7 +98,8 @@ fn tell_entries<'a>(
     whole: usize,
     sizes: &IdSizes,
 ) -> Result<&'a [u8], DataFault>
-    ensures { IfOk result (λ rest. IsTold (listed entry_text) text.old text.new (times_at (entry_at sizes.now whole (entry_shape entry)) count bytes.now) rest.now) }
+    ensures { IfOk result (λ rest. IsTold (listed entry_text) text.old text.new
+        (times_at (entry_at sizes.now whole (entry_shape entry)) count bytes.now) rest.now) }
 {
     let mut rest = bytes;
     for index in 0..count {
@@ -113,7 +118,8 @@ fn tell_entry<'a>(
     whole: usize,
     sizes: &IdSizes,
 ) -> Result<&'a [u8], DataFault>
-    ensures { IfOk result (λ after. IsTold entry_text text.old text.new (entry_at sizes.now whole (entry_shape entry) rest.now) after.now) }
+    ensures { IfOk result (λ after. IsTold entry_text text.old text.new (entry_at sizes.now whole
+        (entry_shape entry) rest.now) after.now) }
 {
     if let Entry::Fields(fields) = entry {
         return tell_fields(alloc, text, fields, rest, whole, sizes);
@@ -132,7 +138,8 @@ fn tell_fields<'a>(
     whole: usize,
     sizes: &IdSizes,
 ) -> Result<&'a [u8], DataFault>
-    ensures { IfOk result (λ after. IsTold entry_text text.old text.new (fields_at sizes.now whole fields.now rest.now) after.now) }
+    ensures { IfOk result (λ after. IsTold entry_text text.old text.new
+        (fields_at sizes.now whole fields.now rest.now) after.now) }
 {
     if fields.len() == 1 {
         return tell_field(alloc, text, fields[0], rest, whole, sizes);
@@ -151,7 +158,8 @@ fn tell_each<'a>(
     whole: usize,
     sizes: &IdSizes,
 ) -> Result<&'a [u8], DataFault>
-    ensures { IfOk result (λ rest. IsTold (listed scalar_text) text.old text.new (fields_at sizes.now whole fields.now bytes.now) rest.now) }
+    ensures { IfOk result (λ rest. IsTold (listed scalar_text) text.old text.new
+        (fields_at sizes.now whole fields.now bytes.now) rest.now) }
 {
     let mut rest = bytes;
     for (index, field) in fields.iter().enumerate() {
@@ -170,7 +178,8 @@ fn tell_field<'a>(
     whole: usize,
     sizes: &IdSizes,
 ) -> Result<&'a [u8], DataFault>
-    ensures { IfOk result (λ after. IsTold scalar_text text.old text.new (field_at sizes.now whole field rest.now) after.now) }
+    ensures { IfOk result (λ after. IsTold scalar_text text.old text.new
+        (field_at sizes.now whole field rest.now) after.now) }
 {
     let (scalar, rest) = read_field(alloc, field, rest, whole, sizes)?;
     push_scalar(text, &scalar);

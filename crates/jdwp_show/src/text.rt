@@ -27,7 +27,8 @@ impl Text {
 
     pub(crate) fn push_str(&mut self, string: &str)
         ensures grows { Grows self.old string.now self.new }
-        ensures growth { self.old.refused ≡ false → self.new.refused ≡ true → string_capacity self.old.string < string_len self.old.string + length string.now }
+        ensures growth { self.old.refused ≡ false → self.new.refused ≡ true
+            → string_capacity self.old.string < string_len self.old.string + length string.now }
     {
         if !self.refused {
             self.refused = self.string.push_str(string).is_err();
@@ -36,7 +37,9 @@ impl Text {
 
     pub(crate) fn push(&mut self, c: char)
         ensures grows { Grows self.old (encode_utf8 c) self.new }
-        ensures growth { self.old.refused ≡ false → self.new.refused ≡ true → string_capacity self.old.string < string_len self.old.string + length (encode_utf8 c) }
+        ensures growth { self.old.refused ≡ false → self.new.refused ≡ true
+            → string_capacity self.old.string < string_len self.old.string + length
+            (encode_utf8 c) }
     {
         if !self.refused {
             self.refused = self.string.push(c).is_err();

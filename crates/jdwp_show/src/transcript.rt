@@ -79,7 +79,8 @@ impl Transcript {
         packet: &PacketRef,
     )
         requires { Holds sizes waits sender (Sent (Packet packet.now.header packet.now.body.now)) }
-        ensures { Grows self.old.lines (packet_line sizes waits sender packet.now.header.id packet.now.header.kind packet.now.body.now) self.new.lines }
+        ensures { Grows self.old.lines (packet_line sizes waits sender packet.now.header.id
+            packet.now.header.kind packet.now.body.now) self.new.lines }
     {
         let id = packet.header.id;
         match packet.header.kind {
@@ -101,7 +102,8 @@ impl Transcript {
     /// Appends data and a newline.
     fn show_body(&mut self, sizes: Option<IdSizes>, layout: Option<Layout>, body: &[u8])
         requires { body_fault sizes (found_shape layout) body.now ≡ None }
-        ensures { Grows self.old.lines (body_text sizes (found_shape layout) body.now ++ codes "\n") self.new.lines }
+        ensures { Grows self.old.lines (body_text sizes (found_shape layout) body.now ++ codes "\n")
+            self.new.lines }
     {
         push_sound_body(self.alloc, &mut self.lines, sizes, layout, body);
         self.lines.push_str("\n");

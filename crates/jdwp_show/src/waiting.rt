@@ -61,7 +61,8 @@ impl Waiting {
     #[inline(always)]
     pub(crate) fn insert(&mut self, id: u32, command: Command) -> Result<Option<Command>, NoMemory>
         ensures before { IfOk result (λ before. before ≡ waits_in self.old id) }
-        ensures waits { OnOk result ((other : ℕ) → waits_in self.new other ≡ (if id == other then Some command else waits_in self.old other)) }
+        ensures waits { OnOk result ((other : ℕ) → waits_in self.new other
+            ≡ (if id == other then Some command else waits_in self.old other)) }
     {
         if let Some(place) = self.place(id) {
             return Ok(self.row[place].replace(command));
@@ -83,7 +84,8 @@ impl Waiting {
     #[inline(always)]
     pub(crate) fn remove(&mut self, id: u32) -> Option<Command>
         ensures before { result ≡ waits_in self.old id }
-        ensures waits { (other : ℕ) → waits_in self.new other ≡ (if id == other then None else waits_in self.old other) }
+        ensures waits { (other : ℕ) → waits_in self.new other
+            ≡ (if id == other then None else waits_in self.old other) }
     {
         match self.place(id) {
             Some(place) => {
@@ -110,7 +112,8 @@ impl Waiting {
 /// No command is there under the id. Answers the one that was.
 fn forget(commands: &mut BTreeMap<u32, Command>, id: u32) -> Option<Command>
     ensures before { result ≡ get nat_cmp commands.old id }
-    ensures others { (other : ℕ) → get nat_cmp commands.new other ≡ (if id == other then None else get nat_cmp commands.old other) }
+    ensures others { (other : ℕ) → get nat_cmp commands.new other
+        ≡ (if id == other then None else get nat_cmp commands.old other) }
 {
     commands.remove(&id)
 }

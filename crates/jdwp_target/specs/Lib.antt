@@ -8,3 +8,4 @@ pub mod TurnParts
 pub mod StepParts
 pub mod Lives
 pub mod Closings
+pub mod TakingLaws

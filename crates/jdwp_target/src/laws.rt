@@ -29,6 +29,7 @@ pub fn closes_for_a_reason<M: Machine>()
 
 /// VM_START, where its thread's id fits, and VM_DEATH are encoded by the bytes that are sent for them. It does nothing.
 pub fn encodes_start_and_death()
-    ensures start { (w : Widths) (policy thread : ℕ) → policy < 256 → id_refusal w.object thread ≡ None → IsEncoded w (Some (vm_start policy thread)) }
+    ensures start { (w : Widths) (policy thread : ℕ) → policy < 256 → id_refusal w.object thread
+        ≡ None → IsEncoded w (Some (vm_start policy thread)) }
     ensures death { (w : Widths) → IsEncoded w (Some vm_death) }
 {}

@@ -7,6 +7,7 @@ mod laws;
 mod numbers;
 mod options;
 mod sending;
+mod session_end;
 mod stepping;
 mod target;
 mod turning;

@@ -34,7 +34,8 @@ impl TargetOptions {
     /// None exactly where the limit is outside 1 to 2,147,483,647.
     pub fn new(start_all: bool, count_limit: u32) -> Option<TargetOptions>
         ensures some { IsSome result ↔ IsCountLimit count_limit }
-        ensures same { IfSome result (λ o. o ≡ record { start_all = start_all; count_limit = count_limit }) }
+        ensures same { IfSome result (λ o.
+            o ≡ record { start_all = start_all; count_limit = count_limit }) }
     {
         if count_limit < 1 || count_limit > GREATEST_INT {
             return None;

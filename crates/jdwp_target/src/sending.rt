@@ -22,7 +22,9 @@ use jdwp_wire::{ErrorCode, Header, IdSizes, PacketKind, Wire};
 fn enqueue_header(id: u32, error: ErrorCode, size: u32, end: &mut End)
     requires room { length end.old.outgoing + 11 ≤ most_outgoing end.old.limits }
     requires small { size ≤ most_packet_limit }
-    ensures { end.new ≡ with_enqueued (header_bytes (record { length = 11 + size; id = id; kind = PacketKind.Reply error })) end.old }
+    ensures { end.new ≡ with_enqueued
+        (header_bytes (record { length = 11 + size; id = id; kind = PacketKind.Reply error }))
+        end.old }
 {
     let header = Header {
         length: 11 + size,
@@ -35,7 +37,8 @@ fn enqueue_header(id: u32, error: ErrorCode, size: u32, end: &mut End)
 /// Enqueues a reply that takes no memory, to the command of this id.
 fn enqueue_short(id: u32, reply: Reply, sizes: &IdSizes, end: &mut End)
     requires { length end.old.outgoing + 31 ≤ most_outgoing end.old.limits }
-    ensures { end.new ≡ with_enqueued (message_bytes (reply_to sizes.now id (reply_meaning reply))) end.old }
+    ensures { end.new ≡ with_enqueued (message_bytes (reply_to sizes.now id (reply_meaning reply)))
+        end.old }
 {
     match reply {
         Reply::Done => enqueue_header(id, ErrorCode::NONE, 0, end),
@@ -63,9 +66,11 @@ fn enqueue_short(id: u32, reply: Reply, sizes: &IdSizes, end: &mut End)
 /// Enqueues what is sent for an answer, as the reply to the command of this id. It takes no memory.
 pub fn enqueue_reply(id: u32, sent: &Sent, sizes: &IdSizes, end: &mut End)
     requires short { length end.old.outgoing + 31 ≤ most_outgoing end.old.limits }
-    requires room { length end.old.outgoing + (11 + length (sent_bytes sizes.now sent.now)) ≤ most_outgoing end.old.limits }
+    requires room { length end.old.outgoing + (11 + length (sent_bytes sizes.now sent.now))
+        ≤ most_outgoing end.old.limits }
     requires small { length (sent_bytes sizes.now sent.now) ≤ most_packet_limit }
-    ensures { end.new ≡ with_enqueued (message_bytes (packet_with id (PacketKind.Reply (sent_error sent.now)) (sent_bytes sizes.now sent.now))) end.old }
+    ensures { end.new ≡ with_enqueued (message_bytes (packet_with id (PacketKind.Reply
+        (sent_error sent.now)) (sent_bytes sizes.now sent.now))) end.old }
 {
     match sent {
         Sent::Short(reply) => enqueue_short(id, *reply, sizes, end),
@@ -80,7 +85,13 @@ pub fn enqueue_reply(id: u32, sent: &Sent, sizes: &IdSizes, end: &mut End)
 pub fn enqueue_composite_header(id: u32, size: u32, end: &mut End)
     requires room { length end.old.outgoing + 11 ≤ most_outgoing end.old.limits }
     requires small { size ≤ most_packet_limit }
-    ensures { end.new ≡ with_enqueued (header_bytes (record { length = 11 + size; id = id; kind = PacketKind.Command commands.EVENT commands.COMPOSITE.number })) end.old }
+    ensures { end.new ≡ with_enqueued
+        (header_bytes (record {
+          length = 11 + size;
+          id = id;
+          kind = PacketKind.Command
+              commands.EVENT commands.COMPOSITE.number;
+        })) end.old }
 {
     let header = Header {
         length: 11 + size,
@@ -96,10 +107,13 @@ pub fn enqueue_composite_header(id: u32, size: u32, end: &mut End)
 /// Enqueues a composite as the packet of this id. It takes no memory.
 pub fn enqueue_report(id: u32, composite: &Composite, sizes: &IdSizes, end: &mut End)
     requires writable { composite_refusal sizes.now composite.now ≡ None }
-    requires room { length end.old.outgoing + (11 + length (composite_canonical sizes.now composite.now)) ≤ most_outgoing end.old.limits }
+    requires room { length end.old.outgoing +
+        (11 + length (composite_canonical sizes.now composite.now)) ≤ most_outgoing end.old.limits }
     requires small { length (composite_canonical sizes.now composite.now) ≤ most_packet_limit }
-    ensures enqueued { end.new ≡ with_enqueued (message_bytes (report_of sizes.now id composite.now)) end.old }
-    ensures encoded { EncodesComposite sizes.now composite.now (composite_canonical sizes.now composite.now) }
+    ensures enqueued { end.new
+        ≡ with_enqueued (message_bytes (report_of sizes.now id composite.now)) end.old }
+    ensures encoded { EncodesComposite sizes.now composite.now
+        (composite_canonical sizes.now composite.now) }
 {
     let size = composite.size(sizes).unwrap_or(0);
     enqueue_composite_header(id, size as u32, end);

@@ -27,8 +27,10 @@ impl<M: Machine + Drop> Target<M> {
     /// has changed.
     pub fn step(&mut self, thread: ObjectId) -> Result<Stepped, TargetFault>
         ensures steps { StepsAt M.meaning thread.0 self.old result self.new }
-        ensures encoded { IfOk result (λ stepped. EncodesWhere M.meaning thread.0 self.old (is_frozen M.meaning thread.0 self.old)) }
-        ensures packets { IfOk result (λ stepped. SendsWhere M.meaning thread.0 self.old (is_frozen M.meaning thread.0 self.old)) }
+        ensures encoded { IfOk result (λ stepped. EncodesWhere M.meaning thread.0 self.old
+            (is_frozen M.meaning thread.0 self.old)) }
+        ensures packets { IfOk result (λ stepped. SendsWhere M.meaning thread.0 self.old
+            (is_frozen M.meaning thread.0 self.old)) }
     {
         if self.end.is_paused() {
             return Ok(Stepped::Frozen);
@@ -56,7 +58,8 @@ fn fits_step<M: Machine>(
     _end: &End,
 )
     requires { CanTell sizes.now _end.now done.now }
-    ensures { AreSendable _end.now.limits.packet (reports_step sizes.now packet (step_of debuggee.now done.now) (stands debuggee.now.moment _end.now.phase)).sends }
+    ensures { AreSendable _end.now.limits.packet (reports_step sizes.now packet
+        (step_of debuggee.now done.now) (stands debuggee.now.moment _end.now.phase)).sends }
 {
     fits_vm_death();
     fits_id(packet);
@@ -72,8 +75,10 @@ fn tell<M: Machine>(
     end: &mut End,
 )
     requires { CanTell sizes.now end.old done.now }
-    ensures debuggee { debuggee.new ≡ debuggee_after (reports_step sizes.now packet (step_of debuggee.old done.now) (stands debuggee.old.moment end.old.phase)) debuggee.old }
-    ensures end { end.new ≡ end_after (reports_step sizes.now packet (step_of debuggee.old done.now) (stands debuggee.old.moment end.old.phase)) end.old }
+    ensures debuggee { debuggee.new ≡ debuggee_after (reports_step sizes.now packet
+        (step_of debuggee.old done.now) (stands debuggee.old.moment end.old.phase)) debuggee.old }
+    ensures end { end.new ≡ end_after (reports_step sizes.now packet (step_of debuggee.old done.now)
+        (stands debuggee.old.moment end.old.phase)) end.old }
     ensures encoded { EncodesSent sizes.now end.old.phase done.now.sends }
 {
     if end.is_established() {
@@ -94,8 +99,12 @@ fn report<M: Machine>(
 )
     requires established { end.old.phase ≡ Established }
     requires can { CanTell sizes.now end.old done.now }
-    ensures debuggee { debuggee.new ≡ debuggee_after (steps_in_session sizes.now packet (step_of debuggee.old done.now) (stands debuggee.old.moment Established) done.now.dies) debuggee.old }
-    ensures end { end.new ≡ end_after (steps_in_session sizes.now packet (step_of debuggee.old done.now) (stands debuggee.old.moment Established) done.now.dies) end.old }
+    ensures debuggee { debuggee.new ≡ debuggee_after (steps_in_session sizes.now packet
+        (step_of debuggee.old done.now) (stands debuggee.old.moment Established) done.now.dies)
+        debuggee.old }
+    ensures end { end.new ≡ end_after (steps_in_session sizes.now packet
+        (step_of debuggee.old done.now) (stands debuggee.old.moment Established) done.now.dies)
+        end.old }
     ensures encoded { IsEncoded sizes.now done.now.sends }
 {
     if done.dies {

@@ -103,7 +103,8 @@ impl<M: Machine + Drop> Target<M> {
     /// `NoMemory` where an allocation was refused.
     pub fn new(alloc: Global, machine: M, options: TargetOptions) -> Result<Target<M>, NoMemory>
         requires { LivesWithin M.meaning standard_limits machine }
-        ensures { IfOk result (λ t. t ≡ new_target (settings_at standard_limits options) (record { state = spec.new_state (M.meaning.live machine); machine = machine })) }
+        ensures { IfOk result (λ t. t ≡ new_target (settings_at standard_limits options)
+            (record { state = spec.new_state (M.meaning.live machine); machine = machine })) }
     {
         Target::with_settings(alloc, machine, options.settings(Limits::standard()))
     }
@@ -118,7 +119,12 @@ impl<M: Machine + Drop> Target<M> {
         settings: Settings,
     ) -> Result<Target<M>, NoMemory>
         requires { LivesWithin M.meaning settings.limits machine }
-        ensures { IfOk result (λ t. t ≡ new_target settings (record { state = spec.new_state (M.meaning.live machine); machine = machine })) }
+        ensures { IfOk result (λ t.
+            t ≡ new_target settings (record {
+              state = spec.new_state
+                  (M.meaning.live machine);
+              machine = machine;
+            })) }
     {
         let end = End::new(alloc, settings.limits())?;
         let debuggee = Debuggee::new(alloc, machine, settings)?;
@@ -155,7 +161,8 @@ impl<M: Machine + Drop> Target<M> {
     /// The threads that live, in the machine's order: exactly those that have a count.
     pub fn live(&self) -> &[ObjectId]
         ensures live { numbers result.now ≡ M.meaning.live self.now.moment.machine }
-        ensures counted { (t : ℕ) → has (numbers result.now) t ≡ is_some (spec.count_of self.now.moment.state t) }
+        ensures counted { (t : ℕ) → has (numbers result.now) t
+            ≡ is_some (spec.count_of self.now.moment.state t) }
     {
         self.debuggee.live()
     }
@@ -170,7 +177,8 @@ impl<M: Machine + Drop> Target<M> {
     /// Begins a session: both buffers are empty, and the handshake is waited for. False, and nothing changes, where a session is
     /// open or the machine is dead.
     pub fn accept(&mut self) -> bool
-        ensures when { IsTrue result ↔ ((ends.is_open self.old.end ≡ false) × (self.old.moment.state.alive ≡ true)) }
+        ensures when { IsTrue result ↔ ((ends.is_open self.old.end ≡ false)
+            × (self.old.moment.state.alive ≡ true)) }
         ensures opened { IsTrue result → self.new ≡ opened self.old }
         ensures refused { result ≡ false → self.new ≡ self.old }
     {
@@ -234,7 +242,8 @@ impl<M: Machine + Drop> Target<M> {
         ensures ran { Ran M.meaning self.now }
         ensures bytes { IsBytes self.now.end.incoming }
         ensures flows { self.now.end.outgoing ≡ [] → ends.is_paused self.now.end ≡ false }
-        ensures room { front_of self.now.end ≡ More → ends.is_open self.now.end ≡ true → ends.is_paused self.now.end ≡ false → 0 < room_of self.now.end }
+        ensures room { front_of self.now.end ≡ More → ends.is_open self.now.end ≡ true
+            → ends.is_paused self.now.end ≡ false → 0 < room_of self.now.end }
     {
         self.end.invariants();
     }

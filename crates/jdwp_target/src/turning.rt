@@ -61,7 +61,8 @@ impl<M: Machine + Drop> Target<M> {
     /// Clear and ClearAllBreakpoints. Then nothing has changed.
     pub fn turn(&mut self) -> Result<Turn, TargetFault>
         ensures turns { TurnsAt M.meaning (front_of self.old.end) self.old result self.new }
-        ensures encoded { IfOk result (λ _. EncodesNext M.meaning (front_of self.old.end) self.old) }
+        ensures encoded { IfOk result (λ _.
+            EncodesNext M.meaning (front_of self.old.end) self.old) }
         ensures packets { IfOk result (λ _. SendsAt M.meaning (front_of self.old.end) self.old) }
     {
         match self.end.front() {
@@ -105,7 +106,8 @@ fn read_packet(
     sizes: &IdSizes,
 ) -> Result<Came, NoMemory>
     requires { HoldsPacket limits.now.packet bytes.now }
-    ensures { (header : Header) (body : List ℕ) (used : ℕ) → front limits.now.packet bytes.now ≡ frames.Whole header body used → ReadsPacket sizes.now header body result }
+    ensures { (header : Header) (body : List ℕ) (used : ℕ) → front limits.now.packet bytes.now
+        ≡ frames.Whole header body used → ReadsPacket sizes.now header body result }
 {
     match next_packet_within(bytes, limits) {
         Next::Whole(packet, _) => read_came(alloc, &packet, sizes),
@@ -132,10 +134,18 @@ fn read_came(alloc: Global, packet: &PacketRef<'_>, sizes: &IdSizes) -> Result<C
 /// Answers the handshake; behind the first of the target's life follows VM_START. It takes no memory.
 fn greet<M: Machine>(debuggee: &mut Debuggee<M>, end: &mut End)
     requires { length end.old.outgoing + 43 ≤ most_outgoing end.old.limits }
-    ensures debuggee { debuggee.new ≡ debuggee_after (greets_by M.meaning debuggee.old.settings (stands debuggee.old.moment Established) debuggee.old.moment.state.handshaken) debuggee.old }
-    ensures end { end.new ≡ with_enqueued (stream (greets_by M.meaning debuggee.old.settings (stands debuggee.old.moment Established) debuggee.old.moment.state.handshaken).sends) end.old }
-    ensures encoded { debuggee.old.moment.state.handshaken ≡ false → IsEncoded (M.meaning.sizes debuggee.old.moment.machine) (Some (start_event debuggee.old.settings debuggee.old.moment.state)) }
-    ensures packets { AreSendable debuggee.old.settings.limits.packet (greets_by M.meaning debuggee.old.settings (stands debuggee.old.moment Established) debuggee.old.moment.state.handshaken).sends }
+    ensures debuggee { debuggee.new ≡ debuggee_after (greets_by M.meaning debuggee.old.settings
+        (stands debuggee.old.moment Established) debuggee.old.moment.state.handshaken)
+        debuggee.old }
+    ensures end { end.new ≡ with_enqueued (stream (greets_by M.meaning debuggee.old.settings
+        (stands debuggee.old.moment Established) debuggee.old.moment.state.handshaken).sends)
+        end.old }
+    ensures encoded { debuggee.old.moment.state.handshaken ≡ false
+        → IsEncoded (M.meaning.sizes debuggee.old.moment.machine)
+        (Some (start_event debuggee.old.settings debuggee.old.moment.state)) }
+    ensures packets { AreSendable debuggee.old.settings.limits.packet
+        (greets_by M.meaning debuggee.old.settings (stands debuggee.old.moment Established)
+        debuggee.old.moment.state.handshaken).sends }
 {
     end.enqueue(&HANDSHAKE);
     let sizes = debuggee.sizes();
@@ -149,7 +159,8 @@ fn greet<M: Machine>(debuggee: &mut Debuggee<M>, end: &mut End)
 fn enqueue_start(start: Start, sizes: &IdSizes, end: &mut End)
     requires fits { id_refusal sizes.now.object start.thread.0 ≡ None }
     requires room { length end.old.outgoing + 29 ≤ most_outgoing end.old.limits }
-    ensures { end.new ≡ with_enqueued (message_bytes (report_of sizes.now start.packet (vm_start (policy_byte start.policy) start.thread.0))) end.old }
+    ensures { end.new ≡ with_enqueued (message_bytes (report_of sizes.now start.packet
+        (vm_start (policy_byte start.policy) start.thread.0))) end.old }
 {
     enqueue_composite_header(start.packet, 10 + u32::from(sizes.object()), end);
     end.put(&start.policy.byte(), sizes);
@@ -169,8 +180,17 @@ fn handle<M: Machine>(
     asked: Asked,
 ) -> Result<Done, NoMemory>
     requires { debuggee.old.moment.state.handshaken ≡ true }
-    ensures ok { IfOk result (λ done. (set number : ℕ) (body : List ℕ) → asked_meaning asked ≡ asks (command_read (M.meaning.sizes debuggee.old.moment.machine) set number body) → IsDone (M.meaning.sizes debuggee.old.moment.machine) (carried_out M.meaning debuggee.old.settings debuggee.old.moment (command_read (M.meaning.sizes debuggee.old.moment.machine) set number body)) debuggee.old debuggee.new done) }
-    ensures encoded { IfOk result (λ _. (set number : ℕ) (body : List ℕ) → asked_meaning asked ≡ asks (command_read (M.meaning.sizes debuggee.old.moment.machine) set number body) → EncodesAnswer (M.meaning.sizes debuggee.old.moment.machine) set number (carried_out M.meaning debuggee.old.settings debuggee.old.moment (command_read (M.meaning.sizes debuggee.old.moment.machine) set number body)).answer) }
+    ensures ok { IfOk result (λ done. (set number : ℕ) (body : List ℕ)
+        → asked_meaning asked ≡ asks (command_read (M.meaning.sizes debuggee.old.moment.machine) set
+        number body) → IsDone (M.meaning.sizes debuggee.old.moment.machine)
+        (carried_out M.meaning debuggee.old.settings debuggee.old.moment
+        (command_read (M.meaning.sizes debuggee.old.moment.machine) set number body)) debuggee.old
+        debuggee.new done) }
+    ensures encoded { IfOk result (λ _. (set number : ℕ) (body : List ℕ)
+        → asked_meaning asked ≡ asks (command_read (M.meaning.sizes debuggee.old.moment.machine) set
+        number body) → EncodesAnswer (M.meaning.sizes debuggee.old.moment.machine) set number
+        (carried_out M.meaning debuggee.old.settings debuggee.old.moment
+        (command_read (M.meaning.sizes debuggee.old.moment.machine) set number body)).answer) }
     ensures err { OnErr result (debuggee.new ≡ debuggee.old) }
     ensures memory { IfErr result (λ _. is_short_asked (asked_meaning asked) ≡ false) }
 {
@@ -192,7 +212,10 @@ fn handle<M: Machine>(
 
 /// What is sent for a command, and VM_DEATH behind it, are packets within the limit, where its data are. It changes nothing.
 fn fits_reply<M: Machine>(id: u32, done: &Done, sizes: &IdSizes, debuggee: &Debuggee<M>)
-    ensures { (limit : ℕ) → least_packet_limit ≤ limit → 11 + length (sent_bytes sizes.now done.now.sent) ≤ limit → AreSendable limit (reply_of sizes.now id done.now.sent ∷ deaths sizes.now debuggee.now.moment.state.next_packet done.now.dies) }
+    ensures { (limit : ℕ) → least_packet_limit ≤ limit
+        → 11 + length (sent_bytes sizes.now done.now.sent) ≤ limit
+        → AreSendable limit (reply_of sizes.now id done.now.sent ∷ deaths sizes.now
+        debuggee.now.moment.state.next_packet done.now.dies) }
 {
     fits_vm_death();
     fits_id(id);
@@ -210,11 +233,14 @@ fn reply<M: Machine>(
     end: &mut End,
 )
     requires short { length end.old.outgoing + 32 ≤ most_outgoing end.old.limits }
-    requires room { length end.old.outgoing + (11 + length (sent_bytes sizes.now done.now.sent)) ≤ most_outgoing end.old.limits }
+    requires room { length end.old.outgoing + (11 + length (sent_bytes sizes.now done.now.sent))
+        ≤ most_outgoing end.old.limits }
     requires small { length (sent_bytes sizes.now done.now.sent) ≤ most_packet_limit }
     requires bare { done.now.dies ≡ true → length (sent_bytes sizes.now done.now.sent) ≡ 0 }
     ensures debuggee { debuggee.new ≡ after_deaths done.now.dies debuggee.old }
-    ensures end { end.new ≡ closed_where done.now.closes (with_enqueued (stream (reply_of sizes.now id done.now.sent ∷ deaths sizes.now debuggee.old.moment.state.next_packet done.now.dies)) end.old) }
+    ensures end { end.new ≡ closed_where done.now.closes
+        (with_enqueued (stream (reply_of sizes.now id done.now.sent ∷ deaths sizes.now
+        debuggee.old.moment.state.next_packet done.now.dies)) end.old) }
 {
     enqueue_reply(id, &done.sent, sizes, end);
     if done.dies {

@@ -56,7 +56,8 @@ pub fn answered_line(
     number: u8,
     answer: &Answer,
 ) -> Result<String, NoMemory>
-    ensures { IfOk result (λ line. string_bytes line ≡ answered_line id (named set number) answer.now) }
+    ensures { IfOk result (λ line. string_bytes line
+        ≡ answered_line id (named set number) answer.now) }
 {
     match answer {
         Answer::Error(error) => ended(reply_line(alloc, id, set, number, *error, &[], &[])?),
@@ -72,7 +73,9 @@ fn data_line(
     number: u8,
     items: &[Datum],
 ) -> Result<String, NoMemory>
-    ensures { IfOk result (λ line. string_bytes line ≡ reply_start Target id (named set number) NONE.0 ++ items_text (shapes_of (named set number)) (meanings items.now)) }
+    ensures { IfOk result (λ line. string_bytes line ≡ reply_start Target id
+        (named set number) NONE.0 ++ items_text (shapes_of (named set number))
+        (meanings items.now)) }
 {
     if is_unread(set, number) {
         let bytes = bytes_in(alloc, items)?;
@@ -117,7 +120,8 @@ fn bytes_of(alloc: Global, entries: &[Vec<Scalar>]) -> Result<Vec<u8>, NoMemory>
 
 /// Appends the byte of an entry, where it is one.
 fn push_byte(bytes: &mut Vec<u8>, entry: &[Scalar]) -> Result<(), NoMemory>
-    ensures { OnOk result (bytes.new.items ≡ bytes.old.items ++ byte_in (scalar_meanings entry.now)) }
+    ensures { OnOk result (bytes.new.items ≡ bytes.old.items ++ byte_in
+        (scalar_meanings entry.now)) }
 {
     match entry {
         [Scalar::Byte(byte)] => bytes.push(*byte)?,

@@ -48,7 +48,8 @@ fn summaries(alloc: Global, requests: &[KeptRequest]) -> Result<Vec<(i32, u8, u8
 
 /// Puts a line for each of the threads.
 fn put_threads(alloc: Global, threads: &[Known], text: &mut String) -> Result<(), NoMemory>
-    ensures { OnOk result (string_bytes text.new ≡ string_bytes text.old ++ flat_map thread_line threads.now) }
+    ensures { OnOk result (string_bytes text.new ≡ string_bytes text.old ++ flat_map thread_line
+        threads.now) }
 {
     for thread in threads {
         text.push_str(&thread_line(alloc, thread)?)?;
@@ -62,7 +63,8 @@ fn put_requests(
     requests: &[(i32, u8, u8)],
     text: &mut String,
 ) -> Result<(), NoMemory>
-    ensures { OnOk result (string_bytes text.new ≡ string_bytes text.old ++ flat_map request_line requests.now) }
+    ensures { OnOk result (string_bytes text.new ≡ string_bytes text.old ++ flat_map request_line
+        requests.now) }
 {
     for request in requests {
         text.push_str(&request_line(alloc, *request)?)?;

@@ -52,7 +52,8 @@ pub fn finds_whole_messages()
         → next_message limit false (handshake_bytes ++ rest) ≡ Whole Handshake (length handshake_bytes) }
     ensures packet { (limit : ℕ) (header : Header) (body rest : List ℕ) → limit < 2 ^ 32 → IsPacket limit header body
         → next_message limit true (packet_bytes header body ++ rest) ≡ Whole (Packet header body) header.length }
-    ensures size { (header : Header) (body : List ℕ) → length (packet_bytes header body) ≡ 11 + length body }
+    ensures size { (header : Header) (body : List ℕ) → length (packet_bytes header body)
+        ≡ 11 + length body }
 {}
 
 /// More bytes are called for at the front of bytes that have less than a whole message.
@@ -61,7 +62,8 @@ pub fn calls_for_more()
         → next_message limit false (take n (handshake_bytes ++ rest)) ≡ More }
     ensures packet { (limit n : ℕ) (header : Header) (body rest : List ℕ) → limit < 2 ^ 32 → IsPacket limit header body
         → n < header.length → next_message limit true (take n (packet_bytes header body ++ rest)) ≡ More }
-    ensures nothing { (limit : ℕ) (after_handshake : Bool) → next_message limit after_handshake [] ≡ More }
+    ensures nothing { (limit : ℕ) (after_handshake : Bool)
+        → next_message limit after_handshake [] ≡ More }
 {}
 
 /// At the front of a stream of messages that is cut anywhere the first message is found, where the cut has all of it, and else more bytes are

@@ -3,4 +3,4 @@
 
 mod words;
 
-pub use words::{Attach, Pair, Peer, ServeScript, SessionFiles, Words, read};
+pub use words::{Attach, Between, Pair, Peer, ServeScript, SessionFiles, Words, read};

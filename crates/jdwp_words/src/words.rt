@@ -72,17 +72,28 @@ pub struct Attach<'a> {
     pub turns: u32,
 }
 
-/// `pair MACHINE PLAN --memory [--start all|none] [--turns N]`.
+/// `pair MACHINE PLAN [--memory] [--start all|none] [--turns N]`.
 #[derive(Clone, Copy, Debug, PartialEq, Eq)]
 pub struct Pair<'a> {
     /// The file of the machine's script.
     pub machine: &'a str,
     /// The file of the plan.
     pub plan: &'a str,
+    /// What is between both ends.
+    pub between: Between,
     /// Whether every thread is suspended when the target starts.
     pub settings: Settings,
-    /// How many rounds the session has at most.
+    /// How many rounds the run has at most.
     pub turns: u32,
+}
+
+/// What is between both ends of a session in this process.
+#[derive(Clone, Copy, Debug, PartialEq, Eq)]
+pub enum Between {
+    /// Memory alone: `--memory`.
+    Memory,
+    /// A connection of this machine to itself.
+    Loopback,
 }
 
 /// The name of a command.
@@ -259,8 +270,18 @@ fn read_pair<'a>(alloc: Global, found: &ArgMatches<'a>) -> Result<Pair<'a>, Faul
         settings: read_settings(alloc, found, COUNT_LIMIT, Name::Pair)?,
         machine: value(alloc, found, "machine")?,
         plan: value(alloc, found, "plan")?,
+        between: read_between(found),
         turns: number(alloc, found, "turns", Name::Pair)?,
     })
+}
+
+/// What is between both ends of a session in this process.
+fn read_between(found: &ArgMatches<'_>) -> Between {
+    if found.get_flag("memory") {
+        Between::Memory
+    } else {
+        Between::Loopback
+    }
 }
 
 /// Where the other end is that a command of this name has a session with.
@@ -444,10 +465,12 @@ fn pair_command<'a>(alloc: Global) -> Result<Command<'a>, AllocError> {
         plan(alloc),
         memory(alloc),
         start(alloc),
-        turns(alloc, "How many rounds the session has at most"),
+        turns(alloc, "How many rounds the run has at most"),
     ]?;
     Command::new(alloc, "pair")
-        .about("Runs a plan as the debugger of a script's machine, both ends in this process")
+        .about(
+            "Runs a plan as the debugger of a script's machine, both ends in this process, over a connection at 127.0.0.1 or over memory",
+        )
         .args(arguments)
 }
 
@@ -480,13 +503,12 @@ fn port<'a>(alloc: Global, help: &'a str) -> Result<Arg<'a>, AllocError> {
         .conflicts_with_all(&["from", "to"])
 }
 
-/// That both ends of a session are joined by memory alone.
+/// That nothing but memory is between both ends of a session.
 fn memory<'a>(alloc: Global) -> Arg<'a> {
     Arg::new(alloc, "memory")
         .long("memory")
-        .help("Bytes go from one end to the other in memory")
+        .help("Bytes go from one end to the other in memory, and no connection is made")
         .action(ArgAction::SetTrue)
-        .required(true)
 }
 
 /// Which threads begin suspended.

@@ -34,6 +34,9 @@ pub use jdwp_machine::{Machine, Query};
 pub use jdwp_script::ScriptFault;
 pub use jdwp_script_machine::ScriptMachine;
 
+// What both ends have in common.
+pub use jdwp_end::SessionEnd;
+
 // The debuggee's end.
 pub use jdwp_debuggee::Settings;
 pub use jdwp_target::{Stepped, Target, TargetFault, TargetOptions, Turn};
@@ -44,14 +47,18 @@ pub use jdwp_debugger::{
     Mirror, Read, Refused, Ticket,
 };
 
+// The commands that a debugger asks, by name, and their answers.
+pub use jdwp_command as commands;
+
 // Both ends in one process.
-pub use jdwp_link::{Link, LinkEvent, Outcome, Stopped};
+pub use jdwp_link::{Link, LinkEvent, Memory, Outcome, Side, Stopped, Way, deliver};
 
 // Captures.
 pub use jdwp_show::{CaptureFault, Shown, Verdict, check, composite_line, reply_line, show};
 
 // Sessions over readers and writers.
 pub use jdwp_attach::attach;
-pub use jdwp_engine::{Ended, Pipe, Streams, serve};
+pub use jdwp_engine::serve;
+pub use jdwp_pipe::{Ended, Pipe, Streams};
 pub use jdwp_plan::{PlanFault, PlanLine, read_plan};
 pub use jdwp_serve::{serve_script, serve_session};

@@ -4,6 +4,10 @@
 #[cfg(test)]
 mod asserts;
 #[cfg(test)]
+mod connection_tests;
+#[cfg(test)]
+mod loss_tests;
+#[cfg(test)]
 mod pair_tests;
 #[cfg(test)]
 mod runs;

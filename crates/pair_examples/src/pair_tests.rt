@@ -1,7 +1,8 @@
 //! Runs of both ends by plans over machine A, line for line.
 use crate::asserts::expect_same;
-use crate::runs::{CASE, Case, Writer, passes, run_text};
-use jdwp_pair::PairEnded;
+use crate::runs::{CASE, Case, READY, Writer, passes, passes_over, run_text};
+use jdwp_link::Memory;
+use jdwp_pair::{Connection, Loopback, PairEnded};
 use std::alloc::Global;
 use std::process::Abort;
 use std::test::Fail;
@@ -30,14 +31,9 @@ request 1 2 2
 
 #[test]
 fn a_breakpoint_is_reached(rt: HostRuntime) -> Result<(), Fail> {
-    passes(&rt, rt.alloc(), &WHOLE)
+    passes(&rt, rt.alloc(), &WHOLE)?;
+    passes_over(&rt, rt.alloc(), &mut Loopback::new(&rt), &WHOLE)
 }
-
-/// The widths of ids are known.
-const READY: &str = "< hello
-< 1 Event.Composite 2 [(90, 0, #1)]
-< 1 reply VirtualMachine.IDSizes 0 8 8 8 8 8
-";
 
 /// Runs that are done.
 static DONE: [Case; 8] = [
@@ -283,6 +279,22 @@ fn an_output_that_fails_ends_a_run(rt: HostRuntime) -> Result<(), Fail> {
     Ok(())
 }
 
+/// Over a connection each of these runs ends and prints as over memory.
+#[test]
+fn a_connection_changes_nothing(rt: HostRuntime) -> Result<(), Fail> {
+    for cases in [
+        DONE.as_slice(),
+        REFUSED.as_slice(),
+        LIMITED.as_slice(),
+        UNWRITTEN.as_slice(),
+    ] {
+        for case in cases {
+            passes_over(&rt, rt.alloc(), &mut Loopback::new(&rt), case)?;
+        }
+    }
+    Ok(())
+}
+
 /// A plan that asks RedefineClasses with so many bytes of data.
 fn long_plan(alloc: Global, count: usize) -> Result<String, Fail> {
     let mut plan = String::new(alloc);
@@ -294,16 +306,17 @@ fn long_plan(alloc: Global, count: usize) -> Result<String, Fail> {
 }
 
 /// A plan with a command of so many bytes of data ends so, and prints this.
-fn is_run_long(
+fn is_run_long<C: Connection>(
     rt: &impl Abort,
     alloc: Global,
+    connection: &mut C,
     count: usize,
     want: PairEnded,
     told: &str,
 ) -> Result<(), Fail> {
     let plan = long_plan(alloc, count)?;
     let writer = Writer::failing(alloc, 0, 0);
-    let (ended, lines) = run_text(alloc, true, &plan, writer, 3)?;
+    let (ended, lines) = run_text(alloc, connection, true, &plan, writer, 3)?;
     expect_same(rt, &ended, &want);
     expect_same(rt, &lines.as_slice(), &told.as_bytes());
     Ok(())
@@ -319,8 +332,13 @@ const NOT_IMPLEMENTED: &str = "< hello
 /// Bytes come by at most 4,096 at once, and all of them in one round.
 #[test]
 fn long_commands_come_in_one_round(rt: HostRuntime) -> Result<(), Fail> {
-    is_run_long(&rt, rt.alloc(), 4_085, PairEnded::Done, NOT_IMPLEMENTED)?;
-    is_run_long(&rt, rt.alloc(), 65_525, PairEnded::Done, NOT_IMPLEMENTED)
+    let (alloc, done) = (rt.alloc(), PairEnded::Done);
+    for count in [4_085, 4_086, 65_525] {
+        is_run_long(&rt, alloc, &mut Memory, count, done, NOT_IMPLEMENTED)?;
+        let mut loopback = Loopback::new(&rt);
+        is_run_long(&rt, alloc, &mut loopback, count, done, NOT_IMPLEMENTED)?;
+    }
+    Ok(())
 }
 
 #[test]
@@ -329,5 +347,5 @@ fn a_command_that_is_too_long_is_refused(rt: HostRuntime) -> Result<(), Fail> {
         line: 1,
         number: 34,
     };
-    is_run_long(&rt, rt.alloc(), 65_526, refused, READY)
+    is_run_long(&rt, rt.alloc(), &mut Memory, 65_526, refused, READY)
 }

@@ -1,8 +1,9 @@
 //! Plans over the machine of a script, and what is to come of them.
 use crate::asserts::expect_same_for;
 use jdwp_debuggee::Settings;
-use jdwp_engine::Streams;
-use jdwp_pair::{PairEnded, pair_script};
+use jdwp_link::Memory;
+use jdwp_pair::{Connection, PairEnded, pair_script};
+use jdwp_pipe::Streams;
 use jdwp_plan::{PlanLine, read_plan};
 use jdwp_wire::Limits;
 use std::alloc::Global;
@@ -23,6 +24,12 @@ pub(crate) const MACHINE_A: &str = "{\"name\":\"A\",\"sizes\":[8,8,8,8,8],
  [\"call\",30,10,20,0,[]],[\"go\",3],[\"go\",4],[\"go\",3],[\"go\",4],
  [\"go\",3],[\"return\",[\"V\",0]]]},
  {\"id\":2,\"name\":\"work\",\"group\":5,\"steps\":[]}]}";
+
+/// What is printed until the widths of ids are known.
+pub(crate) const READY: &str = "< hello
+< 1 Event.Composite 2 [(90, 0, #1)]
+< 1 reply VirtualMachine.IDSizes 0 8 8 8 8 8
+";
 
 /// What is done, and what comes of it.
 #[derive(Clone, Copy)]
@@ -90,9 +97,11 @@ impl Write for Writer {
     }
 }
 
-/// How a run over machine A ends, and what it prints.
-fn run(
+/// How a run over the machine of this script ends, and what it prints.
+pub(crate) fn run_script<C: Connection>(
     alloc: Global,
+    connection: &mut C,
+    script: &str,
     start_all: bool,
     plan: &[PlanLine],
     writer: Writer,
@@ -100,27 +109,41 @@ fn run(
 ) -> Result<(PairEnded, Vec<u8>), Fail> {
     let settings = Settings::new(start_all, 65_535, Limits::standard()).ok_or("a count limit")?;
     let mut out: Streams<Empty, Writer> = Streams::new(io::empty(), writer);
-    let ended = pair_script(alloc, MACHINE_A, settings, plan, &mut out, rounds)?;
+    let ended = pair_script(alloc, script, settings, connection, plan, &mut out, rounds)?;
     let (_, writer) = out.into_parts();
     Ok((ended, writer.bytes))
 }
 
-/// The same of a plan that a text is.
-pub(crate) fn run_text(
+/// The same over machine A, by a plan that a text is.
+pub(crate) fn run_text<C: Connection>(
     alloc: Global,
+    connection: &mut C,
     start_all: bool,
     plan: &str,
     writer: Writer,
     rounds: u32,
 ) -> Result<(PairEnded, Vec<u8>), Fail> {
     let plan = read_plan(alloc, plan)?;
-    run(alloc, start_all, &plan, writer, rounds)
+    run_script(
+        alloc, connection, MACHINE_A, start_all, &plan, writer, rounds,
+    )
 }
 
-/// A case comes to what it says.
+/// A case comes to what it says over memory.
 pub(crate) fn passes(rt: &impl Abort, alloc: Global, case: &Case) -> Result<(), Fail> {
+    passes_over(rt, alloc, &mut Memory, case)
+}
+
+/// A case comes to what it says over this connection.
+pub(crate) fn passes_over<C: Connection>(
+    rt: &impl Abort,
+    alloc: Global,
+    connection: &mut C,
+    case: &Case,
+) -> Result<(), Fail> {
     let writer = Writer::failing(alloc, case.write_fails, case.flush_fails);
-    let (ended, lines) = run_text(alloc, case.start_all, case.plan, writer, case.rounds)?;
+    let (start_all, plan) = (case.start_all, case.plan);
+    let (ended, lines) = run_text(alloc, connection, start_all, plan, writer, case.rounds)?;
     expect_same_for(rt, &ended, &case.ended, &case.plan);
     expect_same_for(rt, &lines.as_slice(), &case.lines.as_bytes(), &case.plan);
     Ok(())

@@ -4,7 +4,7 @@ use crate::peers::{reads, says, told};
 use crate::sessions::{ANSWERS, SESSION};
 use jdwp_attach::Attached;
 use jdwp_debugger::Debugger;
-use jdwp_engine::{Ended, Streams};
+use jdwp_pipe::{Ended, Streams};
 use jdwp_plan::read_plan;
 use jdwp_port::{attach_stream, bind, connect};
 use std::alloc::Global;

@@ -2,7 +2,7 @@
 use crate::asserts::expect_same;
 use crate::peers::{caller, reads, told};
 use crate::sessions::{ANSWERS, NO_HANDSHAKE, SESSION, Target, serves_all, serves_one, target};
-use jdwp_engine::Ended;
+use jdwp_pipe::Ended;
 use jdwp_port::{PortListener, bind};
 use std::alloc::Global;
 use std::io::{Read, Write};

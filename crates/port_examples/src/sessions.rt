@@ -1,6 +1,6 @@
 //! A session of four commands, and the target that answers them.
 use jdwp_debuggee::Settings;
-use jdwp_engine::Ended;
+use jdwp_pipe::Ended;
 use jdwp_port::{PortFault, PortListener, serve_next, serve_sessions};
 use jdwp_script_machine::ScriptMachine;
 use jdwp_wire::Limits;

@@ -1,9 +1,9 @@
 //! Sessions of a debugger by a plan, byte for byte and line for line.
 use crate::asserts::{expect_same, expect_same_for};
 use jdwp_attach::Attached;
-use jdwp_engine::{Ended, Streams};
-use jdwp_plan::{LineFault, PlanFault};
-use jdwp_program::{Fault, Outcome, attach_plan, report_fault, report_outcome};
+use jdwp_pipe::{Ended, Streams};
+use jdwp_plan::{LineFault, PlanFault, read_plan};
+use jdwp_program::{Fault, Outcome, attach_plan, attach_session, report_fault, report_outcome};
 use std::alloc::Global;
 use std::io;
 use std::io::Cursor;
@@ -237,7 +237,7 @@ fn composites_too_many_are_refused(rt: HostRuntime) -> Result<(), Fail> {
 #[test]
 fn a_command_that_no_target_has_is_told(rt: HostRuntime) {
     let told =
-        "jdwp: fault 36: a command of the plan that no target has, or data that do not read in its layout\n";
+        "jdwp: fault 36: a command that no target has, or data that do not read in its layout\n";
     is_told(&rt, rt.alloc(), 36, told);
 }
 
@@ -287,26 +287,98 @@ fn raw_data_longer_than_a_read(rt: HostRuntime) -> Result<(), Fail> {
     Ok(())
 }
 
-const BAD_WORD: PlanFault = PlanFault::Line(2, LineFault::FirstWord);
+/// Plans with a fault, the line and what is wrong with it, and what is told of the plan of the file p.
+static NO_PLANS: [(&str, usize, LineFault, &str); 4] = [
+    (
+        "ask 1 8\nanswer\n",
+        2,
+        LineFault::FirstWord,
+        "jdwp: p: line 2 of the plan: a first word that is not `ask`, `answers`, `events`, `mirror`, `lose` or `attach`\n",
+    ),
+    (
+        "lose target\nask 1 8",
+        1,
+        LineFault::PairAlone,
+        "jdwp: p: line 1 of the plan: a line of `pair` alone\n",
+    ),
+    (
+        "ask 1 8\nlose debugger",
+        2,
+        LineFault::PairAlone,
+        "jdwp: p: line 2 of the plan: a line of `pair` alone\n",
+    ),
+    (
+        "ask 1 8\nanswers\nattach\nanswer\n",
+        3,
+        LineFault::PairAlone,
+        "jdwp: p: line 3 of the plan: a line of `pair` alone\n",
+    ),
+];
 
-/// The plan was refused, and nothing was sent or printed.
-fn has_not_begun(rt: &impl Abort, ran: &Ran) {
-    expect_same(rt, &ran.result, &Err(BAD_WORD));
+/// The plan is refused for this line, and nothing was sent or printed.
+fn begins_no_session(rt: &impl Abort, alloc: Global, plan: &str, line: usize, fault: LineFault) {
+    let ran = run(alloc, plan, &FROM, 1000);
+    expect_same_for(rt, &ran.result, &Err(PlanFault::Line(line, fault)), &plan);
     assert!(rt; ran.to.is_empty() && ran.lines.is_empty());
 }
 
 #[test]
 fn plans_with_a_fault_begin_no_session(rt: HostRuntime) {
-    let ran = run(rt.alloc(), "ask 1 8\nanswer\n", &FROM, 1000);
-    has_not_begun(&rt, &ran);
+    for &(plan, line, fault, _) in NO_PLANS.iter() {
+        begins_no_session(&rt, rt.alloc(), plan, line, fault);
+    }
+}
+
+/// The fault of the plan of the file p is told by the status 1 and this text.
+fn is_told_of_plan(rt: &impl Abort, alloc: Global, plan: &str, fault: PlanFault, told: &str) {
+    let mut err = Cursor::new(Vec::new(alloc));
+    let fault = Fault::of_plan("p", plan, fault);
+    expect_same_for(rt, &report_fault(&fault, &mut err), &1, &plan);
+    expect_same_for(rt, &err.into_inner().as_slice(), &told.as_bytes(), &plan);
 }
 
 #[test]
 fn faults_of_plans_are_told(rt: HostRuntime) {
-    let mut err = Cursor::new(Vec::new(rt.alloc()));
-    let fault = Fault::of_plan("p", "ask 1 8\nanswer\n", BAD_WORD);
-    expect_same(&rt, &report_fault(&fault, &mut err), &1);
-    let told =
-        "jdwp: p: line 2 of the plan: a first word that is not `ask`, `answers`, `events` or `mirror`\n";
-    expect_same(&rt, &err.into_inner().as_slice(), &told.as_bytes());
+    for &(plan, line, fault, told) in NO_PLANS.iter() {
+        is_told_of_plan(&rt, rt.alloc(), plan, PlanFault::Line(line, fault), told);
+    }
+}
+
+/// What came of the lines of a plan of `pair`.
+fn run_lines(alloc: Global, plan: &str, from: &[u8]) -> Result<Ran, Fail> {
+    let plan = read_plan(alloc, plan)?;
+    let mut pipe = Streams::new(from, Cursor::new(Vec::new(alloc)));
+    let mut out = Streams::new(io::empty(), Cursor::new(Vec::new(alloc)));
+    let how = attach_session(alloc, plan.as_slice(), &mut pipe, &mut out, 1000)?;
+    let (_, to) = pipe.into_parts();
+    let (_, lines) = out.into_parts();
+    Ok(Ran {
+        result: Ok(how),
+        to: to.into_inner(),
+        lines: lines.into_inner(),
+    })
+}
+
+/// A plan with a line of `pair` alone, this line, and how many bytes are sent and printed before it.
+static OF_PAIR: [(&str, usize, usize, usize); 4] = [
+    ("lose target", 1, 25, 89),
+    ("ask 1 8\nlose debugger\nask 1 6", 2, 36, 89),
+    ("ask 1 8\nanswers\nattach\nlose target", 3, 36, 124),
+    ("ask 1 8\nask 11 12 0000000000000001\nattach", 3, 55, 89),
+];
+
+/// The engine refuses such a line by 0, and what the lines before it ask was sent.
+#[test]
+fn lines_of_pair_are_refused(rt: HostRuntime) -> Result<(), Fail> {
+    for &(plan, line, sent, printed) in OF_PAIR.iter() {
+        let how = Attached::RefusedLine { line, number: 0 };
+        has_run(
+            &rt,
+            &run_lines(rt.alloc(), plan, &FROM)?,
+            how,
+            sent,
+            printed,
+        );
+    }
+    Ok(())
 }

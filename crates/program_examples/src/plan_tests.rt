@@ -1,6 +1,6 @@
 //! Plans as texts.
 use crate::asserts::{expect_same, expect_same_for};
-use jdwp_plan::{LineFault, PlanFault, PlanLine, read_plan};
+use jdwp_plan::{LineFault, PlanFault, PlanLine, read_attach_plan, read_plan};
 use std::alloc::Global;
 use std::process::Abort;
 use std::test::Fail;
@@ -12,6 +12,9 @@ enum Form {
     Answers,
     Events(u32),
     Mirror,
+    LoseTarget,
+    LoseDebugger,
+    Attach,
 }
 
 fn is_of_form(line: &PlanLine, form: &Form) -> bool {
@@ -21,18 +24,24 @@ fn is_of_form(line: &PlanLine, form: &Form) -> bool {
         }
         (PlanLine::Answers, Form::Answers) => true,
         (PlanLine::Events(count), Form::Events(of_count)) => count == of_count,
-        (PlanLine::Mirror, Form::Mirror) => true,
+        (PlanLine::Mirror, Form::Mirror)
+        | (PlanLine::LoseTarget, Form::LoseTarget)
+        | (PlanLine::LoseDebugger, Form::LoseDebugger)
+        | (PlanLine::Attach, Form::Attach) => true,
         _ => false,
     }
 }
 
-fn says(alloc: Global, text: &str, forms: &[Form]) -> Result<bool, Fail> {
-    let plan = read_plan(alloc, text)?;
+fn has_forms(plan: &[PlanLine], forms: &[Form]) -> bool {
     let same = plan
         .iter()
         .zip(forms)
         .all(|(line, form)| is_of_form(line, form));
-    Ok(same && plan.len() == forms.len())
+    same && plan.len() == forms.len()
+}
+
+fn says(alloc: Global, text: &str, forms: &[Form]) -> Result<bool, Fail> {
+    Ok(has_forms(&read_plan(alloc, text)?, forms))
 }
 
 fn fault(alloc: Global, text: &str) -> Option<PlanFault> {
@@ -40,7 +49,7 @@ fn fault(alloc: Global, text: &str) -> Option<PlanFault> {
 }
 
 /// Plans, and what their lines say.
-static PLANS: [(&str, &[Form]); 7] = [
+static PLANS: [(&str, &[Form]); 9] = [
     ("", &[]),
     ("mirror", &[Form::Mirror]),
     (
@@ -62,6 +71,16 @@ static PLANS: [(&str, &[Form]); 7] = [
             Form::Answers,
         ],
     ),
+    ("lose target", &[Form::LoseTarget]),
+    (
+        "lose target\nlose debugger\nattach\nmirror\n",
+        &[
+            Form::LoseTarget,
+            Form::LoseDebugger,
+            Form::Attach,
+            Form::Mirror,
+        ],
+    ),
 ];
 
 #[test]
@@ -73,7 +92,7 @@ fn plans_are_read(rt: HostRuntime) -> Result<(), Fail> {
 }
 
 /// Plans with a fault: in which line, and which.
-static FAULTS: [(&str, usize, LineFault); 31] = [
+static FAULTS: [(&str, usize, LineFault); 43] = [
     ("\n", 1, LineFault::Blank),
     ("mirror\n\nmirror", 2, LineFault::Blank),
     (" ", 1, LineFault::Spacing),
@@ -105,6 +124,18 @@ static FAULTS: [(&str, usize, LineFault); 31] = [
     ("events 4294967296", 1, LineFault::Count),
     ("events +1", 1, LineFault::Count),
     ("answers\nmirror\nevents one\nask", 3, LineFault::Count),
+    ("lose", 1, LineFault::WordCount),
+    ("lose ", 1, LineFault::Spacing),
+    ("lose  target", 1, LineFault::Spacing),
+    ("lose link", 1, LineFault::End),
+    ("lose Target", 1, LineFault::End),
+    ("lose targets", 1, LineFault::End),
+    ("attach\nlose debuggee\nlose", 2, LineFault::End),
+    ("lose target now", 1, LineFault::WordCount),
+    ("lose link now", 1, LineFault::WordCount),
+    ("lost target", 1, LineFault::FirstWord),
+    ("attach 1", 1, LineFault::WordCount),
+    ("attached", 1, LineFault::FirstWord),
 ];
 
 #[test]
@@ -113,6 +144,47 @@ fn faults_in_their_lines(rt: HostRuntime) {
         let wanted = Some(PlanFault::Line(line, wanted));
         expect_same_for(&rt, &fault(rt.alloc(), text), &wanted, &text);
     }
+}
+
+/// Plans of `attach` with a fault: in which line, and which. A line of `pair` alone is one, where no line before it has another.
+static FAULTS_FOR_ATTACH: [(&str, usize, LineFault); 9] = [
+    ("lose target", 1, LineFault::PairAlone),
+    ("answers\nlose debugger", 2, LineFault::PairAlone),
+    (
+        "ask 1 8\nanswers\nattach\nmirror\n",
+        3,
+        LineFault::PairAlone,
+    ),
+    ("mirror\nattach\nlose target", 2, LineFault::PairAlone),
+    ("attach\n\nmirror", 1, LineFault::PairAlone),
+    ("mirror\n\nattach", 2, LineFault::Blank),
+    ("lose link\nattach", 1, LineFault::End),
+    ("attach 1", 1, LineFault::WordCount),
+    ("ask 1 8\nanswer", 2, LineFault::FirstWord),
+];
+
+#[test]
+fn faults_in_plans_of_attach(rt: HostRuntime) {
+    for &(text, line, wanted) in FAULTS_FOR_ATTACH.iter() {
+        let wanted = Some(PlanFault::Line(line, wanted));
+        let found = read_attach_plan(rt.alloc(), text).err();
+        expect_same_for(&rt, &found, &wanted, &text);
+    }
+}
+
+/// Each line that `attach` carries out, in one plan.
+#[test]
+fn plans_of_attach_are_read(rt: HostRuntime) -> Result<(), Fail> {
+    let plan = read_attach_plan(rt.alloc(), "ask 0 255 aBc0\nanswers\nevents 2\nmirror\n")?;
+    let forms = [
+        Form::Ask(0, 255, &[0xab, 0xc0]),
+        Form::Answers,
+        Form::Events(2),
+        Form::Mirror,
+    ];
+    assert!(rt; has_forms(&plan, &forms));
+    expect_same(&rt, &read_attach_plan(rt.alloc(), "")?.len(), &0);
+    Ok(())
 }
 
 /// The fault in words.

@@ -1,7 +1,8 @@
 //! What is told, on writers in memory.
 use crate::asserts::{expect_same, expect_same_for};
-use jdwp_engine::Ended;
+use jdwp_pipe::Ended;
 use jdwp_plan::{LineFault, PlanFault};
+use jdwp_port::{PortCause, PortFault};
 use jdwp_program::{
     Fault, FileCause, Loss, Outcome, Side, TellFault, Told, Watched, check_capture, decimal,
     is_all, report_fault, report_outcome, show_capture, text_of,
@@ -292,7 +293,7 @@ fn faults_of_the_program_are_told(rt: HostRuntime) {
 }
 
 /// How a run ends, its status, and what is told.
-static ENDS: [(Outcome<'static>, u8, &str); 26] = [
+static ENDS: [(Outcome<'static>, u8, &str); 27] = [
     (Outcome::Session(Ended::Done), 0, ""),
     (
         Outcome::Session(Ended::Refused(0)),
@@ -327,7 +328,7 @@ static ENDS: [(Outcome<'static>, u8, &str); 26] = [
     (
         Outcome::Session(Ended::Refused(32)),
         1,
-        "jdwp: fault 32: 64 commands wait for their answers, and no more may\n",
+        "jdwp: fault 32: too much waits: 64 commands at most\n",
     ),
     (
         Outcome::Session(Ended::Refused(33)),
@@ -342,7 +343,7 @@ static ENDS: [(Outcome<'static>, u8, &str); 26] = [
     (
         Outcome::Session(Ended::Refused(36)),
         1,
-        "jdwp: fault 36: a command of the plan that no target has, or data that do not read in its layout\n",
+        "jdwp: fault 36: a command that no target has, or data that do not read in its layout\n",
     ),
     (
         Outcome::Session(Ended::Refused(42)),
@@ -385,16 +386,21 @@ static ENDS: [(Outcome<'static>, u8, &str); 26] = [
         2,
         "jdwp: F: the file ended before the session did\n",
     ),
+    (
+        Outcome::Lost(Loss::Port(40_000, PortCause::Refused)),
+        2,
+        "jdwp: port 40000: connection refused\n",
+    ),
     (Outcome::Lost(Loss::ReaderGone), 2, ""),
     (
         Outcome::RefusedLine(3, 36),
         1,
-        "jdwp: line 3 of the plan: fault 36: a command of the plan that no target has, or data that do not read in its layout\n",
+        "jdwp: line 3 of the plan: fault 36: a command that no target has, or data that do not read in its layout\n",
     ),
     (
         Outcome::RefusedLine(65, 32),
         1,
-        "jdwp: line 65 of the plan: fault 32: 64 commands wait for their answers, and no more may\n",
+        "jdwp: line 65 of the plan: fault 32: too much waits: 64 commands at most\n",
     ),
     (Outcome::Capture(Told::Faultless), 0, ""),
     (Outcome::Capture(Told::Faulty), 1, ""),
@@ -405,6 +411,28 @@ fn has_ended(rt: &impl Abort, alloc: Global, outcome: Outcome<'_>, status: u8, t
     let mut err = whole(alloc);
     expect_same_for(rt, &report_outcome(outcome, &mut err), &status, &text);
     expect_same_for(rt, &err.bytes.as_slice(), &text.as_bytes(), &text);
+}
+
+/// A connection that failed is told with its port, and want of memory alone.
+#[test]
+fn ports_of_lost_sessions_are_told(rt: HostRuntime) {
+    let rows = [
+        (
+            ErrorKind::ConnectionReset,
+            2,
+            "jdwp: port 40000: connection reset\n",
+        ),
+        (
+            ErrorKind::PermissionDenied,
+            2,
+            "jdwp: port 40000: not allowed\n",
+        ),
+        (ErrorKind::OutOfMemory, 3, "jdwp: no memory\n"),
+    ];
+    for (kind, status, text) in rows {
+        let fault = PortFault::of_port(40_000, io::Error::from(kind));
+        has_ended(&rt, rt.alloc(), Outcome::lost_port(fault), status, text);
+    }
 }
 
 #[test]

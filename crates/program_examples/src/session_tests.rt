@@ -4,7 +4,7 @@ ghost use Rattle.std.specs.Prelude.{◌≤◌, IfOk, IfSome, ◌≡◌};
 use crate::asserts::expect_same;
 use jdwp_attach::attach;
 use jdwp_debugger::Debugger;
-use jdwp_engine::{Ended, Streams};
+use jdwp_pipe::{Ended, Streams};
 use jdwp_plan::PlanLine;
 use std::alloc::Global;
 use std::io;
@@ -32,6 +32,9 @@ enum Line {
     Answers,
     Events(u32),
     Mirror,
+    LoseTarget,
+    LoseDebugger,
+    Attach,
 }
 
 /// What is done, and what comes of it.
@@ -176,6 +179,9 @@ fn plan_line(alloc: Global, line: &Line) -> Result<PlanLine, Fail> {
         Line::Answers => Ok(PlanLine::Answers),
         Line::Events(count) => Ok(PlanLine::Events(count)),
         Line::Mirror => Ok(PlanLine::Mirror),
+        Line::LoseTarget => Ok(PlanLine::LoseTarget),
+        Line::LoseDebugger => Ok(PlanLine::LoseDebugger),
+        Line::Attach => Ok(PlanLine::Attach),
     }
 }
 
@@ -693,6 +699,66 @@ fn losses_and_the_limit_end_the_run(rt: HostRuntime) -> Result<(), Fail> {
     let alloc = rt.alloc();
     for case in LOST.iter() {
         assert!(rt; passes(alloc, case, 4096)?);
+    }
+    Ok(())
+}
+
+/// A run that is refused at a line of `pair` alone: what the lines before it asked is written, and no more.
+static OF_PAIR: [Case; 5] = [
+    Case {
+        from: &READY,
+        plan: &[Line::LoseTarget],
+        ended: Ended::Refused(0),
+        to: &[HANDSHAKE, ASKS_SIZES],
+        lines: READY_LINES,
+        ..CASE
+    },
+    Case {
+        from: &READY,
+        plan: &[Line::Ask(1, 8, ""), Line::LoseDebugger, Line::Ask(1, 9, "")],
+        ended: Ended::Refused(0),
+        to: &[HANDSHAKE, ASKS_SIZES, "0000000b 00000002 00 01 08"],
+        lines: READY_LINES,
+        ..CASE
+    },
+    Case {
+        from: &[HANDSHAKE, EIGHT, "0000000b 00000002 80 0000"],
+        plan: &[Line::Ask(1, 8, ""), Line::Answers, Line::Attach],
+        ended: Ended::Refused(0),
+        to: &[HANDSHAKE, ASKS_SIZES, "0000000b 00000002 00 01 08"],
+        lines: "< hello
+< 1 reply VirtualMachine.IDSizes 0 8 8 8 8 8
+< 2 reply VirtualMachine.Suspend 0
+",
+        ..CASE
+    },
+    // The last flush fails behind it: the run stays refused.
+    Case {
+        from: &READY,
+        plan: &[Line::Attach],
+        print_flush_fails: 1,
+        ended: Ended::Refused(0),
+        to: &[HANDSHAKE, ASKS_SIZES],
+        lines: READY_LINES,
+        ..CASE
+    },
+    // The session ends before the line is reached.
+    Case {
+        from: &[HANDSHAKE, EIGHT, VM_DEATH],
+        plan: &[Line::Events(1), Line::LoseTarget],
+        to: &[HANDSHAKE, ASKS_SIZES],
+        lines: "< hello
+< 1 reply VirtualMachine.IDSizes 0 8 8 8 8 8
+< 2 Event.Composite 0 [(99, 0)]
+",
+        ..CASE
+    },
+];
+
+#[test]
+fn lines_of_pair_end_the_run(rt: HostRuntime) -> Result<(), Fail> {
+    for case in OF_PAIR.iter() {
+        assert!(rt; passes(rt.alloc(), case, 4096)?);
     }
     Ok(())
 }

@@ -7,7 +7,7 @@ use std::process::Abort;
 use std::test::Fail;
 
 /// What is wrong with a line, in words.
-static LINES: [(LineFault, &str); 9] = [
+static LINES: [(LineFault, &str); 11] = [
     (LineFault::Blank, "an empty line"),
     (
         LineFault::Spacing,
@@ -15,11 +15,11 @@ static LINES: [(LineFault, &str); 9] = [
     ),
     (
         LineFault::FirstWord,
-        "a first word that is not `ask`, `answers`, `events` or `mirror`",
+        "a first word that is not `ask`, `answers`, `events`, `mirror`, `lose` or `attach`",
     ),
     (
         LineFault::WordCount,
-        "no line `ask SET NUMBER`, `ask SET NUMBER HEX`, `answers`, `events N` or `mirror`",
+        "no line `ask SET NUMBER`, `ask SET NUMBER HEX`, `answers`, `events N`, `mirror`, `lose target`, `lose debugger` or `attach`",
     ),
     (
         LineFault::Set,
@@ -35,6 +35,8 @@ static LINES: [(LineFault, &str); 9] = [
         LineFault::Count,
         "a number of events that is not a number below 4294967296",
     ),
+    (LineFault::End, "an end that is not `target` or `debugger`"),
+    (LineFault::PairAlone, "a line of `pair` alone"),
 ];
 
 /// A fault of a line of a plan, in words behind the line's number.
@@ -62,13 +64,19 @@ fn faults_of_lines_in_words(rt: HostRuntime) -> Result<(), Fail> {
 static REFUSALS: [(Refused, &str); 6] = [
     (
         Refused::NotReady,
-        "fault 31: the widths of ids are not known",
+        "fault 31: the widths of ids are not known yet",
     ),
     (Refused::Busy, "fault 32: too much waits"),
-    (Refused::Closed, "fault 33: the debugger is closed"),
-    (Refused::TooLong, "fault 34: the command is too long"),
+    (Refused::Closed, "fault 33: the session is closed"),
+    (
+        Refused::TooLong,
+        "fault 34: a command longer than a packet may be",
+    ),
     (Refused::NoMemory, "fault 35: no memory"),
-    (Refused::BadCommand, "fault 36: a bad command"),
+    (
+        Refused::BadCommand,
+        "fault 36: a command that no target has, or data that do not read in its layout",
+    ),
 ];
 
 #[test]
@@ -83,14 +91,20 @@ fn refusals_of_commands_in_words(rt: HostRuntime) -> Result<(), Fail> {
 static TURNS: [(DebuggerFault, &str); 5] = [
     (
         DebuggerFault::UnknownReply,
-        "fault 42: a reply to no outstanding command",
+        "fault 42: a reply to no command that waits",
     ),
-    (DebuggerFault::BadReply, "fault 43: a bad reply"),
+    (
+        DebuggerFault::BadReply,
+        "fault 43: a reply whose data do not read, or an error reply with data",
+    ),
     (
         DebuggerFault::TooManyParked,
-        "fault 44: too many events before the widths of ids are known",
+        "fault 44: more composites than may wait for the widths of ids",
     ),
-    (DebuggerFault::BadEvent, "fault 45: a bad event"),
+    (
+        DebuggerFault::BadEvent,
+        "fault 45: events that don't fit the suspend counts known, or another command",
+    ),
     (DebuggerFault::NoMemory, "no memory"),
 ];
 

@@ -19,6 +19,8 @@ mod round_tests;
 #[cfg(test)]
 mod serve_tests;
 #[cfg(test)]
+mod serving;
+#[cfg(test)]
 mod session_tests;
 #[cfg(test)]
 mod sessions;

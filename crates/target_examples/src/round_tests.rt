@@ -2,7 +2,7 @@
 use crate::asserts::expect_same;
 use crate::falling::Falling;
 use jdwp_debuggee::Settings;
-use jdwp_engine::{Ended, Streams};
+use jdwp_pipe::{Ended, Streams};
 use jdwp_serve::{serve_script, serve_session};
 use jdwp_wire::Limits;
 use std::alloc::Global;

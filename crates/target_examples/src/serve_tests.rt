@@ -2,7 +2,7 @@
 use crate::asserts::expect_same;
 use crate::sessions::MACHINE_A;
 use jdwp_debuggee::Settings;
-use jdwp_engine::{Ended, Streams};
+use jdwp_pipe::{Ended, Streams};
 use jdwp_script::ScriptFault;
 use jdwp_serve::serve_script;
 use jdwp_wire::Limits;

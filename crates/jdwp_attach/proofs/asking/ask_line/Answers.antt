@@ -2,7 +2,7 @@ use Rattle.std.proofs.lemmas.Grind.{common_steps}
 use Rattle.std.proofs.lemmas.List.{append-nil}
 use Rattle.std.proofs.Common.{◌∙◌, ◌++◌, ◌∷◌, [], inl, sym, ap, refl, arith}
 use Rattle.jdwp_debugger.specs.Debuggers.{Debugger, lost, with_taken}
-use Rattle.jdwp_engine.specs.declared.ended.Ended.TheVariants as ended
+use Rattle.jdwp_pipe.specs.declared.ended.Ended.TheVariants as ended
 use Rattle.jdwp_attach.proofs.Counting.{asked-keeps, counts-kept}
 use Rattle.jdwp_attach.proofs.Ending.{asked-in-order, line-memory, loses-ends, moved-ends, refused-ends, unread-ends}
 use Rattle.jdwp_attach.proofs.Moves.{asked-moves, asked-open, asked-passes, begins-line, moved-goes, written-none}
@@ -54,7 +54,7 @@ returns-in-Ok-push-clause-goes g c = λ out line asks-it done base k.
     let one = one-asked line c.args.set c.args.number c.args.bytes.now asks-it in
     let stands = stands-asked done line base.debugger old mid c.args.set c.args.number c.args.bytes.now c.in-Some.sizes c.in-Ok.command asks-it
     (sym c.sizes.ensures ∙ c.in-Some.is) c.in-Ok.ensures.ok asked k.stands in
-    moved-goes done (done ++ line ∷ []) base s out old mid c.args.run.now.left c.args.run.now.left 0 1 (g.P.Pipe.story c.write_out.new.pipe) out c.write_out.new.debugger [] (k.told ++ []) k
+    moved-goes done (done ++ line ∷ []) base s out old mid c.args.run.now.left c.args.run.now.left 0 1 (g.P.Pipe.story c.write_out.new.pipe) out c.write_out.new.end [] (k.told ++ []) k
     (asked-moves c.in-Ok.command old mid asked)
     (asked-passes done line base.debugger old mid k.told c.in-Ok.command c.args.set c.args.number c.args.bytes.now asks-it k.ready.0 asked k.asked k.reached) refl stands
     (asked-open c.in-Ok.command old mid asked c.requires.ready.0) (omega (arith, asks-append done line, one)) (omega arith) w.0 w.1 (sym (written-none out))
@@ -69,7 +69,7 @@ returns-in-Err-push-clause-ends g c = λ out line asks-it done rest base k.
     let w = c.if-not-write_out.ensures.all refl in
     let in-order = asked-in-order done rest line base s out old mid c.args.run.now.left c.args.set c.args.number c.args.bytes.now c.in-Some.sizes c.in-Ok.command asks-it
     (sym c.sizes.ensures ∙ c.in-Some.is) c.in-Ok.ensures.ok asked k in
-    moved-ends (done ++ line ∷ rest) done base s out old mid c.args.run.now.left c.args.run.now.left c.args.run.now.left 0 1 (g.P.Pipe.story c.write_out.new.pipe) out c.write_out.new.debugger ended.NoMemory [] k.told
+    moved-ends (done ++ line ∷ rest) done base s out old mid c.args.run.now.left c.args.run.now.left c.args.run.now.left 0 1 (g.P.Pipe.story c.write_out.new.pipe) out c.write_out.new.end ended.NoMemory [] k.told
     (begins-line done rest line) k (asked-moves c.in-Ok.command old mid asked) (reach-asked base.debugger done k.told old mid c.in-Ok.command k.reached k.ready.0 asked) (sym (append-nil k.told)) in-order
     (λ closed. absurd (let e = sym opened ∙ closed in cc)) (record { debugger = w.0; pipe = w.1; out = refl; left = refl })
 

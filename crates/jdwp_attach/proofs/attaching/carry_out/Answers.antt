@@ -1,8 +1,9 @@
 use Rattle.std.proofs.Common.{◌++◌, ◌∷◌, refl, rules}
 use Rattle.jdwp_attach.specs.Runs.{at}
+use Rattle.jdwp_attach.proofs.Ending.{is-of-pair, pair-ends}
 use Rattle.jdwp_attach.proofs.Moves.{begins-line, if-err, line-goes, on-both, on-ok, on-three, silent-goes}
 use Rattle.jdwp_plan.specs.declared.plan_line.PlanLine.TheVariants as line
-use Rattle.jdwp_attach.proofs.RefusedLines.{err-both, turns-tell}
+use Rattle.jdwp_attach.proofs.RefusedLines.{err-both, pair-tells, turns-tell}
 use Rattle.jdwp_attach.proofs.attaching.carry_out.Goals as goal
 
 pub returns-in-Ask-clause-goes : goal.returns-in-Ask-clause-goes
@@ -48,13 +49,23 @@ returns-in-Ask-clause-tells g c =
 pub returns-in-Answers-clause-tells : goal.returns-in-Answers-clause-tells
 returns-in-Answers-clause-tells g c =
     err-both c.until_answered.result (λ ended by f.
-    turns-tell c.args.line.now _ (at (g.P.Pipe.story c.until_answered.new.pipe) (g.W.Pipe.story c.until_answered.new.out) c.until_answered.new.debugger c.until_answered.new.run.left) ended (rw c.in-Answers.is refl) by (λ done rest base k. f (done ++ c.args.line.now ∷ rest) done base (begins-line done rest c.args.line.now) k)) c.until_answered.ensures.by_turn c.until_answered.ensures.ends
+    turns-tell c.args.line.now _ (at (g.P.Pipe.story c.until_answered.new.pipe) (g.W.Pipe.story c.until_answered.new.out) c.until_answered.new.debugger c.until_answered.new.run.left) ended (λ place. rw c.in-Answers.is refl) by (λ done rest base k. f (done ++ c.args.line.now ∷ rest) done base (begins-line done rest c.args.line.now) k)) c.until_answered.ensures.by_turn c.until_answered.ensures.ends
 
 pub returns-in-Events-clause-tells : goal.returns-in-Events-clause-tells
 returns-in-Events-clause-tells g c =
     err-both c.until_events.result (λ ended by f.
-    turns-tell c.args.line.now _ (at (g.P.Pipe.story c.until_events.new.pipe) (g.W.Pipe.story c.until_events.new.out) c.until_events.new.debugger c.until_events.new.run.left) ended (rw c.in-Events.is refl) by (λ done rest base k. f (done ++ c.args.line.now ∷ rest) done base (begins-line done rest c.args.line.now) k)) c.until_events.ensures.by_turn c.until_events.ensures.ends
+    turns-tell c.args.line.now _ (at (g.P.Pipe.story c.until_events.new.pipe) (g.W.Pipe.story c.until_events.new.out) c.until_events.new.debugger c.until_events.new.run.left) ended (λ place. rw c.in-Events.is refl) by (λ done rest base k. f (done ++ c.args.line.now ∷ rest) done base (begins-line done rest c.args.line.now) k)) c.until_events.ensures.by_turn c.until_events.ensures.ends
 
 pub returns-in-Mirror-clause-tells : goal.returns-in-Mirror-clause-tells
 returns-in-Mirror-clause-tells g c =
-    rw c.in-Mirror.is (err-both c.tell_mirror.result (λ ended by f. turns-tell line.Mirror _ (at (g.P.Pipe.story c.args.pipe.now) (g.W.Pipe.story c.tell_mirror.new.out) c.tell_mirror.new.debugger c.args.run.now.left) ended refl by (f (g.P.Pipe.story c.args.pipe.now) c.args.run.now.left)) c.tell_mirror.ensures.by_turn c.tell_mirror.ensures.ends)
+    rw c.in-Mirror.is (err-both c.tell_mirror.result (λ ended by f. turns-tell line.Mirror _ (at (g.P.Pipe.story c.args.pipe.now) (g.W.Pipe.story c.tell_mirror.new.out) c.tell_mirror.new.debugger c.args.run.now.left) ended (λ place. refl) by (f (g.P.Pipe.story c.args.pipe.now) c.args.run.now.left)) c.tell_mirror.ensures.by_turn c.tell_mirror.ensures.ends)
+
+pub returns-in-LoseTarget-clause-ends : goal.returns-in-LoseTarget-clause-ends
+returns-in-LoseTarget-clause-ends g c =
+    pair-ends c.args.line.now (g.P.Pipe.story c.args.pipe.now) (g.W.Pipe.story c.args.out.now) c.args.debugger.now c.lose.new.self c.args.run.now.left c.args.run.now.left
+    (is-of-pair c.args.line.now c.in-LoseTarget.is) c.requires.known c.lose.ensures.lost
+
+pub returns-in-LoseTarget-clause-tells : goal.returns-in-LoseTarget-clause-tells
+returns-in-LoseTarget-clause-tells g c =
+    pair-tells c.args.line.now (g.P.Pipe.story c.args.pipe.now) (g.W.Pipe.story c.args.out.now) c.args.debugger.now c.lose.new.self c.args.run.now.left
+    (is-of-pair c.args.line.now c.in-LoseTarget.is) c.requires.known c.lose.ensures.lost

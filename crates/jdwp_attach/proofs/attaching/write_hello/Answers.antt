@@ -14,7 +14,7 @@ returns-then-not-write_out-clause-ends g c = λ plan out left.
 pub returns-clause-goes : goal.returns-clause-goes
 returns-clause-goes g c = λ out left.
     let w = c.if-not-write_out.ensures.all refl in
-    hello-goes (g.P.Pipe.story c.args.pipe.now) out c.args.debugger.now c.write_out.new.debugger left (g.P.Pipe.story c.write_out.new.pipe) c.requires w.0 w.1
+    hello-goes (g.P.Pipe.story c.args.pipe.now) out c.args.debugger.now c.write_out.new.end left (g.P.Pipe.story c.write_out.new.pipe) c.requires w.0 w.1
 
 pub returns-clause-counts : goal.returns-clause-counts
 returns-clause-counts g c =

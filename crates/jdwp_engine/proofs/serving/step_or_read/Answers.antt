@@ -21,14 +21,14 @@ returns-in-Ok-true-clause-ends g c =
 pub returns-in-Ok-false-clause-goes : goal.returns-in-Ok-false-clause-goes
 returns-in-Ok-false-clause-goes g c = λ e.
     let same = rw c.in-Ok-false.field-0-test at c.in-Ok-false.ensures.stepped in
-    read-goes (g.P.Pipe.story c.args.pipe.now) (g.P.Pipe.story c.read_and_feed.new.pipe) c.args.target.now c.step_each.new.target c.read_and_feed.new.target
-    same (c.read_and_feed.ensures.goes e)
+    read-goes (g.P.Pipe.story c.args.pipe.now) (g.P.Pipe.story c.read_and_go.new.pipe) c.args.target.now c.step_each.new.target c.read_and_go.new.target
+    same (c.read_and_go.ensures.goes e)
 
 pub returns-in-Ok-false-clause-ends : goal.returns-in-Ok-false-clause-ends
 returns-in-Ok-false-clause-ends g c =
     let same = rw c.in-Ok-false.field-0-test at c.in-Ok-false.ensures.stepped in
-    read-next-ends g.M.Machine.meaning (g.P.Pipe.story c.args.pipe.now) (g.P.Pipe.story c.read_and_feed.new.pipe) c.args.target.now c.step_each.new.target c.read_and_feed.new.target
-    c.read_and_feed.result c.session.ensures.ran c.requires.is_open c.requires.flows c.requires.asks same c.read_and_feed.ensures.ends
+    read-next-ends g.M.Machine.meaning (g.P.Pipe.story c.args.pipe.now) (g.P.Pipe.story c.read_and_go.new.pipe) c.args.target.now c.step_each.new.target c.read_and_go.new.target
+    c.read_and_go.result c.session.ensures.ran c.requires.is_open c.requires.flows c.requires.asks same c.read_and_go.ensures.ends
 
 pub returns-in-Goes-clause-ends : goal.returns-in-Goes-clause-ends
 returns-in-Goes-clause-ends g c =
@@ -64,14 +64,14 @@ returns-in-Ok-false-clause-round g c = λ e before left.
     let came = rw c.in-Ok-false.is at c.step_each.ensures.each in
     let each = rw c.in-Ok-false.field-0-test at came in
     Reads c.step_each.new.target (g.P.Pipe.story c.args.pipe.now)
-    (moved g.M.Machine.meaning c.args.target.now c.step_each.new.target before (g.P.Pipe.story c.args.pipe.now) (Ok false) c.requires.asks each left) (c.read_and_feed.ensures.goes e)
+    (moved g.M.Machine.meaning c.args.target.now c.step_each.new.target before (g.P.Pipe.story c.args.pipe.now) (Ok false) c.requires.asks each left) (c.read_and_go.ensures.goes e)
 
 pub returns-in-Ok-false-clause-last : goal.returns-in-Ok-false-clause-last
 returns-in-Ok-false-clause-last g c =
     let came = rw c.in-Ok-false.is at c.step_each.ensures.each in
     let each = rw c.in-Ok-false.field-0-test at came in
-    reads-last g.M.Machine.meaning c.args.target.now c.step_each.new.target c.read_and_feed.new.target (g.P.Pipe.story c.args.pipe.now) (g.P.Pipe.story c.read_and_feed.new.pipe)
-    c.read_and_feed.result c.requires.asks each c.read_and_feed.ensures.ends
+    reads-last g.M.Machine.meaning c.args.target.now c.step_each.new.target c.read_and_go.new.target (g.P.Pipe.story c.args.pipe.now) (g.P.Pipe.story c.read_and_go.new.pipe)
+    c.read_and_go.result c.requires.asks each c.read_and_go.ensures.ends
 
 pub returns-in-Goes-clause-last : goal.returns-in-Goes-clause-last
 returns-in-Goes-clause-last g c = λ before left.

@@ -1,7 +1,7 @@
 use Rattle.std.proofs.Common.{◌≡◌, ◌≤◌, ◌∙◌, ap, arith, length, take}
 use Rattle.std.proofs.lemmas.List.{length-take-le}
 use Rattle.jdwp_debugger.specs.Debuggers as debuggers
-use Rattle.jdwp_exchange.specs.Exchange.{moved}
+use Rattle.jdwp_link.specs.Moving.{moved}
 use Rattle.jdwp_target.specs.Targets as targets
 use Rattle.jdwp_link.proofs.Pieces.{all-left, to-debugger-more, to-debugger-start}
 use Rattle.jdwp_link.proofs.moving.pieces_to_debugger.Goals as goal
@@ -14,8 +14,8 @@ loop-left-preserved g c =
     let l = c.loop-left in
     let piece : c.min-piece.result ≤ l.left = omega (arith, c.min-piece.ensures) in
     let size : length (take c.min-piece.result l.buffer) ≡ c.min-piece.result = length-take-le c.min-piece.result l.buffer (omega (arith, c.min-piece.ensures)) in
-    let more = to-debugger-more c.args.count l.left c.min-piece.result c.args.target.now l.target c.to_debugger.new.target c.args.debugger.now l.debugger c.to_debugger.new.debugger piece l.invariant.0 c.requires.waiting c.requires.room l.invariant.1 l.invariant.2
-    (c.to_debugger.ensures.taken ∙ ap (λ n. targets.with_taken (moved n l.target.end l.debugger.end) l.target) size) (c.to_debugger.ensures.fed ∙ ap (λ n. debuggers.with_fed (moved n l.target.end l.debugger.end) l.debugger) size) in
+    let more = to-debugger-more c.args.count l.left c.min-piece.result c.args.target.now l.target c.deliver.new.from c.args.debugger.now l.debugger c.deliver.new.to piece l.invariant.0 c.requires.waiting c.requires.room l.invariant.1 l.invariant.2
+    (c.deliver.ensures.taken ∙ ap (λ n. targets.with_taken (moved n l.target.end l.debugger.end) l.target) size) (c.deliver.ensures.fed ∙ ap (λ n. debuggers.with_fed (moved n l.target.end l.debugger.end) l.debugger) size) in
     (omega (arith, l.invariant.0), more.0, more.1)
 
 pub returns-clause-taken : goal.returns-clause-taken

@@ -1,7 +1,7 @@
 use Rattle.std.proofs.Common.{◌≡◌, ◌≤◌, ◌∙◌, ap, arith, length, take}
 use Rattle.std.proofs.lemmas.List.{length-take-le}
 use Rattle.jdwp_debugger.specs.Debuggers as debuggers
-use Rattle.jdwp_exchange.specs.Exchange.{moved}
+use Rattle.jdwp_link.specs.Moving.{moved}
 use Rattle.jdwp_target.specs.Targets as targets
 use Rattle.jdwp_link.proofs.Pieces.{all-left, to-target-more, to-target-start}
 use Rattle.jdwp_link.proofs.moving.pieces_to_target.Goals as goal
@@ -14,8 +14,8 @@ loop-left-preserved g c =
     let l = c.loop-left in
     let piece : c.min-piece.result ≤ l.left = omega (arith, c.min-piece.ensures) in
     let size : length (take c.min-piece.result l.buffer) ≡ c.min-piece.result = length-take-le c.min-piece.result l.buffer (omega (arith, c.min-piece.ensures)) in
-    let more = to-target-more c.args.count l.left c.min-piece.result c.args.debugger.now l.debugger c.to_target.new.debugger c.args.target.now l.target c.to_target.new.target piece l.invariant.0 c.requires.waiting c.requires.room l.invariant.1 l.invariant.2
-    (c.to_target.ensures.taken ∙ ap (λ n. debuggers.with_taken (moved n l.debugger.end l.target.end) l.debugger) size) (c.to_target.ensures.fed ∙ ap (λ n. targets.with_fed (moved n l.debugger.end l.target.end) l.target) size) in
+    let more = to-target-more c.args.count l.left c.min-piece.result c.args.debugger.now l.debugger c.deliver.new.from c.args.target.now l.target c.deliver.new.to piece l.invariant.0 c.requires.waiting c.requires.room l.invariant.1 l.invariant.2
+    (c.deliver.ensures.taken ∙ ap (λ n. debuggers.with_taken (moved n l.debugger.end l.target.end) l.debugger) size) (c.deliver.ensures.fed ∙ ap (λ n. targets.with_fed (moved n l.debugger.end l.target.end) l.target) size) in
     (omega (arith, l.invariant.0), more.0, more.1)
 
 pub returns-clause-taken : goal.returns-clause-taken

@@ -1,17 +1,26 @@
-use Rattle.jdwp_pair.proofs.Planned.{ends-finished, ends-losing, stands-first}
+use Rattle.std.proofs.Common.{sym, subst}
+use Rattle.jdwp_pair.specs.declared.ended.PairEnded.{PairEnded}
+use Rattle.jdwp_pair.specs.PlanRuns.{Ends}
+use Rattle.jdwp_pair.proofs.Planned.{ends-finished, ends-first, ends-losing, stands-first}
 use Rattle.jdwp_pair.proofs.pairing.run_plan.Goals as goal
 
-pub returns-in-Err : goal.returns-in-Err
-returns-in-Err g c =
-    (c.begin.new.link, c.begin.ensures, c.in-Err.ensures.ends c.begin.new.link (stands-first g.M.Machine.meaning c.args.plan.now c.begin.new.link))
+pub returns-in-Err-clause-pairs : goal.returns-in-Err-clause-pairs
+returns-in-Err-clause-pairs g c = (
+  c.attach.new.link,
+  c.attach.ensures.attaches,
+  subst (λ (how : PairEnded). Ends g.M.Machine.meaning c.args.plan.now c.attach.new.link how c.attach.new.link) (sym c.in-Err.ensures.ends) (ends-first g.M.Machine.meaning c.args.plan.now c.attach.new.link),
+)
 
-pub returns-in-Ok : goal.returns-in-Ok
-returns-in-Ok g c =
-    let f = c.in_default.ensures.finished c.begin.new.link (stands-first g.M.Machine.meaning c.args.plan.now c.begin.new.link) in
-    (c.begin.new.link, c.begin.ensures, ends-finished g.M.Machine.meaning c.args.plan.now c.begin.new.link c.run_rounds.new.link c.lose_both.new.link f c.in-Ok.ensures.loses)
+pub returns-in-Err-run_rounds-clause-pairs : goal.returns-in-Err-run_rounds-clause-pairs
+returns-in-Err-run_rounds-clause-pairs g c =
+    (c.attach.new.link, c.attach.ensures.attaches, c.in-Err-run_rounds.ensures.ends c.attach.new.link (stands-first g.M.Machine.meaning c.args.plan.now c.attach.new.link))
 
-pub returns : goal.returns
-returns g c =
-    let f = c.in_default.ensures.finished c.begin.new.link (stands-first g.M.Machine.meaning c.args.plan.now c.begin.new.link) in
-    let e = c.in-Err-lose_both.ensures.ends in
-    (c.begin.new.link, c.begin.ensures, ends-losing g.M.Machine.meaning c.args.plan.now c.begin.new.link c.run_rounds.new.link c.lose_both.new.link c.in-Err-lose_both.ended f e.0 e.1)
+pub returns-in-Ok-clause-pairs : goal.returns-in-Ok-clause-pairs
+returns-in-Ok-clause-pairs g c =
+    let f = c.in_default-run_rounds.ensures.finished c.attach.new.link (stands-first g.M.Machine.meaning c.args.plan.now c.attach.new.link) in
+    (c.attach.new.link, c.attach.ensures.attaches, ends-finished g.M.Machine.meaning c.args.plan.now c.attach.new.link c.run_rounds.new.link c.lose_both.new.link f c.in-Ok.ensures.loses)
+
+pub returns-clause-pairs : goal.returns-clause-pairs
+returns-clause-pairs g c =
+    let f = c.in_default-run_rounds.ensures.finished c.attach.new.link (stands-first g.M.Machine.meaning c.args.plan.now c.attach.new.link) in
+    (c.attach.new.link, c.attach.ensures.attaches, ends-losing g.M.Machine.meaning c.args.plan.now c.attach.new.link c.run_rounds.new.link c.lose_both.new.link c.in-Err-lose_both.ended f c.in-Err-lose_both.ensures.ends c.lose_both.ensures.lost)

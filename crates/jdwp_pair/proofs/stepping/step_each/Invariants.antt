@@ -1,4 +1,4 @@
-use Rattle.std.proofs.Common.{◌-◌, ◌^◌, ◌+◌, ℕ, Option, Some, None}
+use Rattle.std.proofs.Common.{◌≡◌, ◌-◌, ◌^◌, ◌+◌, ℕ, false, Option, Some, None, is_some}
 use Rattle.jdwp_engine.specs.Rounds.{id_in}
 use Rattle.jdwp_pair.specs.Events.{Moves}
 use Rattle.jdwp_pair.proofs.stepping.step_each.Given as goal
@@ -8,9 +8,12 @@ abbrev pub above : Option ℕ → ℕ
 above None = 0
 above (Some last) = last + 1
 
--- the steps so far
+-- the steps so far, over a connection that did not fail
 abbrev pub invariant-loop-thread : goal.invariant-loop-thread
-invariant-loop-thread g l = Moves g.M.Machine.meaning l.fn.link l.link
+invariant-loop-thread g l = record {
+  moves : Moves g.M.Machine.meaning l.fn.link l.link;
+  works : is_some (g.C.Connection.failed_by l.connection) ≡ false;
+}
 
 abbrev pub decreases-loop-thread : goal.decreases-loop-thread
 decreases-loop-thread g l = 2 ^ 64 - above (id_in l.last)

@@ -1,0 +1,253 @@
+//! What a debugger answers to a target that keeps no rule, and how it stands then.
+use crate::asserts::expect_same_for;
+use crate::hex::bytes;
+use jdwp_debugger::{Command, Debugger, DebuggerFault, Read, Ticket};
+use jdwp_layout::{Datum, Scalar};
+use jdwp_value::ObjectId;
+use jdwp_wire::FrameFault;
+use std::alloc::Global;
+use std::process::Abort;
+use std::test::Fail;
+
+/// The reply to IDSizes, ids 8 bytes wide.
+const SIZES: &str = "0000001f 00000001 80 0000 00000008 00000008 00000008 00000008 00000008";
+
+/// VM_START of thread 1 with the policy NONE, with ALL and with none that there is.
+const START: &str = "0000001d 00000001 00 40 64 00 00000001 5a 00000000 0000000000000001";
+
+const START_ALL: &str = "0000001d 00000001 00 40 64 02 00000001 5a 00000000 0000000000000001";
+
+const START_BAD: &str = "0000001d 00000001 00 40 64 03 00000001 5a 00000000 0000000000000001";
+
+/// What a turn tells that reads something.
+#[derive(Clone, Copy, Debug, PartialEq, Eq)]
+enum Tells {
+    Parked,
+    Seen,
+}
+
+/// What the target sends in a session.
+#[derive(Clone, Copy, Debug)]
+struct Row {
+    /// Packets that are read, and what each tells.
+    read: &'static [(&'static str, Tells)],
+    /// The packet that is refused, and the fault.
+    refused: &'static str,
+    fault: DebuggerFault,
+}
+
+/// Before the widths of ids are known.
+static EARLY: [Row; 3] = [
+    Row {
+        read: &[],
+        refused: "0000000c 00000001 80 0071 00",
+        fault: DebuggerFault::BadReply,
+    },
+    Row {
+        read: &[],
+        refused: "0000001f 00000001 80 0000 00000008 00000008 00000009 00000008 00000008",
+        fault: DebuggerFault::BadReply,
+    },
+    Row {
+        read: &[
+            (START, Tells::Parked),
+            (START, Tells::Parked),
+            (START, Tells::Parked),
+            (START, Tells::Parked),
+        ],
+        refused: START,
+        fault: DebuggerFault::TooManyParked,
+    },
+];
+
+/// Behind them, where SuspendCount of thread 1, Suspend and Resume are asked, under the ids 2, 3 and 4.
+static LATE: [Row; 7] = [
+    Row {
+        read: &[],
+        refused: "0000000b 00000009 80 0000",
+        fault: DebuggerFault::UnknownReply,
+    },
+    Row {
+        read: &[],
+        refused: "00000010 00000002 00 40 64 00 00000000",
+        fault: DebuggerFault::BadEvent,
+    },
+    Row {
+        read: &[],
+        refused: START_BAD,
+        fault: DebuggerFault::BadEvent,
+    },
+    Row {
+        read: &[(START_ALL, Tells::Seen)],
+        refused: START_ALL,
+        fault: DebuggerFault::BadEvent,
+    },
+    Row {
+        read: &[],
+        refused: "0000000b 00000002 00 01 08",
+        fault: DebuggerFault::BadEvent,
+    },
+    Row {
+        read: &[],
+        refused: "0000000f 00000002 80 0000 ffffffff",
+        fault: DebuggerFault::BadReply,
+    },
+    Row {
+        read: &[],
+        refused: "0000000b 00000002 01",
+        fault: DebuggerFault::Frame(FrameFault::BadFlags),
+    },
+];
+
+/// Whether a turn reads these bytes, and tells this.
+fn reads(alloc: Global, debugger: &mut Debugger, input: &str, told: Tells) -> Result<bool, Fail> {
+    debugger.feed(&bytes(alloc, input)?);
+    Ok(match debugger.turn(alloc) {
+        Ok(Read::Parked) => told == Tells::Parked,
+        Ok(Read::Seen(_)) => told == Tells::Seen,
+        _ => false,
+    })
+}
+
+/// Begins a session, up to the target's handshake.
+fn greets(alloc: Global, debugger: &mut Debugger) -> bool {
+    debugger.set_next_id(1);
+    debugger.attach()
+        && debugger.feed(b"JDWP-Handshake") == 14
+        && matches!(debugger.turn(alloc), Ok(Read::Hello))
+}
+
+/// Reads the widths of ids, and asks the three commands, the first of them under this ticket.
+fn measures(alloc: Global, debugger: &mut Debugger, first: u64) -> Result<bool, Fail> {
+    debugger.feed(&bytes(alloc, SIZES)?);
+    let is_measured = matches!(debugger.turn(alloc), Ok(Read::Sizes(_)));
+    let thread = vec![in alloc; Datum::One(Scalar::ObjectId(ObjectId(1)))]?;
+    let ticket = debugger.ask(alloc, Command::new(11, 12, thread))?;
+    debugger.ask(alloc, Command::new(1, 8, Vec::new(alloc)))?;
+    debugger.ask(alloc, Command::new(1, 9, Vec::new(alloc)))?;
+    Ok(is_measured && ticket == Ticket(first))
+}
+
+/// Whether the session is closed, the mirror empty, and no byte taken; the tickets are lost in the order asked.
+fn is_left(debugger: &mut Debugger, lost: &[Ticket]) -> bool {
+    let is = !debugger.is_open()
+        && debugger.mirror().known().len() == 0
+        && debugger.mirror().requests().is_empty()
+        && debugger.sizes().is_none()
+        && debugger.room() == 0
+        && debugger.feed(&[0]) == 0
+        && !debugger.has_front();
+    is && debugger.lose().as_slice() == lost && debugger.waiting() == 0
+}
+
+/// Whether a packet is refused with this fault, and the session left so.
+fn refuses(
+    alloc: Global,
+    debugger: &mut Debugger,
+    row: &Row,
+    lost: &[Ticket],
+) -> Result<bool, Fail> {
+    debugger.feed(&bytes(alloc, row.refused)?);
+    let is_refused = debugger.turn(alloc).err() == Some(row.fault);
+    Ok(is_refused && debugger.last().is_empty() && is_left(debugger, lost))
+}
+
+/// Whether what is read tells what the row says, and then a packet is refused.
+fn goes(alloc: Global, debugger: &mut Debugger, row: &Row, lost: &[Ticket]) -> Result<bool, Fail> {
+    for (input, told) in row.read.iter() {
+        if !reads(alloc, debugger, input, *told)? {
+            return Ok(false);
+        }
+    }
+    refuses(alloc, debugger, row, lost)
+}
+
+/// The same in a session in which the widths of ids are not known.
+fn goes_early(alloc: Global, debugger: &mut Debugger, row: &Row) -> Result<bool, Fail> {
+    Ok(greets(alloc, debugger) && goes(alloc, debugger, row, &[])?)
+}
+
+/// The same in one in which they are. Its commands have the tickets from this one on.
+fn goes_late(alloc: Global, debugger: &mut Debugger, row: &Row, first: u64) -> Result<bool, Fail> {
+    let tickets = [
+        Ticket(first),
+        Ticket(first.saturating_add(1)),
+        Ticket(first.saturating_add(2)),
+    ];
+    Ok(
+        greets(alloc, debugger)
+            && measures(alloc, debugger, first)?
+            && goes(alloc, debugger, row, &tickets)?,
+    )
+}
+
+/// Each row, in sessions of one debugger.
+fn all_go(rt: &impl Abort, alloc: Global) -> Result<(), Fail> {
+    let mut debugger = Debugger::new(alloc)?;
+    for row in EARLY.iter() {
+        expect_same_for(rt, &goes_early(alloc, &mut debugger, row)?, &true, row);
+    }
+    let mut first = 1u64;
+    for row in LATE.iter() {
+        expect_same_for(
+            rt,
+            &goes_late(alloc, &mut debugger, row, first)?,
+            &true,
+            row,
+        );
+        first = first.saturating_add(3);
+    }
+    Ok(())
+}
+
+#[test]
+fn what_no_target_may_send(rt: HostRuntime) -> Result<(), Fail> {
+    all_go(&rt, rt.alloc())
+}
+
+/// The number of each fault, and that of a fault of the bytes.
+#[test]
+fn faults_have_their_numbers(rt: HostRuntime) {
+    let rows = [
+        (DebuggerFault::Frame(FrameFault::BadFlags), 41),
+        (DebuggerFault::UnknownReply, 42),
+        (DebuggerFault::BadReply, 43),
+        (DebuggerFault::TooManyParked, 44),
+        (DebuggerFault::BadEvent, 45),
+    ];
+    for (fault, number) in rows {
+        expect_same_for(&rt, &fault.number(), &number, &fault);
+    }
+    let text = FrameFault::BadFlags.number();
+    expect_same_for(&rt, &text, &3, &"flags");
+}
+
+/// How many bytes came, and how many more are taken of two.
+static ROOMS: [(usize, usize); 4] = [(65_534, 2), (65_535, 1), (65_536, 0), (65_537, 0)];
+
+/// How many of two bytes a new session takes behind so many.
+fn taken_behind(debugger: &mut Debugger, count: usize) -> usize {
+    debugger.lose();
+    debugger.attach();
+    let block = [0; 4096];
+    let mut left = count;
+    for _ in 0..17u32 {
+        let some = left.min(4096);
+        left = left.saturating_sub(debugger.feed(&block[..some]));
+    }
+    debugger.feed(&[0, 0])
+}
+
+fn rooms_are_so(rt: &impl Abort, alloc: Global) -> Result<(), Fail> {
+    let mut debugger = Debugger::new(alloc)?;
+    for &(count, want) in ROOMS.iter() {
+        expect_same_for(rt, &taken_behind(&mut debugger, count), &want, &count);
+    }
+    Ok(())
+}
+
+/// The inbox has room for 65,536 bytes.
+#[test]
+fn as_many_bytes_as_fit(rt: HostRuntime) -> Result<(), Fail> {
+    rooms_are_so(&rt, rt.alloc())
+}

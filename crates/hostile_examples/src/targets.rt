@@ -1,0 +1,84 @@
+//! Targets over a machine of two threads, and what they answer.
+use jdwp_script_machine::ScriptMachine;
+use jdwp_target::{TargetFault, TargetOptions, Turn};
+use jdwp_value::ObjectId;
+use std::alloc::Global;
+use std::test::Fail;
+
+/// A target over the machine of a script.
+pub(crate) type Target = jdwp_target::Target<ScriptMachine>;
+
+/// A machine of two threads, of which the first calls a method, moves in it and returns.
+pub(crate) const MACHINE_A: &str = "{\"name\":\"A\",\"sizes\":[8,8,8,8,8],
+\"groups\":[{\"id\":5,\"name\":\"main\",\"parent\":0}],
+\"classes\":[{\"id\":10,\"tag\":1,\"signature\":\"LMain;\",\"modifiers\":1,
+ \"super\":0,\"interfaces\":[],\"source\":\"Main.java\",\"fields\":[],
+ \"methods\":[{\"id\":20,\"name\":\"run\",\"signature\":\"()V\",\"modifiers\":1,
+  \"args\":0,\"last\":9,\"lines\":[[0,1],[3,2],[4,3]],\"slots\":[]}]}],
+\"objects\":[],
+\"threads\":[{\"id\":1,\"name\":\"main\",\"group\":5,\"steps\":[
+ [\"call\",30,10,20,0,[]],[\"go\",3],[\"go\",4],[\"go\",3],[\"go\",4],
+ [\"go\",3],[\"return\",[\"V\",0]]]},
+ {\"id\":2,\"name\":\"work\",\"group\":5,\"steps\":[]}]}";
+
+/// A closed target over that machine, no thread of which begins suspended.
+pub(crate) fn target(alloc: Global) -> Result<Target, Fail> {
+    let Some(options) = TargetOptions::new(false, 65_535) else {
+        return Err(Fail::from("the count limit is refused"));
+    };
+    let Ok(machine) = ScriptMachine::read(alloc, MACHINE_A) else {
+        return Err(Fail::from("the script is refused"));
+    };
+    match Target::new(alloc, machine, options) {
+        Ok(target) => Ok(target),
+        Err(_) => Err(Fail::from("no memory")),
+    }
+}
+
+/// What a target answers to what came.
+#[derive(Clone, Copy)]
+pub(crate) struct Course {
+    /// How many messages were handled.
+    pub(crate) messages: u32,
+    /// The fault of the turn that failed.
+    pub(crate) fault: Option<TargetFault>,
+    /// What was sent: this many of the bytes.
+    pub(crate) sent: usize,
+    pub(crate) bytes: [u8; 256],
+}
+
+/// Turns until nothing is left to handle or a turn fails, 32 times at most, and takes what is sent.
+pub(crate) fn handled(target: &mut Target) -> Course {
+    let mut all = Course {
+        messages: 0,
+        fault: None,
+        sent: 0,
+        bytes: [0; 256],
+    };
+    for _ in 0..32u32 {
+        match target.turn() {
+            Ok(Turn::Nothing) => break,
+            Ok(_) => all.messages = all.messages.saturating_add(1),
+            Err(fault) => {
+                all.fault = Some(fault);
+                break;
+            }
+        }
+        let from = all.sent.min(256);
+        all.sent = from.saturating_add(target.take(&mut all.bytes[from..]));
+    }
+    all
+}
+
+/// Whether the target stands as after a loss: closed, nothing is taken or waits to leave, nobody is suspended and nothing requested.
+pub(crate) fn is_lost(target: &mut Target) -> bool {
+    !target.is_open()
+        && target.feed(&[0]) == 0
+        && target.room() == 0
+        && target.waiting() == 0
+        && target.turn() == Ok(Turn::Nothing)
+        && target.take(&mut [0]) == 0
+        && target.count(ObjectId(1)) == Some(0)
+        && target.count(ObjectId(2)) == Some(0)
+        && target.requests().is_empty()
+}

@@ -1,0 +1,4 @@
+pub mod Asks
+pub mod Layouts
+pub mod Contents
+pub mod Answered

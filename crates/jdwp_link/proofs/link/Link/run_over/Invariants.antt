@@ -1,0 +1,8 @@
+use Rattle.std.proofs.Common.{take}
+use Rattle.jdwp_link.specs.Clauses.{Ran}
+use Rattle.jdwp_link.specs.Told.{event_meanings}
+use Rattle.jdwp_link.proofs.link.Link.run_over.Given as goal
+
+-- the events before this one are done
+abbrev pub invariant-loop-place : goal.invariant-loop-place
+invariant-loop-place g l = Ran g.M.Machine.meaning (take l.place (event_meanings l.events)) l.fn.self l.self l.outcomes.items

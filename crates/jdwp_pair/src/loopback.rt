@@ -1,0 +1,133 @@
+//! A connection of this machine to itself.
+ghost use Rattle.std.specs.Prelude.{◌≡◌, ◌≤◌, length};
+ghost use Rattle.jdwp_pair.specs.Loopbacks.{failure_of};
+
+use crate::connection::Connection;
+use jdwp_link::{Side, Way};
+use jdwp_port::{PortFault, bind, connect};
+use std::io;
+use std::io::{ErrorKind, Read, Write};
+use std::net::{Net, OpenStream};
+
+/// How many bytes are under way at most.
+const PIECE: usize = 4_096;
+
+/// A connection of this machine to itself, 127.0.0.1: a new one for each session, at a port that the system chooses.
+///
+/// A piece is written at one end and read at the other before the next one is, so no call waits for another process, and none needs a thread.
+#[derive(Drop)]
+pub struct Loopback<'a, R: Net> {
+    net: &'a R,
+    /// The port of the last connection that was made, or tried; 0 before the first.
+    port: u16,
+    /// The target's stream, until it lost the connection.
+    target: Option<R::Stream>,
+    /// The debugger's.
+    debugger: Option<R::Stream>,
+    /// What was read of a piece.
+    read: [u8; PIECE],
+    /// The first failure.
+    failure: Option<PortFault>,
+}
+
+impl<'a, R: Net> Loopback<'a, R> {
+    /// Before the first connection, which `attach` makes.
+    pub fn new(net: &'a R) -> Loopback<'a, R>
+        ensures { failure_of result ≡ None }
+    {
+        Loopback {
+            net,
+            port: 0,
+            target: None,
+            debugger: None,
+            read: [0; PIECE],
+            failure: None,
+        }
+    }
+
+    /// Makes a new connection.
+    ///
+    /// # Errors
+    /// `Port` where the system gives none; `NoMemory`.
+    fn join(&mut self) -> Result<(), PortFault> {
+        let listener = bind(self.net, 0)?;
+        self.port = listener.port();
+        let debugger = connect(self.net, self.port)?;
+        let target = listener.accept()?;
+        for stream in [&debugger, &target] {
+            // Where the system refuses this, what is written leaves later, and nothing else is different.
+            let _ = stream.set_nodelay(true);
+        }
+        self.debugger = Some(debugger);
+        self.target = Some(target);
+        Ok(())
+    }
+
+    /// Keeps the first failure.
+    fn fail(&mut self, fault: PortFault) {
+        if self.failure.is_none() {
+            self.failure = Some(fault);
+        }
+    }
+}
+
+impl<'a, R: Net> Way for Loopback<'a, R> {
+    fn carry(&mut self, from: Side, piece: &[u8]) {
+        let (Some(target), Some(debugger)) = (&mut self.target, &mut self.debugger) else {
+            return;
+        };
+        let carried = match from {
+            Side::Target => carry(target, debugger, piece, &mut self.read),
+            Side::Debugger => carry(debugger, target, piece, &mut self.read),
+        };
+        if let Err(error) = carried {
+            self.fail(PortFault::of_port(self.port, error));
+        }
+    }
+}
+
+impl<'a, R: Net> Connection for Loopback<'a, R> {
+    ghost failed_by = { failure_of };
+
+    fn failure(&self) -> Option<PortFault> {
+        self.failure
+    }
+
+    fn lose(&mut self, side: Side) {
+        match side {
+            Side::Target => self.target = None,
+            Side::Debugger => self.debugger = None,
+        }
+    }
+
+    fn attach(&mut self) {
+        self.target = None;
+        self.debugger = None;
+        if let Err(fault) = self.join() {
+            self.fail(fault);
+        }
+    }
+}
+
+/// Writes a piece at one end and reads as many bytes at the other.
+///
+/// # Errors
+/// The system's; `InvalidData` where other bytes were read.
+fn carry<S: Read + Write>(
+    from: &mut S,
+    to: &mut S,
+    piece: &[u8],
+    buffer: &mut [u8; PIECE],
+) -> io::Result<()>
+    requires { length piece.now ≤ 4096 }
+{
+    from.write_all(piece)?;
+    from.flush()?;
+    let read = &mut buffer[..piece.len()];
+    to.read_exact(read)?;
+    if *read == *piece {
+        Ok(())
+    } else {
+        Err(io::Error::from(ErrorKind::InvalidData))
+    }
+}

@@ -1,0 +1,4 @@
+pub mod Endings
+pub mod Moving
+pub mod Story
+pub mod Streams
