@@ -3,7 +3,7 @@ use crate::asserts::expect_same;
 use jdwp_debugger::{Command, Debugger, Refused, Ticket};
 use jdwp_layout::{Datum, Scalar};
 use jdwp_value::ObjectId;
-use jdwp_wire::HANDSHAKE;
+use jdwp_wire::{HANDSHAKE, Limits};
 use std::alloc::Global;
 use std::process::Abort;
 use std::test::Fail;
@@ -264,6 +264,23 @@ static FULL: [Act; 4] = [
 #[test]
 fn only_so_many_commands_wait(rt: HostRuntime) -> Result<(), Fail> {
     goes_as_told(&rt, rt.alloc(), Some(8), &FULL)
+}
+
+/// One command waits, and the one behind it is refused.
+static ONE_WAITS: [Act; 4] = [
+    Act::Gives(Asks::Plain(1, 8), 1),
+    Act::Refuses(Asks::Plain(1, 9), Refused::Busy),
+    Act::Waits(11),
+    Act::LosesSoMany(1),
+];
+
+#[test]
+fn as_many_commands_wait_as_the_limits_let(rt: HostRuntime) -> Result<(), Fail> {
+    let limits = Limits::new(2048, 2, 1, 1).ok_or("no limits")?;
+    let mut debugger = Debugger::with_limits(rt.alloc(), 1, limits)?;
+    let found = first_wrong(rt.alloc(), &mut debugger, Some(8), &ONE_WAITS)?;
+    expect_same(&rt, &found, &None);
+    Ok(())
 }
 
 static ONLY_SO_MANY_BYTES_WAIT: [Act; 5] = [

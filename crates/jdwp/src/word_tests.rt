@@ -65,7 +65,7 @@ static REFUSED: [&[&str]; 16] = [
 ];
 
 /// Options that are refused behind words that are not.
-static OPTIONS: [&[&str]; 28] = [
+static OPTIONS: [&[&str]; 33] = [
     &["--port", "5"],
     &["--start"],
     &["--start", ""],
@@ -83,6 +83,11 @@ static OPTIONS: [&[&str]; 28] = [
     &["--count-limit", "5 "],
     &["--count-limit", "0x5"],
     &["--count-limit", "5", "--count-limit", "5"],
+    &["--limits"],
+    &["--limits", "65536,64,64"],
+    &["--limits", "2047,64,3,64"],
+    &["--limits", "2048,64,4,64"],
+    &["--limits", "4096,8,2,4", "--limits", "4096,8,2,4"],
     &["--turns"],
     &["--turns", ""],
     &["--turns", "4294967296"],
@@ -97,10 +102,11 @@ static OPTIONS: [&[&str]; 28] = [
 ];
 
 /// Options that are taken.
-static TAKEN: [&[&str]; 4] = [
+static TAKEN: [&[&str]; 5] = [
     &["--start", "all"],
     &["--start=none"],
     &["--count-limit", "2147483647"],
+    &["--limits", "4096,8,2,4"],
     &["--turns", "007"],
 ];
 
@@ -360,6 +366,7 @@ fn attaches(rt: &impl Abort, alloc: Global, more: &[&str], turns: u32) -> Result
     let want = Words::Attach(Attach {
         plan,
         peer: Peer::Files(SessionFiles { from, to }),
+        limits: Limits::standard(),
         turns,
     });
     are_read(rt, alloc, words.as_slice(), &want)
@@ -393,6 +400,7 @@ fn attaches_at(rt: &impl Abort, alloc: Global, words: &[&str], port: u16) -> Res
     let want = Words::Attach(Attach {
         plan: "p",
         peer: Peer::Port(port),
+        limits: Limits::standard(),
         turns: 5,
     });
     are_read(rt, alloc, words, &want)
@@ -486,4 +494,44 @@ fn other_words_of_peers_are_refused(rt: HostRuntime) -> Result<(), Fail> {
         expect_same_for(&rt, &status_of(&rt, words)?, &1, words);
     }
     Ok(())
+}
+
+/// `--limits` behind each command that has a session.
+#[test]
+fn limits_are_read(rt: HostRuntime) -> Result<(), Fail> {
+    let limits = Limits::new(4096, 8, 2, 4).ok_or("no limits")?;
+    let settings = Settings::new(true, 65535, limits).ok_or("a count limit")?;
+    let served = Words::ServeScript(ServeScript {
+        machine: "m",
+        peer: Peer::Port(80),
+        settings,
+        turns: 100000,
+    });
+    let words = [
+        "jdwp",
+        "serve-script",
+        "m",
+        "--port",
+        "80",
+        "--limits",
+        "4096,8,2,4",
+    ];
+    are_read(&rt, rt.alloc(), &words, &served)?;
+    let attached = Words::Attach(Attach {
+        plan: "p",
+        peer: Peer::Port(80),
+        limits,
+        turns: 100000,
+    });
+    let words = ["jdwp", "attach", "p", "--port", "80", "--limits=4096,8,2,4"];
+    are_read(&rt, rt.alloc(), &words, &attached)?;
+    let paired = Words::Pair(Pair {
+        machine: "m",
+        plan: "p",
+        between: Between::Loopback,
+        settings,
+        turns: 100000,
+    });
+    let words = ["jdwp", "pair", "m", "p", "--limits", "4096,8,2,4"];
+    are_read(&rt, rt.alloc(), &words, &paired)
 }

@@ -22,7 +22,6 @@ use jdwp_program::{
     text_of,
 };
 use jdwp_serve::serve_script;
-use jdwp_wire::Limits;
 use jdwp_words::{Attach, ServeScript, SessionFiles};
 use std::alloc::Global;
 use std::fs::{Metadata, OpenFile};
@@ -117,8 +116,10 @@ fn serve_bytes<'a, I: Read, O: Write>(
     bytes: &[u8],
     pipe: &mut Streams<I, O>,
 ) -> Result<Ended, Fault<'a>>
-    ensures served { IfOk result (λ ended. IsUtf8 bytes.now × (machine : State) × (read_machine words.now.settings.limits.live bytes.now ≡ Ok machine)
-        × ServesNew script_meaning words.now.settings machine words.now.turns (story_of pipe.old) (story_of pipe.new) ended) }
+    ensures served { IfOk result (λ ended. IsUtf8 bytes.now × (machine : State)
+        × (read_machine words.now.settings.limits.live bytes.now ≡ Ok machine)
+        × ServesNew script_meaning words.now.settings machine words.now.turns
+        (story_of pipe.old) (story_of pipe.new) ended) }
     ensures fault { IfErr result (RefusesScript words.now.settings.limits
         words.now.machine bytes.now) }
     ensures untouched { OnErr result (pipe.new ≡ pipe.old) }
@@ -127,7 +128,7 @@ fn serve_bytes<'a, I: Read, O: Write>(
     match serve_script(alloc, script, words.settings, pipe, words.turns) {
         Ok(ended) => Ok(ended),
         Err(fault) => {
-            let detail = fault.detail(alloc, script, &Limits::standard());
+            let detail = fault.detail(alloc, script, &words.settings.limits());
             Err(Fault::of_script(words.machine, fault, detail))
         }
     }
@@ -155,7 +156,7 @@ pub fn attach_files<'a, R: Files + AllocGlobal, O: Write>(
     let how = attach_bytes(rt.alloc(), words, &bytes, &mut pipe, &mut printed)?;
     let (from, to) = sides(files.from, files.to, pipe);
     let (_, output) = printed.into_parts();
-    Ok(Outcome::of_plan(how, from, to, output.failure()))
+    Ok(Outcome::of_plan(how, words.limits, from, to, output.failure()))
 }
 
 /// Runs the plan of these bytes.
@@ -166,14 +167,16 @@ fn attach_bytes<'a, I: Read, W: Write, O: Pipe>(
     pipe: &mut Streams<I, W>,
     out: &mut O,
 ) -> Result<Attached, Fault<'a>>
-    ensures ran { IfOk result (λ how. IsUtf8 bytes.now × (said : List PlanLine) × SaysForAttach (lines bytes.now) (map said_by said)
-        × AttachesNew said (begun words.now.turns (story_of pipe.old) (O.story out.old)) (story_of pipe.new) (O.story out.new) how) }
+    ensures ran { IfOk result (λ how. IsUtf8 bytes.now × (said : List PlanLine)
+        × SaysForAttach (lines bytes.now) (map said_by said) × AttachesNew said
+        (begun words.now.limits words.now.turns (story_of pipe.old) (O.story out.old))
+        (story_of pipe.new) (O.story out.new) how) }
     ensures fault { IfErr result (RefusesAttachPlan words.now.plan bytes.now) }
     ensures untouched { OnErr result (pipe.new ≡ pipe.old) }
     ensures unprinted { OnErr result (out.new ≡ out.old) }
 {
     let plan = text(words.plan, bytes)?;
-    match attach_plan(alloc, plan, pipe, out, words.turns) {
+    match attach_plan(alloc, words.limits, plan, pipe, out, words.turns) {
         Ok(how) => Ok(how),
         Err(fault) => Err(Fault::of_plan(words.plan, plan, fault)),
     }

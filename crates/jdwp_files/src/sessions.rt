@@ -73,7 +73,7 @@ pub fn attach_port<'a, R: Files + AllocGlobal + Net, O: Write>(
 {
     let bytes = read(rt, words.plan)?;
     let plan = attach_plan_of(rt.alloc(), words.plan, &bytes)?;
-    let mut debugger = Debugger::new(rt.alloc())?;
+    let mut debugger = Debugger::with_limits(rt.alloc(), 1, words.limits)?;
     let stream = connect(rt, port)?;
     let mut printed = Streams::new(io::empty(), Watched::new(out));
     let turns = u64::from(words.turns);
@@ -87,7 +87,7 @@ pub fn attach_port<'a, R: Files + AllocGlobal + Net, O: Write>(
         turns,
     )?;
     let (_, output) = printed.into_parts();
-    Ok(Outcome::without_files(how, output.failure()))
+    Ok(Outcome::without_files(how, words.limits, output.failure()))
 }
 
 /// Runs a plan as the debugger of the machine of a script, both ends in this process, and prints what the debugger reads. Bytes go from one
@@ -129,7 +129,10 @@ fn pair_over<'a, C: Connection, O: Write>(
     let (_, output) = printed.into_parts();
     match connection.failure() {
         Some(fault) => Ok(Outcome::lost_port(fault)),
-        None => Ok(Outcome::without_files(how_of(ended), output.failure())),
+        None => {
+            let limits = words.settings.limits();
+            Ok(Outcome::without_files(how_of(ended), limits, output.failure()))
+        }
     }
 }
 
@@ -142,8 +145,10 @@ fn pair_bytes<'a, C: Connection, O: Pipe>(
     plan: &[u8],
     out: &mut O,
 ) -> Result<PairEnded, Fault<'a>>
-    ensures paired { IfOk result (λ ended. (machine : State) × (said : List declared.PlanLine) × (read_machine words.now.settings.limits.live script.now ≡ Ok machine)
-        × Says (lines plan.now) (map said_by said) × PairsNew script_meaning words.now.settings machine said ended) }
+    ensures paired { IfOk result (λ ended. (machine : State) × (said : List declared.PlanLine)
+        × (read_machine words.now.settings.limits.live script.now ≡ Ok machine)
+        × Says (lines plan.now) (map said_by said)
+        × PairsNew script_meaning words.now.settings machine said ended) }
     ensures failed { IfOk result (λ ended. is_some (C.failed_by connection.new)
         ≡ is_disconnected ended) }
     ensures unprinted { OnErr result (out.new ≡ out.old) }

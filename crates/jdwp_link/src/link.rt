@@ -1,10 +1,11 @@
 //! A target and a debugger, and the bytes between them.
-ghost use Rattle.std.specs.Prelude.{◌≡◌, ◌≤◌, ◌<◌, IfErr, IfOk, get_or, length, take};
+ghost use Rattle.std.specs.Prelude.{◌≡◌, ◌≤◌, ◌<◌, ◌↔◌, Err, IfErr, IfOk, get_or, length, take};
 ghost use Rattle.jdwp_debuggee.specs.State as state;
 ghost use Rattle.jdwp_model.specs.Events.{Attach};
 ghost use Rattle.jdwp_model.specs.Headline.{MayBegin};
 ghost use Rattle.jdwp_model.specs.World.{World, opening};
-ghost use Rattle.jdwp_target.specs.Options.{LivesWithin, settings_at};
+ghost use Rattle.jdwp_target.specs.Options.{Lives, LivesWithin, settings_at};
+ghost use Rattle.jdwp_target.specs.declared.setup.SetupFault.TheVariants as setup;
 ghost use Rattle.jdwp_wire.specs.Limits.{standard_limits};
 ghost use Rattle.jdwp_link.specs.Clauses.{CountsAtMost, HoldsSuspended, MayStop, MirrorsSeen, Ran, StaysTrue};
 ghost use Rattle.jdwp_link.specs.Links.{new_link};
@@ -19,7 +20,7 @@ use byte_queue::ByteQueue;
 use jdwp_debuggee::Settings;
 use jdwp_debugger::Debugger;
 use jdwp_machine::Machine;
-use jdwp_target::{Target, TargetOptions};
+use jdwp_target::{SetupFault, Target, TargetOptions};
 use jdwp_wire::{Limits, NoMemory};
 use std::alloc::Global;
 use std::marker::Model;
@@ -61,6 +62,30 @@ impl<M: Machine + Drop> Link<M> {
         ensures stands { IfOk result (λ l. StandsFor M.meaning l (opening M.meaning machine)) }
     {
         Link::with_settings(alloc, machine, options.settings(Limits::standard()))
+    }
+
+    /// The same within these limits, which are those of both ends. At least one thread of the machine lives.
+    ///
+    /// # Errors
+    /// `TooManyThreads` exactly where more threads live than `limits` let live, whatever memory there is; `NoMemory` where an allocation
+    /// was refused.
+    pub fn with_limits(
+        alloc: Global,
+        machine: M,
+        options: TargetOptions,
+        limits: Limits,
+    ) -> Result<Link<M>, SetupFault>
+        requires { Lives M.meaning machine }
+        ensures link { IfOk result (λ l. l ≡ new_link (settings_at limits options)
+            (record { state = state.new_state (M.meaning.live machine); machine = machine })) }
+        ensures stands { IfOk result (λ l. StandsFor M.meaning l (opening M.meaning machine)) }
+        ensures threads { (result ≡ Err setup.TooManyThreads)
+            ↔ (limits.live < length (M.meaning.live machine)) }
+    {
+        if machine.live().len() > limits.live() as usize {
+            return Err(SetupFault::TooManyThreads);
+        }
+        Ok(Link::with_settings(alloc, machine, options.settings(limits))?)
     }
 
     /// The same with these settings, within their limits: the machine has 1 to `settings.limits().live()` live threads.

@@ -1,6 +1,6 @@
 -- One session of a new debugger by a plan.
 use Rattle.std.specs.Prelude.{ℕ, List}
-use Rattle.jdwp_wire.specs.Limits.{standard_limits}
+use Rattle.jdwp_wire.specs.Limits.{Limits}
 use Rattle.jdwp_debugger.specs.Debuggers.{Debugger, attached, new_debugger}
 use Rattle.jdwp_pipe.specs.Story.{Story}
 use Rattle.jdwp_plan.specs.declared.plan_line.PlanLine.{PlanLine}
@@ -8,9 +8,9 @@ use Rattle.jdwp_attach.specs.declared.attached.Attached.{Attached}
 use Rattle.jdwp_attach.specs.PlanRuns.{Attaches, MayEnd, TellsRefused, ended_of}
 use Rattle.jdwp_attach.specs.Runs.{Standing, InOrder, at}
 
--- a new debugger that attached, before its first turn
-abbrev pub begun : ℕ → Story → Story → Standing
-begun turns pipe out = at pipe out (attached (new_debugger standard_limits 1)) turns
+-- a new debugger within these limits that attached, before its first turn
+abbrev pub begun : Limits → ℕ → Story → Story → Standing
+begun limits turns pipe out = at pipe out (attached (new_debugger limits 1)) turns
 
 -- From how the engine stood to these stories of the pipe and of what is printed to, the debugger was run by this plan, and the session ended
 -- so: it was fed what was read, in order; it was asked what the plan's lines ask, in order, up to where the run went; what was written is

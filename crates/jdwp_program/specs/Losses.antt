@@ -3,6 +3,7 @@ use Rattle.std.specs.Prelude.{◌≡◌, ◌≢◌, Option, None, Some}
 use Rattle.std.specs.IoError.{error_kind}
 use Rattle.std.specs.declared.io.Error.{Error}
 use Rattle.std.specs.declared.io.ErrorKind.TheVariants.{BrokenPipe}
+use Rattle.jdwp_wire.specs.Limits.{Limits}
 use Rattle.jdwp_pipe.specs.declared.ended.Ended.{Ended}
 use Rattle.jdwp_pipe.specs.declared.ended.Ended.TheVariants.{LostByRead, LostByWrite, NoMemory}
 use Rattle.jdwp_attach.specs.declared.attached.Attached.{Attached}
@@ -25,22 +26,23 @@ IsEndOf ended from to output (Lost (Output error)) = (ended ≡ LostByWrite) × 
 IsEndOf ended from to output (Lost (Port number cause)) = ⊥
 IsEndOf ended from to output (Lost ReaderGone) = (ended ≡ LostByWrite) × (to.failure ≡ None) × (error : Error) × (output ≡ Some error) × (error_kind error ≡ BrokenPipe)
 IsEndOf ended from to output (Session told) = (told ≡ ended) × (ended ≢ LostByRead) × (ended ≡ LostByWrite → (to.failure ≡ None) × (output ≡ None))
-IsEndOf ended from to output (RefusedLine line number) = ⊥
+IsEndOf ended from to output (RefusedLine line number most) = ⊥
 IsEndOf ended from to output (Capture told) = ⊥
 
--- What is told of the session of a plan: where the command of a line was refused, this line and the number of the refusal; else the same.
-abbrev pub IsEndOfPlan : Attached → Side → Side → Option Error → Outcome → Type 0
-IsEndOfPlan (run.RefusedLine line number) from to output outcome = outcome ≡ RefusedLine line number
-IsEndOfPlan (run.Ended ended) from to output outcome = IsEndOf ended from to output outcome
+-- What is told of the session of a plan within these limits: where the command of a line was refused, this line and the number of the
+-- refusal; else the same.
+abbrev pub IsEndOfPlan : Attached → Limits → Side → Side → Option Error → Outcome → Type 0
+IsEndOfPlan (run.RefusedLine line number) limits from to output outcome = outcome ≡ RefusedLine line number limits.pending
+IsEndOfPlan (run.Ended ended) limits from to output outcome = IsEndOf ended from to output outcome
 
--- What is told of the session of a plan over no files, which printed on an output that failed so, if it did: where the command of a line was
+-- What is told of the session of a plan within these limits over no files, which printed on an output that failed so, if it did: where the command of a line was
 -- refused, this line; else how it ended, but where a write failed and the output did, that alone.
-abbrev pub IsEndWithoutFiles : Attached → Option Error → Outcome → Type 0
-IsEndWithoutFiles (run.RefusedLine line number) output outcome = outcome ≡ RefusedLine line number
-IsEndWithoutFiles (run.Ended ended) output (Lost (Output error)) = (ended ≡ LostByWrite) × (output ≡ Some error) × (error_kind error ≢ BrokenPipe)
-IsEndWithoutFiles (run.Ended ended) output (Lost ReaderGone) = (ended ≡ LostByWrite) × (error : Error) × (output ≡ Some error) × (error_kind error ≡ BrokenPipe)
-IsEndWithoutFiles (run.Ended ended) output (Session told) = (told ≡ ended) × (ended ≡ LostByWrite → output ≡ None)
-IsEndWithoutFiles (run.Ended ended) output other = ⊥
+abbrev pub IsEndWithoutFiles : Attached → Limits → Option Error → Outcome → Type 0
+IsEndWithoutFiles (run.RefusedLine line number) limits output outcome = outcome ≡ RefusedLine line number limits.pending
+IsEndWithoutFiles (run.Ended ended) limits output (Lost (Output error)) = (ended ≡ LostByWrite) × (output ≡ Some error) × (error_kind error ≢ BrokenPipe)
+IsEndWithoutFiles (run.Ended ended) limits output (Lost ReaderGone) = (ended ≡ LostByWrite) × (error : Error) × (output ≡ Some error) × (error_kind error ≡ BrokenPipe)
+IsEndWithoutFiles (run.Ended ended) limits output (Session told) = (told ≡ ended) × (ended ≡ LostByWrite → output ≡ None)
+IsEndWithoutFiles (run.Ended ended) limits output other = ⊥
 
 -- what is told of a session whose connection at a port failed so: want of memory alone, or that it was lost, and where
 abbrev pub lost_port : PortFault → Outcome

@@ -28,7 +28,7 @@ status_of_told Unread = 2
 abbrev pub status_of_outcome : Outcome → ℕ
 status_of_outcome (Session e) = status_of_end e
 status_of_outcome (Lost loss) = 2
-status_of_outcome (RefusedLine line number) = 1
+status_of_outcome (RefusedLine line number most) = 1
 status_of_outcome (Capture told) = status_of_told told
 
 -- where no session began and no capture was told

@@ -17,5 +17,5 @@ pub use captures::{TellFault, Told, check_capture, show_capture};
 pub use fault::{Fault, FileCause, text_of};
 pub use losing::{Loss, Side};
 pub use outcome::{Outcome, report_fault, report_outcome};
-pub use values::{decimal, is_all};
+pub use values::{decimal, is_all, limits};
 pub use watching::Watched;

@@ -9,6 +9,7 @@ use crate::losing::{Loss, Side};
 use jdwp_attach::Attached;
 use jdwp_debugger::{DebuggerFault, Refused};
 use jdwp_pipe::Ended;
+use jdwp_plan::LineFault;
 use jdwp_port::PortFault;
 use jdwp_wire::{FrameFault, Limits};
 use std::io::{ErrorKind, Write};
@@ -21,8 +22,9 @@ pub enum Outcome<'a> {
     Session(Ended),
     /// A session was lost here.
     Lost(Loss<'a>),
-    /// The command of a line of a plan was refused: the number of the line, counted from 1, and that of the refusal.
-    RefusedLine(usize, u16),
+    /// The command of a line of a plan was refused: the number of the line, counted from 1, that of the refusal, and how many commands may
+    /// wait.
+    RefusedLine(usize, u16, u32),
     /// This was told of a capture.
     Capture(Told),
 }
@@ -58,29 +60,34 @@ impl<'a> Outcome<'a> {
         }
     }
 
-    /// Of the session of a plan, as `of_session`; where the command of a line was refused, this line is told.
+    /// Of the session of a plan within these limits, as `of_session`; where the command of a line was refused, this line is told.
     pub fn of_plan(
         how: Attached,
+        limits: Limits,
         from: Side<'a>,
         to: Side<'a>,
         output: Option<io::Error>,
     ) -> Outcome<'a>
-        ensures { IsEndOfPlan how from.entry to.entry output result }
+        ensures { IsEndOfPlan how limits from.entry to.entry output result }
     {
         match how {
-            Attached::RefusedLine { line, number } => Outcome::RefusedLine(line, number),
+            Attached::RefusedLine { line, number } => {
+                Outcome::RefusedLine(line, number, limits.pending())
+            }
             Attached::Ended(ended) => Outcome::of_session(ended, from, to, output),
         }
     }
 
-    /// Of the session of a plan that no file was read or written in, and which printed on an output that failed with `output`, if it did.
+    /// Of the session of a plan within these limits that no file was read or written in, and which printed on an output that failed with `output`, if it did.
     /// Where the command of a line was refused, this line is told; where the session was lost at a write and the output failed, that is
     /// told, and no connection is blamed.
-    pub fn without_files(how: Attached, output: Option<io::Error>) -> Outcome<'a>
-        ensures { IsEndWithoutFiles how output result }
+    pub fn without_files(how: Attached, limits: Limits, output: Option<io::Error>) -> Outcome<'a>
+        ensures { IsEndWithoutFiles how limits output result }
     {
         match how {
-            Attached::RefusedLine { line: at, number } => Outcome::RefusedLine(at, number),
+            Attached::RefusedLine { line: at, number } => {
+                Outcome::RefusedLine(at, number, limits.pending())
+            }
             Attached::Ended(Ended::LostByWrite) => match output {
                 Some(error) if error.kind() == ErrorKind::BrokenPipe => {
                     Outcome::Lost(Loss::ReaderGone)
@@ -128,10 +135,8 @@ pub fn report_outcome<E: Write>(outcome: Outcome<'_>, err: &mut E) -> u8
             report_loss(loss, err);
             2
         }
-        Outcome::RefusedLine(line, number) => {
-            // What standard error doesn't take is lost.
-            let refusal = Refusal(number);
-            let _ = writeln!(err, "jdwp: line {line} of the plan: {refusal}");
+        Outcome::RefusedLine(line, number, most) => {
+            report_line(line, number, most, err);
             1
         }
         Outcome::Capture(Told::Faultless) => 0,
@@ -166,6 +171,26 @@ fn report_end<E: Write>(ended: Ended, err: &mut E) {
     };
 }
 
+/// Tells which line of a plan was refused, and why, where so many commands may wait. What standard error doesn't take is lost.
+fn report_line<E: Write>(line: usize, number: u16, most: u32, err: &mut E) {
+    let _ = if number == Refused::Busy.number() {
+        let busy = Refused::Busy;
+        let commands = if most == 1 { "command" } else { "commands" };
+        writeln!(
+            err,
+            "jdwp: line {line} of the plan: {busy}: {most} {commands} at most"
+        )
+    } else if number == 0 {
+        writeln!(
+            err,
+            "jdwp: line {line} of the plan: {}",
+            LineFault::PairAlone
+        )
+    } else {
+        writeln!(err, "jdwp: line {line} of the plan: {}", Refusal(number))
+    };
+}
+
 /// Tells where a session was lost. What standard error doesn't take is lost.
 fn report_loss<E: Write>(loss: Loss<'_>, err: &mut E) {
     let _ = match loss {
@@ -186,8 +211,9 @@ const FRAME_FAULTS: [FrameFault; 3] = [
 ];
 
 /// Why a debugger refuses a command.
-const REFUSED: [Refused; 5] = [
+const REFUSED: [Refused; 6] = [
     Refused::NotReady,
+    Refused::Busy,
     Refused::Closed,
     Refused::TooLong,
     Refused::NoMemory,
@@ -219,10 +245,6 @@ impl fmt::Display for Refusal {
             if fault.number() == number {
                 return write!(f, "{fault}");
             }
-        }
-        if number == Refused::Busy.number() {
-            let most = Limits::standard().pending();
-            return write!(f, "{}: {most} commands at most", Refused::Busy);
         }
         write!(f, "fault {number}: {}", words_of(number))
     }

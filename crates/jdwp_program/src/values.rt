@@ -1,6 +1,9 @@
 //! The values of options.
-ghost use Rattle.std.specs.Prelude.{◌≡◌, ◌↔◌, ℕ, Some, true, false, codes};
-ghost use Rattle.jdwp_program.specs.Values.{IsDecimal};
+ghost use Rattle.std.specs.Prelude.{◌≡◌, ◌↔◌, ℕ, List, Some, IfSome, MatchOption, true, false, codes};
+ghost use Rattle.jdwp_wire.specs.Limits as wire;
+ghost use Rattle.jdwp_program.specs.Values.{AreNumbers, IsDecimal, IsPartedByComma, IsSaidBy};
+
+use jdwp_wire::Limits;
 
 /// Whether a target starts with every thread suspended: `all`, or `none`.
 pub fn is_all(text: &str) -> Option<bool>
@@ -24,4 +27,37 @@ pub fn decimal(text: &str) -> Option<u32>
         return None;
     }
     text.parse::<u32>().ok()
+}
+
+/// The limits of a session that four numbers say, in decimal with a comma between each two: the most bytes of a packet, and how many live
+/// threads, event requests and commands that wait there may be. None where the text is something else, or these are no limits.
+pub fn limits(text: &str) -> Option<Limits>
+    ensures { (limits : wire.Limits) → (result ≡ Some limits) ↔ IsSaidBy text.now limits }
+{
+    let (packet, others) = parted(text)?;
+    let (live, others) = parted(others)?;
+    let (requests, pending) = parted(others)?;
+    of_numbers(packet, live, requests, pending)
+}
+
+/// What stands before the first comma of a text, and what behind it; None where it has none.
+fn parted(text: &str) -> Option<(&str, &str)>
+    ensures some { IfSome result (λ parts. IsPartedByComma text.now parts.0.now parts.1.now) }
+    ensures only { (before behind : List ℕ) → IsPartedByComma text.now before behind
+        → MatchOption result ⊥ (λ parts. (parts.0.now ≡ before) × (parts.1.now ≡ behind)) }
+{
+    text.split_once(',')
+}
+
+/// The limits that these numbers are.
+fn of_numbers(packet: &str, live: &str, requests: &str, pending: &str) -> Option<Limits>
+    ensures { (limits : wire.Limits) → (result ≡ Some limits)
+        ↔ AreNumbers packet.now live.now requests.now pending.now limits }
+{
+    Limits::new(
+        decimal(packet)?,
+        decimal(live)?,
+        decimal(requests)?,
+        decimal(pending)?,
+    )
 }

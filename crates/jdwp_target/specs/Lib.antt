@@ -9,3 +9,4 @@ pub mod StepParts
 pub mod Lives
 pub mod Closings
 pub mod TakingLaws
+pub mod SetupNumbers

@@ -13,6 +13,10 @@ pub record TargetOptions : Type 0 where
 abbrev pub settings_at : Limits → TargetOptions → Settings
 settings_at limits options = record { start_all = options.start_all; count_limit = options.count_limit; limits = limits }
 
+-- a thread of the machine lives
+abbrev pub Lives : {S : Type 0} → Meaning S → S → Type 0
+Lives m machine = 1 ≤ length (m.live machine)
+
 -- a thread of the machine lives, and no more than there may be
 abbrev pub LivesWithin : {S : Type 0} → Meaning S → Limits → S → Type 0
 LivesWithin m limits machine = (1 ≤ length (m.live machine)) × (length (m.live machine) ≤ limits.live)

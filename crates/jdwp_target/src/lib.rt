@@ -8,6 +8,7 @@ mod numbers;
 mod options;
 mod sending;
 mod session_end;
+mod setup;
 mod stepping;
 mod target;
 mod turning;
@@ -16,4 +17,5 @@ pub use laws::{
     closes_for_a_reason, encodes_start_and_death, goes_on_at_each_call, numbers_composites_in_order,
 };
 pub use options::TargetOptions;
+pub use setup::SetupFault;
 pub use target::{Stepped, Target, TargetFault, Turn};

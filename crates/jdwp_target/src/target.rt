@@ -1,5 +1,5 @@
 //! The debuggee's end of a session.
-ghost use Rattle.std.specs.Prelude.{◌≡◌, ◌≤◌, ◌<◌, ◌++◌, ◌↔◌, ℕ, [], true, false, IfOk, IfSome, IsTrue, is_some, length, take, drop, min};
+ghost use Rattle.std.specs.Prelude.{◌≡◌, ◌≤◌, ◌<◌, ◌++◌, ◌↔◌, ℕ, [], true, false, Err, IfOk, IfSome, IsTrue, is_some, length, take, drop, min};
 ghost use Rattle.jdwp_wire.specs.Bytes.{IsBytes};
 ghost use Rattle.jdwp_wire.specs.Limits.{standard_limits};
 ghost use Rattle.jdwp_wire.specs.Streams.{More};
@@ -7,10 +7,12 @@ ghost use Rattle.jdwp_end.specs.Ends as ends;
 ghost use Rattle.jdwp_end.specs.Ends.{front_of, most_outgoing, room_of};
 ghost use Rattle.jdwp_machine.specs.Meanings.{has, numbers};
 ghost use Rattle.jdwp_debuggee.specs.State as spec;
-ghost use Rattle.jdwp_target.specs.Options.{LivesWithin, settings_at};
+ghost use Rattle.jdwp_target.specs.Options.{Lives, LivesWithin, settings_at};
+ghost use Rattle.jdwp_target.specs.declared.setup.SetupFault.TheVariants as setup;
 ghost use Rattle.jdwp_target.specs.Targets.{Ran, lost, new_target, opened, with_fed, with_taken};
 
 use crate::options::TargetOptions;
+use crate::setup::SetupFault;
 use jdwp_debuggee::{Debuggee, Settings};
 use jdwp_end::{End, Phase};
 use jdwp_event::Requests;
@@ -107,6 +109,33 @@ impl<M: Machine + Drop> Target<M> {
             (record { state = spec.new_state (M.meaning.live machine); machine = machine })) }
     {
         Target::with_settings(alloc, machine, options.settings(Limits::standard()))
+    }
+
+    /// The same within these limits. At least one thread of the machine lives.
+    ///
+    /// # Errors
+    /// `TooManyThreads` exactly where more threads live than `limits` let live, whatever memory there is; `NoMemory` where an allocation
+    /// was refused.
+    pub fn with_limits(
+        alloc: Global,
+        machine: M,
+        options: TargetOptions,
+        limits: Limits,
+    ) -> Result<Target<M>, SetupFault>
+        requires { Lives M.meaning machine }
+        ensures target { IfOk result (λ t.
+            t ≡ new_target (settings_at limits options) (record {
+              state = spec.new_state
+                  (M.meaning.live machine);
+              machine = machine;
+            })) }
+        ensures threads { (result ≡ Err setup.TooManyThreads)
+            ↔ (limits.live < length (M.meaning.live machine)) }
+    {
+        if machine.live().len() > limits.live() as usize {
+            return Err(SetupFault::TooManyThreads);
+        }
+        Ok(Target::with_settings(alloc, machine, options.settings(limits))?)
     }
 
     /// The same with these settings, within their limits: the machine has 1 to `settings.limits().live()` live threads.

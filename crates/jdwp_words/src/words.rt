@@ -6,7 +6,7 @@ ghost use Rattle.jdwp_words.specs.Commands.{KeepsFile, KeepsFiles, RunsPlanOnlyW
 use clap::error::ErrorKind;
 use clap::{Arg, ArgAction, ArgMatches, Command, Error, value_parser};
 use jdwp_debuggee::Settings;
-use jdwp_program::{Fault, decimal, is_all};
+use jdwp_program::{Fault, decimal, is_all, limits};
 use jdwp_wire::Limits;
 use jdwp_wire::number::GREATEST_INT;
 use std::alloc::{AllocError, Global};
@@ -48,31 +48,34 @@ pub struct SessionFiles<'a> {
     pub to: &'a str,
 }
 
-/// `serve-script MACHINE (--from F --to F | --port N) [--start all|none] [--count-limit N] [--turns N]`.
+/// `serve-script MACHINE (--from F --to F | --port N) [--start all|none] [--count-limit N] [--limits L] [--turns N]`.
 #[derive(Clone, Copy, Debug, PartialEq, Eq)]
 pub struct ServeScript<'a> {
     /// The file of the machine's script.
     pub machine: &'a str,
     /// Where the debugger is.
     pub peer: Peer<'a>,
-    /// Whether every thread is suspended when the target starts, and the greatest suspend count that a Suspend gives.
+    /// Whether every thread is suspended when the target starts, the greatest suspend count that a Suspend gives, and the limits of a
+    /// session.
     pub settings: Settings,
     /// How many rounds a session has at most.
     pub turns: u32,
 }
 
-/// `attach PLAN (--from F --to F | --port N) [--turns N]`.
+/// `attach PLAN (--from F --to F | --port N) [--limits L] [--turns N]`.
 #[derive(Clone, Copy, Debug, PartialEq, Eq)]
 pub struct Attach<'a> {
     /// The file of the plan.
     pub plan: &'a str,
     /// Where the target is.
     pub peer: Peer<'a>,
+    /// The limits of the session.
+    pub limits: Limits,
     /// How many turns the session has at most.
     pub turns: u32,
 }
 
-/// `pair MACHINE PLAN [--memory] [--start all|none] [--turns N]`.
+/// `pair MACHINE PLAN [--memory] [--start all|none] [--limits L] [--turns N]`.
 #[derive(Clone, Copy, Debug, PartialEq, Eq)]
 pub struct Pair<'a> {
     /// The file of the machine's script.
@@ -81,7 +84,7 @@ pub struct Pair<'a> {
     pub plan: &'a str,
     /// What is between both ends.
     pub between: Between,
-    /// Whether every thread is suspended when the target starts.
+    /// Whether every thread is suspended when the target starts, and the limits of both ends.
     pub settings: Settings,
     /// How many rounds the run has at most.
     pub turns: u32,
@@ -246,21 +249,49 @@ fn read_settings<'a>(
     of: Name,
 ) -> Result<Settings, Fault<'a>> {
     let start = value(alloc, found, "start")?;
-    match settings(start, count_limit) {
+    let limits = read_limits(alloc, found, of)?;
+    match settings(start, count_limit, limits) {
         Some(settings) => Ok(settings),
         None => Err(bad_words(alloc, named_in_full(alloc, of), "the options don't read")),
     }
 }
 
 /// The settings that these are; None where they are no settings.
-fn settings(start: &str, count_limit: u32) -> Option<Settings> {
-    Settings::new(is_all(start)?, count_limit, Limits::standard())
+fn settings(start: &str, count_limit: u32, limits: Limits) -> Option<Settings> {
+    Settings::new(is_all(start)?, count_limit, limits)
+}
+
+/// The limits that the option says, or the standard ones.
+fn read_limits<'a>(alloc: Global, found: &ArgMatches<'a>, of: Name) -> Result<Limits, Fault<'a>> {
+    let Some(text) = found.get_str("limits") else {
+        return Ok(Limits::standard());
+    };
+    match limits(text) {
+        Some(limits) => Ok(limits),
+        None => Err(bad_limits(alloc, text, of)),
+    }
+}
+
+/// The value of an option of this command that is no limits, told with the command's usage.
+fn bad_limits<'a>(alloc: Global, text: &str, of: Name) -> Fault<'a> {
+    match limits_message(alloc, text) {
+        Ok(message) => bad_words(alloc, named_in_full(alloc, of), message.as_str()),
+        Err(_) => Fault::NoMemory,
+    }
+}
+
+/// That this value of `--limits` is none.
+fn limits_message(alloc: Global, text: &str) -> Result<String, AllocError> {
+    format!(in alloc;
+        "invalid value '{text}' for '--limits <PACKET,LIVE,REQUESTS,PENDING>': PACKET is 2048 to 1048576, the others are 1 to 1024, and 16 + 542 * REQUESTS is at most PACKET"
+    )
 }
 
 fn read_attach<'a>(alloc: Global, found: &ArgMatches<'a>) -> Result<Attach<'a>, Fault<'a>> {
     Ok(Attach {
         plan: value(alloc, found, "plan")?,
         peer: read_peer(alloc, found, Name::Attach)?,
+        limits: read_limits(alloc, found, Name::Attach)?,
         turns: number(alloc, found, "turns", Name::Attach)?,
     })
 }
@@ -435,6 +466,7 @@ fn serve_script<'a>(alloc: Global) -> Result<Command<'a>, AllocError> {
         port(alloc, "The port of 127.0.0.1 at which debuggers connect")?,
         start(alloc),
         count_limit(alloc),
+        limits_option(alloc),
         turns(alloc, "How many rounds a session has at most"),
     ]?;
     Command::new(alloc, "serve-script")
@@ -445,11 +477,13 @@ fn serve_script<'a>(alloc: Global) -> Result<Command<'a>, AllocError> {
 }
 
 fn attach_command<'a>(alloc: Global) -> Result<Command<'a>, AllocError> {
+    let lines = "A text of lines `ask SET NUMBER [HEX]`, `answers`, `events N` and `mirror`";
     let arguments = vec![in alloc;
-        plan(alloc),
+        plan(alloc, lines),
         from(alloc, "What the target sent, in bytes")?,
         to(alloc, "Where the debugger's bytes are written")?,
         port(alloc, "The port of 127.0.0.1 at which the target listens")?,
+        limits_option(alloc),
         turns(alloc, "How many turns the session has at most"),
     ]?;
     Command::new(alloc, "attach")
@@ -460,11 +494,13 @@ fn attach_command<'a>(alloc: Global) -> Result<Command<'a>, AllocError> {
 }
 
 fn pair_command<'a>(alloc: Global) -> Result<Command<'a>, AllocError> {
+    let lines = "As of `attach`, and lines `lose target`, `lose debugger` and `attach`";
     let arguments = vec![in alloc;
         machine(alloc),
-        plan(alloc),
+        plan(alloc, lines),
         memory(alloc),
         start(alloc),
+        limits_option(alloc),
         turns(alloc, "How many rounds the run has at most"),
     ]?;
     Command::new(alloc, "pair")
@@ -481,8 +517,7 @@ fn machine<'a>(alloc: Global) -> Arg<'a> {
 }
 
 /// The file of a plan.
-fn plan<'a>(alloc: Global) -> Arg<'a> {
-    let help = "A text of lines `ask SET NUMBER [HEX]`, `answers`, `events N` and `mirror`";
+fn plan<'a>(alloc: Global, help: &'a str) -> Arg<'a> {
     file(alloc, "plan", "PLAN", help)
 }
 
@@ -524,6 +559,12 @@ fn count_limit<'a>(alloc: Global) -> Arg<'a> {
     option(alloc, "count-limit", "N", help)
         .value_parser(value_parser!(u32).range(1..=i64::from(GREATEST_INT)))
         .default_value("65535")
+}
+
+/// The limits of a session.
+fn limits_option<'a>(alloc: Global) -> Arg<'a> {
+    let help = "The most bytes of a packet, live threads, event requests and commands that wait";
+    option(alloc, "limits", "PACKET,LIVE,REQUESTS,PENDING", help)
 }
 
 /// The most turns of a session.

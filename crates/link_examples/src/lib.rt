@@ -9,6 +9,8 @@ mod asserts;
 #[cfg(test)]
 mod idle_tests;
 #[cfg(test)]
+mod limit_tests;
+#[cfg(test)]
 mod loss_tests;
 #[cfg(test)]
 mod losses;

@@ -9,7 +9,7 @@ use std::process::Abort;
 use std::test::Fail;
 
 /// Two threads, of which the first calls a method, moves in it and returns, and the second has run out.
-const MACHINE_A: &str = "{\"name\":\"A\",\"sizes\":[8,8,8,8,8],
+pub(crate) const MACHINE_A: &str = "{\"name\":\"A\",\"sizes\":[8,8,8,8,8],
 \"groups\":[{\"id\":5,\"name\":\"main\",\"parent\":0}],
 \"classes\":[{\"id\":10,\"tag\":1,\"signature\":\"LMain;\",\"modifiers\":1,
  \"super\":0,\"interfaces\":[],\"source\":\"Main.java\",\"fields\":[],

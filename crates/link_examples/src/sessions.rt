@@ -194,7 +194,7 @@ fn is_so<M: Machine + Drop>(link: &Link<M>, line: &Line) -> bool {
 }
 
 /// The place, from 0, of the first line that does not hold; the number of lines where something is told that none has; None where all hold.
-fn first_wrong<M: Machine + Drop>(
+pub(crate) fn first_wrong<M: Machine + Drop>(
     alloc: Global,
     link: &mut Link<M>,
     lines: &[Line],

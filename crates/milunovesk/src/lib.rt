@@ -39,7 +39,7 @@ pub use jdwp_end::SessionEnd;
 
 // The debuggee's end.
 pub use jdwp_debuggee::Settings;
-pub use jdwp_target::{Stepped, Target, TargetFault, TargetOptions, Turn};
+pub use jdwp_target::{SetupFault, Stepped, Target, TargetFault, TargetOptions, Turn};
 
 // The debugger's end.
 pub use jdwp_debugger::{

@@ -1,6 +1,6 @@
 //! Runs over connections that fail, and over one whose answers are long.
 use crate::asserts::{expect_same, expect_same_for};
-use crate::runs::{READY, Writer, run_script, run_text};
+use crate::runs::{READY, Writer, run_script, run_text, standard};
 use jdwp_link::{Side, Way};
 use jdwp_pair::{Connection, Loopback, PairEnded};
 use jdwp_plan::read_plan;
@@ -182,7 +182,8 @@ fn long_answers_pass_a_connection(rt: HostRuntime) -> Result<(), Fail> {
     let plan = read_plan(alloc, &plan)?;
     let writer = Writer::failing(alloc, 0, 0);
     let mut loopback = Loopback::new(&rt);
-    let (ended, told) = run_script(alloc, &mut loopback, &script, true, &plan, writer, 100)?;
+    let settings = standard(true)?;
+    let (ended, told) = run_script(alloc, &mut loopback, &script, settings, &plan, writer, 100)?;
     expect_same(&rt, &ended, &PairEnded::Done);
     expect_same(&rt, &told.as_slice(), &lines.as_bytes());
     Ok(())

@@ -1,8 +1,13 @@
 //! Runs of both ends by plans over machine A, line for line.
 use crate::asserts::expect_same;
-use crate::runs::{CASE, Case, READY, Writer, passes, passes_over, run_text};
+use crate::runs::{
+    CASE, Case, MACHINE_A, READY, Writer, passes, passes_over, run_script, run_text,
+};
+use jdwp_debuggee::Settings;
 use jdwp_link::Memory;
 use jdwp_pair::{Connection, Loopback, PairEnded};
+use jdwp_plan::read_plan;
+use jdwp_wire::Limits;
 use std::alloc::Global;
 use std::process::Abort;
 use std::test::Fail;
@@ -348,4 +353,21 @@ fn a_command_that_is_too_long_is_refused(rt: HostRuntime) -> Result<(), Fail> {
         number: 34,
     };
     is_run_long(&rt, rt.alloc(), &mut Memory, 65_526, refused, READY)
+}
+
+/// How the breakpoint's run ends within these limits, and what it prints.
+fn run_within(alloc: Global, limits: Limits) -> Result<(PairEnded, Vec<u8>), Fail> {
+    let settings = Settings::new(true, 65_535, limits).ok_or("a count limit")?;
+    let (plan, writer) = (read_plan(alloc, BREAKPOINT)?, Writer::failing(alloc, 0, 0));
+    run_script(alloc, &mut Memory, MACHINE_A, settings, &plan, writer, 1000)
+}
+
+/// Within limits that are large enough the lines are the same.
+#[test]
+fn both_ends_keep_the_limits(rt: HostRuntime) -> Result<(), Fail> {
+    let limits = Limits::new(4096, 8, 2, 4).ok_or("no limits")?;
+    let (ended, lines) = run_within(rt.alloc(), limits)?;
+    expect_same(&rt, &ended, &PairEnded::Done);
+    expect_same(&rt, &lines.as_slice(), &WHOLE.lines.as_bytes());
+    Ok(())
 }

@@ -97,17 +97,21 @@ impl Write for Writer {
     }
 }
 
+/// Settings within the standard limits.
+pub(crate) fn standard(start_all: bool) -> Result<Settings, Fail> {
+    Ok(Settings::new(start_all, 65_535, Limits::standard()).ok_or("a count limit")?)
+}
+
 /// How a run over the machine of this script ends, and what it prints.
 pub(crate) fn run_script<C: Connection>(
     alloc: Global,
     connection: &mut C,
     script: &str,
-    start_all: bool,
+    settings: Settings,
     plan: &[PlanLine],
     writer: Writer,
     rounds: u32,
 ) -> Result<(PairEnded, Vec<u8>), Fail> {
-    let settings = Settings::new(start_all, 65_535, Limits::standard()).ok_or("a count limit")?;
     let mut out: Streams<Empty, Writer> = Streams::new(io::empty(), writer);
     let ended = pair_script(alloc, script, settings, connection, plan, &mut out, rounds)?;
     let (_, writer) = out.into_parts();
@@ -123,9 +127,9 @@ pub(crate) fn run_text<C: Connection>(
     writer: Writer,
     rounds: u32,
 ) -> Result<(PairEnded, Vec<u8>), Fail> {
-    let plan = read_plan(alloc, plan)?;
+    let (plan, settings) = (read_plan(alloc, plan)?, standard(start_all)?);
     run_script(
-        alloc, connection, MACHINE_A, start_all, &plan, writer, rounds,
+        alloc, connection, MACHINE_A, settings, &plan, writer, rounds,
     )
 }
 

@@ -4,6 +4,7 @@ use jdwp_attach::Attached;
 use jdwp_pipe::{Ended, Streams};
 use jdwp_plan::{LineFault, PlanFault, read_plan};
 use jdwp_program::{Fault, Outcome, attach_plan, attach_session, report_fault, report_outcome};
+use jdwp_wire::Limits;
 use std::alloc::Global;
 use std::io;
 use std::io::Cursor;
@@ -51,9 +52,14 @@ struct Ran {
 }
 
 fn run(alloc: Global, plan: &str, from: &[u8], turns: u32) -> Ran {
+    run_within(alloc, Limits::standard(), plan, from, turns)
+}
+
+/// The same within these limits.
+fn run_within(alloc: Global, limits: Limits, plan: &str, from: &[u8], turns: u32) -> Ran {
     let mut pipe = Streams::new(from, Cursor::new(Vec::new(alloc)));
     let mut out = Streams::new(io::empty(), Cursor::new(Vec::new(alloc)));
-    let result = attach_plan(alloc, plan, &mut pipe, &mut out, turns);
+    let result = attach_plan(alloc, limits, plan, &mut pipe, &mut out, turns);
     let (_, to) = pipe.into_parts();
     let (_, lines) = out.into_parts();
     Ran {
@@ -349,7 +355,8 @@ fn run_lines(alloc: Global, plan: &str, from: &[u8]) -> Result<Ran, Fail> {
     let plan = read_plan(alloc, plan)?;
     let mut pipe = Streams::new(from, Cursor::new(Vec::new(alloc)));
     let mut out = Streams::new(io::empty(), Cursor::new(Vec::new(alloc)));
-    let how = attach_session(alloc, plan.as_slice(), &mut pipe, &mut out, 1000)?;
+    let limits = Limits::standard();
+    let how = attach_session(alloc, limits, plan.as_slice(), &mut pipe, &mut out, 1000)?;
     let (_, to) = pipe.into_parts();
     let (_, lines) = out.into_parts();
     Ok(Ran {
@@ -380,5 +387,22 @@ fn lines_of_pair_are_refused(rt: HostRuntime) -> Result<(), Fail> {
             printed,
         );
     }
+    Ok(())
+}
+
+/// Where one command may wait, the first line of this plan is asked and the second is refused; two may wait where the limits say so.
+#[test]
+fn as_many_wait_as_the_limits_let(rt: HostRuntime) -> Result<(), Fail> {
+    let one = Limits::new(2048, 2, 1, 1).ok_or("no limits")?;
+    let ran = run_within(rt.alloc(), one, PLAN, &FROM, 100_000);
+    let refused = Attached::RefusedLine {
+        line: 2,
+        number: 32,
+    };
+    expect_same(&rt, &ran.result, &Ok(refused));
+    let two = Limits::new(2048, 2, 1, 3).ok_or("no limits")?;
+    let ran = run_within(rt.alloc(), two, PLAN, &FROM, 100_000);
+    expect_same(&rt, &ran.result, &Ok(Attached::Ended(Ended::Done)));
+    expect_same(&rt, &ran.to.as_slice(), &TO.as_slice());
     Ok(())
 }

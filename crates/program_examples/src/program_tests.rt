@@ -5,7 +5,7 @@ use jdwp_plan::{LineFault, PlanFault};
 use jdwp_port::{PortCause, PortFault};
 use jdwp_program::{
     Fault, FileCause, Loss, Outcome, Side, TellFault, Told, Watched, check_capture, decimal,
-    is_all, report_fault, report_outcome, show_capture, text_of,
+    is_all, limits, report_fault, report_outcome, show_capture, text_of,
 };
 use jdwp_script::{Cause, Detail, Entry, Member, Path, ScriptFault};
 use jdwp_wire::Limits;
@@ -293,7 +293,7 @@ fn faults_of_the_program_are_told(rt: HostRuntime) {
 }
 
 /// How a run ends, its status, and what is told.
-static ENDS: [(Outcome<'static>, u8, &str); 27] = [
+static ENDS: [(Outcome<'static>, u8, &str); 25] = [
     (Outcome::Session(Ended::Done), 0, ""),
     (
         Outcome::Session(Ended::Refused(0)),
@@ -328,7 +328,7 @@ static ENDS: [(Outcome<'static>, u8, &str); 27] = [
     (
         Outcome::Session(Ended::Refused(32)),
         1,
-        "jdwp: fault 32: too much waits: 64 commands at most\n",
+        "jdwp: fault 32: too much waits\n",
     ),
     (
         Outcome::Session(Ended::Refused(33)),
@@ -392,16 +392,6 @@ static ENDS: [(Outcome<'static>, u8, &str); 27] = [
         "jdwp: port 40000: connection refused\n",
     ),
     (Outcome::Lost(Loss::ReaderGone), 2, ""),
-    (
-        Outcome::RefusedLine(3, 36),
-        1,
-        "jdwp: line 3 of the plan: fault 36: a command that no target has, or data that do not read in its layout\n",
-    ),
-    (
-        Outcome::RefusedLine(65, 32),
-        1,
-        "jdwp: line 65 of the plan: fault 32: too much waits: 64 commands at most\n",
-    ),
     (Outcome::Capture(Told::Faultless), 0, ""),
     (Outcome::Capture(Told::Faulty), 1, ""),
     (Outcome::Capture(Told::Unread), 2, ""),
@@ -525,6 +515,49 @@ fn numbers_are_digits_alone(rt: HostRuntime) {
     }
 }
 
+/// Texts that say limits, and these.
+static LIMITS: [(&str, (u32, u32, u32, u32)); 4] = [
+    ("2048,64,3,64", (2048, 64, 3, 64)),
+    ("4096,8,2,4", (4096, 8, 2, 4)),
+    ("1048576,1024,1024,1024", (1048576, 1024, 1024, 1024)),
+    ("065536,1,01,64", (65536, 1, 1, 64)),
+];
+
+/// Texts that say none.
+static NO_LIMITS: [&str; 19] = [
+    "",
+    ",",
+    ",,,",
+    "65536",
+    "65536,64,64",
+    "65536,64,64,",
+    ",64,64,64",
+    "65536,,64,64",
+    "65536,64,64,64,",
+    "65536,64,64,64,64",
+    "65536, 64, 64, 64",
+    "+65536,64,64,64",
+    "65536,64,64,-64",
+    "4295032832,64,64,64",
+    "2048,64,4,64",
+    "2047,64,3,64",
+    "1048577,64,64,64",
+    "65536,0,64,64",
+    "65536,64,64,1025",
+];
+
+#[test]
+fn limits_are_four_numbers(rt: HostRuntime) -> Result<(), Fail> {
+    for &(text, (packet, live, requests, pending)) in LIMITS.iter() {
+        let wanted = Limits::new(packet, live, requests, pending).ok_or("no limits")?;
+        expect_same_for(&rt, &limits(text), &Some(wanted), &text);
+    }
+    for text in NO_LIMITS.iter() {
+        expect_same_for(&rt, &limits(text), &None, text);
+    }
+    Ok(())
+}
+
 /// Gives no byte: its reads fail so, or it is at its end.
 #[derive(Drop)]
 struct Dry {
@@ -618,6 +651,42 @@ fn losses_at_a_write_are_told(rt: HostRuntime) -> Result<(), Fail> {
     let none_taken = write_failure(alloc, 3, ErrorKind::WriteZero);
     assert!(&rt; none_taken.is_some());
     Ok(())
+}
+
+/// A line, the number of its refusal, and how it is told where so many commands may wait.
+static REFUSED_LINES: [(usize, u16, u32, &str); 4] = [
+    (
+        3,
+        36,
+        64,
+        "jdwp: line 3 of the plan: fault 36: a command that no target has, or data that do not read in its layout\n",
+    ),
+    (
+        65,
+        32,
+        64,
+        "jdwp: line 65 of the plan: fault 32: too much waits: 64 commands at most\n",
+    ),
+    (
+        2,
+        32,
+        1,
+        "jdwp: line 2 of the plan: fault 32: too much waits: 1 command at most\n",
+    ),
+    (
+        2,
+        0,
+        64,
+        "jdwp: line 2 of the plan: a line of `pair` alone\n",
+    ),
+];
+
+#[test]
+fn refused_lines_are_told(rt: HostRuntime) {
+    for &(line, number, most, text) in REFUSED_LINES.iter() {
+        let outcome = Outcome::RefusedLine(line, number, most);
+        has_ended(&rt, rt.alloc(), outcome, 1, text);
+    }
 }
 
 /// Only a loss is told by the files.

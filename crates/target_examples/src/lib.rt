@@ -13,6 +13,8 @@ mod extreme_tests;
 #[cfg(test)]
 mod falling;
 #[cfg(test)]
+mod limit_tests;
+#[cfg(test)]
 mod request_tests;
 #[cfg(test)]
 mod round_tests;

@@ -5,7 +5,7 @@ use std::test::Fail;
 
 /// A machine whose thread 1 enters a method, throws an exception that is caught and one that is not, prepares a class, starts thread 2
 /// and returns.
-const ALL_KINDS: &str = "{\"name\":\"kinds\",\"sizes\":[8,8,8,8,8],
+pub(crate) const ALL_KINDS: &str = "{\"name\":\"kinds\",\"sizes\":[8,8,8,8,8],
 \"groups\":[{\"id\":5,\"name\":\"main\",\"parent\":0}],
 \"classes\":[
  {\"id\":13,\"tag\":1,\"signature\":\"LBase;\",\"modifiers\":1,\"super\":0,\"interfaces\":[],\"source\":null,\"fields\":[],\"methods\":[]},

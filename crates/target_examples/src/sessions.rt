@@ -250,7 +250,11 @@ fn is_sent(alloc: Global, target: &mut Target, output: &[u8]) -> Result<bool, Fa
 }
 
 /// The place, from 0, of the first act of which something else comes; None where all is as it is to be.
-fn first_wrong(alloc: Global, target: &mut Target, acts: &[Act]) -> Result<Option<usize>, Fail> {
+pub(crate) fn first_wrong(
+    alloc: Global,
+    target: &mut Target,
+    acts: &[Act],
+) -> Result<Option<usize>, Fail> {
     greet(alloc, target)?;
     for (place, act) in acts.iter().enumerate() {
         if !comes(alloc, target, act)? {
