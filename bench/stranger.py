@@ -22,6 +22,14 @@ import tempfile
 
 ROOT = os.path.dirname(os.path.dirname(os.path.abspath(__file__)))
 HANDSHAKE = b"JDWP-Handshake"
+# Runs a program in a process of its own, so that the peak is the program's and not that of this one, which a child begins with.
+RUNNER = """
+import os, subprocess, sys
+with open(sys.argv[1], "wb") as out, open(sys.argv[2], "wb") as error:
+    process = subprocess.Popen(sys.argv[3:], stdin=subprocess.DEVNULL, stdout=out, stderr=error)
+    _, status, usage = os.wait4(process.pid, 0)
+print(os.waitstatus_to_exitcode(status), usage.ru_utime + usage.ru_stime, usage.ru_maxrss)
+"""
 IDS_ARE_8_BYTES = struct.pack(">IIBHIIIII", 31, 1, 0x80, 0, 8, 8, 8, 8, 8)
 SPREAD = 0x9E3779B97F4A7C15
 MOST = 6.0
@@ -177,18 +185,17 @@ class Bench:
         return path
 
     def run(self, words):
-        """The processor's seconds of the best of three runs, the peak of memory in KiB, and what came of the last."""
-        times, peak = [], 0
+        """The processor's seconds of the best of three runs, the peak of memory in KiB (that of the process that starts it, some 10 MB, where the program takes less), and what came
+        of the last."""
+        times, peaks = [], []
+        out, error = os.path.join(self.folder, "out"), os.path.join(self.folder, "error")
         for _ in range(3):
-            with tempfile.TemporaryFile() as out, tempfile.TemporaryFile() as error:
-                process = subprocess.Popen([self.program, *words], stdin=subprocess.DEVNULL, stdout=out, stderr=error)
-                _, status, usage = os.wait4(process.pid, 0)
-                out.seek(0)
-                error.seek(0)
-                came = os.waitstatus_to_exitcode(status), out.read(), error.read()
-            times.append(usage.ru_utime + usage.ru_stime)
-            peak = max(peak, usage.ru_maxrss)
-        return min(times), peak, came
+            told = subprocess.run([sys.executable, "-S", "-c", RUNNER, out, error, self.program, *words], check=True, capture_output=True, text=True).stdout
+            status, seconds, peak = told.split()
+            times.append(float(seconds))
+            peaks.append(int(peak))
+        with open(out, "rb") as told, open(error, "rb") as refused:
+            return min(times), max(peaks), (int(status), told.read(), refused.read())
 
     def capture(self, make, count):
         text, wanted = make(count)
@@ -204,7 +211,7 @@ class Bench:
     def target(self, make, count):
         content, answered = make(count)
         given, sent = self.file("from", content), os.path.join(self.folder, "to")
-        seconds, peak, came = self.run(["serve-script", MACHINE, "--start", "none", "--from", given, "--to", sent, "--turns", "4000000000"])
+        seconds, peak, came = self.run(["serve-script", MACHINE, "--start", "all", "--from", given, "--to", sent, "--turns", "4000000000"])
         return seconds, peak, came[0] == 0 and os.path.getsize(sent) == answered, came
 
     def debugger(self, make, count):

@@ -1,0 +1,190 @@
+#!/usr/bin/env python3
+"""What the limits of a session cost: memory for small and large ones, and the speed of replies that only a large packet holds.
+
+Runs the program within three limits, the least, the standard and the greatest, and prints
+- memory: what `serve-script` and `attach` asked for and what they used at the peak, in a session at a port in which a message as long as a packet may be came, at each of the limits: the
+  program's own, with that of the C library. To reach: in proportion to the packets (each end has room for a packet that came and for two that leave);
+- replies: AllClassesWithGeneric of a script of 1,024 classes with signatures of 500 bytes, half a megabyte a reply, within the greatest limits; beside it a script of 120 such classes, whose
+  reply fits a packet of 65,536 bytes, within the standard ones, asked so often that as many bytes are answered. Bytes answered a second, the best of five runs by the processor's time, one in
+  turn with the other, each less the time of a session that ends at once. To reach: no fewer bytes a second in the large packets.
+
+    bench/limits.py [PROGRAM]
+
+PROGRAM is crates/jdwp/out/jdwp where none is given; `rt run` in crates/jdwp builds it.
+"""
+
+import json
+import os
+import socket
+import struct
+import subprocess
+import sys
+import tempfile
+import time
+
+ROOT = os.path.dirname(os.path.dirname(os.path.abspath(__file__)))
+HANDSHAKE = b"JDWP-Handshake"
+LIMITS = ("2048,2,1,1", "65536,64,64,64", "1048576,1024,1024,1024")
+SIGNATURE = 500
+ANSWERED = 200_000_000
+RUNS = 5
+
+
+def command(number, command_set, command_number, data=b""):
+    return struct.pack(">IIBBB", 11 + len(data), number, 0, command_set, command_number) + data
+
+
+def machine(classes):
+    """A script of so many classes, and of one thread that has run out."""
+    return {
+        "name": "limits",
+        "sizes": [8, 8, 8, 8, 8],
+        "groups": [{"id": 1, "name": "main", "parent": 0}],
+        "classes": [
+            {"id": 10 + i, "tag": 1, "signature": f"L{i:0{SIGNATURE - 2}};", "modifiers": 1, "super": 0, "interfaces": [], "source": None, "fields": [], "methods": []}
+            for i in range(classes)
+        ],
+        "objects": [],
+        "threads": [{"id": 2, "name": "main", "group": 1, "steps": []}],
+    }
+
+
+def run(words):
+    """Runs the words; the processor's seconds."""
+    process = subprocess.Popen(words, stdout=subprocess.DEVNULL, stderr=subprocess.PIPE)
+    told = process.stderr.read().decode()
+    _, ended, usage = os.wait4(process.pid, 0)
+    if os.waitstatus_to_exitcode(ended) != 0:
+        sys.exit(f"{words}: status {os.waitstatus_to_exitcode(ended)}: {told}")
+    return usage.ru_utime + usage.ru_stime
+
+
+def written(folder, name, data):
+    path = os.path.join(folder, name)
+    with open(path, "wb") as file:
+        file.write(data)
+    return path
+
+
+def serve(program, folder, script, session, limits):
+    made = os.path.join(folder, "to")
+    return run([program, "serve-script", script, "--from", session, "--to", made, "--limits", limits, "--turns", "4000000000"])
+
+
+def of_process(pid):
+    """How many KB of memory a process asked for, and how many it used at the peak."""
+    with open(f"/proc/{pid}/status", encoding="ascii") as status:
+        lines = {line.split(":")[0]: line.split()[1] for line in status if line.startswith(("VmData:", "VmHWM:"))}
+    return int(lines["VmData"]), int(lines["VmHWM"])
+
+
+def receive(connection, count):
+    came = b""
+    while len(came) < count:
+        part = connection.recv(count - len(came))
+        if not part:
+            sys.exit("the connection was closed")
+        came += part
+    return came
+
+
+def connected(port):
+    until = time.monotonic() + 10
+    while True:
+        try:
+            return socket.create_connection(("127.0.0.1", port))
+        except ConnectionRefusedError:
+            if time.monotonic() > until:
+                raise
+            time.sleep(0.01)
+
+
+def free_port():
+    with socket.socket() as it:
+        it.bind(("127.0.0.1", 0))
+        return it.getsockname()[1]
+
+
+def target_memory(program, limits):
+    """Of a target in a session, behind a command as long as a packet may be."""
+    port, packet = free_port(), int(limits.split(",")[0])
+    script = os.path.join(ROOT, "examples", "A.json")
+    process = subprocess.Popen([program, "serve-script", script, "--port", str(port), "--limits", limits])
+    with connected(port) as debugger:
+        debugger.sendall(HANDSHAKE + command(1, 77, 77, bytes(packet - 11)))
+        receive(debugger, 14 + 29 + 11)
+        memory = of_process(process.pid)
+        debugger.sendall(command(2, 1, 10, bytes(4)))
+    if process.wait() != 0:
+        sys.exit("the target did not end")
+    return memory
+
+
+def debugger_memory(program, folder, limits):
+    """Of a debugger in a session, behind a reply as long as a packet may be."""
+    packet = int(limits.split(",")[0])
+    plan = written(folder, "plan", b"ask 1 4\nanswers\nevents 1\n")
+    with socket.create_server(("127.0.0.1", 0)) as listener:
+        process = subprocess.Popen([program, "attach", plan, "--port", str(listener.getsockname()[1]), "--limits", limits], stdout=subprocess.DEVNULL)
+        with listener.accept()[0] as target:
+            receive(target, 14)
+            target.sendall(HANDSHAKE)
+            receive(target, 11)
+            target.sendall(struct.pack(">IIBHIIIII", 31, 1, 0x80, 0, 8, 8, 8, 8, 8))
+            receive(target, 11)
+            threads = (packet - 15) // 8
+            target.sendall(struct.pack(">IIBHI", 15 + 8 * threads, 2, 0x80, 0, threads) + b"".join(struct.pack(">Q", 1 + i) for i in range(threads)))
+            time.sleep(0.5)
+            memory = of_process(process.pid)
+            target.sendall(struct.pack(">IIBBBBIBI", 21, 1, 0, 64, 100, 0, 1, 99, 0))
+        if process.wait() != 0:
+            sys.exit("the debugger did not end")
+    return memory
+
+
+def memory(program, folder):
+    for limits in LIMITS:
+        asked_for, used = target_memory(program, limits)
+        print(f"{limits}: serve-script asked for {asked_for} KB and used {used} KB")
+        asked_for, used = debugger_memory(program, folder, limits)
+        print(f"{limits}: attach asked for {asked_for} KB and used {used} KB")
+
+
+def asked(times):
+    return HANDSHAKE + b"".join(command(i, 1, 20) for i in range(1, times + 1)) + command(times + 1, 1, 6)
+
+
+def reply_bytes(folder, program, script, session, limits):
+    """How many bytes a session's target writes."""
+    serve(program, folder, script, session, limits)
+    return os.path.getsize(os.path.join(folder, "to"))
+
+
+def replies(program, folder):
+    ways = []
+    for name, classes, limits in (("standard", 120, LIMITS[1]), ("greatest", 1024, LIMITS[2])):
+        script = written(folder, name, json.dumps(machine(classes)).encode())
+        none = written(folder, f"{name}.none", asked(0))
+        once = reply_bytes(folder, program, script, written(folder, f"{name}.once", asked(1)), limits) - reply_bytes(folder, program, script, none, limits)
+        times = ANSWERED // once
+        ways.append((name, limits, script, none, written(folder, f"{name}.session", asked(times)), once, times, []))
+    for _ in range(RUNS):
+        for _name, limits, script, none, session, _once, _times, seconds in ways:
+            idle = serve(program, folder, script, none, limits)
+            seconds.append(serve(program, folder, script, session, limits) - idle)
+    rates = []
+    for name, limits, _script, _none, _session, once, times, seconds in ways:
+        rates.append(once * times / min(seconds))
+        print(f"{limits}: {times} replies of {once} bytes, {rates[-1] / 1e6:.0f} MB answered a second")
+    print(f"the large packets reach {rates[1] / rates[0]:.2f} of the bytes a second of the standard ones")
+
+
+def main():
+    program = os.path.abspath(sys.argv[1] if len(sys.argv) > 1 else os.path.join(ROOT, "crates", "jdwp", "out", "jdwp"))
+    with tempfile.TemporaryDirectory() as folder:
+        memory(program, folder)
+        replies(program, folder)
+
+
+if __name__ == "__main__":
+    main()
