@@ -1,5 +1,5 @@
 //! Readers and writers that keep why they failed.
-ghost use Rattle.std.specs.Prelude.{◌≡◌, ◌≤◌, length, None, IfErr, IfOk};
+ghost use Rattle.std.specs.Prelude.{◌≡◌, ◌≤◌, ◌<◌, length, true, None, is_some, IfErr, IfOk};
 ghost use Rattle.std.specs.Io.KnownBytes.{Keeps, ReadConsumes, WriteAppends};
 ghost use Rattle.jdwp_program.specs.Watching.{Notes, failure_of, inner_of};
 
@@ -71,6 +71,10 @@ impl<W: Write> Write for Watched<W> {
             (W.contents (inner_of self.new)) result bytes.now }
         ensures noted { IfErr result (λ error. Notes (failure_of self.old) error
             (failure_of self.new)) }
+        ensures none { IfOk result (λ count. count ≡ 0 → 0 < length bytes.now
+            → is_some (failure_of self.new) ≡ true) }
+        ensures some { IfOk result (λ count. 0 < count
+            → failure_of self.new ≡ failure_of self.old) }
     {
         let written = self.inner.write(bytes);
         match written {
