@@ -1,0 +1,119 @@
+//! Ends and links that are not made.
+use crate::asserts::{expect_at_least, expect_same};
+use crate::machine_a::MACHINE_A;
+use crate::supply::{MOST_TIMES, Stop};
+use jdwp_debugger::Debugger;
+use jdwp_link::Link;
+use jdwp_script_machine::ScriptMachine;
+use jdwp_target::{Target, TargetOptions};
+use jdwp_wire::NoMemory;
+use scarce::Scarce;
+use std::alloc::Global;
+use std::process::Abort;
+
+/// What the process goes on with, in pages: more than a link takes.
+const PAGES: usize = 512;
+
+/// How many crumbs are given back before a call is done again.
+const CRUMBS: u32 = 64;
+
+/// What is made.
+#[derive(Clone, Copy)]
+enum Made {
+    Target,
+    Debugger,
+    Link,
+}
+
+/// Makes a target over a machine, or a link, and drops it.
+fn is_made(
+    alloc: Global,
+    machine: ScriptMachine,
+    options: TargetOptions,
+    made: Made,
+) -> Result<(), NoMemory> {
+    match made {
+        Made::Target => {
+            Target::new(alloc, machine, options)?;
+        }
+        Made::Debugger => {
+            Debugger::new(alloc)?;
+        }
+        Made::Link => {
+            Link::new(alloc, machine, options)?;
+        }
+    }
+    Ok(())
+}
+
+/// A machine, and options with which no thread is suspended as the first session begins.
+fn parts(alloc: Global) -> Result<(ScriptMachine, TargetOptions), Stop> {
+    let Some(options) = TargetOptions::new(false, 65_535) else {
+        return Err(Stop::Wrong("the count limit is refused"));
+    };
+    Ok((ScriptMachine::read(alloc, MACHINE_A)?, options))
+}
+
+/// How often it is refused to make this while more and more is given back. The machine is read anew each time, with memory.
+fn refusals(alloc: Global, scarce: &mut Scarce, made: Made) -> Result<u32, Stop> {
+    for refused in 0..MOST_TIMES {
+        let (machine, options) = parts(alloc)?;
+        if !scarce.starve() {
+            return Err(Stop::Wrong("memory is left"));
+        }
+        for _ in 0..refused.saturating_mul(CRUMBS) {
+            scarce.give();
+        }
+        let came = is_made(alloc, machine, options, made);
+        scarce.relieve();
+        if came.is_ok() {
+            return Ok(refused);
+        }
+    }
+    Err(Stop::Wrong("it is never made"))
+}
+
+/// What is made with all memory taken is refused at each of its large requests, and made once there is enough.
+fn is_refused(rt: &impl Abort, alloc: Global, made: Made, least: u32) -> Result<(), Stop> {
+    let mut scarce = Scarce::take(alloc, PAGES)?;
+    let refused = refusals(alloc, &mut scarce, made)?;
+    drop(scarce);
+    expect_at_least(rt, refused, least);
+    Ok(())
+}
+
+#[test]
+fn a_target_is_not_made(rt: HostRuntime) -> Result<(), Stop> {
+    is_refused(&rt, rt.alloc(), Made::Target, 2)
+}
+
+#[test]
+fn a_debugger_is_not_made(rt: HostRuntime) -> Result<(), Stop> {
+    is_refused(&rt, rt.alloc(), Made::Debugger, 2)
+}
+
+#[test]
+fn a_link_is_not_made(rt: HostRuntime) -> Result<(), Stop> {
+    is_refused(&rt, rt.alloc(), Made::Link, 4)
+}
+
+/// Whether it is made, at most the second time.
+fn is_made_again(alloc: Global, made: Made) -> Result<bool, Stop> {
+    let (machine, options) = match parts(alloc) {
+        Ok(parts) => parts,
+        Err(_) => parts(alloc)?,
+    };
+    if is_made(alloc, machine, options, made).is_ok() {
+        return Ok(true);
+    }
+    let (machine, options) = parts(alloc)?;
+    Ok(is_made(alloc, machine, options, made).is_ok())
+}
+
+#[test]
+fn making_ends_bears_one_refusal(rt: HostRuntime) -> Result<(), Stop> {
+    for made in [Made::Target, Made::Debugger, Made::Link] {
+        expect_same(&rt, &is_made_again(rt.alloc(), made)?, &true);
+    }
+    Ok(())
+}
