@@ -5,7 +5,8 @@ Runs each command of the program with the C library's heap of `refuse_memory.c` 
 process is refused and no other, and the N-th and all behind it are. N rises from 1 until a run meets no refusal. Then it runs the program with ever less address space (`ulimit -v`),
 down to where the system can't start it. Each run has to end with status 3 and `jdwp: no memory` on standard error, what it printed and wrote being a beginning of what it has to print and
 write, or as it ends with ample memory: the same status, and the same bytes on standard output, on standard error and in the file that is written. Prints of each command how many
-requests it makes, how many runs of each kind ended so and so, and each run that ended otherwise; the status is 1 where there is one.
+requests it makes, how many runs of each kind ended so and so, and each run that ended otherwise; the status is 1 where there is one. Only of a script that is refused something else may
+come: its fault with its number and words, but not where it stands, which is looked for with the memory that is left (`placeless`).
 
     bench/refused_memory.py [--each] [PROGRAM]
     bench/refused_memory.py --tests [--each] [TESTS]
@@ -33,7 +34,9 @@ MOST_REQUESTS = 100_000
 MOST_SPACE = 256 << 20
 PAGE = 4096
 NO_MEMORY = b"jdwp: no memory\n"
+SAID = ("no memory", "right", "placeless")
 HELLO = b"JDWP-Handshake"
+PLACELESS = b"jdwp: refused.json: fault 22: the member last is missing or of another type\n"
 # The handshake, IDSizes and Exit, by which the machine dies and the server ends.
 ASKS_EXIT = HELLO + bytes.fromhex("0000000b 00000001 00 0101 0000000f 00000002 00 010a 00000000")
 
@@ -66,10 +69,10 @@ class Ran:
 
 
 class Command:
-    """Words of a command, the status of a run with ample memory, and who is at the other end of a port."""
+    """Words of a command, the status of a run with ample memory, who is at the other end of a port, and what is told of a fault without its place."""
 
-    def __init__(self, name, words, status=0, peer=None):
-        self.name, self.words, self.status, self.peer = name, words, status, peer
+    def __init__(self, name, words, status=0, peer=None, placeless=None):
+        self.name, self.words, self.status, self.peer, self.placeless = name, words, status, peer, placeless
 
 
 def free_port():
@@ -202,19 +205,25 @@ def each_space(folder, words, peer, judge, prints):
     return counts, wrong
 
 
-def judged(whole):
+def judged(whole, placeless=None):
     """What is said of a run of which this one is with ample memory: None where it ended as none may."""
 
     def judge(ran):
         if ran == whole:
             return "right"
+        if placeless and ran == Ran(whole.status, whole.out, placeless, whole.written):
+            return "placeless"
         return "no memory" if ran.ended_without_memory(whole) else None
 
     return judge
 
 
+def in_columns(counts):
+    return " ".join(f"{counts.get(said, 0):>{len(said)}}" for said in SAID)
+
+
 def tell(name, requests, columns, wrong):
-    print(f"{name:<44}{requests:>9}  {columns}", flush=True)
+    print(f"{name:<44}{requests:>9}  {columns}".rstrip(), flush=True)
     for line in wrong[:20]:
         print(f"    WRONG {line}")
     if len(wrong) > 20:
@@ -227,16 +236,16 @@ def try_command(command, program, folder, heap, prints):
     if whole.status != command.status:
         tell(command.name, 0, "", [f"with ample memory: it {whole}"])
         return False
-    judge = judged(whole)
+    judge = judged(whole, command.placeless)
     columns, wrong, requests = [], [], 0
     for way in ("REFUSE_AT", "REFUSE_FROM"):
         requests, counts, more = each_request(folder, heap, way, words, command.peer, judge, prints)
-        columns.append(f"{counts.get('no memory', 0):>6} {counts.get('right', 0):>5}")
+        columns.append(in_columns(counts))
         wrong += more
     counts, more = each_space(folder, words, command.peer, judge, prints)
-    columns.append(f"{counts.get('no memory', 0):>6} {counts.get('right', 0):>5}")
+    columns.append(in_columns(counts))
     wrong += more
-    tell(command.name, requests, "  ".join(columns), wrong)
+    tell(command.name, requests, "   ".join(columns), wrong)
     return not wrong
 
 
@@ -256,13 +265,13 @@ def commands():
         Command("check, a fault", ["check", "faulty.capture"], 1),
         Command("serve-script, files", [*serves, *files]),
         Command("serve-script, the tour", ["serve-script", "tour.json", "--from", "tour.bin", "--to", "OUT"]),
-        Command("serve-script, a refused script", ["serve-script", "refused.json", *files], 1),
+        Command("serve-script, a refused script", ["serve-script", "refused.json", *files], 1, None, PLACELESS),
         Command("serve-script, bytes of no protocol", [*serves, "--from", "A.json", "--to", "OUT"], 1),
         Command("serve-script, a port", [*serves, "--port", "PORT"], 0, lambda: Debugger(ASKS_EXIT)),
         Command("attach, files", [*attaches, "--from", "attach.bin", "--to", "OUT"]),
         Command("attach, a refused plan", ["attach", "refused.plan", "--from", "attach.bin", "--to", "OUT"], 1),
         Command("attach, a command that is refused", ["attach", "unfit.plan", "--from", "attach.bin", "--to", "OUT"], 1),
-        Command("attach, a session that is lost", [*attaches, "--from", "session.bin", "--to", "OUT"], 2),
+        Command("attach, a session that is lost", [*attaches, "--from", "short.bin", "--to", "OUT"], 2),
         Command("attach, a port", [*attaches, "--port", "PORT"], 0, lambda: Target(bytes_of("attach.bin"))),
         Command("pair --memory", ["pair", "A.json", "pair.plan", "--memory"]),
         Command("pair", ["pair", "A.json", "pair.plan"]),
@@ -289,6 +298,7 @@ def prepare(folder):
         "refused.plan": b"ask 1 8\nask 1\n",
         "unfit.plan": b"ask 1 8\nask 11 12 00\n",
         "losses.plan": losses,
+        "short.bin": bytes_of("attach.bin")[:43],
     }
     for name, text in texts.items():
         with open(os.path.join(folder, name), "wb") as file:
@@ -297,8 +307,10 @@ def prepare(folder):
 
 def try_commands(program, folder, heap, prints):
     prepare(folder)
-    print(f"{'':<44}{'requests':>9}   N-th refused  from N-th on      ulimit -v")
-    print(f"{'':<44}{'':>9}   memory right  memory right  memory right")
+    said = " ".join(SAID)
+    kinds = ("the N-th is refused", "from the N-th on", "ulimit -v")
+    print(f"{'':<44}{'requests':>9}  " + "   ".join(f"{kind:<{len(said)}}" for kind in kinds))
+    print(f"{'':<44}{'':>9}  " + "   ".join([said] * len(kinds)))
     return all([try_command(command, program, folder, heap, prints) for command in commands()])
 
 

@@ -60,21 +60,6 @@ fn each_request_is_refused_in_turn(rt: HostRuntime) -> Result<(), Fail> {
     Ok(())
 }
 
-/// What a crumb is given back for is served, and a second request is refused.
-#[test]
-fn a_crumb_serves_one_request(rt: HostRuntime) -> Result<(), Fail> {
-    let mut scarce = Scarce::take(rt.alloc(), 1)?;
-    assert!(rt; scarce.starve());
-    let before = block(rt.alloc(), 16).is_ok();
-    let given = scarce.give();
-    let first = block(rt.alloc(), 16);
-    let second = block(rt.alloc(), 16).is_ok();
-    let found = (before, given, first.is_ok(), second);
-    scarce.relieve();
-    assert_eq!(rt; found, (false, true, true, false));
-    Ok(())
-}
-
 /// All is given back.
 #[test]
 fn what_is_taken_is_given_back(rt: HostRuntime) -> Result<(), Fail> {
