@@ -26,15 +26,20 @@ const PAGE: usize = 4096;
 const CRUMB: usize = 16;
 
 /// An allocator may keep what was freed for requests of its very size, up to this one.
-const GREATEST_CRUMB: usize = 2048;
+const GREATEST_KEPT: usize = 2048;
 
-/// All the memory that there is, but for pages that the process goes on with. Contracts see how many crumbs are taken of those. Dropped, it
+/// The most of these that are taken.
+const MOST_KEPT: usize = 16_384;
+
+/// All the memory that there is, but for pages that the process goes on with. Contracts see how many crumbs of those are taken, too. Dropped, it
 /// gives everything back.
 #[derive(Drop)]
 pub struct Scarce {
     alloc: Global,
     blocks: Vec<Vec<u8>>,
     crumbs: Vec<Vec<u8>>,
+    /// What the allocator kept for requests of its very size.
+    kept: Vec<Vec<u8>>,
 }
 
 impl Model for Scarce {
@@ -53,25 +58,28 @@ impl Scarce {
     pub fn take(alloc: Global, pages: usize) -> Result<Scarce, AllocError>
         ensures { IfOk result (λ s. s ≡ 0) }
     {
-        let kept = set_aside(alloc, pages)?;
+        let aside = set_aside(alloc, pages)?;
         let crumbs = Vec::with_capacity(alloc, most_crumbs(pages))?;
+        let kept = Vec::with_capacity(alloc, MOST_KEPT)?;
         let mut blocks = Vec::with_capacity(alloc, MOST_BLOCKS)?;
         take_blocks(alloc, &mut blocks);
-        drop(kept);
+        drop(aside);
         Ok(Scarce {
             alloc,
             blocks,
             crumbs,
+            kept,
         })
     }
 
-    /// Takes what is left, too, in crumbs. Whether nothing is left then: a request for a crumb was refused.
+    /// Takes what is left, too, in crumbs of 16 bytes, and what the allocator kept for larger requests, which is held until all is given back.
+    /// Whether nothing is left then: a request for a crumb was refused.
     pub fn starve(&mut self) -> bool
         ensures { self.old ≤ self.new }
     {
         let is_out = take_crumbs(self.alloc, CRUMB, &mut self.crumbs);
-        for size in (CRUMB..=GREATEST_CRUMB).step_by(CRUMB) {
-            take_crumbs(self.alloc, size, &mut self.crumbs);
+        for size in (2 * CRUMB..=GREATEST_KEPT).step_by(CRUMB) {
+            take_crumbs(self.alloc, size, &mut self.kept);
         }
         is_out
     }
@@ -89,6 +97,7 @@ impl Scarce {
         ensures { self.new ≡ 0 }
     {
         self.crumbs.clear();
+        self.kept.clear();
     }
 
     /// How many crumbs are taken.
@@ -101,18 +110,16 @@ impl Scarce {
 
 /// So many pages.
 fn set_aside(alloc: Global, pages: usize) -> Result<Vec<Vec<u8>>, AllocError> {
-    let mut kept = Vec::with_capacity(alloc, pages)?;
+    let mut aside = Vec::with_capacity(alloc, pages)?;
     for _ in 0..pages {
-        kept.push(Vec::with_capacity(alloc, PAGE)?)?;
+        aside.push(Vec::with_capacity(alloc, PAGE)?)?;
     }
-    Ok(kept)
+    Ok(aside)
 }
 
 /// How many crumbs there is room for: more than so many pages have.
 fn most_crumbs(pages: usize) -> usize {
-    pages
-        .saturating_mul(PAGE / CRUMB)
-        .saturating_add(GREATEST_CRUMB)
+    pages.saturating_mul(PAGE / CRUMB).saturating_add(PAGE)
 }
 
 /// Takes all memory in blocks of falling size, until a request for a crumb is refused.
@@ -133,7 +140,7 @@ fn take_blocks(alloc: Global, blocks: &mut Vec<Vec<u8>>) {
     }
 }
 
-/// Takes crumbs of this size, as many as there is room for. Whether a request for one was refused.
+/// Takes crumbs of this size, as many as there is room for in the list. Whether a request for one was refused.
 fn take_crumbs(alloc: Global, size: usize, crumbs: &mut Vec<Vec<u8>>) -> bool
     ensures { length crumbs.old.items ≤ length crumbs.new.items }
 {
