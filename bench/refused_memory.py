@@ -315,8 +315,8 @@ def try_commands(program, folder, heap, prints):
 
 
 def try_tests(tests, folder, heap, prints):
-    listed = subprocess.run([tests, "--list"], capture_output=True, check=True).stdout.decode().split()
-    names = [name for name in listed if name.endswith("bears_one_refusal")]
+    listed = subprocess.run([tests, "--list"], capture_output=True, check=True).stdout.decode().splitlines()
+    names = [line.removesuffix(": test") for line in listed if line.endswith("bears_one_refusal: test")]
     print(f"{'':<64}{'requests':>9}")
     fine = bool(names)
     for name in names:
