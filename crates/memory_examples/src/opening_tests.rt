@@ -1,9 +1,13 @@
 //! Ends and links that are not made.
+ghost use Rattle.jdwp_target.specs.Options.{LivesWithin};
+ghost use Rattle.jdwp_wire.specs.Limits.{standard_limits};
+
 use crate::asserts::{expect_at_least, expect_same};
 use crate::machine_a::MACHINE_A;
 use crate::supply::{MOST_TIMES, Stop};
 use jdwp_debugger::Debugger;
 use jdwp_link::Link;
+use jdwp_machine::Machine;
 use jdwp_script_machine::ScriptMachine;
 use jdwp_target::{Target, TargetOptions};
 use jdwp_wire::NoMemory;
@@ -25,13 +29,15 @@ enum Made {
     Link,
 }
 
-/// Makes a target over a machine, or a link, and drops it.
-fn is_made(
+/// Makes it, a target or a link over this machine, and drops it.
+fn is_made<M: Machine + Drop>(
     alloc: Global,
-    machine: ScriptMachine,
+    machine: M,
     options: TargetOptions,
     made: Made,
-) -> Result<(), NoMemory> {
+) -> Result<(), NoMemory>
+    requires { LivesWithin M.meaning standard_limits machine }
+{
     match made {
         Made::Target => {
             Target::new(alloc, machine, options)?;
@@ -46,27 +52,33 @@ fn is_made(
     Ok(())
 }
 
-/// A machine, and options with which no thread is suspended as the first session begins.
-fn parts(alloc: Global) -> Result<(ScriptMachine, TargetOptions), Stop> {
-    let Some(options) = TargetOptions::new(false, 65_535) else {
-        return Err(Stop::Wrong("the count limit is refused"));
-    };
-    Ok((ScriptMachine::read(alloc, MACHINE_A)?, options))
+/// Options with which no thread is suspended as the first session begins.
+fn options() -> Result<TargetOptions, Stop> {
+    match TargetOptions::new(false, 65_535) {
+        Some(options) => Ok(options),
+        None => Err(Stop::Wrong("the count limit is refused")),
+    }
 }
 
-/// How often it is refused to make this while more and more is given back. The machine is read anew each time, with memory.
+/// Whether it is made while nothing is left but so many crumbs. The machine is read before, with memory.
+fn is_made_of(alloc: Global, scarce: &mut Scarce, crumbs: u32, made: Made) -> Result<bool, Stop> {
+    let options = options()?;
+    let machine = ScriptMachine::read(alloc, MACHINE_A)?;
+    if !scarce.starve() {
+        return Err(Stop::Wrong("memory is left"));
+    }
+    for _ in 0..crumbs {
+        scarce.give();
+    }
+    let came = is_made(alloc, machine, options, made);
+    scarce.relieve();
+    Ok(came.is_ok())
+}
+
+/// How often it is refused to make this while more and more is given back.
 fn refusals(alloc: Global, scarce: &mut Scarce, made: Made) -> Result<u32, Stop> {
     for refused in 0..MOST_TIMES {
-        let (machine, options) = parts(alloc)?;
-        if !scarce.starve() {
-            return Err(Stop::Wrong("memory is left"));
-        }
-        for _ in 0..refused.saturating_mul(CRUMBS) {
-            scarce.give();
-        }
-        let came = is_made(alloc, machine, options, made);
-        scarce.relieve();
-        if came.is_ok() {
+        if is_made_of(alloc, scarce, refused.saturating_mul(CRUMBS), made)? {
             return Ok(refused);
         }
     }
@@ -97,17 +109,19 @@ fn a_link_is_not_made(rt: HostRuntime) -> Result<(), Stop> {
     is_refused(&rt, rt.alloc(), Made::Link, 4)
 }
 
+/// Whether it is made with memory.
+fn is_made_once(alloc: Global, made: Made) -> Result<bool, Stop> {
+    let options = options()?;
+    let machine = ScriptMachine::read(alloc, MACHINE_A)?;
+    Ok(is_made(alloc, machine, options, made).is_ok())
+}
+
 /// Whether it is made, at most the second time.
 fn is_made_again(alloc: Global, made: Made) -> Result<bool, Stop> {
-    let (machine, options) = match parts(alloc) {
-        Ok(parts) => parts,
-        Err(_) => parts(alloc)?,
-    };
-    if is_made(alloc, machine, options, made).is_ok() {
-        return Ok(true);
+    match is_made_once(alloc, made) {
+        Ok(true) => Ok(true),
+        Ok(false) | Err(_) => is_made_once(alloc, made),
     }
-    let (machine, options) = parts(alloc)?;
-    Ok(is_made(alloc, machine, options, made).is_ok())
 }
 
 #[test]
