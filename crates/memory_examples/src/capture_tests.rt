@@ -95,7 +95,7 @@ fn read_again(alloc: Global, text: Text, supply: &mut Supply) -> Result<Came, St
         }
         supply.give();
     }
-    Err(Stop::Wrong("reading is always refused"))
+    Err(Stop::AlwaysRefused)
 }
 
 /// What comes of each text, in words.

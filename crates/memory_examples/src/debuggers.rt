@@ -142,7 +142,7 @@ fn turned(
         }
         supply.give();
     }
-    Err(Stop::Wrong("a turn is always refused"))
+    Err(Stop::AlwaysRefused)
 }
 
 /// A command is asked in the same way. It is made anew each time, with memory.
@@ -165,7 +165,7 @@ fn asked(
         }
         supply.give();
     }
-    Err(Stop::Wrong("a command is always refused"))
+    Err(Stop::AlwaysRefused)
 }
 
 /// What waits to leave, at most 256 bytes, in a log; it is taken.

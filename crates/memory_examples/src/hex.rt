@@ -14,7 +14,7 @@ pub(crate) fn bytes(alloc: Global, hex: &str) -> Result<Vec<u8>, Stop> {
             None => high = Some(value),
             Some(first) => {
                 let Ok(byte) = u8::try_from(first.saturating_mul(16).saturating_add(value)) else {
-                    return Err(Stop::Wrong("not a byte"));
+                    return Err(Stop::NoByte);
                 };
                 bytes.push(byte)?;
                 high = None;

@@ -77,7 +77,7 @@ fn linked<M: Machine + Drop>(alloc: Global, machine: M) -> Result<Link<M>, Stop>
     requires { LivesWithin M.meaning standard_limits machine }
 {
     let Some(options) = TargetOptions::new(false, 65_535) else {
-        return Err(Stop::Wrong("the count limit is refused"));
+        return Err(Stop::CountLimit);
     };
     Ok(Link::new(alloc, machine, options)?)
 }
@@ -108,7 +108,7 @@ fn part<M: Machine + Drop>(
             }
         }
     }
-    Err(Stop::Wrong("an event is always refused"))
+    Err(Stop::AlwaysRefused)
 }
 
 /// All of these events, in runs of at most so many; what was told of them in words, with a line of its own where the link does not stand after
@@ -141,7 +141,7 @@ fn run_all<M: Machine + Drop>(
         let (_, behind) = left.split_at(count.min(left.len()));
         left = behind;
     }
-    Err(Stop::Wrong("a list does not end"))
+    Err(Stop::Endless)
 }
 
 /// How a link stands before these events and after each, with memory.

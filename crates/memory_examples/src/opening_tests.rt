@@ -56,7 +56,7 @@ fn is_made<M: Machine + Drop>(
 fn options() -> Result<TargetOptions, Stop> {
     match TargetOptions::new(false, 65_535) {
         Some(options) => Ok(options),
-        None => Err(Stop::Wrong("the count limit is refused")),
+        None => Err(Stop::CountLimit),
     }
 }
 
@@ -65,7 +65,7 @@ fn is_made_of(alloc: Global, scarce: &mut Scarce, crumbs: u32, made: Made) -> Re
     let options = options()?;
     let machine = ScriptMachine::read(alloc, MACHINE_A)?;
     if !scarce.starve() {
-        return Err(Stop::Wrong("memory is left"));
+        return Err(Stop::MemoryLeft);
     }
     for _ in 0..crumbs {
         scarce.give();
@@ -82,7 +82,7 @@ fn refusals(alloc: Global, scarce: &mut Scarce, made: Made) -> Result<u32, Stop>
             return Ok(refused);
         }
     }
-    Err(Stop::Wrong("it is never made"))
+    Err(Stop::AlwaysRefused)
 }
 
 /// What is made with all memory taken is refused at each of its large requests, and made once there is enough.

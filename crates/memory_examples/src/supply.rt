@@ -12,11 +12,24 @@ pub(crate) const MOST_TIMES: u32 = 100_000;
 const PAGES: usize = 96;
 
 /// Why a test does not go on.
-#[derive(Debug, Drop)]
+#[derive(Clone, Copy, Debug)]
 pub(crate) enum Stop {
     /// A request for memory of its own was refused.
     NoMemory,
-    Wrong(&'static str),
+    /// Memory is left that can't be taken.
+    MemoryLeft,
+    /// A call is refused however often it is done again.
+    AlwaysRefused,
+    /// A list of events does not end.
+    Endless,
+    /// A script is refused.
+    Script,
+    /// The count limit is refused.
+    CountLimit,
+    /// Bytes begin no message.
+    FrameFault,
+    /// Hex digits spell no byte.
+    NoByte,
 }
 
 impl From<AllocError> for Stop {
@@ -39,7 +52,7 @@ impl From<NoMemory> for Stop {
 
 impl From<ScriptFault> for Stop {
     fn from(_error: ScriptFault) -> Stop {
-        Stop::Wrong("the script is refused")
+        Stop::Script
     }
 }
 
@@ -71,7 +84,7 @@ impl Supply {
     pub(crate) fn starve(&mut self) -> Result<(), Stop> {
         if let Some(scarce) = &mut self.scarce {
             if !scarce.starve() {
-                return Err(Stop::Wrong("memory is left"));
+                return Err(Stop::MemoryLeft);
             }
         }
         Ok(())

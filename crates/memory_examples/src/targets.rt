@@ -58,7 +58,7 @@ fn standing_of(target: &Target) -> Standing {
 /// A target over this script, in whose first session no thread is suspended as it begins.
 pub(crate) fn target(alloc: Global, script: &str) -> Result<Target, Stop> {
     let Some(options) = TargetOptions::new(false, 65_535) else {
-        return Err(Stop::Wrong("the count limit is refused"));
+        return Err(Stop::CountLimit);
     };
     let machine = ScriptMachine::read(alloc, script)?;
     Ok(Target::new(alloc, machine, options)?)
@@ -72,7 +72,7 @@ fn turned(target: &mut Target, supply: &mut Supply) -> Result<(Turn, bool), Stop
     for _ in 0..MOST_TIMES {
         match target.turn() {
             Err(TargetFault::NoMemory) => same = same && standing_of(target) == before,
-            Err(TargetFault::Frame(_)) => return Err(Stop::Wrong("a frame fault")),
+            Err(TargetFault::Frame(_)) => return Err(Stop::FrameFault),
             Ok(turn) => {
                 supply.relieve();
                 return Ok((turn, same));
@@ -80,7 +80,7 @@ fn turned(target: &mut Target, supply: &mut Supply) -> Result<(Turn, bool), Stop
         }
         supply.give();
     }
-    Err(Stop::Wrong("a turn is always refused"))
+    Err(Stop::AlwaysRefused)
 }
 
 /// A step, done again in the same way.
@@ -91,7 +91,7 @@ fn stepped(target: &mut Target, thread: u64, supply: &mut Supply) -> Result<(Ste
     for _ in 0..MOST_TIMES {
         match target.step(ObjectId(thread)) {
             Err(TargetFault::NoMemory) => same = same && standing_of(target) == before,
-            Err(TargetFault::Frame(_)) => return Err(Stop::Wrong("a frame fault")),
+            Err(TargetFault::Frame(_)) => return Err(Stop::FrameFault),
             Ok(stepped) => {
                 supply.relieve();
                 return Ok((stepped, same));
@@ -99,7 +99,7 @@ fn stepped(target: &mut Target, thread: u64, supply: &mut Supply) -> Result<(Ste
         }
         supply.give();
     }
-    Err(Stop::Wrong("a step is always refused"))
+    Err(Stop::AlwaysRefused)
 }
 
 /// Turns until nothing is left to handle.
