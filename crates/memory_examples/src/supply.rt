@@ -8,8 +8,9 @@ use std::fmt::Debug;
 /// How often a call is done again at most.
 pub(crate) const MOST_TIMES: u32 = 100_000;
 
-/// What a process goes on with, in pages, while its memory is taken.
-const PAGES: usize = 96;
+/// What a process goes on with, in pages, while its memory is taken: so much that what lies in it here and there leaves room between for the
+/// largest request of a call.
+const PAGES: usize = 512;
 
 /// Why a test does not go on.
 #[derive(Clone, Copy, Debug)]
@@ -94,7 +95,9 @@ impl Supply {
     pub(crate) fn give(&mut self) {
         self.refusals = self.refusals.saturating_add(1);
         if let Some(scarce) = &mut self.scarce {
-            scarce.give();
+            if !scarce.give() {
+                scarce.relieve();
+            }
         }
     }
 
