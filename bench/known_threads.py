@@ -22,27 +22,28 @@ HANDSHAKE = b"JDWP-Handshake"
 IDS_ARE_8_BYTES = struct.pack(">IIBHIIIII", 31, 1, 0x80, 0, 8, 8, 8, 8, 8)
 DISPOSED = struct.pack(">IIBH", 11, 2, 0x80, 0)
 THREAD_START, THREAD_DEATH = 6, 7
+POLICY_NONE, POLICY_ALL = 0, 2
 SPREAD = 0x9E3779B97F4A7C15
 
 
-def event(number, kind, thread):
-    """A composite of policy NONE with one event of a thread."""
-    return struct.pack(">IIBBBBIBIQ", 29, number, 0, 64, 100, 0, 1, kind, 1, thread)
+def event(number, kind, thread, policy):
+    """A composite with one event of a thread."""
+    return struct.pack(">IIBBBBIBIQ", 29, number, 0, 64, 100, policy, 1, kind, 1, thread)
 
 
-def session(threads, kinds):
+def session(threads, kinds, policy):
     """What the target sends, and how many composites are in it."""
     parts = [HANDSHAKE, IDS_ARE_8_BYTES]
     for kind in kinds:
         for i in range(1, threads + 1):
-            parts.append(event(len(parts), kind, i * SPREAD % 2**64))
+            parts.append(event(len(parts), kind, i * SPREAD % 2**64, policy))
     composites = len(parts) - 2
     return b"".join(parts) + DISPOSED, composites
 
 
-def seconds_of(program, folder, threads, kinds):
+def seconds_of(program, folder, threads, kinds, policy=POLICY_NONE):
     given, plan, made = (os.path.join(folder, name) for name in ("from", "plan", "to"))
-    content, composites = session(threads, kinds)
+    content, composites = session(threads, kinds, policy)
     with open(given, "wb") as file:
         file.write(content)
     with open(plan, "w") as file:
@@ -68,6 +69,10 @@ def main():
             start = seconds_of(program, folder, threads, [THREAD_START])
             both = seconds_of(program, folder, threads, [THREAD_START, THREAD_DEATH])
             print(f"{threads} threads: {start:.2f} s to start, {both - start:.2f} s more to end")
+        for threads in [20_000, 80_000]:
+            none = seconds_of(program, folder, threads, [THREAD_START])
+            each = seconds_of(program, folder, threads, [THREAD_START], POLICY_ALL)
+            print(f"{threads} threads: {none:.2f} s to start, {each:.2f} s where each suspends all")
 
 
 if __name__ == "__main__":

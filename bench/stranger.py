@@ -41,9 +41,9 @@ def command(number, command_set, command_number, data=b""):
     return struct.pack(">IIBBB", 11 + len(data), number, 0, command_set, command_number) + data
 
 
-def event(number, thread):
-    """THREAD_START with policy NONE."""
-    return struct.pack(">IIBBBBIBIQ", 29, number, 0, 64, 100, 0, 1, 6, 1, thread)
+def event(number, thread, policy=0):
+    """THREAD_START, with policy NONE where none is given."""
+    return struct.pack(">IIBBBBIBIQ", 29, number, 0, 64, 100, policy, 1, 6, 1, thread)
 
 
 # Captures: the text, and what `check` prints.
@@ -147,10 +147,15 @@ def wide_requests(count):
 # Sessions of a debugger: the plan, and what the target sends.
 
 
-def many_threads(count):
+def many_threads(count, policy=0):
     number = count // 29
-    events = b"".join(event(i, i * SPREAD % 2**64) for i in range(1, number + 1))
+    events = b"".join(event(i, i * SPREAD % 2**64, policy) for i in range(1, number + 1))
     return f"events {number}\nask 1 6\n".encode(), HANDSHAKE + IDS_ARE_8_BYTES + events + struct.pack(">IIBH", 11, 2, 0x80, 0), 0
+
+
+def threads_that_suspend_all(count):
+    """Each composite has policy ALL, so each raises the counts of all threads before it."""
+    return many_threads(count, policy=2)
 
 
 def one_thread(count):
@@ -254,6 +259,7 @@ def main():
             ("requests refused", bench.target, requests, 5_000_000),
             ("wide requests", bench.target, wide_requests, 5_000_000),
             ("events of many threads", bench.debugger, many_threads, 1_000_000),
+            ("threads that suspend all", bench.debugger, threads_that_suspend_all, 1_000_000),
             ("events of one thread", bench.debugger, one_thread, 1_000_000),
             ("a plan of many lines", bench.debugger, many_lines, 2_000_000),
             ("a plan that asks too much", bench.debugger, many_asks, 2_000_000),

@@ -1,29 +1,12 @@
 //! What a command carries as bytes: ids have 8 bytes.
 use crate::asserts::expect_same;
+use example_parts::bytes;
 use jdwp_layout::{layout_of, write};
 use jdwp_mirror::{Carried, Command};
 use jdwp_wire::IdSizes;
 use std::alloc::Global;
 use std::process::Abort;
 use std::test::Fail;
-
-/// The bytes that hex digits spell; spaces are for reading.
-fn bytes_of(alloc: Global, hex: &str) -> Result<Vec<u8>, Fail> {
-    let mut bytes = Vec::new(alloc);
-    let mut high: Option<u32> = None;
-    for character in hex.chars() {
-        if let Some(digit) = character.to_digit(16) {
-            match high {
-                None => high = Some(digit),
-                Some(first) => {
-                    bytes.push((first.wrapping_mul(16).wrapping_add(digit) % 256) as u8)?;
-                    high = None;
-                }
-            }
-        }
-    }
-    Ok(bytes)
-}
 
 /// The data of a command as bytes.
 fn written(alloc: Global, command: &Command) -> Result<Vec<u8>, Fail> {
@@ -48,7 +31,6 @@ pub(crate) fn is_written(
     hex: &str,
 ) -> Result<(), Fail> {
     expect_same(rt, &(command.set(), command.number()), &(set, number));
-    let bytes = written(alloc, command)?;
-    expect_same(rt, &bytes, &bytes_of(alloc, hex)?);
+    expect_same(rt, &written(alloc, command)?, &bytes(alloc, hex)?);
     Ok(())
 }

@@ -2,8 +2,9 @@
 use crate::asserts::expect_same;
 use crate::command_bytes::is_written;
 use jdwp_command::{
-    array_reference, class_type, event_request, method, object_reference, reference_type,
-    stack_frame, string_reference, thread_group_reference, thread_reference, virtual_machine,
+    array_reference, class_type, event_request, method, module_reference, object_reference,
+    reference_type, stack_frame, string_reference, thread_group_reference, thread_reference,
+    virtual_machine,
 };
 use jdwp_event::{EventKind, Modifier, Policy};
 use jdwp_layout::layout_of;
@@ -19,6 +20,8 @@ const THREAD: ObjectId = ObjectId(1);
 
 const GROUP: ObjectId = ObjectId(5);
 
+const MODULE: ObjectId = ObjectId(6);
+
 const CLASS: ReferenceTypeId = ReferenceTypeId(10);
 
 const METHOD: MethodId = MethodId(20);
@@ -32,7 +35,7 @@ const STRING: ObjectId = ObjectId(101);
 const ARRAY: ObjectId = ObjectId(102);
 
 /// The commands that a target answers, with their data: ids have 8 bytes, counts and lengths 4.
-static COMMANDS: [(u8, u8, &str); 58] = [
+static COMMANDS: [(u8, u8, &str); 62] = [
     (1, 1, ""),
     (1, 2, "00000006 4c4d61696e3b"),
     (1, 3, ""),
@@ -53,6 +56,7 @@ static COMMANDS: [(u8, u8, &str); 58] = [
     (1, 16, ""),
     (1, 17, ""),
     (1, 20, ""),
+    (1, 22, ""),
     (2, 1, "000000000000000a"),
     (2, 2, "000000000000000a"),
     (2, 3, "000000000000000a"),
@@ -69,6 +73,7 @@ static COMMANDS: [(u8, u8, &str); 58] = [
     (2, 13, "000000000000000a"),
     (2, 14, "000000000000000a"),
     (2, 15, "000000000000000a"),
+    (2, 19, "000000000000000a"),
     (3, 1, "000000000000000a"),
     (6, 1, "000000000000000a 0000000000000014"),
     (6, 2, "000000000000000a 0000000000000014"),
@@ -111,6 +116,8 @@ static COMMANDS: [(u8, u8, &str); 58] = [
         "0000000000000001 000000000000001e 00000002 00000001 49 00000007 00000003 5a 01",
     ),
     (16, 3, "0000000000000001 000000000000001e"),
+    (18, 1, "0000000000000006"),
+    (18, 2, "0000000000000006"),
 ];
 
 /// A command of the set VirtualMachine by its number.
@@ -132,6 +139,7 @@ fn of_machine(alloc: Global, number: u8) -> Result<Option<Command>, Fail> {
         16 => virtual_machine::release_events(alloc),
         17 => virtual_machine::capabilities_new(alloc),
         20 => virtual_machine::all_classes_with_generic(alloc),
+        22 => virtual_machine::all_modules(alloc),
         _ => return Ok(None),
     };
     Ok(Some(command))
@@ -152,6 +160,7 @@ fn of_class(alloc: Global, number: u8) -> Result<Option<Command>, Fail> {
         13 => reference_type::signature_with_generic(alloc, CLASS)?,
         14 => reference_type::fields_with_generic(alloc, CLASS)?,
         15 => reference_type::methods_with_generic(alloc, CLASS)?,
+        19 => reference_type::module(alloc, CLASS)?,
         _ => return Ok(None),
     };
     Ok(Some(command))
@@ -257,6 +266,8 @@ fn of_small_set(alloc: Global, set: u8, number: u8) -> Result<Option<Command>, F
         (10, 1) => string_reference::value(alloc, STRING)?,
         (13, 1) => array_reference::length(alloc, ARRAY)?,
         (13, 2) => array_reference::get_values(alloc, ARRAY, 3, 4)?,
+        (18, 1) => module_reference::name(alloc, MODULE)?,
+        (18, 2) => module_reference::class_loader(alloc, MODULE)?,
         _ => return Ok(None),
     };
     Ok(Some(command))

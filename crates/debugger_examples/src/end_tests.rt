@@ -15,16 +15,25 @@ fn end(alloc: Global) -> Result<End, Fail> {
 }
 
 /// What there is to handle, without the packet: its id and how many bytes it takes.
-fn front_of(end: &End) -> Result<Option<(u32, usize)>, FrameFault> {
+fn front_of(end: &mut End) -> Result<Option<(u32, usize)>, FrameFault> {
+    let limits = end.limits();
     match end.front() {
         Front::More => Ok(None),
         Front::Fault(fault) => Err(fault),
         Front::Handshake => Ok(Some((0, 14))),
-        Front::Packet(used) => match next_packet_within(end.packet_in_front(used), &end.limits()) {
-            Next::Whole(packet, used) => Ok(Some((packet.header.id, used))),
-            Next::More => Ok(None),
-            Next::Fault(fault) => Err(fault),
+        Front::Packet(used) => match end.packet_in_place(used) {
+            Some(bytes) => packet_of(bytes, &limits),
+            None => packet_of(end.packet_joined(used), &limits),
         },
+    }
+}
+
+/// The packet in front of these bytes: its id and how many bytes it takes.
+fn packet_of(bytes: &[u8], limits: &Limits) -> Result<Option<(u32, usize)>, FrameFault> {
+    match next_packet_within(bytes, limits) {
+        Next::Whole(packet, used) => Ok(Some((packet.header.id, used))),
+        Next::More => Ok(None),
+        Next::Fault(fault) => Err(fault),
     }
 }
 
@@ -54,7 +63,7 @@ fn front_behind(
 ) -> Result<Result<Option<(u32, usize)>, FrameFault>, Fail> {
     let mut end = established(alloc)?;
     end.feed(&length);
-    Ok(front_of(&end))
+    Ok(front_of(&mut end))
 }
 
 #[test]
@@ -63,6 +72,23 @@ fn a_length_above_the_packet_limit(rt: HostRuntime) -> Result<(), Fail> {
     expect_same(&rt, &greatest, &Ok(None));
     let one_more = front_behind(rt.alloc(), [0, 0, 8, 1])?;
     expect_same(&rt, &one_more, &Err(FrameFault::TooLong));
+    Ok(())
+}
+
+/// A packet of 2,040 bytes behind the handshake wraps round the end of the room of 2,048, and is found once its last byte came.
+#[test]
+fn a_packet_that_wraps(rt: HostRuntime) -> Result<(), Fail> {
+    let mut end = established(rt.alloc())?;
+    expect_same(
+        &rt,
+        &end.feed(&[0, 0, 0x07, 0xf8, 0, 0, 0, 7, 0, 1, 7]),
+        &11,
+    );
+    expect_same(&rt, &end.feed(&[0; 2028]), &2028);
+    expect_same(&rt, &front_of(&mut end), &Ok(None));
+    expect_same(&rt, &end.feed(&[0; 100]), &9);
+    expect_same(&rt, &front_of(&mut end), &Ok(Some((7, 2040))));
+    expect_same(&rt, &front_of(&mut end), &Ok(Some((7, 2040))));
     Ok(())
 }
 

@@ -1,10 +1,12 @@
-//! A mirror of more threads than a byte counts, and of the thread of id 0; a debugger at the longest composite, and at four that wait.
+//! A mirror of more threads than a byte counts, and of the thread of id 0; a debugger at the longest composite, at four that wait, and at
+//! the longest data that are not read.
 use crate::asserts::expect_same;
 use crate::mirror_tests::event;
-use crate::turning_tests::{HELLO, SIZES, VM_START, bytes};
-use jdwp_debugger::{Debugger, Mirror, Read};
+use crate::turning_tests::{HELLO, SIZES, VM_START};
+use example_parts::bytes;
+use jdwp_debugger::{Command, Debugger, Mirror, Read, Ticket};
 use jdwp_event::{Composite, Event};
-use jdwp_layout::Scalar;
+use jdwp_layout::{Answer, Datum, Scalar};
 use jdwp_value::ObjectId;
 use std::alloc::Global;
 use std::process::Abort;
@@ -138,5 +140,37 @@ fn four_composites_wait(rt: HostRuntime) -> Result<(), Fail> {
     let told = told_with_the_widths(alloc, &mut debugger)?;
     expect_same(&rt, &told, &4usize);
     expect_same(&rt, &debugger.last().len(), &5usize);
+    Ok(())
+}
+
+/// The longest reply under the id 2: a packet of 65,536 bytes, whose data have no period of 256.
+fn longest_reply(alloc: Global) -> Result<Vec<u8>, Fail> {
+    let mut packet = Vec::from_slice(alloc, &[0, 1, 0, 0, 0, 0, 0, 2, 0x80, 0, 0])?;
+    for place in 0..65_525u32 {
+        packet.push((place % 251) as u8)?;
+    }
+    Ok(packet)
+}
+
+/// VirtualMachine.ClassPaths, whose data are not read: its answer has the bytes of the reply as they came.
+#[test]
+fn the_longest_data_that_are_not_read(rt: HostRuntime) -> Result<(), Fail> {
+    let alloc = rt.alloc();
+    let mut debugger = greeted(alloc)?;
+    debugger.feed(&bytes(alloc, SIZES)?);
+    debugger.turn(alloc)?;
+    let asked = debugger.ask(alloc, Command::raw(1, 13, Vec::new(alloc)));
+    expect_same(&rt, &asked, &Ok(Ticket(1)));
+    let reply = longest_reply(alloc)?;
+    let wanted = reply.get(11..).ok_or("no data")?;
+    expect_same(&rt, &debugger.feed(&reply), &65_536usize);
+    match debugger.turn(alloc)? {
+        Read::Answered(_, Answer::Data(data)) => {
+            expect_same(&rt, &data.raw(), &Some(wanted));
+            let item = Datum::Raw(Vec::from_slice(alloc, wanted)?);
+            expect_same(&rt, &data.items().first(), &Some(&item));
+        }
+        _ => return Err(Fail::from("no data")),
+    }
     Ok(())
 }

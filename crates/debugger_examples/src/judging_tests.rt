@@ -3,7 +3,9 @@ use crate::asserts::expect_same;
 use crate::mirror_tests::{event, event_of_none, of_thread, plain, with_int};
 use jdwp_event::{Composite, EventKind};
 use jdwp_layout::{Answer, Data, Datum, Scalar};
-use jdwp_mirror::{Act, Mirror, has_event_of, is_bad_answer, is_bad_composite, widths_in_answer};
+use jdwp_mirror::{
+    CommandKind, Mirror, has_event_of, is_bad_answer, is_bad_composite, widths_in_answer,
+};
 use jdwp_wire::IdSizes;
 use std::alloc::Global;
 use std::test::Fail;
@@ -41,14 +43,14 @@ fn is_bad_then_again(alloc: Global, composite: &Composite) -> Result<(bool, bool
 
 #[test]
 fn what_is_asked(rt: HostRuntime) {
-    expect_same(&rt, &plain(rt.alloc(), 1, 6).act(), &Act::Dispose);
+    expect_same(&rt, &plain(rt.alloc(), 1, 6).kind(), &CommandKind::Dispose);
 }
 
 #[test]
 fn a_copied_command_asks_the_same(rt: HostRuntime) -> Result<(), Fail> {
     let copy = of_thread(rt.alloc(), 12, 5)?.copied(rt.alloc())?;
     expect_same(&rt, &(copy.set(), copy.number()), &(11, 12));
-    expect_same(&rt, &copy.act(), &Act::SuspendCount);
+    expect_same(&rt, &copy.kind(), &CommandKind::SuspendCount);
     Ok(())
 }
 

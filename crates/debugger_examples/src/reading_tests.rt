@@ -1,6 +1,7 @@
 //! Commands that are read, by worked examples: ids have 8 bytes.
 use crate::asserts::expect_same;
-use jdwp_debuggee::{Action, Asked, read_command};
+use example_parts::bytes;
+use jdwp_debuggee::{Action, ParsedCommand, read_command};
 use jdwp_event::Modifier;
 use jdwp_layout::{Scalar, layout_of, write};
 use jdwp_machine::Query;
@@ -17,27 +18,9 @@ fn sizes() -> Result<IdSizes, Fail> {
     }
 }
 
-/// The bytes that hex digits spell; spaces are for reading.
-fn bytes_of(alloc: Global, hex: &str) -> Result<Vec<u8>, Fail> {
-    let mut bytes = Vec::new(alloc);
-    let mut high: Option<u32> = None;
-    for character in hex.chars() {
-        if let Some(digit) = character.to_digit(16) {
-            match high {
-                None => high = Some(digit),
-                Some(first) => {
-                    bytes.push((first.wrapping_mul(16).wrapping_add(digit) % 256) as u8)?;
-                    high = None;
-                }
-            }
-        }
-    }
-    Ok(bytes)
-}
-
-fn asked(alloc: Global, set: u8, number: u8, hex: &str) -> Result<Asked, Fail> {
-    let bytes = bytes_of(alloc, hex)?;
-    match read_command(alloc, set, number, &sizes()?, &bytes) {
+fn asked(alloc: Global, set: u8, number: u8, hex: &str) -> Result<ParsedCommand, Fail> {
+    let data = bytes(alloc, hex)?;
+    match read_command(alloc, set, number, &sizes()?, &data) {
         Ok(asked) => Ok(asked),
         Err(_) => Err(Fail::from("no memory")),
     }
@@ -46,7 +29,7 @@ fn asked(alloc: Global, set: u8, number: u8, hex: &str) -> Result<Asked, Fail> {
 /// Whether the question is this command, with data that are written as these bytes.
 fn is_question(alloc: Global, query: &Query, set: u8, number: u8, hex: &str) -> Result<bool, Fail> {
     let is_command = query.set == set && query.number == number;
-    let wanted = bytes_of(alloc, hex)?;
+    let wanted = bytes(alloc, hex)?;
     Ok(is_command && written(alloc, query)?.as_slice() == wanted.as_slice())
 }
 
@@ -60,16 +43,16 @@ fn written(alloc: Global, query: &Query) -> Result<Vec<u8>, Fail> {
     Ok(bytes)
 }
 
-fn refused(asked: &Asked) -> Option<u16> {
+fn refused(asked: &ParsedCommand) -> Option<u16> {
     match asked {
-        Asked::Refuses(error) => Some(error.0),
-        Asked::Carries(_) => None,
+        ParsedCommand::Refuses(error) => Some(error.0),
+        ParsedCommand::Carries(_) => None,
     }
 }
 
 /// The name of the action, the thread that it names, and its question, where it has them.
-fn named(asked: &Asked) -> (&'static str, Option<ObjectId>, Option<&Query>) {
-    let Asked::Carries(action) = asked else {
+fn named(asked: &ParsedCommand) -> (&'static str, Option<ObjectId>, Option<&Query>) {
+    let ParsedCommand::Carries(action) = asked else {
         return ("refused", None, None);
     };
     match action {
@@ -200,7 +183,7 @@ fn questions(rt: HostRuntime) -> Result<(), Fail> {
 #[test]
 fn a_request_that_is_cleared(rt: HostRuntime) -> Result<(), Fail> {
     match &asked(rt.alloc(), 15, 2, "02 00000003")? {
-        Asked::Carries(Action::ClearRequest { kind, id }) => {
+        ParsedCommand::Carries(Action::ClearRequest { kind, id }) => {
             expect_same(&rt, &(*kind, *id), &(2, 3));
             Ok(())
         }
@@ -211,7 +194,7 @@ fn a_request_that_is_cleared(rt: HostRuntime) -> Result<(), Fail> {
 /// The kind, the policy and the entries of the modifiers of a Set.
 fn request(alloc: Global, hex: &str) -> Result<(u8, u8, Vec<Vec<Scalar>>), Fail> {
     match asked(alloc, 15, 1, hex)? {
-        Asked::Carries(
+        ParsedCommand::Carries(
             Action::SetRequest {
                 kind,
                 policy,
@@ -276,7 +259,7 @@ fn are_two_slots(values: &[(i32, Value)]) -> bool {
 fn slots(rt: HostRuntime) -> Result<(), Fail> {
     let data = "0000000000000007 0000000000000009 00000002 00000001 49 0000002a 00000002 5a 01";
     match &asked(rt.alloc(), 16, 2, data)? {
-        Asked::Carries(
+        ParsedCommand::Carries(
             Action::SetSlots {
                 thread,
                 frame,

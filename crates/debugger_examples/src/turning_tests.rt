@@ -1,5 +1,6 @@
 //! What turns do with a target's bytes.
 use crate::asserts::expect_same;
+use example_parts::bytes;
 use jdwp_debugger::{Command, Debugger, DebuggerFault, Head, KnownThreads, Read, Ticket};
 use jdwp_layout::{Datum, Scalar};
 use jdwp_value::ObjectId;
@@ -16,28 +17,6 @@ pub(crate) const SIZES: &str =
 /// VM_START of thread 1, policy NONE.
 pub(crate) const VM_START: &str =
     "0000001d 00000001 00 40 64 00 00000001 5a 00000000 0000000000000001";
-
-/// The bytes that hex digits spell; spaces are for reading.
-pub(crate) fn bytes(alloc: Global, hex: &str) -> Result<Vec<u8>, Fail> {
-    let mut bytes = Vec::new(alloc);
-    let mut high = None;
-    for digit in hex.chars() {
-        let Some(value) = digit.to_digit(16) else {
-            continue;
-        };
-        match high {
-            None => high = Some(value),
-            Some(first) => {
-                let Ok(byte) = u8::try_from(first.saturating_mul(16).saturating_add(value)) else {
-                    return Err(Fail::from("not a byte"));
-                };
-                bytes.push(byte)?;
-                high = None;
-            }
-        }
-    }
-    Ok(bytes)
-}
 
 /// What a turn tells.
 #[derive(Clone, Copy, Debug, PartialEq, Eq)]

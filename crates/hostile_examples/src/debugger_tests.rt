@@ -1,6 +1,6 @@
 //! What a debugger answers to a target that keeps no rule, and how it stands then.
 use crate::asserts::expect_same_for;
-use crate::hex::bytes;
+use example_parts::bytes;
 use jdwp_debugger::{Command, Debugger, DebuggerFault, Read, Ticket};
 use jdwp_layout::{Datum, Scalar};
 use jdwp_value::ObjectId;

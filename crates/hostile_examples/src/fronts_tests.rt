@@ -1,6 +1,6 @@
 //! Data that read, cut short at each byte: the codec answers that they are short, and where.
 use crate::asserts::{expect_same, expect_same_for};
-use crate::hex::bytes;
+use example_parts::bytes;
 use jdwp_layout::{Field, Item, Layout, layout_of, read};
 use jdwp_wire::{DataFault, IdSizes};
 use std::alloc::Global;

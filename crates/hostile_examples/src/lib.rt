@@ -15,8 +15,6 @@ mod debugger_tests;
 #[cfg(test)]
 mod fronts_tests;
 #[cfg(test)]
-mod hex;
-#[cfg(test)]
 mod recorded;
 #[cfg(test)]
 mod script_tests;

@@ -1,6 +1,6 @@
 //! Scripts that are deep, long or wide: the fault, or none.
 use crate::asserts::expect_same_for;
-use crate::targets::MACHINE_A;
+use example_parts::MACHINE_A;
 use jdwp_script::{Member, Script, ScriptFault};
 use std::alloc::Global;
 use std::process::Abort;

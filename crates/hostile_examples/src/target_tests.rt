@@ -1,7 +1,7 @@
 //! What a target answers to a debugger that keeps no rule, and how it stands then.
 use crate::asserts::expect_same_for;
-use crate::hex::bytes;
 use crate::targets::{Target, is_lost, target};
+use example_parts::bytes;
 use jdwp_target::{TargetFault, Turn};
 use jdwp_value::ObjectId;
 use jdwp_wire::{ErrorCode, FrameFault};

@@ -27,14 +27,14 @@ use Rattle.jdwp_end.specs.Ends.{End, front_of, is_paused, next_at, next_of}
 use Rattle.jdwp_mirror.specs.Messages.{Reply, Report}
 use Rattle.jdwp_mirror.specs.Mirror.{ends}
 use Rattle.jdwp_mirror.specs.Widths.{widths_in}
-use Rattle.jdwp_debuggee.specs.Actions.{Command}
+use Rattle.jdwp_action.specs.Actions.{Command}
 use Rattle.jdwp_debugger.specs.declared.faults.DebuggerFault.TheVariants as code
 use Rattle.jdwp_debugger.specs.declared.pending.Ticket.{Ticket}
 use Rattle.jdwp_debugger.specs.declared.turning.Read.{Read}
 use Rattle.jdwp_debugger.specs.declared.turning.Read.TheVariants as read
 use Rattle.jdwp_debugger.specs.Asking.{HasAsked}
 use Rattle.jdwp_debugger.specs.Debuggers.{Asked, Debugger, Parked as Waiting, attached, with_taken}
-use Rattle.jdwp_debugger.specs.DebuggerTurns.{Enters, HandlesAt, Told, TurnsAt, closed_where, command_at, measured_where, reading_of, reports, told}
+use Rattle.jdwp_debugger.specs.DebuggerTurns.{Enters, HandlesAt, Told, TurnsAt, closed_where, command_at, measured_where, reading_of, reports, read_meaning}
 use Rattle.jdwp_debugger.specs.News.{News, Waits, Happens, Answers, Measures, Reading, answer_in, answer_says, composite_in, composites_in, event_says, event_says_by, place_of, reply_at, reply_to, says, sizes_say, unless_bad, widths_by, with_composites, with_first}
 use Rattle.jdwp_attach.specs.PlanWaits.{Counts, HandlesComposites, composites_of, is_composite, is_composite_kind}
 
@@ -300,15 +300,15 @@ handles-packet header body used (Measures place answer w cs) old new t said h =
     rw (h.0, h.1.2) (handled-measured (list_any ends (reports cs)) w (Packet header body) (length cs) old _
     (record { limit = refl; handled = refl; phase = λ e. cc; counted = omega (arith, all) }))
 
-handles : (message : Message) (used : ℕ) (old new : Debugger) (r : Read) → HandlesAt message used old (Ok r) new → Handled message (composites_of (told r)) old new
+handles : (message : Message) (used : ℕ) (old new : Debugger) (r : Read) → HandlesAt message used old (Ok r) new → Handled message (composites_of (read_meaning r)) old new
 handles Handshake used old new r h = rw (h.0, h.2) (record { limit = refl; handled = refl; phase = λ e. cc; counted = omega arith })
 handles (Packet header body) used old new r h =
-    handles-packet header body used h.news old new (told r) (says-so (reading_of old) header.id header.kind body h.news h.said) h.entered
+    handles-packet header body used h.news old new (read_meaning r) (says-so (reading_of old) header.id header.kind body h.news h.said) h.entered
 
 -- so many composites were told of
 pub counts-turned : (next : NextMessage) (n : ℕ) (old new : Debugger) (r : Read) → front_of old.end ≡ next → IsBytes old.end.incoming → TurnsAt next old (Ok r) new → Counts n old
-    → Counts (n + composites_of (told r)) new
-counts-turned (Whole message used) n old new r is fits h c = counts-more n (composites_of (told r)) message old new (front-due old.end message used fits is) (handles message used old new r h) c
+    → Counts (n + composites_of (read_meaning r)) new
+counts-turned (Whole message used) n old new r is fits h c = counts-more n (composites_of (read_meaning r)) message old new (front-due old.end message used fits is) (handles message used old new r h) c
 counts-turned More n old new r is fits h c =
     let same : r ≡ read.Nothing = cc (h.0) in
     rw (same, h.1) (counts-fewer n (n + 0) (record old { last = [] }) (omega arith) (counts-kept n old (record old { last = [] }) (record { limit = refl; handled = refl; phase = refl; parked = refl }) c))

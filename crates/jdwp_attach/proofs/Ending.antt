@@ -9,13 +9,13 @@ use Rattle.jdwp_end.specs.Runs.{IsFront}
 use Rattle.jdwp_debugger.specs.declared.faults.DebuggerFault.{DebuggerFault}
 use Rattle.jdwp_debugger.specs.declared.faults.DebuggerFault.TheVariants as code
 use Rattle.jdwp_wire.specs.Widths.{Widths}
-use Rattle.jdwp_debuggee.specs.Actions.{Command}
+use Rattle.jdwp_action.specs.Actions.{Command}
 use Rattle.jdwp_debugger.specs.declared.asking.Refused as asking
 use Rattle.jdwp_debugger.specs.declared.asking.Refused.TheVariants as refusal
 use Rattle.jdwp_debugger.specs.declared.turning.Read.TheVariants as read
 use Rattle.jdwp_debugger.specs.Asking.{HasAsked, IsRefusal, refusal_of_ask}
 use Rattle.jdwp_debugger.specs.RefusedNumbers.{refused_number}
-use Rattle.jdwp_debugger.specs.Debuggers.{Debugger, attached, has_tickets, lost, with_taken}
+use Rattle.jdwp_debugger.specs.Debuggers.{Debugger, attached, has_tickets, lost_debugger, with_taken}
 use Rattle.jdwp_debugger.specs.DebuggerTurns.{TurnsAt, refused}
 use Rattle.jdwp_pipe.specs.declared.ended.Ended.{Ended}
 use Rattle.jdwp_pipe.specs.declared.ended.Ended.TheVariants.{Done, LostByRead, LostByWrite, Refused, NoMemory, TurnLimit}
@@ -43,7 +43,7 @@ record Same (old new : Debugger) : Type 0 where
   taken : new.end.session.taken ≡ old.end.session.taken
   tickets : new.tickets ≡ old.tickets
 
-same-lost : (d : Debugger) → Same d (lost d)
+same-lost : (d : Debugger) → Same d (lost_debugger d)
 same-lost d = record { fed = refl; enqueued = refl; taken = refl; tickets = refl }
 
 same-by : (old new : Debugger) → new ≡ old → Same old new
@@ -150,14 +150,14 @@ turn-memory-ends : (s o : Story) (old new : Debugger) (left left' : ℕ) → Tur
 turn-memory-ends s o old new left left' turned plan done base begins k =
     rw (memory-same (front_of old.end) old new turned) (stays-memory plan done base s o old left begins k)
 
-turn-refused-ends : (s o : Story) (old mid new : Debugger) (left left' number : ℕ) (fault : DebuggerFault) → fault ≢ code.NoMemory → TurnsAt (front_of old.end) old (Err fault) mid → new ≡ lost mid
+turn-refused-ends : (s o : Story) (old mid new : Debugger) (left left' number : ℕ) (fault : DebuggerFault) → fault ≢ code.NoMemory → TurnsAt (front_of old.end) old (Err fault) mid → new ≡ lost_debugger mid
     → number ≡ told_number fault → EndsSo (at s o old left) (at s o new left') (Refused number)
 turn-refused-ends s o old mid new left left' number fault some turned is number-is plan done base begins k =
     let same = fault-refused (front_of old.end) old mid fault some turned in
     let kept : mid.end.session.lost ≡ false = rw same k.kept in
     let reached : Reaches base.debugger done k.told mid = reach-untold base.debugger done k.told old mid (Err fault) refl k.reached turned in
     rw is (
-      going-in-order plan done base s o old left (lost mid) begins k (record { fed = rw same refl; enqueued = rw same refl; taken = rw same refl; tickets = rw same refl }),
+      going-in-order plan done base s o old left (lost_debugger mid) begins k (record { fed = rw same refl; enqueued = rw same refl; taken = rw same refl; tickets = rw same refl }),
       (
         (
           mid,
@@ -208,11 +208,11 @@ line-refused done rest line base s o d left refused w k known refuses =
     }
 
 line-stops : (done rest : List PlanLine) (line : PlanLine) (base : Standing) (s o : Story) (d new : Debugger) (left refused : ℕ) (w : Widths) → IsGoing done base (at s o d left) → d.sizes ≡ Some w
-    → RefusesBy line w d refused → new ≡ lost d
+    → RefusesBy line w d refused → new ≡ lost_debugger d
     → InOrder (done ++ line ∷ rest) base s o new × MayEnd (done ++ line ∷ rest) (Refused refused) base (flushed s) (flushed o) new
 line-stops done rest line base s o d new left refused w k known refuses is =
     rw is (
-      going-in-order (done ++ line ∷ rest) done base s o d left (lost d) (begins-line done rest line) k (same-lost d),
+      going-in-order (done ++ line ∷ rest) done base s o d left (lost_debugger d) (begins-line done rest line) k (same-lost d),
       (
         (
           d,
@@ -235,7 +235,7 @@ unread-ends line s o d new left left' set number bytes w ended asks-it known unr
     line-stops done rest line base s o d new left (refused_number refusal.BadCommand) w k known (ask-refuses line d set number _ bytes w asks-it (rw unread refl)) is.1)
 
 refuses-some : (line : PlanLine) (s o : Story) (d new : Debugger) (left left' set number : ℕ) (bytes : List ℕ) (w : Widths) (command : Command) (r : asking.Refused) → IsAsk line set number bytes
-    → d.sizes ≡ Some w → command_asked w set number bytes ≡ Some command → refusal_of_ask d command ≡ Some r → new ≡ lost d → LineEndsSo line (at s o d left) (at s o new left') (Refused (refused_number r))
+    → d.sizes ≡ Some w → command_asked w set number bytes ≡ Some command → refusal_of_ask d command ≡ Some r → new ≡ lost_debugger d → LineEndsSo line (at s o d left) (at s o new left') (Refused (refused_number r))
 refuses-some line s o d new left left' set number bytes w command r asks-it known is-command refuses is done rest base k =
     line-stops done rest line base s o d new left (refused_number r) w k known (ask-refuses line d set number _ bytes w asks-it (rw is-command (r, refuses, refl))) is
 
@@ -245,15 +245,15 @@ pub refused-ends : (line : PlanLine) (s o : Story) (old mid new : Debugger) (lef
 refused-ends line s o old mid new left left' set number bytes w command refusal.NoMemory ended a known c h e =
     λ done rest base k. rw (e.0, e.1, h.0) (stays-memory (done ++ line ∷ rest) done base s o old left (begins-line done rest line) k)
 refused-ends line s o old mid new left left' set number bytes w command refusal.Closed ended a known c h e =
-    rw e.0 (refuses-some line s o old new left left' set number bytes w command refusal.Closed a known c h.1 (e.1 ∙ ap (λ (x : Debugger). lost x) h.0))
+    rw e.0 (refuses-some line s o old new left left' set number bytes w command refusal.Closed a known c h.1 (e.1 ∙ ap (λ (x : Debugger). lost_debugger x) h.0))
 refused-ends line s o old mid new left left' set number bytes w command refusal.NotReady ended a known c h e =
-    rw e.0 (refuses-some line s o old new left left' set number bytes w command refusal.NotReady a known c h.1 (e.1 ∙ ap (λ (x : Debugger). lost x) h.0))
+    rw e.0 (refuses-some line s o old new left left' set number bytes w command refusal.NotReady a known c h.1 (e.1 ∙ ap (λ (x : Debugger). lost_debugger x) h.0))
 refused-ends line s o old mid new left left' set number bytes w command refusal.Busy ended a known c h e =
-    rw e.0 (refuses-some line s o old new left left' set number bytes w command refusal.Busy a known c h.1 (e.1 ∙ ap (λ (x : Debugger). lost x) h.0))
+    rw e.0 (refuses-some line s o old new left left' set number bytes w command refusal.Busy a known c h.1 (e.1 ∙ ap (λ (x : Debugger). lost_debugger x) h.0))
 refused-ends line s o old mid new left left' set number bytes w command refusal.BadCommand ended a known c h e =
-    rw e.0 (refuses-some line s o old new left left' set number bytes w command refusal.BadCommand a known c h.1 (e.1 ∙ ap (λ (x : Debugger). lost x) h.0))
+    rw e.0 (refuses-some line s o old new left left' set number bytes w command refusal.BadCommand a known c h.1 (e.1 ∙ ap (λ (x : Debugger). lost_debugger x) h.0))
 refused-ends line s o old mid new left left' set number bytes w command refusal.TooLong ended a known c h e =
-    rw e.0 (refuses-some line s o old new left left' set number bytes w command refusal.TooLong a known c h.1 (e.1 ∙ ap (λ (x : Debugger). lost x) h.0))
+    rw e.0 (refuses-some line s o old new left left' set number bytes w command refusal.TooLong a known c h.1 (e.1 ∙ ap (λ (x : Debugger). lost_debugger x) h.0))
 
 -- a line of `pair` alone
 pub is-of-pair : (l : PlanLine) → (l ≡ line.LoseTarget) ⊎ ((l ≡ line.LoseDebugger) ⊎ (l ≡ line.Attach)) → is_of_pair (said_by l) ≡ true
@@ -270,7 +270,7 @@ pair-refuses line.Answers w d h = absurd (cc)
 pair-refuses (line.Events count) w d h = absurd (cc)
 pair-refuses line.Mirror w d h = absurd (cc)
 
-pub pair-ends : (line : PlanLine) (s o : Story) (d new : Debugger) (left left' : ℕ) → is_of_pair (said_by line) ≡ true → is_some d.sizes ≡ true → new ≡ lost d
+pub pair-ends : (line : PlanLine) (s o : Story) (d new : Debugger) (left left' : ℕ) → is_of_pair (said_by line) ≡ true → is_some d.sizes ≡ true → new ≡ lost_debugger d
     → LineEndsSo line (at s o d left) (at s o new left') (Refused 0)
 pair-ends line s o d new left left' of-pair known is done rest base k =
     let knows = stands-known done base.debugger d known k.stands in
@@ -292,11 +292,11 @@ asked-in-order done rest line base s o old mid left set number bytes w command a
 -- ---- a read that failed
 
 read-fails : (s s' o : Story) (old mid new : Debugger) (left left' : ℕ) → TurnsAt (front_of old.end) old (Ok read.Nothing) mid → front_of old.end ≡ More → mid ≡ record old { last = [] }
-    → new ≡ lost mid → FailsRead (flushed s) s' → EndsSo (at s o old left) (at s' o new left') LostByRead
+    → new ≡ lost_debugger mid → FailsRead (flushed s) s' → EndsSo (at s o old left) (at s' o new left') LostByRead
 read-fails s s' o old mid new left left' turned front same is f plan done base begins k =
     let reached : Reaches base.debugger done k.told (record old { last = [] }) = reach-same base.debugger done k.told old mid k.reached turned same in
     rw (is, same) (
-      stays-in-order plan done base s o old left s' (lost (record old { last = [] })) begins k f.read f.written (omega (arith, f.failed_writes)) f.early
+      stays-in-order plan done base s o old left s' (lost_debugger (record old { last = [] })) begins k f.read f.written (omega (arith, f.failed_writes)) f.early
           (record { fed = refl; enqueued = refl; taken = refl; tickets = refl }),
       (
         omega (arith, f.fails, k.failed_reads, k.ends),
@@ -307,11 +307,11 @@ read-fails s s' o old mid new left left' turned front same is f plan done base b
 
 -- a flush before it failed
 flush-fails : (s s' o : Story) (old mid new : Debugger) (left left' : ℕ) → TurnsAt (front_of old.end) old (Ok read.Nothing) mid → mid ≡ record old { last = [] }
-    → new ≡ lost mid → FailsFlush s s' → EndsSo (at s o old left) (at s' o new left') LostByWrite
+    → new ≡ lost_debugger mid → FailsFlush s s' → EndsSo (at s o old left) (at s' o new left') LostByWrite
 flush-fails s s' o old mid new left left' turned same is f plan done base begins k =
     let reached : Reaches base.debugger done k.told (record old { last = [] }) = reach-same base.debugger done k.told old mid k.reached turned same in
     rw (is, same, f) (
-      stays-in-order plan done base s o old left (record s { failed_writes = s.failed_writes + 1 }) (lost (record old { last = [] })) begins k refl refl (omega arith) refl
+      stays-in-order plan done base s o old left (record s { failed_writes = s.failed_writes + 1 }) (lost_debugger (record old { last = [] })) begins k refl refl (omega arith) refl
           (record { fed = refl; enqueued = refl; taken = refl; tickets = refl }),
       (
         inl (omega (arith, k.failed_writes)),
@@ -400,7 +400,7 @@ part-in-order plan done base s o old mid left turns tickets s' o' new taken k p 
     }
 
 -- some of what waited was taken, and then the connection was lost
-lost-behind : (taken : List ℕ) (mid new : Debugger) → new ≡ lost (with_taken taken mid) → Same (with_taken taken mid) new
+lost-behind : (taken : List ℕ) (mid new : Debugger) → new ≡ lost_debugger (with_taken taken mid) → Same (with_taken taken mid) new
 lost-behind taken mid new is = rw is (same-lost (with_taken taken mid))
 
 -- a write failed
@@ -482,11 +482,11 @@ pub line-memory : (line : PlanLine) (s o : Story) (d : Debugger) (left : ℕ) �
 line-memory line s o d left done rest base k = stays-memory (done ++ line ∷ rest) done base s o d left (begins-line done rest line) k
 
 -- a write of the lines of a mirror failed
-pub mirror-part : (s o o' : Story) (d new : Debugger) (left : ℕ) (text : List ℕ) → TellsMirror d.mirror text → FailsWrite o o' text → new ≡ lost d
+pub mirror-part : (s o o' : Story) (d new : Debugger) (left : ℕ) (text : List ℕ) → TellsMirror d.mirror text → FailsWrite o o' text → new ≡ lost_debugger d
     → LineEndsSo line.Mirror (at s o d left) (at s o' new left) LostByWrite
 mirror-part s o o' d new left text tells part is done rest base k =
     let plan = done ++ line.Mirror ∷ rest in
-    let r = going-in-order plan done base s o d left (lost d) (begins-line done rest line.Mirror) k (same-lost d) in
+    let r = going-in-order plan done base s o d left (lost_debugger d) (begins-line done rest line.Mirror) k (same-lost d) in
     let grows = grows-part base.out o o' k.told text k.printed part in
     let tickets : d.tickets ≡ base.debugger.tickets + asks (done ++ line.Mirror ∷ []) = omega (arith, k.asked, asks-append done line.Mirror) in
     rw is (
@@ -533,11 +533,11 @@ line-ends plan i line old new ended inside is f base k =
 
 -- all lines were carried out, and all that was asked was answered
 pub finished-ends : (plan : List PlanLine) (base : Standing) (s o : Story) (d new : Debugger) (left : ℕ) → IsGoing plan base (at s o d left) → is_some d.sizes ≡ true → has_tickets d.pending ≡ false
-    → new ≡ lost d → InOrder plan base s o new × MayEnd plan Done base (flushed s) (flushed o) new
+    → new ≡ lost_debugger d → InOrder plan base s o new × MayEnd plan Done base (flushed s) (flushed o) new
 finished-ends plan base s o d new left k known answered is =
     let knows = stands-known plan base.debugger d known k.stands in
     rw is (
-      going-in-order plan plan base s o d left (lost d) (begins-all plan) k (same-lost d),
+      going-in-order plan plan base s o d left (lost_debugger d) (begins-all plan) k (same-lost d),
       (
         (d, inr ((k.asked, answered, (knows.0, knows.1, knows.2)), going-tells plan base s o d left k), k.kept, refl),
         has-left plan base s o d left k,
@@ -709,12 +709,12 @@ flush-fails-refused plan number base s o s' o' d r m f = (
 )
 
 -- it failed where the debugger kept the connection, and loses it now
-flush-loses : (plan : List PlanLine) (base : Standing) (s o s' o' : Story) (d new : Debugger) → new ≡ lost d → TellsPart plan base o' d → d.end.session.lost ≡ false → InOrder plan base s o d
+flush-loses : (plan : List PlanLine) (base : Standing) (s o s' o' : Story) (d new : Debugger) → new ≡ lost_debugger d → TellsPart plan base o' d → d.end.session.lost ≡ false → InOrder plan base s o d
     → FailsLastFlush s o s' o' → InOrder plan base s' o' new × MayEnd plan LostByWrite base s' o' new
 flush-loses plan base s o s' o' d new is tells kept r f =
-    rw is (flush-in-order plan base s o s' o' d (lost d) r f (same-lost d), (flush-fails-more plan base s o s' o' d r f, (d, tells, kept, refl)))
+    rw is (flush-in-order plan base s o s' o' d (lost_debugger d) r f (same-lost d), (flush-fails-more plan base s o s' o' d r f, (d, tells, kept, refl)))
 
-pub flush-fails-kept : (plan : List PlanLine) (ended : Ended) (base : Standing) (s o s' o' : Story) (d new : Debugger) → (ended ≡ NoMemory) ⊎ (ended ≡ TurnLimit) → new ≡ lost d → InOrder plan base s o d
+pub flush-fails-kept : (plan : List PlanLine) (ended : Ended) (base : Standing) (s o s' o' : Story) (d new : Debugger) → (ended ≡ NoMemory) ⊎ (ended ≡ TurnLimit) → new ≡ lost_debugger d → InOrder plan base s o d
     → MayEnd plan ended base (flushed s) (flushed o) d → FailsLastFlush s o s' o' → InOrder plan base s' o' new × MayEnd plan LostByWrite base s' o' new
 flush-fails-kept plan NoMemory base s o s' o' d new which is r m f = flush-loses plan base s o s' o' d new is (still-part plan base o o' d f.printed m.0) m.1 r f
 flush-fails-kept plan TurnLimit base s o s' o' d new which is r m f = flush-loses plan base s o s' o' d new is (still-in-order plan base o o' d f.printed m.0) m.2 r f
@@ -764,7 +764,7 @@ hello-goes s o d new left s' begun is written =
 
 -- some of it was
 pub hello-ends : (plan : List PlanLine) (s o : Story) (d new : Debugger) (left : ℕ) (s' : Story) (taken : List ℕ) → d ≡ attached d → IsFront taken d.end.outgoing → FailsWrite s s' taken
-    → new ≡ lost (with_taken taken d) → InOrder plan (at s o d left) s' o new × MayEnd plan LostByWrite (at s o d left) (flushed s') (flushed o) new
+    → new ≡ lost_debugger (with_taken taken d) → InOrder plan (at s o d left) s' o new × MayEnd plan LostByWrite (at s o d left) (flushed s') (flushed o) new
 hello-ends plan s o d new left s' taken begun front f is =
     let w = f.written in
     let outgoing : d.end.outgoing ≡ handshake_bytes = ap (λ (x : Debugger). x.end.outgoing) begun in

@@ -5,7 +5,7 @@ use Rattle.std.proofs.lemmas.List.{append-nil, drop_more, take-append-drop, take
 use Rattle.jdwp_end.specs.Ends.{front_of, is_open}
 use Rattle.jdwp_debugger.specs.Asking.{HasAsked, command_bytes}
 use Rattle.std.specs.Borrow.{Bor}
-use Rattle.jdwp_debuggee.specs.Actions.{Command}
+use Rattle.jdwp_action.specs.Actions.{Command}
 use Rattle.jdwp_debugger.specs.declared.pending.Ticket.{Ticket}
 use Rattle.jdwp_debugger.specs.Debuggers.{Asked, Debugger, Unanswered, and_then, at_place, has_tickets, seen_unanswered, unanswered, with_fed, with_taken}
 use Rattle.jdwp_debugger.specs.DebuggerTurns.{TurnsAt}

@@ -20,7 +20,7 @@ use Rattle.jdwp_layout.specs.CommandTable.{row_at}
 use Rattle.jdwp_layout.specs.Meanings.{DatumMeaning}
 use Rattle.jdwp_layout.specs.Reads.{data_at}
 use Rattle.jdwp_layout.specs.Rows.{Row, RowShapes}
-use Rattle.jdwp_debuggee.specs.Actions.{Carried, Command, Content, Raw}
+use Rattle.jdwp_action.specs.Actions.{Carried, Command, Content, Raw}
 use Rattle.jdwp_debugger.specs.declared.heads.Head.{Head}
 use Rattle.jdwp_debugger.specs.declared.heads.Head.TheVariants as head
 use Rattle.jdwp_debugger.specs.declared.pending.Ticket.{Ticket}
@@ -28,7 +28,7 @@ use Rattle.jdwp_debugger.specs.declared.turning.Read.{Read}
 use Rattle.jdwp_debugger.specs.declared.turning.Read.TheVariants as read
 use Rattle.jdwp_debugger.specs.Asking.{HasAsked}
 use Rattle.jdwp_debugger.specs.Debuggers.{Asked, Debugger, Parked as Kept, Unanswered, and_then, attached, unanswered}
-use Rattle.jdwp_debugger.specs.DebuggerTurns.{Enters, HandlesAt, Told, TurnsAt, closed_where, command_at, heads_of, measured_where, reading_of, reports, told}
+use Rattle.jdwp_debugger.specs.DebuggerTurns.{Enters, HandlesAt, Told, TurnsAt, closed_where, command_at, heads_of, measured_where, reading_of, reports, read_meaning}
 use Rattle.jdwp_debugger.specs.DebuggerTurns as tell
 use Rattle.jdwp_debugger.specs.News.{News, Waits, Happens, Answers, Measures, Reading, answer_in, answer_says, composites_in, place_of, reply_at, reply_to, says, sizes_say, unless_bad, widths_by, with_composites}
 use Rattle.jdwp_attach.specs.declared.run.Waiting.{Waiting}
@@ -261,12 +261,12 @@ packet-turned header body used (Measures place answer w cs) old new t said rise 
     let all = measures-all header.kind old.parked place answer w cs (says-so (reading_of old) header.id header.kind body (Measures place answer w cs) said) in
     rw (h.0, h.1.2) (turned-measured (list_any ends (reports cs)) w cs old _ (own-gone old.pending place a.0 a.1 a.2) refl (has-heads cs old.parked header all) refl)
 
-handled-turned : (message : streams.Message) (used : ℕ) (old new : Debugger) (r : Read) → Rise 0 (unanswered old.pending) old.tickets → HandlesAt message used old (Ok r) new → Turned (told r) old new
+handled-turned : (message : streams.Message) (used : ℕ) (old new : Debugger) (r : Read) → Rise 0 (unanswered old.pending) old.tickets → HandlesAt message used old (Ok r) new → Turned (read_meaning r) old new
 handled-turned streams.Handshake used old new r rise h =
     rw (h.0, h.2) (record { left = unanswered-append old.pending (record { id = old.next_id; ticket = None; command = id_sizes } ∷ []) ∙ append-nil (unanswered old.pending); tickets = refl; can = tt })
-handled-turned (streams.Packet header body) used old new r rise h = packet-turned header body used h.news old new (told r) h.said rise h.entered
+handled-turned (streams.Packet header body) used old new r rise h = packet-turned header body used h.news old new (read_meaning r) h.said rise h.entered
 
-turned-so : (next : NextMessage) (old new : Debugger) (r : Read) → Rise 0 (unanswered old.pending) old.tickets → TurnsAt next old (Ok r) new → Turned (told r) old new
+turned-so : (next : NextMessage) (old new : Debugger) (r : Read) → Rise 0 (unanswered old.pending) old.tickets → TurnsAt next old (Ok r) new → Turned (read_meaning r) old new
 turned-so (Whole message used) old new r rise h = handled-turned message used old new r rise h
 turned-so More old new r rise h =
     let same : r ≡ read.Nothing = cc (h.0) in
@@ -274,7 +274,7 @@ turned-so More old new r rise h =
 turned-so (Fault fault) old new r rise h = absurd (let e = h.0 in cc)
 
 -- what a turn told can be told
-pub turned-can : (next : NextMessage) (table : List Waiting) (old new : Debugger) (r : Read) → TurnsAt next old (Ok r) new → Names table old → CanTell (unanswered old.pending) (told r) new.last new.sizes
+pub turned-can : (next : NextMessage) (table : List Waiting) (old new : Debugger) (r : Read) → TurnsAt next old (Ok r) new → Names table old → CanTell (unanswered old.pending) (read_meaning r) new.last new.sizes
 turned-can next table old new r h n = (turned-so next old new r n.rise h).can
 
 rise-after : (t : Told) (us : List Unanswered) (given : ℕ) → Rise 0 us given → Rise 0 (waiting_after t us) given
@@ -283,12 +283,12 @@ rise-after other us given r = r
 
 -- the table after a turn, without what it told
 pub turned-names : (next : NextMessage) (table table' : List Waiting) (old new : Debugger) (r : Read) → TurnsAt next old (Ok r) new → Names table old
-    → table' ≡ map kept_name (waiting_after (told r) (unanswered old.pending)) → Names table' new
+    → table' ≡ map kept_name (waiting_after (read_meaning r) (unanswered old.pending)) → Names table' new
 turned-names next table table' old new r h n is =
     let t = turned-so next old new r n.rise h in
     record {
       named = is ∙ ap (λ (us : List Unanswered). map kept_name us) (sym t.left);
-      rise = rw (t.left, t.tickets) (rise-after (told r) (unanswered old.pending) old.tickets n.rise);
+      rise = rw (t.left, t.tickets) (rise-after (read_meaning r) (unanswered old.pending) old.tickets n.rise);
     }
 
 -- ---- other calls

@@ -3,14 +3,14 @@ use Rattle.std.proofs.Common.{◌≡◌, ◌∙◌, ℕ, ◌<◌, ◌≤◌, ◌
 use Rattle.std.proofs.lemmas.List.{length-take}
 use Rattle.jdwp_wire.specs.Widths.{Widths}
 use Rattle.jdwp_wire.specs.declared.frame.FrameFault.TheVariants as frame
-use Rattle.jdwp_debuggee.specs.Actions.{Command}
+use Rattle.jdwp_action.specs.Actions.{Command}
 use Rattle.jdwp_debugger.specs.declared.asking.Refused as asking
 use Rattle.jdwp_debugger.specs.declared.asking.Refused.TheVariants as refusal
 use Rattle.jdwp_debugger.specs.declared.faults.DebuggerFault.{DebuggerFault}
 use Rattle.jdwp_debugger.specs.declared.faults.DebuggerFault.TheVariants as code
 use Rattle.jdwp_debugger.specs.Asking.{IsRefusal, refusal_of_ask}
 use Rattle.jdwp_debugger.specs.RefusedNumbers.{refused_number}
-use Rattle.jdwp_debugger.specs.Debuggers.{Debugger, lost}
+use Rattle.jdwp_debugger.specs.Debuggers.{Debugger, lost_debugger}
 use Rattle.jdwp_pipe.specs.declared.ended.Ended.{Ended}
 use Rattle.jdwp_pipe.specs.declared.ended.Ended.TheVariants.{Done, LostByRead, LostByWrite, Refused, NoMemory, TurnLimit}
 use Rattle.jdwp_pipe.specs.Story.{Story, flushed}
@@ -161,7 +161,7 @@ pair-ended line.Answers place refused h = absurd (cc)
 pair-ended (line.Events count) place refused h = absurd (cc)
 pair-ended line.Mirror place refused h = absurd (cc)
 
-pub pair-tells : (line : PlanLine) (s o : Story) (d new : Debugger) (left : ℕ) → is_of_pair (said_by line) ≡ true → is_some d.sizes ≡ true → new ≡ lost d → LineTells line (at s o d left) new (Refused 0)
+pub pair-tells : (line : PlanLine) (s o : Story) (d new : Debugger) (left : ℕ) → is_of_pair (said_by line) ≡ true → is_some d.sizes ≡ true → new ≡ lost_debugger d → LineTells line (at s o d left) new (Refused 0)
 pair-tells line s o d new left of-pair known is done rest base k =
     let knows = stands-known done base.debugger d known k.stands in
     subst (λ (how : Attached). TellsRefused (done ++ line ∷ rest) how base.debugger new) (sym (pair-ended line (length done + 1) 0 of-pair))
@@ -174,7 +174,7 @@ ask-ended other set number bytes place refused h = absurd h
 
 -- it is refused
 ask-tells : (line : PlanLine) (s o : Story) (d new : Debugger) (left set number refused : ℕ) (bytes : List ℕ) (w : Widths) → IsAsk line set number bytes → d.sizes ≡ Some w
-    → RefusesCommand d refused (command_asked w set number bytes) → new ≡ lost d → LineTells line (at s o d left) new (Refused refused)
+    → RefusesCommand d refused (command_asked w set number bytes) → new ≡ lost_debugger d → LineTells line (at s o d left) new (Refused refused)
 ask-tells line s o d new left set number refused bytes w asks-it known refuses is done rest base k =
     subst (λ (how : Attached). TellsRefused (done ++ line ∷ rest) how base.debugger new) (sym (ask-ended line set number bytes (length done + 1) refused asks-it))
     (d, line-refused done rest line base s o d left refused w k known (ask-refuses line d set number refused bytes w asks-it refuses), k.kept, is)
@@ -187,10 +187,10 @@ unread-tells line s o d new left set number bytes w ended asks-it known unread i
     (ask-tells line s o d new left set number (refused_number refusal.BadCommand) bytes w asks-it known (rw unread refl) is.1)
 
 tells-some : (line : PlanLine) (s o : Story) (old mid new : Debugger) (left set number : ℕ) (bytes : List ℕ) (w : Widths) (command : Command) (r : asking.Refused) → IsAsk line set number bytes
-    → old.sizes ≡ Some w → command_asked w set number bytes ≡ Some command → mid ≡ old → refusal_of_ask old command ≡ Some r → new ≡ lost mid
+    → old.sizes ≡ Some w → command_asked w set number bytes ≡ Some command → mid ≡ old → refusal_of_ask old command ≡ Some r → new ≡ lost_debugger mid
     → LineTells line (at s o old left) new (Refused (refused_number r))
 tells-some line s o old mid new left set number bytes w command r asks-it known is-command same refuses is =
-    ask-tells line s o old new left set number (refused_number r) bytes w asks-it known (rw is-command (r, refuses, refl)) (is ∙ ap (λ (x : Debugger). lost x) same)
+    ask-tells line s o old new left set number (refused_number r) bytes w asks-it known (rw is-command (r, refuses, refl)) (is ∙ ap (λ (x : Debugger). lost_debugger x) same)
 
 -- the debugger refuses it
 pub refused-tells : (line : PlanLine) (s o : Story) (old mid new : Debugger) (left set number : ℕ) (bytes : List ℕ) (w : Widths) (command : Command) (r : asking.Refused) (ended : Ended)

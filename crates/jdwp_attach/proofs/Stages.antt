@@ -21,14 +21,14 @@ use Rattle.jdwp_event.specs.Composites.{CompositeMeaning}
 use Rattle.jdwp_end.specs.declared.phase.Phase.{Phase}
 use Rattle.jdwp_end.specs.declared.phase.Phase.TheVariants.{AwaitingHandshake, Established}
 use Rattle.jdwp_end.specs.Ends.{End, front_of, is_open, is_paused, next_at, next_of}
-use Rattle.jdwp_debuggee.specs.Actions.{Command}
+use Rattle.jdwp_action.specs.Actions.{Command}
 use Rattle.jdwp_debugger.specs.declared.faults.DebuggerFault.TheVariants as code
 use Rattle.jdwp_debugger.specs.declared.pending.Ticket.{Ticket}
 use Rattle.jdwp_debugger.specs.declared.turning.Read.{Read}
 use Rattle.jdwp_debugger.specs.declared.turning.Read.TheVariants as read
 use Rattle.jdwp_debugger.specs.Asking.{HasAsked, IsNextFree, asked as with_asked, command_bytes, id_after, is_outstanding}
 use Rattle.jdwp_debugger.specs.Debuggers.{Asked, Debugger, Parked as Waiting}
-use Rattle.jdwp_debugger.specs.DebuggerTurns.{Enters, TurnsAt, Told, closed_where, command_at, greeted, measured_where, reading_of, reports, sizes_header, told}
+use Rattle.jdwp_debugger.specs.DebuggerTurns.{Enters, TurnsAt, Told, closed_where, command_at, greeted, measured_where, reading_of, reports, sizes_header, read_meaning}
 use Rattle.jdwp_mirror.specs.Messages.{Reply, Report, id_sizes}
 use Rattle.jdwp_mirror.specs.Mirror.{ends}
 use Rattle.jdwp_debugger.specs.News.{EIGHT, News, Waits, Happens, Answers, Measures, Reading, answer_says, event_says, event_says_by, place_of, reply_at, reply_to, says, sizes_say, unless_bad, answer_in, widths_by, with_composites, composites_in}
@@ -359,7 +359,7 @@ pub turned-stands : (next : NextMessage) (done : List PlanLine) (base old new : 
     → is_open new.end ≡ true → Stands done base old → Stands done base new
 turned-stands (Whole streams.Handshake used) done base old new r front h some opened s = rw h.2 (hello-stands done base old used front h.1 s)
 turned-stands (Whole (streams.Packet header body) used) done base old new r front h some opened s =
-    packet-stands done base old header body used h.news new (told r) front h.said h.entered opened s
+    packet-stands done base old header body used h.news new (read_meaning r) front h.said h.entered opened s
 turned-stands More done base old new r front h some opened s = absurd (some (let e = h.0 in cc))
 turned-stands (Fault fault) done base old new r front h some opened s = absurd (let e = h.0 in cc)
 
@@ -368,6 +368,6 @@ pub turned-puts : (next : NextMessage) (done : List PlanLine) (base old new : De
     → Stands done base old → Puts done base new
 turned-puts (Whole streams.Handshake used) done base old new r front h some s = rw h.2 (stands-puts done base (greeted used old) (hello-stands done base old used front h.1 s))
 turned-puts (Whole (streams.Packet header body) used) done base old new r front h some s =
-    puts-same done base old new (packet-enqueued (streams.Packet header body) used header h.news old new (told r) h.entered) (stands-puts done base old s)
+    puts-same done base old new (packet-enqueued (streams.Packet header body) used header h.news old new (read_meaning r) h.entered) (stands-puts done base old s)
 turned-puts More done base old new r front h some s = absurd (some (let e = h.0 in cc))
 turned-puts (Fault fault) done base old new r front h some s = absurd (let e = h.0 in cc)

@@ -19,7 +19,7 @@ use Rattle.jdwp_debugger.specs.declared.pending.Ticket.{Ticket}
 use Rattle.jdwp_debugger.specs.declared.turning.Read.{Read}
 use Rattle.jdwp_debugger.specs.declared.turning.Read.TheVariants as read
 use Rattle.jdwp_debugger.specs.Debuggers.{Asked, Debugger, Parked as Waiting}
-use Rattle.jdwp_debugger.specs.DebuggerTurns.{Enters, HandlesAt, ReadsAt, Told, TurnsAt, closed, closed_where, command_at, command_of, greeted, measured_where, reading_of, refused, reports, sizes_header, told}
+use Rattle.jdwp_debugger.specs.DebuggerTurns.{Enters, HandlesAt, ReadsAt, Told, TurnsAt, closed_debugger, closed_where, command_at, command_of, greeted, measured_where, reading_of, refused, reports, sizes_header, read_meaning}
 use Rattle.jdwp_debugger.specs.DebuggerTurns as tell
 use Rattle.jdwp_mirror.specs.Messages.{Reply, Report}
 use Rattle.jdwp_mirror.specs.Mirror.{ends}
@@ -254,16 +254,16 @@ packet-enqueued message used header (Answers place ticket answer) old new t h =
     ap (λ (d : Debugger). d.end.session.enqueued) h.1.2 ∙ where-enqueued (ends (Reply (Some ticket) (command_at place old.pending) answer)) _
 packet-enqueued message used header (Measures place answer w cs) old new t h = ap (λ (d : Debugger). d.end.session.enqueued) h.1.2 ∙ measured-enqueued (list_any ends (reports cs)) w _
 
-handled-read : (message : streams.Message) (used : ℕ) (old new : Debugger) (r : Read) → HandlesAt message used old (Ok r) new → Reads old new (TellsEnd old (told r))
+handled-read : (message : streams.Message) (used : ℕ) (old new : Debugger) (r : Read) → HandlesAt message used old (Ok r) new → Reads old new (TellsEnd old (read_meaning r))
 handled-read streams.Handshake used old new r h =
     rw h.2 (record {
       moves = greeted-moves used old;
       known = λ known opened. known;
       closes = λ closed. absurd (let e = closed in cc);
     })
-handled-read (streams.Packet header body) used old new r h = packet-read header body used h.news old new (told r) h.said h.entered
+handled-read (streams.Packet header body) used old new r h = packet-read header body used h.news old new (read_meaning r) h.said h.entered
 
-pub read-Whole : (next : NextMessage) (old new : Debugger) (r : Read) → TurnsAt next old (Ok r) new → r ≢ read.Nothing → Reads old new (TellsEnd old (told r))
+pub read-Whole : (next : NextMessage) (old new : Debugger) (r : Read) → TurnsAt next old (Ok r) new → r ≢ read.Nothing → Reads old new (TellsEnd old (read_meaning r))
 read-Whole (Whole message used) old new r h some = handled-read message used old new r h
 read-Whole More old new r h some = absurd (some (let e = h.0 in cc))
 read-Whole (Fault fault) old new r h some = absurd (let e = h.0 in cc)

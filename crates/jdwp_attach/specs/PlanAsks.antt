@@ -9,7 +9,7 @@ use Rattle.jdwp_layout.specs.Meanings.{DatumMeaning}
 use Rattle.jdwp_layout.specs.Reads.{data_at}
 use Rattle.jdwp_layout.specs.Rows.{Row, RowShapes}
 use Rattle.jdwp_end.specs.declared.phase.Phase.TheVariants.{AwaitingHandshake, Established}
-use Rattle.jdwp_debuggee.specs.Actions.{Command, Content, Raw}
+use Rattle.jdwp_action.specs.Actions.{Command, Content, Raw}
 use Rattle.jdwp_debugger.specs.Asking.{command_bytes, id_after}
 use Rattle.jdwp_debugger.specs.Debuggers.{Asked, Debugger}
 use Rattle.jdwp_debugger.specs.DebuggerTurns.{sizes_header}

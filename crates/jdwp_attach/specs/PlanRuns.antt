@@ -7,15 +7,15 @@ use Rattle.jdwp_wire.specs.Widths.{Widths}
 use Rattle.jdwp_layout.specs.declared.answer.Answer.{Answer}
 use Rattle.jdwp_end.specs.Ends.{front_of, is_open}
 use Rattle.jdwp_end.specs.Runs.{IsFront}
-use Rattle.jdwp_debuggee.specs.Actions.{Command}
+use Rattle.jdwp_action.specs.Actions.{Command}
 use Rattle.jdwp_debugger.specs.declared.asking.Refused as asking
 use Rattle.jdwp_debugger.specs.declared.asking.Refused.TheVariants as refusal
 use Rattle.jdwp_debugger.specs.declared.faults.DebuggerFault.{DebuggerFault}
 use Rattle.jdwp_debugger.specs.declared.faults.DebuggerFault.TheVariants as code
 use Rattle.jdwp_debugger.specs.declared.turning.Read.{Read}
 use Rattle.jdwp_debugger.specs.Asking.{refusal_of_ask}
-use Rattle.jdwp_debugger.specs.Debuggers.{Asked, Debugger, has_tickets, lost, with_taken}
-use Rattle.jdwp_debugger.specs.DebuggerTurns.{Told, Nothing, Hello, Parked, Sizes, Answered, Seen, TurnsAt, reports, told}
+use Rattle.jdwp_debugger.specs.Debuggers.{Asked, Debugger, has_tickets, lost_debugger, with_taken}
+use Rattle.jdwp_debugger.specs.DebuggerTurns.{Told, Nothing, Hello, Parked, Sizes, Answered, Seen, TurnsAt, reports, read_meaning}
 use Rattle.jdwp_mirror.specs.Messages.{Reply, Report}
 use Rattle.jdwp_mirror.specs.Mirror.{ends}
 use Rattle.jdwp_debugger.specs.FaultNumbers.{fault_number}
@@ -48,7 +48,7 @@ TellsPart plan base out d =
 
 -- the debugger is as after a loss of one that was not lost, and of which this holds
 abbrev pub IsLostFrom : (Debugger → Type 0) → Debugger → Type 0
-IsLostFrom P d = (before : Debugger) × P before × (before.end.session.lost ≡ false) × (d ≡ lost before)
+IsLostFrom P d = (before : Debugger) × P before × (before.end.session.lost ≡ false) × (d ≡ lost_debugger before)
 
 -- calls led from the first debugger to the other
 abbrev pub LeadsTo : Debugger → Debugger → Type 0
@@ -74,7 +74,7 @@ TellsEnd d Parked = ⊥
 -- The last turn, of a debugger that calls lead to, read what ends the session, and what waited to leave left.
 abbrev pub ReadsEnd : Debugger → Debugger → Type 0
 ReadsEnd base d =
-    (old : Debugger) × (read : Read) × (new : Debugger) × LeadsTo base old × TurnsAt (front_of old.end) old (Ok read) new × TellsEnd old (told read) × (d ≡ with_taken new.end.outgoing new)
+    (old : Debugger) × (read : Read) × (new : Debugger) × LeadsTo base old × TurnsAt (front_of old.end) old (Ok read) new × TellsEnd old (read_meaning read) × (d ≡ with_taken new.end.outgoing new)
 
 -- Every command of the plan was asked, in ids so wide as the debugger knows them, and answered.
 abbrev pub IsFinished : List PlanLine → Debugger → Debugger → Type 0
@@ -217,18 +217,18 @@ LineGoesOn line old new = (done : List PlanLine) (base : Standing) → IsGoing d
 -- How a run ends at a turn that failed, and at a command that was refused: the debugger loses the connection, but for want of memory.
 abbrev pub EndsFailed : DebuggerFault → Debugger → Debugger → Ended → Type 0
 EndsFailed code.NoMemory old new ended = (ended ≡ NoMemory) × (new ≡ old)
-EndsFailed fault old new ended = (ended ≡ Refused (told_number fault)) × (new ≡ lost old)
+EndsFailed fault old new ended = (ended ≡ Refused (told_number fault)) × (new ≡ lost_debugger old)
 
 abbrev pub EndsRefused : asking.Refused → Debugger → Debugger → Ended → Type 0
 EndsRefused refusal.NoMemory old new ended = (ended ≡ NoMemory) × (new ≡ old)
-EndsRefused refused old new ended = (ended ≡ Refused (refused_number refused)) × (new ≡ lost old)
+EndsRefused refused old new ended = (ended ≡ Refused (refused_number refused)) × (new ≡ lost_debugger old)
 
 -- ---- the last flush
 
 -- what a run leaves whose last flush failed: the connection is lost, where it was not before
 abbrev pub unflushed_debugger : Ended → Debugger → Debugger
-unflushed_debugger NoMemory d = lost d
-unflushed_debugger TurnLimit d = lost d
+unflushed_debugger NoMemory d = lost_debugger d
+unflushed_debugger TurnLimit d = lost_debugger d
 unflushed_debugger Done d = d
 unflushed_debugger LostByRead d = d
 unflushed_debugger LostByWrite d = d

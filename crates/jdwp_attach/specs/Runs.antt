@@ -2,12 +2,12 @@
 use Rattle.std.specs.Prelude.{◌≡◌, ◌⊎◌, ℕ, ◌<◌, ◌≤◌, ◌+◌, true, false, List, [], ◌∷◌, ◌++◌, length, Result, Ok}
 use Rattle.jdwp_end.specs.Ends.{front_of, is_open, room_of}
 use Rattle.jdwp_end.specs.Runs.{IsFront}
-use Rattle.jdwp_debuggee.specs.Actions.{Command}
+use Rattle.jdwp_action.specs.Actions.{Command}
 use Rattle.jdwp_debugger.specs.declared.faults.DebuggerFault.{DebuggerFault}
 use Rattle.jdwp_debugger.specs.declared.turning.Read.{Read}
 use Rattle.jdwp_debugger.specs.declared.turning.Read.TheVariants as read
 use Rattle.jdwp_debugger.specs.Asking.{HasAsked}
-use Rattle.jdwp_debugger.specs.Debuggers.{Debugger, lost, with_fed, with_taken}
+use Rattle.jdwp_debugger.specs.Debuggers.{Debugger, lost_debugger, with_fed, with_taken}
 use Rattle.jdwp_debugger.specs.DebuggerTurns.{TurnsAt}
 use Rattle.jdwp_pipe.specs.declared.ended.Ended.{Ended}
 use Rattle.jdwp_pipe.specs.declared.ended.Ended.TheVariants as ended
@@ -100,14 +100,14 @@ ReadsMore = moving.ReadsMore (λ (d : Debugger). d.end) with_fed
 
 -- A flush failed, or a read behind it failed or gave 0 with room, and the debugger lost the connection.
 abbrev pub LosesAtRead : Ended → Debugger → Debugger → Story → Story → Type 0
-LosesAtRead ended.LostByWrite old new before after = (new ≡ lost old) × FailsFlush before after
-LosesAtRead ended.LostByRead old new before after = (new ≡ lost old) × FailsRead (flushed before) after
+LosesAtRead ended.LostByWrite old new before after = (new ≡ lost_debugger old) × FailsFlush before after
+LosesAtRead ended.LostByRead old new before after = (new ≡ lost_debugger old) × FailsRead (flushed before) after
 LosesAtRead ended old new before after = ⊥
 
 -- A write failed, of what waited to leave or of this text behind it, and the debugger lost the connection.
 pub record LosesAtWrite (text : List ℕ) (old new : Standing) : Type 0 where
   pub taken : List ℕ
-  pub is : new.debugger ≡ lost (with_taken taken old.debugger)
+  pub is : new.debugger ≡ lost_debugger (with_taken taken old.debugger)
   pub left : new.left ≡ old.left
   pub fails :
       (IsFront taken old.debugger.end.outgoing × FailsWrite old.pipe new.pipe taken × (new.out ≡ old.out))
@@ -123,7 +123,7 @@ pub record PutsAndTells (text : List ℕ) (old new : Standing) : Type 0 where
 -- The same, where the turn ended the session, which is lost then.
 pub record Closes (text : List ℕ) (old new : Standing) : Type 0 where
   pub closed : is_open old.debugger.end ≡ false
-  pub debugger : new.debugger ≡ lost (with_taken old.debugger.end.outgoing old.debugger)
+  pub debugger : new.debugger ≡ lost_debugger (with_taken old.debugger.end.outgoing old.debugger)
   pub pipe : new.pipe ≡ with_written old.debugger.end.outgoing old.pipe
   pub out : new.out ≡ with_written text old.out
   pub left : new.left ≡ old.left

@@ -5,7 +5,7 @@ ghost use Rattle.std.specs.String.{string_bytes};
 ghost use Rattle.jdwp_wire.specs.declared.packet.Header.{Header};
 ghost use Rattle.jdwp_debugger.specs.declared.heads.Head.TheVariants as head;
 ghost use Rattle.jdwp_debugger.specs.Debuggers.{Unanswered};
-ghost use Rattle.jdwp_debugger.specs.DebuggerTurns.{told};
+ghost use Rattle.jdwp_debugger.specs.DebuggerTurns.{read_meaning};
 ghost use Rattle.jdwp_attach.specs.Naming.{CanTell, HasHeads, IsPacketHead, is_under, kept_name, waiting_after, without};
 ghost use Rattle.jdwp_tell.specs.Telling.{command_under, named, sizes_lines, turn_lines};
 
@@ -27,14 +27,14 @@ pub(crate) fn turn_text(
     read: &Read,
 ) -> Result<String, NoMemory>
     requires { (waited : List Unanswered) × (waiting.old.items ≡ map kept_name waited)
-        × CanTell waited (told read.now) debugger.now.last debugger.now.sizes }
+        × CanTell waited (read_meaning read.now) debugger.now.last debugger.now.sizes }
     ensures text { IfOk result (λ text. (waited : List Unanswered)
         → waiting.old.items ≡ map kept_name waited
-        → string_bytes text ≡ turn_lines waited (told read.now) debugger.now.last
+        → string_bytes text ≡ turn_lines waited (read_meaning read.now) debugger.now.last
         debugger.now.sizes) }
     ensures waits { OnOk result ((waited : List Unanswered)
         → waiting.old.items ≡ map kept_name waited
-        → waiting.new.items ≡ map kept_name (waiting_after (told read.now) waited)) }
+        → waiting.new.items ≡ map kept_name (waiting_after (read_meaning read.now) waited)) }
 {
     match read {
         Read::Nothing | Read::Parked => Ok(String::new(alloc)),

@@ -3,7 +3,7 @@ ghost use Rattle.std.specs.Prelude.{◌≡◌, ◌<◌, List, true, map, is_some
 ghost use Rattle.jdwp_end.specs.Ends.{is_open, room_of};
 ghost use Rattle.jdwp_debugger.specs.Debuggers.{Unanswered};
 ghost use Rattle.jdwp_pipe.specs.Story.{flushed};
-ghost use Rattle.jdwp_debugger.specs.DebuggerTurns.{told};
+ghost use Rattle.jdwp_debugger.specs.DebuggerTurns.{read_meaning};
 ghost use Rattle.jdwp_attach.specs.Naming.{CanTell, Names, kept_name, waiting_after};
 ghost use Rattle.jdwp_attach.specs.PlanRuns.{EndsFailed, EndsSo, IsByTurn, told_number};
 ghost use Rattle.jdwp_attach.specs.PlanWaits.{Counts, composites_of};
@@ -62,7 +62,7 @@ pub(crate) fn turn_once<P: Pipe, W: Pipe>(
 
 /// How many composites a turn told of.
 fn composites_in(turn: &Read) -> u64
-    ensures { result ≡ composites_of (told turn.now) }
+    ensures { result ≡ composites_of (read_meaning turn.now) }
 {
     match turn {
         Read::Sizes(composites) => composites.len() as u64,
@@ -136,18 +136,18 @@ fn tell<P: Pipe, W: Pipe>(
     read: &Read,
 ) -> Result<(), Ended>
     requires { (waited : List Unanswered) × (run.old.waiting.items ≡ map kept_name waited)
-        × CanTell waited (told read.now) debugger.old.last debugger.old.sizes }
+        × CanTell waited (read_meaning read.now) debugger.old.last debugger.old.sizes }
     ensures goes { OnOk result ((waited : List Unanswered) → run.old.waiting.items
         ≡ map kept_name waited → (is_open debugger.old.end ≡ true)
-        × PutsAndTells (turn_lines waited (told read.now) debugger.old.last debugger.old.sizes)
+        × PutsAndTells (turn_lines waited (read_meaning read.now) debugger.old.last debugger.old.sizes)
         (at (P.story pipe.old) (W.story out.old) debugger.old run.old.left) (at (P.story pipe.new)
         (W.story out.new) debugger.new run.new.left)) }
     ensures waits { OnOk result ((waited : List Unanswered) → run.old.waiting.items
         ≡ map kept_name waited → run.new.waiting.items
-        ≡ map kept_name (waiting_after (told read.now) waited)) }
+        ≡ map kept_name (waiting_after (read_meaning read.now) waited)) }
     ensures counts { run.new.composites ≡ run.old.composites }
     ensures ends { IfErr result (λ ended. (waited : List Unanswered) → run.old.waiting.items
-        ≡ map kept_name waited → Finishes ended (turn_lines waited (told read.now) debugger.old.last
+        ≡ map kept_name waited → Finishes ended (turn_lines waited (read_meaning read.now) debugger.old.last
         debugger.old.sizes) (at (P.story pipe.old) (W.story out.old) debugger.old run.old.left)
         (at (P.story pipe.new) (W.story out.new) debugger.new run.new.left)) }
 {

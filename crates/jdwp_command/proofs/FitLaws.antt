@@ -18,8 +18,8 @@ use Rattle.jdwp_layout.specs.ModifiersAndEvents.{modifier_fields, event_fields}
 use Rattle.jdwp_layout.specs.Rows.{Row, RowShapes}
 use Rattle.jdwp_layout.specs.Shapes.{EntryShape, Fields, Modifiers, Events, ItemShape, OneOf, ListOf, RegionOf}
 use Rattle.jdwp_layout.specs.Writes.{data_refusal, entry_refusal, field_refusal, fields_refusal, item_refusal, kind_refusal}
-use Rattle.jdwp_debuggee.specs.Actions.{Command, Content, carries_out, is_some_shapes}
-use Rattle.jdwp_debuggee.specs.CommandPackets.{fits_row, fits_shapes}
+use Rattle.jdwp_action.specs.Actions.{Command, Content, carries_out, is_some_shapes}
+use Rattle.jdwp_action.specs.CommandPackets.{fits_row, fits_shapes}
 use Rattle.jdwp_command.specs.Asks.{Asks, command_with, is_entry_writable, is_item_writable, is_scalar_writable, is_writable}
 use Rattle.jdwp_command.specs.Layouts.{HasEntry, HasItem, HasItems, HasKind, HasLayout, HasRequest, request_in, request_where}
 

@@ -18,7 +18,7 @@ use Rattle.jdwp_event.specs.Modifiers.{ModifierMeaning}
 
 -- ---- what commands are about
 
--- an object, and so a thread, a thread group, a string or an array
+-- an object, and so a thread, a thread group, a string, an array or a module
 abbrev pub of_object : ObjectId → List DatumMeaning
 of_object object = One (Object object.0) ∷ []
 

@@ -13,6 +13,7 @@ pub mod event_request;
 mod made;
 pub mod method;
 mod modifiers;
+pub mod module_reference;
 pub mod object_reference;
 pub mod reference_type;
 pub mod stack_frame;

@@ -7,8 +7,8 @@ ghost use Rattle.jdwp_command.specs.Contents.{of_class, of_static_fields};
 use crate::entries::field_entries;
 use crate::made::{about_class, made};
 use jdwp_layout::numbers::{
-    CLASS_LOADER, CLASS_STATUS, FIELDS, FIELDS_WITH_GENERIC, GET_STATICS, INTERFACES, METHODS,
-    METHODS_WITH_GENERIC, MODIFIERS, REFERENCE_TYPE, SIGNATURE, SIGNATURE_WITH_GENERIC,
+    CLASS_LOADER, CLASS_MODULE, CLASS_STATUS, FIELDS, FIELDS_WITH_GENERIC, GET_STATICS, INTERFACES,
+    METHODS, METHODS_WITH_GENERIC, MODIFIERS, REFERENCE_TYPE, SIGNATURE, SIGNATURE_WITH_GENERIC,
     SOURCE_FILE,
 };
 use jdwp_layout::{Datum, Scalar};
@@ -144,4 +144,14 @@ pub fn methods_with_generic(alloc: Global, class: ReferenceTypeId) -> Result<Com
     ensures { IfOk result (Asks commands.METHODS_WITH_GENERIC (of_class class)) }
 {
     about_class(alloc, REFERENCE_TYPE, METHODS_WITH_GENERIC, class)
+}
+
+/// ReferenceType.Module of a class. The reply is a module id, 0 where the class is in none.
+///
+/// # Errors
+/// `NoMemory` where an allocation was refused.
+pub fn module(alloc: Global, class: ReferenceTypeId) -> Result<Command, NoMemory>
+    ensures { IfOk result (Asks commands.CLASS_MODULE (of_class class)) }
+{
+    about_class(alloc, REFERENCE_TYPE, CLASS_MODULE, class)
 }

@@ -7,9 +7,9 @@ ghost use Rattle.jdwp_command.specs.Contents.{of_disposed, of_int, of_text};
 use crate::entries::disposed_entries;
 use crate::made::{made, plain};
 use jdwp_layout::numbers::{
-    ALL_CLASSES, ALL_CLASSES_WITH_GENERIC, ALL_THREADS, CAPABILITIES, CAPABILITIES_NEW,
-    CLASSES_BY_SIGNATURE, DISPOSE, DISPOSE_OBJECTS, EXIT, HOLD_EVENTS, ID_SIZES, RELEASE_EVENTS,
-    RESUME, SUSPEND, TOP_LEVEL_THREAD_GROUPS, VERSION, VIRTUAL_MACHINE,
+    ALL_CLASSES, ALL_CLASSES_WITH_GENERIC, ALL_MODULES, ALL_THREADS, CAPABILITIES,
+    CAPABILITIES_NEW, CLASSES_BY_SIGNATURE, DISPOSE, DISPOSE_OBJECTS, EXIT, HOLD_EVENTS, ID_SIZES,
+    RELEASE_EVENTS, RESUME, SUSPEND, TOP_LEVEL_THREAD_GROUPS, VERSION, VIRTUAL_MACHINE,
 };
 use jdwp_layout::{Datum, Scalar};
 use jdwp_mirror::Command;
@@ -146,4 +146,11 @@ pub fn all_classes_with_generic(alloc: Global) -> Command
     ensures { Asks commands.ALL_CLASSES_WITH_GENERIC [] result }
 {
     plain(alloc, VIRTUAL_MACHINE, ALL_CLASSES_WITH_GENERIC)
+}
+
+/// VirtualMachine.AllModules: the modules. The reply is a list of module ids. Takes no memory.
+pub fn all_modules(alloc: Global) -> Command
+    ensures { Asks commands.ALL_MODULES [] result }
+{
+    plain(alloc, VIRTUAL_MACHINE, ALL_MODULES)
 }

@@ -6,7 +6,7 @@ use Rattle.jdwp_wire.specs.declared.data_fault.DataFault.TheVariants.{BadSize}
 use Rattle.jdwp_wire.specs.Reading.{first_of_two}
 use Rattle.jdwp_layout.specs.declared.answer.Answer.{Answer}
 use Rattle.jdwp_layout.specs.declared.answer.Answer.TheVariants.{Data, Error}
-use Rattle.jdwp_layout.specs.Meanings.{One, Many, Elements}
+use Rattle.jdwp_layout.specs.Meanings.{One, Many, Elements, Raw}
 use Rattle.jdwp_layout.specs.CommandNumbers.{FRAMES}
 use Rattle.jdwp_machine.specs.Laws.{IsLawful, MayAnswer}
 use Rattle.jdwp_machine.specs.Meanings.{Meaning}
@@ -22,6 +22,7 @@ few m s (Error e) h = tt
 few m s (Data []) h = tt
 few m s (Data (One x ∷ items)) h = tt
 few m s (Data (Elements x ∷ items)) h = tt
+few m s (Data (Raw bytes ∷ items)) h = tt
 few m s (Data (Many frames ∷ [])) h = ltb-true _ _ (not_refused _ _ h)
 few m s (Data (Many frames ∷ item ∷ items)) h = tt
 

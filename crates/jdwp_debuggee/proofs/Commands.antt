@@ -10,18 +10,19 @@ use Rattle.jdwp_layout.specs.declared.answer.Answer.TheVariants.{Data, Error}
 use Rattle.jdwp_layout.specs.Meanings.{ScalarMeaning, DatumMeaning}
 use Rattle.jdwp_layout.specs.CommandNumbers.{SET_SLOTS}
 use Rattle.jdwp_event.specs.Modifiers.{ModifierMeaning, modifiers_of}
-use Rattle.jdwp_event.specs.Requests.{Asked, all_asked}
+use Rattle.jdwp_event.specs.Requests.{AskedRequest, all_asked}
 use Rattle.jdwp_machine.specs.Meanings.{Meaning}
 use Rattle.jdwp_machine.specs.Laws.{IsLawful, MayAnswer}
 use Rattle.jdwp_debuggee.specs.Settings.{Settings}
 use Rattle.jdwp_debuggee.specs.State.{State, Moment, count_of, with_counts, raised, lowered, cleared, only, at_limit}
-use Rattle.jdwp_debuggee.specs.Actions
-use Rattle.jdwp_debuggee.specs.Actions.{Command, Action, action_of, is_implemented}
-use Rattle.jdwp_debuggee.specs.Answers.{done, int_answer, bounded, fits_packet, frames_answer, query_of, all_threads, status_answer, sizes_answer}
+use Rattle.jdwp_action.specs.Actions
+use Rattle.jdwp_action.specs.Actions.{Command, Action, action_of, is_implemented, is_dispose, is_exit, about}
+use Rattle.jdwp_action.specs.AnswerPackets.{sizes_answer}
+use Rattle.jdwp_debuggee.specs.Answers.{done, int_answer, bounded, fits_packet, frames_answer, query_of, all_threads, status_answer}
 use Rattle.jdwp_debuggee.specs.Refusals.{set_refusal}
 use Rattle.jdwp_debuggee.specs.Effects.{Effect, effect, effect_by, does, answered, refused, changes, suspend_by, suspend_thread_by, suspend_thread_at, resume_thread_by, slots_by, slots_at, set_by, answer_count, answer_status, answer_frames, answer_thread}
 use Rattle.jdwp_debuggee.specs.Breadth.{is_plain}
-use Rattle.jdwp_debuggee.specs.Facts.{AreBelow, IsSound, is_dispose, is_exit, about, moved_by, requests_by, Says, OfThread, Does, is_not_asked, is_no_asked_breakpoint}
+use Rattle.jdwp_debuggee.specs.Facts.{AreBelow, IsSound, moved_by, requests_by, Says, OfThread, Does, is_not_asked, is_no_asked_breakpoint}
 use Rattle.jdwp_debuggee.proofs.Small.{and-true, and-false, some-same, asked-append, asked-filter, below-filter, below-more}
 use Rattle.jdwp_debuggee.specs.SoundLaws.{sound_counts}
 use Rattle.jdwp_debuggee.specs.ThreadLaws.{count-changed}
@@ -63,7 +64,7 @@ plain-moved (Actions.SuspendThread u) t c h = absurd (cc)
 plain-moved (Actions.ResumeThread u) t c h = absurd (cc)
 plain-moved a t c h = refl
 
-plain-requests : (a : Action) (n : ℕ) (rs : List Asked) → is_plain a ≡ true → rs ≡ requests_by a n rs
+plain-requests : (a : Action) (n : ℕ) (rs : List AskedRequest) → is_plain a ≡ true → rs ≡ requests_by a n rs
 plain-requests Actions.Dispose n rs h = absurd (cc)
 plain-requests Actions.Exit n rs h = absurd (cc)
 plain-requests (Actions.SetRequest byte policy entries) n rs h = absurd (cc)
@@ -99,7 +100,7 @@ does_answered m settings now a (Data content) s p y h =
 -- ---- counts change
 
 -- an OK reply without data to a command that changes counts alone
-does_counts : {S : Type 0} (m : Meaning S) (settings : Settings) (now : Moment S) (a : Action) (f : ℕ → ℕ → ℕ) → IsSound m settings now → ((t n : ℕ) → count_of now.state t ≡ Some n → f t n ≤ settings.count_limit) → ((t : ℕ) (c : Option ℕ) → option_map (f t) c ≡ moved_by a t c) → ((rs : List Asked) (n : ℕ) → rs ≡ requests_by a n rs) → Says a now.state done → ((t : ℕ) → about a ≡ Some t → OfThread done (count_of now.state t)) → is_exit a ≡ false → is_dispose a ≡ false → Does m settings now a (changes now (with_counts f now.state) done)
+does_counts : {S : Type 0} (m : Meaning S) (settings : Settings) (now : Moment S) (a : Action) (f : ℕ → ℕ → ℕ) → IsSound m settings now → ((t n : ℕ) → count_of now.state t ≡ Some n → f t n ≤ settings.count_limit) → ((t : ℕ) (c : Option ℕ) → option_map (f t) c ≡ moved_by a t c) → ((rs : List AskedRequest) (n : ℕ) → rs ≡ requests_by a n rs) → Says a now.state done → ((t : ℕ) → about a ≡ Some t → OfThread done (count_of now.state t)) → is_exit a ≡ false → is_dispose a ≡ false → Does m settings now a (changes now (with_counts f now.state) done)
 does_counts m settings now a f s most mv rq y h x d =
     record {
       sound = sound_counts m settings now f s most;

@@ -11,13 +11,15 @@ use Rattle.jdwp_event.specs.Modifiers.{modifiers_of}
 use Rattle.jdwp_machine.specs.declared.query.Query.{Query}
 use Rattle.jdwp_machine.specs.Laws.{IsLawful}
 use Rattle.jdwp_machine.specs.Meanings.{Meaning}
-use Rattle.jdwp_debuggee.specs.Actions
-use Rattle.jdwp_debuggee.specs.Actions.{Command, Action, action_of}
+use Rattle.jdwp_action.specs.Actions
+use Rattle.jdwp_action.specs.Actions.{Command, Action, action_of}
 use Rattle.jdwp_debuggee.specs.Answers.{all_threads, bounded}
-use Rattle.jdwp_debuggee.specs.CommandReads.{Asking, asking_of}
+use Rattle.jdwp_debuggee.specs.Askings.{Asking, asking_of}
 use Rattle.jdwp_debuggee.specs.Debuggees.{Debuggee, IsKept}
 use Rattle.jdwp_debuggee.specs.Effects.{does, carried, carried_by, is_early, slots_by, slots_at}
-use Rattle.jdwp_debuggee.specs.Sending.{EncodesAnswer, EncodesReply, is_question, row_reply}
+use Rattle.jdwp_action.specs.AnswerPackets.{EncodesAnswer, EncodesReply}
+use Rattle.jdwp_action.specs.RowLayouts.{row_reply}
+use Rattle.jdwp_debuggee.specs.Sending.{is_question}
 use Rattle.jdwp_debuggee.specs.State.{Moment, count_of, at_limit}
 use Rattle.jdwp_debuggee.proofs.OwnAnswers.{done-encoded, suspend-encoded, suspend-thread-encoded, resume-thread-encoded, count-encoded, status-encoded, sizes-encoded, written-encoded}
 use Rattle.jdwp_debuggee.proofs.ReplyShapes.{HasShape, has-shape}

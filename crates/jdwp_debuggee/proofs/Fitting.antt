@@ -27,7 +27,7 @@ use Rattle.jdwp_event.specs.Requests.{Request}
 use Rattle.jdwp_machine.specs.Laws.{HasShortSignature, IsLawful, MayEnds, OccurrenceFits}
 use Rattle.jdwp_machine.specs.Meanings.{Meaning}
 use Rattle.jdwp_debuggee.specs.Answers.{least_thread}
-use Rattle.jdwp_debuggee.specs.Debuggees.{AreRoomy, Debuggee, IsKept}
+use Rattle.jdwp_debuggee.specs.Debuggees.{AreRoomy, Debuggee, IsKept, visiting}
 use Rattle.jdwp_debuggee.specs.Sending.{FitsPacket}
 use Rattle.jdwp_debuggee.specs.StepParts.{SendFits, Steps, StepsOrNot}
 use Rattle.jdwp_debuggee.specs.Steps.{may_step, occurs, start_event, start_policy}
@@ -198,11 +198,11 @@ step-fits m law d t k may =
     (report-fits (m.sizes s) d.settings.limits (length d.moment.state.requests) (m.next s t) (passing (m.next s t) d.moment.state.requests) k.limits k.room f)
 
 -- what a step that was made sends
-pub steps-fit : {S : Type 0} (m : Meaning S) → IsLawful m → (d new : Debuggee S) (t : ℕ) (done : StepDone) → IsKept m d → Steps m t d new done → SendFits (m.sizes d.moment.machine) d.settings.limits.packet (Some done)
-steps-fit m law d new t done k s = subst (λ (o : Option CompositeMeaning). IfSome o (FitsPacket (m.sizes d.moment.machine) d.settings.limits.packet)) (sym s.sends) (step-fits m law d t k s.may)
+pub steps-fit : {S : Type 0} (m : Meaning S) → IsLawful m → (d new : Debuggee S) (t : ℕ) (done : StepDone) → IsKept m (visiting 0 d) → Steps m t d new done → SendFits (m.sizes d.moment.machine) d.settings.limits.packet (Some done)
+steps-fit m law d new t done k s = subst (λ (o : Option CompositeMeaning). IfSome o (FitsPacket (m.sizes d.moment.machine) d.settings.limits.packet)) (sym s.sends) (step-fits m law (visiting 0 d) t k s.may)
 
 -- what a step sends that was made, if one was, fits a packet
-pub sends-fit : {S E : Type 0} (m : Meaning S) → IsLawful m → (d new : Debuggee S) (t : ℕ) (r : Result (Option StepDone) E) → IsKept m d → IfOk r (λ done. StepsOrNot m t d new done) → IfOk r (λ done. SendFits (m.sizes d.moment.machine) d.settings.limits.packet done)
+pub sends-fit : {S E : Type 0} (m : Meaning S) → IsLawful m → (d new : Debuggee S) (t : ℕ) (r : Result (Option StepDone) E) → IsKept m (visiting 0 d) → IfOk r (λ done. StepsOrNot m t d new done) → IfOk r (λ done. SendFits (m.sizes d.moment.machine) d.settings.limits.packet done)
 sends-fit m law d new t (Err e) k s = tt
 sends-fit m law d new t (Ok None) k s = tt
 sends-fit m law d new t (Ok (Some done)) k s = steps-fit m law d new t done k s

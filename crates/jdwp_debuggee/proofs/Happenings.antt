@@ -14,7 +14,7 @@ use Rattle.jdwp_machine.specs.Meanings.{Meaning, has}
 use Rattle.jdwp_machine.specs.Laws.{IsLawful, is_named}
 use Rattle.jdwp_debuggee.specs.Settings.{Settings}
 use Rattle.jdwp_debuggee.specs.State.{Thread, State, Moment, count_of, count_in, count_by, or_zero, with_counts, with_thread, without_thread, at_limit, is_marked}
-use Rattle.jdwp_debuggee.specs.Steps.{Step, seen, ended_by, ends, death_by, report_by, happens, occurs_by, occurs, may_step, is_zero, with_started, raised_by}
+use Rattle.jdwp_debuggee.specs.Steps.{Step, with_happening, ended_by, ends, death_by, report_by, happens, occurs_by, occurs, may_step, is_zero, with_started, raised_by}
 use Rattle.jdwp_debuggee.specs.Facts.{AreBelow, IsSound, Quiet, Happens}
 use Rattle.jdwp_debuggee.proofs.Small.{and-left, and-right, is-not-true}
 use Rattle.jdwp_debuggee.specs.SoundLaws.{raised-by-most, sound_counts}
@@ -101,7 +101,7 @@ pub record Same (a b : State) : Type 0 where
   pub shaken : b.handshaken ≡ a.handshaken
   pub alive : b.alive ≡ a.alive
 
-same-seen : (h : HappeningMeaning) (a : State) → Same a (seen h a)
+same-seen : (h : HappeningMeaning) (a : State) → Same a (with_happening h a)
 same-seen h a = record { threads = refl; asked = asked-counted h a.requests; next = refl; shaken = refl; alive = refl }
 
 same-itself : (a : State) → Same a a
@@ -225,7 +225,7 @@ out-of-started h = elim h.occurrence as (λ o. is_run_out o ≡ true → started
   | RanOut ↦ λ e. refl
 ]
 
-stepped-mid : {S : Type 0} (m : Meaning S) → IsLawful m → (settings : Settings) (now : Moment S) (t : ℕ) (o : Option ℕ) → Ready m settings now t → runs_out (m.next now.machine t) ≡ false → started (m.next now.machine t) ≡ o → Mid m settings now (record { state = with_started o (seen (m.next now.machine t) now.state); machine = m.stepped now.machine t }) (m.next now.machine t).thread
+stepped-mid : {S : Type 0} (m : Meaning S) → IsLawful m → (settings : Settings) (now : Moment S) (t : ℕ) (o : Option ℕ) → Ready m settings now t → runs_out (m.next now.machine t) ≡ false → started (m.next now.machine t) ≡ o → Mid m settings now (record { state = with_started o (with_happening (m.next now.machine t) now.state); machine = m.stepped now.machine t }) (m.next now.machine t).thread
 stepped-mid m law settings now t None r x e =
     let may : m.is_state now.machine × (has (m.live now.machine) t ≡ true) × (runs_out (m.next now.machine t) ≡ false) = (r.sound.state, r.live, x) in
     let named : (u : ℕ) → is_named (started (m.next now.machine t)) u ≡ false = λ u. ap (λ v. is_named v u) e in
@@ -253,8 +253,8 @@ stepped-mid m law settings now t (Some n) r x e =
     let named : (u : ℕ) → is_named (started (m.next now.machine t)) u ≡ (n == u) = λ u. ap (λ v. is_named v u) e in
     let fresh : m.ever now.machine n ≡ false = law.new_thread now.machine t n (r.sound.state, r.live) e in
     let least : 1 ≤ settings.count_limit = r.below_limit t 0 r.count in
-    let after : State = with_thread n (seen (m.next now.machine t) now.state) in
-    let count : (u : ℕ) → count_of after u ≡ option_or (count_of now.state u) (cond (n == u) (Some 0) None) = count-new (seen (m.next now.machine t) now.state) n in
+    let after : State = with_thread n (with_happening (m.next now.machine t) now.state) in
+    let count : (u : ℕ) → count_of after u ≡ option_or (count_of now.state u) (cond (n == u) (Some 0) None) = count-new (with_happening (m.next now.machine t) now.state) n in
     let lived : (u k : ℕ) → count_of now.state u ≡ Some k → m.ever now.machine u ≡ true = λ u k h. law.live_ever now.machine r.sound.state u (r.sound.lives u ∙ ap is_some h) in
     record {
       sound = record {
@@ -295,7 +295,7 @@ reports m law settings now t None r x e =
     let d = stepped-mid m law settings now t (started (m.next now.machine t)) r x refl in
     record { sound = d.sound; ever = d.quiet.ever; sizes = law.sizes_stepped now.machine t (r.sound.state, r.live, x); told = d.quiet; silent = λ h. refl; handshaken = d.shaken; alive = λ h. d.alive }
 reports {S} m law settings now t (Some c) r x e =
-    let mid : Moment S = record { state = with_started (started (m.next now.machine t)) (seen (m.next now.machine t) now.state); machine = m.stepped now.machine t } in
+    let mid : Moment S = record { state = with_started (started (m.next now.machine t)) (with_happening (m.next now.machine t) now.state); machine = m.stepped now.machine t } in
     let thread : ℕ = (m.next now.machine t).thread in
     let d : Mid m settings now mid thread = stepped-mid m law settings now t (started (m.next now.machine t)) r x refl in
     let q = raised-sound m settings now mid thread c d in
@@ -325,9 +325,9 @@ reports {S} m law settings now t (Some c) r x e =
     }
 
 dies : {S : Type 0} (m : Meaning S) → IsLawful m → (settings : Settings) (now : Moment S) (t : ℕ) (o : Option CompositeMeaning) → Ready m settings now t → runs_out (m.next now.machine t) ≡ true → gathered (m.next now.machine t) now.state.requests ≡ o → Happens m settings now (death_by m now.machine t (m.next now.machine t) now.state o)
-dies m law settings now t None r x e = ends-happens m law settings now t (seen (m.next now.machine t) now.state) _ r.sound r.live r.count (same-seen (m.next now.machine t) now.state) refl
+dies m law settings now t None r x e = ends-happens m law settings now t (with_happening (m.next now.machine t) now.state) _ r.sound r.live r.count (same-seen (m.next now.machine t) now.state) refl
 dies {S} m law settings now t (Some c) r x e =
-    let mid : Moment S = record { state = seen (m.next now.machine t) now.state; machine = now.machine } in
+    let mid : Moment S = record { state = with_happening (m.next now.machine t) now.state; machine = now.machine } in
     let thread : ℕ = (m.next now.machine t).thread in
     let own : thread ≡ t = law.own_thread now.machine t (r.sound.state, r.live) (out-of-started (m.next now.machine t) x) in
     let asked = asked-counted (m.next now.machine t) now.state.requests in

@@ -4,7 +4,7 @@ use Rattle.std.proofs.Common.{◌≡◌, ◌≤◌, ◌==◌, ◌+◌, ◌-◌, 
 use Rattle.std.specs.Prelude.{IfSome}
 use Rattle.jdwp_machine.specs.Meanings.{Meaning, has}
 use Rattle.jdwp_machine.specs.Laws.{IsLawful, AreDistinct}
-use Rattle.jdwp_debuggee.specs.Actions.{Command, Raw}
+use Rattle.jdwp_action.specs.Actions.{Command, Raw}
 use Rattle.jdwp_debuggee.specs.Debuggees.{AreRoomy, Debuggee, IsKept, at_moment, with_state}
 use Rattle.jdwp_debuggee.specs.Entries.{AllAtMost}
 use Rattle.jdwp_debuggee.specs.Facts.{IsSound}
@@ -26,7 +26,7 @@ pub count-most : {S : Type 0} (m : Meaning S) (d : Debuggee S) (t : ℕ) (count 
 count-most m d t None k e = tt
 count-most m d t (Some n) k e = k.sound.at_most t n (sym e)
 
-pub kept-new : {S : Type 0} (m : Meaning S) → IsLawful m → (settings : Settings) (s : S) → m.is_state s → IsCountLimit settings.count_limit → AreRoomy settings.limits → IsKept m (record { settings = settings; moment = record { state = new_state (m.live s); machine = s } })
+pub kept-new : {S : Type 0} (m : Meaning S) → IsLawful m → (settings : Settings) (s : S) → m.is_state s → IsCountLimit settings.count_limit → AreRoomy settings.limits → IsKept m (record { settings = settings; moment = record { state = new_state (m.live s); machine = s }; visits = 0 })
 kept-new m law settings s st limit limits = record {
   sound = record {
     state = st;

@@ -12,9 +12,9 @@ use Rattle.jdwp_event.specs.Requests.{Request, all_asked, new_request}
 use Rattle.jdwp_event.specs.RequestLists.{placed}
 use Rattle.jdwp_machine.specs.Meanings.{Meaning, has, numbers}
 use Rattle.jdwp_machine.specs.Laws.{IsLawful, AreDistinct}
-use Rattle.jdwp_debuggee.specs.Actions
+use Rattle.jdwp_action.specs.Actions
 use Rattle.jdwp_debuggee.specs.Answers.{int_answer}
-use Rattle.jdwp_debuggee.specs.Debuggees.{CarriesOut, Debuggee, IsKept, at_moment}
+use Rattle.jdwp_debuggee.specs.Debuggees.{CarriesOut, Debuggee, IsKept, at_moment, visiting}
 use Rattle.jdwp_debuggee.specs.Effects.{all_ended, asked, first_origin, set_by, step_thread}
 use Rattle.jdwp_debuggee.specs.Facts.{AreBelow}
 use Rattle.jdwp_debuggee.specs.Refusals.{LAST_REQUEST, kind_refusal, or_else, room_refusal, set_refusal, unless}
@@ -97,13 +97,13 @@ pub kept-set-by : {S : Type 0} (m : Meaning S) (d : Debuggee S) (byte policy : �
 kept-set-by m d byte policy modifiers r k h e =
     subst (λ (rs : List Request). IsKept m (set_fields d rs)) (sym (placed-made m d byte policy modifiers r k e)) (kept-set m d byte policy modifiers k h)
 
-pub carries-set : {S : Type 0} (m : Meaning S) (d : Debuggee S) (byte policy : ℕ) (modifiers : List ModifierMeaning) (r : Request) → IsKept m d → set_refusal m d.settings d.moment byte policy modifiers ≡ None → r ≡ made m d.moment byte policy modifiers
+pub carries-set : {S : Type 0} (m : Meaning S) (d : Debuggee S) (byte policy : ℕ) (modifiers : List ModifierMeaning) (r : Request) → IsKept m (visiting 0 d) → set_refusal m d.settings d.moment byte policy modifiers ≡ None → r ≡ made m d.moment byte policy modifiers
     → (entries : List (List ScalarMeaning)) → modifiers ≡ modifiers_of entries → CarriesOut m (Actions.SetRequest byte policy entries) d (set_fields d (placed r d.moment.state.requests)) (int_answer d.moment.state.next_request)
 carries-set m d byte policy modifiers r k h e entries are =
     let unrefused = rw are at h in
     let is = rw are at e in
     record {
-      after = λ c. ap (λ (rs : List Request). set_fields d rs) (placed-made m d byte policy (modifiers_of entries) r k is) ∙ ap (λ v. at_moment (set_by m d.moment byte policy (modifiers_of entries) v).after d) (sym unrefused);
+      after = λ c. ap (λ (rs : List Request). set_fields d rs) (placed-made m (visiting 0 d) byte policy (modifiers_of entries) r k is) ∙ ap (λ v. at_moment (set_by m d.moment byte policy (modifiers_of entries) v).after d) (sym unrefused);
       answers = λ c. ap (λ v. (set_by m d.moment byte policy (modifiers_of entries) v).answer) (sym unrefused);
     }
 

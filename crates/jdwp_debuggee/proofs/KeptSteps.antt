@@ -1,23 +1,23 @@
 -- what the code keeps stays at a step
 use Rattle.jdwp_wire.specs.Numbers.{greatest_int}
-use Rattle.std.proofs.Common.{◌≡◌, ◌≤◌, ◌==◌, ◌+◌, ℕ, Bool, true, false, not, ◌&&◌, Option, Some, None, List, [], ◌∷◌, length, suc, refl, sym, ◌∙◌, ap, subst, arith, is_some}
+use Rattle.std.proofs.Common.{◌≡◌, ◌≤◌, ◌<◌, ◌^◌, ◌==◌, ◌+◌, nat_lt, ℕ, Bool, true, false, not, ◌&&◌, cond, map, Option, Some, None, List, [], ◌∷◌, length, suc, refl, sym, ◌∙◌, ap, subst, arith, is_some}
 use Rattle.std.specs.List.{filter}
-use Rattle.std.proofs.lemmas.Bool.{eqb-true, false_from_ne_true}
+use Rattle.std.proofs.lemmas.Bool.{eqb-true, false_from_ne_true, ltb-true}
 use Rattle.std.proofs.lemmas.List.{length-map}
 use Rattle.jdwp_event.specs.Filters.{all_counted, counted}
-use Rattle.jdwp_event.specs.Occurrences.{HappeningMeaning, runs_out, started}
-use Rattle.jdwp_event.specs.Composites.{CompositeMeaning, gathered}
+use Rattle.jdwp_event.specs.Occurrences.{HappeningMeaning, OccurrenceMeaning, Moved, Entered, Left, Threw, Prepared, Started, RanOut, is_run_out, runs_out, started, started_by}
+use Rattle.jdwp_event.specs.Composites.{CompositeMeaning, POLICY_ALL, gathered}
 use Rattle.jdwp_event.specs.Requests.{Request}
 use Rattle.jdwp_machine.specs.Meanings.{Meaning, has}
 use Rattle.jdwp_machine.specs.Laws.{IsLawful, AreDistinct}
-use Rattle.jdwp_debuggee.specs.Debuggees.{Debuggee, IsKept, at_moment}
+use Rattle.jdwp_debuggee.specs.Debuggees.{Debuggee, IsKept, at_moment, visiting}
 use Rattle.jdwp_debuggee.specs.Entries.{AllAtMost}
 use Rattle.jdwp_debuggee.specs.Facts.{IsSound}
 use Rattle.jdwp_debuggee.specs.Settings.{Settings}
-use Rattle.jdwp_debuggee.specs.State.{State, Moment, Thread, at_limit, changed, count_of, ids, is_marked, is_other, with_packet, without_thread}
-use Rattle.jdwp_debuggee.specs.Steps.{Step, death_by, ended_by, ends, happens, is_full, is_zero, may_step, occurs, occurs_by, raised_by, report_by, seen, starts, starts_by, suspended_by, thread_ended, with_started}
-use Rattle.jdwp_debuggee.specs.StepParts.{Steps, is_full_by, is_ready, packet_after, raised_for, unless_last, with_new}
-use Rattle.jdwp_debuggee.specs.declared.steps.StepDone.{StepDone}
+use Rattle.jdwp_debuggee.specs.State.{State, Moment, Thread, at_limit, changed, count_of, ids, is_marked, is_other, marked, with_packet, without_thread}
+use Rattle.jdwp_debuggee.specs.Steps.{Step, death_by, ended_by, ends, happens, is_full, is_zero, may_step, occurs, occurs_by, raised_by, report_by, with_happening, starts, starts_by, suspended_by, thread_ended, with_started}
+use Rattle.jdwp_debuggee.specs.StepParts.{AreFew, Steps, is_full_by, is_ready, packet_after, raised_for, unless_last, with_new}
+use Rattle.jdwp_debuggee.specs.Visits.{turned, turned_one, visits_at, visits_for, visits_stepped}
 use Rattle.jdwp_debuggee.proofs.Kept.{most-of}
 use Rattle.jdwp_debuggee.proofs.Small.{and-left, and-right}
 use Rattle.jdwp_debuggee.specs.ThreadLaws.{has-count}
@@ -64,7 +64,7 @@ fine-ended : (t most : ℕ) (st : State) (ts : List Thread) → (without_thread 
 fine-ended t most st [] e f = record { distinct = distinct-none; next = f.next; room = omega arith }
 fine-ended t most st (p ∷ ps) e f = record { distinct = distinct-filter t st.threads f.distinct; next = f.next; room = f.room }
 
-fine-seen : (most : ℕ) (h : HappeningMeaning) (st : State) → Fine most st → Fine most (seen h st)
+fine-seen : (most : ℕ) (h : HappeningMeaning) (st : State) → Fine most st → Fine most (with_happening h st)
 fine-seen most h st f = record {
   distinct = f.distinct;
   next = f.next;
@@ -79,7 +79,7 @@ new-apart m law d t n k live e =
     let never : m.ever d.moment.machine n ≡ false = law.new_thread d.moment.machine t n (k.sound.state, live) e in
     absurd (cc))
 
-fine-started : {S : Type 0} (m : Meaning S) → IsLawful m → (d : Debuggee S) (t most : ℕ) (o : Option ℕ) → IsKept m d → has (m.live d.moment.machine) t ≡ true → started (m.next d.moment.machine t) ≡ o → Fine most (seen (m.next d.moment.machine t) d.moment.state) → Fine most (with_started o (seen (m.next d.moment.machine t) d.moment.state))
+fine-started : {S : Type 0} (m : Meaning S) → IsLawful m → (d : Debuggee S) (t most : ℕ) (o : Option ℕ) → IsKept m d → has (m.live d.moment.machine) t ≡ true → started (m.next d.moment.machine t) ≡ o → Fine most (with_happening (m.next d.moment.machine t) d.moment.state) → Fine most (with_started o (with_happening (m.next d.moment.machine t) d.moment.state))
 fine-started m law d t most None k live e f = f
 fine-started m law d t most (Some n) k live e f = record { distinct = distinct-push d.moment.state.threads _ (new-apart m law d t n k live e) k.distinct; next = f.next; room = f.room }
 
@@ -92,12 +92,12 @@ fine-step m law d t k live =
     let h = m.next now.machine t in
     let most = d.settings.limits.requests in
     let old : Fine most now.state = record { distinct = k.distinct; next = k.next; room = k.room } in
-    let told : Fine most (seen h now.state) = fine-seen most h now.state old in
+    let told : Fine most (with_happening h now.state) = fine-seen most h now.state old in
     elim (is_marked now.state t) as (λ b. Fine most (occurs_by m now t b).after.state) [
       | true ↦ subst (Fine most) (sym (ends-state m now.machine t (thread_ended t now.state))) (fine-ended t most now.state _ refl old)
       | false ↦ elim (runs_out h) as (λ b. Fine most (happens m now t h b).after.state) [
         | true ↦ elim (gathered h now.state.requests) as (λ o. Fine most (death_by m now.machine t h now.state o).after.state) [
-          | None ↦ subst (Fine most) (sym (ends-state m now.machine t (thread_ended t (seen h now.state)))) (fine-ended t most (seen h now.state) _ refl told)
+          | None ↦ subst (Fine most) (sym (ends-state m now.machine t (thread_ended t (with_happening h now.state)))) (fine-ended t most (with_happening h now.state) _ refl told)
           | Some c ↦ record {
             distinct = subst AreDistinct (sym (ids-marked t (changed (raised_by c.policy h.thread) now.state.threads))) (fine-counts (raised_by c.policy h.thread) now.state k.distinct);
             next = k.next;
@@ -108,7 +108,7 @@ fine-step m law d t k live =
           | None ↦ fine-started m law d t most _ k live refl told
           | Some c ↦
               let s = fine-started m law d t most _ k live refl told in
-              record { distinct = fine-counts (raised_by c.policy h.thread) (with_started (started h) (seen h now.state)) s.distinct; next = s.next; room = s.room }
+              record { distinct = fine-counts (raised_by c.policy h.thread) (with_started (started h) (with_happening h now.state)) s.distinct; next = s.next; room = s.room }
         ]
       ]
     ]
@@ -185,23 +185,14 @@ reported m s t h st o = record {
 
 pub report-is : {S : Type 0} (m : Meaning S) (s : S) (t : ℕ) (h : HappeningMeaning) (st : State) (o : Option CompositeMeaning) → reported m s t h st o ≡ report_by m s t h st o
 report-is m s t h st None =
-    ap (λ (x : State). let y : Step _ = record { after = record { state = x; machine = m.stepped s t }; sends = None; ends = false; dies = false } in y) (state-started (started h) (seen h st))
+    ap (λ (x : State). let y : Step _ = record { after = record { state = x; machine = m.stepped s t }; sends = None; ends = false; dies = false } in y) (state-started (started h) (with_happening h st))
 report-is m s t h st (Some c) =
-    ap (λ (x : State). let y : Step _ = record { after = record { state = with_packet (suspended_by c h.thread x); machine = m.stepped s t }; sends = Some c; ends = false; dies = false } in y) (state-started (started h) (seen h st))
+    ap (λ (x : State). let y : Step _ = record { after = record { state = with_packet (suspended_by c h.thread x); machine = m.stepped s t }; sends = Some c; ends = false; dies = false } in y) (state-started (started h) (with_happening h st))
 
 -- ---- for the code's calls
 
 pub kept-from : {S : Type 0} (m : Meaning S) → IsLawful m → (d : Debuggee S) (t : ℕ) (o : Step S) → IsKept m d → may_step m d.settings d.moment t ≡ true → o ≡ occurs m d.moment t → IsKept m (at_moment o.after d)
 kept-from m law d t o k h e = subst (λ (x : Step _). IsKept m (at_moment x.after d)) (sym e) (kept-step m law d t k h)
-
-pub steps-from : {S : Type 0} (m : Meaning S) (d new : Debuggee S) (t : ℕ) (done : StepDone) (o : Step S) → may_step m d.settings d.moment t ≡ true → o ≡ occurs m d.moment t → new ≡ at_moment o.after d → done.sends ≡ o.sends → done.ends ≡ o.ends → done.dies ≡ o.dies → Steps m t d new done
-steps-from m d new t done o h e a s n x = record {
-  may = h;
-  after = a ∙ ap (λ (y : Step _). at_moment y.after d) e;
-  sends = s ∙ ap (λ (y : Step _). y.sends) e;
-  ends = n ∙ ap (λ (y : Step _). y.ends) e;
-  dies = x ∙ ap (λ (y : Step _). y.dies) e;
-}
 
 alive-may : {S : Type 0} (m : Meaning S) (d : Debuggee S) (t : ℕ) → may_step m d.settings d.moment t ≡ true → d.moment.state.alive ≡ true
 alive-may m d t h = and-left d.moment.state.alive _ (and-right d.moment.state.handshaken _ h)
@@ -215,7 +206,7 @@ marked-ends m d t ts rs b h e f g r = by-mark m d.moment t _ e (ended-is t d.mom
 pub silent-ends : {S : Type 0} (m : Meaning S) (d : Debuggee S) (t : ℕ) (h : HappeningMeaning) (ts : List Thread) (rs : List Request) (b : Bool) → may_step m d.settings d.moment t ≡ true → is_marked d.moment.state t ≡ false → h ≡ m.next d.moment.machine t → runs_out h ≡ true → None ≡ gathered h d.moment.state.requests → ts ≡ filter (is_other t) d.moment.state.threads → b ≡ (length ts == 0) → rs ≡ unless_last b (all_counted h d.moment.state.requests)
     → ends m d.moment.machine t (record d.moment.state { threads = ts; requests = rs; alive = not b }, b) ≡ occurs m d.moment t
 silent-ends m d t h ts rs b may e n o q f g r =
-    ap (λ y. ends m d.moment.machine t y) (ended-is t (seen h d.moment.state) ts rs b (alive-may m d t may) f g r)
+    ap (λ y. ends m d.moment.machine t y) (ended-is t (with_happening h d.moment.state) ts rs b (alive-may m d t may) f g r)
     ∙ by-death m d.moment t h None e n o q
 
 -- any other step
@@ -259,3 +250,68 @@ kept-death m law d t h c k may e n o q = kept-from m law d t _ k may (by-death m
 pub kept-report : {S : Type 0} (m : Meaning S) → IsLawful m → (d : Debuggee S) (t : ℕ) (h : HappeningMeaning) (o : Option CompositeMeaning) → IsKept m d → may_step m d.settings d.moment t ≡ true → is_marked d.moment.state t ≡ false → h ≡ m.next d.moment.machine t → runs_out h ≡ false → o ≡ gathered h d.moment.state.requests
     → IsKept m (at_moment (reported m d.moment.machine t h d.moment.state o).after d)
 kept-report m law d t h o k may e n r q = kept-from m law d t _ k may (goes-on m d t h o e n r q)
+
+-- ---- no thread too many starts
+
+not-true : (b : Bool) → not b ≡ true → b ≡ false
+not-true true h = cc
+not-true false h = refl
+
+not-false : (b : Bool) → not b ≡ false → b ≡ true
+not-false true h = refl
+not-false false h = cc
+
+few-by : (o : Option ℕ) (settings : Settings) (state : State) → is_full_by o settings state ≡ false → settings.limits.live < 2 ^ 32 → AreFew o state.threads
+few-by None settings state h l = tt
+few-by (Some n) settings state h l =
+    let below : length state.threads < settings.limits.live = ltb-true (length state.threads) settings.limits.live (not-false (nat_lt (length state.threads) settings.limits.live) h) in
+    omega arith
+
+pub few-started : {S : Type 0} (m : Meaning S) (d : Debuggee S) (t : ℕ) (h : HappeningMeaning) → IsKept m d → may_step m d.settings d.moment t ≡ true → is_marked d.moment.state t ≡ false → h ≡ m.next d.moment.machine t → d.settings.limits.live < 2 ^ 32 → AreFew (started h) d.moment.state.threads
+few-started m d t h k may e n l =
+    let room = not-true _ (and-right (is_ready d.settings d.moment.state t) _ (sym (may-ready m d.settings d.moment t) ∙ may)) in
+    few-by (started h) d.settings d.moment.state
+    (ap (λ x. is_full_by (started x) d.settings d.moment.state) n ∙ (ap (λ x. is_full_by (starts_by x (m.next d.moment.machine t)) d.settings d.moment.state) (sym e) ∙ room)) l
+
+-- ---- a death that is reported
+
+none-starts : (thread : ℕ) (o : OccurrenceMeaning) → is_run_out o ≡ true → started_by thread o ≡ None
+none-starts thread (Moved p) e = refl
+none-starts thread (Entered p) e = refl
+none-starts thread (Left p v) e = refl
+none-starts thread (Threw p x) e = refl
+none-starts thread (Prepared p) e = refl
+none-starts thread Started e = absurd (cc)
+none-starts thread RanOut e = refl
+
+turned-marked : (t : ℕ) (before after : List Thread) → turned before (map (marked t) after) ≡ turned before after
+turned-marked t [] after = refl
+turned-marked t (p ∷ before) [] = refl
+turned-marked t (p ∷ before) (q ∷ after) =
+    elim (q.id == t) as (λ b. turned_one (p.suspend_count == 0) ((cond b (record q { death_reported = true }) q).suspend_count == 0) + turned before (map (marked t) after) ≡ turned_one (p.suspend_count == 0) (q.suspend_count == 0) + turned before after) [
+      | true ↦ ap (λ (n : ℕ). turned_one (p.suspend_count == 0) (q.suspend_count == 0) + n) (turned-marked t before after)
+      | false ↦ ap (λ (n : ℕ). turned_one (p.suspend_count == 0) (q.suspend_count == 0) + n) (turned-marked t before after)
+    ]
+
+-- what it visits
+death-visits : {S : Type 0} (m : Meaning S) (now : Moment S) (t visits : ℕ) (h : HappeningMeaning) (c : CompositeMeaning) → is_marked now.state t ≡ false → h ≡ m.next now.machine t → runs_out h ≡ true → Some c ≡ gathered h now.state.requests
+    → visits_at c.policy now.state.threads (changed (raised_by c.policy h.thread) now.state.threads) visits ≡ visits_stepped m now t visits
+death-visits {S = S} m now t visits h c e n o q =
+    let starts_none : None ≡ starts m now t =
+    sym (none-starts h.thread h.occurrence o) ∙ (ap (λ (x : HappeningMeaning). started x) n ∙ ap (λ (b : Bool). starts_by b (m.next now.machine t)) (sym e)) in
+    let raised = changed (raised_by c.policy h.thread) now.state.threads in
+    ap (λ (k : ℕ). cond (c.policy == POLICY_ALL) k visits) (sym (turned-marked t now.state.threads raised))
+    ∙ (ap (λ (x : Option ℕ). visits_at c.policy (with_started x now.state).threads (map (marked t) raised) visits) starts_none
+    ∙ ap (λ (x : Step S). visits_for x.sends (with_started (starts m now t) now.state).threads x.after.state.threads visits) (by-death m now t h (Some c) e n o q))
+
+pub steps-death : {S : Type 0} (m : Meaning S) (d : Debuggee S) (t : ℕ) (h : HappeningMeaning) (c : CompositeMeaning) → may_step m d.settings d.moment t ≡ true → is_marked d.moment.state t ≡ false → h ≡ m.next d.moment.machine t → runs_out h ≡ true → Some c ≡ gathered h d.moment.state.requests
+    → Steps m t d (visiting (visits_at c.policy d.moment.state.threads (changed (raised_by c.policy h.thread) d.moment.state.threads) d.visits) (at_moment (death_by m d.moment.machine t h d.moment.state (Some c)).after d)) (record { sends = Some c; ends = false; dies = false })
+steps-death {S = S} m d t h c may e n o q =
+    let is = by-death m d.moment t h (Some c) e n o q in
+    record {
+      may = may;
+      after = ap (λ (k : ℕ). visiting k (at_moment (death_by m d.moment.machine t h d.moment.state (Some c)).after d)) (death-visits m d.moment t d.visits h c e n o q) ∙ ap (λ (x : Step S). visiting (visits_stepped m d.moment t d.visits) (at_moment x.after d)) is;
+      sends = ap (λ (x : Step S). x.sends) is;
+      ends = ap (λ (x : Step S). x.ends) is;
+      dies = ap (λ (x : Step S). x.dies) is;
+    }

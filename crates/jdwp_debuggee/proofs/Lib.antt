@@ -5,7 +5,7 @@ pub mod EntryLists
 pub mod Distinct
 pub mod Ends
 pub mod Commands
-pub mod Greatest
+pub mod CountLimits
 pub mod Happenings
 pub mod Reported
 pub mod Kept

@@ -17,10 +17,11 @@ use Rattle.jdwp_layout.specs.Meanings.{Int, One}
 use Rattle.jdwp_layout.specs.Shapes.{OneOf}
 use Rattle.jdwp_machine.specs.Laws.{MayAnswer}
 use Rattle.jdwp_machine.specs.Meanings.{Meaning}
-use Rattle.jdwp_debuggee.specs.Answers.{done, int_answer, sizes_answer}
+use Rattle.jdwp_action.specs.AnswerPackets.{sizes_answer, EncodesAnswer}
+use Rattle.jdwp_debuggee.specs.Answers.{done, int_answer}
 use Rattle.jdwp_debuggee.specs.Debuggees.{Debuggee, IsKept}
 use Rattle.jdwp_debuggee.specs.Effects.{suspend_by, suspend_thread_at, suspend_thread_by, resume_thread_by, answer_count, answer_status}
-use Rattle.jdwp_debuggee.specs.Sending.{EncodesAnswer, row_reply}
+use Rattle.jdwp_action.specs.RowLayouts.{row_reply}
 use Rattle.jdwp_debuggee.specs.Settings.{Settings}
 use Rattle.jdwp_debuggee.specs.State.{Moment, count_of}
 use Rattle.jdwp_debuggee.proofs.Kept.{count-most}

@@ -16,9 +16,11 @@ use Rattle.jdwp_layout.specs.CommandTable.{row_at}
 use Rattle.jdwp_layout.specs.Meanings.{ScalarMeaning, DatumMeaning, entry_meaning, entry_meanings}
 use Rattle.jdwp_layout.specs.Reads.{data_at}
 use Rattle.jdwp_layout.specs.Shapes.{ItemShape}
-use Rattle.jdwp_debuggee.specs.declared.command.Asked.{Asked}
-use Rattle.jdwp_debuggee.specs.Actions.{Command, slot_of, is_implemented}
-use Rattle.jdwp_debuggee.specs.CommandReads.{Asking, asked_meaning, asks, asking_of, command_read, content_read, read_by, row_request, with_content}
+use Rattle.jdwp_debuggee.specs.declared.command.ParsedCommand.{ParsedCommand}
+use Rattle.jdwp_action.specs.Actions.{Command, slot_of, is_implemented}
+use Rattle.jdwp_action.specs.CommandReads.{command_read, content_read, read_by, with_content}
+use Rattle.jdwp_action.specs.RowLayouts.{row_request}
+use Rattle.jdwp_debuggee.specs.Askings.{Asking, asked_meaning, asks, asking_of}
 use Rattle.jdwp_debuggee.specs.ReadParts.{IsBare, implemented_request, unread}
 
 -- one entry more of a list of slots
@@ -62,7 +64,7 @@ asks_content w set number bytes items content a e found law =
     ap (λ (x : Asking). Ok x) law ∙ ap (λ (d : Result (List DatumMeaning) DataFault). asks (content_read set number d)) (sym found)
     ∙ sym (asks_is w set number bytes items e)
 
-pub asks_refused : (w : Widths) (set number : ℕ) (bytes : List ℕ) (items : List ItemShape) (answer : Result Asked NoMemory) → implemented_request set number ≡ Some items
+pub asks_refused : (w : Widths) (set number : ℕ) (bytes : List ℕ) (items : List ItemShape) (answer : Result ParsedCommand NoMemory) → implemented_request set number ≡ Some items
     → IfOk answer (λ asked. asked_meaning asked ≡ asks (content_read set number (data_at w items bytes))) → IfOk answer (λ asked. asked_meaning asked ≡ asks (command_read w set number bytes))
 asks_refused w set number bytes items answer e law = rw (asks_is w set number bytes items e) law
 

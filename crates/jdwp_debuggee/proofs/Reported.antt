@@ -16,9 +16,9 @@ use Rattle.jdwp_event.specs.Told.{event_thread}
 use Rattle.jdwp_machine.specs.Meanings.{Meaning}
 use Rattle.jdwp_debuggee.specs.Settings.{Settings}
 use Rattle.jdwp_debuggee.specs.State.{State, Moment, is_marked}
-use Rattle.jdwp_debuggee.specs.Actions
-use Rattle.jdwp_debuggee.specs.Actions.{Carried, Content, Command, Action, action_of, action_by, thread_of, thread_action, other_action, slots_of, set_action, clear_action, carries_out, is_implemented}
-use Rattle.jdwp_debuggee.specs.Answers.{sizes_answer}
+use Rattle.jdwp_action.specs.Actions
+use Rattle.jdwp_action.specs.Actions.{Carried, Content, Command, Action, action_of, action_by, thread_of, thread_action, other_action, slots_of, set_action, clear_action, carries_out, is_implemented}
+use Rattle.jdwp_action.specs.AnswerPackets.{sizes_answer}
 use Rattle.jdwp_debuggee.specs.Refusals.{or_else, unless, set_refusal}
 use Rattle.jdwp_debuggee.specs.Effects.{effect, effect_by, does, set_by}
 use Rattle.jdwp_debuggee.specs.Steps.{death_by, report_by, happens, occurs_by, occurs}

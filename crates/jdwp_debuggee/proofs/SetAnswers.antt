@@ -21,7 +21,8 @@ use Rattle.jdwp_machine.specs.Laws.{IsLawful, MayAnswer}
 use Rattle.jdwp_machine.specs.Meanings.{Meaning}
 use Rattle.jdwp_debuggee.specs.Effects.{set_by}
 use Rattle.jdwp_debuggee.specs.Refusals.{or_else, unless, is_kind, is_one_of, requestable, kind_refusal, kind_refusal_by, LAST_REQUEST, room_refusal, is_some_count, thread_refusal, class_refusal, class_refusal_by, signature_query, location_query, location_refusal, location_refusal_by, of_threads, without_locations, not_in, is_size, is_depth, exception_refusal, modifier_refusal, modifiers_refusal, is_location, is_step, shape_refusal, set_refusal}
-use Rattle.jdwp_debuggee.specs.Sending.{EncodesAnswer, row_reply}
+use Rattle.jdwp_action.specs.AnswerPackets.{EncodesAnswer}
+use Rattle.jdwp_action.specs.RowLayouts.{row_reply}
 use Rattle.jdwp_debuggee.specs.Settings.{Settings}
 use Rattle.jdwp_debuggee.specs.State.{State, Moment, count_of}
 use Rattle.jdwp_debuggee.proofs.OwnAnswers.{error-encoded, int-answer-encoded}

@@ -3,7 +3,7 @@ use Rattle.std.proofs.Common.{◌≡◌, ℕ, ◌+◌, ◌<◌, ◌≤◌, lengt
 use Rattle.std.specs.List.{filter}
 use Rattle.std.proofs.lemmas.List.Filters.{length-filter_both}
 use Rattle.std.specs.Option.{option_map}
-use Rattle.jdwp_event.specs.Requests.{Asked, Request, all_asked}
+use Rattle.jdwp_event.specs.Requests.{AskedRequest, Request, all_asked}
 use Rattle.jdwp_debuggee.specs.Facts.{AreBelow}
 
 pub and-true : (b : Bool) → b ≡ (b && true)
@@ -37,7 +37,7 @@ pub asked-append : (xs ys : List Request) → all_asked (xs ++ ys) ≡ all_asked
 asked-append [] ys = refl
 asked-append (x ∷ xs) ys = ap (λ l. x.asked ∷ l) (asked-append xs ys)
 
-pub asked-filter : (p : Asked → Bool) (rs : List Request) → all_asked (filter (λ (r : Request). p r.asked) rs) ≡ filter p (all_asked rs)
+pub asked-filter : (p : AskedRequest → Bool) (rs : List Request) → all_asked (filter (λ (r : Request). p r.asked) rs) ≡ filter p (all_asked rs)
 asked-filter p [] = refl
 asked-filter p (r ∷ rs) =
     elim (p r.asked) as (λ b. all_asked (cond b (r ∷ filter (λ (x : Request). p x.asked) rs) (filter (λ (x : Request). p x.asked) rs)) ≡ cond b (r.asked ∷ filter p (all_asked rs)) (filter p (all_asked rs))) [
@@ -48,10 +48,10 @@ asked-filter p (r ∷ rs) =
 pub few-filtered : (p : Request → Bool) (rs : List Request) → length (filter p rs) ≤ length rs
 few-filtered p rs = let e = length-filter_both p (λ (r : Request). not (p r)) (λ _. refl) rs in omega (arith, e)
 
-pub below-filter : (n : ℕ) (p : Asked → Bool) (rs : List Asked) → AreBelow n rs → AreBelow n (filter p rs)
+pub below-filter : (n : ℕ) (p : AskedRequest → Bool) (rs : List AskedRequest) → AreBelow n rs → AreBelow n (filter p rs)
 below-filter n p [] h = tt
 below-filter n p (r ∷ rs) h = elim (p r) as (λ b. AreBelow n (cond b (r ∷ filter p rs) (filter p rs))) [ true ↦ (h.0, below-filter n p rs h.1) | false ↦ below-filter n p rs h.1 ]
 
-pub below-more : (n : ℕ) (rs : List Asked) (r : Asked) → r.id ≡ n → AreBelow n rs → AreBelow (n + 1) (rs ++ r ∷ [])
+pub below-more : (n : ℕ) (rs : List AskedRequest) (r : AskedRequest) → r.id ≡ n → AreBelow n rs → AreBelow (n + 1) (rs ++ r ∷ [])
 below-more n [] r e h = (omega arith, tt)
 below-more n (x ∷ xs) r e h = let l : x.id < n = h.0 in (omega arith, below-more n xs r e h.1)

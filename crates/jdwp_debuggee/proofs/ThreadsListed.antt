@@ -18,9 +18,10 @@ use Rattle.jdwp_layout.specs.declared.answer.Answer.TheVariants.{Data, Error}
 use Rattle.jdwp_machine.specs.Meanings.{Meaning, has}
 use Rattle.jdwp_machine.specs.Laws.{IsLawful}
 use Rattle.jdwp_debuggee.specs.Answers.{bounded, first_of, inserted, least_thread, rising}
-use Rattle.jdwp_debuggee.specs.Entries.{threads_of}
+use Rattle.jdwp_debuggee.specs.Entries.{ids_of}
 use Rattle.jdwp_debuggee.specs.Facts.{IsSound}
-use Rattle.jdwp_debuggee.specs.Sending.{IsSent, IsWritable, place_in}
+use Rattle.jdwp_action.specs.AnswerPackets.{IsWritable}
+use Rattle.jdwp_debuggee.specs.Sending.{IsSent, place_in}
 use Rattle.jdwp_debuggee.specs.State.{Moment, ids}
 use Rattle.jdwp_debuggee.specs.declared.reply.Reply.TheVariants as reply
 use Rattle.jdwp_debuggee.specs.declared.reply.Sent.TheVariants as sent
@@ -101,9 +102,9 @@ pub too-long-sent : (settings : Settings) (w : Widths) (content : List DatumMean
 too-long-sent settings w content h = rw h (record { error = refl; bytes = refl })
 
 -- the first of some entries stands among the others
-pub rising-split : (es : List ThreadEntry) (d : ThreadEntry) → 1 ≤ length es → inserted (get_or es 0 d).id.0 (rising (ids (threads_of (take (length es - 1) (drop 1 es))))) ≡ rising (ids (threads_of es))
+pub rising-split : (es : List ThreadEntry) (d : ThreadEntry) → 1 ≤ length es → inserted (get_or es 0 d).id.0 (rising (ids_of (take (length es - 1) (drop 1 es)))) ≡ rising (ids_of es)
 rising-split [] d h = absurd (omega arith)
-rising-split (e ∷ es) d h = ap (λ (l : List ThreadEntry). inserted e.id.0 (rising (ids (threads_of l)))) (take_all (length (e ∷ es) - 1) es (omega arith))
+rising-split (e ∷ es) d h = ap (λ (l : List ThreadEntry). inserted e.id.0 (rising (ids_of l))) (take_all (length (e ∷ es) - 1) es (omega arith))
 
 -- the live threads fit the width of their ids
 pub live-fit : {S : Type 0} (m : Meaning S) → IsLawful m → (settings : Settings) (now : Moment S) → IsSound m settings now → (t : ℕ) → has (rising (ids now.state.threads)) t ≡ true → id_refusal (m.sizes now.machine).object t ≡ None
@@ -127,7 +128,7 @@ pub least-fits : {S : Type 0} (m : Meaning S) → IsLawful m → (settings : Set
 least-fits m law settings now sound = first-fits (m.sizes now.machine).object (rising (ids now.state.threads)) (live-fit m law settings now sound)
 
 -- the first of some entries is put at its place among the others
-pub risen : (es : List ThreadEntry) (d : ThreadEntry) (others : List ℕ) → 1 ≤ length es → others ≡ rising (ids (threads_of (take (length es - 1) (drop 1 es))))
-    → insert others (place_in (get_or es 0 d).id.0 others) (get_or es 0 d).id.0 ≡ rising (ids (threads_of es))
+pub risen : (es : List ThreadEntry) (d : ThreadEntry) (others : List ℕ) → 1 ≤ length es → others ≡ rising (ids_of (take (length es - 1) (drop 1 es)))
+    → insert others (place_in (get_or es 0 d).id.0 others) (get_or es 0 d).id.0 ≡ rising (ids_of es)
 risen es d others h is =
     inserted-at (get_or es 0 d).id.0 others ∙ (ap (λ (l : List ℕ). inserted (get_or es 0 d).id.0 l) is ∙ rising-split es d h)

@@ -10,10 +10,10 @@ use Rattle.jdwp_layout.specs.Meanings.{DatumMeaning}
 use Rattle.jdwp_layout.specs.Reads.{data_at}
 use Rattle.jdwp_layout.specs.Shapes.{ItemShape}
 use Rattle.jdwp_layout.proofs.GrammarLaws.{data_again}
-use Rattle.jdwp_debuggee.specs.CommandReads.{command_read}
+use Rattle.jdwp_action.specs.CommandReads.{command_read}
 use Rattle.jdwp_debuggee.specs.ReadParts.{implemented_request}
 use Rattle.jdwp_debuggee.specs.Sending.{sent_short}
-use Rattle.jdwp_debuggee.specs.declared.command.Asked.{Asked}
+use Rattle.jdwp_debuggee.specs.declared.command.ParsedCommand.{ParsedCommand}
 use Rattle.jdwp_debuggee.specs.declared.reply.Reply.{Reply}
 use Rattle.jdwp_debuggee.proofs.Read.{read_is}
 
@@ -25,7 +25,7 @@ pub read-whole : (w : Widths) (set number : ℕ) (bytes : List ℕ) (items : Lis
 read-whole w set number bytes items content e found = rw (read_is w set number bytes items e, found) refl
 
 -- memory is wanted only for data that are encoded
-pub read-encoded : (w : Widths) (set number : ℕ) (bytes : List ℕ) (items : List ItemShape) (found : DataFault) (answer : Result Asked NoMemory) → implemented_request set number ≡ Some items
+pub read-encoded : (w : Widths) (set number : ℕ) (bytes : List ℕ) (items : List ItemShape) (found : DataFault) (answer : Result ParsedCommand NoMemory) → implemented_request set number ≡ Some items
     → (found ≡ fault.NoMemory → (xs : List DatumMeaning) × EncodesData w items xs bytes)
     → IfErr answer (λ _. found ≡ fault.NoMemory) → IfErr answer (λ _. IsOk (command_read w set number bytes))
 read-encoded w set number bytes items found (Ok asked) e hides is = tt

@@ -13,16 +13,19 @@ use Rattle.jdwp_wire.specs.Limits.{least_packet_limit}
 use Rattle.std.specs.Prelude.{IfOk, IfErr, OnErr, Result, Ok, Err}
 use Rattle.jdwp_layout.specs.CommandNumbers.{SET_SLOTS}
 use Rattle.jdwp_debuggee.specs.Answers.{done, query_of}
-use Rattle.jdwp_debuggee.specs.Actions as action
-use Rattle.jdwp_debuggee.specs.Actions.{Action, Command, action_of}
-use Rattle.jdwp_debuggee.specs.Debuggees.{CarriesOut, Debuggee, at_moment}
-use Rattle.jdwp_debuggee.specs.CommandReads.{Asking, asking_of, question_by}
+use Rattle.jdwp_action.specs.Actions as action
+use Rattle.jdwp_action.specs.Actions.{Action, Command, action_of}
+use Rattle.jdwp_debuggee.specs.Debuggees.{CarriesOut, Debuggee, at_moment, visiting}
+use Rattle.jdwp_debuggee.specs.Askings.{Asking, asking_of, question_by}
+use Rattle.jdwp_debuggee.specs.Visits.{visits_carried}
 use Rattle.jdwp_debuggee.specs.Effects.{carried, does}
 use Rattle.jdwp_debuggee.specs.State.{Moment}
 use Rattle.jdwp_machine.specs.declared.query.Query.{Query}
 use Rattle.jdwp_debuggee.specs.declared.reply.Sent.{Sent}
 use Rattle.jdwp_debuggee.specs.Replies.{reply_meaning}
-use Rattle.jdwp_debuggee.specs.Sending.{AreWritable, Did, IsSent, IsWritable, answer_bytes, error_of, row_reply, sent_bytes, sent_short, shapes_reply}
+use Rattle.jdwp_action.specs.AnswerPackets.{AreWritable, IsWritable, answer_bytes, error_of}
+use Rattle.jdwp_action.specs.RowLayouts.{row_reply, shapes_reply}
+use Rattle.jdwp_debuggee.specs.Sending.{Did, IsSent, sent_bytes, sent_short}
 use Rattle.jdwp_debuggee.specs.declared.reply.Reply.{Reply}
 use Rattle.jdwp_debuggee.specs.declared.reply.Reply.TheVariants as reply
 use Rattle.jdwp_debuggee.specs.declared.reply.Sent.TheVariants as sent
@@ -49,7 +52,7 @@ pub written-done : {S : Type 0} (m : Meaning S) (s : S) (content : List DatumMea
 written-done m s content h = ap Data (nothing-fits (m.sizes s) content h)
 
 record Did-by {S : Type 0} (m : Meaning S) (c : Command) (a : Action) (old new : Debuggee S) (r : Reply) : Type 0 where
-  pub after : new ≡ at_moment (carried m old.settings old.moment c a).after old
+  pub after : new ≡ visiting (visits_carried old.moment a (carried m old.settings old.moment c a) old.visits) (at_moment (carried m old.settings old.moment c a).after old)
   pub answers : reply_meaning r ≡ (carried m old.settings old.moment c a).answer
 
 -- what is answered without memory is short
@@ -90,15 +93,17 @@ short-fails P (Ok reply) h = tt
 
 -- a question that was answered
 pub ask-did : {S : Type 0} (m : Meaning S) (c : Command) (a : Action) (d : Debuggee S) (x : Sent) → a ≡ action_of c → (carried m d.settings d.moment c a).after ≡ d.moment
+    → visits_carried d.moment a (carried m d.settings d.moment c a) d.visits ≡ d.visits
     → IsSent (m.sizes d.moment.machine) (carried m d.settings d.moment c a).answer x
     → (least_packet_limit ≤ d.settings.limits.packet → 11 + length (sent_bytes (m.sizes d.moment.machine) x) ≤ d.settings.limits.packet) → Did m c d d x
-ask-did {S = S} m c a d x is same sends fits =
-    let by : (b : Action) → a ≡ b → ((carried m d.settings d.moment c b).after ≡ d.moment) × IsSent (m.sizes d.moment.machine) (carried m d.settings d.moment c b).answer x =
-    λ b h. subst (λ (y : Action). ((carried m d.settings d.moment c y).after ≡ d.moment) × IsSent (m.sizes d.moment.machine) (carried m d.settings d.moment c y).answer x) h (same, sends) in
+ask-did {S = S} m c a d x is same stays sends fits =
+    let visits : Action → ℕ = λ b. visits_carried d.moment b (carried m d.settings d.moment c b) d.visits in
+    let by : (b : Action) → a ≡ b → ((carried m d.settings d.moment c b).after ≡ d.moment) × (visits b ≡ d.visits) × IsSent (m.sizes d.moment.machine) (carried m d.settings d.moment c b).answer x =
+    λ b h. subst (λ (y : Action). ((carried m d.settings d.moment c y).after ≡ d.moment) × (visits y ≡ d.visits) × IsSent (m.sizes d.moment.machine) (carried m d.settings d.moment c y).answer x) h (same, stays, sends) in
     let p = by (action_of c) is in
     record {
-      after = ap (λ (y : Moment S). at_moment y d) (sym p.0);
-      sends = p.1;
+      after = ap (λ (n : ℕ). visiting n d) (sym p.1) ∙ ap (λ (y : Moment S). visiting (visits (action_of c)) (at_moment y d)) (sym p.0);
+      sends = p.2;
       fits = fits;
     }
 
@@ -115,7 +120,7 @@ frames-did m d t q (Err e) v f = tt
 frames-did m d t q (Ok x) v f = λ c e.
     let is : action.AskFrames t ≡ action_of c = ap (λ (y : Asking). y.action) e in
     let same = same-question (action.AskFrames t) (action_of c) q (query_of c) is refl (ap (λ (y : Asking). y.question) e) in
-    ask-did m c (action.AskFrames t) d x is refl (v c same) f
+    ask-did m c (action.AskFrames t) d x is refl refl (v c same) f
 
 -- another question about a thread was answered
 pub thread-did : {S E : Type 0} (m : Meaning S) (d : Debuggee S) (t : ℕ) (q : Query) (r : Result Sent E)
@@ -126,4 +131,4 @@ thread-did m d t q (Err e) v f = tt
 thread-did m d t q (Ok x) v f = λ c e.
     let is : action.AskThread t ≡ action_of c = ap (λ (y : Asking). y.action) e in
     let same = same-question (action.AskThread t) (action_of c) q (query_of c) is refl (ap (λ (y : Asking). y.question) e) in
-    ask-did m c (action.AskThread t) d x is refl (v c same) f
+    ask-did m c (action.AskThread t) d x is refl refl (v c same) f

@@ -1,8 +1,9 @@
 -- Parts of what a command asks for, by its question.
 use Rattle.std.specs.Prelude.{ℕ}
 use Rattle.jdwp_machine.specs.declared.query.Query.{Query}
-use Rattle.jdwp_debuggee.specs.Actions.{Command, Action, thread_action, other_action, slots_of, set_action, clear_action}
-use Rattle.jdwp_debuggee.specs.CommandReads.{Asking, with_content, question_by}
+use Rattle.jdwp_action.specs.Actions.{Command, Action, thread_action, other_action, slots_of, set_action, clear_action}
+use Rattle.jdwp_action.specs.CommandReads.{with_content}
+use Rattle.jdwp_debuggee.specs.Askings.{Asking, question_by}
 
 -- the command of a question
 abbrev pub command_of : Query → Command

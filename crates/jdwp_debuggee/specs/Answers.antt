@@ -13,7 +13,7 @@ use Rattle.jdwp_machine.specs.declared.query.Query.{Query}
 use Rattle.jdwp_machine.specs.Meanings.{Meaning}
 use Rattle.jdwp_debuggee.specs.Settings.{Settings}
 use Rattle.jdwp_debuggee.specs.State.{State, Thread, count_in, ids}
-use Rattle.jdwp_debuggee.specs.Actions.{Carried, Content, Raw, Command}
+use Rattle.jdwp_action.specs.Actions.{Carried, Content, Raw, Command}
 
 -- an answer with no data, and one with an int
 abbrev pub done : Answer
@@ -49,10 +49,6 @@ least_thread state = first_of (rising (ids state.threads))
 
 abbrev pub all_threads : State → Answer
 all_threads state = Data (Many (map (λ (t : ℕ). Object t ∷ []) (rising (ids state.threads))) ∷ [])
-
--- field, method, object, reference type and frame
-abbrev pub sizes_answer : Widths → Answer
-sizes_answer w = Data (One (Int (pos w.field)) ∷ One (Int (pos w.method)) ∷ One (Int (pos w.object)) ∷ One (Int (pos w.reference)) ∷ One (Int (pos w.frame)) ∷ [])
 
 -- a live thread is running (1), and suspended (1) or not
 abbrev pub status_answer : ℕ → Answer

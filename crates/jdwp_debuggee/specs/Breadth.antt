@@ -1,6 +1,6 @@
 -- Which commands change what: all but a few change nothing.
 use Rattle.std.specs.Prelude.{Bool, true, false}
-use Rattle.jdwp_debuggee.specs.Actions.{Action, Suspend, Resume, Dispose, Exit, HoldEvents, ReleaseEvents, SetRequest, ClearRequest, ClearBreakpoints, SuspendThread, ResumeThread, SetSlots}
+use Rattle.jdwp_action.specs.Actions.{Action, Suspend, Resume, Dispose, Exit, HoldEvents, ReleaseEvents, SetRequest, ClearRequest, ClearBreakpoints, SuspendThread, ResumeThread, SetSlots}
 
 -- the command changes nothing of the state
 abbrev pub is_plain : Action → Bool

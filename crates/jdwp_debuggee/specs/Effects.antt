@@ -7,15 +7,16 @@ use Rattle.jdwp_layout.specs.declared.answer.Answer.{Answer}
 use Rattle.jdwp_layout.specs.declared.answer.Answer.TheVariants.{Error}
 use Rattle.jdwp_event.specs.Modifiers.{ModifierMeaning, Step, modifiers_of}
 use Rattle.jdwp_event.specs.RequestLists as lists
-use Rattle.jdwp_event.specs.Requests.{Asked, Origin, Request, new_request}
+use Rattle.jdwp_event.specs.Requests.{AskedRequest, Origin, Request, new_request}
 use Rattle.jdwp_machine.specs.Meanings.{Meaning}
 use Rattle.jdwp_debuggee.specs.Settings.{Settings}
 use Rattle.jdwp_debuggee.specs.State.{State, Moment, count_of, with_counts, raised, lowered, only, at_limit, reset, dead}
-use Rattle.jdwp_debuggee.specs.Actions
-use Rattle.jdwp_debuggee.specs.Actions.{Command, Action, action_of, is_implemented}
+use Rattle.jdwp_action.specs.Actions
+use Rattle.jdwp_action.specs.Actions.{Command, Action, action_of, is_implemented}
 use Rattle.jdwp_debuggee.specs.Origins.{origin_of}
 use Rattle.jdwp_debuggee.specs.Refusals.{set_refusal}
-use Rattle.jdwp_debuggee.specs.Answers.{done, int_answer, all_threads, sizes_answer, status_answer, query_of, frames_answer, bounded}
+use Rattle.jdwp_action.specs.AnswerPackets.{sizes_answer}
+use Rattle.jdwp_debuggee.specs.Answers.{done, int_answer, all_threads, status_answer, query_of, frames_answer, bounded}
 
 -- The moment after a command, its answer, whether the machine died, whose VM_DEATH follows the reply, and whether the session closes.
 pub record Effect (S : Type 0) : Type 0 where
@@ -109,7 +110,7 @@ first_origin m s None = record { frames = 0; line = None }
 first_origin m s (Some t) = origin_of m s t
 
 -- the request that is asked for
-abbrev pub asked : State → ℕ → ℕ → List ModifierMeaning → Asked
+abbrev pub asked : State → ℕ → ℕ → List ModifierMeaning → AskedRequest
 asked state byte policy modifiers = record { id = state.next_request; kind = byte; policy = policy; modifiers = modifiers }
 
 abbrev pub with_request : Request → State → State

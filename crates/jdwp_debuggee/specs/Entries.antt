@@ -1,50 +1,37 @@
--- What the code keeps of live threads, and changes of their suspend counts.
-use Rattle.std.specs.Prelude.{ℕ, ◌≤◌, ◌==◌, nat_lt, Bool, true, Option, Some, None, List, [], ◌∷◌, map, if◌then◌else◌}
+-- What the code keeps of live threads, beside their suspend counts.
+use Rattle.std.specs.Prelude.{ℕ, ◌≤◌, ◌+◌, ◌==◌, nat_lt, Bool, true, Option, Some, None, List, [], ◌∷◌, map, if◌then◌else◌}
 use Rattle.std.specs.List.{list_any}
-use Rattle.jdwp_debuggee.specs.declared.threads.Change.{Change}
-use Rattle.jdwp_debuggee.specs.declared.threads.Change.TheVariants.{Raise, Lower, Clear, RaiseOne, LowerOne}
 use Rattle.jdwp_debuggee.specs.declared.threads.ThreadEntry.{ThreadEntry}
-use Rattle.jdwp_debuggee.specs.State.{Thread, raised, lowered, cleared, only}
+use Rattle.jdwp_debuggee.specs.State.{Thread}
 
--- The live threads, and for how many there is room.
+-- The live threads, how many of them the last move of all counts visited, and for how many there is room.
 pub record LiveThreads : Type 0 where
   pub list : List Thread
+  pub visits : ℕ
   pub capacity : ℕ
 
-abbrev pub thread_of : ThreadEntry → Thread
-thread_of entry = record { id = entry.id.0; suspend_count = entry.suspend_count; death_reported = entry.death_reported }
+-- an entry and its count
+abbrev pub thread_of : ThreadEntry → ℕ → Thread
+thread_of entry count = record { id = entry.id.0; suspend_count = count; death_reported = entry.death_reported }
 
-abbrev pub threads_of : List ThreadEntry → List Thread
-threads_of entries = map thread_of entries
+-- entries and their counts, of which there are as many
+abbrev pub threads_of : List ThreadEntry → List ℕ → List Thread
+threads_of [] counts = []
+threads_of (entry ∷ entries) [] = thread_of entry 0 ∷ threads_of entries []
+threads_of (entry ∷ entries) (count ∷ counts) = thread_of entry count ∷ threads_of entries counts
 
-abbrev pub map_thread : Option ThreadEntry → Option Thread
-map_thread None = None
-map_thread (Some entry) = Some (thread_of entry)
+abbrev pub ids_of : List ThreadEntry → List ℕ
+ids_of entries = map (λ (entry : ThreadEntry). entry.id.0) entries
 
--- the entries, each count changed by a function of the thread and its count
-abbrev pub recount : (ℕ → ℕ → ℕ) → ThreadEntry → ThreadEntry
-recount change entry = record { id = entry.id; suspend_count = change entry.id.0 entry.suspend_count; death_reported = entry.death_reported }
-
-abbrev pub recounted : (ℕ → ℕ → ℕ) → List ThreadEntry → List ThreadEntry
-recounted change entries = map (recount change) entries
-
-abbrev pub change_of : Change → ℕ → ℕ → ℕ
-change_of Raise = raised
-change_of Lower = lowered
-change_of Clear = cleared
-change_of (RaiseOne thread) = only thread.0 raised
-change_of (LowerOne thread) = only thread.0 lowered
+-- the place of a thread among entries of which the first has this place
+abbrev pub place_from : ℕ → ℕ → List ThreadEntry → Option ℕ
+place_from place t [] = None
+place_from place t (entry ∷ entries) = if entry.id.0 == t then Some place else place_from (place + 1) t entries
 
 -- no suspend count is above this
 abbrev pub AllAtMost : ℕ → List Thread → Type 0
 AllAtMost most [] = Unit {0}
 AllAtMost most (thread ∷ threads) = (thread.suspend_count ≤ most) × AllAtMost most threads
-
--- the greatest of a count and those of threads
-abbrev pub greatest_above : ℕ → List Thread → ℕ
-greatest_above greatest [] = greatest
-greatest_above greatest (thread ∷ threads) =
-    greatest_above (if nat_lt greatest thread.suspend_count then thread.suspend_count else greatest) threads
 
 -- a live thread stands at this count
 abbrev pub stands_at : ℕ → List Thread → Bool
@@ -57,7 +44,7 @@ mark_of t entry = if entry.id.0 == t then record entry { death_reported = true }
 abbrev pub all_marked : ℕ → List ThreadEntry → List ThreadEntry
 all_marked t entries = map (mark_of t) entries
 
--- the least of an id and those of threads
-abbrev pub least_of : ℕ → List Thread → ℕ
+-- the least of an id and others
+abbrev pub least_of : ℕ → List ℕ → ℕ
 least_of least [] = least
-least_of least (thread ∷ threads) = least_of (if nat_lt thread.id least then thread.id else least) threads
+least_of least (id ∷ ids) = least_of (if nat_lt id least then id else least) ids

@@ -12,14 +12,14 @@ use Rattle.jdwp_layout.specs.declared.answer.Answer.TheVariants.{Data, Error}
 use Rattle.jdwp_layout.specs.Meanings.{Int, One}
 use Rattle.jdwp_event.specs.Modifiers.{modifiers_of}
 use Rattle.jdwp_event.specs.RequestLists.{is_left, is_left_by_all}
-use Rattle.jdwp_event.specs.Requests.{Asked, all_asked}
+use Rattle.jdwp_event.specs.Requests.{AskedRequest, all_asked}
 use Rattle.jdwp_event.specs.Composites.{CompositeMeaning}
 use Rattle.jdwp_event.specs.Told.{composite_thread, is_vm_death}
 use Rattle.jdwp_machine.specs.Meanings.{Meaning, has}
+use Rattle.jdwp_action.specs.Actions.{about, is_dispose, is_exit, Command, Action, action_of}
 use Rattle.jdwp_debuggee.specs.Settings.{Settings}
 use Rattle.jdwp_debuggee.specs.State.{State, Moment, count_of, count_or_zero, raised, lowered, cleared, only}
-use Rattle.jdwp_debuggee.specs.Actions
-use Rattle.jdwp_debuggee.specs.Actions.{Command, Action, action_of}
+use Rattle.jdwp_action.specs.Actions
 use Rattle.jdwp_debuggee.specs.Answers.{all_threads}
 use Rattle.jdwp_debuggee.specs.Effects.{Effect, effect}
 use Rattle.jdwp_debuggee.specs.Steps.{Step, occurs, may_step, raised_by}
@@ -27,7 +27,7 @@ use Rattle.jdwp_debuggee.specs.Steps.{Step, occurs, may_step, raised_by}
 -- ---- moments
 
 -- each request's id is below a number
-abbrev pub AreBelow : ℕ → List Asked → Type 0
+abbrev pub AreBelow : ℕ → List AskedRequest → Type 0
 AreBelow n [] = ⊤
 AreBelow n (r ∷ rs) = (r.id < n) × AreBelow n rs
 
@@ -53,25 +53,6 @@ abbrev pub is_data : Answer → Bool
 is_data (Data content) = true
 is_data (Error e) = false
 
-abbrev pub is_dispose : Action → Bool
-is_dispose Actions.Dispose = true
-is_dispose action = false
-
-abbrev pub is_exit : Action → Bool
-is_exit Actions.Exit = true
-is_exit action = false
-
--- the thread that an action is about
-abbrev pub about : Action → Option ℕ
-about (Actions.SuspendThread t) = Some t
-about (Actions.ResumeThread t) = Some t
-about (Actions.SuspendCount t) = Some t
-about (Actions.ThreadStatus t) = Some t
-about (Actions.SetSlots t f values) = Some t
-about (Actions.AskFrames t) = Some t
-about (Actions.AskThread t) = Some t
-about action = None
-
 -- what a command that was answered OK does to a count
 abbrev pub moved_by : Action → ℕ → Option ℕ → Option ℕ
 moved_by Actions.Suspend t count = option_map (raised t) count
@@ -88,13 +69,13 @@ moved action (Data content) t count = moved_by action t count
 moved action (Error e) t count = count
 
 -- what it does to the requests
-abbrev pub is_not_asked : ℕ → ℤ → Asked → Bool
+abbrev pub is_not_asked : ℕ → ℤ → AskedRequest → Bool
 is_not_asked byte id r = is_left byte id r.kind (pos r.id)
 
-abbrev pub is_no_asked_breakpoint : Asked → Bool
+abbrev pub is_no_asked_breakpoint : AskedRequest → Bool
 is_no_asked_breakpoint r = is_left_by_all r.kind
 
-abbrev pub requests_by : Action → ℕ → List Asked → List Asked
+abbrev pub requests_by : Action → ℕ → List AskedRequest → List AskedRequest
 requests_by (Actions.SetRequest byte policy entries) id requests =
     requests ++ record { id = id; kind = byte; policy = policy; modifiers = modifiers_of entries } ∷ []
 requests_by (Actions.ClearRequest byte id) next requests = filter (is_not_asked byte id) requests
@@ -103,7 +84,7 @@ requests_by Actions.Dispose next requests = []
 requests_by Actions.Exit next requests = []
 requests_by action next requests = requests
 
-abbrev pub requests_moved : Action → Answer → ℕ → List Asked → List Asked
+abbrev pub requests_moved : Action → Answer → ℕ → List AskedRequest → List AskedRequest
 requests_moved action (Data content) next requests = requests_by action next requests
 requests_moved action (Error e) next requests = requests
 

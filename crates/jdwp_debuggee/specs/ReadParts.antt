@@ -6,11 +6,12 @@ use Rattle.jdwp_wire.specs.declared.error_code.ErrorCode.{ErrorCode}
 use Rattle.jdwp_wire.specs.ErrorCodes.{ILLEGAL_ARGUMENT}
 use Rattle.jdwp_layout.specs.CommandTable.{row_at}
 use Rattle.jdwp_layout.specs.Meanings.{DatumMeaning}
-use Rattle.jdwp_layout.specs.Shapes.{ItemShape, shape}
-use Rattle.jdwp_layout.specs.declared.item.Layout.{Layout}
-use Rattle.jdwp_debuggee.specs.Actions
-use Rattle.jdwp_debuggee.specs.Actions.{Command, Raw, is_implemented}
-use Rattle.jdwp_debuggee.specs.CommandReads.{Asking, asking_of, row_request, with_content}
+use Rattle.jdwp_layout.specs.Shapes.{ItemShape}
+use Rattle.jdwp_action.specs.Actions
+use Rattle.jdwp_action.specs.Actions.{Command, Raw, is_implemented}
+use Rattle.jdwp_action.specs.CommandReads.{with_content}
+use Rattle.jdwp_action.specs.RowLayouts.{row_request}
+use Rattle.jdwp_debuggee.specs.Askings.{Asking, asking_of}
 
 abbrev pub unread : ℕ → ℕ → Command
 unread set number = record { set = set; number = number; carried = Raw [] }
@@ -31,10 +32,6 @@ clear_asks (Ok (kind, id)) = Ok (record { action = Actions.ClearRequest kind id;
 clear_asks (Err fault) = Err ILLEGAL_ARGUMENT
 
 -- ---- layouts
-
-abbrev pub found_layout : Option Layout → Option (List ItemShape)
-found_layout None = None
-found_layout (Some layout) = Some (shape layout)
 
 abbrev pub implemented_request : ℕ → ℕ → Option (List ItemShape)
 implemented_request set number = if is_implemented (unread set number) then Some (row_request (row_at set number)) else None

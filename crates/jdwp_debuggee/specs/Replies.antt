@@ -1,7 +1,8 @@
 -- What the code's replies say.
 use Rattle.jdwp_layout.specs.declared.answer.Answer.{Answer}
 use Rattle.jdwp_layout.specs.declared.answer.Answer.TheVariants.{Error}
-use Rattle.jdwp_debuggee.specs.Answers.{done, int_answer, sizes_answer, status_answer}
+use Rattle.jdwp_action.specs.AnswerPackets.{sizes_answer}
+use Rattle.jdwp_debuggee.specs.Answers.{done, int_answer, status_answer}
 use Rattle.jdwp_debuggee.specs.declared.reply.Reply.{Reply}
 use Rattle.jdwp_debuggee.specs.declared.reply.Reply.TheVariants as reply
 

@@ -3,12 +3,12 @@
 use Rattle.std.specs.Prelude.{◌≡◌, ◌≤◌, ℕ, ⊤, List, [], ◌∷◌, length, Some}
 use Rattle.std.specs.List.{AllByRecursion}
 use Rattle.jdwp_layout.specs.Meanings.{ScalarMeaning}
-use Rattle.jdwp_event.specs.Requests.{Asked}
+use Rattle.jdwp_event.specs.Requests.{AskedRequest}
 use Rattle.jdwp_event.specs.Composites.{CompositeMeaning, POLICY_ALL}
 use Rattle.jdwp_event.specs.Told.{event_thread}
 
 -- each request's policy is one of the three
-abbrev pub HavePolicies : List Asked → Type 0
+abbrev pub HavePolicies : List AskedRequest → Type 0
 HavePolicies [] = ⊤
 HavePolicies (r ∷ rs) = (r.policy ≤ POLICY_ALL) × HavePolicies rs
 

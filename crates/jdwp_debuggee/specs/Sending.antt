@@ -1,40 +1,27 @@
 -- What is sent for an answer (JDWP specification, "Packets": a reply's error code and data).
-use Rattle.std.specs.Prelude.{◌≡◌, ◌≢◌, ℕ, ◌+◌, ◌≤◌, suc, nat_le, if◌then◌else◌, ◌∷◌, Bool, true, false, List, [], length, Option, Some, None, Result, Ok, Err}
+use Rattle.std.specs.Prelude.{◌≡◌, ℕ, ◌+◌, ◌≤◌, suc, nat_le, if◌then◌else◌, ◌∷◌, Bool, true, false, List, [], length, None, Result, Ok, Err}
 use Rattle.jdwp_wire.specs.ErrorCodes.{NONE}
 use Rattle.jdwp_wire.specs.Widths.{Widths}
 use Rattle.jdwp_wire.specs.declared.error_code.ErrorCode.{ErrorCode}
 use Rattle.jdwp_wire.specs.Limits.{least_packet_limit}
 use Rattle.jdwp_event.specs.CompositeBytes.{composite_canonical, composite_refusal}
 use Rattle.jdwp_event.specs.Composites.{CompositeMeaning, composite_data}
-use Rattle.jdwp_layout.specs.CommandTable.{row_at}
-use Rattle.jdwp_layout.specs.Grammar.{EncodesData}
-use Rattle.jdwp_layout.specs.Meanings.{DatumMeaning}
-use Rattle.jdwp_layout.specs.Rows.{Row, RowShapes}
-use Rattle.jdwp_layout.specs.Shapes.{ItemShape, Events, OneOf, ListOf}
+use Rattle.jdwp_layout.specs.Shapes.{Events, OneOf, ListOf}
 use Rattle.jdwp_layout.specs.Writes.{data_canonical, data_refusal}
 use Rattle.jdwp_layout.specs.declared.answer.Answer.{Answer}
 use Rattle.jdwp_layout.specs.declared.item.Field.TheVariants as field
-use Rattle.jdwp_layout.specs.declared.answer.Answer.TheVariants.{Data, Error}
 use Rattle.jdwp_machine.specs.Meanings.{Meaning}
-use Rattle.jdwp_debuggee.specs.Actions
-use Rattle.jdwp_debuggee.specs.Actions.{Action, Command, action_of}
-use Rattle.jdwp_debuggee.specs.CommandReads.{Asking}
-use Rattle.jdwp_debuggee.specs.Debuggees.{Debuggee, at_moment}
+use Rattle.jdwp_action.specs.Actions
+use Rattle.jdwp_action.specs.Actions.{Action, Command, action_of}
+use Rattle.jdwp_action.specs.AnswerPackets.{error_of, answer_bytes}
+use Rattle.jdwp_debuggee.specs.Askings.{Asking}
+use Rattle.jdwp_debuggee.specs.Debuggees.{Debuggee, at_moment, visiting}
 use Rattle.jdwp_debuggee.specs.Effects.{carried}
 use Rattle.jdwp_debuggee.specs.Replies.{reply_meaning}
+use Rattle.jdwp_debuggee.specs.Visits.{visits_carried}
 use Rattle.jdwp_debuggee.specs.declared.reply.Reply.{Reply}
 use Rattle.jdwp_debuggee.specs.declared.reply.Sent.{Sent}
 use Rattle.jdwp_debuggee.specs.declared.reply.Sent.TheVariants as sent
-
--- the error code of a reply
-abbrev pub error_of : Answer → ErrorCode
-error_of (Data content) = NONE
-error_of (Error error) = error
-
--- the data of a reply as they are written; none where the command was refused
-abbrev pub answer_bytes : Widths → Answer → List ℕ
-answer_bytes w (Data content) = data_canonical w content
-answer_bytes w (Error error) = []
 
 -- ---- in code
 
@@ -58,7 +45,8 @@ pub record IsSent (w : Widths) (answer : Answer) (sent : Sent) : Type 0 where
 
 -- A command was carried out: what became of the debuggee, and what is sent, which fits a packet.
 pub record Did {S : Type 0} (m : Meaning S) (c : Command) (old new : Debuggee S) (sent : Sent) : Type 0 where
-  pub after : new ≡ at_moment (carried m old.settings old.moment c (action_of c)).after old
+  pub after : new ≡ visiting (visits_carried old.moment (action_of c) (carried m old.settings old.moment c (action_of c)) old.visits)
+      (at_moment (carried m old.settings old.moment c (action_of c)).after old)
   pub sends : IsSent (m.sizes old.moment.machine) (carried m old.settings old.moment c (action_of c)).answer sent
   pub fits : least_packet_limit ≤ old.settings.limits.packet → 11 + length (sent_bytes (m.sizes old.moment.machine) sent) ≤ old.settings.limits.packet
 
@@ -90,38 +78,6 @@ is_short_asked (Err error) = true
 abbrev pub place_in : ℕ → List ℕ → ℕ
 place_in n [] = 0
 place_in n (x ∷ xs) = if nat_le n x then 0 else suc (place_in n xs)
-
--- ---- data that can be written
-
--- the layout of a row's reply
-abbrev pub shapes_reply : Option RowShapes → Option (List ItemShape)
-shapes_reply None = None
-shapes_reply (Some shapes) = Some shapes.reply
-
-abbrev pub row_reply : Option Row → Option (List ItemShape)
-row_reply None = None
-row_reply (Some row) = shapes_reply row.shapes
-
-abbrev pub AreWritable : Widths → Option (List ItemShape) → List DatumMeaning → Type 0
-AreWritable w None content = ⊥
-AreWritable w (Some shapes) content = data_refusal w shapes content ≡ None
-
--- an answer to a command of this set and number, in the layout of its row's reply
-abbrev pub IsWritable : Widths → ℕ → ℕ → Answer → Type 0
-IsWritable w set number (Data content) = AreWritable w (row_reply (row_at set number)) content
-IsWritable w set number (Error error) = error.0 ≢ NONE.0
-
--- ---- data that can be read
-
--- The data of an answer are encoded by the bytes that are sent for it, in the layout of the reply's row: so whoever reads them by that
--- layout reads the answer. Where a command was refused there are no data, and the error is one.
-abbrev pub EncodesReply : Widths → Option (List ItemShape) → List DatumMeaning → Type 0
-EncodesReply w None content = ⊥
-EncodesReply w (Some shapes) content = EncodesData w shapes content (data_canonical w content)
-
-abbrev pub EncodesAnswer : Widths → ℕ → ℕ → Answer → Type 0
-EncodesAnswer w set number (Data content) = EncodesReply w (row_reply (row_at set number)) content
-EncodesAnswer w set number (Error error) = error.0 ≢ NONE.0
 
 -- ---- composites that can be sent
 

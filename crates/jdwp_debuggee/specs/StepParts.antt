@@ -1,17 +1,18 @@
 -- Parts of a step, as the code makes them one after the other.
-use Rattle.std.specs.Prelude.{◌≡◌, ◌<◌, ℕ, Bool, true, false, ◌&&◌, not, nat_lt, List, [], ◌∷◌, ◌++◌, length, Option, Some, None, IfSome, ⊤, if◌then◌else◌}
+use Rattle.std.specs.Prelude.{◌≡◌, ◌<◌, ◌+◌, ◌^◌, ℕ, Bool, true, false, ◌&&◌, not, nat_lt, List, [], ◌∷◌, ◌++◌, length, Option, Some, None, IfSome, ⊤, if◌then◌else◌}
 use Rattle.std.specs.Option.{option_map}
 use Rattle.jdwp_wire.specs.Widths.{Widths}
 use Rattle.jdwp_value.specs.declared.id.ObjectId.{ObjectId}
 use Rattle.jdwp_event.specs.Composites.{CompositeMeaning}
 use Rattle.jdwp_event.specs.Requests.{Request}
 use Rattle.jdwp_machine.specs.Meanings.{Meaning}
-use Rattle.jdwp_debuggee.specs.Debuggees.{Debuggee, at_moment}
+use Rattle.jdwp_debuggee.specs.Debuggees.{Debuggee, at_moment, visiting}
 use Rattle.jdwp_debuggee.specs.Entries.{LiveThreads}
 use Rattle.jdwp_debuggee.specs.Sending.{FitsPacket}
 use Rattle.jdwp_debuggee.specs.Settings.{Settings}
 use Rattle.jdwp_debuggee.specs.State.{Thread, State, changed, count_of, at_limit, next_packet_id}
 use Rattle.jdwp_debuggee.specs.Steps.{is_zero, starts_one, may_step, occurs, raised_by, start_policy}
+use Rattle.jdwp_debuggee.specs.Visits.{visits_stepped}
 use Rattle.jdwp_debuggee.specs.declared.steps.StepDone.{StepDone}
 
 abbrev pub policy_at_start : Bool → ℕ
@@ -39,6 +40,11 @@ abbrev pub HasRoom : Option ℕ → LiveThreads → Type 0
 HasRoom None threads = ⊤
 HasRoom (Some t) threads = length threads.list < threads.capacity
 
+-- no thread too many for the counts, if one starts
+abbrev pub AreFew : Option ℕ → List Thread → Type 0
+AreFew None threads = ⊤
+AreFew (Some t) threads = length threads + 1 < 2 ^ 32
+
 -- the threads, and a new one
 abbrev pub with_new : Option ℕ → List Thread → List Thread
 with_new None threads = threads
@@ -57,7 +63,7 @@ packet_after (Some c) id = next_packet_id id
 -- a step was made as the definitions say
 pub record Steps {S : Type 0} (m : Meaning S) (t : ℕ) (old new : Debuggee S) (done : StepDone) : Type 0 where
   pub may : may_step m old.settings old.moment t ≡ true
-  pub after : new ≡ at_moment (occurs m old.moment t).after old
+  pub after : new ≡ visiting (visits_stepped m old.moment t old.visits) (at_moment (occurs m old.moment t).after old)
   pub sends : done.sends ≡ (occurs m old.moment t).sends
   pub ends : done.ends ≡ (occurs m old.moment t).ends
   pub dies : done.dies ≡ (occurs m old.moment t).dies

@@ -58,8 +58,8 @@ pub record Step (S : Type 0) : Type 0 where
   pub dies : Bool
 
 -- the state after the requests have seen a happening
-abbrev pub seen : HappeningMeaning → State → State
-seen h state = record state { requests = all_counted h state.requests }
+abbrev pub with_happening : HappeningMeaning → State → State
+with_happening h state = record state { requests = all_counted h state.requests }
 
 -- a thread ends, and with the last one the machine dies
 abbrev pub ended_by : List Thread → State → State × Bool
@@ -74,9 +74,9 @@ ends m s t (state, dies) = record { after = record { state = state; machine = m.
 
 -- a thread has run out: its death is reported where a request passes, and it lives until its next step; else it ends
 abbrev pub death_by : {S : Type 0} → Meaning S → S → ℕ → HappeningMeaning → State → Option CompositeMeaning → Step S
-death_by m s t h state None = ends m s t (thread_ended t (seen h state))
+death_by m s t h state None = ends m s t (thread_ended t (with_happening h state))
 death_by m s t h state (Some c) = record {
-  after = record { state = with_packet (with_mark t (suspended_by c h.thread (seen h state))); machine = s };
+  after = record { state = with_packet (with_mark t (suspended_by c h.thread (with_happening h state))); machine = s };
   sends = Some c;
   ends = false;
   dies = false;
@@ -90,9 +90,9 @@ with_started (Some t) state = with_thread t state
 -- any other step
 abbrev pub report_by : {S : Type 0} → Meaning S → S → ℕ → HappeningMeaning → State → Option CompositeMeaning → Step S
 report_by m s t h state None =
-    record { after = record { state = with_started (started h) (seen h state); machine = m.stepped s t }; sends = None; ends = false; dies = false }
+    record { after = record { state = with_started (started h) (with_happening h state); machine = m.stepped s t }; sends = None; ends = false; dies = false }
 report_by m s t h state (Some c) = record {
-  after = record { state = with_packet (suspended_by c h.thread (with_started (started h) (seen h state))); machine = m.stepped s t };
+  after = record { state = with_packet (suspended_by c h.thread (with_started (started h) (with_happening h state))); machine = m.stepped s t };
   sends = Some c;
   ends = false;
   dies = false;

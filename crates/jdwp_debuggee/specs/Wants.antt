@@ -7,9 +7,9 @@ use Rattle.jdwp_event.specs.Modifiers.{ModifierMeaning}
 use Rattle.jdwp_machine.specs.declared.query.Query.{Query}
 use Rattle.jdwp_machine.specs.Laws.{takes_memory}
 use Rattle.jdwp_machine.specs.Meanings.{Meaning}
-use Rattle.jdwp_debuggee.specs.Actions
-use Rattle.jdwp_debuggee.specs.Actions.{Action}
-use Rattle.jdwp_debuggee.specs.CommandReads.{Asking}
+use Rattle.jdwp_action.specs.Actions
+use Rattle.jdwp_action.specs.Actions.{Action}
+use Rattle.jdwp_debuggee.specs.Askings.{Asking}
 use Rattle.jdwp_debuggee.specs.Refusals.{is_some_count, kind_refusal, modifiers_refusal, or_else, room_refusal, shape_refusal, unless}
 use Rattle.jdwp_debuggee.specs.Settings.{Settings}
 use Rattle.jdwp_debuggee.specs.State.{State, Moment, count_of}

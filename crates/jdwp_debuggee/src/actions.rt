@@ -1,6 +1,6 @@
 //! Commands that change the debuggee or ask it, each by its definition (JDWP specification, "Protocol Details").
 ghost use Rattle.std.specs.Prelude.{◌≡◌};
-ghost use Rattle.jdwp_debuggee.specs.Actions as action;
+ghost use Rattle.jdwp_action.specs.Actions as action;
 ghost use Rattle.jdwp_debuggee.specs.Debuggees.{CarriesOut};
 ghost use Rattle.jdwp_debuggee.specs.Replies.{reply_meaning};
 

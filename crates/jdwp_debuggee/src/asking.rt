@@ -1,38 +1,29 @@
 //! The commands that ask the machine or list the live threads, and StackFrame.SetValues (JDWP specification, "Protocol Details").
 ghost use Rattle.std.specs.Prelude.{◌≡◌, ℕ, ◌+◌, ◌≤◌, ◌∷◌, [], length, map, true, IfOk, IfErr, IsTrue, OnErr};
 ghost use Rattle.jdwp_wire.specs.Limits.{least_packet_limit};
-ghost use Rattle.jdwp_debuggee.specs.Actions as action;
-ghost use Rattle.jdwp_debuggee.specs.Actions.{Command};
+ghost use Rattle.jdwp_action.specs.Actions as action;
+ghost use Rattle.jdwp_action.specs.Actions.{Command};
 ghost use Rattle.jdwp_debuggee.specs.Answers.{all_threads, bounded, query_of};
 ghost use Rattle.jdwp_debuggee.specs.Debuggees.{CarriesOut};
 ghost use Rattle.jdwp_debuggee.specs.Effects.{does};
-ghost use Rattle.jdwp_debuggee.specs.ReadParts.{found_layout};
 ghost use Rattle.jdwp_debuggee.specs.Replies.{reply_meaning};
-ghost use Rattle.jdwp_debuggee.specs.Sending.{EncodesAnswer, IsSent, IsWritable, row_reply, sent_bytes};
+ghost use Rattle.jdwp_action.specs.AnswerPackets.{EncodesAnswer, IsWritable};
+ghost use Rattle.jdwp_debuggee.specs.Sending.{IsSent, sent_bytes};
 ghost use Rattle.jdwp_debuggee.specs.Wants.{is_live, is_suspended};
 ghost use Rattle.jdwp_layout.specs.CommandNumbers as commands;
-ghost use Rattle.jdwp_layout.specs.CommandTable.{row_at};
 ghost use Rattle.jdwp_layout.specs.Meanings.{Many, Object};
 ghost use Rattle.jdwp_machine.specs.Laws.{takes_memory};
 
 use crate::debuggee::Debuggee;
 use crate::reply::{Reply, Sent};
 use crate::settings::Settings;
+use jdwp_action::reply_layout;
 use jdwp_layout::numbers::{ALL_THREADS, VIRTUAL_MACHINE};
-use jdwp_layout::{Answer, Data, Datum, Layout, Scalar, layout_of, write};
+use jdwp_layout::{Answer, Data, Datum, Scalar, write};
 use jdwp_machine::{Machine, Query};
 use jdwp_value::{FrameId, ObjectId, Value};
 use jdwp_wire::{DataFault, ErrorCode, IdSizes, NoMemory};
 use std::alloc::Global;
-
-/// The layout of a command's reply, where its row has one.
-fn reply_layout(set: u8, number: u8) -> Option<Layout>
-    ensures { found_layout result ≡ row_reply (row_at set number) }
-{
-    let row = layout_of(set, number)?;
-    let layouts = row.layouts?;
-    Some(layouts.reply)
-}
 
 /// An answer to a command of this set and number, ready to be sent; `INTERNAL` where it is longer than a packet.
 ///

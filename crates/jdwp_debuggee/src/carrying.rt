@@ -1,12 +1,12 @@
 //! Commands are carried out, each by its action (JDWP specification, "Protocol Details").
 ghost use Rattle.std.specs.Prelude.{◌≡◌, true, false, IfOk, IfErr, OnErr, MatchOption};
-ghost use Rattle.jdwp_debuggee.specs.Actions.{Command, action_of};
-ghost use Rattle.jdwp_debuggee.specs.CommandReads.{action_meaning, asking, asking_of};
+ghost use Rattle.jdwp_action.specs.Actions.{Command, action_of, is_dispose, is_exit};
+ghost use Rattle.jdwp_debuggee.specs.Askings.{action_meaning, asking, asking_of};
 ghost use Rattle.jdwp_debuggee.specs.Debuggees.{CarriesOut};
 ghost use Rattle.jdwp_debuggee.specs.Effects.{carried};
-ghost use Rattle.jdwp_debuggee.specs.Facts.{is_dispose, is_exit};
 ghost use Rattle.jdwp_debuggee.specs.Replies.{reply_meaning};
-ghost use Rattle.jdwp_debuggee.specs.Sending.{Did, EncodesAnswer, is_question, is_short_action, sent_short};
+ghost use Rattle.jdwp_action.specs.AnswerPackets.{EncodesAnswer};
+ghost use Rattle.jdwp_debuggee.specs.Sending.{Did, is_question, is_short_action, sent_short};
 ghost use Rattle.jdwp_debuggee.specs.Wants.{MayWantFor};
 
 use crate::command::Action;

@@ -2,9 +2,10 @@
 ghost use Rattle.std.specs.Prelude.{◌≡◌, ◌==◌, ◌||◌, ◌∷◌, [], ◌++◌, List, IfOk, OnOk, Some, None, true, false};
 ghost use Rattle.std.specs.List.{filter_map};
 ghost use Rattle.jdwp_layout.specs.Meanings.{entry_meanings, scalar_meanings};
-ghost use Rattle.jdwp_debuggee.specs.Actions.{first_object};
-ghost use Rattle.jdwp_debuggee.specs.Actions as actions;
-ghost use Rattle.jdwp_debuggee.specs.CommandReads.{asking, asking_of, with_content};
+ghost use Rattle.jdwp_action.specs.Actions.{first_object};
+ghost use Rattle.jdwp_action.specs.Actions as actions;
+ghost use Rattle.jdwp_action.specs.CommandReads.{with_content};
+ghost use Rattle.jdwp_debuggee.specs.Askings.{asking, asking_of};
 ghost use Rattle.jdwp_debuggee.specs.ActionParts.{thread_asking, other_asking, slots_asking, set_asking, clear_asking};
 ghost use Rattle.jdwp_debuggee.specs.RefusalParts.{found_thread};
 
@@ -84,7 +85,7 @@ pub enum Action {
 
 /// What a command comes to, before it is carried out.
 #[derive(Drop)]
-pub enum Asked {
+pub enum ParsedCommand {
     /// An action.
     Carries(Action),
     /// It is refused: it is not implemented, or its data do not read.

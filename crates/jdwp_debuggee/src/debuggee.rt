@@ -4,11 +4,12 @@ ghost use Rattle.jdwp_event.specs.Composites.{vm_start};
 ghost use Rattle.jdwp_event.specs.Constants.{policy_byte};
 ghost use Rattle.jdwp_machine.specs.Meanings.{has, numbers};
 ghost use Rattle.jdwp_wire.specs.Numbers.{id_refusal};
-ghost use Rattle.jdwp_debuggee.specs.Debuggees.{with_state};
+ghost use Rattle.jdwp_debuggee.specs.Debuggees.{visiting, with_state};
 ghost use Rattle.jdwp_debuggee.specs.Sending.{FitsPacket};
 ghost use Rattle.jdwp_debuggee.specs.State as spec;
 ghost use Rattle.jdwp_debuggee.specs.StepParts.{policy_at_start};
 ghost use Rattle.jdwp_debuggee.specs.Steps.{handshaken, start_event};
+ghost use Rattle.jdwp_debuggee.specs.Visits.{visits_greeted};
 
 use crate::settings::Settings;
 use crate::steps::suspend_by;
@@ -22,7 +23,7 @@ use std::marker::Model;
 
 /// The debuggee behind a target: a machine, the suspend counts of its threads, and event requests.
 ///
-/// Contracts see what it was made with, and its moment: the state of the debuggee and that of the machine.
+/// Contracts see what it was made with, its moment, which is the state of the debuggee and that of the machine, and the visits.
 #[derive(Drop)]
 pub struct Debuggee<M: Machine> {
     pub(crate) settings: Settings,
@@ -55,6 +56,7 @@ impl<M: Machine> Model for Debuggee<M> {
         };
         machine = d.machine;
       };
+      visits = d.threads.visits;
     } };
 
     ghost invariant = { λ d. IsKept M.meaning (record {
@@ -71,6 +73,7 @@ impl<M: Machine> Model for Debuggee<M> {
         };
         machine = d.machine;
       };
+      visits = 0;
     }) };
 }
 
@@ -78,7 +81,7 @@ impl<M: Machine> Debuggee<M> {
     /// A debuggee before its first session: all threads of the machine run.
     ///
     /// # Errors
-    /// `NoMemory` where an allocation was refused.
+    /// `NoMemory` where an allocation was refused, and where more than 4,294,967,295 threads live.
     pub fn new(alloc: Global, machine: M, settings: Settings) -> Result<Debuggee<M>, NoMemory>
     where
         M: Drop,
@@ -90,6 +93,7 @@ impl<M: Machine> Debuggee<M> {
                     (M.meaning.live machine);
                 machine = machine;
               };
+              visits = 0;
             }) }
     {
         let threads = Threads::new(alloc, machine.live())?;
@@ -122,6 +126,14 @@ impl<M: Machine> Debuggee<M> {
         ensures { result ≡ self.now.moment.state.alive }
     {
         self.alive
+    }
+
+    /// How many threads the last of these visited that was not refused, 0 before the first: Suspend and Resume of all threads, and an
+    /// event whose policy suspends all. They are exactly the threads that it turned, from running to suspended or the other way round.
+    pub fn visits(&self) -> u32
+        ensures { result ≡ self.now.visits }
+    {
+        self.threads.visits()
     }
 
     /// The id of the target's next packet.
@@ -180,7 +192,8 @@ impl<M: Machine> Debuggee<M> {
         ensures first { IsSome result ↔ self.old.moment.state.handshaken ≡ false }
         ensures later { IfNone result (self.new ≡ self.old) }
         ensures state { OnSome result (self.new
-            ≡ with_state (handshaken self.old.settings self.old.moment.state) self.old) }
+            ≡ visiting (visits_greeted self.old.settings self.old.moment.state self.old.visits)
+            (with_state (handshaken self.old.settings self.old.moment.state) self.old)) }
         ensures says { IfSome result (λ start. vm_start (policy_byte start.policy) start.thread.0
             ≡ start_event self.old.settings self.old.moment.state) }
         ensures packet { IfSome result (λ start. start.packet ≡ self.old.moment.state.next_packet) }

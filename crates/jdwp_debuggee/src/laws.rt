@@ -3,10 +3,11 @@ ghost use Rattle.std.specs.Prelude.{◌≡◌, ◌≢◌, ◌≤◌, ℕ, List, 
 ghost use Rattle.jdwp_machine.specs.Meanings.{Meaning};
 ghost use Rattle.jdwp_debuggee.specs.Settings.{Settings};
 ghost use Rattle.jdwp_debuggee.specs.State.{Moment, State};
-ghost use Rattle.jdwp_debuggee.specs.Actions.{Command, action_of, IdSizes, SetRequest};
+ghost use Rattle.jdwp_action.specs.Actions.{Command, action_of, IdSizes, SetRequest};
 ghost use Rattle.jdwp_debuggee.specs.Effects.{effect};
 ghost use Rattle.jdwp_debuggee.specs.Breadth.{is_plain, keeps_machine};
-ghost use Rattle.jdwp_debuggee.specs.Answers.{IsLeastThread, least_thread, sizes_answer};
+ghost use Rattle.jdwp_action.specs.AnswerPackets.{sizes_answer};
+ghost use Rattle.jdwp_debuggee.specs.Answers.{IsLeastThread, least_thread};
 ghost use Rattle.jdwp_debuggee.specs.Facts.{Facts, is_data};
 ghost use Rattle.jdwp_debuggee.specs.Reports.{HavePolicies, IsReport};
 ghost use Rattle.jdwp_debuggee.specs.Sending.{FitsPacket};

@@ -17,7 +17,7 @@ mod settings;
 mod steps;
 mod threads;
 
-pub use command::{Action, Asked};
+pub use command::{Action, ParsedCommand};
 pub use debuggee::{Debuggee, Start};
 pub use laws::{
     accepts_the_three_policies, answers_id_sizes, changes_machine_at_exit_and_slots, fits_vm_death,

@@ -6,12 +6,14 @@ ghost use Rattle.jdwp_wire.specs.declared.data_fault.DataFault.{DataFault};
 ghost use Rattle.jdwp_wire.specs.declared.data_fault.DataFault.TheVariants.{NoMemory as WantOfMemory};
 ghost use Rattle.jdwp_wire.specs.Reading.{Fails};
 ghost use Rattle.jdwp_layout.specs.Meanings.{DatumMeaning};
-ghost use Rattle.jdwp_debuggee.specs.CommandReads.{action_meaning, asked_meaning, asking, asks, command_read, content_read, is_short};
-ghost use Rattle.jdwp_debuggee.specs.ReadParts.{IsBare, clear_asks, found_layout, implemented_request, object_alone};
+ghost use Rattle.jdwp_action.specs.CommandReads.{command_read, content_read};
+ghost use Rattle.jdwp_debuggee.specs.Askings.{action_meaning, asked_meaning, asking, asks, is_short};
+ghost use Rattle.jdwp_action.specs.RowLayouts.{found_layout};
+ghost use Rattle.jdwp_debuggee.specs.ReadParts.{IsBare, clear_asks, implemented_request, object_alone};
 ghost use Rattle.jdwp_debuggee.specs.RefusalParts.{found_thread};
 ghost use Rattle.jdwp_debuggee.specs.Sending.{is_short_action, is_short_asked};
 
-use crate::command::{Action, Asked};
+use crate::command::{Action, ParsedCommand};
 use jdwp_layout::numbers::{
     CLEAR_ALL_BREAKPOINTS, CLEAR_REQUEST, DISPOSE, EVENT, EVENT_REQUEST, HOLD_EVENTS, ID_SIZES,
     RELEASE_EVENTS, RESUME, RESUME_THREAD, SUSPEND, SUSPEND_COUNT, SUSPEND_THREAD,
@@ -23,7 +25,7 @@ use jdwp_wire::{DataFault, ErrorCode, IdSizes, NoMemory, Wire};
 use std::alloc::Global;
 
 /// What a command comes to that carries nothing.
-fn bare(set: u8, number: u8, action: Action, bytes: &[u8]) -> Asked
+fn bare(set: u8, number: u8, action: Action, bytes: &[u8]) -> ParsedCommand
     requires bare { IsBare (asking action) set number }
     requires short { is_short_action (action_meaning action) ≡ true }
     ensures value { (w : Widths) → asked_meaning result
@@ -31,9 +33,9 @@ fn bare(set: u8, number: u8, action: Action, bytes: &[u8]) -> Asked
     ensures short { is_short_asked (asked_meaning result) ≡ true }
 {
     if bytes.is_empty() {
-        Asked::Carries(action)
+        ParsedCommand::Carries(action)
     } else {
-        Asked::Refuses(ErrorCode::ILLEGAL_ARGUMENT)
+        ParsedCommand::Refuses(ErrorCode::ILLEGAL_ARGUMENT)
     }
 }
 
@@ -48,7 +50,7 @@ fn object(alloc: Global, sizes: &IdSizes, bytes: &[u8]) -> Option<ObjectId>
 }
 
 /// What a command of ThreadReference comes to that carries a thread alone.
-fn read_of_thread(alloc: Global, number: u8, sizes: &IdSizes, bytes: &[u8]) -> Option<Asked>
+fn read_of_thread(alloc: Global, number: u8, sizes: &IdSizes, bytes: &[u8]) -> Option<ParsedCommand>
     ensures value { MatchOption result (is_short 11 number ≡ false) (λ asked.
         (is_short 11 number ≡ true)
         × (asked_meaning asked ≡ asks (command_read sizes.now 11 number bytes.now))) }
@@ -56,12 +58,14 @@ fn read_of_thread(alloc: Global, number: u8, sizes: &IdSizes, bytes: &[u8]) -> O
 {
     let thread = object(alloc, sizes, bytes);
     match (number, thread) {
-        (SUSPEND_THREAD, Some(thread)) => Some(Asked::Carries(Action::SuspendThread(thread))),
-        (RESUME_THREAD, Some(thread)) => Some(Asked::Carries(Action::ResumeThread(thread))),
-        (THREAD_STATUS, Some(thread)) => Some(Asked::Carries(Action::ThreadStatus(thread))),
-        (SUSPEND_COUNT, Some(thread)) => Some(Asked::Carries(Action::SuspendCount(thread))),
+        (SUSPEND_THREAD, Some(thread)) => Some(ParsedCommand::Carries(Action::SuspendThread(
+            thread,
+        ))),
+        (RESUME_THREAD, Some(thread)) => Some(ParsedCommand::Carries(Action::ResumeThread(thread))),
+        (THREAD_STATUS, Some(thread)) => Some(ParsedCommand::Carries(Action::ThreadStatus(thread))),
+        (SUSPEND_COUNT, Some(thread)) => Some(ParsedCommand::Carries(Action::SuspendCount(thread))),
         (SUSPEND_THREAD | RESUME_THREAD | THREAD_STATUS | SUSPEND_COUNT, None) => {
-            Some(Asked::Refuses(ErrorCode::ILLEGAL_ARGUMENT))
+            Some(ParsedCommand::Refuses(ErrorCode::ILLEGAL_ARGUMENT))
         }
         _ => None,
     }
@@ -80,18 +84,24 @@ fn take_clear(alloc: Global, sizes: &IdSizes, bytes: &[u8]) -> Result<(u8, i32),
 }
 
 /// What an EventRequest.Clear comes to.
-fn read_clear(alloc: Global, sizes: &IdSizes, bytes: &[u8]) -> Asked
+fn read_clear(alloc: Global, sizes: &IdSizes, bytes: &[u8]) -> ParsedCommand
     ensures short { is_short_asked (asked_meaning result) ≡ true }
     ensures value { asked_meaning result ≡ asks (command_read sizes.now 15 2 bytes.now) }
 {
     match take_clear(alloc, sizes, bytes) {
-        Ok((kind, id)) => Asked::Carries(Action::ClearRequest { kind, id }),
-        Err(_) => Asked::Refuses(ErrorCode::ILLEGAL_ARGUMENT),
+        Ok((kind, id)) => ParsedCommand::Carries(Action::ClearRequest { kind, id }),
+        Err(_) => ParsedCommand::Refuses(ErrorCode::ILLEGAL_ARGUMENT),
     }
 }
 
 /// What a command comes to that is read without memory; None where it is none of those.
-fn read_short(alloc: Global, set: u8, number: u8, sizes: &IdSizes, bytes: &[u8]) -> Option<Asked>
+fn read_short(
+    alloc: Global,
+    set: u8,
+    number: u8,
+    sizes: &IdSizes,
+    bytes: &[u8],
+) -> Option<ParsedCommand>
     ensures value { MatchOption result (is_short set number ≡ false) (λ asked.
         (is_short set number ≡ true)
         × (asked_meaning asked ≡ asks (command_read sizes.now set number bytes.now))) }
@@ -119,7 +129,7 @@ fn read_short(alloc: Global, set: u8, number: u8, sizes: &IdSizes, bytes: &[u8])
 ///
 /// # Errors
 /// `NoMemory` where that is the fault.
-fn refused(fault: DataFault) -> Result<Asked, NoMemory>
+fn refused(fault: DataFault) -> Result<ParsedCommand, NoMemory>
     ensures memory { IfErr result (λ _. fault ≡ WantOfMemory) }
     ensures value { (set number : ℕ) (found : Result (List DatumMeaning) DataFault)
         → Fails fault found → IfOk result (λ asked. asked_meaning asked
@@ -133,7 +143,7 @@ fn refused(fault: DataFault) -> Result<Asked, NoMemory>
         | DataFault::NegativeCount
         | DataFault::NotUtf8
         | DataFault::BadSize
-        | DataFault::IdTooWide => Ok(Asked::Refuses(ErrorCode::ILLEGAL_ARGUMENT)),
+        | DataFault::IdTooWide => Ok(ParsedCommand::Refuses(ErrorCode::ILLEGAL_ARGUMENT)),
     }
 }
 
@@ -165,7 +175,7 @@ pub fn read_command(
     number: u8,
     sizes: &IdSizes,
     bytes: &[u8],
-) -> Result<Asked, NoMemory>
+) -> Result<ParsedCommand, NoMemory>
     ensures value { IfOk result (λ asked. asked_meaning asked
         ≡ asks (command_read sizes.now set number bytes.now)) }
     ensures short { IfOk result (λ asked. is_short set number ≡ true
@@ -177,12 +187,12 @@ pub fn read_command(
         return Ok(asked);
     }
     let Some(layout) = request_of(set, number) else {
-        return Ok(Asked::Refuses(ErrorCode::NOT_IMPLEMENTED));
+        return Ok(ParsedCommand::Refuses(ErrorCode::NOT_IMPLEMENTED));
     };
     match read(alloc, &layout, sizes, bytes) {
         Ok(items) => {
             let action = Action::of_command(alloc, set, number, Data::new(items))?;
-            Ok(Asked::Carries(action))
+            Ok(ParsedCommand::Carries(action))
         }
         Err(fault) => refused(fault),
     }

@@ -4,7 +4,7 @@ ghost use Rattle.jdwp_event.specs.Modifiers.{modifiers_of};
 ghost use Rattle.jdwp_event.specs.RequestParts.{modifiers_meaning};
 ghost use Rattle.jdwp_layout.specs.Meanings.{ScalarMeaning, entry_meanings};
 ghost use Rattle.jdwp_machine.specs.Meanings.{numbers};
-ghost use Rattle.jdwp_debuggee.specs.Actions as action;
+ghost use Rattle.jdwp_action.specs.Actions as action;
 ghost use Rattle.jdwp_debuggee.specs.Debuggees.{CarriesOut};
 ghost use Rattle.jdwp_debuggee.specs.Effects.{all_ended};
 ghost use Rattle.jdwp_debuggee.specs.Refusals.{set_refusal};

@@ -9,7 +9,8 @@ ghost use Rattle.jdwp_machine.specs.Meanings.{has};
 ghost use Rattle.jdwp_debuggee.specs.Entries.{AllAtMost};
 ghost use Rattle.jdwp_debuggee.specs.State.{changed, is_marked, is_other};
 ghost use Rattle.jdwp_debuggee.specs.Steps.{may_step, raised_by};
-ghost use Rattle.jdwp_debuggee.specs.StepParts.{HasRoom, SendFits, Steps, StepsOrNot, is_full_by, is_ready, number_of, packet_after, raised_for, unless_last, with_new};
+ghost use Rattle.jdwp_debuggee.specs.Visits.{visits_at, visits_for};
+ghost use Rattle.jdwp_debuggee.specs.StepParts.{AreFew, HasRoom, SendFits, Steps, StepsOrNot, is_full_by, is_ready, number_of, packet_after, raised_for, unless_last, with_new};
 
 use crate::debuggee::Debuggee;
 use crate::threads::Threads;
@@ -43,6 +44,7 @@ fn thread_started(happening: &Happening) -> Option<ObjectId>
 /// Makes room for a thread that starts.
 fn make_room(threads: &mut Threads, started: Option<ObjectId>) -> Result<(), NoMemory>
     ensures same { threads.new.list ≡ threads.old.list }
+    ensures visits { threads.new.visits ≡ threads.old.visits }
     ensures room { OnOk result (HasRoom (number_of started) threads.new) }
 {
     match started {
@@ -53,8 +55,10 @@ fn make_room(threads: &mut Threads, started: Option<ObjectId>) -> Result<(), NoM
 
 /// Adds a thread that starts, for which there is room.
 fn add_started(threads: &mut Threads, started: Option<ObjectId>)
-    requires { HasRoom (number_of started) threads.old }
-    ensures { threads.new.list ≡ with_new (number_of started) threads.old.list }
+    requires room { HasRoom (number_of started) threads.old }
+    requires few { AreFew (number_of started) threads.old.list }
+    ensures list { threads.new.list ≡ with_new (number_of started) threads.old.list }
+    ensures visits { threads.new.visits ≡ threads.old.visits }
 {
     if let Some(thread) = started {
         threads.add(thread);
@@ -64,7 +68,9 @@ fn add_started(threads: &mut Threads, started: Option<ObjectId>)
 /// Suspends the threads that the policy of this byte suspends, where the event is of this thread.
 pub(crate) fn suspend_by(threads: &mut Threads, policy: u8, event_thread: ObjectId)
     requires { AllAtMost greatest_int threads.old.list }
-    ensures { threads.new.list ≡ changed (raised_by policy event_thread.0) threads.old.list }
+    ensures list { threads.new.list ≡ changed (raised_by policy event_thread.0) threads.old.list }
+    ensures visits { threads.new.visits
+        ≡ visits_at policy threads.old.list threads.new.list threads.old.visits }
 {
     if policy == Policy::All.byte() {
         threads.raise_all();
@@ -76,7 +82,9 @@ pub(crate) fn suspend_by(threads: &mut Threads, policy: u8, event_thread: Object
 /// Suspends the threads that the policy of what is sent suspends.
 fn suspend_for(threads: &mut Threads, sends: &Option<Composite>, event_thread: ObjectId)
     requires { AllAtMost greatest_int threads.old.list }
-    ensures { threads.new.list ≡ raised_for sends.now event_thread.0 threads.old.list }
+    ensures list { threads.new.list ≡ raised_for sends.now event_thread.0 threads.old.list }
+    ensures visits { threads.new.visits
+        ≡ visits_for sends.now threads.old.list threads.new.list threads.old.visits }
 {
     if let Some(composite) = sends {
         suspend_by(threads, composite.policy(), event_thread);
@@ -103,6 +111,7 @@ fn end_thread<M: Machine>(
     requires { has (M.meaning.live machine.old) thread.0 ≡ true }
     ensures machine { machine.new ≡ M.meaning.ended machine.old thread.0 }
     ensures threads { threads.new.list ≡ filter (is_other thread.0) threads.old.list }
+    ensures visits { threads.new.visits ≡ threads.old.visits }
     ensures last { result ≡ (length threads.new.list == 0) }
     ensures requests { requests.new ≡ unless_last result requests.old }
 {
@@ -269,6 +278,7 @@ impl<M: Machine> Debuggee<M> {
         ensures err { OnErr result (self.new ≡ self.old) }
     {
         let started = thread_started(happening);
+        let _live = self.settings.limits().live();
         make_room(&mut self.threads, started)?;
         self.machine.step(thread)?;
         add_started(&mut self.threads, started);

@@ -1,107 +1,109 @@
 //! The live threads and their suspend counts.
 ghost use Rattle.jdwp_wire.specs.Numbers.{greatest_int};
-ghost use Rattle.std.specs.Prelude.{◌≡◌, ◌≤◌, ◌<◌, ◌++◌, ◌∷◌, [], map, length, false, OnOk, IfOk};
+ghost use Rattle.std.specs.Prelude.{◌≡◌, ◌≤◌, ◌<◌, ◌+◌, ◌^◌, ◌++◌, ◌∷◌, [], map, length, false, OnOk, IfOk};
 ghost use Rattle.std.specs.List.{filter};
 ghost use Rattle.jdwp_machine.specs.Meanings.{numbers};
-ghost use Rattle.jdwp_debuggee.specs.Entries.{AllAtMost, all_marked, change_of, greatest_above, least_of, map_thread, recounted, stands_at, threads_of};
+ghost use Rattle.jdwp_debuggee.specs.Entries.{AllAtMost, all_marked, ids_of, least_of, place_from, stands_at, threads_of};
 ghost use Rattle.jdwp_debuggee.specs.State as spec;
 ghost use Rattle.jdwp_debuggee.specs.State.{changed, cleared, is_marked_by, is_other, lowered, marked, only, raised, running, thread_in};
 ghost use Rattle.jdwp_debuggee.specs.Refusals.{is_some_count};
 ghost use Rattle.jdwp_debuggee.specs.Answers.{first_of, rising};
 ghost use Rattle.jdwp_debuggee.specs.Sending.{place_in};
+ghost use Rattle.jdwp_debuggee.specs.Visits.{turned};
 
 use jdwp_value::ObjectId;
 use jdwp_wire::NoMemory;
+use levels::Counts;
 use std::alloc::Global;
 use std::marker::Model;
 
-/// A live thread with its suspend count, and whether its death was reported.
+/// The most threads that there may be: visits are counted in 32 bits.
+const MOST_THREADS: usize = 4_294_967_295;
+
+/// A live thread, and whether its death was reported.
 #[derive(Clone, Copy)]
 struct ThreadEntry {
     id: ObjectId,
-    suspend_count: u32,
     death_reported: bool,
 }
 
-/// A change of the suspend counts of all live threads, or of one.
-#[derive(Clone, Copy)]
-enum Change {
-    /// Each rises by one.
-    Raise,
-    /// Each that is positive falls by one.
-    Lower,
-    /// Each is 0.
-    Clear,
-    /// This thread's rises by one.
-    RaiseOne(ObjectId),
-    /// This thread's falls by one, if it is positive.
-    LowerOne(ObjectId),
-}
-
-impl Change {
-    /// The count of this thread after the change.
-    fn apply(self, thread: ObjectId, count: u32) -> u32
-        requires { count ≤ greatest_int }
-        ensures { result ≡ change_of self thread.0 count }
-    {
-        match self {
-            Change::Raise => count + 1,
-            Change::Lower => count.saturating_sub(1),
-            Change::Clear => 0,
-            Change::RaiseOne(one) if one.0 == thread.0 => count + 1,
-            Change::LowerOne(one) if one.0 == thread.0 => count.saturating_sub(1),
-            _ => count,
-        }
-    }
-}
-
-/// The live threads.
+/// The live threads and their suspend counts.
 #[derive(Drop)]
 pub(crate) struct Threads {
     entries: Vec<ThreadEntry>,
+    /// The suspend counts of the entries, by their places.
+    counts: Counts,
 }
 
 impl Model for Threads {
-    ghost use Rattle.std.specs.Prelude.{vec_capacity};
+    ghost use Rattle.std.specs.Prelude.{◌≡◌, length, min, vec_capacity};
     ghost use Rattle.jdwp_debuggee.specs.Entries.{LiveThreads, threads_of};
 
     ghost Value = { LiveThreads };
 
-    ghost view = { λ t. record { list = threads_of t.entries.items; capacity = vec_capacity t.entries } };
+    ghost view = { λ t. record {
+      list = threads_of t.entries.items t.counts.counts;
+      visits = t.counts.visits;
+      capacity = min (vec_capacity t.entries) t.counts.capacity;
+    } };
+
+    ghost invariant = { λ t. length t.counts.counts ≡ length t.entries.items };
 }
 
-/// The entry of a thread, or None where it is not alive.
-fn find(entries: &[ThreadEntry], thread: ObjectId) -> Option<ThreadEntry>
-    ensures { map_thread result ≡ thread_in (threads_of entries.now) thread.0 }
+/// The place of a thread, or None where it is not alive.
+fn find(entries: &[ThreadEntry], thread: ObjectId) -> Option<usize>
+    ensures { result ≡ place_from 0 thread.0 entries.now }
 {
-    for entry in entries {
+    for (place, entry) in entries.iter().enumerate() {
         if entry.id.0 == thread.0 {
-            return Some(*entry);
+            return Some(place);
         }
     }
     None
 }
 
-/// The greatest suspend count of the entries; 0 where there is none.
-fn greatest_of(entries: &[ThreadEntry]) -> u32
-    ensures { result ≡ greatest_above 0 (threads_of entries.now) }
+/// One thread's suspend count rises by one.
+fn raise_one(entries: &[ThreadEntry], counts: &mut Counts, thread: ObjectId)
+    requires same { length counts.old.counts ≡ length entries.now }
+    requires most { AllAtMost greatest_int (threads_of entries.now counts.old.counts) }
+    ensures same { length counts.new.counts ≡ length counts.old.counts }
+    ensures list { threads_of entries.now counts.new.counts
+        ≡ changed (only thread.0 raised) (threads_of entries.now counts.old.counts) }
+    ensures visits { counts.new.visits ≡ counts.old.visits }
 {
-    let mut greatest = 0;
-    for entry in entries {
-        if greatest < entry.suspend_count {
-            greatest = entry.suspend_count;
+    for (place, entry) in entries.iter().enumerate() {
+        if thread.0 == entry.id.0 {
+            counts.raise_one(place);
         }
     }
-    greatest
 }
 
-/// Changes the suspend counts.
-fn change_counts(entries: &mut [ThreadEntry], change: Change)
-    requires { AllAtMost greatest_int (threads_of entries.old) }
-    ensures { entries.new ≡ recounted (change_of change) entries.old }
+/// One thread's suspend count falls by one, if it is positive.
+fn lower_one(entries: &[ThreadEntry], counts: &mut Counts, thread: ObjectId)
+    requires { length counts.old.counts ≡ length entries.now }
+    ensures same { length counts.new.counts ≡ length counts.old.counts }
+    ensures list { threads_of entries.now counts.new.counts
+        ≡ changed (only thread.0 lowered) (threads_of entries.now counts.old.counts) }
+    ensures visits { counts.new.visits ≡ counts.old.visits }
 {
-    for entry in entries.iter_mut() {
-        entry.suspend_count = change.apply(entry.id, entry.suspend_count);
+    for (place, entry) in entries.iter().enumerate() {
+        if thread.0 == entry.id.0 {
+            counts.lower_one(place);
+        }
+    }
+}
+
+/// Takes a thread out of the entries, and its count out of the counts.
+fn remove_one(entries: &mut Vec<ThreadEntry>, counts: &mut Counts, thread: ObjectId)
+    requires { length counts.old.counts ≡ length entries.old.items }
+    ensures same { length counts.new.counts ≡ length entries.new.items }
+    ensures list { threads_of entries.new.items counts.new.counts
+        ≡ filter (is_other thread.0) (threads_of entries.old.items counts.old.counts) }
+    ensures visits { counts.new.visits ≡ counts.old.visits }
+{
+    while let Some(place) = find(entries, thread) {
+        let _ = entries.remove(place);
+        counts.remove(place);
     }
 }
 
@@ -118,7 +120,7 @@ fn mark_one(entries: &mut [ThreadEntry], thread: ObjectId)
 
 /// The least of this id and those of the entries.
 fn least_from(id: u64, entries: &[ThreadEntry]) -> u64
-    ensures { result ≡ least_of id (threads_of entries.now) }
+    ensures { result ≡ least_of id (ids_of entries.now) }
 {
     let mut least = id;
     for entry in entries {
@@ -144,7 +146,7 @@ fn place_for(ids: &[u64], id: u64) -> usize
 
 /// The ids of the entries, by rising id: each is put at its place, from the last one on.
 fn rising_ids(alloc: Global, entries: &[ThreadEntry]) -> Result<Vec<u64>, NoMemory>
-    ensures { IfOk result (λ ids. ids.items ≡ rising (spec.ids (threads_of entries.now))) }
+    ensures { IfOk result (λ ids. ids.items ≡ rising (ids_of entries.now)) }
 {
     let [first, others @ ..] = entries else {
         return Ok(Vec::new(alloc));
@@ -159,19 +161,23 @@ impl Threads {
     /// These threads, which all run.
     ///
     /// # Errors
-    /// `NoMemory` where an allocation was refused.
+    /// `NoMemory` where an allocation was refused, and where there are more than 4,294,967,295 of them.
     pub(crate) fn new(alloc: Global, live: &[ObjectId]) -> Result<Threads, NoMemory>
-        ensures { IfOk result (λ threads. threads.list ≡ running (numbers live.now)) }
+        ensures list { IfOk result (λ threads. threads.list ≡ running (numbers live.now)) }
+        ensures visits { IfOk result (λ threads. threads.visits ≡ 0) }
     {
+        if live.len() > MOST_THREADS {
+            return Err(NoMemory);
+        }
         let mut entries = Vec::with_capacity(alloc, live.len())?;
         for id in live {
             entries.push(ThreadEntry {
                 id: *id,
-                suspend_count: 0,
                 death_reported: false,
             })?;
         }
-        Ok(Threads { entries })
+        let counts = Counts::new(alloc, live.len())?;
+        Ok(Threads { entries, counts })
     }
 
     /// How many there are.
@@ -186,7 +192,7 @@ impl Threads {
         ensures { result ≡ spec.count_in self.now.list thread.0 }
     {
         match find(&self.entries, thread) {
-            Some(entry) => Some(entry.suspend_count),
+            Some(place) => Some(self.counts.count(place)),
             None => None,
         }
     }
@@ -203,25 +209,25 @@ impl Threads {
         ensures { result ≡ is_marked_by (thread_in self.now.list thread.0) }
     {
         match find(&self.entries, thread) {
-            Some(entry) => entry.death_reported,
+            Some(place) => self.entries[place].death_reported,
             None => false,
         }
     }
 
-    /// The greatest suspend count of a live thread; 0 where none lives.
-    pub(crate) fn greatest(&self) -> u32
-        ensures { result ≡ greatest_above 0 self.now.list }
+    /// How many of them the last move of all counts visited, 0 before the first.
+    pub(crate) fn visits(&self) -> u32
+        ensures { result ≡ self.now.visits }
     {
-        greatest_of(&self.entries)
+        self.counts.visits()
     }
 
-    /// Whether a live thread stands at this limit, above which no suspend count is: one does where the greatest does.
+    /// Whether a live thread stands at this limit, above which no suspend count is.
     pub(crate) fn stands_at(&self, limit: u32) -> bool
         requires within { AllAtMost limit self.now.list }
         requires positive { 1 ≤ limit }
         ensures { result ≡ stands_at limit self.now.list }
     {
-        self.greatest() == limit
+        self.counts.is_at_limit(limit)
     }
 
     /// The live thread of least id; 0 where none lives.
@@ -244,57 +250,52 @@ impl Threads {
         rising_ids(alloc, &self.entries)
     }
 
-    /// Each thread's suspend count rises by one.
+    /// Each thread's suspend count rises by one. It visits those that ran.
     pub(crate) fn raise_all(&mut self)
         requires { AllAtMost greatest_int self.old.list }
-        ensures { self.new.list ≡ changed raised self.old.list }
+        ensures list { self.new.list ≡ changed raised self.old.list }
+        ensures visits { self.new.visits ≡ turned self.old.list self.new.list }
     {
-        self.change(Change::Raise);
+        self.counts.raise_all();
     }
 
-    /// Each thread's suspend count falls by one, if it is positive.
+    /// Each thread's suspend count falls by one, if it is positive. It visits those that run then.
     pub(crate) fn lower_all(&mut self)
-        requires { AllAtMost greatest_int self.old.list }
-        ensures { self.new.list ≡ changed lowered self.old.list }
+        ensures list { self.new.list ≡ changed lowered self.old.list }
+        ensures visits { self.new.visits ≡ turned self.old.list self.new.list }
     {
-        self.change(Change::Lower);
+        self.counts.lower_all();
     }
 
-    /// Each thread's suspend count is 0.
+    /// Each thread's suspend count is 0; the visits stay.
     pub(crate) fn clear_counts(&mut self)
-        requires { AllAtMost greatest_int self.old.list }
-        ensures { self.new.list ≡ changed cleared self.old.list }
+        ensures list { self.new.list ≡ changed cleared self.old.list }
+        ensures visits { self.new.visits ≡ self.old.visits }
     {
-        self.change(Change::Clear);
+        self.counts.clear();
     }
 
-    /// One thread's suspend count rises by one.
+    /// One thread's suspend count rises by one; the visits stay.
     pub(crate) fn raise(&mut self, thread: ObjectId)
         requires { AllAtMost greatest_int self.old.list }
-        ensures { self.new.list ≡ changed (only thread.0 raised) self.old.list }
+        ensures list { self.new.list ≡ changed (only thread.0 raised) self.old.list }
+        ensures visits { self.new.visits ≡ self.old.visits }
     {
-        self.change(Change::RaiseOne(thread));
+        raise_one(&self.entries, &mut self.counts, thread);
     }
 
-    /// One thread's suspend count falls by one, if it is positive.
+    /// One thread's suspend count falls by one, if it is positive; the visits stay.
     pub(crate) fn lower(&mut self, thread: ObjectId)
-        requires { AllAtMost greatest_int self.old.list }
-        ensures { self.new.list ≡ changed (only thread.0 lowered) self.old.list }
+        ensures list { self.new.list ≡ changed (only thread.0 lowered) self.old.list }
+        ensures visits { self.new.visits ≡ self.old.visits }
     {
-        self.change(Change::LowerOne(thread));
-    }
-
-    /// Changes the suspend counts.
-    fn change(&mut self, change: Change)
-        requires { AllAtMost greatest_int self.old.list }
-        ensures { self.new.list ≡ changed (change_of change) self.old.list }
-    {
-        change_counts(self.entries.as_mut_slice(), change);
+        lower_one(&self.entries, &mut self.counts, thread);
     }
 
     /// Marks a thread's death as reported.
     pub(crate) fn mark(&mut self, thread: ObjectId)
-        ensures { self.new.list ≡ map (marked thread.0) self.old.list }
+        ensures list { self.new.list ≡ map (marked thread.0) self.old.list }
+        ensures visits { self.new.visits ≡ self.old.visits }
     {
         mark_one(self.entries.as_mut_slice(), thread);
     }
@@ -305,35 +306,43 @@ impl Threads {
     /// `NoMemory` where an allocation was refused.
     pub(crate) fn make_room(&mut self) -> Result<(), NoMemory>
         ensures same { self.new.list ≡ self.old.list }
+        ensures visits { self.new.visits ≡ self.old.visits }
         ensures room { OnOk result (length self.new.list < self.new.capacity) }
     {
         self.entries.reserve(1)?;
+        self.counts.make_room()?;
         Ok(())
     }
 
     /// Adds a thread at the end, for which there is room; it is not suspended.
     pub(crate) fn add(&mut self, thread: ObjectId)
-        requires { length self.old.list < self.old.capacity }
-        ensures { self.new.list ≡ self.old.list ++ record { id = thread.0; suspend_count = 0; death_reported = false } ∷ [] }
+        requires room { length self.old.list < self.old.capacity }
+        requires few { length self.old.list + 1 < 2 ^ 32 }
+        ensures list { self.new.list ≡ self.old.list
+            ++ record { id = thread.0; suspend_count = 0; death_reported = false } ∷ [] }
+        ensures visits { self.new.visits ≡ self.old.visits }
     {
         self.entries.push_reserved(ThreadEntry {
             id: thread,
-            suspend_count: 0,
             death_reported: false,
         });
+        self.counts.add();
     }
 
     /// Removes a thread.
     pub(crate) fn remove(&mut self, thread: ObjectId)
-        ensures { self.new.list ≡ filter (is_other thread.0) self.old.list }
+        ensures list { self.new.list ≡ filter (is_other thread.0) self.old.list }
+        ensures visits { self.new.visits ≡ self.old.visits }
     {
-        self.entries.retain(|entry| entry.id.0 != thread.0);
+        remove_one(&mut self.entries, &mut self.counts, thread);
     }
 
     /// Removes all of them.
     pub(crate) fn clear(&mut self)
-        ensures { self.new.list ≡ [] }
+        ensures list { self.new.list ≡ [] }
+        ensures visits { self.new.visits ≡ self.old.visits }
     {
         self.entries.clear();
+        self.counts.remove_all();
     }
 }

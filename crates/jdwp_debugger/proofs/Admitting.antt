@@ -6,11 +6,11 @@ use Rattle.jdwp_wire.specs.Widths.{Widths}
 use Rattle.jdwp_end.specs.declared.phase.Phase.{Phase}
 use Rattle.jdwp_end.specs.declared.phase.Phase.TheVariants as phase
 use Rattle.jdwp_end.specs.Ends.{is_open, is_open_phase, is_paused}
-use Rattle.jdwp_debuggee.specs.Actions.{Command}
+use Rattle.jdwp_action.specs.Actions.{Command}
 use Rattle.jdwp_debugger.specs.declared.asking.Body.{Body}
 use Rattle.jdwp_debugger.specs.declared.asking.Refused.TheVariants.{Closed}
 use Rattle.jdwp_debugger.specs.Debuggers.{Begins, Debugger}
-use Rattle.jdwp_debuggee.specs.CommandPackets.{carried_bytes, is_for_target, packet_length}
+use Rattle.jdwp_action.specs.CommandPackets.{carried_bytes, is_for_target, packet_length}
 use Rattle.jdwp_mirror.specs.Messages.{LAST_TICKET}
 use Rattle.jdwp_debugger.specs.Asking.{EncodesBody, EncodesCommand, IsAdmitted, body_bytes, is_busy, refusal_by, refusal_of_ask}
 

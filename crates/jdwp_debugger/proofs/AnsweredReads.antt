@@ -9,8 +9,9 @@ use Rattle.jdwp_layout.specs.CommandTable.{row_at}
 use Rattle.jdwp_layout.specs.Meanings.{DatumMeaning}
 use Rattle.jdwp_layout.specs.Shapes.{ItemShape}
 use Rattle.jdwp_layout.specs.Writes.{data_canonical}
-use Rattle.jdwp_debuggee.specs.Actions.{Command}
-use Rattle.jdwp_debuggee.specs.Sending.{EncodesReply, EncodesAnswer, answer_bytes, error_of, row_reply}
+use Rattle.jdwp_action.specs.Actions.{Command}
+use Rattle.jdwp_action.specs.AnswerPackets.{EncodesReply, EncodesAnswer, answer_bytes, error_of}
+use Rattle.jdwp_action.specs.RowLayouts.{row_reply}
 use Rattle.jdwp_debugger.specs.News.{answer_in, data_by}
 use Rattle.jdwp_debugger.proofs.EncodedReads.{ReadsEncoded}
 

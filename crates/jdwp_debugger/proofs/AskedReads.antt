@@ -8,9 +8,10 @@ use Rattle.jdwp_layout.specs.CommandTable.{row_at}
 use Rattle.jdwp_layout.specs.Reads.{data_at}
 use Rattle.jdwp_layout.specs.Rows.{Row, RowShapes}
 use Rattle.jdwp_layout.specs.Writes.{data_canonical}
-use Rattle.jdwp_debuggee.specs.Actions.{Carried, Content, Raw, Command, carries_out, is_some_shapes}
-use Rattle.jdwp_debuggee.specs.CommandReads.{content_read, read_by, row_request, shapes_request}
-use Rattle.jdwp_debuggee.specs.CommandPackets.{carried_bytes}
+use Rattle.jdwp_action.specs.Actions.{Carried, Content, Raw, Command, carries_out, is_some_shapes}
+use Rattle.jdwp_action.specs.CommandReads.{content_read, read_by}
+use Rattle.jdwp_action.specs.RowLayouts.{row_request, shapes_request}
+use Rattle.jdwp_action.specs.CommandPackets.{carried_bytes}
 use Rattle.jdwp_debugger.specs.Asking.{EncodesCommand, EncodesRow, EncodesShapes, ReadsAsAsked, read_where}
 use Rattle.jdwp_debugger.proofs.EncodedReads.{ReadsEncoded}
 

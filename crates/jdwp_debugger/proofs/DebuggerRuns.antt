@@ -14,18 +14,18 @@ use Rattle.jdwp_wire.specs.Widths.{Widths}
 use Rattle.jdwp_wire.specs.declared.packet.Header.{Header}
 use Rattle.jdwp_end.specs.declared.phase.Phase.{Phase}
 use Rattle.jdwp_end.specs.declared.phase.Phase.TheVariants as phase
-use Rattle.jdwp_end.specs.Ends.{End, front_of, is_open, is_open_phase, new_end, closed, lost, opened, with_enqueued, with_fed, with_handled, with_taken}
+use Rattle.jdwp_end.specs.Ends.{End, front_of, is_open, is_open_phase, new_end, closed_end, lost_end, opened_end, with_enqueued, with_fed, with_handled, with_taken}
 use Rattle.jdwp_end.specs.Runs.{Carries}
 use Rattle.jdwp_end.specs.CarryingLaws.{carries-new, carries-opened, carries-fed, carries-handled, carries-enqueued, carries-closed, carries-taken, carries-lost, stream-append, stream-one}
 use Rattle.jdwp_end.specs.FrontLaws.{IsDue, due-open, in-front}
-use Rattle.jdwp_debuggee.specs.Actions.{Command}
+use Rattle.jdwp_action.specs.Actions.{Command}
 use Rattle.jdwp_debugger.specs.Asking.{EncodesCommand, HasAsked, asked, command_bytes, is_outstanding}
 use Rattle.jdwp_debugger.specs.declared.faults.DebuggerFault.{DebuggerFault}
 use Rattle.jdwp_debugger.specs.declared.faults.DebuggerFault.TheVariants as code
 use Rattle.jdwp_debugger.specs.declared.heads.Head.TheVariants as head
 use Rattle.jdwp_debugger.specs.declared.turning.Read.{Read}
 use Rattle.jdwp_debugger.specs.Debuggers.{Asked, Debugger}
-use Rattle.jdwp_debugger.specs.DebuggerTurns.{Enters, FailsAt, Told, TurnsAt, closed_where, command_at, greeted, measured_where, reading_of, refused, reports, sizes_header, told, with_read, with_sizes}
+use Rattle.jdwp_debugger.specs.DebuggerTurns.{Enters, FailsAt, Told, TurnsAt, closed_where, command_at, greeted, measured_where, reading_of, refused, reports, sizes_header, read_meaning, with_read, with_sizes}
 use Rattle.jdwp_mirror.specs.Messages.{Reply, Report, id_sizes}
 use Rattle.jdwp_mirror.specs.Mirror.{ends}
 use Rattle.jdwp_debugger.specs.News.{News, Waits, Happens, Answers, Measures, says}
@@ -91,24 +91,24 @@ ran-taken end pending n le r =
 
 -- ---- a session begins, and ends
 
-pub ran-attached : (end : End) → HasRun (with_enqueued handshake_bytes (opened end)) []
+pub ran-attached : (end : End) → HasRun (with_enqueued handshake_bytes (opened_end end)) []
 ran-attached end = record {
   acts = Attaches ∷ [];
   in_order = (refl, tt);
   phase = refl;
   waits = λ e. refl;
-  carries = carries-enqueued (opened end) [] handshake_bytes refl (carries-opened end);
+  carries = carries-enqueued (opened_end end) [] handshake_bytes refl (carries-opened end);
   enqueued = refl;
 }
 
 -- which commands wait at a closed end is nothing to its run
-pub ran-closed : (end : End) (before after : List Asked) → HasRun end before → HasRun (closed end) after
+pub ran-closed : (end : End) (before after : List Asked) → HasRun end before → HasRun (closed_end end) after
 ran-closed end before after r =
-    goes-on end (closed end) before after Ends r tt refl (λ e. absurd cc) (rw (append-nil (read r.acts)) (carries-closed end (read r.acts) r.carries)) (sym (append-nil end.session.enqueued))
+    goes-on end (closed_end end) before after Ends r tt refl (λ e. absurd cc) (rw (append-nil (read r.acts)) (carries-closed end (read r.acts) r.carries)) (sym (append-nil end.session.enqueued))
 
-pub ran-lost : (end : End) (before after : List Asked) → HasRun end before → HasRun (lost end) after
+pub ran-lost : (end : End) (before after : List Asked) → HasRun end before → HasRun (lost_end end) after
 ran-lost end before after r =
-    goes-on end (lost end) before after Ends r tt refl (λ e. absurd cc) (rw (append-nil (read r.acts)) (carries-lost end (read r.acts) r.carries)) (sym (append-nil end.session.enqueued))
+    goes-on end (lost_end end) before after Ends r tt refl (λ e. absurd cc) (rw (append-nil (read r.acts)) (carries-lost end (read r.acts) r.carries)) (sym (append-nil end.session.enqueued))
 
 -- ---- messages
 
@@ -216,7 +216,7 @@ ran-turn-at : (front : NextMessage) (old new : Debugger) (result : Result Read D
 ran-turn-at (Whole Handshake used) old new (Ok x) at fits r (tells, none, is) =
     so (greeted used old) new is (ran-greeted old.end old.pending used (record { id = old.next_id; ticket = None; command = id_sizes }) fits at r)
 ran-turn-at (Whole Handshake used) old new (Err f) at fits r t = so old new t.1 r
-ran-turn-at (Whole (Packet header body) used) old new (Ok x) at fits r t = ran-entered header body used t.news old new (told x) (ran-said old header body used t.news fits at t.said r) t.entered
+ran-turn-at (Whole (Packet header body) used) old new (Ok x) at fits r t = ran-entered header body used t.news old new (read_meaning x) (ran-said old header body used t.news fits at t.said r) t.entered
 ran-turn-at (Whole (Packet header body) used) old new (Err f) at fits r t = ran-failed header body old new f t r
 ran-turn-at More old new result at fits r t = so (record old { last = [] }) new t.1 r
 ran-turn-at (Fault f) old new result at fits r t = so (refused old) new t.1 (ran-closed old.end old.pending old.pending r)

@@ -15,8 +15,8 @@ use Rattle.jdwp_layout.specs.declared.answer.Answer.{Answer}
 use Rattle.jdwp_layout.specs.declared.answer.Answer.TheVariants.{Data, Error}
 use Rattle.jdwp_event.specs.CompositeBytes.{EncodesComposite}
 use Rattle.jdwp_event.specs.Composites.{CompositeMeaning}
-use Rattle.jdwp_debuggee.specs.Actions.{Command}
-use Rattle.jdwp_debuggee.specs.Sending.{EncodesAnswer, answer_bytes, error_of}
+use Rattle.jdwp_action.specs.Actions.{Command}
+use Rattle.jdwp_action.specs.AnswerPackets.{EncodesAnswer, answer_bytes, error_of}
 use Rattle.jdwp_debugger.specs.declared.faults.DebuggerFault.{DebuggerFault}
 use Rattle.jdwp_debugger.specs.declared.faults.DebuggerFault.TheVariants as fault
 use Rattle.jdwp_debugger.specs.declared.pending.Ticket as code

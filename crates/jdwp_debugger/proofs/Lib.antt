@@ -1,3 +1,4 @@
+pub mod Entries
 pub mod Ids
 pub mod Losing
 pub mod Keeping

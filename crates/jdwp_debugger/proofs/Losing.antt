@@ -1,24 +1,38 @@
--- The tickets of the commands that wait, gathered one by one.
-use Rattle.std.proofs.Common.{◌≡◌, ℕ, ◌+◌, ◌<◌, List, [], ◌∷◌, ◌++◌, length, get_or, drop, Some, None, sym, ap, ◌∙◌, refl}
-use Rattle.std.proofs.lemmas.List.{append_assoc, drop_more}
+-- The commands that wait, one by one: their tickets, and the places of those that have one.
+use Rattle.std.proofs.Common.{◌≡◌, ℕ, ◌+◌, zero, suc, Bool, false, true, List, [], ◌∷◌, ◌++◌, length, drop, slice_get, Option, Some, None, is_some, sym, ap, ◌∙◌, refl}
+use Rattle.std.proofs.lemmas.List.{append_assoc, drop_all}
 use Rattle.jdwp_debugger.specs.declared.pending.Ticket.{Ticket}
-use Rattle.jdwp_debugger.specs.Debuggers.{Asked, tickets_of}
+use Rattle.jdwp_debugger.specs.Debuggers.{Asked, Unanswered, at_place, has_tickets, tickets_of, unanswered}
+use Rattle.jdwp_debugger.proofs.Entries.{left_over}
 
-left_over : (pending : List Asked) (i : ℕ) (p : Asked) → i < length pending → p ≡ get_or pending i p → drop i pending ≡ p ∷ drop (i + 1) pending
-left_over pending i p lt is = drop_more pending i p lt ∙ ap (λ (x : Asked). x ∷ drop (i + 1) pending) (sym is)
+module _ (pending : List Asked) (i : ℕ) (p : Asked) (at : slice_get pending i ≡ Some p) where
+  left : drop i pending ≡ p ∷ drop (i + 1) pending
+  left = left_over pending i p at
 
--- the next has a ticket
-pub given : (pending : List Asked) (i : ℕ) (p : Asked) (k : Ticket) (so_far : List Ticket) → i < length pending → p ≡ get_or pending i p → p.ticket ≡ Some k
-    → so_far ++ tickets_of (drop i pending) ≡ tickets_of pending → (so_far ++ k ∷ []) ++ tickets_of (drop (i + 1) pending) ≡ tickets_of pending
-given pending i p k so_far lt is some whole =
-    let all = ap tickets_of (left_over pending i p lt is) in
-    let first : tickets_of (p ∷ drop (i + 1) pending) ≡ k ∷ tickets_of (drop (i + 1) pending) = rw some refl in
-    append_assoc so_far (k ∷ []) (tickets_of (drop (i + 1) pending)) ∙ ap (λ (rest : List Ticket). so_far ++ rest) (sym (all ∙ first)) ∙ whole
+  -- the next has a ticket
+  pub given : (k : Ticket) (so_far : List Ticket) → p.ticket ≡ Some k → so_far ++ tickets_of (drop i pending) ≡ tickets_of pending → (so_far ++ k ∷ []) ++ tickets_of (drop (i + 1) pending) ≡ tickets_of pending
+  given k so_far is whole =
+      let first : tickets_of (p ∷ drop (i + 1) pending) ≡ k ∷ tickets_of (drop (i + 1) pending) = rw is refl in
+      append_assoc so_far (k ∷ []) (tickets_of (drop (i + 1) pending)) ∙ ap (λ (rest : List Ticket). so_far ++ rest) (sym (ap tickets_of left ∙ first)) ∙ whole
 
--- the next has none
-pub without : (pending : List Asked) (i : ℕ) (p : Asked) (so_far : List Ticket) → i < length pending → p ≡ get_or pending i p → p.ticket ≡ None
-    → so_far ++ tickets_of (drop i pending) ≡ tickets_of pending → so_far ++ tickets_of (drop (i + 1) pending) ≡ tickets_of pending
-without pending i p so_far lt is none whole =
-    let all = ap tickets_of (left_over pending i p lt is) in
-    let first : tickets_of (p ∷ drop (i + 1) pending) ≡ tickets_of (drop (i + 1) pending) = rw none refl in
-    ap (λ (rest : List Ticket). so_far ++ rest) (sym (all ∙ first)) ∙ whole
+  -- the next has none
+  pub without : (so_far : List Ticket) → p.ticket ≡ None → so_far ++ tickets_of (drop i pending) ≡ tickets_of pending → so_far ++ tickets_of (drop (i + 1) pending) ≡ tickets_of pending
+  without so_far is whole =
+      let first : tickets_of (p ∷ drop (i + 1) pending) ≡ tickets_of (drop (i + 1) pending) = rw is refl in
+      ap (λ (rest : List Ticket). so_far ++ rest) (sym (ap tickets_of left ∙ first)) ∙ whole
+
+  pub has_one : is_some p.ticket ≡ true → has_tickets (drop i pending) ≡ true
+  has_one is = ap has_tickets left ∙ rw is refl
+
+  pub has_no_more : is_some p.ticket ≡ false → has_tickets (drop (i + 1) pending) ≡ has_tickets (drop i pending)
+  has_no_more is = sym (ap has_tickets left ∙ rw is refl)
+
+  -- the first that has a ticket is the next
+  pub found_first : (k : Ticket) → p.ticket ≡ Some k → at_place (unanswered (drop i pending)) 0 ≡ Some (record { ticket = k.0; command = p.command })
+  found_first k is = ap (λ (ps : List Asked). at_place (unanswered ps) 0) left ∙ rw is refl
+
+  pub found_later : (k : Ticket) (n : ℕ) → p.ticket ≡ Some k → at_place (unanswered (drop (i + 1) pending)) n ≡ at_place (unanswered (drop i pending)) (suc n)
+  found_later k n is = sym (ap (λ (ps : List Asked). at_place (unanswered ps) (suc n)) left ∙ rw is refl)
+
+  pub found_behind : (n : ℕ) → p.ticket ≡ None → at_place (unanswered (drop (i + 1) pending)) n ≡ at_place (unanswered (drop i pending)) n
+  found_behind n is = sym (ap (λ (ps : List Asked). at_place (unanswered ps) n) left ∙ rw is refl)

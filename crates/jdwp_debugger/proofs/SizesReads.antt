@@ -11,11 +11,10 @@ use Rattle.jdwp_layout.specs.declared.answer.Answer.{Answer}
 use Rattle.jdwp_layout.specs.declared.answer.Answer.TheVariants.{Data, Error}
 use Rattle.jdwp_layout.specs.declared.item.Field.TheVariants as field
 use Rattle.jdwp_layout.specs.Grammar.{EncodesData, EncodesItem}
-use Rattle.jdwp_layout.specs.Meanings.{ScalarMeaning, Byte, Boolean, Int, Long, Text, Object, ReferenceType, Method, OfField, Frame, Located, Valued, Tagged, DatumMeaning, One, Many, Elements}
+use Rattle.jdwp_layout.specs.Meanings.{ScalarMeaning, Byte, Boolean, Int, Long, Text, Object, ReferenceType, Method, OfField, Frame, Located, Valued, Tagged, DatumMeaning, One, Many, Elements, Raw}
 use Rattle.jdwp_layout.specs.Shapes.{ItemShape, OneOf}
 use Rattle.jdwp_layout.specs.Writes.{data_canonical, datum_canonical}
-use Rattle.jdwp_debuggee.specs.Answers.{sizes_answer}
-use Rattle.jdwp_debuggee.specs.Sending.{EncodesAnswer, answer_bytes, error_of}
+use Rattle.jdwp_action.specs.AnswerPackets.{sizes_answer, EncodesAnswer, answer_bytes, error_of}
 use Rattle.jdwp_mirror.specs.Faults.{are_widths, is_width}
 use Rattle.jdwp_mirror.specs.Messages.{id_sizes}
 use Rattle.jdwp_mirror.specs.Widths.{widths_in, widths_said}
@@ -41,6 +40,7 @@ item-same v w (One (Valued p)) code h = absurd (let e = h.0 in cc)
 item-same v w (One (Tagged t)) code h = absurd (let e = h.0 in cc)
 item-same v w (Many xs) code h = absurd h
 item-same v w (Elements region) code h = absurd h
+item-same v w (Raw bytes) code h = absurd h
 
 -- so many ints
 abbrev ints : ℕ → List ItemShape

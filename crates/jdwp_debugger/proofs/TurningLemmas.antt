@@ -18,15 +18,14 @@ use Rattle.jdwp_layout.specs.declared.answer.Answer.{Answer}
 use Rattle.jdwp_layout.specs.declared.answer.Answer.TheVariants.{Data, Error}
 use Rattle.jdwp_event.specs.Composites.{CompositeMeaning, POLICY_NONE, POLICY_ALL}
 use Rattle.jdwp_event.specs.Told.{composite_thread, is_vm_death}
-use Rattle.jdwp_debuggee.specs.Actions
-use Rattle.jdwp_debuggee.specs.Actions.{Action, Command, action_of}
-use Rattle.jdwp_mirror.specs.Acts.{act_of}
-use Rattle.jdwp_debugger.specs.DebuggerTurns.{AreFew, Told, Hello, Parked, Sizes, Answered, Seen, told, Enters, EntersAt, EntersOrFails, FailsAt, FailsOnly, FailsTo, HandlesAt, LearnedAll, MayTakeMemory, MayWantMemory, TurnsAt, WantsMemory, bad_where, none_known, reading_of, refusal_by, reports}
+use Rattle.jdwp_action.specs.Actions
+use Rattle.jdwp_action.specs.Actions.{Action, Command, action_of, is_dispose}
+use Rattle.jdwp_mirror.specs.CommandKinds.{kind_of}
+use Rattle.jdwp_debugger.specs.DebuggerTurns.{AreFew, Told, Hello, Parked, Sizes, Answered, Seen, read_meaning, Enters, EntersAt, EntersOrFails, FailsAt, FailsOnly, FailsTo, HandlesAt, LearnedAll, MayTakeMemory, MayWantMemory, TurnsAt, WantsMemory, bad_where, none_known, reading_of, refusal_by, reports}
 use Rattle.jdwp_mirror.specs.Faults.{PARKED_MOST, count_of_thread, has_bad_event, is_bad_event, is_of_two}
-use Rattle.jdwp_mirror.specs.FaultParts.{IsData, is_dispose_act}
+use Rattle.jdwp_mirror.specs.FaultParts.{IsData, is_dispose_kind}
 use Rattle.jdwp_mirror.specs.KnownThreads.{count_in}
 use Rattle.jdwp_mirror.specs.Messages.{Message, Report}
-use Rattle.jdwp_debuggee.specs.Facts.{is_dispose}
 use Rattle.jdwp_mirror.specs.Mirror.{is_positive, learned}
 use Rattle.jdwp_mirror.specs.Mirrors.{Mirror, Learned}
 use Rattle.jdwp_debugger.specs.News.{News, Waits, Happens, Answers, Measures, Fails, says}
@@ -68,29 +67,29 @@ learned-then (message ∷ messages) last old middle new (next, first, others) l 
 
 -- ---- which answers end a session
 
-dispose-act : (a : Action) → is_dispose_act (act_of a) ≡ is_dispose a
-dispose-act Actions.Suspend = refl
-dispose-act Actions.Resume = refl
-dispose-act Actions.Dispose = refl
-dispose-act Actions.Exit = refl
-dispose-act Actions.HoldEvents = refl
-dispose-act Actions.ReleaseEvents = refl
-dispose-act (Actions.SetRequest kind policy entries) = refl
-dispose-act (Actions.ClearRequest kind id) = refl
-dispose-act Actions.ClearBreakpoints = refl
-dispose-act (Actions.SuspendThread t) = refl
-dispose-act (Actions.ResumeThread t) = refl
-dispose-act (Actions.SuspendCount t) = refl
-dispose-act (Actions.ThreadStatus t) = refl
-dispose-act (Actions.SetSlots t f slots) = refl
-dispose-act (Actions.AskFrames t) = refl
-dispose-act (Actions.AskThread t) = refl
-dispose-act Actions.AllThreads = refl
-dispose-act Actions.IdSizes = refl
-dispose-act Actions.Ask = refl
+dispose-kind : (a : Action) → is_dispose_kind (kind_of a) ≡ is_dispose a
+dispose-kind Actions.Suspend = refl
+dispose-kind Actions.Resume = refl
+dispose-kind Actions.Dispose = refl
+dispose-kind Actions.Exit = refl
+dispose-kind Actions.HoldEvents = refl
+dispose-kind Actions.ReleaseEvents = refl
+dispose-kind (Actions.SetRequest kind policy entries) = refl
+dispose-kind (Actions.ClearRequest kind id) = refl
+dispose-kind Actions.ClearBreakpoints = refl
+dispose-kind (Actions.SuspendThread t) = refl
+dispose-kind (Actions.ResumeThread t) = refl
+dispose-kind (Actions.SuspendCount t) = refl
+dispose-kind (Actions.ThreadStatus t) = refl
+dispose-kind (Actions.SetSlots t f slots) = refl
+dispose-kind (Actions.AskFrames t) = refl
+dispose-kind (Actions.AskThread t) = refl
+dispose-kind Actions.AllThreads = refl
+dispose-kind Actions.IdSizes = refl
+dispose-kind Actions.Ask = refl
 
-pub disposes : (c : Command) → is_dispose_act (act_of (action_of c)) ≡ is_dispose (action_of c)
-disposes c = dispose-act (action_of c)
+pub disposes : (c : Command) → is_dispose_kind (kind_of (action_of c)) ≡ is_dispose (action_of c)
+disposes c = dispose-kind (action_of c)
 
 -- ---- composites, one after the other
 
@@ -191,11 +190,11 @@ few-entered header body used (Happens c) old new t few b e = told-few t (Seen c)
 few-entered header body used (Answers place ticket answer) old new t few b e = told-few t (Answered ticket answer) e.0 tt
 few-entered header body used (Measures place answer w cs) old new t few b e = told-few t (Sizes cs) e.0 (omega (arith, as-many w old.parked cs b.2, few))
 
-pub turn-few : (front : NextMessage) (old new : Debugger) (r : Result Read DebuggerFault) → length old.parked ≤ PARKED_MOST → TurnsAt front old r new → IfOk r (λ x. AreFew (told x))
-turn-few (Whole Handshake used) old new (Ok x) few t = told-few (told x) Hello t.0 tt
+pub turn-few : (front : NextMessage) (old new : Debugger) (r : Result Read DebuggerFault) → length old.parked ≤ PARKED_MOST → TurnsAt front old r new → IfOk r (λ x. AreFew (read_meaning x))
+turn-few (Whole Handshake used) old new (Ok x) few t = told-few (read_meaning x) Hello t.0 tt
 turn-few (Whole Handshake used) old new (Err f) few t = tt
 turn-few (Whole (Packet header body) used) old new (Ok x) few t =
-    few-entered header body used t.news old new (told x) few (backs (reading_of old) header.id header.kind body t.news t.said) t.entered
+    few-entered header body used t.news old new (read_meaning x) few (backs (reading_of old) header.id header.kind body t.news t.said) t.entered
 turn-few (Whole (Packet header body) used) old new (Err f) few t = tt
-turn-few More old new r few t = subst (λ (q : Result Read DebuggerFault). IfOk q (λ x. AreFew (told x))) (sym t.0) tt
-turn-few (Fault fault) old new r few t = subst (λ (q : Result Read DebuggerFault). IfOk q (λ x. AreFew (told x))) (sym t.0) tt
+turn-few More old new r few t = subst (λ (q : Result Read DebuggerFault). IfOk q (λ x. AreFew (read_meaning x))) (sym t.0) tt
+turn-few (Fault fault) old new r few t = subst (λ (q : Result Read DebuggerFault). IfOk q (λ x. AreFew (read_meaning x))) (sym t.0) tt

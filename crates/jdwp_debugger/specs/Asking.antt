@@ -16,9 +16,9 @@ use Rattle.jdwp_layout.specs.Shapes.{shape}
 use Rattle.jdwp_layout.specs.Writes.{data_canonical}
 use Rattle.jdwp_end.specs.declared.phase.Phase.TheVariants.{Established}
 use Rattle.jdwp_end.specs.Ends.{is_open, is_paused, with_enqueued}
-use Rattle.jdwp_debuggee.specs.Actions.{Carried, Content, Raw, Command, is_implemented}
-use Rattle.jdwp_debuggee.specs.CommandPackets.{carried_bytes, is_for_target, packet_length}
-use Rattle.jdwp_debuggee.specs.CommandReads.{command_read}
+use Rattle.jdwp_action.specs.Actions.{Carried, Content, Raw, Command, is_implemented}
+use Rattle.jdwp_action.specs.CommandPackets.{carried_bytes, is_for_target, packet_length}
+use Rattle.jdwp_action.specs.CommandReads.{command_read}
 use Rattle.jdwp_debugger.specs.declared.asking.Refused.{Refused}
 use Rattle.jdwp_debugger.specs.declared.asking.Refused.TheVariants.{Closed, NotReady, Busy, BadCommand, TooLong, NoMemory}
 use Rattle.jdwp_debugger.specs.declared.asking.Body.{Body}

@@ -14,7 +14,7 @@ use Rattle.jdwp_layout.specs.declared.answer.Answer.{Answer}
 use Rattle.jdwp_layout.specs.CommandNumbers.{ID_SIZES}
 use Rattle.jdwp_event.specs.Composites.{CompositeMeaning}
 use Rattle.jdwp_end.specs.Ends as ends
-use Rattle.jdwp_debuggee.specs.Actions.{Command}
+use Rattle.jdwp_action.specs.Actions.{Command}
 use Rattle.jdwp_debugger.specs.declared.faults.DebuggerFault.{DebuggerFault}
 use Rattle.jdwp_debugger.specs.declared.faults.DebuggerFault.TheVariants as code
 use Rattle.jdwp_debugger.specs.declared.heads.Head.{Head}
@@ -44,13 +44,13 @@ pub data Told : Type 0 where
   Answered : ℕ → Answer → Told
   Seen : CompositeMeaning → Told
 
-abbrev pub told : Read → Told
-told read.Nothing = Nothing
-told read.Hello = Hello
-told read.Parked = Parked
-told (read.Sizes composites) = Sizes composites.items
-told (read.Answered ticket answer) = Answered ticket.0 answer
-told (read.Seen composite) = Seen composite
+abbrev pub read_meaning : Read → Told
+read_meaning read.Nothing = Nothing
+read_meaning read.Hello = Hello
+read_meaning read.Parked = Parked
+read_meaning (read.Sizes composites) = Sizes composites.items
+read_meaning (read.Answered ticket answer) = Answered ticket.0 answer
+read_meaning (read.Seen composite) = Seen composite
 
 -- no more composites that waited than may
 abbrev pub AreFew : Told → Type 0
@@ -66,21 +66,21 @@ news_meaning (news.Measures place answer sizes composites) = Measures place answ
 -- ---- what a turn leaves
 
 -- the session ends, and what was learned in it is forgotten; tickets and what waits to leave stay
-abbrev pub closed : Debugger → Debugger
-closed d = record d { end = ends.closed d.end; mirror = empty_mirror; sizes = None; parked = [] }
+abbrev pub closed_debugger : Debugger → Debugger
+closed_debugger d = record d { end = ends.closed_end d.end; mirror = empty_mirror; sizes = None; parked = [] }
 
 abbrev pub closed_where : Bool → Debugger → Debugger
-closed_where true d = closed d
+closed_where true d = closed_debugger d
 closed_where false d = d
 
 -- where it ends as the widths of ids become known, they stay
 abbrev pub measured_where : Bool → Widths → Debugger → Debugger
-measured_where true w d = record (closed d) { sizes = Some w }
+measured_where true w d = record (closed_debugger d) { sizes = Some w }
 measured_where false w d = d
 
 -- a message is refused
 abbrev pub refused : Debugger → Debugger
-refused d = record (closed d) { last = [] }
+refused d = record (closed_debugger d) { last = [] }
 
 -- a message of so many bytes is handled, and these were read
 abbrev pub with_read : streams.Message → ℕ → List Head → Debugger → Debugger
@@ -226,7 +226,7 @@ EntersOrFails news old fault new = (news_refusal old.mirror news ≡ Some fault)
 
 abbrev pub EntersAt : Header → List ℕ → ℕ → News → Debugger → Result Read DebuggerFault → Debugger → Type 0
 EntersAt header body used news old result new =
-    MatchResult result (λ r. (news_refusal old.mirror news ≡ None) × Enters (streams.Packet header body) used header news old (told r) new) (λ fault. EntersOrFails news old fault new)
+    MatchResult result (λ r. (news_refusal old.mirror news ≡ None) × Enters (streams.Packet header body) used header news old (read_meaning r) new) (λ fault. EntersOrFails news old fault new)
 
 -- ---- turns
 
@@ -238,9 +238,9 @@ pub record ReadsAt (header : Header) (body : List ℕ) (used : ℕ) (old : Debug
 
 abbrev pub HandlesAt : streams.Message → ℕ → Debugger → Result Read DebuggerFault → Debugger → Type 0
 HandlesAt streams.Handshake used old result new =
-    MatchResult result (λ r. (told r ≡ Hello) × (old.pending ≡ []) × (new ≡ greeted used old)) (λ fault. (fault ≡ code.NoMemory) × (new ≡ old))
+    MatchResult result (λ r. (read_meaning r ≡ Hello) × (old.pending ≡ []) × (new ≡ greeted used old)) (λ fault. (fault ≡ code.NoMemory) × (new ≡ old))
 HandlesAt (streams.Packet header body) used old result new =
-    MatchResult result (λ r. ReadsAt header body used old (told r) new) (λ fault. FailsAt header body old fault new)
+    MatchResult result (λ r. ReadsAt header body used old (read_meaning r) new) (λ fault. FailsAt header body old fault new)
 
 -- What a turn answers, and what the debugger is after it, by what there is to handle.
 abbrev pub TurnsAt : NextMessage → Debugger → Result Read DebuggerFault → Debugger → Type 0

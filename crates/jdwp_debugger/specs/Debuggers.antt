@@ -9,7 +9,7 @@ use Rattle.jdwp_wire.specs.Widths.{Widths}
 use Rattle.jdwp_wire.specs.declared.packet.Header.{Header}
 use Rattle.jdwp_end.specs.Ends.{End}
 use Rattle.jdwp_end.specs.Ends as ends
-use Rattle.jdwp_debuggee.specs.Actions.{Command}
+use Rattle.jdwp_action.specs.Actions.{Command}
 use Rattle.jdwp_debugger.specs.declared.heads.Head.{Head}
 use Rattle.jdwp_debugger.specs.declared.pending.Ticket.{Ticket}
 use Rattle.jdwp_mirror.specs.Messages.{id_sizes}
@@ -93,7 +93,7 @@ new_debugger limits first =
 -- a session begins: the handshake is to leave
 abbrev pub attached : Debugger → Debugger
 attached d =
-    record d { end = ends.with_enqueued handshake_bytes (ends.opened d.end); mirror = empty_mirror; sizes = None; parked = []; pending = [] }
+    record d { end = ends.with_enqueued handshake_bytes (ends.opened_end d.end); mirror = empty_mirror; sizes = None; parked = []; pending = [] }
 
 -- bytes came
 abbrev pub with_fed : List ℕ → Debugger → Debugger
@@ -104,8 +104,8 @@ abbrev pub with_taken : List ℕ → Debugger → Debugger
 with_taken bytes d = record d { end = ends.with_taken bytes d.end }
 
 -- the connection is lost: the end is closed, nothing waits to leave, nothing is known, and no command waits for a reply
-abbrev pub lost : Debugger → Debugger
-lost d = record d { end = ends.lost d.end; mirror = empty_mirror; sizes = None; parked = []; pending = [] }
+abbrev pub lost_debugger : Debugger → Debugger
+lost_debugger d = record d { end = ends.lost_end d.end; mirror = empty_mirror; sizes = None; parked = []; pending = [] }
 
 -- ---- what every debugger keeps
 

@@ -12,20 +12,20 @@ use Rattle.jdwp_mirror.specs.Mirrors.{empty_mirror}
 
 abbrev pub view_of : Inside → Debugger
 view_of d =
-    record { end = d.end; mirror = d.mirror; sizes = d.sizes; parked = d.parked.items; pending = d.pending.items; next_id = d.next_id; tickets = d.tickets; last = d.last }
+    record { end = d.end; mirror = d.mirror; sizes = d.sizes; parked = d.parked.items; pending = d.pending; next_id = d.next_id; tickets = d.tickets; last = d.last }
 
 -- The limits are some that there may be; no more commands wait for replies than they allow, and no more composites for the widths of ids
 -- than may; no two commands wait under one id, and without a ticket only IDSizes; nothing waits before the target's handshake, and IDSizes
 -- alone until the widths of ids are known, up to when nothing is learned and from when on no composite waits; and the run of the session
 -- is as it should be.
-pub record IsRight (d : Inside) : Type 0 where
+pub record IsRightDebugger (d : Inside) : Type 0 where
   pub limits : AreLimits d.end.limits.packet d.end.limits.live d.end.limits.requests d.end.limits.pending
-  pub few : length d.pending.items ≤ d.end.limits.pending
+  pub few : length d.pending ≤ d.end.limits.pending
   pub few_parked : length d.parked.items ≤ PARKED_MOST
-  pub distinct : AreDistinct d.pending.items
-  pub own : AreOwn d.pending.items
+  pub distinct : AreDistinct d.pending
+  pub own : AreOwn d.pending
   pub begins : d.end.phase ≡ AwaitingHandshake → Begins (view_of d)
-  pub alone : is_open d.end ≡ true → d.sizes ≡ None → IsSizesAlone d.pending.items
+  pub alone : is_open d.end ≡ true → d.sizes ≡ None → IsSizesAlone d.pending
   pub unlearned : d.sizes ≡ None → d.mirror ≡ empty_mirror
   pub unparked : (w : Widths) → d.sizes ≡ Some w → d.parked.items ≡ []
-  pub ran : HasRun d.end d.pending.items
+  pub ran : HasRun d.end d.pending

@@ -8,8 +8,8 @@ use Rattle.jdwp_layout.specs.CommandNumbers.{COMPOSITE}
 use Rattle.jdwp_layout.specs.declared.answer.Answer.{Answer}
 use Rattle.jdwp_event.specs.CompositeBytes.{EncodesComposite}
 use Rattle.jdwp_event.specs.Composites.{CompositeMeaning}
-use Rattle.jdwp_debuggee.specs.Actions.{Command}
-use Rattle.jdwp_debuggee.specs.Sending.{EncodesAnswer, answer_bytes, error_of}
+use Rattle.jdwp_action.specs.Actions.{Command}
+use Rattle.jdwp_action.specs.AnswerPackets.{EncodesAnswer, answer_bytes, error_of}
 use Rattle.jdwp_debugger.specs.declared.pending.Ticket as code
 use Rattle.jdwp_debugger.specs.Debuggers.{AreOwn, Asked, Debugger, IsSizesAlone}
 use Rattle.jdwp_debugger.specs.DebuggerTurns.{refusal, reports}

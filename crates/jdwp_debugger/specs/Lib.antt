@@ -1,4 +1,5 @@
 pub mod Debuggers
+pub mod PendingKept
 pub mod DebuggersKept
 pub mod Asking
 pub mod RefusedNumbers

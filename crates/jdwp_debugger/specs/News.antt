@@ -1,6 +1,6 @@
 -- What packets from a target say to a debugger by their bytes (JDWP specification, "Packets" and "Protocol Details"), or why they are
 -- refused: a reply by the layout of the command that it answers, a composite by its own.
-use Rattle.std.specs.Prelude.{◌≡◌, ℕ, ◌==◌, Bool, List, [], ◌∷◌, map, length, slice_get, Option, Some, None, Result, Ok, Err, unwrap_or, if◌then◌else◌}
+use Rattle.std.specs.Prelude.{◌≡◌, ℕ, ◌==◌, Bool, List, [], ◌∷◌, length, slice_get, Option, Some, None, Result, Ok, Err, unwrap_or, if◌then◌else◌}
 use Rattle.std.specs.List.{position_from}
 use Rattle.jdwp_wire.specs.declared.data_fault.DataFault.{DataFault}
 use Rattle.jdwp_wire.specs.declared.error_code.ErrorCode.{ErrorCode}
@@ -12,13 +12,13 @@ use Rattle.jdwp_layout.specs.declared.answer.Answer.{Answer}
 use Rattle.jdwp_layout.specs.declared.answer.Answer.TheVariants.{Data, Error}
 use Rattle.jdwp_layout.specs.CommandNumbers.{COMPOSITE, is_command}
 use Rattle.jdwp_layout.specs.CommandTable.{row_at}
-use Rattle.jdwp_layout.specs.Meanings.{Byte, DatumMeaning, Many}
+use Rattle.jdwp_layout.specs.Meanings.{DatumMeaning, Raw}
 use Rattle.jdwp_layout.specs.Reads.{data_at}
 use Rattle.jdwp_layout.specs.Shapes.{ItemShape}
 use Rattle.jdwp_event.specs.Composites.{CompositeMeaning}
 use Rattle.jdwp_event.specs.CompositeBytes.{composite_at}
-use Rattle.jdwp_debuggee.specs.Actions.{Command}
-use Rattle.jdwp_debuggee.specs.Sending.{row_reply}
+use Rattle.jdwp_action.specs.Actions.{Command}
+use Rattle.jdwp_action.specs.RowLayouts.{row_reply}
 use Rattle.jdwp_debugger.specs.declared.faults.DebuggerFault.{DebuggerFault}
 use Rattle.jdwp_debugger.specs.declared.faults.DebuggerFault.TheVariants.{UnknownReply, BadReply, TooManyParked, BadEvent, NoMemory}
 use Rattle.jdwp_debugger.specs.declared.pending.Ticket.{Ticket}
@@ -50,9 +50,9 @@ composites_in w (p ∷ ps) = with_first (composite_in w p.body) (composites_in w
 
 -- ---- answers
 
--- the bytes of a reply whose data are not read, as a list of bytes
+-- the bytes of a reply whose data are not read, as they are
 abbrev pub raw_data : List ℕ → List DatumMeaning
-raw_data bytes = Many (map (λ (b : ℕ). Byte b ∷ []) bytes) ∷ []
+raw_data bytes = Raw bytes ∷ []
 
 abbrev pub content_in : Result (List DatumMeaning) DataFault → Option Answer
 content_in (Ok content) = Some (Data content)

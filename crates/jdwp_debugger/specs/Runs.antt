@@ -14,12 +14,12 @@ use Rattle.jdwp_end.specs.declared.phase.Phase.{Phase}
 use Rattle.jdwp_end.specs.declared.phase.Phase.TheVariants.{Closed, AwaitingHandshake, Established}
 use Rattle.jdwp_end.specs.Ends.{End, front_of, is_open}
 use Rattle.jdwp_end.specs.Runs.{Carries}
-use Rattle.jdwp_debuggee.specs.Actions.{Command}
+use Rattle.jdwp_action.specs.Actions.{Command}
 use Rattle.jdwp_debugger.specs.declared.faults.DebuggerFault.{DebuggerFault}
 use Rattle.jdwp_debugger.specs.declared.turning.Read.{Read}
-use Rattle.jdwp_debuggee.specs.CommandPackets.{carried_bytes}
+use Rattle.jdwp_action.specs.CommandPackets.{carried_bytes}
 use Rattle.jdwp_debugger.specs.Asking.{EncodesCommand, HasAsked, command_header}
-use Rattle.jdwp_debugger.specs.Debuggers.{Asked, Debugger, attached, lost, new_debugger, with_fed, with_taken}
+use Rattle.jdwp_debugger.specs.Debuggers.{Asked, Debugger, attached, lost_debugger, new_debugger, with_fed, with_taken}
 use Rattle.jdwp_debugger.specs.DebuggerTurns.{TurnsAt, sizes_header}
 
 -- What a debugger does in a session: it begins, with a handshake; it reads the target's handshake, and puts IDSizes under an id; it reads
@@ -135,4 +135,4 @@ pub record GoesOn : Type 0 where
   pub turned : (old new : Debugger) (result : Result Read DebuggerFault) → IsBytes old.end.incoming → Ran old → TurnsAt (front_of old.end) old result new → Ran new
   pub fed : (d : Debugger) (bytes : List ℕ) → (is_open d.end ≡ false → bytes ≡ []) → Ran d → Ran (with_fed bytes d)
   pub taken : (d : Debugger) (n : ℕ) → n ≤ length d.end.outgoing → Ran d → Ran (with_taken (take n d.end.outgoing) d)
-  pub lost : (d : Debugger) → Ran d → Ran (lost d)
+  pub lost : (d : Debugger) → Ran d → Ran (lost_debugger d)

@@ -6,7 +6,7 @@ ghost use Rattle.jdwp_layout.specs.Grammar.{EncodesData};
 ghost use Rattle.jdwp_layout.specs.Meanings.{meanings};
 ghost use Rattle.jdwp_layout.specs.Shapes.{shape};
 ghost use Rattle.jdwp_layout.specs.Writes.{data_canonical, data_refusal};
-ghost use Rattle.jdwp_debuggee.specs.CommandPackets.{carried_bytes, is_for_target, packet_length};
+ghost use Rattle.jdwp_action.specs.CommandPackets.{carried_bytes, is_for_target, packet_length};
 ghost use Rattle.jdwp_debugger.specs.Asking.{EncodesBody, EncodesCommand, body_bytes, command_bytes, command_header};
 ghost use Rattle.jdwp_debugger.specs.RefusedNumbers.{refused_number};
 

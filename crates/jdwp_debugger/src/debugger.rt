@@ -8,7 +8,7 @@ ghost use Rattle.jdwp_wire.specs.Limits.{AreLimits, standard_limits};
 ghost use Rattle.jdwp_wire.specs.Streams.{More};
 ghost use Rattle.jdwp_wire.specs.Widths.{Widths};
 ghost use Rattle.jdwp_debugger.specs.Asking.{HasAsked, IsAdmitted, IsRefusal, MayLeave, is_busy, refusal_of_ask};
-ghost use Rattle.jdwp_debugger.specs.Debuggers.{AreDistinct, AreOwn, Begins, IsSizesAlone, at_place, attached, has_tickets, is_front, lost, new_debugger, seen_unanswered, tickets_of, unanswered, with_fed, with_taken};
+ghost use Rattle.jdwp_debugger.specs.Debuggers.{AreDistinct, AreOwn, Begins, IsSizesAlone, at_place, attached, has_tickets, is_front, lost_debugger, new_debugger, seen_unanswered, tickets_of, unanswered, with_fed, with_taken};
 ghost use Rattle.jdwp_debugger.specs.Runs.{Ran};
 ghost use Rattle.jdwp_mirror.specs.Faults.{PARKED_MOST};
 ghost use Rattle.jdwp_mirror.specs.Mirrors.{empty_mirror};
@@ -17,7 +17,7 @@ use crate::asking::{Admitted, Body, Refused};
 use crate::heads::{Head, Heads};
 use crate::lost::Lost;
 use crate::parked::Parked;
-use crate::pending::{Asked, Ticket, have_tickets, next_free, unanswered_at};
+use crate::pending::{Pending, Ticket};
 use jdwp_end::{End, Front};
 use jdwp_mirror::{Command, Mirror};
 use jdwp_wire::{HANDSHAKE, IdSizes, Limits, NoMemory};
@@ -34,7 +34,7 @@ pub struct Debugger {
     pub(crate) mirror: Mirror,
     pub(crate) sizes: Option<IdSizes>,
     pub(crate) parked: Vec<Parked>,
-    pub(crate) pending: Vec<Asked>,
+    pub(crate) pending: Pending,
     pub(crate) next_id: u32,
     pub(crate) tickets: u64,
     pub(crate) last: Heads,
@@ -45,11 +45,11 @@ impl Model for Debugger {
 
     ghost Value = { debuggers.Debugger };
 
-    ghost use Rattle.jdwp_debugger.specs.DebuggersKept.{IsRight, view_of};
+    ghost use Rattle.jdwp_debugger.specs.DebuggersKept.{IsRightDebugger, view_of};
 
     ghost view = { view_of };
 
-    ghost invariant = { IsRight };
+    ghost invariant = { IsRightDebugger };
 }
 
 impl Debugger {
@@ -87,7 +87,7 @@ impl Debugger {
             mirror: Mirror::new(alloc),
             sizes: None,
             parked: Vec::new(alloc),
-            pending: Vec::new(alloc),
+            pending: Pending::new(alloc),
             next_id: first_id,
             tickets: 0,
             last: Heads::new(),
@@ -109,7 +109,7 @@ impl Debugger {
         ensures attached { IsTrue result → self.new ≡ attached self.old }
         ensures refused { result ≡ false → self.new ≡ self.old }
     {
-        if self.end.is_open() || have_tickets(&self.pending) {
+        if self.end.is_open() || self.pending.has_tickets() {
             return false;
         }
         self.end.open();
@@ -135,14 +135,10 @@ impl Debugger {
         ensures err { IfErr result (λ e. (self.new ≡ self.old)
             × IsRefusal e (refusal_of_ask self.old command)) }
     {
-        let id = next_free(&self.pending, self.next_id);
+        let id = self.pending.next_free(self.next_id);
         let packet = self.packet_to_ask(alloc, id, &command)?;
         let ticket = Ticket(self.tickets + 1);
-        self.pending.push(Asked {
-            id,
-            ticket: Some(ticket),
-            command,
-        })?;
+        self.pending.push(id, Some(ticket), command)?;
         self.end.enqueue(&packet);
         self.next_id = id.wrapping_add(1);
         self.tickets = ticket.0;
@@ -206,7 +202,7 @@ impl Debugger {
     pub fn lose(&mut self) -> Lost
         ensures tickets { result ≡ tickets_of self.old.pending }
         ensures few { length result ≤ self.old.end.limits.pending }
-        ensures lost { self.new ≡ lost self.old }
+        ensures lost { self.new ≡ lost_debugger self.old }
     {
         let lost = Lost::of(&self.pending);
         self.end.lose();
@@ -295,7 +291,7 @@ impl Debugger {
     pub fn unanswered(&self, place: usize) -> Option<(Ticket, &Command)>
         ensures { seen_unanswered result ≡ at_place (unanswered self.now.pending) place }
     {
-        unanswered_at(&self.pending, place)
+        self.pending.unanswered_at(place)
     }
 
     /// What holds after every list of calls in a session, whatever bytes came: the whole run; that what came are bytes; that an end at

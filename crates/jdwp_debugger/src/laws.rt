@@ -6,10 +6,9 @@ ghost use Rattle.jdwp_wire.specs.declared.packet.Header.{Header};
 ghost use Rattle.jdwp_event.specs.CompositeBytes.{EncodesComposite};
 ghost use Rattle.jdwp_event.specs.Composites.{CompositeMeaning};
 ghost use Rattle.jdwp_layout.specs.declared.answer.Answer.{Answer};
-ghost use Rattle.jdwp_debuggee.specs.Actions.{Command};
-ghost use Rattle.jdwp_debuggee.specs.Answers.{sizes_answer};
-ghost use Rattle.jdwp_debuggee.specs.Sending.{EncodesAnswer, answer_bytes, error_of};
-ghost use Rattle.jdwp_debuggee.specs.CommandPackets.{carried_bytes};
+ghost use Rattle.jdwp_action.specs.Actions.{Command};
+ghost use Rattle.jdwp_action.specs.AnswerPackets.{sizes_answer, EncodesAnswer, answer_bytes, error_of};
+ghost use Rattle.jdwp_action.specs.CommandPackets.{carried_bytes};
 ghost use Rattle.jdwp_debugger.specs.Asking.{EncodesCommand, ReadsAsAsked, command_header};
 ghost use Rattle.jdwp_debugger.specs.Debuggers.{Debugger};
 ghost use Rattle.jdwp_debugger.specs.DebuggerTurns.{sizes_header};
@@ -78,8 +77,9 @@ pub fn reads_widths()
 
 /// A packet that encodes a message is refused where the message is refused, and for the same. It does nothing.
 pub fn refuses_what_is_refused()
-    ensures { (d : Debugger) (waiting : List CompositeMeaning) (header : Header) (body : List ℕ) (message : Message)
-        → Stands d waiting → EncodesMessage d waiting header body message → IsJudgedAs d waiting header body message }
+    ensures { (d : Debugger) (waiting : List CompositeMeaning) (header : Header) (body : List ℕ)
+        (message : Message) → Stands d waiting → EncodesMessage d waiting header body message
+        → IsJudgedAs d waiting header body message }
 {
     reads_what_is_encoded();
 }

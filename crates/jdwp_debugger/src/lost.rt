@@ -2,7 +2,7 @@
 ghost use Rattle.std.specs.Prelude.{◌≡◌, ◌≤◌, ◌<◌, ◌++◌, ◌∷◌, [], length};
 ghost use Rattle.jdwp_debugger.specs.Debuggers.{PENDING_MOST, tickets_of};
 
-use crate::pending::{Asked, Ticket};
+use crate::pending::{Pending, Ticket};
 use std::marker::Model;
 
 /// The most commands that wait for replies, whatever the limits.
@@ -29,13 +29,13 @@ impl Model for Lost {
 
 impl Lost {
     /// The tickets of the commands that wait.
-    #[tactic(auto, using(crate::proofs::Losing::given, crate::proofs::Losing::without))]
-    pub(crate) fn of(pending: &[Asked]) -> Lost
+    pub(crate) fn of(pending: &Pending) -> Lost
         requires { length pending.now ≤ PENDING_MOST }
         ensures { result ≡ tickets_of pending.now }
     {
         let mut lost = Lost::none();
-        for asked in pending {
+        for place in 0..pending.len() {
+            let (_, asked) = pending.at(place);
             if let Some(ticket) = asked.ticket {
                 lost.push(ticket);
             }

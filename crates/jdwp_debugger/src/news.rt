@@ -1,23 +1,21 @@
 //! What packets from a target say by their bytes.
-ghost use Rattle.std.specs.Prelude.{◌≡◌, ◌<◌, ◌∷◌, [], ℕ, IfOk, IfSome, List, Result, length, map};
+ghost use Rattle.std.specs.Prelude.{◌≡◌, ℕ, IfOk, List, Result};
 ghost use Rattle.std.specs.Result.{IsErrOf};
 ghost use Rattle.jdwp_wire.specs.ErrorCodes.{NONE};
 ghost use Rattle.jdwp_wire.specs.declared.data_fault.DataFault.{DataFault};
 ghost use Rattle.jdwp_wire.specs.Reading as reading;
-ghost use Rattle.jdwp_layout.specs.CommandTable.{row_at};
-ghost use Rattle.jdwp_layout.specs.Meanings.{Byte, DatumMeaning, entry_meanings, meanings};
+ghost use Rattle.jdwp_layout.specs.Meanings.{DatumMeaning, meanings};
 ghost use Rattle.jdwp_event.specs.Composites.{CompositeMeaning};
-ghost use Rattle.jdwp_debuggee.specs.ReadParts.{found_layout};
-ghost use Rattle.jdwp_debuggee.specs.Sending.{row_reply};
+ghost use Rattle.jdwp_action.specs.RowLayouts.{found_layout};
 ghost use Rattle.jdwp_debugger.specs.declared.faults.DebuggerFault.TheVariants as code;
 ghost use Rattle.jdwp_mirror.specs.FaultParts.{IsData};
-ghost use Rattle.jdwp_debugger.specs.News.{Fails, Tells, answer_in, composite_in, composites_in, content_in, data_by, place_of, raw_data, required, unless_bad, whole};
+ghost use Rattle.jdwp_debugger.specs.News.{Fails, Tells, answer_in, composite_in, composites_in, content_in, data_by, raw_data, required, unless_bad, whole};
 
 use crate::faults::DebuggerFault;
 use crate::parked::Parked;
-use crate::pending::Asked;
+use jdwp_action::reply_layout;
 use jdwp_event::Composite;
-use jdwp_layout::{Answer, Data, Datum, Layout, Scalar, layout_of, read};
+use jdwp_layout::{Answer, Data, Datum, Layout, read};
 use jdwp_mirror::{Command, is_bad_answer};
 use jdwp_wire::{DataFault, ErrorCode, IdSizes, NoMemory, Wire};
 use std::alloc::Global;
@@ -119,21 +117,13 @@ fn read_any_answer(
     ensures without_error { IfOk result (λ a. IsData a → error.0 ≡ NONE.0) }
 {
     if error == ErrorCode::NONE {
-        return read_data(alloc, reply_layout(command), sizes, bytes);
+        let layout = reply_layout(command.set(), command.number());
+        return read_data(alloc, layout, sizes, bytes);
     }
     if !bytes.is_empty() {
         return Err(DebuggerFault::BadReply);
     }
     Ok(Answer::Error(error))
-}
-
-/// The layout of the reply to a command; None where its data are not read.
-fn reply_layout(command: &Command) -> Option<Layout>
-    ensures { found_layout result ≡ row_reply (row_at command.now.set command.now.number) }
-{
-    let row = layout_of(command.set(), command.number())?;
-    let layouts = row.layouts?;
-    Some(layouts.reply)
 }
 
 /// The data of a reply without an error in this layout; without one, its bytes.
@@ -173,34 +163,10 @@ fn reply_fault(fault: DataFault) -> DebuggerFault
     }
 }
 
-/// Bytes that are not read, as a list of bytes.
+/// Bytes that are not read, as they are.
 fn raw_items(alloc: Global, bytes: &[u8]) -> Result<Vec<Datum>, NoMemory>
     ensures { IfOk result (λ items. meanings items.items ≡ raw_data bytes.now) }
 {
-    let entries = raw_entries(alloc, bytes)?;
-    Ok(vec![in alloc; Datum::Many(entries)]?)
-}
-
-fn raw_entries(alloc: Global, bytes: &[u8]) -> Result<Vec<Vec<Scalar>>, NoMemory>
-    ensures { IfOk result (λ entries. entry_meanings entries.items ≡ map (λ (b : ℕ).
-        Byte b ∷ []) bytes.now) }
-{
-    let mut entries = Vec::with_capacity(alloc, bytes.len())?;
-    for byte in bytes {
-        entries.push_reserved(vec![in alloc; Scalar::Byte(*byte)]?);
-    }
-    Ok(entries)
-}
-
-/// The place of the command that waits under an id; None where none does.
-pub(crate) fn place_under(id: u32, pending: &[Asked]) -> Option<usize>
-    ensures place { result ≡ place_of id pending.now }
-    ensures within { IfSome result (λ place. place < length pending.now) }
-{
-    for (place, asked) in pending.iter().enumerate() {
-        if asked.id == id {
-            return Some(place);
-        }
-    }
-    None
+    let copy = Vec::from_slice(alloc, bytes)?;
+    Ok(vec![in alloc; Datum::Raw(copy)]?)
 }

@@ -1,8 +1,12 @@
 //! What packets say to a debugger.
-ghost use Rattle.std.specs.Prelude.{◌≡◌, ◌<◌, IfOk, Some, length, slice_get};
+ghost use Rattle.std.specs.Prelude.{◌≡◌, ◌<◌, ℕ, IfOk, List, Some, length, slice_get};
 ghost use Rattle.std.specs.Result.{IsErrOf};
 ghost use Rattle.jdwp_wire.specs.ErrorCodes.{NONE};
+ghost use Rattle.jdwp_wire.specs.Frames as frames;
 ghost use Rattle.jdwp_wire.specs.Frames.{front};
+ghost use Rattle.jdwp_wire.specs.Streams.{Packet, Whole};
+ghost use Rattle.jdwp_wire.specs.declared.packet.Header.{Header};
+ghost use Rattle.jdwp_end.specs.Ends.{HasPacket, front_of};
 ghost use Rattle.jdwp_mirror.specs.FaultParts.{IsData};
 ghost use Rattle.jdwp_mirror.specs.Widths.{widths_in};
 ghost use Rattle.jdwp_debugger.specs.declared.faults.DebuggerFault.TheVariants as code;
@@ -10,9 +14,10 @@ ghost use Rattle.jdwp_debugger.specs.DebuggerTurns.{IsWhole, MayWantMemory, Read
 ghost use Rattle.jdwp_debugger.specs.News.{Tells, answer_says, event_says, reply_to, says, sizes_say, widths_by};
 
 use crate::faults::DebuggerFault;
-use crate::news::{place_under, read_answer, read_composite, read_parked};
+use crate::news::{read_answer, read_composite, read_parked};
 use crate::parked::Parked;
-use crate::pending::{Asked, Ticket};
+use crate::pending::{Pending, Ticket};
+use jdwp_end::End;
 use jdwp_event::Composite;
 use jdwp_layout::Answer;
 use jdwp_layout::numbers::{COMPOSITE, EVENT};
@@ -45,12 +50,33 @@ pub(crate) struct Known<'a> {
     /// The composites that wait for them.
     pub parked: &'a [Parked],
     /// The commands that wait for replies.
-    pub pending: &'a [Asked],
+    pub pending: &'a Pending,
 }
 
 impl<'a> Known<'a> {
-    /// The header of the packet in front of these bytes, and what it says.
+    /// The header of the packet in front of an end, which takes so many bytes, and what it says. It is read where it lies, or joined where
+    /// it wraps, and the end is as it was.
     pub fn read_front(
+        &self,
+        alloc: Global,
+        end: &mut End,
+        used: usize,
+    ) -> Result<(Header, News), DebuggerFault>
+        requires { HasPacket used end.old }
+        ensures read { (header : Header) (body : List ℕ) → front_of end.old
+            ≡ Whole (Packet header body) used
+            → ReadsFront (reading self.now) (frames.Whole header body used) result }
+        ensures same { end.new ≡ end.old }
+    {
+        let limits = end.limits();
+        match end.packet_in_place(used) {
+            Some(bytes) => self.read_bytes(alloc, bytes, &limits),
+            None => self.read_bytes(alloc, end.packet_joined(used), &limits),
+        }
+    }
+
+    /// The header of the packet in front of these bytes, and what it says.
+    fn read_bytes(
         &self,
         alloc: Global,
         bytes: &[u8],
@@ -83,7 +109,7 @@ impl<'a> Known<'a> {
                 }
                 self.read_event(alloc, packet.body)
             }
-            PacketKind::Reply { error } => match place_under(packet.header.id, self.pending) {
+            PacketKind::Reply { error } => match self.pending.place_under(packet.header.id) {
                 Some(place) => self.read_reply(alloc, place, error, packet.body),
                 None => Err(DebuggerFault::UnknownReply),
             },
@@ -120,7 +146,7 @@ impl<'a> Known<'a> {
         ensures memory { IsErrOf result code.NoMemory → error.0 ≡ NONE.0 }
         ensures wants { IfOk result (λ n. WantsMemory (news_meaning n) → error.0 ≡ NONE.0) }
     {
-        let asked = &self.pending[place];
+        let (_, asked) = self.pending.at(place);
         let answer = read_answer(alloc, &asked.command, &self.widths(), error, bytes)?;
         self.read_ticketed(alloc, place, asked.ticket, answer)
     }

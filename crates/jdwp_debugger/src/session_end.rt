@@ -13,7 +13,7 @@ impl SessionEnd for Debugger {
 
     ghost with_taken = { debuggers.with_taken };
 
-    ghost lost = { debuggers.lost };
+    ghost lost_end = { debuggers.lost_debugger };
 
     fn is_open(&self) -> bool {
         Debugger::is_open(self)

@@ -8,9 +8,9 @@ ghost use Rattle.jdwp_wire.specs.declared.packet.Header.{Header};
 ghost use Rattle.jdwp_end.specs.Ends.{HasPacket, front_of};
 ghost use Rattle.jdwp_debugger.specs.declared.faults.DebuggerFault.TheVariants as code;
 ghost use Rattle.jdwp_debugger.specs.DebuggerTurns as turns;
-ghost use Rattle.jdwp_debugger.specs.DebuggerTurns.{AreFew, Enters, EntersAt, FailsOnly, FailsTo, HandlesAt, IsSaid, LearnedAll, MayTakeMemory, TurnsAt, closed, closed_where, command_at, measured_where, news_meaning, none_known, refused, reports, told, with_sizes};
+ghost use Rattle.jdwp_debugger.specs.DebuggerTurns.{AreFew, Enters, EntersAt, FailsOnly, FailsTo, HandlesAt, IsSaid, LearnedAll, MayTakeMemory, TurnsAt, closed_debugger, closed_where, command_at, measured_where, news_meaning, none_known, refused, reports, read_meaning, with_sizes};
 ghost use Rattle.jdwp_mirror.specs.Faults.{has_bad_event};
-ghost use Rattle.jdwp_mirror.specs.FaultParts.{is_dispose_act};
+ghost use Rattle.jdwp_mirror.specs.FaultParts.{is_dispose_kind};
 ghost use Rattle.jdwp_mirror.specs.KnownThreads.{count_in};
 ghost use Rattle.jdwp_mirror.specs.Messages.{Reply, Ticket as MessageTicket};
 ghost use Rattle.jdwp_mirror.specs.Mirror.{ends};
@@ -22,13 +22,13 @@ use crate::debugger::Debugger;
 use crate::faults::DebuggerFault;
 use crate::heads::Head;
 use crate::parked::Parked;
-use crate::pending::{Asked, Ticket};
+use crate::pending::Ticket;
 use crate::reading::{Known, News};
 use jdwp_end::Front;
 use jdwp_event::{Composite, EventKind};
 use jdwp_layout::Answer;
 use jdwp_layout::numbers::{ID_SIZES, VIRTUAL_MACHINE};
-use jdwp_mirror::{Act, Command, Mirror, has_event_of, is_bad_composite};
+use jdwp_mirror::{Command, CommandKind, Mirror, has_event_of, is_bad_composite};
 use jdwp_wire::{HANDSHAKE, Header, IdSizes, PacketKind};
 use std::alloc::Global;
 
@@ -59,7 +59,7 @@ impl Debugger {
     /// bytes and a reply with an error take no memory.
     pub fn turn(&mut self, alloc: Global) -> Result<Read, DebuggerFault>
         ensures turns { TurnsAt (front_of self.old.end) self.old result self.new }
-        ensures few { IfOk result (λ r. AreFew (told r)) }
+        ensures few { IfOk result (λ r. AreFew (read_meaning r)) }
         ensures memory { IsErrOf result code.NoMemory → MayTakeMemory (front_of self.old.end) }
     {
         match self.end.front() {
@@ -76,7 +76,7 @@ impl Debugger {
         }
     }
 
-    /// Handles the packet in front, which takes so many bytes: it is read where it lies, and then taken in.
+    /// Handles the packet in front, which takes so many bytes: it is read, and then taken in.
     fn handle_packet(&mut self, alloc: Global, used: usize) -> Result<Read, DebuggerFault>
         requires front { HasPacket used self.old.end }
         requires bytes { IsBytes self.old.end.incoming }
@@ -84,13 +84,12 @@ impl Debugger {
             ≡ Whole (Packet header body) used
             → HandlesAt (Packet header body) used self.old result self.new }
     {
-        let limits = self.end.limits();
         let known = Known {
             sizes: self.sizes,
             parked: &self.parked,
             pending: &self.pending,
         };
-        match known.read_front(alloc, self.end.packet_in_front(used), &limits) {
+        match known.read_front(alloc, &mut self.end, used) {
             Ok(read) => self.enter(alloc, read.0, used, read.1),
             Err(fault) => self.fail(fault),
         }
@@ -103,11 +102,8 @@ impl Debugger {
         ensures { HandlesAt Handshake 14 self.old result self.new }
     {
         let id = self.next_id;
-        self.pending.push(Asked {
-            id,
-            ticket: None,
-            command: Command::new(VIRTUAL_MACHINE, ID_SIZES, Vec::new(alloc)),
-        })?;
+        let command = Command::new(VIRTUAL_MACHINE, ID_SIZES, Vec::new(alloc));
+        self.pending.push(id, None, command)?;
         self.end.take_off(HANDSHAKE.len());
         self.end.enqueue(&sizes_header(id).to_bytes());
         self.next_id = id.wrapping_add(1);
@@ -153,7 +149,7 @@ impl Debugger {
         requires bytes { IsBytes self.old.end.incoming }
         ensures ok { IfOk result (λ r. (content : List ℕ) → front_of self.old.end
             ≡ Whole (Packet header content) used → Enters (Packet header content) used header
-            (news.Waits body.items) self.old (told r) self.new) }
+            (news.Waits body.items) self.old (read_meaning r) self.new) }
         ensures err { IfErr result (λ fault. (fault ≡ code.NoMemory) × (self.new ≡ self.old)) }
     {
         self.parked.push(Parked { header, body })?;
@@ -202,10 +198,10 @@ impl Debugger {
             → EntersAt packet.0 content packet.1 (news.Answers place ticket.0 answer) self.old
             result self.new }
     {
-        let command = &self.pending[place].command;
-        self.mirror.learn_reply(alloc, command, &answer)?;
-        let closes = closes_session(command, &answer);
-        let _ = self.pending.remove(place);
+        let (_, asked) = self.pending.at(place);
+        self.mirror.learn_reply(alloc, &asked.command, &answer)?;
+        let closes = closes_session(&asked.command, &answer);
+        self.pending.remove(place);
         self.end.take_off(packet.1);
         self.last.clear();
         self.last.push(Head::Packet(packet.0));
@@ -231,7 +227,8 @@ impl Debugger {
     {
         let mut mirror = Mirror::new(alloc);
         learn_each(&mut mirror, composites)?;
-        mirror.learn_reply(alloc, &self.pending[place].command, answer)?;
+        let (_, asked) = self.pending.at(place);
+        mirror.learn_reply(alloc, &asked.command, answer)?;
         Ok(mirror)
     }
 
@@ -257,7 +254,7 @@ impl Debugger {
         self.last.push_waiting(&self.parked);
         self.last.push(Head::Packet(header));
         self.parked.clear();
-        let _ = self.pending.remove(place);
+        self.pending.remove(place);
         self.mirror = mirror;
         self.sizes = Some(sizes);
         self.close_measured(closes, sizes);
@@ -281,7 +278,7 @@ impl Debugger {
 
     /// Closes the session and forgets what was learned in it.
     fn close(&mut self)
-        ensures { self.new ≡ closed self.old }
+        ensures { self.new ≡ closed_debugger self.old }
     {
         self.end.close();
         self.mirror.clear();
@@ -370,13 +367,13 @@ fn closes_session(command: &Command, answer: &Answer) -> bool
     ensures { (ticket : MessageTicket) → result ≡ ends (Reply ticket command.now answer.now) }
 {
     match answer {
-        Answer::Data(_) => is_dispose(command.act()),
+        Answer::Data(_) => is_dispose(command.kind()),
         Answer::Error(_) => false,
     }
 }
 
-fn is_dispose(act: Act) -> bool
-    ensures { result ≡ is_dispose_act act }
+fn is_dispose(kind: CommandKind) -> bool
+    ensures { result ≡ is_dispose_kind kind }
 {
-    matches!(act, Act::Dispose)
+    matches!(kind, CommandKind::Dispose)
 }

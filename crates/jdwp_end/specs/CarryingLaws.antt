@@ -8,7 +8,7 @@ use Rattle.jdwp_wire.specs.Limits.{Limits}
 use Rattle.jdwp_wire.specs.Streams.{Message, Handshake, Packet, Whole, message_bytes, stream, IsConversation, IsPacketMessage}
 use Rattle.jdwp_end.specs.declared.phase.Phase.{Phase}
 use Rattle.jdwp_end.specs.declared.phase.Phase.TheVariants.{Closed, AwaitingHandshake, Established}
-use Rattle.jdwp_end.specs.Ends.{End, is_open, front_of, new_end, opened, closed, lost, with_fed, with_handled, with_enqueued, with_taken}
+use Rattle.jdwp_end.specs.Ends.{End, is_open, front_of, new_end, opened_end, closed_end, lost_end, with_fed, with_handled, with_enqueued, with_taken}
 use Rattle.jdwp_end.specs.Runs.{Carries, IsFront}
 use Rattle.jdwp_end.specs.FrontLaws.{IsDue, due-open, in-front}
 
@@ -74,7 +74,7 @@ carries-new limits = record {
   after_loss = λ e. absurd cc;
 }
 
-pub carries-opened : (end : End) → Carries (opened end) []
+pub carries-opened : (end : End) → Carries (opened_end end) []
 carries-opened end = record {
   rest = [];
   conversation = tt;
@@ -166,7 +166,7 @@ carries-taken end ms n le c =
       after_loss = λ e. let h = c.after_loss e in (h.0, cut ∙ rw h.1 (drop-nil n));
     }
 
-pub carries-closed : (end : End) (ms : List Message) → Carries end ms → Carries (closed end) ms
+pub carries-closed : (end : End) (ms : List Message) → Carries end ms → Carries (closed_end end) ms
 carries-closed end ms c = record {
   rest = c.rest;
   conversation = c.conversation;
@@ -181,7 +181,7 @@ carries-closed end ms c = record {
   after_loss = λ e. (refl, (c.after_loss e).1);
 }
 
-pub carries-lost : (end : End) (ms : List Message) → Carries end ms → Carries (lost end) ms
+pub carries-lost : (end : End) (ms : List Message) → Carries end ms → Carries (lost_end end) ms
 carries-lost end ms c = record {
   rest = c.rest;
   conversation = c.conversation;

@@ -82,8 +82,8 @@ abbrev pub new_end : Limits → End
 new_end limits = record { limits = limits; phase = Closed; incoming = []; outgoing = []; session = new_session }
 
 -- a session begins
-abbrev pub opened : End → End
-opened end = record end { phase = AwaitingHandshake; incoming = []; outgoing = []; session = new_session }
+abbrev pub opened_end : End → End
+opened_end end = record end { phase = AwaitingHandshake; incoming = []; outgoing = []; session = new_session }
 
 -- bytes came
 abbrev pub with_fed : List ℕ → End → End
@@ -106,9 +106,9 @@ abbrev pub with_taken : List ℕ → End → End
 with_taken bytes end = record end { outgoing = drop (length bytes) end.outgoing; session = record end.session { taken = end.session.taken ++ bytes } }
 
 -- the session ends; what waits to leave may still be taken
-abbrev pub closed : End → End
-closed end = record end { phase = Closed }
+abbrev pub closed_end : End → End
+closed_end end = record end { phase = Closed }
 
 -- the connection is lost: the end is closed, and nothing waits
-abbrev pub lost : End → End
-lost end = record end { phase = Closed; incoming = []; outgoing = []; session = record end.session { lost = true } }
+abbrev pub lost_end : End → End
+lost_end end = record end { phase = Closed; incoming = []; outgoing = []; session = record end.session { lost = true } }

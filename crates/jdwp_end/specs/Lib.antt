@@ -2,6 +2,8 @@ pub mod Sessions
 pub mod Ends
 pub mod Runs
 pub mod Kept
+pub mod EndLends
+pub mod VecLends
 pub mod FrontLaws
 pub mod CarryingLaws
 pub mod TakingLaws

@@ -1,5 +1,6 @@
 //! One end of a session.
-ghost use Rattle.std.specs.Prelude.{◌≡◌, ◌≤◌, ◌<◌, ◌+◌, ◌-◌, ◌*◌, ◌++◌, [], List, None, true, false, ℕ, IfOk, length, take, drop, min};
+ghost use Rattle.std.specs.Prelude.{◌≡◌, ◌≤◌, ◌<◌, ◌+◌, ◌-◌, ◌*◌, ◌++◌, [], List, None, true, false, ℕ, IfOk, IfSome, length, take, drop, min};
+ghost use Rattle.std.specs.Borrow.{sem};
 ghost use Rattle.jdwp_wire.specs.Bytes.{IsBytes};
 ghost use Rattle.jdwp_wire.specs.Frames as frames;
 ghost use Rattle.jdwp_wire.specs.Frames.{front};
@@ -7,13 +8,14 @@ ghost use Rattle.jdwp_wire.specs.Streams.{Message, Packet, Whole, More};
 ghost use Rattle.jdwp_wire.specs.declared.packet.Header.{Header};
 ghost use Rattle.jdwp_wire.specs.Limits.{least_packet_limit, most_packet_limit};
 ghost use Rattle.jdwp_end.specs.Ends as ends;
-ghost use Rattle.jdwp_end.specs.Ends.{HasPacket, TellsFront, closed, front_of, lost, most_outgoing, new_end, opened, room_of, with_enqueued, with_fed, with_handled, with_taken};
+ghost use Rattle.jdwp_end.specs.Ends.{HasPacket, TellsFront, closed_end, front_of, lost_end, most_outgoing, new_end, opened_end, room_of, with_enqueued, with_fed, with_handled, with_taken};
 
 use crate::front::Front;
+use crate::parts::{are_bytes, join, shared};
 use crate::phase::Phase;
 use crate::session::Session;
-use byte_queue::ByteQueue;
-use jdwp_wire::{IdSizes, Limits, Next, NextHello, Wire, next_hello, next_packet_within};
+use circular_buffer::HeapCircularBuffer;
+use jdwp_wire::{IdSizes, Limits, NextHello, Standing, Wire, next_hello_in, standing_in};
 use std::alloc::{AllocError, Global};
 use std::marker::Model;
 
@@ -22,8 +24,10 @@ use std::marker::Model;
 pub struct End {
     limits: Limits,
     phase: Phase,
-    incoming: ByteQueue,
-    outgoing: ByteQueue,
+    incoming: HeapCircularBuffer<u8>,
+    outgoing: HeapCircularBuffer<u8>,
+    /// A value on its way into `outgoing`, or a packet in front that wraps in `incoming`: room for as much as may wait to leave.
+    scratch: Vec<u8>,
     session: Session,
 }
 
@@ -32,14 +36,16 @@ impl Model for End {
 
     ghost Value = { ends.End };
 
-    ghost use Rattle.jdwp_end.specs.Kept.{view_of, IsRight};
+    ghost use Rattle.jdwp_end.specs.Kept.{view_of, IsRightEnd};
 
     ghost view = { view_of };
 
-    ghost invariant = { IsRight };
+    ghost invariant = { IsRightEnd };
 }
 
 impl End {
+    ghost use Rattle.jdwp_end.specs.EndLends.{EndStays};
+
     /// A closed end before its first session. Its buffers are made here.
     ///
     /// # Errors
@@ -51,8 +57,9 @@ impl End {
         Ok(End {
             limits,
             phase: Phase::Closed,
-            incoming: ByteQueue::new(alloc, packet)?,
-            outgoing: ByteQueue::new(alloc, packet * 2)?,
+            incoming: HeapCircularBuffer::with_capacity(alloc, packet)?,
+            outgoing: HeapCircularBuffer::with_capacity(alloc, packet * 2)?,
+            scratch: Vec::with_capacity(alloc, packet * 2)?,
             session: Session::new(),
         })
     }
@@ -89,7 +96,7 @@ impl End {
 
     /// Begins a session: both buffers are empty, and the peer's handshake is waited for.
     pub fn open(&mut self)
-        ensures { self.new ≡ opened self.old }
+        ensures { self.new ≡ opened_end self.old }
     {
         self.phase = Phase::AwaitingHandshake;
         self.empty();
@@ -98,14 +105,14 @@ impl End {
 
     /// Ends the session. What waits to leave may still be taken.
     pub fn close(&mut self)
-        ensures { self.new ≡ closed self.old }
+        ensures { self.new ≡ closed_end self.old }
     {
         self.phase = Phase::Closed; // both buffers stay
     }
 
     /// The connection is lost: the end is closed and both buffers are empty.
     pub fn lose(&mut self)
-        ensures { self.new ≡ lost self.old }
+        ensures { self.new ≡ lost_end self.old }
     {
         self.phase = Phase::Closed;
         self.empty();
@@ -127,7 +134,9 @@ impl End {
     {
         match self.phase {
             Phase::Closed => 0,
-            Phase::AwaitingHandshake | Phase::Established => self.incoming.room(),
+            Phase::AwaitingHandshake | Phase::Established => {
+                self.incoming.capacity() - self.incoming.len()
+            }
         }
     }
 
@@ -136,14 +145,15 @@ impl End {
         ensures count { result ≡ min (length bytes.now) (room_of self.old) }
         ensures fed { self.new ≡ with_fed (take result bytes.now) self.old }
     {
-        let count = self.room().min(bytes.len());
-        let taken = &bytes[..count];
-        self.incoming.append(taken);
-        self.session.feed(taken);
+        if self.phase == Phase::Closed {
+            return 0;
+        }
+        let count = self.incoming.fill_from_slice(bytes);
+        self.session.feed(&bytes[..count]);
         count
     }
 
-    /// What there is to handle. `packet_in_front` lends a packet from where it lies.
+    /// What there is to handle. `packet_in_place` or `packet_joined` lends a packet.
     ///
     /// An open end that is not paused and asks for more has room for a byte.
     pub fn front(&self) -> Front
@@ -155,37 +165,58 @@ impl End {
         ensures most { self.now.limits.packet ≤ most_packet_limit }
         ensures flows { self.now.outgoing ≡ [] → ends.is_paused self.now ≡ false }
     {
-        let bytes = self.incoming.as_slice();
-        are_bytes(bytes);
+        let (first, second) = self.incoming.as_slices();
+        are_bytes(first, second);
         if self.is_paused() {
             return Front::More;
         }
         match self.phase {
             Phase::Closed => Front::More,
-            Phase::AwaitingHandshake => match next_hello(bytes) {
+            Phase::AwaitingHandshake => match next_hello_in(&self.incoming) {
                 NextHello::Whole => Front::Handshake,
                 NextHello::More => Front::More,
                 NextHello::Fault(fault) => Front::Fault(fault),
             },
-            Phase::Established => match next_packet_within(bytes, &self.limits) {
-                Next::Whole(_, used) => Front::Packet(used),
-                Next::More => Front::More,
-                Next::Fault(fault) => Front::Fault(fault),
+            Phase::Established => match standing_in(&self.incoming, &self.limits) {
+                Standing::Whole(used) => Front::Packet(used),
+                Standing::More => Front::More,
+                Standing::Fault(fault) => Front::Fault(fault),
             },
         }
     }
 
-    /// The bytes of the packet in front, which takes so many: in front of them stands the same packet.
-    pub fn packet_in_front(&self, used: usize) -> &[u8]
+    /// The bytes of the packet in front, which takes so many, where they lie: in front of them stands the same packet. None where they
+    /// wrap round the end of the ring.
+    pub fn packet_in_place(&self, used: usize) -> Option<&[u8]>
         requires { HasPacket used self.now }
-        ensures bytes { result.now ≡ take used self.now.incoming }
-        ensures packet { (header : Header) (body : List ℕ)
+        ensures bytes { IfSome result (λ bytes. bytes.now ≡ take used self.now.incoming) }
+        ensures packet { IfSome result (λ bytes. (header : Header) (body : List ℕ)
             → front_of self.now ≡ Whole (Packet header body) used
-            → front self.now.limits.packet result.now ≡ frames.Whole header body used }
+            → front self.now.limits.packet bytes.now ≡ frames.Whole header body used) }
     {
-        let arrived = self.incoming.as_slice();
-        are_bytes(arrived);
-        &arrived[..used]
+        let (first, second) = self.incoming.as_slices();
+        are_bytes(first, second);
+        if used <= first.len() {
+            Some(&first[..used])
+        } else {
+            None
+        }
+    }
+
+    /// The bytes of the packet in front, which takes so many, copied into one piece: in front of them stands the same packet. The end is
+    /// as it was. It takes no memory.
+    pub fn packet_joined(&mut self, used: usize) -> &[u8]
+        requires { HasPacket used self.old }
+        ensures* stays { sem 𝓛 (EndStays self.entry) }
+        ensures bytes { result.now ≡ take used self.old.incoming }
+        ensures packet { (header : Header) (body : List ℕ)
+            → front_of self.old ≡ Whole (Packet header body) used
+            → front self.old.limits.packet result.now ≡ frames.Whole header body used }
+    {
+        let (first, second) = self.incoming.as_slices();
+        are_bytes(first, second);
+        join(&mut self.scratch, first, second, used);
+        shared(&mut self.scratch)
     }
 
     /// What holds of every end: what came are bytes; one at which nothing waits is not paused; and one that is open, not paused and asks
@@ -196,7 +227,8 @@ impl End {
         ensures room { front_of self.now ≡ More → ends.is_open self.now ≡ true
             → ends.is_paused self.now ≡ false → 0 < room_of self.now }
     {
-        are_bytes(self.incoming.as_slice());
+        let (first, second) = self.incoming.as_slices();
+        are_bytes(first, second);
     }
 
     /// Takes the message in front off, which takes so many bytes: it is handled.
@@ -205,10 +237,10 @@ impl End {
         ensures { (message : Message) → front_of self.old ≡ Whole message used
             → self.new ≡ with_handled message used self.old }
     {
-        let bytes = self.incoming.as_slice();
-        are_bytes(bytes);
-        self.session.handle(&bytes[..used]);
-        self.incoming.drop_front(used);
+        let (first, second) = self.incoming.as_slices();
+        are_bytes(first, second);
+        self.session.handle(first, second, used);
+        self.incoming.truncate_front(self.incoming.len() - used);
         self.phase = Phase::Established;
     }
 
@@ -217,7 +249,7 @@ impl End {
         requires { length self.old.outgoing + length bytes.now ≤ most_outgoing self.old.limits }
         ensures { self.new ≡ with_enqueued bytes.now self.old }
     {
-        self.outgoing.append(bytes);
+        self.outgoing.fill_from_slice(bytes);
         self.session.enqueue(bytes);
     }
 
@@ -231,9 +263,10 @@ impl End {
         ensures encoded { T.encodes sizes.now (T.meaning value.now) (T.canonical sizes.now
             (T.meaning value.now)) }
     {
-        let before = self.outgoing.len();
-        self.outgoing.put(value, sizes);
-        self.session.enqueue(&self.outgoing.as_slice()[before..]);
+        self.scratch.clear();
+        value.put(sizes, &mut self.scratch).unwrap();
+        self.outgoing.fill_from_slice(&self.scratch);
+        self.session.enqueue(&self.scratch);
     }
 
     /// How many bytes wait to leave.
@@ -250,18 +283,8 @@ impl End {
         ensures bytes { out.new ≡ take result self.old.outgoing ++ drop result out.old }
         ensures taken { self.new ≡ with_taken (take result self.old.outgoing) self.old }
     {
-        let count = self.outgoing.len().min(out.len());
-        let taken = &self.outgoing.as_slice()[..count];
-        out[..count].copy_from_slice(taken);
-        self.session.take(taken);
-        self.outgoing.drop_front(count);
+        let count = self.outgoing.read_into(out);
+        self.session.take(&out[..count]);
         count
     }
-}
-
-/// The elements of a slice of bytes are bytes. It does nothing.
-fn are_bytes(_bytes: &[u8])
-    ensures { IsBytes _bytes.now }
-{
-    // Only contracts see it.
 }

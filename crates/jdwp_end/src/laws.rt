@@ -11,12 +11,16 @@ ghost use Rattle.jdwp_end.specs.Ends.{front_of, is_paused};
 /// Where a stream of messages that is cut anywhere came to an end that is not paused, its first message is there to handle once all of it came,
 /// and nothing before that. It does nothing.
 pub fn finds_first_message()
-    ensures handshake { (end : ends.End) (n : ℕ) (messages : List streams.Message) → end.phase ≡ phase.AwaitingHandshake
-        → is_paused end ≡ false → end.limits.packet < 2 ^ 32 → end.incoming ≡ take n (stream (streams.Handshake ∷ messages))
+    ensures handshake { (end : ends.End) (n : ℕ) (messages : List streams.Message)
+        → end.phase ≡ phase.AwaitingHandshake → is_paused end ≡ false
+        → end.limits.packet < 2 ^ 32
+        → end.incoming ≡ take n (stream (streams.Handshake ∷ messages))
         → front_of end ≡ front_of_cut n streams.Handshake }
-    ensures packet { (end : ends.End) (n : ℕ) (header : Header) (body : List ℕ) (messages : List streams.Message)
+    ensures packet { (end : ends.End) (n : ℕ) (header : Header) (body : List ℕ)
+        (messages : List streams.Message)
         → end.phase ≡ phase.Established → is_paused end ≡ false → end.limits.packet < 2 ^ 32
-        → IsPacket end.limits.packet header body → end.incoming ≡ take n (stream (streams.Packet header body ∷ messages))
+        → IsPacket end.limits.packet header body
+        → end.incoming ≡ take n (stream (streams.Packet header body ∷ messages))
         → front_of end ≡ front_of_cut n (streams.Packet header body) }
     ensures nothing { (end : ends.End) → end.incoming ≡ [] → front_of end ≡ streams.More }
 {}

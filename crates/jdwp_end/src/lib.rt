@@ -5,6 +5,7 @@
 mod end;
 mod front;
 mod laws;
+mod parts;
 mod phase;
 mod session;
 mod session_end;

@@ -1,7 +1,8 @@
 //! What happened in a session, for contracts alone: it takes no memory and no time.
-ghost use Rattle.std.specs.Prelude.{◌≡◌, ◌+◌, ◌++◌, true};
+ghost use Rattle.std.specs.Prelude.{◌≡◌, ◌≤◌, ◌+◌, ◌++◌, length, take, true};
 ghost use Rattle.jdwp_end.specs.Sessions.{new_session};
 
+use crate::parts::note;
 use std::marker::Model;
 use trace::{History, Trace};
 
@@ -54,12 +55,15 @@ impl Session {
         self.fed.extend(bytes);
     }
 
-    /// A message of these bytes was handled.
-    pub fn handle(&mut self, bytes: &[u8])
-        ensures { self.new ≡ record
-            self.old { handled = self.old.handled ++ bytes.now; turns = self.old.turns + 1 } }
+    /// A message was handled that has the first `used` bytes of these two parts.
+    pub fn handle(&mut self, first: &[u8], second: &[u8], used: usize)
+        requires { used ≤ length first.now + length second.now }
+        ensures { self.new ≡ record self.old {
+          handled = self.old.handled ++ take used (first.now ++ second.now);
+          turns = self.old.turns + 1;
+        } }
     {
-        self.handled.extend(bytes);
+        note(&mut self.handled, first, second, used);
         self.turns.push(&());
     }
 

@@ -15,7 +15,7 @@ pub trait SessionEnd {
     /// It, where these bytes of those that waited have left.
     ghost with_taken: { List ℕ → Self → Self };
     /// It, where the connection was lost.
-    ghost lost: { Self → Self };
+    ghost lost_end: { Self → Self };
 
     /// Whether a session is open: it began, and did not end.
     fn is_open(&self) -> bool
@@ -42,7 +42,7 @@ pub trait SessionEnd {
 
     /// The connection is lost.
     fn lose(&mut self)
-        ensures { self.new ≡ lost self.old };
+        ensures { self.new ≡ lost_end self.old };
 
     /// Bytes that have left have left its end.
     ghost taken_end: { (bytes : List ℕ) (e : Self) → end (with_taken bytes e) ≡ ends.with_taken bytes (end e) };

@@ -18,7 +18,7 @@ use Rattle.jdwp_target.specs.declared.target.Turn.{Turn}
 use Rattle.jdwp_target.specs.declared.target.Turn.TheVariants.{Nothing}
 use Rattle.jdwp_target.specs.Closings.{ClosesForReason}
 use Rattle.jdwp_target.specs.Standings.{handled}
-use Rattle.jdwp_target.specs.Targets.{Target, Ran, lost, opened, with_fed, with_taken}
+use Rattle.jdwp_target.specs.Targets.{Target, Ran, lost_target, opened_target, with_fed, with_taken}
 use Rattle.jdwp_target.specs.Turns.{TurnsAt}
 use Rattle.jdwp_pipe.specs.declared.ended.Ended.{Ended}
 use Rattle.jdwp_pipe.specs.declared.ended.Ended.TheVariants as ended
@@ -115,7 +115,7 @@ in-order base start s old new k p =
 
 -- a write of it failed
 fails : {S : Type 0} (base : Target S) (start s t : Story) (old new : Target S) (taken : List ℕ) → IsGoing base start s old → Puts old new
-    → FailsWrite s t new.end.outgoing → InOrder base start t (lost (with_taken taken new))
+    → FailsWrite s t new.end.outgoing → InOrder base start t (lost_target (with_taken taken new))
 fails base start s t old new taken k p f =
     let w = f.written in
     record {
@@ -167,15 +167,15 @@ stays-in-order base start s t old new k read written failed early settings began
 
 -- a read failed
 read-ends : {S : Type 0} (m : Meaning S) (base : Target S) (start s t : Story) (target : Target S) → IsGoing base start s target → FailsRead s t → FrontIs (λ next. next ≡ More) target.end → Ran m target
-    → InOrder base start t (lost target) × MayEnd m LostByRead start (flushed t) (lost target)
+    → InOrder base start t (lost_target target) × MayEnd m LostByRead start (flushed t) (lost_target target)
 read-ends m base start s t target k f front ran = (
-  stays-in-order base start s t target (lost target) k f.read f.written f.failed_writes f.early refl refl refl refl,
+  stays-in-order base start s t target (lost_target target) k f.read f.written f.failed_writes f.early refl refl refl refl,
   (omega (arith, f.fails, k.failed_reads, k.ends), front, (target, ran, k.kept, refl), (f.failed_writes ∙ k.failed_writes, refl)),
 )
 
 -- nothing changed, or the bytes in front begin no message
-lost-in-order : {S : Type 0} (base : Target S) (start s : Story) (target : Target S) → IsGoing base start s target → InOrder base start s (lost target)
-lost-in-order base start s target k = stays-in-order base start s s target (lost target) k refl refl refl refl refl refl refl refl
+lost-in-order : {S : Type 0} (base : Target S) (start s : Story) (target : Target S) → IsGoing base start s target → InOrder base start s (lost_target target)
+lost-in-order base start s target k = stays-in-order base start s s target (lost_target target) k refl refl refl refl refl refl refl refl
 
 same-in-order : {S : Type 0} (base : Target S) (start s : Story) (target : Target S) → IsGoing base start s target → InOrder base start s target
 same-in-order base start s target k = stays-in-order base start s s target target k refl refl refl refl refl refl refl refl
@@ -382,19 +382,19 @@ flush-in-order {S = S} base start now after old new o e settings began fed enque
     })
 
 -- the flush before steps or a read failed
-pub flush-ends : {S : Type 0} (m : Meaning S) (s t : Story) (target : Target S) → Ran m target → FailsFlush s t → EndsSo m target (lost target) s t LostByWrite
+pub flush-ends : {S : Type 0} (m : Meaning S) (s t : Story) (target : Target S) → Ran m target → FailsFlush s t → EndsSo m target (lost_target target) s t LostByWrite
 flush-ends m s t target ran e = (
   λ h. cc,
   λ base start k.
-      let o = flush-in-order base start s t target (lost target) (same-in-order base start s target k) e refl refl refl refl in
+      let o = flush-in-order base start s t target (lost_target target) (same-in-order base start s target k) e refl refl refl refl in
       (o, (rw e (omega (arith, k.failed_writes)), (target, ran, k.kept, refl))),
 )
 
 -- the last flush failed, and the connection is lost now
 pub kept-ends : {S : Type 0} (m : Meaning S) (base : Target S) (start now after : Story) (target : Target S) → Ran m target → target.end.session.lost ≡ false → InOrder base start now target
-    → FailsFlush now after → InOrder base start after (lost target) × MayEnd m LostByWrite start after (lost target)
+    → FailsFlush now after → InOrder base start after (lost_target target) × MayEnd m LostByWrite start after (lost_target target)
 kept-ends m base start now after target ran kept o e = (
-  flush-in-order base start now after target (lost target) o e refl refl refl refl,
+  flush-in-order base start now after target (lost_target target) o e refl refl refl refl,
   (rw e (omega (arith, o.failed_writes)), (target, ran, kept, refl)),
 )
 
@@ -432,7 +432,7 @@ refused-ends m base start now after target number o h e = (
 )
 
 -- a session that begins
-pub going-opened : {S : Type 0} (s : Story) (v : Target S) → v ≡ opened v → IsGoing v s s v
+pub going-opened : {S : Type 0} (s : Story) (v : Target S) → v ≡ opened_target v → IsGoing v s s v
 going-opened {S = S} s v e =
     subst (λ (x : Target S). IsGoing x s s x) (sym e)
     (record {
@@ -450,5 +450,5 @@ going-opened {S = S} s v e =
     })
 
 -- what is spent where a session begins
-pub cost-opened : {S : Type 0} (s : Story) (v : Target S) → v ≡ opened v → cost s v ≡ s.rooms
+pub cost-opened : {S : Type 0} (s : Story) (v : Target S) → v ≡ opened_target v → cost s v ≡ s.rooms
 cost-opened {S = S} s v e = subst (λ (x : Target S). cost s x ≡ s.rooms) (sym e) (omega arith)

@@ -6,7 +6,7 @@ use Rattle.jdwp_machine.specs.Meanings.{Meaning}
 use Rattle.jdwp_target.specs.declared.target.Stepped.{Stepped}
 use Rattle.jdwp_target.specs.declared.target.TargetFault.{TargetFault}
 use Rattle.jdwp_target.specs.declared.target.Turn.{Turn}
-use Rattle.jdwp_target.specs.Targets.{Target, opened}
+use Rattle.jdwp_target.specs.Targets.{Target, opened_target}
 use Rattle.jdwp_target.specs.Turns.{StepsWhere, TurnsAt, is_frozen}
 use Rattle.jdwp_pipe.specs.declared.ended.Ended.{Ended}
 use Rattle.jdwp_pipe.specs.declared.ended.Ended.TheVariants.{Done, LostByRead, LostByWrite, Refused, NoMemory, TurnLimit}
@@ -94,7 +94,7 @@ serves-spent m most base new start now how (Stays how' old now' after runs fails
     rw fails (omega (arith, kept-turns how' old, runs-spent m most base old start now' how' runs))
 
 -- of a session that begins
-pub opened-spent : {S : Type 0} (m : Meaning S) (most : ℕ) (old base new : Target S) (start now : Story) (how : Ended) → base ≡ opened old → Serves m most base start how new now
+pub opened-spent : {S : Type 0} (m : Meaning S) (most : ℕ) (old base new : Target S) (start now : Story) (how : Ended) → base ≡ opened_target old → Serves m most base start how new now
     → new.end.session.turns + now.rooms ≤ most + start.rooms
 opened-spent {S = S} m most old base new start now how begins serves =
     let none : turns base ≡ 0 = ap (λ (x : Target S). turns x) begins in

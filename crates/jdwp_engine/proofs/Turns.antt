@@ -8,7 +8,7 @@ use Rattle.jdwp_machine.specs.Meanings.{Meaning}
 use Rattle.jdwp_target.specs.declared.target.TargetFault.TheVariants.{Frame, NoMemory}
 use Rattle.jdwp_target.specs.declared.target.Turn.{Turn}
 use Rattle.jdwp_target.specs.declared.target.Turn.TheVariants.{Nothing}
-use Rattle.jdwp_target.specs.Targets.{Target, lost, with_handled}
+use Rattle.jdwp_target.specs.Targets.{Target, lost_target, with_handled}
 use Rattle.jdwp_target.specs.Turns.{TurnsAt, told_of, told_of_packet}
 use Rattle.jdwp_engine.specs.Outcome.{CallsForMemory}
 
@@ -32,7 +32,7 @@ nothing-More m (Whole message used) old new h = absurd (message-told m old messa
 nothing-More m More old new h = (refl, h.1)
 nothing-More m (Fault fault) old new h = absurd (let e = h.0 in cc)
 
-pub frame-Fault : {S : Type 0} (m : Meaning S) (next : NextMessage) (old new : Target S) (fault : FrameFault) → TurnsAt m next old (Err (Frame fault)) new → (next ≡ Fault fault) × (new ≡ lost old)
+pub frame-Fault : {S : Type 0} (m : Meaning S) (next : NextMessage) (old new : Target S) (fault : FrameFault) → TurnsAt m next old (Err (Frame fault)) new → (next ≡ Fault fault) × (new ≡ lost_target old)
 frame-Fault m (Whole message used) old new fault h = absurd (let e = h.0 in cc)
 frame-Fault m More old new fault h = absurd (let e = h.0 in cc)
 frame-Fault m (Fault fault') old new fault h = (let e = h.0 in cc, h.1)

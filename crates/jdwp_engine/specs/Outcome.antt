@@ -8,7 +8,7 @@ use Rattle.jdwp_end.specs.Runs.{Carries}
 use Rattle.jdwp_machine.specs.Meanings.{Meaning}
 use Rattle.jdwp_debuggee.specs.StepParts.{is_ready}
 use Rattle.jdwp_target.specs.Closings.{IsDispose}
-use Rattle.jdwp_target.specs.Targets.{Target, Ran, lost}
+use Rattle.jdwp_target.specs.Targets.{Target, Ran, lost_target}
 use Rattle.jdwp_target.specs.Turns.{NeedsMemory}
 use Rattle.jdwp_pipe.specs.declared.ended.Ended.{Ended}
 use Rattle.jdwp_pipe.specs.declared.ended.Ended.TheVariants.{Done, LostByRead, LostByWrite, Refused, NoMemory, TurnLimit}
@@ -38,7 +38,7 @@ IsFaultOf number next = (fault : FrameFault) × (number ≡ fault_number fault) 
 
 -- the connection was lost: the target is as after `lose`, and was not lost before
 abbrev pub IsLost : {S : Type 0} → Meaning S → Target S → Type 0
-IsLost {S = S} m target = (before : Target S) × Ran m before × (before.end.session.lost ≡ false) × (target ≡ lost before)
+IsLost {S = S} m target = (before : Target S) × Ran m before × (before.end.session.lost ≡ false) × (target ≡ lost_target before)
 
 -- the session goes on
 abbrev pub IsKept : {S : Type 0} → Target S → Type 0

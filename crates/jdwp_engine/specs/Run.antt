@@ -5,7 +5,7 @@ use Rattle.jdwp_end.specs.Ends.{is_open}
 use Rattle.jdwp_end.specs.Runs.{IsFront}
 use Rattle.jdwp_machine.specs.Meanings.{Meaning}
 use Rattle.jdwp_target.specs.Standings.{stands}
-use Rattle.jdwp_target.specs.Targets.{Target, Ran, lost, with_fed, with_taken}
+use Rattle.jdwp_target.specs.Targets.{Target, Ran, lost_target, with_fed, with_taken}
 use Rattle.jdwp_pipe.specs.Story.{FailsRead, FailsWrite, Story, with_read, with_written}
 
 -- From this target and this story on: the session began at its moment, the target was fed what was read, in order, what was written
@@ -40,7 +40,7 @@ WritesAll old new before after = (new ≡ with_taken old.end.outgoing old) × (a
 -- a write of what waited to leave failed, and the target lost the connection
 abbrev pub LosesAtWrite : {S : Type 0} → Meaning S → Target S → Target S → Story → Story → Type 0
 LosesAtWrite m old new before after =
-    FailsWrite before after old.end.outgoing × ((taken : List ℕ) × Ran m (with_taken taken old) × (new ≡ lost (with_taken taken old))) × (after.rooms ≡ before.rooms)
+    FailsWrite before after old.end.outgoing × ((taken : List ℕ) × Ran m (with_taken taken old) × (new ≡ lost_target (with_taken taken old))) × (after.rooms ≡ before.rooms)
 
 -- bytes were read and fed
 abbrev pub ReadsMore : {S : Type 0} → Target S → Target S → Story → Story → Type 0
@@ -48,7 +48,7 @@ ReadsMore old new before after = (more : List ℕ) × (new ≡ with_fed more old
 
 -- a read failed, and the target lost the connection
 abbrev pub LosesAtRead : {S : Type 0} → Target S → Target S → Story → Story → Type 0
-LosesAtRead old new before after = (new ≡ lost old) × FailsRead before after
+LosesAtRead old new before after = (new ≡ lost_target old) × FailsRead before after
 
 -- ---- what a run costs
 

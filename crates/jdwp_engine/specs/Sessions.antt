@@ -10,7 +10,7 @@ use Rattle.jdwp_target.specs.declared.target.TargetFault.TheVariants.{Frame}
 use Rattle.jdwp_target.specs.declared.target.TargetFault.TheVariants as target_fault
 use Rattle.jdwp_target.specs.declared.target.Turn.{Turn}
 use Rattle.jdwp_target.specs.declared.target.Turn.TheVariants.{Nothing}
-use Rattle.jdwp_target.specs.Targets.{Target, lost}
+use Rattle.jdwp_target.specs.Targets.{Target, lost_target}
 use Rattle.jdwp_target.specs.Turns.{TurnsAt}
 use Rattle.jdwp_pipe.specs.declared.ended.Ended.{Ended}
 use Rattle.jdwp_pipe.specs.declared.ended.Ended.TheVariants.{Done, LostByRead, LostByWrite, Refused, NoMemory, TurnLimit}
@@ -38,7 +38,7 @@ pub data LastRound {S : Type 0} (m : Meaning S) (old : Target S) (before : Story
   Closes : (mid : Target S) (now : Story) → Moves m old before (Ok true) mid now → is_open mid.end ≡ false → WritesAll mid new now after → LastRound m old before new after Done
   CantWrite : (came : Result Bool TargetFault) (mid : Target S) (now : Story) → Moves m old before came mid now → came ≢ Ok false → LosesAtWrite m mid new now after
       → LastRound m old before new after LostByWrite
-  CantFlush : front_of old.end ≡ More → FailsFlush before after → new ≡ lost old → LastRound m old before new after LostByWrite
+  CantFlush : front_of old.end ≡ More → FailsFlush before after → new ≡ lost_target old → LastRound m old before new after LostByWrite
   CantRead : (mid : Target S) (now : Story) → Moves m old before (Ok false) mid now → LosesAtRead mid new now after → LastRound m old before new after LostByRead
   Faults : (fault : FrameFault) → TurnsAt m (front_of old.end) old (Err (Frame fault)) new → after ≡ before → LastRound m old before new after (Refused (fault_number fault))
   WantsToTurn : TurnsAt m (front_of old.end) old (Err target_fault.NoMemory) new → after ≡ before → LastRound m old before new after NoMemory
@@ -59,9 +59,9 @@ pub data Runs {S : Type 0} (m : Meaning S) (rounds : ℕ) (base : Target S) (sta
 
 -- what a session leaves whose last flush failed: the connection is lost, where it was not before
 abbrev pub unflushed_target : {S : Type 0} → Ended → Target S → Target S
-unflushed_target Done target = lost target
-unflushed_target NoMemory target = lost target
-unflushed_target TurnLimit target = lost target
+unflushed_target Done target = lost_target target
+unflushed_target NoMemory target = lost_target target
+unflushed_target TurnLimit target = lost_target target
 unflushed_target LostByRead target = target
 unflushed_target LostByWrite target = target
 unflushed_target (Refused number) target = target

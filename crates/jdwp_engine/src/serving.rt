@@ -5,7 +5,7 @@ ghost use Rattle.jdwp_wire.specs.Streams.{More};
 ghost use Rattle.jdwp_machine.specs.Meanings.{numbers};
 ghost use Rattle.jdwp_target.specs.declared.target.Stepped as declared;
 ghost use Rattle.jdwp_target.specs.Targets as spec;
-ghost use Rattle.jdwp_target.specs.Targets.{Ran, opened};
+ghost use Rattle.jdwp_target.specs.Targets.{Ran, opened_target};
 ghost use Rattle.jdwp_target.specs.Turns.{StepsAt};
 ghost use Rattle.jdwp_pipe.specs.Endings.{unflushed_end};
 ghost use Rattle.jdwp_pipe.specs.Story.{FailsFlush, Story, flushed};
@@ -41,7 +41,7 @@ pub fn serve<M: Machine + Drop, P: Pipe>(target: &mut Target<M>, pipe: &mut P, r
     ensures ended { is_open target.old.end ≡ false → target.old.moment.state.alive ≡ true
         → MayEnd M.meaning result (P.story pipe.old) (P.story pipe.new) target.new }
     ensures rounds { is_open target.old.end ≡ false → target.old.moment.state.alive ≡ true
-        → Serves M.meaning rounds (opened target.old) (P.story pipe.old) result target.new
+        → Serves M.meaning rounds (opened_target target.old) (P.story pipe.old) result target.new
         (P.story pipe.new) }
     ensures limit { result ≡ Ended.TurnLimit → rounds + (P.story pipe.old).rooms
         ≤ cost (P.story pipe.new) target.new }
@@ -69,7 +69,7 @@ fn run_session<M: Machine + Drop, P: Pipe>(
     pipe: &mut P,
     rounds: u64,
 ) -> Ended
-    requires opened { target.old ≡ opened target.old }
+    requires opened { target.old ≡ opened_target target.old }
     ensures in_order { InOrder target.old (P.story pipe.old) (P.story pipe.new) target.new }
     ensures ended { MayEnd M.meaning result (P.story pipe.old) (P.story pipe.new) target.new }
     ensures limit { result ≡ Ended.TurnLimit → rounds + (P.story pipe.old).rooms
@@ -111,7 +111,7 @@ fn run_rounds<M: Machine + Drop, P: Pipe>(
     pipe: &mut P,
     rounds: u64,
 ) -> Ended
-    requires opened { target.old ≡ opened target.old }
+    requires opened { target.old ≡ opened_target target.old }
     ensures in_order { InOrder target.old (P.story pipe.old) (P.story pipe.new) target.new }
     ensures ended { MayEnd M.meaning result (P.story pipe.old)
         (flushed (P.story pipe.new)) target.new }

@@ -10,7 +10,7 @@ use Rattle.jdwp_event.specs.declared.kinds_asked.KindsAsked.{KindsAsked}
 use Rattle.jdwp_event.specs.EventKinds.{kind_byte}
 use Rattle.jdwp_event.specs.Occurrences.{Moved, Entered, Left, Threw, Prepared, Started, RanOut, OccurrenceMeaning, HappeningMeaning}
 use Rattle.jdwp_event.specs.Modifiers.{ModifierMeaning}
-use Rattle.jdwp_event.specs.Requests.{Request, Asked, Origin}
+use Rattle.jdwp_event.specs.Requests.{Request, AskedRequest, Origin}
 use Rattle.jdwp_event.specs.Filters.{kinds_of, is_of_kind, passes_modifier, passes, passing, place_of, origin_at, is_count, reached_after, counted, all_counted}
 use Rattle.jdwp_event.specs.KindsAsked.{has_kind, asks_for, is_asked, has_count, any_has_count, AreAsked}
 use Rattle.jdwp_event.specs.Composites.{composite_by, gathered}
@@ -79,7 +79,7 @@ none_match h (r ∷ rs) e =
 -- ---- counting leaves the kinds
 
 kind_counted : (h : HappeningMeaning) (r : Request) → (counted h r).asked.kind ≡ r.asked.kind
-kind_counted h r = ap (λ (a : Asked). a.kind) (if_asked (is_of_kind h.occurrence r.asked.kind) _ r refl)
+kind_counted h r = ap (λ (a : AskedRequest). a.kind) (if_asked (is_of_kind h.occurrence r.asked.kind) _ r refl)
 
 has_counted : (h : HappeningMeaning) (byte : ℕ) (rs : List Request) → has_kind byte (all_counted h rs) ≡ has_kind byte rs
 has_counted h byte [] = refl
@@ -90,7 +90,7 @@ among_counted h [] rs = refl
 among_counted h (k ∷ ks) rs = rw (has_counted h (kind_byte k) rs, among_counted h ks rs) refl
 
 modifiers_counted : (h : HappeningMeaning) (r : Request) → (counted h r).asked.modifiers ≡ r.asked.modifiers
-modifiers_counted h r = ap (λ (a : Asked). a.modifiers) (if_asked (is_of_kind h.occurrence r.asked.kind) _ r refl)
+modifiers_counted h r = ap (λ (a : AskedRequest). a.modifiers) (if_asked (is_of_kind h.occurrence r.asked.kind) _ r refl)
 
 counts_counted : (h : HappeningMeaning) (rs : List Request) → any_has_count (all_counted h rs) ≡ any_has_count rs
 counts_counted h [] = refl

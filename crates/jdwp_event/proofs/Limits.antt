@@ -8,7 +8,7 @@ use Rattle.jdwp_event.specs.ModifierMeanings.{modifier_meaning}
 use Rattle.jdwp_event.specs.Occurrences.{HappeningMeaning}
 use Rattle.jdwp_event.specs.Requests.{Origin, Request, new_request}
 use Rattle.jdwp_event.specs.Filters.{is_of_kind, place_of, passes_all, reached_after, origin_at, counted, once_more}
-use Rattle.jdwp_event.specs.RequestParts.{LimitMeaning, new_limit, limit_passes, limit_counted, limits_after, asked_modifiers, times_reached, modifier_at}
+use Rattle.jdwp_event.specs.RequestParts.{LimitMeaning, new_limit, limit_passes, limit_counted, limits_after, asked_modifiers, times_reached, nth_modifier}
 
 -- a list with one element changed
 pub set_is : {X : Type 0} (xs : List X) (i : ℕ) (y : X) → i < length xs → take i xs ++ y ∷ drop (suc i) xs ≡ set xs i y
@@ -67,12 +67,12 @@ count_none h id kind policy ls o k = rw k refl
 
 -- ---- a modifier by its place
 
-pub modifier_there : (ls : List LimitMeaning) (i : ℕ) (d : LimitMeaning) → i < length ls → Some (get_or ls i d).modifier ≡ modifier_at (asked_modifiers ls) i
+pub modifier_there : (ls : List LimitMeaning) (i : ℕ) (d : LimitMeaning) → i < length ls → Some (get_or ls i d).modifier ≡ nth_modifier (asked_modifiers ls) i
 modifier_there [] i d lt = absurd (omega arith)
 modifier_there (l ∷ ls) zero d lt = refl
 modifier_there (l ∷ ls) (suc i) d lt = modifier_there ls i d (omega arith)
 
-pub modifier_past : (ls : List LimitMeaning) (i : ℕ) → length ls ≤ i → None ≡ modifier_at (asked_modifiers ls) i
+pub modifier_past : (ls : List LimitMeaning) (i : ℕ) → length ls ≤ i → None ≡ nth_modifier (asked_modifiers ls) i
 modifier_past [] i le = refl
 modifier_past (l ∷ ls) zero le = absurd (omega arith)
 modifier_past (l ∷ ls) (suc i) le = modifier_past ls i (omega arith)

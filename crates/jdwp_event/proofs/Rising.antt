@@ -6,7 +6,7 @@ use Rattle.std.proofs.Math.ListN.{set}
 use Rattle.std.proofs.lemmas.List.{drop_more}
 use Rattle.std.proofs.lemmas.Bool.Decides.{nat_tests}
 use Rattle.jdwp_event.specs.Occurrences.{HappeningMeaning}
-use Rattle.jdwp_event.specs.Requests.{Asked, Request}
+use Rattle.jdwp_event.specs.Requests.{AskedRequest, Request}
 use Rattle.jdwp_event.specs.Filters.{counted, all_counted, is_of_kind}
 use Rattle.jdwp_event.specs.RequestLists.{AllAbove, AllBelow, StartsAbove, AreRising, has_id, placed}
 use Rattle.jdwp_event.proofs.Limits.{set_is}
@@ -132,7 +132,7 @@ if_asked true r s e = e
 if_asked false r s e = refl
 
 counted_id : (h : HappeningMeaning) (r : Request) → (counted h r).asked.id ≡ r.asked.id
-counted_id h r = ap (λ (a : Asked). a.id) (if_asked (is_of_kind h.occurrence r.asked.kind) _ r refl)
+counted_id h r = ap (λ (a : AskedRequest). a.id) (if_asked (is_of_kind h.occurrence r.asked.kind) _ r refl)
 
 counted_above : (id : ℕ) (h : HappeningMeaning) (rs : List Request) → AllAbove id rs → AllAbove id (all_counted h rs)
 counted_above id h [] a = tt

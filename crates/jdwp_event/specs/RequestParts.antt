@@ -64,10 +64,10 @@ limits_after origin h [] = []
 limits_after origin h (l ∷ ls) = limit_counted l ∷ (if limit_passes origin h l then limits_after origin h ls else ls)
 
 -- the modifier at a place, counted from 0
-abbrev pub modifier_at : List ModifierMeaning → ℕ → Option ModifierMeaning
-modifier_at [] place = None
-modifier_at (m ∷ ms) zero = Some m
-modifier_at (m ∷ ms) (suc place) = modifier_at ms place
+abbrev pub nth_modifier : List ModifierMeaning → ℕ → Option ModifierMeaning
+nth_modifier [] place = None
+nth_modifier (m ∷ ms) zero = Some m
+nth_modifier (m ∷ ms) (suc place) = nth_modifier ms place
 
 -- ---- what a happening shows
 

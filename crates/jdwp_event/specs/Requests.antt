@@ -3,7 +3,7 @@ use Rattle.std.specs.Prelude.{ℕ, List, map, Option}
 use Rattle.jdwp_event.specs.Modifiers.{ModifierMeaning}
 
 -- A request as it was asked for: its id, its kind and policy as bytes, and its modifiers in the order sent.
-pub record Asked : Type 0 where
+pub record AskedRequest : Type 0 where
   pub id : ℕ
   pub kind : ℕ
   pub policy : ℕ
@@ -16,14 +16,14 @@ pub record Origin : Type 0 where
 
 -- A request, how often each of its modifiers was reached where that is a Count and else 0, and from where its steps are measured.
 pub record Request : Type 0 where
-  pub asked : Asked
+  pub asked : AskedRequest
   pub reached : List ℕ
   pub origin : Origin
 
 -- a request before anything happened
-abbrev pub new_request : Asked → Origin → Request
+abbrev pub new_request : AskedRequest → Origin → Request
 new_request asked origin = record { asked = asked; reached = map (λ (m : ModifierMeaning). 0) asked.modifiers; origin = origin }
 
 -- all requests as asked
-abbrev pub all_asked : List Request → List Asked
+abbrev pub all_asked : List Request → List AskedRequest
 all_asked requests = map (λ (r : Request). r.asked) requests

@@ -241,8 +241,8 @@ fn parts_of(modifier: &Modifier) -> Parts<'_>
 
 /// How many bytes a modifier with a pattern takes; None past `usize`.
 fn pattern_size(pattern: &String, sizes: &IdSizes) -> Option<usize>
-    ensures { result ≡ in_usize
-        (length (entry_canonical sizes.now (Byte CLASS_MATCH ∷ Text (string_bytes pattern.now) ∷ []))) }
+    ensures { result ≡ in_usize (length (entry_canonical sizes.now
+        (Byte CLASS_MATCH ∷ Text (string_bytes pattern.now) ∷ []))) }
 {
     let text = pattern.size(sizes)?;
     text.checked_add(1)

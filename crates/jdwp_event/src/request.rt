@@ -2,7 +2,7 @@
 ghost use Rattle.std.specs.Prelude.{◌≡◌, ◌≤◌, ◌<◌, length, IfOk, IfErr, []};
 ghost use Rattle.jdwp_wire.specs.Numbers.{greatest_int};
 ghost use Rattle.jdwp_event.specs.ModifierMeanings.{modifier_meaning, found_modifier_behind};
-ghost use Rattle.jdwp_event.specs.RequestParts.{origin_meaning, modifiers_meaning, new_limit, limit_passes, limit_counted, limits_after, asked_modifiers, times_reached, modifier_at};
+ghost use Rattle.jdwp_event.specs.RequestParts.{origin_meaning, modifiers_meaning, new_limit, limit_passes, limit_counted, limits_after, asked_modifiers, times_reached, nth_modifier};
 ghost use Rattle.jdwp_event.specs.Requests.{new_request};
 ghost use Rattle.jdwp_event.specs.Filters.{passes_all, passes, counted};
 ghost use Rattle.jdwp_event.specs.KindsAsked.{has_count};
@@ -198,7 +198,7 @@ impl Request {
 
     /// The modifier at this place in the order sent, counted from 0; None past the last.
     pub fn modifier(&self, place: usize) -> Option<&Modifier>
-        ensures { found_modifier_behind result ≡ modifier_at self.now.asked.modifiers place }
+        ensures { found_modifier_behind result ≡ nth_modifier self.now.asked.modifiers place }
     {
         match self.limits.get(place) {
             Some(limit) => Some(&limit.modifier),

@@ -17,6 +17,8 @@ mod happening_tests;
 #[cfg(test)]
 mod request_tests;
 #[cfg(test)]
+mod ring_tests;
+#[cfg(test)]
 mod table_tests;
 #[cfg(test)]
 mod trace_tests;

@@ -19,7 +19,7 @@ use Rattle.jdwp_value.specs.Regions.{EncodesRegion}
 use Rattle.jdwp_value.specs.RegionLaws.{region_codes, region_unrefused}
 use Rattle.jdwp_layout.specs.declared.datum.Datum.{Datum}
 use Rattle.jdwp_layout.specs.Shapes.{ItemShape, OneOf, ListOf, RegionOf}
-use Rattle.jdwp_layout.specs.Meanings.{DatumMeaning, One, Many, Elements, meanings}
+use Rattle.jdwp_layout.specs.Meanings.{DatumMeaning, One, Many, Elements, Raw, meanings}
 use Rattle.jdwp_layout.specs.Grammar.{EncodesField, EncodesEntry, EncodesItem, ItemFault, EncodesData, ItemsFault, DataFaults}
 use Rattle.jdwp_layout.specs.Reads.{item_at, items_at, data_at}
 use Rattle.jdwp_layout.specs.Skips.{Judges}
@@ -53,6 +53,9 @@ item_held w RegionOf (One x) code s = absurd s
 item_held w RegionOf (Many xs) code s = absurd s
 item_held w (OneOf field) (Elements region) code s = absurd s
 item_held w (ListOf entry) (Elements region) code s = absurd s
+item_held w (OneOf field) (Raw bytes) code s = absurd s
+item_held w (ListOf entry) (Raw bytes) code s = absurd s
+item_held w RegionOf (Raw bytes) code s = absurd s
 
 pub item_codes : (w : Widths) (whole : ℕ) (item : ItemShape) → Codes (item_at w whole item) (EncodesItem w item) (ItemFault w whole item)
 item_codes w whole item = codes_as (EncodesItem w item) (item_encoded w item) (item_held w item) (held_item_codes w whole item)

@@ -45,6 +45,9 @@ EVENT_REQUEST = 15
 abbrev pub STACK_FRAME : ℕ
 STACK_FRAME = 16
 
+abbrev pub MODULE_REFERENCE : ℕ
+MODULE_REFERENCE = 18
+
 -- the set of what a target sends; those from 0 up to it go to the target
 abbrev pub EVENT : ℕ
 EVENT = 64
@@ -99,6 +102,9 @@ CAPABILITIES_NEW = record { set = VIRTUAL_MACHINE; number = 17 }
 abbrev pub ALL_CLASSES_WITH_GENERIC : CommandNumber
 ALL_CLASSES_WITH_GENERIC = record { set = VIRTUAL_MACHINE; number = 20 }
 
+abbrev pub ALL_MODULES : CommandNumber
+ALL_MODULES = record { set = VIRTUAL_MACHINE; number = 22 }
+
 -- ---- ReferenceType
 
 abbrev pub SIGNATURE : CommandNumber
@@ -136,6 +142,9 @@ FIELDS_WITH_GENERIC = record { set = REFERENCE_TYPE; number = 14 }
 
 abbrev pub METHODS_WITH_GENERIC : CommandNumber
 METHODS_WITH_GENERIC = record { set = REFERENCE_TYPE; number = 15 }
+
+abbrev pub CLASS_MODULE : CommandNumber
+CLASS_MODULE = record { set = REFERENCE_TYPE; number = 19 }
 
 -- ---- ClassType
 
@@ -244,6 +253,14 @@ SET_SLOTS = record { set = STACK_FRAME; number = 2 }
 
 abbrev pub THIS_OBJECT : CommandNumber
 THIS_OBJECT = record { set = STACK_FRAME; number = 3 }
+
+-- ---- ModuleReference
+
+abbrev pub MODULE_NAME : CommandNumber
+MODULE_NAME = record { set = MODULE_REFERENCE; number = 1 }
+
+abbrev pub MODULE_CLASS_LOADER : CommandNumber
+MODULE_CLASS_LOADER = record { set = MODULE_REFERENCE; number = 2 }
 
 -- ---- Event
 

@@ -27,7 +27,7 @@ virtual_machine_rows =
     (19, starred (codes "VirtualMachine") (codes "SetDefaultStratum") (OneOf String ∷ []) []) ∷
     (20, answered (codes "VirtualMachine") (codes "AllClassesWithGeneric") [] (ListOf (Fields (Byte ∷ ReferenceTypeId ∷ String ∷ String ∷ Int ∷ [])) ∷ [])) ∷
     (21, starred (codes "VirtualMachine") (codes "InstanceCounts") (ListOf (Fields (ReferenceTypeId ∷ [])) ∷ []) (ListOf (Fields (Long ∷ [])) ∷ [])) ∷
-    (22, starred (codes "VirtualMachine") (codes "AllModules") [] (ListOf (Fields (ObjectId ∷ [])) ∷ [])) ∷
+    (22, answered (codes "VirtualMachine") (codes "AllModules") [] (ListOf (Fields (ObjectId ∷ [])) ∷ [])) ∷
     []
 
 abbrev pub reference_type_rows : List (ℕ × Row)
@@ -50,7 +50,7 @@ reference_type_rows =
     (16, starred (codes "ReferenceType") (codes "Instances") (OneOf ReferenceTypeId ∷ OneOf Int ∷ []) (ListOf (Fields (TaggedId ∷ [])) ∷ [])) ∷
     (17, starred (codes "ReferenceType") (codes "ClassFileVersion") (OneOf ReferenceTypeId ∷ []) (OneOf Int ∷ OneOf Int ∷ [])) ∷
     (18, starred (codes "ReferenceType") (codes "ConstantPool") (OneOf ReferenceTypeId ∷ []) (OneOf Int ∷ ListOf (Fields (Byte ∷ [])) ∷ [])) ∷
-    (19, starred (codes "ReferenceType") (codes "Module") (OneOf ReferenceTypeId ∷ []) (OneOf ObjectId ∷ [])) ∷
+    (19, answered (codes "ReferenceType") (codes "Module") (OneOf ReferenceTypeId ∷ []) (OneOf ObjectId ∷ [])) ∷
     []
 
 abbrev pub class_type_rows : List (ℕ × Row)
@@ -157,8 +157,8 @@ class_object_reference_rows =
 
 abbrev pub module_reference_rows : List (ℕ × Row)
 module_reference_rows =
-    (1, starred (codes "ModuleReference") (codes "Name") (OneOf ObjectId ∷ []) (OneOf String ∷ [])) ∷
-    (2, starred (codes "ModuleReference") (codes "ClassLoader") (OneOf ObjectId ∷ []) (OneOf ObjectId ∷ [])) ∷
+    (1, answered (codes "ModuleReference") (codes "Name") (OneOf ObjectId ∷ []) (OneOf String ∷ [])) ∷
+    (2, answered (codes "ModuleReference") (codes "ClassLoader") (OneOf ObjectId ∷ []) (OneOf ObjectId ∷ [])) ∷
     []
 
 abbrev pub event_rows : List (ℕ × Row)

@@ -1,5 +1,5 @@
 -- What data say, apart from where they lie in memory.
-use Rattle.std.specs.Prelude.{ℕ, ℤ, List, Bool, map}
+use Rattle.std.specs.Prelude.{ℕ, ℤ, List, [], ◌∷◌, Bool, Option, Some, None, map}
 use Rattle.std.specs.Global.{Vec}
 use Rattle.std.specs.String.{string_bytes}
 use Rattle.jdwp_value.specs.declared.location.Location.{Location}
@@ -27,11 +27,13 @@ pub data ScalarMeaning : Type 0 where
   Valued : Value → ScalarMeaning
   Tagged : TaggedId → ScalarMeaning
 
--- What an item holds: a field's, a list's entries, of which each holds what its fields do, or a region.
+-- What an item holds: a field's, a list's entries, of which each holds what its fields do, or a region; or the bytes of data that are not
+-- read, which are no item's.
 pub data DatumMeaning : Type 0 where
   One : ScalarMeaning → DatumMeaning
   Many : List (List ScalarMeaning) → DatumMeaning
   Elements : Region → DatumMeaning
+  Raw : List ℕ → DatumMeaning
 
 abbrev pub scalar_meaning : Scalar → ScalarMeaning
 scalar_meaning (scalar.Byte n) = Byte n
@@ -61,6 +63,12 @@ abbrev pub datum_meaning : Datum → DatumMeaning
 datum_meaning (datum.One x) = One (scalar_meaning x)
 datum_meaning (datum.Many entries) = Many (entry_meanings entries.items)
 datum_meaning (datum.Region region) = Elements region
+datum_meaning (datum.Raw bytes) = Raw bytes.items
 
 abbrev pub meanings : List Datum → List DatumMeaning
 meanings xs = map datum_meaning xs
+
+-- the bytes of data that are not read
+abbrev pub raw_bytes : List DatumMeaning → Option (List ℕ)
+raw_bytes (Raw bytes ∷ []) = Some bytes
+raw_bytes xs = None

@@ -17,7 +17,7 @@ use Rattle.jdwp_layout.specs.declared.item.Field.{Field}
 use Rattle.jdwp_layout.specs.declared.item.Field.TheVariants as field
 use Rattle.jdwp_layout.specs.ModifiersAndEvents.{modifier_fields, event_fields}
 use Rattle.jdwp_layout.specs.Shapes.{EntryShape, Fields, Modifiers, Events, ItemShape, OneOf, ListOf, RegionOf}
-use Rattle.jdwp_layout.specs.Meanings.{ScalarMeaning, Byte, Boolean, Int, Long, Text, Object, ReferenceType, Method, OfField, Frame, Located, Valued, Tagged, DatumMeaning, One, Many, Elements}
+use Rattle.jdwp_layout.specs.Meanings.{ScalarMeaning, Byte, Boolean, Int, Long, Text, Object, ReferenceType, Method, OfField, Frame, Located, Valued, Tagged, DatumMeaning, One, Many, Elements, Raw}
 
 -- ---- the canonical encoding
 
@@ -43,6 +43,7 @@ abbrev pub datum_canonical : Widths → DatumMeaning → List ℕ
 datum_canonical w (One x) = scalar_canonical w x
 datum_canonical w (Many xs) = list_canonical (entry_canonical w) xs
 datum_canonical w (Elements region) = region_canonical w region
+datum_canonical w (Raw bytes) = bytes
 
 abbrev pub data_canonical : Widths → List DatumMeaning → List ℕ
 data_canonical w xs = flat_map (datum_canonical w) xs

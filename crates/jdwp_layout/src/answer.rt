@@ -1,6 +1,7 @@
 //! What a command is answered.
 ghost use Rattle.std.specs.Prelude.{◌≡◌, IfOk};
-ghost use Rattle.jdwp_layout.specs.Meanings.{meanings};
+ghost use Rattle.std.specs.Option.{option_map};
+ghost use Rattle.jdwp_layout.specs.Meanings.{meanings, raw_bytes};
 
 use crate::datum::{Datum, copy_items};
 use jdwp_wire::{ErrorCode, NoMemory};
@@ -49,6 +50,16 @@ impl Data {
     {
         let items = copy_items(alloc, self.items.as_slice())?;
         Ok(Data { items })
+    }
+
+    /// The bytes, where the data are not read; None where they are.
+    pub fn raw(&self) -> Option<&[u8]>
+        ensures { option_map (λ bytes. bytes.now) result ≡ raw_bytes self.now }
+    {
+        match self.items.as_slice() {
+            [Datum::Raw(bytes)] => Some(bytes.as_slice()),
+            _ => None,
+        }
     }
 
     /// The items themselves.

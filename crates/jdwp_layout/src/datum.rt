@@ -36,6 +36,9 @@ pub enum Datum {
     Many(Vec<Vec<Scalar>>),
     /// An array region.
     Region(ArrayRegion),
+    /// Data that are not read, as they are: alone in the answer to a command whose data are not read. No layout has such
+    /// an item.
+    Raw(Vec<u8>),
 }
 
 impl Scalar {
@@ -77,6 +80,7 @@ impl Datum {
             Datum::One(scalar) => Datum::One(scalar.copied(alloc)?),
             Datum::Many(entries) => Datum::Many(copy_entries(alloc, entries)?),
             Datum::Region(region) => Datum::Region(region.copied(alloc)?),
+            Datum::Raw(bytes) => Datum::Raw(Vec::from_slice(alloc, bytes)?),
         };
         Ok(copy)
     }

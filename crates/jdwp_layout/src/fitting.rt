@@ -48,6 +48,7 @@ fn datum_size(value: &Datum, sizes: &IdSizes) -> Option<usize>
             size.checked_add(4)
         }
         Datum::Region(region) => region.size(sizes),
+        Datum::Raw(bytes) => Some(bytes.len()),
     }
 }
 

@@ -22,6 +22,8 @@ pub const ARRAY_REFERENCE: u8 = 13;
 pub const EVENT_REQUEST: u8 = 15;
 /// The command set StackFrame.
 pub const STACK_FRAME: u8 = 16;
+/// The command set ModuleReference.
+pub const MODULE_REFERENCE: u8 = 18;
 /// The command set Event, of commands that a target sends. Those from 0 up to it go to the target.
 pub const EVENT: u8 = 64;
 
@@ -57,6 +59,8 @@ pub const RELEASE_EVENTS: u8 = 16;
 pub const CAPABILITIES_NEW: u8 = 17;
 /// VirtualMachine.AllClassesWithGeneric.
 pub const ALL_CLASSES_WITH_GENERIC: u8 = 20;
+/// VirtualMachine.AllModules.
+pub const ALL_MODULES: u8 = 22;
 
 /// ReferenceType.Signature.
 pub const SIGNATURE: u8 = 1;
@@ -82,6 +86,8 @@ pub const SIGNATURE_WITH_GENERIC: u8 = 13;
 pub const FIELDS_WITH_GENERIC: u8 = 14;
 /// ReferenceType.MethodsWithGeneric.
 pub const METHODS_WITH_GENERIC: u8 = 15;
+/// ReferenceType.Module.
+pub const CLASS_MODULE: u8 = 19;
 
 /// ClassType.Superclass.
 pub const SUPERCLASS: u8 = 1;
@@ -151,6 +157,11 @@ pub const GET_SLOTS: u8 = 1;
 pub const SET_SLOTS: u8 = 2;
 /// StackFrame.ThisObject.
 pub const THIS_OBJECT: u8 = 3;
+
+/// ModuleReference.Name.
+pub const MODULE_NAME: u8 = 1;
+/// ModuleReference.ClassLoader.
+pub const MODULE_CLASS_LOADER: u8 = 2;
 
 /// Event.Composite.
 pub const COMPOSITE: u8 = 100;

@@ -10,9 +10,9 @@ use Rattle.jdwp_end.specs.declared.phase.Phase.{Phase}
 use Rattle.jdwp_end.specs.declared.phase.Phase.TheVariants.{Closed, AwaitingHandshake, Established}
 use Rattle.jdwp_end.specs.Ends.{is_established_phase, is_open, is_open_phase, is_paused}
 use Rattle.jdwp_machine.specs.Meanings.{Meaning}
-use Rattle.jdwp_debuggee.specs.Actions.{Command}
+use Rattle.jdwp_action.specs.Actions.{Command}
 use Rattle.jdwp_debuggee.specs.Settings.{Settings}
-use Rattle.jdwp_debuggee.specs.CommandPackets.{carried_bytes, is_for_target, packet_length}
+use Rattle.jdwp_action.specs.CommandPackets.{carried_bytes, is_for_target, packet_length}
 use Rattle.jdwp_mirror.specs.Messages.{Asks, LAST_TICKET}
 use Rattle.jdwp_debugger.specs.Asking.{EncodesCommand, HasAsked, asked, command_bytes, command_header, is_busy, refusal_by, refusal_of_ask}
 use Rattle.jdwp_debugger.specs.Debuggers.{Asked, Debugger}

@@ -5,7 +5,7 @@ use Rattle.std.specs.List.{AllByRecursion, position_from}
 use Rattle.std.proofs.lemmas.Bool.{eq-eqb, ne_eqb, or_parts}
 use Rattle.std.proofs.lemmas.List.{append_assoc, drop_at, take_at, length-append}
 use Rattle.std.proofs.Math.Seq.{get_or-append_seam}
-use Rattle.jdwp_debuggee.specs.Actions.{Command}
+use Rattle.jdwp_action.specs.Actions.{Command}
 use Rattle.jdwp_mirror.specs.Faults.{is_waited_for}
 use Rattle.jdwp_mirror.specs.Messages.{Ticket, same_ticket, Greets, Asks, Handshake, Reply, Report}
 use Rattle.jdwp_debugger.specs.Debuggers.{AreDistinct, Asked}

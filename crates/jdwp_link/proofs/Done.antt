@@ -14,7 +14,7 @@ use Rattle.jdwp_target.specs.declared.target.Stepped.{Stepped}
 use Rattle.jdwp_target.specs.declared.target.Turn.{Turn}
 use Rattle.jdwp_model.specs.Events
 use Rattle.jdwp_link.specs.Clauses.{Goes}
-use Rattle.jdwp_link.specs.Insides.{DebuggerKeeps, IsRight, TargetKeeps, link_of}
+use Rattle.jdwp_link.specs.Insides.{DebuggerKeeps, IsRightLink, TargetKeeps, link_of}
 use Rattle.jdwp_link.specs.Laws.{FindsMessages, HoldsOfWorlds, Laws}
 use Rattle.jdwp_link.specs.Links.{Link, attaches, come_to_debugger, come_to_target, delivered_to_debugger, delivered_to_target, may_attach, target_lost}
 use Rattle.jdwp_link.specs.Stands.{IsLink}
@@ -26,10 +26,10 @@ use Rattle.jdwp_link.proofs.Keeping.{attach-right, small-limits, target-lost-rig
 -- an event goes, and the link is right after it
 pub record Done {S : Type 0} (m : Meaning S) (e : Events.LinkEvent) (old new : Link S) (to from : ℕ) : Type 0 where
   pub goes : Goes m e old new []
-  pub right : IsRight m new to from
+  pub right : IsRightLink m new to from
 
 done-at : {S : Type 0} (m : Meaning S) (e : Events.LinkEvent) (old new : Link S) (to from to_new from_new : ℕ) → to_new ≡ to → from_new ≡ from → Done m e old new to from → Done m e old new to_new from_new
-done-at m e old new to from to_new from_new a b d = record { goes = d.goes; right = subst (λ n. IsRight m new n from_new) (sym a) (subst (λ n. IsRight m new to n) (sym b) d.right) }
+done-at m e old new to from to_new from_new a b d = record { goes = d.goes; right = subst (λ n. IsRightLink m new n from_new) (sym a) (subst (λ n. IsRightLink m new to n) (sym b) d.right) }
 
 -- ---- a session
 
@@ -42,8 +42,8 @@ cleared : (b : Bool) (q r : Queue) → r ≡ (if b then record q { bytes = [] } 
 cleared true q r e = record { emptied = λ h. ap (λ x. x.bytes) e; same = λ h. absurd (cc); capacity = ap (λ x. x.capacity) e }
 cleared false q r e = record { emptied = λ h. absurd (cc); same = λ h. ap (λ x. x.bytes) e; capacity = ap (λ x. x.capacity) e }
 
-pub attach-done : {S : Type 0} (m : Meaning S) → HoldsOfWorlds m → (l : Link S) (t : Target S) (d : Debugger) (q q_new r r_new : Queue) (b : Bool) → IsRight m l q.capacity r.capacity → q.bytes ≡ l.to_target → r.bytes ≡ l.to_debugger
-    → b ≡ may_attach l → (b ≡ true → (t ≡ targets.opened l.target) × (d ≡ debuggers.attached l.debugger)) → (b ≡ false → (t ≡ l.target) × (d ≡ l.debugger))
+pub attach-done : {S : Type 0} (m : Meaning S) → HoldsOfWorlds m → (l : Link S) (t : Target S) (d : Debugger) (q q_new r r_new : Queue) (b : Bool) → IsRightLink m l q.capacity r.capacity → q.bytes ≡ l.to_target → r.bytes ≡ l.to_debugger
+    → b ≡ may_attach l → (b ≡ true → (t ≡ targets.opened_target l.target) × (d ≡ debuggers.attached l.debugger)) → (b ≡ false → (t ≡ l.target) × (d ≡ l.debugger))
     → q_new ≡ (if b then record q { bytes = [] } else q) → r_new ≡ (if b then record r { bytes = [] } else r) → TargetKeeps t.end → DebuggerKeeps d
     → Done m Events.Attach l (link_of t d q_new.bytes r_new.bytes false) q_new.capacity r_new.capacity
 attach-done m worlds l t d q q_new r r_new b right a c when begun stays e f target debugger =
@@ -63,7 +63,7 @@ none-waits m l link o =
 
 -- ---- deliveries
 
-pub to-target-done : {S : Type 0} (m : Meaning S) (l : Link S) (q q_new : Queue) (t t_new : Target S) (d : Debugger) (n first second waiting room : ℕ) (from : ℕ) → FindsMessages → IsRight m l q.capacity from → q.bytes ≡ l.to_target
+pub to-target-done : {S : Type 0} (m : Meaning S) (l : Link S) (q q_new : Queue) (t t_new : Target S) (d : Debugger) (n first second waiting room : ℕ) (from : ℕ) → FindsMessages → IsRightLink m l q.capacity from → q.bytes ≡ l.to_target
     → first ≡ min n (min (length q.bytes) (room_of l.target.end)) → q_new ≡ record q { bytes = drop first q.bytes } → t ≡ targets.with_fed (take first q.bytes) l.target
     → waiting ≡ length l.debugger.end.outgoing → room ≡ room_of t.end → second ≡ min (min waiting room) (n - first)
     → d ≡ debuggers.with_taken (take second l.debugger.end.outgoing) l.debugger → t_new ≡ targets.with_fed (take second l.debugger.end.outgoing) t → TargetKeeps t_new.end → DebuggerKeeps d
@@ -86,7 +86,7 @@ to-target-done {S} m l q q_new t t_new d n first second waiting room from finds 
     done-at m (Events.ToTarget n) l (link_of t_new d q_new.bytes l.to_debugger false) q.capacity from q_new.capacity from (ap (λ (x : Queue). x.capacity) left) refl
     (subst (λ x. Done m (Events.ToTarget n) l x q.capacity from) (sym is) (record { goes = goes; right = kept }))
 
-pub to-debugger-done : {S : Type 0} (m : Meaning S) (l : Link S) (q q_new : Queue) (d d_new : Debugger) (t : Target S) (n first second waiting room : ℕ) (to : ℕ) → FindsMessages → IsRight m l to q.capacity → q.bytes ≡ l.to_debugger
+pub to-debugger-done : {S : Type 0} (m : Meaning S) (l : Link S) (q q_new : Queue) (d d_new : Debugger) (t : Target S) (n first second waiting room : ℕ) (to : ℕ) → FindsMessages → IsRightLink m l to q.capacity → q.bytes ≡ l.to_debugger
     → first ≡ min n (min (length q.bytes) (room_of l.debugger.end)) → q_new ≡ record q { bytes = drop first q.bytes } → d ≡ debuggers.with_fed (take first q.bytes) l.debugger
     → waiting ≡ length l.target.end.outgoing → room ≡ room_of d.end → second ≡ min (min waiting room) (n - first)
     → t ≡ targets.with_taken (take second l.target.end.outgoing) l.target → d_new ≡ debuggers.with_fed (take second l.target.end.outgoing) d → TargetKeeps t.end → DebuggerKeeps d_new
@@ -111,27 +111,27 @@ to-debugger-done {S} m l q q_new d d_new t n first second waiting room to finds 
 
 -- ---- a loss
 
-pub target-loses-done : {S : Type 0} (m : Meaning S) (l : Link S) (q q_new : Queue) (t t_new : Target S) (to : ℕ) → IsRight m l to q.capacity → q.bytes ≡ l.to_debugger
-    → t ≡ targets.with_taken l.target.end.outgoing l.target → q_new ≡ record q { bytes = q.bytes ++ l.target.end.outgoing } → t_new ≡ targets.lost t → TargetKeeps t_new.end → DebuggerKeeps l.debugger
+pub target-loses-done : {S : Type 0} (m : Meaning S) (l : Link S) (q q_new : Queue) (t t_new : Target S) (to : ℕ) → IsRightLink m l to q.capacity → q.bytes ≡ l.to_debugger
+    → t ≡ targets.with_taken l.target.end.outgoing l.target → q_new ≡ record q { bytes = q.bytes ++ l.target.end.outgoing } → t_new ≡ targets.lost_target t → TargetKeeps t_new.end → DebuggerKeeps l.debugger
     → Done m Events.TargetLoses l (link_of t_new l.debugger l.to_target q_new.bytes false) to q_new.capacity
 target-loses-done {S} m l q q_new t t_new to right a taken kept lost target debugger =
     let is : link_of t_new l.debugger l.to_target q_new.bytes false ≡ target_lost l =
-    ap (λ x. link_of x l.debugger l.to_target q_new.bytes false) (lost ∙ ap targets.lost taken)
-    ∙ ap (λ x. link_of (targets.lost (targets.with_taken l.target.end.outgoing l.target)) l.debugger l.to_target x false) (ap (λ (x : Queue). x.bytes) kept ∙ ap (λ b. b ++ l.target.end.outgoing) a) in
+    ap (λ x. link_of x l.debugger l.to_target q_new.bytes false) (lost ∙ ap targets.lost_target taken)
+    ∙ ap (λ x. link_of (targets.lost_target (targets.with_taken l.target.end.outgoing l.target)) l.debugger l.to_target x false) (ap (λ (x : Queue). x.bytes) kept ∙ ap (λ b. b ++ l.target.end.outgoing) a) in
     let goes = goes-target-loses m l in
     done-at m Events.TargetLoses l (link_of t_new l.debugger l.to_target q_new.bytes false) to q.capacity to q_new.capacity refl (ap (λ (x : Queue). x.capacity) kept)
     (subst (λ x. Done m Events.TargetLoses l x to q.capacity) (sym is) (record { goes = goes; right = target-lost-right m l to q.capacity Events.TargetLoses right goes (subst (λ (x : Link S). TargetKeeps x.target.end) is target) debugger }))
 
 -- ---- steps and turns of the target
 
-pub step-done : {S : Type 0} (m : Meaning S) → HoldsOfWorlds m → (l : Link S) (t : ℕ) (stepped : Stepped) (after : Target S) (to from : ℕ) → Laws m → IsRight m l to from → TargetKeeps l.target.end
+pub step-done : {S : Type 0} (m : Meaning S) → HoldsOfWorlds m → (l : Link S) (t : ℕ) (stepped : Stepped) (after : Target S) (to from : ℕ) → Laws m → IsRightLink m l to from → TargetKeeps l.target.end
     → StepsWhere m t l.target stepped after (is_frozen m t l.target) → EncodesWhere m t l.target (is_frozen m t l.target) → SendsWhere m t l.target (is_frozen m t l.target) → TargetKeeps after.end → DebuggerKeeps l.debugger
     → Done m (Events.Step t) l (record l { target = after; did = step_did stepped }) to from
 step-done m worlds l t stepped after to from laws right keeps so encoded sends target debugger =
     let goes = goes-stepped m worlds l t stepped after laws keeps so encoded sends in
     record { goes = goes; right = target-right m l after (step_did stepped) to from (Events.Step t) right goes (goes.settings right.is_link.world right.is_link.stands) target debugger }
 
-pub turn-done : {S : Type 0} (m : Meaning S) → HoldsOfWorlds m → (l : Link S) (turn : Turn) (after : Target S) (to from : ℕ) → Laws m → IsRight m l to from → DebuggerKeeps l.debugger
+pub turn-done : {S : Type 0} (m : Meaning S) → HoldsOfWorlds m → (l : Link S) (turn : Turn) (after : Target S) (to from : ℕ) → Laws m → IsRightLink m l to from → DebuggerKeeps l.debugger
     → TurnsAt m (front_of l.target.end) l.target (Ok turn) after → EncodesNext m (front_of l.target.end) l.target → SendsAt m (front_of l.target.end) l.target → TargetKeeps after.end
     → Done m Events.TargetTurn l (record l { target = after; did = turn_did turn }) to from
 turn-done m worlds l turn after to from laws right debugger so encoded sends target =

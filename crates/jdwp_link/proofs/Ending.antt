@@ -13,14 +13,14 @@ use Rattle.jdwp_link.proofs.Moves.{comes, fed-twice, room-after}
 -- ---- a session
 
 attached-by : {S : Type 0} (l : Link S) (t : Target S) (d : Debugger) (a b : List ℕ) (begun : Bool)
-    → (begun ≡ true → (t ≡ targets.opened l.target) × (d ≡ debuggers.attached l.debugger) × (a ≡ []) × (b ≡ []))
+    → (begun ≡ true → (t ≡ targets.opened_target l.target) × (d ≡ debuggers.attached l.debugger) × (a ≡ []) × (b ≡ []))
     → (begun ≡ false → (t ≡ l.target) × (d ≡ l.debugger) × (a ≡ l.to_target) × (b ≡ l.to_debugger))
     → link_of t d a b false ≡ cond begun (attached l) (idle l)
 attached-by l t d a b true begins stays = rw ((begins refl).0, (begins refl).1, (begins refl).2, (begins refl).3) refl
 attached-by l t d a b false begins stays = rw ((stays refl).0, (stays refl).1, (stays refl).2, (stays refl).3) refl
 
 pub attached-is : {S : Type 0} (l : Link S) (t : Target S) (d : Debugger) (a b : List ℕ) (begun : Bool) → begun ≡ may_attach l
-    → (begun ≡ true → (t ≡ targets.opened l.target) × (d ≡ debuggers.attached l.debugger) × (a ≡ []) × (b ≡ []))
+    → (begun ≡ true → (t ≡ targets.opened_target l.target) × (d ≡ debuggers.attached l.debugger) × (a ≡ []) × (b ≡ []))
     → (begun ≡ false → (t ≡ l.target) × (d ≡ l.debugger) × (a ≡ l.to_target) × (b ≡ l.to_debugger))
     → link_of t d a b false ≡ attaches l
 attached-is l t d a b begun e begins stays = attached-by l t d a b begun begins stays ∙ ap (λ q. cond q (attached l) (idle l)) e

@@ -4,7 +4,7 @@ use Rattle.std.specs.Option.{option_map}
 use Rattle.jdwp_wire.specs.Widths.{Widths}
 use Rattle.jdwp_end.specs.Ends.{front_of}
 use Rattle.jdwp_machine.specs.Meanings.{Meaning}
-use Rattle.jdwp_debuggee.specs.Actions.{Command}
+use Rattle.jdwp_action.specs.Actions.{Command}
 use Rattle.jdwp_debuggee.specs.Steps.{occurs}
 use Rattle.jdwp_mirror.specs.Messages.{Call, Greets, Asks}
 use Rattle.jdwp_event.specs.Composites.{CompositeMeaning}
@@ -32,7 +32,7 @@ use Rattle.jdwp_link.specs.Insides.{DebuggerKeeps, TargetKeeps}
 use Rattle.jdwp_link.specs.Laws.{FindsMessages, HoldsOfWorlds, Laws, PutsMessages}
 use Rattle.jdwp_link.specs.Links.{Link, idle, attached, may_attach, attaches, come_to_debugger, come_to_target, delivered_to_debugger, delivered_to_target, debugger_lost, target_lost}
 use Rattle.jdwp_link.specs.Stands.{IsLink, Parts, StandsFor}
-use Rattle.jdwp_link.specs.Told.{refusal_told, step_did, told, turn_did}
+use Rattle.jdwp_link.specs.Told.{refusal_told, step_did, told_outcomes, turn_did}
 use Rattle.jdwp_link.specs.Wires.{CallWire, call_sent}
 use Rattle.jdwp_link.proofs.Asking.{ask-parts, same-refusal}
 use Rattle.jdwp_link.proofs.Attaching.{attach-parts, parts-did}
@@ -158,7 +158,7 @@ unrefused None e = refl
 unrefused (Some r) e = absurd (cc)
 
 refused-so : {S : Type 0} (x : World S) (c : Command) (refused : Refused) (refusal : Option AskRefusal) → Some refused ≡ option_map refusal_told refusal
-    → ((ask_by x c refusal).0 ≡ x) × (told (ask_by x c refusal).1 ≡ outcome.Refused refused ∷ [])
+    → ((ask_by x c refusal).0 ≡ x) × (told_outcomes (ask_by x c refusal).1 ≡ outcome.Refused refused ∷ [])
 refused-so x c refused None e = absurd (cc)
 refused-so x c refused (Some r) e = let same : refused ≡ refusal_told r = cc in (refl, ap (λ q. outcome.Refused q ∷ []) (sym same))
 
@@ -168,7 +168,7 @@ goes-asked {S} m l c ticket after finds keeps none is asked =
     let free = λ (x : World S) (s : StandsFor m l x). unrefused (ask_refusal l.target.settings (measure_of m l) x c) (sym none ∙ same-refusal m l.target.settings (m.sizes l.target.moment.machine) l x c finds keeps s.parts) in
     goes m (Events.Ask c) l (record l { debugger = after; did = false }) (outcome.Asked ticket ∷ [])
     (λ x s. subst (λ r. Parts m l.target.settings (m.sizes l.target.moment.machine) (record l { debugger = after; did = false }) (ask_by x c r).0) (sym (free x s)) (ask-parts m _ _ l x c after s.parts asked))
-    (λ x s. ap (λ n. outcome.Asked (record { 0 = n }) ∷ []) (is ∙ ap (λ n. n + 1) s.parts.debugger.tickets) ∙ ap (λ r. told (ask_by x c r).1) (sym (free x s)))
+    (λ x s. ap (λ n. outcome.Asked (record { 0 = n }) ∷ []) (is ∙ ap (λ n. n + 1) s.parts.debugger.tickets) ∙ ap (λ r. told_outcomes (ask_by x c r).1) (sym (free x s)))
     (λ x s. refl)
 
 pub goes-refused : {S : Type 0} (m : Meaning S) (l : Link S) (c : Command) (refused : Refused) → FindsMessages → DebuggerKeeps l.debugger → refusal_of_ask l.debugger c ≡ Some refused

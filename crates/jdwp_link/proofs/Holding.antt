@@ -2,9 +2,8 @@
 use Rattle.std.proofs.Common.{◌≡◌, ◌≤◌, ◌<◌, ℕ, ◌+◌, Bool, true, false, ◌||◌, Option, Some, None, is_some, List, [], ◌∷◌, refl, sym, ◌∙◌, ap, subst, arith}
 use Rattle.jdwp_wire.specs.Widths.{Widths}
 use Rattle.jdwp_machine.specs.Meanings.{Meaning}
-use Rattle.jdwp_debuggee.specs.Actions.{Command, action_of}
+use Rattle.jdwp_action.specs.Actions.{Command, action_of, is_dispose}
 use Rattle.jdwp_debuggee.specs.Effects.{effect}
-use Rattle.jdwp_debuggee.specs.Facts.{is_dispose}
 use Rattle.jdwp_debuggee.specs.Settings.{Settings}
 use Rattle.jdwp_debuggee.specs.State.{count_or_zero}
 use Rattle.jdwp_mirror.specs.Messages.{id_sizes}

@@ -9,7 +9,7 @@ use Rattle.jdwp_model.specs.Next.{next}
 use Rattle.jdwp_model.specs.World.{is_closed, World}
 use Rattle.jdwp_link.specs.declared.events.Outcome.{Outcome}
 use Rattle.jdwp_link.specs.Clauses.{Goes, measure_of}
-use Rattle.jdwp_link.specs.Insides.{DebuggerKeeps, IsRight, TargetKeeps}
+use Rattle.jdwp_link.specs.Insides.{DebuggerKeeps, IsRightLink, TargetKeeps}
 use Rattle.jdwp_link.specs.Links.{Link, idle, attached, attaches, may_attach, come_to_debugger, come_to_target, debugger_lost, delivered_to_debugger, delivered_to_target, target_lost, way_to_debugger, way_to_target}
 use Rattle.jdwp_link.specs.Stands.{IsLink, StandsFor}
 use Rattle.jdwp_link.proofs.Cuts.{at-most, left-after}
@@ -44,8 +44,8 @@ kept-way m l x s keeps o =
     let most = keeps.most in
     omega arith
 
-pub right-after : {S : Type 0} (m : Meaning S) (e : LinkEvent) (old new : Link S) (os : List Outcome) (to from : ℕ) → IsRight m old to from → Goes m e old new os → new.target.settings ≡ old.target.settings → TargetKeeps new.target.end → DebuggerKeeps new.debugger
-    → (is_open new.debugger.end ≡ false → length (way_to_target new) ≤ to) → (new.target.end.session.lost ≡ true → length new.to_debugger ≤ from) → IsRight m new to from
+pub right-after : {S : Type 0} (m : Meaning S) (e : LinkEvent) (old new : Link S) (os : List Outcome) (to from : ℕ) → IsRightLink m old to from → Goes m e old new os → new.target.settings ≡ old.target.settings → TargetKeeps new.target.end → DebuggerKeeps new.debugger
+    → (is_open new.debugger.end ≡ false → length (way_to_target new) ≤ to) → (new.target.end.session.lost ≡ true → length new.to_debugger ≤ from) → IsRightLink m new to from
 right-after m e old new os to from right g same target debugger shut lost =
     let x = right.is_link.world in
     let s = g.stands x right.is_link.stands in
@@ -79,14 +79,14 @@ attach-settings : {S : Type 0} (l : Link S) (b : Bool) → (cond b (attached l) 
 attach-settings l true = refl
 attach-settings l false = refl
 
-pub attach-right : {S : Type 0} (m : Meaning S) (old new : Link S) (to from : ℕ) (e : LinkEvent) → IsRight m old to from → new ≡ attaches old → Goes m e old new [] → TargetKeeps new.target.end → DebuggerKeeps new.debugger → IsRight m new to from
+pub attach-right : {S : Type 0} (m : Meaning S) (old new : Link S) (to from : ℕ) (e : LinkEvent) → IsRightLink m old to from → new ≡ attaches old → Goes m e old new [] → TargetKeeps new.target.end → DebuggerKeeps new.debugger → IsRightLink m new to from
 attach-right m old new to from e right is g target debugger =
     right-after m e old new [] to from right g (ap (λ l. l.target.settings) is ∙ attach-settings old (may_attach old)) target debugger
     (λ o. subst (λ l. length (way_to_target l) ≤ to) (sym is) (attach-shut old (may_attach old) to right.to_target_fits (ap (λ l. is_open l.debugger.end) (sym is) ∙ o)))
     (λ o. subst (λ l. length l.to_debugger ≤ from) (sym is) (attach-lost old (may_attach old) from right.to_debugger_fits (ap (λ l. l.target.end.session.lost) (sym is) ∙ o)))
 
-pub to-target-right : {S : Type 0} (m : Meaning S) (old : Link S) (n to from : ℕ) (e : LinkEvent) → IsRight m old to from → Goes m e old (delivered_to_target (come_to_target n old) old) []
-    → TargetKeeps (delivered_to_target (come_to_target n old) old).target.end → DebuggerKeeps (delivered_to_target (come_to_target n old) old).debugger → IsRight m (delivered_to_target (come_to_target n old) old) to from
+pub to-target-right : {S : Type 0} (m : Meaning S) (old : Link S) (n to from : ℕ) (e : LinkEvent) → IsRightLink m old to from → Goes m e old (delivered_to_target (come_to_target n old) old) []
+    → TargetKeeps (delivered_to_target (come_to_target n old) old).target.end → DebuggerKeeps (delivered_to_target (come_to_target n old) old).debugger → IsRightLink m (delivered_to_target (come_to_target n old) old) to from
 to-target-right m old n to from e right g target debugger =
     let le = (at-most n (length (way_to_target old)) (room_of old.target.end)).1 in
     let way = ap length (left-after _ old.to_target old.debugger.end.outgoing le) ∙ length-drop _ (way_to_target old) in
@@ -94,25 +94,25 @@ to-target-right m old n to from e right g target debugger =
     right-after m e old (delivered_to_target (come_to_target n old) old) [] to from right g refl target debugger
     (λ o. omega (way, fits, arith)) (λ o. queue-fits old.to_debugger old.target.end.outgoing from right.to_debugger_fits)
 
-pub to-debugger-right : {S : Type 0} (m : Meaning S) (old : Link S) (n to from : ℕ) (e : LinkEvent) → IsRight m old to from → Goes m e old (delivered_to_debugger (come_to_debugger n old) old) []
-    → TargetKeeps (delivered_to_debugger (come_to_debugger n old) old).target.end → DebuggerKeeps (delivered_to_debugger (come_to_debugger n old) old).debugger → IsRight m (delivered_to_debugger (come_to_debugger n old) old) to from
+pub to-debugger-right : {S : Type 0} (m : Meaning S) (old : Link S) (n to from : ℕ) (e : LinkEvent) → IsRightLink m old to from → Goes m e old (delivered_to_debugger (come_to_debugger n old) old) []
+    → TargetKeeps (delivered_to_debugger (come_to_debugger n old) old).target.end → DebuggerKeeps (delivered_to_debugger (come_to_debugger n old) old).debugger → IsRightLink m (delivered_to_debugger (come_to_debugger n old) old) to from
 to-debugger-right m old n to from e right g target debugger =
     let bytes = come_to_debugger n old in
     let few : length (drop (length bytes) old.to_debugger) ≤ length old.to_debugger = let d = length-drop (length bytes) old.to_debugger in omega arith in
     let fits = queue-fits old.to_debugger old.target.end.outgoing from right.to_debugger_fits in
     right-after m e old (delivered_to_debugger bytes old) [] to from right g refl target debugger (λ o. right.to_target_fits) (λ o. omega (few, fits, arith))
 
-pub target-lost-right : {S : Type 0} (m : Meaning S) (old : Link S) (to from : ℕ) (e : LinkEvent) → IsRight m old to from → Goes m e old (target_lost old) [] → TargetKeeps (target_lost old).target.end → DebuggerKeeps old.debugger → IsRight m (target_lost old) to from
+pub target-lost-right : {S : Type 0} (m : Meaning S) (old : Link S) (to from : ℕ) (e : LinkEvent) → IsRightLink m old to from → Goes m e old (target_lost old) [] → TargetKeeps (target_lost old).target.end → DebuggerKeeps old.debugger → IsRightLink m (target_lost old) to from
 target-lost-right m old to from e right g target debugger = right-after m e old (target_lost old) [] to from right g refl target debugger (λ o. right.to_target_fits) (λ o. right.to_debugger_fits)
 
-pub debugger-lost-right : {S : Type 0} (m : Meaning S) (old : Link S) (os : List Outcome) (to from : ℕ) (e : LinkEvent) → IsRight m old to from → Goes m e old (record (debugger_lost old) { did = false }) os
-    → TargetKeeps old.target.end → DebuggerKeeps (debugger_lost old).debugger → IsRight m (record (debugger_lost old) { did = false }) to from
+pub debugger-lost-right : {S : Type 0} (m : Meaning S) (old : Link S) (os : List Outcome) (to from : ℕ) (e : LinkEvent) → IsRightLink m old to from → Goes m e old (record (debugger_lost old) { did = false }) os
+    → TargetKeeps old.target.end → DebuggerKeeps (debugger_lost old).debugger → IsRightLink m (record (debugger_lost old) { did = false }) to from
 debugger-lost-right m old os to from e right g target debugger =
     right-after m e old (record (debugger_lost old) { did = false }) os to from right g refl target debugger
     (λ o. subst (λ b. length b ≤ to) (sym (append-nil (way_to_target old))) right.to_target_fits) (λ o. queue-fits old.to_debugger old.target.end.outgoing from right.to_debugger_fits)
 
 -- the target alone changes
-pub target-right : {S : Type 0} (m : Meaning S) (old : Link S) (target : Target S) (did : Bool) (to from : ℕ) (e : LinkEvent) → IsRight m old to from → Goes m e old (record old { target = target; did = did }) [] → target.settings ≡ old.target.settings
-    → TargetKeeps target.end → DebuggerKeeps old.debugger → IsRight m (record old { target = target; did = did }) to from
+pub target-right : {S : Type 0} (m : Meaning S) (old : Link S) (target : Target S) (did : Bool) (to from : ℕ) (e : LinkEvent) → IsRightLink m old to from → Goes m e old (record old { target = target; did = did }) [] → target.settings ≡ old.target.settings
+    → TargetKeeps target.end → DebuggerKeeps old.debugger → IsRightLink m (record old { target = target; did = did }) to from
 target-right m old target did to from e right g same keeps debugger =
     right-after m e old (record old { target = target; did = did }) [] to from right g same keeps debugger (λ o. right.to_target_fits) (λ o. queue-fits old.to_debugger old.target.end.outgoing from right.to_debugger_fits)

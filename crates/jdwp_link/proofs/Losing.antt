@@ -13,7 +13,7 @@ use Rattle.jdwp_link.specs.declared.events.Outcome.TheVariants as outcome
 use Rattle.jdwp_link.specs.EventParts.{lost_of}
 use Rattle.jdwp_link.specs.Links.{Link, way_to_target, way_to_debugger, target_lost, debugger_lost}
 use Rattle.jdwp_link.specs.Stands.{Parts, DebuggerStands}
-use Rattle.jdwp_link.specs.Told.{told}
+use Rattle.jdwp_link.specs.Told.{told_outcomes}
 use Rattle.jdwp_link.specs.Wires.{ticket_of, waiting, without_ids}
 use Rattle.jdwp_link.proofs.Reached.{Known}
 
@@ -79,12 +79,12 @@ loses-debugger m settings w l x did s = record {
 
 -- ---- the tickets that are lost
 
-lost-one : (p : Asked) (ticket : Option Ticket) (ps : List Asked) → lost_of (tickets_of ps) ≡ told (lost_tickets (without_ids (waiting ps)))
-    → lost_of (tickets_of (record p { ticket = ticket } ∷ ps)) ≡ told (lost_tickets ((ticket_of ticket, p.command) ∷ without_ids (waiting ps)))
+lost-one : (p : Asked) (ticket : Option Ticket) (ps : List Asked) → lost_of (tickets_of ps) ≡ told_outcomes (lost_tickets (without_ids (waiting ps)))
+    → lost_of (tickets_of (record p { ticket = ticket } ∷ ps)) ≡ told_outcomes (lost_tickets ((ticket_of ticket, p.command) ∷ without_ids (waiting ps)))
 lost-one p None ps e = e
 lost-one p (Some k) ps e = ap (λ l. outcome.Lost k ∷ l) e
 
-pub lost-told : (ps : List Asked) → lost_of (tickets_of ps) ≡ told (lost_tickets (without_ids (waiting ps)))
+pub lost-told : (ps : List Asked) → lost_of (tickets_of ps) ≡ told_outcomes (lost_tickets (without_ids (waiting ps)))
 lost-told [] = refl
 lost-told (p ∷ ps) = lost-one p p.ticket ps (lost-told ps)
 
@@ -98,9 +98,9 @@ none-lost (p ∷ ps) h = none-one p p.ticket ps h (none-lost ps)
 
 -- what is told as the debugger loses the connection
 tells-by : {S : Type 0} (m : Meaning S) (settings : Settings) (w : Widths) (l : Link S) (x : World S) (b : Bool) → is_closed x.debugger ≡ b → Known m settings x → DebuggerStands settings w l.debugger x
-    → lost_of (tickets_of l.debugger.pending) ≡ told (lost_tickets x.pending)
-tells-by m settings w l x true c k d = ap lost_of (none-lost l.debugger.pending (d.none_waits c)) ∙ ap (λ ps. told (lost_tickets ps)) (sym (k.shut c))
-tells-by m settings w l x false o k d = lost-told l.debugger.pending ∙ ap (λ ps. told (lost_tickets ps)) (d.opened o).pending
+    → lost_of (tickets_of l.debugger.pending) ≡ told_outcomes (lost_tickets x.pending)
+tells-by m settings w l x true c k d = ap lost_of (none-lost l.debugger.pending (d.none_waits c)) ∙ ap (λ ps. told_outcomes (lost_tickets ps)) (sym (k.shut c))
+tells-by m settings w l x false o k d = lost-told l.debugger.pending ∙ ap (λ ps. told_outcomes (lost_tickets ps)) (d.opened o).pending
 
-pub loses-tells : {S : Type 0} (m : Meaning S) (settings : Settings) (w : Widths) (l : Link S) (x : World S) → Known m settings x → Parts m settings w l x → lost_of (tickets_of l.debugger.pending) ≡ told (lost_tickets x.pending)
+pub loses-tells : {S : Type 0} (m : Meaning S) (settings : Settings) (w : Widths) (l : Link S) (x : World S) → Known m settings x → Parts m settings w l x → lost_of (tickets_of l.debugger.pending) ≡ told_outcomes (lost_tickets x.pending)
 loses-tells m settings w l x k s = tells-by m settings w l x (is_closed x.debugger) refl k s.debugger

@@ -6,7 +6,7 @@ use Rattle.jdwp_debuggee.specs.Settings.{Settings}
 use Rattle.jdwp_debuggee.specs.State.{Moment, new_state}
 use Rattle.jdwp_model.specs.Headline.{MayBegin}
 use Rattle.jdwp_model.specs.World.{opening}
-use Rattle.jdwp_link.specs.Insides.{IsRight}
+use Rattle.jdwp_link.specs.Insides.{IsRightLink}
 use Rattle.jdwp_link.specs.Links.{new_link}
 use Rattle.jdwp_link.specs.Stands.{Parts, StandsFor}
 
@@ -35,7 +35,7 @@ opening-stands m settings s begins = record {
   parts = opening-parts m settings s;
 }
 
-pub opening-right : {S : Type 0} (m : Meaning S) (settings : Settings) (s : S) (to from : ℕ) → MayBegin m settings s → to ≡ most_outgoing settings.limits → from ≡ most_outgoing settings.limits → IsRight m (new_link settings (first-moment m s)) to from
+pub opening-right : {S : Type 0} (m : Meaning S) (settings : Settings) (s : S) (to from : ℕ) → MayBegin m settings s → to ≡ most_outgoing settings.limits → from ≡ most_outgoing settings.limits → IsRightLink m (new_link settings (first-moment m s)) to from
 opening-right m settings s to from begins a b = record {
   is_link = record { world = opening m s; stands = opening-stands m settings s begins };
   to_target_room = a;

@@ -19,7 +19,7 @@ use Rattle.jdwp_link.specs.Clauses.{Goes, measure_of}
 use Rattle.jdwp_link.specs.Laws.{HoldsOfWorlds}
 use Rattle.jdwp_link.specs.Links.{Link}
 use Rattle.jdwp_link.specs.Stands.{IsReached, Parts, Stands, StandsFor}
-use Rattle.jdwp_link.specs.Told.{told}
+use Rattle.jdwp_link.specs.Told.{told_outcomes}
 
 -- ---- a run goes on
 
@@ -79,7 +79,7 @@ stands-for m settings w l x s =
 
 pub goes : {S : Type 0} (m : Meaning S) (e : LinkEvent) (old new : Link S) (os : List Outcome)
     → ((x : World S) → StandsFor m old x → Parts m old.target.settings (m.sizes old.target.moment.machine) new (next m old.target.settings (measure_of m old) x e).0)
-    → ((x : World S) → StandsFor m old x → os ≡ told (next m old.target.settings (measure_of m old) x e).1)
+    → ((x : World S) → StandsFor m old x → os ≡ told_outcomes (next m old.target.settings (measure_of m old) x e).1)
     → ((x : World S) → StandsFor m old x → new.did ≡ acts m old.target.settings (measure_of m old) x e)
     → Goes m e old new os
 goes m e old new os parts tells did = record {

@@ -16,11 +16,11 @@ use Rattle.jdwp_event.specs.Composites.{CompositeMeaning}
 use Rattle.jdwp_layout.specs.declared.answer.Answer.{Answer}
 use Rattle.jdwp_layout.specs.declared.answer.Answer.TheVariants.{Data, Error}
 use Rattle.jdwp_machine.specs.Meanings.{Meaning}
-use Rattle.jdwp_debuggee.specs.Actions.{Command}
-use Rattle.jdwp_debuggee.specs.Sending.{EncodesAnswer, answer_bytes, error_of}
+use Rattle.jdwp_action.specs.Actions.{Command}
+use Rattle.jdwp_action.specs.AnswerPackets.{EncodesAnswer, answer_bytes, error_of}
 use Rattle.jdwp_debuggee.specs.Settings.{Settings}
 use Rattle.jdwp_debuggee.specs.State.{Moment}
-use Rattle.jdwp_debuggee.specs.CommandPackets.{carried_bytes}
+use Rattle.jdwp_action.specs.CommandPackets.{carried_bytes}
 use Rattle.jdwp_mirror.specs.Faults.{PARKED_MOST, fault_after_greeting, fault_of, is_bad_event, is_bad_reply, is_waited_for, or_else, when, has_bad_event}
 use Rattle.jdwp_mirror.specs.Faults as faults
 use Rattle.jdwp_mirror.specs.Messages.{Ticket, Asks, Message, Handshake, Reply, Report, id_sizes}

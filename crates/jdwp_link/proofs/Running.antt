@@ -14,7 +14,7 @@ use Rattle.jdwp_link.specs.Clauses.{Goes, MayStop, Ran, measure_of}
 use Rattle.jdwp_link.specs.EventParts.{Stops, Tells}
 use Rattle.jdwp_link.specs.Links.{Link}
 use Rattle.jdwp_link.specs.Stands.{StandsFor}
-use Rattle.jdwp_link.specs.Told.{event_meaning, event_meanings, told}
+use Rattle.jdwp_link.specs.Told.{event_meaning, event_meanings, told_outcomes}
 
 run-more : {S : Type 0} (m : Meaning S) (settings : Settings) (measure : Measure) (x : World S) (es : List LinkEvent) (e : LinkEvent) → run m settings measure x (es ++ e ∷ []) ≡ (next m settings measure (run m settings measure x es) e).0
 run-more m settings measure x [] e = refl
@@ -31,9 +31,9 @@ did-more : {S : Type 0} (m : Meaning S) (settings : Settings) (measure : Measure
 did-more m settings measure x before [] e = refl
 did-more m settings measure x before (d ∷ es) e = did-more m settings measure (next m settings measure x d).0 (acts m settings measure x d) es e
 
-told-append : (xs ys : List events.Outcome) → told (xs ++ ys) ≡ told xs ++ told ys
+told-append : (xs ys : List events.Outcome) → told_outcomes (xs ++ ys) ≡ told_outcomes xs ++ told_outcomes ys
 told-append [] ys = refl
-told-append (x ∷ xs) ys = ap (λ l. told (x ∷ []) ++ l) (told-append xs ys)
+told-append (x ∷ xs) ys = ap (λ l. told_outcomes (x ∷ []) ++ l) (told-append xs ys)
 
 -- one event more
 pub ran-more : {S : Type 0} (m : Meaning S) (es : List LinkEvent) (e : LinkEvent) (old mid new : Link S) (os more : List Outcome) → Ran m es old mid os → Goes m e mid new more → Ran m (es ++ e ∷ []) old new (os ++ more)
@@ -46,8 +46,8 @@ ran-more {S} m es e old mid new os more r g =
     (λ x s. ap (λ u. next m u (measure_of m mid) (at x) e) (r.settings x s) ∙ ap (λ q. next m settings q (at x) e) (same x s)) in
     record {
       stands = λ x s. subst (StandsFor m new) (ap (λ n. n.0) (next-is x s) ∙ sym (run-more m settings measure x es e)) (g.stands (at x) (r.stands x s));
-      tells = λ x s. ap (λ l. l ++ more) (r.tells x s) ∙ (ap (λ l. told (outcomes m settings measure x es) ++ l) (g.tells (at x) (r.stands x s) ∙ ap (λ n. told n.1) (next-is x s))
-          ∙ (sym (told-append (outcomes m settings measure x es) (next m settings measure (at x) e).1) ∙ ap told (sym (outcomes-more m settings measure x es e))));
+      tells = λ x s. ap (λ l. l ++ more) (r.tells x s) ∙ (ap (λ l. told_outcomes (outcomes m settings measure x es) ++ l) (g.tells (at x) (r.stands x s) ∙ ap (λ n. told_outcomes n.1) (next-is x s))
+          ∙ (sym (told-append (outcomes m settings measure x es) (next m settings measure (at x) e).1) ∙ ap told_outcomes (sym (outcomes-more m settings measure x es e))));
       did = λ x s. g.did (at x) (r.stands x s) ∙ (ap (λ u. acts m u (measure_of m mid) (at x) e) (r.settings x s) ∙ (ap (λ q. acts m settings q (at x) e) (same x s) ∙ sym (did-more m settings measure x old.did es e)));
       settings = λ x s. g.settings (at x) (r.stands x s) ∙ r.settings x s;
       sizes = λ x s. g.sizes (at x) (r.stands x s) ∙ r.sizes x s;

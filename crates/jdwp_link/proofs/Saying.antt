@@ -7,8 +7,8 @@ use Rattle.jdwp_wire.specs.declared.packet.PacketKind.TheVariants as kind
 use Rattle.jdwp_layout.specs.CommandNumbers.{EVENT, COMPOSITE}
 use Rattle.jdwp_layout.specs.declared.answer.Answer.{Answer}
 use Rattle.jdwp_event.specs.Composites.{CompositeMeaning}
-use Rattle.jdwp_debuggee.specs.Actions.{Command}
-use Rattle.jdwp_debuggee.specs.Sending.{answer_bytes, error_of}
+use Rattle.jdwp_action.specs.Actions.{Command}
+use Rattle.jdwp_action.specs.AnswerPackets.{answer_bytes, error_of}
 use Rattle.jdwp_mirror.specs.Faults.{PARKED_MOST, is_bad_reply}
 use Rattle.jdwp_mirror.specs.Messages.{Ticket, Report}
 use Rattle.jdwp_mirror.specs.Mirror.{ends}

@@ -28,7 +28,7 @@ use Rattle.jdwp_link.specs.Insides.{DebuggerKeeps}
 use Rattle.jdwp_link.specs.Laws.{HoldsOfWorlds, Laws}
 use Rattle.jdwp_link.specs.Links.{Link, debugger_lost}
 use Rattle.jdwp_link.specs.Stands.{IsLink, Parts, StandsFor}
-use Rattle.jdwp_link.specs.Told.{told}
+use Rattle.jdwp_link.specs.Told.{told_outcomes}
 use Rattle.jdwp_link.specs.Wires.{message_sent}
 use Rattle.jdwp_link.proofs.Finding.{HasMessage, IsStill, debugger-has}
 use Rattle.jdwp_link.proofs.Losing.{lost-told, none-lost}
@@ -39,14 +39,14 @@ use Rattle.jdwp_link.proofs.Unrefused.{IsUnrefused, unrefused}
 
 -- ---- where the end closed
 
-told-append : (xs ys : List Events.Outcome) → told (xs ++ ys) ≡ told xs ++ told ys
+told-append : (xs ys : List Events.Outcome) → told_outcomes (xs ++ ys) ≡ told_outcomes xs ++ told_outcomes ys
 told-append [] ys = refl
-told-append (x ∷ xs) ys = ap (λ l. told (x ∷ []) ++ l) (told-append xs ys)
+told-append (x ∷ xs) ys = ap (λ l. told_outcomes (x ∷ []) ++ l) (told-append xs ys)
 
 -- what is left of a turn and told of it
 pub record Settles {S : Type 0} (m : Meaning S) (settings : Settings) (w : Widths) (l : Link S) (x : World S) (t : Told) (after : Debugger) (did : Bool) : Type 0 where
   pub parts : Parts m settings w (settled (is_left after) (record l { debugger = after; did = did })) (debugger_turn settings (measured w settings.limits) x).0
-  pub tells : told (outcomes_of t) ++ lost_where (is_left after) after ≡ told (debugger_turn settings (measured w settings.limits) x).1
+  pub tells : told_outcomes (outcomes_of t) ++ lost_where (is_left after) after ≡ told_outcomes (debugger_turn settings (measured w settings.limits) x).1
 
 is-unshut : (phase : Phase) → is_closed phase ≡ false → is_open_phase phase ≡ true
 is-unshut Closed h = absurd (cc)
@@ -54,9 +54,9 @@ is-unshut AwaitingHandshake h = refl
 is-unshut Established h = refl
 
 lost-pending : {S : Type 0} (m : Meaning S) (settings : Settings) (w : Widths) (l : Link S) (y : World S) (unshut after : Debugger) (did : Bool) → is_closed y.debugger ≡ false → Parts m settings w (record l { debugger = unshut; did = did }) y → IsShut unshut after
-    → lost_of (tickets_of after.pending) ≡ told (lost_tickets y.pending)
+    → lost_of (tickets_of after.pending) ≡ told_outcomes (lost_tickets y.pending)
 lost-pending m settings w l y unshut after did o s shut =
-    ap (λ ps. lost_of (tickets_of ps)) shut.pending ∙ (lost-told unshut.pending ∙ ap (λ ps. told (lost_tickets ps)) (s.debugger.opened o).pending)
+    ap (λ ps. lost_of (tickets_of ps)) shut.pending ∙ (lost-told unshut.pending ∙ ap (λ ps. told_outcomes (lost_tickets ps)) (s.debugger.opened o).pending)
 
 settle-shut : {S : Type 0} (m : Meaning S) (settings : Settings) (w : Widths) (l : Link S) (x y : World S) (t : Told) (unshut after : Debugger) (did waits : Bool) → has_tickets after.pending ≡ waits → is_closed y.debugger ≡ false
     → Parts m settings w (record l { debugger = unshut; did = did }) y → IsShut unshut after → debugger_turn settings (measured w settings.limits) x ≡ closes_by y (outcomes_of t) true → Settles m settings w l x t after did
@@ -66,18 +66,18 @@ settle-shut m settings w l x y t unshut after did true waits o s shut is =
     record {
       parts = subst (λ b. Parts m settings w (settled b (record l { debugger = after; did = did })) (debugger_turn settings (measured w settings.limits) x).0) (sym left)
           (subst (λ r. Parts m settings w (record (debugger_lost (record l { debugger = after })) { did = did }) r.0) (sym is) (shut-lost m settings w l y unshut after did shut s));
-      tells = ap (λ b. told (outcomes_of t) ++ lost_where b after) left
-          ∙ (ap (λ os. told (outcomes_of t) ++ os) (lost-pending m settings w l y unshut after did o s shut) ∙ (sym (told-append (outcomes_of t) (lost_tickets y.pending)) ∙ ap (λ r. told r.1) (sym is)));
+      tells = ap (λ b. told_outcomes (outcomes_of t) ++ lost_where b after) left
+          ∙ (ap (λ os. told_outcomes (outcomes_of t) ++ os) (lost-pending m settings w l y unshut after did o s shut) ∙ (sym (told-append (outcomes_of t) (lost_tickets y.pending)) ∙ ap (λ r. told_outcomes r.1) (sym is)));
     }
 settle-shut m settings w l x y t unshut after did false waits o s shut is =
     let closed : is_open after.end ≡ false = ap is_open shut.end in
     let left : is_left after ≡ false = ap (λ b. not b && has_tickets after.pending) closed ∙ waits in
-    let none : [] ≡ told (lost_tickets y.pending) = sym (ap lost_of (none-lost after.pending waits)) ∙ lost-pending m settings w l y unshut after did o s shut in
+    let none : [] ≡ told_outcomes (lost_tickets y.pending) = sym (ap lost_of (none-lost after.pending waits)) ∙ lost-pending m settings w l y unshut after did o s shut in
     record {
       parts = subst (λ b. Parts m settings w (settled b (record l { debugger = after; did = did })) (debugger_turn settings (measured w settings.limits) x).0) (sym left)
           (subst (λ r. Parts m settings w (record l { debugger = after; did = did }) r.0) (sym is) (shut-parts m settings w l y unshut after did shut (ap has_tickets (sym shut.pending) ∙ waits) s));
-      tells = ap (λ b. told (outcomes_of t) ++ lost_where b after) left
-          ∙ (ap (λ os. told (outcomes_of t) ++ os) none ∙ (sym (told-append (outcomes_of t) (lost_tickets y.pending)) ∙ ap (λ r. told r.1) (sym is)));
+      tells = ap (λ b. told_outcomes (outcomes_of t) ++ lost_where b after) left
+          ∙ (ap (λ os. told_outcomes (outcomes_of t) ++ os) none ∙ (sym (told-append (outcomes_of t) (lost_tickets y.pending)) ∙ ap (λ r. told_outcomes r.1) (sym is)));
     }
 
 settle-by : {S : Type 0} (m : Meaning S) (settings : Settings) (w : Widths) (l : Link S) (x y : World S) (t : Told) (unshut after : Debugger) (did closes : Bool) → is_closed y.debugger ≡ false
@@ -88,7 +88,7 @@ settle-by m settings w l x y t unshut after did false o s shut is =
     record {
       parts = subst (λ b. Parts m settings w (settled b (record l { debugger = after; did = did })) (debugger_turn settings (measured w settings.limits) x).0) (sym none)
           (subst (λ r. Parts m settings w (record l { debugger = after; did = did }) r.0) (sym is) (subst (λ d. Parts m settings w (record l { debugger = d; did = did }) y) (sym shut) s));
-      tells = ap (λ b. told (outcomes_of t) ++ lost_where b after) none ∙ (append-nil (told (outcomes_of t)) ∙ ap (λ r. told r.1) (sym is));
+      tells = ap (λ b. told_outcomes (outcomes_of t) ++ lost_where b after) none ∙ (append-nil (told_outcomes (outcomes_of t)) ∙ ap (λ r. told_outcomes r.1) (sym is));
     }
 settle-by m settings w l x y t unshut after did true o s shut is =
     settle-shut m settings w l x y t unshut after did (has_tickets after.pending) refl o s shut is
@@ -121,13 +121,13 @@ still-settles m settings w l x did s h =
     record {
       parts = subst (λ b. Parts m settings w (settled b (record l { debugger = record l.debugger { last = [] }; did = did })) (debugger_turn settings (measured w settings.limits) x).0) (sym none)
           (subst (λ r. Parts m settings w (record l { debugger = record l.debugger { last = [] }; did = did }) r.0) (sym is) (still-parts m settings w l x did s));
-      tells = ap (λ b. lost_where b (record l.debugger { last = [] })) none ∙ ap (λ r. told r.1) (sym is);
+      tells = ap (λ b. lost_where b (record l.debugger { last = [] })) none ∙ ap (λ r. told_outcomes r.1) (sym is);
     }
 
 -- ---- all of it
 
 -- a turn that handles a message tells of one
-handled-so : (message : streams.Message) (used : ℕ) (old : Debugger) (r : Read) (after : Debugger) → HandlesAt message used old (Ok r) after → HandlesSo message used old (turns.told r) after
+handled-so : (message : streams.Message) (used : ℕ) (old : Debugger) (r : Read) (after : Debugger) → HandlesAt message used old (Ok r) after → HandlesSo message used old (turns.read_meaning r) after
 handled-so streams.Handshake used old r after h = h
 handled-so (streams.Packet header body) used old r after h = h
 
@@ -151,30 +151,30 @@ pub record Answered {S : Type 0} (m : Meaning S) (settings : Settings) (w : Widt
   pub did : told_did t ≡ acts m settings (measured w settings.limits) x Events.DebuggerTurn
 
 answers-by : {S : Type 0} (m : Meaning S) (settings : Settings) (w : Widths) (l : Link S) (x : World S) (r : Read) (after : Debugger) → Laws m → Known m settings x → DebuggerKeeps l.debugger → (s : Parts m settings w l x)
-    → IsStill settings w l.debugger.end x ⊎ HasMessage settings w l.debugger.end x s.from.wires → TurnsAt (front_of l.debugger.end) l.debugger (Ok r) after → Answered m settings w l x (turns.told r) after
+    → IsStill settings w l.debugger.end x ⊎ HasMessage settings w l.debugger.end x s.from.wires → TurnsAt (front_of l.debugger.end) l.debugger (Ok r) after → Answered m settings w l x (turns.read_meaning r) after
 answers-by m settings w l x r after laws known keeps s (inl h) so =
     let (told, same) = subst (λ f. TurnsAt f l.debugger (Ok r) after) h.front so in
     let nothing : r ≡ read.Nothing = cc in
     record {
-      settles = λ did. subst (λ q. Settles m settings w l x (turns.told q) after did) (sym nothing) (subst (λ d. Settles m settings w l x turns.Nothing d did) (sym same) (still-settles m settings w l x did s h));
-      did = ap (λ q. told_did (turns.told q)) nothing ∙ sym (ap is_some h.none);
+      settles = λ did. subst (λ q. Settles m settings w l x (turns.read_meaning q) after did) (sym nothing) (subst (λ d. Settles m settings w l x turns.Nothing d did) (sym same) (still-settles m settings w l x did s h));
+      did = ap (λ q. told_did (turns.read_meaning q)) nothing ∙ sym (ap is_some h.none);
     }
 answers-by m settings w l x r after laws known keeps s (inr h) so =
     let handles = handled-so (message_sent w h.id h.packet.0) (message_size w h.packet.0) l.debugger r after (subst (λ f. TurnsAt f l.debugger (Ok r) after) h.front so) in
-    let turned = read-turn m settings w l x (turns.told r) after laws known keeps s h handles in
+    let turned = read-turn m settings w l x (turns.read_meaning r) after laws known keeps s h handles in
     record {
-      settles = λ did. settle-by m settings w l x turned.world (turns.told r) turned.unshut after did turned.closes turned.opened (turned.parts did) turned.shuts turned.is;
-      did = handled-did (message_sent w h.id h.packet.0) (message_size w h.packet.0) l.debugger (turns.told r) after handles ∙ sym (ap is_some h.some);
+      settles = λ did. settle-by m settings w l x turned.world (turns.read_meaning r) turned.unshut after did turned.closes turned.opened (turned.parts did) turned.shuts turned.is;
+      did = handled-did (message_sent w h.id h.packet.0) (message_size w h.packet.0) l.debugger (turns.read_meaning r) after handles ∙ sym (ap is_some h.some);
     }
 
 pub goes-read : {S : Type 0} (m : Meaning S) → HoldsOfWorlds m → (l : Link S) (r : Read) (after : Debugger) → Laws m → l.target.settings.limits.packet < 2 ^ 32 → DebuggerKeeps l.debugger → TurnsAt (front_of l.debugger.end) l.debugger (Ok r) after
-    → Goes m Events.DebuggerTurn l (settled (is_left after) (record l { debugger = after; did = told_did (turns.told r) })) (told (outcomes_of (turns.told r)) ++ lost_where (is_left after) after)
+    → Goes m Events.DebuggerTurn l (settled (is_left after) (record l { debugger = after; did = told_did (turns.read_meaning r) })) (told_outcomes (outcomes_of (turns.read_meaning r)) ++ lost_where (is_left after) after)
 goes-read {S} m worlds l r after laws small keeps so =
     let all = λ (x : World S) (s : StandsFor m l x). let k = known m worlds l.target.settings (m.sizes l.target.moment.machine) x s.reached in
     answers-by m l.target.settings (m.sizes l.target.moment.machine) l x r after laws k keeps s.parts (debugger-has m l.target.settings (m.sizes l.target.moment.machine) l x laws.finds small k s.parts) so in
-    goes m Events.DebuggerTurn l (settled (is_left after) (record l { debugger = after; did = told_did (turns.told r) })) (told (outcomes_of (turns.told r)) ++ lost_where (is_left after) after)
-    (λ x s. ((all x s).settles (told_did (turns.told r))).parts) (λ x s. ((all x s).settles (told_did (turns.told r))).tells)
-    (λ x s. settled-did (is_left after) (record l { debugger = after; did = told_did (turns.told r) }) ∙ (all x s).did)
+    goes m Events.DebuggerTurn l (settled (is_left after) (record l { debugger = after; did = told_did (turns.read_meaning r) })) (told_outcomes (outcomes_of (turns.read_meaning r)) ++ lost_where (is_left after) after)
+    (λ x s. ((all x s).settles (told_did (turns.read_meaning r))).parts) (λ x s. ((all x s).settles (told_did (turns.read_meaning r))).tells)
+    (λ x s. settled-did (is_left after) (record l { debugger = after; did = told_did (turns.read_meaning r) }) ∙ (all x s).did)
 
 -- ---- a turn that fails
 

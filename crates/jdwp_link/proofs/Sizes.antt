@@ -9,8 +9,8 @@ use Rattle.jdwp_layout.specs.CommandNumbers.{EVENT, COMPOSITE}
 use Rattle.jdwp_layout.specs.Writes.{data_canonical}
 use Rattle.jdwp_event.specs.Composites.{composite_data}
 use Rattle.jdwp_debugger.specs.Asking.{command_header}
-use Rattle.jdwp_debuggee.specs.CommandPackets.{carried_bytes}
-use Rattle.jdwp_debuggee.specs.Sending.{answer_bytes, error_of}
+use Rattle.jdwp_action.specs.CommandPackets.{carried_bytes}
+use Rattle.jdwp_action.specs.AnswerPackets.{answer_bytes, error_of}
 use Rattle.jdwp_mirror.specs.Messages.{Call, Greets, Asks, Message, Handshake, Reply, Report}
 use Rattle.jdwp_model.specs.World.{calls_size, packets_size}
 use Rattle.jdwp_model.specs.Measures.{call_size, message_size, measured}

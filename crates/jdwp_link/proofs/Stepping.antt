@@ -15,12 +15,13 @@ use Rattle.jdwp_machine.specs.Meanings.{Meaning}
 use Rattle.jdwp_debuggee.specs.Settings.{Settings}
 use Rattle.jdwp_debuggee.specs.State.{Moment}
 use Rattle.jdwp_debuggee.specs.Steps.{may_step, occurs}
+use Rattle.jdwp_debuggee.specs.Visits.{visits_stepped}
 use Rattle.jdwp_mirror.specs.Messages.{Report}
 use Rattle.jdwp_target.specs.Sends.{EncodesSent}
 use Rattle.jdwp_target.specs.Standings.{Steps, after_death, react, reports_step, stands, steps_by}
-use Rattle.jdwp_target.specs.Targets.{standing, with_step}
+use Rattle.jdwp_target.specs.Targets.{standing, visiting, with_step}
 use Rattle.jdwp_target.specs.Turns.{EncodesWhere, SendsWhere, is_frozen}
-use Rattle.jdwp_model.specs.Next.{steps, steps_now, step_ends, stepped, told}
+use Rattle.jdwp_model.specs.Next.{steps, steps_now, step_ends, stepped, with_report}
 use Rattle.jdwp_model.specs.World as world
 use Rattle.jdwp_model.specs.World.{is_closed, World}
 use Rattle.jdwp_model.specs.Measures.{measured}
@@ -75,7 +76,7 @@ means m w c puts h = subst (EncodesComposite w c) (puts.composites w c) h
 
 step-acted : {S : Type 0} (m : Meaning S) (w : Widths) (x : World S) (phase : Phase) (after : Moment S) (sends : Option CompositeMeaning) (ends dies : Bool) → PutsMessages m → x.target ≡ phase
     → (is_established_phase phase ≡ false → sends ≡ None) → m.sizes after.machine ≡ w → EncodesSent w phase sends
-    → Acted m w x (reports_step w x.now.state.next_packet (record { after = after; sends = sends; ends = ends; dies = dies }) (stands x.now phase)) [] (step_ends (told x after sends) phase dies)
+    → Acted m w x (reports_step w x.now.state.next_packet (record { after = after; sends = sends; ends = ends; dies = dies }) (stands x.now phase)) [] (step_ends (with_report x after sends) phase dies)
 step-acted m w x Established after None ends true puts e silent sizes encoded = record {
   more = (after.state.next_packet, (Report vm_death, after_death after)) ∷ [];
   sends = refl;
@@ -181,7 +182,7 @@ step-parts m settings w l x t finds puts k s keeps free encoded sends =
     subst (λ r. Acted m w (record x { to_target = without_ids s.to.wires; at_target = x.at_target }) r [] (stepped x o)) (sym same) (subst (λ z. Acted m w z (reports_step w x.now.state.next_packet o (stands x.now x.target)) [] (stepped x o)) (sym world_is) acted) in
     let opens : is_closed (react m l.target.settings (standing l.target) (Steps t)).after.phase ≡ false → is_closed x.target ≡ false =
     (λ h. step-open w x.now.state.next_packet x.now o.after o.sends o.ends o.dies x.target (ap (λ r. is_closed r.after.phase) (sym same) ∙ h)) in
-    let parts = acts-parts m settings w l x (stepped x o) true (react m l.target.settings (standing l.target) (Steps t)) l.target.end (record l.target { steps = l.target.steps + 1 }) x.at_target s.to.wires []
+    let parts = acts-parts m settings w l x (stepped x o) true (react m l.target.settings (standing l.target) (Steps t)) l.target.end (visiting (visits_stepped m l.target.moment t l.target.visits) (record l.target { steps = l.target.steps + 1 })) x.at_target s.to.wires []
     s s.target.same_settings s.target.limits s.target.lost refl s.to.sent (subst (λ limits. AreSendable limits.packet (react m l.target.settings (standing l.target) (Steps t)).sends) s.target.limits sends)
     (cut-same x.at_target _ _ _ l.target.end _ (is_closed x.target) _ refl (λ h. (opens h, refl)) s.to.cut) refl acts in
     subst (λ b. Parts m settings w (record l { target = with_step m t l.target; did = true }) (cond b (stepped x o) x)) (sym now) parts

@@ -7,7 +7,7 @@ use Rattle.jdwp_end.specs.Ends as ends
 use Rattle.jdwp_end.specs.declared.phase.Phase.{Phase}
 use Rattle.jdwp_end.specs.declared.phase.Phase.TheVariants.{Established}
 use Rattle.jdwp_machine.specs.Meanings.{Meaning}
-use Rattle.jdwp_debuggee.specs.Actions.{Command}
+use Rattle.jdwp_action.specs.Actions.{Command}
 use Rattle.jdwp_debuggee.specs.Settings.{Settings}
 use Rattle.jdwp_mirror.specs.Messages.{Call, Ticket}
 use Rattle.jdwp_mirror.specs.Mirrors.{empty_mirror}
@@ -87,7 +87,7 @@ takes-only m settings w l x did d id p rest ready parked read pending finds s fi
 
 -- a debugger whose end closed, with what waits for replies
 pub record IsShut (unshut after : Debugger) : Type 0 where
-  pub end : after.end ≡ ends.closed unshut.end
+  pub end : after.end ≡ ends.closed_end unshut.end
   pub mirror : after.mirror ≡ empty_mirror
   pub tickets : after.tickets ≡ unshut.tickets
   pub pending : after.pending ≡ unshut.pending

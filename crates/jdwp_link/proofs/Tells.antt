@@ -6,7 +6,7 @@ use Rattle.jdwp_wire.specs.Streams.{Fault, More, NextMessage, Whole}
 use Rattle.jdwp_end.specs.Ends.{front_of, is_open, is_open_phase, most_outgoing}
 use Rattle.jdwp_event.specs.Composites.{CompositeMeaning}
 use Rattle.jdwp_machine.specs.Meanings.{Meaning}
-use Rattle.jdwp_debuggee.specs.Actions.{Command}
+use Rattle.jdwp_action.specs.Actions.{Command}
 use Rattle.jdwp_debugger.specs.Asking.{HasAsked}
 use Rattle.jdwp_debugger.specs.Debuggers.{Asked, Debugger, Unanswered, at_place, has_tickets, is_front, seen_unanswered, tickets_of, unanswered}
 use Rattle.jdwp_debugger.specs.declared.pending.Ticket.{Ticket}
@@ -22,10 +22,10 @@ use Rattle.jdwp_link.specs.declared.events.Outcome.{Outcome}
 use Rattle.jdwp_link.specs.declared.events.Outcome.TheVariants as outcome
 use Rattle.jdwp_link.specs.Clauses.{Goes}
 use Rattle.jdwp_link.specs.EventParts.{AsksSo, is_left, lost_of, lost_where, outcomes_of, seen_of, settled, settled_bytes, settled_debugger, told_did}
-use Rattle.jdwp_link.specs.Insides.{DebuggerKeeps, IsRight, TargetKeeps, link_of}
+use Rattle.jdwp_link.specs.Insides.{DebuggerKeeps, IsRightLink, TargetKeeps, link_of}
 use Rattle.jdwp_link.specs.Laws.{FindsMessages, HoldsOfWorlds, Laws}
 use Rattle.jdwp_link.specs.Links.{Link, debugger_lost, way_to_target}
-use Rattle.jdwp_link.specs.Told.{told}
+use Rattle.jdwp_link.specs.Told.{told_outcomes}
 use Rattle.jdwp_link.proofs.Going.{goes-debugger-loses, goes-told}
 use Rattle.jdwp_link.proofs.Keeping.{debugger-lost-right, queue-fits, right-after, small-limits}
 use Rattle.jdwp_link.proofs.Losing.{none-lost}
@@ -35,10 +35,10 @@ use Rattle.jdwp_link.proofs.Turning.{front-closed}
 -- an event goes, this is told of it, and the link is right after it
 pub record Does {S : Type 0} (m : Meaning S) (e : LinkEvent) (old new : Link S) (os : List Outcome) (to from : ℕ) : Type 0 where
   pub goes : Goes m e old new os
-  pub right : IsRight m new to from
+  pub right : IsRightLink m new to from
 
 does-at : {S : Type 0} (m : Meaning S) (e : LinkEvent) (old new : Link S) (os : List Outcome) (to from to_new : ℕ) → to_new ≡ to → Does m e old new os to from → Does m e old new os to_new from
-does-at m e old new os to from to_new a d = record { goes = d.goes; right = subst (λ n. IsRight m new n from) (sym a) d.right }
+does-at m e old new os to from to_new a d = record { goes = d.goes; right = subst (λ n. IsRightLink m new n from) (sym a) d.right }
 
 -- ---- a command
 
@@ -52,7 +52,7 @@ ask-fits l c (outcome.Answered ticket answer) after to fits h shut = absurd h
 ask-fits l c (outcome.Lost ticket) after to fits h shut = absurd h
 ask-fits l c (outcome.Seen composite) after to fits h shut = absurd h
 
-pub ask-done : {S : Type 0} (m : Meaning S) (l : Link S) (c : Command) (o : Outcome) (after : Debugger) (to from : ℕ) → FindsMessages → IsRight m l to from → DebuggerKeeps l.debugger → AsksSo c l.debugger o after → TargetKeeps l.target.end → DebuggerKeeps after
+pub ask-done : {S : Type 0} (m : Meaning S) (l : Link S) (c : Command) (o : Outcome) (after : Debugger) (to from : ℕ) → FindsMessages → IsRightLink m l to from → DebuggerKeeps l.debugger → AsksSo c l.debugger o after → TargetKeeps l.target.end → DebuggerKeeps after
     → Does m (Events.Ask c) l (record l { debugger = after; did = false }) (o ∷ []) to from
 ask-done m l c o after to from finds right keeps so target debugger =
     let goes = goes-told m l c o after finds keeps so in
@@ -64,14 +64,14 @@ ask-done m l c o after to from finds right keeps so target debugger =
 
 -- ---- a loss
 
-pub loses-done : {S : Type 0} (m : Meaning S) → HoldsOfWorlds m → (l : Link S) (q q_new : Queue) (d : Debugger) (from : ℕ) → IsRight m l q.capacity from → q.bytes ≡ l.to_target
-    → d ≡ debuggers.lost (debuggers.with_taken l.debugger.end.outgoing l.debugger) → q_new ≡ record q { bytes = q.bytes ++ l.debugger.end.outgoing } → TargetKeeps l.target.end → DebuggerKeeps d
+pub loses-done : {S : Type 0} (m : Meaning S) → HoldsOfWorlds m → (l : Link S) (q q_new : Queue) (d : Debugger) (from : ℕ) → IsRightLink m l q.capacity from → q.bytes ≡ l.to_target
+    → d ≡ debuggers.lost_debugger (debuggers.with_taken l.debugger.end.outgoing l.debugger) → q_new ≡ record q { bytes = q.bytes ++ l.debugger.end.outgoing } → TargetKeeps l.target.end → DebuggerKeeps d
     → Does m Events.DebuggerLoses l (link_of l.target d q_new.bytes l.to_debugger false) (lost_of (tickets_of l.debugger.pending)) q_new.capacity from
 loses-done {S} m worlds l q q_new d from right a lost kept target debugger =
     let os = lost_of (tickets_of l.debugger.pending) in
     let is : link_of l.target d q_new.bytes l.to_debugger false ≡ record (debugger_lost l) { did = false } =
     ap (λ x. link_of l.target x q_new.bytes l.to_debugger false) lost
-    ∙ ap (λ x. link_of l.target (debuggers.lost (debuggers.with_taken l.debugger.end.outgoing l.debugger)) x l.to_debugger false) (ap (λ (x : Queue). x.bytes) kept ∙ ap (λ b. b ++ l.debugger.end.outgoing) a) in
+    ∙ ap (λ x. link_of l.target (debuggers.lost_debugger (debuggers.with_taken l.debugger.end.outgoing l.debugger)) x l.to_debugger false) (ap (λ (x : Queue). x.bytes) kept ∙ ap (λ b. b ++ l.debugger.end.outgoing) a) in
     let goes = goes-debugger-loses m worlds l in
     does-at m Events.DebuggerLoses l (link_of l.target d q_new.bytes l.to_debugger false) os q.capacity from q_new.capacity (ap (λ (x : Queue). x.capacity) kept)
     (subst (λ x. Does m Events.DebuggerLoses l x os q.capacity from) (sym is)
@@ -81,7 +81,7 @@ loses-done {S} m worlds l q q_new d from right a lost kept target debugger =
 
 settled-is : {S : Type 0} (l : Link S) (b : Bool) (after d : Debugger) (bytes : List ℕ) (did : Bool) → d ≡ settled_debugger b after → bytes ≡ settled_bytes b after l.to_target
     → link_of l.target d bytes l.to_debugger did ≡ settled b (record l { debugger = after; did = did })
-settled-is l true after d bytes did e f = ap (λ x. link_of l.target x bytes l.to_debugger did) e ∙ ap (λ x. link_of l.target (debuggers.lost (debuggers.with_taken after.end.outgoing after)) x l.to_debugger did) f
+settled-is l true after d bytes did e f = ap (λ x. link_of l.target x bytes l.to_debugger did) e ∙ ap (λ x. link_of l.target (debuggers.lost_debugger (debuggers.with_taken after.end.outgoing after)) x l.to_debugger did) f
 settled-is l false after d bytes did e f = ap (λ x. link_of l.target x bytes l.to_debugger did) e ∙ ap (λ x. link_of l.target after x l.to_debugger did) f
 
 settled-fits : (b : Bool) (after d : Debugger) (bytes kept : List ℕ) (to : ℕ) → d ≡ settled_debugger b after → bytes ≡ settled_bytes b after kept → length (kept ++ after.end.outgoing) ≤ to → length (bytes ++ d.end.outgoing) ≤ to
@@ -96,7 +96,7 @@ settled-limits : {S : Type 0} (b : Bool) (l : Link S) → (settled b l).debugger
 settled-limits true l e = e
 settled-limits false l e = e
 
-turn-fits : {S : Type 0} (m : Meaning S) (l : Link S) (r : Read) (after : Debugger) (to from : ℕ) (b : Bool) → is_open l.debugger.end ≡ b → IsRight m l to from → TurnsAt (front_of l.debugger.end) l.debugger (Ok r) after → DebuggerKeeps after
+turn-fits : {S : Type 0} (m : Meaning S) (l : Link S) (r : Read) (after : Debugger) (to from : ℕ) (b : Bool) → is_open l.debugger.end ≡ b → IsRightLink m l to from → TurnsAt (front_of l.debugger.end) l.debugger (Ok r) after → DebuggerKeeps after
     → after.end.limits ≡ l.target.settings.limits → length (l.to_target ++ after.end.outgoing) ≤ to
 turn-fits m l r after to from true o right so keeps same =
     let s = right.is_link.stands in
@@ -111,26 +111,26 @@ turn-fits m l r after to from false o right so keeps same =
     subst (λ (d : Debugger). length (l.to_target ++ d.end.outgoing) ≤ to) (sym is) right.to_target_fits
 
 -- there is room for what waits to leave
-pub read-fits : {S : Type 0} (m : Meaning S) → HoldsOfWorlds m → (l : Link S) (r : Read) (after : Debugger) (to from : ℕ) → Laws m → IsRight m l to from → DebuggerKeeps l.debugger → TurnsAt (front_of l.debugger.end) l.debugger (Ok r) after → DebuggerKeeps after
+pub read-fits : {S : Type 0} (m : Meaning S) → HoldsOfWorlds m → (l : Link S) (r : Read) (after : Debugger) (to from : ℕ) → Laws m → IsRightLink m l to from → DebuggerKeeps l.debugger → TurnsAt (front_of l.debugger.end) l.debugger (Ok r) after → DebuggerKeeps after
     → length (l.to_target ++ after.end.outgoing) ≤ to
 read-fits m worlds l r after to from laws right keeps so after-keeps =
     let goes = goes-read m worlds l r after laws (small-limits m l right.is_link keeps) keeps so in
     turn-fits m l r after to from (is_open l.debugger.end) refl right so after-keeps
-    (settled-limits (is_left after) (record l { debugger = after; did = told_did (turns.told r) }) (goes.stands right.is_link.world right.is_link.stands).parts.debugger.limits)
+    (settled-limits (is_left after) (record l { debugger = after; did = told_did (turns.read_meaning r) }) (goes.stands right.is_link.world right.is_link.stands).parts.debugger.limits)
 
 pub room-to-keep : (kept outgoing : List ℕ) (to : ℕ) → length (kept ++ outgoing) ≤ to → length kept + length outgoing ≤ to
 room-to-keep kept outgoing to h = let e = length-append kept outgoing in omega arith
 
-pub read-done : {S : Type 0} (m : Meaning S) → HoldsOfWorlds m → (l : Link S) (r : Read) (after d : Debugger) (q q_new : Queue) (did : Bool) (from : ℕ) → Laws m → IsRight m l q.capacity from → q.bytes ≡ l.to_target → DebuggerKeeps l.debugger
-    → TurnsAt (front_of l.debugger.end) l.debugger (Ok r) after → DebuggerKeeps after → did ≡ told_did (turns.told r)
+pub read-done : {S : Type 0} (m : Meaning S) → HoldsOfWorlds m → (l : Link S) (r : Read) (after d : Debugger) (q q_new : Queue) (did : Bool) (from : ℕ) → Laws m → IsRightLink m l q.capacity from → q.bytes ≡ l.to_target → DebuggerKeeps l.debugger
+    → TurnsAt (front_of l.debugger.end) l.debugger (Ok r) after → DebuggerKeeps after → did ≡ told_did (turns.read_meaning r)
     → d ≡ settled_debugger (is_left after) after → q_new ≡ record q { bytes = settled_bytes (is_left after) after q.bytes } → TargetKeeps l.target.end → DebuggerKeeps d
-    → Does m Events.DebuggerTurn l (link_of l.target d q_new.bytes l.to_debugger did) (told (outcomes_of (turns.told r)) ++ lost_where (is_left after) after) q_new.capacity from
+    → Does m Events.DebuggerTurn l (link_of l.target d q_new.bytes l.to_debugger did) (told_outcomes (outcomes_of (turns.read_meaning r)) ++ lost_where (is_left after) after) q_new.capacity from
 read-done {S} m worlds l r after d q q_new did from laws right a keeps so after-keeps told-is lost kept target debugger =
-    let os = told (outcomes_of (turns.told r)) ++ lost_where (is_left after) after in
+    let os = told_outcomes (outcomes_of (turns.read_meaning r)) ++ lost_where (is_left after) after in
     let new : Link S = link_of l.target d q_new.bytes l.to_debugger did in
     let bytes : q_new.bytes ≡ settled_bytes (is_left after) after l.to_target = ap (λ (x : Queue). x.bytes) kept ∙ ap (settled_bytes (is_left after) after) a in
-    let is : new ≡ settled (is_left after) (record l { debugger = after; did = told_did (turns.told r) }) =
-    ap (λ b. link_of l.target d q_new.bytes l.to_debugger b) told-is ∙ settled-is l (is_left after) after d q_new.bytes (told_did (turns.told r)) lost bytes in
+    let is : new ≡ settled (is_left after) (record l { debugger = after; did = told_did (turns.read_meaning r) }) =
+    ap (λ b. link_of l.target d q_new.bytes l.to_debugger b) told-is ∙ settled-is l (is_left after) after d q_new.bytes (told_did (turns.read_meaning r)) lost bytes in
     let goes : Goes m Events.DebuggerTurn l new os = subst (λ n. Goes m Events.DebuggerTurn l n os) (sym is) (goes-read m worlds l r after laws (small-limits m l right.is_link keeps) keeps so) in
     let fits = read-fits m worlds l r after q.capacity from laws right keeps so after-keeps in
     does-at m Events.DebuggerTurn l new os q.capacity from q_new.capacity (ap (λ (x : Queue). x.capacity) kept)
@@ -146,7 +146,7 @@ is-more (Fault fault) h = absurd (cc)
 is-more More h = refl
 
 -- a turn at which there is nothing to handle
-pub waits-done : {S : Type 0} (m : Meaning S) → HoldsOfWorlds m → (l : Link S) (after : Debugger) (to from : ℕ) → Laws m → IsRight m l to from → DebuggerKeeps l.debugger → is_front (front_of l.debugger.end) ≡ false
+pub waits-done : {S : Type 0} (m : Meaning S) → HoldsOfWorlds m → (l : Link S) (after : Debugger) (to from : ℕ) → Laws m → IsRightLink m l to from → DebuggerKeeps l.debugger → is_front (front_of l.debugger.end) ≡ false
     → TurnsAt (front_of l.debugger.end) l.debugger (Ok read.Nothing) after → TargetKeeps l.target.end → DebuggerKeeps after → Does m Events.DebuggerTurn l (record l { debugger = after; did = false }) [] to from
 waits-done {S} m worlds l after to from laws right keeps none so target debugger =
     let (told, is) = subst (λ f. TurnsAt f l.debugger (Ok read.Nothing) after) (is-more (front_of l.debugger.end) none) so in
@@ -162,7 +162,7 @@ waits-done {S} m worlds l after to from laws right keeps none so target debugger
 
 -- ---- composites
 
-pub seen-told : (cs : List CompositeMeaning) → seen_of cs ≡ told (map Events.Seen cs)
+pub seen-told : (cs : List CompositeMeaning) → seen_of cs ≡ told_outcomes (map Events.Seen cs)
 seen-told [] = refl
 seen-told (c ∷ cs) = ap (λ os. outcome.Seen c ∷ os) (seen-told cs)
 

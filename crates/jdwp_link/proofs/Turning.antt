@@ -12,15 +12,14 @@ use Rattle.jdwp_end.specs.Ends.{End, front_of, is_paused, next_at, with_handled}
 use Rattle.jdwp_event.specs.CompositeBytes.{EncodesComposite, composite_canonical}
 use Rattle.jdwp_event.specs.Composites.{vm_death}
 use Rattle.jdwp_machine.specs.Meanings.{Meaning}
-use Rattle.jdwp_debuggee.specs.Actions.{Command, action_of, is_implemented}
-use Rattle.jdwp_debuggee.specs.Answers.{sizes_answer}
-use Rattle.jdwp_debuggee.specs.CommandReads.{command_read}
+use Rattle.jdwp_action.specs.Actions.{Command, action_of, is_implemented}
+use Rattle.jdwp_action.specs.AnswerPackets.{sizes_answer, EncodesAnswer}
+use Rattle.jdwp_action.specs.CommandReads.{command_read}
 use Rattle.jdwp_debuggee.specs.Effects.{Effect, effect, effect_by}
-use Rattle.jdwp_debuggee.specs.Sending.{EncodesAnswer}
 use Rattle.jdwp_debuggee.specs.Settings.{Settings}
 use Rattle.jdwp_debuggee.specs.State.{Moment}
 use Rattle.jdwp_debuggee.specs.Steps.{start_event}
-use Rattle.jdwp_debuggee.specs.CommandPackets.{carried_bytes}
+use Rattle.jdwp_action.specs.CommandPackets.{carried_bytes}
 use Rattle.jdwp_mirror.specs.Messages.{Ticket, Call, Greets, Asks, Handshake, Reply, Report}
 use Rattle.jdwp_debugger.specs.Asking.{EncodesCommand, read_where}
 use Rattle.jdwp_target.specs.Sends.{report_of}
@@ -29,6 +28,7 @@ use Rattle.jdwp_target.specs.Standings.{Handles, Reaction, Standing, carried_out
 use Rattle.jdwp_target.specs.Targets.{Target, standing}
 use Rattle.jdwp_target.specs.Targets as targets
 use Rattle.jdwp_target.specs.Turns.{EncodesNext, EncodesStart, SendsAt}
+use Rattle.jdwp_target.specs.Visits.{visits_handled}
 use Rattle.jdwp_model.specs.Faultless.{is_in_place}
 use Rattle.jdwp_model.specs.Next.{after_death, answers, dies_by, greets_by, started, target_front, target_handles, target_takes, target_turn, target_turn_at, whole_call}
 use Rattle.jdwp_model.specs.World as world
@@ -243,7 +243,8 @@ handled-parts {S} m settings w l x y id call rest done finds s first came o send
     ap (λ u. handles m u (stands l.target.moment Established) (call_sent w id call)) s.target.same_settings ∙ ap (λ a. handles m settings (stands a Established) (call_sent w id call)) s.target.now in
     let cut : AreCut x.at_target (message_bytes (call_sent w id call) ++ stream (calls_sent w rest)) (way_to_target l) l.target.end (is_closed x.target) =
     subst (λ wires. AreCut x.at_target (stream (calls_sent w wires)) (way_to_target l) l.target.end (is_closed x.target)) first s.to.cut in
-    acts-parts m settings w l x y true r (with_handled (call_sent w id call) (call_size w call) l.target.end) l.target (x.at_target - call_size w call) rest done
+    acts-parts m settings w l x y true r (with_handled (call_sent w id call) (call_size w call) l.target.end)
+    (targets.visiting (visits_handled m l.target.settings l.target.moment (call_sent w id call) l.target.visits) l.target) (x.at_target - call_size w call) rest done
     s s.target.same_settings s.target.limits s.target.lost refl (call-can w settings.limits.packet s.to.wires rest id call first s.to.sent).1
     (subst (λ limits. AreSendable limits.packet r.sends) s.target.limits sends)
     (cut-shorter x.at_target (call_size w call) (message_bytes (call_sent w id call)) (stream (calls_sent w rest)) (way_to_target l) (way_to_target l) l.target.end _ (is_closed x.target) _ (call-length finds w id call) came o refl refl cut)

@@ -8,8 +8,8 @@ use Rattle.jdwp_end.specs.Ends.{is_established_phase, is_open, is_open_phase}
 use Rattle.jdwp_event.specs.Composites.{CompositeMeaning}
 use Rattle.jdwp_layout.specs.declared.answer.Answer.{Answer}
 use Rattle.jdwp_machine.specs.Meanings.{Meaning}
-use Rattle.jdwp_debuggee.specs.Actions.{Command}
-use Rattle.jdwp_debuggee.specs.Sending.{EncodesAnswer, answer_bytes, error_of}
+use Rattle.jdwp_action.specs.Actions.{Command}
+use Rattle.jdwp_action.specs.AnswerPackets.{EncodesAnswer, answer_bytes, error_of}
 use Rattle.jdwp_debuggee.specs.Settings.{Settings}
 use Rattle.jdwp_debuggee.specs.State.{Moment}
 use Rattle.jdwp_mirror.specs.Faults.{fault_of, has_bad_event, is_bad_event, is_bad_reply, is_waited_for, or_else, when}

@@ -7,9 +7,8 @@ use Rattle.jdwp_end.specs.Ends.{front_of}
 use Rattle.jdwp_layout.specs.declared.answer.Answer.TheVariants.{Data}
 use Rattle.jdwp_layout.specs.Meanings.{DatumMeaning}
 use Rattle.jdwp_machine.specs.Meanings.{Meaning}
-use Rattle.jdwp_debuggee.specs.Actions.{Command, action_of}
+use Rattle.jdwp_action.specs.Actions.{Command, action_of, is_dispose}
 use Rattle.jdwp_debuggee.specs.Effects.{effect}
-use Rattle.jdwp_debuggee.specs.Facts.{is_dispose}
 use Rattle.jdwp_debuggee.specs.State.{Moment, count_of, count_or_zero}
 use Rattle.jdwp_debuggee.specs.StepParts.{is_ready}
 use Rattle.jdwp_mirror.specs.KnownThreads.{count_in, is_held_in}
@@ -20,13 +19,13 @@ use Rattle.jdwp_model.specs.Events.{LinkEvent}
 use Rattle.jdwp_model.specs.Headline.{requests_then}
 use Rattle.jdwp_model.specs.Lasting.{asks_frames_of, writes, IsLasting}
 use Rattle.jdwp_model.specs.Next.{next, run, outcomes, acts, did_after}
-use Rattle.jdwp_model.specs.Seen.{mirror_count, seen, is_known, is_held, lowers, raises, composites_in}
+use Rattle.jdwp_model.specs.Seen.{mirror_count, seen_moment, is_known, is_held, lowers, raises, composites_in}
 use Rattle.jdwp_model.specs.World.{Measure, World}
 use Rattle.jdwp_model.specs.Measures.{measured}
 use Rattle.jdwp_link.specs.declared.events.Outcome.{Outcome}
 use Rattle.jdwp_link.specs.Links.{Link}
 use Rattle.jdwp_link.specs.Stands.{StandsFor}
-use Rattle.jdwp_link.specs.Told.{told}
+use Rattle.jdwp_link.specs.Told.{told_outcomes}
 
 -- ---- events
 
@@ -38,7 +37,7 @@ measure_of m l = measured (m.sizes l.target.moment.machine) l.target.settings.li
 -- something. Neither the settings change nor the widths of ids.
 pub record Goes {S : Type 0} (m : Meaning S) (e : LinkEvent) (old new : Link S) (os : List Outcome) : Type 0 where
   pub stands : (x : World S) → StandsFor m old x → StandsFor m new (next m old.target.settings (measure_of m old) x e).0
-  pub tells : (x : World S) → StandsFor m old x → os ≡ told (next m old.target.settings (measure_of m old) x e).1
+  pub tells : (x : World S) → StandsFor m old x → os ≡ told_outcomes (next m old.target.settings (measure_of m old) x e).1
   pub did : (x : World S) → StandsFor m old x → new.did ≡ acts m old.target.settings (measure_of m old) x e
   pub settings : (x : World S) → StandsFor m old x → new.target.settings ≡ old.target.settings
   pub sizes : (x : World S) → StandsFor m old x → m.sizes new.target.moment.machine ≡ m.sizes old.target.moment.machine
@@ -46,7 +45,7 @@ pub record Goes {S : Type 0} (m : Meaning S) (e : LinkEvent) (old new : Link S) 
 -- the same of a list of events
 pub record Ran {S : Type 0} (m : Meaning S) (es : List LinkEvent) (old new : Link S) (os : List Outcome) : Type 0 where
   pub stands : (x : World S) → StandsFor m old x → StandsFor m new (run m old.target.settings (measure_of m old) x es)
-  pub tells : (x : World S) → StandsFor m old x → os ≡ told (outcomes m old.target.settings (measure_of m old) x es)
+  pub tells : (x : World S) → StandsFor m old x → os ≡ told_outcomes (outcomes m old.target.settings (measure_of m old) x es)
   pub did : (x : World S) → StandsFor m old x → new.did ≡ did_after m old.target.settings (measure_of m old) x old.did es
   pub settings : (x : World S) → StandsFor m old x → new.target.settings ≡ old.target.settings
   pub sizes : (x : World S) → StandsFor m old x → m.sizes new.target.moment.machine ≡ m.sizes old.target.moment.machine
@@ -73,9 +72,9 @@ MayStop m l Events.TargetLoses = ⊥
 pub record MirrorsSeen {S : Type 0} (l : Link S) (x : World S) : Type 0 where
   pub known : (t : ℕ) → is_some (count_in l.debugger.mirror.threads t) ≡ is_known x.read t
   pub held : (t : ℕ) → is_held_in l.debugger.mirror.threads t ≡ is_held x.read t
-  pub counts : (t n k : ℕ) (then : Moment S) → count_in l.debugger.mirror.threads t ≡ Some n → seen x.read ≡ Some then → count_of then.state t ≡ Some k → n ≡ k
+  pub counts : (t n k : ℕ) (then : Moment S) → count_in l.debugger.mirror.threads t ≡ Some n → seen_moment x.read ≡ Some then → count_of then.state t ≡ Some k → n ≡ k
   pub by_rule : (t : ℕ) → count_in l.debugger.mirror.threads t ≡ mirror_count x.read t
-  pub requests : l.debugger.mirror.requests ≡ requests_then (seen x.read)
+  pub requests : l.debugger.mirror.requests ≡ requests_then (seen_moment x.read)
 
 -- ---- now
 
@@ -110,7 +109,7 @@ pub record HoldsSuspended {S : Type 0} (l : Link S) : Type 0 where
 -- the mirror, but for the unanswered Suspends of it or of all and the composites that were sent and are not read.
 abbrev pub CountsAtMost : {S : Type 0} → Link S → World S → Type 0
 CountsAtMost {S} l x =
-    (t n k : ℕ) (then : Moment S) → count_in l.debugger.mirror.threads t ≡ Some n → seen x.read ≡ Some then → count_of then.state t ≡ Some k →
+    (t n k : ℕ) (then : Moment S) → count_in l.debugger.mirror.threads t ≡ Some n → seen_moment x.read ≡ Some then → count_of then.state t ≡ Some k →
     count_or_zero l.target.moment.state t ≤ n + unanswered_by raises (unanswered l.debugger.pending) t + (composites_in x.parked + composites_in x.to_debugger)
 
 -- What was read of a suspended thread's frames the target would answer now, whatever is under way: where its count in the target was above 0
@@ -120,5 +119,5 @@ abbrev pub StaysTrue : {S : Type 0} → Meaning S → Link S → World S → Typ
 StaysTrue {S} m l x =
     (t : ℕ) (c : Command) (content : List DatumMeaning) (then : Moment S) →
     asks_frames_of c t ≡ true → IsLasting x.read t c content → IsUnbroken l → has_write (unanswered l.debugger.pending) t ≡ false →
-    seen x.read ≡ Some then → unanswered_by lowers (unanswered l.debugger.pending) t < count_or_zero then.state t →
+    seen_moment x.read ≡ Some then → unanswered_by lowers (unanswered l.debugger.pending) t < count_or_zero then.state t →
     (effect m l.target.settings l.target.moment c).answer ≡ Data content

@@ -2,7 +2,7 @@
 use Rattle.std.specs.Prelude.{◌≡◌, ◌+◌, ℕ, Bool, true, false, ◌&&◌, not, List, [], ◌∷◌, ◌++◌, Some, None, map}
 use Rattle.jdwp_end.specs.Ends.{is_open}
 use Rattle.jdwp_machine.specs.Meanings.{Meaning}
-use Rattle.jdwp_debuggee.specs.Actions.{Command}
+use Rattle.jdwp_action.specs.Actions.{Command}
 use Rattle.jdwp_event.specs.Composites.{CompositeMeaning}
 use Rattle.jdwp_debugger.specs.Asking.{HasAsked, refusal_of_ask}
 use Rattle.jdwp_debugger.specs.Debuggers as debuggers
@@ -77,7 +77,7 @@ settled true l = record (debugger_lost l) { did = l.did }
 settled false l = l
 
 abbrev pub settled_debugger : Bool → Debugger → Debugger
-settled_debugger true d = debuggers.lost (debuggers.with_taken d.end.outgoing d)
+settled_debugger true d = debuggers.lost_debugger (debuggers.with_taken d.end.outgoing d)
 settled_debugger false d = d
 
 abbrev pub settled_bytes : Bool → Debugger → List ℕ → List ℕ

@@ -16,7 +16,7 @@ link_of target debugger to_target to_debugger did =
     record { target = target; debugger = debugger; to_target = to_target; to_debugger = to_debugger; did = did }
 
 -- It stands for a world, and there is room for all that an end that loses the connection has put.
-pub record IsRight {S : Type 0} (m : Meaning S) (l : Link S) (to_target to_debugger : ℕ) : Type 0 where
+pub record IsRightLink {S : Type 0} (m : Meaning S) (l : Link S) (to_target to_debugger : ℕ) : Type 0 where
   pub is_link : IsLink m l
   pub to_target_room : to_target ≡ most_outgoing l.target.settings.limits
   pub to_debugger_room : to_debugger ≡ most_outgoing l.target.settings.limits

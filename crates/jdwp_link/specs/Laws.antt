@@ -12,14 +12,13 @@ use Rattle.jdwp_event.specs.Composites.{CompositeMeaning, composite_data, vm_dea
 use Rattle.jdwp_layout.specs.declared.answer.Answer.{Answer}
 use Rattle.jdwp_layout.specs.Writes.{data_canonical}
 use Rattle.jdwp_machine.specs.Meanings.{Meaning}
-use Rattle.jdwp_debuggee.specs.Actions.{Command, action_of, IdSizes}
-use Rattle.jdwp_debuggee.specs.Answers.{sizes_answer}
+use Rattle.jdwp_action.specs.Actions.{Command, action_of, IdSizes}
+use Rattle.jdwp_action.specs.AnswerPackets.{sizes_answer, EncodesAnswer, answer_bytes, error_of}
 use Rattle.jdwp_debuggee.specs.Effects.{effect}
 use Rattle.jdwp_debuggee.specs.Facts.{Facts}
-use Rattle.jdwp_debuggee.specs.Sending.{EncodesAnswer, answer_bytes, error_of}
 use Rattle.jdwp_debuggee.specs.Settings.{Settings}
 use Rattle.jdwp_debuggee.specs.State.{Moment}
-use Rattle.jdwp_debuggee.specs.CommandPackets.{carried_bytes}
+use Rattle.jdwp_action.specs.CommandPackets.{carried_bytes}
 use Rattle.jdwp_mirror.specs.Messages.{id_sizes}
 use Rattle.jdwp_mirror.specs.Widths.{widths_in}
 use Rattle.jdwp_target.specs.Sends.{IsEncoded}

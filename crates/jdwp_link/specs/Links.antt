@@ -39,7 +39,7 @@ way_to_debugger l = l.to_debugger ++ l.target.end.outgoing
 
 -- both ends begin it, and nothing else is under way
 abbrev pub attached : {S : Type 0} → Link S → Link S
-attached l = record { target = targets.opened l.target; debugger = debuggers.attached l.debugger; to_target = []; to_debugger = []; did = false }
+attached l = record { target = targets.opened_target l.target; debugger = debuggers.attached l.debugger; to_target = []; to_debugger = []; did = false }
 
 -- both ends are closed, and the machine lives
 abbrev pub may_attach : {S : Type 0} → Link S → Bool
@@ -82,10 +82,10 @@ abbrev pub target_kept : {S : Type 0} → Link S → Link S
 target_kept l = record l { target = targets.with_taken l.target.end.outgoing l.target; to_debugger = way_to_debugger l }
 
 abbrev pub target_lost : {S : Type 0} → Link S → Link S
-target_lost l = record (target_kept l) { target = targets.lost (target_kept l).target; did = false }
+target_lost l = record (target_kept l) { target = targets.lost_target (target_kept l).target; did = false }
 
 abbrev pub debugger_kept : {S : Type 0} → Link S → Link S
 debugger_kept l = record l { debugger = debuggers.with_taken l.debugger.end.outgoing l.debugger; to_target = way_to_target l }
 
 abbrev pub debugger_lost : {S : Type 0} → Link S → Link S
-debugger_lost l = record (debugger_kept l) { debugger = debuggers.lost (debugger_kept l).debugger }
+debugger_lost l = record (debugger_kept l) { debugger = debuggers.lost_debugger (debugger_kept l).debugger }

@@ -42,8 +42,8 @@ outcome_told (Events.Lost ticket) = outcome.Lost (record { 0 = ticket })
 outcome_told (Events.Seen composite) = outcome.Seen composite
 
 -- these outcomes, in order
-abbrev pub told : List Events.Outcome → List Outcome
-told outcomes = map outcome_told outcomes
+abbrev pub told_outcomes : List Events.Outcome → List Outcome
+told_outcomes outcomes = map outcome_told outcomes
 
 -- whether a turn of the target handled a message
 abbrev pub turn_did : Turn → Bool

@@ -10,10 +10,9 @@ use Rattle.jdwp_layout.specs.Writes.{data_canonical}
 use Rattle.jdwp_layout.specs.declared.answer.Answer.{Answer}
 use Rattle.jdwp_event.specs.CompositeBytes.{EncodesComposite}
 use Rattle.jdwp_event.specs.Composites.{composite_data}
-use Rattle.jdwp_debuggee.specs.Actions.{Command}
-use Rattle.jdwp_debuggee.specs.Answers.{sizes_answer}
-use Rattle.jdwp_debuggee.specs.Sending.{EncodesAnswer}
-use Rattle.jdwp_debuggee.specs.CommandPackets.{carried_bytes}
+use Rattle.jdwp_action.specs.Actions.{Command}
+use Rattle.jdwp_action.specs.AnswerPackets.{sizes_answer, EncodesAnswer}
+use Rattle.jdwp_action.specs.CommandPackets.{carried_bytes}
 use Rattle.jdwp_mirror.specs.Messages.{Ticket, Call, Greets, Asks, Message, Handshake, Reply, Report, id_sizes}
 use Rattle.jdwp_target.specs.Sends.{reply_to, report_of}
 use Rattle.jdwp_debugger.specs.Asking.{EncodesCommand, command_header}

@@ -272,7 +272,7 @@ fn begin_session<M: Machine + Drop>(target: &mut Target<M>, debugger: &mut Debug
     requires { is_open debugger.old.end ≡ false → has_tickets debugger.old.pending ≡ false }
     ensures when { result ≡ (not (is_open target.old.end) &&
         (not (is_open debugger.old.end) && target.old.moment.state.alive)) }
-    ensures begun { result ≡ true → (target.new ≡ targets.opened target.old)
+    ensures begun { result ≡ true → (target.new ≡ targets.opened_target target.old)
         × (debugger.new ≡ debuggers.attached debugger.old) }
     ensures same { result ≡ false → (target.new ≡ target.old) × (debugger.new ≡ debugger.old) }
 {

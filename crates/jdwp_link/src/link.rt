@@ -40,13 +40,13 @@ pub struct Link<M: Machine> {
 
 impl<M: Machine> Model for Link<M> {
     ghost use Rattle.jdwp_link.specs.Links as links;
-    ghost use Rattle.jdwp_link.specs.Insides.{link_of, IsRight};
+    ghost use Rattle.jdwp_link.specs.Insides.{link_of, IsRightLink};
 
     ghost Value = { links.Link M };
 
     ghost view = { λ l. link_of l.target l.debugger l.to_target.bytes l.to_debugger.bytes l.did };
 
-    ghost invariant = { λ l. IsRight M.meaning (link_of l.target l.debugger l.to_target.bytes l.to_debugger.bytes l.did) l.to_target.capacity l.to_debugger.capacity };
+    ghost invariant = { λ l. IsRightLink M.meaning (link_of l.target l.debugger l.to_target.bytes l.to_debugger.bytes l.did) l.to_target.capacity l.to_debugger.capacity };
 }
 
 impl<M: Machine + Drop> Link<M> {

@@ -127,7 +127,7 @@ pub(crate) fn keep_debugger(debugger: &mut Debugger, queue: &mut ByteQueue)
 pub(crate) fn lose_and_keep<M: Machine + Drop>(target: &mut Target<M>, queue: &mut ByteQueue)
     requires { length queue.old.bytes + length target.old.end.outgoing ≤ queue.old.capacity }
     ensures lost { target.new
-        ≡ targets.lost (targets.with_taken target.old.end.outgoing target.old) }
+        ≡ targets.lost_target (targets.with_taken target.old.end.outgoing target.old) }
     ensures kept { queue.new ≡ record
         queue.old { bytes = queue.old.bytes ++ target.old.end.outgoing } }
 {

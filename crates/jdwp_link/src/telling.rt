@@ -7,7 +7,7 @@ ghost use Rattle.jdwp_debugger.specs.DebuggerTurns as turns;
 ghost use Rattle.jdwp_debugger.specs.DebuggerTurns.{TurnsAt};
 ghost use Rattle.jdwp_debugger.specs.declared.turning.Read.TheVariants as read;
 ghost use Rattle.jdwp_link.specs.EventParts.{AsksSo, is_left, lost_of, lost_where, outcomes_of, seen_of, settled_bytes, settled_debugger, told_did};
-ghost use Rattle.jdwp_link.specs.Told.{told};
+ghost use Rattle.jdwp_link.specs.Told.{told_outcomes};
 
 use crate::events::Outcome;
 use crate::moving::keep_debugger;
@@ -56,14 +56,14 @@ pub(crate) fn read_nothing(debugger: &mut Debugger, alloc: Global)
 
 /// Tells what a turn read, and answers whether it handled a message. It takes no memory.
 pub(crate) fn tell_read(read: Read, outcomes: &mut Vec<Outcome>) -> bool
-    requires { vec_len outcomes.old + length (outcomes_of (turns.told read))
+    requires { vec_len outcomes.old + length (outcomes_of (turns.read_meaning read))
         ≤ vec_capacity outcomes.old }
-    ensures items { outcomes.new.items ≡ outcomes.old.items ++ told
-        (outcomes_of (turns.told read)) }
+    ensures items { outcomes.new.items ≡ outcomes.old.items ++ told_outcomes
+        (outcomes_of (turns.read_meaning read)) }
     ensures len { vec_len outcomes.new ≡ vec_len outcomes.old + length
-        (outcomes_of (turns.told read)) }
+        (outcomes_of (turns.read_meaning read)) }
     ensures capacity { vec_capacity outcomes.new ≡ vec_capacity outcomes.old }
-    ensures did { result ≡ told_did (turns.told read) }
+    ensures did { result ≡ told_did (turns.read_meaning read) }
 {
     match read {
         Read::Nothing => false,
@@ -122,7 +122,7 @@ pub(crate) fn lose_and_tell(
     requires kept { length queue.old.bytes + length debugger.old.end.outgoing ≤ queue.old.capacity }
     requires told { has_tickets debugger.old.pending ≡ true → vec_len outcomes.old + PENDING_MOST
         ≤ vec_capacity outcomes.old }
-    ensures debugger { debugger.new ≡ debuggers.lost (debuggers.with_taken debugger.old.end.outgoing
+    ensures debugger { debugger.new ≡ debuggers.lost_debugger (debuggers.with_taken debugger.old.end.outgoing
         debugger.old) }
     ensures queue { queue.new
         ≡ record queue.old { bytes = queue.old.bytes ++ debugger.old.end.outgoing } }

@@ -6,16 +6,16 @@ use Rattle.jdwp_wire.specs.Widths.{IsWidth}
 use Rattle.jdwp_layout.specs.declared.answer.Answer.{Answer}
 use Rattle.jdwp_layout.specs.declared.answer.Answer.TheVariants.{Data, Error}
 use Rattle.jdwp_layout.specs.Meanings.{DatumMeaning, One, Int}
-use Rattle.jdwp_debuggee.specs.Actions
-use Rattle.jdwp_debuggee.specs.Actions.{Action, Command, action_of}
-use Rattle.jdwp_mirror.specs.Acts.{act_of}
+use Rattle.jdwp_action.specs.Actions
+use Rattle.jdwp_action.specs.Actions.{Action, Command, action_of}
+use Rattle.jdwp_mirror.specs.CommandKinds.{kind_of}
 use Rattle.jdwp_mirror.specs.Faults.{are_widths, is_bad_data, is_bad_error, is_bad_reply, is_width}
-use Rattle.jdwp_mirror.specs.FaultParts.{is_bad_act, is_sizes_act}
+use Rattle.jdwp_mirror.specs.FaultParts.{is_bad_of_kind, is_sizes_kind}
 use Rattle.jdwp_mirror.specs.Widths.{width_said, widths_said, widths_if}
 
 -- ---- replies
 
-bad-data : (a : Action) (content : List DatumMeaning) → is_bad_act (act_of a) content ≡ is_bad_data a content
+bad-data : (a : Action) (content : List DatumMeaning) → is_bad_of_kind (kind_of a) content ≡ is_bad_data a content
 bad-data Actions.Suspend content = refl
 bad-data Actions.Resume content = refl
 bad-data Actions.Dispose content = refl
@@ -36,7 +36,7 @@ bad-data Actions.AllThreads content = refl
 bad-data Actions.IdSizes content = refl
 bad-data Actions.Ask content = refl
 
-bad-error : (a : Action) → is_sizes_act (act_of a) ≡ is_bad_error a
+bad-error : (a : Action) → is_sizes_kind (kind_of a) ≡ is_bad_error a
 bad-error Actions.Suspend = refl
 bad-error Actions.Resume = refl
 bad-error Actions.Dispose = refl
@@ -58,11 +58,11 @@ bad-error Actions.IdSizes = refl
 bad-error Actions.Ask = refl
 
 -- whether an answer is bad, by what the command asks
-abbrev pub bad_by_act : Command → Answer → Bool
-bad_by_act c (Data content) = is_bad_act (act_of (action_of c)) content
-bad_by_act c (Error e) = is_sizes_act (act_of (action_of c))
+abbrev pub bad_by_kind : Command → Answer → Bool
+bad_by_kind c (Data content) = is_bad_of_kind (kind_of (action_of c)) content
+bad_by_kind c (Error e) = is_sizes_kind (kind_of (action_of c))
 
-pub bad-answer : (c : Command) (answer : Answer) → bad_by_act c answer ≡ is_bad_reply c answer
+pub bad-answer : (c : Command) (answer : Answer) → bad_by_kind c answer ≡ is_bad_reply c answer
 bad-answer c (Data content) = bad-data (action_of c) content
 bad-answer c (Error e) = bad-error (action_of c)
 

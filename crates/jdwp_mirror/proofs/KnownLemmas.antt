@@ -8,7 +8,7 @@ use Rattle.jdwp_value.specs.declared.id.ObjectId.{ObjectId}
 use Rattle.jdwp_mirror.specs.declared.threads.Known.{Known}
 use Rattle.jdwp_mirror.specs.declared.threads.Lesson.{Lesson}
 use Rattle.jdwp_mirror.specs.Mirror.{is_positive}
-use Rattle.jdwp_mirror.specs.KnownThreads.{count_in, is_held_in, count_by, shown_by, taught_by, all_taught, without, only, unseen, AreDistinct, HeldHaveCounts, AreSound}
+use Rattle.jdwp_mirror.specs.KnownThreads.{count_in, is_held_in, count_by, shown_by, taught_by, all_taught, without, only, unseen_thread, AreDistinct, HeldHaveCounts, AreSound}
 
 pub same_from : (a b : ℕ) → (a == b) ≡ true → a ≡ b
 same_from a b e = grind (arith, nat_tests)
@@ -84,13 +84,13 @@ count-added (j ∷ ks) k t =
       | false ↦ count-added ks k t
     ]
 
-pub count-pushed : (id : ObjectId) (ks : List Known) (t : ℕ) → count_in (ks ++ unseen id ∷ []) t ≡ (if is_some (count_in ks t) then count_in ks t else (if id.0 == t then Some 0 else None))
-count-pushed id ks t = count-added ks (unseen id) t
+pub count-pushed : (id : ObjectId) (ks : List Known) (t : ℕ) → count_in (ks ++ unseen_thread id ∷ []) t ≡ (if is_some (count_in ks t) then count_in ks t else (if id.0 == t then Some 0 else None))
+count-pushed id ks t = count-added ks (unseen_thread id) t
 
-pub held-pushed : (id : ObjectId) (ks : List Known) (t : ℕ) → is_held_in (ks ++ unseen id ∷ []) t ≡ is_held_in ks t
+pub held-pushed : (id : ObjectId) (ks : List Known) (t : ℕ) → is_held_in (ks ++ unseen_thread id ∷ []) t ≡ is_held_in ks t
 held-pushed id [] t = elim (id.0 == t) as (λ b. (if b then false else false) ≡ false) [ true ↦ refl | false ↦ refl ]
 held-pushed id (k ∷ ks) t =
-    elim (k.id.0 == t) as (λ b. (if b then k.held else is_held_in (ks ++ unseen id ∷ []) t) ≡ (if b then k.held else is_held_in ks t)) [
+    elim (k.id.0 == t) as (λ b. (if b then k.held else is_held_in (ks ++ unseen_thread id ∷ []) t) ≡ (if b then k.held else is_held_in ks t)) [
       | true ↦ refl
       | false ↦ held-pushed id ks t
     ]
@@ -101,7 +101,7 @@ distinct-taught : (l : Lesson) (ks : List Known) → AreDistinct ks → AreDisti
 distinct-taught l [] d = tt
 distinct-taught l (k ∷ ks) d = (count-taught l ks k.id.0 ∙ ap (λ (n : Option ℕ). option_map (count_by l k.id.0) n) d.0, distinct-taught l ks d.1)
 
-and_twice : (a b : Bool) → (a && b) ≡ (a && (a && b))
+pub and_twice : (a b : Bool) → (a && b) ≡ (a && (a && b))
 and_twice true b = refl
 and_twice false b = refl
 

@@ -9,22 +9,21 @@ use Rattle.jdwp_layout.specs.CommandNumbers.{is_command, STACK_FRAME, FRAMES, FR
 use Rattle.jdwp_layout.specs.Meanings.{DatumMeaning, Byte, Int, Object, Frame, One, Many}
 use Rattle.jdwp_event.specs.Composites.{CompositeMeaning, POLICY_ALL}
 use Rattle.jdwp_event.specs.Told.{composite_thread, is_vm_death}
-use Rattle.jdwp_debuggee.specs.Actions
-use Rattle.jdwp_debuggee.specs.Actions.{Action, Carried, Content, Command, action_of, action_by, thread_of, thread_action, other_action, slots_of, set_action, clear_action}
-use Rattle.jdwp_debuggee.specs.Facts.{about}
+use Rattle.jdwp_action.specs.Actions
+use Rattle.jdwp_action.specs.Actions.{Action, Carried, Content, Command, action_of, action_by, thread_of, thread_action, other_action, slots_of, set_action, clear_action, about}
 use Rattle.jdwp_value.specs.declared.id.ObjectId.{ObjectId}
 use Rattle.jdwp_mirror.specs.declared.threads.Change.{Change}
 use Rattle.jdwp_mirror.specs.declared.threads.Change.TheVariants.{Keep, Raise, Lower, Set}
 use Rattle.jdwp_mirror.specs.declared.threads.Known.{Known}
 use Rattle.jdwp_mirror.specs.declared.threads.Lesson.{Lesson}
 use Rattle.jdwp_mirror.specs.Messages.{Ticket, Reply, Report}
-use Rattle.jdwp_mirror.specs.Mirror.{Kept, counted, first_count, is_invalid_thread, is_last_of_thread, is_positive, is_thread, learned_data, lists, more, less, other_count, requests_after_data, shows_data, taught}
+use Rattle.jdwp_mirror.specs.Mirror.{Kept, counted, first_count, is_invalid_thread, is_last_of_thread, is_positive, is_thread, learned_data, lists, one_more, one_less, other_count, requests_after_data, shows_data, taught}
 use Rattle.jdwp_mirror.specs.Mirrors.{Mirror, Learned, empty_mirror}
-use Rattle.jdwp_mirror.specs.Acts.{act_of, id_found, lesson_of, lesson_of_event, object_id, requests_after_act, set_to, threads_after_data, threads_after_error, threads_after_event, with_counted, with_found, without_found}
-use Rattle.jdwp_mirror.specs.KnownThreads.{AreSound, KeepsOrder, all_taught, change_of, count_by, count_in, is_held_in, is_of_id, only, shown_by, unseen, with_thread, without}
+use Rattle.jdwp_mirror.specs.CommandKinds.{kind_of, id_found, lesson_of, lesson_of_event, object_id, requests_after_kind, set_to, threads_after_data, threads_after_error, threads_after_event, with_counted, with_found, without_found}
+use Rattle.jdwp_mirror.specs.KnownThreads.{AreSound, KeepsOrder, all_taught, change_of, count_by, count_in, is_held_in, is_of_id, only, shown_by, unseen_thread, with_thread, without}
 use Rattle.jdwp_mirror.proofs.KnownLemmas.{count-taught, held-taught, count-only, held-only, count-pushed, held-pushed, held-is, same_from, eq-self, turned}
 use Rattle.jdwp_mirror.proofs.OrderLemmas.{order-data, order-error, order-event, order-none}
-use Rattle.jdwp_debuggee.specs.AboutLaws.{about_action}
+use Rattle.jdwp_action.specs.AboutLaws.{about_action}
 
 -- ---- small facts
 
@@ -70,14 +69,14 @@ known-stays None false h = refl
 
 count-with : (id : ObjectId) (ks : List Known) (t : ℕ) → count_in (with_thread id ks) t ≡ (if is_some (count_in ks t) then count_in ks t else (if id.0 == t then Some 0 else None))
 count-with id ks t =
-    elim (is_some (count_in ks id.0)) as (λ b. is_some (count_in ks id.0) ≡ b → count_in (if b then ks else ks ++ unseen id ∷ []) t ≡ (if is_some (count_in ks t) then count_in ks t else (if id.0 == t then Some 0 else None))) [
+    elim (is_some (count_in ks id.0)) as (λ b. is_some (count_in ks id.0) ≡ b → count_in (if b then ks else ks ++ unseen_thread id ∷ []) t ≡ (if is_some (count_in ks t) then count_in ks t else (if id.0 == t then Some 0 else None))) [
       | true ↦ λ e. known-stays (count_in ks t) (id.0 == t) (λ f. subst (λ (u : ℕ). is_some (count_in ks u) ≡ true) (same_from id.0 t f) e)
       | false ↦ λ e. count-pushed id ks t
     ] refl
 
 held-with : (id : ObjectId) (ks : List Known) (t : ℕ) → is_held_in (with_thread id ks) t ≡ is_held_in ks t
 held-with id ks t =
-    elim (is_some (count_in ks id.0)) as (λ b. is_held_in (if b then ks else ks ++ unseen id ∷ []) t ≡ is_held_in ks t) [
+    elim (is_some (count_in ks id.0)) as (λ b. is_held_in (if b then ks else ks ++ unseen_thread id ∷ []) t ≡ is_held_in ks t) [
       | true ↦ refl
       | false ↦ held-pushed id ks t
     ]
@@ -150,9 +149,9 @@ counted-held (Some n) u ks t = held-with (object_id u) ks t
 quiet-counts : (th : Option ℕ) (ks : List Known) (t : ℕ) → count_in (all_taught (record { thread = id_found th; own = Keep; others = Keep; shows_all = false }) ks) t ≡ count_in ks t
 quiet-counts th ks t = count-taught (record { thread = id_found th; own = Keep; others = Keep; shows_all = false }) ks t ∙ keep-both (is_of_id (id_found th) t) (count_in ks t)
 
-data-counts : (a : Action) (content : List DatumMeaning) (ks : List Known) (t : ℕ) → count_in (threads_after_data (act_of a) (id_found (about a)) content ks) t ≡ learned_data a content t (count_in ks t)
-data-counts Actions.Suspend content ks t = count-taught (lesson_of (act_of Actions.Suspend) None content) ks t
-data-counts Actions.Resume content ks t = count-taught (lesson_of (act_of Actions.Resume) None content) ks t
+data-counts : (a : Action) (content : List DatumMeaning) (ks : List Known) (t : ℕ) → count_in (threads_after_data (kind_of a) (id_found (about a)) content ks) t ≡ learned_data a content t (count_in ks t)
+data-counts Actions.Suspend content ks t = count-taught (lesson_of (kind_of Actions.Suspend) None content) ks t
+data-counts Actions.Resume content ks t = count-taught (lesson_of (kind_of Actions.Resume) None content) ks t
 data-counts Actions.Dispose content ks t = refl
 data-counts Actions.Exit content ks t = refl
 data-counts Actions.HoldEvents content ks t = quiet-counts None ks t
@@ -160,15 +159,15 @@ data-counts Actions.ReleaseEvents content ks t = quiet-counts None ks t
 data-counts (Actions.SetRequest kind policy entries) content ks t = refl
 data-counts (Actions.ClearRequest kind id) content ks t = quiet-counts None ks t
 data-counts Actions.ClearBreakpoints content ks t = quiet-counts None ks t
-data-counts (Actions.SuspendThread u) content ks t = count-taught (lesson_of (act_of (Actions.SuspendThread u)) (Some (object_id u)) content) ks t ∙ if-map (u == t) more (count_in ks t)
-data-counts (Actions.ResumeThread u) content ks t = count-taught (lesson_of (act_of (Actions.ResumeThread u)) (Some (object_id u)) content) ks t ∙ if-map (u == t) less (count_in ks t)
+data-counts (Actions.SuspendThread u) content ks t = count-taught (lesson_of (kind_of (Actions.SuspendThread u)) (Some (object_id u)) content) ks t ∙ if-map (u == t) one_more (count_in ks t)
+data-counts (Actions.ResumeThread u) content ks t = count-taught (lesson_of (kind_of (Actions.ResumeThread u)) (Some (object_id u)) content) ks t ∙ if-map (u == t) one_less (count_in ks t)
 data-counts (Actions.SuspendCount u) content ks t = counted-counts (counted content) u ks t
 data-counts (Actions.ThreadStatus u) content ks t = quiet-counts (Some u) ks t
 data-counts (Actions.SetSlots u f slots) content ks t = quiet-counts (Some u) ks t
 data-counts (Actions.AskFrames u) content ks t = quiet-counts (Some u) ks t
 data-counts (Actions.AskThread u) content ks t = quiet-counts (Some u) ks t
 data-counts Actions.AllThreads content ks t =
-    count-taught (lesson_of (act_of Actions.AllThreads) None content) (only (lists content) ks) t ∙ keep-both false (count_in (only (lists content) ks) t) ∙ count-only (lists content) ks t
+    count-taught (lesson_of (kind_of Actions.AllThreads) None content) (only (lists content) ks) t ∙ keep-both false (count_in (only (lists content) ks) t) ∙ count-only (lists content) ks t
 data-counts Actions.IdSizes content ks t = quiet-counts None ks t
 data-counts Actions.Ask content ks t = quiet-counts None ks t
 
@@ -177,9 +176,9 @@ listed-held true p h g = refl
 listed-held false p h g = rw (g refl) refl
 
 all-held : (content : List DatumMeaning) (ks : List Known) (t : ℕ)
-    → is_held_in (threads_after_data (act_of Actions.AllThreads) None content ks) t ≡ (is_positive (count_in (threads_after_data (act_of Actions.AllThreads) None content ks) t) && (lists content t || is_held_in ks t))
+    → is_held_in (threads_after_data (kind_of Actions.AllThreads) None content ks) t ≡ (is_positive (count_in (threads_after_data (kind_of Actions.AllThreads) None content ks) t) && (lists content t || is_held_in ks t))
 all-held content ks t =
-    let l = lesson_of (act_of Actions.AllThreads) None content in
+    let l = lesson_of (kind_of Actions.AllThreads) None content in
     let new = all_taught l (only (lists content) ks) in
     let gone : lists content t ≡ false → is_positive (count_in new t) ≡ false = λ e. ap is_positive (data-counts Actions.AllThreads content ks t ∙ ap (λ (b : Bool). if b then count_in ks t else None) e) in
     held-taught l (only (lists content) ks) t ∙ ap (λ (n : Option ℕ). is_positive n && true) (sym (count-taught l (only (lists content) ks) t)) ∙ listed-held (lists content t) (is_positive (count_in new t)) (is_held_in ks t) gone
@@ -192,7 +191,7 @@ usual-held : (a : Action) (th : Option ℕ) (content : List DatumMeaning) (new o
 usual-held a th content new old t own others h e = taught-held (record { thread = id_found (about a); own = own; others = others; shows_all = false }) new old t (is_thread th t) e (shown a th t h)
 
 data-held : (c : Command) (a : Action) (content : List DatumMeaning) (ks : List Known) (t : ℕ) → about a ≡ thread_of c → AreSound ks
-    → is_held_in (threads_after_data (act_of a) (id_found (about a)) content ks) t ≡ (is_positive (count_in (threads_after_data (act_of a) (id_found (about a)) content ks) t) && (shows_data c a content t || is_held_in ks t))
+    → is_held_in (threads_after_data (kind_of a) (id_found (about a)) content ks) t ≡ (is_positive (count_in (threads_after_data (kind_of a) (id_found (about a)) content ks) t) && (shows_data c a content t || is_held_in ks t))
 data-held c Actions.Suspend content ks t h s = usual-held Actions.Suspend (thread_of c) content ks ks t Keep Raise h refl
 data-held c Actions.Resume content ks t h s = usual-held Actions.Resume (thread_of c) content ks ks t Keep Lower h refl
 data-held c Actions.Dispose content ks t h s = refl
@@ -218,7 +217,7 @@ data-held c Actions.Ask content ks t h s = usual-held Actions.Ask (thread_of c) 
 -- ---- requests
 
 abbrev AreKept : Carried → List DatumMeaning → List Kept → Action → Type 0
-AreKept carried content requests a = requests_after_act (act_of a) carried content requests ≡ requests_after_data a content requests
+AreKept carried content requests a = requests_after_kind (kind_of a) carried content requests ≡ requests_after_data a content requests
 
 slots-kept : (t : ℕ) (c : Carried) (content : List DatumMeaning) (requests : List Kept) → AreKept c content requests (slots_of t c)
 slots-kept t (Content (One (Object o) ∷ One (Frame f) ∷ Many entries ∷ [])) content requests = refl
@@ -260,21 +259,21 @@ other-kept c content requests =
 kept-action : (c : Command) (content : List DatumMeaning) (requests : List Kept) → AreKept c.carried content requests (action_of c)
 kept-action c content requests = elim (thread_of c) as (λ v. AreKept c.carried content requests (action_by v c)) [ Some t ↦ thread-kept t c content requests | None ↦ other-kept c content requests ]
 
-pub learned-by_data : (k : Ticket) (c : Command) (content : List DatumMeaning) (old new : Mirror) → AreSound old.threads → new.threads ≡ threads_after_data (act_of (action_of c)) (id_found (thread_of c)) content old.threads
-    → new.requests ≡ requests_after_act (act_of (action_of c)) c.carried content old.requests → Learned old (Reply k c (Data content)) new
+pub learned-by_data : (k : Ticket) (c : Command) (content : List DatumMeaning) (old new : Mirror) → AreSound old.threads → new.threads ≡ threads_after_data (kind_of (action_of c)) (id_found (thread_of c)) content old.threads
+    → new.requests ≡ requests_after_kind (kind_of (action_of c)) c.carried content old.requests → Learned old (Reply k c (Data content)) new
 learned-by_data k c content old new s e f =
     let a = action_of c in
-    let g : new.threads ≡ threads_after_data (act_of a) (id_found (about a)) content old.threads = e ∙ ap (λ (v : Option ℕ). threads_after_data (act_of a) (id_found v) content old.threads) (sym (about_action c)) in
+    let g : new.threads ≡ threads_after_data (kind_of a) (id_found (about a)) content old.threads = e ∙ ap (λ (v : Option ℕ). threads_after_data (kind_of a) (id_found v) content old.threads) (sym (about_action c)) in
     record {
       counts = λ t. ap (λ (ks : List Known). count_in ks t) g ∙ data-counts a content old.threads t;
       held = λ t. subst (λ (ks : List Known). is_held_in ks t ≡ (is_positive (count_in ks t) && (shows_data c a content t || is_held_in old.threads t))) (sym g) (data-held c a content old.threads t (about_action c) s);
-      order = subst (λ (ks : List Known). KeepsOrder old.threads ks) (sym e) (order-data (act_of a) (id_found (thread_of c)) content old.threads);
+      order = subst (λ (ks : List Known). KeepsOrder old.threads ks) (sym e) (order-data (kind_of a) (id_found (thread_of c)) content old.threads);
       requests = f ∙ kept-action c content old.requests;
     }
 
 -- ---- a composite
 
-others-same : (b : Bool) (n : ℕ) → change_of (if b then Raise else Keep) n ≡ (if b then more n else n)
+others-same : (b : Bool) (n : ℕ) → change_of (if b then Raise else Keep) n ≡ (if b then one_more n else n)
 others-same true n = refl
 others-same false n = refl
 

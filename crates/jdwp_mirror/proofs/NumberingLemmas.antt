@@ -5,17 +5,14 @@ use Rattle.std.specs.List.{AllByRecursion, IsDistinct, filter}
 use Rattle.std.specs.Ordering.{eq_by_cmp, nat_cmp}
 use Rattle.std.specs.Cmp.{unsigned_tied}
 use Rattle.std.specs.Map.{lookup, remove_entry, set_value, keys_of, values_of}
-use Rattle.std.specs.BTreeMap.{BTreeMap, IsOrdered, get, insert_entry, is_at, Updates}
+use Rattle.std.specs.BTreeMap.{BTreeMap, get, insert_entry, is_at, Updates}
+use Rattle.std.specs.List.Sorted.{IsStrictlySortedBy}
 use Rattle.std.proofs.lemmas.Map.Entries.{lookup-filter-keys}
 use Rattle.std.proofs.lemmas.Map.Keys.{IsDistinct-from_sorted, IsDistinct-head, IsDistinct-tail}
 use Rattle.std.proofs.lemmas.Bool.Decides.{nat_tests}
-use Rattle.jdwp_value.specs.declared.id.ObjectId.{ObjectId}
 use Rattle.jdwp_mirror.specs.declared.threads.Known.{Known}
-use Rattle.jdwp_mirror.specs.declared.threads.Change.{Change}
-use Rattle.jdwp_mirror.specs.declared.threads.Change.TheVariants.{Keep, Raise, Lower, Set}
-use Rattle.jdwp_mirror.specs.declared.threads.Lesson.{Lesson}
-use Rattle.jdwp_mirror.specs.KnownThreads.{only, change_of, count_in, is_held_in, is_of_id, is_of_one, keeps, taught_by, all_taught, without, AreDistinct, HeldHaveCounts}
-use Rattle.jdwp_mirror.specs.Numbering.{known_in, number_in, AreNumbered}
+use Rattle.jdwp_mirror.specs.KnownThreads.{only, count_in, is_held_in, without, AreDistinct}
+use Rattle.jdwp_mirror.specs.Numbering.{known_in, number_in, put_in, AreNumbered}
 use Rattle.jdwp_mirror.proofs.KnownLemmas.{same_from, turned, other_of, rest_of}
 
 abbrev pub Entries : Type 0
@@ -87,23 +84,23 @@ missing-known (x ∷ es) t e =
       | false ↦ λ f. missing-known es t f
     ] e
 
-distinct-numbers : (threads : BTreeMap ℕ Known) (numbers : BTreeMap ℕ ℕ) → AreNumbered threads numbers → IsDistinct (eq_by_cmp nat_cmp) (keys_of threads.entries)
-distinct-numbers threads numbers s = IsDistinct-from_sorted nat_cmp (keys_of threads.entries) s.ordered
+distinct-numbers : (threads : Entries) (numbers : BTreeMap ℕ ℕ) → AreNumbered threads numbers → IsDistinct (eq_by_cmp nat_cmp) (keys_of threads)
+distinct-numbers threads numbers s = IsDistinct-from_sorted nat_cmp (keys_of threads) s.ordered
 
-pub found : (threads : BTreeMap ℕ Known) (numbers : BTreeMap ℕ ℕ) (t n : ℕ) → AreNumbered threads numbers → get nat_cmp numbers t ≡ Some n → get nat_cmp threads n ≡ known_in (values_of threads.entries) t
-found threads numbers t n s e = found-under threads.entries t n (distinct-numbers threads numbers s) (sym (s.found t) ∙ e)
+pub found : (threads : Entries) (numbers : BTreeMap ℕ ℕ) (t n : ℕ) → AreNumbered threads numbers → get nat_cmp numbers t ≡ Some n → lookup (is_at (nat_cmp n)) threads ≡ known_in (values_of threads) t
+found threads numbers t n s e = found-under threads t n (distinct-numbers threads numbers s) (sym (s.found t) ∙ e)
 
-pub missing : (threads : BTreeMap ℕ Known) (numbers : BTreeMap ℕ ℕ) (t : ℕ) → AreNumbered threads numbers → get nat_cmp numbers t ≡ None → known_in (values_of threads.entries) t ≡ None
-missing threads numbers t s e = missing-known threads.entries t (sym (s.found t) ∙ e)
+pub missing : (threads : Entries) (numbers : BTreeMap ℕ ℕ) (t : ℕ) → AreNumbered threads numbers → get nat_cmp numbers t ≡ None → known_in (values_of threads) t ≡ None
+missing threads numbers t s e = missing-known threads t (sym (s.found t) ∙ e)
 
 -- ---- added
 
 below : (n m : ℕ) → m < n → nat_cmp n m ≡ Greater
 below n m lt = grind (arith, nat_tests)
 
-pub inserted-last : (es : Entries) (n : ℕ) (k : Known) → AllByRecursion (λ m. m < n) (keys_of es) → insert_entry nat_cmp es n k ≡ es ++ (n, k) ∷ []
+pub inserted-last : {X : Type 0} (es : List (ℕ × X)) (n : ℕ) (k : X) → AllByRecursion (λ m. m < n) (keys_of es) → insert_entry nat_cmp es n k ≡ es ++ (n, k) ∷ []
 inserted-last [] n k a = refl
-inserted-last (x ∷ es) n k a = rw (below n x.0 a.0) (ap (λ (ys : Entries). x ∷ ys) (inserted-last es n k a.1))
+inserted-last (x ∷ es) n k a = rw (below n x.0 a.0) (ap (λ ys. x ∷ ys) (inserted-last es n k a.1))
 
 pub values-added : (es : Entries) (n : ℕ) (k : Known) → values_of (es ++ (n, k) ∷ []) ≡ values_of es ++ k ∷ []
 values-added [] n k = refl
@@ -122,11 +119,11 @@ number-added (x ∷ es) n k e t =
       | false ↦ λ f. number-added es n k rest t
     ] refl
 
-pub numbered-added : (old new : BTreeMap ℕ Known) (before after : BTreeMap ℕ ℕ) (n : ℕ) (k : Known) → AreNumbered old before → count_in (values_of old.entries) k.id.0 ≡ None
-    → new.entries ≡ old.entries ++ (n, k) ∷ [] → IsOrdered nat_cmp new → Updates nat_cmp before after k.id.0 (Some n) → AreNumbered new after
+pub numbered-added : (old new : Entries) (before after : BTreeMap ℕ ℕ) (n : ℕ) (k : Known) → AreNumbered old before → count_in (values_of old) k.id.0 ≡ None
+    → new ≡ old ++ (n, k) ∷ [] → IsStrictlySortedBy nat_cmp (keys_of new) → Updates nat_cmp before after k.id.0 (Some n) → AreNumbered new after
 numbered-added old new before after n k s e entries ordered u = record {
   ordered = ordered;
-  found = λ q. u.0 q ∙ (rw (unsigned_tied k.id.0 q) (ap (λ (o : Option ℕ). if k.id.0 == q then Some n else o) (s.found q) ∙ sym (number-added old.entries n k e q)) ∙ ap (λ (es : Entries). number_in es q) (sym entries));
+  found = λ q. u.0 q ∙ (rw (unsigned_tied k.id.0 q) (ap (λ (o : Option ℕ). if k.id.0 == q then Some n else o) (s.found q) ∙ sym (number-added old n k e q)) ∙ ap (λ (es : Entries). number_in es q) (sym entries));
 }
 
 unknown-number : (es : Entries) (t : ℕ) → count_in (values_of es) t ≡ None → number_in es t ≡ None
@@ -142,13 +139,13 @@ back : (es : Entries) (t n q : ℕ) (b : Bool) → (t == q) ≡ b → count_in (
 back es t n q true h e = sym (ap (number_in es) (sym (same_from t q h)) ∙ unknown-number es t e)
 back es t n q false h e = refl
 
-pub numbered-undone : (old new : BTreeMap ℕ Known) (before between after : BTreeMap ℕ ℕ) (t n : ℕ) → AreNumbered old before → count_in (values_of old.entries) t ≡ None
-    → new.entries ≡ old.entries → IsOrdered nat_cmp new → Updates nat_cmp before between t (Some n) → Updates nat_cmp between after t None → AreNumbered new after
+pub numbered-undone : (old new : Entries) (before between after : BTreeMap ℕ ℕ) (t n : ℕ) → AreNumbered old before → count_in (values_of old) t ≡ None
+    → new ≡ old → IsStrictlySortedBy nat_cmp (keys_of new) → Updates nat_cmp before between t (Some n) → Updates nat_cmp between after t None → AreNumbered new after
 numbered-undone old new before between after t n s e entries ordered u v = record {
   ordered = ordered;
   found = λ q.
       v.0 q ∙ (rw (unsigned_tied t q) (ap (λ (o : Option ℕ). if t == q then None else o) (u.0 q ∙ rw (unsigned_tied t q) (ap (λ (o : Option ℕ). if t == q then Some n else o) (s.found q)))
-      ∙ back old.entries t n q (t == q) refl e) ∙ ap (λ (es : Entries). number_in es q) (sym entries));
+      ∙ back old t n q (t == q) refl e) ∙ ap (λ (es : Entries). number_in es q) (sym entries));
 }
 
 -- ---- taken out
@@ -199,16 +196,16 @@ number-removed (x ∷ es) t n d i e q =
           ] refl)
     ] refl e
 
-pub threads-removed : (threads : BTreeMap ℕ Known) (numbers : BTreeMap ℕ ℕ) (t n : ℕ) → AreNumbered threads numbers → AreDistinct (values_of threads.entries) → get nat_cmp numbers t ≡ Some n
-    → values_of (remove_entry (is_at (nat_cmp n)) threads.entries) ≡ without t (values_of threads.entries)
-threads-removed threads numbers t n s d e = values-removed threads.entries t n d (distinct-numbers threads numbers s) (sym (s.found t) ∙ e)
+pub threads-removed : (threads : Entries) (numbers : BTreeMap ℕ ℕ) (t n : ℕ) → AreNumbered threads numbers → AreDistinct (values_of threads) → get nat_cmp numbers t ≡ Some n
+    → values_of (remove_entry (is_at (nat_cmp n)) threads) ≡ without t (values_of threads)
+threads-removed threads numbers t n s d e = values-removed threads t n d (distinct-numbers threads numbers s) (sym (s.found t) ∙ e)
 
-pub numbered-removed : (old new : BTreeMap ℕ Known) (before after : BTreeMap ℕ ℕ) (t n : ℕ) → AreNumbered old before → AreDistinct (values_of old.entries) → get nat_cmp before t ≡ Some n
-    → new.entries ≡ remove_entry (is_at (nat_cmp n)) old.entries → IsOrdered nat_cmp new → Updates nat_cmp before after t None → AreNumbered new after
+pub numbered-removed : (old new : Entries) (before after : BTreeMap ℕ ℕ) (t n : ℕ) → AreNumbered old before → AreDistinct (values_of old) → get nat_cmp before t ≡ Some n
+    → new ≡ remove_entry (is_at (nat_cmp n)) old → IsStrictlySortedBy nat_cmp (keys_of new) → Updates nat_cmp before after t None → AreNumbered new after
 numbered-removed old new before after t n s d e entries ordered u = record {
   ordered = ordered;
   found = λ q.
-      u.0 q ∙ (rw (unsigned_tied t q) (ap (λ (o : Option ℕ). if t == q then None else o) (s.found q) ∙ sym (number-removed old.entries t n d (distinct-numbers old before s) (sym (s.found t) ∙ e) q))
+      u.0 q ∙ (rw (unsigned_tied t q) (ap (λ (o : Option ℕ). if t == q then None else o) (s.found q) ∙ sym (number-removed old t n d (distinct-numbers old before s) (sym (s.found t) ∙ e) q))
       ∙ ap (λ (es : Entries). number_in es q) (sym entries));
 }
 
@@ -249,125 +246,67 @@ number-only test (x ∷ es) t =
 alike : (test : ℕ → Bool) (t k : ℕ) → is_at (nat_cmp t) k ≡ true → test k ≡ test t
 alike test t k e = ap test (sym (same_from t k (sym (unsigned_tied t k) ∙ e)))
 
-pub numbered-only : (test : ℕ → Bool) (old new : BTreeMap ℕ Known) (before after : BTreeMap ℕ ℕ) → AreNumbered old before → new.entries ≡ only_entries test old.entries → IsOrdered nat_cmp new
+pub numbered-only : (test : ℕ → Bool) (old new : Entries) (before after : BTreeMap ℕ ℕ) → AreNumbered old before → new ≡ only_entries test old → IsStrictlySortedBy nat_cmp (keys_of new)
     → after.entries ≡ filter (λ (x : ℕ × ℕ). test x.0) before.entries → AreNumbered new after
 numbered-only test old new before after s entries ordered numbers = record {
   ordered = ordered;
   found = λ t.
       ap (λ (xs : List (ℕ × ℕ)). lookup (is_at (nat_cmp t)) xs) numbers
       ∙ (lookup-filter-keys (is_at (nat_cmp t)) test (test t) (alike test t) before.entries
-      ∙ (ap (λ (o : Option ℕ). if test t then o else None) (s.found t) ∙ (sym (number-only test old.entries t) ∙ ap (λ (es : Entries). number_in es t) (sym entries))));
+      ∙ (ap (λ (o : Option ℕ). if test t then o else None) (s.found t) ∙ (sym (number-only test old t) ∙ ap (λ (es : Entries). number_in es t) (sym entries))));
 }
 
 -- ---- changed
 
-both_of : (a b : Bool) → (a && b) ≡ true → (a ≡ true) × (b ≡ true)
-both_of true b e = (refl, e)
-both_of false b e = cc
+pub known-id : (ks : List Known) (t : ℕ) (w : Known) → known_in ks t ≡ Some w → w.id.0 ≡ t
+known-id [] t w e = cc
+known-id (k ∷ ks) t w e =
+    elim (k.id.0 == t) as (λ b. (k.id.0 == t) ≡ b → (if b then Some k else known_in ks t) ≡ Some w → w.id.0 ≡ t) [
+      | true ↦ λ j f. let same : k ≡ w = cc in ap (λ (x : Known). x.id.0) (sym same) ∙ same_from k.id.0 t j
+      | false ↦ λ j f. known-id ks t w f
+    ] refl e
 
-keep_of : (c : Change) → keeps c ≡ true → c ≡ Keep
-keep_of Keep e = refl
-keep_of Raise e = cc
-keep_of Lower e = cc
-keep_of (Set n) e = cc
+pub put-absent : (v : Known) (ks : List Known) → count_in ks v.id.0 ≡ None → map (put_in v) ks ≡ ks
+put-absent v [] e = refl
+put-absent v (k ∷ ks) e =
+    let other : (k.id.0 == v.id.0) ≡ false = other_of (k.id.0 == v.id.0) k.count (count_in ks v.id.0) e in
+    let rest = put-absent v ks (rest_of (k.id.0 == v.id.0) k.count (count_in ks v.id.0) e) in
+    ap (λ (b : Bool). (if b then v else k) ∷ map (put_in v) ks) other ∙ ap (λ (xs : List Known). k ∷ xs) rest
 
-not_of : (b : Bool) → not b ≡ true → b ≡ false
-not_of true e = cc
-not_of false e = refl
-
--- what is taught of another thread
-abbrev taught_as : Lesson → Known → Bool → Change → Bool → Known
-taught_as l k own others shown = record {
-  id = k.id;
-  count = if own then change_of l.own k.count else change_of others k.count;
-  held = not ((if own then change_of l.own k.count else change_of others k.count) == 0) && ((shown || own) || k.held);
-}
-
-taught-other : (l : Lesson) (k : Known) → is_of_one l ≡ true → k.held ≡ (not (k.count == 0) && k.held) → is_of_id l.thread k.id.0 ≡ false → taught_by l k ≡ k
-taught-other l k one h e =
-    let both = both_of (keeps l.others) (not l.shows_all) one in
-    let first : taught_by l k ≡ taught_as l k false l.others l.shows_all = ap (λ (b : Bool). taught_as l k b l.others l.shows_all) e in
-    let second : taught_as l k false l.others l.shows_all ≡ taught_as l k false Keep l.shows_all = ap (λ (o : Change). taught_as l k false o l.shows_all) (keep_of l.others both.0) in
-    let third : taught_as l k false Keep l.shows_all ≡ taught_as l k false Keep false = ap (λ (b : Bool). taught_as l k false Keep b) (not_of l.shows_all both.1) in
-    let last : taught_as l k false Keep false ≡ k = ap (λ (b : Bool). record k { held = b }) (sym h) in
-    first ∙ (second ∙ (third ∙ last))
-
-pub taught-nobody : (l : Lesson) (ks : List Known) → l.thread ≡ None → is_of_one l ≡ true → HeldHaveCounts ks → all_taught l ks ≡ ks
-taught-nobody l [] n one h = refl
-taught-nobody l (k ∷ ks) n one h =
-    let first : taught_by l k ≡ k = taught-other l k one h.0 (ap (λ (v : Option ObjectId). is_of_id v k.id.0) n) in
-    ap (λ (x : Known). x ∷ all_taught l ks) first ∙ ap (λ (xs : List Known). k ∷ xs) (taught-nobody l ks n one h.1)
-
--- a lesson of one thread, where that is not known
-taught-absent : (l : Lesson) (u : ObjectId) (ks : List Known) → l.thread ≡ Some u → is_of_one l ≡ true → HeldHaveCounts ks → count_in ks u.0 ≡ None → all_taught l ks ≡ ks
-taught-absent l u [] th one h e = refl
-taught-absent l u (k ∷ ks) th one h e =
-    let other : (u.0 == k.id.0) ≡ false = turned k.id.0 u.0 (other_of (k.id.0 == u.0) k.count (count_in ks u.0) e) in
-    let first : taught_by l k ≡ k = taught-other l k one h.0 (ap (λ (v : Option ObjectId). is_of_id v k.id.0) th ∙ other) in
-    ap (λ (x : Known). x ∷ all_taught l ks) first ∙ ap (λ (xs : List Known). k ∷ xs) (taught-absent l u ks th one h.1 (rest_of (k.id.0 == u.0) k.count (count_in ks u.0) e))
-
-pub taught-unknown : (l : Lesson) (u : ObjectId) (ks : List Known) → l.thread ≡ Some u → is_of_one l ≡ true → HeldHaveCounts ks → known_in ks u.0 ≡ None → all_taught l ks ≡ ks
-taught-unknown l u ks th one h e = taught-absent l u ks th one h (unknown-count ks u.0 e)
-
--- and where it stands under a number
-taught-at : (l : Lesson) (u : ObjectId) (es : Entries) (n : ℕ) (w : Known) → l.thread ≡ Some u → is_of_one l ≡ true → AreDistinct (values_of es) → HeldHaveCounts (values_of es) → IsDistinct (eq_by_cmp nat_cmp) (keys_of es)
-    → number_in es u.0 ≡ Some n → known_in (values_of es) u.0 ≡ Some w → values_of (set_value (is_at (nat_cmp n)) es (taught_by l w)) ≡ all_taught l (values_of es)
-taught-at l u [] n w th one d h i e g = cc
-taught-at l u (x ∷ es) n w th one d h i e g =
-    elim (x.1.id.0 == u.0) as (λ b. (x.1.id.0 == u.0) ≡ b → (if b then Some x.0 else number_in es u.0) ≡ Some n → (if b then Some x.1 else known_in (values_of es) u.0) ≡ Some w
-    → values_of (set_value (is_at (nat_cmp n)) (x ∷ es) (taught_by l w)) ≡ taught_by l x.1 ∷ all_taught l (values_of es)) [
-      | true ↦ λ j f y.
+put-at : (v : Known) (es : Entries) (n : ℕ) → AreDistinct (values_of es) → IsDistinct (eq_by_cmp nat_cmp) (keys_of es) → number_in es v.id.0 ≡ Some n
+    → values_of (set_value (is_at (nat_cmp n)) es v) ≡ map (put_in v) (values_of es)
+put-at v [] n d i e = cc
+put-at v (x ∷ es) n d i e =
+    elim (x.1.id.0 == v.id.0) as (λ b. (x.1.id.0 == v.id.0) ≡ b → (if b then Some x.0 else number_in es v.id.0) ≡ Some n
+    → values_of (set_value (is_at (nat_cmp n)) (x ∷ es) v) ≡ (if b then v else x.1) ∷ map (put_in v) (values_of es)) [
+      | true ↦ λ j f.
           let same : x.0 ≡ n = cc in
-          let this : x.1 ≡ w = cc in
-          let absent : count_in (values_of es) u.0 ≡ None = ap (count_in (values_of es)) (sym (same_from x.1.id.0 u.0 j)) ∙ d.0 in
-          rw (same, at_itself n, sym this) (ap (λ (ks : List Known). taught_by l x.1 ∷ ks) (sym (taught-absent l u (values_of es) th one h.1 absent)))
-      | false ↦ λ j f y.
-          let other = number-apart es x.0 u.0 n (IsDistinct-head (eq_by_cmp nat_cmp) x.0 (keys_of es) i) f in
-          let first : taught_by l x.1 ≡ x.1 = taught-other l x.1 one h.0 (ap (λ (v : Option ObjectId). is_of_id v x.1.id.0) th ∙ turned x.1.id.0 u.0 j) in
-          let rest = taught-at l u es n w th one d.1 h.1 (IsDistinct-tail (eq_by_cmp nat_cmp) x.0 (keys_of es) i) f y in
-          rw other (ap (λ (ks : List Known). x.1 ∷ ks) rest ∙ ap (λ (k : Known). k ∷ all_taught l (values_of es)) (sym first))
-    ] refl e g
+          let absent : count_in (values_of es) v.id.0 ≡ None = ap (count_in (values_of es)) (sym (same_from x.1.id.0 v.id.0 j)) ∙ d.0 in
+          rw (same, at_itself n) (ap (λ (ks : List Known). v ∷ ks) (sym (put-absent v (values_of es) absent)))
+      | false ↦ λ j f.
+          let other = number-apart es x.0 v.id.0 n (IsDistinct-head (eq_by_cmp nat_cmp) x.0 (keys_of es) i) f in
+          rw other (ap (λ (ks : List Known). x.1 ∷ ks) (put-at v es n d.1 (IsDistinct-tail (eq_by_cmp nat_cmp) x.0 (keys_of es) i) f))
+    ] refl e
 
-pub taught-found : (l : Lesson) (u : ObjectId) (threads : BTreeMap ℕ Known) (numbers : BTreeMap ℕ ℕ) (n : ℕ) (w : Known) → l.thread ≡ Some u → is_of_one l ≡ true → AreNumbered threads numbers
-    → AreDistinct (values_of threads.entries) → HeldHaveCounts (values_of threads.entries) → get nat_cmp numbers u.0 ≡ Some n → get nat_cmp threads n ≡ Some w
-    → values_of (set_value (is_at (nat_cmp n)) threads.entries (taught_by l w)) ≡ all_taught l (values_of threads.entries)
-taught-found l u threads numbers n w th one s d h e g =
-    taught-at l u threads.entries n w th one d h (distinct-numbers threads numbers s) (sym (s.found u.0) ∙ e) (sym (found threads numbers u.0 n s e) ∙ g)
-
--- ---- what holds of numbers goes on
-
-abbrev pub taught_entries : Lesson → Entries → Entries
-taught_entries l es = map (λ x. (x.0, taught_by l x.1)) es
-
-pub values-taught : (l : Lesson) (es : Entries) → values_of (taught_entries l es) ≡ all_taught l (values_of es)
-values-taught l [] = refl
-values-taught l (x ∷ es) = ap (λ (ks : List Known). taught_by l x.1 ∷ ks) (values-taught l es)
-
-number-taught : (l : Lesson) (es : Entries) (t : ℕ) → number_in (taught_entries l es) t ≡ number_in es t
-number-taught l [] t = refl
-number-taught l (x ∷ es) t = ap (λ (o : Option ℕ). if x.1.id.0 == t then Some x.0 else o) (number-taught l es t)
-
-pub numbered-taught : (l : Lesson) (old new : BTreeMap ℕ Known) (numbers : BTreeMap ℕ ℕ) → AreNumbered old numbers → new.entries ≡ taught_entries l old.entries → IsOrdered nat_cmp new → AreNumbered new numbers
-numbered-taught l old new numbers s e ordered = record {
-  ordered = ordered;
-  found = λ t. s.found t ∙ (sym (number-taught l old.entries t) ∙ ap (λ (es : Entries). number_in es t) (sym e));
-}
+pub put-found : (v : Known) (threads : Entries) (numbers : BTreeMap ℕ ℕ) (n : ℕ) → AreNumbered threads numbers → AreDistinct (values_of threads) → get nat_cmp numbers v.id.0 ≡ Some n
+    → values_of (set_value (is_at (nat_cmp n)) threads v) ≡ map (put_in v) (values_of threads)
+put-found v threads numbers n s d e = put-at v threads n d (distinct-numbers threads numbers s) (sym (s.found v.id.0) ∙ e)
 
 -- where the thread under a number is replaced by one of its id
-number-written : (es : Entries) (n : ℕ) (w v : Known) → lookup (is_at (nat_cmp n)) es ≡ Some v → w.id ≡ v.id → (t : ℕ) → number_in (set_value (is_at (nat_cmp n)) es w) t ≡ number_in es t
+number-written : (es : Entries) (n : ℕ) (w v : Known) → lookup (is_at (nat_cmp n)) es ≡ Some v → w.id.0 ≡ v.id.0 → (t : ℕ) → number_in (set_value (is_at (nat_cmp n)) es w) t ≡ number_in es t
 number-written [] n w v e i t = refl
 number-written (x ∷ es) n w v e i t =
     elim (is_at (nat_cmp n) x.0) as (λ b. (if b then Some x.1 else lookup (is_at (nat_cmp n)) es) ≡ Some v → number_in (if b then (x.0, w) ∷ es else x ∷ set_value (is_at (nat_cmp n)) es w) t ≡ (if x.1.id.0 == t then Some x.0 else number_in es t)) [
       | true ↦ λ f.
           let same : x.1 ≡ v = cc in
-          let alike_ids : w.id ≡ x.1.id = i ∙ ap (λ (k : Known). k.id) (sym same) in
-          ap (λ (u : ObjectId). if u.0 == t then Some x.0 else number_in es t) alike_ids
+          let alike_ids : w.id.0 ≡ x.1.id.0 = i ∙ ap (λ (k : Known). k.id.0) (sym same) in
+          ap (λ (u : ℕ). if u == t then Some x.0 else number_in es t) alike_ids
       | false ↦ λ f. ap (λ (o : Option ℕ). if x.1.id.0 == t then Some x.0 else o) (number-written es n w v f i t)
     ] e
 
-pub numbered-written : (old new : BTreeMap ℕ Known) (numbers : BTreeMap ℕ ℕ) (n : ℕ) (w v : Known) → AreNumbered old numbers → get nat_cmp old n ≡ Some v → w.id ≡ v.id → new.entries ≡ set_value (is_at (nat_cmp n)) old.entries w
-    → IsOrdered nat_cmp new → AreNumbered new numbers
+pub numbered-written : (old new : Entries) (numbers : BTreeMap ℕ ℕ) (n : ℕ) (w v : Known) → AreNumbered old numbers → lookup (is_at (nat_cmp n)) old ≡ Some v → w.id.0 ≡ v.id.0 → new ≡ set_value (is_at (nat_cmp n)) old w
+    → IsStrictlySortedBy nat_cmp (keys_of new) → AreNumbered new numbers
 numbered-written old new numbers n w v s g i e ordered = record {
   ordered = ordered;
-  found = λ t. s.found t ∙ (sym (number-written old.entries n w v g i t) ∙ ap (λ (es : Entries). number_in es t) (sym e));
+  found = λ t. s.found t ∙ (sym (number-written old n w v g i t) ∙ ap (λ (es : Entries). number_in es t) (sym e));
 }

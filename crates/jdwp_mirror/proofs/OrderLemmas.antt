@@ -9,13 +9,13 @@ use Rattle.jdwp_wire.specs.declared.error_code.ErrorCode.{ErrorCode}
 use Rattle.jdwp_value.specs.declared.id.ObjectId.{ObjectId}
 use Rattle.jdwp_layout.specs.Meanings.{DatumMeaning}
 use Rattle.jdwp_event.specs.Composites.{CompositeMeaning}
-use Rattle.jdwp_mirror.specs.declared.command.Act.{Act}
-use Rattle.jdwp_mirror.specs.declared.command.Act.TheVariants as act
+use Rattle.jdwp_mirror.specs.declared.command.CommandKind.{CommandKind}
+use Rattle.jdwp_mirror.specs.declared.command.CommandKind.TheVariants as kinds
 use Rattle.jdwp_mirror.specs.declared.threads.Known.{Known}
 use Rattle.jdwp_mirror.specs.declared.threads.Lesson.{Lesson}
-use Rattle.jdwp_mirror.specs.Acts.{lesson_of, lesson_of_event, ready_for, threads_after_data, threads_after_error, threads_after_event, with_counted, with_found, without_found}
+use Rattle.jdwp_mirror.specs.CommandKinds.{lesson_of, lesson_of_event, ready_for, threads_after_data, threads_after_error, threads_after_event, with_counted, with_found, without_found}
 use Rattle.jdwp_mirror.specs.Mirror.{counted, is_invalid_thread, is_last_of_thread, lists}
-use Rattle.jdwp_mirror.specs.KnownThreads.{KeepsOrder, all_taught, count_by, count_in, ids_of, is_known_in, only, unseen, with_thread, without}
+use Rattle.jdwp_mirror.specs.KnownThreads.{KeepsOrder, all_taught, count_by, count_in, ids_of, is_known_in, only, unseen_thread, with_thread, without}
 use Rattle.jdwp_mirror.proofs.KnownLemmas.{count-only, count-pushed, count-taught, eq-self}
 
 -- ---- tests of the ids of known threads
@@ -84,7 +84,7 @@ some-first : (n m : Option ℕ) → is_some n ≡ true → is_some (if is_some n
 some-first (Some k) m e = refl
 some-first None m e = cc
 
-pushed-known : (id : ObjectId) (ks : List Known) (t : ℕ) → is_known_in ks t ≡ true → is_known_in (ks ++ unseen id ∷ []) t ≡ true
+pushed-known : (id : ObjectId) (ks : List Known) (t : ℕ) → is_known_in ks t ≡ true → is_known_in (ks ++ unseen_thread id ∷ []) t ≡ true
 pushed-known id ks t e = ap (λ (n : Option ℕ). is_some n) (count-pushed id ks t) ∙ some-first (count_in ks t) (if id.0 == t then Some 0 else None) e
 
 none-of : (n : Option ℕ) → is_some n ≡ false → n ≡ None
@@ -93,11 +93,11 @@ none-of (Some k) e = cc
 
 order-with : (id : ObjectId) (ks : List Known) → KeepsOrder ks (with_thread id ks)
 order-with id ks =
-    elim (is_some (count_in ks id.0)) as (λ b. is_some (count_in ks id.0) ≡ b → KeepsOrder ks (if b then ks else ks ++ unseen id ∷ [])) [
+    elim (is_some (count_in ks id.0)) as (λ b. is_some (count_in ks id.0) ≡ b → KeepsOrder ks (if b then ks else ks ++ unseen_thread id ∷ [])) [
       | true ↦ λ e. order-same ks
       | false ↦ λ e. record {
         met = Some id.0;
-        ids = map-append (λ (k : Known). k.id.0) ks (unseen id ∷ []) ∙ ap (λ (ts : List ℕ). ts ++ id.0 ∷ []) (sym (filter-passed ks (is_known_in (ks ++ unseen id ∷ [])) (pushed-known id ks)));
+        ids = map-append (λ (k : Known). k.id.0) ks (unseen_thread id ∷ []) ∙ ap (λ (ts : List ℕ). ts ++ id.0 ∷ []) (sym (filter-passed ks (is_known_in (ks ++ unseen_thread id ∷ [])) (pushed-known id ks)));
         unknown = none-of (count_in ks id.0) e;
       }
     ] refl
@@ -133,15 +133,15 @@ order-counted None count ks = order-same ks
 order-counted (Some t) None ks = order-same ks
 order-counted (Some t) (Some n) ks = order-with t ks
 
-order-ready : (a : Act) (thread : Option ObjectId) (content : List DatumMeaning) (ks : List Known) → KeepsOrder ks (ready_for a thread content ks)
-order-ready act.SuspendCount thread content ks = order-counted thread (counted content) ks
-order-ready act.AllThreads thread content ks = order-only (lists content) ks
-order-ready act.Exit thread content ks = order-none ks
-order-ready act.Dispose thread content ks = order-none ks
+order-ready : (a : CommandKind) (thread : Option ObjectId) (content : List DatumMeaning) (ks : List Known) → KeepsOrder ks (ready_for a thread content ks)
+order-ready kinds.SuspendCount thread content ks = order-counted thread (counted content) ks
+order-ready kinds.AllThreads thread content ks = order-only (lists content) ks
+order-ready kinds.Exit thread content ks = order-none ks
+order-ready kinds.Dispose thread content ks = order-none ks
 order-ready a thread content ks = order-same ks
 
-pub order-data : (a : Act) (thread : Option ObjectId) (content : List DatumMeaning) (ks : List Known) → KeepsOrder ks (threads_after_data a thread content ks)
-order-data act.Request thread content ks = order-same ks
+pub order-data : (a : CommandKind) (thread : Option ObjectId) (content : List DatumMeaning) (ks : List Known) → KeepsOrder ks (threads_after_data a thread content ks)
+order-data kinds.Request thread content ks = order-same ks
 order-data a thread content ks = order-taught (lesson_of a thread content) ks (ready_for a thread content ks) (order-ready a thread content ks)
 
 -- ---- after a composite

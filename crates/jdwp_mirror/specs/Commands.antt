@@ -1,5 +1,5 @@
 -- What commands in memory say.
-use Rattle.jdwp_debuggee.specs.Actions
+use Rattle.jdwp_action.specs.Actions
 use Rattle.jdwp_mirror.specs.declared.command.Carried.{Carried}
 use Rattle.jdwp_mirror.specs.declared.command.Carried.TheVariants as carried
 

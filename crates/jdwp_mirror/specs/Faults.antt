@@ -6,8 +6,8 @@ use Rattle.jdwp_layout.specs.declared.answer.Answer.TheVariants.{Data, Error}
 use Rattle.jdwp_layout.specs.Meanings.{ScalarMeaning, Int, DatumMeaning, One}
 use Rattle.jdwp_event.specs.Composites.{CompositeMeaning, POLICY_NONE, POLICY_ALL}
 use Rattle.jdwp_event.specs.Told.{event_thread, events_thread, composite_thread, is_vm_death}
-use Rattle.jdwp_debuggee.specs.Actions
-use Rattle.jdwp_debuggee.specs.Actions.{Command, Action, action_of}
+use Rattle.jdwp_action.specs.Actions
+use Rattle.jdwp_action.specs.Actions.{Command, Action, action_of}
 use Rattle.jdwp_mirror.specs.Messages.{Ticket, same_ticket, Message, Handshake, Reply, Report}
 use Rattle.jdwp_mirror.specs.Mirror.{learned, counted, given_id, is_positive}
 

@@ -7,7 +7,7 @@ use Rattle.jdwp_mirror.specs.declared.threads.Known.{Known}
 use Rattle.jdwp_mirror.specs.declared.threads.Change.{Change}
 use Rattle.jdwp_mirror.specs.declared.threads.Change.TheVariants.{Keep, Raise, Lower, Set}
 use Rattle.jdwp_mirror.specs.declared.threads.Lesson.{Lesson}
-use Rattle.jdwp_mirror.specs.Mirror.{more, less}
+use Rattle.jdwp_mirror.specs.Mirror.{one_more, one_less}
 
 -- the count of a thread, or none where it is not known
 abbrev pub count_in : List Known → ℕ → Option ℕ
@@ -23,8 +23,8 @@ is_held_in (k ∷ ks) t = if k.id.0 == t then k.held else is_held_in ks t
 
 abbrev pub change_of : Change → ℕ → ℕ
 change_of Keep n = n
-change_of Raise n = more n
-change_of Lower n = less n
+change_of Raise n = one_more n
+change_of Lower n = one_less n
 change_of (Set m) n = m
 
 -- whether it is this thread's id
@@ -49,14 +49,6 @@ taught_by l k = record {
 abbrev pub all_taught : Lesson → List Known → List Known
 all_taught l ks = map (taught_by l) ks
 
--- whether it changes no thread but its own
-abbrev pub keeps : Change → Bool
-keeps Keep = true
-keeps change = false
-
-abbrev pub is_of_one : Lesson → Bool
-is_of_one l = keeps l.others && not l.shows_all
-
 -- ---- which of them there are
 
 -- all but one
@@ -71,12 +63,12 @@ abbrev pub only : (ℕ → Bool) → List Known → List Known
 only test ks = filter (λ (k : Known). test k.id.0) ks
 
 -- a thread of which nothing is known yet
-abbrev pub unseen : ObjectId → Known
-unseen t = record { id = t; count = 0; held = false }
+abbrev pub unseen_thread : ObjectId → Known
+unseen_thread t = record { id = t; count = 0; held = false }
 
 -- this thread among them
 abbrev pub with_thread : ObjectId → List Known → List Known
-with_thread t ks = if is_some (count_in ks t.0) then ks else ks ++ unseen t ∷ []
+with_thread t ks = if is_some (count_in ks t.0) then ks else ks ++ unseen_thread t ∷ []
 
 -- a thread was named, and it is not known
 abbrev pub IsOfUnknown : List Known → Option ℕ → Type 0

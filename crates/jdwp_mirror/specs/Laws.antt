@@ -11,7 +11,7 @@ use Rattle.jdwp_event.specs.declared.kind.EventKind.TheVariants as kind
 use Rattle.jdwp_event.specs.Composites.{CompositeMeaning}
 use Rattle.jdwp_event.specs.Modifiers.{modifiers_of}
 use Rattle.jdwp_event.specs.Told.{composite_thread, has_event, is_vm_death}
-use Rattle.jdwp_debuggee.specs.Actions.{Command, Carried, Content}
+use Rattle.jdwp_action.specs.Actions.{Command, Carried, Content}
 use Rattle.jdwp_mirror.specs.Messages.{Ticket, Message, Handshake, Reply, Report}
 use Rattle.jdwp_mirror.specs.Mirror.{Kept, learned, held_after, requests_after}
 use Rattle.jdwp_mirror.specs.Faults.{Reader, fault_of, BadHandshake, UnknownReply, BadReply, TooManyParked, BadEvent}

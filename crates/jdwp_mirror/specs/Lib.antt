@@ -4,7 +4,7 @@ pub mod Faults
 pub mod Laws
 pub mod KnownThreads
 pub mod Numbering
-pub mod Acts
+pub mod CommandKinds
 pub mod Commands
 pub mod Mirrors
 pub mod FaultParts

@@ -3,7 +3,7 @@ use Rattle.std.specs.Prelude.{ℕ, ◌-◌, ◌^◌, Bool, true, false, ◌==◌
 use Rattle.jdwp_layout.specs.declared.answer.Answer.{Answer}
 use Rattle.jdwp_layout.specs.CommandNumbers.{ID_SIZES}
 use Rattle.jdwp_event.specs.Composites.{CompositeMeaning}
-use Rattle.jdwp_debuggee.specs.Actions.{Command, Content}
+use Rattle.jdwp_action.specs.Actions.{Command, Content}
 
 -- The name of a command that was asked: tickets rise from 1 and are never given twice. IDSizes, which a debugger asks by itself
 -- after the handshake, has none.

@@ -14,12 +14,11 @@ use Rattle.jdwp_layout.specs.Meanings.{ScalarMeaning, Int, Object, DatumMeaning,
 use Rattle.jdwp_event.specs.declared.kind.EventKind.TheVariants as kind
 use Rattle.jdwp_event.specs.Modifiers.{ModifierMeaning, modifiers_of}
 use Rattle.jdwp_event.specs.RequestLists.{is_left, is_left_by_all}
-use Rattle.jdwp_event.specs.Requests.{Asked}
+use Rattle.jdwp_event.specs.Requests.{AskedRequest}
 use Rattle.jdwp_event.specs.Composites.{CompositeMeaning, POLICY_NONE, POLICY_EVENT_THREAD, POLICY_ALL}
 use Rattle.jdwp_event.specs.Told.{composite_thread, has_event, is_vm_death}
-use Rattle.jdwp_debuggee.specs.Actions
-use Rattle.jdwp_debuggee.specs.Actions.{Command, Action, action_of, thread_of}
-use Rattle.jdwp_debuggee.specs.Facts.{is_dispose}
+use Rattle.jdwp_action.specs.Actions
+use Rattle.jdwp_action.specs.Actions.{Command, Action, action_of, thread_of, is_dispose}
 use Rattle.jdwp_mirror.specs.Messages.{Message, Handshake, Reply, Report}
 
 -- ---- what packets say
@@ -56,12 +55,12 @@ is_invalid_thread e = e.0 == INVALID_THREAD.0
 abbrev pub COUNT_MOST : ℕ
 COUNT_MOST = greatest_int
 
-abbrev pub more : ℕ → ℕ
-more n = min (n + 1) COUNT_MOST
+abbrev pub one_more : ℕ → ℕ
+one_more n = min (n + 1) COUNT_MOST
 
 -- a positive count falls by one
-abbrev pub less : ℕ → ℕ
-less n = n - 1
+abbrev pub one_less : ℕ → ℕ
+one_less n = n - 1
 
 -- the count of an event's thread, which had 0 before it
 abbrev pub first_count : ℕ → ℕ
@@ -69,7 +68,7 @@ first_count policy = if policy == POLICY_ALL then 1 else (if policy == POLICY_EV
 
 -- the count of another thread
 abbrev pub other_count : ℕ → ℕ → ℕ
-other_count policy n = if policy == POLICY_ALL then more n else n
+other_count policy n = if policy == POLICY_ALL then one_more n else n
 
 -- ---- one thread's count, none where the thread is not known
 
@@ -80,10 +79,10 @@ taught None count = count
 
 -- an OK reply
 abbrev pub learned_data : Action → List DatumMeaning → ℕ → Option ℕ → Option ℕ
-learned_data Actions.Suspend content t count = option_map more count
-learned_data Actions.Resume content t count = option_map less count
-learned_data (Actions.SuspendThread u) content t count = if u == t then option_map more count else count
-learned_data (Actions.ResumeThread u) content t count = if u == t then option_map less count else count
+learned_data Actions.Suspend content t count = option_map one_more count
+learned_data Actions.Resume content t count = option_map one_less count
+learned_data (Actions.SuspendThread u) content t count = if u == t then option_map one_more count else count
+learned_data (Actions.ResumeThread u) content t count = if u == t then option_map one_less count else count
 learned_data (Actions.SuspendCount u) content t count = if u == t then taught (counted content) count else count
 learned_data Actions.AllThreads content t count = if lists content t then count else None
 learned_data Actions.Exit content t count = None
@@ -179,10 +178,10 @@ pub record Kept : Type 0 where
   pub modifiers : List ModifierMeaning
 
 -- a request of the target, as the mirror keeps it
-abbrev pub kept : Asked → Kept
+abbrev pub kept : AskedRequest → Kept
 kept asked = record { id = pos asked.id; kind = asked.kind; policy = asked.policy; modifiers = asked.modifiers }
 
-abbrev pub all_kept : List Asked → List Kept
+abbrev pub all_kept : List AskedRequest → List Kept
 all_kept requests = map kept requests
 
 -- the id in a reply to EventRequest.Set

@@ -1,8 +1,8 @@
 //! Commands that a debugger asks.
 ghost use Rattle.std.specs.Prelude.{◌≡◌, ◌==◌, ◌&&◌, IfOk};
-ghost use Rattle.jdwp_debuggee.specs.Actions as actions;
-ghost use Rattle.jdwp_debuggee.specs.Actions.{action_of, clear_action, first_object, object_in, set_action, thread_of};
-ghost use Rattle.jdwp_mirror.specs.Acts.{act_of, id_found, other_act_of, request_act_of, thread_act_of};
+ghost use Rattle.jdwp_action.specs.Actions as actions;
+ghost use Rattle.jdwp_action.specs.Actions.{action_of, clear_action, first_object, object_in, set_action, thread_of};
+ghost use Rattle.jdwp_mirror.specs.CommandKinds.{kind_of, id_found, other_kind_of, request_kind_of, thread_kind_of};
 ghost use Rattle.jdwp_mirror.specs.Commands.{carried_meaning};
 ghost use Rattle.jdwp_layout.specs.Meanings.{meanings};
 
@@ -35,7 +35,7 @@ pub struct Command {
 }
 
 impl Model for Command {
-    ghost use Rattle.jdwp_debuggee.specs.Actions as actions;
+    ghost use Rattle.jdwp_action.specs.Actions as actions;
 
     ghost Value = { actions.Command };
 
@@ -46,7 +46,7 @@ impl Model for Command {
 
 /// What a command asks, as far as a mirror learns by its reply.
 #[derive(Clone, Copy, Debug, PartialEq, Eq)]
-pub enum Act {
+pub enum CommandKind {
     /// VirtualMachine.Suspend.
     Suspend,
     /// VirtualMachine.Resume.
@@ -165,60 +165,60 @@ impl Command {
     }
 
     /// What it asks, as far as a mirror learns by its reply.
-    pub fn act(&self) -> Act
-        ensures { result ≡ act_of (action_of self.now) }
+    pub fn kind(&self) -> CommandKind
+        ensures { result ≡ kind_of (action_of self.now) }
     {
         match self.thread() {
-            Some(_) => self.thread_act(),
-            None => self.other_act(),
+            Some(_) => self.thread_kind(),
+            None => self.other_kind(),
         }
     }
 
-    fn thread_act(&self) -> Act
-        ensures { result ≡ thread_act_of self.now }
+    fn thread_kind(&self) -> CommandKind
+        ensures { result ≡ thread_kind_of self.now }
     {
         if self.is(THREAD_REFERENCE, SUSPEND_THREAD) {
-            Act::SuspendThread
+            CommandKind::SuspendThread
         } else if self.is(THREAD_REFERENCE, RESUME_THREAD) {
-            Act::ResumeThread
+            CommandKind::ResumeThread
         } else if self.is(THREAD_REFERENCE, SUSPEND_COUNT) {
-            Act::SuspendCount
+            CommandKind::SuspendCount
         } else {
-            Act::Other
+            CommandKind::Other
         }
     }
 
-    fn other_act(&self) -> Act
-        ensures { result ≡ other_act_of self.now }
+    fn other_kind(&self) -> CommandKind
+        ensures { result ≡ other_kind_of self.now }
     {
         if self.is(VIRTUAL_MACHINE, SUSPEND) {
-            Act::Suspend
+            CommandKind::Suspend
         } else if self.is(VIRTUAL_MACHINE, RESUME) {
-            Act::Resume
+            CommandKind::Resume
         } else if self.is(VIRTUAL_MACHINE, DISPOSE) {
-            Act::Dispose
+            CommandKind::Dispose
         } else if self.is(VIRTUAL_MACHINE, EXIT) {
-            Act::Exit
+            CommandKind::Exit
         } else if self.is(VIRTUAL_MACHINE, ALL_THREADS) {
-            Act::AllThreads
+            CommandKind::AllThreads
         } else if self.is(VIRTUAL_MACHINE, ID_SIZES) {
-            Act::IdSizes
+            CommandKind::IdSizes
         } else {
-            self.request_act()
+            self.request_kind()
         }
     }
 
-    fn request_act(&self) -> Act
-        ensures { result ≡ request_act_of self.now }
+    fn request_kind(&self) -> CommandKind
+        ensures { result ≡ request_kind_of self.now }
     {
         if self.is(EVENT_REQUEST, SET_REQUEST) {
-            set_act(&self.carried)
+            set_kind(&self.carried)
         } else if self.is(EVENT_REQUEST, CLEAR_REQUEST) {
-            clear_act(&self.carried)
+            clear_kind(&self.carried)
         } else if self.is(EVENT_REQUEST, CLEAR_ALL_BREAKPOINTS) {
-            Act::ClearBreakpoints
+            CommandKind::ClearBreakpoints
         } else {
-            Act::Other
+            CommandKind::Other
         }
     }
 }
@@ -241,42 +241,42 @@ fn first_object_in(items: &[Datum]) -> Option<ObjectId>
     }
 }
 
-fn set_act(carried: &Carried) -> Act
-    ensures { result ≡ act_of (set_action (carried_meaning carried.now)) }
+fn set_kind(carried: &Carried) -> CommandKind
+    ensures { result ≡ kind_of (set_action (carried_meaning carried.now)) }
 {
     match carried {
-        Carried::Content(data) => set_act_in(data.items()),
-        Carried::Raw(_) => Act::Other,
+        Carried::Content(data) => set_kind_in(data.items()),
+        Carried::Raw(_) => CommandKind::Other,
     }
 }
 
-fn set_act_in(items: &[Datum]) -> Act
-    ensures { result ≡ act_of (set_action (actions.Content (meanings items.now))) }
+fn set_kind_in(items: &[Datum]) -> CommandKind
+    ensures { result ≡ kind_of (set_action (actions.Content (meanings items.now))) }
 {
     match items {
         [
             Datum::One(Scalar::Byte(_)),
             Datum::One(Scalar::Byte(_)),
             Datum::Many(_),
-        ] => Act::Request,
-        _ => Act::Other,
+        ] => CommandKind::Request,
+        _ => CommandKind::Other,
     }
 }
 
-fn clear_act(carried: &Carried) -> Act
-    ensures { result ≡ act_of (clear_action (carried_meaning carried.now)) }
+fn clear_kind(carried: &Carried) -> CommandKind
+    ensures { result ≡ kind_of (clear_action (carried_meaning carried.now)) }
 {
     match carried {
-        Carried::Content(data) => clear_act_in(data.items()),
-        Carried::Raw(_) => Act::Other,
+        Carried::Content(data) => clear_kind_in(data.items()),
+        Carried::Raw(_) => CommandKind::Other,
     }
 }
 
-fn clear_act_in(items: &[Datum]) -> Act
-    ensures { result ≡ act_of (clear_action (actions.Content (meanings items.now))) }
+fn clear_kind_in(items: &[Datum]) -> CommandKind
+    ensures { result ≡ kind_of (clear_action (actions.Content (meanings items.now))) }
 {
     match items {
-        [Datum::One(Scalar::Byte(_)), Datum::One(Scalar::Int(_))] => Act::Clear,
-        _ => Act::Other,
+        [Datum::One(Scalar::Byte(_)), Datum::One(Scalar::Int(_))] => CommandKind::Clear,
+        _ => CommandKind::Other,
     }
 }

@@ -3,7 +3,7 @@ ghost use Rattle.std.specs.Prelude.{◌≡◌};
 ghost use Rattle.std.specs.List.{list_any};
 ghost use Rattle.jdwp_layout.specs.Meanings.{scalar_meanings};
 ghost use Rattle.jdwp_event.specs.Told.{composite_thread, event_thread, events_thread, has_event, is_event_of};
-ghost use Rattle.jdwp_mirror.specs.Acts.{id_found};
+ghost use Rattle.jdwp_mirror.specs.CommandKinds.{id_found};
 
 use jdwp_event::{Composite, Event, EventKind};
 use jdwp_layout::Scalar;

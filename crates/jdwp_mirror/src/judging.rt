@@ -3,11 +3,11 @@ ghost use Rattle.std.specs.Prelude.{◌≡◌, ◌∷◌, []};
 ghost use Rattle.jdwp_layout.specs.Meanings.{datum_meaning, meanings};
 ghost use Rattle.jdwp_mirror.specs.Faults.{is_bad_event, is_bad_reply, is_of_two};
 ghost use Rattle.jdwp_mirror.specs.FaultParts as parts;
-ghost use Rattle.jdwp_mirror.specs.FaultParts.{is_bad_act, is_sizes_act};
+ghost use Rattle.jdwp_mirror.specs.FaultParts.{is_bad_of_kind, is_sizes_kind};
 ghost use Rattle.jdwp_mirror.specs.KnownThreads.{count_in};
 ghost use Rattle.jdwp_mirror.specs.Widths.{width_said, widths_in, widths_if};
 
-use crate::command::{Act, Command};
+use crate::command::{Command, CommandKind};
 use crate::composite::{has_event_of, thread_in, thread_of_event};
 use crate::mirror::Mirror;
 use crate::reply::{count_in_reply, id_in_reply};
@@ -20,27 +20,27 @@ use jdwp_wire::IdSizes;
 pub fn is_bad_answer(command: &Command, answer: &Answer) -> bool
     ensures { result ≡ is_bad_reply command.now answer.now }
 {
-    let act = command.act();
+    let kind = command.kind();
     match answer {
-        Answer::Data(reply) => is_bad_for(act, reply),
-        Answer::Error(_) => is_of_sizes(act),
+        Answer::Data(reply) => is_bad_for(kind, reply),
+        Answer::Error(_) => is_of_sizes(kind),
     }
 }
 
 /// Whether the command is IDSizes, which is never refused.
-fn is_of_sizes(act: Act) -> bool
-    ensures { result ≡ is_sizes_act act }
+fn is_of_sizes(kind: CommandKind) -> bool
+    ensures { result ≡ is_sizes_kind kind }
 {
-    matches!(act, Act::IdSizes)
+    matches!(kind, CommandKind::IdSizes)
 }
 
-fn is_bad_for(act: Act, reply: &Data) -> bool
-    ensures { result ≡ is_bad_act act reply.now }
+fn is_bad_for(kind: CommandKind, reply: &Data) -> bool
+    ensures { result ≡ is_bad_of_kind kind reply.now }
 {
-    match act {
-        Act::SuspendCount => count_in_reply(reply).is_none(),
-        Act::Request => id_in_reply(reply).is_none(),
-        Act::IdSizes => widths_in_items(reply.items()).is_none(),
+    match kind {
+        CommandKind::SuspendCount => count_in_reply(reply).is_none(),
+        CommandKind::Request => id_in_reply(reply).is_none(),
+        CommandKind::IdSizes => widths_in_items(reply.items()).is_none(),
         _ => false,
     }
 }

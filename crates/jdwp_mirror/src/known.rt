@@ -1,11 +1,13 @@
 //! The threads that a debugger knows, one after another.
-ghost use Rattle.std.specs.Prelude.{◌≡◌, IfSome, Some, length};
+ghost use Rattle.std.specs.Prelude.{◌≡◌, IfSome, Some, length, map};
 ghost use Rattle.std.specs.Iterator.{UpTo, at_most};
 ghost use Rattle.std.specs.Iterator.SizeHint.{IsWithinCount};
-ghost use Rattle.std.specs.Map.Iter.{ShowsInOrder, TakesFirst, deref};
+ghost use Rattle.std.specs.Map.Iter.{GivesInOrder, TakesFirst};
 ghost use Rattle.std.specs.BTreeMap.{values};
 ghost use Rattle.jdwp_mirror.specs.declared.threads.Known.{Known};
+ghost use Rattle.jdwp_mirror.specs.Numbering.{seen};
 
+use crate::met::Met;
 use crate::threads::Known;
 use std::alloc::Global;
 use std::collections::BTreeMap;
@@ -15,27 +17,33 @@ use std::marker::Model;
 /// Known threads in the order in which they became known: those that are left.
 #[derive(Drop)]
 pub struct KnownThreads<'a> {
-    rest: Values<'a, u64, Known>,
+    rest: Values<'a, u64, Met>,
+    /// How many times all counts were raised.
+    raises: u64,
 }
 
 impl<'a> Model for KnownThreads<'a> {
-    ghost use Rattle.std.specs.Prelude.{List};
+    ghost use Rattle.std.specs.Prelude.{List, map};
     ghost use Rattle.jdwp_mirror.specs.declared.threads.Known.{Known};
+    ghost use Rattle.jdwp_mirror.specs.Numbering.{seen};
 
     ghost Value = { List Known };
 
-    ghost view = { λ k. k.rest };
+    ghost view = { λ k. map (seen k.raises) k.rest };
 }
 
 impl<'a> Iterator for KnownThreads<'a> {
-    type Item = &'a Known;
+    type Item = Known;
 
-    ghost next_gives = { TakesFirst deref };
+    ghost next_gives = { TakesFirst (λ k. k) };
 
     ghost remaining = { λ s. at_most (length s) };
 
-    fn next(&mut self) -> Option<&'a Known> {
-        self.rest.next()
+    fn next(&mut self) -> Option<Known> {
+        match self.rest.next() {
+            Some(met) => Some(met.seen(self.raises)),
+            None => None,
+        }
     }
 
     /// Exactly how many are left.
@@ -56,13 +64,14 @@ impl<'a> ExactSizeIterator for KnownThreads<'a> {
 }
 
 impl<'a> KnownThreads<'a> {
-    /// Those that stand in a map under the numbers with which they became known.
-    pub(crate) fn of(entries: &'a BTreeMap<u64, Known>) -> KnownThreads<'a>
-        ensures all { result ≡ values entries.now }
-        ensures runs { ShowsInOrder (deref {X = Known}) }
+    /// Those that stand in a map under the numbers with which they became known, where all counts were raised so often.
+    pub(crate) fn of(entries: &'a BTreeMap<u64, Met>, raises: u64) -> KnownThreads<'a>
+        ensures all { result ≡ map (seen raises) (values entries.now) }
+        ensures runs { GivesInOrder Known }
     {
         KnownThreads {
             rest: entries.values(),
+            raises,
         }
     }
 }

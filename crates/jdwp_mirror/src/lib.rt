@@ -7,12 +7,13 @@ mod composite;
 mod judging;
 mod known;
 mod laws;
+mod met;
 mod mirror;
 mod reply;
 mod requests;
 mod threads;
 
-pub use command::{Act, Carried, Command};
+pub use command::{Carried, Command, CommandKind};
 pub use composite::has_event_of;
 pub use judging::{is_bad_answer, is_bad_composite, widths_in_answer};
 pub use known::KnownThreads;

@@ -1,9 +1,9 @@
 //! What a debugger knows of a target by what it read.
 ghost use Rattle.std.specs.Prelude.{◌≡◌, OnErr, OnOk};
-ghost use Rattle.std.specs.Map.Iter.{ShowsInOrder, deref};
-ghost use Rattle.jdwp_debuggee.specs.Actions.{action_of, thread_of};
+ghost use Rattle.std.specs.Map.Iter.{GivesInOrder};
+ghost use Rattle.jdwp_action.specs.Actions.{action_of, thread_of};
 ghost use Rattle.jdwp_event.specs.Told.{composite_thread};
-ghost use Rattle.jdwp_mirror.specs.Acts.{act_of, id_found, requests_after_act, requests_after_others, threads_after_data, threads_after_error, threads_after_event, threads_after_others};
+ghost use Rattle.jdwp_mirror.specs.CommandKinds.{kind_of, id_found, requests_after_kind, requests_after_others, threads_after_data, threads_after_error, threads_after_event, threads_after_others};
 ghost use Rattle.jdwp_mirror.specs.FaultParts.{IsData};
 ghost use Rattle.jdwp_mirror.specs.declared.threads.Known.{Known};
 ghost use Rattle.jdwp_mirror.specs.KnownThreads.{AreDistinct, IsOfUnknown, count_in, is_held_in};
@@ -11,7 +11,7 @@ ghost use Rattle.jdwp_mirror.specs.Messages.{Reply, Report, Ticket};
 ghost use Rattle.jdwp_mirror.specs.Mirrors as mirrors;
 ghost use Rattle.jdwp_mirror.specs.Mirrors.{Learned, empty_mirror};
 
-use crate::command::{Act, Command};
+use crate::command::{Command, CommandKind};
 use crate::composite::{has_event_of, thread_in};
 use crate::known::KnownThreads;
 use crate::requests::{KeptRequest, KeptRequests};
@@ -67,7 +67,7 @@ impl Mirror {
     /// The threads that are known, each once, in the order in which they became known.
     pub fn known(&self) -> KnownThreads<'_>
         ensures all { result ≡ self.now.threads }
-        ensures runs { ShowsInOrder (deref {X = Known}) }
+        ensures runs { GivesInOrder Known }
         ensures distinct { AreDistinct self.now.threads }
     {
         self.threads.iter()
@@ -131,35 +131,35 @@ impl Mirror {
 
     fn learn_data(&mut self, alloc: Global, command: &Command, reply: &Data) -> Result<(), NoMemory>
         ensures threads { OnOk result (self.new.threads ≡ threads_after_data
-            (act_of (action_of command.now)) (id_found (thread_of command.now)) reply.now
+            (kind_of (action_of command.now)) (id_found (thread_of command.now)) reply.now
             self.old.threads) }
-        ensures requests { OnOk result (self.new.requests ≡ requests_after_act
-            (act_of (action_of command.now)) command.now.carried reply.now self.old.requests) }
+        ensures requests { OnOk result (self.new.requests ≡ requests_after_kind
+            (kind_of (action_of command.now)) command.now.carried reply.now self.old.requests) }
         ensures err { OnErr result (self.new ≡ self.old) }
     {
-        match command.act() {
-            Act::Request => self.requests.add(alloc, command.carried(), reply),
-            act => self.learn_others(alloc, act, command, reply),
+        match command.kind() {
+            CommandKind::Request => self.requests.add(alloc, command.carried(), reply),
+            kind => self.learn_others(alloc, kind, command, reply),
         }
     }
 
     fn learn_others(
         &mut self,
         alloc: Global,
-        act: Act,
+        kind: CommandKind,
         command: &Command,
         reply: &Data,
     ) -> Result<(), NoMemory>
-        ensures threads { OnOk result (self.new.threads ≡ threads_after_others act
+        ensures threads { OnOk result (self.new.threads ≡ threads_after_others kind
             (id_found (thread_of command.now)) reply.now self.old.threads) }
         ensures requests { OnOk result (self.new.requests
-            ≡ requests_after_others act command.now.carried reply.now self.old.requests) }
+            ≡ requests_after_others kind command.now.carried reply.now self.old.requests) }
         ensures err { OnErr result (self.new ≡ self.old) }
     {
         let thread = command.thread();
-        self.threads.make_ready(alloc, act, thread, reply)?;
-        self.threads.learn(Lesson::of_reply(act, thread, reply));
-        self.requests.remove_by(act, command.carried());
+        self.threads.make_ready(alloc, kind, thread, reply)?;
+        self.threads.learn(Lesson::of_reply(kind, thread, reply));
+        self.requests.remove_by(kind, command.carried());
         Ok(())
     }
 

@@ -5,13 +5,13 @@ ghost use Rattle.jdwp_event.specs.ModifierMeanings.{modifier_meaning};
 ghost use Rattle.jdwp_event.specs.Modifiers.{modifiers_of};
 ghost use Rattle.jdwp_event.specs.RequestParts.{modifiers_meaning};
 ghost use Rattle.jdwp_layout.specs.Meanings.{DatumMeaning, entry_meanings, meanings};
-ghost use Rattle.jdwp_debuggee.specs.Actions as actions;
-ghost use Rattle.jdwp_debuggee.specs.Actions.{clear_action, set_action};
-ghost use Rattle.jdwp_mirror.specs.Acts.{requests_after_others};
+ghost use Rattle.jdwp_action.specs.Actions as actions;
+ghost use Rattle.jdwp_action.specs.Actions.{clear_action, set_action};
+ghost use Rattle.jdwp_mirror.specs.CommandKinds.{requests_after_others};
 ghost use Rattle.jdwp_mirror.specs.Commands.{carried_meaning};
 ghost use Rattle.jdwp_mirror.specs.Mirror.{given_id, has_other_id, is_no_kept_breakpoint, is_not_kept, requests_after_data};
 
-use crate::command::{Act, Carried};
+use crate::command::{Carried, CommandKind};
 use crate::reply::id_in_reply;
 use jdwp_event::{EventKind, Modifier};
 use jdwp_layout::{Data, Datum, Scalar, copy_entry};
@@ -42,7 +42,12 @@ impl Model for KeptRequest {
 
 impl KeptRequest {
     pub(crate) fn new(id: i32, kind: u8, policy: u8, modifiers: Vec<Modifier>) -> KeptRequest
-        ensures { result ≡ record { id = id; kind = kind; policy = policy; modifiers = modifiers_meaning modifiers } }
+        ensures { result ≡ record {
+          id = id;
+          kind = kind;
+          policy = policy;
+          modifiers = modifiers_meaning modifiers;
+        } }
     {
         KeptRequest {
             id,
@@ -151,14 +156,14 @@ impl KeptRequests {
     }
 
     /// Removes what a command asked to be removed.
-    pub fn remove_by(&mut self, act: Act, carried: &Carried)
+    pub fn remove_by(&mut self, kind: CommandKind, carried: &Carried)
         ensures { (content : List DatumMeaning)
-            → self.new ≡ requests_after_others act (carried_meaning carried.now) content self.old }
+            → self.new ≡ requests_after_others kind (carried_meaning carried.now) content self.old }
     {
-        match act {
-            Act::Clear => self.remove_asked(carried),
-            Act::ClearBreakpoints => self.remove_breakpoints(),
-            Act::Exit | Act::Dispose => self.clear(),
+        match kind {
+            CommandKind::Clear => self.remove_asked(carried),
+            CommandKind::ClearBreakpoints => self.remove_breakpoints(),
+            CommandKind::Exit | CommandKind::Dispose => self.clear(),
             _ => {}
         }
     }

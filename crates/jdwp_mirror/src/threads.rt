@@ -1,19 +1,21 @@
 //! The threads that a debugger knows.
 ghost use Rattle.std.specs.Prelude.{◌≡◌, ◌==◌, ◌&&◌, ◌++◌, ◌∷◌, ◌<◌, IfOk, IsSome, None, OnErr, OnOk, [], map, not, true};
+ghost use Rattle.std.specs.Bool.{OnFalse, OnTrue};
 ghost use Rattle.std.specs.BTreeMap.{IsOrdered, get, keys};
 ghost use Rattle.std.specs.BTreeSet.{contains};
 ghost use Rattle.std.specs.List.{All};
-ghost use Rattle.std.specs.Option.{option_copied};
-ghost use Rattle.std.specs.Map.Iter.{ShowsInOrder, deref};
+ghost use Rattle.std.specs.Option.{option_map};
+ghost use Rattle.std.specs.Map.Iter.{GivesInOrder};
 ghost use Rattle.std.specs.Ordering.{nat_cmp};
 ghost use Rattle.jdwp_mirror.specs.declared.threads.Known.{Known};
-ghost use Rattle.jdwp_mirror.specs.Acts.{lesson_of, lesson_of_event, own_change, others_change, ready_for, with_counted};
-ghost use Rattle.jdwp_mirror.specs.KnownThreads.{AreSound, all_taught, change_of, count_in, is_held_in, is_of_id, is_of_one, only, taught_by, with_thread, without};
+ghost use Rattle.jdwp_mirror.specs.CommandKinds.{lesson_of, lesson_of_event, own_change, others_change, ready_for, with_counted};
+ghost use Rattle.jdwp_mirror.specs.KnownThreads.{AreSound, all_taught, change_of, count_in, is_held_in, is_of_id, only, taught_by, with_thread, without};
 ghost use Rattle.jdwp_mirror.specs.Mirror.{counted, lists};
-ghost use Rattle.jdwp_mirror.specs.Numbering.{known_in};
+ghost use Rattle.jdwp_mirror.specs.Numbering.{anew, known_in, moved, moves_alike, own_in, put_in, seen};
 
-use crate::command::Act;
+use crate::command::CommandKind;
 use crate::known::KnownThreads;
+use crate::met::Met;
 use crate::reply::{count_in_reply, listed_in};
 use jdwp_event::Policy;
 use jdwp_layout::Data;
@@ -25,7 +27,7 @@ use std::collections::{BTreeMap, BTreeSet};
 use std::marker::Model;
 
 /// Where a count stops.
-const COUNT_MOST: u32 = GREATEST_INT;
+pub(crate) const COUNT_MOST: u32 = GREATEST_INT;
 
 /// A thread that a debugger knows.
 #[derive(Clone, Copy, Debug, PartialEq, Eq)]
@@ -50,13 +52,13 @@ pub(crate) enum Change {
 
 impl Change {
     /// What a reply makes of the count of the thread that the command is about.
-    fn of_own(act: Act, reply: &Data) -> Change
-        ensures { result ≡ own_change act reply.now }
+    fn of_own(kind: CommandKind, reply: &Data) -> Change
+        ensures { result ≡ own_change kind reply.now }
     {
-        match act {
-            Act::SuspendThread => Change::Raise,
-            Act::ResumeThread => Change::Lower,
-            Act::SuspendCount => match count_in_reply(reply) {
+        match kind {
+            CommandKind::SuspendThread => Change::Raise,
+            CommandKind::ResumeThread => Change::Lower,
+            CommandKind::SuspendCount => match count_in_reply(reply) {
                 Some(count) => Change::Set(count),
                 None => Change::Keep,
             },
@@ -65,12 +67,12 @@ impl Change {
     }
 
     /// What a reply makes of the counts of all others.
-    fn of_others(act: Act) -> Change
-        ensures { result ≡ others_change act }
+    fn of_others(kind: CommandKind) -> Change
+        ensures { result ≡ others_change kind }
     {
-        match act {
-            Act::Suspend => Change::Raise,
-            Act::Resume => Change::Lower,
+        match kind {
+            CommandKind::Suspend => Change::Raise,
+            CommandKind::Resume => Change::Lower,
             _ => Change::Keep,
         }
     }
@@ -102,14 +104,14 @@ pub(crate) struct Lesson {
 
 impl Lesson {
     /// What a reply without an error teaches.
-    pub fn of_reply(act: Act, thread: Option<ObjectId>, reply: &Data) -> Lesson
-        ensures { result ≡ lesson_of act thread reply.now }
+    pub fn of_reply(kind: CommandKind, thread: Option<ObjectId>, reply: &Data) -> Lesson
+        ensures { result ≡ lesson_of kind thread reply.now }
     {
         Lesson {
             thread,
-            own: Change::of_own(act, reply),
-            others: Change::of_others(act),
-            shows_all: matches!(act, Act::AllThreads),
+            own: Change::of_own(kind, reply),
+            others: Change::of_others(kind),
+            shows_all: matches!(kind, CommandKind::AllThreads),
         }
     }
 
@@ -144,13 +146,6 @@ impl Lesson {
         }
     }
 
-    /// Whether it changes no thread but its own.
-    fn is_of_one(self) -> bool
-        ensures { result ≡ is_of_one self }
-    {
-        matches!(self.others, Change::Keep) && !self.shows_all
-    }
-
     fn teach(self, known: Known) -> Known
         ensures { result ≡ taught_by self known }
     {
@@ -165,28 +160,29 @@ impl Lesson {
     }
 }
 
-/// Known threads in the order in which they became known, each once, and found by their ids.
+/// Known threads in the order in which they became known, each once, and found by their ids. To raise all counts takes no walk over
+/// them: how often that was done is counted, and each thread is kept as it was when it was last written.
 #[derive(Drop)]
 pub(crate) struct Threads {
     /// Under the number with which each became known: these rise, so that the map has them in that order.
-    entries: BTreeMap<u64, Known>,
+    entries: BTreeMap<u64, Met>,
     /// The number of each by its id.
     numbers: BTreeMap<u64, u64>,
+    /// How many times all counts were raised.
+    raises: u64,
 }
 
 impl Model for Threads {
     ghost use Rattle.std.specs.Prelude.{List};
-    ghost use Rattle.std.specs.BTreeMap.{values};
+    ghost use Rattle.std.specs.Map.{values_of};
     ghost use Rattle.jdwp_mirror.specs.declared.threads.Known.{Known};
+    ghost use Rattle.jdwp_mirror.specs.Numbering.{AreKept, entries_seen};
 
     ghost Value = { List Known };
 
-    ghost use Rattle.jdwp_mirror.specs.KnownThreads.{AreSound};
-    ghost use Rattle.jdwp_mirror.specs.Numbering.{AreNumbered};
+    ghost view = { λ t. values_of (entries_seen t.raises t.entries.entries) };
 
-    ghost view = { λ t. values t.entries };
-
-    ghost invariant = { λ t. AreSound (values t.entries) × AreNumbered t.entries t.numbers };
+    ghost invariant = { λ t. AreKept t.raises t.entries.entries t.numbers };
 }
 
 impl Threads {
@@ -197,16 +193,17 @@ impl Threads {
         Threads {
             entries: BTreeMap::new(alloc),
             numbers: BTreeMap::new(alloc),
+            raises: 0,
         }
     }
 
     /// All of them, in the order in which they became known.
     pub fn iter(&self) -> KnownThreads<'_>
         ensures all { result ≡ self.now }
-        ensures runs { ShowsInOrder (deref {X = Known}) }
+        ensures runs { GivesInOrder Known }
         ensures sound { AreSound self.now }
     {
-        KnownThreads::of(&self.entries)
+        KnownThreads::of(&self.entries, self.raises)
     }
 
     /// The count of a thread, or None where it is not known.
@@ -230,11 +227,21 @@ impl Threads {
     }
 
     /// A thread among them, or None where it is not known.
-    fn find(&self, id: ObjectId) -> Option<&Known>
-        ensures { option_copied result ≡ known_in self.now id.0 }
+    fn find(&self, id: ObjectId) -> Option<Known>
+        ensures { result ≡ known_in self.now id.0 }
     {
         match self.numbers.get(&id.0) {
-            Some(number) => self.entries.get(number),
+            Some(number) => seen_at(&self.entries, *number, self.raises),
+            None => None,
+        }
+    }
+
+    /// The thread that a packet is about, where it is known.
+    fn find_own(&self, thread: Option<ObjectId>) -> Option<Known>
+        ensures { result ≡ own_in thread self.now }
+    {
+        match thread {
+            Some(id) => self.find(id),
             None => None,
         }
     }
@@ -269,8 +276,9 @@ impl Threads {
         ensures err { OnErr result (self.new ≡ self.old) }
     {
         let number = next_number(&self.entries)?;
+        let met = Met::of(known, self.raises);
         self.numbers.insert(known.id.0, number)?;
-        match self.entries.insert(number, known) {
+        match self.entries.insert(number, met) {
             Ok(_) => Ok(()),
             Err(_) => {
                 // Its number is taken back, so that nothing has changed.
@@ -280,29 +288,58 @@ impl Threads {
         }
     }
 
-    /// Changes counts, and holds what is shown alive. It goes over all threads only where it changes others than its own.
+    /// Changes counts, and holds what is shown alive. It goes over all threads only where it lowers the counts of others or shows all alive.
     pub fn learn(&mut self, lesson: Lesson)
         ensures { self.new ≡ all_taught lesson self.old }
     {
-        if lesson.is_of_one() {
-            self.learn_one(lesson);
+        self.are_sound();
+        let own = self.find_own(lesson.thread);
+        if self.move_others(lesson) {
+            if let Some(known) = own {
+                self.put(lesson.teach(known));
+            }
         } else {
-            teach_all(&mut self.entries, lesson);
+            self.teach_all(lesson);
         }
     }
 
-    /// The same where it changes no thread but its own.
-    fn learn_one(&mut self, lesson: Lesson)
-        requires { is_of_one lesson ≡ true }
-        ensures { self.new ≡ all_taught lesson self.old }
+    /// Changes all counts as a lesson does those of the others, where that takes no walk over them. Whether it did so.
+    fn move_others(&mut self, lesson: Lesson) -> bool
+        ensures alike { OnTrue result (moves_alike lesson ≡ true) }
+        ensures done { OnTrue result (self.new ≡ map (moved lesson) self.old) }
+        ensures other { OnFalse result (self.new ≡ self.old) }
     {
-        if let Some(thread) = lesson.thread {
-            if let Some(number) = self.numbers.get(&thread.0) {
-                if let Some(known) = self.entries.get_mut(number) {
-                    *known = lesson.teach(*known);
+        match (lesson.others, lesson.shows_all) {
+            (Change::Keep, false) => true,
+            (Change::Raise, false) => match self.raises.checked_add(1) {
+                Some(raises) => {
+                    self.raises = raises;
+                    true
                 }
+                None => false,
+            },
+            _ => false,
+        }
+    }
+
+    /// Puts a thread in place of the one with its id, where that is known.
+    fn put(&mut self, known: Known)
+        requires { known.held ≡ (not (known.count == 0) && known.held) }
+        ensures { self.new ≡ map (put_in known) self.old }
+    {
+        if let Some(number) = self.numbers.get(&known.id.0) {
+            if let Some(met) = self.entries.get_mut(number) {
+                *met = Met::of(known, self.raises);
             }
         }
+    }
+
+    /// Changes all threads, one after the other.
+    fn teach_all(&mut self, lesson: Lesson)
+        ensures { self.new ≡ all_taught lesson self.old }
+    {
+        teach_entries(&mut self.entries, lesson, self.raises);
+        self.raises = 0;
     }
 
     /// What holds of all threads that are known. It does nothing.
@@ -319,17 +356,17 @@ impl Threads {
     pub fn make_ready(
         &mut self,
         alloc: Global,
-        act: Act,
+        kind: CommandKind,
         thread: Option<ObjectId>,
         reply: &Data,
     ) -> Result<(), NoMemory>
-        ensures ok { OnOk result (self.new ≡ ready_for act thread reply.now self.old) }
+        ensures ok { OnOk result (self.new ≡ ready_for kind thread reply.now self.old) }
         ensures err { OnErr result (self.new ≡ self.old) }
     {
-        match act {
-            Act::SuspendCount => self.meet_counted(thread, reply),
-            Act::AllThreads => self.keep_listed(alloc, reply),
-            Act::Exit | Act::Dispose => {
+        match kind {
+            CommandKind::SuspendCount => self.meet_counted(thread, reply),
+            CommandKind::AllThreads => self.keep_listed(alloc, reply),
+            CommandKind::Exit | CommandKind::Dispose => {
                 self.clear();
                 Ok(())
             }
@@ -360,7 +397,7 @@ impl Threads {
     fn keep_only(&mut self, ids: &BTreeSet<u64>)
         ensures { self.new ≡ only (contains nat_cmp ids.now) self.old }
     {
-        self.entries.retain(|_, known| ids.contains(&known.id.0));
+        self.entries.retain(|_, met| ids.contains(&met.id().0));
         self.numbers.retain(|id, _| ids.contains(id));
     }
 
@@ -379,6 +416,7 @@ impl Threads {
     {
         self.entries.clear();
         self.numbers.clear();
+        self.raises = 0;
     }
 }
 
@@ -386,7 +424,7 @@ impl Threads {
 ///
 /// # Errors
 /// `NoMemory` where one of them is the greatest that there is, and only there.
-fn next_number(entries: &BTreeMap<u64, Known>) -> Result<u64, NoMemory>
+fn next_number(entries: &BTreeMap<u64, Met>) -> Result<u64, NoMemory>
     ensures above { IfOk result (λ number. All (λ n. n < number) (keys entries.now)) }
     ensures last { OnErr result (IsSome (get nat_cmp entries.now u64.MAX)) }
 {
@@ -399,14 +437,31 @@ fn next_number(entries: &BTreeMap<u64, Known>) -> Result<u64, NoMemory>
     }
 }
 
-fn teach_all(entries: &mut BTreeMap<u64, Known>, lesson: Lesson)
+/// The thread under a number, as it is where all counts were raised so often.
+fn seen_at(entries: &BTreeMap<u64, Met>, number: u64, raises: u64) -> Option<Known>
+    ensures { result ≡ option_map (seen raises) (get nat_cmp entries.now number) }
+{
+    match entries.get(&number) {
+        Some(met) => Some(met.seen(raises)),
+        None => None,
+    }
+}
+
+/// Writes all threads anew, each as a lesson leaves it.
+fn teach_entries(entries: &mut BTreeMap<u64, Met>, lesson: Lesson, raises: u64)
     ensures entries { entries.new.entries ≡ map (λ e.
-        (e.0, taught_by lesson e.1)) entries.old.entries }
+        (e.0, anew (taught_by lesson (seen raises e.1)))) entries.old.entries }
     ensures ordered { IsOrdered nat_cmp entries.new }
 {
     // All are retained: this says of each what it becomes.
-    entries.retain(|_, known| {
-        *known = lesson.teach(*known);
+    entries.retain(|_, met| {
+        *met = taught_anew(*met, lesson, raises);
         true
     });
+}
+
+fn taught_anew(met: Met, lesson: Lesson, raises: u64) -> Met
+    ensures { result ≡ anew (taught_by lesson (seen raises met)) }
+{
+    Met::of(lesson.teach(met.seen(raises)), 0)
 }

@@ -14,17 +14,17 @@ use Rattle.jdwp_machine.specs.Meanings.{Meaning}
 use Rattle.jdwp_machine.specs.Laws.{IsLawful}
 use Rattle.jdwp_debuggee.specs.Settings.{Settings}
 use Rattle.jdwp_debuggee.specs.State.{State, Moment, count_of, or_zero, raised, lowered, only}
-use Rattle.jdwp_debuggee.specs.Actions
-use Rattle.jdwp_debuggee.specs.Actions.{Command, Action, action_of, thread_of}
+use Rattle.jdwp_action.specs.Actions
+use Rattle.jdwp_action.specs.Actions.{Command, Action, action_of, thread_of, about, is_dispose, is_exit}
 use Rattle.jdwp_debuggee.specs.Effects.{Effect}
 use Rattle.jdwp_debuggee.specs.Steps.{raised_by}
-use Rattle.jdwp_debuggee.specs.Facts.{AreBelow, IsSound, Does, Says, OfThread, about, moved, moved_by, requests_by, requests_moved, is_data, is_dispose, is_exit}
+use Rattle.jdwp_debuggee.specs.Facts.{AreBelow, IsSound, Does, Says, OfThread, moved, moved_by, requests_by, requests_moved, is_data}
 use Rattle.jdwp_mirror.specs.Messages.{Ticket, Message, Handshake, Reply, Report}
 use Rattle.jdwp_mirror.specs.Mirror
-use Rattle.jdwp_mirror.specs.Mirror.{all_kept, learned, learned_data, learned_error, learned_event, own_count, other_count, first_count, taught, counted, lists, is_thread, teaches, teaches_data, forgets, forgets_data, shows, shows_data, is_last_of_thread, is_invalid_thread, requests_after, requests_after_data, is_not_kept, is_no_kept_breakpoint, ends, more, less, COUNT_MOST}
+use Rattle.jdwp_mirror.specs.Mirror.{all_kept, learned, learned_data, learned_error, learned_event, own_count, other_count, first_count, taught, counted, lists, is_thread, teaches, teaches_data, forgets, forgets_data, shows, shows_data, is_last_of_thread, is_invalid_thread, requests_after, requests_after_data, is_not_kept, is_no_kept_breakpoint, ends, one_more, one_less, COUNT_MOST}
 use Rattle.jdwp_model.specs.Seen.{lowers, lowers_by, raises, raises_by}
 use Rattle.jdwp_model.proofs.Plain.{more-exact, some-same, kept-append, kept-filter, kept-below, lists-alive}
-use Rattle.jdwp_debuggee.specs.AboutLaws.{about_action}
+use Rattle.jdwp_action.specs.AboutLaws.{about_action}
 
 -- what an event does to a count
 abbrev pub event_raise : CompositeMeaning → ℕ → ℕ → ℕ
@@ -80,27 +80,27 @@ Learns-by mv count t n after = (count_of after t ≡ Some n) ⊎ ((j : ℕ) × (
 stay : (mv : ℕ → Option ℕ) (t n : ℕ) (c : Option ℕ) (after : State) → c ≡ Some n → mv n ≡ Some n → Learns-by mv c t n after
 stay mv t n c after h e = inr (n, h, λ k q l. let y : Some n ≡ Some k = sym e ∙ q in some-same n k y)
 
-rise : (mv : ℕ → Option ℕ) (t n : ℕ) (c : Option ℕ) (after : State) → option_map more c ≡ Some n → ((j : ℕ) → mv j ≡ Some (j + 1)) → Learns-by mv c t n after
+rise : (mv : ℕ → Option ℕ) (t n : ℕ) (c : Option ℕ) (after : State) → option_map one_more c ≡ Some n → ((j : ℕ) → mv j ≡ Some (j + 1)) → Learns-by mv c t n after
 rise mv t n c after h e =
-    let j = mapped more c n h in
+    let j = mapped one_more c n h in
     inr (j.0, j.1, λ k q l. let y : Some (j.0 + 1) ≡ Some k = sym (e j.0) ∙ q in let z : j.0 + 1 ≡ k = some-same _ _ y in j.2 ∙ (more-exact j.0 (subst (λ x. x ≤ COUNT_MOST) (sym z) l) ∙ z))
 
-fall : (mv : ℕ → Option ℕ) (t n : ℕ) (c : Option ℕ) (after : State) → option_map less c ≡ Some n → ((j : ℕ) → mv j ≡ Some (j - 1)) → Learns-by mv c t n after
+fall : (mv : ℕ → Option ℕ) (t n : ℕ) (c : Option ℕ) (after : State) → option_map one_less c ≡ Some n → ((j : ℕ) → mv j ≡ Some (j - 1)) → Learns-by mv c t n after
 fall mv t n c after h e =
-    let j = mapped less c n h in
+    let j = mapped one_less c n h in
     inr (j.0, j.1, λ k q l. let y : Some (j.0 - 1) ≡ Some k = sym (e j.0) ∙ q in let z : j.0 - 1 ≡ k = some-same _ _ y in j.2 ∙ z)
 
 -- of one thread
-rise-one : (u t n : ℕ) (c : Option ℕ) (after : State) → cond (u == t) (option_map more c) c ≡ Some n → Learns-by (λ j. Some (cond (u == t) (j + 1) j)) c t n after
+rise-one : (u t n : ℕ) (c : Option ℕ) (after : State) → cond (u == t) (option_map one_more c) c ≡ Some n → Learns-by (λ j. Some (cond (u == t) (j + 1) j)) c t n after
 rise-one u t n c after =
-    elim (u == t) as (λ b. cond b (option_map more c) c ≡ Some n → Learns-by (λ j. Some (cond b (j + 1) j)) c t n after) [
+    elim (u == t) as (λ b. cond b (option_map one_more c) c ≡ Some n → Learns-by (λ j. Some (cond b (j + 1) j)) c t n after) [
       | true ↦ λ h. rise (λ j. Some (j + 1)) t n c after h (λ j. refl)
       | false ↦ λ h. stay (λ j. Some j) t n c after h refl
     ]
 
-fall-one : (u t n : ℕ) (c : Option ℕ) (after : State) → cond (u == t) (option_map less c) c ≡ Some n → Learns-by (λ j. Some (cond (u == t) (j - 1) j)) c t n after
+fall-one : (u t n : ℕ) (c : Option ℕ) (after : State) → cond (u == t) (option_map one_less c) c ≡ Some n → Learns-by (λ j. Some (cond (u == t) (j - 1) j)) c t n after
 fall-one u t n c after =
-    elim (u == t) as (λ b. cond b (option_map less c) c ≡ Some n → Learns-by (λ j. Some (cond b (j - 1) j)) c t n after) [
+    elim (u == t) as (λ b. cond b (option_map one_less c) c ≡ Some n → Learns-by (λ j. Some (cond b (j - 1) j)) c t n after) [
       | true ↦ λ h. fall (λ j. Some (j - 1)) t n c after h (λ j. refl)
       | false ↦ λ h. stay (λ j. Some j) t n c after h refl
     ]
@@ -213,7 +213,7 @@ other-raise : (c : CompositeMeaning) (t j k : ℕ) → is_thread (composite_thre
 other-raise c t j k h e l =
     let f : event_raise c t j ≡ cond (c.policy == POLICY_ALL) (j + 1) (cond (c.policy == POLICY_EVENT_THREAD) j j) = ap (λ b. cond (c.policy == POLICY_ALL) (j + 1) (cond (c.policy == POLICY_EVENT_THREAD) (cond b (j + 1) j) j)) h in
     let g : cond (c.policy == POLICY_ALL) (j + 1) (cond (c.policy == POLICY_EVENT_THREAD) j j) ≡ k = sym f ∙ some-same _ _ e in
-    elim (c.policy == POLICY_ALL) as (λ b. cond b (j + 1) (cond (c.policy == POLICY_EVENT_THREAD) j j) ≡ k → cond b (more j) j ≡ k) [
+    elim (c.policy == POLICY_ALL) as (λ b. cond b (j + 1) (cond (c.policy == POLICY_EVENT_THREAD) j j) ≡ k → cond b (one_more j) j ≡ k) [
       | true ↦ λ q. more-exact j (subst (λ x. x ≤ COUNT_MOST) (sym q) l) ∙ q
       | false ↦ elim (c.policy == POLICY_EVENT_THREAD) as (λ b. cond b j j ≡ k → j ≡ k) [ true ↦ λ q. q | false ↦ λ q. q ]
     ] g
@@ -274,10 +274,10 @@ some-map f None = refl
 some-map f (Some n) = refl
 
 known-data : (a : Action) (content : List DatumMeaning) (t : ℕ) (c : Option ℕ) → is_dispose a ≡ false → is_some (learned_data a content t c) ≡ (not (forgets_data a content t) && (teaches_data a content t || is_some c))
-known-data Actions.Suspend content t c h = some-map more c
-known-data Actions.Resume content t c h = some-map less c
-known-data (Actions.SuspendThread u) content t c h = elim (u == t) as (λ b. is_some (cond b (option_map more c) c) ≡ is_some c) [ true ↦ some-map more c | false ↦ refl ]
-known-data (Actions.ResumeThread u) content t c h = elim (u == t) as (λ b. is_some (cond b (option_map less c) c) ≡ is_some c) [ true ↦ some-map less c | false ↦ refl ]
+known-data Actions.Suspend content t c h = some-map one_more c
+known-data Actions.Resume content t c h = some-map one_less c
+known-data (Actions.SuspendThread u) content t c h = elim (u == t) as (λ b. is_some (cond b (option_map one_more c) c) ≡ is_some c) [ true ↦ some-map one_more c | false ↦ refl ]
+known-data (Actions.ResumeThread u) content t c h = elim (u == t) as (λ b. is_some (cond b (option_map one_less c) c) ≡ is_some c) [ true ↦ some-map one_less c | false ↦ refl ]
 known-data (Actions.SuspendCount u) content t c h =
     elim (u == t) as (λ b. is_some (cond b (taught (counted content) c) c) ≡ ((b && is_some (counted content)) || is_some c)) [
       | true ↦ elim (counted content) as (λ v. is_some (taught v c) ≡ (is_some v || is_some c)) [ Some n ↦ refl | None ↦ refl ]

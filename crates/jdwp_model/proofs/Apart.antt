@@ -8,12 +8,12 @@ use Rattle.jdwp_event.specs.Composites.{CompositeMeaning}
 use Rattle.jdwp_machine.specs.Meanings.{Meaning}
 use Rattle.jdwp_debuggee.specs.Settings.{Settings}
 use Rattle.jdwp_debuggee.specs.State.{Moment}
-use Rattle.jdwp_debuggee.specs.Actions.{Command}
+use Rattle.jdwp_action.specs.Actions.{Command}
 use Rattle.jdwp_debuggee.specs.Effects.{effect}
 use Rattle.jdwp_debuggee.specs.Steps.{occurs}
 use Rattle.jdwp_mirror.specs.Messages.{Ticket, same_ticket, id_sizes}
 use Rattle.jdwp_model.specs.World.{World}
-use Rattle.jdwp_model.specs.Next.{greets_by, dies_by, answers, without_ticket, told, step_ends}
+use Rattle.jdwp_model.specs.Next.{greets_by, dies_by, answers, without_ticket, with_report, step_ends}
 use Rattle.jdwp_model.specs.Places.{tally, one_of}
 use Rattle.jdwp_model.proofs.Waiting.{bit, tally-append, without-tally}
 use Rattle.jdwp_model.proofs.Keeps.{closed-not-open}
@@ -88,9 +88,9 @@ apart-ends w Established true a = a
 apart-ends w AwaitingHandshake true a = a
 apart-ends w Closed true a = a
 
-apart-told : {S : Type 0} (w : World S) (after : Moment S) (o : Option CompositeMeaning) (phase : Phase) (dies : Bool) → ApartOf w → ApartOf (step_ends (told w after o) phase dies)
-apart-told w after None phase dies a = apart-ends (told w after None) phase dies a
-apart-told w after (Some c) phase dies a = apart-ends (told w after (Some c)) phase dies a
+apart-told : {S : Type 0} (w : World S) (after : Moment S) (o : Option CompositeMeaning) (phase : Phase) (dies : Bool) → ApartOf w → ApartOf (step_ends (with_report w after o) phase dies)
+apart-told w after None phase dies a = apart-ends (with_report w after None) phase dies a
+apart-told w after (Some c) phase dies a = apart-ends (with_report w after (Some c)) phase dies a
 
 pub apart_kept : {S : Type 0} (m : Meaning S) (settings : Settings) (w : World S) → ApartOf w → Kept m settings w ApartOf
 apart_kept m settings w a =

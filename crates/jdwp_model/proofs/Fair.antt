@@ -13,9 +13,10 @@ use Rattle.jdwp_event.specs.Told.{event_thread, events_thread, composite_thread,
 use Rattle.jdwp_machine.specs.Meanings.{Meaning}
 use Rattle.jdwp_debuggee.specs.Settings.{Settings}
 use Rattle.jdwp_debuggee.specs.State.{State, Moment, count_of}
-use Rattle.jdwp_debuggee.specs.Actions
-use Rattle.jdwp_debuggee.specs.Actions.{Command, Action, action_of}
-use Rattle.jdwp_debuggee.specs.Answers.{sizes_answer, least_thread}
+use Rattle.jdwp_action.specs.Actions
+use Rattle.jdwp_action.specs.Actions.{Command, Action, action_of}
+use Rattle.jdwp_action.specs.AnswerPackets.{sizes_answer}
+use Rattle.jdwp_debuggee.specs.Answers.{least_thread}
 use Rattle.jdwp_debuggee.specs.Effects.{effect}
 use Rattle.jdwp_debuggee.specs.Steps.{raised_by, start_policy, start_event}
 use Rattle.jdwp_debuggee.specs.Facts.{IsSound, Tells, Does, Says}

@@ -6,13 +6,13 @@ use Rattle.jdwp_layout.specs.declared.answer.Answer.TheVariants.{Data, Error}
 use Rattle.jdwp_layout.specs.Meanings.{ScalarMeaning}
 use Rattle.jdwp_end.specs.declared.phase.Phase.{Phase}
 use Rattle.jdwp_end.specs.declared.phase.Phase.TheVariants.{Closed, AwaitingHandshake, Established}
-use Rattle.jdwp_event.specs.Requests.{Asked, all_asked}
+use Rattle.jdwp_event.specs.Requests.{AskedRequest, all_asked}
 use Rattle.jdwp_event.specs.Composites.{CompositeMeaning, POLICY_ALL, vm_death}
 use Rattle.jdwp_machine.specs.Meanings.{Meaning}
 use Rattle.jdwp_debuggee.specs.Settings.{Settings}
 use Rattle.jdwp_debuggee.specs.State.{Moment, count_of}
-use Rattle.jdwp_debuggee.specs.Actions
-use Rattle.jdwp_debuggee.specs.Actions.{Command, Action, action_of}
+use Rattle.jdwp_action.specs.Actions
+use Rattle.jdwp_action.specs.Actions.{Command, Action, action_of}
 use Rattle.jdwp_debuggee.specs.Answers.{least_thread}
 use Rattle.jdwp_debuggee.specs.Effects.{Effect, effect}
 use Rattle.jdwp_debuggee.specs.Steps.{occurs, start_event}
@@ -21,7 +21,7 @@ use Rattle.jdwp_debuggee.specs.Reports.{HavePolicies, IsReport}
 use Rattle.jdwp_mirror.specs.Messages.{Ticket, Call, Handshake, Reply, Report}
 use Rattle.jdwp_mirror.specs.Faults.{is_bad_reply}
 use Rattle.jdwp_model.specs.World.{Packet, World}
-use Rattle.jdwp_model.specs.Next.{started, greets_by, after_death, answers, dies_by, told, step_ends}
+use Rattle.jdwp_model.specs.Next.{started, greets_by, after_death, answers, dies_by, with_report, step_ends}
 use Rattle.jdwp_model.specs.Rests.{Rests}
 use Rattle.jdwp_model.proofs.Keeps.{Inv}
 use Rattle.jdwp_model.proofs.Cases.{Kept}
@@ -34,11 +34,11 @@ pub record Fairness {S : Type 0} (w : World S) : Type 0 where
 
 -- ---- policies
 
-policies-filter : (p : Asked → Bool) (rs : List Asked) → HavePolicies rs → HavePolicies (filter p rs)
+policies-filter : (p : AskedRequest → Bool) (rs : List AskedRequest) → HavePolicies rs → HavePolicies (filter p rs)
 policies-filter p [] h = tt
 policies-filter p (r ∷ rs) h = elim (p r) as (λ b. HavePolicies (cond b (r ∷ filter p rs) (filter p rs))) [ true ↦ (h.0, policies-filter p rs h.1) | false ↦ policies-filter p rs h.1 ]
 
-policies-more : (rs : List Asked) (r : Asked) → HavePolicies rs → r.policy ≤ POLICY_ALL → HavePolicies (rs ++ r ∷ [])
+policies-more : (rs : List AskedRequest) (r : AskedRequest) → HavePolicies rs → r.policy ≤ POLICY_ALL → HavePolicies (rs ++ r ∷ [])
 policies-more [] r h l = (l, tt)
 policies-more (x ∷ xs) r h l = (h.0, policies-more xs r h.1 l)
 
@@ -46,7 +46,7 @@ policies-more (x ∷ xs) r h l = (h.0, policies-more xs r h.1 l)
 abbrev SetsPolicy : Action → Answer → Type 0
 SetsPolicy a x = (byte policy : ℕ) (entries : List (List ScalarMeaning)) → a ≡ Actions.SetRequest byte policy entries → is_data x ≡ true → policy ≤ POLICY_ALL
 
-policies-moved : (a : Action) (x : Answer) (next : ℕ) (rs : List Asked) → HavePolicies rs → SetsPolicy a x → HavePolicies (requests_moved a x next rs)
+policies-moved : (a : Action) (x : Answer) (next : ℕ) (rs : List AskedRequest) → HavePolicies rs → SetsPolicy a x → HavePolicies (requests_moved a x next rs)
 policies-moved (Actions.SetRequest byte policy entries) (Data content) next rs h s = policies-more rs _ h (s byte policy entries refl refl)
 policies-moved (Actions.ClearRequest byte id) (Data content) next rs h s = policies-filter (is_not_asked byte id) rs h
 policies-moved Actions.ClearBreakpoints (Data content) next rs h s = policies-filter is_no_asked_breakpoint rs h
@@ -81,7 +81,7 @@ fair-died w after Established f p = record { policies = p; parked = f.parked; se
 fair-died w after AwaitingHandshake f p = record { policies = p; parked = f.parked; sent = f.sent }
 fair-died w after Closed f p = record { policies = p; parked = f.parked; sent = f.sent }
 
-fair-stepped : {S : Type 0} (m : Meaning S) (w : World S) (after : Moment S) (o : Option CompositeMeaning) (dies : Bool) → Fairness w → Told m w.now after dies o → ((c : CompositeMeaning) → o ≡ Some c → IsReport c) → Fairness (step_ends (told w after o) w.target dies)
+fair-stepped : {S : Type 0} (m : Meaning S) (w : World S) (after : Moment S) (o : Option CompositeMeaning) (dies : Bool) → Fairness w → Told m w.now after dies o → ((c : CompositeMeaning) → o ≡ Some c → IsReport c) → Fairness (step_ends (with_report w after o) w.target dies)
 fair-stepped m w after None true f d r = fair-died w after w.target f (subst (λ l. HavePolicies (all_asked l)) (sym d.no_requests) tt)
 fair-stepped m w after None false f d r = record { policies = subst HavePolicies (sym d.same_requests) f.policies; parked = f.parked; sent = f.sent }
 fair-stepped m w after (Some c) true f d r = let x : true ≡ false = d.0 in absurd (cc)

@@ -12,12 +12,12 @@ use Rattle.jdwp_machine.specs.Meanings.{Meaning, has}
 use Rattle.jdwp_machine.specs.Laws.{IsLawful, asks_frames, begins_with}
 use Rattle.jdwp_debuggee.specs.Settings.{Settings}
 use Rattle.jdwp_debuggee.specs.State.{State, Moment, count_of, count_or_zero, or_zero, is_marked}
-use Rattle.jdwp_debuggee.specs.Actions
-use Rattle.jdwp_debuggee.specs.Actions.{Carried, Content, Raw, Command, Action, action_of, action_by, first_object, object_in, is_implemented}
+use Rattle.jdwp_action.specs.Actions
+use Rattle.jdwp_action.specs.Actions.{Carried, Content, Raw, Command, Action, action_of, action_by, first_object, object_in, is_implemented}
 use Rattle.jdwp_debuggee.specs.Answers.{query_of, content_of, bounded}
 use Rattle.jdwp_debuggee.specs.Effects.{effect, effect_by, does, slots_by, slots_at, answer_frames}
 use Rattle.jdwp_debuggee.specs.Breadth.{keeps_machine}
-use Rattle.jdwp_debuggee.specs.Steps.{occurs, occurs_by, may_step, happens, ends, thread_ended, seen, death_by, report_by}
+use Rattle.jdwp_debuggee.specs.Steps.{occurs, occurs_by, may_step, happens, ends, thread_ended, with_happening, death_by, report_by}
 use Rattle.jdwp_debuggee.specs.Facts.{IsSound}
 use Rattle.jdwp_model.specs.Lasting.{asks_frames_of, writes_by, writes}
 use Rattle.jdwp_model.specs.Rests.{Rests}
@@ -168,7 +168,7 @@ ended-frames m law settings now u t p r n =
     (law.sizes_ended now.machine u (r.state, r.live), λ q h. law.frames_ended now.machine u t q (r.state, r.live) n h)
 
 death-frames : {S : Type 0} (m : Meaning S) → IsLawful m → (settings : Settings) (now : Moment S) (u t : ℕ) (h : HappeningMeaning) (o : Option CompositeMeaning) → Ready m now u → u ≢ t → SameFrames m t now.machine (death_by m now.machine u h now.state o).after.machine
-death-frames m law settings now u t h None r n = ended-frames m law settings now u t (thread_ended u (seen h now.state)) r n
+death-frames m law settings now u t h None r n = ended-frames m law settings now u t (thread_ended u (with_happening h now.state)) r n
 death-frames m law settings now u t h (Some c) r n = frames_refl m t now.machine now.machine refl
 
 report-machine : {S : Type 0} (m : Meaning S) (s : S) (u : ℕ) (h : HappeningMeaning) (state : State) (o : Option CompositeMeaning) → (report_by m s u h state o).after.machine ≡ m.stepped s u

@@ -10,7 +10,7 @@ use Rattle.jdwp_event.specs.Told.{is_vm_death}
 use Rattle.jdwp_machine.specs.Meanings.{Meaning}
 use Rattle.jdwp_debuggee.specs.Settings.{Settings}
 use Rattle.jdwp_debuggee.specs.State.{Moment}
-use Rattle.jdwp_debuggee.specs.Actions.{Command}
+use Rattle.jdwp_action.specs.Actions.{Command}
 use Rattle.jdwp_debuggee.specs.Effects.{Effect, effect}
 use Rattle.jdwp_debuggee.specs.Steps.{occurs, start_event}
 use Rattle.jdwp_mirror.specs.Messages.{Ticket, Call, Greets, Asks, Handshake, Reply, Report}
@@ -19,8 +19,8 @@ use Rattle.jdwp_mirror.specs.Faults.{Fault, fault_of}
 use Rattle.jdwp_model.specs.Events
 use Rattle.jdwp_model.specs.Events.{LinkEvent, AskRefusal, Outcome}
 use Rattle.jdwp_model.specs.World.{Measure, is_closed, Packet, World, opening}
-use Rattle.jdwp_model.specs.Next.{steps_now, attached, may_attach, ask_refusal, ask_by, started, greets_by, dies_by, answers, target_takes, target_handles, target_front, target_turn_at, target_turn, lost_tickets, debugger_closed, closes_by, composites_of, answered, has_end, reads_reply, reads_composite, reads, reader, debugger_handles, debugger_takes, debugger_turn_at, told, step_ends, next, outcomes}
-use Rattle.jdwp_model.specs.Given.{gives_call, gives_front, gives, given, told_answers, IsIn, TellsWhatWasGiven}
+use Rattle.jdwp_model.specs.Next.{steps_now, attached, may_attach, ask_refusal, ask_by, started, greets_by, dies_by, answers, target_takes, target_handles, target_front, target_turn_at, target_turn, lost_tickets, debugger_closed, closes_by, composites_of, answered, has_end, reads_reply, reads_composite, reads, reader, debugger_handles, debugger_takes, debugger_turn_at, with_report, step_ends, next, outcomes}
+use Rattle.jdwp_model.specs.Given.{gives_call, gives_front, gives, given_answers, told_answers, IsIn, TellsWhatWasGiven}
 use Rattle.jdwp_model.proofs.Fronts.{by_target_front, by_debugger_front}
 
 -- the answers under way
@@ -162,7 +162,7 @@ Comes-to w v = Comes w [] (v, [])
 none-behind : (l : List (ℕ × Answer)) → l ++ [] ≡ l
 none-behind l = append-nil l
 
-comes-told : {S : Type 0} (w : World S) (after : Moment S) (o : Option CompositeMeaning) (phase : Phase) (b : Bool) → Comes w [] (step_ends (told w after o) phase b, [])
+comes-told : {S : Type 0} (w : World S) (after : Moment S) (o : Option CompositeMeaning) (phase : Phase) (b : Bool) → Comes w [] (step_ends (with_report w after o) phase b, [])
 comes-told w after None phase false = same-comes w _ [] refl
 comes-told w after None Established true = more-comes w _ [] _ refl refl
 comes-told w after None AwaitingHandshake true = same-comes w _ [] refl
@@ -189,13 +189,13 @@ comes-next m settings measure w (Events.Step t) =
 comes-next m settings measure w Events.TargetLoses = same-comes w _ [] refl
 comes-next m settings measure w Events.DebuggerLoses = record { told = λ p h. absurd (subst (λ l. IsIn l p) (told-lost w.pending) h); left = λ p h. inl h }
 
-comes-run : {S : Type 0} (m : Meaning S) (settings : Settings) (measure : Measure) (w : World S) (es : List LinkEvent) (p : ℕ × Answer) → IsIn (told_answers (outcomes m settings measure w es)) p → IsIn (replied w.to_debugger) p ⊎ IsIn (given m settings measure w es) p
+comes-run : {S : Type 0} (m : Meaning S) (settings : Settings) (measure : Measure) (w : World S) (es : List LinkEvent) (p : ℕ × Answer) → IsIn (told_answers (outcomes m settings measure w es)) p → IsIn (replied w.to_debugger) p ⊎ IsIn (given_answers m settings measure w es) p
 comes-run m settings measure w [] p h = absurd h
 comes-run m settings measure w (e ∷ es) p h =
     let c = comes-next m settings measure w e in
     let v = (next m settings measure w e).0 in
     let now = gives m settings measure w e in
-    let later = given m settings measure v es in
+    let later = given_answers m settings measure v es in
     elim (in-append (told_answers (next m settings measure w e).1) (told_answers (outcomes m settings measure v es)) p (subst (λ l. IsIn l p) (told-append (next m settings measure w e).1 (outcomes m settings measure v es)) h)) [
       | inl k ↦ inl (c.told p k)
       | inr k ↦ elim (comes-run m settings measure v es p k) [

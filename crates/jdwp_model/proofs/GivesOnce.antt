@@ -10,7 +10,7 @@ use Rattle.jdwp_event.specs.Told.{is_vm_death}
 use Rattle.jdwp_machine.specs.Meanings.{Meaning}
 use Rattle.jdwp_debuggee.specs.Settings.{Settings}
 use Rattle.jdwp_debuggee.specs.State.{Moment}
-use Rattle.jdwp_debuggee.specs.Actions.{Command}
+use Rattle.jdwp_action.specs.Actions.{Command}
 use Rattle.jdwp_debuggee.specs.Effects.{effect}
 use Rattle.jdwp_debuggee.specs.Steps.{occurs}
 use Rattle.jdwp_mirror.specs.Messages.{Ticket, Call, Greets, Asks, Handshake, Reply, Report, id_sizes}
@@ -19,9 +19,9 @@ use Rattle.jdwp_mirror.specs.Faults.{Fault, fault_of}
 use Rattle.jdwp_model.specs.Events
 use Rattle.jdwp_model.specs.Events.{LinkEvent, AskRefusal, Outcome}
 use Rattle.jdwp_model.specs.World.{Measure, is_closed, Packet, World, opening}
-use Rattle.jdwp_model.specs.Next.{steps_now, attached, may_attach, ask_refusal, ask_by, asks, target_loses, greets_by, dies_by, answers, target_takes, target_handles, target_turn_at, closes_by, has_end, composites_of, answered, reads_reply, reads_composite, reads, reader, debugger_handles, debugger_takes, debugger_turn_at, told, step_ends, next}
+use Rattle.jdwp_model.specs.Next.{steps_now, attached, may_attach, ask_refusal, ask_by, asks, target_loses, greets_by, dies_by, answers, target_takes, target_handles, target_turn_at, closes_by, has_end, composites_of, answered, reads_reply, reads_composite, reads, reader, debugger_handles, debugger_takes, debugger_turn_at, with_report, step_ends, next}
 use Rattle.jdwp_model.specs.Tickets.{times}
-use Rattle.jdwp_model.specs.Given.{gives_call, gives_front, gives, given, answer_tickets, GivesOnce}
+use Rattle.jdwp_model.specs.Given.{gives_call, gives_front, gives, given_answers, answer_tickets, GivesOnce}
 use Rattle.jdwp_model.specs.Places.{commands, tally, one_of}
 use Rattle.jdwp_model.proofs.Session.{commands_append}
 use Rattle.jdwp_model.proofs.Fronts.{by_target_front, by_debugger_front}
@@ -115,9 +115,9 @@ once-ended w v Established true a t = once-same w _ a t
 once-ended w v AwaitingHandshake true a t = once-same w _ a t
 once-ended w v Closed true a t = once-same w _ a t
 
-once-told : {S : Type 0} (w : World S) (after : Moment S) (o : Option CompositeMeaning) (phase : Phase) (dies : Bool) → Once w [] (step_ends (told w after o) phase dies)
-once-told w after None phase dies = once-ended w (told w after None) phase dies refl refl
-once-told w after (Some c) phase dies = once-ended w (told w after (Some c)) phase dies refl refl
+once-told : {S : Type 0} (w : World S) (after : Moment S) (o : Option CompositeMeaning) (phase : Phase) (dies : Bool) → Once w [] (step_ends (with_report w after o) phase dies)
+once-told w after None phase dies = once-ended w (with_report w after None) phase dies refl refl
+once-told w after (Some c) phase dies = once-ended w (with_report w after (Some c)) phase dies refl refl
 
 -- ---- all events
 
@@ -180,12 +180,12 @@ answers-append : (k : ℕ) (xs ys : List (ℕ × Answer)) → times k (answer_ti
 answers-append k [] ys = omega arith
 answers-append k (x ∷ xs) ys = omega (arith, answers-append k xs ys)
 
-once-run : {S : Type 0} (m : Meaning S) (settings : Settings) (measure : Measure) (before : ℕ → ℕ) (w : World S) (es : List LinkEvent) (k : ℕ) → Few before w → before k + times k (answer_tickets (given m settings measure w es)) ≤ 1
+once-run : {S : Type 0} (m : Meaning S) (settings : Settings) (measure : Measure) (before : ℕ → ℕ) (w : World S) (es : List LinkEvent) (k : ℕ) → Few before w → before k + times k (answer_tickets (given_answers m settings measure w es)) ≤ 1
 once-run m settings measure before w [] k f = let x = f.once k in omega arith
 once-run m settings measure before w (e ∷ es) k f =
     let v = (next m settings measure w e).0 in
     let x = once-run m settings measure (λ k. before k + times k (answer_tickets (gives m settings measure w e))) v es k (few-next m settings measure before w e f) in
-    let y = answers-append k (gives m settings measure w e) (given m settings measure v es) in
+    let y = answers-append k (gives m settings measure w e) (given_answers m settings measure v es) in
     omega arith
 
 pub gives_once : {S : Type 0} (m : Meaning S) → GivesOnce m

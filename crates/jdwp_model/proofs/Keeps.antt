@@ -8,18 +8,18 @@ use Rattle.jdwp_layout.specs.declared.answer.Answer.TheVariants.{Data, Error}
 use Rattle.jdwp_end.specs.declared.phase.Phase.{Phase}
 use Rattle.jdwp_end.specs.declared.phase.Phase.TheVariants.{Closed, AwaitingHandshake, Established}
 use Rattle.jdwp_end.specs.Ends.{is_established_phase}
-use Rattle.jdwp_event.specs.Requests.{Asked, Request, all_asked}
+use Rattle.jdwp_event.specs.Requests.{AskedRequest, Request, all_asked}
 use Rattle.jdwp_event.specs.Composites.{CompositeMeaning, vm_death}
 use Rattle.jdwp_event.specs.Told.{is_vm_death}
 use Rattle.jdwp_machine.specs.Meanings.{Meaning}
 use Rattle.jdwp_debuggee.specs.Settings.{Settings}
 use Rattle.jdwp_debuggee.specs.State.{Thread, Moment, count_of, count_or_zero, or_zero, reset, changed, cleared, ids}
-use Rattle.jdwp_debuggee.specs.Actions
-use Rattle.jdwp_debuggee.specs.Actions.{Command, Action, action_of}
+use Rattle.jdwp_action.specs.Actions
+use Rattle.jdwp_action.specs.Actions.{Command, Action, action_of, is_dispose, is_exit}
 use Rattle.jdwp_debuggee.specs.Answers.{least_thread, first_of, rising}
 use Rattle.jdwp_debuggee.specs.Effects.{Effect, effect}
 use Rattle.jdwp_debuggee.specs.Steps.{occurs, may_step, raised_by, start_event}
-use Rattle.jdwp_debuggee.specs.Facts.{IsSound, Quiet, Does, Tells, Died, Told, moved, requests_moved, is_data, is_dispose, is_exit}
+use Rattle.jdwp_debuggee.specs.Facts.{IsSound, Quiet, Does, Tells, Died, Told, moved, requests_moved, is_data}
 use Rattle.jdwp_debuggee.specs.SoundLaws.{raised-by-most, sound_counts}
 use Rattle.jdwp_debuggee.specs.ThreadLaws.{count-changed}
 use Rattle.jdwp_mirror.specs.Messages.{Ticket, same_ticket, Call, Greets, Asks, Handshake, Reply, Report, id_sizes}
@@ -29,7 +29,7 @@ use Rattle.jdwp_mirror.specs.Faults.{Fault, fault_of}
 use Rattle.jdwp_model.specs.Events
 use Rattle.jdwp_model.specs.Events.{LinkEvent, AskRefusal}
 use Rattle.jdwp_model.specs.World.{Measure, is_closed, Packet, World}
-use Rattle.jdwp_model.specs.Next.{steps_now, attached, may_attach, attaches, ask_refusal, asks, ask_by, target_loses, started, greets_by, after_death, dying, dies_by, answers, target_handles, target_turn_at, target_turn, closes_by, without_ticket, entered, has_end, composites_of, answered, reads_handshake, reads_reply, reads_composite, reads, reader, debugger_handles, debugger_takes, debugger_turn_at, debugger_turn, told, step_ends, steps, next, run}
+use Rattle.jdwp_model.specs.Next.{steps_now, attached, may_attach, attaches, ask_refusal, asks, ask_by, target_loses, started, greets_by, after_death, dying, dies_by, answers, target_handles, target_turn_at, target_turn, closes_by, without_ticket, entered, has_end, composites_of, answered, reads_handshake, reads_reply, reads_composite, reads, reader, debugger_handles, debugger_takes, debugger_turn_at, debugger_turn, with_report, step_ends, steps, next, run}
 use Rattle.jdwp_model.specs.Rests.{Rests}
 use Rattle.jdwp_model.proofs.Acts.{Acts, acts_reply, acts_handshake, acts_event, acts_death}
 use Rattle.jdwp_model.proofs.Session.{Links, last, links_more, last_more, links_front, links_back, last_append, Mirrors, mirrors_read, mirrors_entered, quiet_refl, quiet_trans, replies, commands, replies_append, commands_append, and-left, and-right}
@@ -269,13 +269,13 @@ keeps_greets {S} m rests settings least most w n rest false i p e h =
     }
 
 -- a command that closes leaves no count and no request
-closing : (a : Action) (x : Answer) → true ≡ ((is_exit a || is_dispose a) && is_data x) → ((rs : List Asked) (n : ℕ) → requests_moved a x n rs ≡ []) × ((t : ℕ) (c : Option ℕ) → or_zero (moved a x t c) ≡ 0)
+closing : (a : Action) (x : Answer) → true ≡ ((is_exit a || is_dispose a) && is_data x) → ((rs : List AskedRequest) (n : ℕ) → requests_moved a x n rs ≡ []) × ((t : ℕ) (c : Option ℕ) → or_zero (moved a x t c) ≡ 0)
 closing Actions.Dispose (Data content) h = (λ rs n. refl, λ t c. zero-cleared t c)
 closing Actions.Exit (Data content) h = (λ rs n. refl, λ t c. refl)
 closing a (Error e) h = absurd (elim (is_exit a || is_dispose a) as (λ b. true ≡ (b && false) → ⊥) [ true ↦ λ y. cc | false ↦ λ y. cc ] h)
 closing a x h = absurd (cc)
 
-killing : (a : Action) (x : Answer) → true ≡ (is_exit a && is_data x) → ((rs : List Asked) (n : ℕ) → requests_moved a x n rs ≡ []) × ((t : ℕ) (c : Option ℕ) → moved a x t c ≡ None)
+killing : (a : Action) (x : Answer) → true ≡ (is_exit a && is_data x) → ((rs : List AskedRequest) (n : ℕ) → requests_moved a x n rs ≡ []) × ((t : ℕ) (c : Option ℕ) → moved a x t c ≡ None)
 killing Actions.Exit (Data content) h = (λ rs n. refl, λ t c. refl)
 killing a (Error e) h = absurd (elim (is_exit a) as (λ b. true ≡ (b && false) → ⊥) [ true ↦ λ y. cc | false ↦ λ y. cc ] h)
 killing a x h = absurd (cc)
@@ -532,7 +532,7 @@ keeps_quiet m settings w after i s q h a =
       debugger = passes m w.debugger w.ready w.parked w.read w.to_debugger w.to_target w.pending w.lost w.now after i.debugger q;
     }
 
-keeps_tells : {S : Type 0} (m : Meaning S) → Rests m → (settings : Settings) → settings.count_limit ≤ COUNT_MOST → (w : World S) (after : Moment S) (c : CompositeMeaning) → Inv m settings w → is_established_phase w.target ≡ true → IsSound m settings after → Tells m w.now c after → after.state.handshaken ≡ true → after.state.alive ≡ w.now.state.alive → Inv m settings (told w after (Some c))
+keeps_tells : {S : Type 0} (m : Meaning S) → Rests m → (settings : Settings) → settings.count_limit ≤ COUNT_MOST → (w : World S) (after : Moment S) (c : CompositeMeaning) → Inv m settings w → is_established_phase w.target ≡ true → IsSound m settings after → Tells m w.now c after → after.state.handshaken ≡ true → after.state.alive ≡ w.now.state.alive → Inv m settings (with_report w after (Some c))
 keeps_tells m rests settings most w after c i o s d h a =
     let shut : is_closed w.target ≡ false = open-not-closed w.target o in
     record {
@@ -549,7 +549,7 @@ keeps_tells m rests settings most w after c i o s d h a =
           (no-reply w.to_debugger (Report c, after) (commands w.to_target) refl);
     }
 
-keeps_stepped : {S : Type 0} (m : Meaning S) → Rests m → (settings : Settings) → settings.count_limit ≤ COUNT_MOST → (w : World S) (after : Moment S) (o : Option CompositeMeaning) (dies : Bool) → Inv m settings w → IsSound m settings after → ((t : ℕ) → m.ever w.now.machine t ≡ true → m.ever after.machine t ≡ true) → Told m w.now after dies o → (w.now.state.requests ≡ [] → o ≡ None) → after.state.handshaken ≡ true → (dies ≡ false → after.state.alive ≡ w.now.state.alive) → Inv m settings (step_ends (told w after o) w.target dies)
+keeps_stepped : {S : Type 0} (m : Meaning S) → Rests m → (settings : Settings) → settings.count_limit ≤ COUNT_MOST → (w : World S) (after : Moment S) (o : Option CompositeMeaning) (dies : Bool) → Inv m settings w → IsSound m settings after → ((t : ℕ) → m.ever w.now.machine t ≡ true → m.ever after.machine t ≡ true) → Told m w.now after dies o → (w.now.state.requests ≡ [] → o ≡ None) → after.state.handshaken ≡ true → (dies ≡ false → after.state.alive ≡ w.now.state.alive) → Inv m settings (step_ends (with_report w after o) w.target dies)
 keeps_stepped m rests settings most w after None true i s ever d silent h a = keeps_died m settings w after w.target i refl s d h ever
 keeps_stepped m rests settings most w after None false i s ever d silent h a = keeps_quiet m settings w after i s d h (a refl)
 keeps_stepped m rests settings most w after (Some c) true i s ever d silent h a = let x : true ≡ false = d.0 in absurd (cc)

@@ -11,7 +11,7 @@ use Rattle.jdwp_event.specs.Told.{is_vm_death}
 use Rattle.jdwp_machine.specs.Meanings.{Meaning}
 use Rattle.jdwp_debuggee.specs.Settings.{Settings}
 use Rattle.jdwp_debuggee.specs.State.{Moment, count_or_zero, or_zero}
-use Rattle.jdwp_debuggee.specs.Actions.{Command, action_of}
+use Rattle.jdwp_action.specs.Actions.{Command, action_of}
 use Rattle.jdwp_debuggee.specs.Effects.{effect}
 use Rattle.jdwp_debuggee.specs.Steps.{occurs, may_step, start_event}
 use Rattle.jdwp_debuggee.specs.Facts.{IsSound, Does, Told}
@@ -22,8 +22,8 @@ use Rattle.jdwp_mirror.specs.Faults.{Fault, fault_of}
 use Rattle.jdwp_model.specs.Events
 use Rattle.jdwp_model.specs.Events.{LinkEvent, AskRefusal, Outcome}
 use Rattle.jdwp_model.specs.World.{Measure, is_closed, Packet, World, opening}
-use Rattle.jdwp_model.specs.Next.{steps_now, attached, may_attach, attaches, ask_refusal, ask_by, target_loses, started, greets_by, after_death, dying, dies_by, answers, target_handles, target_turn_at, target_turn, closes_by, entered, has_end, composites_of, answered, reads_reply, reads_composite, reads, reader, debugger_handles, debugger_takes, debugger_turn_at, debugger_turn, told, step_ends, steps, next, run}
-use Rattle.jdwp_model.specs.Seen.{seen, unanswered, lowers, has_dispose}
+use Rattle.jdwp_model.specs.Next.{steps_now, attached, may_attach, attaches, ask_refusal, ask_by, target_loses, started, greets_by, after_death, dying, dies_by, answers, target_handles, target_turn_at, target_turn, closes_by, entered, has_end, composites_of, answered, reads_reply, reads_composite, reads, reader, debugger_handles, debugger_takes, debugger_turn_at, debugger_turn, with_report, step_ends, steps, next, run}
+use Rattle.jdwp_model.specs.Seen.{seen_moment, unanswered, lowers, has_dispose}
 use Rattle.jdwp_model.specs.Lasting.{asks_frames_of, writes, answers_write, has_write, IsAnswer, IsLasting, StaysTrue, AlwaysStaysTrue}
 use Rattle.jdwp_model.specs.Rests.{Rests}
 use Rattle.jdwp_model.proofs.Acts.{message_lowers}
@@ -124,13 +124,13 @@ said-more m settings (x ∷ xs) p h q = (h.0, said-more m settings xs p h.1 q)
 -- what lasts would be answered at the moment of the last packet read
 abbrev ReadLasts : {S : Type 0} → Meaning S → Settings → List (Packet S) → Type 0
 ReadLasts {S} m settings read =
-    (t : ℕ) (c : Command) (content : List DatumMeaning) (then : Moment S) → asks_frames_of c t ≡ true → IsLasting read t c content → seen read ≡ Some then → then.state.alive ≡ true →
+    (t : ℕ) (c : Command) (content : List DatumMeaning) (then : Moment S) → asks_frames_of c t ≡ true → IsLasting read t c content → seen_moment read ≡ Some then → then.state.alive ≡ true →
     (effect m settings then c).answer ≡ Data content
 
 -- What holds of what was read, and of the packets that were not, in order.
 pub record Holds {S : Type 0} (m : Meaning S) (settings : Settings) (read ps : List (Packet S)) (lost : Bool) (now : Moment S) : Type 0 where
-  pub chain : Chain m (seen read) ps
-  pub still : lost ≡ false → StillFrom m (last_of (seen read) ps) now
+  pub chain : Chain m (seen_moment read) ps
+  pub still : lost ≡ false → StillFrom m (last_of (seen_moment read) ps) now
   pub said : AllSaid m settings ps
   pub answers : ReadLasts m settings read
 
@@ -142,8 +142,8 @@ sent : {S : Type 0} (m : Meaning S) (settings : Settings) (read parked td : List
 sent m settings read parked td lost now p h l q s =
     let e : (parked ++ td) ++ p ∷ [] ≡ parked ++ (td ++ p ∷ []) = append_assoc parked td (p ∷ []) in
     subst (λ ps. Holds m settings read ps lost p.1) e (record {
-      chain = chain-more m (seen read) (parked ++ td) p h.chain (from-still m (last_of (seen read) (parked ++ td)) now p (h.still l) q);
-      still = λ _. subst (λ o. StillFrom m o p.1) (sym (last-of-more (seen read) (parked ++ td) p)) (still_refl m p.1);
+      chain = chain-more m (seen_moment read) (parked ++ td) p h.chain (from-still m (last_of (seen_moment read) (parked ++ td)) now p (h.still l) q);
+      still = λ _. subst (λ o. StillFrom m o p.1) (sym (last-of-more (seen_moment read) (parked ++ td) p)) (still_refl m p.1);
       said = said-more m settings (parked ++ td) p h.said s;
       answers = h.answers;
     })
@@ -151,7 +151,7 @@ sent m settings read parked td lost now p h l q s =
 -- nothing is sent
 passed : {S : Type 0} (m : Meaning S) (settings : Settings) (read ps : List (Packet S)) (lost : Bool) (now after : Moment S) → Holds m settings read ps lost now → Still m now after → Holds m settings read ps lost after
 passed m settings read ps lost now after h s =
-    record { chain = h.chain; still = λ l. still-on m (last_of (seen read) ps) now after (h.still l) s; said = h.said; answers = h.answers }
+    record { chain = h.chain; still = λ l. still-on m (last_of (seen_moment read) ps) now after (h.still l) s; said = h.said; answers = h.answers }
 
 -- ---- a packet is read
 
@@ -166,7 +166,7 @@ lasts-on m settings a p t c content q h e n w al =
     let k : 0 < count_or_zero a.state t = frames_suspended m settings a c t content h e in
     frames_same m settings a p.1 c t h k n (q.frames t k w al) ∙ e
 
-earlier : {S : Type 0} (m : Meaning S) (settings : Settings) (read : List (Packet S)) (o : Option (Moment S)) (p : Packet S) (t : ℕ) (c : Command) (content : List DatumMeaning) → seen read ≡ o → PassesFrom m o p → ReadLasts m settings read → asks_frames_of c t ≡ true → IsLasting read t c content → 0 < count_or_zero p.1.state t → answers_write p.0 t ≡ false → p.1.state.alive ≡ true → (effect m settings p.1 c).answer ≡ Data content
+earlier : {S : Type 0} (m : Meaning S) (settings : Settings) (read : List (Packet S)) (o : Option (Moment S)) (p : Packet S) (t : ℕ) (c : Command) (content : List DatumMeaning) → seen_moment read ≡ o → PassesFrom m o p → ReadLasts m settings read → asks_frames_of c t ≡ true → IsLasting read t c content → 0 < count_or_zero p.1.state t → answers_write p.0 t ≡ false → p.1.state.alive ≡ true → (effect m settings p.1 c).answer ≡ Data content
 earlier m settings [] None p t c content e q r h l n w al = absurd l
 earlier m settings [] (Some a) p t c content e q r h l n w al = absurd l
 earlier m settings (x ∷ xs) None p t c content e q r h l n w al = absurd (cc)
@@ -184,7 +184,7 @@ read-one m settings read ps p lost now h =
           elim l as (λ _. (effect m settings then c).answer ≡ Data content) [
             | inl i ↦ subst (λ x. (effect m settings x c).answer ≡ Data content) f (answer-now m settings p.0 p.1 t c content h.said.0 q i)
             | inr r ↦ subst (λ x. (effect m settings x c).answer ≡ Data content) f
-                (earlier m settings read (seen read) p t c content refl h.chain.0 h.answers q r.2 r.0 r.1 (subst (λ (x : Moment _). x.state.alive ≡ true) (sym f) al))
+                (earlier m settings read (seen_moment read) p t c content refl h.chain.0 h.answers q r.2 r.0 r.1 (subst (λ (x : Moment _). x.state.alive ≡ true) (sym f) al))
           ];
     }
 
@@ -290,7 +290,7 @@ goes-died m settings w Established g l = goes-dying m settings w g (l refl)
 goes-died m settings w AwaitingHandshake g l = g
 goes-died m settings w Closed g l = g
 
-goes-stepped : {S : Type 0} (m : Meaning S) (settings : Settings) (w : World S) (after : Moment S) (o : Option CompositeMeaning) (dies : Bool) → Inv m settings w → Goes m settings w → FramesStay m w.now after → Told m w.now after dies o → (w.now.state.requests ≡ [] → o ≡ None) → Goes m settings (step_ends (told w after o) w.target dies)
+goes-stepped : {S : Type 0} (m : Meaning S) (settings : Settings) (w : World S) (after : Moment S) (o : Option CompositeMeaning) (dies : Bool) → Inv m settings w → Goes m settings w → FramesStay m w.now after → Told m w.now after dies o → (w.now.state.requests ≡ [] → o ≡ None) → Goes m settings (step_ends (with_report w after o) w.target dies)
 goes-stepped m settings w after None true i g f d silent =
     let still : Still m w.now after = record {
       same_count = λ t. ap or_zero (d.nobody_lives t) ∙ sym (d.nobody_suspended t);
@@ -376,10 +376,10 @@ stays-now m settings a now t c content s h e =
     let k : 0 < count_or_zero a.state t = frames_suspended m settings a c t content h e in
     frames_same m settings a now c t h k (more-than-zero _ _ (s.same_count t) k) (s.frames t k) ∙ e
 
-open-if-seen : {S : Type 0} (m : Meaning S) (settings : Settings) (w : World S) (then : Moment S) → Inv m settings w → seen w.read ≡ Some then → is_closed w.debugger ≡ false
+open-if-seen : {S : Type 0} (m : Meaning S) (settings : Settings) (w : World S) (then : Moment S) → Inv m settings w → seen_moment w.read ≡ Some then → is_closed w.debugger ≡ false
 open-if-seen m settings w then i h =
     elim (is_closed w.debugger) as (λ b. is_closed w.debugger ≡ b → b ≡ false) [
-      | true ↦ λ x. let y : seen w.read ≡ None = ap seen (i.debugger.closed x).0 in absurd (cc)
+      | true ↦ λ x. let y : seen_moment w.read ≡ None = ap seen_moment (i.debugger.closed x).0 in absurd (cc)
       | false ↦ λ _. refl
     ] refl
 

@@ -10,10 +10,10 @@ use Rattle.jdwp_debuggee.specs.State.{Moment}
 use Rattle.jdwp_debuggee.specs.Effects.{Effect, effect}
 use Rattle.jdwp_debuggee.specs.Steps.{occurs, start_event}
 use Rattle.jdwp_debuggee.specs.Facts.{Told}
-use Rattle.jdwp_debuggee.specs.Actions.{Command}
+use Rattle.jdwp_action.specs.Actions.{Command}
 use Rattle.jdwp_mirror.specs.Messages.{Ticket, Call, Greets, Asks, Message, Handshake, Reply, Report, id_sizes}
 use Rattle.jdwp_model.specs.World.{is_closed, Packet, World}
-use Rattle.jdwp_model.specs.Next.{started, greets_by, after_death, answers, dies_by, told, step_ends}
+use Rattle.jdwp_model.specs.Next.{started, greets_by, after_death, answers, dies_by, with_report, step_ends}
 use Rattle.jdwp_model.specs.Rests.{Rests}
 use Rattle.jdwp_model.proofs.Session.{and-left, and-right}
 use Rattle.jdwp_model.proofs.Keeps.{Inv}
@@ -155,7 +155,7 @@ phases-died w after Established p t = sent w.target Closed w.debugger w.to_targe
 phases-died w after AwaitingHandshake p t = shut w.target w.debugger w.to_target w.to_debugger p
 phases-died w after Closed p t = shut w.target w.debugger w.to_target w.to_debugger p
 
-phases-stepped : {S : Type 0} (m : Meaning S) (w : World S) (after : Moment S) (o : Option CompositeMeaning) (dies : Bool) → PhasesOf w → Told m w.now after dies o → (is_established_phase w.target ≡ false → o ≡ None) → PhasesOf (step_ends (told w after o) w.target dies)
+phases-stepped : {S : Type 0} (m : Meaning S) (w : World S) (after : Moment S) (o : Option CompositeMeaning) (dies : Bool) → PhasesOf w → Told m w.now after dies o → (is_established_phase w.target ≡ false → o ≡ None) → PhasesOf (step_ends (with_report w after o) w.target dies)
 phases-stepped m w after None true p d i = phases-died w after w.target p refl
 phases-stepped m w after None false p d i = p
 phases-stepped m w after (Some c) true p d i = let x : true ≡ false = d.0 in absurd (cc)

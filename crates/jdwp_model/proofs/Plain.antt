@@ -7,15 +7,15 @@ use Rattle.std.proofs.lemmas.Bool.{false_from_ne_true}
 use Rattle.std.proofs.Math.Nat.{min-eq_left}
 use Rattle.jdwp_layout.specs.Meanings.{Object, DatumMeaning, Many}
 use Rattle.jdwp_layout.specs.declared.answer.Answer.TheVariants.{Data}
-use Rattle.jdwp_event.specs.Requests.{Asked}
+use Rattle.jdwp_event.specs.Requests.{AskedRequest}
 use Rattle.jdwp_machine.specs.Meanings.{has}
 use Rattle.jdwp_debuggee.specs.Answers.{rising, all_threads}
 use Rattle.jdwp_debuggee.specs.State.{State, ids, count_of}
 use Rattle.jdwp_debuggee.specs.Facts.{AreBelow}
 use Rattle.jdwp_debuggee.specs.ThreadLaws.{has-count, has-rising}
-use Rattle.jdwp_mirror.specs.Mirror.{Kept, kept, all_kept, has_other_id, lists, begins_with_object, more, COUNT_MOST}
+use Rattle.jdwp_mirror.specs.Mirror.{Kept, kept, all_kept, has_other_id, lists, begins_with_object, one_more, COUNT_MOST}
 
-pub more-exact : (j : ℕ) → j + 1 ≤ COUNT_MOST → more j ≡ j + 1
+pub more-exact : (j : ℕ) → j + 1 ≤ COUNT_MOST → one_more j ≡ j + 1
 more-exact j h = min-eq_left h
 
 pub some-same : (t u : ℕ) → Some t ≡ Some u → t ≡ u
@@ -23,14 +23,14 @@ some-same t u h = cc
 
 -- ---- requests, as the mirror keeps them
 
-pub kept-append : (xs ys : List Asked) → all_kept (xs ++ ys) ≡ all_kept xs ++ all_kept ys
+pub kept-append : (xs ys : List AskedRequest) → all_kept (xs ++ ys) ≡ all_kept xs ++ all_kept ys
 kept-append [] ys = refl
 kept-append (x ∷ xs) ys = ap (λ l. kept x ∷ l) (kept-append xs ys)
 
-pub kept-filter : (p : Kept → Bool) (rs : List Asked) → all_kept (filter (λ (r : Asked). p (kept r)) rs) ≡ filter p (all_kept rs)
+pub kept-filter : (p : Kept → Bool) (rs : List AskedRequest) → all_kept (filter (λ (r : AskedRequest). p (kept r)) rs) ≡ filter p (all_kept rs)
 kept-filter p [] = refl
 kept-filter p (r ∷ rs) =
-    elim (p (kept r)) as (λ b. all_kept (cond b (r ∷ filter (λ (x : Asked). p (kept x)) rs) (filter (λ (x : Asked). p (kept x)) rs)) ≡ cond b (kept r ∷ filter p (all_kept rs)) (filter p (all_kept rs))) [
+    elim (p (kept r)) as (λ b. all_kept (cond b (r ∷ filter (λ (x : AskedRequest). p (kept x)) rs) (filter (λ (x : AskedRequest). p (kept x)) rs)) ≡ cond b (kept r ∷ filter p (all_kept rs)) (filter p (all_kept rs))) [
       | true ↦ ap (λ l. kept r ∷ l) (kept-filter p rs)
       | false ↦ kept-filter p rs
     ]
@@ -38,7 +38,7 @@ kept-filter p (r ∷ rs) =
 other-id : (a n : ℕ) → a < n → int_eq (pos a) (pos n) ≡ false
 other-id a n h = false_from_ne_true (int_eq (pos a) (pos n)) (λ k. let e : pos a ≡ pos n = (Decides-int_eq (pos a) (pos n)).0 k in let f : a ≡ n = cc in absurd (omega arith))
 
-pub kept-below : (n : ℕ) (rs : List Asked) → AreBelow n rs → filter (has_other_id (pos n)) (all_kept rs) ≡ all_kept rs
+pub kept-below : (n : ℕ) (rs : List AskedRequest) → AreBelow n rs → filter (has_other_id (pos n)) (all_kept rs) ≡ all_kept rs
 kept-below n [] h = refl
 kept-below n (r ∷ rs) h =
     ap (λ b. cond (not b) (kept r ∷ filter (has_other_id (pos n)) (all_kept rs)) (filter (has_other_id (pos n)) (all_kept rs))) (other-id r.id n h.0)

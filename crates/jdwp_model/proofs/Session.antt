@@ -3,8 +3,8 @@ use Rattle.std.proofs.Common.{◌≡◌, ℕ, ◌==◌, ◌+◌, ◌≤◌, inl,
 use Rattle.jdwp_event.specs.Requests.{all_asked}
 use Rattle.jdwp_machine.specs.Meanings.{Meaning}
 use Rattle.jdwp_debuggee.specs.State.{Moment, count_of, count_or_zero, or_zero}
-use Rattle.jdwp_debuggee.specs.Actions.{action_of}
-use Rattle.jdwp_debuggee.specs.Facts.{Quiet, is_dispose}
+use Rattle.jdwp_action.specs.Actions.{action_of, is_dispose}
+use Rattle.jdwp_debuggee.specs.Facts.{Quiet}
 use Rattle.jdwp_mirror.specs.Messages.{Call, Greets, Asks, Message, Handshake, Reply, Report}
 use Rattle.jdwp_mirror.specs.Mirror.{all_kept, learned, teaches, forgets, shows, is_positive, requests_after, ends}
 use Rattle.jdwp_model.specs.World.{Packet}

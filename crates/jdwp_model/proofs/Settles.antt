@@ -10,7 +10,7 @@ use Rattle.jdwp_event.specs.Told.{is_vm_death}
 use Rattle.jdwp_machine.specs.Meanings.{Meaning}
 use Rattle.jdwp_debuggee.specs.Settings.{Settings}
 use Rattle.jdwp_debuggee.specs.State.{Moment}
-use Rattle.jdwp_debuggee.specs.Actions.{Command}
+use Rattle.jdwp_action.specs.Actions.{Command}
 use Rattle.jdwp_debuggee.specs.Effects.{effect}
 use Rattle.jdwp_debuggee.specs.Steps.{occurs}
 use Rattle.jdwp_mirror.specs.Messages.{Ticket, Call, Greets, Asks, Handshake, Reply, Report, id_sizes}
@@ -19,7 +19,7 @@ use Rattle.jdwp_mirror.specs.Faults.{Fault, fault_of}
 use Rattle.jdwp_model.specs.Events
 use Rattle.jdwp_model.specs.Events.{LinkEvent, AskRefusal, Outcome}
 use Rattle.jdwp_model.specs.World.{Measure, is_closed, Packet, World, opening}
-use Rattle.jdwp_model.specs.Next.{steps_now, attached, may_attach, attaches, ask_refusal, ask_by, target_loses, greets_by, dies_by, answers, target_takes, target_handles, target_turn_at, lost_tickets, debugger_closed, debugger_loses, closes_by, without_ticket, has_end, composites_of, answered, reads_handshake, reads_reply, reads_composite, reads, reader, debugger_handles, debugger_takes, debugger_turn_at, told, step_ends, next, run, outcomes}
+use Rattle.jdwp_model.specs.Next.{steps_now, attached, may_attach, attaches, ask_refusal, ask_by, target_loses, greets_by, dies_by, answers, target_takes, target_handles, target_turn_at, lost_tickets, debugger_closed, debugger_loses, closes_by, without_ticket, has_end, composites_of, answered, reads_handshake, reads_reply, reads_composite, reads, reader, debugger_handles, debugger_takes, debugger_turn_at, with_report, step_ends, next, run, outcomes}
 use Rattle.jdwp_model.specs.Tickets.{settled, tickets, tickets_to, times, SettlesOnce, SettlesInOrder}
 use Rattle.jdwp_model.specs.Rests.{Rests}
 use Rattle.jdwp_model.proofs.Session.{replies, commands}
@@ -96,9 +96,9 @@ stays-ends w Established true = record { pending = refl; asked = refl }
 stays-ends w AwaitingHandshake true = record { pending = refl; asked = refl }
 stays-ends w Closed true = record { pending = refl; asked = refl }
 
-stays-told : {S : Type 0} (w : World S) (after : Moment S) (o : Option CompositeMeaning) (phase : Phase) (b : Bool) → Stays w (step_ends (told w after o) phase b)
-stays-told w after None phase b = let s = stays-ends (told w after None) phase b in record { pending = s.pending; asked = s.asked }
-stays-told w after (Some c) phase b = let s = stays-ends (told w after (Some c)) phase b in record { pending = s.pending; asked = s.asked }
+stays-told : {S : Type 0} (w : World S) (after : Moment S) (o : Option CompositeMeaning) (phase : Phase) (b : Bool) → Stays w (step_ends (with_report w after o) phase b)
+stays-told w after None phase b = let s = stays-ends (with_report w after None) phase b in record { pending = s.pending; asked = s.asked }
+stays-told w after (Some c) phase b = let s = stays-ends (with_report w after (Some c)) phase b in record { pending = s.pending; asked = s.asked }
 
 -- ---- the debugger's turn
 

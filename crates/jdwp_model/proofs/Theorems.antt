@@ -11,7 +11,7 @@ use Rattle.jdwp_debuggee.specs.ThreadLaws.{has-count, has-rising, ids-running, c
 use Rattle.jdwp_mirror.specs.Mirror.{all_kept, learned, is_positive}
 use Rattle.jdwp_model.specs.World.{World, Packet, is_closed, opening}
 use Rattle.jdwp_model.specs.Next.{run}
-use Rattle.jdwp_model.specs.Seen.{mirror_count, mirror_held, mirror_requests, seen, is_known, is_shown, is_held, unanswered, lowers, raises, has_dispose, composites_in}
+use Rattle.jdwp_model.specs.Seen.{mirror_count, mirror_held, mirror_requests, seen_moment, is_known, is_shown, is_held, unanswered, lowers, raises, has_dispose, composites_in}
 use Rattle.jdwp_model.specs.Headline.{MayBegin, Always, KnowsAndHolds, HasTheCounts, requests_then, HasTheRequests, HeldIsSuspended, HeldIsCovered, CountIsAtMost}
 use Rattle.jdwp_model.specs.Rests.{Rests}
 use Rattle.jdwp_model.proofs.Session.{last, links_lower, links_upper, lowers_in, raises_in, no_dispose_in, replies, commands, replies_append, lowers_replies, raises_replies, composites_append, no_dispose_replies, and-left, and-right}
@@ -90,7 +90,7 @@ knows_and_holds m settings w i t =
       | false ↦ λ x. ((i.debugger.session x).mirrors.known t, (i.debugger.session x).mirrors.held t)
     ] refl
 
-pub seen-base : {S : Type 0} (read : List (Packet S)) (base past : Moment S) → IsLast read base → seen read ≡ Some past → past ≡ base
+pub seen-base : {S : Type 0} (read : List (Packet S)) (base past : Moment S) → IsLast read base → seen_moment read ≡ Some past → past ≡ base
 seen-base [] base past l h = absurd (cc)
 seen-base (p ∷ ps) base past l h = let q : Some p.1 ≡ Some past = h in let e : p.1 ≡ past = cc in sym e ∙ l
 
@@ -99,7 +99,7 @@ has_the_counts m settings w i t n k past h e c =
     let s = i.debugger.session (open-if-read m settings w i t n h) in
     s.mirrors.counts t n k h (subst (λ (x : Moment _). count_of x.state t ≡ Some k) (seen-base w.read s.base past s.at_last e) c)
 
-requests-base : {S : Type 0} (read : List (Packet S)) (base : Moment S) → IsLast read base → mirror_requests read ≡ all_kept (all_asked base.state.requests) → mirror_requests read ≡ requests_then (seen read)
+requests-base : {S : Type 0} (read : List (Packet S)) (base : Moment S) → IsLast read base → mirror_requests read ≡ all_kept (all_asked base.state.requests) → mirror_requests read ≡ requests_then (seen_moment read)
 requests-base [] base l h = refl
 requests-base (p ∷ ps) base l h = h ∙ ap (λ (x : Moment _). all_kept (all_asked x.state.requests)) (sym l)
 

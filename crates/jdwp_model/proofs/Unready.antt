@@ -10,13 +10,13 @@ use Rattle.jdwp_event.specs.Composites.{CompositeMeaning, vm_death}
 use Rattle.jdwp_machine.specs.Meanings.{Meaning}
 use Rattle.jdwp_debuggee.specs.Settings.{Settings}
 use Rattle.jdwp_debuggee.specs.State.{Moment}
-use Rattle.jdwp_debuggee.specs.Actions.{Command, action_of}
+use Rattle.jdwp_action.specs.Actions.{Command, action_of}
 use Rattle.jdwp_debuggee.specs.Effects.{Effect, effect}
 use Rattle.jdwp_debuggee.specs.Steps.{occurs, start_event}
 use Rattle.jdwp_debuggee.specs.Facts.{Told, requests_moved}
 use Rattle.jdwp_mirror.specs.Messages.{Ticket, Call, Asks, Handshake, Reply, Report, id_sizes}
 use Rattle.jdwp_model.specs.World.{is_closed, Packet, World}
-use Rattle.jdwp_model.specs.Next.{started, greets_by, after_death, answers, dies_by, told, step_ends}
+use Rattle.jdwp_model.specs.Next.{started, greets_by, after_death, answers, dies_by, with_report, step_ends}
 use Rattle.jdwp_model.specs.Seen.{composites_in}
 use Rattle.jdwp_model.specs.Rests.{Rests}
 use Rattle.jdwp_model.proofs.Session.{composites_append, replies, commands}
@@ -138,7 +138,7 @@ unready-died w after Closed none t p =
     λ o r. let u = p o r in let before : length w.parked + composites_in w.to_debugger ≤ room w.target = u.few in let most : room w.target ≤ 2 = room-most w.target in record { no_requests = none; few = omega arith; alone = u.alone }
 
 -- a step tells nothing where nothing was asked for
-unready-stepped : {S : Type 0} (m : Meaning S) (w : World S) (after : Moment S) (o : Option CompositeMeaning) (dies : Bool) → Told m w.now after dies o → (w.now.state.requests ≡ [] → o ≡ None) → UnreadyOf w → UnreadyOf (step_ends (told w after o) w.target dies)
+unready-stepped : {S : Type 0} (m : Meaning S) (w : World S) (after : Moment S) (o : Option CompositeMeaning) (dies : Bool) → Told m w.now after dies o → (w.now.state.requests ≡ [] → o ≡ None) → UnreadyOf w → UnreadyOf (step_ends (with_report w after o) w.target dies)
 unready-stepped m w after None true d silent p = unready-died w after w.target d.no_requests refl p
 unready-stepped m w after None false d silent p = λ o r. let u = p o r in record { no_requests = asked-nil after.state.requests (d.same_requests ∙ ap all_asked u.no_requests); few = u.few; alone = u.alone }
 unready-stepped m w after (Some c) true d silent p = let x : true ≡ false = d.0 in absurd (cc)

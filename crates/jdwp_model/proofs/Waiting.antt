@@ -1,8 +1,7 @@
 -- where the commands are that wait for replies, whatever their order
 use Rattle.std.proofs.Common.{◌≡◌, ℕ, ◌+◌, ◌≤◌, ◌⊎◌, inl, inr, Bool, true, false, ◌||◌, cond, Some, None, List, [], ◌∷◌, ◌++◌, refl, sym, ◌∙◌, ap, subst, arith}
 use Rattle.std.proofs.lemmas.Bool.{eq-eqb}
-use Rattle.jdwp_debuggee.specs.Actions.{Command, action_of}
-use Rattle.jdwp_debuggee.specs.Facts.{is_dispose}
+use Rattle.jdwp_action.specs.Actions.{Command, action_of, is_dispose}
 use Rattle.jdwp_mirror.specs.Messages.{Ticket, same_ticket}
 use Rattle.jdwp_mirror.specs.Faults.{is_waited_for}
 pub use Rattle.jdwp_model.specs.Places.{tally, one_of}

@@ -6,7 +6,7 @@ use Rattle.jdwp_end.specs.declared.phase.Phase.TheVariants.{AwaitingHandshake, E
 use Rattle.jdwp_machine.specs.Meanings.{Meaning}
 use Rattle.jdwp_debuggee.specs.Settings.{Settings}
 use Rattle.jdwp_debuggee.specs.State.{Moment}
-use Rattle.jdwp_debuggee.specs.Actions.{Command}
+use Rattle.jdwp_action.specs.Actions.{Command}
 use Rattle.jdwp_mirror.specs.Messages.{Ticket, Call, Greets, Asks, Reply}
 use Rattle.jdwp_mirror.specs.Mirror.{ends}
 use Rattle.jdwp_mirror.specs.Faults.{is_waited_for, fault_of}

@@ -27,9 +27,9 @@ gives m settings measure w Events.TargetTurn = gives_front m settings w (target_
 gives m settings measure w e = []
 
 -- all that the target answered in a run
-abbrev pub given : {S : Type 0} → Meaning S → Settings → Measure → World S → List LinkEvent → List (ℕ × Answer)
-given m settings measure w [] = []
-given m settings measure w (e ∷ es) = gives m settings measure w e ++ given m settings measure (next m settings measure w e).0 es
+abbrev pub given_answers : {S : Type 0} → Meaning S → Settings → Measure → World S → List LinkEvent → List (ℕ × Answer)
+given_answers m settings measure w [] = []
+given_answers m settings measure w (e ∷ es) = gives m settings measure w e ++ given_answers m settings measure (next m settings measure w e).0 es
 
 -- the answers that the debugger told
 abbrev pub told_answers : List Outcome → List (ℕ × Answer)
@@ -45,7 +45,7 @@ IsIn (q ∷ qs) p = (q ≡ p) ⊎ IsIn qs p
 abbrev pub TellsWhatWasGiven : {S : Type 0} → Meaning S → Type 0
 TellsWhatWasGiven {S} m =
     (settings : Settings) (measure : Measure) (s : S) (events : List LinkEvent) (p : ℕ × Answer) →
-    IsIn (told_answers (outcomes m settings measure (opening m s) events)) p → IsIn (given m settings measure (opening m s) events) p
+    IsIn (told_answers (outcomes m settings measure (opening m s) events)) p → IsIn (given_answers m settings measure (opening m s) events) p
 
 -- the tickets of answers
 abbrev pub answer_tickets : List (ℕ × Answer) → List ℕ
@@ -55,4 +55,4 @@ answer_tickets (p ∷ ps) = p.0 ∷ answer_tickets ps
 -- No ticket is given two answers.
 abbrev pub GivesOnce : {S : Type 0} → Meaning S → Type 0
 GivesOnce {S} m =
-    (settings : Settings) (measure : Measure) (s : S) (events : List LinkEvent) (k : ℕ) → times k (answer_tickets (given m settings measure (opening m s) events)) ≤ 1
+    (settings : Settings) (measure : Measure) (s : S) (events : List LinkEvent) (k : ℕ) → times k (answer_tickets (given_answers m settings measure (opening m s) events)) ≤ 1

@@ -8,7 +8,7 @@ use Rattle.jdwp_mirror.specs.Mirror.{Kept, all_kept, COUNT_MOST}
 use Rattle.jdwp_model.specs.Events.{LinkEvent}
 use Rattle.jdwp_model.specs.World.{Measure, World, opening}
 use Rattle.jdwp_model.specs.Next.{run}
-use Rattle.jdwp_model.specs.Seen.{mirror_count, mirror_held, mirror_requests, seen, is_known, is_held, unanswered, lowers, raises, has_dispose, composites_in}
+use Rattle.jdwp_model.specs.Seen.{mirror_count, mirror_held, mirror_requests, seen_moment, is_known, is_held, unanswered, lowers, raises, has_dispose, composites_in}
 
 -- A debuggee that there may be: a state of the machine in which some thread lives, and a count limit that there may be.
 pub record MayBegin {S : Type 0} (m : Meaning S) (settings : Settings) (s : S) : Type 0 where
@@ -30,7 +30,7 @@ KnowsAndHolds w = (t : ℕ) → (is_some (mirror_count w.read t) ≡ is_known w.
 -- Each count in the mirror is the one that the target had when it sent the last packet read, for each thread that lived then.
 abbrev pub HasTheCounts : {S : Type 0} → World S → Type 0
 HasTheCounts {S} w =
-    (t n k : ℕ) (then : Moment S) → mirror_count w.read t ≡ Some n → seen w.read ≡ Some then → count_of then.state t ≡ Some k → n ≡ k
+    (t n k : ℕ) (then : Moment S) → mirror_count w.read t ≡ Some n → seen_moment w.read ≡ Some then → count_of then.state t ≡ Some k → n ≡ k
 
 -- The mirror's requests are those that the target had then, and none where nothing was read.
 abbrev pub requests_then : {S : Type 0} → Option (Moment S) → List Kept
@@ -38,7 +38,7 @@ requests_then None = []
 requests_then (Some then) = all_kept (all_asked then.state.requests)
 
 abbrev pub HasTheRequests : {S : Type 0} → World S → Type 0
-HasTheRequests w = mirror_requests w.read ≡ requests_then (seen w.read)
+HasTheRequests w = mirror_requests w.read ≡ requests_then (seen_moment w.read)
 
 -- Nothing that ends suspension by itself stands in the way: the machine lives, the target noticed no loss in this session, and no
 -- Dispose is unanswered.
@@ -61,5 +61,5 @@ HeldIsCovered w =
 -- than in the mirror, but for the unanswered Suspends of it or of all and the composites that were sent and are not read.
 abbrev pub CountIsAtMost : {S : Type 0} → World S → Type 0
 CountIsAtMost {S} w =
-    (t n k : ℕ) (then : Moment S) → mirror_count w.read t ≡ Some n → seen w.read ≡ Some then → count_of then.state t ≡ Some k →
+    (t n k : ℕ) (then : Moment S) → mirror_count w.read t ≡ Some n → seen_moment w.read ≡ Some then → count_of then.state t ≡ Some k →
     count_or_zero w.now.state t ≤ n + unanswered raises w.pending t + (composites_in w.parked + composites_in w.to_debugger)

@@ -6,15 +6,15 @@ use Rattle.jdwp_machine.specs.Laws.{asks_frames}
 use Rattle.jdwp_machine.specs.Meanings.{Meaning}
 use Rattle.jdwp_debuggee.specs.Settings.{Settings}
 use Rattle.jdwp_debuggee.specs.State.{Moment, count_or_zero}
-use Rattle.jdwp_debuggee.specs.Actions
-use Rattle.jdwp_debuggee.specs.Actions.{Command, Action, action_of}
+use Rattle.jdwp_action.specs.Actions
+use Rattle.jdwp_action.specs.Actions.{Command, Action, action_of}
 use Rattle.jdwp_debuggee.specs.Answers.{query_of}
 use Rattle.jdwp_debuggee.specs.Effects.{effect}
 use Rattle.jdwp_mirror.specs.Messages.{Ticket, Message, Handshake, Reply, Report}
 use Rattle.jdwp_model.specs.Events.{LinkEvent}
 use Rattle.jdwp_model.specs.World.{Measure, Packet, World, opening}
 use Rattle.jdwp_model.specs.Next.{run}
-use Rattle.jdwp_model.specs.Seen.{seen, unanswered, lowers}
+use Rattle.jdwp_model.specs.Seen.{seen_moment, unanswered, lowers}
 use Rattle.jdwp_model.specs.Headline.{MayBegin, IsUnbroken}
 
 -- a question about a thread's frames: ThreadReference.Frames and FrameCount, StackFrame.GetValues and ThisObject
@@ -58,7 +58,7 @@ abbrev pub StaysTrue : {S : Type 0} → Meaning S → Settings → World S → T
 StaysTrue {S} m settings w =
     (t : ℕ) (c : Command) (content : List DatumMeaning) (then : Moment S) →
     asks_frames_of c t ≡ true → IsLasting w.read t c content → IsUnbroken w → has_write w.pending t ≡ false →
-    seen w.read ≡ Some then → unanswered lowers w.pending t < count_or_zero then.state t →
+    seen_moment w.read ≡ Some then → unanswered lowers w.pending t < count_or_zero then.state t →
     (effect m settings w.now c).answer ≡ Data content
 
 abbrev pub AlwaysStaysTrue : {S : Type 0} → Meaning S → Type 0

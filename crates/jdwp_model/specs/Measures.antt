@@ -6,9 +6,9 @@ use Rattle.jdwp_wire.specs.Limits.{Limits}
 use Rattle.jdwp_wire.specs.Widths.{Widths}
 use Rattle.jdwp_layout.specs.Writes.{data_canonical}
 use Rattle.jdwp_event.specs.Composites.{composite_data}
-use Rattle.jdwp_debuggee.specs.Actions.{Command}
-use Rattle.jdwp_debuggee.specs.CommandPackets.{is_for_target, packet_length}
-use Rattle.jdwp_debuggee.specs.Sending.{answer_bytes}
+use Rattle.jdwp_action.specs.Actions.{Command}
+use Rattle.jdwp_action.specs.CommandPackets.{is_for_target, packet_length}
+use Rattle.jdwp_action.specs.AnswerPackets.{answer_bytes}
 use Rattle.jdwp_mirror.specs.Messages.{Call, Greets, Asks, Message, Handshake, Reply, Report}
 use Rattle.jdwp_model.specs.Events
 use Rattle.jdwp_model.specs.Events.{AskRefusal}

@@ -10,7 +10,7 @@ use Rattle.jdwp_event.specs.Told.{is_vm_death}
 use Rattle.jdwp_machine.specs.Meanings.{Meaning}
 use Rattle.jdwp_debuggee.specs.Settings.{Settings}
 use Rattle.jdwp_debuggee.specs.State.{Moment, reset, with_packet}
-use Rattle.jdwp_debuggee.specs.Actions.{Command}
+use Rattle.jdwp_action.specs.Actions.{Command}
 use Rattle.jdwp_debuggee.specs.Effects.{Effect, effect}
 use Rattle.jdwp_debuggee.specs.Steps
 use Rattle.jdwp_debuggee.specs.Steps.{occurs, may_step, start_event, handshaken}
@@ -256,9 +256,9 @@ debugger_turn settings measure w = debugger_turn_at measure w (debugger_front se
 
 -- ---- steps
 
-abbrev pub told : {S : Type 0} → World S → Moment S → Option CompositeMeaning → World S
-told w after None = record w { now = after }
-told w after (Some c) = record w { now = after; to_debugger = w.to_debugger ++ (Report c, after) ∷ [] }
+abbrev pub with_report : {S : Type 0} → World S → Moment S → Option CompositeMeaning → World S
+with_report w after None = record w { now = after }
+with_report w after (Some c) = record w { now = after; to_debugger = w.to_debugger ++ (Report c, after) ∷ [] }
 
 -- where the machine died: VM_DEATH follows in a session, and the end closes
 abbrev pub step_ends : {S : Type 0} → World S → Phase → Bool → World S
@@ -267,7 +267,7 @@ step_ends w Established true = dying w
 step_ends w phase true = target_closed w
 
 abbrev pub stepped : {S : Type 0} → World S → Steps.Step S → World S
-stepped w o = step_ends (told w o.after o.sends) w.target o.dies
+stepped w o = step_ends (with_report w o.after o.sends) w.target o.dies
 
 -- Whether a thread makes a step: where it may, and the target is not paused. A target that lost the connection is not.
 abbrev pub steps_now : {S : Type 0} → Meaning S → Settings → Measure → World S → ℕ → Bool

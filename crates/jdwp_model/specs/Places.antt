@@ -1,6 +1,6 @@
 -- Where the commands are that a debugger asked and that were not answered.
 use Rattle.std.specs.Prelude.{◌≡◌, ◌≤◌, ℕ, ◌+◌, false, if◌then◌else◌, List, [], ◌∷◌}
-use Rattle.jdwp_debuggee.specs.Actions.{Command}
+use Rattle.jdwp_action.specs.Actions.{Command}
 use Rattle.jdwp_mirror.specs.Messages.{Ticket, same_ticket, Call, Greets, Asks, Handshake, Reply, Report}
 use Rattle.jdwp_model.specs.World.{is_closed, Packet, World}
 

@@ -8,8 +8,8 @@ use Rattle.jdwp_machine.specs.Laws.{IsLawful}
 use Rattle.jdwp_machine.specs.Meanings.{Meaning}
 use Rattle.jdwp_debuggee.specs.Settings.{Settings}
 use Rattle.jdwp_debuggee.specs.State.{Moment}
-use Rattle.jdwp_debuggee.specs.Actions.{Command, action_of, IdSizes, SetRequest}
-use Rattle.jdwp_debuggee.specs.Answers.{sizes_answer}
+use Rattle.jdwp_action.specs.Actions.{Command, action_of, IdSizes, SetRequest}
+use Rattle.jdwp_action.specs.AnswerPackets.{sizes_answer}
 use Rattle.jdwp_debuggee.specs.Breadth.{keeps_machine}
 use Rattle.jdwp_debuggee.specs.Effects.{effect}
 use Rattle.jdwp_debuggee.specs.Facts.{Facts, is_data}

@@ -2,9 +2,8 @@
 -- The last packet read stands first.
 use Rattle.std.specs.Prelude.{ℕ, ◌+◌, ◌==◌, Bool, false, ◌||◌, ◌&&◌, not, List, [], ◌∷◌, Option, Some, None, if◌then◌else◌}
 use Rattle.jdwp_debuggee.specs.State.{Moment, count_or_zero}
-use Rattle.jdwp_debuggee.specs.Actions
-use Rattle.jdwp_debuggee.specs.Actions.{Command, Action, action_of}
-use Rattle.jdwp_debuggee.specs.Facts.{is_dispose}
+use Rattle.jdwp_action.specs.Actions
+use Rattle.jdwp_action.specs.Actions.{Command, Action, action_of, is_dispose}
 use Rattle.jdwp_mirror.specs.Messages.{Ticket, Handshake, Reply, Report}
 use Rattle.jdwp_mirror.specs.Mirror.{Kept, learned, teaches, forgets, shows, held_after, requests_after}
 use Rattle.jdwp_model.specs.World.{Packet}
@@ -26,9 +25,9 @@ mirror_requests (p ∷ ps) = requests_after p.0 (mirror_requests ps)
 -- ---- the packets
 
 -- The debuggee as it was when the target sent the last packet read.
-abbrev pub seen : {S : Type 0} → List (Packet S) → Option (Moment S)
-seen [] = None
-seen (p ∷ ps) = Some p.1
+abbrev pub seen_moment : {S : Type 0} → List (Packet S) → Option (Moment S)
+seen_moment [] = None
+seen_moment (p ∷ ps) = Some p.1
 
 -- Some packet teaches the thread, and neither it nor a later one forgets it.
 abbrev pub is_known : {S : Type 0} → List (Packet S) → ℕ → Bool

@@ -8,9 +8,9 @@ use Rattle.jdwp_layout.specs.Meanings.{ScalarMeaning, Byte, Int, Object, Located
 use Rattle.jdwp_end.specs.declared.phase.Phase.TheVariants.{Closed, Established}
 use Rattle.jdwp_event.specs.Composites.{CompositeMeaning, vm_start}
 use Rattle.jdwp_event.specs.Modifiers.{Count, LocationOnly}
-use Rattle.jdwp_event.specs.Requests.{Asked, all_asked}
+use Rattle.jdwp_event.specs.Requests.{AskedRequest, all_asked}
 use Rattle.jdwp_debuggee.specs.State.{count_of}
-use Rattle.jdwp_debuggee.specs.Actions.{Command, Content}
+use Rattle.jdwp_action.specs.Actions.{Command, Content}
 use Rattle.jdwp_debuggee.specs.Answers.{done, int_answer}
 use Rattle.jdwp_mirror.specs.Messages.{Report}
 use Rattle.jdwp_model.specs.Events
@@ -51,8 +51,8 @@ greeted =
 abbrev pub after : List LinkEvent → World Small
 after events = run small settings measure before events
 
-abbrev pub told : List LinkEvent → List Outcome
-told events = outcomes small settings measure before events
+abbrev pub told_outcomes : List LinkEvent → List Outcome
+told_outcomes events = outcomes small settings measure before events
 
 -- the steps of the first thread
 abbrev pub steps_made : List LinkEvent → ℕ
@@ -61,7 +61,7 @@ steps_made events = (after events).now.machine.made
 abbrev pub target_count : World Small → ℕ → Option ℕ
 target_count w t = count_of w.now.state t
 
-abbrev pub target_requests : World Small → List Asked
+abbrev pub target_requests : World Small → List AskedRequest
 target_requests w = all_asked w.now.state.requests
 
 -- what is told as a session begins for the first time: VM_START of the first thread, which suspends nobody
@@ -111,12 +111,12 @@ until_read = begun ∷ Events.Asked 1 ∷ Events.Answered 1 (int_answer 1) ∷ E
 pub record CountsAsWorked : Type 0 where
   pub quiet : (after three_steps).to_debugger ≡ []
   pub reports_once : messages_of (after six_steps).to_debugger ≡ Report (reached 0) ∷ []
-  pub told_of_it : told breakpoint_read ≡ until_read
+  pub told_of_it : told_outcomes breakpoint_read ≡ until_read
   pub request_stays : target_requests (after breakpoint_read) ≡ record { id = 1; kind = 2; policy = 0; modifiers = LocationOnly (location 3) ∷ Count (pos 2) ∷ [] } ∷ []
   pub mirror_has_it : mirror_requests (after breakpoint_read).read ≡ record { id = pos 1; kind = 2; policy = 0; modifiers = LocationOnly (location 3) ∷ Count (pos 2) ∷ [] } ∷ []
   pub nobody_suspended : (target_count (after breakpoint_read) 1 ≡ Some 0) × (mirror_count (after breakpoint_read).read 1 ≡ Some 0)
   pub cleared_in_both : (target_requests (after cleared) ≡ []) × (mirror_requests (after cleared).read ≡ [])
-  pub clears_again : told (cleared ++ asked clear) ≡ until_read ++ Events.Asked 2 ∷ Events.Answered 2 done ∷ Events.Asked 3 ∷ Events.Answered 3 done ∷ []
+  pub clears_again : told_outcomes (cleared ++ asked clear) ≡ until_read ++ Events.Asked 2 ∷ Events.Answered 2 done ∷ Events.Asked 3 ∷ Events.Answered 3 done ∷ []
 
 -- ---- a thread that ended is suspended with the others by the mirror's rule and not held, and a list of all threads forgets it
 
@@ -132,7 +132,7 @@ pub record EndsAsWorked : Type 0 where
   pub none_held : (mirror_held (after ended_unseen).read 1 ≡ false) × (mirror_held (after ended_unseen).read 2 ≡ false)
   pub first_is_held : (mirror_count (after listed).read 1 ≡ Some 1) × (mirror_held (after listed).read 1 ≡ true)
   pub second_is_forgotten : (mirror_count (after listed).read 2 ≡ None) × (mirror_held (after listed).read 2 ≡ false)
-  pub is_told : told listed ≡ begun ∷ Events.Asked 1 ∷ Events.Answered 1 (int_answer 0) ∷ Events.Asked 2 ∷ Events.Answered 2 done
+  pub is_told : told_outcomes listed ≡ begun ∷ Events.Asked 1 ∷ Events.Answered 1 (int_answer 0) ∷ Events.Asked 2 ∷ Events.Answered 2 done
       ∷ Events.Asked 3 ∷ Events.Answered 3 (Data (Many ((Object 1 ∷ []) ∷ []) ∷ [])) ∷ []
 
 -- ---- an event that was sent before the reply to a Suspend, and a Suspend that was asked before the event
@@ -154,7 +154,7 @@ pub record CrossesAsWorked : Type 0 where
   pub held_by_the_event : (mirror_held (after event_read).read 1 ≡ true) × (mirror_held (after event_read).read 2 ≡ false)
   pub by_the_reply : (mirror_count (after reply_read).read 1 ≡ Some 2) × (mirror_count (after reply_read).read 2 ≡ Some 1)
   pub held_by_the_reply : (mirror_held (after reply_read).read 1 ≡ true) × (mirror_held (after reply_read).read 2 ≡ false)
-  pub is_told : told reply_read ≡ begun ∷ Events.Asked 1 ∷ Events.Answered 1 (int_answer 0) ∷ Events.Asked 2 ∷ Events.Answered 2 (int_answer 1)
+  pub is_told : told_outcomes reply_read ≡ begun ∷ Events.Asked 1 ∷ Events.Answered 1 (int_answer 0) ∷ Events.Asked 2 ∷ Events.Answered 2 (int_answer 1)
       ∷ Events.Asked 3 ∷ Events.Seen (reached 1) ∷ Events.Answered 3 done ∷ []
 
 -- ---- the frames of the suspended thread stay as they were read, whatever the other thread does
@@ -174,10 +174,10 @@ until_frames =
     ∷ Events.Asked 3 ∷ Events.Seen (reached 1) ∷ Events.Answered 3 done ∷ Events.Asked 4 ∷ Events.Answered 4 (Data (one_frame 3)) ∷ []
 
 pub record LastsAsWorked : Type 0 where
-  pub read_once : told frames_read ≡ until_frames
+  pub read_once : told_outcomes frames_read ≡ until_frames
   pub other_is_gone : target_count (after other_ended) 2 ≡ None
   pub lasts : IsLasting (after other_ended).read 1 frames_of_first (one_frame 3)
-  pub read_again : told (other_ended ++ asked frames_of_first)
+  pub read_again : told_outcomes (other_ended ++ asked frames_of_first)
       ≡ until_frames ++ Events.Asked 5 ∷ Events.Answered 5 done ∷ Events.Asked 6 ∷ Events.Answered 6 (Data (one_frame 3)) ∷ []
 
 -- ---- the target loses the connection with two replies under way, of which one is still read; a new session begins
@@ -205,10 +205,10 @@ pub record LosesAsWorked : Type 0 where
   pub suspended_before : (target_count (after both_handled) 1 ≡ Some 2) × (target_count (after both_handled) 2 ≡ Some 2)
   pub reset : (target_count (after target_lost) 1 ≡ Some 0) × (target_count (after target_lost) 2 ≡ Some 0) × (target_requests (after target_lost) ≡ [])
   pub under_way : way_to_debugger measure (after target_lost) ≡ 22
-  pub told_at_loss : told both_lost ≡ until_loss
+  pub told_at_loss : told_outcomes both_lost ≡ until_loss
   pub mirror_is_empty : (after both_lost).read ≡ []
   -- no VM_START comes again
-  pub told_afterwards : told (both_lost ++ greeted) ≡ until_loss
+  pub told_afterwards : told_outcomes (both_lost ++ greeted) ≡ until_loss
   pub begins_again : ((after (both_lost ++ greeted)).ready ≡ true) × ((after (both_lost ++ greeted)).to_debugger ≡ [])
   pub nobody_suspended : (target_count (after (both_lost ++ greeted)) 1 ≡ Some 0) × (target_count (after (both_lost ++ greeted)) 2 ≡ Some 0)
   pub no_requests : target_requests (after (both_lost ++ greeted)) ≡ []
@@ -219,12 +219,12 @@ abbrev pub debugger_lost : List LinkEvent
 debugger_lost = greeted ++ Events.Ask (command SUSPEND []) ∷ Events.DebuggerLoses ∷ to_target ∷ Events.TargetTurn ∷ []
 
 pub record LosesFirstAsWorked : Type 0 where
-  pub is_told : told debugger_lost ≡ begun ∷ Events.Asked 1 ∷ Events.Lost 1 ∷ []
+  pub is_told : told_outcomes debugger_lost ≡ begun ∷ Events.Asked 1 ∷ Events.Lost 1 ∷ []
   pub carried_out : target_count (after debugger_lost) 1 ≡ Some 1
   -- a new session waits until the target noticed it, too
   pub waits : ((after (debugger_lost ++ Events.Attach ∷ [])).target ≡ Established) × ((after (debugger_lost ++ Events.Attach ∷ [])).debugger ≡ Closed)
   pub nobody_suspended : target_count (after (debugger_lost ++ Events.TargetLoses ∷ [])) 1 ≡ Some 0
-  pub told_afterwards : told (debugger_lost ++ (Events.TargetLoses ∷ [] ++ (greeted ++ asked (of_thread SUSPEND_COUNT 1))))
+  pub told_afterwards : told_outcomes (debugger_lost ++ (Events.TargetLoses ∷ [] ++ (greeted ++ asked (of_thread SUSPEND_COUNT 1))))
       ≡ begun ∷ Events.Asked 1 ∷ Events.Lost 1 ∷ Events.Asked 2 ∷ Events.Answered 2 (int_answer 0) ∷ []
 
 -- ---- no thread steps while events are held
@@ -265,5 +265,5 @@ pub record DiesAsWorked : Type 0 where
   pub is_resumed : (target_count (after resumed) 2 ≡ Some 0) × (mirror_held (after resumed).read 2 ≡ false)
   pub ends : (target_count (after ended) 2 ≡ None) × ((after ended).to_debugger ≡ []) × (mirror_count (after ended).read 2 ≡ Some 0)
   pub forgotten : mirror_count (after asked_of).read 2 ≡ None
-  pub is_told : told asked_of ≡ begun ∷ Events.Asked 1 ∷ Events.Answered 1 (int_answer 1) ∷ Events.Seen death ∷ Events.Asked 2 ∷ Events.Answered 2 done
+  pub is_told : told_outcomes asked_of ≡ begun ∷ Events.Asked 1 ∷ Events.Answered 1 (int_answer 1) ∷ Events.Seen death ∷ Events.Asked 2 ∷ Events.Answered 2 done
       ∷ Events.Asked 3 ∷ Events.Answered 3 (Error INVALID_THREAD) ∷ []

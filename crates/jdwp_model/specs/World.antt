@@ -6,7 +6,7 @@ use Rattle.jdwp_end.specs.declared.phase.Phase.TheVariants.{Closed}
 use Rattle.jdwp_end.specs.declared.phase.Phase.{Phase}
 use Rattle.jdwp_machine.specs.Meanings.{Meaning}
 use Rattle.jdwp_debuggee.specs.State.{Moment, new_state}
-use Rattle.jdwp_debuggee.specs.Actions.{Command}
+use Rattle.jdwp_action.specs.Actions.{Command}
 use Rattle.jdwp_mirror.specs.Messages.{Ticket, Call, Message}
 use Rattle.jdwp_model.specs.Events.{AskRefusal}
 

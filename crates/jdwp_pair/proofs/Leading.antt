@@ -14,7 +14,7 @@ use Rattle.jdwp_link.specs.declared.events.Outcome.{Outcome}
 use Rattle.jdwp_link.specs.Clauses.{Ran, measure_of}
 use Rattle.jdwp_link.specs.Links.{Link}
 use Rattle.jdwp_link.specs.Stands.{StandsFor}
-use Rattle.jdwp_link.specs.Told.{told}
+use Rattle.jdwp_link.specs.Told.{told_outcomes}
 use Rattle.jdwp_pair.specs.Events.{IsOfRound, Leads, Moves, Stays, is_seen, seen_in}
 
 run-append : {S : Type 0} (m : Meaning S) (settings : Settings) (measure : Measure) (x : World S) (es fs : List LinkEvent) → run m settings measure x (es ++ fs) ≡ run m settings measure (run m settings measure x es) fs
@@ -33,9 +33,9 @@ did-append : {S : Type 0} (m : Meaning S) (settings : Settings) (measure : Measu
 did-append m settings measure x before [] fs = refl
 did-append m settings measure x before (e ∷ es) fs = did-append m settings measure (next m settings measure x e).0 (acts m settings measure x e) es fs
 
-told-append : (xs ys : List events.Outcome) → told (xs ++ ys) ≡ told xs ++ told ys
+told-append : (xs ys : List events.Outcome) → told_outcomes (xs ++ ys) ≡ told_outcomes xs ++ told_outcomes ys
 told-append [] ys = refl
-told-append (x ∷ xs) ys = ap (λ l. told (x ∷ []) ++ l) (told-append xs ys)
+told-append (x ∷ xs) ys = ap (λ l. told_outcomes (x ∷ []) ++ l) (told-append xs ys)
 
 -- ---- runs
 
@@ -56,8 +56,8 @@ ran-both {S} m es fs old mid new os more r g =
     (λ x s. ap (λ u. outcomes m u (measure_of m mid) (at x) fs) (r.settings x s) ∙ ap (λ q. outcomes m settings q (at x) fs) (same x s)) in
     record {
       stands = λ x s. subst (StandsFor m new) (run-is x s ∙ sym (run-append m settings measure x es fs)) (g.stands (at x) (r.stands x s));
-      tells = λ x s. ap (λ l. l ++ more) (r.tells x s) ∙ (ap (λ l. told (outcomes m settings measure x es) ++ l) (g.tells (at x) (r.stands x s) ∙ ap told (told-is x s))
-          ∙ (sym (told-append (outcomes m settings measure x es) (outcomes m settings measure (at x) fs)) ∙ ap told (sym (outcomes-append m settings measure x es fs))));
+      tells = λ x s. ap (λ l. l ++ more) (r.tells x s) ∙ (ap (λ l. told_outcomes (outcomes m settings measure x es) ++ l) (g.tells (at x) (r.stands x s) ∙ ap told_outcomes (told-is x s))
+          ∙ (sym (told-append (outcomes m settings measure x es) (outcomes m settings measure (at x) fs)) ∙ ap told_outcomes (sym (outcomes-append m settings measure x es fs))));
       did = λ x s. g.did (at x) (r.stands x s) ∙ (ap (λ u. did_after m u (measure_of m mid) (at x) mid.did fs) (r.settings x s) ∙ (ap (λ q. did_after m settings q (at x) mid.did fs) (same x s)
           ∙ (ap (λ b. did_after m settings measure (at x) b fs) (r.did x s) ∙ sym (did-append m settings measure x old.did es fs))));
       settings = λ x s. g.settings (at x) (r.stands x s) ∙ r.settings x s;

@@ -3,7 +3,7 @@ use Rattle.std.proofs.Common.{◌≡◌, ◌≤◌, ◌<◌, inl, inr, ℕ, ◌+
 use Rattle.std.proofs.lemmas.List.{append-nil, drop_more, length-take, take-append-drop, take_all, take_more}
 use Rattle.std.specs.Borrow.{Bor}
 use Rattle.jdwp_machine.specs.Meanings.{Meaning}
-use Rattle.jdwp_debuggee.specs.Actions.{Command}
+use Rattle.jdwp_action.specs.Actions.{Command}
 use Rattle.jdwp_debugger.specs.declared.pending.Ticket.{Ticket}
 use Rattle.jdwp_debugger.specs.Debuggers.{Asked, Unanswered, at_place, has_tickets, seen_unanswered, unanswered}
 use Rattle.jdwp_model.specs.Events as events

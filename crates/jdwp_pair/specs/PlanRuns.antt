@@ -3,7 +3,7 @@ use Rattle.std.specs.Prelude.{◌≡◌, ◌⊎◌, ℕ, ◌≤◌, ◌+◌, Boo
 use Rattle.jdwp_wire.specs.Widths.{Widths}
 use Rattle.jdwp_end.specs.Ends.{is_open}
 use Rattle.jdwp_machine.specs.Meanings.{Meaning}
-use Rattle.jdwp_debuggee.specs.Actions.{Command, Raw}
+use Rattle.jdwp_action.specs.Actions.{Command, Raw}
 use Rattle.jdwp_debuggee.specs.Settings.{Settings}
 use Rattle.jdwp_debuggee.specs.State.{new_state}
 use Rattle.jdwp_debugger.specs.declared.asking.Refused.{Refused}

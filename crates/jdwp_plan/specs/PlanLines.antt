@@ -7,8 +7,8 @@ use Rattle.jdwp_plan.specs.declared.plan_fault.Refusal.{Refusal}
 use Rattle.jdwp_plan.specs.declared.plan_fault.Refusal.TheVariants as refusal
 use Rattle.jdwp_plan.specs.declared.plan_line.PlanLine.{PlanLine}
 use Rattle.jdwp_plan.specs.declared.plan_line.PlanLine.TheVariants as line
-use Rattle.jdwp_plan.specs.declared.reading.Command.{Command}
-use Rattle.jdwp_plan.specs.declared.reading.Command.TheVariants as command
+use Rattle.jdwp_plan.specs.declared.reading.ProgramCommand.{ProgramCommand}
+use Rattle.jdwp_plan.specs.declared.reading.ProgramCommand.TheVariants as command
 use Rattle.jdwp_plan.specs.Lines.{Said, attach_line_of, line_of}
 use Rattle.jdwp_plan.specs.Lines.Said.{Ask, Answers, Events, Mirror, LoseTarget, LoseDebugger, Attach}
 
@@ -22,7 +22,7 @@ said_by line.LoseDebugger = LoseDebugger
 said_by line.Attach = Attach
 
 -- what a line of a plan for this command says
-abbrev pub line_for : Command → List ℕ → Result Said LineFault
+abbrev pub line_for : ProgramCommand → List ℕ → Result Said LineFault
 line_for command.Attach line = attach_line_of line
 line_for command.Pair line = line_of line
 

@@ -14,7 +14,7 @@ use std::alloc::{AllocError, Global};
 
 /// The command that a plan is read for.
 #[derive(Clone, Copy)]
-enum Command {
+enum ProgramCommand {
     Attach,
     Pair,
 }
@@ -27,7 +27,7 @@ pub fn read_plan(alloc: Global, text: &str) -> Result<Vec<PlanLine>, PlanFault>
     ensures read { IfOk result (λ plan. Says (lines text.now) (map said_by plan.items)) }
     ensures fault { IfErr result (IsFirstFault (lines text.now)) }
 {
-    read_lines(alloc, text, Command::Pair)
+    read_lines(alloc, text, ProgramCommand::Pair)
 }
 
 /// Reads the plan of `attach` that a text is, as `read_plan` does, but a line of `pair` alone is none of it.
@@ -38,11 +38,15 @@ pub fn read_attach_plan(alloc: Global, text: &str) -> Result<Vec<PlanLine>, Plan
     ensures read { IfOk result (λ plan. SaysForAttach (lines text.now) (map said_by plan.items)) }
     ensures fault { IfErr result (IsFirstFaultForAttach (lines text.now)) }
 {
-    read_lines(alloc, text, Command::Attach)
+    read_lines(alloc, text, ProgramCommand::Attach)
 }
 
 /// Reads the plan that a text is for the command.
-fn read_lines(alloc: Global, text: &str, command: Command) -> Result<Vec<PlanLine>, PlanFault>
+fn read_lines(
+    alloc: Global,
+    text: &str,
+    command: ProgramCommand,
+) -> Result<Vec<PlanLine>, PlanFault>
     ensures read { IfOk result (λ plan. SaysBy (line_for command) (lines text.now)
         (map said_by plan.items)) }
     ensures fault { IfErr result (IsFirstFaultBy (line_for command) (lines text.now)) }
@@ -59,13 +63,13 @@ fn read_lines(alloc: Global, text: &str, command: Command) -> Result<Vec<PlanLin
 }
 
 /// Reads one line of a plan for the command.
-fn read_line_for(alloc: Global, line: &str, command: Command) -> Result<PlanLine, Refusal>
+fn read_line_for(alloc: Global, line: &str, command: ProgramCommand) -> Result<PlanLine, Refusal>
     ensures { Gives said_by result (line_for command line.now) }
 {
     let line = read_line(alloc, line)?;
     match command {
-        Command::Attach if line.is_of_pair() => Err(Refusal::Fault(LineFault::PairAlone)),
-        Command::Attach | Command::Pair => Ok(line),
+        ProgramCommand::Attach if line.is_of_pair() => Err(Refusal::Fault(LineFault::PairAlone)),
+        ProgramCommand::Attach | ProgramCommand::Pair => Ok(line),
     }
 }
 

@@ -3,7 +3,7 @@ use Rattle.std.proofs.Common.{◌≡◌, ◌⊎◌, ℕ, [], ◌∷◌, ◌++◌
 use Rattle.std.proofs.lemmas.Fn.{FoldsTo-push}
 use Rattle.jdwp_end.specs.Ends.{is_open}
 use Rattle.jdwp_machine.specs.Meanings.{Meaning}
-use Rattle.jdwp_target.specs.Targets.{Target, lost}
+use Rattle.jdwp_target.specs.Targets.{Target, lost_target}
 use Rattle.jdwp_pipe.specs.declared.ended.Ended.{Ended}
 use Rattle.jdwp_pipe.specs.declared.ended.Ended.TheVariants as ended
 use Rattle.jdwp_port.specs.Served.{HasServed, IsSession, NoSession, OneMore, Serves, goes_on, lives}
@@ -52,7 +52,7 @@ other_goes_on how (inr (inr e)) = rw e refl
 -- the last session, whose connection is lost
 pub the_last : {S F : Type 0} {m : Meaning S} {rounds : ℕ} {step : F → ℕ → F → Type 0} (base old mid new : Target S) (first told : F) (how : Ended)
     → HasServed m rounds base step first old told → lives m old ≡ true → is_open old.end ≡ false → IsSession m rounds old how mid
-    → new ≡ lost mid → (how ≡ ended.NoMemory) ⊎ (how ≡ ended.TurnLimit) → Serves m rounds base step first (Ok how) new told
+    → new ≡ lost_target mid → (how ≡ ended.NoMemory) ⊎ (how ≡ ended.TurnLimit) → Serves m rounds base step first (Ok how) new told
 the_last base old mid new first told ended.NoMemory served lived closed session is how =
     record { old = old; mid = mid; before = served; lived = lived; closed = closed; session = session; is_lost = is }
 the_last base old mid new first told ended.TurnLimit served lived closed session is how =

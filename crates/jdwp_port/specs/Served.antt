@@ -3,7 +3,7 @@ use Rattle.std.specs.Prelude.{◌≡◌, ℕ, ◌≤◌, ◌+◌, Bool, true, fa
 use Rattle.std.specs.List.{FoldsTo}
 use Rattle.jdwp_end.specs.Ends.{is_open}
 use Rattle.jdwp_machine.specs.Meanings.{Meaning}
-use Rattle.jdwp_target.specs.Targets.{Target, Ran, lost, opened}
+use Rattle.jdwp_target.specs.Targets.{Target, Ran, lost_target, opened_target}
 use Rattle.jdwp_pipe.specs.declared.ended.Ended.{Ended}
 use Rattle.jdwp_pipe.specs.declared.ended.Ended.TheVariants.{Done, LostByRead, LostByWrite, Refused, NoMemory, TurnLimit}
 use Rattle.jdwp_engine.specs.Outcome.{MayEnd}
@@ -20,7 +20,7 @@ use Rattle.jdwp_port.specs.declared.faults.PortFault.{PortFault}
 pub record IsRun {S : Type 0} (m : Meaning S) (rounds : ℕ) (old : Target S) (how : Ended) (new : Target S) (now : Story) : Type 0 where
   pub in_order : InOrder old empty_story now new
   pub may_end : MayEnd m how empty_story now new
-  pub by_rounds : engine.Serves m rounds (opened old) empty_story how new now
+  pub by_rounds : engine.Serves m rounds (opened_target old) empty_story how new now
   pub at_most : new.end.session.turns + now.rooms ≤ rounds
   pub all_used : how ≡ TurnLimit → rounds ≤ cost now new
 
@@ -78,7 +78,7 @@ pub record IsLast {S F : Type 0} (m : Meaning S) (rounds : ℕ) (base : Target S
   pub lived : lives m old ≡ true
   pub closed : is_open old.end ≡ false
   pub session : IsSession m rounds old how mid
-  pub is_lost : new ≡ lost mid
+  pub is_lost : new ≡ lost_target mid
 
 -- How sessions end: the machine is dead; or the last one used up its rounds or wanted memory; or the port failed while the machine lived.
 abbrev pub Serves : {S F : Type 0} → Meaning S → ℕ → Target S → (F → ℕ → F → Type 0) → F → Result Ended PortFault → Target S → F → Type 0

@@ -81,6 +81,10 @@ module _ (old new : BTreeSet ℕ) (ids : List ℕ) (p : ℕ) (pos : 0 < p) (le :
 pub three_lists : (a b c d g o t g' o' t' : List ℕ) → a ≡ [] → b ≡ a ++ g' → c ≡ b ++ o' → d ≡ c ++ t' → g' ≡ g → o' ≡ o → t' ≡ t → d ≡ (g ++ o) ++ t
 three_lists a b c d g o t g' o' t' none first second third is_g is_o is_t = rw (third, second, first, none, is_g, is_o, is_t) refl
 
+-- four lists, in the same way
+pub four_lists : (a b c d e g o m t g' o' m' t' : List ℕ) → a ≡ [] → b ≡ a ++ g' → c ≡ b ++ o' → d ≡ c ++ m' → e ≡ d ++ t' → g' ≡ g → o' ≡ o → m' ≡ m → t' ≡ t → e ≡ ((g ++ o) ++ m) ++ t
+four_lists a b c d e g o m t g' o' m' t' none first second third fourth is_g is_o is_m is_t = rw (fourth, third, second, first, none, is_g, is_o, is_m, is_t) refl
+
 -- threads that no step starts, counted by a set of those that are started
 pub living_count : (set : BTreeSet ℕ) (threads : List ThreadPart) → Holds set (is_in (started threads)) → count_by (λ t. not (has set t.id)) threads ≡ length (living threads)
 living_count set threads same =

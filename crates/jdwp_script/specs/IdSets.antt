@@ -25,4 +25,4 @@ last_by m class method = get pair_cmp m (class, method)
 
 -- the ids that sets have
 abbrev pub known_ids : KnownIds → Known
-known_ids k = record { group = has k.groups; class = has k.classes; field = has k.fields; object = has k.objects; thread = has k.threads; value = has k.values; last = last_by k.lasts }
+known_ids k = record { group = has k.groups; class = has k.classes; field = has k.fields; object = has k.objects; thread = has k.threads; «module» = has k.modules; value = has k.values; last = last_by k.lasts }

@@ -1,7 +1,7 @@
 -- When there is more of something than a script may have.
 use Rattle.std.specs.Prelude.{ℕ, ◌+◌, ◌-◌, ◌==◌, ◌||◌, List, [], ◌∷◌, length, Bool, false, not, nat_lt, Option, None, Some, filter}
 use Rattle.std.specs.List.{list_any, flat_map}
-use Rattle.jdwp_script.specs.Parts.{GroupPart, FieldPart, SlotPart, MethodPart, ClassPart, ElementsPart, ObjectPart, StepPart, Call, Go, Return, Throwing, Prepare, Start, ThreadPart, ScriptPart}
+use Rattle.jdwp_script.specs.Parts.{GroupPart, FieldPart, SlotPart, MethodPart, ClassPart, ElementsPart, ObjectPart, StepPart, Call, Go, Return, Throwing, Prepare, Start, ThreadPart, ModulePart, ScriptPart}
 
 -- ---- words
 
@@ -9,9 +9,17 @@ use Rattle.jdwp_script.specs.Parts.{GroupPart, FieldPart, SlotPart, MethodPart, 
 abbrev pub over : {X : Type 0} → ℕ → List X → Bool
 over n xs = nat_lt n (length xs)
 
--- a text of more than 512 bytes
+-- the bytes that a text may have
+abbrev pub TEXT_LIMIT : ℕ
+TEXT_LIMIT = 512
+
+-- the elements that one list may have, and the frames that there may be at once
+abbrev pub LIST_LIMIT : ℕ
+LIST_LIMIT = 256
+
+-- a text of more bytes than it may have
 abbrev pub is_long : List ℕ → Bool
-is_long s = over 512 s
+is_long s = over TEXT_LIMIT s
 
 -- whether what may be there is there and passes a test
 abbrev pub if_there : {X : Type 0} → (X → Bool) → Option X → Bool
@@ -50,10 +58,10 @@ frames_after n (Throwing t) = n
 frames_after n (Prepare i) = n
 frames_after n (Start i) = n
 
--- whether more than 256 frames are there at once, after so many
+-- whether more frames than there may be are there at once, after so many
 abbrev pub is_deep : ℕ → List StepPart → Bool
 is_deep n [] = false
-is_deep n (s ∷ ss) = nat_lt 256 (frames_after n s) || is_deep (frames_after n s) ss
+is_deep n (s ∷ ss) = nat_lt LIST_LIMIT (frames_after n s) || is_deep (frames_after n s) ss
 
 -- ---- parts that pass a limit
 
@@ -67,19 +75,19 @@ abbrev pub slot_passes : SlotPart → Bool
 slot_passes s = is_long s.name || is_long s.signature
 
 abbrev pub method_passes : MethodPart → Bool
-method_passes m = is_long m.name || (is_long m.signature || (over 256 m.lines || (over 256 m.slots || list_any slot_passes m.slots)))
+method_passes m = is_long m.name || (is_long m.signature || (over LIST_LIMIT m.lines || (over LIST_LIMIT m.slots || list_any slot_passes m.slots)))
 
 abbrev pub class_passes : ClassPart → Bool
-class_passes c = is_long c.signature || (over 256 c.interfaces || (if_there is_long c.source || (over 256 c.fields || (over 256 c.methods || (list_any field_passes c.fields || list_any method_passes c.methods)))))
+class_passes c = is_long c.signature || (over LIST_LIMIT c.interfaces || (if_there is_long c.source || (over LIST_LIMIT c.fields || (over LIST_LIMIT c.methods || (list_any field_passes c.fields || list_any method_passes c.methods)))))
 
 abbrev pub elements_pass : ElementsPart → Bool
 elements_pass e = over 4096 e.bits
 
 abbrev pub object_passes : ObjectPart → Bool
-object_passes o = over 256 o.fields || (if_there (over 65_000) o.text || if_there elements_pass o.array)
+object_passes o = over LIST_LIMIT o.fields || (if_there (over 65_000) o.text || if_there elements_pass o.array)
 
 abbrev pub step_passes : StepPart → Bool
-step_passes (Call c) = over 256 c.slots
+step_passes (Call c) = over LIST_LIMIT c.slots
 step_passes (Go n) = false
 step_passes (Return v) = false
 step_passes (Throwing t) = false
@@ -89,9 +97,12 @@ step_passes (Start n) = false
 abbrev pub thread_passes : ThreadPart → Bool
 thread_passes t = is_long t.name || (over 65_536 t.steps || (list_any step_passes t.steps || is_deep 0 t.steps))
 
+abbrev pub module_passes : ModulePart → Bool
+module_passes m = is_long m.name
+
 -- a script in which more than this many threads may not live at the beginning
 abbrev pub passes_limit : ℕ → ScriptPart → Bool
 passes_limit live s =
-    is_long s.name || (over 1_024 s.groups || (over 1_024 s.classes || (over 1_024 s.objects || (over 1_024 s.threads
-    || (list_any group_passes s.groups || (list_any class_passes s.classes || (list_any object_passes s.objects || (list_any thread_passes s.threads
-    || over live (living s.threads)))))))))
+    is_long s.name || (over 1_024 s.groups || (over 1_024 s.classes || (over 1_024 s.objects || (over 1_024 s.threads || (over 1_024 s.modules
+    || (list_any group_passes s.groups || (list_any class_passes s.classes || (list_any object_passes s.objects || (list_any thread_passes s.threads || (list_any module_passes s.modules
+    || over live (living s.threads)))))))))))

@@ -12,11 +12,12 @@ use Rattle.jdwp_script.specs.declared.script.Class.{Class}
 use Rattle.jdwp_script.specs.declared.script.Elements.{Elements}
 use Rattle.jdwp_script.specs.declared.script.Object.{Object}
 use Rattle.jdwp_script.specs.declared.script.Thread.{Thread}
+use Rattle.jdwp_script.specs.declared.script.Module.{Module}
 use Rattle.jdwp_script.specs.declared.script.Script.{Script}
 use Rattle.jdwp_script.specs.declared.step.Call.{Call}
 use Rattle.jdwp_script.specs.declared.step.Step.{Step}
 use Rattle.jdwp_script.specs.declared.step.Step.TheVariants as step
-use Rattle.jdwp_script.specs.Parts.{GroupPart, FieldPart, SlotPart, MethodPart, ClassPart, ElementsPart, ObjectPart, CallPart, StepPart, Go, Return, Throwing, Prepare, Start, ThreadPart, ScriptPart}
+use Rattle.jdwp_script.specs.Parts.{GroupPart, FieldPart, SlotPart, MethodPart, ClassPart, ElementsPart, ObjectPart, CallPart, StepPart, Go, Return, Throwing, Prepare, Start, ThreadPart, ModulePart, ScriptPart}
 use Rattle.jdwp_script.specs.Parts as part
 
 abbrev pub widths : Sizes → Widths
@@ -35,7 +36,7 @@ abbrev pub method_part : Method → MethodPart
 method_part m = record { id = m.id.0; name = string_bytes m.name; signature = string_bytes m.signature; modifiers = m.modifiers; args = m.args; last = m.last; lines = m.lines.items; slots = map slot_part m.slots.items }
 
 abbrev pub class_part : Class → ClassPart
-class_part c = record { id = c.id.0; tag = c.tag; signature = string_bytes c.signature; modifiers = c.modifiers; superclass = c.superclass.0; interfaces = map (λ (n : ReferenceTypeId). n.0) c.interfaces.items; source = option_map string_bytes c.source; fields = map field_part c.fields.items; methods = map method_part c.methods.items }
+class_part c = record { id = c.id.0; tag = c.tag; signature = string_bytes c.signature; modifiers = c.modifiers; superclass = c.superclass.0; interfaces = map (λ (n : ReferenceTypeId). n.0) c.interfaces.items; source = option_map string_bytes c.source; fields = map field_part c.fields.items; methods = map method_part c.methods.items; «module» = c.module.0 }
 
 abbrev pub elements_part : Elements → ElementsPart
 elements_part e = record { tag = e.tag; bits = e.bits.items }
@@ -57,5 +58,8 @@ step_part (step.Start n) = Start n.0
 abbrev pub thread_part : Thread → ThreadPart
 thread_part t = record { id = t.id.0; name = string_bytes t.name; group = t.group.0; steps = map step_part t.steps.items }
 
+abbrev pub module_part : Module → ModulePart
+module_part m = record { id = m.id.0; name = string_bytes m.name }
+
 abbrev pub script_part : Script → ScriptPart
-script_part s = record { name = string_bytes s.name; sizes = widths s.sizes; groups = map group_part s.groups.items; classes = map class_part s.classes.items; objects = map object_part s.objects.items; threads = map thread_part s.threads.items }
+script_part s = record { name = string_bytes s.name; sizes = widths s.sizes; groups = map group_part s.groups.items; classes = map class_part s.classes.items; objects = map object_part s.objects.items; threads = map thread_part s.threads.items; modules = map module_part s.modules.items }

@@ -41,7 +41,7 @@ pub record MethodPart : Type 0 where
   pub lines : List Line
   pub slots : List SlotPart
 
--- a class; its superclass is 0 where it has none
+-- a class; its superclass is 0 where it has none, and so is its module
 pub record ClassPart : Type 0 where
   pub id : ℕ
   pub tag : TypeTag
@@ -52,6 +52,7 @@ pub record ClassPart : Type 0 where
   pub source : Option (List ℕ)
   pub fields : List FieldPart
   pub methods : List MethodPart
+  pub «module» : ℕ
 
 -- the elements of an array: their tag, and the bits or the id of each
 pub record ElementsPart : Type 0 where
@@ -88,6 +89,10 @@ pub record ThreadPart : Type 0 where
   pub group : ℕ
   pub steps : List StepPart
 
+pub record ModulePart : Type 0 where
+  pub id : ℕ
+  pub name : List ℕ
+
 -- a script; its widths may be outside 1 to 8
 pub record ScriptPart : Type 0 where
   pub name : List ℕ
@@ -96,3 +101,4 @@ pub record ScriptPart : Type 0 where
   pub classes : List ClassPart
   pub objects : List ObjectPart
   pub threads : List ThreadPart
+  pub modules : List ModulePart

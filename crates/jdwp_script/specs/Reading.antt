@@ -90,3 +90,12 @@ second read m d = tuple 2 m d >>= λ ds. entry read m ds 1
 -- what the member of an object is; nothing but an object has members
 abbrev pub member_of : {X : Type 0} → Member → Reader X → Data → Result X ScriptFault
 member_of m read d = found m (get (member_name m) d) >>= read m
+
+-- what is read of a value that is there, or else this
+abbrev pub there_or : {X : Type 0} → X → (Data → Result X ScriptFault) → Option Data → Result X ScriptFault
+there_or otherwise read None = Ok otherwise
+there_or otherwise read (Some d) = read d
+
+-- what the member of an object is, or this where there is no such member; a member that is there with another type is missing
+abbrev pub member_or : {X : Type 0} → X → Member → Reader X → Data → Result X ScriptFault
+member_or otherwise m read d = there_or otherwise (read m) (get (member_name m) d)

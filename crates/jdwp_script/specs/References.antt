@@ -8,10 +8,10 @@ use Rattle.jdwp_script.specs.declared.script.FieldValue.{FieldValue}
 use Rattle.jdwp_script.specs.declared.step.Literal.{Literal}
 use Rattle.jdwp_script.specs.declared.step.Place.{Place}
 use Rattle.jdwp_script.specs.declared.step.SlotValue.{SlotValue}
-use Rattle.jdwp_script.specs.Parts.{GroupPart, FieldPart, MethodPart, ClassPart, ElementsPart, ObjectPart, CallPart, StepPart, Call, Go, Return, Throwing, Prepare, Start, ThreadPart, ScriptPart}
+use Rattle.jdwp_script.specs.Parts.{GroupPart, FieldPart, MethodPart, ClassPart, ElementsPart, ObjectPart, CallPart, StepPart, Call, Go, Return, Throwing, Prepare, Start, ThreadPart, ModulePart, ScriptPart}
 use Rattle.jdwp_script.specs.Literals.{fits_tag}
 use Rattle.jdwp_script.specs.Limits.{if_there, is_in, started, living}
-use Rattle.jdwp_script.specs.Twice.{group_ids, object_ids, thread_ids, class_ids, field_ids, is_twice}
+use Rattle.jdwp_script.specs.Twice.{group_ids, object_ids, thread_ids, module_ids, class_ids, field_ids, is_twice}
 
 -- ---- what is known
 
@@ -33,7 +33,7 @@ with_classes (c ∷ cs) lasts = with_classes cs (with_methods c.id c.methods las
 abbrev pub no_methods : Lasts
 no_methods class method = None
 
--- the ids of all that values may name: groups, objects and threads
+-- the ids of all that values may name: groups, objects and threads, but no modules
 abbrev pub value_ids : ScriptPart → List ℕ
 value_ids s = (group_ids s.groups ++ object_ids s.objects) ++ thread_ids s.threads
 
@@ -44,12 +44,13 @@ pub record Known : Type 0 where
   pub field : ℕ → Bool
   pub object : ℕ → Bool
   pub thread : ℕ → Bool
+  pub «module» : ℕ → Bool
   -- what a value may name
   pub value : ℕ → Bool
   pub last : Lasts
 
 abbrev pub known_in : ScriptPart → Known
-known_in s = record { group = is_in (group_ids s.groups); class = is_in (class_ids s.classes); field = is_in (field_ids s.classes); object = is_in (object_ids s.objects); thread = is_in (thread_ids s.threads); value = is_in (value_ids s); last = with_classes s.classes no_methods }
+known_in s = record { group = is_in (group_ids s.groups); class = is_in (class_ids s.classes); field = is_in (field_ids s.classes); object = is_in (object_ids s.objects); thread = is_in (thread_ids s.threads); «module» = is_in (module_ids s.modules); value = is_in (value_ids s); last = with_classes s.classes no_methods }
 
 abbrev pub nothing : ℕ → Bool
 nothing n = false
@@ -89,9 +90,9 @@ lines_lost last before (l ∷ ls) = nat_lt last l.index || (if_there (λ n. nat_
 abbrev pub method_lost : MethodPart → Bool
 method_lost m = (m.id == 0) || lines_lost m.last None m.lines
 
--- a field or a method of a class
+-- a field or a method of a class, or its module
 abbrev pub class_lost : Known → ClassPart → Bool
-class_lost k c = list_any (field_lost k) c.fields || list_any method_lost c.methods
+class_lost k c = list_any (field_lost k) c.fields || (list_any method_lost c.methods || is_lost k.module c.module)
 
 -- ---- objects
 
@@ -163,6 +164,11 @@ steps_lost k frames (s ∷ ss) = step_lost k frames s || steps_lost k (frames_le
 abbrev pub thread_lost : Known → ThreadPart → Bool
 thread_lost k t = (t.id == 0) || (not (k.group t.group) || steps_lost k [] t.steps)
 
+-- ---- modules
+
+abbrev pub module_lost : ModulePart → Bool
+module_lost m = m.id == 0
+
 -- ---- all
 
 abbrev pub prepared_by : StepPart → List ℕ
@@ -182,7 +188,7 @@ prepared threads = flat_map (λ t. flat_map prepared_by t.steps) threads
 abbrev pub is_lost_among : Known → ScriptPart → Bool
 is_lost_among k s =
     groups_lost nothing s.groups || (types_lost nothing s.classes || (list_any (class_lost k) s.classes || (list_any (object_lost k) s.objects || (list_any (thread_lost k) s.threads
-    || (is_twice (started s.threads) || (is_twice (prepared s.threads) || (length (living s.threads) == 0)))))))
+    || (list_any module_lost s.modules || (is_twice (started s.threads) || (is_twice (prepared s.threads) || (length (living s.threads) == 0))))))))
 
 abbrev pub has_bad_reference : ScriptPart → Bool
 has_bad_reference s = is_lost_among (known_in s) s

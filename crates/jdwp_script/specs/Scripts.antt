@@ -13,14 +13,14 @@ use Rattle.jdwp_value.specs.Values.{is_void}
 use Rattle.jdwp_script.specs.declared.fault.ScriptFault.{ScriptFault}
 use Rattle.jdwp_script.specs.declared.fault.ScriptFault.TheVariants.{Missing}
 use Rattle.jdwp_script.specs.declared.member.Member.{Member}
-use Rattle.jdwp_script.specs.declared.member.Member.TheVariants.{Name, Sizes, Groups, Classes, Objects, Threads, Id, Parent, Tag as OfTag, Signature, Modifiers, Super, Interfaces, Source, Fields, Methods, Value, Args, Last, Lines, Slots, From, Length, Slot, Class, Text, Array, Group, Steps}
+use Rattle.jdwp_script.specs.declared.member.Member.TheVariants.{Name, Sizes, Groups, Classes, Objects, Threads, Id, Parent, Tag as OfTag, Signature, Modifiers, Super, Interfaces, Source, Fields, Methods, Value, Args, Last, Lines, Slots, From, Length, Slot, Class, Text, Array, Group, Steps, Modules, Module}
 use Rattle.jdwp_script.specs.declared.script.Line.{Line}
 use Rattle.jdwp_script.specs.declared.script.FieldValue.{FieldValue}
 use Rattle.jdwp_script.specs.declared.step.Literal.{Literal}
 use Rattle.jdwp_script.specs.declared.step.Place.{Place}
 use Rattle.jdwp_script.specs.declared.step.SlotValue.{SlotValue}
-use Rattle.jdwp_script.specs.Parts.{GroupPart, FieldPart, SlotPart, MethodPart, ClassPart, ElementsPart, ObjectPart, StepPart, Call, Go, Return, Throwing, Prepare, Start, ThreadPart, ScriptPart}
-use Rattle.jdwp_script.specs.Reading.{Reader, ◌>>=◌, found, whole, small, int, text, or_null, list_of, entries, tuple, entry, second, member_of}
+use Rattle.jdwp_script.specs.Parts.{GroupPart, FieldPart, SlotPart, MethodPart, ClassPart, ElementsPart, ObjectPart, StepPart, Call, Go, Return, Throwing, Prepare, Start, ThreadPart, ModulePart, ScriptPart}
+use Rattle.jdwp_script.specs.Reading.{Reader, ◌>>=◌, found, whole, small, int, text, or_null, list_of, entries, tuple, entry, second, member_of, member_or}
 
 -- ---- values
 
@@ -100,7 +100,8 @@ class m d =
     member_of Source (or_null text) d >>= λ source.
     member_of Fields (list_of field) d >>= λ fields.
     member_of Methods (list_of method) d >>= λ methods.
-    Ok (record { id = id; tag = tag; signature = signature; modifiers = modifiers; superclass = superclass; interfaces = interfaces; source = source; fields = fields; methods = methods })
+    member_or 0 Module whole d >>= λ module_id.
+    Ok (record { id = id; tag = tag; signature = signature; modifiers = modifiers; superclass = superclass; interfaces = interfaces; source = source; fields = fields; methods = methods; «module» = module_id })
 
 -- ---- objects
 
@@ -185,7 +186,7 @@ step_named word m d =
 abbrev pub step : Reader StepPart
 step m d = entries m d >>= λ ds. entry text m ds 0 >>= λ word. step_named word m d
 
--- ---- threads, and all
+-- ---- threads, modules, and all
 
 abbrev pub thread : Reader ThreadPart
 thread m d =
@@ -194,6 +195,9 @@ thread m d =
     member_of Group whole d >>= λ group.
     member_of Steps (list_of step) d >>= λ steps.
     Ok (record { id = id; name = name; group = group; steps = steps })
+
+abbrev pub «module» : Reader ModulePart
+«module» m d = member_of Id whole d >>= λ id. member_of Name text d >>= λ name. Ok (record { id = id; name = name })
 
 -- [field, method, object, reference, frame]
 abbrev pub sizes : Reader Widths
@@ -206,6 +210,10 @@ sizes m d =
     entry small m ds 4 >>= λ frame.
     Ok (record { field = field; method = method; object = object; reference = reference; frame = frame })
 
+-- none where there is no such member
+abbrev pub modules : Data → Result (List ModulePart) ScriptFault
+modules d = member_or [] Modules (list_of «module») d
+
 abbrev pub script : Data → Result ScriptPart ScriptFault
 script d =
     member_of Name text d >>= λ name.
@@ -214,4 +222,5 @@ script d =
     member_of Classes (list_of class) d >>= λ classes.
     member_of Objects (list_of object) d >>= λ objects.
     member_of Threads (list_of thread) d >>= λ threads.
-    Ok (record { name = name; sizes = sizes; groups = groups; classes = classes; objects = objects; threads = threads })
+    modules d >>= λ modules.
+    Ok (record { name = name; sizes = sizes; groups = groups; classes = classes; objects = objects; threads = threads; modules = modules })

@@ -8,7 +8,7 @@ use Rattle.jdwp_script.specs.declared.script.FieldValue.{FieldValue}
 use Rattle.jdwp_script.specs.declared.step.Literal.{Literal}
 use Rattle.jdwp_script.specs.declared.step.Place.{Place}
 use Rattle.jdwp_script.specs.declared.step.SlotValue.{SlotValue}
-use Rattle.jdwp_script.specs.Parts.{GroupPart, FieldPart, MethodPart, ClassPart, ElementsPart, ObjectPart, StepPart, Call, Go, Return, Throwing, Prepare, Start, ThreadPart, ScriptPart}
+use Rattle.jdwp_script.specs.Parts.{GroupPart, FieldPart, MethodPart, ClassPart, ElementsPart, ObjectPart, StepPart, Call, Go, Return, Throwing, Prepare, Start, ThreadPart, ModulePart, ScriptPart}
 use Rattle.jdwp_script.specs.Limits.{if_there}
 
 -- a number does not fit so many bytes
@@ -28,7 +28,7 @@ abbrev pub method_wide : Widths → MethodPart → Bool
 method_wide w m = is_wide w.method m.id
 
 abbrev pub class_wide : Widths → ClassPart → Bool
-class_wide w c = is_wide w.reference c.id || (is_wide w.reference c.superclass || (list_any (is_wide w.reference) c.interfaces || (list_any (field_wide w) c.fields || list_any (method_wide w) c.methods)))
+class_wide w c = is_wide w.reference c.id || (is_wide w.reference c.superclass || (list_any (is_wide w.reference) c.interfaces || (list_any (field_wide w) c.fields || (list_any (method_wide w) c.methods || is_wide w.object c.module))))
 
 abbrev pub field_value_wide : Widths → FieldValue → Bool
 field_value_wide w f = is_wide w.field f.field.0 || literal_wide w f.value
@@ -56,6 +56,9 @@ step_wide w (Start n) = is_wide w.object n
 abbrev pub thread_wide : Widths → ThreadPart → Bool
 thread_wide w t = is_wide w.object t.id || (is_wide w.object t.group || list_any (step_wide w) t.steps)
 
+abbrev pub module_wide : Widths → ModulePart → Bool
+module_wide w m = is_wide w.object m.id
+
 -- a width outside 1 to 8
 abbrev pub is_no_width : ℕ → Bool
 is_no_width n = nat_lt n 1 || nat_lt 8 n
@@ -63,4 +66,5 @@ is_no_width n = nat_lt n 1 || nat_lt 8 n
 abbrev pub has_wide_id : ScriptPart → Bool
 has_wide_id s =
     is_no_width s.sizes.field || (is_no_width s.sizes.method || (is_no_width s.sizes.object || (is_no_width s.sizes.reference || (is_no_width s.sizes.frame
-    || (list_any (group_wide s.sizes) s.groups || (list_any (class_wide s.sizes) s.classes || (list_any (object_wide s.sizes) s.objects || list_any (thread_wide s.sizes) s.threads)))))))
+    || (list_any (group_wide s.sizes) s.groups || (list_any (class_wide s.sizes) s.classes || (list_any (object_wide s.sizes) s.objects || (list_any (thread_wide s.sizes) s.threads
+    || list_any (module_wide s.sizes) s.modules))))))))

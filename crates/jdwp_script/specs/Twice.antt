@@ -1,8 +1,8 @@
--- When two things of one kind have one id. Threads, groups and objects are of one kind; classes, methods, fields and
--- frames are each of their own.
+-- When two things of one kind have one id. Threads, groups, objects and modules are of one kind; classes, methods, fields
+-- and frames are each of their own.
 use Rattle.std.specs.Prelude.{ℕ, ◌||◌, List, [], ◌∷◌, ◌++◌, Bool, false, map}
 use Rattle.std.specs.List.{flat_map}
-use Rattle.jdwp_script.specs.Parts.{GroupPart, ClassPart, ObjectPart, StepPart, Call, Go, Return, Throwing, Prepare, Start, ThreadPart, ScriptPart}
+use Rattle.jdwp_script.specs.Parts.{GroupPart, ClassPart, ObjectPart, StepPart, Call, Go, Return, Throwing, Prepare, Start, ThreadPart, ModulePart, ScriptPart}
 use Rattle.jdwp_script.specs.Limits.{is_in}
 
 -- ---- the ids that a script gives away
@@ -16,9 +16,12 @@ object_ids objects = map (λ o. o.id) objects
 abbrev pub thread_ids : List ThreadPart → List ℕ
 thread_ids threads = map (λ t. t.id) threads
 
--- the ids of all that are of one kind with threads: groups, objects and threads
+abbrev pub module_ids : List ModulePart → List ℕ
+module_ids modules = map (λ m. m.id) modules
+
+-- the ids of all that are of one kind with threads: groups, objects, modules and threads
 abbrev pub shared_ids : ScriptPart → List ℕ
-shared_ids s = (group_ids s.groups ++ object_ids s.objects) ++ thread_ids s.threads
+shared_ids s = ((group_ids s.groups ++ object_ids s.objects) ++ module_ids s.modules) ++ thread_ids s.threads
 
 abbrev pub class_ids : List ClassPart → List ℕ
 class_ids classes = map (λ c. c.id) classes

@@ -68,7 +68,7 @@ impl fmt::Display for Path {
 /// What an id is the id of.
 #[derive(Clone, Copy, Debug, PartialEq, Eq)]
 pub enum IdKind {
-    /// A thread, a group or an object: they are of one kind.
+    /// A thread, a group or an object: they are of one kind, and what a value may name.
     Shared,
     Group,
     Object,
@@ -77,6 +77,8 @@ pub enum IdKind {
     Method,
     Field,
     Frame,
+    /// A module, whose id is none of a thread, a group or an object either.
+    Module,
 }
 
 impl IdKind {
@@ -91,6 +93,7 @@ impl IdKind {
             IdKind::Method => "method",
             IdKind::Field => "field",
             IdKind::Frame => "frame",
+            IdKind::Module => "module",
         }
     }
 }

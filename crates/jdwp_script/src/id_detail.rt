@@ -3,6 +3,7 @@ use crate::detail::{Cause, Detail, IdKind, Path};
 use crate::gather::Gather;
 use crate::ids::{FieldIds, FrameIds, Ids, MethodIds, shared_ids};
 use crate::judge::first_bad;
+use crate::known::value_ids;
 use crate::member::Member;
 use crate::script::{Class, Object, Script, Sizes, Thread};
 use crate::too_wide::TooWide;
@@ -12,8 +13,10 @@ use std::collections::BTreeSet;
 
 /// Which id stands twice, if one does: the first of its kind that has stood before.
 pub(crate) fn twice_detail(alloc: Global, script: &Script) -> Result<Detail, NoMemory> {
-    let found = if let Some(id) = second_id(alloc, &shared_ids(alloc, script)?)? {
+    let found = if let Some(id) = second_id(alloc, &value_ids(alloc, script)?)? {
         Cause::Twice(IdKind::Shared, id)
+    } else if let Some(id) = second_id(alloc, &shared_ids(alloc, script)?)? {
+        Cause::Twice(IdKind::Module, id)
     } else if let Some(id) = second_id(alloc, &Ids.listed(alloc, &script.classes)?)? {
         Cause::Twice(IdKind::Class, id)
     } else if let Some(id) = second_id(alloc, &MethodIds.listed(alloc, &script.classes)?)? {
@@ -86,6 +89,8 @@ fn wide_path(wide: &TooWide, script: &Script) -> Path {
             &script.threads[place],
             root.to(Member::Threads, place),
         )
+    } else if let Some(place) = first_bad(wide, &script.modules) {
+        root.to(Member::Modules, place)
     } else {
         root
     }

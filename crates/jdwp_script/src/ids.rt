@@ -1,15 +1,15 @@
 //! The ids that a script gives away, and those that its steps name.
 ghost use Rattle.std.specs.Prelude.{◌≡◌, ℕ, List, [], ◌∷◌, ◌++◌, map, IfOk, OnOk};
 ghost use Rattle.std.specs.List.{flat_map};
-ghost use Rattle.jdwp_script.specs.Parts.{GroupPart, FieldPart, MethodPart, ClassPart, ObjectPart, StepPart, ThreadPart};
-ghost use Rattle.jdwp_script.specs.Meanings.{group_part, field_part, method_part, class_part, object_part, step_part, thread_part, script_part};
+ghost use Rattle.jdwp_script.specs.Parts.{GroupPart, FieldPart, MethodPart, ClassPart, ObjectPart, StepPart, ThreadPart, ModulePart};
+ghost use Rattle.jdwp_script.specs.Meanings.{group_part, field_part, method_part, class_part, object_part, step_part, thread_part, module_part, script_part};
 ghost use Rattle.jdwp_script.specs.Limits.{started_by};
 ghost use Rattle.jdwp_script.specs.References.{prepared_by};
 ghost use Rattle.jdwp_script.specs.Twice.{shared_ids, frame_of, has_id_twice};
 
 use crate::gather::Gather;
 use crate::id_set::stands_twice;
-use crate::script::{Class, Field, Group, Method, Object, Script, Thread};
+use crate::script::{Class, Field, Group, Method, Module, Object, Script, Thread};
 use crate::step::Step;
 use jdwp_wire::NoMemory;
 use std::alloc::Global;
@@ -22,7 +22,7 @@ fn append(ids: &mut Vec<u64>, id: u64) -> Result<(), NoMemory>
     Ok(())
 }
 
-/// The ids of groups, objects, threads and classes.
+/// The ids of groups, objects, threads, modules and classes.
 pub(crate) struct Ids;
 
 impl Gather<Group> for Ids {
@@ -58,6 +58,18 @@ impl Gather<Thread> for Ids {
 
     fn gather(&self, thread: &Thread, ids: &mut Vec<u64>) -> Result<(), NoMemory> {
         append(ids, thread.id.0)
+    }
+}
+
+impl Gather<Module> for Ids {
+    ghost Meaning = { ModulePart };
+
+    ghost meaning = { module_part };
+
+    ghost gathers = { λ m. m.id ∷ [] };
+
+    fn gather(&self, module: &Module, ids: &mut Vec<u64>) -> Result<(), NoMemory> {
+        append(ids, module.id.0)
     }
 }
 
@@ -220,13 +232,14 @@ impl Gather<Thread> for PreparedIds {
     }
 }
 
-/// The ids of all that are of one kind with threads: the groups, the objects and the threads.
+/// The ids of all that are of one kind with threads: the groups, the objects, the modules and the threads.
 pub(crate) fn shared_ids(alloc: Global, script: &Script) -> Result<Vec<u64>, NoMemory>
     ensures { IfOk result (λ v. v.items ≡ shared_ids (script_part script.now)) }
 {
     let mut ids = Vec::new(alloc);
     Ids.gather_each(&script.groups, &mut ids)?;
     Ids.gather_each(&script.objects, &mut ids)?;
+    Ids.gather_each(&script.modules, &mut ids)?;
     Ids.gather_each(&script.threads, &mut ids)?;
     Ok(ids)
 }

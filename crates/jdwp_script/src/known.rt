@@ -24,6 +24,7 @@ pub(crate) struct KnownIds {
     pub(crate) fields: BTreeSet<u64>,
     pub(crate) objects: BTreeSet<u64>,
     pub(crate) threads: BTreeSet<u64>,
+    pub(crate) modules: BTreeSet<u64>,
     /// What a value may name.
     pub(crate) values: BTreeSet<u64>,
     pub(crate) lasts: Lasts,
@@ -40,6 +41,7 @@ impl KnownIds {
             fields: FieldIds.id_set(alloc, &script.classes)?,
             objects: Ids.id_set(alloc, &script.objects)?,
             threads: Ids.id_set(alloc, &script.threads)?,
+            modules: Ids.id_set(alloc, &script.modules)?,
             values: set_of(alloc, &value_ids(alloc, script)?)?,
             lasts: lasts_of(alloc, &script.classes)?,
         })
@@ -53,8 +55,8 @@ impl KnownIds {
     }
 }
 
-/// The ids of all that values may name: the groups, the objects and the threads.
-fn value_ids(alloc: Global, script: &Script) -> Result<Vec<u64>, NoMemory>
+/// The ids of all that values may name: the groups, the objects and the threads, but no modules.
+pub(crate) fn value_ids(alloc: Global, script: &Script) -> Result<Vec<u64>, NoMemory>
     ensures { IfOk result (λ v. v.items ≡ value_ids (script_part script.now)) }
 {
     let mut ids = Vec::new(alloc);

@@ -26,8 +26,10 @@ mod too_wide;
 
 pub use detail::{Cause, Detail, Entry, IdKind, Path};
 pub use fault::ScriptFault;
+pub use limits::LIST_LIMIT;
 pub use member::Member;
 pub use script::{
-    Class, Elements, Field, FieldValue, Group, Line, Method, Object, Script, Sizes, Slot, Thread,
+    Class, Elements, Field, FieldValue, Group, Line, Method, Module, Object, Script, Sizes, Slot,
+    Thread,
 };
 pub use step::{Call, Literal, Place, SlotValue, Step, Throw};

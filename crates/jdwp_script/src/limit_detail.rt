@@ -30,6 +30,11 @@ pub(crate) fn limit_detail(script: &Script, live: usize) -> Detail {
         }
     } else if let Some(place) = first_bad(&PassesLimit, &script.threads) {
         thread_detail(&script.threads[place], root.to(Member::Threads, place))
+    } else if let Some(place) = first_bad(&PassesLimit, &script.modules) {
+        Detail {
+            cause: long,
+            path: root.to(Member::Modules, place),
+        }
     } else {
         Detail::of(Cause::Living(live))
     }
@@ -45,6 +50,8 @@ fn long_list(script: &Script) -> Option<Member> {
         Some(Member::Objects)
     } else if script.threads.len() > PART_LIMIT {
         Some(Member::Threads)
+    } else if script.modules.len() > PART_LIMIT {
+        Some(Member::Modules)
     } else {
         None
     }

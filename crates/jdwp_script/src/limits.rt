@@ -1,13 +1,13 @@
 //! Whether a script has more of something than it may have.
 ghost use Rattle.std.specs.Prelude.{◌≡◌, length, map, IfOk, string_bytes};
-ghost use Rattle.jdwp_script.specs.Parts.{GroupPart, FieldPart, SlotPart, MethodPart, ClassPart, ObjectPart, StepPart, ThreadPart};
-ghost use Rattle.jdwp_script.specs.Meanings.{group_part, field_part, slot_part, method_part, class_part, object_part, step_part, thread_part, script_part};
-ghost use Rattle.jdwp_script.specs.Limits.{is_long, if_there, over, elements_pass, group_passes, field_passes, slot_passes, method_passes, class_passes, object_passes, step_passes, thread_passes, is_deep, living, passes_limit};
+ghost use Rattle.jdwp_script.specs.Parts.{GroupPart, FieldPart, SlotPart, MethodPart, ClassPart, ObjectPart, StepPart, ThreadPart, ModulePart};
+ghost use Rattle.jdwp_script.specs.Meanings.{group_part, field_part, slot_part, method_part, class_part, object_part, step_part, thread_part, module_part, script_part};
+ghost use Rattle.jdwp_script.specs.Limits.{is_long, if_there, over, elements_pass, group_passes, field_passes, slot_passes, method_passes, class_passes, object_passes, step_passes, thread_passes, module_passes, is_deep, living, passes_limit};
 
 use crate::gather::Gather;
 use crate::ids::StartedIds;
 use crate::judge::Judge;
-use crate::script::{Class, Field, Group, Method, Object, Script, Slot, Thread};
+use crate::script::{Class, Field, Group, Method, Module, Object, Script, Slot, Thread};
 use crate::step::Step;
 use jdwp_wire::NoMemory;
 use std::alloc::Global;
@@ -19,8 +19,8 @@ pub(crate) const STRING_LIMIT: usize = 65_000;
 /// The elements that an array may have.
 pub(crate) const ELEMENT_LIMIT: usize = 4_096;
 /// The fields, methods, interfaces, lines or slots that there may be in one list, and frames at once.
-pub(crate) const LIST_LIMIT: usize = 256;
-/// The groups, classes, objects or threads that a script may have.
+pub const LIST_LIMIT: usize = 256;
+/// The groups, classes, objects, threads or modules that a script may have.
 pub(crate) const PART_LIMIT: usize = 1_024;
 /// The steps that a thread may have.
 pub(crate) const STEP_LIMIT: usize = 65_536;
@@ -174,6 +174,18 @@ impl Judge<Thread> for PassesLimit {
     }
 }
 
+impl Judge<Module> for PassesLimit {
+    ghost Meaning = { ModulePart };
+
+    ghost meaning = { module_part };
+
+    ghost judges = { λ _. module_passes };
+
+    fn is_bad(&self, module: &Module) -> bool {
+        is_long(&module.name)
+    }
+}
+
 /// Whether more frames are there at once than may be.
 pub(crate) fn is_deep(steps: &[Step]) -> bool
     ensures { result ≡ is_deep 0 (map step_part steps.now) }
@@ -215,10 +227,12 @@ pub(crate) fn passes_limit(alloc: Global, script: &Script, live: usize) -> Resul
         || script.classes.len() > PART_LIMIT
         || script.objects.len() > PART_LIMIT
         || script.threads.len() > PART_LIMIT
+        || script.modules.len() > PART_LIMIT
         || PassesLimit.has_bad(&script.groups)
         || PassesLimit.has_bad(&script.classes)
         || PassesLimit.has_bad(&script.objects)
         || PassesLimit.has_bad(&script.threads)
+        || PassesLimit.has_bad(&script.modules)
     {
         return Ok(true);
     }

@@ -36,6 +36,8 @@ pub enum Member {
     Array,
     Group,
     Steps,
+    Modules,
+    Module,
 }
 
 impl Member {
@@ -73,6 +75,8 @@ impl Member {
             Member::Array => "array",
             Member::Group => "group",
             Member::Steps => "steps",
+            Member::Modules => "modules",
+            Member::Module => "module",
         }
     }
 }

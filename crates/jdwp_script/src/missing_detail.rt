@@ -3,7 +3,7 @@ use crate::detail::Path;
 use crate::fault::ScriptFault;
 use crate::member::Member;
 use crate::reading::{Part, member};
-use crate::script::{Class, Field, FieldValue, Group, Line, Method, Object, Slot, Thread};
+use crate::script::{Class, Field, FieldValue, Group, Line, Method, Module, Object, Slot, Thread};
 use crate::step::Step;
 use jdwp_value::ReferenceTypeId;
 use jdwp_wire::NoMemory;
@@ -64,6 +64,7 @@ fn lists_of(of: Option<Member>) -> &'static [Member] {
             Member::Classes,
             Member::Objects,
             Member::Threads,
+            Member::Modules,
         ],
         Some(Member::Classes) => &[Member::Interfaces, Member::Fields, Member::Methods],
         Some(Member::Methods) => &[Member::Lines, Member::Slots],
@@ -107,6 +108,7 @@ fn missing_in(
         Member::Classes => lacking(Class::read(alloc, entry, list)),
         Member::Objects => lacking(Object::read(alloc, entry, list)),
         Member::Threads => lacking(Thread::read(alloc, entry, list)),
+        Member::Modules => lacking(Module::read(alloc, entry, list)),
         Member::Interfaces => lacking(ReferenceTypeId::read(alloc, entry, list)),
         Member::Fields if of == Some(Member::Objects) => {
             lacking(FieldValue::read(alloc, entry, list))

@@ -1,8 +1,8 @@
 //! The parts of a script as JSON values. Members stand in the order in which they are read.
-ghost use Rattle.std.specs.Prelude.{◌≡◌, ℕ};
+ghost use Rattle.std.specs.Prelude.{◌≡◌, ℕ, map};
 ghost use Rattle.jdwp_wire.specs.Widths.{Widths};
-ghost use Rattle.jdwp_script.specs.Parts.{GroupPart, FieldPart, SlotPart, MethodPart, ClassPart, ElementsPart, ObjectPart, ThreadPart, ScriptPart};
-ghost use Rattle.jdwp_script.specs.Meanings.{widths, group_part, field_part, slot_part, method_part, class_part, elements_part, object_part, thread_part, script_part};
+ghost use Rattle.jdwp_script.specs.Parts.{GroupPart, FieldPart, SlotPart, MethodPart, ClassPart, ElementsPart, ObjectPart, ThreadPart, ModulePart, ScriptPart};
+ghost use Rattle.jdwp_script.specs.Meanings.{widths, group_part, field_part, slot_part, method_part, class_part, elements_part, object_part, thread_part, module_part, script_part};
 ghost use Rattle.jdwp_script.specs.Reading.{Reader, Gives, whole};
 ghost use Rattle.jdwp_script.specs.Scripts as scripts;
 ghost use Rattle.jdwp_script.specs.declared.script.Line.{Line};
@@ -15,9 +15,10 @@ ghost use Rattle.serde_json.specs.View.{view};
 
 use crate::fault::ScriptFault;
 use crate::member::Member;
-use crate::reading::{Part, entry, member, tuple};
+use crate::reading::{Part, entry, member, member_or, tuple};
 use crate::script::{
-    Class, Elements, Field, FieldValue, Group, Line, Method, Object, Script, Sizes, Slot, Thread,
+    Class, Elements, Field, FieldValue, Group, Line, Method, Module, Object, Script, Sizes, Slot,
+    Thread,
 };
 use crate::step::Literal;
 use jdwp_value::{FieldId, MethodId, ObjectId, ReferenceTypeId, Tag, TypeTag};
@@ -201,6 +202,7 @@ impl Part for Class {
             source: member(alloc, value, Member::Source)?,
             fields: member(alloc, value, Member::Fields)?,
             methods: member(alloc, value, Member::Methods)?,
+            module: ObjectId(member_or(alloc, 0, value, Member::Module)?),
         })
     }
 }
@@ -278,6 +280,21 @@ impl Part for Thread {
     }
 }
 
+impl Part for Module {
+    ghost Meaning = { ModulePart };
+
+    ghost meaning = { module_part };
+
+    ghost reads = { scripts.module };
+
+    fn read(alloc: Global, value: &Value, _member: Member) -> Result<Module, ScriptFault> {
+        Ok(Module {
+            id: ObjectId(member(alloc, value, Member::Id)?),
+            name: member(alloc, value, Member::Name)?,
+        })
+    }
+}
+
 /// The widths of fields, methods, objects, reference types and frames.
 impl Part for Sizes {
     ghost Meaning = { Widths };
@@ -312,5 +329,17 @@ pub(crate) fn script(alloc: Global, value: &Value) -> Result<Script, ScriptFault
         classes: member(alloc, value, Member::Classes)?,
         objects: member(alloc, value, Member::Objects)?,
         threads: member(alloc, value, Member::Threads)?,
+        modules: modules(alloc, value)?,
     })
+}
+
+/// The modules of a script: none where it has no such member.
+///
+/// # Errors
+/// What reading the member's value answers.
+fn modules(alloc: Global, value: &Value) -> Result<Vec<Module>, ScriptFault>
+    ensures { Gives (λ v. map module_part v.items) result
+        (scripts.modules (view value.now)) }
+{
+    member_or(alloc, Vec::new(alloc), value, Member::Modules)
 }

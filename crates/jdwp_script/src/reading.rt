@@ -4,7 +4,7 @@ ghost use Rattle.serde_json.specs.Data.{Data};
 ghost use Rattle.serde_json.specs.View.{view};
 ghost use Rattle.jdwp_script.specs.declared.fault.ScriptFault.{ScriptFault};
 ghost use Rattle.jdwp_script.specs.declared.member.Member.{Member};
-ghost use Rattle.jdwp_script.specs.Reading.{Reader, Gives, whole, small, int, text, or_null, list_of, entries, tuple, entry, member_of};
+ghost use Rattle.jdwp_script.specs.Reading.{Reader, Gives, whole, small, int, text, or_null, list_of, entries, tuple, entry, member_of, member_or};
 
 use crate::fault::ScriptFault;
 use crate::member::Member;
@@ -198,5 +198,24 @@ pub(crate) fn member<T: Part>(
     match object.get(member.name()) {
         Some(value) => T::read(alloc, value, member),
         None => Err(ScriptFault::Missing(member)),
+    }
+}
+
+/// What the member of an object is, or `otherwise` where the value is no object or has no such member.
+///
+/// # Errors
+/// What reading the member's value answers.
+pub(crate) fn member_or<T: Part + Drop>(
+    alloc: Global,
+    otherwise: T,
+    object: &Value,
+    member: Member,
+) -> Result<T, ScriptFault>
+    ensures { Gives T.meaning result
+        (member_or (T.meaning otherwise) member T.reads (view object.now)) }
+{
+    match object.get(member.name()) {
+        Some(value) => T::read(alloc, value, member),
+        None => Ok(otherwise),
     }
 }

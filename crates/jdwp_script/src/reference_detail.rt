@@ -34,6 +34,12 @@ pub(crate) fn reference_detail(alloc: Global, script: &Script) -> Result<Detail,
     if let Some(found) = thread_detail(alloc, &known, &script.threads)? {
         return Ok(found);
     }
+    if let Some(place) = first_bad(&known, &script.modules) {
+        return Ok(Detail {
+            cause: Cause::Zero(IdKind::Module),
+            path: root.to(Member::Modules, place),
+        });
+    }
     Ok(Detail::of(start_cause(alloc, &script.threads)?))
 }
 
@@ -99,7 +105,7 @@ fn literal_cause(literal: &Literal) -> Cause {
     }
 }
 
-/// What is bad of a class's fields and methods.
+/// What is bad of a class's fields, of its methods, or of its module.
 fn class_detail(known: &KnownIds, class: &Class, path: Path) -> Detail {
     if let Some(place) = first_bad(known, &class.fields) {
         return Detail {
@@ -113,7 +119,7 @@ fn class_detail(known: &KnownIds, class: &Class, path: Path) -> Detail {
             path: path.to(Member::Methods, place),
         },
         None => Detail {
-            cause: Cause::Unsaid,
+            cause: unknown(&known.modules, IdKind::Module, class.module.0),
             path,
         },
     }

@@ -7,10 +7,10 @@ ghost use Rattle.jdwp_script.specs.declared.step.Place.{Place};
 ghost use Rattle.jdwp_script.specs.declared.step.SlotValue.{SlotValue};
 ghost use Rattle.jdwp_script.specs.Literals.{fits_tag};
 ghost use Rattle.jdwp_script.specs.Limits.{if_there};
-ghost use Rattle.jdwp_script.specs.Parts.{FieldPart, MethodPart, ClassPart, ElementsPart, ObjectPart, CallPart};
-ghost use Rattle.jdwp_script.specs.Meanings.{group_part, field_part, method_part, class_part, elements_part, object_part, call_part, step_part, thread_part, script_part};
+ghost use Rattle.jdwp_script.specs.Parts.{FieldPart, MethodPart, ClassPart, ElementsPart, ObjectPart, CallPart, ModulePart};
+ghost use Rattle.jdwp_script.specs.Meanings.{group_part, field_part, method_part, class_part, elements_part, object_part, call_part, step_part, thread_part, module_part, script_part};
 ghost use Rattle.jdwp_script.specs.IdSets.{has, known_ids};
-ghost use Rattle.jdwp_script.specs.References.{nothing, is_lost, literal_lost, groups_lost, types_lost, field_lost, lines_lost, method_lost, class_lost, field_value_lost, same_field, field_twice, elements_lost, object_lost, is_past, slot_value_lost, same_slot, slot_twice, call_lost, place_lost, step_lost, frames_left, steps_lost, thread_lost, is_lost_among, has_bad_reference};
+ghost use Rattle.jdwp_script.specs.References.{nothing, is_lost, literal_lost, groups_lost, types_lost, field_lost, lines_lost, method_lost, class_lost, field_value_lost, same_field, field_twice, elements_lost, object_lost, is_past, slot_value_lost, same_slot, slot_twice, call_lost, place_lost, step_lost, frames_left, steps_lost, thread_lost, module_lost, is_lost_among, has_bad_reference};
 
 use crate::gather::Gather;
 use crate::ids::{PreparedIds, StartedIds};
@@ -18,7 +18,7 @@ use crate::judge::Judge;
 use crate::known::KnownIds;
 use crate::limits::living;
 use crate::script::{
-    Class, Elements, Field, FieldValue, Group, Line, Method, Object, Script, Thread,
+    Class, Elements, Field, FieldValue, Group, Line, Method, Module, Object, Script, Thread,
 };
 use crate::step::{Call, Literal, Place, SlotValue, Step};
 use jdwp_value::{ReferenceTypeId, Tag};
@@ -166,7 +166,9 @@ impl Judge<Class> for KnownIds {
     ghost judges = { λ k. class_lost (known_ids k) };
 
     fn is_bad(&self, class: &Class) -> bool {
-        self.has_bad(&class.fields) || self.has_bad(&class.methods)
+        self.has_bad(&class.fields)
+            || self.has_bad(&class.methods)
+            || is_lost(&self.modules, class.module.0)
     }
 }
 
@@ -403,6 +405,18 @@ fn threads_lost(alloc: Global, known: &KnownIds, threads: &[Thread]) -> Result<b
     Ok(false)
 }
 
+impl Judge<Module> for KnownIds {
+    ghost Meaning = { ModulePart };
+
+    ghost meaning = { module_part };
+
+    ghost judges = { λ _. module_lost };
+
+    fn is_bad(&self, module: &Module) -> bool {
+        module.id.0 == 0
+    }
+}
+
 /// Whether something stands where it may not, these ids being known.
 fn is_lost_among(alloc: Global, known: &KnownIds, script: &Script) -> Result<bool, NoMemory>
     ensures { IfOk result (λ lost. lost ≡ is_lost_among (known_ids known.now)
@@ -414,6 +428,7 @@ fn is_lost_among(alloc: Global, known: &KnownIds, script: &Script) -> Result<boo
             || known.has_bad(&script.classes)
             || known.has_bad(&script.objects)
             || threads_lost(alloc, known, &script.threads)?
+            || known.has_bad(&script.modules)
             || StartedIds.has_twice(alloc, &script.threads)?
             || PreparedIds.has_twice(alloc, &script.threads)?
             || living(alloc, &script.threads)? == 0,

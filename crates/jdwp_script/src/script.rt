@@ -12,6 +12,8 @@ pub struct Script {
     pub classes: Vec<Class>,
     pub objects: Vec<Object>,
     pub threads: Vec<Thread>,
+    /// Empty where the text has none.
+    pub modules: Vec<Module>,
 }
 
 /// The widths of ids in bytes, as the script says them.
@@ -47,6 +49,8 @@ pub struct Class {
     pub source: Option<String>,
     pub fields: Vec<Field>,
     pub methods: Vec<Method>,
+    /// The module in which the class is, 0 where it is in none.
+    pub module: ObjectId,
 }
 
 /// A field of a class.
@@ -128,4 +132,11 @@ pub struct Thread {
     pub name: String,
     pub group: ObjectId,
     pub steps: Vec<Step>,
+}
+
+/// A module.
+#[derive(Drop)]
+pub struct Module {
+    pub id: ObjectId,
+    pub name: String,
 }

@@ -6,14 +6,14 @@ ghost use Rattle.jdwp_script.specs.declared.script.Sizes.{Sizes};
 ghost use Rattle.jdwp_script.specs.declared.step.Literal.{Literal};
 ghost use Rattle.jdwp_script.specs.declared.step.Place.{Place};
 ghost use Rattle.jdwp_script.specs.declared.step.SlotValue.{SlotValue};
-ghost use Rattle.jdwp_script.specs.Parts.{GroupPart, FieldPart, MethodPart, ClassPart, ElementsPart, ObjectPart, StepPart, ThreadPart};
-ghost use Rattle.jdwp_script.specs.Meanings.{widths, group_part, field_part, method_part, class_part, elements_part, object_part, step_part, thread_part, script_part};
+ghost use Rattle.jdwp_script.specs.Parts.{GroupPart, FieldPart, MethodPart, ClassPart, ElementsPart, ObjectPart, StepPart, ThreadPart, ModulePart};
+ghost use Rattle.jdwp_script.specs.Meanings.{widths, group_part, field_part, method_part, class_part, elements_part, object_part, step_part, thread_part, module_part, script_part};
 ghost use Rattle.jdwp_script.specs.Limits.{if_there};
-ghost use Rattle.jdwp_script.specs.TooWide.{is_wide, literal_wide, group_wide, field_wide, method_wide, class_wide, field_value_wide, elements_wide, object_wide, slot_value_wide, place_wide, step_wide, thread_wide, is_no_width, has_wide_id};
+ghost use Rattle.jdwp_script.specs.TooWide.{is_wide, literal_wide, group_wide, field_wide, method_wide, class_wide, field_value_wide, elements_wide, object_wide, slot_value_wide, place_wide, step_wide, thread_wide, module_wide, is_no_width, has_wide_id};
 
 use crate::judge::Judge;
 use crate::script::{
-    Class, Elements, Field, FieldValue, Group, Method, Object, Script, Sizes, Thread,
+    Class, Elements, Field, FieldValue, Group, Method, Module, Object, Script, Sizes, Thread,
 };
 use crate::step::{Literal, Place, SlotValue, Step};
 use jdwp_value::ReferenceTypeId;
@@ -113,6 +113,7 @@ impl Judge<Class> for TooWide {
             || self.has_bad(&class.interfaces)
             || self.has_bad(&class.fields)
             || self.has_bad(&class.methods)
+            || is_wide(class.module.0, self.sizes.object())
     }
 }
 
@@ -245,6 +246,18 @@ impl Judge<Thread> for TooWide {
     }
 }
 
+impl Judge<Module> for TooWide {
+    ghost Meaning = { ModulePart };
+
+    ghost meaning = { module_part };
+
+    ghost judges = { λ wide. module_wide wide.sizes };
+
+    fn is_bad(&self, module: &Module) -> bool {
+        is_wide(module.id.0, self.sizes.object())
+    }
+}
+
 /// Whether a width is outside 1 to 8, or an id does not fit its width.
 pub(crate) fn has_wide_id(script: &Script) -> bool
     ensures { result ≡ has_wide_id (script_part script.now) }
@@ -258,4 +271,5 @@ pub(crate) fn has_wide_id(script: &Script) -> bool
         || wide.has_bad(&script.classes)
         || wide.has_bad(&script.objects)
         || wide.has_bad(&script.threads)
+        || wide.has_bad(&script.modules)
 }

@@ -6,10 +6,10 @@ use Rattle.std.specs.List.{list_any, filter, flat_map}
 use Rattle.jdwp_script.specs.declared.fault.ScriptFault.{ScriptFault}
 use Rattle.jdwp_script.specs.declared.fault.ScriptFault.TheVariants.{IdTwice, IdTooWide, BadReference, OverLimit}
 use Rattle.jdwp_script.specs.Parts.{StepPart, Call, Go, Return, Throwing, Prepare, Start, ThreadPart, ScriptPart}
-use Rattle.jdwp_script.specs.Limits.{over, is_long, is_in, started_by, started, group_passes, class_passes, object_passes, thread_passes, passes_limit}
+use Rattle.jdwp_script.specs.Limits.{over, is_long, is_in, started_by, started, group_passes, class_passes, object_passes, thread_passes, module_passes, passes_limit}
 use Rattle.jdwp_script.specs.Limits as limits
 use Rattle.jdwp_script.specs.Faults.{first_fault}
-use Rattle.jdwp_script.specs.References.{nothing, known_in, groups_lost, types_lost, class_lost, object_lost, thread_lost, prepared, has_bad_reference}
+use Rattle.jdwp_script.specs.References.{nothing, known_in, groups_lost, types_lost, class_lost, object_lost, thread_lost, module_lost, prepared, has_bad_reference}
 use Rattle.jdwp_script.specs.Twice.{is_twice, has_id_twice}
 use Rattle.jdwp_script.specs.TooWide.{has_wide_id}
 use Rattle.jdwp_value.specs.Rising.{put_in, rising}
@@ -123,11 +123,13 @@ few_live live s h =
     let classes = neither (over 1_024 s.classes) _ groups.1 in
     let objects = neither (over 1_024 s.objects) _ classes.1 in
     let threads = neither (over 1_024 s.threads) _ objects.1 in
-    let each_group = neither (list_any group_passes s.groups) _ threads.1 in
+    let modules = neither (over 1_024 s.modules) _ threads.1 in
+    let each_group = neither (list_any group_passes s.groups) _ modules.1 in
     let each_class = neither (list_any class_passes s.classes) _ each_group.1 in
     let each_object = neither (list_any object_passes s.objects) _ each_class.1 in
     let each_thread = neither (list_any thread_passes s.threads) _ each_object.1 in
-    ltb-false live (length (limits.living s.threads)) each_thread.1
+    let each_module = neither (list_any module_passes s.modules) _ each_thread.1 in
+    ltb-false live (length (limits.living s.threads)) each_module.1
 
 some_live : (s : ScriptPart) → has_bad_reference s ≡ false → 1 ≤ length (limits.living s.threads)
 some_live s h =
@@ -136,7 +138,8 @@ some_live s h =
     let classes = neither (list_any (class_lost (known_in s)) s.classes) _ types.1 in
     let objects = neither (list_any (object_lost (known_in s)) s.objects) _ classes.1 in
     let threads = neither (list_any (thread_lost (known_in s)) s.threads) _ objects.1 in
-    let once = neither (is_twice (started s.threads)) _ threads.1 in
+    let modules = neither (list_any module_lost s.modules) _ threads.1 in
+    let once = neither (is_twice (started s.threads)) _ modules.1 in
     let ready = neither (is_twice (prepared s.threads)) _ once.1 in
     let none = eqb-false (length (limits.living s.threads)) 0 ready.1 in
     omega arith

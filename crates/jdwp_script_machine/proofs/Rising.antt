@@ -3,7 +3,7 @@ use borrow.Rule.Slice.PartMut.{mid_of, put_mid}
 use Rattle.std.proofs.Common.{◌≡◌, ℕ, zero, suc, ◌+◌, ◌-◌, ◌≤◌, ◌<◌, List, [], ◌∷◌, ◌++◌, length, map, take, drop, nat_le, refl, sym, ap, ap₂, ◌∙◌, inl, inr, add-one, append_assoc, append-nil, length-drop, arith}
 use Rattle.std.proofs.lemmas.List.{map-append, length-map, take-map, drop-map, take_all, drop_all}
 use Rattle.std.specs.List.{insert}
-use Rattle.jdwp_script.specs.Parts.{GroupPart, ClassPart, ObjectPart, ThreadPart, ScriptPart}
+use Rattle.jdwp_script.specs.Parts.{GroupPart, ClassPart, ObjectPart, ThreadPart, ModulePart, ScriptPart}
 use Rattle.jdwp_value.specs.Rising.{put_in, rising}
 use Rattle.jdwp_script_machine.specs.LookUps.{first_put, place_for}
 use Rattle.jdwp_script_machine.specs.States.{class_arranged, arranged}
@@ -51,8 +51,9 @@ risen f key was now new first i next within long before put =
     ∙ first_put_after key i (map f was) (map f now) lt split ∙ ap₂ (λ u v. u ++ rising key v) (take-map f i was) (drop-map f i was)
 
 -- the lists of a script, each put by rising id
-pub put_together : (s : ScriptPart) (groups : List GroupPart) (classes : List ClassPart) (objects : List ObjectPart) (threads : List ThreadPart)
+pub put_together : (s : ScriptPart) (groups : List GroupPart) (classes : List ClassPart) (objects : List ObjectPart) (threads : List ThreadPart) (modules : List ModulePart)
     → groups ≡ rising (λ (g : GroupPart). g.id) s.groups → classes ≡ map class_arranged (rising (λ (c : ClassPart). c.id) s.classes)
     → objects ≡ rising (λ (o : ObjectPart). o.id) s.objects → threads ≡ rising (λ (t : ThreadPart). t.id) s.threads
-    → record s { groups = groups; classes = classes; objects = objects; threads = threads } ≡ arranged s
-put_together s groups classes objects threads g c o t = rw (g, c, o, t) refl
+    → modules ≡ rising (λ (m : ModulePart). m.id) s.modules
+    → record s { groups = groups; classes = classes; objects = objects; threads = threads; modules = modules } ≡ arranged s
+put_together s groups classes objects threads modules g c o t m = rw (g, c, o, t, m) refl

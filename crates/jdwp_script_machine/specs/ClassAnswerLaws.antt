@@ -8,7 +8,7 @@ use Rattle.jdwp_wire.specs.Listed.{list_refusal}
 use Rattle.jdwp_layout.specs.declared.answer.Answer.TheVariants.{Data, Error}
 use Rattle.jdwp_layout.specs.declared.item.Field.{Field}
 use Rattle.jdwp_layout.specs.declared.item.Field.TheVariants as field
-use Rattle.jdwp_layout.specs.CommandNumbers.{CommandNumber, VIRTUAL_MACHINE, REFERENCE_TYPE, CLASS_TYPE, METHOD, VERSION, CLASSES_BY_SIGNATURE, ALL_CLASSES, TOP_LEVEL_THREAD_GROUPS, CAPABILITIES, DISPOSE_OBJECTS, CAPABILITIES_NEW, ALL_CLASSES_WITH_GENERIC, SIGNATURE, CLASS_LOADER, MODIFIERS, FIELDS, METHODS, GET_STATICS, SOURCE_FILE, CLASS_STATUS, INTERFACES, SIGNATURE_WITH_GENERIC, FIELDS_WITH_GENERIC, METHODS_WITH_GENERIC, SUPERCLASS, LINE_TABLE, VARIABLE_TABLE, IS_OBSOLETE, VARIABLE_TABLE_WITH_GENERIC}
+use Rattle.jdwp_layout.specs.CommandNumbers.{CommandNumber, VIRTUAL_MACHINE, REFERENCE_TYPE, CLASS_TYPE, METHOD, VERSION, CLASSES_BY_SIGNATURE, ALL_CLASSES, TOP_LEVEL_THREAD_GROUPS, CAPABILITIES, DISPOSE_OBJECTS, CAPABILITIES_NEW, ALL_CLASSES_WITH_GENERIC, ALL_MODULES, SIGNATURE, CLASS_LOADER, MODIFIERS, FIELDS, METHODS, GET_STATICS, SOURCE_FILE, CLASS_STATUS, INTERFACES, SIGNATURE_WITH_GENERIC, FIELDS_WITH_GENERIC, METHODS_WITH_GENERIC, CLASS_MODULE, SUPERCLASS, LINE_TABLE, VARIABLE_TABLE, IS_OBSOLETE, VARIABLE_TABLE_WITH_GENERIC}
 use Rattle.jdwp_layout.specs.Shapes.{Fields}
 use Rattle.jdwp_layout.specs.Writes.{entry_refusal}
 use Rattle.jdwp_layout.specs.Meanings.{ScalarMeaning, Boolean, Int, Long, Object, OfField, ReferenceType, Text, Valued, DatumMeaning, One, Many}
@@ -18,8 +18,8 @@ use Rattle.jdwp_script.specs.Literals.{literal_value}
 use Rattle.jdwp_script.specs.Parts.{GroupPart, FieldPart, MethodPart, ClassPart}
 use Rattle.jdwp_script_machine.specs.LookUps.{with_id}
 use Rattle.jdwp_script_machine.specs.States.{State}
-use Rattle.jdwp_script_machine.specs.ClassAnswers.{version, class_entry, class_entry_signed, class_entry_generic, classes_by_signature, all_classes, all_classes_generic, group_entry, groups_below, top_groups, incapable, disposed, virtual_machine_answer, field_entry, field_entry_generic, method_entry, method_entry_generic, interface_entry, static_of, static_value, answer_entries, and_value, entry_value, field_values, source_answer, signature_answer, loader_answer, modifiers_answer, fields_answer, methods_answer, statics_answer, source_file_answer, status_answer, interfaces_answer, generic_signature_answer, generic_fields_answer, generic_methods_answer, reference_type_answer, superclass_answer, class_type_answer, index_long, line_entry, lines_answer, variable_entry, variable_entry_generic, line_table_answer, variable_table_answer, obsolete_answer, generic_variable_table_answer, method_answer, status}
-use Rattle.jdwp_script_machine.specs.Sound.{IsShort, Fits, ValueFits, IfThere, FieldIsSound, SlotIsSound, MethodIsSound, ClassIsSound, GroupIsSound, IsSound}
+use Rattle.jdwp_script_machine.specs.ClassAnswers.{version, class_entry, class_entry_signed, class_entry_generic, classes_by_signature, all_classes, all_classes_generic, group_entry, groups_below, top_groups, module_entry, all_modules, incapable, disposed, virtual_machine_answer, field_entry, field_entry_generic, method_entry, method_entry_generic, interface_entry, static_of, static_value, answer_entries, and_value, entry_value, field_values, source_answer, signature_answer, loader_answer, modifiers_answer, fields_answer, methods_answer, statics_answer, source_file_answer, status_answer, interfaces_answer, generic_signature_answer, generic_fields_answer, generic_methods_answer, module_answer, reference_type_answer, superclass_answer, class_type_answer, index_long, line_entry, lines_answer, variable_entry, variable_entry_generic, line_table_answer, variable_table_answer, obsolete_answer, generic_variable_table_answer, method_answer, status}
+use Rattle.jdwp_script_machine.specs.Sound.{IsShort, Fits, ValueFits, IfThere, FieldIsSound, SlotIsSound, MethodIsSound, ClassIsSound, GroupIsSound, ModuleIsSound, IsSound}
 use Rattle.jdwp_script_machine.specs.SoundLaws.{all_found, zero_fits}
 use Rattle.jdwp_script_machine.specs.FitLaws.{short_text, entries_fit, all_filter, short_filter, counted_fits}
 use Rattle.jdwp_script_machine.specs.GoodAnswers.{Good, command_at, error_good, above, at_number, alone_good, class_good, prepared_good, method_good, entries_good}
@@ -78,6 +78,12 @@ top_groups_good : (s : State) → IsSound s → Good s TOP_LEVEL_THREAD_GROUPS (
 unfolding Good
 top_groups_good s sound = rw (groups_fit s 0 sound) refl
 
+all_modules_good : (s : State) → IsSound s → Good s ALL_MODULES (all_modules s.script)
+unfolding Good
+all_modules_good s sound =
+    let w = s.script.sizes in
+    rw (entries_fit (ModuleIsSound w) (entry_refusal w (Fields (field.ObjectId ∷ []))) module_entry (λ m h. rw h.id refl) s.script.modules sound.script.modules sound.script.each_module) refl
+
 incapable_good : (s : State) → Good s CAPABILITIES (incapable 7)
 unfolding Good
 incapable_good s = refl
@@ -104,7 +110,8 @@ virtual_machine_good s sound n content =
     at_number s DISPOSE_OBJECTS n _ _ (disposed_good s content) (
     at_number s CAPABILITIES_NEW n _ _ (alone_good s CAPABILITIES_NEW (incapable 32) (incapable_new_good s) content) (
     at_number s ALL_CLASSES_WITH_GENERIC n _ _ (alone_good s ALL_CLASSES_WITH_GENERIC (all_classes_generic s) (all_generic_good s sound) content) (
-    no_command s (command_at VIRTUAL_MACHINE n)))))))))
+    at_number s ALL_MODULES n _ _ (alone_good s ALL_MODULES (all_modules s.script) (all_modules_good s sound) content) (
+    no_command s (command_at VIRTUAL_MACHINE n))))))))))
 
 -- ---- values that were asked
 
@@ -238,6 +245,10 @@ generic_signature_good : (s : State) (c : ClassPart) → ClassIsSound s.script.s
 unfolding Good
 generic_signature_good s c h = rw (short_text c.signature (signed s.script.sizes c h)) refl
 
+module_of_class_good : (s : State) (c : ClassPart) → ClassIsSound s.script.sizes c → Good s CLASS_MODULE (Data (One (Object c.module) ∷ []))
+unfolding Good
+module_of_class_good s c h = rw h.module refl
+
 pub reference_type_good : (s : State) → IsSound s → (n : ℕ) (content : List DatumMeaning) → Good s (command_at REFERENCE_TYPE n) (reference_type_answer s n content)
 reference_type_good s sound n content =
     at_number s SIGNATURE n _ _ (class_good s SIGNATURE sound signature_answer (λ c h. alone_good s SIGNATURE _ (signature_good s c h)) content) (
@@ -252,7 +263,8 @@ reference_type_good s sound n content =
     at_number s SIGNATURE_WITH_GENERIC n _ _ (class_good s SIGNATURE_WITH_GENERIC sound generic_signature_answer (λ c h. alone_good s SIGNATURE_WITH_GENERIC _ (generic_signature_good s c h)) content) (
     at_number s FIELDS_WITH_GENERIC n _ _ (prepared_good s FIELDS_WITH_GENERIC sound generic_fields_answer (λ c h. alone_good s FIELDS_WITH_GENERIC _ (generic_fields_good s c h)) content) (
     at_number s METHODS_WITH_GENERIC n _ _ (prepared_good s METHODS_WITH_GENERIC sound generic_methods_answer (λ c h. alone_good s METHODS_WITH_GENERIC _ (generic_methods_good s c h)) content) (
-    no_command s (command_at REFERENCE_TYPE n)))))))))))))
+    at_number s CLASS_MODULE n _ _ (class_good s CLASS_MODULE sound module_answer (λ c h. alone_good s CLASS_MODULE _ (module_of_class_good s c h)) content) (
+    no_command s (command_at REFERENCE_TYPE n))))))))))))))
 
 -- ---- ClassType
 

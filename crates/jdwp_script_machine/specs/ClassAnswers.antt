@@ -6,12 +6,12 @@ use Rattle.jdwp_wire.specs.ErrorCodes.{INVALID_FIELDID, ILLEGAL_ARGUMENT, NOT_IM
 use Rattle.jdwp_value.specs.Locations.{type_tag_byte}
 use Rattle.jdwp_layout.specs.declared.answer.Answer.{Answer}
 use Rattle.jdwp_layout.specs.declared.answer.Answer.TheVariants.{Data, Error}
-use Rattle.jdwp_layout.specs.CommandNumbers.{VERSION, CLASSES_BY_SIGNATURE, ALL_CLASSES, TOP_LEVEL_THREAD_GROUPS, CAPABILITIES, DISPOSE_OBJECTS, CAPABILITIES_NEW, ALL_CLASSES_WITH_GENERIC, SIGNATURE, CLASS_LOADER, MODIFIERS, FIELDS, METHODS, GET_STATICS, SOURCE_FILE, CLASS_STATUS, INTERFACES, SIGNATURE_WITH_GENERIC, FIELDS_WITH_GENERIC, METHODS_WITH_GENERIC, SUPERCLASS, LINE_TABLE, VARIABLE_TABLE, IS_OBSOLETE, VARIABLE_TABLE_WITH_GENERIC}
+use Rattle.jdwp_layout.specs.CommandNumbers.{VERSION, CLASSES_BY_SIGNATURE, ALL_CLASSES, TOP_LEVEL_THREAD_GROUPS, CAPABILITIES, DISPOSE_OBJECTS, CAPABILITIES_NEW, ALL_CLASSES_WITH_GENERIC, ALL_MODULES, SIGNATURE, CLASS_LOADER, MODIFIERS, FIELDS, METHODS, GET_STATICS, SOURCE_FILE, CLASS_STATUS, INTERFACES, SIGNATURE_WITH_GENERIC, FIELDS_WITH_GENERIC, METHODS_WITH_GENERIC, CLASS_MODULE, SUPERCLASS, LINE_TABLE, VARIABLE_TABLE, IS_OBSOLETE, VARIABLE_TABLE_WITH_GENERIC}
 use Rattle.jdwp_layout.specs.Meanings.{ScalarMeaning, Byte, Boolean, Int, Long, Text, Object, ReferenceType, Method, OfField, Valued, One, Many}
 use Rattle.jdwp_script.specs.declared.script.Line.{Line}
 use Rattle.jdwp_script.specs.declared.step.Literal.{Literal}
 use Rattle.jdwp_script.specs.Literals.{literal_value}
-use Rattle.jdwp_script.specs.Parts.{GroupPart, FieldPart, SlotPart, MethodPart, ClassPart, ScriptPart}
+use Rattle.jdwp_script.specs.Parts.{GroupPart, FieldPart, SlotPart, MethodPart, ClassPart, ModulePart, ScriptPart}
 use Rattle.jdwp_script_machine.specs.LookUps.{with_id}
 use Rattle.jdwp_script_machine.specs.States.{State, is_prepared}
 use Rattle.jdwp_script_machine.specs.Requests.{Asks, alone, of_class, of_prepared_class, of_method, of_entries}
@@ -60,6 +60,13 @@ groups_below script parent = filter (λ (g : GroupPart). g.parent == parent) scr
 abbrev pub top_groups : ScriptPart → Answer
 top_groups script = Data (Many (map group_entry (groups_below script 0)) ∷ [])
 
+abbrev pub module_entry : ModulePart → List ScalarMeaning
+module_entry m = Object m.id ∷ []
+
+-- AllModules, by rising id
+abbrev pub all_modules : ScriptPart → Answer
+all_modules script = Data (Many (map module_entry script.modules) ∷ [])
+
 -- Capabilities and CapabilitiesNew: none
 abbrev pub incapable : ℕ → Answer
 incapable n = Data (replicate n (One (Boolean false)))
@@ -78,8 +85,9 @@ virtual_machine_answer s number content =
     if number == CAPABILITIES.number then alone (incapable 7) content else (
     if number == DISPOSE_OBJECTS.number then disposed content else (
     if number == CAPABILITIES_NEW.number then alone (incapable 32) content else (
-    if number == ALL_CLASSES_WITH_GENERIC.number then alone (all_classes_generic s) content else
-    Error NOT_IMPLEMENTED)))))))
+    if number == ALL_CLASSES_WITH_GENERIC.number then alone (all_classes_generic s) content else (
+    if number == ALL_MODULES.number then alone (all_modules s.script) content else
+    Error NOT_IMPLEMENTED))))))))
 
 -- ---- ReferenceType
 
@@ -170,6 +178,10 @@ generic_fields_answer c = alone (Data (Many (map field_entry_generic c.fields) �
 abbrev pub generic_methods_answer : ClassPart → Asks
 generic_methods_answer c = alone (Data (Many (map method_entry_generic c.methods) ∷ []))
 
+-- 0 where the class is in none
+abbrev pub module_answer : ClassPart → Asks
+module_answer c = alone (Data (One (Object c.module) ∷ []))
+
 abbrev pub reference_type_answer : State → ℕ → Asks
 reference_type_answer s number content =
     if number == SIGNATURE.number then of_class s.script signature_answer content else (
@@ -183,8 +195,9 @@ reference_type_answer s number content =
     if number == INTERFACES.number then of_prepared_class s interfaces_answer content else (
     if number == SIGNATURE_WITH_GENERIC.number then of_class s.script generic_signature_answer content else (
     if number == FIELDS_WITH_GENERIC.number then of_prepared_class s generic_fields_answer content else (
-    if number == METHODS_WITH_GENERIC.number then of_prepared_class s generic_methods_answer content else
-    Error NOT_IMPLEMENTED)))))))))))
+    if number == METHODS_WITH_GENERIC.number then of_prepared_class s generic_methods_answer content else (
+    if number == CLASS_MODULE.number then of_class s.script module_answer content else
+    Error NOT_IMPLEMENTED))))))))))))
 
 -- ---- ClassType
 

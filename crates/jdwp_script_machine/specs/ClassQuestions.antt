@@ -15,7 +15,7 @@ use Rattle.jdwp_script_machine.specs.declared.method_answers.MethodQuestion.TheV
 use Rattle.jdwp_script_machine.specs.declared.machine_answers.MachineQuestion.{MachineQuestion}
 use Rattle.jdwp_script_machine.specs.declared.machine_answers.MachineQuestion.TheVariants as machine
 use Rattle.jdwp_script_machine.specs.States.{State}
-use Rattle.jdwp_script_machine.specs.ClassAnswers.{version, all_classes, all_classes_generic, top_groups, incapable, field_entry, field_entry_generic, method_entry, method_entry_generic, interface_entry, status, source_answer, lines_answer, variable_entry, variable_entry_generic}
+use Rattle.jdwp_script_machine.specs.ClassAnswers.{version, all_classes, all_classes_generic, all_modules, top_groups, incapable, field_entry, field_entry_generic, method_entry, method_entry_generic, interface_entry, status, source_answer, lines_answer, variable_entry, variable_entry_generic}
 
 -- ---- what is answered by what is asked
 
@@ -26,6 +26,7 @@ machine_answer_to s machine.TopLevelThreadGroups = top_groups s.script
 machine_answer_to s machine.Capabilities = incapable 7
 machine_answer_to s machine.CapabilitiesNew = incapable 32
 machine_answer_to s machine.AllClassesWithGeneric = all_classes_generic s
+machine_answer_to s machine.AllModules = all_modules s.script
 
 abbrev pub class_answer_to : State → ClassQuestion → ClassPart → Answer
 class_answer_to s class.Signature c = Data (One (Text c.signature) ∷ [])
@@ -39,6 +40,7 @@ class_answer_to s class.Interfaces c = Data (Many (map interface_entry c.interfa
 class_answer_to s class.GenericSignature c = Data (One (Text c.signature) ∷ One (Text []) ∷ [])
 class_answer_to s class.GenericFields c = Data (Many (map field_entry_generic c.fields) ∷ [])
 class_answer_to s class.GenericMethods c = Data (Many (map method_entry_generic c.methods) ∷ [])
+class_answer_to s class.InModule c = Data (One (Object c.module) ∷ [])
 class_answer_to s class.Superclass c = Data (One (ReferenceType c.superclass) ∷ [])
 
 abbrev pub method_answer_to : MethodQuestion → MethodPart → Answer

@@ -3,20 +3,20 @@ use Rattle.std.proofs.Common.{◌≡◌, ℕ, zero, suc, ℤ, pos, negsuc, ◌^�
 use Rattle.std.proofs.lemmas.Bool.{eqb-true}
 use Rattle.std.specs.List.{AllByRecursion}
 use Rattle.jdwp_wire.specs.declared.error_code.ErrorCode.{ErrorCode}
-use Rattle.jdwp_wire.specs.ErrorCodes.{INVALID_THREAD_GROUP, THREAD_NOT_SUSPENDED, INVALID_OBJECT, INVALID_CLASS, CLASS_NOT_PREPARED, INVALID_METHODID, INVALID_FRAMEID, ILLEGAL_ARGUMENT, INVALID_INDEX, INVALID_LENGTH}
+use Rattle.jdwp_wire.specs.ErrorCodes.{INVALID_THREAD_GROUP, THREAD_NOT_SUSPENDED, INVALID_OBJECT, INVALID_CLASS, CLASS_NOT_PREPARED, INVALID_METHODID, INVALID_FRAMEID, INVALID_MODULE, ILLEGAL_ARGUMENT, INVALID_INDEX, INVALID_LENGTH}
 use Rattle.jdwp_layout.specs.declared.answer.Answer.{Answer}
 use Rattle.jdwp_layout.specs.declared.answer.Answer.TheVariants.{Error}
 use Rattle.jdwp_layout.specs.CommandNumbers.{CommandNumber}
 use Rattle.jdwp_layout.specs.Meanings.{ScalarMeaning, Int, Object, ReferenceType, Method, Frame, DatumMeaning, One, Many}
 use Rattle.jdwp_machine.specs.Laws.{IsMachineError, MayAnswer}
-use Rattle.jdwp_script.specs.Parts.{GroupPart, MethodPart, ClassPart, ObjectPart, ThreadPart}
+use Rattle.jdwp_script.specs.Parts.{GroupPart, MethodPart, ClassPart, ObjectPart, ThreadPart, ModulePart}
 use Rattle.jdwp_script_machine.specs.States.{FrameNow, ThreadNow, State, thread_at, is_prepared}
-use Rattle.jdwp_script_machine.specs.Sites.{class_in, method_in, object_in, group_in, thread_in}
+use Rattle.jdwp_script_machine.specs.Sites.{class_in, method_in, object_in, group_in, thread_in, module_in}
 use Rattle.jdwp_script_machine.specs.SlotWrites.{frame_in}
 use Rattle.jdwp_script_machine.specs.Steps.{FRAME_LIMIT}
-use Rattle.jdwp_script_machine.specs.Requests.{Asks, alone, found_or, of_class, of_prepared_class, of_method_in, of_method, of_object, of_group, of_thread, of_frames, of_frame_in, of_frame, of_entries, part_from, part_of, of_part}
+use Rattle.jdwp_script_machine.specs.Requests.{Asks, alone, found_or, of_class, of_prepared_class, of_method_in, of_method, of_object, of_group, of_module, of_thread, of_frames, of_frame_in, of_frame, of_entries, part_from, part_of, of_part}
 use Rattle.jdwp_script_machine.specs.ThreadAnswers.{frames_at}
-use Rattle.jdwp_script_machine.specs.Sound.{MethodIsSound, ClassIsSound, ObjectIsSound, GroupIsSound, ThreadIsSound, FrameIsSound, ThreadNowIsSound, IsSound}
+use Rattle.jdwp_script_machine.specs.Sound.{MethodIsSound, ClassIsSound, ObjectIsSound, GroupIsSound, ThreadIsSound, ModuleIsSound, FrameIsSound, ThreadNowIsSound, IsSound}
 use Rattle.jdwp_script_machine.specs.StateLaws.{either}
 use Rattle.jdwp_script_machine.specs.SoundLaws.{all_found}
 use Rattle.jdwp_script_machine.specs.FitLaws.{all_take, all_drop, length_take, length_drop}
@@ -113,6 +113,13 @@ group_good s command sound answer good (One (Object id) ∷ rest) =
     found_good s command INVALID_THREAD_GROUP (λ (g : GroupPart). answer g rest) (group_in s.script id) group_error
     (λ g h. good g (all_found (λ (g : GroupPart). g.id) (GroupIsSound s.script.sizes) s.script.groups id g sound.script.each_group h) rest)
 group_good s command sound answer good content = illegal s command
+
+pub module_good : (s : State) (command : CommandNumber) → IsSound s → (answer : ModulePart → Asks) → ((m : ModulePart) → ModuleIsSound s.script.sizes m → (rest : List DatumMeaning) → Good s command (answer m rest))
+    → (content : List DatumMeaning) → Good s command (of_module s.script answer content)
+module_good s command sound answer good (One (Object id) ∷ rest) =
+    found_good s command INVALID_MODULE (λ (m : ModulePart). answer m rest) (module_in s.script id) (above INVALID_MODULE (omega arith) (omega arith))
+    (λ m h. good m (all_found (λ (m : ModulePart). m.id) (ModuleIsSound s.script.sizes) s.script.modules id m sound.script.each_module h) rest)
+module_good s command sound answer good content = illegal s command
 
 pub thread_good : (s : State) (command : CommandNumber) → IsSound s → (answer : ThreadPart → Asks) → ((t : ThreadPart) → ThreadIsSound s.script.sizes t → (rest : List DatumMeaning) → Good s command (answer t rest))
     → (content : List DatumMeaning) → Good s command (of_thread s.script answer content)

@@ -5,7 +5,7 @@ use Rattle.std.specs.List.{AllByRecursion}
 use Rattle.jdwp_wire.specs.Widths.{Widths}
 use Rattle.jdwp_value.specs.Locations.{location_refusal}
 use Rattle.jdwp_event.specs.Occurrences.{OccurrenceMeaning, Moved, Entered, Left, Threw, Prepared, Started, PlaceMeaning}
-use Rattle.jdwp_machine.specs.Laws.{OccurrenceFits, HasShortSignature}
+use Rattle.jdwp_machine.specs.Laws.{OccurrenceFits, HasShortSignature, SIGNATURE_LIMIT}
 use Rattle.jdwp_script.specs.declared.step.Place.{Place}
 use Rattle.jdwp_script.specs.declared.step.Throw.{Throw}
 use Rattle.jdwp_script.specs.Literals.{literal_value}
@@ -25,7 +25,7 @@ pub record IsGood (w : Widths) (o : OccurrenceMeaning) : Type 0 where
 
 pub record PlaceIsGood (w : Widths) (p : PlaceMeaning) : Type 0 where
   pub fits : location_refusal w p.location ≡ None
-  pub short : length p.class.signature ≤ 512
+  pub short : length p.class.signature ≤ SIGNATURE_LIMIT
 
 -- ---- places
 

@@ -16,6 +16,7 @@ pub mod PartLaws
 pub mod ClassAnswers
 pub mod ClassQuestions
 pub mod ObjectAnswers
+pub mod ModuleAnswers
 pub mod Lives
 pub mod ThreadAnswers
 pub mod SlotQuestions
@@ -29,6 +30,7 @@ pub mod ScriptMeaning
 pub mod GoodAnswers
 pub mod ClassAnswerLaws
 pub mod ObjectAnswerLaws
+pub mod ModuleAnswerLaws
 pub mod ThreadAnswerLaws
 pub mod FrameLaws
 pub mod SlotLaws

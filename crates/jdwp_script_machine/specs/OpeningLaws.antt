@@ -12,14 +12,14 @@ use Rattle.jdwp_script.specs.declared.script.FieldValue.{FieldValue}
 use Rattle.jdwp_script.specs.declared.step.SlotValue.{SlotValue}
 use Rattle.jdwp_script.specs.declared.step.Literal.{Literal}
 use Rattle.jdwp_script.specs.Literals.{value_of_bits}
-use Rattle.jdwp_script.specs.Parts.{GroupPart, FieldPart, SlotPart, MethodPart, ClassPart, ElementsPart, ObjectPart, StepPart, Call, Go, Return, Throwing, Prepare, Start, ThreadPart, ScriptPart}
-use Rattle.jdwp_script.specs.Limits.{over, is_long, if_there, is_in, field_passes, slot_passes, method_passes, class_passes, elements_pass, object_passes, step_passes, is_deep, thread_passes, living, passes_limit}
-use Rattle.jdwp_script.specs.Twice.{group_ids, object_ids, shared_ids, is_twice, class_ids, method_ids, field_ids, frame_ids, has_id_twice}
+use Rattle.jdwp_script.specs.Parts.{GroupPart, FieldPart, SlotPart, MethodPart, ClassPart, ElementsPart, ObjectPart, StepPart, Call, Go, Return, Throwing, Prepare, Start, ThreadPart, ModulePart, ScriptPart}
+use Rattle.jdwp_script.specs.Limits.{TEXT_LIMIT, LIST_LIMIT, over, is_long, if_there, is_in, field_passes, slot_passes, method_passes, class_passes, elements_pass, object_passes, step_passes, is_deep, thread_passes, module_passes, living, passes_limit}
+use Rattle.jdwp_script.specs.Twice.{group_ids, object_ids, module_ids, shared_ids, is_twice, class_ids, method_ids, field_ids, frame_ids, has_id_twice}
 use Rattle.jdwp_script.specs.Twice as twice
-use Rattle.jdwp_script.specs.TooWide.{is_wide, literal_wide, group_wide, field_wide, method_wide, class_wide, field_value_wide, elements_wide, object_wide, slot_value_wide, step_wide, thread_wide, is_no_width, has_wide_id}
+use Rattle.jdwp_script.specs.TooWide.{is_wide, literal_wide, group_wide, field_wide, method_wide, class_wide, field_value_wide, elements_wide, object_wide, slot_value_wide, step_wide, thread_wide, module_wide, is_no_width, has_wide_id}
 use Rattle.jdwp_value.specs.Rising.{put_in, rising}
 use Rattle.jdwp_script_machine.specs.States.{class_arranged, arranged, opening_thread, opening_of, opening}
-use Rattle.jdwp_script_machine.specs.Sound.{IsShort, Fits, ValueFits, IfThere, FieldIsSound, SlotIsSound, MethodIsSound, ClassIsSound, ElementsAreSound, ObjectIsSound, GroupIsSound, StepIsSound, ThreadIsSound, ScriptIsSound, ThreadNowIsSound, thread_ids, IsSound}
+use Rattle.jdwp_script_machine.specs.Sound.{IsShort, Fits, ValueFits, IfThere, FieldIsSound, SlotIsSound, MethodIsSound, ClassIsSound, ElementsAreSound, ObjectIsSound, GroupIsSound, StepIsSound, ThreadIsSound, ModuleIsSound, ScriptIsSound, ThreadNowIsSound, thread_ids, IsSound}
 use Rattle.jdwp_script_machine.specs.StateLaws.{eqb_swap}
 
 -- ---- words
@@ -96,43 +96,44 @@ field_sound w f limits wide =
     let i = neither (is_wide w.field f.id) (if_there (literal_wide w) f.value) wide in
     record {
       id = id_fits w.field f.id i.0;
-      name = short 512 f.name (omega arith) l.0;
-      signature = short 512 f.signature (omega arith) l.1;
+      name = short TEXT_LIMIT f.name (omega arith) l.0;
+      signature = short TEXT_LIMIT f.signature (omega arith) l.1;
       value = if_each (λ (v : Literal). literal_wide w v ≡ false) (ValueFits w) (literal_fits w) f.value (if_none (literal_wide w) f.value i.1);
     }
 
 slot_sound : (x : SlotPart) → slot_passes x ≡ false → SlotIsSound x
 slot_sound x limits =
     let l = neither (is_long x.name) (is_long x.signature) limits in
-    record { name = short 512 x.name (omega arith) l.0; signature = short 512 x.signature (omega arith) l.1 }
+    record { name = short TEXT_LIMIT x.name (omega arith) l.0; signature = short TEXT_LIMIT x.signature (omega arith) l.1 }
 
 method_sound : (w : Widths) (m : MethodPart) → method_passes m ≡ false → method_wide w m ≡ false → MethodIsSound w m
 method_sound w m limits wide =
-    let l = each_false (is_long m.name) (is_long m.signature ∷ over 256 m.lines ∷ over 256 m.slots ∷ list_any slot_passes m.slots ∷ []) limits in
+    let l = each_false (is_long m.name) (is_long m.signature ∷ over LIST_LIMIT m.lines ∷ over LIST_LIMIT m.slots ∷ list_any slot_passes m.slots ∷ []) limits in
     record {
       id = id_fits w.method m.id wide;
-      name = short 512 m.name (omega arith) l.0;
-      signature = short 512 m.signature (omega arith) l.1.0;
-      lines = short 256 m.lines (omega arith) l.1.1.0;
-      slots = short 256 m.slots (omega arith) l.1.1.1.0;
+      name = short TEXT_LIMIT m.name (omega arith) l.0;
+      signature = short TEXT_LIMIT m.signature (omega arith) l.1.0;
+      lines = short LIST_LIMIT m.lines (omega arith) l.1.1.0;
+      slots = short LIST_LIMIT m.slots (omega arith) l.1.1.1.0;
       each_slot = with_each (λ (x : SlotPart). slot_passes x ≡ false) SlotIsSound slot_sound m.slots (none_passes slot_passes m.slots l.1.1.1.1.0);
     }
 
 class_sound : (w : Widths) (c : ClassPart) → class_passes c ≡ false → class_wide w c ≡ false → ClassIsSound w c
 class_sound w c limits wide =
-    let l = each_false (is_long c.signature) (over 256 c.interfaces ∷ if_there is_long c.source ∷ over 256 c.fields ∷ over 256 c.methods ∷ list_any field_passes c.fields ∷ list_any method_passes c.methods ∷ []) limits in
-    let i = each_false (is_wide w.reference c.id) (is_wide w.reference c.superclass ∷ list_any (is_wide w.reference) c.interfaces ∷ list_any (field_wide w) c.fields ∷ list_any (method_wide w) c.methods ∷ []) wide in
+    let l = each_false (is_long c.signature) (over LIST_LIMIT c.interfaces ∷ if_there is_long c.source ∷ over LIST_LIMIT c.fields ∷ over LIST_LIMIT c.methods ∷ list_any field_passes c.fields ∷ list_any method_passes c.methods ∷ []) limits in
+    let i = each_false (is_wide w.reference c.id) (is_wide w.reference c.superclass ∷ list_any (is_wide w.reference) c.interfaces ∷ list_any (field_wide w) c.fields ∷ list_any (method_wide w) c.methods ∷ is_wide w.object c.module ∷ []) wide in
     record {
       id = id_fits w.reference c.id i.0;
       superclass = id_fits w.reference c.superclass i.1.0;
-      signature = not_over 512 c.signature l.0;
-      interfaces = short 256 c.interfaces (omega arith) l.1.0;
+      signature = not_over TEXT_LIMIT c.signature l.0;
+      interfaces = short LIST_LIMIT c.interfaces (omega arith) l.1.0;
       each_interface = with_each (λ (n : ℕ). is_wide w.reference n ≡ false) (Fits w.reference) (id_fits w.reference) c.interfaces (none_passes (is_wide w.reference) c.interfaces i.1.1.0);
-      source = if_each (λ (t : List ℕ). is_long t ≡ false) IsShort (λ t h. short 512 t (omega arith) h) c.source (if_none is_long c.source l.1.1.0);
-      fields = short 256 c.fields (omega arith) l.1.1.1.0;
+      source = if_each (λ (t : List ℕ). is_long t ≡ false) IsShort (λ t h. short TEXT_LIMIT t (omega arith) h) c.source (if_none is_long c.source l.1.1.0);
+      fields = short LIST_LIMIT c.fields (omega arith) l.1.1.1.0;
       each_field = with_both (λ (f : FieldPart). field_passes f ≡ false) (λ (f : FieldPart). field_wide w f ≡ false) (FieldIsSound w) (field_sound w) c.fields (none_passes field_passes c.fields l.1.1.1.1.1.0) (none_passes (field_wide w) c.fields i.1.1.1.0);
-      methods = short 256 c.methods (omega arith) l.1.1.1.1.0;
+      methods = short LIST_LIMIT c.methods (omega arith) l.1.1.1.1.0;
       each_method = with_both (λ (m : MethodPart). method_passes m ≡ false) (λ (m : MethodPart). method_wide w m ≡ false) (MethodIsSound w) (method_sound w) c.methods (none_passes method_passes c.methods l.1.1.1.1.1.1.0) (none_passes (method_wide w) c.methods i.1.1.1.1.0);
+      «module» = id_fits w.object c.module i.1.1.1.1.1.0;
     }
 
 apart_bits : (o a b : Bool) → (o && (a || b)) ≡ false → ((o && a) ≡ false) × ((o && b) ≡ false)
@@ -152,7 +153,7 @@ held_value_fits w x h = literal_fits w x.value (neither (is_wide w.field x.field
 
 object_sound : (w : Widths) (o : ObjectPart) → object_passes o ≡ false → object_wide w o ≡ false → ObjectIsSound w o
 object_sound w o limits wide =
-    let l = each_false (over 256 o.fields) (if_there (over 65_000) o.text ∷ if_there elements_pass o.array ∷ []) limits in
+    let l = each_false (over LIST_LIMIT o.fields) (if_there (over 65_000) o.text ∷ if_there elements_pass o.array ∷ []) limits in
     let i = each_false (is_wide w.object o.id) (is_wide w.reference o.class ∷ list_any (field_value_wide w) o.fields ∷ if_there (elements_wide w) o.array ∷ []) wide in
     record {
       id = id_fits w.object o.id i.0;
@@ -164,7 +165,7 @@ object_sound w o limits wide =
 group_sound : (w : Widths) (g : GroupPart) → is_long g.name ≡ false → group_wide w g ≡ false → GroupIsSound w g
 group_sound w g limits wide =
     let i = neither (is_wide w.object g.id) (is_wide w.object g.parent) wide in
-    record { id = id_fits w.object g.id i.0; name = short 512 g.name (omega arith) limits; parent = id_fits w.object g.parent i.1 }
+    record { id = id_fits w.object g.id i.0; name = short TEXT_LIMIT g.name (omega arith) limits; parent = id_fits w.object g.parent i.1 }
 
 step_sound : (w : Widths) (step : StepPart) → step_wide w step ≡ false → StepIsSound w step
 step_sound w (Call c) wide =
@@ -186,10 +187,13 @@ thread_sound w t limits wide =
     let i = each_false (is_wide w.object t.id) (is_wide w.object t.group ∷ list_any (step_wide w) t.steps ∷ []) wide in
     record {
       id = id_fits w.object t.id i.0;
-      name = short 512 t.name (omega arith) l.0;
+      name = short TEXT_LIMIT t.name (omega arith) l.0;
       group = id_fits w.object t.group i.1.0;
       steps = with_each (λ (x : StepPart). step_wide w x ≡ false) (StepIsSound w) (step_sound w) t.steps (none_passes (step_wide w) t.steps i.1.1.0);
     }
+
+module_sound : (w : Widths) (m : ModulePart) → module_passes m ≡ false → module_wide w m ≡ false → ModuleIsSound w m
+module_sound w m limits wide = record { id = id_fits w.object m.id wide; name = short TEXT_LIMIT m.name (omega arith) limits }
 
 -- ---- lists by rising id
 
@@ -266,6 +270,7 @@ arranged_class_sound w c h =
       each_field = all_rising (λ (f : FieldPart). f.id) (FieldIsSound w) c.fields h.each_field;
       methods = short_rising (λ (m : MethodPart). m.id) c.methods h.methods;
       each_method = all_rising (λ (m : MethodPart). m.id) (MethodIsSound w) c.methods h.each_method;
+      «module» = h.module;
     }
 
 each_mapped : {A B : Type 0} (P : A → Type 0) (Q : B → Type 0) (f : A → B) → ((x : A) → P x → Q (f x)) → (xs : List A) → AllByRecursion P xs → AllByRecursion Q (map f xs)
@@ -282,20 +287,21 @@ arranged_sound : (live : ℕ) (s : ScriptPart) → passes_limit live s ≡ false
 arranged_sound live s limits wide =
     let w = s.sizes in
     let l = each_false (is_long s.name) (
-    over 1_024 s.groups ∷ over 1_024 s.classes ∷ over 1_024 s.objects ∷ over 1_024 s.threads ∷ list_any (λ (g : GroupPart). is_long g.name) s.groups ∷ list_any class_passes s.classes
-    ∷ list_any object_passes s.objects ∷ list_any thread_passes s.threads ∷ over live (living s.threads) ∷ []) limits in
+    over 1_024 s.groups ∷ over 1_024 s.classes ∷ over 1_024 s.objects ∷ over 1_024 s.threads ∷ over 1_024 s.modules ∷ list_any (λ (g : GroupPart). is_long g.name) s.groups
+    ∷ list_any class_passes s.classes ∷ list_any object_passes s.objects ∷ list_any thread_passes s.threads ∷ list_any module_passes s.modules ∷ over live (living s.threads) ∷ []) limits in
     let i = each_false (is_no_width w.field) (
     is_no_width w.method ∷ is_no_width w.object ∷ is_no_width w.reference ∷ is_no_width w.frame ∷ list_any (group_wide w) s.groups ∷ list_any (class_wide w) s.classes
-    ∷ list_any (object_wide w) s.objects ∷ list_any (thread_wide w) s.threads ∷ []) wide in
+    ∷ list_any (object_wide w) s.objects ∷ list_any (thread_wide w) s.threads ∷ list_any (module_wide w) s.modules ∷ []) wide in
     let kinds = i.1.1.1.1.1 in
-    let each = l.1.1.1.1.1 in
+    let each = l.1.1.1.1.1.1 in
     let groups = with_both (λ (g : GroupPart). is_long g.name ≡ false) (λ (g : GroupPart). group_wide w g ≡ false) (GroupIsSound w) (group_sound w) s.groups (none_passes (λ (g : GroupPart). is_long g.name) s.groups each.0) (none_passes (group_wide w) s.groups kinds.0) in
     let classes = with_both (λ (c : ClassPart). class_passes c ≡ false) (λ (c : ClassPart). class_wide w c ≡ false) (ClassIsSound w) (class_sound w) s.classes (none_passes class_passes s.classes each.1.0) (none_passes (class_wide w) s.classes kinds.1.0) in
     let objects = with_both (λ (o : ObjectPart). object_passes o ≡ false) (λ (o : ObjectPart). object_wide w o ≡ false) (ObjectIsSound w) (object_sound w) s.objects (none_passes object_passes s.objects each.1.1.0) (none_passes (object_wide w) s.objects kinds.1.1.0) in
     let threads = with_both (λ (t : ThreadPart). thread_passes t ≡ false) (λ (t : ThreadPart). thread_wide w t ≡ false) (ThreadIsSound w) (thread_sound w) s.threads (none_passes thread_passes s.threads each.1.1.1.0) (none_passes (thread_wide w) s.threads kinds.1.1.1.0) in
+    let modules = with_both (λ (m : ModulePart). module_passes m ≡ false) (λ (m : ModulePart). module_wide w m ≡ false) (ModuleIsSound w) (module_sound w) s.modules (none_passes module_passes s.modules each.1.1.1.1.0) (none_passes (module_wide w) s.modules kinds.1.1.1.1.0) in
     record {
       widths = record { field_is = is_width w.field i.0; method_is = is_width w.method i.1.0; object_is = is_width w.object i.1.1.0; reference_is = is_width w.reference i.1.1.1.0; frame_is = is_width w.frame i.1.1.1.1.0 };
-      name = short 512 s.name (omega arith) l.0;
+      name = short TEXT_LIMIT s.name (omega arith) l.0;
       groups = short_rising (λ (g : GroupPart). g.id) s.groups (short 1_024 s.groups (omega arith) l.1.0);
       each_group = all_rising (λ (g : GroupPart). g.id) (GroupIsSound w) s.groups groups;
       classes = rw (length-map (rising (λ (c : ClassPart). c.id) s.classes) class_arranged) (short_rising (λ (c : ClassPart). c.id) s.classes (short 1_024 s.classes (omega arith) l.1.1.0));
@@ -303,6 +309,8 @@ arranged_sound live s limits wide =
       each_object = all_rising (λ (o : ObjectPart). o.id) (ObjectIsSound w) s.objects objects;
       threads = short_rising (λ (t : ThreadPart). t.id) s.threads (short 1_024 s.threads (omega arith) l.1.1.1.1.0);
       each_thread = all_rising (λ (t : ThreadPart). t.id) (ThreadIsSound w) s.threads threads;
+      modules = short_rising (λ (m : ModulePart). m.id) s.modules (short 1_024 s.modules (omega arith) l.1.1.1.1.1.0);
+      each_module = all_rising (λ (m : ModulePart). m.id) (ModuleIsSound w) s.modules modules;
     }
 
 opening_thread_sound : (w : Widths) (script : ScriptPart) (t : ThreadPart) → ThreadIsSound w t → ThreadNowIsSound w (opening_thread script t)
@@ -324,7 +332,7 @@ opening_of_sound script sound distinct =
 thread_ids_distinct : (s : ScriptPart) → has_id_twice s ≡ false → IsDistinct (λ (a b : ℕ). a == b) (map (λ (t : ThreadPart). t.id) (rising (λ (t : ThreadPart). t.id) s.threads))
 thread_ids_distinct s h =
     let shared = neither (is_twice (shared_ids s)) (is_twice (class_ids s.classes) || (is_twice (method_ids s.classes) || (is_twice (field_ids s.classes) || is_twice (frame_ids s.threads)))) h in
-    distinct_rising (λ (t : ThreadPart). t.id) s.threads (distinct_all (twice.thread_ids s.threads) (twice_back (group_ids s.groups ++ object_ids s.objects) (twice.thread_ids s.threads) shared.0))
+    distinct_rising (λ (t : ThreadPart). t.id) s.threads (distinct_all (twice.thread_ids s.threads) (twice_back ((group_ids s.groups ++ object_ids s.objects) ++ module_ids s.modules) (twice.thread_ids s.threads) shared.0))
 
 pub opening_sound : (live : ℕ) (s : ScriptPart) → passes_limit live s ≡ false → has_id_twice s ≡ false → has_wide_id s ≡ false → IsSound (opening s)
 opening_sound live s limits apart wide = opening_of_sound (arranged s) (arranged_sound live s limits wide) (thread_ids_distinct s apart)

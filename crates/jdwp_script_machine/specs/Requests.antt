@@ -2,13 +2,13 @@
 -- request, and data that are not in the row's layout are an illegal argument.
 use Rattle.std.specs.Prelude.{ℕ, ◌^◌, ℤ, pos, negsuc, zero, suc, List, [], ◌∷◌, Bool, true, false, length, take, drop, nat_lt, if◌then◌else◌, Option, Some, None}
 use Rattle.jdwp_wire.specs.declared.error_code.ErrorCode.{ErrorCode}
-use Rattle.jdwp_wire.specs.ErrorCodes.{INVALID_THREAD_GROUP, INVALID_OBJECT, INVALID_CLASS, CLASS_NOT_PREPARED, INVALID_METHODID, INVALID_FRAMEID, ILLEGAL_ARGUMENT, INVALID_INDEX, INVALID_LENGTH}
+use Rattle.jdwp_wire.specs.ErrorCodes.{INVALID_THREAD_GROUP, INVALID_OBJECT, INVALID_CLASS, CLASS_NOT_PREPARED, INVALID_METHODID, INVALID_FRAMEID, INVALID_MODULE, ILLEGAL_ARGUMENT, INVALID_INDEX, INVALID_LENGTH}
 use Rattle.jdwp_layout.specs.declared.answer.Answer.{Answer}
 use Rattle.jdwp_layout.specs.declared.answer.Answer.TheVariants.{Error}
 use Rattle.jdwp_layout.specs.Meanings.{ScalarMeaning, Int, Object, ReferenceType, Method, Frame, DatumMeaning, One, Many}
-use Rattle.jdwp_script.specs.Parts.{GroupPart, MethodPart, ClassPart, ObjectPart, ThreadPart, ScriptPart}
+use Rattle.jdwp_script.specs.Parts.{GroupPart, MethodPart, ClassPart, ObjectPart, ThreadPart, ModulePart, ScriptPart}
 use Rattle.jdwp_script_machine.specs.States.{FrameNow, State, is_prepared}
-use Rattle.jdwp_script_machine.specs.Sites.{class_in, method_in, object_in, group_in, thread_in}
+use Rattle.jdwp_script_machine.specs.Sites.{class_in, method_in, object_in, group_in, thread_in, module_in}
 use Rattle.jdwp_script_machine.specs.SlotWrites.{frame_in}
 
 -- what a command answers by the data that are left
@@ -50,6 +50,11 @@ of_object script answer content = Error ILLEGAL_ARGUMENT
 abbrev pub of_group : ScriptPart → (GroupPart → Asks) → Asks
 of_group script answer (One (Object id) ∷ rest) = found_or INVALID_THREAD_GROUP (λ (g : GroupPart). answer g rest) (group_in script id)
 of_group script answer content = Error ILLEGAL_ARGUMENT
+
+-- 0 is no module's id
+abbrev pub of_module : ScriptPart → (ModulePart → Asks) → Asks
+of_module script answer (One (Object id) ∷ rest) = found_or INVALID_MODULE (λ (m : ModulePart). answer m rest) (module_in script id)
+of_module script answer content = Error ILLEGAL_ARGUMENT
 
 -- A thread of the script. Whether it lives is not the machine's to say: an id that is no thread's is no object's.
 abbrev pub of_thread : ScriptPart → (ThreadPart → Asks) → Asks

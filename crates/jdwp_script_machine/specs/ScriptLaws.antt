@@ -8,7 +8,7 @@ use Rattle.jdwp_value.specs.declared.location.Location.TheVariants.{Null, At}
 use Rattle.jdwp_value.specs.declared.value.Value.{Value}
 use Rattle.jdwp_value.specs.Values.{tag_of}
 use Rattle.jdwp_layout.specs.declared.answer.Answer.TheVariants.{Data, Error}
-use Rattle.jdwp_layout.specs.CommandNumbers.{is_command, VIRTUAL_MACHINE, REFERENCE_TYPE, CLASS_TYPE, METHOD, OBJECT_REFERENCE, STRING_REFERENCE, THREAD_REFERENCE, THREAD_GROUP_REFERENCE, ARRAY_REFERENCE, EVENT_REQUEST, STACK_FRAME, SET_REQUEST, SET_SLOTS}
+use Rattle.jdwp_layout.specs.CommandNumbers.{is_command, VIRTUAL_MACHINE, REFERENCE_TYPE, CLASS_TYPE, METHOD, OBJECT_REFERENCE, STRING_REFERENCE, THREAD_REFERENCE, THREAD_GROUP_REFERENCE, ARRAY_REFERENCE, EVENT_REQUEST, STACK_FRAME, MODULE_REFERENCE, SET_REQUEST, SET_SLOTS}
 use Rattle.jdwp_layout.specs.Meanings.{Int, DatumMeaning, One}
 use Rattle.jdwp_event.specs.Occurrences.{runs_out, started}
 use Rattle.jdwp_machine.specs.Meanings.{has}
@@ -29,6 +29,7 @@ use Rattle.jdwp_script_machine.specs.SoundLaws.{stepped_sound, ended_sound, writ
 use Rattle.jdwp_script_machine.specs.GoodAnswers.{Good, command_at, from_good, error_good, above, at_set, at_number}
 use Rattle.jdwp_script_machine.specs.ClassAnswerLaws.{no_command, virtual_machine_good, reference_type_good, class_type_good, methods_answered}
 use Rattle.jdwp_script_machine.specs.ObjectAnswerLaws.{objects_answered, strings_answered, arrays_answered, groups_answered}
+use Rattle.jdwp_script_machine.specs.ModuleAnswerLaws.{modules_answered}
 use Rattle.jdwp_script_machine.specs.ThreadAnswerLaws.{threads_answered, stack_frames_answered, set_answered}
 use Rattle.jdwp_script_machine.specs.FrameLaws.{stepped_frames, ended_frames, written_frames, written_script, frames_same, places_written, command_is}
 use Rattle.jdwp_script_machine.specs.SlotLaws.{values_written}
@@ -49,7 +50,8 @@ answer_good s sound set number content =
     at_set s set ARRAY_REFERENCE number _ _ (arrays_answered s sound number content) (
     at_set s set EVENT_REQUEST number _ _ (at_number s SET_REQUEST number _ _ (set_answered s content) (no_command s (command_at EVENT_REQUEST number))) (
     at_set s set STACK_FRAME number _ _ (stack_frames_answered s sound number content) (
-    no_command s (command_at set number))))))))))))
+    at_set s set MODULE_REFERENCE number _ _ (modules_answered s sound number content) (
+    no_command s (command_at set number)))))))))))))
 
 -- ---- refused writes
 

@@ -1,4 +1,4 @@
--- What a script has: its classes, methods and objects by their ids, places in methods, and what filters read of them.
+-- What a script has: its classes, methods, objects and modules by their ids, places in methods, and what filters read of them.
 use Rattle.std.specs.Prelude.{ℕ, ◌==◌, ◌||◌, Bool, false, List, [], ◌∷◌, map, filter, length, nat_le, zero, suc, if◌then◌else◌, Option, Some, None, option_map, option_and_then}
 use Rattle.std.specs.List.{list_any}
 use Rattle.std.specs.Int.RustNames.{unsigned_abs}
@@ -10,7 +10,7 @@ use Rattle.jdwp_value.specs.declared.value.TaggedId.{TaggedId}
 use Rattle.jdwp_value.specs.Values.{object_id}
 use Rattle.jdwp_event.specs.Occurrences.{ClassMeaning, PlaceMeaning}
 use Rattle.jdwp_script.specs.declared.script.Line.{Line}
-use Rattle.jdwp_script.specs.Parts.{GroupPart, MethodPart, ClassPart, ObjectPart, ElementsPart, ThreadPart, ScriptPart}
+use Rattle.jdwp_script.specs.Parts.{GroupPart, MethodPart, ClassPart, ObjectPart, ElementsPart, ThreadPart, ModulePart, ScriptPart}
 use Rattle.jdwp_script_machine.specs.LookUps.{with_id, is_some}
 use Rattle.jdwp_script_machine.specs.States.{FrameNow}
 
@@ -28,6 +28,9 @@ group_in script id = with_id (λ (g : GroupPart). g.id) id script.groups
 
 abbrev pub thread_in : ScriptPart → ℕ → Option ThreadPart
 thread_in script id = with_id (λ (t : ThreadPart). t.id) id script.threads
+
+abbrev pub module_in : ScriptPart → ℕ → Option ModulePart
+module_in script id = with_id (λ (m : ModulePart). m.id) id script.modules
 
 -- whether an id is that of an object, a thread or a group
 abbrev pub is_known : ScriptPart → ℕ → Bool

@@ -9,8 +9,9 @@ use Rattle.jdwp_script.specs.declared.script.FieldValue.{FieldValue}
 use Rattle.jdwp_script.specs.declared.step.SlotValue.{SlotValue}
 use Rattle.jdwp_script.specs.declared.step.Literal.{Literal}
 use Rattle.jdwp_script.specs.Literals.{literal_value, value_of_bits}
-use Rattle.jdwp_script.specs.Parts.{GroupPart, FieldPart, SlotPart, MethodPart, ClassPart, ElementsPart, ObjectPart, CallPart, StepPart, Call, Go, Return, Throwing, Prepare, Start, ThreadPart, ScriptPart}
+use Rattle.jdwp_script.specs.Parts.{GroupPart, FieldPart, SlotPart, MethodPart, ClassPart, ElementsPart, ObjectPart, CallPart, StepPart, Call, Go, Return, Throwing, Prepare, Start, ThreadPart, ModulePart, ScriptPart}
 use Rattle.jdwp_script_machine.specs.States.{SlotNow, FrameNow, ThreadNow, State}
+use Rattle.jdwp_machine.specs.Laws.{SIGNATURE_LIMIT}
 use Rattle.jdwp_script_machine.specs.Steps.{FRAME_LIMIT}
 
 -- ---- words
@@ -52,7 +53,7 @@ pub record MethodIsSound (w : Widths) (m : MethodPart) : Type 0 where
 pub record ClassIsSound (w : Widths) (c : ClassPart) : Type 0 where
   pub id : Fits w.reference c.id
   pub superclass : Fits w.reference c.superclass
-  pub signature : length c.signature ≤ 512
+  pub signature : length c.signature ≤ SIGNATURE_LIMIT
   pub interfaces : IsShort c.interfaces
   pub each_interface : AllByRecursion (Fits w.reference) c.interfaces
   pub source : IfThere IsShort c.source
@@ -60,6 +61,7 @@ pub record ClassIsSound (w : Widths) (c : ClassPart) : Type 0 where
   pub each_field : AllByRecursion (FieldIsSound w) c.fields
   pub methods : IsShort c.methods
   pub each_method : AllByRecursion (MethodIsSound w) c.methods
+  pub «module» : Fits w.object c.module
 
 pub record ElementsAreSound (w : Widths) (e : ElementsPart) : Type 0 where
   pub bits : IsShort e.bits
@@ -95,6 +97,10 @@ pub record ThreadIsSound (w : Widths) (t : ThreadPart) : Type 0 where
   pub group : Fits w.object t.group
   pub steps : AllByRecursion (StepIsSound w) t.steps
 
+pub record ModuleIsSound (w : Widths) (m : ModulePart) : Type 0 where
+  pub id : Fits w.object m.id
+  pub name : IsShort m.name
+
 pub record ScriptIsSound (s : ScriptPart) : Type 0 where
   pub widths : AreWidths s.sizes.field s.sizes.method s.sizes.object s.sizes.reference s.sizes.frame
   pub name : IsShort s.name
@@ -105,6 +111,8 @@ pub record ScriptIsSound (s : ScriptPart) : Type 0 where
   pub each_object : AllByRecursion (ObjectIsSound s.sizes) s.objects
   pub threads : IsShort s.threads
   pub each_thread : AllByRecursion (ThreadIsSound s.sizes) s.threads
+  pub modules : IsShort s.modules
+  pub each_module : AllByRecursion (ModuleIsSound s.sizes) s.modules
 
 -- ---- the threads as they are now
 

@@ -2,7 +2,7 @@
 use Rattle.std.specs.Prelude.{ℕ, ℤ, ◌==◌, Bool, true, false, not, List, [], ◌∷◌, map, if◌then◌else◌, Option}
 use Rattle.std.specs.List.{list_any}
 use Rattle.jdwp_value.specs.declared.value.Value.{Value}
-use Rattle.jdwp_script.specs.Parts.{GroupPart, FieldPart, MethodPart, ClassPart, ObjectPart, StepPart, Call, Go, Return, Throwing, Prepare, Start, ThreadPart, ScriptPart}
+use Rattle.jdwp_script.specs.Parts.{GroupPart, FieldPart, MethodPart, ClassPart, ObjectPart, StepPart, Call, Go, Return, Throwing, Prepare, Start, ThreadPart, ModulePart, ScriptPart}
 use Rattle.jdwp_value.specs.Rising.{rising}
 use Rattle.jdwp_script_machine.specs.LookUps.{with_id}
 
@@ -92,6 +92,7 @@ arranged s =
       classes = map class_arranged (rising (λ (c : ClassPart). c.id) s.classes);
       objects = rising (λ (o : ObjectPart). o.id) s.objects;
       threads = rising (λ (t : ThreadPart). t.id) s.threads;
+      modules = rising (λ (m : ModulePart). m.id) s.modules;
     }
 
 -- whether a step of some thread passes a test

@@ -7,6 +7,7 @@ use Rattle.jdwp_event.specs.Occurrences.{OccurrenceMeaning, Moved, Entered, Left
 use Rattle.jdwp_script.specs.declared.step.Place.{Place}
 use Rattle.jdwp_script.specs.declared.step.SlotValue.{SlotValue}
 use Rattle.jdwp_script.specs.declared.step.Throw.{Throw}
+use Rattle.jdwp_script.specs.Limits.{LIST_LIMIT}
 use Rattle.jdwp_script.specs.Literals.{literal_value}
 use Rattle.jdwp_script.specs.Parts.{ClassPart, ObjectPart, CallPart, StepPart, Call, Go, Return, Throwing, Prepare, Start, ThreadPart, ScriptPart}
 use Rattle.jdwp_script_machine.specs.LookUps.{changed}
@@ -47,7 +48,7 @@ frames_after (Start t) fs = fs
 
 -- more frames a thread never has
 abbrev pub FRAME_LIMIT : ℕ
-FRAME_LIMIT = 256
+FRAME_LIMIT = LIST_LIMIT
 
 -- where an exception is caught: the null location where it isn't
 abbrev pub caught_at : ScriptPart → Option Place → Location

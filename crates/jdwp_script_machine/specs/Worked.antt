@@ -1,6 +1,7 @@
--- A worked machine: two threads, of which the first calls a method, moves in it and returns, and the second has no step.
+-- A worked machine: two threads, of which the first calls a method, moves in it and returns, and the second has no step; and two modules,
+-- in one of which the class is.
 use Rattle.std.specs.Prelude.{◌≡◌, ℕ, ℤ, zero, suc, pos, negsuc, List, [], ◌∷◌, codes, Some}
-use Rattle.jdwp_wire.specs.ErrorCodes.{INVALID_CLASS, INVALID_METHODID, INVALID_LOCATION, INVALID_FRAMEID, TYPE_MISMATCH, INVALID_SLOT, INVALID_INDEX, INVALID_LENGTH, NOT_IMPLEMENTED}
+use Rattle.jdwp_wire.specs.ErrorCodes.{INVALID_CLASS, INVALID_MODULE, INVALID_METHODID, INVALID_LOCATION, INVALID_FRAMEID, TYPE_MISMATCH, INVALID_SLOT, INVALID_INDEX, INVALID_LENGTH, NOT_IMPLEMENTED}
 use Rattle.jdwp_value.specs.declared.location.Location.{Location}
 use Rattle.jdwp_value.specs.declared.location.Location.TheVariants.{Null, At}
 use Rattle.jdwp_value.specs.declared.location.TypeTag.TheVariants.{Class}
@@ -47,6 +48,7 @@ main_class =
       source = Some (codes "Main.java");
       fields = [];
       methods = run_method ∷ [];
+      «module» = 6;
     }
 
 abbrev pub steps_with : List SlotValue → List StepPart
@@ -65,6 +67,7 @@ machine_with slots =
       classes = main_class ∷ [];
       objects = [];
       threads = record { id = 1; name = codes "main"; group = 5; steps = steps_with slots } ∷ record { id = 2; name = codes "work"; group = 5; steps = [] } ∷ [];
+      modules = record { id = 7; name = codes "base" } ∷ record { id = 6; name = codes "app" } ∷ [];
     })
 
 -- after so many steps of the first thread
@@ -138,6 +141,13 @@ pub record AnswersAreWorked : Type 0 where
   pub location_null : tested Null ≡ Error INVALID_LOCATION
   pub location_class : tested (place 11 20 0) ≡ Error INVALID_CLASS
   pub location_method : tested (place 10 21 0) ≡ Error INVALID_METHODID
+  pub modules : answer_at (machine 1) 1 22 [] ≡ Data (Many ((Object 6 ∷ []) ∷ (Object 7 ∷ []) ∷ []) ∷ [])
+  pub module_of_class : answer_at (machine 1) 2 19 (One (ReferenceType 10) ∷ []) ≡ Data (One (Object 6) ∷ [])
+  pub module_of_no_class : answer_at (machine 1) 2 19 (One (ReferenceType 11) ∷ []) ≡ Error INVALID_CLASS
+  pub module_name : answer_at (machine 1) 18 1 (One (Object 6) ∷ []) ≡ Data (One (Text (codes "app")) ∷ [])
+  pub module_loader : answer_at (machine 1) 18 2 (One (Object 7) ∷ []) ≡ Data (One (Object 0) ∷ [])
+  pub no_such_module : answer_at (machine 1) 18 1 (One (Object 5) ∷ []) ≡ Error INVALID_MODULE
+  pub no_module : answer_at (machine 1) 18 2 (One (Object 0) ∷ []) ≡ Error INVALID_MODULE
   pub starred : answer_at (machine 1) 1 11 (One (Text []) ∷ []) ≡ Error NOT_IMPLEMENTED
 
 -- ---- slots

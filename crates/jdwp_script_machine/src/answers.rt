@@ -13,13 +13,14 @@ use crate::group_answers::group_answer;
 use crate::location_answers::set_answer;
 use crate::machine_answers::virtual_machine_answer;
 use crate::method_answers::method_answer;
+use crate::module_answers::module_reference_answer;
 use crate::object_answers::{object_answer, string_answer};
 use crate::state::MachineState;
 use crate::thread_answers::thread_answer;
 use jdwp_layout::numbers::{
-    ARRAY_REFERENCE, CLASS_TYPE, EVENT_REQUEST, METHOD, OBJECT_REFERENCE, REFERENCE_TYPE,
-    SET_REQUEST, STACK_FRAME, STRING_REFERENCE, THREAD_GROUP_REFERENCE, THREAD_REFERENCE,
-    VIRTUAL_MACHINE,
+    ARRAY_REFERENCE, CLASS_TYPE, EVENT_REQUEST, METHOD, MODULE_REFERENCE, OBJECT_REFERENCE,
+    REFERENCE_TYPE, SET_REQUEST, STACK_FRAME, STRING_REFERENCE, THREAD_GROUP_REFERENCE,
+    THREAD_REFERENCE, VIRTUAL_MACHINE,
 };
 use jdwp_layout::{Answer, Datum};
 use jdwp_wire::{ErrorCode, NoMemory};
@@ -54,6 +55,7 @@ pub(crate) fn answer_at(
         ARRAY_REFERENCE => array_answer(alloc, state, number, content),
         EVENT_REQUEST => event_request_answer(alloc, state, number, content),
         STACK_FRAME => stack_frame_answer(alloc, state, number, content),
+        MODULE_REFERENCE => module_reference_answer(alloc, state, number, content),
         _ => Ok(Answer::Error(ErrorCode::NOT_IMPLEMENTED)),
     }
 }

@@ -9,7 +9,7 @@ ghost use Rattle.jdwp_script_machine.specs.States.{class_arranged, arranged};
 use crate::look_ups::Numbered;
 use jdwp_script::{Class, Script};
 
-/// Arranges the script's groups, classes, objects and threads, and the fields and methods of each class, by rising id.
+/// Arranges the script's groups, classes, objects, threads and modules, and the fields and methods of each class, by rising id.
 pub(crate) fn arrange(script: &mut Script)
     ensures { script_part script.new ≡ arranged (script_part script.old) }
 {
@@ -17,6 +17,7 @@ pub(crate) fn arrange(script: &mut Script)
     arrange_classes(&mut script.classes);
     rise(&mut script.objects);
     rise(&mut script.threads);
+    rise(&mut script.modules);
 }
 
 /// Arranges classes by rising id, and the fields and methods of each.

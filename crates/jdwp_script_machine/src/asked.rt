@@ -1,19 +1,21 @@
 //! What a command's data name first, with the data that are left behind it, or else the refusal.
 ghost use Rattle.std.specs.Prelude.{◌≡◌, List, map};
-ghost use Rattle.jdwp_script.specs.Parts.{ClassPart, GroupPart, MethodPart, ObjectPart, ThreadPart};
-ghost use Rattle.jdwp_script.specs.Meanings.{class_part, group_part, method_part, object_part, script_part, thread_part};
+ghost use Rattle.jdwp_script.specs.Parts.{ClassPart, GroupPart, MethodPart, ModulePart, ObjectPart, ThreadPart};
+ghost use Rattle.jdwp_script.specs.Meanings.{class_part, group_part, method_part, module_part, object_part, script_part, thread_part};
 ghost use Rattle.jdwp_layout.specs.Meanings.{meanings};
 ghost use Rattle.jdwp_script_machine.specs.Asked.{by_asked};
-ghost use Rattle.jdwp_script_machine.specs.Requests.{Asks, of_class, of_method_in, of_prepared_class, of_frame, of_frame_in, of_frames, of_group, of_object, of_thread};
+ghost use Rattle.jdwp_script_machine.specs.Requests.{Asks, of_class, of_method_in, of_prepared_class, of_frame, of_frame_in, of_frames, of_group, of_module, of_object, of_thread};
 ghost use Rattle.jdwp_script_machine.specs.StateMeanings.{frame_now, state_now};
 ghost use Rattle.jdwp_script_machine.specs.States.{FrameNow};
 ghost use Rattle.jdwp_script_machine.specs.ThreadAnswers.{frames_at};
 
 use crate::class_look_ups::is_prepared;
-use crate::places::{class_of, frame_of, frames_of, group_of, method_of, object_of, thread_of};
+use crate::places::{
+    class_of, frame_of, frames_of, group_of, method_of, module_of, object_of, thread_of,
+};
 use crate::state::{FrameState, MachineState};
 use jdwp_layout::{Datum, Scalar};
-use jdwp_script::{Class, Group, Method, Object, Script, Thread};
+use jdwp_script::{Class, Group, Method, Module, Object, Script, Thread};
 use jdwp_wire::ErrorCode;
 
 /// The class that the data name first.
@@ -99,6 +101,23 @@ pub(crate) fn group_asked<'a>(
         [Datum::One(Scalar::ObjectId(id)), rest @ ..] => match group_of(script, *id) {
             Some(group) => Ok((group, rest)),
             None => Err(ErrorCode::INVALID_THREAD_GROUP),
+        },
+        _ => Err(ErrorCode::ILLEGAL_ARGUMENT),
+    }
+}
+
+/// The module that the data name first.
+pub(crate) fn module_asked<'a>(
+    script: &'a Script,
+    content: &'a [Datum],
+) -> Result<(&'a Module, &'a [Datum]), ErrorCode>
+    ensures { (answer : ModulePart → Asks) → of_module (script_part script.now) answer
+        (meanings content.now) ≡ by_asked module_part answer result }
+{
+    match content {
+        [Datum::One(Scalar::ObjectId(id)), rest @ ..] => match module_of(script, *id) {
+            Some(module) => Ok((module, rest)),
+            None => Err(ErrorCode::INVALID_MODULE),
         },
         _ => Err(ErrorCode::ILLEGAL_ARGUMENT),
     }

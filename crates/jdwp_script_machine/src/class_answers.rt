@@ -18,8 +18,9 @@ use crate::replies::{of_pair, of_scalar, of_text};
 use crate::state::MachineState;
 use crate::static_values::static_values;
 use jdwp_layout::numbers::{
-    CLASS_LOADER, CLASS_STATUS, FIELDS, FIELDS_WITH_GENERIC, GET_STATICS, INTERFACES, METHODS,
-    METHODS_WITH_GENERIC, MODIFIERS, SIGNATURE, SIGNATURE_WITH_GENERIC, SOURCE_FILE, SUPERCLASS,
+    CLASS_LOADER, CLASS_MODULE, CLASS_STATUS, FIELDS, FIELDS_WITH_GENERIC, GET_STATICS, INTERFACES,
+    METHODS, METHODS_WITH_GENERIC, MODIFIERS, SIGNATURE, SIGNATURE_WITH_GENERIC, SOURCE_FILE,
+    SUPERCLASS,
 };
 use jdwp_layout::{Answer, Datum, Scalar};
 use jdwp_script::{Class, Script};
@@ -41,6 +42,7 @@ pub(crate) enum ClassQuestion {
     GenericSignature,
     GenericFields,
     GenericMethods,
+    InModule,
     Superclass,
 }
 
@@ -83,6 +85,7 @@ pub fn reference_type_answer(
         METHODS_WITH_GENERIC => {
             of_prepared(alloc, state, ClassQuestion::GenericMethods, content)
         }
+        CLASS_MODULE => of_class(alloc, state, ClassQuestion::InModule, content),
         _ => Ok(Answer::Error(ErrorCode::NOT_IMPLEMENTED)),
     }
 }
@@ -198,6 +201,7 @@ fn class_answer_to(
         ClassQuestion::GenericSignature => generic_signature(alloc, class),
         ClassQuestion::GenericFields => GenericMemberEntry.answer_each(alloc, &class.fields),
         ClassQuestion::GenericMethods => GenericMemberEntry.answer_each(alloc, &class.methods),
+        ClassQuestion::InModule => of_scalar(alloc, Scalar::ObjectId(class.module)),
         ClassQuestion::Superclass => of_scalar(alloc, Scalar::ReferenceTypeId(class.superclass)),
     }
 }

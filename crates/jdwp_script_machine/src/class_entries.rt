@@ -1,17 +1,18 @@
-//! The entries of lists of classes, fields, methods, interfaces, lines and variables.
+//! The entries of lists of classes, modules, fields, methods, interfaces, lines and variables.
 ghost use Rattle.std.specs.Prelude.{◌≡◌, ℕ, IfOk};
-ghost use Rattle.jdwp_script.specs.Parts.{ClassPart, FieldPart, MethodPart, SlotPart};
-ghost use Rattle.jdwp_script.specs.Meanings.{class_part, field_part, method_part, slot_part};
+ghost use Rattle.jdwp_script.specs.Parts.{ClassPart, FieldPart, MethodPart, ModulePart, SlotPart};
+ghost use Rattle.jdwp_script.specs.Meanings.{class_part, field_part, method_part, module_part, slot_part};
 ghost use Rattle.jdwp_script.specs.declared.script.Line as declared;
 ghost use Rattle.jdwp_layout.specs.Meanings.{Text, scalar_meaning};
 ghost use Rattle.jdwp_script_machine.specs.StateMeanings.{state_now};
-ghost use Rattle.jdwp_script_machine.specs.ClassAnswers.{class_entry_signed, class_entry_generic, field_entry, field_entry_generic, method_entry, method_entry_generic, interface_entry, index_long, line_entry, variable_entry, variable_entry_generic};
+ghost use Rattle.jdwp_script_machine.specs.ClassAnswers.{class_entry_signed, class_entry_generic, module_entry, field_entry, field_entry_generic, method_entry, method_entry_generic, interface_entry, index_long, line_entry, variable_entry, variable_entry_generic};
 
 use crate::class_look_ups::status;
 use crate::entries::{Tell, empty_text, text};
+use crate::replies::object_entry;
 use crate::state::MachineState;
 use jdwp_layout::Scalar;
-use jdwp_script::{Class, Field, Line, Method, Slot};
+use jdwp_script::{Class, Field, Line, Method, Module, Slot};
 use jdwp_value::ReferenceTypeId;
 use jdwp_wire::NoMemory;
 use std::alloc::Global;
@@ -62,6 +63,21 @@ impl<'a> Tell<Class> for GenericClassEntry<'a> {
             empty_text(alloc),
             Scalar::Int(status(self.state, class.id)),
         ]?)
+    }
+}
+
+/// A module in AllModules.
+pub(crate) struct ModuleEntry;
+
+impl Tell<Module> for ModuleEntry {
+    ghost Meaning = { ModulePart };
+
+    ghost meaning = { module_part };
+
+    ghost tells = { λ _ m. module_entry m };
+
+    fn tell(&self, alloc: Global, module: &Module) -> Result<Vec<Scalar>, NoMemory> {
+        object_entry(alloc, module.id)
     }
 }
 

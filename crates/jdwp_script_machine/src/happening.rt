@@ -15,13 +15,13 @@ use crate::look_ups::with_id;
 use crate::sites::{class_seen, location, place, reached, site_in, tagged};
 use crate::state::{FrameState, Life, MachineState, ThreadState};
 use jdwp_event::{Happening, Occurrence, Place, PreparedClass, ThrownException};
-use jdwp_script::{Call, Script, Step, Throw};
+use jdwp_script::{Call, LIST_LIMIT, Script, Step, Throw};
 use jdwp_value::{Location, MethodId, ObjectId, ReferenceTypeId};
 use jdwp_wire::NoMemory;
 use std::alloc::Global;
 
 /// More frames a thread never has.
-const MOST_FRAMES: usize = 256;
+const MOST_FRAMES: usize = LIST_LIMIT;
 /// The status of a class that is verified and prepared.
 const READY: i32 = 3;
 

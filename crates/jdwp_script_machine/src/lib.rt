@@ -20,6 +20,7 @@ mod look_ups;
 mod machine;
 mod machine_answers;
 mod method_answers;
+mod module_answers;
 mod object_answers;
 mod opening;
 mod places;

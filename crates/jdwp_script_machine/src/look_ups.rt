@@ -1,14 +1,14 @@
 //! Look-ups in lists of things that have ids.
 ghost use Rattle.std.specs.Prelude.{◌≡◌, ℕ, map, option_map};
-ghost use Rattle.jdwp_script.specs.Parts.{GroupPart, FieldPart, MethodPart, ClassPart, ObjectPart, ThreadPart};
-ghost use Rattle.jdwp_script.specs.Meanings.{group_part, field_part, method_part, class_part, object_part, thread_part};
+ghost use Rattle.jdwp_script.specs.Parts.{GroupPart, FieldPart, MethodPart, ClassPart, ObjectPart, ThreadPart, ModulePart};
+ghost use Rattle.jdwp_script.specs.Meanings.{group_part, field_part, method_part, class_part, object_part, thread_part, module_part};
 ghost use Rattle.jdwp_script_machine.specs.LookUps.{with_id};
 ghost use Rattle.jdwp_script_machine.specs.States.{FrameNow, ThreadNow, ClassNow};
 ghost use Rattle.jdwp_script_machine.specs.StateMeanings.{frame_now, thread_now, class_now};
 ghost use Rattle.jdwp_script_machine.specs.Found.{found};
 
 use crate::state::{ClassState, FrameState, ThreadState};
-use jdwp_script::{Class, Field, Group, Method, Object, Thread};
+use jdwp_script::{Class, Field, Group, Method, Module, Object, Thread};
 
 /// What has an id.
 pub(crate) trait Numbered {
@@ -103,6 +103,18 @@ impl Numbered for Thread {
     ghost meaning = { thread_part };
 
     ghost key = { λ t. t.id };
+
+    fn number(&self) -> u64 {
+        self.id.0
+    }
+}
+
+impl Numbered for Module {
+    ghost Meaning = { ModulePart };
+
+    ghost meaning = { module_part };
+
+    ghost key = { λ m. m.id };
 
     fn number(&self) -> u64 {
         self.id.0

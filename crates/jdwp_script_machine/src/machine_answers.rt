@@ -9,15 +9,15 @@ ghost use Rattle.jdwp_script_machine.specs.ClassAnswers.{version, class_entry, c
 ghost use Rattle.jdwp_machine.specs.Laws.{takes_memory};
 ghost use Rattle.jdwp_script_machine.specs.ClassQuestions.{machine_answer_to};
 
-use crate::class_entries::{ClassEntry, GenericClassEntry};
+use crate::class_entries::{ClassEntry, GenericClassEntry, ModuleEntry};
 use crate::class_look_ups::status;
 use crate::entries::{Tell, text};
 use crate::group_answers::groups_below;
 use crate::replies::{of_datum, of_entries};
 use crate::state::MachineState;
 use jdwp_layout::numbers::{
-    ALL_CLASSES, ALL_CLASSES_WITH_GENERIC, CAPABILITIES, CAPABILITIES_NEW, CLASSES_BY_SIGNATURE,
-    DISPOSE_OBJECTS, TOP_LEVEL_THREAD_GROUPS, VERSION,
+    ALL_CLASSES, ALL_CLASSES_WITH_GENERIC, ALL_MODULES, CAPABILITIES, CAPABILITIES_NEW,
+    CLASSES_BY_SIGNATURE, DISPOSE_OBJECTS, TOP_LEVEL_THREAD_GROUPS, VERSION,
 };
 use jdwp_layout::{Answer, Data, Datum, Scalar};
 use jdwp_script::{Class, Script};
@@ -34,6 +34,7 @@ pub(crate) enum MachineQuestion {
     Capabilities,
     CapabilitiesNew,
     AllClassesWithGeneric,
+    AllModules,
 }
 
 /// The answer to a command of the set VirtualMachine with these data, in the state, where threads and event requests
@@ -74,6 +75,7 @@ pub fn virtual_machine_answer(
                 content,
             )
         }
+        ALL_MODULES => of_machine(alloc, state, MachineQuestion::AllModules, content),
         _ => Ok(Answer::Error(ErrorCode::NOT_IMPLEMENTED)),
     }
 }
@@ -121,6 +123,7 @@ fn machine_answer_to(
         MachineQuestion::AllClassesWithGeneric => {
             GenericClassEntry { state }.answer_each(alloc, &script.classes)
         }
+        MachineQuestion::AllModules => ModuleEntry.answer_each(alloc, &script.modules),
     }
 }
 

@@ -1,18 +1,18 @@
-//! What ids name: classes, methods, fields, objects, groups, threads and frames.
+//! What ids name: classes, methods, fields, objects, groups, threads, modules and frames.
 ghost use Rattle.std.specs.Prelude.{◌≡◌, map, option_map};
 ghost use Rattle.jdwp_script.specs.Parts.{FieldPart};
-ghost use Rattle.jdwp_script.specs.Meanings.{field_part, method_part, class_part, object_part, group_part, thread_part, script_part};
+ghost use Rattle.jdwp_script.specs.Meanings.{field_part, method_part, class_part, object_part, group_part, thread_part, module_part, script_part};
 ghost use Rattle.jdwp_script_machine.specs.LookUps.{with_id};
 ghost use Rattle.jdwp_script_machine.specs.Found.{found};
 ghost use Rattle.jdwp_script_machine.specs.StateMeanings.{frame_now, thread_now, state_now};
 ghost use Rattle.jdwp_script_machine.specs.SlotWrites.{frame_in};
-ghost use Rattle.jdwp_script_machine.specs.Sites.{is_known, class_in, method_in, object_in, group_in, thread_in};
+ghost use Rattle.jdwp_script_machine.specs.Sites.{is_known, class_in, method_in, object_in, group_in, thread_in, module_in};
 ghost use Rattle.jdwp_script_machine.specs.States.{thread_at};
 ghost use Rattle.jdwp_script_machine.specs.ThreadAnswers.{frames_at};
 
 use crate::look_ups::with_id;
 use crate::state::{FrameState, MachineState, ThreadState};
-use jdwp_script::{Class, Field, Group, Method, Object, Script, Thread};
+use jdwp_script::{Class, Field, Group, Method, Module, Object, Script, Thread};
 use jdwp_value::{FieldId, FrameId, MethodId, ObjectId, ReferenceTypeId};
 
 /// The class of this id.
@@ -56,6 +56,13 @@ pub(crate) fn thread_of(script: &Script, id: ObjectId) -> Option<&Thread>
     ensures { option_map thread_part (found result) ≡ thread_in (script_part script.now) id.0 }
 {
     with_id(&script.threads, id.0)
+}
+
+/// The module of this id.
+pub(crate) fn module_of(script: &Script, id: ObjectId) -> Option<&Module>
+    ensures { option_map module_part (found result) ≡ module_in (script_part script.now) id.0 }
+{
+    with_id(&script.modules, id.0)
 }
 
 /// The thread of this id, as it is now.

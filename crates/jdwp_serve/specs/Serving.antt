@@ -3,7 +3,7 @@ use Rattle.std.specs.Prelude.{◌≡◌, ◌≤◌, ◌+◌, ℕ}
 use Rattle.jdwp_machine.specs.Meanings.{Meaning}
 use Rattle.jdwp_debuggee.specs.Settings.{Settings}
 use Rattle.jdwp_debuggee.specs.State.{new_state}
-use Rattle.jdwp_target.specs.Targets.{Target, Ran, new_target, opened}
+use Rattle.jdwp_target.specs.Targets.{Target, Ran, new_target, opened_target}
 use Rattle.jdwp_pipe.specs.declared.ended.Ended.{Ended}
 use Rattle.jdwp_pipe.specs.declared.ended.Ended.TheVariants.{TurnLimit}
 use Rattle.jdwp_engine.specs.Outcome.{MayEnd}
@@ -24,6 +24,6 @@ pub record ServesNew {S : Type 0} (m : Meaning S) (settings : Settings) (machine
   pub ran : Ran m target
   pub in_order : InOrder (fresh m settings machine) start now target
   pub may_end : MayEnd m ended start now target
-  pub by_rounds : Serves m rounds (opened (fresh m settings machine)) start ended target now
+  pub by_rounds : Serves m rounds (opened_target (fresh m settings machine)) start ended target now
   pub at_most : target.end.session.turns + now.rooms ≤ rounds + start.rooms
   pub all_used : ended ≡ TurnLimit → rounds + start.rooms ≤ cost now target

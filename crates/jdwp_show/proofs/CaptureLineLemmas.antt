@@ -5,7 +5,7 @@ use Rattle.jdwp_show.specs.declared.capture_fault.CaptureFault.{CaptureFault}
 use Rattle.jdwp_show.specs.declared.capture_line.Sender.{Sender}
 use Rattle.jdwp_show.specs.declared.capture_line.Sender.TheVariants.{Debugger, Target}
 use Rattle.jdwp_show.specs.declared.judging.Broken.{Broken}
-use Rattle.jdwp_show.specs.declared.pending.Command.{Command}
+use Rattle.jdwp_show.specs.declared.pending.CommandNumber.{CommandNumber}
 use Rattle.jdwp_show.specs.declared.walk.Walk.{Walk}
 use Rattle.jdwp_show.specs.CaptureLines.{lines_after, message_lines, lengths_of, left_over, last_lines, capture_lines}
 use Rattle.jdwp_show.specs.Items.{Item}
@@ -17,7 +17,7 @@ use Rattle.jdwp_show.specs.Walks.{stream_of, rest_of, IsFirst, HasEnded, bytes_l
 
 -- ---- what a transcript says
 
-abbrev says : Option Widths → List ℕ → Option Command → Item → List ℕ
+abbrev says : Option Widths → List ℕ → Option CommandNumber → Item → List ℕ
 says widths said waits item = said ++ found_line widths waits item.sender item.found
 
 -- the lines of the items, behind those that were there

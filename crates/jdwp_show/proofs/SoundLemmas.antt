@@ -18,7 +18,7 @@ use Rattle.jdwp_show.specs.declared.capture_fault.CaptureFault.{CaptureFault}
 use Rattle.jdwp_show.specs.declared.capture_fault.CaptureFault.TheVariants.{BadData}
 use Rattle.jdwp_show.specs.declared.capture_line.Sender.{Sender}
 use Rattle.jdwp_show.specs.declared.capture_line.Sender.TheVariants.{Debugger, Target}
-use Rattle.jdwp_show.specs.declared.pending.Command.{Command}
+use Rattle.jdwp_show.specs.declared.pending.CommandNumber.{CommandNumber}
 use Rattle.jdwp_layout.specs.CommandNumbers.{ID_SIZES}
 use Rattle.jdwp_show.specs.Data.{shapes_of, fault_in, request_by, reply_by, is_id_sizes, widths_in, widths_by, reply_fault}
 use Rattle.jdwp_show.specs.Found.{Sent}
@@ -41,7 +41,7 @@ request_sound : (w : Option Widths) (shapes : Option RowShapes) (body : List ℕ
 request_sound w None body e = refl
 request_sound w (Some shapes) body e = e
 
-pub command_sound : (w : Option Widths) (waits : Option Command) (sender : Sender) (header : Header) (body : List ℕ) (set number : ℕ) → Holds w waits sender (Sent (Packet header body)) → header.kind ≡ kind.Command set number
+pub command_sound : (w : Option Widths) (waits : Option CommandNumber) (sender : Sender) (header : Header) (body : List ℕ) (set number : ℕ) → Holds w waits sender (Sent (Packet header body)) → header.kind ≡ kind.Command set number
     → body_fault w (request_in (shapes_of (record { set = set; number = number }))) body ≡ None
 command_sound w waits sender header body set number h is =
     let none : packet_data_fault w waits sender header.kind body ≡ None = second_none _ _ h.none_broken in
@@ -64,13 +64,13 @@ widths_sound None (Some shapes) body is none = refl
 widths_sound (Some widths) (Some shapes) body is none =
     read_so (widths_in body) (data_at widths shapes.reply body) (widths_by widths shapes.reply body) none (told_by_layout widths shapes body is) (λ fault bad. rw bad refl)
 
-id_sizes : (command : Command) → is_id_sizes command ≡ true → command ≡ record { set = ID_SIZES.set; number = ID_SIZES.number }
+id_sizes : (command : CommandNumber) → is_id_sizes command ≡ true → command ≡ record { set = ID_SIZES.set; number = ID_SIZES.number }
 id_sizes command e =
     let set : command.set ≡ ID_SIZES.set = grind (arith, nat_tests) in
     let number : command.number ≡ ID_SIZES.number = grind (arith, nat_tests) in
     λ i. record { set = set i; number = number i }
 
-answer_sound : (w : Option Widths) (command : Command) (body : List ℕ) → reply_fault w (Some command) body ≡ None → body_fault w (reply_in (shapes_of command)) body ≡ None
+answer_sound : (w : Option Widths) (command : CommandNumber) (body : List ℕ) → reply_fault w (Some command) body ≡ None → body_fault w (reply_in (shapes_of command)) body ≡ None
 answer_sound w command body none =
     elim (cases_Bool (is_id_sizes command)) [
       | inl widths ↦
@@ -82,14 +82,14 @@ answer_sound w command body none =
           sound_by w (shapes_of command) body e
     ]
 
-by_target : (w : Option Widths) (command : Command) (sender : Sender) (header : Header) (body : List ℕ) (error : ErrorCode) → Holds w (Some command) sender (Sent (Packet header body)) → header.kind ≡ kind.Reply error → packet_data_fault w (Some command) Target (kind.Reply error) body ≡ None
+by_target : (w : Option Widths) (command : CommandNumber) (sender : Sender) (header : Header) (body : List ℕ) (error : ErrorCode) → Holds w (Some command) sender (Sent (Packet header body)) → header.kind ≡ kind.Reply error → packet_data_fault w (Some command) Target (kind.Reply error) body ≡ None
 by_target w command Debugger header body error h is =
     let broken : option_or (command_fault (Some command) (kind.Reply error)) (packet_data_fault w (Some command) Debugger (kind.Reply error) body) ≡ None =
     ap (λ (k : PacketKind). option_or (command_fault (Some command) k) (packet_data_fault w (Some command) Debugger k body)) (sym is) ∙ h.none_broken in
     cc
 by_target w command Target header body error h is = ap (λ (k : PacketKind). packet_data_fault w (Some command) Target k body) (sym is) ∙ second_none _ _ h.none_broken
 
-reply_sound : (w : Option Widths) (command : Command) (sender : Sender) (header : Header) (body : List ℕ) (error : ErrorCode) → Holds w (Some command) sender (Sent (Packet header body)) → header.kind ≡ kind.Reply error → eqb error.0 0 ≡ true
+reply_sound : (w : Option Widths) (command : CommandNumber) (sender : Sender) (header : Header) (body : List ℕ) (error : ErrorCode) → Holds w (Some command) sender (Sent (Packet header body)) → header.kind ≡ kind.Reply error → eqb error.0 0 ≡ true
     → body_fault w (reply_in (shapes_of command)) body ≡ None
 reply_sound w command sender header body error h is no_error =
     let none = by_target w command sender header body error h is in
@@ -97,7 +97,7 @@ reply_sound w command sender header body error h is no_error =
     answer_sound w command body (unmapped _ e)
 
 -- the same for any error code: with an error there is no layout
-pub reply_sound_by : (w : Option Widths) (command : Command) (sender : Sender) (header : Header) (body : List ℕ) (error : ErrorCode) → Holds w (Some command) sender (Sent (Packet header body)) → header.kind ≡ kind.Reply error
+pub reply_sound_by : (w : Option Widths) (command : CommandNumber) (sender : Sender) (header : Header) (body : List ℕ) (error : ErrorCode) → Holds w (Some command) sender (Sent (Packet header body)) → header.kind ≡ kind.Reply error
     → body_fault w (if error.0 == NONE.0 then reply_in (shapes_of command) else None) body ≡ None
 reply_sound_by w command sender header body error h is = elim (cases_Bool (eqb error.0 0)) [
   | inl without ↦ rw without (reply_sound w command sender header body error h is without)

@@ -89,9 +89,9 @@ all_quoted text cs same p q =
 
 -- ---- data as they are
 
-pub all_raw : (bytes digits : List ℕ) {start written whole : Text} → eqb (length bytes) 0 ≡ false → digits ≡ encode_lower bytes → Grows start (codes " raw ") written → Grows written digits whole → Grows start (raw_text bytes) whole
-all_raw [] digits some same p q = cc
-all_raw (byte ∷ bytes) digits some same p q = grows_as (ap (λ (l : List ℕ). codes " raw " ++ l) same) (joined p q)
+pub all_raw : (bytes : List ℕ) {start written whole : Text} → eqb (length bytes) 0 ≡ false → Grows start (codes " raw ") written → Grows written (encode_lower bytes) whole → Grows start (raw_text bytes) whole
+all_raw [] some p q = cc
+all_raw (byte ∷ bytes) some p q = joined p q
 
 -- ---- data
 

@@ -11,20 +11,20 @@ use Rattle.jdwp_wire.specs.declared.packet.PacketKind.TheVariants as kind
 use Rattle.jdwp_wire.specs.Streams.{Handshake, Packet}
 use Rattle.jdwp_show.specs.declared.capture_line.Sender.{Sender}
 use Rattle.jdwp_show.specs.declared.capture_line.Sender.TheVariants.{Debugger, Target}
-use Rattle.jdwp_show.specs.declared.pending.Command.{Command}
+use Rattle.jdwp_show.specs.declared.pending.CommandNumber.{CommandNumber}
 use Rattle.jdwp_show.specs.Found.{Found, Sent, Faulty}
 use Rattle.jdwp_show.specs.Items.{Item}
 use Rattle.jdwp_show.specs.Rules.{waits_after_found, waiting}
 use Rattle.jdwp_show.specs.Waiting.{IsCommand, speaks_of, IsSilent, Waits}
 
-abbrev next : ℕ → Option Command → Item → Option Command
+abbrev next : ℕ → Option CommandNumber → Item → Option CommandNumber
 next id before item = waits_after_found id item.sender item.found before
 
 -- what an item does to what waits: nothing, or a command waits now, or none does
 data Step (id : ℕ) (item : Item) : Type 0 where
-  silent : IsSilent id item → ((w : Option Command) → next id w item ≡ w) → Step id item
-  commands : (command : Command) → IsCommand id command item → speaks_of id item.sender item.found ≡ true → ((w : Option Command) → next id w item ≡ Some command) → Step id item
-  replies : speaks_of id item.sender item.found ≡ true → ((w : Option Command) → next id w item ≡ None) → Step id item
+  silent : IsSilent id item → ((w : Option CommandNumber) → next id w item ≡ w) → Step id item
+  commands : (command : CommandNumber) → IsCommand id command item → speaks_of id item.sender item.found ≡ true → ((w : Option CommandNumber) → next id w item ≡ Some command) → Step id item
+  replies : speaks_of id item.sender item.found ≡ true → ((w : Option CommandNumber) → next id w item ≡ None) → Step id item
 
 command_step : (id line : ℕ) (header : Header) (body : List ℕ) (set number : ℕ) (here : (eqb header.id id ≡ true) ⊎ (eqb header.id id ≡ false)) → header.kind ≡ kind.Command set number
     → Step id (record { line = line; sender = Debugger; found = Sent (Packet header body) })
@@ -60,11 +60,11 @@ abbrev Silent : ℕ → List Item → Type 0
 Silent id items = AllByRecursion (IsSilent id) items
 
 -- a command waits since one of these items, or since before them
-data Since (items : List Item) (id : ℕ) (command : Command) (w : Option Command) : Type 0 where
+data Since (items : List Item) (id : ℕ) (command : CommandNumber) (w : Option CommandNumber) : Type 0 where
   among : Waits items id command → Since items id command w
   earlier : w ≡ Some command → Silent id items → Since items id command w
 
-since_step : (id : ℕ) (item : Item) (items : List Item) (command : Command) (w : Option Command) → Step id item → Since items id command (next id w item) → Since (item ∷ items) id command w
+since_step : (id : ℕ) (item : Item) (items : List Item) (command : CommandNumber) (w : Option CommandNumber) → Step id item → Since items id command (next id w item) → Since (item ∷ items) id command w
 since_step id item items command w s (among h) = among (record {
   before = item ∷ h.before;
   item = h.item;
@@ -76,38 +76,38 @@ since_step id item items command w s (among h) = among (record {
 since_step id item items command w (silent quiet keeps) (earlier is rest) = earlier (sym (keeps w) ∙ is) (quiet, rest)
 since_step id item items command w (commands other this speaks sets) (earlier is rest) =
     let same : other ≡ command = same_Some other command (sym (sets w) ∙ is) in
-    among (record { before = []; item = item; after = items; items_are = refl; is_command = subst (λ (x : Command). IsCommand id x item) same this; none_behind = rest })
+    among (record { before = []; item = item; after = items; items_are = refl; is_command = subst (λ (x : CommandNumber). IsCommand id x item) same this; none_behind = rest })
 since_step id item items command w (replies speaks clears) (earlier is rest) = absurd (let none = sym (clears w) ∙ is in cc)
 
-since : (id : ℕ) (items : List Item) (command : Command) (w : Option Command) → fold (λ before item. waits_after_found id item.sender item.found before) w items ≡ Some command → Since items id command w
+since : (id : ℕ) (items : List Item) (command : CommandNumber) (w : Option CommandNumber) → fold (λ before item. waits_after_found id item.sender item.found before) w items ≡ Some command → Since items id command w
 since id [] command w e = earlier e tt
 since id (item ∷ items) command w e = since_step id item items command w (step id item) (since id items command (next id w item) e)
 
-from_since : (items : List Item) (id : ℕ) (command : Command) → Since items id command None → Waits items id command
+from_since : (items : List Item) (id : ℕ) (command : CommandNumber) → Since items id command None → Waits items id command
 from_since items id command (among h) = h
 from_since items id command (earlier is rest) = cc
 
-pub waits_from : (items : List Item) (id : ℕ) (command : Command) → waiting items id ≡ Some command → Waits items id command
+pub waits_from : (items : List Item) (id : ℕ) (command : CommandNumber) → waiting items id ≡ Some command → Waits items id command
 waits_from items id command e = from_since items id command (since id items command None e)
 
 -- ---- and back
 
-keeps_silent : (id : ℕ) (item : Item) (w : Option Command) → Step id item → IsSilent id item → next id w item ≡ w
+keeps_silent : (id : ℕ) (item : Item) (w : Option CommandNumber) → Step id item → IsSilent id item → next id w item ≡ w
 keeps_silent id item w (silent also keeps) quiet = keeps w
 keeps_silent id item w (commands command this speaks sets) quiet = absurd cc
 keeps_silent id item w (replies speaks clears) quiet = absurd cc
 
-all_silent : (id : ℕ) (items : List Item) (w : Option Command) → Silent id items → fold (λ before item. waits_after_found id item.sender item.found before) w items ≡ w
+all_silent : (id : ℕ) (items : List Item) (w : Option CommandNumber) → Silent id items → fold (λ before item. waits_after_found id item.sender item.found before) w items ≡ w
 all_silent id [] w quiet = refl
 all_silent id (item ∷ items) w quiet = all_silent id items (next id w item) quiet.1 ∙ keeps_silent id item w (step id item) quiet.0
 
-waits_now : (id : ℕ) (item : Item) (command : Command) (w : Option Command) → IsCommand id command item → next id w item ≡ Some command
+waits_now : (id : ℕ) (item : Item) (command : CommandNumber) (w : Option CommandNumber) → IsCommand id command item → next id w item ≡ Some command
 waits_now id item command w h =
     let here : eqb h.header.id id ≡ true = eq-eqb _ _ h.under_id in
     rw (h.by_debugger, h.is_packet, h.is_command, here) refl
 
-pub waits_to : (items : List Item) (id : ℕ) (command : Command) → Waits items id command → waiting items id ≡ Some command
+pub waits_to : (items : List Item) (id : ℕ) (command : CommandNumber) → Waits items id command → waiting items id ≡ Some command
 waits_to items id command h =
-    let f : Option Command → Item → Option Command = λ before item. waits_after_found id item.sender item.found before in
+    let f : Option CommandNumber → Item → Option CommandNumber = λ before item. waits_after_found id item.sender item.found before in
     ap (λ (xs : List Item). fold f None xs) h.items_are ∙ fold-append f None h.before (h.item ∷ h.after)
-    ∙ ap (λ (w : Option Command). fold f w h.after) (waits_now id h.item command (fold f None h.before) h.is_command) ∙ all_silent id h.after (Some command) h.none_behind
+    ∙ ap (λ (w : Option CommandNumber). fold f w h.after) (waits_now id h.item command (fold f None h.before) h.is_command) ∙ all_silent id h.after (Some command) h.none_behind

@@ -6,7 +6,7 @@ use Rattle.jdwp_wire.specs.Widths.{Widths}
 use Rattle.jdwp_show.specs.declared.capture_fault.CaptureFault.{CaptureFault}
 use Rattle.jdwp_show.specs.Items.{Item}
 use Rattle.jdwp_show.specs.Rules.{waiting_for, order_fault_of}
-use Rattle.jdwp_show.specs.Sessions.{first_answer, told, told_or_ended, widths_answer, widths_of}
+use Rattle.jdwp_show.specs.Sessions.{first_answer, told_widths, told_or_ended, widths_answer, widths_of}
 use Rattle.jdwp_show.specs.Waiting.{GoesOn, TellsWidths}
 use Rattle.jdwp_show.proofs.SessionLaws.{answered_from, none_at, none_after, first_at}
 
@@ -21,7 +21,7 @@ asked None (Some w) widths e = (refl, same_Some _ _ e)
 asked (Some f) found widths e = absurd (let none = same_Some {A = Option Widths} None (Some widths) e in cc)
 
 goes_on : (before : List Item) (item : Item) → widths_answer before item ≡ None → GoesOn before item
-goes_on before item e = let both = unasked (order_fault_of before item) (told (waiting_for before item.found) item.sender item.found) e in record { holds = both.0; tells_none = both.1 }
+goes_on before item e = let both = unasked (order_fault_of before item) (told_widths (waiting_for before item.found) item.sender item.found) e in record { holds = both.0; tells_none = both.1 }
 
 flat : (o : Option (Option Widths)) (widths : Widths) → option_flatten o ≡ Some widths → o ≡ Some (Some widths)
 flat None widths e = cc
@@ -31,7 +31,7 @@ flat (Some (Some w)) widths e = ap (λ (x : Option Widths). Some x) e
 pub widths_from : (items : List Item) (widths : Widths) → widths_of items ≡ Some widths → TellsWidths items widths
 widths_from items widths e =
     let a = answered_from widths_answer [] items (Some widths) (flat (first_answer widths_answer items) widths e) in
-    let both = asked (order_fault_of a.before a.item) (told (waiting_for a.before a.item.found) a.item.sender a.item.found) widths a.answers in
+    let both = asked (order_fault_of a.before a.item) (told_widths (waiting_for a.before a.item.found) a.item.sender a.item.found) widths a.answers in
     record {
       before = a.before;
       item = a.item;

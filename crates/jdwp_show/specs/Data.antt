@@ -10,7 +10,7 @@ use Rattle.jdwp_layout.specs.Rows.{Row, RowShapes}
 use Rattle.jdwp_layout.specs.CommandTable.{row_at}
 use Rattle.jdwp_layout.specs.Meanings.{DatumMeaning, One, Int}
 use Rattle.jdwp_layout.specs.Reads.{data_at}
-use Rattle.jdwp_show.specs.declared.pending.Command.{Command}
+use Rattle.jdwp_show.specs.declared.pending.CommandNumber.{CommandNumber}
 
 -- ---- by the layout of the command
 
@@ -19,7 +19,7 @@ abbrev pub shapes_in : Option Row → Option RowShapes
 shapes_in None = None
 shapes_in (Some row) = row.shapes
 
-abbrev pub shapes_of : Command → Option RowShapes
+abbrev pub shapes_of : CommandNumber → Option RowShapes
 shapes_of command = shapes_in (row_at command.set command.number)
 
 abbrev pub fault_in : {A : Type 0} → Result A DataFault → Option DataFault
@@ -40,12 +40,12 @@ reply_by widths None body = None
 reply_by widths (Some shapes) body = layout_fault widths shapes.reply body
 
 -- the data of a command
-abbrev pub request_fault : Option Widths → Command → List ℕ → Option DataFault
+abbrev pub request_fault : Option Widths → CommandNumber → List ℕ → Option DataFault
 request_fault widths command body = request_by widths (shapes_of command) body
 
 -- ---- VirtualMachine.IDSizes: the reply has five ints, the widths of ids, each 1 to 8
 
-abbrev pub is_id_sizes : Command → Bool
+abbrev pub is_id_sizes : CommandNumber → Bool
 is_id_sizes command = is_command ID_SIZES command.set command.number
 
 abbrev pub is_width : ℕ → Bool
@@ -80,7 +80,7 @@ unfoldable pub widths_in : List ℕ → Result Widths DataFault
 widths_in body = widths_under (shapes_of (record { set = ID_SIZES.set; number = ID_SIZES.number })) body
 
 -- the data of a reply without an error to this command
-abbrev pub reply_fault : Option Widths → Option Command → List ℕ → Option DataFault
+abbrev pub reply_fault : Option Widths → Option CommandNumber → List ℕ → Option DataFault
 reply_fault widths None body = None
 reply_fault widths (Some command) body =
     if is_id_sizes command then fault_in (widths_in body) else reply_by widths (shapes_of command) body

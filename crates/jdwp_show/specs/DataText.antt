@@ -14,7 +14,7 @@ use Rattle.jdwp_value.specs.declared.value.Value.{Value}
 use Rattle.jdwp_value.specs.declared.value.Value.TheVariants as value
 use Rattle.jdwp_value.specs.Regions.{Region}
 use Rattle.jdwp_value.specs.Tags.{object_byte, tag_byte}
-use Rattle.jdwp_layout.specs.Meanings.{ScalarMeaning, Byte, Boolean, Int, Long, Text, Object, ReferenceType, Method, OfField, Frame, Located, Valued, Tagged, DatumMeaning, One, Many, Elements}
+use Rattle.jdwp_layout.specs.Meanings.{ScalarMeaning, Byte, Boolean, Int, Long, Text, Object, ReferenceType, Method, OfField, Frame, Located, Valued, Tagged, DatumMeaning, One, Many, Elements, Raw}
 
 -- with a comma and a space between each two
 abbrev pub listed : {A : Type 0} → (A → List ℕ) → List A → List ℕ
@@ -132,6 +132,7 @@ abbrev pub datum_text : DatumMeaning → List ℕ
 datum_text (One x) = scalar_text x
 datum_text (Many entries) = list_text entries
 datum_text (Elements region) = region_text region
+datum_text (Raw bytes) = codes "raw " ++ encode_lower bytes
 
 -- each after a space
 abbrev pub data_text : List DatumMeaning → List ℕ

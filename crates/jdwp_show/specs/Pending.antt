@@ -7,7 +7,7 @@ use Rattle.jdwp_wire.specs.Widths.{Widths}
 use Rattle.jdwp_show.specs.declared.capture_fault.CaptureFault.{CaptureFault}
 use Rattle.jdwp_show.specs.declared.capture_line.Sender.{Sender}
 use Rattle.jdwp_show.specs.declared.found.ItemRef.{ItemRef}
-use Rattle.jdwp_show.specs.declared.pending.Command.{Command}
+use Rattle.jdwp_show.specs.declared.pending.CommandNumber.{CommandNumber}
 use Rattle.jdwp_show.specs.declared.pending.Pending.{Pending}
 use Rattle.jdwp_show.specs.declared.waiting.Waiting.{Waiting}
 use Rattle.jdwp_show.specs.Found.{Found}
@@ -23,14 +23,14 @@ abbrev pub place_in : Waiting → ℕ → Option ℕ
 place_in waiting id = place_of waiting.first (length waiting.row.items) id
 
 -- what stands at a place of the row, if there is one
-abbrev pub at_or : List (Option Command) → Option ℕ → Option Command → Option Command
+abbrev pub at_or : List (Option CommandNumber) → Option ℕ → Option CommandNumber → Option CommandNumber
 at_or row None others = others
 at_or row (Some place) others = slice_index_or row place None
 
-abbrev pub waits_in : Waiting → ℕ → Option Command
+abbrev pub waits_in : Waiting → ℕ → Option CommandNumber
 waits_in waiting id = at_or waiting.row.items (place_in waiting id) (get nat_cmp waiting.others id)
 
-abbrev pub waiting_in : Pending → ℕ → Option Command
+abbrev pub waiting_in : Pending → ℕ → Option CommandNumber
 waiting_in pending id = waits_in pending.commands id
 
 -- it says of these items what the rules ask
@@ -44,10 +44,10 @@ pub record IsAfter (old : Pending) (item : ItemRef) (new : Pending) : Type 0 whe
   pub waits : (id : ℕ) → waiting_in new id ≡ waits_after_found id item.sender (thing item.found) (waiting_in old id)
 
 -- the rule that an item breaks, after the handshake or before it, where this command waits under its id
-abbrev pub rule_broken : Option Widths → Bool → Option Command → ItemRef → Option CaptureFault
+abbrev pub rule_broken : Option Widths → Bool → Option CommandNumber → ItemRef → Option CaptureFault
 rule_broken widths begun waits item = option_or (order_fault begun waits item.sender (thing item.found)) (data_fault widths waits item.sender (thing item.found))
 
 -- What was found breaks no rule, where this command waits under its id, whether the debugger's handshake was before it or not.
-pub record Holds (widths : Option Widths) (waits : Option Command) (sender : Sender) (found : Found) : Type 0 where
+pub record Holds (widths : Option Widths) (waits : Option CommandNumber) (sender : Sender) (found : Found) : Type 0 where
   pub begun : Bool
   pub none_broken : option_or (order_fault begun waits sender found) (data_fault widths waits sender found) ≡ None

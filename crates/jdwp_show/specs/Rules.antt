@@ -12,7 +12,7 @@ use Rattle.jdwp_show.specs.declared.capture_fault.CaptureFault.{CaptureFault}
 use Rattle.jdwp_show.specs.declared.capture_fault.CaptureFault.TheVariants.{Frame, IdInUse, UnknownReply, BadData, ErrorWithData, WrongWay}
 use Rattle.jdwp_show.specs.declared.capture_line.Sender.{Sender}
 use Rattle.jdwp_show.specs.declared.capture_line.Sender.TheVariants.{Debugger, Target}
-use Rattle.jdwp_show.specs.declared.pending.Command.{Command}
+use Rattle.jdwp_show.specs.declared.pending.CommandNumber.{CommandNumber}
 use Rattle.jdwp_show.specs.Found.{Found, Sent, Faulty}
 use Rattle.jdwp_show.specs.Items.{Item}
 use Rattle.jdwp_show.specs.Data.{request_fault, reply_fault}
@@ -33,43 +33,43 @@ abbrev pub has_begun : List Item → Bool
 has_begun items = list_any (λ item. is_debugger item.sender && is_handshake item.found) items
 
 -- A command of the debugger waits under its id for its reply. A reply of the target ends the wait under its id.
-abbrev pub waits_after : ℕ → Sender → ℕ → PacketKind → Option Command → Option Command
+abbrev pub waits_after : ℕ → Sender → ℕ → PacketKind → Option CommandNumber → Option CommandNumber
 waits_after id Debugger this (kind.Command set number) before = if this == id then Some (record { set = set; number = number }) else before
 waits_after id Debugger this (kind.Reply error) before = before
 waits_after id Target this (kind.Command set number) before = before
 waits_after id Target this (kind.Reply error) before = if this == id then None else before
 
-abbrev pub waits_after_found : ℕ → Sender → Found → Option Command → Option Command
+abbrev pub waits_after_found : ℕ → Sender → Found → Option CommandNumber → Option CommandNumber
 waits_after_found id sender (Sent Handshake) before = before
 waits_after_found id sender (Sent (Packet header body)) before = waits_after id sender header.id header.kind before
 waits_after_found id sender (Faulty fault) before = before
 
 -- the command that waits under an id after these items: the last of them that speaks of the id decides
-abbrev pub waiting : List Item → ℕ → Option Command
+abbrev pub waiting : List Item → ℕ → Option CommandNumber
 waiting items id = fold (λ before item. waits_after_found id item.sender item.found before) None items
 
 -- what waits under the id of what was found
-abbrev pub under : (ℕ → Option Command) → Found → Option Command
+abbrev pub under : (ℕ → Option CommandNumber) → Found → Option CommandNumber
 under waits (Sent Handshake) = None
 under waits (Sent (Packet header body)) = waits header.id
 under waits (Faulty fault) = None
 
-abbrev pub waiting_for : List Item → Found → Option Command
+abbrev pub waiting_for : List Item → Found → Option CommandNumber
 waiting_for items found = under (waiting items) found
 
 -- ---- the rules of frames, ends and ids
 
 -- a command of the debugger, where this one waits under its id
-abbrev pub command_fault : Option Command → PacketKind → Option CaptureFault
+abbrev pub command_fault : Option CommandNumber → PacketKind → Option CaptureFault
 command_fault waits (kind.Command set number) = if nat_le EVENT set then Some WrongWay else (if is_some waits then Some IdInUse else None)
 command_fault waits (kind.Reply error) = Some WrongWay
 
 -- a packet of the target, where this command waits under its id: Event.Composite, or a reply
-abbrev pub target_fault : Option Command → PacketKind → Option CaptureFault
+abbrev pub target_fault : Option CommandNumber → PacketKind → Option CaptureFault
 target_fault waits (kind.Command set number) = if is_command COMPOSITE set number then None else Some WrongWay
 target_fault waits (kind.Reply error) = if is_some waits then None else Some UnknownReply
 
-abbrev pub order_fault : Bool → Option Command → Sender → Found → Option CaptureFault
+abbrev pub order_fault : Bool → Option CommandNumber → Sender → Found → Option CaptureFault
 order_fault begun waits sender (Faulty fault) = Some (Frame fault)
 order_fault begun waits Debugger (Sent Handshake) = None
 order_fault begun waits Target (Sent Handshake) = if begun then None else Some WrongWay
@@ -78,13 +78,13 @@ order_fault begun waits Target (Sent (Packet header body)) = target_fault waits 
 
 -- ---- the rule of data
 
-abbrev pub packet_data_fault : Option Widths → Option Command → Sender → PacketKind → List ℕ → Option CaptureFault
+abbrev pub packet_data_fault : Option Widths → Option CommandNumber → Sender → PacketKind → List ℕ → Option CaptureFault
 packet_data_fault widths waits sender (kind.Command set number) body = option_map BadData (request_fault widths (record { set = set; number = number }) body)
 packet_data_fault widths waits Debugger (kind.Reply error) body = None
 packet_data_fault widths waits Target (kind.Reply error) body =
     if error.0 == NONE.0 then option_map BadData (reply_fault widths waits body) else (if length body == 0 then None else Some ErrorWithData)
 
-abbrev pub data_fault : Option Widths → Option Command → Sender → Found → Option CaptureFault
+abbrev pub data_fault : Option Widths → Option CommandNumber → Sender → Found → Option CaptureFault
 data_fault widths waits sender (Sent Handshake) = None
 data_fault widths waits sender (Sent (Packet header body)) = packet_data_fault widths waits sender header.kind body
 data_fault widths waits sender (Faulty fault) = None

@@ -15,7 +15,7 @@ use Rattle.jdwp_show.specs.declared.capture_line.Sender.{Sender}
 use Rattle.jdwp_show.specs.declared.capture_line.Sender.TheVariants.{Debugger, Target}
 use Rattle.jdwp_show.specs.declared.checking.Verdict.{Verdict}
 use Rattle.jdwp_show.specs.declared.checking.Verdict.TheVariants.{Yes, No}
-use Rattle.jdwp_show.specs.declared.pending.Command.{Command}
+use Rattle.jdwp_show.specs.declared.pending.CommandNumber.{CommandNumber}
 use Rattle.jdwp_show.specs.Data.{is_id_sizes, widths_in}
 use Rattle.jdwp_show.specs.Found.{Found, Sent, Faulty}
 use Rattle.jdwp_show.specs.Items.{Item, items_of}
@@ -36,26 +36,26 @@ unanswered ask before [] = []
 unanswered ask before (item ∷ items) = if is_some (ask before item) then [] else item ∷ unanswered ask (before ++ item ∷ []) items
 
 -- what is said when each of the items is told in turn, with the command that waits under its id
-unfoldable pub told_each : {S : Type 0} → (S → Option Command → Item → S) → S → List Item → List Item → S
+unfoldable pub told_each : {S : Type 0} → (S → Option CommandNumber → Item → S) → S → List Item → List Item → S
 told_each says said before [] = said
 told_each says said before (item ∷ items) = told_each says (says said (waiting_for before item.found) item) (before ++ item ∷ []) items
 
 -- ---- the widths of ids
 
-abbrev pub told_by : Option Command → List ℕ → Option Widths
+abbrev pub told_by : Option CommandNumber → List ℕ → Option Widths
 told_by None body = None
 told_by (Some command) body = if is_id_sizes command then result_ok (widths_in body) else None
 
-abbrev pub told_in : Option Command → PacketKind → List ℕ → Option Widths
+abbrev pub told_in : Option CommandNumber → PacketKind → List ℕ → Option Widths
 told_in waits (kind.Command set number) body = None
 told_in waits (kind.Reply error) body = if error.0 == NONE.0 then told_by waits body else None
 
 -- the widths that a reply without an error to VirtualMachine.IDSizes tells, where its data read
-abbrev pub told : Option Command → Sender → Found → Option Widths
-told waits Debugger thing = None
-told waits Target (Sent Handshake) = None
-told waits Target (Sent (Packet header body)) = told_in waits header.kind body
-told waits Target (Faulty fault) = None
+abbrev pub told_widths : Option CommandNumber → Sender → Found → Option Widths
+told_widths waits Debugger thing = None
+told_widths waits Target (Sent Handshake) = None
+told_widths waits Target (Sent (Packet header body)) = told_in waits header.kind body
+told_widths waits Target (Faulty fault) = None
 
 -- the search ends at an item that breaks a rule of frames, ends or ids
 abbrev pub told_or_ended : Option CaptureFault → Option Widths → Option (Option Widths)
@@ -64,7 +64,7 @@ told_or_ended None None = None
 told_or_ended None (Some widths) = Some (Some widths)
 
 abbrev pub widths_answer : List Item → Item → Option (Option Widths)
-widths_answer before item = told_or_ended (order_fault_of before item) (told (waiting_for before item.found) item.sender item.found)
+widths_answer before item = told_or_ended (order_fault_of before item) (told_widths (waiting_for before item.found) item.sender item.found)
 
 -- The widths of the first such reply. They hold for all items, those before the reply too.
 abbrev pub widths_of : List Item → Option Widths

@@ -8,16 +8,16 @@ use Rattle.jdwp_wire.specs.Streams.{Handshake, Packet}
 use Rattle.jdwp_wire.specs.Widths.{Widths}
 use Rattle.jdwp_show.specs.declared.capture_line.Sender.{Sender}
 use Rattle.jdwp_show.specs.declared.capture_line.Sender.TheVariants.{Debugger, Target}
-use Rattle.jdwp_show.specs.declared.pending.Command.{Command}
+use Rattle.jdwp_show.specs.declared.pending.CommandNumber.{CommandNumber}
 use Rattle.jdwp_show.specs.Found.{Found, Sent, Faulty}
 use Rattle.jdwp_show.specs.Items.{Item}
 use Rattle.jdwp_show.specs.Rules.{waiting_for, order_fault_of}
-use Rattle.jdwp_show.specs.Sessions.{told}
+use Rattle.jdwp_show.specs.Sessions.{told_widths}
 
 -- ---- commands that wait
 
 -- the item is this command of the debugger, under this id
-pub record IsCommand (id : ℕ) (command : Command) (item : Item) : Type 0 where
+pub record IsCommand (id : ℕ) (command : CommandNumber) (item : Item) : Type 0 where
   pub header : Header
   pub body : List ℕ
   pub is_packet : item.found ≡ Sent (Packet header body)
@@ -40,7 +40,7 @@ abbrev pub IsSilent : ℕ → Item → Type 0
 IsSilent id item = speaks_of id item.sender item.found ≡ false
 
 -- the command stands among the items, and none behind it speaks of its id
-pub record Waits (items : List Item) (id : ℕ) (command : Command) : Type 0 where
+pub record Waits (items : List Item) (id : ℕ) (command : CommandNumber) : Type 0 where
   pub before : List Item
   pub item : Item
   pub after : List Item
@@ -53,7 +53,7 @@ pub record Waits (items : List Item) (id : ℕ) (command : Command) : Type 0 whe
 -- an item neither tells widths nor breaks a rule of frames, ends or ids, these standing before it
 pub record GoesOn (before : List Item) (item : Item) : Type 0 where
   pub holds : order_fault_of before item ≡ None
-  pub tells_none : told (waiting_for before item.found) item.sender item.found ≡ None
+  pub tells_none : told_widths (waiting_for before item.found) item.sender item.found ≡ None
 
 -- The item is the first that tells widths, and none up to it breaks a rule of frames, ends or ids.
 pub record TellsWidths (items : List Item) (widths : Widths) : Type 0 where
@@ -63,4 +63,4 @@ pub record TellsWidths (items : List Item) (widths : Widths) : Type 0 where
   pub items_are : items ≡ before ++ item ∷ after
   pub earlier_go_on : (first : List Item) (other : Item) (others : List Item) → before ≡ first ++ other ∷ others → GoesOn first other
   pub holds : order_fault_of before item ≡ None
-  pub tells : told (waiting_for before item.found) item.sender item.found ≡ Some widths
+  pub tells : told_widths (waiting_for before item.found) item.sender item.found ≡ Some widths

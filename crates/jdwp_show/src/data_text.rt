@@ -1,6 +1,7 @@
 //! Data of packets in words.
 ghost use Rattle.std.specs.Prelude.{◌<◌, [], ◌∷◌, false};
 ghost use Rattle.std.specs.Fmt.{digit_glyph};
+ghost use Rattle.hex.specs.Hex.{encode_lower};
 ghost use Rattle.jdwp_value.specs.Tags.{object_byte, tag_byte};
 ghost use Rattle.jdwp_layout.specs.Meanings.{scalar_meaning, scalar_meanings, entry_meaning, entry_meanings, datum_meaning, meanings};
 ghost use Rattle.jdwp_show.specs.DataText.{listed, boolean_text, id_text, tagged_text, separator, escaped, quoted, string_text, type_tag_text, location_text, bit, element_text, value_text, region_text, scalar_text, entry_text, list_text, datum_text, data_text, raw_text};
@@ -13,22 +14,26 @@ use jdwp_value::{ArrayRegion, Location, TaggedId, TypeTag, Value};
 use std::alloc::Global;
 
 /// Appends each datum, after a space.
-pub(crate) fn push_data(text: &mut Text, data: &[Datum])
+pub(crate) fn push_data(alloc: Global, text: &mut Text, data: &[Datum])
     ensures { Grows text.old (data_text (meanings «data».now)) text.new }
 {
     for datum in data {
         text.push_str(" ");
-        push_datum(text, datum);
+        push_datum(alloc, text, datum);
     }
 }
 
-fn push_datum(text: &mut Text, datum: &Datum)
+fn push_datum(alloc: Global, text: &mut Text, datum: &Datum)
     ensures { Grows text.old (datum_text (datum_meaning datum.now)) text.new }
 {
     match datum {
         Datum::One(scalar) => push_scalar(text, scalar),
         Datum::Many(entries) => push_entries(text, entries),
         Datum::Region(region) => push_region(text, region),
+        Datum::Raw(bytes) => {
+            text.push_str("raw ");
+            push_hex(alloc, text, bytes)
+        }
     }
 }
 
@@ -39,11 +44,16 @@ pub(crate) fn push_raw(alloc: Global, text: &mut Text, bytes: &[u8])
     if bytes.is_empty() {
         return;
     }
+    text.push_str(" raw ");
+    push_hex(alloc, text, bytes)
+}
+
+/// Appends bytes in hex digits.
+fn push_hex(alloc: Global, text: &mut Text, bytes: &[u8])
+    ensures { Grows text.old (encode_lower bytes.now) text.new }
+{
     match hex::encode(alloc, bytes) {
-        Ok(digits) => {
-            text.push_str(" raw ");
-            text.push_str(digits.as_str());
-        }
+        Ok(digits) => text.push_str(digits.as_str()),
         Err(_) => text.refuse(),
     }
 }

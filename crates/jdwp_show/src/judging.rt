@@ -1,7 +1,7 @@
 //! Going over the items of a capture: the widths of ids, and the first rule that is broken.
 ghost use Rattle.std.specs.Prelude.{◌≡◌, [], option_map, Option, None, IfOk, OnOk};
 ghost use Rattle.jdwp_wire.specs.Widths.{Widths};
-ghost use Rattle.jdwp_show.specs.declared.pending.Command.{Command};
+ghost use Rattle.jdwp_show.specs.declared.pending.CommandNumber.{CommandNumber};
 ghost use Rattle.jdwp_show.specs.Items.{Item};
 ghost use Rattle.jdwp_show.specs.Sessions.{widths_of, first_answer, unanswered, told_each, fault_answer};
 ghost use Rattle.jdwp_show.specs.Streams.{thing, item_of};
@@ -10,7 +10,7 @@ ghost use Rattle.jdwp_show.specs.Walks.{rest_of, IsUnderWay, HasEnded};
 
 use crate::capture_fault::CaptureFault;
 use crate::found::ItemRef;
-use crate::pending::{Command, Pending};
+use crate::pending::{CommandNumber, Pending};
 use crate::rules::{data_fault, order_fault, told};
 use crate::walk::Walk;
 use jdwp_wire::{IdSizes, NoMemory};
@@ -32,7 +32,7 @@ pub(crate) trait Observer {
     ghost said: { Self → Said };
 
     /// What it says under these widths after one item more, under whose id this command waits.
-    ghost says: { Option Widths → Said → Option Command → Item → Said };
+    ghost says: { Option Widths → Said → Option CommandNumber → Item → Said };
 
     /// An item more, which breaks no rule under these widths, and the command that waits under its id.
     ///
@@ -41,7 +41,7 @@ pub(crate) trait Observer {
     fn observe(
         &mut self,
         sizes: &Option<IdSizes>,
-        waits: Option<Command>,
+        waits: Option<CommandNumber>,
         item: &ItemRef,
     ) -> Result<(), NoMemory>
         requires { Holds sizes.now waits item.now.sender (thing item.now.found) }
@@ -63,7 +63,7 @@ impl Observer for NoObserver {
     fn observe(
         &mut self,
         _sizes: &Option<IdSizes>,
-        _waits: Option<Command>,
+        _waits: Option<CommandNumber>,
         _item: &ItemRef,
     ) -> Result<(), NoMemory> {
         Ok(())
@@ -123,7 +123,7 @@ pub(crate) fn find_broken<O: Observer>(
 fn item_fault(
     sizes: &Option<IdSizes>,
     begun: bool,
-    waits: Option<Command>,
+    waits: Option<CommandNumber>,
     item: &ItemRef,
 ) -> Option<CaptureFault>
     ensures { result ≡ rule_broken sizes.now begun waits item.now }

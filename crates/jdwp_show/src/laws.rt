@@ -8,7 +8,7 @@ ghost use Rattle.jdwp_show.specs.Data.{shapes_of, widths_in, widths_by};
 ghost use Rattle.jdwp_show.specs.declared.capture_line.Sender.{Sender};
 ghost use Rattle.jdwp_show.specs.Found.{Found, found, AreIn};
 ghost use Rattle.jdwp_show.specs.Items.{Item, items_of, found_of, StandsIn};
-ghost use Rattle.jdwp_show.specs.declared.pending.Command.{Command};
+ghost use Rattle.jdwp_show.specs.declared.pending.CommandNumber.{CommandNumber};
 ghost use Rattle.jdwp_show.specs.Lines.{Line, sent_by};
 ghost use Rattle.jdwp_show.specs.Rules.{waiting};
 ghost use Rattle.jdwp_show.specs.Sessions.{widths_of};
@@ -40,7 +40,7 @@ pub fn keeps_each_message()
 
 /// A command waits under an id exactly where it stands among the items and none behind it speaks of its id.
 pub fn waits_where_it_stands()
-    ensures { (items : List Item) (id : ℕ) (command : Command)
+    ensures { (items : List Item) (id : ℕ) (command : CommandNumber)
         → (waiting items id ≡ Some command) ↔ Waits items id command }
 {}
 

@@ -29,5 +29,5 @@ pub use laws::{
     tells_widths_first, waits_where_it_stands,
 };
 pub use message_line::{composite_data_line, composite_line, reply_line};
-pub use pending::Command;
+pub use pending::CommandNumber;
 pub use showing::{Shown, show};

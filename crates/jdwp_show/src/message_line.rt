@@ -13,7 +13,7 @@ use crate::capture_line::Sender;
 use crate::composite_text::push_composite;
 use crate::data_text::{push_data, push_raw};
 use crate::message_text::{push_command_start, push_reply_start};
-use crate::pending::Command;
+use crate::pending::CommandNumber;
 use crate::text::Text;
 use jdwp_event::Composite;
 use jdwp_layout::{Datum, numbers};
@@ -46,10 +46,10 @@ pub fn reply_line(
         &mut line,
         Sender::Target,
         id,
-        Command { set, number },
+        CommandNumber { set, number },
         error,
     );
-    push_data(&mut line, data);
+    push_data(alloc, &mut line, data);
     push_raw(alloc, &mut line, raw);
     line.into_string()
 }
@@ -78,7 +78,7 @@ fn push_composite_start(line: &mut Text, id: u32)
       number = COMPOSITE.number;
     })) line.new }
 {
-    let composite = Command {
+    let composite = CommandNumber {
         set: numbers::EVENT,
         number: numbers::COMPOSITE,
     };
@@ -97,6 +97,6 @@ pub fn composite_data_line(alloc: Global, id: u32, data: &[Datum]) -> Result<Str
 {
     let mut line = Text::new(alloc);
     push_composite_start(&mut line, id);
-    push_data(&mut line, data);
+    push_data(alloc, &mut line, data);
     line.into_string()
 }

@@ -7,7 +7,7 @@ ghost use Rattle.jdwp_show.specs.Telling.{Grows};
 
 use crate::capture_line::Sender;
 use crate::data_text::{push_number, push_raw};
-use crate::pending::Command;
+use crate::pending::CommandNumber;
 use crate::telling::tell_data;
 use crate::text::Text;
 use jdwp_layout::{Layout, layout_of};
@@ -33,7 +33,7 @@ pub(crate) fn push_hello(text: &mut Text, sender: Sender)
 }
 
 /// Appends the names of a command set and a command, or their numbers where they are not known.
-fn push_name(text: &mut Text, command: Command)
+fn push_name(text: &mut Text, command: CommandNumber)
     ensures { Grows text.old (name_text command) text.new }
 {
     match layout_of(command.set, command.number) {
@@ -51,7 +51,7 @@ fn push_name(text: &mut Text, command: Command)
 }
 
 /// Appends the line of a command up to its data.
-pub(crate) fn push_command_start(text: &mut Text, sender: Sender, id: u32, command: Command)
+pub(crate) fn push_command_start(text: &mut Text, sender: Sender, id: u32, command: CommandNumber)
     ensures { Grows text.old (command_start sender id command) text.new }
 {
     push_mark(text, sender);
@@ -65,7 +65,7 @@ pub(crate) fn push_reply_start(
     text: &mut Text,
     sender: Sender,
     id: u32,
-    command: Command,
+    command: CommandNumber,
     error: ErrorCode,
 )
     ensures { Grows text.old (reply_start sender id command error.0) text.new }
@@ -101,7 +101,7 @@ pub(crate) fn push_sound_body(
 }
 
 /// The layout of the data of a command, where they are read.
-pub(crate) fn request_layout(command: Command) -> Option<Layout>
+pub(crate) fn request_layout(command: CommandNumber) -> Option<Layout>
     ensures { found_shape result ≡ request_in (shapes_of command) }
 {
     let row = layout_of(command.set, command.number)?;
@@ -112,7 +112,7 @@ pub(crate) fn request_layout(command: Command) -> Option<Layout>
 }
 
 /// The layout of the data of a reply, where they are read; with an error it has none.
-pub(crate) fn reply_layout(command: Command, error: ErrorCode) -> Option<Layout>
+pub(crate) fn reply_layout(command: CommandNumber, error: ErrorCode) -> Option<Layout>
     ensures { found_shape result ≡ (if error.0 == NONE.0 then reply_in
         (shapes_of command) else None) }
 {

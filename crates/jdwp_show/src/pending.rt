@@ -9,7 +9,7 @@ use std::alloc::Global;
 
 /// A command of a command set.
 #[derive(Clone, Copy)]
-pub struct Command {
+pub struct CommandNumber {
     pub set: u8,
     pub number: u8,
 }
@@ -45,7 +45,7 @@ impl Pending {
 
     /// One item more. Answers the command that waited under its id before.
     #[inline(always)]
-    pub(crate) fn record(&mut self, item: &ItemRef) -> Result<Option<Command>, NoMemory>
+    pub(crate) fn record(&mut self, item: &ItemRef) -> Result<Option<CommandNumber>, NoMemory>
         ensures waits { IfOk result (λ waits. waits ≡ under (waiting_in self.old)
             (thing item.now.found)) }
         ensures after { OnOk result (IsAfter self.old item.now self.new) }
@@ -63,7 +63,7 @@ impl Pending {
                 let id = packet.header.id;
                 match packet.header.kind {
                     PacketKind::Command { set, number } => match item.sender {
-                        Sender::Debugger => self.commands.insert(id, Command { set, number }),
+                        Sender::Debugger => self.commands.insert(id, CommandNumber { set, number }),
                         Sender::Target => Ok(self.commands.get(id)),
                     },
                     PacketKind::Reply { error: _ } => match item.sender {

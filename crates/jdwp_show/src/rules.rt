@@ -9,7 +9,7 @@ ghost use Rattle.jdwp_show.specs.Streams.{thing};
 use crate::capture_fault::CaptureFault;
 use crate::capture_line::Sender;
 use crate::found::{FoundRef, ItemRef};
-use crate::pending::Command;
+use crate::pending::CommandNumber;
 use byteorder::{BigEndian, ByteOrder};
 use jdwp_layout::numbers::{COMPOSITE, EVENT, ID_SIZES, VIRTUAL_MACHINE};
 use jdwp_layout::{Layout, layout_of, validate};
@@ -20,7 +20,7 @@ use jdwp_wire::{DataFault, ErrorCode, IdSizes, PacketKind};
 /// Whether the debugger's handshake was before it, and which command waits under its id, are given.
 pub(crate) fn order_fault(
     begun: bool,
-    waits: Option<Command>,
+    waits: Option<CommandNumber>,
     item: &ItemRef,
 ) -> Option<CaptureFault>
     ensures { result ≡ rules.order_fault begun waits item.now.sender (thing item.now.found) }
@@ -39,7 +39,7 @@ pub(crate) fn order_fault(
     }
 }
 
-fn command_fault(waits: Option<Command>, kind: PacketKind) -> Option<CaptureFault>
+fn command_fault(waits: Option<CommandNumber>, kind: PacketKind) -> Option<CaptureFault>
     ensures { result ≡ rules.command_fault waits kind }
 {
     match kind {
@@ -56,7 +56,7 @@ fn command_fault(waits: Option<Command>, kind: PacketKind) -> Option<CaptureFaul
     }
 }
 
-fn target_fault(waits: Option<Command>, kind: PacketKind) -> Option<CaptureFault>
+fn target_fault(waits: Option<CommandNumber>, kind: PacketKind) -> Option<CaptureFault>
     ensures { result ≡ rules.target_fault waits kind }
 {
     match kind {
@@ -80,7 +80,7 @@ fn target_fault(waits: Option<Command>, kind: PacketKind) -> Option<CaptureFault
 /// The rule of data that the item breaks, under these widths of ids.
 pub(crate) fn data_fault(
     sizes: Option<IdSizes>,
-    waits: Option<Command>,
+    waits: Option<CommandNumber>,
     item: &ItemRef,
 ) -> Option<CaptureFault>
     ensures { result ≡ rules.data_fault sizes waits item.now.sender (thing item.now.found) }
@@ -90,7 +90,9 @@ pub(crate) fn data_fault(
     };
     match packet.header.kind {
         PacketKind::Command { set, number } => {
-            request_fault(sizes, Command { set, number }, packet.body).map(CaptureFault::BadData)
+            request_fault(sizes, CommandNumber { set, number }, packet.body).map(
+                CaptureFault::BadData,
+            )
         }
         PacketKind::Reply { error } => match item.sender {
             Sender::Debugger => None,
@@ -103,7 +105,7 @@ pub(crate) fn data_fault(
     }
 }
 
-fn request_fault(sizes: Option<IdSizes>, command: Command, body: &[u8]) -> Option<DataFault>
+fn request_fault(sizes: Option<IdSizes>, command: CommandNumber, body: &[u8]) -> Option<DataFault>
     ensures { result ≡ laws.request_fault sizes command body.now }
 {
     let row = layout_of(command.set, command.number)?;
@@ -113,7 +115,11 @@ fn request_fault(sizes: Option<IdSizes>, command: Command, body: &[u8]) -> Optio
     }
 }
 
-fn reply_fault(sizes: Option<IdSizes>, waits: Option<Command>, body: &[u8]) -> Option<DataFault>
+fn reply_fault(
+    sizes: Option<IdSizes>,
+    waits: Option<CommandNumber>,
+    body: &[u8],
+) -> Option<DataFault>
     ensures { result ≡ laws.reply_fault sizes waits body.now }
 {
     let command = waits?;
@@ -138,15 +144,15 @@ fn layout_fault(sizes: Option<IdSizes>, layout: &Layout, body: &[u8]) -> Option<
     }
 }
 
-fn is_id_sizes(command: Command) -> bool
+fn is_id_sizes(command: CommandNumber) -> bool
     ensures { result ≡ laws.is_id_sizes command }
 {
     command.set == VIRTUAL_MACHINE && command.number == ID_SIZES
 }
 
 /// The widths of ids that the item tells, if it is a reply without an error to VirtualMachine.IDSizes whose data read.
-pub(crate) fn told(waits: Option<Command>, item: &ItemRef) -> Option<IdSizes>
-    ensures { result ≡ sessions.told waits item.now.sender (thing item.now.found) }
+pub(crate) fn told(waits: Option<CommandNumber>, item: &ItemRef) -> Option<IdSizes>
+    ensures { result ≡ sessions.told_widths waits item.now.sender (thing item.now.found) }
 {
     let FoundRef::Packet(packet) = item.found else {
         return None;

@@ -16,7 +16,7 @@ use crate::message_text::{
     push_command_start, push_hello, push_mark, push_reply_start, push_sound_body, reply_layout,
     request_layout,
 };
-use crate::pending::Command;
+use crate::pending::CommandNumber;
 use crate::text::Text;
 use jdwp_layout::Layout;
 use jdwp_wire::{IdSizes, NoMemory, PacketKind, PacketRef};
@@ -40,7 +40,7 @@ impl Observer for Transcript {
     fn observe(
         &mut self,
         sizes: &Option<IdSizes>,
-        waits: Option<Command>,
+        waits: Option<CommandNumber>,
         item: &ItemRef,
     ) -> Result<(), NoMemory> {
         match item.found {
@@ -74,7 +74,7 @@ impl Transcript {
     fn show_packet(
         &mut self,
         sizes: Option<IdSizes>,
-        waits: Option<Command>,
+        waits: Option<CommandNumber>,
         sender: Sender,
         packet: &PacketRef,
     )
@@ -85,7 +85,7 @@ impl Transcript {
         let id = packet.header.id;
         match packet.header.kind {
             PacketKind::Command { set, number } => {
-                let command = Command { set, number };
+                let command = CommandNumber { set, number };
                 push_command_start(&mut self.lines, sender, id, command);
                 self.show_body(sizes, request_layout(command), packet.body);
             }

@@ -3,7 +3,7 @@ ghost use Rattle.std.specs.Prelude.{◌≡◌, ◌+◌, ◌≤◌, ◌<◌, ◌^
 ghost use Rattle.std.specs.BTreeMap.{get};
 ghost use Rattle.std.specs.Ordering.{nat_cmp};
 
-use crate::pending::Command;
+use crate::pending::CommandNumber;
 use jdwp_wire::NoMemory;
 use std::alloc::Global;
 use std::collections::{BTreeMap, VecDeque};
@@ -15,8 +15,8 @@ pub(crate) struct Waiting {
     /// The id that the row begins with.
     first: usize,
     /// What waits under this id and those behind it.
-    row: VecDeque<Option<Command>>,
-    others: BTreeMap<u32, Command>,
+    row: VecDeque<Option<CommandNumber>>,
+    others: BTreeMap<u32, CommandNumber>,
     ghost are_ids: { first + length row.items ≤ 2 ^ 32 },
 }
 
@@ -35,7 +35,7 @@ impl Waiting {
 
     /// The command that waits under the id.
     #[inline(always)]
-    pub(crate) fn get(&self, id: u32) -> Option<Command>
+    pub(crate) fn get(&self, id: u32) -> Option<CommandNumber>
         ensures { result ≡ waits_in self.now id }
     {
         match self.place(id) {
@@ -59,7 +59,11 @@ impl Waiting {
 
     /// The command waits under the id, and no other does. Answers the one that waited there before.
     #[inline(always)]
-    pub(crate) fn insert(&mut self, id: u32, command: Command) -> Result<Option<Command>, NoMemory>
+    pub(crate) fn insert(
+        &mut self,
+        id: u32,
+        command: CommandNumber,
+    ) -> Result<Option<CommandNumber>, NoMemory>
         ensures before { IfOk result (λ before. before ≡ waits_in self.old id) }
         ensures waits { OnOk result ((other : ℕ) → waits_in self.new other
             ≡ (if id == other then Some command else waits_in self.old other)) }
@@ -82,7 +86,7 @@ impl Waiting {
 
     /// No command waits under the id. Answers the one that waited there before.
     #[inline(always)]
-    pub(crate) fn remove(&mut self, id: u32) -> Option<Command>
+    pub(crate) fn remove(&mut self, id: u32) -> Option<CommandNumber>
         ensures before { result ≡ waits_in self.old id }
         ensures waits { (other : ℕ) → waits_in self.new other
             ≡ (if id == other then None else waits_in self.old other) }
@@ -110,7 +114,7 @@ impl Waiting {
 }
 
 /// No command is there under the id. Answers the one that was.
-fn forget(commands: &mut BTreeMap<u32, Command>, id: u32) -> Option<Command>
+fn forget(commands: &mut BTreeMap<u32, CommandNumber>, id: u32) -> Option<CommandNumber>
     ensures before { result ≡ get nat_cmp commands.old id }
     ensures others { (other : ℕ) → get nat_cmp commands.new other
         ≡ (if id == other then None else get nat_cmp commands.old other) }

@@ -13,10 +13,13 @@ use Rattle.jdwp_layout.specs.CommandTable.{row_at}
 use Rattle.jdwp_layout.specs.Meanings.{DatumMeaning}
 use Rattle.jdwp_layout.specs.Reads.{data_at}
 use Rattle.jdwp_machine.specs.Meanings.{Meaning}
-use Rattle.jdwp_debuggee.specs.Actions.{Command, Raw, action_of, is_implemented}
-use Rattle.jdwp_debuggee.specs.CommandReads.{asked_meaning, asking, asking_of, asks, command_read, content_read, read_by, row_request}
+use Rattle.jdwp_action.specs.Actions.{Command, Raw, action_of, is_implemented}
+use Rattle.jdwp_action.specs.CommandReads.{command_read, content_read, read_by}
+use Rattle.jdwp_action.specs.RowLayouts.{row_request}
+use Rattle.jdwp_debuggee.specs.Askings.{asked_meaning, asking, asking_of, asks}
 use Rattle.jdwp_debuggee.specs.Effects.{carried, does, effect, effect_by}
-use Rattle.jdwp_debuggee.specs.Sending.{EncodesAnswer, is_question}
+use Rattle.jdwp_action.specs.AnswerPackets.{EncodesAnswer}
+use Rattle.jdwp_debuggee.specs.Sending.{is_question}
 use Rattle.jdwp_debuggee.specs.Settings.{Settings}
 use Rattle.jdwp_debuggee.specs.State.{Moment}
 use Rattle.jdwp_debuggee.specs.Steps.{start_event}
@@ -103,7 +106,7 @@ pub encodes-start : {S : Type 0} (m : Meaning S) (v : Target S) (b : Bool) → (
 encodes-start m v true h = tt
 encodes-start m v false h = h refl
 
-pub encodes-command : {S : Type 0} (m : Meaning S) (v : Target S) (header : Header) (body : List ℕ) (w : Widths) (id : ℕ) (asked : code.Asked.Asked)
+pub encodes-command : {S : Type 0} (m : Meaning S) (v : Target S) (header : Header) (body : List ℕ) (w : Widths) (id : ℕ) (asked : code.ParsedCommand.ParsedCommand)
     → IsRead w header.id header.kind body (came.Command id asked) → w ≡ m.sizes v.moment.machine
     → ((set number : ℕ) (bytes : List ℕ) → asked_meaning asked ≡ asks (command_read (m.sizes v.moment.machine) set number bytes)
     → EncodesAnswer (m.sizes v.moment.machine) set number (carried_out m v.settings v.moment (command_read (m.sizes v.moment.machine) set number bytes)).answer)

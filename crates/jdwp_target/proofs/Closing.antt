@@ -14,12 +14,11 @@ use Rattle.jdwp_end.specs.declared.phase.Phase.{Phase}
 use Rattle.jdwp_end.specs.declared.phase.Phase.TheVariants.{Closed, AwaitingHandshake, Established}
 use Rattle.jdwp_end.specs.Ends.{is_open_phase}
 use Rattle.jdwp_machine.specs.Meanings.{Meaning}
-use Rattle.jdwp_debuggee.specs.Actions
-use Rattle.jdwp_debuggee.specs.Actions.{Action, Carried, Command, Content, Raw, action_by, action_of, clear_action, other_action, set_action, slots_of, thread_action, thread_of}
-use Rattle.jdwp_debuggee.specs.CommandReads.{command_read, content_read, read_by}
+use Rattle.jdwp_action.specs.Actions
+use Rattle.jdwp_action.specs.Actions.{Action, Carried, Command, Content, Raw, action_by, action_of, clear_action, other_action, set_action, slots_of, thread_action, thread_of, is_dispose}
+use Rattle.jdwp_action.specs.CommandReads.{command_read, content_read, read_by}
 use Rattle.jdwp_debuggee.specs.Effects.{Effect, does, effect_by}
 use Rattle.jdwp_debuggee.specs.Effects as effects
-use Rattle.jdwp_debuggee.specs.Facts.{is_dispose}
 use Rattle.jdwp_debuggee.specs.Settings.{Settings}
 use Rattle.jdwp_debuggee.specs.State.{Moment, State, Thread, count_of}
 use Rattle.jdwp_debuggee.specs.Steps.{Step, death_by, ended_by, happens, may_step, occurs, occurs_by, report_by}

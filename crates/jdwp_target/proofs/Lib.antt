@@ -9,3 +9,4 @@ pub mod Numbered
 pub mod Closing
 pub mod Encoded
 pub mod AnswersEncoded
+pub mod Visited

@@ -14,15 +14,15 @@ use Rattle.jdwp_event.specs.Modifiers.{modifiers_of}
 use Rattle.jdwp_event.specs.Occurrences.{HappeningMeaning, started, runs_out}
 use Rattle.jdwp_event.specs.Requests.{Request}
 use Rattle.jdwp_machine.specs.Meanings.{Meaning}
-use Rattle.jdwp_debuggee.specs.Actions
-use Rattle.jdwp_debuggee.specs.Actions.{Action, Command, action_of, is_implemented}
-use Rattle.jdwp_debuggee.specs.CommandReads.{command_read}
+use Rattle.jdwp_action.specs.Actions
+use Rattle.jdwp_action.specs.Actions.{Action, Command, action_of, is_implemented}
+use Rattle.jdwp_action.specs.CommandReads.{command_read}
 use Rattle.jdwp_debuggee.specs.Effects.{Effect, does, effect_by, suspend_by, set_by, suspend_thread_by, suspend_thread_at, resume_thread_by, slots_by, slots_at}
 use Rattle.jdwp_debuggee.specs.Refusals.{set_refusal}
 use Rattle.jdwp_debuggee.specs.Settings.{Settings}
 use Rattle.jdwp_debuggee.specs.State.{Thread, State, Moment, at_limit, count_of, is_marked, new_state, next_packet_id, without_thread}
 use Rattle.jdwp_debuggee.specs.StepParts.{packet_after}
-use Rattle.jdwp_debuggee.specs.Steps.{Step, death_by, ended_by, ends, happens, may_step, occurs, occurs_by, report_by, seen, with_started}
+use Rattle.jdwp_debuggee.specs.Steps.{Step, death_by, ended_by, ends, happens, may_step, occurs, occurs_by, report_by, with_happening, with_started}
 use Rattle.jdwp_target.specs.Lives.{Acts, AreNumbered, Begins, Deed, begun, begun_by, composite_ids, id_if_composite, sent_in_life}
 use Rattle.jdwp_target.specs.Standings.{Act, Handles, Loses, Reaction, Standing, Steps, behind, carried_out, established, greets_by, handles_packet, react, replies_by, reports, stands, steps_apart, steps_at, steps_by, steps_in_session}
 
@@ -162,7 +162,7 @@ end-steps m now t state [] packet stay = record { packet = packet; none = λ h. 
 end-steps m now t state (entry ∷ entries) packet stay = record { packet = packet; none = λ h. refl; stay = stay; dead = λ h. absurd cc }
 
 death-steps : {S : Type 0} (m : Meaning S) (now : Moment S) (t : ℕ) (h : HappeningMeaning) (o : Option CompositeMeaning) → gathered h now.state.requests ≡ o → Stepping now (death_by m now.machine t h now.state o)
-death-steps m now t h None e = end-steps m now t (without_thread t (seen h now.state)) (without_thread t (seen h now.state)).threads refl (λ n. ap (all_counted h) n)
+death-steps m now t h None e = end-steps m now t (without_thread t (with_happening h now.state)) (without_thread t (with_happening h now.state)).threads refl (λ n. ap (all_counted h) n)
 death-steps m now t h (Some c) e = record {
   packet = refl;
   none = λ n. let y : gathered h now.state.requests ≡ None = ap (gathered h) n in absurd (cc);
@@ -180,15 +180,15 @@ started-requests (Some t) state = refl
 
 report-steps : {S : Type 0} (m : Meaning S) (now : Moment S) (t : ℕ) (h : HappeningMeaning) (o : Option CompositeMeaning) → gathered h now.state.requests ≡ o → Stepping now (report_by m now.machine t h now.state o)
 report-steps m now t h None e = record {
-  packet = started-packet (started h) (seen h now.state);
+  packet = started-packet (started h) (with_happening h now.state);
   none = λ n. refl;
-  stay = λ n. started-requests (started h) (seen h now.state) ∙ ap (all_counted h) n;
+  stay = λ n. started-requests (started h) (with_happening h now.state) ∙ ap (all_counted h) n;
   dead = λ d. absurd cc;
 }
 report-steps m now t h (Some c) e = record {
-  packet = ap next_packet_id (started-packet (started h) (seen h now.state));
+  packet = ap next_packet_id (started-packet (started h) (with_happening h now.state));
   none = λ n. let y : gathered h now.state.requests ≡ None = ap (gathered h) n in absurd (cc);
-  stay = λ n. started-requests (started h) (seen h now.state) ∙ ap (all_counted h) n;
+  stay = λ n. started-requests (started h) (with_happening h now.state) ∙ ap (all_counted h) n;
   dead = λ d. absurd cc;
 }
 

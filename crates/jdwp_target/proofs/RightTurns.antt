@@ -29,16 +29,19 @@ use Rattle.jdwp_layout.specs.Writes.{data_canonical}
 use Rattle.jdwp_event.specs.Composites.{composite_data, vm_death, vm_start}
 use Rattle.jdwp_event.specs.Modifiers.{modifiers_of}
 use Rattle.jdwp_machine.specs.Meanings.{Meaning}
-use Rattle.jdwp_debuggee.specs.Actions
-use Rattle.jdwp_debuggee.specs.Actions.{Action, Command, Raw, action_of, is_implemented}
-use Rattle.jdwp_debuggee.specs.CommandReads.{Asking, action_meaning, asked_meaning, asking, asking_of, asks, command_read, content_read, is_short, read_by, row_request, with_content}
-use Rattle.jdwp_debuggee.specs.Debuggees.{Debuggee, at_moment}
+use Rattle.jdwp_action.specs.Actions
+use Rattle.jdwp_action.specs.Actions.{Action, Command, Raw, action_of, is_implemented, is_dispose, is_exit}
+use Rattle.jdwp_action.specs.CommandReads.{command_read, content_read, read_by, with_content}
+use Rattle.jdwp_action.specs.RowLayouts.{row_request}
+use Rattle.jdwp_debuggee.specs.Askings.{Asking, action_meaning, asked_meaning, asking, asking_of, asks, is_short}
+use Rattle.jdwp_debuggee.specs.Debuggees.{Debuggee, at_moment, visiting}
 use Rattle.jdwp_debuggee.specs.Effects.{Effect, carried, carried_by, does, effect_by, raises_counts, suspend_by, set_by, suspend_thread_by, suspend_thread_at, resume_thread_by, slots_by, slots_at}
-use Rattle.jdwp_debuggee.specs.Facts.{is_dispose, is_exit}
 use Rattle.jdwp_debuggee.specs.Refusals.{set_refusal}
-use Rattle.jdwp_debuggee.specs.Sending.{Did, IsSent, answer_bytes, error_of, is_short_asked, sent_bytes}
+use Rattle.jdwp_action.specs.AnswerPackets.{answer_bytes, error_of}
+use Rattle.jdwp_debuggee.specs.Sending.{Did, IsSent, is_short_asked, sent_bytes}
 use Rattle.jdwp_debuggee.specs.Settings.{Settings}
 use Rattle.jdwp_debuggee.specs.State.{Moment, at_limit, count_of}
+use Rattle.jdwp_debuggee.specs.Visits.{visits_carried}
 use Rattle.jdwp_debuggee.specs.declared.command as code
 use Rattle.jdwp_debuggee.specs.declared.reply.Reply.TheVariants as reply
 use Rattle.jdwp_debuggee.specs.declared.reply.Sent.{Sent}
@@ -49,13 +52,14 @@ use Rattle.jdwp_target.specs.declared.target.Turn.{Turn}
 use Rattle.jdwp_target.specs.declared.target.Turn.TheVariants as turn
 use Rattle.jdwp_target.specs.declared.turning.Came.TheVariants as came
 use Rattle.jdwp_target.specs.declared.turning.Done.{Done}
-use Rattle.jdwp_target.specs.Insides.{IsRight, target_of}
+use Rattle.jdwp_target.specs.Insides.{IsRightTarget, target_of}
 use Rattle.jdwp_target.specs.Sends.{reply_to, report_of}
 use Rattle.jdwp_target.specs.Standings.{Standing, carried_out, greets_by, handles, phase_after, replies_by, stands}
 use Rattle.jdwp_target.specs.Targets.{Ran, Target, in_phase, with_handled}
 use Rattle.jdwp_target.specs.StepParts.{debuggee_after, end_after}
 use Rattle.jdwp_target.specs.TurnParts.{IsDone, IsHandled, IsRead, after_deaths, closed_where, deaths, reply_of}
 use Rattle.jdwp_target.specs.Turns.{NeedsMemory, SendsAt, TurnsAt, kind_needs_memory, told_of, told_of_packet}
+use Rattle.jdwp_target.specs.Visits.{visits_hello, visits_read}
 use Rattle.jdwp_target.proofs.EnqueueLemmas.{two_enqueued}
 use Rattle.jdwp_target.proofs.TargetRuns.{ran-handled}
 
@@ -63,6 +67,11 @@ use Rattle.jdwp_target.proofs.TargetRuns.{ran-handled}
 pub packet-lent : (end : End) (limits : Limits) (bytes : List ℕ) (used : ℕ) (header : Header) (body : List ℕ) → front_of end ≡ Whole (Packet header body) used → limits ≡ end.limits
     → ((h : Header) (b : List ℕ) → front_of end ≡ Whole (Packet h b) used → front end.limits.packet bytes ≡ frames.Whole h b used) → front limits.packet bytes ≡ frames.Whole header body used
 packet-lent end limits bytes used header body front-is same lent = ap (λ (l : Limits). front l.packet bytes) same ∙ lent header body front-is
+
+-- what is taken off an end that is as it was is taken off the end
+pub taken-off : (end read new : End) (message : Message) (used : ℕ) → read ≡ end → front_of end ≡ Whole message used
+    → ((m : Message) → front_of read ≡ Whole m used → new ≡ ends.with_handled m used read) → new ≡ ends.with_handled message used end
+taken-off end read new message used same front off = off message (ap (λ (e : End). front_of e) same ∙ front) ∙ ap (λ (e : End). ends.with_handled message used e) same
 
 -- a packet comes in an established session
 packet-phase : (limit : ℕ) (phase : Phase) (header : Header) (body : List ℕ) → IsDue limit phase (Packet header body) → phase ≡ Established
@@ -175,7 +184,7 @@ effect_read m d read = carried_out m d.settings d.moment read
 
 -- it is refused
 done-refused-by : {S : Type 0} (m : Meaning S) (w : Widths) (d : Debuggee S) (error : ErrorCode) (read : Result Command ErrorCode) → Err error ≡ asks read
-    → IsDone w (effect_read m d read) d d (record { sent = sent.Short (reply.Refused error); dies = false; closes = false })
+    → IsDone w (effect_read m d read) (visits_read m d.settings d.moment read d.visits) d d (record { sent = sent.Short (reply.Refused error); dies = false; closes = false })
 done-refused-by m w d error (Ok c) e = absurd cc
 done-refused-by m w d error (Err x) e =
     let same : error ≡ x = cc in
@@ -190,7 +199,7 @@ done-refused-by m w d error (Err x) e =
     })
 
 pub done-refused : {S : Type 0} (m : Meaning S) (d : Debuggee S) (w : Widths) (set number : ℕ) (body : List ℕ) (error : ErrorCode) → Err error ≡ asks (command_read w set number body)
-    → IsDone w (carried_out m d.settings d.moment (command_read w set number body)) d d (record { sent = sent.Short (reply.Refused error); dies = false; closes = false })
+    → IsDone w (carried_out m d.settings d.moment (command_read w set number body)) (visits_read m d.settings d.moment (command_read w set number body) d.visits) d d (record { sent = sent.Short (reply.Refused error); dies = false; closes = false })
 done-refused m d w set number body error e = done-refused-by m w d error (command_read w set number body) e
 
 -- it is carried out
@@ -205,7 +214,8 @@ carried-shaken m settings now c a h =
     ∙ elim (raises_counts a) as (λ (x : Bool). carried_by m settings now c a (x && not true) ≡ does m settings now c a) [ true ↦ refl | false ↦ refl ]
 
 did-done : {S : Type 0} (m : Meaning S) (d new : Debuggee S) (a : code.Action.Action) (c : Command) (done : Done) → is_implemented c ≡ true → action_meaning a ≡ action_of c
-    → HasEnding a done → d.moment.state.handshaken ≡ true → Did m c d new done.sent → IsDone (m.sizes d.moment.machine) (effect_by m d.settings d.moment c (is_implemented c)) d new done
+    → HasEnding a done → d.moment.state.handshaken ≡ true → Did m c d new done.sent → IsDone (m.sizes d.moment.machine) (effect_by m d.settings d.moment c (is_implemented c))
+    (visits_carried d.moment (action_of c) (effect_by m d.settings d.moment c (is_implemented c)) d.visits) d new done
 did-done m d new a c done impl same ends shaken did =
     let on : carried m d.settings d.moment c (action_of c) ≡ does m d.settings d.moment c (action_of c) = carried-shaken m d.settings d.moment c (action_of c) shaken in
     let e = does m d.settings d.moment c (action_of c) in
@@ -223,7 +233,7 @@ did-done m d new a c done impl same ends shaken did =
 
 done-carried-by : {S : Type 0} (m : Meaning S) (d new : Debuggee S) (a : code.Action.Action) (done : Done) (read : Result Command ErrorCode)
     → ((c : Command) → read ≡ Ok c → is_implemented c ≡ true) → Ok (asking a) ≡ asks read → HasEnding a done → d.moment.state.handshaken ≡ true → ((c : Command) → asking a ≡ asking_of c → Did m c d new done.sent)
-    → IsDone (m.sizes d.moment.machine) (effect_read m d read) d new done
+    → IsDone (m.sizes d.moment.machine) (effect_read m d read) (visits_read m d.settings d.moment read d.visits) d new done
 done-carried-by m d new a done (Ok c) impl e ends shaken did =
     let same : asking a ≡ asking_of c = asking-same (asking a) (asking_of c) e in
     did-done m d new a c done (impl c refl) (ap (λ (x : Asking). x.action) same) ends shaken (did c same)
@@ -231,7 +241,7 @@ done-carried-by m d new a done (Err x) impl e ends shaken did = absurd cc
 
 pub done-carried : {S : Type 0} (m : Meaning S) (d new : Debuggee S) (set number : ℕ) (body : List ℕ) (a : code.Action.Action) (done : Done)
     → Ok (asking a) ≡ asks (command_read (m.sizes d.moment.machine) set number body) → HasEnding a done → d.moment.state.handshaken ≡ true → ((c : Command) → asking a ≡ asking_of c → Did m c d new done.sent)
-    → IsDone (m.sizes d.moment.machine) (carried_out m d.settings d.moment (command_read (m.sizes d.moment.machine) set number body)) d new done
+    → IsDone (m.sizes d.moment.machine) (carried_out m d.settings d.moment (command_read (m.sizes d.moment.machine) set number body)) (visits_read m d.settings d.moment (command_read (m.sizes d.moment.machine) set number body) d.visits) d new done
 done-carried m d new set number body a done e ends shaken did =
     done-carried-by m d new a done (command_read (m.sizes d.moment.machine) set number body) (λ (c : Command). λ read. (was-read (m.sizes d.moment.machine) set number body c read).implemented) e ends shaken did
 
@@ -248,9 +258,9 @@ closes-by a b dispose exit other =
 
 -- ---- what a reply leaves
 
-died : {S : Type 0} (now : Standing S) (w : Widths) (id : ℕ) (e : Effect S) (b : Bool) (d : Debuggee S) → after_deaths b (at_moment e.after d) ≡ debuggee_after (replies_by now w id e b) d
-died now w id e true d = refl
-died now w id e false d = refl
+died : {S : Type 0} (now : Standing S) (w : Widths) (id : ℕ) (e : Effect S) (b : Bool) (visits : ℕ) (d : Debuggee S) → after_deaths b (visiting visits (at_moment e.after d)) ≡ visiting visits (debuggee_after (replies_by now w id e b) d)
+died now w id e true visits d = refl
+died now w id e false visits d = refl
 
 closed-by : {S : Type 0} (now : Standing S) (w : Widths) (id : ℕ) (e : Effect S) (b : Bool) (message : Message) (used : ℕ) (end : End)
     → closed_where (b || e.closes) (with_enqueued (stream (reply_to w id e.answer ∷ deaths w e.after.state.next_packet b)) (ends.with_handled message used end))
@@ -275,10 +285,10 @@ handled-kind : {S : Type 0} (m : Meaning S) (header : Header) (body : List ℕ) 
 handled-kind m header body k used old new end after e h =
     subst (λ (x : PacketKind). IsHandled m (Packet (record { length = header.length; id = header.id; kind = x }) body) used old new end after) (sym e) h
 
-sent-is : (w : Widths) (id : ℕ) {S : Type 0} (e : Effect S) (d mid : Debuggee S) (done : Done) (end : End) → IsDone w e d mid done
+sent-is : (w : Widths) (id : ℕ) {S : Type 0} (e : Effect S) (visits : ℕ) (d mid : Debuggee S) (done : Done) (end : End) → IsDone w e visits d mid done
     → closed_where done.closes (with_enqueued (stream (reply_of w id done.sent ∷ deaths w mid.moment.state.next_packet done.dies)) end)
     ≡ closed_where (e.dies || e.closes) (with_enqueued (stream (reply_to w id e.answer ∷ deaths w e.after.state.next_packet e.dies)) end)
-sent-is w id {S = S} e d mid done end h =
+sent-is w id {S = S} e visits d mid done end h =
     ap (λ (b : Bool). closed_where b (with_enqueued (stream (reply_of w id done.sent ∷ deaths w mid.moment.state.next_packet done.dies)) end)) h.closes
     ∙ (ap (λ (x : Message). closed_where (e.dies || e.closes) (with_enqueued (stream (x ∷ deaths w mid.moment.state.next_packet done.dies)) end)) (reply-is w id done.sent e h.sends)
     ∙ (ap (λ (x : Debuggee S). closed_where (e.dies || e.closes) (with_enqueued (stream (reply_to w id e.answer ∷ deaths w x.moment.state.next_packet done.dies)) end)) h.after
@@ -289,9 +299,9 @@ died-sends : {S : Type 0} (now : Standing S) (w : Widths) (id : ℕ) (e : Effect
 died-sends now w id e true = refl
 died-sends now w id e false = refl
 
-sends-are : {S : Type 0} (limit : ℕ) (now : Standing S) (w : Widths) (id : ℕ) (e : Effect S) (d mid : Debuggee S) (done : Done) → IsDone w e d mid done
+sends-are : {S : Type 0} (limit : ℕ) (now : Standing S) (w : Widths) (id : ℕ) (e : Effect S) (visits : ℕ) (d mid : Debuggee S) (done : Done) → IsDone w e visits d mid done
     → AreSendable limit (reply_of w id done.sent ∷ deaths w mid.moment.state.next_packet done.dies) → AreSendable limit (replies_by now w id e e.dies).sends
-sends-are {S = S} limit now w id e d mid done h fits =
+sends-are {S = S} limit now w id e visits d mid done h fits =
     subst (λ (x : List Message). AreSendable limit x)
     (ap (λ (x : Message). x ∷ deaths w mid.moment.state.next_packet done.dies) (reply-is w id done.sent e h.sends)
     ∙ (ap (λ (x : Debuggee S). reply_to w id e.answer ∷ deaths w x.moment.state.next_packet done.dies) h.after
@@ -300,7 +310,7 @@ sends-are {S = S} limit now w id e d mid done h fits =
 
 -- a command was handled
 command-handled : {S : Type 0} (m : Meaning S) (d mid new : Debuggee S) (header : Header) (body : List ℕ) (used set number : ℕ) (end after : End) (done : Done) → header.kind ≡ kind.Command set number
-    → IsDone (m.sizes d.moment.machine) (carried_out m d.settings d.moment (command_read (m.sizes d.moment.machine) set number body)) d mid done → d.moment.state.handshaken ≡ true
+    → IsDone (m.sizes d.moment.machine) (carried_out m d.settings d.moment (command_read (m.sizes d.moment.machine) set number body)) (visits_read m d.settings d.moment (command_read (m.sizes d.moment.machine) set number body) d.visits) d mid done → d.moment.state.handshaken ≡ true
     → new ≡ after_deaths done.dies mid
     → after ≡ closed_where done.closes (with_enqueued (stream (reply_of (m.sizes d.moment.machine) header.id done.sent ∷ deaths (m.sizes d.moment.machine) mid.moment.state.next_packet done.dies)) (ends.with_handled (Packet header body) used end))
     → AreSendable end.limits.packet (reply_of (m.sizes d.moment.machine) header.id done.sent ∷ deaths (m.sizes d.moment.machine) mid.moment.state.next_packet done.dies)
@@ -309,7 +319,8 @@ command-handled {S = S} m d mid new header body used set number end after done i
     let w = m.sizes d.moment.machine in
     let e = carried_out m d.settings d.moment (command_read w set number body) in
     let now = stands d.moment Established in
-    let debuggee : new ≡ debuggee_after (replies_by now w header.id e e.dies) d = new-is ∙ (rw (h.dies, h.after) refl ∙ died now w header.id e e.dies d) in
+    let visits = visits_read m d.settings d.moment (command_read w set number body) d.visits in
+    let debuggee : new ≡ visiting visits (debuggee_after (replies_by now w header.id e e.dies) d) = new-is ∙ (rw (h.dies, h.after) refl ∙ died now w header.id e e.dies visits d) in
     let message = Packet (record { length = header.length; id = header.id; kind = kind.Command set number }) body in
     let left : after ≡ closed_where done.closes (with_enqueued (stream (reply_of w header.id done.sent ∷ deaths w mid.moment.state.next_packet done.dies)) (ends.with_handled message used end)) =
     subst
@@ -318,14 +329,14 @@ command-handled {S = S} m d mid new header body used set number end after done i
     is after-is in
     handled-kind m header body (kind.Command set number) used d new end after is (record {
       debuggee = debuggee;
-      left = left ∙ (sent-is w header.id e d mid done (ends.with_handled message used end) h ∙ closed-by now w header.id e e.dies message used end);
+      left = left ∙ (sent-is w header.id e visits d mid done (ends.with_handled message used end) h ∙ closed-by now w header.id e e.dies message used end);
       handshaken = ap (λ (x : Debuggee S). x.moment.state.handshaken) debuggee ∙ (shaken-by now w header.id e e.dies ∙ (h.handshaken ∙ shaken));
-      sends = sends-are end.limits.packet now w header.id e d mid done h fits;
+      sends = sends-are end.limits.packet now w header.id e visits d mid done h fits;
     })
 
 -- the same, where the widths and the end without the message have names of their own
 command-replied : {S : Type 0} (m : Meaning S) (d mid new : Debuggee S) (header : Header) (body : List ℕ) (used set number : ℕ) (end off after : End) (done : Done) (w : Widths) → header.kind ≡ kind.Command set number
-    → IsDone (m.sizes d.moment.machine) (carried_out m d.settings d.moment (command_read (m.sizes d.moment.machine) set number body)) d mid done → d.moment.state.handshaken ≡ true
+    → IsDone (m.sizes d.moment.machine) (carried_out m d.settings d.moment (command_read (m.sizes d.moment.machine) set number body)) (visits_read m d.settings d.moment (command_read (m.sizes d.moment.machine) set number body) d.visits) d mid done → d.moment.state.handshaken ≡ true
     → new ≡ after_deaths done.dies mid → w ≡ m.sizes d.moment.machine → off ≡ ends.with_handled (Packet header body) used end
     → after ≡ closed_where done.closes (with_enqueued (stream (reply_of w header.id done.sent ∷ deaths w mid.moment.state.next_packet done.dies)) off)
     → end.limits ≡ d.settings.limits → least_packet_limit ≤ end.limits.packet
@@ -344,10 +355,10 @@ command-replied m d mid new header body used set number end off after done w is 
     (subst (λ (x : Widths). AreSendable end.limits.packet (reply_of x header.id done.sent ∷ deaths x mid.moment.state.next_packet done.dies)) w-is sends)
 
 -- the same of a command as it was read
-pub command-came : {S : Type 0} (m : Meaning S) (d mid new : Debuggee S) (header : Header) (body : List ℕ) (used : ℕ) (end off after : End) (done : Done) (w : Widths) (id : ℕ) (asked : code.Asked.Asked)
+pub command-came : {S : Type 0} (m : Meaning S) (d mid new : Debuggee S) (header : Header) (body : List ℕ) (used : ℕ) (end off after : End) (done : Done) (w : Widths) (id : ℕ) (asked : code.ParsedCommand.ParsedCommand)
     → IsRead w header.id header.kind body (came.Command id asked) → w ≡ m.sizes d.moment.machine
     → ((set number : ℕ) (bytes : List ℕ) → asked_meaning asked ≡ asks (command_read (m.sizes d.moment.machine) set number bytes)
-    → IsDone (m.sizes d.moment.machine) (carried_out m d.settings d.moment (command_read (m.sizes d.moment.machine) set number bytes)) d mid done)
+    → IsDone (m.sizes d.moment.machine) (carried_out m d.settings d.moment (command_read (m.sizes d.moment.machine) set number bytes)) (visits_read m d.settings d.moment (command_read (m.sizes d.moment.machine) set number bytes) d.visits) d mid done)
     → d.moment.state.handshaken ≡ true → new ≡ after_deaths done.dies mid → off ≡ ends.with_handled (Packet header body) used end
     → after ≡ closed_where done.closes (with_enqueued (stream (reply_of w id done.sent ∷ deaths w mid.moment.state.next_packet done.dies)) off)
     → end.limits ≡ d.settings.limits → least_packet_limit ≤ end.limits.packet
@@ -384,7 +395,7 @@ greeted-shaken m settings now true e = e
 greeted-shaken m settings now false e = refl
 
 pub greeted : {S : Type 0} (m : Meaning S) (d new : Debuggee S) (end mid after : End) → mid ≡ ends.with_handled Handshake 14 end
-    → new ≡ debuggee_after (greets_by m d.settings (stands d.moment Established) d.moment.state.handshaken) d
+    → new ≡ visiting (visits_hello d.settings d.moment.state d.moment.state.handshaken d.visits) (debuggee_after (greets_by m d.settings (stands d.moment Established) d.moment.state.handshaken) d)
     → after ≡ with_enqueued (stream (greets_by m d.settings (stands d.moment Established) d.moment.state.handshaken).sends) mid
     → end.limits ≡ d.settings.limits → AreSendable d.settings.limits.packet (greets_by m d.settings (stands d.moment Established) d.moment.state.handshaken).sends → IsHandled m Handshake 14 d new end after
 greeted {S = S} m d new end mid after mid-is new-is after-is limits fits =
@@ -400,18 +411,18 @@ greeted {S = S} m d new end mid after mid-is new-is after-is limits fits =
 
 -- a packet comes after the first handshake
 pub packet-handshaken : {S : Type 0} (m : Meaning S) (d : Debuggee S) (began : List (Debuggee S)) (phases : List Phase) (steps : ℕ) (end : End) (header : Header) (body : List ℕ) (used : ℕ)
-    → IsRight m d began phases steps end → IsBytes end.incoming → front_of end ≡ Whole (Packet header body) used → d.moment.state.handshaken ≡ true
+    → IsRightTarget m d began phases steps end → IsBytes end.incoming → front_of end ≡ Whole (Packet header body) used → d.moment.state.handshaken ≡ true
 packet-handshaken m d began phases steps end header body used right fits front =
     right.handshaken (packet-phase end.limits.packet end.phase header body (in-front end (Packet header body) used fits front).1)
 
 pub handled-view : {S : Type 0} (m : Meaning S) (d new : Debuggee S) (began : List (Debuggee S)) (phases : List Phase) (steps : ℕ) (end after : End) (message : Message) (used : ℕ)
-    → IsRight m d began phases steps end → IsHandled m message used d new end after → target_of new began phases steps after ≡ with_handled m message used (target_of d began phases steps end)
+    → IsRightTarget m d began phases steps end → IsHandled m message used d new end after → target_of new began phases steps after ≡ with_handled m message used (target_of d began phases steps end)
 handled-view m d new began phases steps end after message used right h =
     let split = right.some.2 in
     rw (h.debuggee, h.left, split) refl
 
 pub right-handled : {S : Type 0} (m : Meaning S) (d new : Debuggee S) (began : List (Debuggee S)) (phases : List Phase) (steps : ℕ) (end after : End) (message : Message) (used : ℕ)
-    → IsRight m d began phases steps end → IsBytes end.incoming → front_of end ≡ Whole message used → IsHandled m message used d new end after → IsRight m new began phases steps after
+    → IsRightTarget m d began phases steps end → IsBytes end.incoming → front_of end ≡ Whole message used → IsHandled m message used d new end after → IsRightTarget m new began phases steps after
 right-handled m d new began phases steps end after message used right fits front h = record {
   some = right.some;
   handshaken = λ _. h.handshaken;
@@ -434,10 +445,10 @@ pub front-room : (end : End) (message : Message) (used : ℕ) → front_of end �
 front-room end message used found = omega (arith, leb-false end.limits.packet (length end.outgoing) (front-whole end message used found).0)
 
 -- there is room for what is sent for a command
-pub command-room : {S : Type 0} (m : Meaning S) (d mid : Debuggee S) (header : Header) (body : List ℕ) (used : ℕ) (end : End) (done : Done) (w : Widths) (id : ℕ) (asked : code.Asked.Asked)
+pub command-room : {S : Type 0} (m : Meaning S) (d mid : Debuggee S) (header : Header) (body : List ℕ) (used : ℕ) (end : End) (done : Done) (w : Widths) (id : ℕ) (asked : code.ParsedCommand.ParsedCommand)
     → IsRead w header.id header.kind body (came.Command id asked) → w ≡ m.sizes d.moment.machine
     → ((set number : ℕ) (bytes : List ℕ) → asked_meaning asked ≡ asks (command_read (m.sizes d.moment.machine) set number bytes)
-    → IsDone (m.sizes d.moment.machine) (carried_out m d.settings d.moment (command_read (m.sizes d.moment.machine) set number bytes)) d mid done)
+    → IsDone (m.sizes d.moment.machine) (carried_out m d.settings d.moment (command_read (m.sizes d.moment.machine) set number bytes)) (visits_read m d.settings d.moment (command_read (m.sizes d.moment.machine) set number bytes) d.visits) d mid done)
     → end.limits ≡ d.settings.limits → least_packet_limit ≤ end.limits.packet → front_of end ≡ Whole (Packet header body) used
     → length end.outgoing + (11 + length (sent_bytes w done.sent)) ≤ most_outgoing end.limits
 command-room m d mid header body used end done w id asked (set, number, is, same, value, short) w-is did limits least front =
@@ -455,7 +466,7 @@ not-short true b short long = absurd (let same = short refl in cc)
 not-short false b short long = refl
 
 -- a command whose data read, and that is no short one, may want memory
-pub command-needs : {S : Type 0} (m : Meaning S) (old : Target S) (header : Header) (body : List ℕ) (w : Widths) (id : ℕ) (asked : code.Asked.Asked)
+pub command-needs : {S : Type 0} (m : Meaning S) (old : Target S) (header : Header) (body : List ℕ) (w : Widths) (id : ℕ) (asked : code.ParsedCommand.ParsedCommand)
     → IsRead w header.id header.kind body (came.Command id asked) → w ≡ m.sizes old.moment.machine → is_short_asked (asked_meaning asked) ≡ false → NeedsMemory m old (Packet header body)
 command-needs m old header body w id asked (set, number, is, same, value, short) w-is long =
     let read : asked_meaning asked ≡ asks (command_read (m.sizes old.moment.machine) set number body) = subst (λ (x : Widths). asked_meaning asked ≡ asks (command_read x set number body)) w-is value in
@@ -468,7 +479,7 @@ turns-wanting m old new message used result front is needs same =
     subst (λ (x : NextMessage). TurnsAt m x old result new) (sym front) (subst (λ (x : Result Turn TargetFault). TurnsAt m (Whole message used) old x new) (sym is) (refl, needs, same))
 
 -- what is told of a command as it was read
-pub told-command : {S : Type 0} (m : Meaning S) (old : Target S) (header : Header) (body : List ℕ) (w : Widths) (id : ℕ) (asked : code.Asked.Asked) (error : ErrorCode)
+pub told-command : {S : Type 0} (m : Meaning S) (old : Target S) (header : Header) (body : List ℕ) (w : Widths) (id : ℕ) (asked : code.ParsedCommand.ParsedCommand) (error : ErrorCode)
     → IsRead w header.id header.kind body (came.Command id asked) → w ≡ m.sizes old.moment.machine
     → ((set number : ℕ) (bytes : List ℕ) → asked_meaning asked ≡ asks (command_read (m.sizes old.moment.machine) set number bytes)
     → error ≡ error_of (carried_out m old.settings old.moment (command_read (m.sizes old.moment.machine) set number bytes)).answer)

@@ -13,13 +13,14 @@ use Rattle.jdwp_event.specs.CompositeBytes.{composite_canonical}
 use Rattle.jdwp_event.specs.Composites.{CompositeMeaning, composite_data}
 use Rattle.jdwp_event.specs.Occurrences.{HappeningMeaning, started, runs_out}
 use Rattle.jdwp_machine.specs.Meanings.{Meaning}
-use Rattle.jdwp_debuggee.specs.Debuggees.{Debuggee, at_moment}
+use Rattle.jdwp_debuggee.specs.Debuggees.{Debuggee, at_moment, visiting}
 use Rattle.jdwp_debuggee.specs.Sending.{FitsPacket}
 use Rattle.jdwp_debuggee.specs.State.{State, Thread, Moment, is_marked, without_thread}
 use Rattle.jdwp_debuggee.specs.StepParts as debuggee
-use Rattle.jdwp_debuggee.specs.Steps.{Step, death_by, ended_by, happens, may_step, occurs, occurs_by, report_by, seen, with_started}
+use Rattle.jdwp_debuggee.specs.Steps.{Step, death_by, ended_by, happens, may_step, occurs, occurs_by, report_by, with_happening, with_started}
+use Rattle.jdwp_debuggee.specs.Visits.{visits_stepped}
 use Rattle.jdwp_debuggee.specs.declared.steps.StepDone.{StepDone}
-use Rattle.jdwp_target.specs.Insides.{IsRight, target_of}
+use Rattle.jdwp_target.specs.Insides.{IsRightTarget, target_of}
 use Rattle.jdwp_target.specs.Standings.{Reaction, Standing, Steps, behind, react, reports_step, stands, steps_apart, steps_at, steps_by, steps_in_session}
 use Rattle.jdwp_target.specs.StepParts.{CanBeReported, CanLeave, debuggee_after, end_after, step_of}
 use Rattle.jdwp_target.specs.Targets.{Ran, Target, standing}
@@ -40,12 +41,12 @@ started-handshaken None state = refl
 started-handshaken (Some t) state = refl
 
 death-handshaken : {S : Type 0} (m : Meaning S) (s : S) (t : ℕ) (h : HappeningMeaning) (state : State) (c : Option CompositeMeaning) → (death_by m s t h state c).after.state.handshaken ≡ state.handshaken
-death-handshaken m s t h state None = left-handshaken t (seen h state)
+death-handshaken m s t h state None = left-handshaken t (with_happening h state)
 death-handshaken m s t h state (Some c) = refl
 
 report-handshaken : {S : Type 0} (m : Meaning S) (s : S) (t : ℕ) (h : HappeningMeaning) (state : State) (c : Option CompositeMeaning) → (report_by m s t h state c).after.state.handshaken ≡ state.handshaken
-report-handshaken m s t h state None = started-handshaken (started h) (seen h state)
-report-handshaken m s t h state (Some c) = started-handshaken (started h) (seen h state)
+report-handshaken m s t h state None = started-handshaken (started h) (with_happening h state)
+report-handshaken m s t h state (Some c) = started-handshaken (started h) (with_happening h state)
 
 happens-handshaken : {S : Type 0} (m : Meaning S) (now : Moment S) (t : ℕ) (h : HappeningMeaning) (b : Bool) → (happens m now t h b).after.state.handshaken ≡ now.state.handshaken
 happens-handshaken m now t h true = death-handshaken m now.machine t h now.state _
@@ -118,13 +119,13 @@ by-handshaken m t now true had e =
 
 -- a target is as it should be after a step
 pub right-stepped : {S : Type 0} (m : Meaning S) (t : ℕ) (d : Debuggee S) (began : List (Debuggee S)) (phases : List Phase) (steps : ℕ) (end : End) → may_step m d.settings d.moment t ≡ true
-    → AreSendable end.limits.packet (stepped_by m t d end).sends → IsRight m d began phases steps end
-    → IsRight m (debuggee_after (stepped_by m t d end) d) began phases (steps + 1) (end_after (stepped_by m t d end) end)
+    → AreSendable end.limits.packet (stepped_by m t d end).sends → IsRightTarget m d began phases steps end
+    → IsRightTarget m (visiting (visits_stepped m d.moment t d.visits) (debuggee_after (stepped_by m t d end) d)) began phases (steps + 1) (end_after (stepped_by m t d end) end)
 right-stepped {S = S} m t d began phases steps end may sends k =
     let first = k.some.0 in
     let rest = k.some.1 in
     let split : began ≡ first ∷ rest = k.some.2 in
-    let new = debuggee_after (stepped_by m t d end) d in
+    let new = visiting (visits_stepped m d.moment t d.visits) (debuggee_after (stepped_by m t d end) d) in
     let newer = end_after (stepped_by m t d end) end in
     let ran : Ran m (target_of d (first ∷ rest) phases steps end) = subst (λ (b : List (Debuggee S)). Ran m (target_of d b phases steps end)) split k.ran in
     record {
@@ -136,8 +137,8 @@ right-stepped {S = S} m t d began phases steps end may sends k =
 
 -- ---- what the code does
 
-same-step : {S : Type 0} (d e : Debuggee S) (o : Step S) (done : StepDone) → e ≡ at_moment o.after d → done.sends ≡ o.sends → done.ends ≡ o.ends → done.dies ≡ o.dies → step_of e done ≡ o
-same-step d e o done after sends ends dies = rw (after, sends, ends, dies) refl
+same-step : {S : Type 0} (d e : Debuggee S) (visits : ℕ) (o : Step S) (done : StepDone) → e ≡ visiting visits (at_moment o.after d) → done.sends ≡ o.sends → done.ends ≡ o.ends → done.dies ≡ o.dies → step_of e done ≡ o
+same-step d e visits o done after sends ends dies = rw (after, sends, ends, dies) refl
 
 acts : {S : Type 0} (m : Meaning S) (t : ℕ) (d : Debuggee S) (end : End) → may_step m d.settings d.moment t ≡ true
     → stepped_by m t d end ≡ reports_step (m.sizes d.moment.machine) d.moment.state.next_packet (occurs m d.moment t) (stands d.moment end.phase)
@@ -147,9 +148,9 @@ acts m t d end may = rw may refl
 pub stepped-debuggee : {S : Type 0} (m : Meaning S) (t : ℕ) (d e f : Debuggee S) (end : End) (w : Widths) (id : ℕ) (done : StepDone)
     → debuggee.Steps m t d e done → w ≡ m.sizes d.moment.machine → id ≡ d.moment.state.next_packet
     → f ≡ debuggee_after (reports_step w id (step_of e done) (stands e.moment end.phase)) e
-    → f ≡ debuggee_after (stepped_by m t d end) d
+    → f ≡ visiting (visits_stepped m d.moment t d.visits) (debuggee_after (stepped_by m t d end) d)
 stepped-debuggee m t d e f end w id done s sizes packet is =
-    let o : step_of e done ≡ occurs m d.moment t = same-step d e (occurs m d.moment t) done s.after s.sends s.ends s.dies in
+    let o : step_of e done ≡ occurs m d.moment t = same-step d e (visits_stepped m d.moment t d.visits) (occurs m d.moment t) done s.after s.sends s.ends s.dies in
     rw (is, o, sizes, packet, s.after, acts m t d end s.may) refl
 
 pub stepped-end : {S : Type 0} (m : Meaning S) (t : ℕ) (d e : Debuggee S) (end new : End) (w : Widths) (id : ℕ) (done : StepDone)
@@ -157,14 +158,14 @@ pub stepped-end : {S : Type 0} (m : Meaning S) (t : ℕ) (d e : Debuggee S) (end
     → new ≡ end_after (reports_step w id (step_of e done) (stands e.moment end.phase)) end
     → new ≡ end_after (stepped_by m t d end) end
 stepped-end m t d e end new w id done s sizes packet is =
-    let o : step_of e done ≡ occurs m d.moment t = same-step d e (occurs m d.moment t) done s.after s.sends s.ends s.dies in
+    let o : step_of e done ≡ occurs m d.moment t = same-step d e (visits_stepped m d.moment t d.visits) (occurs m d.moment t) done s.after s.sends s.ends s.dies in
     rw (is, o, sizes, packet, s.after, acts m t d end s.may) refl
 
 pub stepped-sends : {S : Type 0} (m : Meaning S) (t : ℕ) (d e : Debuggee S) (end : End) (w : Widths) (id limit : ℕ) (done : StepDone)
     → debuggee.Steps m t d e done → w ≡ m.sizes d.moment.machine → id ≡ d.moment.state.next_packet
     → AreSendable limit (reports_step w id (step_of e done) (stands e.moment end.phase)).sends → AreSendable limit (stepped_by m t d end).sends
 stepped-sends m t d e end w id limit done s sizes packet sends =
-    let o : step_of e done ≡ occurs m d.moment t = same-step d e (occurs m d.moment t) done s.after s.sends s.ends s.dies in
+    let o : step_of e done ≡ occurs m d.moment t = same-step d e (visits_stepped m d.moment t d.visits) (occurs m d.moment t) done s.after s.sends s.ends s.dies in
     rw (acts m t d end s.may) (rw (o, sizes, packet, s.after) at sends)
 
 pub sends-where : {S : Type 0} (m : Meaning S) (t : ℕ) (v : Target S) → is_paused v.end ≡ false → may_step m v.settings v.moment t ≡ true

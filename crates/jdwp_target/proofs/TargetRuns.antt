@@ -17,7 +17,7 @@ use Rattle.jdwp_debuggee.specs.State.{Moment}
 use Rattle.jdwp_debuggee.specs.Steps.{Step, may_step, occurs}
 use Rattle.jdwp_target.specs.Standings.{Act, Handles, Steps, Loses, Standing, Reaction, after, behind, established, handled, has_loss, react, sent, steps_made, InOrder, MayCome, steps_apart, steps_at, steps_by, steps_in_session}
 use Rattle.jdwp_target.proofs.Conversing.{handling-converses, message-phase, some-sent, stepping-converses, waits-silent}
-use Rattle.jdwp_target.specs.Targets.{Target, Ran, in_phase, lost, new_target, opened, standing, with_fed, with_handled, with_step, with_taken}
+use Rattle.jdwp_target.specs.Targets.{Target, Ran, in_phase, lost_target, new_target, opened_target, standing, with_fed, with_handled, with_step, with_taken}
 
 -- ---- one act more
 
@@ -132,7 +132,7 @@ was-sent m v ran e = some-sent m v.settings v.end.limits.packet v.began ran.acts
 pub ran-new : {S : Type 0} (m : Meaning S) (settings : Settings) (now : Moment S) → Ran m (new_target settings now)
 ran-new m settings now = record { acts = []; in_order = tt; lost = refl; steps = refl; carries = carries-new settings.limits; enqueued = refl; conversation = tt; stands = refl }
 
-pub ran-opened : {S : Type 0} (m : Meaning S) (v : Target S) → Ran m (opened v)
+pub ran-opened : {S : Type 0} (m : Meaning S) (v : Target S) → Ran m (opened_target v)
 ran-opened m v = record { acts = []; in_order = tt; lost = refl; steps = refl; carries = carries-opened v.end; enqueued = refl; conversation = tt; stands = refl }
 
 pub ran-fed : {S : Type 0} (m : Meaning S) (v : Target S) (bytes : List ℕ) → is_open v.end ≡ true → Ran m v → Ran m (with_fed bytes v)
@@ -141,9 +141,9 @@ ran-fed m v bytes opened ran = record { acts = ran.acts; in_order = ran.in_order
 pub ran-taken : {S : Type 0} (m : Meaning S) (v : Target S) (n : ℕ) → n ≤ length v.end.outgoing → Ran m v → Ran m (with_taken (take n v.end.outgoing) v)
 ran-taken m v n le ran = record { acts = ran.acts; in_order = ran.in_order; lost = ran.lost; steps = ran.steps; carries = carries-taken v.end (handled ran.acts) n le ran.carries; enqueued = ran.enqueued; conversation = ran.conversation; stands = ran.stands }
 
-pub ran-lost : {S : Type 0} (m : Meaning S) (v : Target S) → Ran m v → Ran m (lost v)
+pub ran-lost : {S : Type 0} (m : Meaning S) (v : Target S) → Ran m v → Ran m (lost_target v)
 ran-lost m v ran =
-    goes-on m v (lost v) Loses ran refl refl refl tt (sym (loss-loss ran.acts)) (ran.steps ∙ sym (count-loss ran.acts)) (subst (Carries (lost v).end) (sym (handled-loss ran.acts)) (carries-lost v.end (handled ran.acts) ran.carries))
+    goes-on m v (lost_target v) Loses ran refl refl refl tt (sym (loss-loss ran.acts)) (ran.steps ∙ sym (count-loss ran.acts)) (subst (Carries (lost_target v).end) (sym (handled-loss ran.acts)) (carries-lost v.end (handled ran.acts) ran.carries))
     (sym (append-nil v.end.session.enqueued)) (rw (append-nil (sent m v.settings v.began ran.acts)) ran.conversation) refl
 
 -- the end closes, or its phase stays

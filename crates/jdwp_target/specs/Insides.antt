@@ -20,10 +20,10 @@ first_phase (phase ∷ phases) = phase
 
 abbrev pub target_of : {S : Type 0} → Debuggee S → List (Debuggee S) → List Phase → ℕ → End → Target S
 target_of d began phases steps end =
-    record { settings = d.settings; moment = d.moment; began = stands (first_moment d.moment began) (first_phase phases); steps = steps; end = end }
+    record { settings = d.settings; moment = d.moment; began = stands (first_moment d.moment began) (first_phase phases); steps = steps; end = end; visits = d.visits }
 
 -- A session that is established began with a handshake, the limits are those of the settings, and the run is as it should be.
-pub record IsRight {S : Type 0} (m : Meaning S) (d : Debuggee S) (began : List (Debuggee S)) (phases : List Phase) (steps : ℕ) (end : End) : Type 0 where
+pub record IsRightTarget {S : Type 0} (m : Meaning S) (d : Debuggee S) (began : List (Debuggee S)) (phases : List Phase) (steps : ℕ) (end : End) : Type 0 where
   pub some : (first : Debuggee S) × (rest : List (Debuggee S)) × (began ≡ first ∷ rest)
   pub handshaken : end.phase ≡ Established → d.moment.state.handshaken ≡ true
   pub limits : end.limits ≡ d.settings.limits

@@ -1,7 +1,9 @@
 pub mod Options
 pub mod Sends
 pub mod Standings
+pub mod Visits
 pub mod Targets
+pub mod VisitLaws
 pub mod Insides
 pub mod Turns
 pub mod TurnParts

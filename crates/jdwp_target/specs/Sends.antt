@@ -11,7 +11,7 @@ use Rattle.jdwp_end.specs.declared.phase.Phase.{Phase}
 use Rattle.jdwp_end.specs.declared.phase.Phase.TheVariants.{Closed, AwaitingHandshake, Established}
 use Rattle.jdwp_event.specs.CompositeBytes.{EncodesComposite, composite_canonical}
 use Rattle.jdwp_event.specs.Composites.{CompositeMeaning, composite_data}
-use Rattle.jdwp_debuggee.specs.Sending.{answer_bytes, error_of}
+use Rattle.jdwp_action.specs.AnswerPackets.{answer_bytes, error_of}
 
 -- a packet with this data
 abbrev pub packet_with : ℕ → PacketKind → List ℕ → Message

@@ -11,8 +11,8 @@ use Rattle.jdwp_end.specs.declared.phase.Phase.TheVariants.{Closed, AwaitingHand
 use Rattle.jdwp_end.specs.Ends.{is_open_phase}
 use Rattle.jdwp_event.specs.Composites.{CompositeMeaning, vm_death}
 use Rattle.jdwp_machine.specs.Meanings.{Meaning}
-use Rattle.jdwp_debuggee.specs.Actions.{Command}
-use Rattle.jdwp_debuggee.specs.CommandReads.{command_read}
+use Rattle.jdwp_action.specs.Actions.{Command}
+use Rattle.jdwp_action.specs.CommandReads.{command_read}
 use Rattle.jdwp_debuggee.specs.Effects.{Effect, effect, refused}
 use Rattle.jdwp_debuggee.specs.Settings.{Settings}
 use Rattle.jdwp_debuggee.specs.State.{Moment, reset, with_packet}

@@ -11,12 +11,13 @@ use Rattle.jdwp_wire.specs.declared.packet.PacketKind.{PacketKind}
 use Rattle.jdwp_wire.specs.declared.packet.PacketKind.TheVariants as kind
 use Rattle.jdwp_wire.specs.Limits.{least_packet_limit}
 use Rattle.jdwp_end.specs.declared.phase.Phase.TheVariants.{Established}
-use Rattle.jdwp_end.specs.Ends.{End, closed}
+use Rattle.jdwp_end.specs.Ends.{End, closed_end}
 use Rattle.jdwp_end.specs.Ends as ends
 use Rattle.jdwp_event.specs.Composites.{vm_death}
 use Rattle.jdwp_machine.specs.Meanings.{Meaning}
-use Rattle.jdwp_debuggee.specs.CommandReads.{asked_meaning, asks, command_read, is_short}
-use Rattle.jdwp_debuggee.specs.Debuggees.{Debuggee, at_moment, with_state}
+use Rattle.jdwp_action.specs.CommandReads.{command_read}
+use Rattle.jdwp_debuggee.specs.Askings.{asked_meaning, asks, is_short}
+use Rattle.jdwp_debuggee.specs.Debuggees.{Debuggee, at_moment, visiting, with_state}
 use Rattle.jdwp_debuggee.specs.Effects.{Effect}
 use Rattle.jdwp_debuggee.specs.Sending.{IsSent, is_short_asked, sent_bytes, sent_error}
 use Rattle.jdwp_debuggee.specs.State.{with_packet}
@@ -24,6 +25,7 @@ use Rattle.jdwp_debuggee.specs.declared.reply.Sent.{Sent}
 use Rattle.jdwp_target.specs.Sends.{packet_with, report_of}
 use Rattle.jdwp_target.specs.Standings.{handles, stands}
 use Rattle.jdwp_target.specs.StepParts.{debuggee_after, end_after}
+use Rattle.jdwp_target.specs.Visits.{visits_handled}
 use Rattle.jdwp_target.specs.declared.turning.Came.{Came}
 use Rattle.jdwp_target.specs.declared.turning.Came.TheVariants as came
 use Rattle.jdwp_target.specs.declared.turning.Done.{Done}
@@ -62,13 +64,13 @@ after_deaths true d = with_state (with_packet d.moment.state) d
 after_deaths false d = d
 
 abbrev pub closed_where : Bool → End → End
-closed_where true end = closed end
+closed_where true end = closed_end end
 closed_where false end = end
 
--- A command was carried out or refused: what became of the debuggee; what is sent, which fits a packet, and has no data where the
+-- A command was carried out or refused: what became of the debuggee, and its visits; what is sent, which fits a packet, and has no data where the
 -- machine died; and whether the session closes.
-pub record IsDone {S : Type 0} (w : Widths) (e : Effect S) (old new : Debuggee S) (done : Done) : Type 0 where
-  pub after : new ≡ at_moment e.after old
+pub record IsDone {S : Type 0} (w : Widths) (e : Effect S) (visits : ℕ) (old new : Debuggee S) (done : Done) : Type 0 where
+  pub after : new ≡ visiting visits (at_moment e.after old)
   pub sends : IsSent w e.answer done.sent
   pub fits : least_packet_limit ≤ old.settings.limits.packet → 11 + length (sent_bytes w done.sent) ≤ old.settings.limits.packet
   pub dies : done.dies ≡ e.dies
@@ -79,7 +81,8 @@ pub record IsDone {S : Type 0} (w : Widths) (e : Effect S) (old new : Debuggee S
 -- A message of so many bytes was handled: the debuggee, and the end behind it; and what is sent are the handshake and packets within the
 -- limit.
 pub record IsHandled {S : Type 0} (m : Meaning S) (message : Message) (used : ℕ) (old new : Debuggee S) (end after : End) : Type 0 where
-  pub debuggee : new ≡ debuggee_after (handles m old.settings (stands old.moment Established) message) old
+  pub debuggee : new ≡ visiting (visits_handled m old.settings old.moment message old.visits)
+      (debuggee_after (handles m old.settings (stands old.moment Established) message) old)
   pub left : after ≡ end_after (handles m old.settings (stands old.moment Established) message) (ends.with_handled message used end)
   pub handshaken : new.moment.state.handshaken ≡ true
   pub sends : AreSendable end.limits.packet (handles m old.settings (stands old.moment Established) message).sends

@@ -6,8 +6,9 @@ use Rattle.jdwp_wire.specs.declared.packet.PacketKind.TheVariants as kind
 use Rattle.jdwp_end.specs.Ends.{is_paused}
 use Rattle.jdwp_event.specs.Composites.{CompositeMeaning}
 use Rattle.jdwp_machine.specs.Meanings.{Meaning}
-use Rattle.jdwp_debuggee.specs.CommandReads.{command_read, is_short}
-use Rattle.jdwp_debuggee.specs.Sending.{EncodesAnswer, error_of}
+use Rattle.jdwp_action.specs.CommandReads.{command_read}
+use Rattle.jdwp_debuggee.specs.Askings.{is_short}
+use Rattle.jdwp_action.specs.AnswerPackets.{EncodesAnswer, error_of}
 use Rattle.jdwp_debuggee.specs.StepParts.{is_ready}
 use Rattle.jdwp_debuggee.specs.Steps.{Step, may_step, occurs, start_event}
 use Rattle.jdwp_target.specs.declared.target.Stepped.{Stepped}
@@ -18,7 +19,7 @@ use Rattle.jdwp_target.specs.declared.target.Turn.{Turn}
 use Rattle.jdwp_target.specs.declared.target.Turn.TheVariants.{Nothing, Hello, Replied, Ignored}
 use Rattle.jdwp_target.specs.Sends.{EncodesSent, IsEncoded}
 use Rattle.jdwp_target.specs.Standings.{Handles, Steps, carried_out, react}
-use Rattle.jdwp_target.specs.Targets.{Target, lost, standing, with_handled, with_step}
+use Rattle.jdwp_target.specs.Targets.{Target, lost_target, standing, with_handled, with_step}
 
 -- ---- turns
 
@@ -48,7 +49,7 @@ TurnsAt m (Whole message used) old result new =
     (λ turn. (turn ≡ told_of m old message) × (new ≡ with_handled m message used old))
     (λ fault. (fault ≡ NoMemory) × NeedsMemory m old message × (new ≡ old))
 TurnsAt m More old result new = (result ≡ Ok Nothing) × (new ≡ old)
-TurnsAt m (Fault fault) old result new = (result ≡ Err (Frame fault)) × (new ≡ lost old)
+TurnsAt m (Fault fault) old result new = (result ≡ Err (Frame fault)) × (new ≡ lost_target old)
 
 -- What a turn sends is encoded by its bytes: VM_START behind the first handshake of the target's life, and the answer to a command.
 abbrev pub EncodesStart : {S : Type 0} → Meaning S → Target S → Bool → Type 0

@@ -7,6 +7,7 @@ ghost use Rattle.jdwp_target.specs.Closings.{ClosesForReason};
 ghost use Rattle.jdwp_target.specs.Lives.{NumbersComposites};
 ghost use Rattle.jdwp_target.specs.Sends.{IsEncoded};
 ghost use Rattle.jdwp_target.specs.Targets.{GoesOn};
+ghost use Rattle.jdwp_target.specs.VisitLaws.{VisitsWhatTurns};
 
 use jdwp_machine::Machine;
 
@@ -25,6 +26,13 @@ pub fn numbers_composites_in_order<M: Machine>()
 /// the connection was lost. It does nothing.
 pub fn closes_for_a_reason<M: Machine>()
     ensures { ClosesForReason M.meaning }
+{}
+
+/// A machine Suspend and a machine Resume that are not refused, and an event whose policy is ALL, VM_START too, visit exactly the threads
+/// that they turn, from running to suspended or the other way round. Before the first there are no visits, and all else leaves them as
+/// they were: other commands, those that are refused, other events, new sessions and losses. It does nothing.
+pub fn visits_what_turns<M: Machine>()
+    ensures { VisitsWhatTurns M.meaning }
 {}
 
 /// VM_START, where its thread's id fits, and VM_DEATH are encoded by the bytes that are sent for them. It does nothing.

@@ -14,7 +14,8 @@ mod target;
 mod turning;
 
 pub use laws::{
-    closes_for_a_reason, encodes_start_and_death, goes_on_at_each_call, numbers_composites_in_order,
+    closes_for_a_reason, encodes_start_and_death, goes_on_at_each_call,
+    numbers_composites_in_order, visits_what_turns,
 };
 pub use options::TargetOptions;
 pub use setup::SetupFault;

@@ -14,7 +14,7 @@ impl<M: Machine + Drop> SessionEnd for Target<M> {
 
     ghost with_taken = { targets.with_taken };
 
-    ghost lost = { targets.lost };
+    ghost lost_end = { targets.lost_target };
 
     fn is_open(&self) -> bool {
         Target::is_open(self)

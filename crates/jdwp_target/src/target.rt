@@ -9,7 +9,7 @@ ghost use Rattle.jdwp_machine.specs.Meanings.{has, numbers};
 ghost use Rattle.jdwp_debuggee.specs.State as spec;
 ghost use Rattle.jdwp_target.specs.Options.{Lives, LivesWithin, settings_at};
 ghost use Rattle.jdwp_target.specs.declared.setup.SetupFault.TheVariants as setup;
-ghost use Rattle.jdwp_target.specs.Targets.{Ran, lost, new_target, opened, with_fed, with_taken};
+ghost use Rattle.jdwp_target.specs.Targets.{Ran, lost_target, new_target, opened_target, with_fed, with_taken};
 
 use crate::options::TargetOptions;
 use crate::setup::SetupFault;
@@ -88,13 +88,13 @@ pub struct Target<M: Machine> {
 impl<M: Machine> Model for Target<M> {
     ghost use Rattle.std.specs.Prelude.{length};
     ghost use Rattle.jdwp_target.specs.Targets as targets;
-    ghost use Rattle.jdwp_target.specs.Insides.{target_of, IsRight};
+    ghost use Rattle.jdwp_target.specs.Insides.{target_of, IsRightTarget};
 
     ghost Value = { targets.Target M };
 
     ghost view = { λ t. target_of t.debuggee t.began.items t.phases.items (length t.steps.items) t.end };
 
-    ghost invariant = { λ t. IsRight M.meaning t.debuggee t.began.items t.phases.items (length t.steps.items) t.end };
+    ghost invariant = { λ t. IsRightTarget M.meaning t.debuggee t.began.items t.phases.items (length t.steps.items) t.end };
 }
 
 impl<M: Machine + Drop> Target<M> {
@@ -187,6 +187,15 @@ impl<M: Machine + Drop> Target<M> {
         self.debuggee.count(thread)
     }
 
+    /// How many threads the last of these visited that was not refused, 0 before the first: VirtualMachine's Suspend and Resume, and
+    /// an event whose suspend policy is ALL, VM_START too (JDWP specification, "Protocol Details"). They are exactly the threads that
+    /// it turned, from running to suspended or the other way round.
+    pub fn visits(&self) -> u32
+        ensures { result ≡ self.now.visits }
+    {
+        self.debuggee.visits()
+    }
+
     /// The threads that live, in the machine's order: exactly those that have a count.
     pub fn live(&self) -> &[ObjectId]
         ensures live { numbers result.now ≡ M.meaning.live self.now.moment.machine }
@@ -208,7 +217,7 @@ impl<M: Machine + Drop> Target<M> {
     pub fn accept(&mut self) -> bool
         ensures when { IsTrue result ↔ ((ends.is_open self.old.end ≡ false)
             × (self.old.moment.state.alive ≡ true)) }
-        ensures opened { IsTrue result → self.new ≡ opened self.old }
+        ensures opened { IsTrue result → self.new ≡ opened_target self.old }
         ensures refused { result ≡ false → self.new ≡ self.old }
     {
         if self.end.is_open() || !self.debuggee.is_alive() {
@@ -259,7 +268,7 @@ impl<M: Machine + Drop> Target<M> {
     /// The connection is lost: the end is closed, both buffers are empty, every suspend count is 0, there are no requests, and
     /// events are not held.
     pub fn lose(&mut self)
-        ensures { self.new ≡ lost self.old }
+        ensures { self.new ≡ lost_target self.old }
     {
         self.debuggee.reset();
         self.end.lose();

@@ -1,28 +1,32 @@
 //! Messages as a target over any machine handles them.
 ghost use Rattle.std.specs.Prelude.{◌≡◌, ◌≤◌, ◌+◌, ◌∷◌, ℕ, List, Some, None, true, false, length, IfOk, IfErr, OnErr};
-ghost use Rattle.jdwp_end.specs.Ends.{front_of, most_outgoing, with_enqueued};
+ghost use Rattle.jdwp_end.specs.Ends.{HasPacket, front_of, most_outgoing, with_enqueued};
 ghost use Rattle.jdwp_end.specs.declared.phase.Phase.TheVariants.{Established};
 ghost use Rattle.jdwp_event.specs.Composites.{vm_start};
 ghost use Rattle.jdwp_event.specs.Constants.{policy_byte};
 ghost use Rattle.jdwp_wire.specs.Frames as frames;
 ghost use Rattle.jdwp_wire.specs.Frames.{front};
 ghost use Rattle.jdwp_wire.specs.Numbers.{id_refusal};
-ghost use Rattle.jdwp_wire.specs.Streams.{AreSendable, message_bytes, stream};
+ghost use Rattle.jdwp_wire.specs.Streams.{AreSendable, Packet, Whole, message_bytes, stream};
 ghost use Rattle.jdwp_wire.specs.declared.packet.Header.{Header};
 ghost use Rattle.jdwp_wire.specs.Limits.{least_packet_limit, most_packet_limit};
-ghost use Rattle.jdwp_debuggee.specs.CommandReads.{asked_meaning, asks, command_read};
-ghost use Rattle.jdwp_debuggee.specs.Sending.{EncodesAnswer, is_short_asked, sent_bytes, sent_error};
+ghost use Rattle.jdwp_action.specs.CommandReads.{command_read};
+ghost use Rattle.jdwp_debuggee.specs.Askings.{asked_meaning, asks};
+ghost use Rattle.jdwp_action.specs.AnswerPackets.{EncodesAnswer};
+ghost use Rattle.jdwp_debuggee.specs.Sending.{is_short_asked, sent_bytes, sent_error};
+ghost use Rattle.jdwp_debuggee.specs.Debuggees.{visiting};
 ghost use Rattle.jdwp_debuggee.specs.Steps.{start_event};
 ghost use Rattle.jdwp_target.specs.Sends.{IsEncoded, report_of};
 ghost use Rattle.jdwp_target.specs.Standings.{carried_out, greets_by, stands};
 ghost use Rattle.jdwp_target.specs.StepParts.{debuggee_after};
 ghost use Rattle.jdwp_target.specs.TurnParts.{HoldsPacket, IsDone, ReadsPacket, after_deaths, closed_where, deaths, reply_of};
 ghost use Rattle.jdwp_target.specs.Turns.{EncodesNext, SendsAt, TurnsAt};
+ghost use Rattle.jdwp_target.specs.Visits.{visits_hello, visits_read};
 
 use crate::numbers::{enqueue_int, fits_code, fits_id};
 use crate::sending::{enqueue_composite_header, enqueue_death, enqueue_reply};
 use crate::target::{Target, TargetFault, Turn};
-use jdwp_debuggee::{Asked, Debuggee, Reply, Sent, Start, fits_vm_death, read_command};
+use jdwp_debuggee::{Debuggee, ParsedCommand, Reply, Sent, Start, fits_vm_death, read_command};
 use jdwp_end::{End, Front};
 use jdwp_event::EventKind;
 use jdwp_machine::Machine;
@@ -36,7 +40,7 @@ use std::alloc::Global;
 #[derive(Drop)]
 pub(crate) enum Came {
     /// A command: its id, and what it comes to.
-    Command(u32, Asked),
+    Command(u32, ParsedCommand),
     /// A reply, which means nothing to a target.
     Reply,
 }
@@ -77,10 +81,8 @@ impl<M: Machine + Drop> Target<M> {
                 Ok(Turn::Hello)
             }
             Front::Packet(used) => {
-                let limits = self.end.limits();
                 let sizes = self.debuggee.sizes();
-                let bytes = self.end.packet_in_front(used);
-                let came = read_packet(self.alloc, bytes, &limits, &sizes)?;
+                let came = read_front(self.alloc, &mut self.end, used, &sizes)?;
                 let Came::Command(id, asked) = came else {
                     self.end.take_off(used);
                     return Ok(Turn::Ignored);
@@ -95,7 +97,25 @@ impl<M: Machine + Drop> Target<M> {
     }
 }
 
-/// What came in the packet in front of these bytes, read where it lies. Nothing of them is kept.
+/// What came in the packet in front of an end, which takes so many bytes. It is read where it lies, or joined where it wraps; nothing of
+/// it is kept, and the end is as it was.
+///
+/// # Errors
+/// As those of `read_packet`.
+fn read_front(alloc: Global, end: &mut End, used: usize, sizes: &IdSizes) -> Result<Came, NoMemory>
+    requires { HasPacket used end.old }
+    ensures came { (header : Header) (body : List ℕ) → front_of end.old
+        ≡ Whole (Packet header body) used → ReadsPacket sizes.now header body result }
+    ensures same { end.new ≡ end.old }
+{
+    let limits = end.limits();
+    match end.packet_in_place(used) {
+        Some(bytes) => read_packet(alloc, bytes, &limits, sizes),
+        None => read_packet(alloc, end.packet_joined(used), &limits, sizes),
+    }
+}
+
+/// What came in the packet in front of these bytes. Nothing of them is kept.
 ///
 /// # Errors
 /// `NoMemory` where an allocation was refused, at a command whose data read and that is none of the twelve short ones.
@@ -134,9 +154,10 @@ fn read_came(alloc: Global, packet: &PacketRef<'_>, sizes: &IdSizes) -> Result<C
 /// Answers the handshake; behind the first of the target's life follows VM_START. It takes no memory.
 fn greet<M: Machine>(debuggee: &mut Debuggee<M>, end: &mut End)
     requires { length end.old.outgoing + 43 ≤ most_outgoing end.old.limits }
-    ensures debuggee { debuggee.new ≡ debuggee_after (greets_by M.meaning debuggee.old.settings
-        (stands debuggee.old.moment Established) debuggee.old.moment.state.handshaken)
-        debuggee.old }
+    ensures debuggee { debuggee.new ≡ visiting (visits_hello debuggee.old.settings
+        debuggee.old.moment.state debuggee.old.moment.state.handshaken debuggee.old.visits)
+        (debuggee_after (greets_by M.meaning debuggee.old.settings (stands debuggee.old.moment
+        Established) debuggee.old.moment.state.handshaken) debuggee.old) }
     ensures end { end.new ≡ with_enqueued (stream (greets_by M.meaning debuggee.old.settings
         (stands debuggee.old.moment Established) debuggee.old.moment.state.handshaken).sends)
         end.old }
@@ -177,15 +198,17 @@ fn enqueue_start(start: Start, sizes: &IdSizes, end: &mut End)
 fn handle<M: Machine>(
     debuggee: &mut Debuggee<M>,
     alloc: Global,
-    asked: Asked,
+    asked: ParsedCommand,
 ) -> Result<Done, NoMemory>
     requires { debuggee.old.moment.state.handshaken ≡ true }
     ensures ok { IfOk result (λ done. (set number : ℕ) (body : List ℕ)
         → asked_meaning asked ≡ asks (command_read (M.meaning.sizes debuggee.old.moment.machine) set
         number body) → IsDone (M.meaning.sizes debuggee.old.moment.machine)
         (carried_out M.meaning debuggee.old.settings debuggee.old.moment
-        (command_read (M.meaning.sizes debuggee.old.moment.machine) set number body)) debuggee.old
-        debuggee.new done) }
+        (command_read (M.meaning.sizes debuggee.old.moment.machine) set number body))
+        (visits_read M.meaning debuggee.old.settings debuggee.old.moment
+        (command_read (M.meaning.sizes debuggee.old.moment.machine) set number body)
+        debuggee.old.visits) debuggee.old debuggee.new done) }
     ensures encoded { IfOk result (λ _. (set number : ℕ) (body : List ℕ)
         → asked_meaning asked ≡ asks (command_read (M.meaning.sizes debuggee.old.moment.machine) set
         number body) → EncodesAnswer (M.meaning.sizes debuggee.old.moment.machine) set number
@@ -195,12 +218,12 @@ fn handle<M: Machine>(
     ensures memory { IfErr result (λ _. is_short_asked (asked_meaning asked) ≡ false) }
 {
     match asked {
-        Asked::Refuses(error) => Ok(Done {
+        ParsedCommand::Refuses(error) => Ok(Done {
             sent: Sent::Short(Reply::Refused(error)),
             dies: false,
             closes: false,
         }),
-        Asked::Carries(action) => {
+        ParsedCommand::Carries(action) => {
             let dies = action.kills();
             let closes = action.closes();
             debuggee.own_answers();

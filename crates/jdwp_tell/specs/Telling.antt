@@ -1,5 +1,5 @@
 -- The lines that are printed of what a turn read, and of a mirror.
-use Rattle.std.specs.Prelude.{◌≡◌, ℕ, ℤ, pos, ◌==◌, Bool, true, false, List, [], ◌∷◌, ◌++◌, map, flat_map, Option, Some, None, Result, Ok, Err, codes, decimal, if◌then◌else◌, IsPermutation}
+use Rattle.std.specs.Prelude.{◌≡◌, ℕ, ℤ, pos, ◌==◌, Bool, true, false, List, [], ◌∷◌, ◌++◌, map, flat_map, Option, Some, None, Result, Ok, Err, unwrap_or, codes, decimal, if◌then◌else◌, IsPermutation}
 use Rattle.std.specs.Fmt.{signed_decimal}
 use Rattle.std.specs.List.Sorted.{IsSortedByKey}
 use Rattle.std.specs.Ordering.{int_cmp, nat_cmp}
@@ -8,7 +8,7 @@ use Rattle.jdwp_wire.specs.Widths.{Widths}
 use Rattle.jdwp_layout.specs.declared.answer.Answer.{Answer}
 use Rattle.jdwp_layout.specs.declared.answer.Answer.TheVariants.{Data, Error}
 use Rattle.jdwp_layout.specs.CommandNumbers.{COMPOSITE, ID_SIZES}
-use Rattle.jdwp_layout.specs.Meanings.{DatumMeaning, ScalarMeaning, One, Many, Int, Byte}
+use Rattle.jdwp_layout.specs.Meanings.{DatumMeaning, One, Int, raw_bytes}
 use Rattle.jdwp_layout.specs.Rows.{RowShapes}
 use Rattle.jdwp_event.specs.Composites.{CompositeMeaning, composite_data}
 use Rattle.jdwp_mirror.specs.declared.threads.Known.{Known}
@@ -19,9 +19,9 @@ use Rattle.jdwp_debugger.specs.declared.heads.Head.{Head}
 use Rattle.jdwp_debugger.specs.declared.heads.Head.TheVariants as head
 use Rattle.jdwp_debugger.specs.declared.turning.Read.{Read}
 use Rattle.jdwp_debugger.specs.Debuggers.{Debugger, Unanswered, unanswered}
-use Rattle.jdwp_debugger.specs.DebuggerTurns.{Told, Hello, Sizes, Answered, Seen, told}
+use Rattle.jdwp_debugger.specs.DebuggerTurns.{Told, Hello, Sizes, Answered, Seen, read_meaning}
 use Rattle.jdwp_show.specs.declared.capture_line.Sender.TheVariants.{Target}
-use Rattle.jdwp_show.specs.declared.pending.Command.{Command}
+use Rattle.jdwp_show.specs.declared.pending.CommandNumber.{CommandNumber}
 use Rattle.jdwp_show.specs.Data.{shapes_of}
 use Rattle.jdwp_show.specs.DataText.{data_text, raw_text}
 use Rattle.jdwp_show.specs.MessageLines.{command_start, hello_line, reply_start}
@@ -29,21 +29,16 @@ use Rattle.jdwp_show.specs.MessageLines.{command_start, hello_line, reply_start}
 -- ---- the lines of messages
 
 -- a command by its numbers
-abbrev pub named : ℕ → ℕ → Command
+abbrev pub named : ℕ → ℕ → CommandNumber
 named set number = record { set = set; number = number }
 
 -- `< 1 Event.Composite 0 [(90, 0, #1)]`: a composite under the id of its packet
 abbrev pub seen_line : ℕ → CompositeMeaning → List ℕ
 seen_line id composite = command_start Target id (named COMPOSITE.set COMPOSITE.number) ++ data_text (composite_data composite) ++ codes "\n"
 
--- the bytes of data that are not read, which are a list of bytes
-abbrev pub byte_in : List ScalarMeaning → List ℕ
-byte_in (Byte byte ∷ []) = byte ∷ []
-byte_in fields = []
-
+-- the bytes of data that are not read
 abbrev pub bytes_in : List DatumMeaning → List ℕ
-bytes_in (Many entries ∷ []) = flat_map byte_in entries
-bytes_in items = []
+bytes_in items = unwrap_or (raw_bytes items) []
 
 -- data by the layouts of their command, or as they are where it has none
 abbrev pub items_text : Option RowShapes → List DatumMeaning → List ℕ
@@ -51,7 +46,7 @@ items_text None items = raw_text (bytes_in items)
 items_text (Some shapes) items = data_text items
 
 -- `< 3 reply ThreadReference.SuspendCount 0 1`: the answer to a command, under the id of its packet. An error has no data.
-abbrev pub answered_line : ℕ → Command → Answer → List ℕ
+abbrev pub answered_line : ℕ → CommandNumber → Answer → List ℕ
 answered_line id command (Error error) = reply_start Target id command error.0 ++ codes "\n"
 answered_line id command (Data items) = reply_start Target id command NONE.0 ++ items_text (shapes_of command) items ++ codes "\n"
 
@@ -67,11 +62,11 @@ sizes_line id w =
 -- ---- the lines of a turn
 
 -- the command that waits under this ticket
-abbrev pub command_under : ℕ → List Unanswered → Option Command
+abbrev pub command_under : ℕ → List Unanswered → Option CommandNumber
 command_under ticket [] = None
 command_under ticket (u ∷ us) = if u.ticket == ticket then Some (named u.command.set u.command.number) else command_under ticket us
 
-abbrev pub answered_under : Option Command → ℕ → Answer → List ℕ
+abbrev pub answered_under : Option CommandNumber → ℕ → Answer → List ℕ
 answered_under None id answer = []
 answered_under (Some command) id answer = answered_line id command answer
 
@@ -96,7 +91,7 @@ turn_lines waited other heads w = []
 
 -- what is told of a turn; nothing of one that failed
 abbrev pub lines_of : Debugger → Result Read DebuggerFault → Debugger → List ℕ
-lines_of old (Ok read) new = turn_lines (unanswered old.pending) (told read) new.last new.sizes
+lines_of old (Ok read) new = turn_lines (unanswered old.pending) (read_meaning read) new.last new.sizes
 lines_of old (Err fault) new = []
 
 -- ---- the lines of a mirror

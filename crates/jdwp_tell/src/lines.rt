@@ -1,17 +1,17 @@
 //! The lines that tell what a debugger read and what it knows, each with its newline.
-ghost use Rattle.std.specs.Prelude.{◌≡◌, ◌++◌, IfOk, OnOk, codes, flat_map, is_none};
+ghost use Rattle.std.specs.Prelude.{◌≡◌, ◌++◌, IfOk, codes, is_none};
 ghost use Rattle.std.specs.String.{string_bytes};
-ghost use Rattle.jdwp_layout.specs.Meanings.{datum_meaning, entry_meanings, meanings, scalar_meanings};
+ghost use Rattle.jdwp_layout.specs.Meanings.{datum_meaning};
 ghost use Rattle.jdwp_show.specs.Data.{shapes_of};
 ghost use Rattle.jdwp_show.specs.MessageLines.{hello_line, reply_start};
 ghost use Rattle.jdwp_show.specs.declared.capture_line.Sender.TheVariants.{Target};
 ghost use Rattle.jdwp_wire.specs.ErrorCodes.{NONE};
-ghost use Rattle.jdwp_tell.specs.Telling.{answered_line, byte_in, bytes_in, items_text, named, request_line, seen_line, sizes_line, thread_line, width_item};
+ghost use Rattle.jdwp_tell.specs.Telling.{answered_line, bytes_in, items_text, named, request_line, seen_line, sizes_line, thread_line, width_item};
 
 use jdwp_debugger::Known;
 use jdwp_event::Composite;
 use jdwp_layout::numbers::{ID_SIZES, VIRTUAL_MACHINE};
-use jdwp_layout::{Answer, Datum, Scalar, layout_of};
+use jdwp_layout::{Answer, Data, Datum, Scalar, layout_of};
 use jdwp_show::{composite_line, reply_line};
 use jdwp_wire::{ErrorCode, IdSizes, NoMemory};
 use std::alloc::Global;
@@ -61,27 +61,20 @@ pub fn answered_line(
 {
     match answer {
         Answer::Error(error) => ended(reply_line(alloc, id, set, number, *error, &[], &[])?),
-        Answer::Data(data) => ended(data_line(alloc, id, set, number, data.items())?),
+        Answer::Data(data) => ended(data_line(alloc, id, set, number, data)?),
     }
 }
 
 /// The line of an answer without an error, without its newline.
-fn data_line(
-    alloc: Global,
-    id: u32,
-    set: u8,
-    number: u8,
-    items: &[Datum],
-) -> Result<String, NoMemory>
+fn data_line(alloc: Global, id: u32, set: u8, number: u8, data: &Data) -> Result<String, NoMemory>
     ensures { IfOk result (λ line. string_bytes line ≡ reply_start Target id
-        (named set number) NONE.0 ++ items_text (shapes_of (named set number))
-        (meanings items.now)) }
+        (named set number) NONE.0 ++ items_text (shapes_of (named set number)) «data».now) }
 {
     if is_unread(set, number) {
-        let bytes = bytes_in(alloc, items)?;
-        return reply_line(alloc, id, set, number, ErrorCode::NONE, &[], &bytes);
+        let bytes = bytes_in(data);
+        return reply_line(alloc, id, set, number, ErrorCode::NONE, &[], bytes);
     }
-    reply_line(alloc, id, set, number, ErrorCode::NONE, items, &[])
+    reply_line(alloc, id, set, number, ErrorCode::NONE, data.items(), &[])
 }
 
 /// Whether the table has no layouts by which the command's data are read.
@@ -94,40 +87,14 @@ fn is_unread(set: u8, number: u8) -> bool
     }
 }
 
-/// The bytes of data that are not read, which stand in a list of bytes.
-///
-/// # Errors
-/// `NoMemory` where an allocation was refused.
-fn bytes_in(alloc: Global, items: &[Datum]) -> Result<Vec<u8>, NoMemory>
-    ensures { IfOk result (λ bytes. bytes.items ≡ bytes_in (meanings items.now)) }
+/// The bytes of data that are not read; none of data that are.
+fn bytes_in(data: &Data) -> &[u8]
+    ensures { result.now ≡ bytes_in «data».now }
 {
-    match items {
-        [Datum::Many(entries)] => bytes_of(alloc, entries),
-        _ => Ok(Vec::new(alloc)),
+    match data.raw() {
+        Some(bytes) => bytes,
+        None => &[],
     }
-}
-
-/// The bytes of entries, those of one byte.
-fn bytes_of(alloc: Global, entries: &[Vec<Scalar>]) -> Result<Vec<u8>, NoMemory>
-    ensures { IfOk result (λ bytes. bytes.items ≡ flat_map byte_in (entry_meanings entries.now)) }
-{
-    let mut bytes = Vec::new(alloc);
-    for entry in entries {
-        push_byte(&mut bytes, entry)?;
-    }
-    Ok(bytes)
-}
-
-/// Appends the byte of an entry, where it is one.
-fn push_byte(bytes: &mut Vec<u8>, entry: &[Scalar]) -> Result<(), NoMemory>
-    ensures { OnOk result (bytes.new.items ≡ bytes.old.items ++ byte_in
-        (scalar_meanings entry.now)) }
-{
-    match entry {
-        [Scalar::Byte(byte)] => bytes.push(*byte)?,
-        _ => {}
-    }
-    Ok(())
 }
 
 /// What is told of the widths of ids, under the id of the reply that had them.

@@ -31,7 +31,7 @@ pub fn mirror_text(alloc: Global, mirror: &Mirror) -> Result<String, NoMemory>
 fn known_threads(alloc: Global, mirror: &Mirror) -> Result<Vec<Known>, NoMemory>
     ensures { IfOk result (λ threads. threads.items ≡ mirror.now.threads) }
 {
-    let threads = mirror.known().copied().collect::<Vec<Known>>(alloc)?;
+    let threads = mirror.known().collect::<Vec<Known>>(alloc)?;
     Ok(threads)
 }
 

@@ -46,10 +46,10 @@ pub data Front : Type 0 where
   Fault : FrameFault → Front
 
 -- an answer of the code, without the place in memory
-abbrev pub seen : Next → Front
-seen (next.Whole packet used) = Whole packet.header packet.body.now used
-seen next.More = More
-seen (next.Fault fault) = Fault fault
+abbrev pub front_meaning : Next → Front
+front_meaning (next.Whole packet used) = Whole packet.header packet.body.now used
+front_meaning next.More = More
+front_meaning (next.Fault fault) = Fault fault
 
 -- the length field, which is there once 4 bytes are
 abbrev pub length_field : List ℕ → ℕ

@@ -8,6 +8,7 @@ pub mod FaultNumbers
 pub mod ErrorCodes
 pub mod Frames
 pub mod FrameLaws
+pub mod Standing
 pub mod Streams
 pub mod StreamLaws
 pub mod DataFaultNumbers

@@ -2,7 +2,7 @@
 ghost use Rattle.std.specs.Prelude.{◌≡◌};
 ghost use Rattle.jdwp_wire.specs.Handshake.{HandshakeFrontOf, handshake_front};
 ghost use Rattle.jdwp_wire.specs.FaultNumbers.{fault_number};
-ghost use Rattle.jdwp_wire.specs.Frames.{FrontOf, Front, front, seen};
+ghost use Rattle.jdwp_wire.specs.Frames.{FrontOf, Front, front, front_meaning};
 ghost use Rattle.jdwp_wire.specs.Limits.{standard_limits};
 
 use crate::error_code::ErrorCode;
@@ -18,7 +18,7 @@ pub const PACKET_LIMIT: usize = 65536;
 pub const HANDSHAKE: [u8; 14] = *b"JDWP-Handshake";
 
 /// The bytes of a packet's header.
-const HEADER_LENGTH: usize = 11;
+pub(crate) const HEADER_LENGTH: usize = 11;
 
 /// Why bytes are the beginning of no message.
 #[derive(Clone, Copy, Debug, PartialEq, Eq, Error)]
@@ -101,9 +101,9 @@ fn compare_handshake(bytes: &[u8]) -> NextHello
 ///
 /// A length is judged once its 4 bytes are there, the flags once 9 bytes are.
 pub fn next_packet(bytes: &[u8]) -> Next<'_>
-    ensures front { FrontOf standard_limits.packet bytes.now (seen result) }
-    ensures only { (f : Front) → FrontOf standard_limits.packet bytes.now f → seen result ≡ f }
-    ensures exact { seen result ≡ front standard_limits.packet bytes.now }
+    ensures front { FrontOf standard_limits.packet bytes.now (front_meaning result) }
+    ensures only { (f : Front) → FrontOf standard_limits.packet bytes.now f → front_meaning result ≡ f }
+    ensures exact { front_meaning result ≡ front standard_limits.packet bytes.now }
 {
     next_packet_within(bytes, &Limits::standard())
 }
@@ -113,15 +113,15 @@ pub fn next_packet(bytes: &[u8]) -> Next<'_>
 ///
 /// A length is judged once its 4 bytes are there, the flags once 9 bytes are.
 pub fn next_packet_within<'a>(bytes: &'a [u8], limits: &Limits) -> Next<'a>
-    ensures front { FrontOf limits.now.packet bytes.now (seen result) }
-    ensures only { (f : Front) → FrontOf limits.now.packet bytes.now f → seen result ≡ f }
-    ensures exact { seen result ≡ front limits.now.packet bytes.now }
+    ensures front { FrontOf limits.now.packet bytes.now (front_meaning result) }
+    ensures only { (f : Front) → FrontOf limits.now.packet bytes.now f → front_meaning result ≡ f }
+    ensures exact { front_meaning result ≡ front limits.now.packet bytes.now }
 {
     find_packet(bytes, limits.packet())
 }
 
 fn find_packet(bytes: &[u8], limit: u32) -> Next<'_>
-    ensures { seen result ≡ front limit bytes.now }
+    ensures { front_meaning result ≡ front limit bytes.now }
 {
     if bytes.len() < 4 {
         return Next::More;

@@ -49,9 +49,11 @@ pub fn begins_with_one_fault<T: Wire>()
 /// A message is found whole at the front of bytes that begin with it, whatever follows it, within any limit that fits the length field.
 pub fn finds_whole_messages()
     ensures handshake { (limit : ℕ) (rest : List ℕ)
-        → next_message limit false (handshake_bytes ++ rest) ≡ Whole Handshake (length handshake_bytes) }
-    ensures packet { (limit : ℕ) (header : Header) (body rest : List ℕ) → limit < 2 ^ 32 → IsPacket limit header body
-        → next_message limit true (packet_bytes header body ++ rest) ≡ Whole (Packet header body) header.length }
+        → next_message limit false (handshake_bytes ++ rest)
+        ≡ Whole Handshake (length handshake_bytes) }
+    ensures packet { (limit : ℕ) (header : Header) (body rest : List ℕ) → limit < 2 ^ 32
+        → IsPacket limit header body → next_message limit true (packet_bytes header body ++ rest)
+        ≡ Whole (Packet header body) header.length }
     ensures size { (header : Header) (body : List ℕ) → length (packet_bytes header body)
         ≡ 11 + length body }
 {}
@@ -60,8 +62,9 @@ pub fn finds_whole_messages()
 pub fn calls_for_more()
     ensures handshake { (limit n : ℕ) (rest : List ℕ) → n < length handshake_bytes
         → next_message limit false (take n (handshake_bytes ++ rest)) ≡ More }
-    ensures packet { (limit n : ℕ) (header : Header) (body rest : List ℕ) → limit < 2 ^ 32 → IsPacket limit header body
-        → n < header.length → next_message limit true (take n (packet_bytes header body ++ rest)) ≡ More }
+    ensures packet { (limit n : ℕ) (header : Header) (body rest : List ℕ) → limit < 2 ^ 32
+        → IsPacket limit header body → n < header.length
+        → next_message limit true (take n (packet_bytes header body ++ rest)) ≡ More }
     ensures nothing { (limit : ℕ) (after_handshake : Bool)
         → next_message limit after_handshake [] ≡ More }
 {}
@@ -69,6 +72,8 @@ pub fn calls_for_more()
 /// At the front of a stream of messages that is cut anywhere the first message is found, where the cut has all of it, and else more bytes are
 /// called for.
 pub fn finds_first_message()
-    ensures { (limit n : ℕ) (message : Message) (messages : List Message) → limit < 2 ^ 32 → IsSendable limit message
-        → next_message limit (is_packet message) (take n (stream (message ∷ messages))) ≡ front_of_cut n message }
+    ensures { (limit n : ℕ) (message : Message) (messages : List Message) → limit < 2 ^ 32
+        → IsSendable limit message
+        → next_message limit (is_packet message) (take n (stream (message ∷ messages)))
+        ≡ front_of_cut n message }
 {}

@@ -11,6 +11,7 @@ mod limits;
 mod no_memory;
 pub mod number;
 mod packet;
+mod ring;
 mod wire;
 mod writing;
 
@@ -28,5 +29,6 @@ pub use laws::{
 pub use limits::{LEAST_PACKET_LIMIT, Limits, MOST_PACKET_LIMIT};
 pub use no_memory::NoMemory;
 pub use packet::{Header, PacketKind, PacketRef};
+pub use ring::{Standing, next_hello_in, next_packet_in, next_packet_in_within, standing_in};
 pub use wire::Wire;
 pub use writing::all_or_nothing;

@@ -1,8 +1,8 @@
 //! Links within limits other than the standard ones.
 use crate::asserts::expect_same;
-use crate::machine_a::MACHINE_A;
 use crate::sessions::first_wrong;
 use crate::worked::{COUNTED, FRAMES_AGAIN};
+use example_parts::MACHINE_A;
 use jdwp_link::Link;
 use jdwp_script_machine::ScriptMachine;
 use jdwp_target::{SetupFault, TargetOptions};

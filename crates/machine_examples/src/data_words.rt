@@ -136,6 +136,7 @@ fn push_datum(datum: &Datum, text: &mut String) -> Result<(), Fail> {
         Datum::One(scalar) => push_scalar(scalar, text),
         Datum::Many(entries) => push_entries(entries, text),
         Datum::Region(region) => push_region(region, text),
+        Datum::Raw(_) => Err(Fail::from("data that are not read")),
     }
 }
 

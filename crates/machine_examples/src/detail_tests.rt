@@ -1,6 +1,7 @@
 //! What is told of scripts that are refused, beside their faults.
 use crate::asserts::expect_same_for;
-use crate::script_tests::{MACHINE_A, MACHINE_B, edited};
+use crate::script_tests::{MACHINE_B, edited};
+use example_parts::MACHINE_A;
 use jdwp_script::{Cause, Detail, IdKind, Path, Script};
 use jdwp_wire::Limits;
 use std::alloc::Global;
@@ -26,9 +27,14 @@ fn is_told(rt: &impl Abort, alloc: Global, text: &str, words: &str) -> Result<()
 }
 
 /// What gives way in a script, what comes for it, and what is told.
-type Edit = (&'static str, &'static str, &'static str);
+pub(crate) type Edit = (&'static str, &'static str, &'static str);
 
-fn are_told(rt: &impl Abort, alloc: Global, script: &str, edits: &[Edit]) -> Result<(), Fail> {
+pub(crate) fn are_told(
+    rt: &impl Abort,
+    alloc: Global,
+    script: &str,
+    edits: &[Edit],
+) -> Result<(), Fail> {
     for (old, new, words) in edits {
         is_told(rt, alloc, edited(alloc, script, old, new)?.as_str(), words)?;
     }

@@ -2,6 +2,7 @@
 use crate::asserts::expect_same;
 use crate::data_words::text_of;
 use crate::rows::row;
+use example_parts::bytes;
 use jdwp_layout::{
     Data, Datum, Entry, Field, Item, Layout, Scalar, answers_first_fault, data_size,
     encodes_one_list, entry_size, fields_of_event, fields_of_modifier, layout_of, pass_entries,
@@ -121,24 +122,6 @@ fn accepted(
     ends_there(rt, alloc, layout, sizes, bytes)
 }
 
-/// The bytes, but for spaces.
-pub(crate) fn bytes_of(alloc: Global, hex: &str) -> Result<Vec<u8>, Fail> {
-    let mut bytes = Vec::new(alloc);
-    let mut high: Option<u32> = None;
-    for character in hex.chars() {
-        if let Some(digit) = character.to_digit(16) {
-            match high {
-                None => high = Some(digit),
-                Some(first) => {
-                    bytes.push((first.wrapping_mul(16).wrapping_add(digit) % 256) as u8)?;
-                    high = None;
-                }
-            }
-        }
-    }
-    Ok(bytes)
-}
-
 pub(crate) fn request_of(set: u8, command: u8) -> Result<Layout, Fail> {
     let row = layout_of(set, command).ok_or("no row")?;
     let layouts = row.layouts.ok_or("a raw row")?;
@@ -222,9 +205,9 @@ fn is_accepted(
     text: &str,
 ) -> Result<(), Fail> {
     let sizes = IdSizes::new(8, 8, 8, 8, 8)?;
-    let bytes = bytes_of(alloc, hex)?;
-    let back = bytes_of(alloc, canonical)?;
-    accepted(rt, alloc, layout, &sizes, &bytes, &back, Some(text))
+    let data = bytes(alloc, hex)?;
+    let canonical = bytes(alloc, canonical)?;
+    accepted(rt, alloc, layout, &sizes, &data, &canonical, Some(text))
 }
 
 #[test]
@@ -329,7 +312,7 @@ fn refused(
     fault: DataFault,
 ) -> Result<(), Fail> {
     let sizes = IdSizes::new(8, 8, 8, 8, 8)?;
-    has_fault(rt, alloc, layout, &sizes, &bytes_of(alloc, hex)?, fault);
+    has_fault(rt, alloc, layout, &sizes, &bytes(alloc, hex)?, fault);
     Ok(())
 }
 
@@ -487,7 +470,7 @@ static ENTRIES: [(Entry, &str); 3] = [
 #[test]
 fn entries_one_by_one(rt: HostRuntime) -> Result<(), Fail> {
     for (entry, hex) in ENTRIES.iter() {
-        is_an_entry(&rt, rt.alloc(), *entry, &bytes_of(rt.alloc(), hex)?)?;
+        is_an_entry(&rt, rt.alloc(), *entry, &bytes(rt.alloc(), hex)?)?;
     }
     Ok(())
 }
@@ -510,7 +493,7 @@ fn entries_that_are_cut_off(rt: HostRuntime) -> Result<(), Fail> {
 /// The field in front of these bytes, and how many bytes are behind it.
 fn field_of(alloc: Global, field: Field, hex: &str) -> Result<(Scalar, usize), Fail> {
     let sizes = IdSizes::new(8, 8, 8, 8, 8)?;
-    let bytes = bytes_of(alloc, hex)?;
+    let bytes = bytes(alloc, hex)?;
     let (scalar, rest) = read_field(alloc, field, &bytes, bytes.len(), &sizes)?;
     Ok((scalar, rest.len()))
 }

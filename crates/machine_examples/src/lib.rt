@@ -17,6 +17,8 @@ mod limit_tests;
 #[cfg(test)]
 mod machine_tests;
 #[cfg(test)]
+mod module_tests;
+#[cfg(test)]
 mod rows;
 #[cfg(test)]
 mod script_tests;

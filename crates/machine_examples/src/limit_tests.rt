@@ -1,6 +1,7 @@
 //! Scripts at a limit, and one past it.
 use crate::asserts::{expect_same, expect_same_for};
-use crate::script_tests::{MACHINE_A, MACHINE_B, edited, fault};
+use crate::script_tests::{MACHINE_B, edited, fault};
+use example_parts::MACHINE_A;
 use jdwp_script::{Script, ScriptFault};
 use jdwp_wire::Limits;
 use std::alloc::Global;
@@ -58,7 +59,7 @@ fn are_outcomes(rt: &impl Abort, alloc: Global, rows: &[Outcome]) -> Result<(), 
 }
 
 /// Texts at their limit, and past it.
-static TEXTS: [Outcome; 13] = [
+static TEXTS: [Outcome; 15] = [
     ("\"name\":\"B\"", "\"name\":\"", "x", 512, "\"", None),
     ("\"name\":\"B\"", "\"name\":\"", "x", 513, "\"", OVER),
     ("\"name\":\"pool\"", "\"name\":\"", "x", 513, "\"", OVER),
@@ -91,6 +92,22 @@ static TEXTS: [Outcome; 13] = [
     ),
     ("\"name\":\"this\"", "\"name\":\"", "x", 513, "\"", OVER),
     ("\"name\":\"work\"", "\"name\":\"", "x", 513, "\"", OVER),
+    (
+        "\"threads\":[",
+        "\"modules\":[{\"id\":7,\"name\":\"",
+        "x",
+        512,
+        "\"}],\"threads\":[",
+        None,
+    ),
+    (
+        "\"threads\":[",
+        "\"modules\":[{\"id\":7,\"name\":\"",
+        "x",
+        513,
+        "\"}],\"threads\":[",
+        OVER,
+    ),
     ("\"text\":\"hello\"", "\"text\":\"", "x", 65000, "\"", None),
     ("\"text\":\"hello\"", "\"text\":\"", "x", 65001, "\"", OVER),
 ];
@@ -100,8 +117,8 @@ fn limits_of_texts(rt: HostRuntime) -> Result<(), Fail> {
     are_outcomes(&rt, rt.alloc(), &TEXTS)
 }
 
-/// Groups, classes, objects, threads and live threads at their limit, and past it.
-static PARTS: [Outcome; 10] = [
+/// Groups, classes, objects, modules, threads and live threads at their limit, and past it.
+static PARTS: [Outcome; 12] = [
     (
         "\"groups\":[",
         "\"groups\":[",
@@ -148,6 +165,22 @@ static PARTS: [Outcome; 10] = [
         "{\"id\":52,\"class\":11,\"fields\":[],\"text\":null,\"array\":null},",
         1023,
         "",
+        OVER,
+    ),
+    (
+        "\"threads\":[",
+        "\"modules\":[",
+        "{\"id\":7,\"name\":\"\"},",
+        1023,
+        "{\"id\":7,\"name\":\"\"}],\"threads\":[",
+        Some(ScriptFault::IdTwice),
+    ),
+    (
+        "\"threads\":[",
+        "\"modules\":[",
+        "{\"id\":7,\"name\":\"\"},",
+        1024,
+        "{\"id\":7,\"name\":\"\"}],\"threads\":[",
         OVER,
     ),
     (

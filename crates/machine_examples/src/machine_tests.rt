@@ -1,8 +1,9 @@
 //! Machines of scripts: their threads, their steps, what they answer, and the faults of their texts.
 use crate::asserts::{expect_same, expect_same_for};
 use crate::data_words::{push_location, push_value, text_of};
-use crate::layout_tests::{bytes_of, request_of};
-use crate::script_tests::{MACHINE_A, edited};
+use crate::layout_tests::request_of;
+use crate::script_tests::edited;
+use example_parts::{MACHINE_A, bytes};
 use jdwp_event::{ClassSeen, Happening, Occurrence, Place, PreparedClass, ThrownException};
 use jdwp_layout::{Answer, Data, read};
 use jdwp_machine::{Machine, Query, has_run_out, is_among};
@@ -91,7 +92,7 @@ const CLASSES: &str = "{\"name\":\"small\",\"sizes\":[1,1,1,1,1],
 
 /// What is tried of a machine.
 #[derive(Clone, Copy)]
-enum Act {
+pub(crate) enum Act {
     /// These threads live.
     Lives(&'static [u64]),
     /// The next step of the thread is this.
@@ -288,7 +289,12 @@ fn run(
 }
 
 /// Of each act comes what it says, from the beginning of this machine on.
-fn goes_as_told(rt: &impl Abort, alloc: Global, text: &str, acts: &[Act]) -> Result<(), Fail> {
+pub(crate) fn goes_as_told(
+    rt: &impl Abort,
+    alloc: Global,
+    text: &str,
+    acts: &[Act],
+) -> Result<(), Fail> {
     let mut machine = machine(alloc, text)?;
     run(rt, alloc, &mut machine, acts)
 }
@@ -361,7 +367,7 @@ pub(crate) fn query_of(
     command: (u8, u8),
 ) -> Result<Query, Fail> {
     let sizes = IdSizes::new(1, 1, 1, 1, 1)?;
-    let bytes = bytes_of(alloc, data)?;
+    let bytes = bytes(alloc, data)?;
     let items = read(alloc, &request_of(row.0, row.1)?, &sizes, &bytes)?;
     Ok(Query {
         set: command.0,

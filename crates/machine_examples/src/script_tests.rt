@@ -1,22 +1,11 @@
 //! Scripts that are read and scripts that are refused.
 use crate::asserts::{expect_same, expect_same_for};
+use example_parts::MACHINE_A;
 use jdwp_script::{Class, Literal, Member, Method, Script, ScriptFault, Step, Thread};
 use jdwp_value::{ObjectTag, Tag, Value};
 use std::alloc::Global;
 use std::process::Abort;
 use std::test::Fail;
-
-pub(crate) const MACHINE_A: &str = "{\"name\":\"A\",\"sizes\":[8,8,8,8,8],
-\"groups\":[{\"id\":5,\"name\":\"main\",\"parent\":0}],
-\"classes\":[{\"id\":10,\"tag\":1,\"signature\":\"LMain;\",\"modifiers\":1,
- \"super\":0,\"interfaces\":[],\"source\":\"Main.java\",\"fields\":[],
- \"methods\":[{\"id\":20,\"name\":\"run\",\"signature\":\"()V\",\"modifiers\":1,
-  \"args\":0,\"last\":9,\"lines\":[[0,1],[3,2],[4,3]],\"slots\":[]}]}],
-\"objects\":[],
-\"threads\":[{\"id\":1,\"name\":\"main\",\"group\":5,\"steps\":[
- [\"call\",30,10,20,0,[]],[\"go\",3],[\"go\",4],[\"go\",3],[\"go\",4],
- [\"go\",3],[\"return\",[\"V\",0]]]},
- {\"id\":2,\"name\":\"work\",\"group\":5,\"steps\":[]}]}";
 
 /// A script with something of each kind.
 pub(crate) const MACHINE_B: &str = "{\"name\":\"B\",\"sizes\":[8,8,8,8,8],
@@ -51,7 +40,7 @@ pub(crate) fn fault(alloc: Global, text: &str) -> Option<ScriptFault> {
 }
 
 /// What gives way, what comes for it, and the outcome: a fault, or none.
-type Edit = (&'static str, &'static str, Option<ScriptFault>);
+pub(crate) type Edit = (&'static str, &'static str, Option<ScriptFault>);
 
 /// The script with `new` in place of the first `old` has this outcome.
 fn has_outcome(
@@ -67,7 +56,12 @@ fn has_outcome(
     Ok(())
 }
 
-fn are_outcomes(rt: &impl Abort, alloc: Global, script: &str, edits: &[Edit]) -> Result<(), Fail> {
+pub(crate) fn are_outcomes(
+    rt: &impl Abort,
+    alloc: Global,
+    script: &str,
+    edits: &[Edit],
+) -> Result<(), Fail> {
     for (old, new, wanted) in edits {
         has_outcome(rt, alloc, script, old, new, wanted)?;
     }

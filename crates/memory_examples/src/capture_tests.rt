@@ -1,7 +1,7 @@
 //! Captures and scripts whose reading is refused.
 use crate::asserts::{expect_at_least, expect_same};
-use crate::machine_a::MACHINE_A;
 use crate::supply::{MOST_TIMES, Stop, Supply, push_line};
+use example_parts::MACHINE_A;
 use jdwp_machine::Machine;
 use jdwp_script::ScriptFault;
 use jdwp_script_machine::ScriptMachine;

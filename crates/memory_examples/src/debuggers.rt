@@ -1,6 +1,6 @@
 //! Sessions of a debugger, and the memory that its calls find.
-use crate::hex::bytes;
 use crate::supply::{MOST_TIMES, Stop, Supply, push_line, push_same};
+use example_parts::bytes;
 use jdwp_debugger::{Command, Debugger, DebuggerFault, Read, Refused, Ticket};
 use jdwp_layout::{Datum, Scalar};
 use jdwp_value::ObjectId;

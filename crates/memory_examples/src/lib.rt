@@ -15,15 +15,11 @@ mod debugger_tests;
 #[cfg(test)]
 mod debuggers;
 #[cfg(test)]
-mod hex;
-#[cfg(test)]
 mod link_events;
 #[cfg(test)]
 mod link_tests;
 #[cfg(test)]
 mod links;
-#[cfg(test)]
-mod machine_a;
 #[cfg(test)]
 mod opening_tests;
 #[cfg(test)]

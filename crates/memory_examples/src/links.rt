@@ -2,8 +2,8 @@
 ghost use Rattle.jdwp_target.specs.Options.{LivesWithin};
 ghost use Rattle.jdwp_wire.specs.Limits.{standard_limits};
 
-use crate::machine_a::MACHINE_A;
 use crate::supply::{MOST_TIMES, Stop, Supply, push_line, push_same};
+use example_parts::MACHINE_A;
 use jdwp_debugger::Mirror;
 use jdwp_link::{Link, LinkEvent, Outcome};
 use jdwp_machine::Machine;

@@ -3,8 +3,8 @@ ghost use Rattle.jdwp_target.specs.Options.{LivesWithin};
 ghost use Rattle.jdwp_wire.specs.Limits.{standard_limits};
 
 use crate::asserts::{expect_at_least, expect_same};
-use crate::machine_a::MACHINE_A;
 use crate::supply::{MOST_TIMES, Stop};
+use example_parts::MACHINE_A;
 use jdwp_debugger::Debugger;
 use jdwp_link::Link;
 use jdwp_machine::Machine;

@@ -29,8 +29,6 @@ pub(crate) enum Stop {
     CountLimit,
     /// Bytes begin no message.
     FrameFault,
-    /// Hex digits spell no byte.
-    NoByte,
 }
 
 impl From<AllocError> for Stop {

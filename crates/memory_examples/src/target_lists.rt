@@ -2,37 +2,6 @@
 use crate::targets::Act;
 use jdwp_target::Stepped;
 
-/// A machine whose thread 1 enters a method, throws an exception that is caught and one that is not, prepares a class, starts thread 2
-/// and returns.
-pub(crate) const ALL_KINDS: &str = "{\"name\":\"kinds\",\"sizes\":[8,8,8,8,8],
-\"groups\":[{\"id\":5,\"name\":\"main\",\"parent\":0}],
-\"classes\":[
- {\"id\":13,\"tag\":1,\"signature\":\"LBase;\",\"modifiers\":1,\"super\":0,\"interfaces\":[],\"source\":null,\"fields\":[],\"methods\":[]},
- {\"id\":10,\"tag\":1,\"signature\":\"Lapp/Main;\",\"modifiers\":1,\"super\":13,\"interfaces\":[],\"source\":null,\"fields\":[],
-  \"methods\":[{\"id\":20,\"name\":\"run\",\"signature\":\"()I\",\"modifiers\":1,
-   \"args\":0,\"last\":9,\"lines\":[[0,1],[3,2],[4,3]],\"slots\":[]}]},
- {\"id\":30,\"tag\":1,\"signature\":\"LFault;\",\"modifiers\":1,\"super\":0,\"interfaces\":[],\"source\":null,\"fields\":[],\"methods\":[]},
- {\"id\":31,\"tag\":1,\"signature\":\"LOops;\",\"modifiers\":1,\"super\":30,\"interfaces\":[],\"source\":null,\"fields\":[],\"methods\":[]},
- {\"id\":12,\"tag\":1,\"signature\":\"LLate;\",\"modifiers\":1,\"super\":0,\"interfaces\":[],\"source\":null,\"fields\":[],\"methods\":[]}],
-\"objects\":[{\"id\":40,\"class\":31,\"fields\":[],\"text\":null,\"array\":null}],
-\"threads\":[{\"id\":1,\"name\":\"main\",\"group\":5,\"steps\":[
- [\"call\",50,10,20,0,[]],[\"throw\",40,[10,20,4]],[\"throw\",40,null],
- [\"prepare\",12],[\"start\",2],[\"return\",[\"I\",5]]]},
- {\"id\":2,\"name\":\"work\",\"group\":5,\"steps\":[]}]}";
-
-/// Machine A whose first call has a slot.
-pub(crate) const WITH_A_SLOT: &str = "{\"name\":\"A\",\"sizes\":[8,8,8,8,8],
-\"groups\":[{\"id\":5,\"name\":\"main\",\"parent\":0}],
-\"classes\":[{\"id\":10,\"tag\":1,\"signature\":\"LMain;\",\"modifiers\":1,
- \"super\":0,\"interfaces\":[],\"source\":\"Main.java\",\"fields\":[],
- \"methods\":[{\"id\":20,\"name\":\"run\",\"signature\":\"()V\",\"modifiers\":1,
-  \"args\":0,\"last\":9,\"lines\":[[0,1],[3,2],[4,3]],\"slots\":[]}]}],
-\"objects\":[],
-\"threads\":[{\"id\":1,\"name\":\"main\",\"group\":5,\"steps\":[
- [\"call\",30,10,20,0,[[0,[\"I\",7]]]],[\"go\",3],[\"go\",4],[\"go\",3],[\"go\",4],
- [\"go\",3],[\"return\",[\"V\",0]]]},
- {\"id\":2,\"name\":\"work\",\"group\":5,\"steps\":[]}]}";
-
 /// Suspends and resumes of all and of one, which take no memory.
 pub(crate) static SUSPENDS_AND_RESUMES: [Act; 4] = [
     Act::Says("0000000b 00000002 00 01 08", "0000000b 00000002 80 0000"),

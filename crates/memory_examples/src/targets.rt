@@ -1,6 +1,6 @@
 //! Sessions of a target, and the memory that its calls find.
-use crate::hex::bytes;
 use crate::supply::{MOST_TIMES, Stop, Supply, push_line, push_same};
+use example_parts::bytes;
 use jdwp_script_machine::ScriptMachine;
 use jdwp_target::{Stepped, TargetFault, TargetOptions, Turn};
 use jdwp_value::ObjectId;

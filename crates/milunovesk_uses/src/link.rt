@@ -17,7 +17,8 @@ pub fn shows_suspended<M: Machine + Drop>(
     events: &[LinkEvent],
     thread: ObjectId,
 ) -> Result<bool, Stopped>
-    ensures { IfOk result (λ shown. shown ≡ true → IsUnbroken link.new → unanswered_by lowers (unanswered link.new.debugger.pending) thread.0 ≡ 0
+    ensures { IfOk result (λ shown. shown ≡ true → IsUnbroken link.new
+        → unanswered_by lowers (unanswered link.new.debugger.pending) thread.0 ≡ 0
         → 0 < count_or_zero link.new.target.moment.state thread.0) }
 {
     let _outcomes = link.run(events)?;

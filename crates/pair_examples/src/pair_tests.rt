@@ -1,8 +1,7 @@
 //! Runs of both ends by plans over machine A, line for line.
 use crate::asserts::expect_same;
-use crate::runs::{
-    CASE, Case, MACHINE_A, READY, Writer, passes, passes_over, run_script, run_text,
-};
+use crate::runs::{CASE, Case, READY, Writer, passes, passes_over, run_script, run_text};
+use example_parts::MACHINE_A;
 use jdwp_debuggee::Settings;
 use jdwp_link::Memory;
 use jdwp_pair::{Connection, Loopback, PairEnded};

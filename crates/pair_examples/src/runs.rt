@@ -1,5 +1,6 @@
 //! Plans over the machine of a script, and what is to come of them.
 use crate::asserts::expect_same_for;
+use example_parts::MACHINE_A;
 use jdwp_debuggee::Settings;
 use jdwp_link::Memory;
 use jdwp_pair::{Connection, PairEnded, pair_script};
@@ -11,19 +12,6 @@ use std::io;
 use std::io::{Empty, ErrorKind, Write};
 use std::process::Abort;
 use std::test::Fail;
-
-/// A machine of two threads, of which the first calls a method, moves in it and returns.
-pub(crate) const MACHINE_A: &str = "{\"name\":\"A\",\"sizes\":[8,8,8,8,8],
-\"groups\":[{\"id\":5,\"name\":\"main\",\"parent\":0}],
-\"classes\":[{\"id\":10,\"tag\":1,\"signature\":\"LMain;\",\"modifiers\":1,
- \"super\":0,\"interfaces\":[],\"source\":\"Main.java\",\"fields\":[],
- \"methods\":[{\"id\":20,\"name\":\"run\",\"signature\":\"()V\",\"modifiers\":1,
-  \"args\":0,\"last\":9,\"lines\":[[0,1],[3,2],[4,3]],\"slots\":[]}]}],
-\"objects\":[],
-\"threads\":[{\"id\":1,\"name\":\"main\",\"group\":5,\"steps\":[
- [\"call\",30,10,20,0,[]],[\"go\",3],[\"go\",4],[\"go\",3],[\"go\",4],
- [\"go\",3],[\"return\",[\"V\",0]]]},
- {\"id\":2,\"name\":\"work\",\"group\":5,\"steps\":[]}]}";
 
 /// What is printed until the widths of ids are known.
 pub(crate) const READY: &str = "< hello

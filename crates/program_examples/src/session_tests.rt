@@ -2,6 +2,7 @@
 ghost use Rattle.std.specs.Prelude.{◌≤◌, IfOk, IfSome, ◌≡◌};
 
 use crate::asserts::expect_same;
+use example_parts::push_bytes;
 use jdwp_attach::attach;
 use jdwp_debugger::Debugger;
 use jdwp_pipe::{Ended, Streams};
@@ -132,31 +133,10 @@ impl Write for Writer {
     }
 }
 
-/// The bytes that hex digits spell; spaces are for reading.
-fn push_hex(bytes: &mut Vec<u8>, hex: &str) -> Result<(), Fail> {
-    let mut high = None;
-    for digit in hex.chars() {
-        let Some(value) = digit.to_digit(16) else {
-            continue;
-        };
-        match high {
-            None => high = Some(value),
-            Some(first) => {
-                let Ok(byte) = u8::try_from(first.saturating_mul(16).saturating_add(value)) else {
-                    return Err(Fail::from("not a byte"));
-                };
-                bytes.push(byte)?;
-                high = None;
-            }
-        }
-    }
-    Ok(())
-}
-
 fn hex(alloc: Global, texts: &[&str]) -> Result<Vec<u8>, Fail> {
     let mut bytes = Vec::new(alloc);
     for text in texts {
-        push_hex(&mut bytes, text)?;
+        push_bytes(&mut bytes, text)?;
     }
     Ok(bytes)
 }

@@ -6,7 +6,8 @@ use crate::serving::{
     ANSWERS, ANSWERS_SUSPENDED, AfterServing, Event, Plan, ROUNDS, Reader, SESSION, UNDISTURBED,
     Writer, is_served, reading, serve_on, served, served_on, writing,
 };
-use crate::sessions::{MACHINE_A, Target, target};
+use crate::sessions::{Target, target};
+use example_parts::MACHINE_A;
 use jdwp_pipe::Ended;
 use std::alloc::Global;
 use std::io::BufWriter;

@@ -1,6 +1,7 @@
 //! A target driven by hand, without IO: bytes that came go in, messages are handled one by one, and what is to be sent comes out.
 use crate::asserts::expect_same;
-use crate::sessions::{MACHINE_A, Target, target};
+use crate::sessions::{Target, target};
+use example_parts::MACHINE_A;
 use jdwp_target::Turn;
 use jdwp_value::ObjectId;
 use std::alloc::Global;

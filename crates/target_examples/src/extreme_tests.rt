@@ -1,6 +1,7 @@
 //! Targets at their limits: 64 threads that step, a command of the longest packet, and the longest composite.
 use crate::asserts::expect_same;
-use crate::sessions::{Act, MACHINE_A, Target, comes, greet, sends, target};
+use crate::sessions::{Act, Target, comes, greet, sends, target};
+use example_parts::MACHINE_A;
 use jdwp_target::{Stepped, Turn};
 use jdwp_value::ObjectId;
 use jdwp_wire::ErrorCode;

@@ -15,6 +15,8 @@ mod falling;
 #[cfg(test)]
 mod limit_tests;
 #[cfg(test)]
+mod module_tests;
+#[cfg(test)]
 mod request_tests;
 #[cfg(test)]
 mod round_tests;
@@ -26,3 +28,5 @@ mod serving;
 mod session_tests;
 #[cfg(test)]
 mod sessions;
+#[cfg(test)]
+mod visit_tests;

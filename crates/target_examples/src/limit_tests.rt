@@ -1,7 +1,7 @@
 //! Targets within limits other than the standard ones.
 use crate::asserts::{expect_same, expect_same_for};
-use crate::request_tests::ALL_KINDS;
-use crate::sessions::{Act, MACHINE_A, Target, first_wrong};
+use crate::sessions::{Act, Target, first_wrong};
+use example_parts::{ALL_KINDS, MACHINE_A};
 use jdwp_script_machine::ScriptMachine;
 use jdwp_target::{SetupFault, Stepped, TargetOptions};
 use jdwp_wire::{FrameFault, Limits};

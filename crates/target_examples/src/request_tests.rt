@@ -1,25 +1,8 @@
 //! Event requests at a target over machine scripts: which are refused, and what is sent for those that stand.
-use crate::sessions::{Act, HANDSHAKE, MACHINE_A, goes_as_told};
+use crate::sessions::{Act, HANDSHAKE, goes_as_told};
+use example_parts::{ALL_KINDS, MACHINE_A};
 use jdwp_target::Stepped;
 use std::test::Fail;
-
-/// A machine whose thread 1 enters a method, throws an exception that is caught and one that is not, prepares a class, starts thread 2
-/// and returns.
-pub(crate) const ALL_KINDS: &str = "{\"name\":\"kinds\",\"sizes\":[8,8,8,8,8],
-\"groups\":[{\"id\":5,\"name\":\"main\",\"parent\":0}],
-\"classes\":[
- {\"id\":13,\"tag\":1,\"signature\":\"LBase;\",\"modifiers\":1,\"super\":0,\"interfaces\":[],\"source\":null,\"fields\":[],\"methods\":[]},
- {\"id\":10,\"tag\":1,\"signature\":\"Lapp/Main;\",\"modifiers\":1,\"super\":13,\"interfaces\":[],\"source\":null,\"fields\":[],
-  \"methods\":[{\"id\":20,\"name\":\"run\",\"signature\":\"()I\",\"modifiers\":1,
-   \"args\":0,\"last\":9,\"lines\":[[0,1],[3,2],[4,3]],\"slots\":[]}]},
- {\"id\":30,\"tag\":1,\"signature\":\"LFault;\",\"modifiers\":1,\"super\":0,\"interfaces\":[],\"source\":null,\"fields\":[],\"methods\":[]},
- {\"id\":31,\"tag\":1,\"signature\":\"LOops;\",\"modifiers\":1,\"super\":30,\"interfaces\":[],\"source\":null,\"fields\":[],\"methods\":[]},
- {\"id\":12,\"tag\":1,\"signature\":\"LLate;\",\"modifiers\":1,\"super\":0,\"interfaces\":[],\"source\":null,\"fields\":[],\"methods\":[]}],
-\"objects\":[{\"id\":40,\"class\":31,\"fields\":[],\"text\":null,\"array\":null}],
-\"threads\":[{\"id\":1,\"name\":\"main\",\"group\":5,\"steps\":[
- [\"call\",50,10,20,0,[]],[\"throw\",40,[10,20,4]],[\"throw\",40,null],
- [\"prepare\",12],[\"start\",2],[\"return\",[\"I\",5]]]},
- {\"id\":2,\"name\":\"work\",\"group\":5,\"steps\":[]}]}";
 
 /// A machine whose thread 1 calls a second method from line 1 of the first, moves in it, returns and goes on.
 const A_CALL: &str = "{\"name\":\"call\",\"sizes\":[8,8,8,8,8],

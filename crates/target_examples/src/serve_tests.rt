@@ -1,6 +1,6 @@
 //! Sessions served over the machine of a script, from the bytes read to the bytes written.
 use crate::asserts::expect_same;
-use crate::sessions::MACHINE_A;
+use example_parts::MACHINE_A;
 use jdwp_debuggee::Settings;
 use jdwp_pipe::{Ended, Streams};
 use jdwp_script::ScriptFault;

@@ -2,7 +2,8 @@
 ghost use Rattle.std.specs.Prelude.{◌≡◌, IfOk, IfSome};
 
 use crate::asserts::expect_same_for;
-use crate::sessions::{MACHINE_A, Target, target};
+use crate::sessions::{Target, target};
+use example_parts::MACHINE_A;
 use jdwp_engine::serve;
 use jdwp_pipe::{Ended, Streams};
 use jdwp_value::ObjectId;

@@ -1,9 +1,9 @@
 //! Sessions of a target over machine scripts, byte for byte.
 use crate::asserts::{expect_same, expect_same_for};
 use crate::sessions::{
-    Act, GREETING, HANDSHAKE, MACHINE_A, Target, WITH_A_SLOT, bytes, goes_as_told, greet, sends,
-    target,
+    Act, GREETING, HANDSHAKE, Target, comes, goes_as_told, greet, sends, target,
 };
+use example_parts::{MACHINE_A, WITH_A_SLOT, bytes};
 use jdwp_target::{Stepped, TargetFault, TargetOptions, Turn};
 use jdwp_value::ObjectId;
 use jdwp_wire::{ErrorCode, FrameFault};
@@ -24,6 +24,10 @@ enum Trial {
     Pauses,
     /// A packet of the greatest length comes.
     TakesTheGreatestLength,
+    /// The same behind others, in pieces.
+    TakesTheGreatestLengthInPieces,
+    /// What waits to leave is taken in pieces.
+    LeavesInPieces,
 }
 
 /// Whether it goes as it is to.
@@ -34,6 +38,10 @@ fn goes(alloc: Global, target: &mut Target, trial: Trial) -> Result<bool, Fail> 
         Trial::TakesNothingAndTooMuch => takes_nothing_and_too_much(alloc, target),
         Trial::Pauses => pauses(alloc, target),
         Trial::TakesTheGreatestLength => takes_the_greatest_length(alloc, target),
+        Trial::TakesTheGreatestLengthInPieces => {
+            takes_the_greatest_length_in_pieces(alloc, target)
+        }
+        Trial::LeavesInPieces => leaves_in_pieces(alloc, target),
     }
 }
 
@@ -685,4 +693,67 @@ fn greatest(alloc: Global) -> Result<Vec<u8>, Fail> {
 #[test]
 fn a_packet_of_the_greatest_length(rt: HostRuntime) -> Result<(), Fail> {
     goes_well(&rt, rt.alloc(), false, Trial::TakesTheGreatestLength)
+}
+
+/// Whether a packet of 65,536 bytes that comes behind others, in pieces of 4,096, is answered once all of it came. It wraps round the end
+/// of the room for what comes.
+fn takes_the_greatest_length_in_pieces(alloc: Global, target: &mut Target) -> Result<bool, Fail> {
+    greet(alloc, target)?;
+    let sizes = Act::Says(
+        "0000000b 00000001 00 01 07",
+        "0000001f 00000001 80 0000 00000008 00000008 00000008 00000008 00000008",
+    );
+    let behind = comes(alloc, target, &sizes)?;
+    let all = greatest(alloc)?;
+    for piece in all.chunks(4096) {
+        if target.turn() != Ok(Turn::Nothing) || target.feed(piece) != 4096 {
+            return Ok(false);
+        }
+    }
+    let full = target.feed(&[0]) == 0;
+    let handled = target.turn() == Ok(Turn::Replied(2, ErrorCode::NONE));
+    let answers = sends(alloc, target, "0000000f 00000002 80 0000 00000000")?;
+    Ok(behind && full && handled && answers)
+}
+
+#[test]
+fn a_packet_of_the_greatest_length_in_pieces(rt: HostRuntime) -> Result<(), Fail> {
+    goes_well(
+        &rt,
+        rt.alloc(),
+        false,
+        Trial::TakesTheGreatestLengthInPieces,
+    )
+}
+
+/// A session's commands: IDSizes, Suspend, SuspendCount of thread 1, Dispose.
+const COMMANDS: &str = "0000000b 00000001 00 01 07 0000000b 00000002 00 01 08
+ 00000013 00000003 00 0b 0c 0000000000000001 0000000b 00000004 00 01 06";
+
+/// What is sent for the handshake and them.
+const SENT: &str = "4a4457502d48616e647368616b65
+ 0000001d 00000001 00 40 64 00 00000001 5a 00000000 0000000000000001
+ 0000001f 00000001 80 0000 00000008 00000008 00000008 00000008 00000008
+ 0000000b 00000002 80 0000 0000000f 00000003 80 0000 00000001 0000000b 00000004 80 0000";
+
+/// Whether 111 bytes are the same in pieces of 7.
+fn leaves_in_pieces(alloc: Global, target: &mut Target) -> Result<bool, Fail> {
+    target.accept();
+    target.feed(b"JDWP-Handshake");
+    target.feed(&bytes(alloc, COMMANDS)?);
+    for _ in 0..5u32 {
+        target.turn()?;
+    }
+    let mut left = Vec::new(alloc);
+    let mut piece = [0; 7];
+    for _ in 0..16u32 {
+        let count = target.take(&mut piece);
+        left.extend_from_slice(&piece[..count.min(7)])?;
+    }
+    Ok(target.waiting() == 0 && left.as_slice() == bytes(alloc, SENT)?.as_slice())
+}
+
+#[test]
+fn what_waits_leaves_in_pieces(rt: HostRuntime) -> Result<(), Fail> {
+    goes_well(&rt, rt.alloc(), false, Trial::LeavesInPieces)
 }

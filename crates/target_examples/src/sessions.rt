@@ -1,5 +1,6 @@
 //! Targets over machine scripts, what is done with them, and what is to come of it.
 use crate::asserts::expect_same;
+use example_parts::bytes;
 use jdwp_script_machine::ScriptMachine;
 use jdwp_target::{Stepped, TargetFault, TargetOptions, Turn};
 use jdwp_value::ObjectId;
@@ -16,54 +17,6 @@ pub(crate) const HANDSHAKE: &str = "4a4457502d48616e647368616b65";
 /// The handshake, and VM_START behind it.
 pub(crate) const GREETING: &str =
     "4a4457502d48616e647368616b65 0000001d 00000001 00 40 64 00 00000001 5a 00000000 0000000000000001";
-
-/// A machine of two threads, of which the first calls a method, moves in it and returns.
-pub(crate) const MACHINE_A: &str = "{\"name\":\"A\",\"sizes\":[8,8,8,8,8],
-\"groups\":[{\"id\":5,\"name\":\"main\",\"parent\":0}],
-\"classes\":[{\"id\":10,\"tag\":1,\"signature\":\"LMain;\",\"modifiers\":1,
- \"super\":0,\"interfaces\":[],\"source\":\"Main.java\",\"fields\":[],
- \"methods\":[{\"id\":20,\"name\":\"run\",\"signature\":\"()V\",\"modifiers\":1,
-  \"args\":0,\"last\":9,\"lines\":[[0,1],[3,2],[4,3]],\"slots\":[]}]}],
-\"objects\":[],
-\"threads\":[{\"id\":1,\"name\":\"main\",\"group\":5,\"steps\":[
- [\"call\",30,10,20,0,[]],[\"go\",3],[\"go\",4],[\"go\",3],[\"go\",4],
- [\"go\",3],[\"return\",[\"V\",0]]]},
- {\"id\":2,\"name\":\"work\",\"group\":5,\"steps\":[]}]}";
-
-/// Machine A whose first call has a slot.
-pub(crate) const WITH_A_SLOT: &str = "{\"name\":\"A\",\"sizes\":[8,8,8,8,8],
-\"groups\":[{\"id\":5,\"name\":\"main\",\"parent\":0}],
-\"classes\":[{\"id\":10,\"tag\":1,\"signature\":\"LMain;\",\"modifiers\":1,
- \"super\":0,\"interfaces\":[],\"source\":\"Main.java\",\"fields\":[],
- \"methods\":[{\"id\":20,\"name\":\"run\",\"signature\":\"()V\",\"modifiers\":1,
-  \"args\":0,\"last\":9,\"lines\":[[0,1],[3,2],[4,3]],\"slots\":[]}]}],
-\"objects\":[],
-\"threads\":[{\"id\":1,\"name\":\"main\",\"group\":5,\"steps\":[
- [\"call\",30,10,20,0,[[0,[\"I\",7]]]],[\"go\",3],[\"go\",4],[\"go\",3],[\"go\",4],
- [\"go\",3],[\"return\",[\"V\",0]]]},
- {\"id\":2,\"name\":\"work\",\"group\":5,\"steps\":[]}]}";
-
-/// The bytes that hex digits spell; spaces are for reading.
-pub(crate) fn bytes(alloc: Global, hex: &str) -> Result<Vec<u8>, Fail> {
-    let mut bytes = Vec::new(alloc);
-    let mut high = None;
-    for digit in hex.chars() {
-        let Some(value) = digit.to_digit(16) else {
-            continue;
-        };
-        match high {
-            None => high = Some(value),
-            Some(first) => {
-                let Ok(byte) = u8::try_from(first.saturating_mul(16).saturating_add(value)) else {
-                    return Err(Fail::from("not a byte"));
-                };
-                bytes.push(byte)?;
-                high = None;
-            }
-        }
-    }
-    Ok(bytes)
-}
 
 /// All that waits to leave.
 fn taken(alloc: Global, target: &mut Target) -> Result<Vec<u8>, Fail> {
@@ -126,6 +79,8 @@ pub(crate) enum Act {
     Fails(&'static str, FrameFault),
     /// The suspend counts of threads 1 and 2.
     Counts(Option<u32>, Option<u32>),
+    /// How many threads the last move of all suspend counts visited.
+    Visits(u32),
     /// How many event requests there are.
     Requests(usize),
     /// How many threads live.
@@ -152,6 +107,7 @@ pub(crate) fn comes(alloc: Global, target: &mut Target, act: &Act) -> Result<boo
         Act::Counts(first, second) => {
             Ok(target.count(ObjectId(1)) == *first && target.count(ObjectId(2)) == *second)
         }
+        Act::Visits(visits) => Ok(target.visits() == *visits),
         Act::Requests(count) => Ok(target.requests().len() == *count),
         Act::Lives(count) => Ok(target.live().len() == *count),
         Act::Open(open) => Ok(target.is_open() == *open),

@@ -4,11 +4,11 @@ ghost use Rattle.jdwp_layout.specs.Rows.{found_row, look_up};
 ghost use Rattle.jdwp_layout.specs.CommandTable.{module_reference_rows};
 
 use crate::command::CommandRow;
-use crate::row_macros::starred;
+use crate::row_macros::answered;
 
-static NAME: CommandRow = starred!(ModuleReference.Name: [ObjectId] => [String]);
+static NAME: CommandRow = answered!(ModuleReference.Name: [ObjectId] => [String]);
 
-static CLASS_LOADER: CommandRow = starred!(ModuleReference.ClassLoader: [ObjectId] => [ObjectId]);
+static CLASS_LOADER: CommandRow = answered!(ModuleReference.ClassLoader: [ObjectId] => [ObjectId]);
 
 /// The row of a command of the set ModuleReference.
 pub(crate) fn row_of(command: u8) -> Option<&'static CommandRow>

@@ -56,7 +56,7 @@ static CLASS_FILE_VERSION: CommandRow =
 static CONSTANT_POOL: CommandRow =
     starred!(ReferenceType.ConstantPool: [ReferenceTypeId] => [Int, list(Byte)]);
 
-static MODULE: CommandRow = starred!(ReferenceType.Module: [ReferenceTypeId] => [ObjectId]);
+static MODULE: CommandRow = answered!(ReferenceType.Module: [ReferenceTypeId] => [ObjectId]);
 
 /// The row of a command of the set ReferenceType.
 pub(crate) fn row_of(command: u8) -> Option<&'static CommandRow>

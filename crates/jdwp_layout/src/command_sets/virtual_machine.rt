@@ -57,7 +57,7 @@ static ALL_CLASSES_WITH_GENERIC: CommandRow =
 static INSTANCE_COUNTS: CommandRow =
     starred!(VirtualMachine.InstanceCounts: [list(ReferenceTypeId)] => [list(Long)]);
 
-static ALL_MODULES: CommandRow = starred!(VirtualMachine.AllModules: [] => [list(ObjectId)]);
+static ALL_MODULES: CommandRow = answered!(VirtualMachine.AllModules: [] => [list(ObjectId)]);
 
 /// The row of a command of the set VirtualMachine.
 pub(crate) fn row_of(command: u8) -> Option<&'static CommandRow>

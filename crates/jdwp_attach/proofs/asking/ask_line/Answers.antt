@@ -1,7 +1,7 @@
 use Rattle.std.proofs.lemmas.Grind.{common_steps}
 use Rattle.std.proofs.lemmas.List.{append-nil}
 use Rattle.std.proofs.Common.{◌∙◌, ◌++◌, ◌∷◌, [], inl, sym, ap, refl, arith}
-use Rattle.jdwp_debugger.specs.Debuggers.{Debugger, lost, with_taken}
+use Rattle.jdwp_debugger.specs.Debuggers.{Debugger, lost_debugger, with_taken}
 use Rattle.jdwp_pipe.specs.declared.ended.Ended.TheVariants as ended
 use Rattle.jdwp_attach.proofs.Counting.{asked-keeps, counts-kept}
 use Rattle.jdwp_attach.proofs.Ending.{asked-in-order, line-memory, loses-ends, moved-ends, refused-ends, unread-ends}
@@ -39,7 +39,7 @@ returns-then-not-write_out-clause-ends g c = λ out line asks-it done rest base 
     (asked-moves c.in-Ok.command old mid asked) (reach-asked base.debugger done k.told old mid c.in-Ok.command k.reached k.ready.0 asked) (sym (append-nil k.told)) in-order
     (record {
       taken = fails.0;
-      is = c.lose.ensures.lost ∙ ap (λ (x : Debugger). lost x) fails.1;
+      is = c.lose.ensures.lost ∙ ap (λ (x : Debugger). lost_debugger x) fails.1;
       left = refl;
       fails = inl (fails.2, fails.3, refl);
     })

@@ -1,5 +1,5 @@
 use Rattle.std.proofs.Common.{◌∙◌, [], ap, refl}
-use Rattle.jdwp_debugger.specs.Debuggers.{Debugger, lost, with_taken}
+use Rattle.jdwp_debugger.specs.Debuggers.{Debugger, lost_debugger, with_taken}
 use Rattle.jdwp_attach.proofs.Counting.{begun-counts, counts-kept}
 use Rattle.jdwp_attach.proofs.Ending.{hello-ends, hello-goes}
 use Rattle.jdwp_attach.proofs.Naming.{begun-names, names-kept}
@@ -9,7 +9,7 @@ pub returns-then-not-write_out-clause-ends : goal.returns-then-not-write_out-cla
 returns-then-not-write_out-clause-ends g c = λ plan out left.
     let fails = c.if-not-write_out.ensures.fails refl in
     hello-ends plan (g.P.Pipe.story c.args.pipe.now) out c.args.debugger.now c.lose.new.self left (g.P.Pipe.story c.write_out.new.pipe) fails.0 c.requires fails.2 fails.3
-    (c.lose.ensures.lost ∙ ap (λ (x : Debugger). lost x) fails.1)
+    (c.lose.ensures.lost ∙ ap (λ (x : Debugger). lost_debugger x) fails.1)
 
 pub returns-clause-goes : goal.returns-clause-goes
 returns-clause-goes g c = λ out left.

@@ -1,7 +1,7 @@
 use Rattle.std.proofs.Common.{◌-◌, ◌+◌, ◌++◌, [], Ok, ap, refl, arith, rules}
 use Rattle.jdwp_end.specs.Ends.{front_of}
 use Rattle.jdwp_debugger.specs.Debuggers.{Debugger, unanswered, with_fed, with_taken}
-use Rattle.jdwp_debugger.specs.DebuggerTurns.{told}
+use Rattle.jdwp_debugger.specs.DebuggerTurns.{read_meaning}
 use Rattle.jdwp_attach.specs.PlanWaits.{Counts, composites_of}
 use Rattle.jdwp_tell.specs.Telling.{lines_of}
 use Rattle.jdwp_attach.proofs.Counting.{counts-fewer, counts-kept, counts-turned}
@@ -57,7 +57,7 @@ returns g c =
     let s' = g.P.Pipe.story c.tell.new.pipe in
     let o' = g.W.Pipe.story c.tell.new.out in
     let counts : Counts c.saturating_add-run.result mid =
-    counts-fewer (c.args.run.now.composites + composites_of (told c.in-Ok.turn)) c.saturating_add-run.result mid (omega (arith, c.saturating_add-run.ensures, c.composites_in.ensures))
+    counts-fewer (c.args.run.now.composites + composites_of (read_meaning c.in-Ok.turn)) c.saturating_add-run.result mid (omega (arith, c.saturating_add-run.ensures, c.composites_in.ensures))
     (counts-turned (front_of old.end) c.args.run.now.composites old mid c.in-Ok.turn refl c.session.ensures.bytes c.in-Ok.ensures.turns c.requires.counts)
     in
     let reads = read-Whole (front_of old.end) old mid c.in-Ok.turn c.in-Ok.ensures.turns c.in_default.not-Nothing in

@@ -2,7 +2,7 @@ use Rattle.std.proofs.lemmas.Grind.{common_steps}
 use Rattle.std.proofs.Common.{◌≡◌, ◌<◌, ◌++◌, ◌∷◌, [], length, arith}
 use Rattle.std.specs.List.{filter_map}
 use Rattle.jdwp_layout.specs.Meanings.{entry_meaning}
-use Rattle.jdwp_debuggee.specs.Actions.{slot_of}
+use Rattle.jdwp_action.specs.Actions.{slot_of}
 use Rattle.jdwp_debuggee.proofs.Read.{slots_step}
 use Rattle.jdwp_debuggee.proofs.command.slots_of.Goals as goal
 use Rattle.jdwp_debuggee.proofs.command.slots_of.Goals.{in-Some+in_ok-push, in_default}

@@ -1,7 +1,7 @@
 use Rattle.std.proofs.Common.{◌≡◌, take}
 use Rattle.std.specs.List.{filter_map}
 use Rattle.jdwp_layout.specs.Meanings.{entry_meanings}
-use Rattle.jdwp_debuggee.specs.Actions.{slot_of}
+use Rattle.jdwp_action.specs.Actions.{slot_of}
 use Rattle.jdwp_debuggee.proofs.command.slots_of.Given as goal
 
 abbrev pub invariant-loop-entry : goal.invariant-loop-entry

@@ -1,5 +1,5 @@
 use Rattle.std.proofs.Common.{◌≡◌, length, rules}
-use Rattle.jdwp_debuggee.specs.CommandReads.{asking}
+use Rattle.jdwp_debuggee.specs.Askings.{asking}
 use Rattle.jdwp_debuggee.proofs.Read.{asks_nothing}
 use Rattle.jdwp_debuggee.proofs.reading.bare.Goals as goal
 

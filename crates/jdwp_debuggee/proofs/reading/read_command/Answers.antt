@@ -1,7 +1,7 @@
 use Rattle.std.proofs.Common.{◌≡◌, Some, Err, ap, rules}
 use Rattle.jdwp_layout.specs.Reads.{data_at}
 use Rattle.jdwp_layout.specs.Shapes.{shape}
-use Rattle.jdwp_debuggee.specs.CommandReads.{asking}
+use Rattle.jdwp_debuggee.specs.Askings.{asking}
 use Rattle.jdwp_debuggee.specs.ReadParts.{implemented_request}
 use Rattle.jdwp_debuggee.proofs.Read.{asks_content, asks_refused}
 use Rattle.jdwp_debuggee.proofs.Wanting.{if-err, read-encoded, read-whole}

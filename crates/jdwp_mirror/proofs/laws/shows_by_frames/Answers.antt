@@ -2,7 +2,7 @@ use Rattle.std.proofs.Common.{◌≡◌, ℕ, ◌+◌, true, false, cond, eqb, L
 use Rattle.std.proofs.lemmas.Bool.{eq-eqb, ne_eqb}
 use Rattle.jdwp_layout.specs.CommandNumbers.{SET_SLOTS, is_command}
 use Rattle.jdwp_layout.specs.Meanings.{DatumMeaning, Object, Frame, One, Many}
-use Rattle.jdwp_debuggee.specs.Actions.{Command, Action, AskFrames, Carried, Content, action_of, slots_of, thread_of}
+use Rattle.jdwp_action.specs.Actions.{Command, Action, AskFrames, Carried, Content, action_of, slots_of, thread_of}
 use Rattle.jdwp_mirror.specs.Mirror.{is_thread, learned_data, shows_data}
 use Rattle.jdwp_mirror.specs.Laws.{of_thread}
 use Rattle.jdwp_mirror.proofs.laws.shows_by_frames.Goals as goal

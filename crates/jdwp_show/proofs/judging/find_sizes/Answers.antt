@@ -3,7 +3,7 @@ use Rattle.std.specs.Option.{option_flatten}
 use Rattle.jdwp_wire.specs.Widths.{Widths}
 use Rattle.jdwp_show.specs.Items.{Item}
 use Rattle.jdwp_show.specs.Rules.{order_fault}
-use Rattle.jdwp_show.specs.Sessions.{widths_answer, told}
+use Rattle.jdwp_show.specs.Sessions.{widths_answer, told_widths}
 use Rattle.jdwp_show.specs.Streams.{thing}
 use Rattle.jdwp_show.specs.Walks.{rest_of}
 use Rattle.jdwp_show.proofs.JudgingLemmas.{ended, not_ended, sizes_none, sizes_some, unanswered_begin, unanswered_more, answered, unanswered_end}
@@ -29,8 +29,8 @@ returns-then-is_some-2 c =
     let item = c.in-Some.item in
     let h = c.loop-item.invariant.unanswered in
     let holds : is_some (order_fault p.begun c.in_ok-waits.waits item.sender (thing item.found)) ≡ false = cc in
-    let some : is_some (told c.in_ok-waits.waits item.sender (thing item.found)) ≡ true = cc in
-    let answer = sizes_some (told c.in_ok-waits.waits item.sender (thing item.found)) _ some (not_ended p h.before item c.in_ok-waits.waits h.kept c.in_ok-waits.ensures.waits holds) in
+    let some : is_some (told_widths c.in_ok-waits.waits item.sender (thing item.found)) ≡ true = cc in
+    let answer = sizes_some (told_widths c.in_ok-waits.waits item.sender (thing item.found)) _ some (not_ended p h.before item c.in_ok-waits.waits h.kept c.in_ok-waits.ensures.waits holds) in
     c.told-sizes.ensures ∙ sym (ap (λ (x : Option (Option Widths)). option_flatten x) (answered widths_answer p _ _ _ item _ h c.in-Some.ensures.gives answer))
 
 pub loop-item-preserved : goal.loop-item-preserved
@@ -39,7 +39,7 @@ loop-item-preserved c =
     let item = c.in-Some.item in
     let h = c.loop-item.invariant.unanswered in
     let holds : is_some (order_fault p.begun c.in_ok-waits.waits item.sender (thing item.found)) ≡ false = cc in
-    let none : is_some (told c.in_ok-waits.waits item.sender (thing item.found)) ≡ false = cc in
+    let none : is_some (told_widths c.in_ok-waits.waits item.sender (thing item.found)) ≡ false = cc in
     let unasked = not_ended p h.before item c.in_ok-waits.waits h.kept c.in_ok-waits.ensures.waits holds ∙ sizes_none _ none in
     record {
       under_way = c.in-Some.ensures.same.under_way c.loop-item.invariant.under_way;

@@ -1,4 +1,4 @@
-use Rattle.jdwp_debuggee.specs.CommandReads.{action_meaning}
+use Rattle.jdwp_debuggee.specs.Askings.{action_meaning}
 use Rattle.jdwp_target.specs.declared.turning.Done.{Done}
 use Rattle.jdwp_target.proofs.AnswersEncoded.{carried-encoded, refused-encoded}
 use Rattle.jdwp_target.proofs.RightTurns.{closes-by, done-carried, done-refused}

@@ -15,7 +15,7 @@ returns-then-done-2-clause-end g c =
       | then-done w ↦ w.end-is ∙ put-death c.args.end.now c.enqueue_reply.new.end w.enqueue_death.new.end c.args.sizes.now c.args.id c.args.debuggee.now.moment.state.next_packet w.take_packet_id.result c.args.done.now.sent c.args.done.now.dies w.if-done.true c.enqueue_reply.ensures w.enqueue_death.ensures w.take_packet_id.ensures.id
       | else-done w ↦ w.end-is ∙ put-alone c.args.end.now c.enqueue_reply.new.end c.args.sizes.now c.args.id c.args.debuggee.now.moment.state.next_packet c.args.done.now.sent c.args.done.now.dies w.if-done.false c.enqueue_reply.ensures
     ] in
-    rw c.if-done-2.true (c.close.ensures ∙ ap ends.closed put)
+    rw c.if-done-2.true (c.close.ensures ∙ ap ends.closed_end put)
 
 pub returns-else-done-2-clause-end : goal.returns-else-done-2-clause-end
 returns-else-done-2-clause-end g c =

@@ -6,7 +6,8 @@ use Rattle.jdwp_layout.specs.Meanings.{DatumMeaning, Object, Many}
 use Rattle.jdwp_debuggee.specs.Answers.{all_threads, bounded, rising}
 use Rattle.jdwp_wire.specs.ErrorCodes.{INTERNAL}
 use Rattle.jdwp_debuggee.specs.Debuggees.{Debuggee}
-use Rattle.jdwp_debuggee.specs.Sending.{EncodesAnswer, IsSent}
+use Rattle.jdwp_action.specs.AnswerPackets.{EncodesAnswer}
+use Rattle.jdwp_debuggee.specs.Sending.{IsSent}
 use Rattle.jdwp_debuggee.specs.State.{Thread, ids}
 use Rattle.jdwp_debuggee.specs.declared.reply.Reply.TheVariants as reply
 use Rattle.jdwp_debuggee.specs.declared.reply.Sent.TheVariants as sent

@@ -1,6 +1,6 @@
 use Rattle.std.proofs.Common.{ap, refl, rules, None}
-use Rattle.jdwp_debuggee.specs.Actions as action
-use Rattle.jdwp_debuggee.specs.CommandReads.{Asking}
+use Rattle.jdwp_action.specs.Actions as action
+use Rattle.jdwp_debuggee.specs.Askings.{Asking}
 use Rattle.jdwp_debuggee.specs.Debuggees.{CarriesOut}
 use Rattle.jdwp_debuggee.specs.Replies.{reply_meaning}
 use Rattle.jdwp_debuggee.proofs.Encoded.{threads-told}

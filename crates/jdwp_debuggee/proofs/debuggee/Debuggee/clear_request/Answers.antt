@@ -1,5 +1,5 @@
 use Rattle.std.proofs.Common.{refl, rules}
-use Rattle.jdwp_debuggee.specs.Actions as action
+use Rattle.jdwp_action.specs.Actions as action
 use Rattle.jdwp_debuggee.proofs.Commands.{does_all}
 use Rattle.jdwp_debuggee.proofs.Kept.{any, kept-threads}
 use Rattle.jdwp_debuggee.proofs.Small.{few-filtered}

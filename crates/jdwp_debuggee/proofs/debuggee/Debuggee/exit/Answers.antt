@@ -9,4 +9,4 @@ invariant_of-self g c =
     let m = g.M.Machine.meaning in
     let live : numbers c.in_ok-live.live.items ≡ m.live c.self.inside.machine = search rules in
     let machine : c.end_all.new.machine ≡ all_ended m c.self.inside.machine (m.live c.self.inside.machine) = c.end_all.ensures ∙ ap (λ l. all_ended m c.self.inside.machine l) (ap numbers c.as_slice.ensures.value ∙ live) in
-    rw (c.clear.ensures, c.clear-2.ensures, machine) (kept-dead m g.met.M.Machine.lawful _ c.self.invariant)
+    rw (c.clear.ensures.list, c.clear-2.ensures, machine) (kept-dead m g.met.M.Machine.lawful _ c.self.invariant)

@@ -1,5 +1,5 @@
 use Rattle.std.proofs.Common.{rules}
-use Rattle.jdwp_debuggee.proofs.Greatest.{limit-of}
+use Rattle.jdwp_debuggee.proofs.CountLimits.{limit-of}
 use Rattle.jdwp_debuggee.proofs.debuggee.Debuggee.is_ready.Goals as goal
 
 pub stands_at-requires : goal.stands_at-requires

@@ -1,8 +1,9 @@
 use Rattle.std.proofs.Common.{◌≡◌, false, subst}
-use Rattle.jdwp_debuggee.specs.Actions.{Command, action_of}
+use Rattle.jdwp_action.specs.Actions.{Command, action_of}
 use Rattle.jdwp_debuggee.specs.Debuggees.{Debuggee}
 use Rattle.jdwp_debuggee.specs.Effects.{carried}
-use Rattle.jdwp_debuggee.specs.Sending.{EncodesAnswer, is_question}
+use Rattle.jdwp_action.specs.AnswerPackets.{EncodesAnswer}
+use Rattle.jdwp_debuggee.specs.Sending.{is_question}
 use Rattle.jdwp_debuggee.proofs.Encoded.{own-encoded}
 use Rattle.jdwp_debuggee.proofs.debuggee.Debuggee.own_answers.Goals as goal
 

@@ -1,6 +1,6 @@
 use Rattle.std.proofs.Common.{rules, ◌≡◌, ◌∙◌, sym, None}
 use Rattle.jdwp_debuggee.proofs.Kept.{most-of}
-use Rattle.jdwp_debuggee.proofs.KeptSteps.{kept-death, kept-silent}
+use Rattle.jdwp_debuggee.proofs.KeptSteps.{kept-death, kept-silent, steps-death}
 use Rattle.jdwp_debuggee.proofs.debuggee.Debuggee.run_out.Goals as goal
 
 pub suspend_by-requires : goal.suspend_by-requires
@@ -9,8 +9,14 @@ suspend_by-requires g c = most-of g.M.Machine.meaning _ c.self.invariant
 pub invariant_of-self : goal.invariant_of-self
 invariant_of-self g c =
     let sends = rw (← c.self.view_is) at c.requires.sends in
-    rw (c.mark.ensures, c.suspend_by.ensures, c.count_gathered.ensures sends, c.policy.ensures, c.thread.ensures)
+    rw (c.mark.ensures.list, c.suspend_by.ensures.list, c.count_gathered.ensures sends, c.policy.ensures, c.thread.ensures)
     (kept-death g.M.Machine.meaning g.met.M.Machine.lawful _ c.args.thread.0 c.args.happening.now c.in-Some.composite c.self.invariant (rw (← c.self.view_is) at c.requires.may) (rw (← c.self.view_is) at c.requires.unmarked) (rw (← c.self.view_is) at c.requires.next) c.requires.runs_out (sym c.in-Some.is ∙ sends))
+
+pub returns-in-Some : goal.returns-in-Some
+returns-in-Some g c =
+    let sends = rw (← c.self.view_is) at c.requires.sends in
+    rw (← c.self.view_is, c.mark.ensures.visits, c.suspend_by.ensures.visits, c.mark.ensures.list, c.suspend_by.ensures.list, c.count_gathered.ensures sends, c.policy.ensures, c.thread.ensures)
+    (steps-death g.M.Machine.meaning _ c.args.thread.0 c.args.happening.now c.in-Some.composite (rw (← c.self.view_is) at c.requires.may) (rw (← c.self.view_is) at c.requires.unmarked) (rw (← c.self.view_is) at c.requires.next) c.requires.runs_out (sym c.in-Some.is ∙ sends))
 
 pub invariant_of-self-2 : goal.invariant_of-self-2
 invariant_of-self-2 g c =

@@ -1,5 +1,5 @@
 use Rattle.std.proofs.Common.{◌≡◌, ◌∙◌, sym, rules, true}
-use Rattle.jdwp_debuggee.proofs.Greatest.{limit-of}
+use Rattle.jdwp_debuggee.proofs.CountLimits.{limit-of}
 use Rattle.jdwp_debuggee.proofs.Kept.{kept-raised, most-of}
 use Rattle.jdwp_debuggee.proofs.debuggee.Debuggee.suspend.Goals as goal
 
@@ -13,4 +13,4 @@ pub invariant_of-self : goal.invariant_of-self
 invariant_of-self g c =
     let shaken : c.self.inside.handshaken ≡ true = search rules in
     let below = rw c.count_limit.ensures.value at (sym c.stands_at.ensures ∙ c.if-stands_at.false) in
-    rw c.raise_all.ensures (kept-raised g.M.Machine.meaning _ c.self.invariant shaken below)
+    rw c.raise_all.ensures.list (kept-raised g.M.Machine.meaning _ c.self.invariant shaken below)

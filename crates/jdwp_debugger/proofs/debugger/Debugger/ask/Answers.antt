@@ -1,4 +1,5 @@
 use Rattle.std.proofs.Common.{◌≡◌, ◌∙◌, ◌+◌, ◌≤◌, ◌++◌, ap, sym, subst, rules, arith, length, true, false, List, [], ◌∷◌, ℕ, None, Some, ◌<◌}
+use Rattle.std.proofs.lemmas.List.{length-append}
 use Rattle.jdwp_end.specs.declared.phase.Phase.TheVariants.{AwaitingHandshake, Established}
 use Rattle.jdwp_end.specs.Ends.{End, with_enqueued}
 use Rattle.jdwp_debugger.specs.Asking.{command_bytes, is_outstanding, refusal_of_ask}
@@ -16,16 +17,16 @@ invariant_of-self-2 c =
     let kept = c.self.invariant in
     let leaves = c.in_ok-packet.ensures.ok in
     let id = c.next_free-id.result in
-    let ps = s.pending.items in
+    let ps = s.pending in
     let p : Asked = record { id = id; ticket = Some (record { 0 = s.tickets + 1 }); command = c.args.command } in
     let end : End = with_enqueued (command_bytes leaves.widths id c.args.command) s.end in
-    let asked : c.enqueue.new.self ≡ end = c.enqueue.ensures ∙ ap (λ (b : List ℕ). with_enqueued b s.end) (c.deref-2.ensures.value ∙ leaves.bytes_are) in
+    let asked : c.enqueue.new.self ≡ end = c.enqueue.ensures ∙ ap (λ (b : List ℕ). with_enqueued b s.end) (c.deref.ensures.value ∙ leaves.bytes_are) in
     let known = ap (λ (d : Debugger). d.sizes) c.self.view_is ∙ leaves.known in
-    let pushed : c.push.new.self.items ≡ ps ++ p ∷ [] = search rules in
+    let pushed : c.push.new.self ≡ ps ++ p ∷ [] = search rules in
     let less : length c.args.self.now.pending < c.args.self.now.end.limits.pending = leaves.few in
     let room : length ps < s.end.limits.pending = subst (λ (d : Debugger). length d.pending < d.end.limits.pending) (sym c.self.view_is) less in
-    let few : length c.push.new.self.items ≤ s.end.limits.pending = search (rules, arith, room) in
-    let free : is_outstanding ps id ≡ false = ap (λ (qs : List Asked). is_outstanding qs id) (sym c.deref.ensures.value) ∙ c.next_free-id.ensures.free in
+    let few : length c.push.new.self ≤ s.end.limits.pending = omega (arith, room, ap (λ (qs : List Asked). length qs) pushed, length-append ps (p ∷ [])) in
+    let free : is_outstanding ps id ≡ false = c.next_free-id.ensures.free in
     let phase : s.end.phase ≡ Established = asked-established (view_of s) c.args.command leaves.widths (subst (λ (d : Debugger). refusal_of_ask d c.args.command ≡ None) (sym c.self.view_is) leaves.unrefused) known kept.begins in
     rw asked
     (record {
@@ -40,6 +41,9 @@ invariant_of-self-2 c =
       unparked = kept.unparked;
       ran = subst (HasRun end) (sym pushed) (ran-asked s.end ps leaves.widths p phase free leaves.encoded kept.ran);
     })
+
+pub push-requires : goal.push-requires
+push-requires c = c.next_free-id.ensures.free
 
 pub returns-clause-ok : goal.returns-clause-ok
 returns-clause-ok c =

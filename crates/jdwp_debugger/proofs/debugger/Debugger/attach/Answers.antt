@@ -1,6 +1,6 @@
 use Rattle.std.proofs.Common.{◌≡◌, ◌≤◌, [], List, rules, refl, arith, length, subst, sym}
 use Rattle.jdwp_wire.specs.Handshake.{handshake_bytes}
-use Rattle.jdwp_end.specs.Ends.{opened, with_enqueued}
+use Rattle.jdwp_end.specs.Ends.{opened_end, with_enqueued}
 use Rattle.jdwp_mirror.specs.Faults.{PARKED_MOST}
 use Rattle.jdwp_debugger.specs.Debuggers.{AreDistinct, AreOwn, Asked, IsSizesAlone}
 use Rattle.jdwp_debugger.specs.Runs.{HasRun}
@@ -11,10 +11,10 @@ use Rattle.jdwp_debugger.proofs.debugger.Debugger.attach.Goals as goal
 pub invariant_of-self : goal.invariant_of-self
 invariant_of-self c =
     let s = c.self.inside in
-    let begun = with_enqueued handshake_bytes (opened s.end) in
+    let begun = with_enqueued handshake_bytes (opened_end s.end) in
     let attached : c.enqueue.new.self ≡ begun = search rules in
-    let none = sym c.clear-3.ensures.items in
-    let few : length c.clear-3.new.self.items ≤ s.end.limits.pending = search (rules, arith) in
+    let none = sym c.clear-3.ensures in
+    let few : length c.clear-3.new.self ≤ s.end.limits.pending = search (rules, arith) in
     let few_parked : length c.clear-2.new.self.items ≤ PARKED_MOST = search (rules, arith) in
     rw attached
     (record {
@@ -23,7 +23,7 @@ invariant_of-self c =
       few_parked = few_parked;
       distinct = subst AreDistinct none distinct-none;
       own = subst AreOwn none tt;
-      begins = λ e. (c.clear-3.ensures.items, c.clear-2.ensures.items, refl);
+      begins = λ e. (c.clear-3.ensures, c.clear-2.ensures.items, refl);
       alone = λ opened unknown. subst IsSizesAlone none tt;
       unlearned = λ unknown. c.clear.ensures;
       unparked = λ w known. absurd cc;

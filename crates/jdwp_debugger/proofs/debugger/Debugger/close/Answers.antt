@@ -19,7 +19,7 @@ invariant_of-self c =
       alone = λ opened none. absurd cc;
       unlearned = λ none. c.clear.ensures;
       unparked = λ w known. absurd cc;
-      ran = ran-closed s.end s.pending.items s.pending.items kept.ran;
+      ran = ran-closed s.end s.pending s.pending kept.ran;
     })
 
 pub returns : goal.returns

@@ -13,11 +13,18 @@ use Rattle.jdwp_debugger.proofs.Keeping.{distinct-more, own-more}
 use Rattle.jdwp_debugger.proofs.TurningLemmas.{handshake-phase}
 use Rattle.jdwp_debugger.proofs.debugger.Debugger.greet.Goals as goal
 
+pub push-requires : goal.push-requires
+push-requires c =
+    let s = c.self.inside in
+    let front : front_of s.end ≡ Whole Handshake 14 = ap (λ (d : Debugger). front_of d.end) c.self.view_is ∙ c.requires.front in
+    let begins = c.self.invariant.begins (handshake-phase s.end 14 front) in
+    ap (λ (qs : List Asked). is_outstanding qs s.next_id) begins.0
+
 pub invariant_of-self-2 : goal.invariant_of-self-2
 invariant_of-self-2 c =
     let s = c.self.inside in
     let kept = c.self.invariant in
-    let ps = s.pending.items in
+    let ps = s.pending in
     let p : Asked = record { id = s.next_id; ticket = None; command = id_sizes } in
     let front : front_of s.end ≡ Whole Handshake 14 = ap (λ (d : Debugger). front_of d.end) c.self.view_is ∙ c.requires.front in
     let bytes : IsBytes s.end.incoming = subst (λ (d : Debugger). IsBytes d.end.incoming) (sym c.self.view_is) c.requires.bytes in
@@ -25,11 +32,11 @@ invariant_of-self-2 c =
     let taken : c.take_off.new.self ≡ with_handled Handshake 14 s.end = c.take_off.ensures Handshake front in
     let end : End = with_enqueued (header_bytes (sizes_header s.next_id)) (with_handled Handshake 14 s.end) in
     let asked : c.enqueue.new.self ≡ end = search rules in
-    let pushed : c.push.new.self.items ≡ ps ++ p ∷ [] = search rules in
-    let few : length c.push.new.self.items ≤ s.end.limits.pending =
+    let pushed : c.push.new.self ≡ ps ++ p ∷ [] = search rules in
+    let few : length c.push.new.self ≤ s.end.limits.pending =
     subst (λ (qs : List Asked). length qs ≤ s.end.limits.pending) (sym (pushed ∙ ap (λ (qs : List Asked). qs ++ p ∷ []) begins.0)) (kept.limits.pending_is.0) in
     let free : is_outstanding ps p.id ≡ false = ap (λ (qs : List Asked). is_outstanding qs p.id) begins.0 in
-    let alone : IsSizesAlone c.push.new.self.items = subst IsSizesAlone (sym (pushed ∙ ap (λ (qs : List Asked). qs ++ p ∷ []) begins.0)) (refl, refl) in
+    let alone : IsSizesAlone c.push.new.self = subst IsSizesAlone (sym (pushed ∙ ap (λ (qs : List Asked). qs ++ p ∷ []) begins.0)) (refl, refl) in
     rw asked
     (record {
       limits = kept.limits;

@@ -1,18 +1,17 @@
 use Rattle.std.proofs.Common.{◌≡◌, ◌∙◌, ℕ, List, Option, Ok, Err, Result, ap, subst, sym}
 use Rattle.jdwp_wire.specs.Frames as frames
-use Rattle.jdwp_wire.specs.Frames.{front}
-use Rattle.jdwp_wire.specs.Limits.{Limits}
+use Rattle.jdwp_wire.specs.Bytes.{IsBytes}
 use Rattle.jdwp_wire.specs.Streams.{Packet, Whole}
 use Rattle.jdwp_wire.specs.Widths.{Widths}
 use Rattle.jdwp_wire.specs.declared.packet.Header.{Header}
-use Rattle.jdwp_end.specs.Ends.{front_of}
+use Rattle.jdwp_end.specs.Ends.{End, front_of}
 use Rattle.jdwp_debugger.specs.declared.debugger.Debugger.TheInside.{Inside}
 use Rattle.jdwp_debugger.specs.declared.faults.DebuggerFault.{DebuggerFault}
 use Rattle.jdwp_debugger.specs.declared.reading.News as declared
 use Rattle.jdwp_debugger.specs.declared.turning.Read.{Read}
 use Rattle.jdwp_debugger.specs.Debuggers.{Asked, Debugger, Parked}
 use Rattle.jdwp_debugger.specs.DebuggersKept.{view_of}
-use Rattle.jdwp_debugger.specs.DebuggerTurns.{EntersAt, FailsTo, HandlesAt, IsSaid, IsWhole, ReadsFront, news_meaning, reading_of}
+use Rattle.jdwp_debugger.specs.DebuggerTurns.{EntersAt, FailsTo, HandlesAt, IsSaid, ReadsFront, news_meaning, reading_of}
 use Rattle.jdwp_debugger.specs.News.{News, Reading, says}
 use Rattle.jdwp_debugger.proofs.TurningLemmas.{fails, handles}
 use Rattle.jdwp_debugger.proofs.debugger.Debugger.handle_packet.Goals as goal
@@ -21,18 +20,12 @@ abbrev known : Option Widths → List Parked → List Asked → Reading
 known sizes parked pending = record { sizes = sizes; parked = parked; pending = pending }
 
 -- what packets are read by is what the debugger has
-read-by : (s : Inside) (d : Debugger) (parked : List Parked) (pending : List Asked) → parked ≡ s.parked.items → pending ≡ s.pending.items → view_of s ≡ d
-    → known s.sizes parked pending ≡ reading_of d
-read-by s d parked pending waits asked is =
-    ap (λ (ps : List Parked). known s.sizes ps pending) waits
-    ∙ ap (λ (ps : List Asked). known s.sizes s.parked.items ps) asked
-    ∙ ap reading_of is
+read-by : (s : Inside) (d : Debugger) (parked : List Parked) → parked ≡ s.parked.items → view_of s ≡ d → known s.sizes parked s.pending ≡ reading_of d
+read-by s d parked waits is = ap (λ (ps : List Parked). known s.sizes ps s.pending) waits ∙ ap reading_of is
 
--- what was read of the bytes of the packet in front
-read-so : (r : Reading) (d : Debugger) (limit most : ℕ) (bytes : List ℕ) (header : Header) (body : List ℕ) (used : ℕ) (result : Result (Header × declared.News) DebuggerFault) → r ≡ reading_of d → most ≡ limit
-    → front limit bytes ≡ frames.Whole header body used → ReadsFront r (front most bytes) result → ReadsFront (reading_of d) (frames.Whole header body used) result
-read-so r d limit most bytes header body used result is same found read =
-    subst (λ (x : Reading). ReadsFront x (frames.Whole header body used) result) is (subst (λ (f : frames.Front). ReadsFront r f result) (ap (λ (n : ℕ). front n bytes) same ∙ found) read)
+-- a debugger whose end was read is as it was
+as-it-was : (s : Inside) (d : Debugger) (end : End) → end ≡ s.end → view_of s ≡ d → record (view_of s) { end = end } ≡ d
+as-it-was s d end same is = ap (λ (e : End). record (view_of s) { end = e }) same ∙ is
 
 -- what was read is what is said of the packet in front
 said-so : (d : Debugger) (header : Header) (body : List ℕ) (used : ℕ) (read : Header × declared.News) → front_of d.end ≡ Whole (Packet header body) used
@@ -56,18 +49,8 @@ failed-so : (old new : Debugger) (header : Header) (body : List ℕ) (used : ℕ
 failed-so old new header body used fault result (said, memory) is left =
     subst (λ (r : Result Read DebuggerFault). HandlesAt (Packet header body) used old r new) (sym is) (fails header body old new fault said memory left)
 
-pub packet_in_front-requires : goal.packet_in_front-requires
-packet_in_front-requires c = (c.requires.front.0, c.requires.front.1, ap (λ (d : Debugger). front_of d.end) c.self.view_is ∙ c.requires.front.2)
-
 pub read_front-requires : goal.read_front-requires
-read_front-requires c =
-    let header = c.requires.front.0 in
-    let body = c.requires.front.1 in
-    let used = c.args.used in
-    let here : front_of c.self.inside.end ≡ Whole (Packet header body) used = ap (λ (d : Debugger). front_of d.end) c.self.view_is ∙ c.requires.front.2 in
-    let found = c.packet_in_front.ensures.packet header body here in
-    let bytes = c.packet_in_front.result.now in
-    subst IsWhole (sym (ap (λ (l : Limits). front l.packet bytes) c.limits-limits.ensures ∙ found)) tt
+read_front-requires c = (c.requires.front.0, c.requires.front.1, ap (λ (d : Debugger). front_of d.end) c.self.view_is ∙ c.requires.front.2)
 
 pub enter-requires-clause-said : goal.enter-requires-clause-said
 enter-requires-clause-said c =
@@ -76,29 +59,34 @@ enter-requires-clause-said c =
     let body = c.requires.front.1 in
     let used = c.args.used in
     let here : front_of c.self.inside.end ≡ Whole (Packet header body) used = ap (λ (d : Debugger). front_of d.end) c.self.view_is ∙ c.requires.front.2 in
-    let is = read-by c.self.inside old c.deref.result.now c.deref-2.result.now c.deref.ensures.value c.deref-2.ensures.value c.self.view_is in
-    let found = c.packet_in_front.ensures.packet header body here in
-    said-so old header body used c.in-Ok.read c.requires.front.2
-    (read-so _ old c.self.inside.end.limits.packet c.limits-limits.result.packet c.packet_in_front.result.now header body used (Ok c.in-Ok.read) is (ap (λ (l : Limits). l.packet) c.limits-limits.ensures) found c.in-Ok.ensures)
+    let is = read-by c.self.inside old c.deref.result.now c.deref.ensures.value c.self.view_is in
+    let now = as-it-was c.self.inside old c.read_front.new.end c.read_front.ensures.same c.self.view_is in
+    let read = subst (λ (r : Reading). ReadsFront r (frames.Whole header body used) (Ok c.in-Ok.read)) is (c.in-Ok.ensures.read header body here) in
+    subst (λ (d : Debugger). IsSaid d c.in-Ok.read.0 used (news_meaning c.in-Ok.read.1)) (sym now) (said-so old header body used c.in-Ok.read c.requires.front.2 read)
+
+pub enter-requires-clause-bytes : goal.enter-requires-clause-bytes
+enter-requires-clause-bytes c =
+    let now = as-it-was c.self.inside c.args.self.now c.read_front.new.end c.read_front.ensures.same c.self.view_is in
+    subst (λ (d : Debugger). IsBytes d.end.incoming) (sym now) c.requires.bytes
 
 pub returns-in-Ok : goal.returns-in-Ok
 returns-in-Ok c = λ header body e.
     let old = c.args.self.now in
     let used = c.args.used in
     let here : front_of c.self.inside.end ≡ Whole (Packet header body) used = ap (λ (d : Debugger). front_of d.end) c.self.view_is ∙ e in
-    let is = read-by c.self.inside old c.deref.result.now c.deref-2.result.now c.deref.ensures.value c.deref-2.ensures.value c.self.view_is in
-    let found = c.packet_in_front.ensures.packet header body here in
-    let read =
-    read-so _ old c.self.inside.end.limits.packet c.limits-limits.result.packet c.packet_in_front.result.now header body used (Ok c.in-Ok.read) is (ap (λ (l : Limits). l.packet) c.limits-limits.ensures) found c.in-Ok.ensures in
-    entered-so old c.enter.new.self header body used c.in-Ok.read c.enter.result e read c.enter.ensures
+    let is = read-by c.self.inside old c.deref.result.now c.deref.ensures.value c.self.view_is in
+    let now = as-it-was c.self.inside old c.read_front.new.end c.read_front.ensures.same c.self.view_is in
+    let read = subst (λ (r : Reading). ReadsFront r (frames.Whole header body used) (Ok c.in-Ok.read)) is (c.in-Ok.ensures.read header body here) in
+    entered-so old c.enter.new.self header body used c.in-Ok.read c.enter.result e read
+    (subst (λ (d : Debugger). (content : List ℕ) → front_of d.end ≡ Whole (Packet c.in-Ok.read.0 content) used → EntersAt c.in-Ok.read.0 content used (news_meaning c.in-Ok.read.1) d c.enter.result c.enter.new.self) now c.enter.ensures)
 
 pub returns-in-Err : goal.returns-in-Err
 returns-in-Err c = λ header body e.
     let old = c.args.self.now in
     let used = c.args.used in
     let here : front_of c.self.inside.end ≡ Whole (Packet header body) used = ap (λ (d : Debugger). front_of d.end) c.self.view_is ∙ e in
-    let is = read-by c.self.inside old c.deref.result.now c.deref-2.result.now c.deref.ensures.value c.deref-2.ensures.value c.self.view_is in
-    let found = c.packet_in_front.ensures.packet header body here in
-    let read =
-    read-so _ old c.self.inside.end.limits.packet c.limits-limits.result.packet c.packet_in_front.result.now header body used (Err c.in-Err.fault) is (ap (λ (l : Limits). l.packet) c.limits-limits.ensures) found c.in-Err.ensures in
-    failed-so old c.fail.new.self header body used c.in-Err.fault c.fail.result read c.fail.ensures.fault c.fail.ensures.left
+    let is = read-by c.self.inside old c.deref.result.now c.deref.ensures.value c.self.view_is in
+    let now = as-it-was c.self.inside old c.read_front.new.end c.read_front.ensures.same c.self.view_is in
+    let read = subst (λ (r : Reading). ReadsFront r (frames.Whole header body used) (Err c.in-Err.fault)) is (c.in-Err.ensures.read header body here) in
+    failed-so old c.fail.new.self header body used c.in-Err.fault c.fail.result read c.fail.ensures.fault
+    (subst (λ (d : Debugger). FailsTo c.in-Err.fault d c.fail.new.self) now c.fail.ensures.left)

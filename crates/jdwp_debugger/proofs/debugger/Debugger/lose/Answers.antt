@@ -10,20 +10,20 @@ pub invariant_of-self : goal.invariant_of-self
 invariant_of-self c =
     let s = c.self.inside in
     let kept = c.self.invariant in
-    let few : length c.clear-3.new.self.items ≤ s.end.limits.pending = search (rules, arith) in
+    let few : length c.clear-3.new.self ≤ s.end.limits.pending = search (rules, arith) in
     let few_parked : length c.clear-2.new.self.items ≤ PARKED_MOST = search (rules, arith) in
     rw c.lose.ensures
     (record {
       limits = kept.limits;
       few = few;
       few_parked = few_parked;
-      distinct = subst AreDistinct (sym c.clear-3.ensures.items) distinct-none;
-      own = subst AreOwn (sym c.clear-3.ensures.items) tt;
+      distinct = subst AreDistinct (sym c.clear-3.ensures) distinct-none;
+      own = subst AreOwn (sym c.clear-3.ensures) tt;
       begins = λ e. absurd cc;
       alone = λ opened none. absurd cc;
       unlearned = λ none. c.clear.ensures;
       unparked = λ w known. absurd cc;
-      ran = ran-lost s.end s.pending.items c.clear-3.new.self.items kept.ran;
+      ran = ran-lost s.end s.pending c.clear-3.new.self kept.ran;
     })
 
 pub returns-clause-tickets : goal.returns-clause-tickets
@@ -32,7 +32,7 @@ returns-clause-tickets c = search rules
 pub returns-clause-few : goal.returns-clause-few
 returns-clause-few c =
     let s = c.self.inside in
-    let ps = s.pending.items in
-    let all : length c.of-lost.result ≡ length (tickets_of ps) = ap (λ (ks : List Ticket). length ks) (c.of-lost.ensures ∙ ap tickets_of c.deref.ensures.value) in
+    let ps = s.pending in
+    let all : length c.of-lost.result ≡ length (tickets_of ps) = ap (λ (ks : List Ticket). length ks) c.of-lost.ensures in
     let most = ap (λ (d : Debugger). d.end.limits.pending) c.self.view_is in
     omega (arith, all, most, few-tickets ps, c.self.invariant.few)

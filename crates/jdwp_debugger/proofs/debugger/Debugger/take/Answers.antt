@@ -18,5 +18,5 @@ invariant_of-self c =
       alone = kept.alone;
       unlearned = kept.unlearned;
       unparked = kept.unparked;
-      ran = ran-taken s.end s.pending.items c.take.result le kept.ran;
+      ran = ran-taken s.end s.pending c.take.result le kept.ran;
     })

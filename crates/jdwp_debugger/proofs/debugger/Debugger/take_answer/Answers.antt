@@ -1,10 +1,9 @@
-use Rattle.std.proofs.Common.{◌≡◌, ◌∙◌, ◌<◌, ◌≤◌, List, ap, sym, subst, refl, Bool, [], ◌∷◌, ◌++◌, length, get_or, Some, rules, arith}
+use Rattle.std.proofs.Common.{◌≡◌, ◌∙◌, ◌<◌, ◌≤◌, List, ap, sym, subst, refl, Bool, [], ◌∷◌, ◌++◌, length, Some, rules, arith}
 use Rattle.std.specs.Prelude.{remove}
-use Rattle.std.proofs.lemmas.Option.{slice_get_read}
 use Rattle.jdwp_wire.specs.Bytes.{IsBytes}
 use Rattle.jdwp_wire.specs.Streams.{Packet}
 use Rattle.jdwp_end.specs.Ends.{End, front_of, with_handled}
-use Rattle.jdwp_debuggee.specs.Actions.{Command}
+use Rattle.jdwp_action.specs.Actions.{Command}
 use Rattle.jdwp_debugger.specs.declared.heads.Head.{Head}
 use Rattle.jdwp_debugger.specs.declared.heads.Head.TheVariants as head
 use Rattle.jdwp_debugger.specs.Debuggers.{AreDistinct, AreOwn, Asked, Debugger}
@@ -19,18 +18,18 @@ use Rattle.jdwp_debugger.proofs.Keeping.{distinct-left, few-left, own-left}
 use Rattle.jdwp_debugger.proofs.SaidPackets.{answers-within, known-before, said-open, said-ran}
 use Rattle.jdwp_debugger.proofs.debugger.Debugger.take_answer.Goals as goal
 
-pub index-requires : goal.index-requires
-index-requires c =
+pub at-requires : goal.at-requires
+at-requires c =
     let s = c.self.inside in
     let said = subst (λ (d : Debugger). IsSaid d c.args.packet.0 c.args.packet.1 (Answers c.args.place c.args.ticket.0 c.args.answer)) (sym c.self.view_is) c.requires.said in
-    let within : c.args.place < length s.pending.items = answers-within (view_of s) c.args.packet.0 c.args.packet.1 c.args.place c.args.ticket.0 c.args.answer said in
+    let within : c.args.place < length s.pending = answers-within (view_of s) c.args.packet.0 c.args.packet.1 c.args.place c.args.ticket.0 c.args.answer said in
     omega (arith, within)
 
 pub remove-requires : goal.remove-requires
 remove-requires c =
     let s = c.self.inside in
     let said = subst (λ (d : Debugger). IsSaid d c.args.packet.0 c.args.packet.1 (Answers c.args.place c.args.ticket.0 c.args.answer)) (sym c.self.view_is) c.requires.said in
-    let within : c.args.place < length s.pending.items = answers-within (view_of s) c.args.packet.0 c.args.packet.1 c.args.place c.args.ticket.0 c.args.answer said in
+    let within : c.args.place < length s.pending = answers-within (view_of s) c.args.packet.0 c.args.packet.1 c.args.place c.args.ticket.0 c.args.answer said in
     omega (arith, within)
 
 pub take_off-requires : goal.take_off-requires
@@ -45,13 +44,13 @@ invariant_of-self-2 c =
     let place = c.args.place in
     let ticket = c.args.ticket.0 in
     let answer = c.args.answer in
-    let ps = s.pending.items in
+    let ps = s.pending in
     let news = Answers place ticket answer in
     let said : IsSaid (view_of s) header used news = subst (λ (d : Debugger). IsSaid d header used news) (sym c.self.view_is) c.requires.said in
     let bytes : IsBytes s.end.incoming = subst (λ (d : Debugger). IsBytes d.end.incoming) (sym c.self.view_is) c.requires.bytes in
     let end : End = with_handled (Packet header said.body) used s.end in
     let read : c.take_off.new.self ≡ end = c.take_off.ensures (Packet header said.body) said.front in
-    let left : c.remove.new.self.items ≡ remove ps place = c.remove.ensures.items in
+    let left : c.remove.new.self ≡ remove ps place = c.remove.ensures in
     let within : place < length ps = answers-within (view_of s) header used place ticket answer said in
     let opened = said-open (view_of s) header used news bytes said in
     rw read
@@ -72,16 +71,13 @@ pub returns : goal.returns
 returns c = λ content front.
     let k = Some c.args.ticket.0 in
     let m = c.learn_reply.new.self in
-    let x = c.index.result.now in
+    let command = c.at.result.1.now.command in
     let ps = c.args.self.now.pending in
     let place = c.args.place in
-    let within : place < length ps = answers-within c.args.self.now c.args.packet.0 c.args.packet.1 place c.args.ticket.0 c.args.answer c.requires.said in
-    let at : x ≡ get_or ps place x = c.index.ensures ∙ ap (λ (d : Debugger). get_or d.pending place x) c.self.view_is in
-    let command : command_at place ps ≡ x.command = ap command_of (slice_get_read ps (length ps) place x refl within at) in
-    let seen : c.behind-self.inside.command ≡ command_at place ps = ap (λ (a : Asked). a.command) c.behind-self.view_is ∙ sym command in
+    let seen : command ≡ command_at place ps = sym (ap command_of c.at.ensures) ∙ ap (λ (d : Debugger). command_at place d.pending) c.self.view_is in
     let learned =
     subst (λ (q : Command). Learned c.args.self.now.mirror (Reply k q c.args.answer) m) seen
-    (subst (λ (d : Debugger). Learned d.mirror (Reply k c.behind-self.inside.command c.args.answer) m) c.self.view_is (c.in_ok-learn_reply.ensures.ok k)) in
+    (subst (λ (d : Debugger). Learned d.mirror (Reply k command c.args.answer) m) c.self.view_is (c.in_ok-learn_reply.ensures.ok k)) in
     let ending = ends (Reply k (command_at place ps) c.args.answer) in
     let closes : c.closes_session-closes.result ≡ ending = c.closes_session-closes.ensures k ∙ ap (λ (q : Command). ends (Reply k q c.args.answer)) seen in
     let s = c.self.inside in
@@ -91,9 +87,9 @@ returns c = λ content front.
     let end = with_handled (Packet header content) used s.end in
     let last : c.push.new.self ≡ head.Packet header ∷ [] = c.push.ensures ∙ ap (λ (hs : List Head). hs ++ head.Packet header ∷ []) c.clear.ensures in
     let left =
-    ap (λ (e : End). record (view_of s) { end = e; mirror = m; pending = c.remove.new.self.items; last = c.push.new.self }) (c.take_off.ensures (Packet header content) here)
-    ∙ ap (λ (qs : List Asked). record (view_of s) { end = end; mirror = m; pending = qs; last = c.push.new.self }) c.remove.ensures.items
-    ∙ ap (λ (hs : List Head). record (view_of s) { end = end; mirror = m; pending = remove s.pending.items place; last = hs }) last
+    ap (λ (e : End). record (view_of s) { end = e; mirror = m; pending = c.remove.new.self; last = c.push.new.self }) (c.take_off.ensures (Packet header content) here)
+    ∙ ap (λ (qs : List Asked). record (view_of s) { end = end; mirror = m; pending = qs; last = c.push.new.self }) c.remove.ensures
+    ∙ ap (λ (hs : List Head). record (view_of s) { end = end; mirror = m; pending = remove s.pending place; last = hs }) last
     ∙ ap (λ (d : Debugger). record (with_read (Packet header content) used (head.Packet header ∷ []) d) { mirror = m; pending = remove d.pending place }) c.self.view_is in (
       refl,
       (
@@ -101,7 +97,7 @@ returns c = λ content front.
         (
           m,
           learned,
-          c.close_where.ensures ∙ ap (λ (b : Bool). closed_where b (record (view_of s) { end = c.take_off.new.self; mirror = m; pending = c.remove.new.self.items; last = c.push.new.self })) closes ∙ ap (closed_where ending) left,
+          c.close_where.ensures ∙ ap (λ (b : Bool). closed_where b (record (view_of s) { end = c.take_off.new.self; mirror = m; pending = c.remove.new.self; last = c.push.new.self })) closes ∙ ap (closed_where ending) left,
         ),
       ),
     )

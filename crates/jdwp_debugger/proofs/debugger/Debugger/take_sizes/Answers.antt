@@ -22,7 +22,7 @@ remove-requires c =
     let answer = c.requires.said.0 in
     let cs = c.requires.said.1 in
     let said = subst (λ (d : Debugger). IsSaid d c.args.header c.args.used (Measures c.args.place answer c.args.sizes cs)) (sym c.self.view_is) c.requires.said.2 in
-    let within : c.args.place < length s.pending.items = measures-within (view_of s) c.args.header c.args.used c.args.place answer c.args.sizes cs said in
+    let within : c.args.place < length s.pending = measures-within (view_of s) c.args.header c.args.used c.args.place answer c.args.sizes cs said in
     omega (arith, within)
 
 pub invariant_of-self : goal.invariant_of-self
@@ -35,13 +35,13 @@ invariant_of-self c =
     let answer = c.requires.said.0 in
     let cs = c.requires.said.1 in
     let w = c.args.sizes in
-    let ps = s.pending.items in
+    let ps = s.pending in
     let news = Measures place answer w cs in
     let said : IsSaid (view_of s) header used news = subst (λ (d : Debugger). IsSaid d header used news) (sym c.self.view_is) c.requires.said.2 in
     let bytes : IsBytes s.end.incoming = subst (λ (d : Debugger). IsBytes d.end.incoming) (sym c.self.view_is) c.requires.bytes in
     let end : End = with_handled (Packet header said.body) used s.end in
     let read : c.take_off.new.self ≡ end = c.take_off.ensures (Packet header said.body) said.front in
-    let left : c.remove.new.self.items ≡ remove ps place = c.remove.ensures.items in
+    let left : c.remove.new.self ≡ remove ps place = c.remove.ensures in
     let within : place < length ps = measures-within (view_of s) header used place answer w cs said in
     let few_parked : length c.clear-2.new.self.items ≤ PARKED_MOST = search (rules, arith) in
     rw read

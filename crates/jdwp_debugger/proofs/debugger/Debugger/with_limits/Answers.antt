@@ -8,7 +8,7 @@ use Rattle.jdwp_debugger.proofs.debugger.Debugger.with_limits.Goals as goal
 pub invariant_of-result : goal.invariant_of-result
 invariant_of-result c =
     let made : c.in_ok-new.field-0 ≡ new_end c.args.limits = search rules in
-    let none = sym c.new-4.ensures.items in
+    let none = sym c.new-4.ensures in
     rw made
     (record {
       limits = c.are_limits.ensures;

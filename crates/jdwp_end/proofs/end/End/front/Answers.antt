@@ -10,25 +10,13 @@ returns-in-More-clause-room c =
     let low : least_packet_limit ≤ c.args.self.now.limits.packet = search rules in
     more-has-room c.args.self.now low fits
 
-pub returns-in-More-next_packet_within-clause-room :
-    goal.returns-in-More-next_packet_within-clause-room
-returns-in-More-next_packet_within-clause-room c =
+pub returns-in-More-standing_in-clause-room : goal.returns-in-More-standing_in-clause-room
+returns-in-More-standing_in-clause-room c =
     let fits : IsBytes c.args.self.now.incoming = search rules in
     let low : least_packet_limit ≤ c.args.self.now.limits.packet = search rules in
     more-has-room c.args.self.now low fits
 
-pub returns-in-Whole-clause-front : goal.returns-in-Whole-clause-front
-returns-in-Whole-clause-front c = search rules
-
-pub returns-in-Fault-clause-front : goal.returns-in-Fault-clause-front
-returns-in-Fault-clause-front c = search rules
-
-pub returns-in-More-next_packet_within-clause-front : goal.returns-in-More-next_packet_within-clause-front
-returns-in-More-next_packet_within-clause-front c = search rules
-
-pub returns-in-Fault-next_packet_within-clause-front : goal.returns-in-Fault-next_packet_within-clause-front
-returns-in-Fault-next_packet_within-clause-front c = search rules
-
-pub returns-in-Whole-next_packet_within-clause-front : goal.returns-in-Whole-next_packet_within-clause-front
-returns-in-Whole-next_packet_within-clause-front c =
-    (c.in-Whole-next_packet_within.field-0.header, c.in-Whole-next_packet_within.field-0.body.now, search rules)
+pub returns-in-Whole-standing_in-clause-front : goal.returns-in-Whole-standing_in-clause-front
+returns-in-Whole-standing_in-clause-front c =
+    let found = c.in-Whole-standing_in.ensures in
+    (found.0, found.1, search (rules, found.2))

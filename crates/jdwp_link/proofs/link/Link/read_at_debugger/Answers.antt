@@ -2,8 +2,8 @@ use Rattle.std.proofs.Common.{◌++◌, ◌∙◌, ap, refl, subst, sym}
 use Rattle.std.proofs.lemmas.List.{append_assoc}
 use Rattle.jdwp_debugger.specs.DebuggerTurns as turns
 use Rattle.jdwp_link.specs.EventParts.{is_left, lost_where, outcomes_of}
-use Rattle.jdwp_link.specs.Insides.{IsRight, link_of}
-use Rattle.jdwp_link.specs.Told.{told}
+use Rattle.jdwp_link.specs.Insides.{IsRightLink, link_of}
+use Rattle.jdwp_link.specs.Told.{told_outcomes}
 use Rattle.jdwp_link.proofs.Keeping.{small-limits}
 use Rattle.jdwp_link.proofs.Settling.{read-fails}
 use Rattle.jdwp_link.proofs.Tells.{read-done, read-fits, room-to-keep}
@@ -29,14 +29,14 @@ invariant_of-self-in-Err g c =
     let m = g.M.Machine.meaning in
     let l = link_of s.target s.debugger s.to_target.bytes s.to_debugger.bytes s.did in
     let fails = read-fails m c.laws.ensures.worlds l c.in-Err.fault c.turn.new.self c.laws.ensures (small-limits m l c.self.invariant.is_link c.keeps.ensures.debugger) c.keeps.ensures.debugger c.self.invariant.is_link c.in-Err.ensures.turns in
-    subst (λ d. IsRight m (link_of s.target d s.to_target.bytes s.to_debugger.bytes s.did) s.to_target.capacity s.to_debugger.capacity) (sym fails.1) c.self.invariant
+    subst (λ d. IsRightLink m (link_of s.target d s.to_target.bytes s.to_debugger.bytes s.did) s.to_target.capacity s.to_debugger.capacity) (sym fails.1) c.self.invariant
 
 pub returns-in-Ok-clause-ok : goal.returns-in-Ok-clause-ok
 returns-in-Ok-clause-ok g c =
     let s = c.self.inside in
     let l = link_of s.target s.debugger s.to_target.bytes s.to_debugger.bytes s.did in
     let after = c.turn.new.self in
-    let os = told (outcomes_of (turns.told c.in-Ok.read)) in (
+    let os = told_outcomes (outcomes_of (turns.read_meaning c.in-Ok.read)) in (
       os ++ lost_where (is_left after) after,
       c.settle.ensures.told ∙ (ap (λ l. l ++ lost_where (is_left after) after) c.tell_read-self-inside.ensures.items ∙ append_assoc c.args.outcomes.now.items os (lost_where (is_left after) after)),
       rw (← c.self.view_is)

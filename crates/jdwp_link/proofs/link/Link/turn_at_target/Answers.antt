@@ -1,6 +1,6 @@
 use Rattle.std.proofs.Common.{◌≡◌, ap, subst, sym}
 use Rattle.jdwp_target.specs.declared.target.TargetFault.TheVariants as faults
-use Rattle.jdwp_link.specs.Insides.{IsRight, link_of}
+use Rattle.jdwp_link.specs.Insides.{IsRightLink, link_of}
 use Rattle.jdwp_link.proofs.Done.{turn-done}
 use Rattle.jdwp_link.proofs.Going.{turn-fails}
 use Rattle.jdwp_link.proofs.Keeping.{small-limits}
@@ -20,7 +20,7 @@ invariant_of-self-in-Err-NoMemory g c =
     let m = g.M.Machine.meaning in
     let l = link_of s.target s.debugger s.to_target.bytes s.to_debugger.bytes s.did in
     let fails = turn-fails m c.laws.ensures.worlds l c.in-Err-NoMemory.field-0 c.turn.new.self c.laws.ensures (small-limits m l c.self.invariant.is_link c.keeps.ensures.debugger) c.self.invariant.is_link c.in-Err-NoMemory.ensures.turns in
-    subst (λ t. IsRight m (link_of t s.debugger s.to_target.bytes s.to_debugger.bytes s.did) s.to_target.capacity s.to_debugger.capacity) (sym fails.1) c.self.invariant
+    subst (λ t. IsRightLink m (link_of t s.debugger s.to_target.bytes s.to_debugger.bytes s.did) s.to_target.capacity s.to_debugger.capacity) (sym fails.1) c.self.invariant
 
 pub unreachable-requires : goal.unreachable-requires
 unreachable-requires g c =

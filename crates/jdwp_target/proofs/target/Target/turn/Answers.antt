@@ -1,12 +1,12 @@
 use Rattle.std.proofs.lemmas.Grind.{common_steps}
-use Rattle.std.proofs.Common.{◌≡◌, ◌∙◌, length, rules, refl, arith}
+use Rattle.std.proofs.Common.{◌≡◌, ◌∙◌, length, rules, refl, arith, ap}
 use Rattle.jdwp_wire.specs.Streams.{Handshake, Packet, Whole}
-use Rattle.jdwp_end.specs.Ends.{front_of}
+use Rattle.jdwp_end.specs.Ends.{End, front_of}
 use Rattle.jdwp_target.specs.declared.turning.Came.TheVariants as came
 use Rattle.jdwp_target.specs.Insides.{target_of}
 use Rattle.jdwp_target.specs.TurnParts.{IsRead}
 use Rattle.jdwp_target.proofs.AnswersEncoded.{encodes-command, encodes-ignored, encodes-start, encodes-whole}
-use Rattle.jdwp_target.proofs.RightTurns.{command-came, command-needs, command-room, front-room, greeted, handled-view, packet-handshaken, packet-lent, reply-handled, right-handled, sends-whole, told-command, turns-wanting, turns-whole}
+use Rattle.jdwp_target.proofs.RightTurns.{command-came, command-needs, command-room, front-room, greeted, handled-view, packet-handshaken, reply-handled, right-handled, sends-whole, taken-off, told-command, turns-wanting, turns-whole}
 use Rattle.jdwp_target.proofs.target.Target.turn.Goals as goal
 use Rattle.jdwp_target.proofs.target.Target.turn.Goals.{in-Written-1, in-Short-1}
 
@@ -48,10 +48,9 @@ invariant_of-self-in_default g c =
     let body = c.in-Packet.ensures.front.1 in
     let used = c.in-Packet.used in
     let front : front_of t.end ≡ Whole (Packet header body) used = c.in-Packet.ensures.front.2 in
-    let found = packet-lent t.end c.limits-limits.result c.packet_in_front-bytes.result.now used header body front c.limits-limits.ensures c.packet_in_front-bytes.ensures.packet in
     let shaken = packet-handshaken m t.debuggee t.began.items t.phases.items (length t.steps.items) t.end header body used c.self.invariant c.front.ensures.bytes front in
-    let read : IsRead c.sizes-sizes.result header.id header.kind body came.Reply = rw c.in_default.is at (c.in_ok-came-in-Packet.ensures header body used found) in
-    let h = reply-handled m t.debuggee header body used read.0 t.end _ read.1 shaken (c.take_off-in_default.ensures (Packet header body) front) in
+    let read : IsRead c.sizes-sizes.result header.id header.kind body came.Reply = rw c.in_default.is at (c.in_ok-came-in-Packet.ensures.came header body front) in
+    let h = reply-handled m t.debuggee header body used read.0 t.end _ read.1 shaken (taken-off t.end c.read_front.new.end _ (Packet header body) used c.read_front.ensures.same front c.take_off-in_default.ensures) in
     right-handled m t.debuggee _ t.began.items t.phases.items (length t.steps.items) t.end _ (Packet header body) used c.self.invariant c.front.ensures.bytes front h
 
 pub invariant_of-self-in_ok-done-in-Packet : goal.invariant_of-self-in_ok-done-in-Packet
@@ -62,10 +61,9 @@ invariant_of-self-in_ok-done-in-Packet g c =
     let body = c.in-Packet.ensures.front.1 in
     let used = c.in-Packet.used in
     let front : front_of t.end ≡ Whole (Packet header body) used = c.in-Packet.ensures.front.2 in
-    let found = packet-lent t.end c.limits-limits.result c.packet_in_front-bytes.result.now used header body front c.limits-limits.ensures c.packet_in_front-bytes.ensures.packet in
     let shaken = packet-handshaken m t.debuggee t.began.items t.phases.items (length t.steps.items) t.end header body used c.self.invariant c.front.ensures.bytes front in
-    let read : IsRead c.sizes-sizes.result header.id header.kind body (came.Command c.in-Command.id c.in-Command.asked) = rw c.in-Command.is at (c.in_ok-came-in-Packet.ensures header body used found) in
-    let off = c.take_off-in-Packet.ensures (Packet header body) front in
+    let read : IsRead c.sizes-sizes.result header.id header.kind body (came.Command c.in-Command.id c.in-Command.asked) = rw c.in-Command.is at (c.in_ok-came-in-Packet.ensures.came header body front) in
+    let off = taken-off t.end c.read_front.new.end _ (Packet header body) used c.read_front.ensures.same front c.take_off-in-Packet.ensures in
     let h =
     command-came m t.debuggee c.handle.new.debuggee c.reply.new.debuggee header body used t.end c.take_off-in-Packet.new.self c.reply.new.end c.in_ok-done-in-Packet.done
     c.sizes-sizes.result c.in-Command.id c.in-Command.asked read c.sizes-sizes.ensures c.in_ok-done-in-Packet.ensures.ok shaken c.reply.ensures.debuggee off c.reply.ensures.end
@@ -80,10 +78,9 @@ invariant_of-self-in_ok-done-in-Packet-2 g c =
     let body = c.in-Packet.ensures.front.1 in
     let used = c.in-Packet.used in
     let front : front_of t.end ≡ Whole (Packet header body) used = c.in-Packet.ensures.front.2 in
-    let found = packet-lent t.end c.limits-limits.result c.packet_in_front-bytes.result.now used header body front c.limits-limits.ensures c.packet_in_front-bytes.ensures.packet in
     let shaken = packet-handshaken m t.debuggee t.began.items t.phases.items (length t.steps.items) t.end header body used c.self.invariant c.front.ensures.bytes front in
-    let read : IsRead c.sizes-sizes.result header.id header.kind body (came.Command c.in-Command.id c.in-Command.asked) = rw c.in-Command.is at (c.in_ok-came-in-Packet.ensures header body used found) in
-    let off = c.take_off-in-Packet.ensures (Packet header body) front in
+    let read : IsRead c.sizes-sizes.result header.id header.kind body (came.Command c.in-Command.id c.in-Command.asked) = rw c.in-Command.is at (c.in_ok-came-in-Packet.ensures.came header body front) in
+    let off = taken-off t.end c.read_front.new.end _ (Packet header body) used c.read_front.ensures.same front c.take_off-in-Packet.ensures in
     let h =
     command-came m t.debuggee c.handle.new.debuggee c.reply.new.debuggee header body used t.end c.take_off-in-Packet.new.self c.reply.new.end c.in_ok-done-in-Packet.done
     c.sizes-sizes.result c.in-Command.id c.in-Command.asked read c.sizes-sizes.ensures c.in_ok-done-in-Packet.ensures.ok shaken c.reply.ensures.debuggee off c.reply.ensures.end
@@ -98,10 +95,9 @@ returns-in_ok-done-in-Packet-clause-turns g c =
     let body = c.in-Packet.ensures.front.1 in
     let used = c.in-Packet.used in
     let front : front_of t.end ≡ Whole (Packet header body) used = c.in-Packet.ensures.front.2 in
-    let found = packet-lent t.end c.limits-limits.result c.packet_in_front-bytes.result.now used header body front c.limits-limits.ensures c.packet_in_front-bytes.ensures.packet in
     let shaken = packet-handshaken m t.debuggee t.began.items t.phases.items (length t.steps.items) t.end header body used c.self.invariant c.front.ensures.bytes front in
-    let read : IsRead c.sizes-sizes.result header.id header.kind body (came.Command c.in-Command.id c.in-Command.asked) = rw c.in-Command.is at (c.in_ok-came-in-Packet.ensures header body used found) in
-    let off = c.take_off-in-Packet.ensures (Packet header body) front in
+    let read : IsRead c.sizes-sizes.result header.id header.kind body (came.Command c.in-Command.id c.in-Command.asked) = rw c.in-Command.is at (c.in_ok-came-in-Packet.ensures.came header body front) in
+    let off = taken-off t.end c.read_front.new.end _ (Packet header body) used c.read_front.ensures.same front c.take_off-in-Packet.ensures in
     let h =
     command-came m t.debuggee c.handle.new.debuggee c.reply.new.debuggee header body used t.end c.take_off-in-Packet.new.self c.reply.new.end c.in_ok-done-in-Packet.done
     c.sizes-sizes.result c.in-Command.id c.in-Command.asked read c.sizes-sizes.ensures c.in_ok-done-in-Packet.ensures.ok shaken c.reply.ensures.debuggee off c.reply.ensures.end
@@ -123,8 +119,7 @@ returns-in_ok-done-in-Packet-clause-encoded g c =
     let body = c.in-Packet.ensures.front.1 in
     let used = c.in-Packet.used in
     let front : front_of t.end ≡ Whole (Packet header body) used = c.in-Packet.ensures.front.2 in
-    let found = packet-lent t.end c.limits-limits.result c.packet_in_front-bytes.result.now used header body front c.limits-limits.ensures c.packet_in_front-bytes.ensures.packet in
-    let read : IsRead c.sizes-sizes.result header.id header.kind body (came.Command c.in-Command.id c.in-Command.asked) = rw c.in-Command.is at (c.in_ok-came-in-Packet.ensures header body used found) in
+    let read : IsRead c.sizes-sizes.result header.id header.kind body (came.Command c.in-Command.id c.in-Command.asked) = rw c.in-Command.is at (c.in_ok-came-in-Packet.ensures.came header body front) in
     let old = target_of t.debuggee t.began.items t.phases.items (length t.steps.items) t.end in
     rw (← c.self.view_is)
     (encodes-whole m old (Packet header body) used front
@@ -138,10 +133,9 @@ returns-in_ok-done-in-Packet-clause-packets g c =
     let body = c.in-Packet.ensures.front.1 in
     let used = c.in-Packet.used in
     let front : front_of t.end ≡ Whole (Packet header body) used = c.in-Packet.ensures.front.2 in
-    let found = packet-lent t.end c.limits-limits.result c.packet_in_front-bytes.result.now used header body front c.limits-limits.ensures c.packet_in_front-bytes.ensures.packet in
     let shaken = packet-handshaken m t.debuggee t.began.items t.phases.items (length t.steps.items) t.end header body used c.self.invariant c.front.ensures.bytes front in
-    let read : IsRead c.sizes-sizes.result header.id header.kind body (came.Command c.in-Command.id c.in-Command.asked) = rw c.in-Command.is at (c.in_ok-came-in-Packet.ensures header body used found) in
-    let off = c.take_off-in-Packet.ensures (Packet header body) front in
+    let read : IsRead c.sizes-sizes.result header.id header.kind body (came.Command c.in-Command.id c.in-Command.asked) = rw c.in-Command.is at (c.in_ok-came-in-Packet.ensures.came header body front) in
+    let off = taken-off t.end c.read_front.new.end _ (Packet header body) used c.read_front.ensures.same front c.take_off-in-Packet.ensures in
     let h =
     command-came m t.debuggee c.handle.new.debuggee c.reply.new.debuggee header body used t.end c.take_off-in-Packet.new.self c.reply.new.end c.in_ok-done-in-Packet.done
     c.sizes-sizes.result c.in-Command.id c.in-Command.asked read c.sizes-sizes.ensures c.in_ok-done-in-Packet.ensures.ok shaken c.reply.ensures.debuggee off c.reply.ensures.end
@@ -157,10 +151,9 @@ returns-in_default-clause-packets g c =
     let body = c.in-Packet.ensures.front.1 in
     let used = c.in-Packet.used in
     let front : front_of t.end ≡ Whole (Packet header body) used = c.in-Packet.ensures.front.2 in
-    let found = packet-lent t.end c.limits-limits.result c.packet_in_front-bytes.result.now used header body front c.limits-limits.ensures c.packet_in_front-bytes.ensures.packet in
     let shaken = packet-handshaken m t.debuggee t.began.items t.phases.items (length t.steps.items) t.end header body used c.self.invariant c.front.ensures.bytes front in
-    let read : IsRead c.sizes-sizes.result header.id header.kind body came.Reply = rw c.in_default.is at (c.in_ok-came-in-Packet.ensures header body used found) in
-    let h = reply-handled m t.debuggee header body used read.0 t.end _ read.1 shaken (c.take_off-in_default.ensures (Packet header body) front) in
+    let read : IsRead c.sizes-sizes.result header.id header.kind body came.Reply = rw c.in_default.is at (c.in_ok-came-in-Packet.ensures.came header body front) in
+    let h = reply-handled m t.debuggee header body used read.0 t.end _ read.1 shaken (taken-off t.end c.read_front.new.end _ (Packet header body) used c.read_front.ensures.same front c.take_off-in_default.ensures) in
     let old = target_of t.debuggee t.began.items t.phases.items (length t.steps.items) t.end in
     rw (← c.self.view_is) (sends-whole m old (Packet header body) used front h.sends)
 
@@ -176,8 +169,7 @@ returns-in_default-clause-encoded g c =
     let body = c.in-Packet.ensures.front.1 in
     let used = c.in-Packet.used in
     let front : front_of t.end ≡ Whole (Packet header body) used = c.in-Packet.ensures.front.2 in
-    let found = packet-lent t.end c.limits-limits.result c.packet_in_front-bytes.result.now used header body front c.limits-limits.ensures c.packet_in_front-bytes.ensures.packet in
-    let read : IsRead c.sizes-sizes.result header.id header.kind body came.Reply = rw c.in_default.is at (c.in_ok-came-in-Packet.ensures header body used found) in
+    let read : IsRead c.sizes-sizes.result header.id header.kind body came.Reply = rw c.in_default.is at (c.in_ok-came-in-Packet.ensures.came header body front) in
     let old = target_of t.debuggee t.began.items t.phases.items (length t.steps.items) t.end in
     rw (← c.self.view_is) (encodes-whole m old (Packet header body) used front (encodes-ignored m old header body read.0 read.1))
 
@@ -198,8 +190,8 @@ pub returns-in-Fault-clause-turns : goal.returns-in-Fault-clause-turns
 returns-in-Fault-clause-turns g c =
     search rules
 
-pub packet_in_front-bytes-requires : goal.packet_in_front-bytes-requires
-packet_in_front-bytes-requires g c = c.in-Packet.ensures.front
+pub read_front-requires : goal.read_front-requires
+read_front-requires g c = c.in-Packet.ensures.front
 
 pub returns-in_err-done-in-Packet-clause-turns : goal.returns-in_err-done-in-Packet-clause-turns
 returns-in_err-done-in-Packet-clause-turns g c =
@@ -209,8 +201,7 @@ returns-in_err-done-in-Packet-clause-turns g c =
     let body = c.in-Packet.ensures.front.1 in
     let used = c.in-Packet.used in
     let front : front_of t.end ≡ Whole (Packet header body) used = c.in-Packet.ensures.front.2 in
-    let found = packet-lent t.end c.limits-limits.result c.packet_in_front-bytes.result.now used header body front c.limits-limits.ensures c.packet_in_front-bytes.ensures.packet in
-    let read : IsRead c.sizes-sizes.result header.id header.kind body (came.Command c.in-Command.id c.in-Command.asked) = rw c.in-Command.is at (c.in_ok-came-in-Packet.ensures header body used found) in
+    let read : IsRead c.sizes-sizes.result header.id header.kind body (came.Command c.in-Command.id c.in-Command.asked) = rw c.in-Command.is at (c.in_ok-came-in-Packet.ensures.came header body front) in
     let old = target_of t.debuggee t.began.items t.phases.items (length t.steps.items) t.end in
     let needs = command-needs m old header body c.sizes-sizes.result c.in-Command.id c.in-Command.asked read c.sizes-sizes.ensures c.in_err-done-in-Packet.ensures.memory in
     rw (← c.self.view_is) (turns-wanting m old _ (Packet header body) used _ front (search rules) needs (search rules))
@@ -221,7 +212,7 @@ reply-requires-clause-short g c =
     let message = Packet c.in-Packet.ensures.front.0 c.in-Packet.ensures.front.1 in
     let front : front_of t.end ≡ Whole message c.in-Packet.used = c.in-Packet.ensures.front.2 in
     let room = front-room t.end message c.in-Packet.used front in
-    rw (c.take_off-in-Packet.ensures message front) (omega (arith, room, c.front.ensures.least))
+    rw (taken-off t.end c.read_front.new.end _ message c.in-Packet.used c.read_front.ensures.same front c.take_off-in-Packet.ensures) (omega (arith, room, c.front.ensures.least))
 
 pub reply-requires-clause-room : goal.reply-requires-clause-room
 reply-requires-clause-room g c =
@@ -231,8 +222,13 @@ reply-requires-clause-room g c =
     let body = c.in-Packet.ensures.front.1 in
     let used = c.in-Packet.used in
     let front : front_of t.end ≡ Whole (Packet header body) used = c.in-Packet.ensures.front.2 in
-    let found = packet-lent t.end c.limits-limits.result c.packet_in_front-bytes.result.now used header body front c.limits-limits.ensures c.packet_in_front-bytes.ensures.packet in
-    let read : IsRead c.sizes-sizes.result header.id header.kind body (came.Command c.in-Command.id c.in-Command.asked) = rw c.in-Command.is at (c.in_ok-came-in-Packet.ensures header body used found) in
-    rw (c.take_off-in-Packet.ensures (Packet header body) front)
+    let read : IsRead c.sizes-sizes.result header.id header.kind body (came.Command c.in-Command.id c.in-Command.asked) = rw c.in-Command.is at (c.in_ok-came-in-Packet.ensures.came header body front) in
+    rw (taken-off t.end c.read_front.new.end _ (Packet header body) used c.read_front.ensures.same front c.take_off-in-Packet.ensures)
     (command-room m t.debuggee c.handle.new.debuggee header body used t.end c.in_ok-done-in-Packet.done c.sizes-sizes.result c.in-Command.id c.in-Command.asked read c.sizes-sizes.ensures
     c.in_ok-done-in-Packet.ensures.ok c.self.invariant.limits c.front.ensures.least front)
+
+pub take_off-requires-in_default : goal.take_off-requires-in_default
+take_off-requires-in_default g c = (Packet c.in-Packet.ensures.front.0 c.in-Packet.ensures.front.1, ap (λ (e : End). front_of e) c.read_front.ensures.same ∙ c.in-Packet.ensures.front.2)
+
+pub take_off-requires-in-Packet : goal.take_off-requires-in-Packet
+take_off-requires-in-Packet g c = (Packet c.in-Packet.ensures.front.0 c.in-Packet.ensures.front.1, ap (λ (e : End). front_of e) c.read_front.ensures.same ∙ c.in-Packet.ensures.front.2)

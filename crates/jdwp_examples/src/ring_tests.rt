@@ -1,0 +1,97 @@
+//! Packets at the front of a ring.
+use crate::asserts::expect_same;
+use circular_buffer::HeapCircularBuffer;
+use jdwp_wire::{
+    FrameFault, HANDSHAKE, Header, Limits, Next, NextHello, PacketKind, Standing, next_hello_in,
+    next_packet_in, next_packet_in_within, standing_in,
+};
+use std::alloc::Global;
+use std::test::Fail;
+
+/// IDSizes under the id 1.
+const ID_SIZES: [u8; 11] = [0, 0, 0, 11, 0, 0, 0, 1, 0, 1, 7];
+
+/// A ring of 16 bytes that has these: where they are more than 6, they wrap round its end.
+fn wrapped(alloc: Global, bytes: &[u8]) -> Result<HeapCircularBuffer<u8>, Fail> {
+    let mut ring = HeapCircularBuffer::with_capacity(alloc, 16)?;
+    ring.fill_from_slice(&[0; 10]);
+    ring.read_into(&mut [0; 10]);
+    ring.fill_from_slice(bytes);
+    Ok(ring)
+}
+
+/// The header of the packet in front of a ring, how many bytes of data it has, and how many bytes it takes.
+fn front(next: Next<'_>) -> Result<Option<(Header, usize, usize)>, FrameFault> {
+    match next {
+        Next::More => Ok(None),
+        Next::Fault(fault) => Err(fault),
+        Next::Whole(packet, used) => Ok(Some((packet.header, packet.body.len(), used))),
+    }
+}
+
+#[test]
+fn a_command_that_wraps(rt: HostRuntime) -> Result<(), Fail> {
+    let mut ring = wrapped(rt.alloc(), &ID_SIZES)?;
+    let (first, second) = ring.as_slices();
+    expect_same(&rt, &(first.len(), second.len()), &(6, 5));
+    let standing = standing_in(&ring, &Limits::standard());
+    expect_same(&rt, &standing, &Standing::Whole(11));
+    let header = Header {
+        length: 11,
+        id: 1,
+        kind: PacketKind::Command { set: 1, number: 7 },
+    };
+    let wanted = Ok(Some((header, 0, 11)));
+    expect_same(&rt, &front(next_packet_in(&mut ring)), &wanted);
+    expect_same(&rt, &ring.capacity(), &16);
+    expect_same(
+        &rt,
+        &ring.to_vec(rt.alloc())?.as_slice(),
+        &ID_SIZES.as_slice(),
+    );
+    Ok(())
+}
+
+#[test]
+fn a_beginning_that_wraps(rt: HostRuntime) -> Result<(), Fail> {
+    for count in 0..11usize {
+        let mut ring = wrapped(rt.alloc(), &ID_SIZES[..count])?;
+        let standing = standing_in(&ring, &Limits::standard());
+        expect_same(&rt, &standing, &Standing::More);
+        expect_same(&rt, &front(next_packet_in(&mut ring)), &Ok(None));
+    }
+    Ok(())
+}
+
+/// Bytes whose last shows a fault.
+static FAULTS: [(&[u8], FrameFault); 4] = [
+    (&[0, 0, 0, 10], FrameFault::ShortLength),
+    (&[0, 0, 8, 1], FrameFault::TooLong),
+    (&[0, 0, 0, 11, 0, 0, 0, 1, 1], FrameFault::BadFlags),
+    (&[0, 0, 8, 0, 0, 0, 0, 1, 0x7f], FrameFault::BadFlags),
+];
+
+#[test]
+fn faults_that_wrap(rt: HostRuntime) -> Result<(), Fail> {
+    let limits = Limits::new(2048, 1, 1, 1).ok_or("the limits are in range")?;
+    for &(bytes, fault) in FAULTS.iter() {
+        let mut ring = wrapped(rt.alloc(), bytes)?;
+        let standing = standing_in(&ring, &limits);
+        expect_same(&rt, &standing, &Standing::Fault(fault));
+        let next = front(next_packet_in_within(&mut ring, &limits));
+        expect_same(&rt, &next, &Err(fault));
+    }
+    Ok(())
+}
+
+#[test]
+fn a_handshake_that_wraps(rt: HostRuntime) -> Result<(), Fail> {
+    let whole = wrapped(rt.alloc(), &HANDSHAKE)?;
+    expect_same(&rt, &next_hello_in(&whole), &NextHello::Whole);
+    let beginning = wrapped(rt.alloc(), &HANDSHAKE[..13])?;
+    expect_same(&rt, &next_hello_in(&beginning), &NextHello::More);
+    let other = wrapped(rt.alloc(), b"JDWP-HandshakE")?;
+    let fault = FrameFault::BadHandshake(13);
+    expect_same(&rt, &next_hello_in(&other), &NextHello::Fault(fault));
+    Ok(())
+}

@@ -1,0 +1,7 @@
+use Rattle.std.proofs.Common.{sym, subst, ◌∙◌}
+use Rattle.jdwp_mirror.specs.KnownThreads.{AreSound}
+use Rattle.jdwp_mirror.proofs.SeenLemmas.{values-seen}
+use Rattle.jdwp_mirror.proofs.threads.Threads.iter.Goals as goal
+
+pub returns-clause-all : goal.returns-clause-all
+returns-clause-all c = c.of.ensures.all ∙ (sym (values-seen c.self.inside.raises c.self.inside.entries.entries) ∙ c.self.view_is)

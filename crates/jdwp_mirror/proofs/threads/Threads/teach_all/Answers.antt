@@ -1,0 +1,16 @@
+use Rattle.std.proofs.Common.{ap, ◌∙◌}
+use Rattle.jdwp_mirror.specs.KnownThreads.{all_taught}
+use Rattle.jdwp_mirror.proofs.KeepingLemmas.{anew-kept}
+use Rattle.jdwp_mirror.proofs.threads.Threads.teach_all.Goals as goal
+
+pub invariant_of-self : goal.invariant_of-self
+invariant_of-self c =
+    let i = c.self.inside in
+    let all = anew-kept c.args.lesson i.raises i.entries.entries c.teach_entries.new.entries.entries i.numbers c.self.invariant c.teach_entries.ensures.entries c.teach_entries.ensures.ordered in
+    all.0
+
+pub returns : goal.returns
+returns c =
+    let i = c.self.inside in
+    let all = anew-kept c.args.lesson i.raises i.entries.entries c.teach_entries.new.entries.entries i.numbers c.self.invariant c.teach_entries.ensures.entries c.teach_entries.ensures.ordered in
+    all.1 ∙ ap (all_taught c.args.lesson) c.self.view_is

@@ -1,0 +1,11 @@
+use Rattle.jdwp_script_machine.specs.ModuleAnswers.{module_name_answer}
+use Rattle.jdwp_script_machine.proofs.Alone.{answers_alone, data_alone}
+use Rattle.jdwp_script_machine.proofs.module_answers.name.Goals as goal
+
+pub returns-in-Ok-default-empty : goal.returns-in-Ok-default-empty
+returns-in-Ok-default-empty c =
+    let found = c.in-Ok-default-empty in
+    record {
+      value = answers_alone c.of_text.result _ _ found.field-0-1.now (found.ensures module_name_answer) found.len_below (rw c.deref.ensures at c.of_text.ensures);
+      memory = data_alone c.of_text.result _ _ found.field-0-1.now (found.ensures module_name_answer) found.len_below (rw c.deref.ensures at c.of_text.ensures);
+    }

@@ -1,0 +1,51 @@
+//! Moves of the counts of two threads, and how many threads each visits.
+use crate::Counts;
+use std::test::Fail;
+
+#[test]
+fn two_threads(rt: HostRuntime) -> Result<(), Fail> {
+    let mut counts = Counts::new(rt.alloc(), 2)?;
+    let begun = (counts.visits(), counts.count(0), counts.count(1));
+    counts.raise_all();
+    let both_stop = (counts.visits(), counts.count(0), counts.count(1));
+    counts.raise_all();
+    let both_stand = (counts.visits(), counts.count(0), counts.count(1));
+    counts.lower_one(1);
+    let one_lowered = (counts.visits(), counts.count(0), counts.count(1));
+    let is_at_limit = counts.is_at_limit(2);
+    counts.lower_all();
+    let one_runs = (counts.visits(), counts.count(0), counts.count(1));
+    counts.lower_all();
+    let both_run = (counts.visits(), counts.count(0), counts.count(1));
+    counts.lower_all();
+    let both_ran = (counts.visits(), counts.count(0), counts.count(1));
+    assert_eq!(rt; begun, (0, 0, 0));
+    assert_eq!(rt; both_stop, (2, 1, 1));
+    assert_eq!(rt; both_stand, (0, 2, 2));
+    assert_eq!(rt; one_lowered, (0, 2, 1));
+    assert!(rt; is_at_limit);
+    assert_eq!(rt; one_runs, (1, 1, 0));
+    assert_eq!(rt; both_run, (1, 0, 0));
+    assert_eq!(rt; both_ran, (0, 0, 0));
+    Ok(())
+}
+
+/// One is added while the other is suspended, rises alone, and the first is taken out.
+#[test]
+fn one_comes_and_one_goes(rt: HostRuntime) -> Result<(), Fail> {
+    let mut counts = Counts::new(rt.alloc(), 1)?;
+    counts.raise_all();
+    counts.make_room()?;
+    counts.add();
+    counts.raise_one(1);
+    counts.raise_one(1);
+    let both = (counts.count(0), counts.count(1));
+    counts.remove(0);
+    let left = counts.count(0);
+    counts.clear();
+    let cleared = (counts.count(0), counts.visits());
+    assert_eq!(rt; both, (1, 2));
+    assert_eq!(rt; left, 2);
+    assert_eq!(rt; cleared, (0, 1));
+    Ok(())
+}
