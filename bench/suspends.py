@@ -19,9 +19,12 @@ PROGRAM is crates/jdwp/out/jdwp where none is given; `rt run` in crates/jdwp bui
 import json
 import os
 import struct
-import subprocess
 import sys
 import tempfile
+
+sys.dont_write_bytecode = True  # no folder of them beside the scripts
+
+from limits import run, written
 
 ROOT = os.path.dirname(os.path.dirname(os.path.abspath(__file__)))
 HANDSHAKE = b"JDWP-Handshake"
@@ -72,23 +75,6 @@ def machine(threads, steps):
             {"id": FIRST + i, "name": "", "group": 5, "steps": [["call", 1 + i, 10, 20, 0, []]] + [["go", 3 * (k % 2)] for k in range(steps if i == 0 else 0)]} for i in range(threads)
         ],
     }
-
-
-def run(words):
-    """Runs the words; the processor's seconds."""
-    process = subprocess.Popen(words, stdout=subprocess.DEVNULL, stderr=subprocess.PIPE)
-    told = process.stderr.read().decode()
-    _, ended, usage = os.wait4(process.pid, 0)
-    if os.waitstatus_to_exitcode(ended) != 0:
-        sys.exit(f"{words}: status {os.waitstatus_to_exitcode(ended)}: {told}")
-    return usage.ru_utime + usage.ru_stime
-
-
-def written(folder, name, data):
-    path = os.path.join(folder, name)
-    with open(path, "wb") as file:
-        file.write(data)
-    return path
 
 
 def serve(program, folder, script, asked, threads):
