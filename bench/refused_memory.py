@@ -39,6 +39,8 @@ HELLO = b"JDWP-Handshake"
 PLACELESS = b"jdwp: refused.json: fault 22: the member last is missing or of another type\n"
 # The handshake, IDSizes and Exit, by which the machine dies and the server ends.
 ASKS_EXIT = HELLO + bytes.fromhex("0000000b 00000001 00 0101 0000000f 00000002 00 010a 00000000")
+# The handshake, Signature and Status of a class, and AllThreads.
+ASKS_TO_DEFER = HELLO + bytes.fromhex("00000013 00000002 00 0201 000000000000000a 00000013 00000003 00 0209 000000000000000a 0000000b 00000004 00 0104")
 
 
 class Ran:
@@ -267,6 +269,7 @@ def commands():
         Command("serve-script, the tour", ["serve-script", "tour.json", "--from", "tour.bin", "--to", "OUT"]),
         Command("serve-script, a refused script", ["serve-script", "refused.json", *files], 1, None, PLACELESS),
         Command("serve-script, bytes of no protocol", [*serves, "--from", "A.json", "--to", "OUT"], 1),
+        Command("serve-script, deferred replies", [*serves, "--defer", "--from", "deferred.bin", "--to", "OUT"], 2),
         Command("serve-script, a port", [*serves, "--port", "PORT"], 0, lambda: Debugger(ASKS_EXIT)),
         Command("attach, files", [*attaches, "--from", "attach.bin", "--to", "OUT"]),
         Command("attach, a refused plan", ["attach", "refused.plan", "--from", "attach.bin", "--to", "OUT"], 1),
@@ -276,6 +279,7 @@ def commands():
         Command("pair --memory", ["pair", "A.json", "pair.plan", "--memory"]),
         Command("pair", ["pair", "A.json", "pair.plan"]),
         Command("pair, losses", ["pair", "A.json", "losses.plan", "--start", "none"]),
+        Command("pair, deferred replies", ["pair", "A.json", "deferred.plan", "--defer"]),
         Command("no words", [], 1),
         Command("--help", ["--help"], 1),
         Command("pair --help", ["pair", "--help"], 1),
@@ -298,6 +302,8 @@ def prepare(folder):
         "refused.plan": b"ask 1 8\nask 1\n",
         "unfit.plan": b"ask 1 8\nask 11 12 00\n",
         "losses.plan": losses,
+        "deferred.plan": b"ask 2 1 000000000000000a\nask 2 9 000000000000000a\nask 1 4\nanswers\n",
+        "deferred.bin": ASKS_TO_DEFER,
         "short.bin": bytes_of("attach.bin")[:43],
     }
     for name, text in texts.items():

@@ -173,7 +173,7 @@ fn have_been_read(heads: &[Head], told: Tells, ids: &[u32]) -> bool {
     }
     for (head, id) in heads.iter().zip(ids) {
         match head {
-            Head::Packet(header) if header.id == *id => {}
+            Head::Composite(header) | Head::Reply { header, .. } if header.id == *id => {}
             _ => return false,
         }
     }

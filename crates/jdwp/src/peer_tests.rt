@@ -67,6 +67,34 @@ fn both_ends_begin_anew(rt: HostRuntime) -> Result<(), Fail> {
     remove(&rt, &[machine, plan])
 }
 
+/// The signature and the status of a class are asked, and then which threads there are.
+const THREE: &str = "ask 2 1 000000000000000a
+ask 2 9 000000000000000a
+ask 1 4
+answers
+";
+
+/// What is printed of it where the target defers replies.
+const DEFERRED: &str = "< hello
+< 1 Event.Composite 2 [(90, 0, #1)]
+< 1 reply VirtualMachine.IDSizes 0 8 8 8 8 8
+< 4 reply VirtualMachine.AllThreads 0 [#1, #2]
+< 3 reply ReferenceType.Status 0 3
+< 2 reply ReferenceType.Signature 0 \"LMain;\"
+";
+
+#[test]
+fn a_target_defers_replies(rt: HostRuntime) -> Result<(), Fail> {
+    let (machine, plan) = ("defer_machine", "defer_plan");
+    fs::write(&rt, machine, MACHINE)?;
+    fs::write(&rt, plan, THREE)?;
+    let words = ["pair", machine, plan, "--start", "all", "--defer"];
+    is_run(&rt, &words, 0, DEFERRED, "")?;
+    let words = ["pair", machine, plan, "--memory", "--defer"];
+    is_run(&rt, &words, 0, DEFERRED, "")?;
+    remove(&rt, &[machine, plan])
+}
+
 /// A command that no target has is told with its line.
 #[test]
 fn a_line_that_is_refused_is_told(rt: HostRuntime) -> Result<(), Fail> {

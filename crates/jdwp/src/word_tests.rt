@@ -65,7 +65,7 @@ static REFUSED: [&[&str]; 16] = [
 ];
 
 /// Options that are refused behind words that are not.
-static OPTIONS: [&[&str]; 33] = [
+static OPTIONS: [&[&str]; 35] = [
     &["--port", "5"],
     &["--start"],
     &["--start", ""],
@@ -88,6 +88,8 @@ static OPTIONS: [&[&str]; 33] = [
     &["--limits", "2047,64,3,64"],
     &["--limits", "2048,64,4,64"],
     &["--limits", "4096,8,2,4", "--limits", "4096,8,2,4"],
+    &["--defer", "--defer"],
+    &["--defer=true"],
     &["--turns"],
     &["--turns", ""],
     &["--turns", "4294967296"],
@@ -102,11 +104,12 @@ static OPTIONS: [&[&str]; 33] = [
 ];
 
 /// Options that are taken.
-static TAKEN: [&[&str]; 5] = [
+static TAKEN: [&[&str]; 6] = [
     &["--start", "all"],
     &["--start=none"],
     &["--count-limit", "2147483647"],
     &["--limits", "4096,8,2,4"],
+    &["--defer"],
     &["--turns", "007"],
 ];
 
@@ -151,7 +154,7 @@ fn other_words_are_refused(rt: HostRuntime) -> Result<(), Fail> {
 }
 
 /// Words that are refused, and texts that are told.
-static HELP: [(&[&str], &[&str]); 15] = [
+static HELP: [(&[&str], &[&str]); 16] = [
     (
         &[],
         &[
@@ -182,6 +185,7 @@ static HELP: [(&[&str], &[&str]); 15] = [
             "--to <FILE>",
             "--start <WHICH>",
             "--count-limit <N>",
+            "--defer",
             "--turns <N>",
         ],
     ),
@@ -206,6 +210,7 @@ static HELP: [(&[&str], &[&str]); 15] = [
             "a connection at 127.0.0.1",
             "--memory",
             "--start <WHICH>",
+            "--defer",
             "--turns <N>",
         ],
     ),
@@ -225,6 +230,10 @@ static HELP: [(&[&str], &[&str]); 15] = [
     (
         &["show", "f", "--port"],
         &["error: unexpected argument '--port'", "Usage: "],
+    ),
+    (
+        &["attach", "p", "--port", "80", "--defer"],
+        &["error: unexpected argument '--defer'", "Usage: "],
     ),
     (
         &["serve-script", "m", "--from", "f"],
@@ -352,6 +361,7 @@ fn serves(
         machine,
         peer: Peer::Files(SessionFiles { from, to }),
         settings,
+        defer: false,
         turns,
     });
     are_read(rt, alloc, words.as_slice(), &want)
@@ -384,12 +394,19 @@ fn options_have_defaults(rt: HostRuntime) -> Result<(), Fail> {
 }
 
 /// The words of `serve-script` at this port are read so.
-fn serves_at(rt: &impl Abort, alloc: Global, words: &[&str], port: u16) -> Result<(), Fail> {
+fn serves_at(
+    rt: &impl Abort,
+    alloc: Global,
+    words: &[&str],
+    port: u16,
+    defer: bool,
+) -> Result<(), Fail> {
     let settings = Settings::new(true, 65535, Limits::standard()).ok_or("a count limit")?;
     let want = Words::ServeScript(ServeScript {
         machine: "m",
         peer: Peer::Port(port),
         settings,
+        defer,
         turns: 100000,
     });
     are_read(rt, alloc, words, &want)
@@ -414,6 +431,7 @@ fn ports_are_read(rt: HostRuntime) -> Result<(), Fail> {
         rt.alloc(),
         &["jdwp", "serve-script", "m", "--port", "8000"],
         8000,
+        false,
     )?;
     attaches_at(
         &rt,
@@ -433,9 +451,29 @@ fn words_of_pair_are_read(rt: HostRuntime) -> Result<(), Fail> {
         (&["--turns", "7", "--memory"], Between::Memory, true, 7),
     ];
     for (more, between, start_all, turns) in rows {
-        pairs(&rt, rt.alloc(), more, between, start_all, turns)?;
+        pairs(&rt, rt.alloc(), more, between, start_all, turns, false)?;
     }
     Ok(())
+}
+
+/// `--defer` at both commands that have a target.
+#[test]
+fn defer_is_read(rt: HostRuntime) -> Result<(), Fail> {
+    let alloc = rt.alloc();
+    let words = ["jdwp", "serve-script", "m", "--port", "80", "--defer"];
+    serves_at(&rt, alloc, &words, 80, true)?;
+    serves_at(&rt, alloc, &words[..5], 80, false)?;
+    let words = ["--defer", "--memory"];
+    pairs(&rt, alloc, &words, Between::Memory, true, 100000, true)?;
+    pairs(
+        &rt,
+        alloc,
+        &words[1..],
+        Between::Memory,
+        true,
+        100000,
+        false,
+    )
 }
 
 /// With these options behind them, the words of `pair` are read so.
@@ -446,6 +484,7 @@ fn pairs(
     between: Between,
     start_all: bool,
     turns: u32,
+    defer: bool,
 ) -> Result<(), Fail> {
     let mut words = Vec::new(alloc);
     words.extend_from_slice(&["jdwp", "pair", "m", "p"])?;
@@ -456,13 +495,14 @@ fn pairs(
         plan: "p",
         between,
         settings,
+        defer,
         turns,
     });
     are_read(rt, alloc, words.as_slice(), &want)
 }
 
 /// Words about ports and about both ends that are refused.
-static REFUSED_PEERS: [&[&str]; 14] = [
+static REFUSED_PEERS: [&[&str]; 16] = [
     &["serve-script", "m", "--port"],
     &["serve-script", "m", "--port", "0"],
     &["serve-script", "m", "--port", "65536"],
@@ -486,6 +526,8 @@ static REFUSED_PEERS: [&[&str]; 14] = [
     &["pair", "m", "p", "--memory", "--memory"],
     &["pair", "m", "p", "--port", "80"],
     &["pair", "m", "p", "--memory", "--count-limit", "5"],
+    &["pair", "m", "p", "--memory", "--defer", "--defer"],
+    &["attach", "p", "--port", "80", "--defer"],
 ];
 
 #[test]
@@ -505,6 +547,7 @@ fn limits_are_read(rt: HostRuntime) -> Result<(), Fail> {
         machine: "m",
         peer: Peer::Port(80),
         settings,
+        defer: false,
         turns: 100000,
     });
     let words = [
@@ -530,6 +573,7 @@ fn limits_are_read(rt: HostRuntime) -> Result<(), Fail> {
         plan: "p",
         between: Between::Loopback,
         settings,
+        defer: false,
         turns: 100000,
     });
     let words = ["jdwp", "pair", "m", "p", "--limits", "4096,8,2,4"];

@@ -1,7 +1,6 @@
 pub mod Counting
 pub mod Ending
 pub mod Moves
-pub mod Naming
 pub mod Reached
 pub mod RefusedLines
 pub mod Stages

@@ -17,11 +17,11 @@ use Rattle.jdwp_attach.specs.Runs.{Reaches, TellsLine, Begins, Turns, Asks, Feed
 use Rattle.jdwp_tell.specs.Telling.{lines_of}
 
 pub reach-turned : (base : Debugger) (done : List PlanLine) (text : List ℕ) (old new : Debugger) (result : Result Read DebuggerFault) → Reaches base done text old → TurnsAt (front_of old.end) old result new
-    → Reaches base done (text ++ lines_of old result new) new
+    → Reaches base done (text ++ lines_of result new) new
 reach-turned base done text old new result r turned = Turns done text old new result r turned
 
 -- a turn of which nothing is told
-pub reach-untold : (base : Debugger) (done : List PlanLine) (text : List ℕ) (old new : Debugger) (result : Result Read DebuggerFault) → lines_of old result new ≡ [] → Reaches base done text old
+pub reach-untold : (base : Debugger) (done : List PlanLine) (text : List ℕ) (old new : Debugger) (result : Result Read DebuggerFault) → lines_of result new ≡ [] → Reaches base done text old
     → TurnsAt (front_of old.end) old result new → Reaches base done text new
 reach-untold base done text old new result none r turned =
     subst (λ (x : List ℕ). Reaches base done x new) (append-nil text) (subst (λ (x : List ℕ). Reaches base done (text ++ x) new) none (Turns done text old new result r turned))

@@ -1,4 +1,3 @@
-pub mod Naming
 pub mod PlanAsks
 pub mod PlanRuns
 pub mod PlanWaits

@@ -43,7 +43,7 @@ TellsLine other d text = text ≡ []
 pub data Reaches (base : Debugger) : List PlanLine → List ℕ → Debugger → Type 0 where
   Begins : Reaches base [] [] base
   Turns : (done : List PlanLine) (text : List ℕ) (old new : Debugger) (result : Result Read DebuggerFault) → Reaches base done text old → TurnsAt (front_of old.end) old result new
-      → Reaches base done (text ++ lines_of old result new) new
+      → Reaches base done (text ++ lines_of result new) new
   Asks : (done : List PlanLine) (text : List ℕ) (old new : Debugger) (command : Command) → Reaches base done text old → is_open old.end ≡ true → HasAsked command old new → Reaches base done text new
   Feeds : (done : List PlanLine) (text : List ℕ) (old new : Debugger) (bytes : List ℕ) → Reaches base done text old → TurnsAt (front_of old.end) old (Ok read.Nothing) new → length bytes ≤ room_of new.end
       → Reaches base done text (with_fed bytes new)

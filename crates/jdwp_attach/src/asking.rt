@@ -3,13 +3,12 @@ ghost use Rattle.std.specs.Prelude.{◌≡◌, [], ◌∷◌, ◌++◌, ◌+◌,
 ghost use Rattle.jdwp_pipe.specs.Story.{Story};
 ghost use Rattle.jdwp_plan.specs.declared.plan_line.PlanLine.{PlanLine};
 ghost use Rattle.jdwp_attach.specs.declared.asking.Unread.TheVariants as unread;
-ghost use Rattle.jdwp_attach.specs.Naming.{Names};
 ghost use Rattle.jdwp_attach.specs.PlanAsks.{command_asked};
 ghost use Rattle.jdwp_attach.specs.PlanRuns.{EndsRefused, IsAsk, LineEndsSo, LineGoesOn, LineTells};
 ghost use Rattle.jdwp_attach.specs.PlanWaits.{Counts};
 ghost use Rattle.jdwp_attach.specs.Runs.{IsReady, at};
 
-use crate::run::{Run, Waiting};
+use crate::run::Run;
 use jdwp_debugger::{Command, Debugger, Refused};
 use jdwp_layout::{layout_of, read};
 use jdwp_pipe::{Ended, Pipe, write_out};
@@ -80,14 +79,12 @@ pub(crate) fn ask_line<P: Pipe>(
     requires ready { IsReady debugger.old }
     requires known { is_some debugger.old.sizes ≡ true }
     requires counts { Counts run.old.composites debugger.old }
-    requires names { Names run.old.waiting.items debugger.old }
     ensures goes { OnOk result ((out : Story) (line : PlanLine) → IsAsk line set number bytes.now
         → LineGoesOn line (at (P.story pipe.old) out debugger.old run.old.left)
         (at (P.story pipe.new) out debugger.new run.new.left)) }
     ensures ready { OnOk result (IsReady debugger.new) }
     ensures known { OnOk result (is_some debugger.new.sizes ≡ true) }
     ensures counts { OnOk result (Counts run.new.composites debugger.new) }
-    ensures names { OnOk result (Names run.new.waiting.items debugger.new) }
     ensures tells { IfErr result (λ ended. (out : Story) (line : PlanLine)
         → IsAsk line set number bytes.now
         → LineTells line (at (P.story pipe.old) out debugger.old run.old.left) debugger.new ended) }
@@ -104,23 +101,14 @@ pub(crate) fn ask_line<P: Pipe>(
         Err(Unread::NoMemory) => return Err(Ended::NoMemory),
         Err(Unread::BadData) => return Err(end_refused(debugger, Refused::BadCommand)),
     };
-    let ticket = match debugger.ask(alloc, command) {
-        Ok(ticket) => ticket,
-        Err(refused) => return Err(end_refused(debugger, refused)),
-    };
+    if let Err(refused) = debugger.ask(alloc, command) {
+        return Err(end_refused(debugger, refused));
+    }
     if !write_out(debugger, pipe, &mut run.buffer) {
         debugger.lose();
         return Err(Ended::LostByWrite);
     }
-    let waiting = Waiting {
-        ticket,
-        set,
-        number,
-    };
-    match run.waiting.push(waiting) {
-        Ok(()) => Ok(()),
-        Err(_) => Err(Ended::NoMemory),
-    }
+    Ok(())
 }
 
 /// How the run ends at a command that the debugger refused.

@@ -7,7 +7,6 @@ ghost use Rattle.jdwp_pipe.specs.Endings.{unflushed_end};
 ghost use Rattle.jdwp_pipe.specs.Story.{Story, flushed, with_written};
 ghost use Rattle.jdwp_plan.specs.declared.plan_line.PlanLine as declared;
 ghost use Rattle.jdwp_plan.specs.declared.plan_line.PlanLine.TheVariants as line;
-ghost use Rattle.jdwp_attach.specs.Naming.{Names};
 ghost use Rattle.jdwp_attach.specs.PlanRuns.{Attaches, EndsSo, IsByTurn, LineEndsSo, LineGoesOn, LineTells, MayEnd, TellsRefused, ended_at, ended_of, unflushed_debugger};
 ghost use Rattle.jdwp_attach.specs.PlanWaits.{Counts, HandlesComposites};
 ghost use Rattle.jdwp_attach.specs.Runs.{FailsLastFlush, GoesOn, InOrder, IsGoing, IsReady, Standing, at};
@@ -153,7 +152,6 @@ fn run_session<P: Pipe, W: Pipe>(
     let mut run = Run {
         left: turns,
         composites: 0,
-        waiting: Vec::new(alloc),
         buffer: [0; CHUNK],
     };
     match run_plan(alloc, debugger, pipe, plan, out, &mut run) {
@@ -179,7 +177,6 @@ fn run_plan<P: Pipe, W: Pipe>(
 ) -> Result<(), Attached>
     requires begun { debugger.old ≡ attached debugger.old }
     requires none { run.old.composites ≡ 0 }
-    requires unasked { run.old.waiting.items ≡ [] }
     ensures finished { OnOk result (IsGoing plan.now (at (P.story pipe.old)
         (W.story out.old) debugger.old run.old.left) (at (P.story pipe.new)
         (W.story out.new) debugger.new run.new.left)) }
@@ -240,7 +237,6 @@ fn write_hello<P: Pipe>(
         (at (P.story pipe.new) out debugger.new left)) }
     ensures ready { OnOk result (IsReady debugger.new) }
     ensures counts { OnOk result (Counts 0 debugger.new) }
-    ensures names { OnOk result (Names [] debugger.new) }
     ensures by_turn { IfErr result IsByTurn }
     ensures ends { IfErr result (λ ended. (plan : List declared.PlanLine) (out : Story) (left : ℕ)
         → InOrder plan (at (P.story pipe.old) out debugger.old left) (P.story pipe.new) out
@@ -267,13 +263,11 @@ fn until_sizes<P: Pipe, W: Pipe>(
 ) -> Result<(), Ended>
     requires ready { IsReady debugger.old }
     requires counts { Counts run.old.composites debugger.old }
-    requires names { Names run.old.waiting.items debugger.old }
     ensures goes { OnOk result (GoesOn (at (P.story pipe.old) (W.story out.old) debugger.old
         run.old.left) (at (P.story pipe.new) (W.story out.new) debugger.new run.new.left)) }
     ensures ready { OnOk result (IsReady debugger.new) }
     ensures known { OnOk result (is_some debugger.new.sizes ≡ true) }
     ensures counts { OnOk result (Counts run.new.composites debugger.new) }
-    ensures names { OnOk result (Names run.new.waiting.items debugger.new) }
     ensures by_turn { IfErr result IsByTurn }
     ensures ends { IfErr result (EndsSo (at (P.story pipe.old) (W.story out.old) debugger.old
         run.old.left) (at (P.story pipe.new) (W.story out.new) debugger.new run.new.left)) }
@@ -301,14 +295,12 @@ fn carry_out<P: Pipe, W: Pipe>(
     requires ready { IsReady debugger.old }
     requires known { is_some debugger.old.sizes ≡ true }
     requires counts { Counts run.old.composites debugger.old }
-    requires names { Names run.old.waiting.items debugger.old }
     ensures goes { OnOk result (LineGoesOn line.now (at (P.story pipe.old)
         (W.story out.old) debugger.old run.old.left) (at (P.story pipe.new)
         (W.story out.new) debugger.new run.new.left)) }
     ensures ready { OnOk result (IsReady debugger.new) }
     ensures known { OnOk result (is_some debugger.new.sizes ≡ true) }
     ensures counts { OnOk result (Counts run.new.composites debugger.new) }
-    ensures names { OnOk result (Names run.new.waiting.items debugger.new) }
     ensures tells { IfErr result (LineTells line.now (at (P.story pipe.old)
         (W.story out.old) debugger.old run.old.left) debugger.new) }
     ensures ends { IfErr result (LineEndsSo line.now (at (P.story pipe.old)
@@ -343,13 +335,11 @@ fn until_answered<P: Pipe, W: Pipe>(
     requires ready { IsReady debugger.old }
     requires known { is_some debugger.old.sizes ≡ true }
     requires counts { Counts run.old.composites debugger.old }
-    requires names { Names run.old.waiting.items debugger.old }
     ensures goes { OnOk result (GoesOn (at (P.story pipe.old) (W.story out.old) debugger.old
         run.old.left) (at (P.story pipe.new) (W.story out.new) debugger.new run.new.left)) }
     ensures ready { OnOk result (IsReady debugger.new) }
     ensures known { OnOk result (is_some debugger.new.sizes ≡ true) }
     ensures counts { OnOk result (Counts run.new.composites debugger.new) }
-    ensures names { OnOk result (Names run.new.waiting.items debugger.new) }
     ensures answered { OnOk result (has_tickets debugger.new.pending ≡ false) }
     ensures by_turn { IfErr result IsByTurn }
     ensures ends { IfErr result (EndsSo (at (P.story pipe.old) (W.story out.old) debugger.old
@@ -378,13 +368,11 @@ fn until_events<P: Pipe, W: Pipe>(
     requires ready { IsReady debugger.old }
     requires known { is_some debugger.old.sizes ≡ true }
     requires counts { Counts run.old.composites debugger.old }
-    requires names { Names run.old.waiting.items debugger.old }
     ensures goes { OnOk result (GoesOn (at (P.story pipe.old) (W.story out.old) debugger.old
         run.old.left) (at (P.story pipe.new) (W.story out.new) debugger.new run.new.left)) }
     ensures ready { OnOk result (IsReady debugger.new) }
     ensures known { OnOk result (is_some debugger.new.sizes ≡ true) }
     ensures counts { OnOk result (Counts run.new.composites debugger.new) }
-    ensures names { OnOk result (Names run.new.waiting.items debugger.new) }
     ensures handled { OnOk result (HandlesComposites count debugger.new) }
     ensures by_turn { IfErr result IsByTurn }
     ensures ends { IfErr result (EndsSo (at (P.story pipe.old) (W.story out.old) debugger.old

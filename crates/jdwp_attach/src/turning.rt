@@ -1,10 +1,8 @@
 //! Turns of a run.
-ghost use Rattle.std.specs.Prelude.{◌≡◌, ◌<◌, List, true, map, is_some, OnOk, IfErr};
+ghost use Rattle.std.specs.Prelude.{◌≡◌, ◌<◌, true, is_some, OnOk, IfErr};
 ghost use Rattle.jdwp_end.specs.Ends.{is_open, room_of};
-ghost use Rattle.jdwp_debugger.specs.Debuggers.{Unanswered};
 ghost use Rattle.jdwp_pipe.specs.Story.{flushed};
 ghost use Rattle.jdwp_debugger.specs.DebuggerTurns.{read_meaning};
-ghost use Rattle.jdwp_attach.specs.Naming.{CanTell, Names, kept_name, waiting_after};
 ghost use Rattle.jdwp_attach.specs.PlanRuns.{EndsFailed, EndsSo, IsByTurn, told_number};
 ghost use Rattle.jdwp_attach.specs.PlanWaits.{Counts, composites_of};
 ghost use Rattle.jdwp_attach.specs.Runs.{Finishes, GoesOn, IsReady, LosesAtRead, PutsAndTells, ReadsMore, at};
@@ -29,7 +27,6 @@ pub(crate) fn turn_once<P: Pipe, W: Pipe>(
 ) -> Result<(), Ended>
     requires ready { IsReady debugger.old }
     requires counts { Counts run.old.composites debugger.old }
-    requires names { Names run.old.waiting.items debugger.old }
     ensures goes { OnOk result (GoesOn (at (P.story pipe.old) (W.story out.old) debugger.old
         run.old.left) (at (P.story pipe.new) (W.story out.new) debugger.new run.new.left)) }
     ensures ready { OnOk result (IsReady debugger.new) }
@@ -37,7 +34,6 @@ pub(crate) fn turn_once<P: Pipe, W: Pipe>(
         → is_some debugger.new.sizes ≡ true) }
     ensures left { OnOk result (run.new.left < run.old.left) }
     ensures counts { OnOk result (Counts run.new.composites debugger.new) }
-    ensures names { OnOk result (Names run.new.waiting.items debugger.new) }
     ensures by_turn { IfErr result IsByTurn }
     ensures ends { IfErr result (EndsSo (at (P.story pipe.old) (W.story out.old) debugger.old
         run.old.left) (at (P.story pipe.new) (W.story out.new) debugger.new run.new.left)) }
@@ -135,27 +131,21 @@ fn tell<P: Pipe, W: Pipe>(
     run: &mut Run,
     read: &Read,
 ) -> Result<(), Ended>
-    requires { (waited : List Unanswered) × (run.old.waiting.items ≡ map kept_name waited)
-        × CanTell waited (read_meaning read.now) debugger.old.last debugger.old.sizes }
-    ensures goes { OnOk result ((waited : List Unanswered) → run.old.waiting.items
-        ≡ map kept_name waited → (is_open debugger.old.end ≡ true)
-        × PutsAndTells (turn_lines waited (read_meaning read.now) debugger.old.last debugger.old.sizes)
+    ensures goes { OnOk result ((is_open debugger.old.end ≡ true)
+        × PutsAndTells (turn_lines (read_meaning read.now) debugger.old.last debugger.old.sizes)
         (at (P.story pipe.old) (W.story out.old) debugger.old run.old.left) (at (P.story pipe.new)
         (W.story out.new) debugger.new run.new.left)) }
-    ensures waits { OnOk result ((waited : List Unanswered) → run.old.waiting.items
-        ≡ map kept_name waited → run.new.waiting.items
-        ≡ map kept_name (waiting_after (read_meaning read.now) waited)) }
     ensures counts { run.new.composites ≡ run.old.composites }
-    ensures ends { IfErr result (λ ended. (waited : List Unanswered) → run.old.waiting.items
-        ≡ map kept_name waited → Finishes ended (turn_lines waited (read_meaning read.now) debugger.old.last
-        debugger.old.sizes) (at (P.story pipe.old) (W.story out.old) debugger.old run.old.left)
-        (at (P.story pipe.new) (W.story out.new) debugger.new run.new.left)) }
+    ensures ends { IfErr result (λ ended.
+        Finishes ended (turn_lines (read_meaning read.now) debugger.old.last debugger.old.sizes)
+        (at (P.story pipe.old) (W.story out.old) debugger.old run.old.left) (at (P.story pipe.new)
+        (W.story out.new) debugger.new run.new.left)) }
 {
     if !write_out(debugger, pipe, &mut run.buffer) {
         debugger.lose();
         return Err(Ended::LostByWrite);
     }
-    let Ok(text) = turn_text(alloc, debugger, &mut run.waiting, read) else {
+    let Ok(text) = turn_text(alloc, debugger, read) else {
         return Err(Ended::NoMemory);
     };
     if !write_all(out, text.as_bytes()) {

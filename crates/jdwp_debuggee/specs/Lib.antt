@@ -23,3 +23,4 @@ pub mod Replies
 pub mod Sending
 pub mod StepParts
 pub mod Wants
+pub mod Deferring

@@ -1,5 +1,5 @@
 -- How a run of a debugger goes on with each call.
-use Rattle.std.proofs.Common.{◌≡◌, ◌∙◌, ℕ, ◌+◌, ◌≤◌, ◌==◌, ◌||◌, ◌++◌, List, [], ◌∷◌, length, map, take, Bool, true, false, Some, None, sym, ap, refl, subst, if◌then◌else◌}
+use Rattle.std.proofs.Common.{◌≡◌, ◌∙◌, ℕ, ◌+◌, ◌≤◌, ◌==◌, ◌||◌, ◌++◌, List, [], ◌∷◌, length, take, Bool, true, false, Some, None, sym, ap, refl, subst}
 use Rattle.std.specs.Prelude.{Result, Ok, Err, fold, remove}
 use Rattle.std.specs.List.{list_any, flat_map}
 use Rattle.std.proofs.lemmas.List.{append-nil, map-append}
@@ -25,7 +25,7 @@ use Rattle.jdwp_debugger.specs.declared.faults.DebuggerFault.TheVariants as code
 use Rattle.jdwp_debugger.specs.declared.heads.Head.TheVariants as head
 use Rattle.jdwp_debugger.specs.declared.turning.Read.{Read}
 use Rattle.jdwp_debugger.specs.Debuggers.{Asked, Debugger}
-use Rattle.jdwp_debugger.specs.DebuggerTurns.{Enters, FailsAt, Told, TurnsAt, closed_where, command_at, greeted, measured_where, reading_of, refused, reports, sizes_header, read_meaning, with_read, with_sizes}
+use Rattle.jdwp_debugger.specs.DebuggerTurns.{Enters, FailsAt, Told, TurnsAt, closed_where, command_at, greeted, measured_where, reading_of, refused, reply_head, reports, sizes_header, read_meaning, with_read, with_sizes}
 use Rattle.jdwp_mirror.specs.Messages.{Reply, Report, id_sizes}
 use Rattle.jdwp_mirror.specs.Mirror.{ends}
 use Rattle.jdwp_debugger.specs.News.{News, Waits, Happens, Answers, Measures, says}
@@ -195,11 +195,11 @@ ran-entered : (header : Header) (body : List ℕ) (used : ℕ) (news : News) (ol
     → Enters (Packet header body) used header news old told new → Ran new
 ran-entered header body used (Waits bytes) old new told r (tells, is) = subst Ran (sym is) r
 ran-entered header body used (Happens c) old new told r (tells, (m, learned, is)) =
-    subst Ran (sym is) (ran-closed-where (ends (Report c)) (record (with_read (Packet header body) used (head.Packet header ∷ []) old) { mirror = m }) r)
+    subst Ran (sym is) (ran-closed-where (ends (Report c)) (record (with_read (Packet header body) used (head.Composite header ∷ []) old) { mirror = m }) r)
 ran-entered header body used (Answers place ticket answer) old new told r (tells, (m, learned, is)) =
     subst Ran (sym is)
     (ran-closed-where (ends (Reply (Some ticket) (command_at place old.pending) answer))
-    (record (with_read (Packet header body) used (head.Packet header ∷ []) old) { mirror = m; pending = remove old.pending place }) r)
+    (record (with_read (Packet header body) used (reply_head header (command_at place old.pending) ∷ []) old) { mirror = m; pending = remove old.pending place }) r)
 ran-entered header body used (Measures place answer w cs) old new told r (tells, (m, learned, is)) =
     subst Ran (sym is) (ran-measured-where (list_any ends (reports cs)) w (with_sizes (Packet header body) used header place m w old) r)
 

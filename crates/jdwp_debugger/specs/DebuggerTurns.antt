@@ -117,12 +117,16 @@ abbrev pub command_at : ℕ → List Asked → Command
 command_at place pending = command_of (slice_get pending place)
 
 abbrev pub heads_of : List debuggers.Parked → List Head
-heads_of parked = map (λ (p : debuggers.Parked). head.Packet p.header) parked
+heads_of parked = map (λ (p : debuggers.Parked). head.Composite p.header) parked
+
+-- the head of a reply to a command
+abbrev pub reply_head : Header → Command → Head
+reply_head header c = head.Reply header c.set c.number
 
 -- the widths of ids became known, and with them what the composites that waited say
 abbrev pub with_sizes : streams.Message → ℕ → Header → ℕ → Mirror → Widths → Debugger → Debugger
 with_sizes message used header place m w d =
-    record (with_read message used (heads_of d.parked ++ head.Packet header ∷ []) d) { mirror = m; sizes = Some w; parked = []; pending = remove d.pending place }
+    record (with_read message used (heads_of d.parked ++ reply_head header id_sizes ∷ []) d) { mirror = m; sizes = Some w; parked = []; pending = remove d.pending place }
 
 -- What a packet with this header leaves that says this, and what the turn tells. Nothing is learned before the widths of ids are known,
 -- so what waited for them is learned from nothing.
@@ -131,11 +135,11 @@ Enters message used header (Waits bytes) old told new =
     (told ≡ Parked) × (new ≡ record (with_read message used [] old) { parked = old.parked ++ record { header = header; body = bytes } ∷ [] })
 Enters message used header (Happens c) old told new =
     (told ≡ Seen c) × ((m : Mirror) × Learned old.mirror (Report c) m
-    × (new ≡ closed_where (ends (Report c)) (record (with_read message used (head.Packet header ∷ []) old) { mirror = m })))
+    × (new ≡ closed_where (ends (Report c)) (record (with_read message used (head.Composite header ∷ []) old) { mirror = m })))
 Enters message used header (Answers place ticket answer) old told new =
     (told ≡ Answered ticket answer) × ((m : Mirror) × Learned old.mirror (Reply (Some ticket) (command_at place old.pending) answer) m
     × (new ≡ closed_where (ends (Reply (Some ticket) (command_at place old.pending) answer))
-    (record (with_read message used (head.Packet header ∷ []) old) { mirror = m; pending = remove old.pending place })))
+    (record (with_read message used (reply_head header (command_at place old.pending) ∷ []) old) { mirror = m; pending = remove old.pending place })))
 Enters message used header (Measures place answer w cs) old told new =
     (told ≡ Sizes cs) × ((m : Mirror) × LearnedAll empty_mirror (reports cs ++ Reply None (command_at place old.pending) answer ∷ []) m
     × (new ≡ measured_where (list_any ends (reports cs)) w (with_sizes message used header place m w old)))

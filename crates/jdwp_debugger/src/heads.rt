@@ -1,8 +1,9 @@
 //! What the last turn read.
 ghost use Rattle.std.specs.Prelude.{◌≡◌, ◌+◌, ◌<◌, ◌≤◌, ◌++◌, ◌∷◌, [], length};
-ghost use Rattle.jdwp_debugger.specs.DebuggerTurns.{heads_of};
+ghost use Rattle.jdwp_debugger.specs.DebuggerTurns.{heads_of, reply_head};
 
 use crate::parked::Parked;
+use jdwp_mirror::Command;
 use jdwp_wire::Header;
 use std::marker::Model;
 
@@ -11,8 +12,23 @@ use std::marker::Model;
 pub enum Head {
     /// The handshake.
     Hello,
-    /// A packet with this header.
-    Packet(Header),
+    /// A composite, in a packet with this header.
+    Composite(Header),
+    /// The reply with this header, to the command of this set and number.
+    Reply { header: Header, set: u8, number: u8 },
+}
+
+impl Head {
+    /// The front of a reply to this command.
+    pub(crate) fn of_reply(header: Header, command: &Command) -> Head
+        ensures { result ≡ reply_head header command.now }
+    {
+        Head::Reply {
+            header,
+            set: command.set(),
+            number: command.number(),
+        }
+    }
 }
 
 /// The most messages that one turn reads: the composites that waited for the widths of ids, and the reply that has them.
@@ -76,7 +92,7 @@ impl Heads {
         ensures { self.new ≡ self.old ++ heads_of parked.now }
     {
         for waiting in parked {
-            self.push(Head::Packet(waiting.header));
+            self.push(Head::Composite(waiting.header));
         }
     }
 }

@@ -177,7 +177,7 @@ impl Debugger {
         let closes = has_event_of(&composite, EventKind::VmDeath);
         self.end.take_off(used);
         self.last.clear();
-        self.last.push(Head::Packet(header));
+        self.last.push(Head::Composite(header));
         self.close_where(closes);
         Ok(Read::Seen(composite))
     }
@@ -201,10 +201,11 @@ impl Debugger {
         let (_, asked) = self.pending.at(place);
         self.mirror.learn_reply(alloc, &asked.command, &answer)?;
         let closes = closes_session(&asked.command, &answer);
+        let head = Head::of_reply(packet.0, &asked.command);
         self.pending.remove(place);
         self.end.take_off(packet.1);
         self.last.clear();
-        self.last.push(Head::Packet(packet.0));
+        self.last.push(head);
         self.close_where(closes);
         Ok(Read::Answered(ticket, answer))
     }
@@ -252,7 +253,11 @@ impl Debugger {
         self.end.take_off(used);
         self.last.clear();
         self.last.push_waiting(&self.parked);
-        self.last.push(Head::Packet(header));
+        self.last.push(Head::Reply {
+            header,
+            set: VIRTUAL_MACHINE,
+            number: ID_SIZES,
+        });
         self.parked.clear();
         self.pending.remove(place);
         self.mirror = mirror;

@@ -1,7 +1,8 @@
 -- What messages and steps leave of a target, one after the other.
-use Rattle.std.proofs.Common.{◌≡◌, ◌∙◌, ℕ, ◌++◌, ◌||◌, ◌&&◌, not, Option, Some, None, List, [], ◌∷◌, Bool, true, false, ◌⊎◌, inl, inr, sym, ap, refl, append_assoc, arith}
+use Rattle.std.proofs.Common.{◌≡◌, ◌∙◌, ℕ, ◌++◌, ◌||◌, ◌&&◌, not, Option, Some, None, List, [], ◌∷◌, Bool, true, false, ◌⊎◌, inl, inr, sym, ap, refl, subst, append_assoc, arith}
 use Rattle.jdwp_wire.specs.Bytes.{IsBytes}
-use Rattle.jdwp_wire.specs.Streams.{Message, Whole, stream}
+use Rattle.jdwp_wire.specs.Streams.{Message, Handshake, Packet, Whole, stream}
+use Rattle.jdwp_wire.specs.declared.packet.PacketKind.TheVariants as kind
 use Rattle.jdwp_end.specs.declared.phase.Phase.{Phase}
 use Rattle.jdwp_end.specs.declared.phase.Phase.TheVariants.{Closed, AwaitingHandshake, Established}
 use Rattle.jdwp_end.specs.Ends.{End, front_of, is_open, is_open_phase}
@@ -13,9 +14,12 @@ use Rattle.jdwp_machine.specs.Meanings.{Meaning}
 use Rattle.jdwp_debuggee.specs.Steps.{may_step}
 use Rattle.jdwp_target.specs.declared.target.Stepped.{Stepped}
 use Rattle.jdwp_target.specs.declared.target.Stepped.TheVariants.{Frozen}
-use Rattle.jdwp_target.specs.Standings.{Handles, Steps, handled, react}
-use Rattle.jdwp_target.specs.Closings.{ClosesForReason}
-use Rattle.jdwp_target.specs.Targets.{Target, Ran, in_phase, standing, with_handled, with_step}
+use Rattle.jdwp_debuggee.specs.Deferring.{is_deferrable, released_at}
+use Rattle.jdwp_target.specs.Standings.{Handles, Steps, handled}
+use Rattle.jdwp_target.specs.Deeds.{DefersFew, Does, MayBeDeferred, Releases, acts_in, defers, handles_where, perform, releases_by}
+use Rattle.jdwp_target.specs.Closings.{Closes, ClosesForReason, IsDispose}
+use Rattle.jdwp_target.specs.ReleaseLaws.{deferred-ones}
+use Rattle.jdwp_target.specs.Targets.{Target, Ran, full_standing, in_phase, standing, with_handled, with_release, with_step}
 use Rattle.jdwp_target.specs.Turns.{StepsWhere, told_by_end, told_of_sends}
 use Rattle.jdwp_engine.specs.Outcome.{EndsInDispose, MayStep}
 use Rattle.jdwp_engine.specs.Steps.{Advances, StepsIf, StepsOn}
@@ -38,13 +42,19 @@ carries-shut Established end messages shut c = absurd (let e = shut in cc)
 
 -- the message that closed the session is the last that was handled
 carries-last : {S : Type 0} (m : Meaning S) (v : Target S) (message : Message) (used : ℕ) → IsBytes v.end.incoming → front_of v.end ≡ Whole message used → (ran : Ran m v)
-    → is_open (with_handled m message used v).end ≡ false → Carries (with_handled m message used v).end (handled ran.acts ++ message ∷ [])
+    → is_open (with_handled m message used v).end ≡ false → Carries (with_handled m message used v).end (handled (acts_in ran.deeds) ++ message ∷ [])
 carries-last m v message used fits front ran shut =
-    let r = react m v.settings (standing v) (Handles message) in
-    let messages : List Message = handled ran.acts ++ message ∷ [] in
+    let p = perform m v.settings (full_standing v) (Does (Handles message)) in
+    let messages : List Message = handled (acts_in ran.deeds) ++ message ∷ [] in
     let took = ends.with_handled message used v.end in
-    let put = carries-enqueued took messages (stream r.sends) refl (carries-handled v.end (handled ran.acts) message used fits front ran.carries) in
-    carries-shut r.after.phase (ends.with_enqueued (stream r.sends) took) messages shut put
+    let put = carries-enqueued took messages (stream p.sends) refl (carries-handled v.end (handled (acts_in ran.deeds)) message used fits front ran.carries) in
+    carries-shut p.after.standing.phase (ends.with_enqueued (stream p.sends) took) messages shut put
+
+-- why it closed the session: one that is put off does not
+closes-where : {S : Type 0} (m : Meaning S) (v : Target S) (message : Message) (b : Bool) → ClosesForReason m → is_open v.end ≡ true → is_open_phase (handles_where m v.settings (full_standing v) message b).after.standing.phase ≡ false
+    → Closes (Handles message) (handles_where m v.settings (full_standing v) message b).after.standing
+closes-where m v message true reason opened shut = absurd (let e = sym opened ∙ shut in cc)
+closes-where m v message false reason opened shut = reason v.settings (standing v) (Handles message) opened shut
 
 pub message-advances : {S : Type 0} (m : Meaning S) (v : Target S) (message : Message) (used : ℕ) → ClosesForReason m → is_open v.end ≡ true → IsBytes v.end.incoming
     → front_of v.end ≡ Whole message used → Ran m v → Advances v (with_handled m message used v) (HasEnded (with_handled m message used v))
@@ -53,15 +63,48 @@ message-advances m v message used reason opened fits front ran = record {
   began = refl;
   lost = refl;
   fed = refl;
-  bytes = stream (react m v.settings (standing v) (Handles message)).sends;
+  bytes = stream (perform m v.settings (full_standing v) (Does (Handles message))).sends;
   enqueued = refl;
   outgoing = refl;
   costs = omega arith;
   closes = λ shut.
-      elim (reason v.settings (standing v) (Handles message) opened shut) [
-        | inl d ↦ inl (handled ran.acts, message, carries-last m v message used fits front ran shut, d)
+      elim (closes-where m v message (defers (full_standing v) message) reason opened shut) [
+        | inl d ↦ inl (handled (acts_in ran.deeds), message, carries-last m v message used fits front ran shut, d)
         | inr d ↦ inr d
       ];
+}
+
+-- ---- a release
+
+-- Dispose is not deferred
+no-dispose : (message : Message) → MayBeDeferred message → IsDispose message → ⊥
+no-dispose Handshake command dispose = command
+no-dispose (Packet header body) (set, number, is, may) dispose =
+    let same : kind.Command set number ≡ kind.Command 1 6 = sym is ∙ dispose.0 in
+    let one : set ≡ 1 = cc in
+    let never : is_deferrable 1 ≡ true = subst (λ (n : ℕ). is_deferrable n ≡ true) one may in
+    cc
+
+closes-released : {S : Type 0} (m : Meaning S) (v : Target S) (place : ℕ) (o : Option (Message × List Message)) → ClosesForReason m → is_open v.end ≡ true → DefersFew (full_standing v) → released_at place v.deferred ≡ o
+    → is_open_phase (releases_by m v.settings (full_standing v) o).after.standing.phase ≡ false → (releases_by m v.settings (full_standing v) o).after.standing.moment.state.alive ≡ false
+closes-released m v place None reason opened few found shut = absurd (let e = sym opened ∙ shut in cc)
+closes-released m v place (Some (message, others)) reason opened few found shut =
+    elim (reason v.settings (standing v) (Handles message) opened shut) [
+      | inl d ↦ absurd (no-dispose message (deferred-ones place v.deferred message others few.commands found).0 d)
+      | inr d ↦ d
+    ]
+
+pub release-advances : {S : Type 0} (m : Meaning S) (v : Target S) (place : ℕ) → ClosesForReason m → is_open v.end ≡ true → DefersFew (full_standing v) → Advances v (with_release m place v) (HasEnded (with_release m place v))
+release-advances m v place reason opened few = record {
+  settings = refl;
+  began = refl;
+  lost = refl;
+  fed = refl;
+  bytes = stream (perform m v.settings (full_standing v) (Releases place)).sends;
+  enqueued = refl;
+  outgoing = refl;
+  costs = omega arith;
+  closes = λ shut. inr (closes-released m v place (released_at place v.deferred) reason opened few refl shut);
 }
 
 -- ---- steps
@@ -72,7 +115,7 @@ step-advances m v t reason opened = record {
   began = refl;
   lost = refl;
   fed = refl;
-  bytes = stream (react m v.settings (standing v) (Steps t)).sends;
+  bytes = stream (perform m v.settings (full_standing v) (Does (Steps t))).sends;
   enqueued = refl;
   outgoing = refl;
   costs = omega arith;

@@ -1,9 +1,10 @@
 -- How the rounds of a session follow from what each call did.
-use Rattle.std.proofs.Common.{◌≡◌, ◌∙◌, Bool, true, false, None, Result, Ok, Err, ◌⊎◌, inl, inr, sym, ap, subst}
+use Rattle.std.proofs.Common.{◌≡◌, ◌∙◌, [], Bool, true, false, None, Result, Ok, Err, ◌⊎◌, inl, inr, sym, ap, subst}
 use Rattle.jdwp_wire.specs.Streams.{More}
 use Rattle.jdwp_end.specs.Ends.{front_of, is_open}
 use Rattle.jdwp_machine.specs.Meanings.{Meaning}
 use Rattle.jdwp_target.specs.declared.target.TargetFault.{TargetFault}
+use Rattle.jdwp_target.specs.declared.target.Turn.{Turn}
 use Rattle.jdwp_target.specs.Targets.{Target, Ran}
 use Rattle.jdwp_pipe.specs.declared.ended.Ended.{Ended}
 use Rattle.jdwp_pipe.specs.declared.ended.Ended.TheVariants.{Done, LostByRead, LostByWrite, Refused, NoMemory, TurnLimit}
@@ -14,12 +15,17 @@ use Rattle.jdwp_engine.specs.declared.serving.Next.TheVariants.{Goes, Ends}
 use Rattle.jdwp_engine.specs.Next.{IfEnds}
 use Rattle.jdwp_engine.specs.Rounds.{StepsEach}
 use Rattle.jdwp_engine.specs.Run.{LosesAtRead, LosesAtWrite, WritesAll}
-use Rattle.jdwp_engine.specs.Sessions.{LastRound, Moves, Steps, CantRead, CantWrite, Closes}
+use Rattle.jdwp_engine.specs.Sessions.{LastRound, Moves, Releases, ReleasesNewest, Steps, CantRead, CantWrite, Closes}
 
 -- a step of each live thread, behind a flush
-pub moved : {S : Type 0} (m : Meaning S) (old mid : Target S) (before now : Story) (came : Result Bool TargetFault) → front_of old.end ≡ More → StepsEach m None old came mid → now ≡ flushed before
+pub moved : {S : Type 0} (m : Meaning S) (old mid : Target S) (before now : Story) (came : Result Bool TargetFault) → front_of old.end ≡ More → old.deferred ≡ [] → StepsEach m None old came mid → now ≡ flushed before
     → Moves m old before came mid now
-moved m old mid before now came asks each e = subst (λ (x : Story). Moves m old before came mid x) (sym e) (Steps came mid asks each)
+moved m old mid before now came asks none each e = subst (λ (x : Story). Moves m old before came mid x) (sym e) (Steps came mid asks none each)
+
+-- a release, behind a flush
+pub released-newest : {S : Type 0} (m : Meaning S) (old mid : Target S) (before now : Story) (turn : Turn) → front_of old.end ≡ More → ReleasesNewest m old (Ok turn) mid → now ≡ flushed before
+    → Moves m old before (Ok true) mid now
+released-newest m old mid before now turn asks released e = subst (λ (x : Story). Moves m old before (Ok true) mid x) (sym e) (Releases turn mid asks released)
 
 -- what was put was written, and the session closed; or a write failed
 pub writes-last : {S : Type 0} (m : Meaning S) (old mid new : Target S) (before now after : Story) (next : Next) → Moves m old before (Ok true) mid now
@@ -34,35 +40,45 @@ writes-last m old mid new before now after (Ends ended) moves which done fails =
       | inr is ↦ rw is (CantWrite (Ok true) mid now moves (λ e. cc) (fails (ap Ends is)))
     ]
 
--- the same behind steps
-pub steps-last : {S : Type 0} (m : Meaning S) (old mid new : Target S) (now after : Story) (next : Next) → front_of old.end ≡ More → StepsEach m None old (Ok true) mid
+-- the same behind a release
+pub release-last : {S : Type 0} (m : Meaning S) (old mid new : Target S) (now after : Story) (next : Next) (turn : Turn) → front_of old.end ≡ More → ReleasesNewest m old (Ok turn) mid
     → IfEnds next (λ ended. (ended ≡ Done) ⊎ (ended ≡ LostByWrite))
     → (next ≡ Ends Done → (is_open mid.end ≡ false) × WritesAll mid new now after × Ran m new)
     → (next ≡ Ends LostByWrite → LosesAtWrite m mid new now after)
     → IfEnds next (λ ended. (before : Story) → now ≡ flushed before → LastRound m old before new after ended)
-steps-last m old mid new now after Goes asks each which done fails = tt
-steps-last m old mid new now after (Ends ended) asks each which done fails =
-    λ before e. writes-last m old mid new before now after (Ends ended) (moved m old mid before now (Ok true) asks each e) which done fails
+release-last m old mid new now after Goes turn asks released which done fails = tt
+release-last m old mid new now after (Ends ended) turn asks released which done fails =
+    λ before e. writes-last m old mid new before now after (Ends ended) (released-newest m old mid before now turn asks released e) which done fails
+
+-- the same behind steps
+pub steps-last : {S : Type 0} (m : Meaning S) (old mid new : Target S) (now after : Story) (next : Next) → front_of old.end ≡ More → old.deferred ≡ [] → StepsEach m None old (Ok true) mid
+    → IfEnds next (λ ended. (ended ≡ Done) ⊎ (ended ≡ LostByWrite))
+    → (next ≡ Ends Done → (is_open mid.end ≡ false) × WritesAll mid new now after × Ran m new)
+    → (next ≡ Ends LostByWrite → LosesAtWrite m mid new now after)
+    → IfEnds next (λ ended. (before : Story) → now ≡ flushed before → LastRound m old before new after ended)
+steps-last m old mid new now after Goes asks none each which done fails = tt
+steps-last m old mid new now after (Ends ended) asks none each which done fails =
+    λ before e. writes-last m old mid new before now after (Ends ended) (moved m old mid before now (Ok true) asks none each e) which done fails
 
 -- a step wanted memory, the session is open, and a write failed
-pub starved-last : {S : Type 0} (m : Meaning S) (old mid new : Target S) (now after : Story) (fault : TargetFault) (ended : Ended) → front_of old.end ≡ More → StepsEach m None old (Err fault) mid → is_open mid.end ≡ true
+pub starved-last : {S : Type 0} (m : Meaning S) (old mid new : Target S) (now after : Story) (fault : TargetFault) (ended : Ended) → front_of old.end ≡ More → old.deferred ≡ [] → StepsEach m None old (Err fault) mid → is_open mid.end ≡ true
     → (ended ≡ Done) ⊎ (ended ≡ LostByWrite)
     → (Ends ended ≡ Ends Done → (is_open mid.end ≡ false) × WritesAll mid new now after × Ran m new)
     → (Ends ended ≡ Ends LostByWrite → LosesAtWrite m mid new now after)
     → (before : Story) → now ≡ flushed before → LastRound m old before new after ended
-starved-last m old mid new now after fault ended asks each opened which done fails before e =
+starved-last m old mid new now after fault ended asks none each opened which done fails before e =
     elim which [
       | inl is ↦ absurd (let shut = (done (ap Ends is)).0 in let both = sym opened ∙ shut in cc)
-      | inr is ↦ rw is (CantWrite (Err fault) mid now (moved m old mid before now (Err fault) asks each e) (λ e. cc) (fails (ap Ends is)))
+      | inr is ↦ rw is (CantWrite (Err fault) mid now (moved m old mid before now (Err fault) asks none each e) (λ e. cc) (fails (ap Ends is)))
     ]
 
 -- no step was made, and the read failed
-pub reads-last : {S : Type 0} (m : Meaning S) (old mid new : Target S) (now after : Story) (next : Next) → front_of old.end ≡ More → StepsEach m None old (Ok false) mid
+pub reads-last : {S : Type 0} (m : Meaning S) (old mid new : Target S) (now after : Story) (next : Next) → front_of old.end ≡ More → old.deferred ≡ [] → StepsEach m None old (Ok false) mid
     → IfEnds next (λ ended. (ended ≡ LostByRead) × LosesAtRead mid new now after)
     → IfEnds next (λ ended. (before : Story) → now ≡ flushed before → LastRound m old before new after ended)
-reads-last m old mid new now after Goes asks each which = tt
-reads-last m old mid new now after (Ends ended) asks each (is, loses) =
-    λ before e. rw is (CantRead mid now (moved m old mid before now (Ok false) asks each e) loses)
+reads-last m old mid new now after Goes asks none each which = tt
+reads-last m old mid new now after (Ends ended) asks none each (is, loses) =
+    λ before e. rw is (CantRead mid now (moved m old mid before now (Ok false) asks none each e) loses)
 
 -- behind the flush that stood before
 pub flushed-last : {S : Type 0} (m : Meaning S) (old new : Target S) (before now after : Story) (next : Next) → now ≡ flushed before

@@ -1,5 +1,5 @@
 -- How the facts of an engine's run go on from one call to the next.
-use Rattle.std.proofs.Common.{◌≡◌, ◌≢◌, ◌∙◌, ℕ, ◌≤◌, ◌++◌, List, [], ◌∷◌, length, Bool, true, false, Ok, Err, ◌⊎◌, inl, inr, nat_le, take, drop, sym, ap, refl, subst, append_assoc, arith}
+use Rattle.std.proofs.Common.{◌≡◌, ◌≢◌, ◌∙◌, ℕ, ◌<◌, ◌≤◌, ◌-◌, ◌++◌, Some, List, [], ◌∷◌, length, Bool, true, false, Ok, Err, ◌⊎◌, inl, inr, nat_le, take, drop, sym, ap, refl, subst, append_assoc, arith}
 use Rattle.std.proofs.lemmas.Bool.{leb-false, lt-leb}
 use Rattle.std.proofs.lemmas.Grind.{common_steps}
 use Rattle.std.proofs.lemmas.List.{append-nil, length-drop, take_all}
@@ -7,7 +7,7 @@ use Rattle.jdwp_wire.specs.Bytes.{IsBytes}
 use Rattle.jdwp_wire.specs.FaultNumbers.{fault_number}
 use Rattle.jdwp_wire.specs.Streams.{Message, More}
 use Rattle.jdwp_wire.specs.declared.frame.FrameFault.{FrameFault}
-use Rattle.jdwp_end.specs.Ends.{front_of, is_open, is_paused, next_of}
+use Rattle.jdwp_end.specs.Ends.{front_of, is_established, is_open, is_paused, next_of}
 use Rattle.jdwp_end.specs.Ends as ends
 use Rattle.jdwp_end.specs.Runs.{Carries, IsFront}
 use Rattle.jdwp_end.specs.CarryingLaws.{carries-taken}
@@ -18,8 +18,10 @@ use Rattle.jdwp_target.specs.declared.target.Turn.{Turn}
 use Rattle.jdwp_target.specs.declared.target.Turn.TheVariants.{Nothing}
 use Rattle.jdwp_target.specs.Closings.{ClosesForReason}
 use Rattle.jdwp_target.specs.Standings.{handled}
-use Rattle.jdwp_target.specs.Targets.{Target, Ran, lost_target, opened_target, with_fed, with_taken}
-use Rattle.jdwp_target.specs.Turns.{TurnsAt}
+use Rattle.jdwp_target.specs.Deeds.{DefersFew, acts_in}
+use Rattle.jdwp_target.specs.ReleaseLaws.{found}
+use Rattle.jdwp_target.specs.Targets.{Target, Ran, full_standing, lost_target, opened_target, with_fed, with_release, with_taken}
+use Rattle.jdwp_target.specs.Turns.{TurnsAt, deferred_at}
 use Rattle.jdwp_pipe.specs.declared.ended.Ended.{Ended}
 use Rattle.jdwp_pipe.specs.declared.ended.Ended.TheVariants as ended
 use Rattle.jdwp_pipe.specs.declared.ended.Ended.TheVariants.{Done, LostByRead, LostByWrite, Refused, TurnLimit}
@@ -30,9 +32,10 @@ use Rattle.jdwp_engine.specs.Next.{IfEnds}
 use Rattle.jdwp_engine.specs.Outcome.{CallsForMemory, EndsSo, FrontIs, IsFaultOf, IsLost, MayEnd, MayStep}
 use Rattle.jdwp_engine.specs.Run.{GoesOn, InOrder, IsGoing, LosesAtRead, LosesAtWrite, ReadsMore, WritesAll, cost}
 use Rattle.jdwp_engine.specs.Steps.{Advances, StepsIf, StepsOn}
-use Rattle.jdwp_engine.proofs.Advancing.{HasEnded, message-advances}
+use Rattle.jdwp_engine.specs.Sessions.{ReleasesNewest}
+use Rattle.jdwp_engine.proofs.Advancing.{HasEnded, message-advances, release-advances}
 use Rattle.jdwp_engine.proofs.Fronts.{front-left}
-use Rattle.jdwp_engine.proofs.Turns.{frame-Fault, handled-Whole, no_memory-Whole}
+use Rattle.jdwp_engine.proofs.Turns.{frame-Fault, handled-Whole, no_memory-Whole, released-one}
 
 -- ---- a write that fails
 
@@ -166,11 +169,11 @@ stays-in-order base start s t old new k read written failed early settings began
     }
 
 -- a read failed
-read-ends : {S : Type 0} (m : Meaning S) (base : Target S) (start s t : Story) (target : Target S) → IsGoing base start s target → FailsRead s t → FrontIs (λ next. next ≡ More) target.end → Ran m target
+read-ends : {S : Type 0} (m : Meaning S) (base : Target S) (start s t : Story) (target : Target S) → IsGoing base start s target → FailsRead s t → FrontIs (λ next. next ≡ More) target.end → Ran m target → target.deferred ≡ []
     → InOrder base start t (lost_target target) × MayEnd m LostByRead start (flushed t) (lost_target target)
-read-ends m base start s t target k f front ran = (
+read-ends m base start s t target k f front ran none = (
   stays-in-order base start s t target (lost_target target) k f.read f.written f.failed_writes f.early refl refl refl refl,
-  (omega (arith, f.fails, k.failed_reads, k.ends), front, (target, ran, k.kept, refl), (f.failed_writes ∙ k.failed_writes, refl)),
+  (omega (arith, f.fails, k.failed_reads, k.ends), front, (target, ran, k.kept, none, refl), (f.failed_writes ∙ k.failed_writes, refl)),
 )
 
 -- nothing changed, or the bytes in front begin no message
@@ -259,6 +262,52 @@ pub steps-ends : {S : Type 0} (m : Meaning S) (s t : Story) (old new newest : Ta
     → IfEnds next (EndsSo m old newest s t)
 steps-ends m s t old new newest next p which done fails-so = advance-ends m s t old new newest next (steps-of old new p) which (λ e. let d = done e in (d.0, d.1)) fails-so
 
+-- a command that was released
+pub release-goes : {S : Type 0} (m : Meaning S) (s t : Story) (old new newest : Target S) (place : ℕ) → ClosesForReason m → is_open old.end ≡ true → DefersFew (full_standing old) → new ≡ with_release m place old
+    → (is_open new.end ≡ true) × WritesAll new newest s t → GoesOn old newest s t
+release-goes m s t old new newest place reason opened few is h = advance-goes s t old new newest (HasEnded new) (rw is (release-advances m old place reason opened few)) h
+
+pub release-ends : {S : Type 0} (m : Meaning S) (s t : Story) (old new newest : Target S) (place : ℕ) (next : Next) → ClosesForReason m → is_open old.end ≡ true → DefersFew (full_standing old) → new ≡ with_release m place old
+    → IfEnds next (λ ended. (ended ≡ Done) ⊎ (ended ≡ LostByWrite))
+    → (next ≡ Ends Done → (is_open new.end ≡ false) × WritesAll new newest s t × Ran m newest)
+    → (next ≡ Ends LostByWrite → LosesAtWrite m new newest s t)
+    → IfEnds next (EndsSo m old newest s t)
+release-ends m s t old new newest place next reason opened few is which done fails-so =
+    advance-ends m s t old new newest next (rw is (release-advances m old place reason opened few)) which (λ e. let d = done e in (d.0, d.1)) fails-so
+
+-- a release wanted memory
+pub unreleased-ends : {S : Type 0} (m : Meaning S) (s : Story) (old new : Target S) → old.deferred ≢ [] → new ≡ old → EndsSo m old new s s ended.NoMemory
+unreleased-ends m s old new some same =
+    rw same (λ e. cc, λ base start k. (same-in-order base start s old k, (inr (inr some), (k.opened, k.kept), (k.failed_writes, refl))))
+
+-- the newest deferred command is there, where the end flows
+pub record Newest {S : Type 0} (v : Target S) : Type 0 where
+  pub message : Message
+  pub others : List Message
+  pub is : deferred_at (length v.deferred - 1) v ≡ Some (message, others)
+
+no-some : (xs : List Message) → 0 < length xs → xs ≢ []
+no-some [] some e = absurd (omega arith)
+no-some (x ∷ xs) some e = cc
+
+session-of : {S : Type 0} (v : Target S) (b : Bool) → is_established v.end ≡ b → (is_established v.end ≡ false → v.deferred ≡ []) → 0 < length v.deferred → b ≡ true
+session-of v true e none some = refl
+session-of v false e none some = absurd (no-some v.deferred some (none e))
+
+pub newest : {S : Type 0} (v : Target S) → DefersFew (full_standing v) → is_paused v.end ≡ false → 0 < length v.deferred → Newest v
+newest v few flows some =
+    let f = found (length v.deferred - 1) v.deferred (omega arith) in
+    let session = session-of v (is_established v.end) refl few.none some in
+    record { message = f.message; others = f.others; is = rw (session, flows) f.is }
+
+pub newest-released : {S : Type 0} (m : Meaning S) (old new : Target S) (turn : Turn) → DefersFew (full_standing old) → is_paused old.end ≡ false → ReleasesNewest m old (Ok turn) new → new ≡ with_release m (length old.deferred - 1) old
+newest-released m old new turn few flows (some, released) =
+    let n = newest old few flows some in
+    released-one m (length old.deferred - 1) old new (deferred_at (length old.deferred - 1) old) n.message n.others turn n.is released
+
+pub some-deferred : {S : Type 0} (v : Target S) → 0 < length v.deferred → v.deferred ≢ []
+some-deferred v some = no-some v.deferred some
+
 -- what waited was taken: the end is paused no more than before
 less-waits : (most n k : ℕ) → nat_le most n ≡ false → k ≤ n → nat_le most k ≡ false
 less-waits most n k e le = lt-leb most k (omega (arith, leb-false most n e, le))
@@ -276,7 +325,7 @@ memory-goes m s t old mid newest made p may h =
       λ e. cc,
       λ base start k.
           let now = going base start s old mid k (puts-if old mid made p) h.0 in
-          (same-in-order base start (with_written mid.end.outgoing s) (with_taken mid.end.outgoing mid) now, (inr (taken-flows mid may), (now.opened, now.kept), (now.failed_writes, refl))),
+          (same-in-order base start (with_written mid.end.outgoing s) (with_taken mid.end.outgoing mid) now, (inr (inl (taken-flows mid may)), (now.opened, now.kept), (now.failed_writes, refl))),
     )
 
 -- the same, and a write failed
@@ -307,14 +356,14 @@ read-goes s t old new newest same (more, fed, read) =
     rw (fed, read, same) (omega arith, λ base start k. read-going base start s old more k)
 
 -- a round that ends at a read
-pub read-next-ends : {S : Type 0} (m : Meaning S) (s t : Story) (old new newest : Target S) (next : Next) → Ran m old → is_open old.end ≡ true → is_paused old.end ≡ false → front_of old.end ≡ More → new ≡ old
+pub read-next-ends : {S : Type 0} (m : Meaning S) (s t : Story) (old new newest : Target S) (next : Next) → Ran m old → is_open old.end ≡ true → is_paused old.end ≡ false → front_of old.end ≡ More → old.deferred ≡ [] → new ≡ old
     → IfEnds next (λ ended. (ended ≡ LostByRead) × LosesAtRead new newest s t)
     → IfEnds next (EndsSo m old newest s t)
-read-next-ends m s t old new newest Goes ran opened flows more same which = tt
-read-next-ends m s t old new newest (Ends ended) ran opened flows more same (is, (loses, fails-so)) =
+read-next-ends m s t old new newest Goes ran opened flows more none same which = tt
+read-next-ends m s t old new newest (Ends ended) ran opened flows more none same (is, (loses, fails-so)) =
     let next : next_of old.end ≡ More = sym (front-next old.end flows) ∙ more in
-    let front = front-left (λ next. next ≡ More) old.end (handled ran.acts) ran.carries opened next in
-    rw (is, loses, same) (λ h. cc, λ base start k. read-ends m base start s t old k fails-so front ran)
+    let front = front-left (λ next. next ≡ More) old.end (handled (acts_in ran.deeds)) ran.carries opened next in
+    rw (is, loses, same) (λ h. cc, λ base start k. read-ends m base start s t old k fails-so front ran none)
 
 -- a round that ends at a fault
 pub fault-next-ends : {S : Type 0} (m : Meaning S) (s : Story) (old new : Target S) (fault : FrameFault) (number : ℕ) → Ran m old → is_open old.end ≡ true
@@ -322,7 +371,7 @@ pub fault-next-ends : {S : Type 0} (m : Meaning S) (s : Story) (old new : Target
     → (base : Target S) (start : Story) → IsGoing base start s old → InOrder base start s new × MayEnd m (Refused number) start (flushed s) new
 fault-next-ends m s old new fault number ran opened turned number-is base start k =
     let f = frame-Fault m (front_of old.end) old new fault turned in
-    let front = front-left (IsFaultOf number) old.end (handled ran.acts) ran.carries opened (fault, number-is, front-fault old.end fault f.0) in
+    let front = front-left (IsFaultOf number) old.end (handled (acts_in ran.deeds)) ran.carries opened (fault, number-is, front-fault old.end fault f.0) in
     rw f.1 (lost-in-order base start s old k, (front, (old, ran, k.kept, refl), inl (k.failed_writes, refl)))
 
 -- a round that ends for want of memory
@@ -333,7 +382,7 @@ memory-next-ends m s old new ran opened turned base start k =
     let n = no_memory-Whole m (front_of old.end) old new turned in
     let w = n.0 in
     let next = (front-whole old.end w.0 w.1 w.2).1 in
-    let front = front-left (CallsForMemory m old) old.end (handled ran.acts) ran.carries opened (w.0, w.1, next, w.3) in
+    let front = front-left (CallsForMemory m old) old.end (handled (acts_in ran.deeds)) ran.carries opened (w.0, w.1, next, w.3) in
     rw n.1 (same-in-order base start s old k, (inl front, (k.opened, k.kept), (k.failed_writes, refl)))
 
 -- ---- flushes
@@ -416,7 +465,7 @@ kept-by m LostByWrite start now target which h = absurd (elim which [ inl e ↦ 
 kept-by m (Refused number) start now target which h = absurd (elim which [ inl e ↦ cc | inr (inl e) ↦ cc | inr (inr e) ↦ cc ])
 
 pub lost-by : {S : Type 0} (m : Meaning S) (e : Ended) (start now : Story) (target : Target S) → (e ≡ LostByRead) ⊎ (e ≡ LostByWrite) → MayEnd m e start now target → IsLost m target
-lost-by m LostByRead start now target which h = h.2
+lost-by m LostByRead start now target which h = let x = h.2 in (x.0, x.1, x.2, x.4)
 lost-by m LostByWrite start now target which h = h.1
 lost-by m (Refused number) start now target which h = absurd (elim which [ inl e ↦ cc | inr e ↦ cc ])
 lost-by m Done start now target which h = absurd (elim which [ inl e ↦ cc | inr e ↦ cc ])

@@ -1,19 +1,19 @@
--- A round has one turn that handles a message, or one read, at most.
-use Rattle.std.proofs.Common.{◌≡◌, ◌∙◌, ℕ, ◌≤◌, ◌+◌, Bool, true, false, Option, None, Result, Ok, Err, ap, refl, arith}
-use Rattle.jdwp_wire.specs.Streams.{NextMessage, Whole, More, Fault}
+-- A round has one turn that takes a message off, or one read, at most.
+use Rattle.std.proofs.Common.{◌≡◌, ◌∙◌, ℕ, ◌≤◌, ◌+◌, Bool, true, false, List, Option, Some, None, Result, Ok, Err, ap, refl, arith}
+use Rattle.jdwp_wire.specs.Streams.{Message, NextMessage, Whole, More, Fault}
 use Rattle.jdwp_end.specs.Ends.{front_of}
 use Rattle.jdwp_machine.specs.Meanings.{Meaning}
 use Rattle.jdwp_target.specs.declared.target.Stepped.{Stepped}
 use Rattle.jdwp_target.specs.declared.target.TargetFault.{TargetFault}
 use Rattle.jdwp_target.specs.declared.target.Turn.{Turn}
 use Rattle.jdwp_target.specs.Targets.{Target, opened_target}
-use Rattle.jdwp_target.specs.Turns.{StepsWhere, TurnsAt, is_frozen}
+use Rattle.jdwp_target.specs.Turns.{ReleasesAt, StepsWhere, TurnsAt, is_frozen}
 use Rattle.jdwp_pipe.specs.declared.ended.Ended.{Ended}
 use Rattle.jdwp_pipe.specs.declared.ended.Ended.TheVariants.{Done, LostByRead, LostByWrite, Refused, NoMemory, TurnLimit}
 use Rattle.jdwp_pipe.specs.Story.{Story}
 use Rattle.jdwp_engine.specs.Rounds.{StepsEach, Over, Wants}
 use Rattle.jdwp_engine.specs.Rounds as rounds
-use Rattle.jdwp_engine.specs.Sessions.{LastRound, Moves, Round, Rounds, Runs, Serves, Turns, Steps, Writes, Reads, Closes, CantWrite, CantFlush, CantRead, Faults, WantsToTurn, WantsToStep, NoRound, OneMore, All, Until, Leaves, Stays, unflushed_target}
+use Rattle.jdwp_engine.specs.Sessions.{LastRound, Moves, Round, Rounds, Runs, Serves, Turns, Releases, Steps, Writes, Reads, Closes, CantWrite, CantFlush, CantRead, Faults, WantsToTurn, WantsToRelease, WantsToStep, NoRound, OneMore, All, Until, Leaves, Stays, unflushed_target}
 
 -- turns that handled a message, and reads with room
 abbrev turns : {S : Type 0} → Target S → ℕ
@@ -45,16 +45,27 @@ stops-turns {S = S} m (Whole message used) old new fault h = ap (λ (x : Target 
 stops-turns m More old new fault h = absurd (let e = h.0 in cc)
 stops-turns {S = S} m (Fault fault') old new fault h = ap (λ (x : Target S). turns x) h.1
 
+-- a release takes none off
+release-turns : {S : Type 0} (m : Meaning S) (place : ℕ) (o : Option (Message × List Message)) (old new : Target S) (turn : Turn) → ReleasesAt m place o old (Ok turn) new → turns new ≡ turns old
+release-turns {S = S} m place None old new turn h = ap (λ (x : Target S). turns x) h.1
+release-turns {S = S} m place (Some (message, others)) old new turn h = ap (λ (x : Target S). turns x) h.1
+
+unreleased-turns : {S : Type 0} (m : Meaning S) (place : ℕ) (o : Option (Message × List Message)) (old new : Target S) (fault : TargetFault) → ReleasesAt m place o old (Err fault) new → turns new ≡ turns old
+unreleased-turns m place None old new fault h = absurd (let e = h.0 in cc)
+unreleased-turns {S = S} m place (Some (message, others)) old new fault h = ap (λ (x : Target S). turns x) h.2
+
 -- ---- rounds
 
 moves-spent : {S : Type 0} (m : Meaning S) (old mid : Target S) (before now : Story) (came : Result Bool TargetFault) → Moves m old before came mid now → spent mid now ≤ spent old before + 1
 moves-spent m old mid before now came (Turns turn mid' some turned) = omega (arith, turn-turns m (front_of old.end) old mid' turn turned)
-moves-spent m old mid before now came (Steps came' mid' asks each) = omega (arith, steps-turns m None old mid' came' each)
+moves-spent m old mid before now came (Releases turn mid' asks released) = omega (arith, release-turns m _ _ old mid' turn released.1)
+moves-spent m old mid before now came (Steps came' mid' asks none each) = omega (arith, steps-turns m None old mid' came' each)
 
 -- where nothing was handled
 rests-spent : {S : Type 0} (m : Meaning S) (old mid : Target S) (before now : Story) (came : Result Bool TargetFault) → came ≡ Ok false → Moves m old before came mid now → spent mid now ≡ spent old before
 rests-spent m old mid before now came rests (Turns turn mid' some turned) = absurd (let e = rests in cc)
-rests-spent m old mid before now came rests (Steps came' mid' asks each) = omega (arith, steps-turns m None old mid' came' each)
+rests-spent m old mid before now came rests (Releases turn mid' asks released) = absurd (let e = rests in cc)
+rests-spent m old mid before now came rests (Steps came' mid' asks none each) = omega (arith, steps-turns m None old mid' came' each)
 
 round-spent : {S : Type 0} (m : Meaning S) (old new : Target S) (before after : Story) → Round m old before new after → spent new after ≤ spent old before + 1
 round-spent m old new before after (Writes mid now moves opened writes) = rw (writes.0, writes.1) (moves-spent m old mid before now (Ok true) moves)
@@ -71,6 +82,7 @@ last-spent m old new before after how (CantFlush asks fails is) = rw (is, fails)
 last-spent m old new before after how (CantRead mid now moves loses) = rw (loses.0, loses.1.rooms) (omega (arith, rests-spent m old mid before now (Ok false) refl moves))
 last-spent m old new before after how (Faults fault turned same) = rw same (omega (arith, stops-turns m (front_of old.end) old new _ turned))
 last-spent m old new before after how (WantsToTurn turned same) = rw same (omega (arith, stops-turns m (front_of old.end) old new _ turned))
+last-spent m old new before after how (WantsToRelease asks released same) = rw same (omega (arith, unreleased-turns m _ _ old new _ released.1))
 last-spent m old new before after how (WantsToStep fault mid now moves writes) = rw (writes.0, writes.1) (moves-spent m old mid before now (Err fault) moves)
 
 -- ---- a session

@@ -40,6 +40,10 @@ IsFaultOf number next = (fault : FrameFault) × (number ≡ fault_number fault) 
 abbrev pub IsLost : {S : Type 0} → Meaning S → Target S → Type 0
 IsLost {S = S} m target = (before : Target S) × Ran m before × (before.end.session.lost ≡ false) × (target ≡ lost_target before)
 
+-- the same, where nothing was deferred: all that was taken off was answered
+abbrev pub IsLostAtRest : {S : Type 0} → Meaning S → Target S → Type 0
+IsLostAtRest {S = S} m target = (before : Target S) × Ran m before × (before.end.session.lost ≡ false) × (before.deferred ≡ []) × (target ≡ lost_target before)
+
 -- the session goes on
 abbrev pub IsKept : {S : Type 0} → Target S → Type 0
 IsKept target = (is_open target.end ≡ true) × (target.end.session.lost ≡ false)
@@ -58,10 +62,10 @@ abbrev pub MayEnd : {S : Type 0} → Meaning S → Ended → Story → Story →
 MayEnd m Done start now target =
     (EndsInDispose target.end ⊎ (target.moment.state.alive ≡ false)) × (is_open target.end ≡ false) × (target.end.session.lost ≡ false) × HasLeft start now
 MayEnd m LostByRead start now target =
-    (start.failed_reads + start.ends < now.failed_reads + now.ends) × FrontIs (λ next. next ≡ More) target.end × IsLost m target × HasLeft start now
+    (start.failed_reads + start.ends < now.failed_reads + now.ends) × FrontIs (λ next. next ≡ More) target.end × IsLostAtRest m target × HasLeft start now
 MayEnd m LostByWrite start now target = (start.failed_writes < now.failed_writes) × IsLost m target
 MayEnd m (Refused number) start now target = FrontIs (IsFaultOf number) target.end × IsLost m target × HasLeftOrFails start now
-MayEnd m NoMemory start now target = (FrontIs (CallsForMemory m target) target.end ⊎ MayStep target) × IsKept target × HasLeft start now
+MayEnd m NoMemory start now target = (FrontIs (CallsForMemory m target) target.end ⊎ (MayStep target ⊎ (target.deferred ≢ []))) × IsKept target × HasLeft start now
 MayEnd m TurnLimit start now target = IsKept target × HasLeft start now
 
 -- A round that ends so, in every run that came to it, once all that was written has left.

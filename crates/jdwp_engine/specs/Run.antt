@@ -5,6 +5,7 @@ use Rattle.jdwp_end.specs.Ends.{is_open}
 use Rattle.jdwp_end.specs.Runs.{IsFront}
 use Rattle.jdwp_machine.specs.Meanings.{Meaning}
 use Rattle.jdwp_target.specs.Standings.{stands}
+use Rattle.jdwp_target.specs.Deeds.{with_none_deferred}
 use Rattle.jdwp_target.specs.Targets.{Target, Ran, lost_target, with_fed, with_taken}
 use Rattle.jdwp_pipe.specs.Story.{FailsRead, FailsWrite, Story, with_read, with_written}
 
@@ -12,7 +13,7 @@ use Rattle.jdwp_pipe.specs.Story.{FailsRead, FailsWrite, Story, with_read, with_
 -- is a beginning of what the target enqueued, and all of it where no write failed, and before each read all that was written had left.
 pub record InOrder {S : Type 0} (base : Target S) (start now : Story) (target : Target S) : Type 0 where
   pub settings : target.settings ≡ base.settings
-  pub began : target.began ≡ stands base.moment AwaitingHandshake
+  pub began : target.began ≡ with_none_deferred (stands base.moment AwaitingHandshake) base.deferring
   pub read : now.read ≡ start.read ++ target.end.session.fed
   pub written : (bytes : List ℕ) × (now.written ≡ start.written ++ bytes) × IsFront bytes target.end.session.enqueued
   pub whole : now.failed_writes ≡ start.failed_writes → now.written ≡ start.written ++ target.end.session.enqueued
@@ -25,7 +26,7 @@ pub record IsGoing {S : Type 0} (base : Target S) (start now : Story) (target : 
   pub kept : target.end.session.lost ≡ false
   pub idle : target.end.outgoing ≡ []
   pub settings : target.settings ≡ base.settings
-  pub began : target.began ≡ stands base.moment AwaitingHandshake
+  pub began : target.began ≡ with_none_deferred (stands base.moment AwaitingHandshake) base.deferring
   pub read : now.read ≡ start.read ++ target.end.session.fed
   pub written : now.written ≡ start.written ++ target.end.session.enqueued
   pub failed_reads : now.failed_reads ≡ start.failed_reads
@@ -52,9 +53,9 @@ LosesAtRead old new before after = (new ≡ lost_target old) × FailsRead before
 
 -- ---- what a run costs
 
--- the turns of the session that handled a message, its steps that were made, and the reads with room
+-- the turns of the session that took a message off, its steps that were made, its releases, and the reads with room
 abbrev pub cost : {S : Type 0} → Story → Target S → ℕ
-cost story target = target.end.session.turns + target.steps + story.rooms
+cost story target = target.end.session.turns + target.steps + target.releases + story.rooms
 
 -- A round that goes on, in every run that came to it: nothing failed, and it cost something.
 abbrev pub GoesOn : {S : Type 0} → Target S → Target S → Story → Story → Type 0

@@ -1,5 +1,6 @@
--- A session that an engine runs, round by round: a turn; where it handles nothing, a step of each live thread; where none steps, a read.
-use Rattle.std.specs.Prelude.{◌≡◌, ◌≢◌, ℕ, ◌<◌, ◌+◌, Bool, true, false, None, Result, Ok, Err}
+-- A session that an engine runs, round by round: a turn; where it handles nothing, the newest deferred command is released, and where none
+-- is, each live thread steps; where none steps, a read.
+use Rattle.std.specs.Prelude.{◌≡◌, ◌≢◌, ℕ, ◌<◌, ◌+◌, ◌-◌, Bool, true, false, [], length, None, Result, Ok, Err}
 use Rattle.jdwp_wire.specs.FaultNumbers.{fault_number}
 use Rattle.jdwp_wire.specs.declared.frame.FrameFault.{FrameFault}
 use Rattle.jdwp_wire.specs.Streams.{More}
@@ -11,7 +12,7 @@ use Rattle.jdwp_target.specs.declared.target.TargetFault.TheVariants as target_f
 use Rattle.jdwp_target.specs.declared.target.Turn.{Turn}
 use Rattle.jdwp_target.specs.declared.target.Turn.TheVariants.{Nothing}
 use Rattle.jdwp_target.specs.Targets.{Target, lost_target}
-use Rattle.jdwp_target.specs.Turns.{TurnsAt}
+use Rattle.jdwp_target.specs.Turns.{ReleasesAt, TurnsAt, deferred_at}
 use Rattle.jdwp_pipe.specs.declared.ended.Ended.{Ended}
 use Rattle.jdwp_pipe.specs.declared.ended.Ended.TheVariants.{Done, LostByRead, LostByWrite, Refused, NoMemory, TurnLimit}
 use Rattle.jdwp_pipe.specs.Endings.{unflushed_end}
@@ -21,19 +22,25 @@ use Rattle.jdwp_engine.specs.Run.{LosesAtRead, LosesAtWrite, ReadsMore, WritesAl
 
 -- ---- a round
 
--- What comes of a round before it writes or reads: `Ok true` where its turn handled a message; and where there was nothing to handle, all
--- that was written left, and it is what came of a step of each live thread.
+-- the newest deferred command is released, with this answer
+abbrev pub ReleasesNewest : {S : Type 0} → Meaning S → Target S → Result Turn TargetFault → Target S → Type 0
+ReleasesNewest m old result new =
+    (0 < length old.deferred) × ReleasesAt m (length old.deferred - 1) (deferred_at (length old.deferred - 1) old) old result new
+
+-- What comes of a round before it writes or reads: `Ok true` where its turn took a message off; and where there was nothing to handle, all
+-- that was written left, and it is what came of a release, or where nothing was deferred of a step of each live thread.
 pub data Moves {S : Type 0} (m : Meaning S) (old : Target S) (before : Story) : Result Bool TargetFault → Target S → Story → Type 0 where
   Turns : (turn : Turn) (new : Target S) → turn ≢ Nothing → TurnsAt m (front_of old.end) old (Ok turn) new → Moves m old before (Ok true) new before
-  Steps : (came : Result Bool TargetFault) (new : Target S) → front_of old.end ≡ More → StepsEach m None old came new → Moves m old before came new (flushed before)
+  Releases : (turn : Turn) (new : Target S) → front_of old.end ≡ More → ReleasesNewest m old (Ok turn) new → Moves m old before (Ok true) new (flushed before)
+  Steps : (came : Result Bool TargetFault) (new : Target S) → front_of old.end ≡ More → old.deferred ≡ [] → StepsEach m None old came new → Moves m old before came new (flushed before)
 
--- A round that goes on: what a message or steps put was written; or nothing was handled, no step was made, and bytes were read.
+-- A round that goes on: what a message, a release or steps put was written; or nothing was handled, no step was made, and bytes were read.
 pub data Round {S : Type 0} (m : Meaning S) (old : Target S) (before : Story) (new : Target S) (after : Story) : Type 0 where
   Writes : (mid : Target S) (now : Story) → Moves m old before (Ok true) mid now → is_open mid.end ≡ true → WritesAll mid new now after → Round m old before new after
   Reads : (mid : Target S) (now : Story) → Moves m old before (Ok false) mid now → ReadsMore mid new now after → Round m old before new after
 
 -- A round that ends so: the session closed, and what was put was written; a write, the flush or the read failed; a fault stands in front;
--- or a turn or a step wanted memory, and what steps before it put was written.
+-- or a turn, a release or a step wanted memory, and what steps before it put was written.
 pub data LastRound {S : Type 0} (m : Meaning S) (old : Target S) (before : Story) (new : Target S) (after : Story) : Ended → Type 0 where
   Closes : (mid : Target S) (now : Story) → Moves m old before (Ok true) mid now → is_open mid.end ≡ false → WritesAll mid new now after → LastRound m old before new after Done
   CantWrite : (came : Result Bool TargetFault) (mid : Target S) (now : Story) → Moves m old before came mid now → came ≢ Ok false → LosesAtWrite m mid new now after
@@ -42,6 +49,7 @@ pub data LastRound {S : Type 0} (m : Meaning S) (old : Target S) (before : Story
   CantRead : (mid : Target S) (now : Story) → Moves m old before (Ok false) mid now → LosesAtRead mid new now after → LastRound m old before new after LostByRead
   Faults : (fault : FrameFault) → TurnsAt m (front_of old.end) old (Err (Frame fault)) new → after ≡ before → LastRound m old before new after (Refused (fault_number fault))
   WantsToTurn : TurnsAt m (front_of old.end) old (Err target_fault.NoMemory) new → after ≡ before → LastRound m old before new after NoMemory
+  WantsToRelease : front_of old.end ≡ More → ReleasesNewest m old (Err target_fault.NoMemory) new → after ≡ flushed before → LastRound m old before new after NoMemory
   WantsToStep : (fault : TargetFault) (mid : Target S) (now : Story) → Moves m old before (Err fault) mid now → WritesAll mid new now after → LastRound m old before new after NoMemory
 
 -- ---- a session

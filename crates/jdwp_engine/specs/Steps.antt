@@ -3,7 +3,7 @@ use Rattle.std.specs.Prelude.{◌≡◌, ℕ, ◌<◌, ◌+◌, Bool, true, fals
 use Rattle.jdwp_end.specs.Ends.{is_open}
 use Rattle.jdwp_target.specs.Targets.{Target}
 
--- A message was handled, or steps were made: bytes were enqueued to leave behind those that wait, turns or steps were counted, and where
+-- A message was taken off, a command released, or steps were made: bytes were enqueued to leave behind those that wait, which was counted, and where
 -- the session closed, this is why.
 pub record Advances {S : Type 0} (old new : Target S) (why : Type 0) : Type 0 where
   pub settings : new.settings ≡ old.settings
@@ -13,7 +13,7 @@ pub record Advances {S : Type 0} (old new : Target S) (why : Type 0) : Type 0 wh
   pub bytes : List ℕ
   pub enqueued : new.end.session.enqueued ≡ old.end.session.enqueued ++ bytes
   pub outgoing : new.end.outgoing ≡ old.end.outgoing ++ bytes
-  pub costs : old.end.session.turns + old.steps < new.end.session.turns + new.steps
+  pub costs : old.end.session.turns + (old.steps + old.releases) < new.end.session.turns + (new.steps + new.releases)
   pub closes : is_open new.end ≡ false → why
 
 -- steps were made, of threads one after the other; a session that they close has a dead machine

@@ -1,5 +1,5 @@
 //! The engine that runs a target on a pipe.
-ghost use Rattle.std.specs.Prelude.{◌≡◌, ◌⊎◌, ◌<◌, ◌≤◌, ◌+◌, ◌++◌, ◌∷◌, ◌||◌, [], ℕ, Bool, List, None, Ok, Err, true, false, IfOk, IfErr, OnErr};
+ghost use Rattle.std.specs.Prelude.{◌≡◌, ◌⊎◌, ◌<◌, ◌≤◌, ◌+◌, ◌++◌, ◌∷◌, ◌||◌, [], ℕ, Bool, List, None, Ok, Err, true, false, length, IfOk, IfErr, OnErr};
 ghost use Rattle.jdwp_end.specs.Ends.{front_of, is_open, is_paused, room_of};
 ghost use Rattle.jdwp_wire.specs.Streams.{More};
 ghost use Rattle.jdwp_machine.specs.Meanings.{numbers};
@@ -24,12 +24,13 @@ use jdwp_value::ObjectId;
 /// Runs the target on the pipe for one session, for at most so many rounds.
 ///
 /// It begins with `accept`; a target that is already open is `Refused(0)`, and one whose machine is dead is `Done` at once, with nothing
-/// touched. A round is one turn; if that handled nothing, the pipe is flushed, then comes one step of each live thread by rising id, and
-/// if none of them stepped, one read of at most 4,096 bytes and of what the target has room for, which are fed. What waits to leave is
-/// written after each round, and the pipe is flushed at the end of the session, whatever ends it. The session is done after Dispose, and
-/// where the machine died. Where the input ends, or a read, a write or a flush fails, the target loses the connection; a write or flush
-/// that fails is `LostByWrite`, wherever it comes, but for the last flush behind a frame fault, which stays `Refused`. Where a turn or a
-/// step wants memory the session ends with `NoMemory` and stays open. It takes no memory of its own.
+/// touched. A round is one turn; if that handled nothing, the pipe is flushed, and where commands are deferred the newest is released;
+/// else comes one step of each live thread by rising id, and if none of them stepped, one read of at most 4,096 bytes and of what the
+/// target has room for, which are fed. What waits to leave is written after each round, and the pipe is flushed at the end of the
+/// session, whatever ends it. The session is done after Dispose, and where the machine died. Where the input ends, or a read, a write or
+/// a flush fails, the target loses the connection; a write or flush that fails is `LostByWrite`, wherever it comes, but for the last
+/// flush behind a frame fault, which stays `Refused`. Where a turn, a release or a step wants memory the session ends with `NoMemory` and
+/// stays open. It takes no memory of its own.
 pub fn serve<M: Machine + Drop, P: Pipe>(target: &mut Target<M>, pipe: &mut P, rounds: u64) -> Ended
     ensures refused { is_open target.old.end ≡ true → (result ≡ Ended.Refused 0)
         × (target.new ≡ target.old) × (P.story pipe.new ≡ P.story pipe.old) }
@@ -137,7 +138,8 @@ enum Next {
     Ends(Ended),
 }
 
-/// One turn, and if it handled nothing a flush and a step of each live thread, or else one read. What waits to leave is written.
+/// One turn, and if it handled nothing a flush and the release of the newest deferred command, or a step of each live thread, or else one
+/// read. What waits to leave is written.
 fn round<M: Machine + Drop, P: Pipe>(
     target: &mut Target<M>,
     pipe: &mut P,
@@ -167,7 +169,7 @@ fn round<M: Machine + Drop, P: Pipe>(
     }
 }
 
-/// Sees that all that was written leaves, and then steps or reads.
+/// Sees that all that was written leaves, and then releases, steps or reads.
 fn flush_and_go<M: Machine + Drop, P: Pipe>(
     target: &mut Target<M>,
     pipe: &mut P,
@@ -192,7 +194,40 @@ fn flush_and_go<M: Machine + Drop, P: Pipe>(
         target.lose();
         return Next::Ends(Ended::LostByWrite);
     }
-    step_or_read(target, pipe, buffer)
+    if target.deferred() > 0 {
+        release_and_go(target, pipe, buffer)
+    } else {
+        step_or_read(target, pipe, buffer)
+    }
+}
+
+/// Releases the newest deferred command. What waits to leave is written.
+fn release_and_go<M: Machine + Drop, P: Pipe>(
+    target: &mut Target<M>,
+    pipe: &mut P,
+    buffer: &mut [u8; CHUNK],
+) -> Next
+    requires is_open { is_open target.old.end ≡ true }
+    requires asks { front_of target.old.end ≡ More }
+    requires flows { is_paused target.old.end ≡ false }
+    requires waits { 0 < length target.old.deferred }
+    requires left { (P.story pipe.old).unflushed ≡ [] }
+    ensures goes { result ≡ Next.Goes → GoesOn target.old target.new (P.story pipe.old)
+        (P.story pipe.new) }
+    ensures ends { IfEnds result (EndsSo M.meaning target.old target.new (P.story pipe.old)
+        (P.story pipe.new)) }
+    ensures round { result ≡ Next.Goes → (before : Story) → P.story pipe.old ≡ flushed before
+        → Round M.meaning target.old before target.new (P.story pipe.new) }
+    ensures last { IfEnds result (λ ended. (before : Story) → P.story pipe.old ≡ flushed before
+        → LastRound M.meaning target.old before target.new (P.story pipe.new) ended) }
+{
+    closes_for_a_reason::<M>();
+    target.session();
+    let newest = target.deferred() - 1;
+    match target.release(newest) {
+        Ok(_) => write_and_go(target, pipe, buffer),
+        Err(_) => Next::Ends(Ended::NoMemory),
+    }
 }
 
 /// One step of each live thread, and if none of them stepped one read. What waits to leave is written.
@@ -206,6 +241,7 @@ fn step_or_read<M: Machine + Drop, P: Pipe>(
     requires asks { front_of target.old.end ≡ More }
     requires flows { is_paused target.old.end ≡ false }
     requires room { 0 < room_of target.old.end }
+    requires none { target.old.deferred ≡ [] }
     requires left { (P.story pipe.old).unflushed ≡ [] }
     ensures goes { result ≡ Next.Goes → GoesOn target.old target.new (P.story pipe.old)
         (P.story pipe.new) }

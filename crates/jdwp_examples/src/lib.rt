@@ -1,4 +1,4 @@
-//! Examples: a type of one's own that packets carry; and, as tests, worked frames, values, the table of commands, and event requests.
+//! Examples: a type of one's own that packets carry; and, as tests, worked frames, values, the table of commands, event requests, and suspend counts.
 //!
 //! They stand apart from the crates that they try, which are then proved once less.
 #![tactic(auto)]
@@ -14,6 +14,8 @@ mod event_tests;
 mod frame_tests;
 #[cfg(test)]
 mod happening_tests;
+#[cfg(test)]
+mod level_tests;
 #[cfg(test)]
 mod request_tests;
 #[cfg(test)]

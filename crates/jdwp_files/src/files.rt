@@ -118,14 +118,15 @@ fn serve_bytes<'a, I: Read, O: Write>(
 ) -> Result<Ended, Fault<'a>>
     ensures served { IfOk result (λ ended. IsUtf8 bytes.now × (machine : State)
         × (read_machine words.now.settings.limits.live bytes.now ≡ Ok machine)
-        × ServesNew script_meaning words.now.settings machine words.now.turns
+        × ServesNew script_meaning words.now.settings words.now.defer machine words.now.turns
         (story_of pipe.old) (story_of pipe.new) ended) }
     ensures fault { IfErr result (RefusesScript words.now.settings.limits
         words.now.machine bytes.now) }
     ensures untouched { OnErr result (pipe.new ≡ pipe.old) }
 {
     let script = text(words.machine, bytes)?;
-    match serve_script(alloc, script, words.settings, pipe, words.turns) {
+    let (settings, defer) = (words.settings, words.defer);
+    match serve_script(alloc, script, settings, defer, pipe, words.turns) {
         Ok(ended) => Ok(ended),
         Err(fault) => {
             let detail = fault.detail(alloc, script, &words.settings.limits());

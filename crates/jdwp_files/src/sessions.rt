@@ -49,6 +49,7 @@ pub fn serve_port<'a, R: Files + AllocGlobal + Net, E: Write>(
     let bytes = read(rt, words.machine)?;
     let machine = machine_of(rt.alloc(), words.machine, &bytes, &words.settings.limits())?;
     let mut target = Target::with_settings(rt.alloc(), machine, words.settings)?;
+    target.set_deferring(words.defer);
     let listener = bind(rt, port)?;
     let rounds = u64::from(words.turns);
     let tell = |number| {
@@ -148,15 +149,17 @@ fn pair_bytes<'a, C: Connection, O: Pipe>(
     ensures paired { IfOk result (λ ended. (machine : State) × (said : List declared.PlanLine)
         × (read_machine words.now.settings.limits.live script.now ≡ Ok machine)
         × Says (lines plan.now) (map said_by said)
-        × PairsNew script_meaning words.now.settings machine said ended) }
+        × PairsNew script_meaning words.now.settings words.now.defer machine said ended) }
     ensures failed { IfOk result (λ ended. is_some (C.failed_by connection.new)
         ≡ is_disconnected ended) }
     ensures unprinted { OnErr result (out.new ≡ out.old) }
 {
     let machine = machine_of(alloc, words.machine, script, &words.settings.limits())?;
     let lines = plan_of(alloc, words.plan, plan)?;
-    let (settings, turns) = (words.settings, words.turns);
-    let ended = pair_session(alloc, machine, settings, connection, &lines, out, turns)?;
+    let (settings, defer, turns) = (words.settings, words.defer, words.turns);
+    let ended = pair_session(
+        alloc, machine, settings, defer, connection, &lines, out, turns,
+    )?;
     Ok(ended)
 }
 

@@ -30,12 +30,12 @@ use Rattle.jdwp_link.specs.Laws.{FindsMessages}
 use Rattle.jdwp_link.specs.Links.{Link, way_to_target}
 use Rattle.jdwp_link.specs.Stands.{Parts, widths_where}
 use Rattle.jdwp_link.specs.Told.{refusal_told}
-use Rattle.jdwp_link.specs.Wires.{CallWire, PacketWire, Waiting, IsAmong, AreCalls, Awaits, HaveTickets, calls_sent, replied, ticket_of, waiting, without_ids}
+use Rattle.jdwp_link.specs.Wires.{CallWire, PacketWire, Waiting, IsAmong, Awaits, replied, waiting, without_ids}
 use Rattle.jdwp_link.specs.Wires as wires
 use Rattle.jdwp_link.proofs.Finding.{flows-debugger}
 use Rattle.jdwp_link.proofs.Reading.{known-sizes, unknown-sizes}
 use Rattle.jdwp_link.proofs.Sizes.{without-append}
-use Rattle.jdwp_link.proofs.Wired.{all-append, among-back, among-either, among-front, asked-append, cut-asked, waiting-append}
+use Rattle.jdwp_link.proofs.Wired.{all-append, among-back, among-either, among-front, asked-behind, cut-asked, waiting-append}
 
 -- ---- why it is refused
 
@@ -152,12 +152,12 @@ same-widths w false v h = absurd (cc)
 -- ---- it is sent
 
 -- one more waits, and is under way
-awaits-more : {S : Type 0} (pending : List Asked) (new : Asked) (sent : CallWire) (from : List (PacketWire S)) (to : List CallWire) → wires.asked (sent ∷ []) ≡ waiting (new ∷ []) → Awaits pending from to → Awaits (pending ++ new ∷ []) from (to ++ sent ∷ [])
-awaits-more pending new sent from to same a p h =
-    let whole : IsAmong p ((replied from ++ wires.asked to) ++ waiting (new ∷ [])) =
-    subst (IsAmong p) (ap (λ l. replied from ++ l) (asked-append to (sent ∷ []) ∙ ap (λ l. wires.asked to ++ l) same) ∙ sym (append_assoc (replied from) (wires.asked to) (waiting (new ∷ [])))) h in
+awaits-more : {S : Type 0} (pending : List Asked) (new : Asked) (sent : CallWire) (from : List (PacketWire S)) (deferred : List Waiting) (to : List CallWire) → wires.asked (sent ∷ []) ≡ waiting (new ∷ []) → Awaits pending from deferred to → Awaits (pending ++ new ∷ []) from deferred (to ++ sent ∷ [])
+awaits-more pending new sent from deferred to same a p h =
+    let before = replied from ++ (deferred ++ wires.asked to) in
+    let whole : IsAmong p (before ++ waiting (new ∷ [])) = subst (IsAmong p) (asked-behind from deferred to sent ∙ ap (λ l. before ++ l) same) h in
     subst (IsAmong p) (sym (waiting-append pending (new ∷ [])))
-    (elim (among-either p (replied from ++ wires.asked to) (waiting (new ∷ [])) whole) [
+    (elim (among-either p before (waiting (new ∷ [])) whole) [
       | inl b ↦ among-front p (waiting pending) (waiting (new ∷ [])) (a p b)
       | inr b ↦ among-back p (waiting pending) (waiting (new ∷ [])) b
     ])
@@ -172,7 +172,7 @@ asked-parts m settings w l x c id s o encoded sendable =
     let sent : CallWire = (id, Asks (Some (x.asked + 1)) c) in
     let ticket : d.tickets + 1 ≡ x.asked + 1 = ap (λ n. n + 1) s.debugger.tickets in
     record {
-      target = record { same_settings = s.target.same_settings; limits = s.target.limits; sizes = s.target.sizes; now = s.target.now; phase = s.target.phase; lost = s.target.lost };
+      target = record { same_settings = s.target.same_settings; limits = s.target.limits; sizes = s.target.sizes; now = s.target.now; phase = s.target.phase; lost = s.target.lost; deferring = s.target.deferring };
       debugger = record {
         limits = s.debugger.limits;
         phase = s.debugger.phase;
@@ -194,13 +194,14 @@ asked-parts m settings w l x c id s o encoded sendable =
             (sym (append_assoc l.to_target d.end.outgoing (command_bytes w id c)) ∙ ap (λ b. way_to_target l ++ b) (sym (append-nil (packet_bytes (command_header w id c) (carried_bytes w c.carried))))) s.to.cut;
         kept = s.to.kept;
       };
+      deferred = record { wires = s.deferred.wires; commands = s.deferred.commands; messages = s.deferred.messages; sent = s.deferred.sent };
       from = record {
         wires = s.from.wires;
         packets = s.from.packets;
         sent = s.from.sent;
         cut = record { number = s.from.cut.number; there = s.from.cut.there; left = s.from.cut.left };
         kept = s.from.kept;
-        awaits = λ _. awaits-more d.pending new sent s.from.wires s.to.wires (ap (λ n. (id, (Some n, c)) ∷ []) (sym ticket)) (s.from.awaits o);
+        awaits = λ _. awaits-more d.pending new sent s.from.wires s.deferred.wires s.to.wires (ap (λ n. (id, (Some n, c)) ∷ []) (sym ticket)) (s.from.awaits o);
       };
     }
 

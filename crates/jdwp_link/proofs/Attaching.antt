@@ -27,6 +27,7 @@ parts-did m settings w l x did s = record {
   target = s.target;
   debugger = s.debugger;
   to = record { wires = s.to.wires; calls = s.to.calls; sent = s.to.sent; cut = s.to.cut; kept = s.to.kept };
+  deferred = s.deferred;
   from = record { wires = s.from.wires; packets = s.from.packets; sent = s.from.sent; cut = s.from.cut; kept = s.from.kept; awaits = s.from.awaits };
 }
 
@@ -38,7 +39,7 @@ same-may m settings w l x s =
 
 attached-parts : {S : Type 0} (m : Meaning S) (settings : Settings) (w : Widths) (l : Link S) (x : World S) → Parts m settings w l x → x.pending ≡ [] → Parts m settings w (attached l) (next.attached x)
 attached-parts m settings w l x s empty = record {
-  target = record { same_settings = s.target.same_settings; limits = s.target.limits; sizes = s.target.sizes; now = s.target.now; phase = refl; lost = refl };
+  target = record { same_settings = s.target.same_settings; limits = s.target.limits; sizes = s.target.sizes; now = s.target.now; phase = refl; lost = refl; deferring = s.target.deferring };
   debugger = record {
     limits = s.debugger.limits;
     phase = refl;
@@ -54,6 +55,7 @@ attached-parts m settings w l x s empty = record {
     cut = record { number = omega arith; there = λ o. refl; left = sym (append-nil handshake_bytes) };
     kept = λ o. refl;
   };
+  deferred = record { wires = []; commands = refl; messages = refl; sent = tt };
   from = record {
     wires = [];
     packets = refl;

@@ -156,23 +156,34 @@ asked-counts id k c ((n, Asks j d) ∷ ps) (inl e) =
 asked-counts id k c ((n, Asks j d) ∷ ps) (inr h) = let more = asked-counts id k c ps h in omega arith
 asked-counts id k c ((n, Greets) ∷ ps) h = asked-counts id k c ps h
 
-counted : {S : Type 0} (p : Waiting) (k : Ticket) (rest : List (PacketWire S)) (to : List CallWire) → p.1.0 ≡ k → IsAmong p (replied rest ++ asked to) → 1 ≤ tally (one_of k) (replies (without_ids rest)) + tally (one_of k) (commands (without_ids to))
-counted p k rest to e h = elim (among-either p (replied rest) (asked to) h) [
+pub deferred-counts : (id : ℕ) (k : Ticket) (c : Command) (wires : List Waiting) → IsAmong (id, (k, c)) wires → 1 ≤ tally (one_of k) (without_ids wires)
+deferred-counts id k c [] h = absurd h
+deferred-counts id k c (p ∷ ps) (inl e) =
+    let same : one_of k p.1 ≡ 1 = ap (λ (q : Waiting). one_of k q.1) e ∙ one-here k c in
+    omega arith
+deferred-counts id k c (p ∷ ps) (inr h) = let more = deferred-counts id k c ps h in omega arith
+
+counted : {S : Type 0} (p : Waiting) (k : Ticket) (rest : List (PacketWire S)) (deferred : List Waiting) (to : List CallWire) → p.1.0 ≡ k → IsAmong p (replied rest ++ (deferred ++ asked to))
+    → 1 ≤ tally (one_of k) (replies (without_ids rest)) + (tally (one_of k) (without_ids deferred) + tally (one_of k) (commands (without_ids to)))
+counted p k rest deferred to e h = elim (among-either p (replied rest) (deferred ++ asked to) h) [
   | inl a ↦ let n = replied-counts p.0 k p.1.1 rest (subst (λ t. IsAmong (p.0, (t, p.1.1)) (replied rest)) e a) in omega arith
-  | inr b ↦ let n = asked-counts p.0 k p.1.1 to (subst (λ t. IsAmong (p.0, (t, p.1.1)) (asked to)) e b) in omega arith
+  | inr b ↦ elim (among-either p deferred (asked to) b) [
+    | inl d ↦ let n = deferred-counts p.0 k p.1.1 deferred (subst (λ t. IsAmong (p.0, (t, p.1.1)) deferred) e d) in omega arith
+    | inr q ↦ let n = asked-counts p.0 k p.1.1 to (subst (λ t. IsAmong (p.0, (t, p.1.1)) (asked to)) e q) in omega arith
+  ]
 ]
 
 -- all that is under way but the reply that is read waits among the others
-pub awaits-read : {S : Type 0} (pending : List Asked) (id : ℕ) (k : Ticket) (c : Command) (f : IsFound pending id k c) (rest : List (PacketWire S)) (to : List CallWire)
-    → tally (one_of k) (replies (without_ids rest)) + tally (one_of k) (commands (without_ids to)) ≤ 0
-    → ((p : Waiting) → IsAmong p (replied rest ++ asked to) → IsAmong p (waiting pending)) → Awaits (f.before ++ f.behind) rest to
-awaits-read pending id k c f rest to none all p h =
+pub awaits-read : {S : Type 0} (pending : List Asked) (id : ℕ) (k : Ticket) (c : Command) (f : IsFound pending id k c) (rest : List (PacketWire S)) (deferred : List Waiting) (to : List CallWire)
+    → tally (one_of k) (replies (without_ids rest)) + (tally (one_of k) (without_ids deferred) + tally (one_of k) (commands (without_ids to))) ≤ 0
+    → ((p : Waiting) → IsAmong p (replied rest ++ (deferred ++ asked to)) → IsAmong p (waiting pending)) → Awaits (f.before ++ f.behind) rest deferred to
+awaits-read pending id k c f rest deferred to none all p h =
     let there : IsAmong p (waiting f.before ++ waiting (f.asked ∷ f.behind)) = subst (IsAmong p) (ap waiting f.split ∙ waiting-append f.before (f.asked ∷ f.behind)) (all p h) in
     subst (IsAmong p) (sym (waiting-append f.before f.behind))
     (elim (among-either p (waiting f.before) (waiting (f.asked ∷ f.behind)) there) [
       | inl a ↦ among-front p (waiting f.before) (waiting f.behind) a
       | inr b ↦ among-back p (waiting f.before) (waiting f.behind) (elim b [
-        | inl e ↦ let same : p.1.0 ≡ k = ap (λ (q : Waiting). q.1.0) (sym e) ∙ f.has_ticket in let n = counted p k rest to same h in absurd (omega arith)
+        | inl e ↦ let same : p.1.0 ≡ k = ap (λ (q : Waiting). q.1.0) (sym e) ∙ f.has_ticket in let n = counted p k rest deferred to same h in absurd (omega arith)
         | inr d ↦ d
       ])
     ])

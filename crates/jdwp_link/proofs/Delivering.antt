@@ -45,7 +45,7 @@ way-target m settings w l x finds s =
 comes-target : {S : Type 0} (m : Meaning S) (settings : Settings) (w : Widths) (l : Link S) (x : World S) (k : ℕ) → k ≤ length (way_to_target l) → Parts m settings w l x
     → Parts m settings w (delivered_to_target (take k (way_to_target l)) l) (record x { at_target = x.at_target + k })
 comes-target m settings w l x k le s = record {
-  target = record { same_settings = s.target.same_settings; limits = s.target.limits; sizes = s.target.sizes; now = s.target.now; phase = s.target.phase; lost = s.target.lost };
+  target = record { same_settings = s.target.same_settings; limits = s.target.limits; sizes = s.target.sizes; now = s.target.now; phase = s.target.phase; lost = s.target.lost; deferring = s.target.deferring };
   debugger = record {
     limits = s.debugger.limits;
     phase = s.debugger.phase;
@@ -61,6 +61,7 @@ comes-target m settings w l x k le s = record {
     cut = cut-more x.at_target k _ (way_to_target l) _ l.target.end _ _ le refl (left-after k l.to_target l.debugger.end.outgoing le) s.to.cut;
     kept = λ o. let e : l.to_target ≡ [] = s.to.kept o in ap (drop (length (take k (way_to_target l)))) e ∙ drop-none (length (take k (way_to_target l)));
   };
+  deferred = record { wires = s.deferred.wires; commands = s.deferred.commands; messages = s.deferred.messages; sent = s.deferred.sent };
   from = record {
     wires = s.from.wires;
     packets = s.from.packets;
@@ -99,7 +100,7 @@ way-debugger m settings w l x finds s =
 comes-debugger : {S : Type 0} (m : Meaning S) (settings : Settings) (w : Widths) (l : Link S) (x : World S) (k : ℕ) → k ≤ length (way_to_debugger l) → Parts m settings w l x
     → Parts m settings w (delivered_to_debugger (take k (way_to_debugger l)) l) (record x { at_debugger = x.at_debugger + k })
 comes-debugger m settings w l x k le s = record {
-  target = record { same_settings = s.target.same_settings; limits = s.target.limits; sizes = s.target.sizes; now = s.target.now; phase = s.target.phase; lost = s.target.lost };
+  target = record { same_settings = s.target.same_settings; limits = s.target.limits; sizes = s.target.sizes; now = s.target.now; phase = s.target.phase; lost = s.target.lost; deferring = s.target.deferring };
   debugger = record {
     limits = s.debugger.limits;
     phase = s.debugger.phase;
@@ -115,6 +116,7 @@ comes-debugger m settings w l x k le s = record {
     cut = record { number = s.to.cut.number; there = s.to.cut.there; left = s.to.cut.left };
     kept = s.to.kept;
   };
+  deferred = record { wires = s.deferred.wires; commands = s.deferred.commands; messages = s.deferred.messages; sent = s.deferred.sent };
   from = record {
     wires = s.from.wires;
     packets = s.from.packets;

@@ -9,7 +9,7 @@ use Rattle.jdwp_debugger.specs.Debuggers.{Debugger, has_tickets}
 use Rattle.jdwp_debugger.specs.Debuggers as debuggers
 use Rattle.jdwp_target.specs.Targets.{Target}
 use Rattle.jdwp_target.specs.Targets as targets
-use Rattle.jdwp_target.specs.Turns.{EncodesNext, EncodesWhere, SendsAt, SendsWhere, StepsWhere, TurnsAt, is_frozen}
+use Rattle.jdwp_target.specs.Turns.{EncodesNext, EncodesReleased, EncodesWhere, ReleasesAt, SendsAt, SendsReleased, SendsWhere, StepsWhere, TurnsAt, deferred_at, is_frozen}
 use Rattle.jdwp_target.specs.declared.target.Stepped.{Stepped}
 use Rattle.jdwp_target.specs.declared.target.Turn.{Turn}
 use Rattle.jdwp_model.specs.Events
@@ -20,7 +20,7 @@ use Rattle.jdwp_link.specs.Links.{Link, attaches, come_to_debugger, come_to_targ
 use Rattle.jdwp_link.specs.Stands.{IsLink}
 use Rattle.jdwp_link.specs.Told.{step_did, turn_did}
 use Rattle.jdwp_link.proofs.Ending.{attached-is, to-debugger-is, to-target-is}
-use Rattle.jdwp_link.proofs.Going.{goes-attach, goes-stepped, goes-target-loses, goes-to-debugger, goes-to-target, goes-turn}
+use Rattle.jdwp_link.proofs.Going.{goes-attach, goes-defer, goes-release, goes-stepped, goes-target-loses, goes-to-debugger, goes-to-target, goes-turn}
 use Rattle.jdwp_link.proofs.Keeping.{attach-right, small-limits, target-lost-right, target-right, to-debugger-right, to-target-right}
 
 -- an event goes, and the link is right after it
@@ -137,3 +137,18 @@ pub turn-done : {S : Type 0} (m : Meaning S) → HoldsOfWorlds m → (l : Link S
 turn-done m worlds l turn after to from laws right debugger so encoded sends target =
     let goes = goes-turn m worlds l turn after laws (small-limits m l right.is_link debugger) so encoded sends in
     record { goes = goes; right = target-right m l after (turn_did turn) to from Events.TargetTurn right goes (goes.settings right.is_link.world right.is_link.stands) target debugger }
+
+-- ---- replies that are deferred
+
+pub defer-done : {S : Type 0} (m : Meaning S) (l : Link S) (deferring : Bool) (after : Target S) (to from : ℕ) → IsRightLink m l to from → after ≡ targets.with_deferring deferring l.target → TargetKeeps after.end → DebuggerKeeps l.debugger
+    → Done m (Events.Defer deferring) l (record l { target = after; did = false }) to from
+defer-done m l deferring after to from right is target debugger =
+    let goes : Goes m (Events.Defer deferring) l (record l { target = after; did = false }) [] = subst (λ t. Goes m (Events.Defer deferring) l (record l { target = t; did = false }) []) (sym is) (goes-defer m l deferring) in
+    record { goes = goes; right = target-right m l after false to from (Events.Defer deferring) right goes (goes.settings right.is_link.world right.is_link.stands) target debugger }
+
+pub release-done : {S : Type 0} (m : Meaning S) → HoldsOfWorlds m → (l : Link S) (place : ℕ) (turn : Turn) (after : Target S) (to from : ℕ) → Laws m → IsRightLink m l to from → DebuggerKeeps l.debugger
+    → ReleasesAt m place (deferred_at place l.target) l.target (Ok turn) after → EncodesReleased m (deferred_at place l.target) l.target → SendsReleased m place (deferred_at place l.target) l.target → TargetKeeps after.end
+    → Done m (Events.Release place) l (record l { target = after; did = turn_did turn }) to from
+release-done m worlds l place turn after to from laws right debugger so encoded sends target =
+    let goes = goes-release m worlds l place turn after laws so encoded sends in
+    record { goes = goes; right = target-right m l after (turn_did turn) to from (Events.Release place) right goes (goes.settings right.is_link.world right.is_link.stands) target debugger }

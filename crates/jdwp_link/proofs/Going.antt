@@ -12,8 +12,9 @@ use Rattle.jdwp_debugger.specs.Asking.{HasAsked, refusal_of_ask}
 use Rattle.jdwp_debugger.specs.Debuggers.{Debugger, tickets_of}
 use Rattle.jdwp_debugger.specs.declared.asking.Refused.{Refused}
 use Rattle.jdwp_debugger.specs.declared.pending.Ticket.{Ticket}
-use Rattle.jdwp_target.specs.Targets.{Target, with_handled, with_step}
-use Rattle.jdwp_target.specs.Turns.{EncodesNext, EncodesWhere, SendsAt, SendsWhere, StepsWhere, TurnsAt, is_frozen, told_by_end, told_of}
+use Rattle.jdwp_target.specs.Deeds.{defers}
+use Rattle.jdwp_target.specs.Targets.{Target, full_standing, with_deferring, with_handled, with_step}
+use Rattle.jdwp_target.specs.Turns.{EncodesNext, EncodesReleased, EncodesWhere, ReleasesAt, SendsAt, SendsReleased, SendsWhere, StepsWhere, TurnsAt, deferred_at, is_frozen, told_by_end, told_where}
 use Rattle.jdwp_target.specs.declared.target.Stepped.{Stepped}
 use Rattle.jdwp_target.specs.declared.target.TargetFault.{TargetFault}
 use Rattle.jdwp_target.specs.declared.target.TargetFault.TheVariants as faults
@@ -39,6 +40,7 @@ use Rattle.jdwp_link.proofs.Attaching.{attach-parts, parts-did}
 use Rattle.jdwp_link.proofs.Delivering.{delivers-debugger, delivers-target}
 use Rattle.jdwp_link.proofs.Losing.{loses-debugger, loses-target, loses-tells}
 use Rattle.jdwp_link.proofs.Reached.{goes, known}
+use Rattle.jdwp_link.proofs.Releasing.{defers-parts, releases-so}
 use Rattle.jdwp_link.proofs.Stepping.{frozen-parts, same-frozen, step-parts}
 use Rattle.jdwp_link.proofs.Turning.{HasCall, IsIdle, idle-parts, turn-parts, target-has}
 
@@ -102,9 +104,10 @@ goes-stepped m worlds l t stepped after laws keeps so encoded sends = stepped-by
 -- ---- the target's turn
 
 -- a message in front is told
-tells-call : {S : Type 0} (m : Meaning S) (old : Target S) (w : Widths) (id : ℕ) (call : Call) → turn_did (told_of m old (call_sent w id call)) ≡ true
-tells-call m old w id Greets = refl
-tells-call m old w id (Asks k c) = refl
+tells-call : {S : Type 0} (m : Meaning S) (old : Target S) (w : Widths) (id : ℕ) (call : Call) (deferred : Bool) → turn_did (told_where m old (call_sent w id call) deferred) ≡ true
+tells-call m old w id Greets deferred = refl
+tells-call m old w id (Asks k c) true = refl
+tells-call m old w id (Asks k c) false = refl
 
 -- what a turn that answers leaves of a world
 answers-so : {S : Type 0} (m : Meaning S) → HoldsOfWorlds m → (l : Link S) (x : World S) (turn : Turn) (after : Target S) → Laws m → l.target.settings.limits.packet < 2 ^ 32 → (s : StandsFor m l x)
@@ -122,7 +125,7 @@ answers-so m worlds l x turn after laws small s (inl h) so encoded sends =
 answers-so m worlds l x turn after laws small s (inr h) so encoded sends =
     let w = m.sizes l.target.moment.machine in
     let (told, same) = subst (λ f. TurnsAt m f l.target (Ok turn) after) h.front so in
-    let did : turn_did turn ≡ true = ap turn_did told ∙ tells-call m l.target w h.id h.call in
+    let did : turn_did turn ≡ true = ap turn_did told ∙ tells-call m l.target w h.id h.call (defers (full_standing l.target) (call_sent w h.id h.call)) in
     let parts = turn-parts m l.target.settings w l x laws (known m worlds l.target.settings w x s.reached) s.parts h (subst (λ f. EncodesNext m f l.target) h.front encoded) (subst (λ f. SendsAt m f l.target) h.front sends) in (
       subst (λ t. Parts m l.target.settings w (record l { target = t; did = turn_did turn }) (target_turn m l.target.settings (measure_of m l) x)) (sym same)
           (subst (λ b. Parts m l.target.settings w (record l { target = with_handled m (call_sent w h.id h.call) (call_size w h.call) l.target; did = b }) (target_turn m l.target.settings (measure_of m l) x)) (sym did) parts),
@@ -150,6 +153,18 @@ pub turn-fails : {S : Type 0} (m : Meaning S) → HoldsOfWorlds m → (l : Link 
 turn-fails m worlds l fault after laws small link so =
     let s = link.stands in
     fails-so m l link.world fault after s.parts.to.wires (target-has m l.target.settings (m.sizes l.target.moment.machine) l link.world laws.finds small (known m worlds _ _ link.world s.reached) s.parts) so
+
+-- ---- replies that are deferred
+
+pub goes-defer : {S : Type 0} (m : Meaning S) (l : Link S) (deferring : Bool) → Goes m (Events.Defer deferring) l (record l { target = with_deferring deferring l.target; did = false }) []
+goes-defer m l deferring = goes m (Events.Defer deferring) l (record l { target = with_deferring deferring l.target; did = false }) [] (λ x s. defers-parts m _ _ l x deferring false s.parts) (λ x s. refl) (λ x s. refl)
+
+pub goes-release : {S : Type 0} (m : Meaning S) → HoldsOfWorlds m → (l : Link S) (place : ℕ) (turn : Turn) (after : Target S) → Laws m
+    → ReleasesAt m place (deferred_at place l.target) l.target (Ok turn) after → EncodesReleased m (deferred_at place l.target) l.target → SendsReleased m place (deferred_at place l.target) l.target
+    → Goes m (Events.Release place) l (record l { target = after; did = turn_did turn }) []
+goes-release {S} m worlds l place turn after laws so encoded sends =
+    let all = λ (x : World S) (s : StandsFor m l x). releases-so m l.target.settings (m.sizes l.target.moment.machine) l x place turn after laws (known m worlds _ _ x s.reached) s.parts so encoded sends in
+    goes m (Events.Release place) l (record l { target = after; did = turn_did turn }) [] (λ x s. (all x s).parts) (λ x s. refl) (λ x s. (all x s).did)
 
 -- ---- a command is asked
 

@@ -8,6 +8,7 @@ pub mod Losing
 pub mod Acting
 pub mod Stepping
 pub mod Turning
+pub mod Releasing
 pub mod Awaiting
 pub mod Saying
 pub mod Learning

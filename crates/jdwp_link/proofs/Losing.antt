@@ -16,12 +16,13 @@ use Rattle.jdwp_link.specs.Stands.{Parts, DebuggerStands}
 use Rattle.jdwp_link.specs.Told.{told_outcomes}
 use Rattle.jdwp_link.specs.Wires.{ticket_of, waiting, without_ids}
 use Rattle.jdwp_link.proofs.Reached.{Known}
+use Rattle.jdwp_link.proofs.Wired.{awaits-dropped}
 
 -- ---- the target
 
 pub loses-target : {S : Type 0} (m : Meaning S) (settings : Settings) (w : Widths) (l : Link S) (x : World S) → Parts m settings w l x → Parts m settings w (target_lost l) (target_loses x)
 loses-target m settings w l x s = record {
-  target = record { same_settings = s.target.same_settings; limits = s.target.limits; sizes = s.target.sizes; now = ap standings.reset_moment s.target.now; phase = refl; lost = refl };
+  target = record { same_settings = s.target.same_settings; limits = s.target.limits; sizes = s.target.sizes; now = ap standings.reset_moment s.target.now; phase = refl; lost = refl; deferring = s.target.deferring };
   debugger = record {
     limits = s.debugger.limits;
     phase = s.debugger.phase;
@@ -37,13 +38,14 @@ loses-target m settings w l x s = record {
     cut = record { number = s.to.cut.number; there = λ o. absurd (cc); left = s.to.cut.left };
     kept = s.to.kept;
   };
+  deferred = record { wires = []; commands = refl; messages = refl; sent = tt };
   from = record {
     wires = s.from.wires;
     packets = s.from.packets;
     sent = s.from.sent;
     cut = record { number = s.from.cut.number; there = s.from.cut.there; left = append-nil (way_to_debugger l) ∙ s.from.cut.left };
     kept = λ o. absurd (cc);
-    awaits = s.from.awaits;
+    awaits = λ o. awaits-dropped l.debugger.pending s.from.wires s.deferred.wires s.to.wires (s.from.awaits o);
   };
 }
 
@@ -51,7 +53,7 @@ loses-target m settings w l x s = record {
 
 pub loses-debugger : {S : Type 0} (m : Meaning S) (settings : Settings) (w : Widths) (l : Link S) (x : World S) (did : Bool) → Parts m settings w l x → Parts m settings w (record (debugger_lost l) { did = did }) (debugger_closed x)
 loses-debugger m settings w l x did s = record {
-  target = record { same_settings = s.target.same_settings; limits = s.target.limits; sizes = s.target.sizes; now = s.target.now; phase = s.target.phase; lost = s.target.lost };
+  target = record { same_settings = s.target.same_settings; limits = s.target.limits; sizes = s.target.sizes; now = s.target.now; phase = s.target.phase; lost = s.target.lost; deferring = s.target.deferring };
   debugger = record {
     limits = s.debugger.limits;
     phase = refl;
@@ -67,6 +69,7 @@ loses-debugger m settings w l x did s = record {
     cut = record { number = s.to.cut.number; there = s.to.cut.there; left = append-nil (way_to_target l) ∙ s.to.cut.left };
     kept = λ o. absurd (cc);
   };
+  deferred = record { wires = s.deferred.wires; commands = s.deferred.commands; messages = s.deferred.messages; sent = s.deferred.sent };
   from = record {
     wires = s.from.wires;
     packets = s.from.packets;

@@ -16,7 +16,7 @@ first-moment m s = record { state = new_state (m.live s); machine = s }
 
 opening-parts : {S : Type 0} (m : Meaning S) (settings : Settings) (s : S) → Parts m settings (m.sizes s) (new_link settings (first-moment m s)) (opening m s)
 opening-parts m settings s = record {
-  target = record { same_settings = refl; limits = refl; sizes = refl; now = refl; phase = refl; lost = refl };
+  target = record { same_settings = refl; limits = refl; sizes = refl; now = refl; phase = refl; lost = refl; deferring = refl };
   debugger = record {
     limits = refl;
     phase = refl;
@@ -26,6 +26,7 @@ opening-parts m settings s = record {
     none_waits = λ c. refl;
   };
   to = record { wires = []; calls = refl; sent = tt; cut = record { number = omega arith; there = λ o. refl; left = refl }; kept = λ o. absurd (cc) };
+  deferred = record { wires = []; commands = refl; messages = refl; sent = tt };
   from = record { wires = []; packets = refl; sent = tt; cut = record { number = omega arith; there = λ o. refl; left = refl }; kept = λ o. refl; awaits = λ o. absurd (cc) };
 }
 

@@ -6,6 +6,7 @@ use Rattle.jdwp_machine.specs.Meanings.{Meaning}
 use Rattle.jdwp_debuggee.specs.Facts.{Facts, IsSound}
 use Rattle.jdwp_debuggee.specs.Settings.{Settings}
 use Rattle.jdwp_model.specs.Events.{LinkEvent}
+use Rattle.jdwp_model.specs.Deferred.{DefersFew}
 use Rattle.jdwp_model.specs.Faultless.{NoPacketIsRefused, NoCallIsRefused, AnswersOneWaiting}
 use Rattle.jdwp_model.specs.Headline.{Always}
 use Rattle.jdwp_model.specs.Next.{next, run, acts}
@@ -53,6 +54,7 @@ pub record Known {S : Type 0} (m : Meaning S) (settings : Settings) (x : World S
   pub call : NoCallIsRefused x
   pub one : AnswersOneWaiting x
   pub places : EachAtOnePlace x
+  pub few : DefersFew x
 
 pub known : {S : Type 0} (m : Meaning S) → HoldsOfWorlds m → (settings : Settings) (w : Widths) (x : World S) → IsReached m settings w x → Known m settings x
 known m worlds settings w x r =
@@ -68,6 +70,7 @@ known m worlds settings w x r =
       call = reached-has m settings w x NoCallIsRefused r worlds.calls;
       one = reached-has m settings w x AnswersOneWaiting r worlds.one;
       places = reached-has m settings w x EachAtOnePlace r worlds.places;
+      few = reached-has m settings w x DefersFew r worlds.few;
     }
 
 -- ---- an event goes

@@ -3,7 +3,7 @@ use Rattle.std.proofs.Common.{◌≡◌, ◌≤◌, ◌<◌, ◌^◌, ℕ, ◌+�
 use Rattle.std.specs.Prelude.{nat_lt, remove}
 use Rattle.std.specs.List.{list_any}
 use Rattle.std.proofs.lemmas.Bool.{ltb-true}
-use Rattle.std.proofs.lemmas.List.{append-nil, append_assoc}
+use Rattle.std.proofs.lemmas.List.{append-nil}
 use Rattle.jdwp_wire.specs.Frames.{IsPacket, header_bytes, packet_bytes}
 use Rattle.jdwp_wire.specs.Streams as streams
 use Rattle.jdwp_wire.specs.Streams.{stream}
@@ -21,7 +21,7 @@ use Rattle.jdwp_action.specs.AnswerPackets.{EncodesAnswer, answer_bytes, error_o
 use Rattle.jdwp_debuggee.specs.Settings.{Settings}
 use Rattle.jdwp_debuggee.specs.State.{Moment}
 use Rattle.jdwp_action.specs.CommandPackets.{carried_bytes}
-use Rattle.jdwp_mirror.specs.Faults.{PARKED_MOST, fault_after_greeting, fault_of, is_bad_event, is_bad_reply, is_waited_for, or_else, when, has_bad_event}
+use Rattle.jdwp_mirror.specs.Faults.{PARKED_MOST, fault_of, is_bad_event, is_bad_reply, is_waited_for, or_else, when, has_bad_event}
 use Rattle.jdwp_mirror.specs.Faults as faults
 use Rattle.jdwp_mirror.specs.Messages.{Ticket, Asks, Message, Handshake, Reply, Report, id_sizes}
 use Rattle.jdwp_mirror.specs.Mirror.{ends}
@@ -34,7 +34,6 @@ use Rattle.jdwp_debugger.specs.DebuggerTurns.{Enters, LearnedAll, ReadsAt, Told,
 use Rattle.jdwp_debugger.specs.News.{News, answer_in, says, widths_by}
 use Rattle.jdwp_debugger.specs.declared.pending.Ticket as code
 use Rattle.jdwp_model.specs.Events
-use Rattle.jdwp_model.specs.Events.{Outcome}
 use Rattle.jdwp_model.specs.Next.{closes_by, composites_of, debugger_handles, debugger_takes, debugger_turn, debugger_turn_at, entered, has_end, messages_of, reader, reads, reads_composite, reads_handshake, reads_reply, without_ticket}
 use Rattle.jdwp_model.specs.Places.{commands, one_of, replies, tally}
 use Rattle.jdwp_model.specs.Seen.{mirror_count}
@@ -45,7 +44,7 @@ use Rattle.jdwp_link.specs.Insides.{DebuggerKeeps}
 use Rattle.jdwp_link.specs.Laws.{Laws, PutsMessages}
 use Rattle.jdwp_link.specs.Links.{Link}
 use Rattle.jdwp_link.specs.Stands.{AreParked, IsMirror, Parts, widths_where}
-use Rattle.jdwp_link.specs.Wires.{CallWire, PacketWire, IsAmong, AreCalls, Awaits, HaveTickets, asked, calls_sent, message_sent, replied, ticket_of, waiting, without_ids, ArePackets}
+use Rattle.jdwp_link.specs.Wires.{CallWire, PacketWire, Waiting, IsAmong, AreCalls, Awaits, HaveTickets, asked, calls_sent, message_sent, replied, ticket_of, waiting, without_ids, ArePackets}
 use Rattle.jdwp_link.proofs.Awaiting.{IsFound, awaits-read, found, got, left-without, one-here, removed}
 use Rattle.jdwp_link.proofs.Finding.{HasMessage, is_read_in, fair-place}
 use Rattle.jdwp_link.proofs.Learning.{learned-all, learned-none, learned-one, mirror-empty}
@@ -53,7 +52,7 @@ use Rattle.jdwp_link.proofs.Reached.{Known}
 use Rattle.jdwp_link.proofs.Saying.{parked-are, parked-length, parked-more, parked-none, says-answer, says-event, says-parked, says-sizes}
 use Rattle.jdwp_link.proofs.Sizes.{without-append}
 use Rattle.jdwp_link.proofs.Taking.{Shuts, Turned, takes-only, takes-parts}
-use Rattle.jdwp_link.proofs.Wired.{among-back, among-either, among-front, asked-append, awaits-same, waiting-append}
+use Rattle.jdwp_link.proofs.Wired.{among-back, among-either, among-front, asked-behind, awaits-same, waiting-append}
 
 -- what a turn that handles a message tells and leaves
 abbrev pub HandlesSo : streams.Message → ℕ → Debugger → Told → Debugger → Type 0
@@ -110,13 +109,13 @@ sizes-bytes m w id puts =
     sym (append-nil (header_bytes (sizes_header id))) ∙ (ap (λ h. header_bytes h ++ []) (sym (puts.sizes_header_is w id))
     ∙ (ap (λ b. header_bytes (command_header w id id_sizes) ++ b) (sym (puts.sizes_data_are w)) ∙ sym (append-nil (packet_bytes (command_header w id id_sizes) (carried_bytes w id_sizes.carried)))))
 
-awaits-sizes : {S : Type 0} (pending : List Asked) (id : ℕ) (wires rest : List (PacketWire S)) (to : List CallWire) → replied wires ≡ replied rest → Awaits pending wires to
-    → Awaits (pending ++ record { id = id; ticket = None; command = id_sizes } ∷ []) rest (to ++ (id, Asks None id_sizes) ∷ [])
-awaits-sizes pending id wires rest to same a p h =
-    let whole : IsAmong p ((replied rest ++ asked to) ++ (id, (None, id_sizes)) ∷ []) = subst (IsAmong p) (ap (λ l. replied rest ++ l) (asked-append to ((id, Asks None id_sizes) ∷ [])) ∙ sym (append_assoc (replied rest) (asked to) ((id, (None, id_sizes)) ∷ []))) h in
+awaits-sizes : {S : Type 0} (pending : List Asked) (id : ℕ) (wires rest : List (PacketWire S)) (deferred : List Waiting) (to : List CallWire) → replied wires ≡ replied rest → Awaits pending wires deferred to
+    → Awaits (pending ++ record { id = id; ticket = None; command = id_sizes } ∷ []) rest deferred (to ++ (id, Asks None id_sizes) ∷ [])
+awaits-sizes pending id wires rest deferred to same a p h =
+    let whole : IsAmong p ((replied rest ++ (deferred ++ asked to)) ++ (id, (None, id_sizes)) ∷ []) = subst (IsAmong p) (asked-behind rest deferred to (id, Asks None id_sizes)) h in
     subst (IsAmong p) (sym (waiting-append pending (record { id = id; ticket = None; command = id_sizes } ∷ [])))
-    (elim (among-either p (replied rest ++ asked to) ((id, (None, id_sizes)) ∷ []) whole) [
-      | inl b ↦ among-front p (waiting pending) ((id, (None, id_sizes)) ∷ []) (a p (subst (λ l. IsAmong p (l ++ asked to)) (sym same) b))
+    (elim (among-either p (replied rest ++ (deferred ++ asked to)) ((id, (None, id_sizes)) ∷ []) whole) [
+      | inl b ↦ among-front p (waiting pending) ((id, (None, id_sizes)) ∷ []) (a p (subst (λ l. IsAmong p (l ++ (deferred ++ asked to))) (sym same) b))
       | inr b ↦ among-back p (waiting pending) ((id, (None, id_sizes)) ∷ []) b
     ])
 
@@ -144,7 +143,7 @@ reads-handshake m settings w l x t after id a rest laws keeps s first came o pha
           (ap without_ids (waiting-append d.pending (asks ∷ [])) ∙ (without-append (waiting d.pending) (waiting (asks ∷ [])) ∙ ap (λ ps. ps ++ (None, id_sizes) ∷ []) unshut.pending))
           (λ h. let u : x.ready ≡ false = unready w x.ready d.sizes begins.2 unshut.sizes in absurd (cc))
           (sizes-can m w settings.limits.packet d.next_id laws.puts least keeps.id)
-          (awaits-sizes d.pending d.next_id s.from.wires rest s.to.wires (ap replied first));
+          (awaits-sizes d.pending d.next_id s.from.wires rest s.deferred.wires s.to.wires (ap replied first));
       shuts = new;
       is = is ∙ ap (λ u. closes_by (reads_handshake (debugger_takes (measured w settings.limits) x (Handshake, a) (without_ids rest)) (Handshake, a)) (outcomes_of u) false) (sym hello);
     }
@@ -196,7 +195,7 @@ reads-report m settings w l x t after id c a rest false laws s first came o phas
       opened = ap is_closed phase;
       parts = λ did. takes-only m settings w l x did next id (Report c, a) rest x.ready (x.parked ++ (Report c, a) ∷ []) x.read x.pending laws.finds s first came o
           refl refl refl refl refl s.debugger.mirror unshut.sizes (parked-more w d.parked x.parked _ c (Report c, a) refl (laws.reads.reported w c _ can) unshut.parked) unshut.pending unshut.ticketed
-          (awaits-same d.pending s.from.wires rest s.to.wires s.to.wires (ap (λ ws. replied ws ++ asked s.to.wires) (sym first))) phase;
+          (awaits-same d.pending s.from.wires rest s.deferred.wires s.to.wires (ap replied first)) phase;
       shuts = told-by.1;
       is = is ∙ (ap (λ b. reads_composite z (Report c, a) c b) ready ∙ ap (λ u. closes_by (record z { parked = z.parked ++ (Report c, a) ∷ [] }) (outcomes_of u) false) (sym told-by.0));
     }
@@ -216,7 +215,7 @@ reads-report m settings w l x t after id c a rest true laws s first came o phase
       opened = ap is_closed phase;
       parts = λ did. takes-only m settings w l x did next id (Report c, a) rest x.ready x.parked ((Report c, a) ∷ x.read) x.pending laws.finds s first came o
           refl refl refl refl refl (learned-one d.mirror learns.0 (Report c, a) x.read s.debugger.mirror learns.1) unshut.sizes unshut.parked unshut.pending unshut.ticketed
-          (awaits-same d.pending s.from.wires rest s.to.wires s.to.wires (ap (λ ws. replied ws ++ asked s.to.wires) (sym first))) phase;
+          (awaits-same d.pending s.from.wires rest s.deferred.wires s.to.wires (ap replied first)) phase;
       shuts = shuts-where (ends (Report c)) next after learns.2;
       is = is ∙ (ap (λ b. reads_composite z (Report c, a) c b) ready ∙ ap (λ u. closes_by (record z { read = (Report c, a) ∷ z.read }) (outcomes_of u) (ends (Report c))) (sym told-by.0));
     }
@@ -224,28 +223,30 @@ reads-report m settings w l x t after id c a rest true laws s first came o phase
 -- ---- replies
 
 -- what is so of the command to which a reply is read
-pub record IsReplied {S : Type 0} (w : Widths) (l : Link S) (x : World S) (id : ℕ) (k : Ticket) (c : Command) (rest : List (PacketWire S)) (to : List CallWire) : Type 0 where
+pub record IsReplied {S : Type 0} (w : Widths) (l : Link S) (x : World S) (id : ℕ) (k : Ticket) (c : Command) (rest : List (PacketWire S)) (deferred : List Waiting) (to : List CallWire) : Type 0 where
   pub at : IsFound l.debugger.pending id k c
   pub left : without_ids (waiting (at.before ++ at.behind)) ≡ without_ticket k x.pending
-  pub awaits : Awaits (at.before ++ at.behind) rest to
+  pub awaits : Awaits (at.before ++ at.behind) rest deferred to
 
 pub is-replied : {S : Type 0} (m : Meaning S) (settings : Settings) (w : Widths) (l : Link S) (x : World S) (id : ℕ) (k : Ticket) (c : Command) (answer : Answer) (a : Moment S) (rest : List (PacketWire S)) → Known m settings x → (s : Parts m settings w l x)
-    → s.from.wires ≡ (id, (Reply k c answer, a)) ∷ rest → is_closed x.debugger ≡ false → IsReplied w l x id k c rest s.to.wires
+    → s.from.wires ≡ (id, (Reply k c answer, a)) ∷ rest → is_closed x.debugger ≡ false → IsReplied w l x id k c rest s.deferred.wires s.to.wires
 is-replied m settings w l x id k c answer a rest known s first o =
     let unshut = s.debugger.opened o in
     let from : without_ids s.from.wires ≡ (Reply k c answer, a) ∷ without_ids rest = ap without_ids first in
     let head : x.to_debugger ≡ (Reply k c answer, a) ∷ without_ids rest = sym s.from.packets ∙ from in
-    let waits : IsAmong (id, (k, c)) (waiting l.debugger.pending) = s.from.awaits o (id, (k, c)) (subst (λ ws. IsAmong (id, (k, c)) (replied ws ++ asked s.to.wires)) (sym first) (inl refl)) in
+    let waits : IsAmong (id, (k, c)) (waiting l.debugger.pending) = s.from.awaits o (id, (k, c)) (subst (λ ws. IsAmong (id, (k, c)) (replied ws ++ (s.deferred.wires ++ asked s.to.wires))) (sym first) (inl refl)) in
     let f = found l.debugger.pending id k c waits in
     let (before, behind, split, none-before, none-behind) = known.one k c answer a (without_ids rest) o head in
     let places = known.places k o in
-    let counts : tally (one_of k) (replies x.to_debugger) + tally (one_of k) (commands x.to_target) ≡ (1 + tally (one_of k) (replies (without_ids rest))) + tally (one_of k) (commands (without_ids s.to.wires)) =
-    ap (λ ps. tally (one_of k) (replies ps) + tally (one_of k) (commands x.to_target)) head ∙ (ap (λ n. (n + tally (one_of k) (replies (without_ids rest))) + tally (one_of k) (commands x.to_target)) (one-here k c) ∙ ap (λ cs. (1 + tally (one_of k) (replies (without_ids rest))) + tally (one_of k) (commands cs)) (sym s.to.calls)) in
+    let one = one-here k c in
+    let replied-count : tally (one_of k) (replies x.to_debugger) ≡ one_of k (k, c) + tally (one_of k) (replies (without_ids rest)) = ap (λ ps. tally (one_of k) (replies ps)) head in
+    let deferred-count : tally (one_of k) x.deferred ≡ tally (one_of k) (without_ids s.deferred.wires) = ap (tally (one_of k)) (sym s.deferred.commands) in
+    let asked-count : tally (one_of k) (commands x.to_target) ≡ tally (one_of k) (commands (without_ids s.to.wires)) = ap (λ cs. tally (one_of k) (commands cs)) (sym s.to.calls) in
     record {
       at = f;
       left = left-without l.debugger.pending id k c f before behind (unshut.pending ∙ split) none-before none-behind ∙ ap (without_ticket k) unshut.pending;
-      awaits = awaits-read l.debugger.pending id k c f rest s.to.wires (omega (places, counts, arith))
-          (λ p h. s.from.awaits o p (subst (λ ws. IsAmong p (replied ws ++ asked s.to.wires)) (sym first) (inr h)));
+      awaits = awaits-read l.debugger.pending id k c f rest s.deferred.wires s.to.wires (omega (places, one, replied-count, deferred-count, asked-count, arith))
+          (λ p h. s.from.awaits o p (subst (λ ws. IsAmong p (replied ws ++ (s.deferred.wires ++ asked s.to.wires))) (sym first) (inr h)));
     }
 
 -- a reply that is not refused
@@ -337,7 +338,7 @@ reads-answer {S} m settings w l x t after id k c answer a rest laws known keeps 
           (unshut.sizes ∙ ap (widths_where w) (sym (or-false x.ready))) (subst (λ ps. AreParked {S = S} w ps []) (sym (keeps.unparked w sizes)) tt)
           (ap (λ ps. without_ids (waiting ps)) gone ∙ r.left)
           (λ h. subst HaveTickets (sym gone) (has-left f.before f.behind f.asked (subst HaveTickets f.split (unshut.ticketed ready))))
-          (λ _. subst (λ ps. Awaits ps rest s.to.wires) (sym gone) r.awaits) phase;
+          (λ _. subst (λ ps. Awaits ps rest s.deferred.wires s.to.wires) (sym gone) r.awaits) phase;
       shuts = shuts-where (ends message || has_end x.parked) next after (learns.2 ∙ ap (λ b. closed_where b next) shut);
       is = is ∙ ap (λ os. closes_by (reads_reply z p (Some k)) os (ends message || has_end x.parked)) (ap (λ ps. composites_of ps ++ Events.Answered k answer ∷ []) bare ∙ ap outcomes_of (sym told-by.0));
     }
@@ -394,7 +395,7 @@ reads-sizes m settings w l x t after id c answer a rest laws known keeps s first
           (sym (ap (widths_where w) (or-true x.ready))) tt
           (ap (λ ps. without_ids (waiting ps)) gone ∙ r.left)
           (λ h. subst HaveTickets (sym (gone ∙ nobody)) tt)
-          (λ _. subst (λ ps. Awaits ps rest s.to.wires) (sym gone) r.awaits) phase;
+          (λ _. subst (λ ps. Awaits ps rest s.deferred.wires s.to.wires) (sym gone) r.awaits) phase;
       shuts = shuts-measured (ends message || has_end x.parked) w next after (learns.2 ∙ ap (λ b. measured_where b w next) shut);
       is = is ∙ ap (λ os. closes_by (reads_reply z p None) os (ends message || has_end x.parked)) (append-nil (composites_of x.parked) ∙ (sym waited.told ∙ ap outcomes_of (sym told-by.0)));
     }

@@ -2,7 +2,6 @@
 use Rattle.std.proofs.Common.{◌≡◌, ◌<◌, ◌^◌, ℕ, ◌⊎◌, inl, inr, Bool, true, false, ◌&&◌, not, None, is_some, List, [], ◌∷◌, ◌++◌, Ok, Err, refl, sym, ◌∙◌, ap, subst}
 use Rattle.std.proofs.lemmas.List.{append-nil}
 use Rattle.jdwp_wire.specs.Streams as streams
-use Rattle.jdwp_wire.specs.Streams.{More, NextMessage, Whole}
 use Rattle.jdwp_wire.specs.Widths.{Widths}
 use Rattle.jdwp_wire.specs.declared.packet.Header.{Header}
 use Rattle.jdwp_end.specs.declared.phase.Phase.{Phase}
@@ -107,6 +106,7 @@ still-parts m settings w l x did s = record {
     none_waits = s.debugger.none_waits;
   };
   to = record { wires = s.to.wires; calls = s.to.calls; sent = s.to.sent; cut = s.to.cut; kept = s.to.kept };
+  deferred = s.deferred;
   from = record { wires = s.from.wires; packets = s.from.packets; sent = s.from.sent; cut = record { number = s.from.cut.number; there = s.from.cut.there; left = s.from.cut.left }; kept = s.from.kept; awaits = s.from.awaits };
 }
 

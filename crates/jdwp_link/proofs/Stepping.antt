@@ -19,7 +19,7 @@ use Rattle.jdwp_debuggee.specs.Visits.{visits_stepped}
 use Rattle.jdwp_mirror.specs.Messages.{Report}
 use Rattle.jdwp_target.specs.Sends.{EncodesSent}
 use Rattle.jdwp_target.specs.Standings.{Steps, after_death, react, reports_step, stands, steps_by}
-use Rattle.jdwp_target.specs.Targets.{standing, visiting, with_step}
+use Rattle.jdwp_target.specs.Targets.{full_standing, standing, visiting, with_step}
 use Rattle.jdwp_target.specs.Turns.{EncodesWhere, SendsWhere, is_frozen}
 use Rattle.jdwp_model.specs.Next.{steps, steps_now, step_ends, stepped, with_report}
 use Rattle.jdwp_model.specs.World as world
@@ -75,9 +75,9 @@ means : {S : Type 0} (m : Meaning S) (w : Widths) (c : CompositeMeaning) → Put
 means m w c puts h = subst (EncodesComposite w c) (puts.composites w c) h
 
 step-acted : {S : Type 0} (m : Meaning S) (w : Widths) (x : World S) (phase : Phase) (after : Moment S) (sends : Option CompositeMeaning) (ends dies : Bool) → PutsMessages m → x.target ≡ phase
-    → (is_established_phase phase ≡ false → sends ≡ None) → m.sizes after.machine ≡ w → EncodesSent w phase sends
+    → (is_established_phase phase ≡ false → sends ≡ None) → m.sizes after.machine ≡ w → EncodesSent w phase sends → (is_established_phase phase ≡ false → x.deferred ≡ [])
     → Acted m w x (reports_step w x.now.state.next_packet (record { after = after; sends = sends; ends = ends; dies = dies }) (stands x.now phase)) [] (step_ends (with_report x after sends) phase dies)
-step-acted m w x Established after None ends true puts e silent sizes encoded = record {
+step-acted m w x Established after None ends true puts e silent sizes encoded none = record {
   more = (after.state.next_packet, (Report vm_death, after_death after)) ∷ [];
   sends = refl;
   mean = (means m w vm_death puts (puts.death w), tt);
@@ -85,15 +85,15 @@ step-acted m w x Established after None ends true puts e silent sizes encoded = 
   sizes = sizes;
   same = refl;
 }
-step-acted m w x Established after (Some c) ends true puts e silent sizes encoded = record {
+step-acted m w x Established after (Some c) ends true puts e silent sizes encoded none = record {
   more = (x.now.state.next_packet, (Report c, after)) ∷ (after.state.next_packet, (Report vm_death, after_death after)) ∷ [];
   sends = refl;
   mean = (means m w c puts encoded, (means m w vm_death puts (puts.death w), tt));
   replies = refl;
   sizes = sizes;
-  same = ap (λ ps. record x { now = after_death after; target = Closed; to_debugger = ps }) (sym (append_assoc x.to_debugger ((Report c, after) ∷ []) ((Report vm_death, after_death after) ∷ [])));
+  same = ap (λ ps. record x { now = after_death after; target = Closed; to_debugger = ps; deferred = [] }) (sym (append_assoc x.to_debugger ((Report c, after) ∷ []) ((Report vm_death, after_death after) ∷ [])));
 }
-step-acted m w x Established after None ends false puts e silent sizes encoded = record {
+step-acted m w x Established after None ends false puts e silent sizes encoded none = record {
   more = [];
   sends = refl;
   mean = tt;
@@ -101,7 +101,7 @@ step-acted m w x Established after None ends false puts e silent sizes encoded =
   sizes = sizes;
   same = ap (λ ps. record x { now = after; target = Established; to_debugger = ps }) (append-nil x.to_debugger) ∙ ap (λ p. record x { now = after; target = p }) (sym e);
 }
-step-acted m w x Established after (Some c) ends false puts e silent sizes encoded = record {
+step-acted m w x Established after (Some c) ends false puts e silent sizes encoded none = record {
   more = (x.now.state.next_packet, (Report c, after)) ∷ [];
   sends = refl;
   mean = (means m w c puts encoded, tt);
@@ -109,40 +109,42 @@ step-acted m w x Established after (Some c) ends false puts e silent sizes encod
   sizes = sizes;
   same = ap (λ p. record x { now = after; target = p; to_debugger = x.to_debugger ++ (Report c, after) ∷ [] }) (sym e);
 }
-step-acted m w x AwaitingHandshake after None ends true puts e silent sizes encoded = record {
+step-acted m w x AwaitingHandshake after None ends true puts e silent sizes encoded none = record {
   more = [];
   sends = refl;
   mean = tt;
   replies = refl;
   sizes = sizes;
-  same = ap (λ ps. record x { now = after; target = Closed; to_debugger = ps }) (append-nil x.to_debugger);
+  same = ap (λ ps. record x { now = after; target = Closed; to_debugger = ps; deferred = [] }) (append-nil x.to_debugger);
 }
-step-acted m w x AwaitingHandshake after None ends false puts e silent sizes encoded = record {
+step-acted m w x AwaitingHandshake after None ends false puts e silent sizes encoded none = record {
   more = [];
   sends = refl;
   mean = tt;
   replies = refl;
   sizes = sizes;
-  same = ap (λ ps. record x { now = after; target = AwaitingHandshake; to_debugger = ps }) (append-nil x.to_debugger) ∙ ap (λ p. record x { now = after; target = p }) (sym e);
+  same = ap (λ ps. record x { now = after; target = AwaitingHandshake; to_debugger = ps; deferred = [] }) (append-nil x.to_debugger)
+      ∙ (ap (λ ds. record x { now = after; target = AwaitingHandshake; deferred = ds }) (sym (none refl)) ∙ ap (λ p. record x { now = after; target = p }) (sym e));
 }
-step-acted m w x AwaitingHandshake after (Some c) ends dies puts e silent sizes encoded = let h : Some c ≡ None = silent refl in absurd (cc)
-step-acted m w x Closed after None ends true puts e silent sizes encoded = record {
+step-acted m w x AwaitingHandshake after (Some c) ends dies puts e silent sizes encoded none = let h : Some c ≡ None = silent refl in absurd (cc)
+step-acted m w x Closed after None ends true puts e silent sizes encoded none = record {
   more = [];
   sends = refl;
   mean = tt;
   replies = refl;
   sizes = sizes;
-  same = ap (λ ps. record x { now = after; target = Closed; to_debugger = ps }) (append-nil x.to_debugger);
+  same = ap (λ ps. record x { now = after; target = Closed; to_debugger = ps; deferred = [] }) (append-nil x.to_debugger);
 }
-step-acted m w x Closed after None ends false puts e silent sizes encoded = record {
+step-acted m w x Closed after None ends false puts e silent sizes encoded none = record {
   more = [];
   sends = refl;
   mean = tt;
   replies = refl;
   sizes = sizes;
-  same = ap (λ ps. record x { now = after; target = Closed; to_debugger = ps }) (append-nil x.to_debugger) ∙ ap (λ p. record x { now = after; target = p }) (sym e);
+  same = ap (λ ps. record x { now = after; target = Closed; to_debugger = ps; deferred = [] }) (append-nil x.to_debugger)
+      ∙ (ap (λ ds. record x { now = after; target = Closed; deferred = ds }) (sym (none refl)) ∙ ap (λ p. record x { now = after; target = p }) (sym e));
 }
-step-acted m w x Closed after (Some c) ends dies puts e silent sizes encoded = let h : Some c ≡ None = silent refl in absurd (cc)
+step-acted m w x Closed after (Some c) ends dies puts e silent sizes encoded none = let h : Some c ≡ None = silent refl in absurd (cc)
 
 -- ---- all of it
 
@@ -176,15 +178,16 @@ step-parts m settings w l x t finds puts k s keeps free encoded sends =
     subst (λ v. EncodesSent v x.target (occurs m x.now t).sends) (ap (λ a. m.sizes a.machine) s.target.now ∙ s.target.sizes)
     (subst (λ p. EncodesSent (m.sizes l.target.moment.machine) p (occurs m x.now t).sends) s.target.phase (subst (λ a. EncodesSent (m.sizes l.target.moment.machine) l.target.end.phase (occurs m a t).sends) s.target.now encoded)) in
     let o = occurs m x.now t in
-    let acted = step-acted m w x x.target o.after o.sends o.ends o.dies puts refl silent (happens.sizes ∙ s.target.sizes) says in
-    let world_is : record x { to_target = without_ids s.to.wires; at_target = x.at_target } ≡ x = ap (λ c. record x { to_target = c }) s.to.calls in
-    let acts : Acted m w (record x { to_target = without_ids s.to.wires; at_target = x.at_target }) (react m l.target.settings (standing l.target) (Steps t)) [] (stepped x o) =
-    subst (λ r. Acted m w (record x { to_target = without_ids s.to.wires; at_target = x.at_target }) r [] (stepped x o)) (sym same) (subst (λ z. Acted m w z (reports_step w x.now.state.next_packet o (stands x.now x.target)) [] (stepped x o)) (sym world_is) acted) in
+    let acted = step-acted m w x x.target o.after o.sends o.ends o.dies puts refl silent (happens.sizes ∙ s.target.sizes) says k.few.none in
+    let before = record x { to_target = without_ids s.to.wires; at_target = x.at_target; deferred = without_ids s.deferred.wires } in
+    let world_is : before ≡ x = ap (λ c. record x { to_target = c; deferred = without_ids s.deferred.wires }) s.to.calls ∙ ap (λ ds. record x { deferred = ds }) s.deferred.commands in
+    let acts : Acted m w before (react m l.target.settings (standing l.target) (Steps t)) [] (stepped x o) =
+    subst (λ r. Acted m w before r [] (stepped x o)) (sym same) (subst (λ z. Acted m w z (reports_step w x.now.state.next_packet o (stands x.now x.target)) [] (stepped x o)) (sym world_is) acted) in
     let opens : is_closed (react m l.target.settings (standing l.target) (Steps t)).after.phase ≡ false → is_closed x.target ≡ false =
     (λ h. step-open w x.now.state.next_packet x.now o.after o.sends o.ends o.dies x.target (ap (λ r. is_closed r.after.phase) (sym same) ∙ h)) in
-    let parts = acts-parts m settings w l x (stepped x o) true (react m l.target.settings (standing l.target) (Steps t)) l.target.end (visiting (visits_stepped m l.target.moment t l.target.visits) (record l.target { steps = l.target.steps + 1 })) x.at_target s.to.wires []
+    let parts = acts-parts m settings w l x (stepped x o) true (react m l.target.settings (standing l.target) (Steps t)) (full_standing l.target) [] l.target.end (visiting (visits_stepped m l.target.moment t l.target.visits) (record l.target { steps = l.target.steps + 1 })) x.at_target s.to.wires s.deferred.wires []
     s s.target.same_settings s.target.limits s.target.lost refl s.to.sent (subst (λ limits. AreSendable limits.packet (react m l.target.settings (standing l.target) (Steps t)).sends) s.target.limits sends)
-    (cut-same x.at_target _ _ _ l.target.end _ (is_closed x.target) _ refl (λ h. (opens h, refl)) s.to.cut) refl acts in
+    (cut-same x.at_target _ _ _ l.target.end _ (is_closed x.target) _ refl (λ h. (opens h, refl)) s.to.cut) s.deferred.messages s.deferred.sent s.target.deferring (λ p h. h) acts in
     subst (λ b. Parts m settings w (record l { target = with_step m t l.target; did = true }) (cond b (stepped x o) x)) (sym now) parts
 
 -- a step that is not made

@@ -33,7 +33,7 @@ pub takes-parts : {S : Type 0} (m : Meaning S) (settings : Settings) (w : Widths
     → s.from.wires ≡ (id, p) ∷ rest → message_size w p.0 ≤ x.at_debugger → is_closed x.debugger ≡ false
     → d.end.limits ≡ l.debugger.end.limits → d.end.phase ≡ Established → d.end.incoming ≡ drop (message_size w p.0) l.debugger.end.incoming → d.end.outgoing ≡ l.debugger.end.outgoing ++ stream (calls_sent w more)
     → d.tickets ≡ l.debugger.tickets → IsMirror d.mirror read → d.sizes ≡ widths_where w ready → AreParked w d.parked parked → without_ids (waiting d.pending) ≡ pending → (ready ≡ true → HaveTickets d.pending)
-    → AreCalls w settings.limits.packet more → (Awaits l.debugger.pending s.from.wires s.to.wires → Awaits d.pending rest (s.to.wires ++ more))
+    → AreCalls w settings.limits.packet more → (Awaits l.debugger.pending s.from.wires s.deferred.wires s.to.wires → Awaits d.pending rest s.deferred.wires (s.to.wires ++ more))
     → Parts m settings w (record l { debugger = d; did = did })
     (record x { to_target = x.to_target ++ without_ids more; to_debugger = without_ids rest; at_debugger = x.at_debugger - message_size w p.0; debugger = Established; ready = ready; parked = parked; read = read; pending = pending })
 takes-parts m settings w l x did d id p rest more ready parked read pending finds s first came o limits phase incoming outgoing tickets mirror sizes waits pends ticketed can awaits =
@@ -41,7 +41,7 @@ takes-parts m settings w l x did d id p rest more ready parked read pending find
     subst (λ wires. AreCut x.at_debugger (stream (packets_sent w wires)) (way_to_debugger l) l.debugger.end (is_closed x.debugger)) first s.from.cut in
     let all : ArePackets w settings.limits.packet ((id, p) ∷ rest) = subst (ArePackets w settings.limits.packet) first s.from.sent in
     record {
-      target = record { same_settings = s.target.same_settings; limits = s.target.limits; sizes = s.target.sizes; now = s.target.now; phase = s.target.phase; lost = s.target.lost };
+      target = record { same_settings = s.target.same_settings; limits = s.target.limits; sizes = s.target.sizes; now = s.target.now; phase = s.target.phase; lost = s.target.lost; deferring = s.target.deferring };
       debugger = record {
         limits = limits ∙ s.debugger.limits;
         phase = phase;
@@ -58,6 +58,7 @@ takes-parts m settings w l x did d id p rest more ready parked read pending find
             (ap (λ b. l.to_target ++ b) outgoing ∙ sym (append_assoc l.to_target l.debugger.end.outgoing (stream (calls_sent w more)))) s.to.cut;
         kept = λ _. s.to.kept o;
       };
+      deferred = record { wires = s.deferred.wires; commands = s.deferred.commands; messages = s.deferred.messages; sent = s.deferred.sent };
       from = record {
         wires = rest;
         packets = refl;
@@ -74,12 +75,12 @@ pub takes-only : {S : Type 0} (m : Meaning S) (settings : Settings) (w : Widths)
     → s.from.wires ≡ (id, p) ∷ rest → message_size w p.0 ≤ x.at_debugger → is_closed x.debugger ≡ false
     → d.end.limits ≡ l.debugger.end.limits → d.end.phase ≡ Established → d.end.incoming ≡ drop (message_size w p.0) l.debugger.end.incoming → d.end.outgoing ≡ l.debugger.end.outgoing
     → d.tickets ≡ l.debugger.tickets → IsMirror d.mirror read → d.sizes ≡ widths_where w ready → AreParked w d.parked parked → without_ids (waiting d.pending) ≡ pending → (ready ≡ true → HaveTickets d.pending)
-    → (Awaits l.debugger.pending s.from.wires s.to.wires → Awaits d.pending rest s.to.wires) → x.debugger ≡ Established
+    → (Awaits l.debugger.pending s.from.wires s.deferred.wires s.to.wires → Awaits d.pending rest s.deferred.wires s.to.wires) → x.debugger ≡ Established
     → Parts m settings w (record l { debugger = d; did = did })
     (record x { to_debugger = without_ids rest; at_debugger = x.at_debugger - message_size w p.0; ready = ready; parked = parked; read = read; pending = pending })
 takes-only m settings w l x did d id p rest ready parked read pending finds s first came o limits phase incoming outgoing tickets mirror sizes waits pends ticketed awaits established =
     let same = takes-parts m settings w l x did d id p rest [] ready parked read pending finds s first came o limits phase incoming (outgoing ∙ sym (append-nil l.debugger.end.outgoing)) tickets mirror sizes waits pends ticketed tt
-    (λ a. subst (Awaits d.pending rest) (sym (append-nil s.to.wires)) (awaits a)) in
+    (λ a. subst (Awaits d.pending rest s.deferred.wires) (sym (append-nil s.to.wires)) (awaits a)) in
     let after = λ (calls : List Call) (phase : Phase). record x { to_target = calls; to_debugger = without_ids rest; at_debugger = x.at_debugger - message_size w p.0; debugger = phase; ready = ready; parked = parked; read = read; pending = pending } in
     subst (λ y. Parts m settings w (record l { debugger = d; did = did }) y) (ap (λ cs. after cs Established) (append-nil x.to_target) ∙ ap (after x.to_target) (sym established)) same
 
@@ -95,7 +96,7 @@ pub record IsShut (unshut after : Debugger) : Type 0 where
 pub shut-parts : {S : Type 0} (m : Meaning S) (settings : Settings) (w : Widths) (l : Link S) (y : World S) (unshut after : Debugger) (did : Bool) → IsShut unshut after → has_tickets unshut.pending ≡ false
     → Parts m settings w (record l { debugger = unshut; did = did }) y → Parts m settings w (record l { debugger = after; did = did }) (debugger_closed y)
 shut-parts {S} m settings w l y unshut after did h none s = record {
-  target = record { same_settings = s.target.same_settings; limits = s.target.limits; sizes = s.target.sizes; now = s.target.now; phase = s.target.phase; lost = s.target.lost };
+  target = record { same_settings = s.target.same_settings; limits = s.target.limits; sizes = s.target.sizes; now = s.target.now; phase = s.target.phase; lost = s.target.lost; deferring = s.target.deferring };
   debugger = record {
     limits = ap (λ e. e.limits) h.end ∙ s.debugger.limits;
     phase = ap (λ e. e.phase) h.end;
@@ -111,6 +112,7 @@ shut-parts {S} m settings w l y unshut after did h none s = record {
     cut = record { number = s.to.cut.number; there = s.to.cut.there; left = ap (λ e. l.to_target ++ e.outgoing) h.end ∙ s.to.cut.left };
     kept = λ o. absurd (cc);
   };
+  deferred = record { wires = s.deferred.wires; commands = s.deferred.commands; messages = s.deferred.messages; sent = s.deferred.sent };
   from = record {
     wires = s.from.wires;
     packets = s.from.packets;
@@ -125,7 +127,7 @@ shut-parts {S} m settings w l y unshut after did h none s = record {
 pub shut-lost : {S : Type 0} (m : Meaning S) (settings : Settings) (w : Widths) (l : Link S) (y : World S) (unshut after : Debugger) (did : Bool) → IsShut unshut after
     → Parts m settings w (record l { debugger = unshut; did = did }) y → Parts m settings w (record (debugger_lost (record l { debugger = after })) { did = did }) (debugger_closed y)
 shut-lost m settings w l y unshut after did h s = record {
-  target = record { same_settings = s.target.same_settings; limits = s.target.limits; sizes = s.target.sizes; now = s.target.now; phase = s.target.phase; lost = s.target.lost };
+  target = record { same_settings = s.target.same_settings; limits = s.target.limits; sizes = s.target.sizes; now = s.target.now; phase = s.target.phase; lost = s.target.lost; deferring = s.target.deferring };
   debugger = record {
     limits = ap (λ e. e.limits) h.end ∙ s.debugger.limits;
     phase = refl;
@@ -141,6 +143,7 @@ shut-lost m settings w l y unshut after did h s = record {
     cut = record { number = s.to.cut.number; there = s.to.cut.there; left = append-nil (l.to_target ++ after.end.outgoing) ∙ (ap (λ e. l.to_target ++ e.outgoing) h.end ∙ s.to.cut.left) };
     kept = λ o. absurd (cc);
   };
+  deferred = record { wires = s.deferred.wires; commands = s.deferred.commands; messages = s.deferred.messages; sent = s.deferred.sent };
   from = record {
     wires = s.from.wires;
     packets = s.from.packets;

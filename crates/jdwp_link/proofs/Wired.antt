@@ -49,16 +49,38 @@ among-either p [] ys h = inr h
 among-either p (x ∷ xs) ys (inl e) = inl (inl e)
 among-either p (x ∷ xs) ys (inr h) = elim (among-either p xs ys h) [ inl a ↦ inl (inr a) | inr b ↦ inr b ]
 
+-- one stands further behind
+pub among-moved : (p q : Waiting) (xs ys : List Waiting) → IsAmong p (q ∷ (xs ++ ys)) → IsAmong p (xs ++ q ∷ ys)
+among-moved p q xs ys (inl e) = among-back p xs (q ∷ ys) (inl e)
+among-moved p q xs ys (inr h) = elim (among-either p xs ys h) [ inl a ↦ among-front p xs (q ∷ ys) a | inr b ↦ among-back p xs (q ∷ ys) (inr b) ]
+
 -- ---- what waits
 
-pub awaits-same : {S : Type 0} (pending : List Asked) (from after : List (PacketWire S)) (to rest : List CallWire) → replied after ++ asked rest ≡ replied from ++ asked to → Awaits pending from to → Awaits pending after rest
-awaits-same pending from after to rest e a = λ p h. a p (subst (IsAmong p) e h)
+-- what is asked stands behind all else
+pub asked-behind : {S : Type 0} (from : List (PacketWire S)) (deferred : List Waiting) (to : List CallWire) (sent : CallWire) → replied from ++ (deferred ++ asked (to ++ sent ∷ [])) ≡ (replied from ++ (deferred ++ asked to)) ++ asked (sent ∷ [])
+asked-behind from deferred to sent =
+    ap (λ l. replied from ++ (deferred ++ l)) (asked-append to (sent ∷ [])) ∙ (ap (λ l. replied from ++ l) (sym (append_assoc deferred (asked to) (asked (sent ∷ [])))) ∙ sym (append_assoc (replied from) (deferred ++ asked to) (asked (sent ∷ []))))
 
--- the commands of calls that were taken off are replied to
-pub awaits-replied : {S : Type 0} (pending : List Asked) (from more : List (PacketWire S)) (to rest : List CallWire) (done : List Waiting) → replied more ≡ done → asked to ≡ done ++ asked rest → Awaits pending from to → Awaits pending (from ++ more) rest
-awaits-replied pending from more to rest done r e a =
-    awaits-same pending from (from ++ more) to rest
-    (ap (λ l. l ++ asked rest) (replied-append from more ∙ ap (λ l. replied from ++ l) r) ∙ (append_assoc (replied from) done (asked rest) ∙ ap (λ l. replied from ++ l) (sym e))) a
+pub awaits-same : {S : Type 0} (pending : List Asked) (from after : List (PacketWire S)) (deferred : List Waiting) (to : List CallWire) → replied from ≡ replied after → Awaits pending from deferred to → Awaits pending after deferred to
+awaits-same pending from after deferred to e a = λ p h. a p (subst (λ l. IsAmong p (l ++ (deferred ++ asked to))) (sym e) h)
+
+-- what was deferred is so no more
+pub awaits-dropped : {S : Type 0} (pending : List Asked) (from : List (PacketWire S)) (deferred : List Waiting) (to : List CallWire) → Awaits pending from deferred to → Awaits pending from [] to
+awaits-dropped pending from deferred to a = λ p h. a p (elim (among-either p (replied from) (asked to) h) [
+  | inl b ↦ among-front p (replied from) (deferred ++ asked to) b
+  | inr b ↦ among-back p (replied from) (deferred ++ asked to) (among-back p deferred (asked to) b)
+])
+
+-- commands that were under way or deferred are replied to, or deferred
+pub awaits-replied : {S : Type 0} (pending : List Asked) (from more : List (PacketWire S)) (deferred kept : List Waiting) (to rest : List CallWire) (done : List Waiting) → replied more ≡ done
+    → ((p : Waiting) → IsAmong p (done ++ (kept ++ asked rest)) → IsAmong p (deferred ++ asked to)) → Awaits pending from deferred to → Awaits pending (from ++ more) kept rest
+awaits-replied pending from more deferred kept to rest done r e a = λ p h.
+    let whole : IsAmong p (replied from ++ (done ++ (kept ++ asked rest))) =
+    subst (IsAmong p) (ap (λ l. l ++ (kept ++ asked rest)) (replied-append from more ∙ ap (λ l. replied from ++ l) r) ∙ append_assoc (replied from) done (kept ++ asked rest)) h in
+    a p (elim (among-either p (replied from) (done ++ (kept ++ asked rest)) whole) [
+      | inl b ↦ among-front p (replied from) (deferred ++ asked to) b
+      | inr b ↦ among-back p (replied from) (deferred ++ asked to) (e p b)
+    ])
 
 -- ---- what is sent
 

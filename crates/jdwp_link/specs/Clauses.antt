@@ -12,7 +12,7 @@ use Rattle.jdwp_debuggee.specs.Effects.{effect}
 use Rattle.jdwp_debuggee.specs.State.{Moment, count_of, count_or_zero}
 use Rattle.jdwp_debuggee.specs.StepParts.{is_ready}
 use Rattle.jdwp_mirror.specs.KnownThreads.{count_in, is_held_in}
-use Rattle.jdwp_target.specs.Turns.{NeedsMemory}
+use Rattle.jdwp_target.specs.Turns.{NeedsMemory, NeedsMemoryToHandle, deferred_at}
 use Rattle.jdwp_debugger.specs.Debuggers.{Unanswered, unanswered, has_tickets, is_front}
 use Rattle.jdwp_model.specs.Events
 use Rattle.jdwp_model.specs.Events.{LinkEvent}
@@ -50,18 +50,21 @@ pub record Ran {S : Type 0} (m : Meaning S) (es : List LinkEvent) (old new : Lin
   pub settings : (x : World S) → StandsFor m old x → new.target.settings ≡ old.target.settings
   pub sizes : (x : World S) → StandsFor m old x → m.sizes new.target.moment.machine ≡ m.sizes old.target.moment.machine
 
--- Where an event may want memory: an Ask; a turn of the target at a whole message that calls for some; a turn of the debugger at one; a step
--- that nothing but a thread too many forbids; and a loss at the debugger where tickets wait.
+-- Where an event may want memory: an Ask; a turn of the target at a whole message that calls for some; a release of a command that does; a
+-- turn of the debugger at a whole message; a step that nothing but a thread too many forbids; and a loss at the debugger where tickets wait.
 abbrev pub MayStop : {S : Type 0} → Meaning S → Link S → LinkEvent → Type 0
 MayStop m l (Events.Ask c) = Unit {0}
 MayStop m l Events.TargetTurn = (message : streams.Message) × (used : ℕ) × (front_of l.target.end ≡ Whole message used) × NeedsMemory m l.target message
 MayStop m l Events.DebuggerTurn = is_front (front_of l.debugger.end) ≡ true
 MayStop m l (Events.Step t) = is_ready l.target.settings l.target.moment.state t ≡ true
 MayStop m l Events.DebuggerLoses = has_tickets l.debugger.pending ≡ true
+MayStop m l (Events.Release place) =
+    (message : streams.Message) × (others : List streams.Message) × (deferred_at place l.target ≡ Some (message, others)) × NeedsMemoryToHandle m l.target message
 MayStop m l Events.Attach = ⊥
 MayStop m l (Events.ToTarget n) = ⊥
 MayStop m l (Events.ToDebugger n) = ⊥
 MayStop m l Events.TargetLoses = ⊥
+MayStop m l (Events.Defer deferring) = ⊥
 
 -- ---- the mirror
 

@@ -25,6 +25,7 @@ use Rattle.jdwp_target.specs.Sends.{IsEncoded}
 use Rattle.jdwp_debugger.specs.Asking.{EncodesCommand, ReadsAsAsked, command_header}
 use Rattle.jdwp_debugger.specs.DebuggerTurns.{sizes_header}
 use Rattle.jdwp_debugger.specs.News.{answer_in, composite_in}
+use Rattle.jdwp_model.specs.Deferred.{DefersFew}
 use Rattle.jdwp_model.specs.Faultless.{NoPacketIsRefused, NoCallIsRefused, AnswersOneWaiting}
 use Rattle.jdwp_model.specs.Headline.{Always, CountIsAtMost, HasTheCounts, HasTheRequests, HeldIsCovered, HeldIsSuspended, KnowsAndHolds}
 use Rattle.jdwp_model.specs.Lasting.{AlwaysStaysTrue}
@@ -72,6 +73,7 @@ pub record HoldsOfWorlds {S : Type 0} (m : Meaning S) : Type 0 where
   pub calls : Always m NoCallIsRefused
   pub one : Always m AnswersOneWaiting
   pub places : Always m EachAtOnePlace
+  pub few : Always m DefersFew
   pub known_and_held : Always m KnowsAndHolds
   pub counts : Always m HasTheCounts
   pub requests : Always m HasTheRequests

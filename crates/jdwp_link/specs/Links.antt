@@ -9,8 +9,8 @@ use Rattle.jdwp_target.specs.Targets as targets
 use Rattle.jdwp_debugger.specs.Debuggers.{Debugger, new_debugger}
 use Rattle.jdwp_debugger.specs.Debuggers as debuggers
 
--- Both ends; what an end had put that lost the connection, and that did not come to the other; and whether the last event was a turn or a
--- step that did something.
+-- Both ends; what an end had put that lost the connection, and that did not come to the other; and whether the last event was a turn, a
+-- release or a step that did something.
 pub record Link (S : Type 0) : Type 0 where
   pub target : Target S
   pub debugger : Debugger
@@ -23,7 +23,7 @@ abbrev pub new_link : {S : Type 0} → Settings → Moment S → Link S
 new_link settings now =
     record { target = new_target settings now; debugger = new_debugger settings.limits 1; to_target = []; to_debugger = []; did = false }
 
--- an event that is no turn or step
+-- an event that is no turn, release or step
 abbrev pub idle : {S : Type 0} → Link S → Link S
 idle l = record l { did = false }
 

@@ -19,7 +19,7 @@ use Rattle.jdwp_model.specs.Seen.{mirror_count, mirror_held, mirror_requests}
 use Rattle.jdwp_model.specs.World.{is_closed, Packet, World, opening}
 use Rattle.jdwp_model.specs.Measures.{measured}
 use Rattle.jdwp_link.specs.Links.{Link, way_to_target, way_to_debugger}
-use Rattle.jdwp_link.specs.Wires.{CallWire, PacketWire, without_ids, calls_sent, packets_sent, AreCalls, ArePackets, waiting, Awaits, HaveTickets}
+use Rattle.jdwp_link.specs.Wires.{CallWire, PacketWire, Waiting, without_ids, calls_sent, packets_sent, deferred_sent, AreCalls, AreDeferred, ArePackets, waiting, Awaits, HaveTickets}
 
 -- ---- the world
 
@@ -39,6 +39,7 @@ pub record TargetStands {S : Type 0} (m : Meaning S) (settings : Settings) (w : 
   pub now : t.moment ≡ x.now
   pub phase : t.end.phase ≡ x.target
   pub lost : t.end.session.lost ≡ x.lost
+  pub deferring : t.deferring ≡ x.deferring
 
 -- the widths of ids, where they are known
 abbrev pub widths_where : Widths → Bool → Option Widths
@@ -87,23 +88,31 @@ pub record ToStands {S : Type 0} (settings : Settings) (w : Widths) (l : Link S)
   pub cut : AreCut x.at_target (stream (calls_sent w wires)) (way_to_target l) l.target.end (is_closed x.target)
   pub kept : is_closed x.debugger ≡ false → l.to_target ≡ []
 
--- of what the debugger put these are under way
-pub record FromStands {S : Type 0} (settings : Settings) (w : Widths) (l : Link S) (x : World S) (to : List CallWire) : Type 0 where
+-- what the target took and will answer later
+pub record DeferredStands {S : Type 0} (w : Widths) (t : Target S) (x : World S) : Type 0 where
+  pub wires : List Waiting
+  pub commands : without_ids wires ≡ x.deferred
+  pub messages : deferred_sent w wires ≡ t.deferred
+  pub sent : AreDeferred w wires
+
+-- of what the debugger put these are deferred, and these are under way
+pub record FromStands {S : Type 0} (settings : Settings) (w : Widths) (l : Link S) (x : World S) (deferred : List Waiting) (to : List CallWire) : Type 0 where
   pub wires : List (PacketWire S)
   pub packets : without_ids wires ≡ x.to_debugger
   pub sent : ArePackets w settings.limits.packet wires
   pub cut : AreCut x.at_debugger (stream (packets_sent w wires)) (way_to_debugger l) l.debugger.end (is_closed x.debugger)
   pub kept : x.lost ≡ false → l.to_debugger ≡ []
-  pub awaits : is_closed x.debugger ≡ false → Awaits l.debugger.pending wires to
+  pub awaits : is_closed x.debugger ≡ false → Awaits l.debugger.pending wires deferred to
 
 -- ---- all of it
 
--- both ends, and all that is under way between them
+-- both ends, what is deferred, and all that is under way between them
 pub record Parts {S : Type 0} (m : Meaning S) (settings : Settings) (w : Widths) (l : Link S) (x : World S) : Type 0 where
   pub target : TargetStands m settings w l.target x
   pub debugger : DebuggerStands settings w l.debugger x
   pub to : ToStands settings w l x
-  pub from : FromStands settings w l x to.wires
+  pub deferred : DeferredStands w l.target x
+  pub from : FromStands settings w l x deferred.wires to.wires
 
 -- A link stands for a world that is reached, where ids are so wide.
 pub record Stands {S : Type 0} (m : Meaning S) (settings : Settings) (w : Widths) (l : Link S) (x : World S) : Type 0 where

@@ -23,6 +23,8 @@ event_meaning event.DebuggerTurn = Events.DebuggerTurn
 event_meaning (event.Step thread) = Events.Step thread.0
 event_meaning event.TargetLoses = Events.TargetLoses
 event_meaning event.DebuggerLoses = Events.DebuggerLoses
+event_meaning (event.Defer deferring) = Events.Defer deferring
+event_meaning (event.Release place) = Events.Release place
 
 abbrev pub event_meanings : List LinkEvent → List Events.LinkEvent
 event_meanings events = map event_meaning events
@@ -45,12 +47,13 @@ outcome_told (Events.Seen composite) = outcome.Seen composite
 abbrev pub told_outcomes : List Events.Outcome → List Outcome
 told_outcomes outcomes = map outcome_told outcomes
 
--- whether a turn of the target handled a message
+-- whether a turn of the target handled a message, or a release answered a command
 abbrev pub turn_did : Turn → Bool
 turn_did turn.Nothing = false
 turn_did turn.Hello = true
 turn_did (turn.Replied id error) = true
 turn_did turn.Ignored = true
+turn_did (turn.Deferred id) = true
 
 -- whether a step was made
 abbrev pub step_did : Stepped → Bool

@@ -108,9 +108,23 @@ abbrev pub IsAmong : Waiting → List Waiting → Type 0
 IsAmong p [] = ⊥
 IsAmong p (q ∷ qs) = (q ≡ p) ⊎ IsAmong p qs
 
--- Each command that is under way, and each whose reply is, waits at the debugger under the same id with the same ticket.
-abbrev pub Awaits : {S : Type 0} → List Asked → List (PacketWire S) → List CallWire → Type 0
-Awaits pending from to = (p : Waiting) → IsAmong p (replied from ++ asked to) → IsAmong p (waiting pending)
+-- Each command that is under way, each that is deferred, and each whose reply is under way, waits at the debugger under the same id with
+-- the same ticket.
+abbrev pub Awaits : {S : Type 0} → List Asked → List (PacketWire S) → List Waiting → List CallWire → Type 0
+Awaits pending from deferred to = (p : Waiting) → IsAmong p (replied from ++ (deferred ++ asked to)) → IsAmong p (waiting pending)
+
+-- ---- what is deferred
+
+-- these commands as they were sent
+abbrev pub deferred_sent : Widths → List Waiting → List streams.Message
+deferred_sent w [] = []
+deferred_sent w (p ∷ ps) = call_sent w p.0 (Asks p.1.0 p.1.1) ∷ deferred_sent w ps
+
+-- each says what was meant
+abbrev pub AreDeferred : Widths → List Waiting → Type 0
+AreDeferred w wires = AllByRecursion (λ (p : Waiting). IsCall w (Asks p.1.0 p.1.1)) wires
+
+-- ---- tickets
 
 -- all that waits has a ticket
 abbrev pub HaveTickets : List Asked → Type 0

@@ -16,16 +16,22 @@ pub enum LinkEvent {
     ToTarget(usize),
     /// At most so many of the bytes under way come to the debugger, as many as it has room for.
     ToDebugger(usize),
-    /// The target handles the message at the front of what came to it, if it is whole.
+    /// The target handles the message at the front of what came to it, if it is whole, or defers the reply.
     TargetTurn,
     /// The debugger handles the message at the front of what came to it, if it is whole.
     DebuggerTurn,
     /// A thread makes a step, if it may make one.
     Step(ObjectId),
-    /// The target notices that the connection is lost. What it had put stays under way.
+    /// The target notices that the connection is lost. What it had put stays under way; what it deferred is never answered.
     TargetLoses,
     /// The debugger notices that the connection is lost. What it had put stays under way.
     DebuggerLoses,
+    /// From now on the target defers the replies to commands of the sets ReferenceType and Method, at most 16 at a time, or it answers each
+    /// at once, as before the first of these events. What is deferred stays so.
+    Defer(bool),
+    /// The target answers the deferred command at this place, 0 for the oldest, by the debuggee as it is now, where one is deferred there
+    /// and the target is not paused.
+    Release(usize),
 }
 
 /// What is told of an event.

@@ -55,6 +55,8 @@ impl<M: Machine + Drop> Link<M> {
             LinkEvent::Step(thread) => return self.step(*thread),
             LinkEvent::TargetLoses => self.lose_at_target(),
             LinkEvent::DebuggerLoses => return self.lose_at_debugger(outcomes),
+            LinkEvent::Defer(deferring) => self.set_deferring(*deferring),
+            LinkEvent::Release(place) => return self.release(*place),
         }
         Ok(())
     }
@@ -175,6 +177,37 @@ impl<M: Machine + Drop> Link<M> {
         match self.target.turn() {
             Ok(turn) => {
                 self.did = has_turned(turn);
+                keeps(&self.target, &self.debugger);
+                Ok(())
+            }
+            Err(TargetFault::NoMemory) => Err(NoMemory),
+            Err(TargetFault::Frame(_)) => unreachable!(),
+        }
+    }
+
+    /// From now on the target defers the replies that may come later, or it defers none.
+    pub(crate) fn set_deferring(&mut self, deferring: bool)
+        ensures { Goes M.meaning (events.Defer deferring) self.old self.new [] }
+    {
+        self.target.set_deferring(deferring);
+        self.did = false;
+        keeps(&self.target, &self.debugger);
+    }
+
+    /// The target answers the deferred command at this place, if one is deferred there.
+    ///
+    /// # Errors
+    /// `NoMemory` where an allocation was refused; then nothing has changed.
+    pub(crate) fn release(&mut self, place: usize) -> Result<(), NoMemory>
+        ensures ok { OnOk result (Goes M.meaning (events.Release place) self.old self.new []) }
+        ensures err { OnErr result ((self.new ≡ self.old)
+            × MayStop M.meaning self.old (events.Release place)) }
+    {
+        laws::<M>();
+        keeps(&self.target, &self.debugger);
+        match self.target.release(place) {
+            Ok(released) => {
+                self.did = has_turned(released);
                 keeps(&self.target, &self.debugger);
                 Ok(())
             }
@@ -312,12 +345,12 @@ fn has_stepped(stepped: Stepped) -> bool
     }
 }
 
-/// Whether a turn handled a message.
+/// Whether a turn handled a message, or a release answered a command.
 fn has_turned(turn: Turn) -> bool
     ensures { result ≡ turn_did turn }
 {
     match turn {
         Turn::Nothing => false,
-        Turn::Hello | Turn::Replied(..) | Turn::Ignored => true,
+        Turn::Hello | Turn::Replied(..) | Turn::Ignored | Turn::Deferred(_) => true,
     }
 }

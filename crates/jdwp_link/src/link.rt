@@ -122,8 +122,9 @@ impl<M: Machine + Drop> Link<M> {
     ///
     /// # Errors
     /// `Stopped` where an event met want of memory; the link and what is told are those of the events before it. An `Ask` may stop a run;
-    /// a turn of the target at a whole command whose data read and that is none of the twelve short ones; a turn of the debugger at a whole
-    /// message; a step that nothing but a thread too many forbids; and a loss at the debugger where tickets wait. No other event does.
+    /// a turn of the target at a whole command that it defers, or whose data read and that is none of the twelve short ones; a release of
+    /// a deferred command whose data read; a turn of the debugger at a whole message; a step that nothing but a thread too many forbids;
+    /// and a loss at the debugger where tickets wait. No other event does.
     pub fn run(&mut self, events: &[LinkEvent]) -> Result<Vec<Outcome>, Stopped>
         ensures ok { IfOk result (λ told. Ran M.meaning (event_meanings events.now) self.old
             self.new told.items) }
@@ -204,7 +205,8 @@ impl<M: Machine + Drop> Link<M> {
         &self.debugger
     }
 
-    /// Whether the last event that `run` did was a turn that handled a message, or a step that was made; false before the first.
+    /// Whether the last event that `run` did was a turn that handled a message, a release that answered a command, or a step that was
+    /// made; false before the first.
     pub fn did(&self) -> bool
         ensures { result ≡ self.now.did }
     {

@@ -20,7 +20,6 @@ use Rattle.jdwp_debuggee.specs.Effects.{Effect}
 use Rattle.jdwp_debuggee.specs.Steps.{raised_by}
 use Rattle.jdwp_debuggee.specs.Facts.{AreBelow, IsSound, Does, Says, OfThread, moved, moved_by, requests_by, requests_moved, is_data}
 use Rattle.jdwp_mirror.specs.Messages.{Ticket, Message, Handshake, Reply, Report}
-use Rattle.jdwp_mirror.specs.Mirror
 use Rattle.jdwp_mirror.specs.Mirror.{all_kept, learned, learned_data, learned_error, learned_event, own_count, other_count, first_count, taught, counted, lists, is_thread, teaches, teaches_data, forgets, forgets_data, shows, shows_data, is_last_of_thread, is_invalid_thread, requests_after, requests_after_data, is_not_kept, is_no_kept_breakpoint, ends, one_more, one_less, COUNT_MOST}
 use Rattle.jdwp_model.specs.Seen.{lowers, lowers_by, raises, raises_by}
 use Rattle.jdwp_model.proofs.Plain.{more-exact, some-same, kept-append, kept-filter, kept-below, lists-alive}

@@ -1,23 +1,14 @@
 -- no two commands that wait have the same ticket
-use Rattle.std.proofs.Common.{◌≡◌, ℕ, ◌==◌, ◌+◌, ◌<◌, ◌≤◌, Bool, true, false, cond, Option, Some, None, List, [], ◌∷◌, ◌++◌, refl, sym, ap, subst, arith}
+use Rattle.std.proofs.Common.{◌≡◌, ℕ, ◌==◌, ◌+◌, ◌<◌, ◌≤◌, true, false, cond, Some, None, List, [], ◌∷◌, ◌++◌, refl, sym, ap, subst, arith}
 use Rattle.std.proofs.lemmas.Bool.{eqb-true}
 use Rattle.jdwp_end.specs.declared.phase.Phase.{Phase}
-use Rattle.jdwp_end.specs.declared.phase.Phase.TheVariants.{Closed, AwaitingHandshake, Established}
+use Rattle.jdwp_end.specs.declared.phase.Phase.TheVariants.{Established}
 use Rattle.jdwp_end.specs.Ends.{is_established_phase}
-use Rattle.jdwp_event.specs.Composites.{CompositeMeaning}
-use Rattle.jdwp_machine.specs.Meanings.{Meaning}
-use Rattle.jdwp_debuggee.specs.Settings.{Settings}
-use Rattle.jdwp_debuggee.specs.State.{Moment}
 use Rattle.jdwp_action.specs.Actions.{Command}
-use Rattle.jdwp_debuggee.specs.Effects.{effect}
-use Rattle.jdwp_debuggee.specs.Steps.{occurs}
 use Rattle.jdwp_mirror.specs.Messages.{Ticket, same_ticket, id_sizes}
-use Rattle.jdwp_model.specs.World.{World}
-use Rattle.jdwp_model.specs.Next.{greets_by, dies_by, answers, without_ticket, with_report, step_ends}
+use Rattle.jdwp_model.specs.Next.{without_ticket}
 use Rattle.jdwp_model.specs.Places.{tally, one_of}
 use Rattle.jdwp_model.proofs.Waiting.{bit, tally-append, without-tally}
-use Rattle.jdwp_model.proofs.Keeps.{closed-not-open}
-use Rattle.jdwp_model.proofs.Cases.{Kept}
 
 -- No two commands that wait have the same ticket, and none has one that was not given; none waits before the target's handshake is read.
 pub record Apart (phase : Phase) (asked : ℕ) (pending : List (Ticket × Command)) : Type 0 where
@@ -67,46 +58,4 @@ apart-read phase asked k p a =
       once = λ j. let h = a.once j in let e = without-tally (one_of j) k p in omega arith;
       fresh = λ j l. let h = a.fresh j l in let e = without-tally (one_of (Some j)) k p in omega arith;
       none = λ x. ap (without_ticket k) (a.none x);
-    }
-
--- ---- all events
-
-abbrev pub ApartOf : {S : Type 0} → World S → Type 0
-ApartOf w = Apart w.debugger w.asked w.pending
-
-apart-greets : {S : Type 0} (settings : Settings) (w : World S) (b : Bool) → ApartOf w → ApartOf (greets_by settings w b)
-apart-greets settings w true a = a
-apart-greets settings w false a = a
-
-apart-dies : {S : Type 0} (w : World S) (b : Bool) → ApartOf w → ApartOf (dies_by w b)
-apart-dies w true a = a
-apart-dies w false a = a
-
-apart-ends : {S : Type 0} (w : World S) (phase : Phase) (dies : Bool) → ApartOf w → ApartOf (step_ends w phase dies)
-apart-ends w phase false a = a
-apart-ends w Established true a = a
-apart-ends w AwaitingHandshake true a = a
-apart-ends w Closed true a = a
-
-apart-told : {S : Type 0} (w : World S) (after : Moment S) (o : Option CompositeMeaning) (phase : Phase) (dies : Bool) → ApartOf w → ApartOf (step_ends (with_report w after o) phase dies)
-apart-told w after None phase dies a = apart-ends (with_report w after None) phase dies a
-apart-told w after (Some c) phase dies a = apart-ends (with_report w after (Some c)) phase dies a
-
-pub apart_kept : {S : Type 0} (m : Meaning S) (settings : Settings) (w : World S) → ApartOf w → Kept m settings w ApartOf
-apart_kept m settings w a =
-    record {
-      attach = λ t d. let none : w.pending ≡ [] = a.none (closed-not-open w.debugger d) in record { once = a.once; fresh = a.fresh; none = λ _. none };
-      ask = λ c o r. apart-asked w.debugger w.asked w.pending c o a;
-      to_target = λ n. a;
-      to_debugger = λ n. a;
-      greet = λ n rest b t e h. apart-greets settings (record w { to_target = rest; at_target = n }) b a;
-      command = λ n rest k c t e. apart-dies (answers (record w { to_target = rest; at_target = n }) k c (effect m settings w.now c)) (effect m settings w.now c).dies a;
-      lose = a;
-      close = apart_none Closed w.asked;
-      end = λ n p rest o e. apart_none Closed w.asked;
-      handshake = λ n p rest o g e. apart-greeted w.debugger w.asked w.pending g a;
-      reply = λ n k c x p rest g e. apart-read w.debugger w.asked k w.pending a;
-      park = λ n c p rest g e. a;
-      see = λ n c p rest g r e. a;
-      step = λ t may. apart-told w (occurs m w.now t).after (occurs m w.now t).sends w.target (occurs m w.now t).dies a;
     }

@@ -1,5 +1,5 @@
 -- the few ways in which a link changes, whatever the event
-use Rattle.std.proofs.Common.{◌≡◌, ℕ, ◌-◌, Bool, true, false, ◌||◌, ◌&&◌, not, cond, Option, Some, None, List, [], ◌∷◌, ◌++◌, refl}
+use Rattle.std.proofs.Common.{◌≡◌, ℕ, ◌-◌, Bool, true, false, ◌||◌, ◌&&◌, Option, Some, None, List, [], ◌∷◌, ◌++◌, refl}
 use Rattle.std.proofs.lemmas.Bool.{cond_both}
 use Rattle.jdwp_layout.specs.declared.answer.Answer.{Answer}
 use Rattle.jdwp_end.specs.declared.phase.Phase.{Phase}
@@ -13,16 +13,17 @@ use Rattle.jdwp_debuggee.specs.State.{Moment}
 use Rattle.jdwp_action.specs.Actions.{Command}
 use Rattle.jdwp_debuggee.specs.Effects.{effect}
 use Rattle.jdwp_debuggee.specs.Steps.{occurs, may_step}
+use Rattle.jdwp_debuggee.specs.Deferring.{released_at}
 use Rattle.jdwp_mirror.specs.Messages.{Ticket, Call, Greets, Asks, Handshake, Reply, Report}
 use Rattle.jdwp_mirror.specs.Mirror.{ends}
 use Rattle.jdwp_mirror.specs.Faults.{Fault, fault_of}
 use Rattle.jdwp_model.specs.Events
 use Rattle.jdwp_model.specs.Events.{LinkEvent, AskRefusal, Outcome}
 use Rattle.jdwp_model.specs.World.{Measure, is_closed, Packet, World, way_to_target, way_to_debugger}
-use Rattle.jdwp_model.specs.Next.{steps_now, attached, may_attach, ask_refusal, is_busy, asks, ask_by, delivered, target_loses, greets_by, dies_by, answers, target_handles, target_turn_at, debugger_closed, closes_by, has_end, composites_of, answered, reads_handshake, reads_reply, reads_composite, reads, reader, debugger_handles, debugger_takes, debugger_turn_at, stepped, next}
+use Rattle.jdwp_model.specs.Next.{steps_now, attached, may_attach, ask_refusal, is_busy, asks, ask_by, delivered, target_loses, greets_by, dies_by, answers, carries_out, defers, defers_or, target_takes, target_handles, target_turn_at, releases_at, debugger_closed, closes_by, has_end, composites_of, answered, reads_handshake, reads_reply, reads_composite, reads, reader, debugger_handles, debugger_takes, debugger_turn_at, stepped, next}
 use Rattle.jdwp_model.proofs.Session.{and-left, and-right}
-use Rattle.jdwp_model.proofs.Fronts.{by_target_front, by_debugger_front}
-use Rattle.jdwp_model.proofs.Keeps.{greeted-before, not-greeted}
+use Rattle.jdwp_model.proofs.Fronts.{by_target_front, by_release_front, by_debugger_front}
+use Rattle.jdwp_model.proofs.Keeps.{asked-ready, greeted-before, not-greeted}
 
 -- What has to be shown of a link's changes for something to hold after each event.
 pub record Kept {S : Type 0} (m : Meaning S) (settings : Settings) (w : World S) (P : World S → Type 0) : Type 0 where
@@ -32,6 +33,8 @@ pub record Kept {S : Type 0} (m : Meaning S) (settings : Settings) (w : World S)
   pub to_debugger : (n : ℕ) → P (record w { at_debugger = n })
   pub greet : (n : ℕ) (rest : List Call) (b : Bool) → w.target ≡ AwaitingHandshake → w.to_target ≡ Greets ∷ rest → w.now.state.handshaken ≡ b → P (greets_by settings (record w { to_target = rest; at_target = n }) b)
   pub command : (n : ℕ) (rest : List Call) (k : Ticket) (c : Command) → w.target ≡ Established → w.to_target ≡ Asks k c ∷ rest → P (dies_by (answers (record w { to_target = rest; at_target = n }) k c (effect m settings w.now c)) (effect m settings w.now c).dies)
+  pub deferral : (n : ℕ) (rest : List Call) (k : Ticket) (c : Command) → w.target ≡ Established → w.to_target ≡ Asks k c ∷ rest → defers w c ≡ true → P (record w { to_target = rest; at_target = n; deferred = w.deferred ++ (k, c) ∷ [] })
+  pub release : (place : ℕ) (k : Ticket) (c : Command) (rest : List (Ticket × Command)) → w.target ≡ Established → released_at place w.deferred ≡ Some ((k, c), rest) → P (carries_out m settings (record w { deferred = rest }) k c)
   pub lose : P (target_loses w)
   pub close : P (debugger_closed w)
   pub end : (n : ℕ) (p : Packet S) (rest : List (Packet S)) → is_closed w.debugger ≡ false → w.to_debugger ≡ p ∷ rest → P (debugger_closed (record w { to_debugger = rest; at_debugger = n }))
@@ -43,11 +46,6 @@ pub record Kept {S : Type 0} (m : Meaning S) (settings : Settings) (w : World S)
 
 -- ---- asking
 
-asked-ready : (closed ready busy : Bool) (r : Option AskRefusal) → cond closed (Some Events.Closed) (cond (not ready) (Some Events.NotReady) (cond busy (Some Events.Busy) r)) ≡ None → ready ≡ true
-asked-ready true ready busy r h = absurd (cc)
-asked-ready false true busy r h = refl
-asked-ready false false busy r h = absurd (cc)
-
 ask-by : {S : Type 0} (m : Meaning S) (settings : Settings) (measure : Measure) (w : World S) (P : World S → Type 0) (c : Command) (r : Option AskRefusal) → P w → Kept m settings w P → ask_refusal settings measure w c ≡ r → P (ask_by w c r).0
 ask-by m settings measure w P c (Some r) p k e = p
 ask-by m settings measure w P c None p k e =
@@ -58,7 +56,11 @@ ask-by m settings measure w P c None p k e =
 
 handled : {S : Type 0} (m : Meaning S) (settings : Settings) (measure : Measure) (w : World S) (P : World S → Type 0) (rest : List Call) (phase : Phase) (call : Call) → Kept m settings w P → w.target ≡ phase → w.to_target ≡ call ∷ rest → P (target_handles m settings measure w rest phase call)
 handled m settings measure w P rest AwaitingHandshake Greets k p e = k.greet (w.at_target - measure.call Greets) rest w.now.state.handshaken p e refl
-handled m settings measure w P rest Established (Asks t c) k p e = k.command (w.at_target - measure.call (Asks t c)) rest t c p e
+handled m settings measure w P rest Established (Asks t c) k p e =
+    elim (defers w c) as (λ b. defers w c ≡ b → P (defers_or m settings (target_takes measure w (Asks t c) rest) t c b)) [
+      | true ↦ λ d. k.deferral (w.at_target - measure.call (Asks t c)) rest t c p e d
+      | false ↦ λ _. k.command (w.at_target - measure.call (Asks t c)) rest t c p e
+    ] refl
 handled m settings measure w P rest phase call k p e = k.lose
 
 -- ---- the debugger's turn
@@ -85,17 +87,20 @@ packet-handled m settings measure w P p rest None k o e h = was-read m settings 
 
 -- ---- all events
 
-pub kept_next : {S : Type 0} (m : Meaning S) (settings : Settings) (measure : Measure) (w : World S) (P : World S → Type 0) (e : LinkEvent) → P w → Kept m settings w P → P (next m settings measure w e).0
-kept_next m settings measure w P Events.Attach p k =
+pub kept_next : {S : Type 0} (m : Meaning S) (settings : Settings) (measure : Measure) (w : World S) (P : World S → Type 0) (e : LinkEvent) → P w → Kept m settings w P → ((deferring : Bool) → e ≡ Events.Defer deferring → P (record w { deferring = deferring })) → P (next m settings measure w e).0
+kept_next m settings measure w P Events.Attach p k d =
     cond_both (may_attach w) (attached w) w P (λ h. k.attach (and-left _ _ h) (and-left _ _ (and-right (is_closed w.target) _ h))) (λ _. p)
-kept_next m settings measure w P (Events.Ask c) p k = ask-by m settings measure w P c (ask_refusal settings measure w c) p k refl
-kept_next m settings measure w P (Events.ToTarget n) p k = cond_both (is_closed w.target) _ _ P (λ _. p) (λ _. k.to_target (delivered settings n (way_to_target measure w) w.at_target))
-kept_next m settings measure w P (Events.ToDebugger n) p k = cond_both (is_closed w.debugger) _ _ P (λ _. p) (λ _. k.to_debugger (delivered settings n (way_to_debugger measure w) w.at_debugger))
-kept_next m settings measure w P Events.TargetTurn p k =
+kept_next m settings measure w P (Events.Ask c) p k d = ask-by m settings measure w P c (ask_refusal settings measure w c) p k refl
+kept_next m settings measure w P (Events.ToTarget n) p k d = cond_both (is_closed w.target) _ _ P (λ _. p) (λ _. k.to_target (delivered settings n (way_to_target measure w) w.at_target))
+kept_next m settings measure w P (Events.ToDebugger n) p k d = cond_both (is_closed w.debugger) _ _ P (λ _. p) (λ _. k.to_debugger (delivered settings n (way_to_debugger measure w) w.at_debugger))
+kept_next m settings measure w P Events.TargetTurn p k d =
     by_target_front settings measure w (λ o. P (target_turn_at m settings measure w o)) p (λ call rest _ e. handled m settings measure w P rest w.target call k refl e)
-kept_next m settings measure w P Events.DebuggerTurn p k =
+kept_next m settings measure w P Events.DebuggerTurn p k d =
     by_debugger_front settings measure w (λ o. P (debugger_turn_at measure w o).0) p (λ q rest o e. packet-handled m settings measure w P q rest (fault_of (reader w) q.0) k o e refl)
-kept_next m settings measure w P (Events.Step t) p k =
+kept_next m settings measure w P (Events.Step t) p k d =
     cond_both (steps_now m settings measure w t) _ _ P (λ h. k.step t (and-left _ _ h)) (λ _. p)
-kept_next m settings measure w P Events.TargetLoses p k = k.lose
-kept_next m settings measure w P Events.DebuggerLoses p k = k.close
+kept_next m settings measure w P Events.TargetLoses p k d = k.lose
+kept_next m settings measure w P Events.DebuggerLoses p k d = k.close
+kept_next m settings measure w P (Events.Defer deferring) p k d = d deferring refl
+kept_next m settings measure w P (Events.Release place) p k d =
+    by_release_front settings measure w place (λ o. P (releases_at m settings w o)) p (λ j c rest t e. k.release place j c rest t e)

@@ -16,12 +16,12 @@ use Rattle.jdwp_action.specs.Actions.{Command, Action, action_of}
 use Rattle.jdwp_debuggee.specs.Answers.{least_thread}
 use Rattle.jdwp_debuggee.specs.Effects.{Effect, effect}
 use Rattle.jdwp_debuggee.specs.Steps.{occurs, start_event}
-use Rattle.jdwp_debuggee.specs.Facts.{Told, is_data, is_not_asked, is_no_asked_breakpoint, requests_moved}
+use Rattle.jdwp_debuggee.specs.Facts.{IsSound, Told, is_data, is_not_asked, is_no_asked_breakpoint, requests_moved}
 use Rattle.jdwp_debuggee.specs.Reports.{HavePolicies, IsReport}
 use Rattle.jdwp_mirror.specs.Messages.{Ticket, Call, Handshake, Reply, Report}
 use Rattle.jdwp_mirror.specs.Faults.{is_bad_reply}
 use Rattle.jdwp_model.specs.World.{Packet, World}
-use Rattle.jdwp_model.specs.Next.{started, greets_by, after_death, answers, dies_by, with_report, step_ends}
+use Rattle.jdwp_model.specs.Next.{started, greets_by, after_death, answers, dies_by, carries_out, with_report, step_ends}
 use Rattle.jdwp_model.specs.Rests.{Rests}
 use Rattle.jdwp_model.proofs.Keeps.{Inv}
 use Rattle.jdwp_model.proofs.Cases.{Kept}
@@ -67,14 +67,21 @@ fair-greet settings w n rest false f u h =
           (fair_more (w.to_debugger ++ (Handshake, w.now) ∷ []) (Report (start_event settings w.now.state), started settings w.now) (fair_more w.to_debugger (Handshake, w.now) f.sent tt) (start_fair settings w.now (u h)));
     }
 
-fair-command : {S : Type 0} (w : World S) (n : ℕ) (rest : List Call) (k : Ticket) (c : Command) (e : Effect S) (dies : Bool) → Fairness w → HavePolicies (all_asked e.after.state.requests) → is_bad_reply c e.answer ≡ false → Fairness (dies_by (answers (record w { to_target = rest; at_target = n }) k c e) dies)
-fair-command w n rest k c e false f p h = record { policies = p; parked = f.parked; sent = fair_more w.to_debugger (Reply k c e.answer, e.after) f.sent h }
-fair-command w n rest k c e true f p h =
+fair-answered : {S : Type 0} (v : World S) (k : Ticket) (c : Command) (e : Effect S) (dies : Bool) → Fairness v → HavePolicies (all_asked e.after.state.requests) → is_bad_reply c e.answer ≡ false → Fairness (dies_by (answers v k c e) dies)
+fair-answered v k c e false f p h = record { policies = p; parked = f.parked; sent = fair_more v.to_debugger (Reply k c e.answer, e.after) f.sent h }
+fair-answered v k c e true f p h =
     record {
       policies = p;
       parked = f.parked;
-      sent = fair_more (w.to_debugger ++ (Reply k c e.answer, e.after) ∷ []) (Report vm_death, after_death e.after) (fair_more w.to_debugger (Reply k c e.answer, e.after) f.sent h) (death_fair (after_death e.after));
+      sent = fair_more (v.to_debugger ++ (Reply k c e.answer, e.after) ∷ []) (Report vm_death, after_death e.after) (fair_more v.to_debugger (Reply k c e.answer, e.after) f.sent h) (death_fair (after_death e.after));
     }
+
+fair-command : {S : Type 0} (m : Meaning S) → Rests m → (settings : Settings) (v : World S) (k : Ticket) (c : Command) → IsSound m settings v.now → Fairness v → Fairness (carries_out m settings v k c)
+fair-command m rests settings v k c s f =
+    let d = (rests.facts settings).does v.now c s in
+    fair-answered v k c (effect m settings v.now c) (effect m settings v.now c).dies f
+    (subst HavePolicies (sym d.requests) (policies-moved (action_of c) (effect m settings v.now c).answer v.now.state.next_request (all_asked v.now.state.requests) f.policies (rests.policies settings v.now c)))
+    (reply_fair m rests settings v.now c s d)
 
 fair-died : {S : Type 0} (w : World S) (after : Moment S) (phase : Phase) → Fairness w → HavePolicies (all_asked after.state.requests) → Fairness (step_ends (record w { now = after }) phase true)
 fair-died w after Established f p = record { policies = p; parked = f.parked; sent = fair_more w.to_debugger (Report vm_death, after_death after) f.sent (death_fair (after_death after)) }
@@ -104,11 +111,9 @@ fairness_kept m rests settings w i f =
       to_target = λ _. record { policies = f.policies; parked = f.parked; sent = f.sent };
       to_debugger = λ _. record { policies = f.policies; parked = f.parked; sent = f.sent };
       greet = λ n rest b _ _ h. fair-greet settings w n rest b f i.target.unborn h;
-      command = λ n rest k c _ _.
-          let d = (rests.facts settings).does w.now c i.target.sound in
-          fair-command w n rest k c (effect m settings w.now c) (effect m settings w.now c).dies f
-          (subst HavePolicies (sym d.requests) (policies-moved (action_of c) (effect m settings w.now c).answer w.now.state.next_request (all_asked w.now.state.requests) f.policies (rests.policies settings w.now c)))
-          (reply_fair m rests settings w.now c i.target.sound d);
+      command = λ n rest k c _ _. fair-command m rests settings (record w { to_target = rest; at_target = n }) k c i.target.sound (record { policies = f.policies; parked = f.parked; sent = f.sent });
+      deferral = λ n rest k c _ _ _. record { policies = f.policies; parked = f.parked; sent = f.sent };
+      release = λ place k c rest _ _. fair-command m rests settings (record w { deferred = rest }) k c i.target.sound (record { policies = f.policies; parked = f.parked; sent = f.sent });
       lose = record { policies = tt; parked = f.parked; sent = f.sent };
       close = record { policies = f.policies; parked = tt; sent = f.sent };
       end = λ _ p rest _ e. record { policies = f.policies; parked = tt; sent = (taken w.to_debugger rest p f.sent e).1 };

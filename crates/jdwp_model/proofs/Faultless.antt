@@ -19,21 +19,23 @@ use Rattle.jdwp_mirror.specs.Mirror.{COUNT_MOST, ends}
 use Rattle.jdwp_mirror.specs.Faults
 use Rattle.jdwp_mirror.specs.Faults.{Fault, when, is_waited_for, is_bad_reply, is_bad_event, has_bad_event, PARKED_MOST, fault_after_greeting, fault_before_greeting, fault_of}
 use Rattle.jdwp_model.specs.Events
-use Rattle.jdwp_model.specs.Events.{LinkEvent, Outcome}
+use Rattle.jdwp_model.specs.Events.{LinkEvent, Outcome, begins_deferring, defer_nothing}
 use Rattle.jdwp_model.specs.World.{Measure, is_closed, Packet, World, opening}
-use Rattle.jdwp_model.specs.Next.{greets_by, dies_by, answers, target_takes, target_handles, target_front, target_turn_at, closes_by, has_end, messages_of, composites_of, answered, reads_reply, reads_composite, reads, reader, debugger_handles, debugger_takes, debugger_front, debugger_turn_at, steps_now, stepped, next, run}
+use Rattle.jdwp_model.specs.Next.{greets_by, dies_by, answers, defers, defers_or, target_takes, target_handles, target_front, target_turn_at, release_front, releases_at, closes_by, has_end, messages_of, composites_of, answered, reads_reply, reads_composite, reads, reader, debugger_handles, debugger_takes, debugger_front, debugger_turn_at, steps_now, stepped, next, run}
 use Rattle.jdwp_model.specs.Seen.{mirror_count, composites_in}
 use Rattle.jdwp_model.specs.Headline.{MayBegin, Always}
-use Rattle.jdwp_model.specs.Faultless.{NoPacketIsRefused, is_in_place, NoCallIsRefused, AnswersOneWaiting, AnswersFirstWaiting, FewWait, TurnsLoseNothing, ends_in_front, TurnsCloseAtEnds, IdlesUnchanged, AtEachTurn}
-use Rattle.jdwp_model.proofs.Session.{Links, links_front, and-left, replies, commands}
+use Rattle.jdwp_model.specs.Faultless.{NoPacketIsRefused, is_in_place, NoCallIsRefused, AnswersOneWaiting, AnswersFirstWaiting, AlwaysUndeferred, FewWait, TurnsLoseNothing, ends_in_front, TurnsCloseAtEnds, IdlesUnchanged, AtEachTurn}
+use Rattle.jdwp_model.proofs.Session.{Links, links_front, and-left, and-right, replies, commands}
 use Rattle.jdwp_model.specs.Places.{one_of, EachAtOnePlace}
+use Rattle.jdwp_model.specs.Deferred.{DefersFew}
 use Rattle.jdwp_model.specs.Rests.{Rests}
-use Rattle.jdwp_model.proofs.Waiting.{In, Waits, waits-ordered, waited, one-alone}
-use Rattle.jdwp_model.proofs.Apart.{ApartOf, apart_kept, apart_none}
+use Rattle.jdwp_model.proofs.Waiting.{In, waited, one-alone}
 use Rattle.jdwp_model.proofs.Fronts.{by_target_front, by_debugger_front}
 use Rattle.jdwp_model.proofs.Keeps.{closed-not-open, Inv, keeps}
 use Rattle.jdwp_model.proofs.Theorems.{opening_inv}
 use Rattle.jdwp_model.proofs.Cases.{kept_next}
+use Rattle.jdwp_model.proofs.Deferred.{few_deferred, deferred_kept}
+use Rattle.jdwp_model.proofs.Ordered.{Ordered, opening_ordered, ordered_next}
 use Rattle.jdwp_model.proofs.Fair.{AllFair, mirrors_know, event_accepted, events_accepted}
 use Rattle.jdwp_model.proofs.Fairness.{Fairness, fairness_kept}
 use Rattle.jdwp_model.proofs.Phases.{is_waiting, is_handshake, no_handshake, begins, no_greeting, waits-or, PhasesOf, phases_kept}
@@ -46,16 +48,16 @@ pub record Whole {S : Type 0} (m : Meaning S) (settings : Settings) (w : World S
   pub fair : Fairness w
   pub phases : PhasesOf w
   pub unready : UnreadyOf w
-  pub apart : ApartOf w
+  pub few : DefersFew w
 
 whole-next : {S : Type 0} (m : Meaning S) → Rests m → (settings : Settings) → 1 ≤ settings.count_limit → settings.count_limit ≤ COUNT_MOST → (measure : Measure) (w : World S) (e : LinkEvent) → Whole m settings w → Whole m settings (next m settings measure w e).0
 whole-next m rests settings least most measure w e h =
     record {
       inv = keeps m rests settings least most measure w e h.inv;
-      fair = kept_next m settings measure w Fairness e h.fair (fairness_kept m rests settings w h.inv h.fair);
-      phases = kept_next m settings measure w PhasesOf e h.phases (phases_kept m rests settings w h.inv h.phases);
-      unready = kept_next m settings measure w UnreadyOf e h.unready (unready_kept m rests settings w h.inv h.unready);
-      apart = kept_next m settings measure w ApartOf e h.apart (apart_kept m settings w h.apart);
+      fair = kept_next m settings measure w Fairness e h.fair (fairness_kept m rests settings w h.inv h.fair) (λ _ _. record { policies = h.fair.policies; parked = h.fair.parked; sent = h.fair.sent });
+      phases = kept_next m settings measure w PhasesOf e h.phases (phases_kept m rests settings w h.inv h.phases) (λ _ _. h.phases);
+      unready = kept_next m settings measure w UnreadyOf e h.unready (unready_kept m rests settings w h.inv h.unready) (λ _ _. h.unready);
+      few = kept_next m settings measure w DefersFew e h.few (deferred_kept m settings w h.few) (λ deferring _. few_deferred w deferring h.few);
     }
 
 whole-run : {S : Type 0} (m : Meaning S) → Rests m → (settings : Settings) → 1 ≤ settings.count_limit → settings.count_limit ≤ COUNT_MOST → (measure : Measure) (w : World S) (es : List LinkEvent) → Whole m settings w → Whole m settings (run m settings measure w es)
@@ -69,7 +71,7 @@ opening-whole m settings s b =
       fair = record { policies = tt; parked = tt; sent = tt };
       phases = record { waits = λ x. absurd (cc); asked = λ x. absurd (cc); first = λ x. absurd (cc); later = λ x. absurd (cc) };
       unready = λ o r. absurd (cc);
-      apart = apart_none Closed 0;
+      few = record { few = omega arith; deferrable = tt; none = λ _. refl };
     }
 
 pub always_whole : {S : Type 0} (m : Meaning S) → Rests m → (P : World S → Type 0) → ((settings : Settings) (w : World S) → Whole m settings w → P w) → Always m P
@@ -103,14 +105,10 @@ closed-before m settings w a rest h e =
 after-greeting : {S : Type 0} (w : World S) (message : Message) → is_established_phase w.debugger ≡ true → fault_after_greeting (reader w) message ≡ None → fault_of (reader w) message ≡ None
 after-greeting w message g h = ap (λ b. cond b (fault_after_greeting (reader w) message) (fault_before_greeting message)) g ∙ h
 
-waits_of : {S : Type 0} (m : Meaning S) (settings : Settings) (w : World S) → Whole m settings w → is_closed w.debugger ≡ false → Waits w.pending (replies w.to_debugger) (commands w.to_target)
-waits_of m settings w h o = waits-ordered w.pending (replies w.to_debugger) (commands w.to_target) (h.inv.debugger.session o).in_order
-
 reply-read : {S : Type 0} (m : Meaning S) (settings : Settings) (w : World S) (k : Ticket) (c : Command) (x : Answer) (a : Moment S) (rest : List (Packet S)) → Whole m settings w → is_closed w.debugger ≡ false → w.to_debugger ≡ (Reply k c x, a) ∷ rest → fault_after_greeting (reader w) (Reply k c x) ≡ None
 reply-read m settings w k c x a rest h o e =
     let s = h.inv.debugger.session o in
-    let waiting = waits_of m settings w h o in
-    let waits : is_waited_for k w.pending ≡ true = waited k c w.pending (waiting.in_replied (k, c) (subst (λ l. In (replies l) (k, c)) (sym e) (inl refl))) in
+    let waits : is_waited_for k w.pending ≡ true = waited k c w.pending (s.waits.in_replied (k, c) (subst (λ l. In (replies l) (k, c)) (sym e) (inl refl))) in
     let good : is_bad_reply c x ≡ false = (subst AllFair e h.fair.sent).0 in
     let none : has_bad_event (mirror_count w.read) (messages_of w.parked) ≡ false =
     events_accepted m w.parked w.read s.base (mirrors_know m w.read s.base s.mirrors) (links_front m s.base w.parked w.to_debugger s.links) h.fair.parked s.no_reply_waits in
@@ -156,17 +154,33 @@ no_call_is_refused m settings w h call rest o e = in-place w.target call rest w.
 
 pub answers_one_waiting : {S : Type 0} (m : Meaning S) (settings : Settings) (w : World S) → Whole m settings w → AnswersOneWaiting w
 answers_one_waiting m settings w h k c x a rest o e =
-    one-alone k c w.pending (h.apart.once k) ((waits_of m settings w h o).in_replied (k, c) (subst (λ l. In (replies l) (k, c)) (sym e) (inl refl)))
+    one-alone k c w.pending (h.inv.apart.once k) ((h.inv.debugger.session o).waits.in_replied (k, c) (subst (λ l. In (replies l) (k, c)) (sym e) (inl refl)))
 
 pub each_at_one_place : {S : Type 0} (m : Meaning S) (settings : Settings) (w : World S) → Whole m settings w → EachAtOnePlace w
 each_at_one_place m settings w h k o =
-    let all = (waits_of m settings w h o).same (one_of k) in
-    let once = h.apart.once k in
+    let all = (h.inv.debugger.session o).waits.same (one_of k) in
+    let once = h.inv.apart.once k in
     omega arith
 
-pub answers_first_waiting : {S : Type 0} (m : Meaning S) (settings : Settings) (w : World S) → Whole m settings w → AnswersFirstWaiting w
-answers_first_waiting m settings w h k c x a rest o e =
-    (replies rest ++ commands w.to_target, (h.inv.debugger.session o).in_order ∙ ap (λ l. replies l ++ commands w.to_target) e)
+pub defers_few : {S : Type 0} (m : Meaning S) (settings : Settings) (w : World S) → Whole m settings w → DefersFew w
+defers_few m settings w h = h.few
+
+answers-first : {S : Type 0} (w : World S) → Ordered w → AnswersFirstWaiting w
+answers-first w p k c x a rest o e = (replies rest ++ commands w.to_target, p.in_order o ∙ ap (λ l. replies l ++ commands w.to_target) e)
+
+not-false : (b : Bool) → not b ≡ true → b ≡ false
+not-false true h = absurd (cc)
+not-false false h = refl
+
+ordered-run : {S : Type 0} (m : Meaning S) → Rests m → (settings : Settings) → 1 ≤ settings.count_limit → settings.count_limit ≤ COUNT_MOST → (measure : Measure) (w : World S) (es : List LinkEvent) → Inv m settings w → defer_nothing es ≡ true → Ordered w → Ordered (run m settings measure w es)
+ordered-run m rests settings least most measure w [] i n p = p
+ordered-run m rests settings least most measure w (e ∷ es) i n p =
+    ordered-run m rests settings least most measure (next m settings measure w e).0 es (keeps m rests settings least most measure w e i) (and-right (not (begins_deferring e)) _ n)
+    (ordered_next m settings measure w e (not-false (begins_deferring e) (and-left _ _ n)) i p)
+
+pub answers_first_waiting : {S : Type 0} (m : Meaning S) → Rests m → AlwaysUndeferred m AnswersFirstWaiting
+answers_first_waiting m rests settings measure s events b n =
+    answers-first (run m settings measure (opening m s) events) (ordered-run m rests settings b.limit_least b.limit_most measure (opening m s) events (opening_inv m settings s b) n (opening_ordered m s))
 
 few-if-none : {S : Type 0} (w : World S) → w.parked ≡ [] → FewWait w
 few-if-none w e = let same : length w.parked ≡ 0 = ap length e in omega arith
@@ -198,7 +212,9 @@ died-lost w false = refl
 
 handled-lost : {S : Type 0} (m : Meaning S) (settings : Settings) (measure : Measure) (w : World S) (rest : List Call) (phase : Phase) (call : Call) → is_in_place phase call ≡ true → (target_handles m settings measure w rest phase call).lost ≡ w.lost
 handled-lost m settings measure w rest AwaitingHandshake Greets h = greeted-lost settings (target_takes measure w Greets rest) w.now.state.handshaken
-handled-lost m settings measure w rest Established (Asks k c) h = died-lost (answers (target_takes measure w (Asks k c) rest) k c (effect m settings w.now c)) (effect m settings w.now c).dies
+handled-lost m settings measure w rest Established (Asks k c) h =
+    let v = target_takes measure w (Asks k c) rest in
+    elim (defers w c) as (λ b. (defers_or m settings v k c b).lost ≡ w.lost) [ true ↦ refl | false ↦ died-lost (answers v k c (effect m settings w.now c)) (effect m settings w.now c).dies ]
 handled-lost m settings measure w rest phase call h = absurd (cc)
 
 pub turns_lose_nothing : {S : Type 0} (m : Meaning S) (settings : Settings) (measure : Measure) (w : World S) → Whole m settings w → TurnsLoseNothing m settings measure w
@@ -251,4 +267,6 @@ idles_unchanged m settings measure w h Events.DebuggerTurn t a =
     elim (debugger_front settings measure w) as (λ o. is_some o ≡ false → IsAsItWas w (debugger_turn_at measure w o)) [ None ↦ λ _. refl | Some o ↦ λ y. absurd (cc) ] a
 idles_unchanged m settings measure w h (Events.Step u) t a =
     elim (steps_now m settings measure w u) as (λ b. b ≡ false → IsAsItWas w (cond b (stepped w (occurs m w.now u)) w, [])) [ true ↦ λ y. absurd (cc) | false ↦ λ _. refl ] a
+idles_unchanged m settings measure w h (Events.Release place) t a =
+    elim (release_front settings measure w place) as (λ o. is_some o ≡ false → IsAsItWas w (releases_at m settings w o, [])) [ None ↦ λ _. refl | Some o ↦ λ y. absurd (cc) ] a
 idles_unchanged m settings measure w h e t a = absurd (cc)

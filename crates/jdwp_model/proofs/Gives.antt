@@ -19,9 +19,9 @@ use Rattle.jdwp_mirror.specs.Faults.{Fault, fault_of}
 use Rattle.jdwp_model.specs.Events
 use Rattle.jdwp_model.specs.Events.{LinkEvent, AskRefusal, Outcome}
 use Rattle.jdwp_model.specs.World.{Measure, is_closed, Packet, World, opening}
-use Rattle.jdwp_model.specs.Next.{steps_now, attached, may_attach, ask_refusal, ask_by, started, greets_by, dies_by, answers, target_takes, target_handles, target_front, target_turn_at, target_turn, lost_tickets, debugger_closed, closes_by, composites_of, answered, has_end, reads_reply, reads_composite, reads, reader, debugger_handles, debugger_takes, debugger_turn_at, with_report, step_ends, next, outcomes}
-use Rattle.jdwp_model.specs.Given.{gives_call, gives_front, gives, given_answers, told_answers, IsIn, TellsWhatWasGiven}
-use Rattle.jdwp_model.proofs.Fronts.{by_target_front, by_debugger_front}
+use Rattle.jdwp_model.specs.Next.{steps_now, attached, may_attach, ask_refusal, ask_by, started, greets_by, dies_by, answers, carries_out, defers, defers_or, target_takes, target_handles, target_front, target_turn_at, target_turn, releases_at, releases, release_front, lost_tickets, debugger_closed, closes_by, composites_of, answered, has_end, reads_reply, reads_composite, reads, reader, debugger_handles, debugger_takes, debugger_turn_at, with_report, step_ends, next, outcomes}
+use Rattle.jdwp_model.specs.Given.{gives_command, gives_or, gives_call, gives_front, gives_released, gives, given_answers, told_answers, IsIn, TellsWhatWasGiven}
+use Rattle.jdwp_model.proofs.Fronts.{by_target_front, by_release_front, by_debugger_front}
 
 -- the answers under way
 abbrev replied : {S : Type 0} → List (Packet S) → List (ℕ × Answer)
@@ -102,18 +102,31 @@ comes-greets : {S : Type 0} (settings : Settings) (w v : World S) (b : Bool) →
 comes-greets settings w v true d = more-comes w (greets_by settings v true) [] _ (ap (λ l. l ++ (Handshake, v.now) ∷ []) d) refl
 comes-greets settings w v false d = more-comes w (greets_by settings v false) [] _ (ap (λ l. l ++ (Handshake, v.now) ∷ (Report (start_event settings v.now.state), started settings v.now) ∷ []) d) refl
 
+replied-one : {S : Type 0} (m : Meaning S) (settings : Settings) (w : World S) (k : Ticket) (c : Command) → replied ((Reply k c (effect m settings w.now c).answer, (effect m settings w.now c).after) ∷ []) ≡ gives_command m settings w k c
+replied-one m settings w None c = refl
+replied-one m settings w (Some k) c = refl
+
+comes-command : {S : Type 0} (m : Meaning S) (settings : Settings) (w v : World S) (k : Ticket) (c : Command) → v.to_debugger ≡ w.to_debugger → v.now ≡ w.now → Comes w (gives_command m settings w k c) (carries_out m settings v k c, [])
+comes-command m settings w v k c d n =
+    comes-dies w _ _ (effect m settings v.now c).dies
+    (comes-answers w v k c (effect m settings v.now c) d _ (ap (λ a. replied ((Reply k c (effect m settings a c).answer, (effect m settings a c).after) ∷ [])) n ∙ replied-one m settings w k c))
+
 comes-handles : {S : Type 0} (m : Meaning S) (settings : Settings) (measure : Measure) (w : World S) (rest : List Call) (phase : Phase) (call : Call) → Comes w (gives_call m settings w phase call) (target_handles m settings measure w rest phase call, [])
 comes-handles m settings measure w rest AwaitingHandshake Greets = comes-greets settings w (target_takes measure w Greets rest) w.now.state.handshaken refl
-comes-handles m settings measure w rest Established (Asks (Some k) c) =
-    comes-dies w _ _ (effect m settings w.now c).dies (comes-answers w (target_takes measure w (Asks (Some k) c) rest) (Some k) c (effect m settings w.now c) refl _ refl)
-comes-handles m settings measure w rest Established (Asks None c) =
-    comes-dies w _ _ (effect m settings w.now c).dies (comes-answers w (target_takes measure w (Asks None c) rest) None c (effect m settings w.now c) refl _ refl)
+comes-handles m settings measure w rest Established (Asks k c) =
+    let v = target_takes measure w (Asks k c) rest in
+    elim (defers w c) as (λ b. Comes w (gives_or m settings w k c b) (defers_or m settings v k c b, [])) [ true ↦ same-comes w _ [] refl | false ↦ comes-command m settings w v k c refl refl ]
 comes-handles m settings measure w rest phase call = same-comes w (target_handles m settings measure w rest phase call) _ refl
 
 comes-turn : {S : Type 0} (m : Meaning S) (settings : Settings) (measure : Measure) (w : World S) → Comes w (gives_front m settings w (target_front settings measure w)) (target_turn m settings measure w, [])
 comes-turn m settings measure w =
     by_target_front settings measure w (λ o. Comes w (gives_front m settings w o) (target_turn_at m settings measure w o, [])) (same-comes w w [] refl)
     (λ call rest _ _. comes-handles m settings measure w rest w.target call)
+
+comes-release : {S : Type 0} (m : Meaning S) (settings : Settings) (measure : Measure) (w : World S) (place : ℕ) → Comes w (gives_released m settings w (release_front settings measure w place)) (releases m settings measure w place, [])
+comes-release m settings measure w place =
+    by_release_front settings measure w place (λ o. Comes w (gives_released m settings w o) (releases_at m settings w o, [])) (same-comes w w [] refl)
+    (λ k c rest _ _. comes-command m settings w (record w { deferred = rest }) k c refl refl)
 
 -- ---- the debugger's turn
 
@@ -187,6 +200,8 @@ comes-next m settings measure w Events.DebuggerTurn =
 comes-next m settings measure w (Events.Step t) =
     cond_both (steps_now m settings measure w t) _ _ (Comes-to w) (λ _. comes-told w (occurs m w.now t).after (occurs m w.now t).sends w.target (occurs m w.now t).dies) (λ _. same-comes w w [] refl)
 comes-next m settings measure w Events.TargetLoses = same-comes w _ [] refl
+comes-next m settings measure w (Events.Defer deferring) = same-comes w _ [] refl
+comes-next m settings measure w (Events.Release place) = comes-release m settings measure w place
 comes-next m settings measure w Events.DebuggerLoses = record { told = λ p h. absurd (subst (λ l. IsIn l p) (told-lost w.pending) h); left = λ p h. inl h }
 
 comes-run : {S : Type 0} (m : Meaning S) (settings : Settings) (measure : Measure) (w : World S) (es : List LinkEvent) (p : ℕ × Answer) → IsIn (told_answers (outcomes m settings measure w es)) p → IsIn (replied w.to_debugger) p ⊎ IsIn (given_answers m settings measure w es) p

@@ -11,50 +11,81 @@ use Rattle.jdwp_machine.specs.Meanings.{Meaning}
 use Rattle.jdwp_debuggee.specs.Settings.{Settings}
 use Rattle.jdwp_debuggee.specs.State.{Moment}
 use Rattle.jdwp_action.specs.Actions.{Command}
-use Rattle.jdwp_debuggee.specs.Effects.{effect}
+use Rattle.jdwp_debuggee.specs.Effects.{Effect, effect}
 use Rattle.jdwp_debuggee.specs.Steps.{occurs}
+use Rattle.jdwp_debuggee.specs.Deferring.{released_at}
 use Rattle.jdwp_mirror.specs.Messages.{Ticket, Call, Greets, Asks, Handshake, Reply, Report, id_sizes}
 use Rattle.jdwp_mirror.specs.Mirror.{ends}
 use Rattle.jdwp_mirror.specs.Faults.{Fault, fault_of}
 use Rattle.jdwp_model.specs.Events
 use Rattle.jdwp_model.specs.Events.{LinkEvent, AskRefusal, Outcome}
 use Rattle.jdwp_model.specs.World.{Measure, is_closed, Packet, World, opening}
-use Rattle.jdwp_model.specs.Next.{steps_now, attached, may_attach, ask_refusal, ask_by, asks, target_loses, greets_by, dies_by, answers, target_takes, target_handles, target_turn_at, closes_by, has_end, composites_of, answered, reads_reply, reads_composite, reads, reader, debugger_handles, debugger_takes, debugger_turn_at, with_report, step_ends, next}
+use Rattle.jdwp_model.specs.Next.{steps_now, attached, may_attach, ask_refusal, ask_by, asks, target_loses, greets_by, dies_by, answers, carries_out, defers, defers_or, target_takes, target_handles, target_turn_at, releases_at, closes_by, has_end, composites_of, answered, reads_reply, reads_composite, reads, reader, debugger_handles, debugger_takes, debugger_turn_at, with_report, step_ends, next}
 use Rattle.jdwp_model.specs.Tickets.{times}
-use Rattle.jdwp_model.specs.Given.{gives_call, gives_front, gives, given_answers, answer_tickets, GivesOnce}
+use Rattle.jdwp_model.specs.Given.{gives_command, gives_or, gives_call, gives_front, gives_released, gives, given_answers, answer_tickets, GivesOnce}
 use Rattle.jdwp_model.specs.Places.{commands, tally, one_of}
 use Rattle.jdwp_model.proofs.Session.{commands_append}
-use Rattle.jdwp_model.proofs.Fronts.{by_target_front, by_debugger_front}
-use Rattle.jdwp_model.proofs.Waiting.{tally-append, bit}
+use Rattle.jdwp_model.proofs.Fronts.{by_target_front, by_release_front, by_debugger_front}
+use Rattle.jdwp_model.proofs.Waiting.{tally-append, bit, released-parts}
 use Rattle.jdwp_model.proofs.Apart.{asked-fresh}
 
--- how often a ticket is under way to the target
+-- how often a ticket is deferred, or under way to the target
 abbrev places : {S : Type 0} → ℕ → World S → ℕ
-places k w = tally (one_of (Some k)) (commands w.to_target)
+places k w = tally (one_of (Some k)) w.deferred + tally (one_of (Some k)) (commands w.to_target)
 
--- no ticket is given, and those of the answers are under way no more
+-- no ticket is given, and those of the answers are at these places no more
 record Once {S : Type 0} (w : World S) (new : List (ℕ × Answer)) (v : World S) : Type 0 where
   asked : v.asked ≡ w.asked
   less : (k : ℕ) → times k (answer_tickets new) + places k v ≤ places k w
 
-once-same : {S : Type 0} (w v : World S) → v.asked ≡ w.asked → v.to_target ≡ w.to_target → Once w [] v
-once-same w v a t =
+once-same : {S : Type 0} (w v : World S) → v.asked ≡ w.asked → v.deferred ≡ w.deferred → v.to_target ≡ w.to_target → Once w [] v
+once-same w v a d t =
     record {
       asked = a;
       less = λ k.
+          let x : tally (one_of (Some k)) v.deferred ≡ tally (one_of (Some k)) w.deferred = ap (tally (one_of (Some k))) d in
+          let y : tally (one_of (Some k)) (commands v.to_target) ≡ tally (one_of (Some k)) (commands w.to_target) = ap (λ l. tally (one_of (Some k)) (commands l)) t in
+          omega arith;
+    }
+
+-- nothing is deferred any more
+once-dropped : {S : Type 0} (w v : World S) → v.asked ≡ w.asked → v.deferred ≡ [] → v.to_target ≡ w.to_target → Once w [] v
+once-dropped w v a d t =
+    record {
+      asked = a;
+      less = λ k.
+          let x : tally (one_of (Some k)) v.deferred ≡ 0 = ap (tally (one_of (Some k))) d in
           let y : tally (one_of (Some k)) (commands v.to_target) ≡ tally (one_of (Some k)) (commands w.to_target) = ap (λ l. tally (one_of (Some k)) (commands l)) t in
           omega arith;
     }
 
 -- ---- an answer
 
-given-one : {S : Type 0} (m : Meaning S) (settings : Settings) (w : World S) (t : Ticket) (c : Command) (k : ℕ) → times k (answer_tickets (gives_call m settings w Established (Asks t c))) ≡ one_of (Some k) (t, c)
+given-one : {S : Type 0} (m : Meaning S) (settings : Settings) (w : World S) (t : Ticket) (c : Command) (k : ℕ) → times k (answer_tickets (gives_command m settings w t c)) ≡ one_of (Some k) (t, c)
 given-one m settings w None c k = refl
 given-one m settings w (Some j) c k = omega arith
 
-asked-stays : {S : Type 0} (v : World S) (b : Bool) → ((dies_by v b).asked ≡ v.asked) × ((dies_by v b).to_target ≡ v.to_target)
-asked-stays v true = (refl, refl)
-asked-stays v false = (refl, refl)
+asked-stays : {S : Type 0} (v : World S) (b : Bool) → (dies_by v b).asked ≡ v.asked
+asked-stays v true = refl
+asked-stays v false = refl
+
+places-less : {S : Type 0} (v : World S) (t : Ticket) (c : Command) (e : Effect S) (dies closes : Bool) (k : ℕ) → e.closes ≡ closes → places k (dies_by (answers v t c e) dies) ≤ places k v
+places-less v t c e true closes k q = omega arith
+places-less v t c e false true k q =
+    let z : tally (one_of (Some k)) (cond e.closes [] v.deferred) ≡ 0 = ap (λ b. tally (one_of (Some k)) (cond b [] v.deferred)) q in omega arith
+places-less v t c e false false k q =
+    let z : tally (one_of (Some k)) (cond e.closes [] v.deferred) ≡ tally (one_of (Some k)) v.deferred = ap (λ b. tally (one_of (Some k)) (cond b [] v.deferred)) q in omega arith
+
+once-command : {S : Type 0} (m : Meaning S) (settings : Settings) (w v : World S) (t : Ticket) (c : Command) → v.asked ≡ w.asked → ((k : ℕ) → one_of (Some k) (t, c) + places k v ≤ places k w) → Once w (gives_command m settings w t c) (carries_out m settings v t c)
+once-command m settings w v t c a h =
+    record {
+      asked = asked-stays (answers v t c (effect m settings v.now c)) (effect m settings v.now c).dies ∙ a;
+      less = λ k.
+          let x = given-one m settings w t c k in
+          let y = places-less v t c (effect m settings v.now c) (effect m settings v.now c).dies (effect m settings v.now c).closes k refl in
+          let z = h k in
+          omega arith;
+    }
 
 -- ---- the target's turn
 
@@ -67,30 +98,31 @@ once-handles m settings measure w rest AwaitingHandshake Greets e =
     once-greets settings w (target_takes measure w Greets rest) w.now.state.handshaken refl
     (λ k. let x : tally (one_of (Some k)) (commands w.to_target) ≡ tally (one_of (Some k)) (commands rest) = ap (λ l. tally (one_of (Some k)) (commands l)) e in omega arith)
 once-handles m settings measure w rest Established (Asks t c) e =
-    let v = answers (target_takes measure w (Asks t c) rest) t c (effect m settings w.now c) in
-    let stays = asked-stays v (effect m settings w.now c).dies in
-    record {
-      asked = stays.0;
-      less = λ k.
-          let all : tally (one_of (Some k)) (commands w.to_target) ≡ one_of (Some k) (t, c) + tally (one_of (Some k)) (commands rest) = ap (λ l. tally (one_of (Some k)) (commands l)) e in
-          let one : times k (answer_tickets (gives_call m settings w Established (Asks t c))) ≡ one_of (Some k) (t, c) = given-one m settings w t c k in
-          let left : places k (dies_by v (effect m settings w.now c).dies) ≡ tally (one_of (Some k)) (commands rest) = ap (λ l. tally (one_of (Some k)) (commands l)) stays.1 in
-          omega arith;
-    }
-once-handles m settings measure w rest phase call e = once-same w (target_loses w) refl refl
+    let v = target_takes measure w (Asks t c) rest in
+    let all : (k : ℕ) → tally (one_of (Some k)) (commands w.to_target) ≡ one_of (Some k) (t, c) + tally (one_of (Some k)) (commands rest) = λ k. ap (λ l. tally (one_of (Some k)) (commands l)) e in
+    elim (defers w c) as (λ b. Once w (gives_or m settings w t c b) (defers_or m settings v t c b)) [
+      | true ↦ record { asked = refl; less = λ k. let x = all k in let y = tally-append (one_of (Some k)) w.deferred ((t, c) ∷ []) in omega arith }
+      | false ↦ once-command m settings w v t c refl (λ k. let x = all k in omega arith)
+    ]
+once-handles m settings measure w rest phase call e = once-dropped w (target_loses w) refl refl refl
+
+once-releases : {S : Type 0} (m : Meaning S) (settings : Settings) (w : World S) (place : ℕ) (k : Ticket) (c : Command) (rest : List (Ticket × Command)) → released_at place w.deferred ≡ Some ((k, c), rest) → Once w (gives_command m settings w k c) (carries_out m settings (record w { deferred = rest }) k c)
+once-releases m settings w place k c rest e =
+    let parts = released-parts place w.deferred (k, c) rest e in
+    once-command m settings w (record w { deferred = rest }) k c refl (λ j. let x = parts.weighs (one_of (Some j)) in omega arith)
 
 -- ---- the debugger's turn
 
 abbrev Calm : {S : Type 0} → World S → World S × List Outcome → Type 0
 Calm w r = Once w [] r.0
 
-calm-closes : {S : Type 0} (w v : World S) (os : List Outcome) (b : Bool) → v.asked ≡ w.asked → v.to_target ≡ w.to_target → Calm w (closes_by v os b)
-calm-closes w v os true a t = once-same w _ a t
-calm-closes w v os false a t = once-same w v a t
+calm-closes : {S : Type 0} (w v : World S) (os : List Outcome) (b : Bool) → v.asked ≡ w.asked → v.deferred ≡ w.deferred → v.to_target ≡ w.to_target → Calm w (closes_by v os b)
+calm-closes w v os true a d t = once-same w _ a d t
+calm-closes w v os false a d t = once-same w v a d t
 
 calm-composite : {S : Type 0} (w : World S) (n : ℕ) (p : Packet S) (c : CompositeMeaning) (rest : List (Packet S)) (b : Bool) → Calm w (reads_composite (record w { to_debugger = rest; at_debugger = n }) p c b)
-calm-composite w n p c rest false = once-same w _ refl refl
-calm-composite w n p c rest true = calm-closes w (record w { to_debugger = rest; at_debugger = n; read = p ∷ w.read }) (Events.Seen c ∷ []) (is_vm_death c) refl refl
+calm-composite w n p c rest false = once-same w _ refl refl refl
+calm-composite w n p c rest true = calm-closes w (record w { to_debugger = rest; at_debugger = n; read = p ∷ w.read }) (Events.Seen c ∷ []) (is_vm_death c) refl refl refl
 
 calm-reads : {S : Type 0} (w : World S) (n : ℕ) (p : Packet S) (rest : List (Packet S)) → Calm w (reads (record w { to_debugger = rest; at_debugger = n }) p)
 calm-reads w n (Handshake, a) rest =
@@ -102,22 +134,22 @@ calm-reads w n (Handshake, a) rest =
           omega arith;
     }
 calm-reads w n (Reply k c x, a) rest =
-    calm-closes w (reads_reply (record w { to_debugger = rest; at_debugger = n }) (Reply k c x, a) k) (composites_of w.parked ++ answered k x) (ends (Reply k c x) || has_end w.parked) refl refl
+    calm-closes w (reads_reply (record w { to_debugger = rest; at_debugger = n }) (Reply k c x, a) k) (composites_of w.parked ++ answered k x) (ends (Reply k c x) || has_end w.parked) refl refl refl
 calm-reads w n (Report c, a) rest = calm-composite w n (Report c, a) c rest w.ready
 
 calm-handled : {S : Type 0} (measure : Measure) (w : World S) (p : Packet S) (rest : List (Packet S)) (f : Option Fault) → Calm w (debugger_handles (debugger_takes measure w p rest) p f)
-calm-handled measure w p rest (Some f) = once-same w _ refl refl
+calm-handled measure w p rest (Some f) = once-same w _ refl refl refl
 calm-handled measure w p rest None = calm-reads w (debugger_takes measure w p rest).at_debugger p rest
 
-once-ended : {S : Type 0} (w v : World S) (phase : Phase) (dies : Bool) → v.asked ≡ w.asked → v.to_target ≡ w.to_target → Once w [] (step_ends v phase dies)
-once-ended w v phase false a t = once-same w v a t
-once-ended w v Established true a t = once-same w _ a t
-once-ended w v AwaitingHandshake true a t = once-same w _ a t
-once-ended w v Closed true a t = once-same w _ a t
+once-ended : {S : Type 0} (w v : World S) (phase : Phase) (dies : Bool) → v.asked ≡ w.asked → v.deferred ≡ w.deferred → v.to_target ≡ w.to_target → Once w [] (step_ends v phase dies)
+once-ended w v phase false a d t = once-same w v a d t
+once-ended w v Established true a d t = once-dropped w _ a refl t
+once-ended w v AwaitingHandshake true a d t = once-dropped w _ a refl t
+once-ended w v Closed true a d t = once-dropped w _ a refl t
 
 once-told : {S : Type 0} (w : World S) (after : Moment S) (o : Option CompositeMeaning) (phase : Phase) (dies : Bool) → Once w [] (step_ends (with_report w after o) phase dies)
-once-told w after None phase dies = once-ended w (with_report w after None) phase dies refl refl
-once-told w after (Some c) phase dies = once-ended w (with_report w after (Some c)) phase dies refl refl
+once-told w after None phase dies = once-ended w (with_report w after None) phase dies refl refl refl
+once-told w after (Some c) phase dies = once-ended w (with_report w after (Some c)) phase dies refl refl refl
 
 -- ---- all events
 
@@ -159,22 +191,25 @@ few-asks before w c f =
     }
 
 few-ask : {S : Type 0} (before : ℕ → ℕ) (w : World S) (c : Command) (r : Option AskRefusal) → Few before w → Few (λ k. before k + 0) (ask_by w c r).0
-few-ask before w c (Some r) f = few-on before w w [] f (once-same w w refl refl)
+few-ask before w c (Some r) f = few-on before w w [] f (once-same w w refl refl refl)
 few-ask before w c None f = few-asks before w c f
 
 few-next : {S : Type 0} (m : Meaning S) (settings : Settings) (measure : Measure) (before : ℕ → ℕ) (w : World S) (e : LinkEvent) → Few before w → Few (λ k. before k + times k (answer_tickets (gives m settings measure w e))) (next m settings measure w e).0
-few-next m settings measure before w Events.Attach f = few-on before w _ [] f (cond_both (may_attach w) (attached w) w (Once w []) (λ _. record { asked = refl; less = λ k. omega arith }) (λ _. once-same w w refl refl))
+few-next m settings measure before w Events.Attach f = few-on before w _ [] f (cond_both (may_attach w) (attached w) w (Once w []) (λ _. record { asked = refl; less = λ k. omega arith }) (λ _. once-same w w refl refl refl))
 few-next m settings measure before w (Events.Ask c) f = few-ask before w c (ask_refusal settings measure w c) f
-few-next m settings measure before w (Events.ToTarget n) f = few-on before w _ [] f (cond_both (is_closed w.target) w _ (Once w []) (λ _. once-same w w refl refl) (λ _. once-same w _ refl refl))
-few-next m settings measure before w (Events.ToDebugger n) f = few-on before w _ [] f (cond_both (is_closed w.debugger) w _ (Once w []) (λ _. once-same w w refl refl) (λ _. once-same w _ refl refl))
+few-next m settings measure before w (Events.ToTarget n) f = few-on before w _ [] f (cond_both (is_closed w.target) w _ (Once w []) (λ _. once-same w w refl refl refl) (λ _. once-same w _ refl refl refl))
+few-next m settings measure before w (Events.ToDebugger n) f = few-on before w _ [] f (cond_both (is_closed w.debugger) w _ (Once w []) (λ _. once-same w w refl refl refl) (λ _. once-same w _ refl refl refl))
 few-next m settings measure before w Events.TargetTurn f =
-    few-on before w _ _ f (by_target_front settings measure w (λ o. Once w (gives_front m settings w o) (target_turn_at m settings measure w o)) (once-same w w refl refl) (λ call rest _ e. once-handles m settings measure w rest w.target call e))
+    few-on before w _ _ f (by_target_front settings measure w (λ o. Once w (gives_front m settings w o) (target_turn_at m settings measure w o)) (once-same w w refl refl refl) (λ call rest _ e. once-handles m settings measure w rest w.target call e))
 few-next m settings measure before w Events.DebuggerTurn f =
-    few-on before w _ [] f (by_debugger_front settings measure w (λ o. Calm w (debugger_turn_at measure w o)) (once-same w w refl refl) (λ p rest _ _. calm-handled measure w p rest (fault_of (reader w) p.0)))
+    few-on before w _ [] f (by_debugger_front settings measure w (λ o. Calm w (debugger_turn_at measure w o)) (once-same w w refl refl refl) (λ p rest _ _. calm-handled measure w p rest (fault_of (reader w) p.0)))
 few-next m settings measure before w (Events.Step t) f =
-    few-on before w _ [] f (cond_both (steps_now m settings measure w t) _ _ (Once w []) (λ _. once-told w (occurs m w.now t).after (occurs m w.now t).sends w.target (occurs m w.now t).dies) (λ _. once-same w w refl refl))
-few-next m settings measure before w Events.TargetLoses f = few-on before w _ [] f (once-same w (target_loses w) refl refl)
-few-next m settings measure before w Events.DebuggerLoses f = few-on before w _ [] f (once-same w _ refl refl)
+    few-on before w _ [] f (cond_both (steps_now m settings measure w t) _ _ (Once w []) (λ _. once-told w (occurs m w.now t).after (occurs m w.now t).sends w.target (occurs m w.now t).dies) (λ _. once-same w w refl refl refl))
+few-next m settings measure before w Events.TargetLoses f = few-on before w _ [] f (once-dropped w (target_loses w) refl refl refl)
+few-next m settings measure before w Events.DebuggerLoses f = few-on before w _ [] f (once-same w _ refl refl refl)
+few-next m settings measure before w (Events.Defer deferring) f = few-on before w _ [] f (once-same w _ refl refl refl)
+few-next m settings measure before w (Events.Release place) f =
+    few-on before w _ _ f (by_release_front settings measure w place (λ o. Once w (gives_released m settings w o) (releases_at m settings w o)) (once-same w w refl refl refl) (λ k c rest _ e. once-releases m settings w place k c rest e))
 
 answers-append : (k : ℕ) (xs ys : List (ℕ × Answer)) → times k (answer_tickets (xs ++ ys)) ≡ times k (answer_tickets xs) + times k (answer_tickets ys)
 answers-append k [] ys = omega arith

@@ -22,13 +22,13 @@ use Rattle.jdwp_mirror.specs.Faults.{Fault, fault_of}
 use Rattle.jdwp_model.specs.Events
 use Rattle.jdwp_model.specs.Events.{LinkEvent, AskRefusal, Outcome}
 use Rattle.jdwp_model.specs.World.{Measure, is_closed, Packet, World, opening}
-use Rattle.jdwp_model.specs.Next.{steps_now, attached, may_attach, attaches, ask_refusal, ask_by, target_loses, started, greets_by, after_death, dying, dies_by, answers, target_handles, target_turn_at, target_turn, closes_by, entered, has_end, composites_of, answered, reads_reply, reads_composite, reads, reader, debugger_handles, debugger_takes, debugger_turn_at, debugger_turn, with_report, step_ends, steps, next, run}
+use Rattle.jdwp_model.specs.Next.{steps_now, attached, may_attach, attaches, ask_refusal, ask_by, target_loses, started, greets_by, after_death, dying, dies_by, answers, carries_out, defers, defers_or, target_takes, target_handles, target_turn_at, target_turn, releases_at, releases, closes_by, entered, has_end, composites_of, answered, reads_reply, reads_composite, reads, reader, debugger_handles, debugger_takes, debugger_turn_at, debugger_turn, with_report, step_ends, steps, next, run}
 use Rattle.jdwp_model.specs.Seen.{seen_moment, unanswered, lowers, has_dispose}
 use Rattle.jdwp_model.specs.Lasting.{asks_frames_of, writes, answers_write, has_write, IsAnswer, IsLasting, StaysTrue, AlwaysStaysTrue}
 use Rattle.jdwp_model.specs.Rests.{Rests}
 use Rattle.jdwp_model.proofs.Acts.{message_lowers}
-use Rattle.jdwp_model.proofs.Fronts.{by_target_front, by_debugger_front}
-use Rattle.jdwp_model.proofs.Waiting.{Waits, waits-ordered, replied-most, replied-no-dispose, replied-no-write}
+use Rattle.jdwp_model.proofs.Fronts.{by_target_front, by_release_front, by_debugger_front}
+use Rattle.jdwp_model.proofs.Waiting.{replied-most, replied-no-dispose, replied-no-write}
 use Rattle.jdwp_model.proofs.Session.{Links, last, lowers_in, no_dispose_in, links_lower, alive_along, lowers_replies, replies, commands, no_dispose_replies, and-left, and-right}
 use Rattle.jdwp_model.proofs.Keeps.{Inv, keeps, open-not-closed}
 use Rattle.jdwp_model.proofs.Theorems.{opening_inv, all-replies, seen-base}
@@ -203,8 +203,8 @@ goes-greets {S} m settings w n rest false g l = λ o.
     let two = sent m settings w.read w.parked (w.to_debugger ++ first ∷ []) w.lost w.now second one l (same_passes m w.now second refl refl) tt in
     subst (λ ps. Holds m settings w.read (w.parked ++ ps) w.lost (started settings w.now)) (append_assoc w.to_debugger (first ∷ []) (second ∷ [])) two
 
-goes-answers : {S : Type 0} (m : Meaning S) → Rests m → (settings : Settings) (w : World S) (n : ℕ) (rest : List Call) (k : Ticket) (c : Command) → Goes m settings w → w.lost ≡ false → IsSound m settings w.now → Does m settings w.now (action_of c) (effect m settings w.now c) → Goes m settings (answers (record w { to_target = rest; at_target = n }) k c (effect m settings w.now c))
-goes-answers m rests settings w n rest k c g l s d = λ o.
+goes-answers : {S : Type 0} (m : Meaning S) → Rests m → (settings : Settings) (w : World S) (k : Ticket) (c : Command) → Goes m settings w → w.lost ≡ false → IsSound m settings w.now → Does m settings w.now (action_of c) (effect m settings w.now c) → Goes m settings (answers w k c (effect m settings w.now c))
+goes-answers m rests settings w k c g l s d = λ o.
     sent m settings w.read w.parked w.to_debugger w.lost w.now (Reply k c (effect m settings w.now c).answer, (effect m settings w.now c).after) (g o) l
     (record { frames = λ t _ x al. effect_frames m rests settings w.now c t s x al; alive = λ h. and-left w.now.state.alive (not (effect m settings w.now c).dies) (sym d.alive ∙ h) })
     (λ t h. ap (λ x. (effect m settings x c).answer) (frames_after m settings w.now c t (frames_action c t h)))
@@ -217,6 +217,11 @@ goes-dies : {S : Type 0} (m : Meaning S) (settings : Settings) (w : World S) (b 
 goes-dies m settings w true g l = goes-dying m settings w g l
 goes-dies m settings w false g l = g
 
+goes-command : {S : Type 0} (m : Meaning S) → Rests m → (settings : Settings) (v : World S) (k : Ticket) (c : Command) → IsSound m settings v.now → v.lost ≡ false → Goes m settings v → Goes m settings (carries_out m settings v k c)
+goes-command m rests settings v k c s l g =
+    goes-dies m settings (answers v k c (effect m settings v.now c)) (effect m settings v.now c).dies
+    (goes-answers m rests settings v k c g l s ((rests.facts settings).does v.now c s)) l
+
 goes-loses : {S : Type 0} (m : Meaning S) (settings : Settings) (w : World S) → Goes m settings w → Goes m settings (target_loses w)
 goes-loses m settings w g = λ o. let h = g o in record { chain = h.chain; still = λ x. absurd (cc); said = h.said; answers = h.answers }
 
@@ -224,15 +229,23 @@ goes-target-handles : {S : Type 0} (m : Meaning S) → Rests m → (settings : S
 goes-target-handles m rests settings measure w rest AwaitingHandshake Greets i g p =
     goes-greets m settings w (w.at_target - measure.call Greets) rest w.now.state.handshaken g (i.target.unlost (ap is_closed p))
 goes-target-handles m rests settings measure w rest Established (Asks k c) i g p =
-    let l : w.lost ≡ false = i.target.unlost (ap is_closed p) in
-    let d = (rests.facts settings).does w.now c i.target.sound in
-    goes-dies m settings (answers (record w { to_target = rest; at_target = w.at_target - measure.call (Asks k c) }) k c (effect m settings w.now c)) (effect m settings w.now c).dies
-    (goes-answers m rests settings w (w.at_target - measure.call (Asks k c)) rest k c g l i.target.sound d) l
+    let v = target_takes measure w (Asks k c) rest in
+    elim (defers w c) as (λ b. Goes m settings (defers_or m settings v k c b)) [
+      | true ↦ g
+      | false ↦ goes-command m rests settings v k c i.target.sound (i.target.unlost (ap is_closed p)) g
+    ]
 goes-target-handles m rests settings measure w rest phase call i g p = goes-loses m settings w g
 
 goes-target-turn : {S : Type 0} (m : Meaning S) → Rests m → (settings : Settings) (measure : Measure) (w : World S) → Inv m settings w → Goes m settings w → Goes m settings (target_turn m settings measure w)
 goes-target-turn m rests settings measure w i g =
     by_target_front settings measure w (λ o. Goes m settings (target_turn_at m settings measure w o)) g (λ call rest _ _. goes-target-handles m rests settings measure w rest w.target call i g refl)
+
+-- ---- a deferred command is answered
+
+goes-releases : {S : Type 0} (m : Meaning S) → Rests m → (settings : Settings) (measure : Measure) (w : World S) (place : ℕ) → Inv m settings w → Goes m settings w → Goes m settings (releases m settings measure w place)
+goes-releases m rests settings measure w place i g =
+    by_release_front settings measure w place (λ o. Goes m settings (releases_at m settings w o)) g
+    (λ k c rest p _. goes-command m rests settings (record w { deferred = rest }) k c i.target.sound (i.target.unlost (ap is_closed p)) g)
 
 -- ---- the debugger's turn
 
@@ -333,6 +346,8 @@ goes m rests settings measure w Events.DebuggerTurn i g = goes-debugger-turn m s
 goes m rests settings measure w (Events.Step t) i g = goes-steps m rests settings measure w t i g
 goes m rests settings measure w Events.TargetLoses i g = goes-loses m settings w g
 goes m rests settings measure w Events.DebuggerLoses i g = λ x. absurd (cc)
+goes m rests settings measure w (Events.Defer deferring) i g = g
+goes m rests settings measure w (Events.Release place) i g = goes-releases m rests settings measure w place i g
 
 -- ---- now
 
@@ -395,12 +410,11 @@ stays {S} m settings w i g t c content then h l u nw e n =
     let still : Still m (last then ps) w.now = subst (λ x. StillFrom m x w.now) (ap (λ x. last_of x ps) e ∙ last-of-last then ps) (k.still u.not_lost) in
     let live : (last then ps).state.alive ≡ true = still.alive u.alive in
     let all : replies ps ≡ replies w.to_debugger = all-replies w.parked w.to_debugger s.no_reply_waits in
-    let waits : Waits w.pending (replies w.to_debugger) (commands w.to_target) = waits-ordered w.pending (replies w.to_debugger) (commands w.to_target) s.in_order in
-    let none : has_dispose (replies w.to_debugger) ≡ false = replied-no-dispose w.pending (replies w.to_debugger) (commands w.to_target) waits u.no_dispose in
+    let none : has_dispose (replies w.to_debugger) ≡ false = replied-no-dispose w.pending (replies w.to_debugger) w.deferred (commands w.to_target) s.waits u.no_dispose in
     let spared : no_dispose_in ps ≡ true = no_dispose_replies ps (subst (λ x. has_dispose x ≡ false) (sym all) none) in
-    let unwritten : has_write (replies w.to_debugger) t ≡ false = replied-no-write w.pending (replies w.to_debugger) (commands w.to_target) t waits nw in
+    let unwritten : has_write (replies w.to_debugger) t ≡ false = replied-no-write w.pending (replies w.to_debugger) w.deferred (commands w.to_target) t s.waits nw in
     let kept : writes_in ps t ≡ false = writes-replies ps t ∙ (ap (λ x. has_write x t) all ∙ unwritten) in
-    let parts : unanswered lowers (replies w.to_debugger) t ≤ unanswered lowers w.pending t = replied-most lowers w.pending (replies w.to_debugger) (commands w.to_target) t waits in
+    let parts : unanswered lowers (replies w.to_debugger) t ≤ unanswered lowers w.pending t = replied-most lowers w.pending (replies w.to_debugger) w.deferred (commands w.to_target) t s.waits in
     let lowered : lowers_in ps t ≡ unanswered lowers (replies w.to_debugger) t = lowers_replies ps t ∙ ap (λ x. unanswered lowers x t) all in
     let fewer : lowers_in ps t < count_or_zero then.state t = omega arith in
     let was : (effect m settings then c).answer ≡ Data content = k.answers t c content then h l e (alive_along m then ps links live) in

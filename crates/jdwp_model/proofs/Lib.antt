@@ -2,10 +2,12 @@ pub mod Plain
 pub mod Acts
 pub mod Session
 pub mod Waiting
+pub mod Apart
 pub mod Fronts
 pub mod Keeps
 pub mod Cases
-pub mod Apart
+pub mod Deferred
+pub mod Ordered
 pub mod Fair
 pub mod Fairness
 pub mod Phases

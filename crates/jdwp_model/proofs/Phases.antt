@@ -141,14 +141,19 @@ open-or-closed : (b : Bool) → is_waiting (cond b Closed Established) ≡ false
 open-or-closed true = refl
 open-or-closed false = refl
 
-phases-command : {S : Type 0} (w : World S) (n : ℕ) (rest : List Call) (k : Ticket) (c : Command) (e : Effect S) (dies : Bool) → PhasesOf w → w.target ≡ Established → w.to_target ≡ Asks k c ∷ rest → PhasesOf (dies_by (answers (record w { to_target = rest; at_target = n }) k c e) dies)
-phases-command w n rest k c e false p t q =
-    let g = rest-asked rest w.to_target k c q (p.asked (ap is_established_phase t)) in
-    sent w.target (cond e.closes Closed w.target) w.debugger w.to_target rest w.to_debugger (Reply k c e.answer, e.after) p (ap is_established_phase t) (subst (λ p. is_waiting (cond e.closes Closed p) ≡ false) (sym t) (open-or-closed e.closes)) g refl
-phases-command w n rest k c e true p t q =
-    let g = rest-asked rest w.to_target k c q (p.asked (ap is_established_phase t)) in
-    sent Established Closed w.debugger rest rest (w.to_debugger ++ (Reply k c e.answer, e.after) ∷ []) (Report vm_death, after_death e.after)
-    (sent w.target Established w.debugger w.to_target rest w.to_debugger (Reply k c e.answer, e.after) p (ap is_established_phase t) refl g refl) refl refl g refl
+-- a command was taken
+phases-taken : {S : Type 0} (target debugger : Phase) (calls rest : List Call) (td : List (Packet S)) (k : Ticket) (c : Command) → target ≡ Established → calls ≡ Asks k c ∷ rest → Phases target debugger calls td → Phases target debugger rest td
+phases-taken target debugger calls rest td k c t e p =
+    let w : is_waiting target ≡ false = ap is_waiting t in
+    record { waits = λ x. absurd (cc); asked = λ x. rest-asked rest calls k c e (p.asked x); first = p.first; later = p.later }
+
+phases-command : {S : Type 0} (v : World S) (k : Ticket) (c : Command) (e : Effect S) (dies : Bool) → PhasesOf v → v.target ≡ Established → PhasesOf (dies_by (answers v k c e) dies)
+phases-command v k c e false p t =
+    sent v.target (cond e.closes Closed v.target) v.debugger v.to_target v.to_target v.to_debugger (Reply k c e.answer, e.after) p (ap is_established_phase t) (subst (λ p. is_waiting (cond e.closes Closed p) ≡ false) (sym t) (open-or-closed e.closes)) (p.asked (ap is_established_phase t)) refl
+phases-command v k c e true p t =
+    let g = p.asked (ap is_established_phase t) in
+    sent Established Closed v.debugger v.to_target v.to_target (v.to_debugger ++ (Reply k c e.answer, e.after) ∷ []) (Report vm_death, after_death e.after)
+    (sent v.target Established v.debugger v.to_target v.to_target v.to_debugger (Reply k c e.answer, e.after) p (ap is_established_phase t) refl g refl) refl refl g refl
 
 phases-died : {S : Type 0} (w : World S) (after : Moment S) (phase : Phase) → PhasesOf w → w.target ≡ phase → PhasesOf (step_ends (record w { now = after }) phase true)
 phases-died w after Established p t = sent w.target Closed w.debugger w.to_target w.to_target w.to_debugger (Report vm_death, after_death after) p (ap is_established_phase t) refl (p.asked (ap is_established_phase t)) refl
@@ -176,7 +181,9 @@ phases_kept m rests settings w i p =
       to_target = λ _. p;
       to_debugger = λ _. p;
       greet = λ n rest b t e _. phases-greet settings w n rest b p t e;
-      command = λ n rest k c t e. phases-command w n rest k c (effect m settings w.now c) (effect m settings w.now c).dies p t e;
+      command = λ n rest k c t e. phases-command (record w { to_target = rest; at_target = n }) k c (effect m settings w.now c) (effect m settings w.now c).dies (phases-taken w.target w.debugger w.to_target rest w.to_debugger k c t e p) t;
+      deferral = λ n rest k c t e _. phases-taken w.target w.debugger w.to_target rest w.to_debugger k c t e p;
+      release = λ place k c rest t _. phases-command (record w { deferred = rest }) k c (effect m settings w.now c) (effect m settings w.now c).dies p t;
       lose = shut w.target w.debugger w.to_target w.to_debugger p;
       close = record { waits = λ x. ((p.waits x).0, (p.waits x).1, refl); asked = p.asked; first = λ x. absurd (cc); later = λ x. absurd (cc) };
       end = λ _ q rest _ e. taken w.target w.debugger Closed w.to_target w.to_debugger rest q p e refl (λ x. absurd (cc));

@@ -2,6 +2,7 @@
 use Rattle.std.proofs.Common.{◌≡◌, ℕ, zero, suc, ◌==◌, ◌+◌, ◌<◌, ◌≤◌, Bool, true, false, ◌||◌, cond, Option, Some, None, List, [], ◌∷◌, ◌++◌, length, refl, sym, ◌∙◌, ap, subst, arith, is_some}
 use Rattle.std.specs.Prelude.{nat_le}
 use Rattle.std.proofs.lemmas.Bool.{eq-eqb}
+use Rattle.jdwp_end.specs.declared.phase.Phase.TheVariants.{Closed}
 use Rattle.jdwp_event.specs.Requests.{all_asked}
 use Rattle.jdwp_machine.specs.Meanings.{Meaning, has}
 use Rattle.jdwp_debuggee.specs.Settings.{Settings}
@@ -15,7 +16,8 @@ use Rattle.jdwp_model.specs.Seen.{mirror_count, mirror_held, mirror_requests, se
 use Rattle.jdwp_model.specs.Headline.{MayBegin, Always, KnowsAndHolds, HasTheCounts, requests_then, HasTheRequests, HeldIsSuspended, HeldIsCovered, CountIsAtMost}
 use Rattle.jdwp_model.specs.Rests.{Rests}
 use Rattle.jdwp_model.proofs.Session.{last, links_lower, links_upper, lowers_in, raises_in, no_dispose_in, replies, commands, replies_append, lowers_replies, raises_replies, composites_append, no_dispose_replies, and-left, and-right}
-use Rattle.jdwp_model.proofs.Waiting.{Waits, waits-ordered, replied-most, replied-no-dispose}
+use Rattle.jdwp_model.proofs.Waiting.{replied-most, replied-no-dispose}
+use Rattle.jdwp_model.proofs.Apart.{apart_none}
 use Rattle.jdwp_model.proofs.Keeps.{Inv, Session, IsLast, closed_side, closed-not-open, keeps_run}
 
 -- ---- before the first session
@@ -66,7 +68,8 @@ opening_inv m settings s b =
         greeted = λ x. absurd (cc);
         unborn = λ _. least-running (m.live s) b.lives;
       };
-      debugger = closed_side m [] [] false (record { state = new_state (m.live s); machine = s });
+      debugger = closed_side m [] [] [] false (record { state = new_state (m.live s); machine = s });
+      apart = apart_none Closed 0;
     }
 
 pub always : {S : Type 0} (m : Meaning S) → Rests m → (P : World S → Type 0) → ((settings : Settings) (w : World S) → Inv m settings w → P w) → Always m P
@@ -127,15 +130,14 @@ held_is_covered m settings w i t n h c u =
     let same : n ≡ shown.0 = s.mirrors.counts t n shown.0 c shown.1 in
     let positive : 0 < shown.0 = above-zero shown.0 shown.2 in
     let here : count_or_zero s.base.state t ≡ shown.0 = ap or_zero shown.1 in
-    let waits : Waits w.pending (replies w.to_debugger) (commands w.to_target) = waits-ordered w.pending (replies w.to_debugger) (commands w.to_target) s.in_order in
-    let none : has_dispose (replies w.to_debugger) ≡ false = replied-no-dispose w.pending (replies w.to_debugger) (commands w.to_target) waits u.no_dispose in
+    let none : has_dispose (replies w.to_debugger) ≡ false = replied-no-dispose w.pending (replies w.to_debugger) w.deferred (commands w.to_target) s.waits u.no_dispose in
     let all : replies (w.parked ++ w.to_debugger) ≡ replies w.to_debugger = all-replies w.parked w.to_debugger s.no_reply_waits in
     let spared : no_dispose_in (w.parked ++ w.to_debugger) ≡ true = no_dispose_replies (w.parked ++ w.to_debugger) (subst (λ x. has_dispose x ≡ false) (sym all) none) in
     let q = s.quiet u.not_lost in
     let lower : count_or_zero s.base.state t ≤ count_or_zero (last s.base (w.parked ++ w.to_debugger)).state t + lowers_in (w.parked ++ w.to_debugger) t =
     links_lower m s.base (w.parked ++ w.to_debugger) t s.links spared (q.alive u.alive) in
     let now : count_or_zero w.now.state t ≡ count_or_zero (last s.base (w.parked ++ w.to_debugger)).state t = q.same_count t in
-    let parts : unanswered lowers (replies w.to_debugger) t ≤ unanswered lowers w.pending t = replied-most lowers w.pending (replies w.to_debugger) (commands w.to_target) t waits in
+    let parts : unanswered lowers (replies w.to_debugger) t ≤ unanswered lowers w.pending t = replied-most lowers w.pending (replies w.to_debugger) w.deferred (commands w.to_target) t s.waits in
     let lowered : lowers_in (w.parked ++ w.to_debugger) t ≡ unanswered lowers (replies w.to_debugger) t = lowers_replies (w.parked ++ w.to_debugger) t ∙ ap (λ x. unanswered lowers x t) all in
     (omega arith, omega arith)
 
@@ -162,14 +164,13 @@ lost-zero m settings w i l t =
     let c : is_closed w.target ≡ true = elim (is_closed w.target) as (λ b. is_closed w.target ≡ b → b ≡ true) [ true ↦ λ _. refl | false ↦ λ x. let y : w.lost ≡ false = i.target.unlost x in absurd (cc) ] refl in
     (i.target.idle (closed-not-open w.target c)).1 t
 
-at-most-by : {S : Type 0} (m : Meaning S) (settings : Settings) (w : World S) → Inv m settings w → (lost : Bool) → w.lost ≡ lost → (t n : ℕ) → (s : Session m w.read w.parked w.to_debugger w.to_target w.pending w.lost w.now) → count_or_zero s.base.state t ≡ n → count_or_zero w.now.state t ≤ n + unanswered raises w.pending t + (composites_in w.parked + composites_in w.to_debugger)
+at-most-by : {S : Type 0} (m : Meaning S) (settings : Settings) (w : World S) → Inv m settings w → (lost : Bool) → w.lost ≡ lost → (t n : ℕ) → (s : Session m w.read w.parked w.to_debugger w.to_target w.deferred w.pending w.lost w.now) → count_or_zero s.base.state t ≡ n → count_or_zero w.now.state t ≤ n + unanswered raises w.pending t + (composites_in w.parked + composites_in w.to_debugger)
 at-most-by m settings w i true e t n s here = let z = lost-zero m settings w i e t in omega arith
 at-most-by m settings w i false e t n s here =
     let all : replies (w.parked ++ w.to_debugger) ≡ replies w.to_debugger = all-replies w.parked w.to_debugger s.no_reply_waits in
     let upper : count_or_zero (last s.base (w.parked ++ w.to_debugger)).state t ≤ count_or_zero s.base.state t + raises_in (w.parked ++ w.to_debugger) t = links_upper m s.base (w.parked ++ w.to_debugger) t s.links in
     let now : count_or_zero w.now.state t ≡ count_or_zero (last s.base (w.parked ++ w.to_debugger)).state t = (s.quiet e).same_count t in
-    let waits : Waits w.pending (replies w.to_debugger) (commands w.to_target) = waits-ordered w.pending (replies w.to_debugger) (commands w.to_target) s.in_order in
-    let parts : unanswered raises (replies w.to_debugger) t ≤ unanswered raises w.pending t = replied-most raises w.pending (replies w.to_debugger) (commands w.to_target) t waits in
+    let parts : unanswered raises (replies w.to_debugger) t ≤ unanswered raises w.pending t = replied-most raises w.pending (replies w.to_debugger) w.deferred (commands w.to_target) t s.waits in
     let raised : raises_in (w.parked ++ w.to_debugger) t ≡ unanswered raises (replies w.to_debugger) t + (composites_in w.parked + composites_in w.to_debugger) =
     raises_replies (w.parked ++ w.to_debugger) t ∙ (ap (λ x. unanswered raises x t + composites_in (w.parked ++ w.to_debugger)) all ∙ ap (λ x. unanswered raises (replies w.to_debugger) t + x) (composites_append w.parked w.to_debugger)) in
     omega arith

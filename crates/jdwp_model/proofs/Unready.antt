@@ -1,5 +1,5 @@
 -- before a debugger knows the widths of ids, IDSizes is all that it asked, and VM_START and VM_DEATH all that is told
-use Rattle.std.proofs.Common.{◌≡◌, ℕ, ◌+◌, ◌≤◌, Bool, true, false, cond, Option, Some, None, List, [], ◌∷◌, ◌++◌, length, refl, sym, ◌∙◌, ap, subst, arith, is_none}
+use Rattle.std.proofs.Common.{◌≡◌, ℕ, ◌+◌, ◌≤◌, inl, inr, Bool, true, false, cond, Option, Some, None, List, [], ◌∷◌, ◌++◌, length, refl, sym, ◌∙◌, ap, subst, arith, is_none}
 use Rattle.jdwp_layout.specs.declared.answer.Answer.{Answer}
 use Rattle.jdwp_layout.specs.declared.answer.Answer.TheVariants.{Data, Error}
 use Rattle.jdwp_end.specs.declared.phase.Phase.{Phase}
@@ -13,13 +13,14 @@ use Rattle.jdwp_debuggee.specs.State.{Moment}
 use Rattle.jdwp_action.specs.Actions.{Command, action_of}
 use Rattle.jdwp_debuggee.specs.Effects.{Effect, effect}
 use Rattle.jdwp_debuggee.specs.Steps.{occurs, start_event}
-use Rattle.jdwp_debuggee.specs.Facts.{Told, requests_moved}
-use Rattle.jdwp_mirror.specs.Messages.{Ticket, Call, Asks, Handshake, Reply, Report, id_sizes}
+use Rattle.jdwp_debuggee.specs.Facts.{IsSound, Told, requests_moved}
+use Rattle.jdwp_mirror.specs.Messages.{Ticket, Call, Handshake, Reply, Report, id_sizes}
 use Rattle.jdwp_model.specs.World.{is_closed, Packet, World}
-use Rattle.jdwp_model.specs.Next.{started, greets_by, after_death, answers, dies_by, with_report, step_ends}
+use Rattle.jdwp_model.specs.Next.{started, greets_by, after_death, answers, dies_by, carries_out, with_report, step_ends}
 use Rattle.jdwp_model.specs.Seen.{composites_in}
 use Rattle.jdwp_model.specs.Rests.{Rests}
 use Rattle.jdwp_model.proofs.Session.{composites_append, replies, commands}
+use Rattle.jdwp_model.proofs.Waiting.{In, released-parts}
 use Rattle.jdwp_model.proofs.Keeps.{Inv, asked-nil, closed-not-open, or-parts}
 use Rattle.jdwp_model.proofs.Cases.{Kept}
 
@@ -60,24 +61,23 @@ own-none AwaitingHandshake h = refl
 own-none Established h = absurd (cc)
 
 -- what was asked alone was IDSizes
-not-nil : (xs : List (Ticket × Command)) (y : Ticket × Command) (ys : List (Ticket × Command)) → xs ++ y ∷ ys ≡ [] → ⊥
-not-nil [] y ys h = cc
-not-nil (x ∷ xs) y ys h = cc
+abbrev own_command : Ticket × Command
+own_command = (None, id_sizes)
 
-only-command : (p : Phase) (xs : List (Ticket × Command)) (k : Ticket) (c : Command) (ys : List (Ticket × Command)) → xs ++ (k, c) ∷ ys ≡ own p → c ≡ id_sizes
-only-command AwaitingHandshake xs k c ys h = absurd (not-nil xs (k, c) ys h)
-only-command Closed xs k c ys h = absurd (not-nil xs (k, c) ys h)
-only-command Established [] k c ys h = let y : (k, c) ≡ (None, id_sizes) = cc in ap (λ (p : Ticket × Command). p.1) y
-only-command Established (x ∷ xs) k c ys h = let y : xs ++ (k, c) ∷ ys ≡ [] = cc in absurd (not-nil xs (k, c) ys y)
+is-own : (p : Phase) (k : Ticket) (c : Command) → In (own p) (k, c) → own_command ≡ (k, c)
+is-own AwaitingHandshake k c h = absurd h
+is-own Closed k c h = absurd h
+is-own Established k c (inl e) = e
+is-own Established k c (inr h) = absurd h
 
-no-ticket : (j : ℕ) → Some j ≡ None → ⊥
-no-ticket j h = cc
+in-own : (p : Phase) (xs : List (Ticket × Command)) (k : Ticket) (c : Command) → xs ≡ own p → In xs (k, c) → own_command ≡ (k, c)
+in-own p xs k c e h = is-own p k c (subst (λ l. In l (k, c)) e h)
 
-only-reply : (p : Phase) (k : Ticket) (c : Command) (ys : List (Ticket × Command)) → (k, c) ∷ ys ≡ own p → is_none k ≡ true
-only-reply AwaitingHandshake k c ys h = absurd (cc)
-only-reply Closed k c ys h = absurd (cc)
-only-reply Established None c ys h = refl
-only-reply Established (Some j) c ys h = let y : (Some j, c) ≡ (None, id_sizes) = cc in absurd (no-ticket j (ap (λ (p : Ticket × Command). p.0) y))
+only-command : (p : Phase) (xs : List (Ticket × Command)) (k : Ticket) (c : Command) → xs ≡ own p → In xs (k, c) → c ≡ id_sizes
+only-command p xs k c e h = sym (ap (λ (q : Ticket × Command). q.1) (in-own p xs k c e h))
+
+only-reply : (p : Phase) (xs : List (Ticket × Command)) (k : Ticket) (c : Command) → xs ≡ own p → In xs (k, c) → is_none k ≡ true
+only-reply p xs k c e h = sym (ap (λ (q : Ticket × Command). is_none q.0) (in-own p xs k c e h))
 
 no-more : (c : Command) (x : Answer) (n : ℕ) → c ≡ id_sizes → requests_moved (action_of c) x n [] ≡ []
 no-more c (Data content) n e = ap (λ d. requests_moved (action_of d) (Data content) n []) e
@@ -104,26 +104,33 @@ unready-greet settings w n rest false t p =
     composites_append w.to_debugger ((Handshake, w.now) ∷ (Report (start_event settings w.now.state), started settings w.now) ∷ []) in
     record { no_requests = u.no_requests; few = omega arith; alone = u.alone }
 
-unready-command : {S : Type 0} (w : World S) (n : ℕ) (rest : List Call) (k : Ticket) (c : Command) (e : Effect S) (dies : Bool) → w.target ≡ Established → (is_closed w.debugger ≡ false → w.ready ≡ false → e.after.state.requests ≡ []) → UnreadyOf w → UnreadyOf (dies_by (answers (record w { to_target = rest; at_target = n }) k c e) dies)
-unready-command w n rest k c e false t none p =
+unready-answered : {S : Type 0} (v : World S) (k : Ticket) (c : Command) (e : Effect S) (dies : Bool) → v.target ≡ Established → (is_closed v.debugger ≡ false → v.ready ≡ false → e.after.state.requests ≡ []) → UnreadyOf v → UnreadyOf (dies_by (answers v k c e) dies)
+unready-answered v k c e false t none p =
     λ o r.
     let u = p o r in
-    let before : length w.parked + composites_in w.to_debugger ≤ 1 = subst (λ p. length w.parked + composites_in w.to_debugger ≤ room p) t u.few in
-    let sum : composites_in (w.to_debugger ++ (Reply k c e.answer, e.after) ∷ []) ≡ composites_in w.to_debugger + 0 = composites_append w.to_debugger ((Reply k c e.answer, e.after) ∷ []) in
-    let space : 1 ≤ room (cond e.closes Closed w.target) = subst (λ p. 1 ≤ room (cond e.closes Closed p)) (sym t) (room-open e.closes) in
+    let before : length v.parked + composites_in v.to_debugger ≤ 1 = subst (λ p. length v.parked + composites_in v.to_debugger ≤ room p) t u.few in
+    let sum : composites_in (v.to_debugger ++ (Reply k c e.answer, e.after) ∷ []) ≡ composites_in v.to_debugger + 0 = composites_append v.to_debugger ((Reply k c e.answer, e.after) ∷ []) in
+    let space : 1 ≤ room (cond e.closes Closed v.target) = subst (λ p. 1 ≤ room (cond e.closes Closed p)) (sym t) (room-open e.closes) in
     record { no_requests = none o r; few = omega arith; alone = u.alone }
-unready-command w n rest k c e true t none p =
+unready-answered v k c e true t none p =
     λ o r.
     let u = p o r in
-    let before : length w.parked + composites_in w.to_debugger ≤ 1 = subst (λ p. length w.parked + composites_in w.to_debugger ≤ room p) t u.few in
-    let one : composites_in (w.to_debugger ++ (Reply k c e.answer, e.after) ∷ []) ≡ composites_in w.to_debugger + 0 = composites_append w.to_debugger ((Reply k c e.answer, e.after) ∷ []) in
-    let sum : composites_in ((w.to_debugger ++ (Reply k c e.answer, e.after) ∷ []) ++ (Report vm_death, after_death e.after) ∷ []) ≡ composites_in (w.to_debugger ++ (Reply k c e.answer, e.after) ∷ []) + 1 =
-    composites_append (w.to_debugger ++ (Reply k c e.answer, e.after) ∷ []) ((Report vm_death, after_death e.after) ∷ []) in
+    let before : length v.parked + composites_in v.to_debugger ≤ 1 = subst (λ p. length v.parked + composites_in v.to_debugger ≤ room p) t u.few in
+    let one : composites_in (v.to_debugger ++ (Reply k c e.answer, e.after) ∷ []) ≡ composites_in v.to_debugger + 0 = composites_append v.to_debugger ((Reply k c e.answer, e.after) ∷ []) in
+    let sum : composites_in ((v.to_debugger ++ (Reply k c e.answer, e.after) ∷ []) ++ (Report vm_death, after_death e.after) ∷ []) ≡ composites_in (v.to_debugger ++ (Reply k c e.answer, e.after) ∷ []) + 1 =
+    composites_append (v.to_debugger ++ (Reply k c e.answer, e.after) ∷ []) ((Report vm_death, after_death e.after) ∷ []) in
     record { no_requests = none o r; few = omega arith; alone = u.alone }
 
-command-is : {S : Type 0} (m : Meaning S) (settings : Settings) (w : World S) (rest : List Call) (k : Ticket) (c : Command) → Inv m settings w → is_closed w.debugger ≡ false → w.to_target ≡ Asks k c ∷ rest → w.pending ≡ own w.debugger → c ≡ id_sizes
-command-is m settings w rest k c i o e a =
-    only-command w.debugger (replies w.to_debugger) k c (commands rest) (sym (ap (λ l. replies w.to_debugger ++ commands l) e) ∙ (sym (i.debugger.session o).in_order ∙ a))
+-- a command that waits is carried out
+unready-command : {S : Type 0} (m : Meaning S) → Rests m → (settings : Settings) (v : World S) (k : Ticket) (c : Command) → IsSound m settings v.now → v.target ≡ Established → (is_closed v.debugger ≡ false → In v.pending (k, c)) → UnreadyOf v → UnreadyOf (carries_out m settings v k c)
+unready-command m rests settings v k c s t h p =
+    let d = (rests.facts settings).does v.now c s in
+    unready-answered v k c (effect m settings v.now c) (effect m settings v.now c).dies t
+    (λ o r.
+    let u = p o r in
+    let is : c ≡ id_sizes = only-command v.debugger v.pending k c u.alone (h o) in
+    asked-nil (effect m settings v.now c).after.state.requests (d.requests ∙ (ap (λ l. requests_moved (action_of c) (effect m settings v.now c).answer v.now.state.next_request (all_asked l)) u.no_requests ∙ no-more c (effect m settings v.now c).answer v.now.state.next_request is)))
+    p
 
 unready-died : {S : Type 0} (w : World S) (after : Moment S) (phase : Phase) → after.state.requests ≡ [] → w.target ≡ phase → UnreadyOf w → UnreadyOf (step_ends (record w { now = after }) phase true)
 unready-died w after Established none t p =
@@ -153,13 +160,10 @@ unready_kept m rests settings w i p =
       to_debugger = λ _. p;
       greet = λ n rest b t _ _. unready-greet settings w n rest b t p;
       command = λ n rest k c t e.
-          let d = (rests.facts settings).does w.now c i.target.sound in
-          unready-command w n rest k c (effect m settings w.now c) (effect m settings w.now c).dies t
-          (λ o r.
-          let u = p o r in
-          let is : c ≡ id_sizes = command-is m settings w rest k c i o e u.alone in
-          asked-nil (effect m settings w.now c).after.state.requests (d.requests ∙ (ap (λ l. requests_moved (action_of c) (effect m settings w.now c).answer w.now.state.next_request (all_asked l)) u.no_requests ∙ no-more c (effect m settings w.now c).answer w.now.state.next_request is)))
-          p;
+          unready-command m rests settings (record w { to_target = rest; at_target = n }) k c i.target.sound t (λ o. (i.debugger.session o).waits.in_sent (k, c) (subst (λ l. In (commands l) (k, c)) (sym e) (inl refl))) p;
+      deferral = λ n rest k c t e _. p;
+      release = λ place k c rest t e.
+          unready-command m rests settings (record w { deferred = rest }) k c i.target.sound t (λ o. (i.debugger.session o).waits.in_deferred (k, c) (released-parts place w.deferred (k, c) rest e).here) p;
       lose = λ o r. let u = p o r in let before : length w.parked + composites_in w.to_debugger ≤ room w.target = u.few in let most : room w.target ≤ 2 = room-most w.target in record { no_requests = refl; few = omega arith; alone = u.alone };
       close = λ o r. absurd (cc);
       end = λ _ _ _ _ _ o r. absurd (cc);
@@ -170,7 +174,7 @@ unready_kept m rests settings w i p =
       reply = λ _ k c x a rest g e o r.
           let both = or-parts w.ready (is_none k) r in
           let u = p o both.0 in
-          let first : is_none k ≡ true = only-reply w.debugger k c (replies rest ++ commands w.to_target) (sym (ap (λ l. replies l ++ commands w.to_target) e) ∙ (sym (i.debugger.session o).in_order ∙ u.alone)) in
+          let first : is_none k ≡ true = only-reply w.debugger w.pending k c u.alone ((i.debugger.session o).waits.in_replied (k, c) (subst (λ l. In (replies l) (k, c)) (sym e) (inl refl))) in
           absurd (cc);
       park = λ _ c a rest _ e o r.
           let u = p o r in

@@ -1,9 +1,9 @@
 -- the machine of the worked sessions is lawful, and the sessions begin in a state of it
-use Rattle.std.proofs.Common.{◌≡◌, ◌≢◌, ℕ, zero, suc, pos, ◌==◌, ◌||◌, ◌&&◌, Bool, true, false, not, cond, if◌then◌else◌, List, [], ◌∷◌, get_or, refl, sym, ◌∙◌, arith, Option, Some, None, ◌⊎◌, inl, inr}
+use Rattle.std.proofs.Common.{◌≡◌, ◌≢◌, ℕ, zero, suc, ◌==◌, ◌||◌, ◌&&◌, Bool, true, false, not, cond, if◌then◌else◌, List, [], ◌∷◌, get_or, refl, sym, ◌∙◌, arith, Option, Some, None, ◌⊎◌, inl, inr}
 use Rattle.std.proofs.lemmas.Bool.{eqb-true, false≢true}
 use Rattle.std.proofs.Math.Bool.{and-false, and-true, or-false}
 use Rattle.std.specs.List.{filter, AllByRecursion, IsDistinct}
-use Rattle.jdwp_wire.specs.ErrorCodes.{INVALID_LOCATION, NOT_IMPLEMENTED}
+use Rattle.jdwp_wire.specs.ErrorCodes.{NOT_IMPLEMENTED}
 use Rattle.jdwp_wire.specs.Numbers.{id_refusal}
 use Rattle.jdwp_wire.specs.Widths.{IsWidth}
 use Rattle.jdwp_value.specs.declared.location.Location.{Location}
@@ -12,7 +12,7 @@ use Rattle.jdwp_value.specs.declared.value.Value.TheVariants as value
 use Rattle.jdwp_layout.specs.declared.answer.Answer.{Answer}
 use Rattle.jdwp_layout.specs.declared.answer.Answer.TheVariants.{Data, Error}
 use Rattle.jdwp_layout.specs.CommandNumbers.{CommandNumber, is_command, FRAMES, FRAME_COUNT, SET_REQUEST, GET_SLOTS, THIS_OBJECT}
-use Rattle.jdwp_layout.specs.Meanings.{Int, Object, Located, DatumMeaning, One, Many}
+use Rattle.jdwp_layout.specs.Meanings.{Object, Located, DatumMeaning, One, Many}
 use Rattle.jdwp_event.specs.Occurrences.{OccurrenceMeaning, Moved, Entered, Left, RanOut, started_by, is_run_out}
 use Rattle.jdwp_machine.specs.declared.query.Query.{Query}
 use Rattle.jdwp_machine.specs.Meanings.{has}

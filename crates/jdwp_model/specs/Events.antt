@@ -1,5 +1,5 @@
 -- What happens to a link, one thing at a time, and what is told of it.
-use Rattle.std.specs.Prelude.{ℕ}
+use Rattle.std.specs.Prelude.{ℕ, Bool, true, false, ◌&&◌, not, List, [], ◌∷◌}
 use Rattle.jdwp_layout.specs.declared.answer.Answer.{Answer}
 use Rattle.jdwp_event.specs.Composites.{CompositeMeaning}
 use Rattle.jdwp_action.specs.Actions.{Command}
@@ -20,6 +20,10 @@ pub data LinkEvent : Type 0 where
   -- an end notices that the connection is lost
   TargetLoses : LinkEvent
   DebuggerLoses : LinkEvent
+  -- from now on the target defers the commands that may be answered later, or it defers none
+  Defer : Bool → LinkEvent
+  -- the target answers a deferred command: that at this place, 0 for the one deferred longest
+  Release : ℕ → LinkEvent
 
 -- Why a command is not sent, in the order of the tests.
 pub data AskRefusal : Type 0 where
@@ -38,3 +42,14 @@ pub data Outcome : Type 0 where
   Lost : ℕ → Outcome
   -- a composite was read
   Seen : CompositeMeaning → Outcome
+
+-- ---- events by which replies are deferred
+
+abbrev pub begins_deferring : LinkEvent → Bool
+begins_deferring (Defer deferring) = deferring
+begins_deferring e = false
+
+-- By none of these events a target begins to defer replies.
+abbrev pub defer_nothing : List LinkEvent → Bool
+defer_nothing [] = true
+defer_nothing (e ∷ es) = not (begins_deferring e) && defer_nothing es

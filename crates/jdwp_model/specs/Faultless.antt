@@ -11,7 +11,7 @@ use Rattle.jdwp_mirror.specs.Messages.{Ticket, Call, Greets, Asks, Reply}
 use Rattle.jdwp_mirror.specs.Mirror.{ends}
 use Rattle.jdwp_mirror.specs.Faults.{is_waited_for, fault_of}
 use Rattle.jdwp_model.specs.Events
-use Rattle.jdwp_model.specs.Events.{LinkEvent}
+use Rattle.jdwp_model.specs.Events.{LinkEvent, defer_nothing}
 use Rattle.jdwp_model.specs.World.{Measure, is_closed, Packet, World, opening}
 use Rattle.jdwp_model.specs.Next.{target_turn, has_end, reader, debugger_turn, acts, next, run}
 use Rattle.jdwp_model.specs.Headline.{MayBegin}
@@ -39,11 +39,17 @@ AnswersOneWaiting {S} w =
     (before : List (Ticket × Command)) × (after : List (Ticket × Command)) × (w.pending ≡ before ++ (k, c) ∷ after)
     × (is_waited_for k before ≡ false) × (is_waited_for k after ≡ false)
 
--- Sharper: it is to the command that waits longest.
+-- Sharper, as long as no target begins to defer replies: it is to the command that waits longest.
 abbrev pub AnswersFirstWaiting : {S : Type 0} → World S → Type 0
 AnswersFirstWaiting {S} w =
     (k : Ticket) (c : Command) (answer : Answer) (then : Moment S) (rest : List (Packet S)) → is_closed w.debugger ≡ false → w.to_debugger ≡ (Reply k c answer, then) ∷ rest →
     (others : List (Ticket × Command)) × (w.pending ≡ (k, c) ∷ others)
+
+-- after every list of events by which no target begins to defer replies
+abbrev pub AlwaysUndeferred : {S : Type 0} → Meaning S → (World S → Type 0) → Type 0
+AlwaysUndeferred {S} m P =
+    (settings : Settings) (measure : Measure) (s : S) (events : List LinkEvent) → MayBegin m settings s → defer_nothing events ≡ true →
+    P (run m settings measure (opening m s) events)
 
 -- No more than two composites ever wait for the widths of ids: VM_START and VM_DEATH.
 abbrev pub FewWait : {S : Type 0} → World S → Type 0
@@ -65,16 +71,17 @@ abbrev pub TurnsCloseAtEnds : {S : Type 0} → Settings → Measure → World S 
 TurnsCloseAtEnds settings measure w =
     is_closed w.debugger ≡ false → is_closed (debugger_turn settings measure w).0.debugger ≡ true → ends_in_front w.parked w.to_debugger ≡ true
 
--- a turn of an end, or a step
-abbrev pub is_turn_or_step : LinkEvent → Bool
-is_turn_or_step Events.TargetTurn = true
-is_turn_or_step Events.DebuggerTurn = true
-is_turn_or_step (Events.Step t) = true
-is_turn_or_step e = false
+-- a turn of an end, a release, or a step
+abbrev pub is_turn_release_or_step : LinkEvent → Bool
+is_turn_release_or_step Events.TargetTurn = true
+is_turn_release_or_step Events.DebuggerTurn = true
+is_turn_release_or_step (Events.Step t) = true
+is_turn_release_or_step (Events.Release place) = true
+is_turn_release_or_step e = false
 
--- Where a turn or a step does nothing, all stays as it is, and nothing is told.
+-- Where a turn, a release or a step does nothing, all stays as it is, and nothing is told.
 abbrev pub IdlesUnchanged : {S : Type 0} → Meaning S → Settings → Measure → World S → Type 0
-IdlesUnchanged m settings measure w = (e : LinkEvent) → is_turn_or_step e ≡ true → acts m settings measure w e ≡ false → next m settings measure w e ≡ (w, [])
+IdlesUnchanged m settings measure w = (e : LinkEvent) → is_turn_release_or_step e ≡ true → acts m settings measure w e ≡ false → next m settings measure w e ≡ (w, [])
 
 -- after every list of events
 abbrev pub AtEachTurn : {S : Type 0} → Meaning S → (Settings → Measure → World S → Type 0) → Type 0

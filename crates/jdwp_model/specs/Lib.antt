@@ -10,6 +10,7 @@ pub mod Tickets
 pub mod Given
 pub mod Faultless
 pub mod Places
+pub mod Deferred
 pub mod Lasting
 pub mod WorkedMachine
 pub mod Worked

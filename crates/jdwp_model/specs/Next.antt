@@ -14,6 +14,7 @@ use Rattle.jdwp_action.specs.Actions.{Command}
 use Rattle.jdwp_debuggee.specs.Effects.{Effect, effect}
 use Rattle.jdwp_debuggee.specs.Steps
 use Rattle.jdwp_debuggee.specs.Steps.{occurs, may_step, start_event, handshaken}
+use Rattle.jdwp_debuggee.specs.Deferring.{is_deferred, released_at}
 use Rattle.jdwp_mirror.specs.Messages.{LAST_TICKET, Ticket, same_ticket, Call, Greets, Asks, Message, Handshake, Reply, Report, id_sizes}
 use Rattle.jdwp_mirror.specs.Mirror.{ends}
 use Rattle.jdwp_mirror.specs.Faults.{Fault, Reader, fault_of}
@@ -34,6 +35,8 @@ attached w = record {
   to_debugger = [];
   at_target = 0;
   at_debugger = 0;
+  deferred = [];
+  deferring = w.deferring;
   debugger = AwaitingHandshake;
   ready = false;
   parked = [];
@@ -86,9 +89,9 @@ delivers_to_debugger settings measure w n = if is_closed w.debugger then w else 
 
 -- ---- the target's end closes
 
--- it does, or it stays as it is
+-- It does, and what was deferred is never answered; or it stays as it is.
 abbrev pub target_closes : {S : Type 0} → World S → Bool → World S
-target_closes w closes = record w { target = if closes then Closed else w.target }
+target_closes w closes = record w { target = if closes then Closed else w.target; deferred = if closes then [] else w.deferred }
 
 abbrev pub target_closed : {S : Type 0} → World S → World S
 target_closed w = target_closes w true
@@ -129,13 +132,26 @@ answers w k c e = record (target_closes w e.closes) {
   to_debugger = w.to_debugger ++ (Reply k c e.answer, e.after) ∷ [];
 }
 
+-- the machine may die by it
+abbrev pub carries_out : {S : Type 0} → Meaning S → Settings → World S → Ticket → Command → World S
+carries_out m settings w k c = dies_by (answers w k c (effect m settings w.now c)) (effect m settings w.now c).dies
+
+-- Whether the target defers a command that it takes now.
+abbrev pub defers : {S : Type 0} → World S → Command → Bool
+defers w c = is_deferred w.deferring c.set (length w.deferred)
+
+-- A command is deferred as it came, or carried out.
+abbrev pub defers_or : {S : Type 0} → Meaning S → Settings → World S → Ticket → Command → Bool → World S
+defers_or m settings w k c true = record w { deferred = w.deferred ++ (k, c) ∷ [] }
+defers_or m settings w k c false = carries_out m settings w k c
+
 abbrev pub target_takes : {S : Type 0} → Measure → World S → Call → List Call → World S
 target_takes measure w call rest = record w { to_target = rest; at_target = w.at_target - measure.call call }
 
 abbrev pub target_handles : {S : Type 0} → Meaning S → Settings → Measure → World S → List Call → Phase → Call → World S
 target_handles m settings measure w rest AwaitingHandshake Greets = greets_by settings (target_takes measure w Greets rest) w.now.state.handshaken
 target_handles m settings measure w rest Established (Asks k c) =
-    dies_by (answers (target_takes measure w (Asks k c) rest) k c (effect m settings w.now c)) (effect m settings w.now c).dies
+    defers_or m settings (target_takes measure w (Asks k c) rest) k c (defers w c)
 target_handles m settings measure w rest phase call = target_loses w
 
 -- the first message, and those behind it, where so many bytes of them make it whole
@@ -155,6 +171,22 @@ target_turn_at m settings measure w (Some (call, rest)) = target_handles m setti
 
 abbrev pub target_turn : {S : Type 0} → Meaning S → Settings → Measure → World S → World S
 target_turn m settings measure w = target_turn_at m settings measure w (target_front settings measure w)
+
+-- ---- a deferred command is answered
+
+-- What a release answers, and what stays deferred: nothing where the end is not in a session, or paused as above, or no command is deferred
+-- at this place.
+abbrev pub release_front : {S : Type 0} → Settings → Measure → World S → ℕ → Option ((Ticket × Command) × List (Ticket × Command))
+release_front settings measure w place =
+    if is_established_phase w.target && nat_lt (way_to_debugger measure w) settings.limits.packet then released_at place w.deferred else None
+
+-- The command is carried out by the debuggee as it is now.
+abbrev pub releases_at : {S : Type 0} → Meaning S → Settings → World S → Option ((Ticket × Command) × List (Ticket × Command)) → World S
+releases_at m settings w None = w
+releases_at m settings w (Some ((k, c), rest)) = carries_out m settings (record w { deferred = rest }) k c
+
+abbrev pub releases : {S : Type 0} → Meaning S → Settings → Measure → World S → ℕ → World S
+releases m settings measure w place = releases_at m settings w (release_front settings measure w place)
 
 -- ---- the debugger's turn
 
@@ -289,6 +321,8 @@ next m settings measure w Events.DebuggerTurn = debugger_turn settings measure w
 next m settings measure w (Events.Step t) = (steps m settings measure w t, [])
 next m settings measure w Events.TargetLoses = (target_loses w, [])
 next m settings measure w Events.DebuggerLoses = debugger_loses w
+next m settings measure w (Events.Defer deferring) = (record w { deferring = deferring }, [])
+next m settings measure w (Events.Release place) = (releases m settings measure w place, [])
 
 -- A whole run: the link after it, and all that is told.
 abbrev pub run : {S : Type 0} → Meaning S → Settings → Measure → World S → List LinkEvent → World S
@@ -301,11 +335,12 @@ outcomes m settings measure w (e ∷ es) = (next m settings measure w e).1 ++ ou
 
 -- ---- what is done
 
--- Whether an event is a turn that handles a message, or a step that is made.
+-- Whether an event is a turn that handles a message, a release that answers a command, or a step that is made.
 abbrev pub acts : {S : Type 0} → Meaning S → Settings → Measure → World S → LinkEvent → Bool
 acts m settings measure w Events.TargetTurn = is_some (target_front settings measure w)
 acts m settings measure w Events.DebuggerTurn = is_some (debugger_front settings measure w)
 acts m settings measure w (Events.Step t) = steps_now m settings measure w t
+acts m settings measure w (Events.Release place) = is_some (release_front settings measure w place)
 acts m settings measure w e = false
 
 -- Whether the last event of a run did so; what was said before it, where there is none.

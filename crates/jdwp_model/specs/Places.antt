@@ -25,6 +25,8 @@ tally f (p ∷ ps) = f p + tally f ps
 abbrev pub one_of : Ticket → Ticket × Command → ℕ
 one_of k p = if same_ticket p.0 k then 1 else 0
 
--- Of the commands whose replies are under way and those that are under way themselves, no two have the same ticket.
+-- Of the commands whose replies are under way, the deferred ones and those that are under way themselves, no two have the same ticket.
 abbrev pub EachAtOnePlace : {S : Type 0} → World S → Type 0
-EachAtOnePlace w = (k : Ticket) → is_closed w.debugger ≡ false → tally (one_of k) (replies w.to_debugger) + tally (one_of k) (commands w.to_target) ≤ 1
+EachAtOnePlace w =
+    (k : Ticket) → is_closed w.debugger ≡ false →
+    tally (one_of k) (replies w.to_debugger) + (tally (one_of k) w.deferred + tally (one_of k) (commands w.to_target)) ≤ 1

@@ -1,11 +1,11 @@
 -- The commands that a debugger asked, by their tickets: which were settled, how often, and in which order.
-use Rattle.std.specs.Prelude.{◌≡◌, ℕ, zero, suc, ◌+◌, ◌==◌, if◌then◌else◌, List, [], ◌∷◌, ◌++◌, Some, None}
+use Rattle.std.specs.Prelude.{◌≡◌, ℕ, zero, suc, ◌+◌, ◌==◌, true, if◌then◌else◌, List, [], ◌∷◌, ◌++◌, Some, None}
 use Rattle.jdwp_machine.specs.Meanings.{Meaning}
 use Rattle.jdwp_debuggee.specs.Settings.{Settings}
 use Rattle.jdwp_action.specs.Actions.{Command}
 use Rattle.jdwp_mirror.specs.Messages.{Ticket}
 use Rattle.jdwp_model.specs.Events
-use Rattle.jdwp_model.specs.Events.{LinkEvent, Outcome}
+use Rattle.jdwp_model.specs.Events.{LinkEvent, Outcome, defer_nothing}
 use Rattle.jdwp_model.specs.World.{Measure, opening}
 use Rattle.jdwp_model.specs.Next.{run, outcomes}
 use Rattle.jdwp_model.specs.Headline.{MayBegin}
@@ -41,10 +41,10 @@ SettlesOnce {S} m =
     times k (settled (outcomes m settings measure (opening m s) events) ++ tickets (run m settings measure (opening m s) events).pending)
     ≡ times k (tickets_to (run m settings measure (opening m s) events).asked)
 
--- Each ticket is settled in the order in which tickets were given: those that were answered or lost, and then those that wait, are
--- all that were given.
+-- As long as no target begins to defer replies, each ticket is settled in the order in which tickets were given: those that were answered
+-- or lost, and then those that wait, are all that were given.
 abbrev pub SettlesInOrder : {S : Type 0} → Meaning S → Type 0
 SettlesInOrder {S} m =
-    (settings : Settings) (measure : Measure) (s : S) (events : List LinkEvent) → MayBegin m settings s →
+    (settings : Settings) (measure : Measure) (s : S) (events : List LinkEvent) → MayBegin m settings s → defer_nothing events ≡ true →
     settled (outcomes m settings measure (opening m s) events) ++ tickets (run m settings measure (opening m s) events).pending
     ≡ tickets_to (run m settings measure (opening m s) events).asked

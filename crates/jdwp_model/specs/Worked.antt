@@ -1,10 +1,10 @@
 -- Sessions that are worked out by hand: what happens to the link, and what is told of it and left of it.
-use Rattle.std.specs.Prelude.{◌≡◌, ℕ, pos, negsuc, true, false, List, [], ◌∷◌, ◌++◌, Option, Some, None}
+use Rattle.std.specs.Prelude.{◌≡◌, ℕ, zero, suc, pos, negsuc, true, false, List, [], ◌∷◌, ◌++◌, Option, Some, None}
 use Rattle.jdwp_wire.specs.ErrorCodes.{INVALID_THREAD}
 use Rattle.jdwp_wire.specs.Limits.{standard_limits}
 use Rattle.jdwp_layout.specs.declared.answer.Answer.TheVariants.{Data, Error}
-use Rattle.jdwp_layout.specs.CommandNumbers.{CommandNumber, ALL_THREADS, SUSPEND, RESUME, HOLD_EVENTS, RELEASE_EVENTS, RESUME_THREAD, FRAMES, SUSPEND_COUNT, SET_REQUEST, CLEAR_REQUEST}
-use Rattle.jdwp_layout.specs.Meanings.{ScalarMeaning, Byte, Int, Object, Located, DatumMeaning, One, Many}
+use Rattle.jdwp_layout.specs.CommandNumbers.{CommandNumber, SIGNATURE, CLASS_STATUS, INTERFACES, ALL_THREADS, SUSPEND, RESUME, HOLD_EVENTS, RELEASE_EVENTS, RESUME_THREAD, FRAMES, SUSPEND_COUNT, SET_REQUEST, CLEAR_REQUEST}
+use Rattle.jdwp_layout.specs.Meanings.{ScalarMeaning, Byte, Int, Object, ReferenceType, Located, DatumMeaning, One, Many}
 use Rattle.jdwp_end.specs.declared.phase.Phase.TheVariants.{Closed, Established}
 use Rattle.jdwp_event.specs.Composites.{CompositeMeaning, vm_start}
 use Rattle.jdwp_event.specs.Modifiers.{Count, LocationOnly}
@@ -17,6 +17,7 @@ use Rattle.jdwp_model.specs.Events
 use Rattle.jdwp_model.specs.Events.{LinkEvent, Outcome}
 use Rattle.jdwp_model.specs.World.{World, way_to_debugger}
 use Rattle.jdwp_model.specs.Lasting.{IsLasting}
+use Rattle.jdwp_model.specs.Tickets.{settled, tickets}
 use Rattle.jdwp_model.specs.Next.{run, outcomes, messages_of}
 use Rattle.jdwp_model.specs.Seen.{mirror_count, mirror_held, mirror_requests}
 use Rattle.jdwp_model.specs.WorkedMachine.{Small, small, settings, measure, before, location, one_frame}
@@ -28,6 +29,9 @@ command c content = record { set = c.set; number = c.number; carried = Content c
 
 abbrev pub of_thread : CommandNumber → ℕ → Command
 of_thread c t = command c (One (Object t) ∷ [])
+
+abbrev pub of_class : CommandNumber → ℕ → Command
+of_class c id = command c (One (ReferenceType id) ∷ [])
 
 -- ---- events
 
@@ -267,3 +271,42 @@ pub record DiesAsWorked : Type 0 where
   pub forgotten : mirror_count (after asked_of).read 2 ≡ None
   pub is_told : told_outcomes asked_of ≡ begun ∷ Events.Asked 1 ∷ Events.Answered 1 (int_answer 1) ∷ Events.Seen death ∷ Events.Asked 2 ∷ Events.Answered 2 done
       ∷ Events.Asked 3 ∷ Events.Answered 3 (Error INVALID_THREAD) ∷ []
+
+-- ---- deferred commands: the last is answered first, over the debuggee as it is then; those that a loss drops are never answered
+
+-- Signature, Status and Interfaces of a class are deferred, and AllThreads, which was asked last, is answered at once
+abbrev pub three_deferred : List LinkEvent
+three_deferred =
+    greeted ++ Events.Defer true ∷ Events.Ask (of_class SIGNATURE 10) ∷ Events.Ask (of_class CLASS_STATUS 10) ∷ Events.Ask (of_class INTERFACES 10)
+    ∷ Events.Ask (command ALL_THREADS []) ∷ to_target ∷ Events.TargetTurn ∷ Events.TargetTurn ∷ Events.TargetTurn ∷ Events.TargetTurn ∷ []
+
+abbrev pub four_turns : List LinkEvent
+four_turns = to_debugger ∷ Events.DebuggerTurn ∷ Events.DebuggerTurn ∷ Events.DebuggerTurn ∷ Events.DebuggerTurn ∷ []
+
+-- at place 3 there is none
+abbrev pub three_released : List LinkEvent
+three_released = three_deferred ++ (Events.Release 3 ∷ Events.Release 2 ∷ Events.Release 1 ∷ Events.Release 0 ∷ four_turns)
+
+abbrev pub middle_released : List LinkEvent
+middle_released = three_deferred ++ (Events.Release 1 ∷ four_turns)
+
+abbrev pub three_dropped : List LinkEvent
+three_dropped = three_deferred ++ (Events.TargetLoses ∷ Events.Release 0 ∷ four_turns)
+
+abbrev pub times_over : ℕ → LinkEvent → List LinkEvent
+times_over zero e = []
+times_over (suc n) e = e ∷ times_over n e
+
+abbrev pub seventeen_asked : List LinkEvent
+seventeen_asked =
+    greeted ++ (Events.Defer true ∷ times_over 17 (Events.Ask (of_class SIGNATURE 10)) ++ (to_target ∷ times_over 17 Events.TargetTurn ++ to_debugger ∷ Events.DebuggerTurn ∷ []))
+
+pub record DefersAsWorked : Type 0 where
+  pub are_deferred : tickets (after three_deferred).deferred ≡ 1 ∷ 2 ∷ 3 ∷ []
+  pub one_answered : settled (told_outcomes (three_deferred ++ four_turns)) ≡ 4 ∷ []
+  pub released : (settled (told_outcomes three_released) ≡ 4 ∷ 3 ∷ 2 ∷ 1 ∷ []) × ((after three_released).deferred ≡ []) × ((after three_released).pending ≡ [])
+  pub moved_up : (settled (told_outcomes middle_released) ≡ 4 ∷ 2 ∷ []) × (tickets (after middle_released).deferred ≡ 1 ∷ 3 ∷ [])
+  pub dropped : (settled (told_outcomes three_dropped) ≡ 4 ∷ []) × ((after three_dropped).deferred ≡ []) × (tickets (after three_dropped).pending ≡ 1 ∷ 2 ∷ 3 ∷ [])
+  pub never_answered : settled (told_outcomes (three_dropped ++ Events.DebuggerLoses ∷ [])) ≡ 4 ∷ 1 ∷ 2 ∷ 3 ∷ []
+  pub mark_stays : (after (three_dropped ++ (Events.DebuggerLoses ∷ greeted))).deferring ≡ true
+  pub last_at_once : settled (told_outcomes seventeen_asked) ≡ 17 ∷ []

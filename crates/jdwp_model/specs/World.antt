@@ -36,6 +36,9 @@ pub record World (S : Type 0) : Type 0 where
   -- how many bytes of it came to the other end
   pub at_target : ℕ
   pub at_debugger : ℕ
+  -- the commands that the target took and will answer later, the one deferred longest first; whether it defers those that may be
+  pub deferred : List (Ticket × Command)
+  pub deferring : Bool
   -- the debugger's end; whether it knows the widths of ids; the composites that wait for them, in order
   pub debugger : Phase
   pub ready : Bool
@@ -74,6 +77,8 @@ opening m s = record {
   to_debugger = [];
   at_target = 0;
   at_debugger = 0;
+  deferred = [];
+  deferring = false;
   debugger = Closed;
   ready = false;
   parked = [];

@@ -2,10 +2,11 @@
 ghost use Rattle.jdwp_model.specs.Headline.{Always, KnowsAndHolds, HasTheCounts, HasTheRequests, HeldIsSuspended, HeldIsCovered, CountIsAtMost};
 ghost use Rattle.jdwp_model.specs.Tickets.{SettlesOnce, SettlesInOrder};
 ghost use Rattle.jdwp_model.specs.Given.{TellsWhatWasGiven, GivesOnce};
-ghost use Rattle.jdwp_model.specs.Faultless.{NoPacketIsRefused, NoCallIsRefused, AnswersOneWaiting, AnswersFirstWaiting, FewWait, TurnsLoseNothing, TurnsCloseAtEnds, IdlesUnchanged, AtEachTurn};
+ghost use Rattle.jdwp_model.specs.Faultless.{NoPacketIsRefused, NoCallIsRefused, AnswersOneWaiting, AnswersFirstWaiting, AlwaysUndeferred, FewWait, TurnsLoseNothing, TurnsCloseAtEnds, IdlesUnchanged, AtEachTurn};
 ghost use Rattle.jdwp_model.specs.Lasting.{AlwaysStaysTrue};
 ghost use Rattle.jdwp_model.specs.Soundness.{AlwaysStandsSoundly};
 ghost use Rattle.jdwp_model.specs.Places.{EachAtOnePlace};
+ghost use Rattle.jdwp_model.specs.Deferred.{DefersFew};
 
 use crate::rests::rests_on_laws;
 use jdwp_machine::Machine;
@@ -50,15 +51,16 @@ pub fn settles_each_command_once<M: Machine>()
     rests_on_laws::<M>();
 }
 
-/// Commands are settled in the order asked: those that are settled and then those that wait are all that were asked, in their order.
+/// As long as no target begins to defer replies, commands are settled in the order asked: those that are settled and then those that
+/// wait are all that were asked, in their order.
 pub fn settles_in_order<M: Machine>()
     ensures { SettlesInOrder M.meaning }
 {
     rests_on_laws::<M>();
 }
 
-/// Each answer that the debugger tells of a ticket is the one that the target gave to that same ticket, when it handled its command:
-/// the only one, since the target gives no ticket two answers.
+/// Each answer that the debugger tells of a ticket is the one that the target gave to that same ticket when it carried out its command,
+/// as it handled it, or, where it deferred it, as it released it: the only one, since the target gives no ticket two answers.
 pub fn tells_what_was_given<M: Machine>()
     ensures told { TellsWhatWasGiven M.meaning }
     ensures once { GivesOnce M.meaning }
@@ -77,8 +79,8 @@ pub fn meets_no_fault<M: Machine>()
     rests_on_laws::<M>();
 }
 
-/// A reply that the debugger reads next is to one command that waits, under its ticket; and no two commands under way, or whose replies
-/// are, have the same ticket.
+/// A reply that the debugger reads next is to one command that waits, under its ticket; and no two commands that are under way, or are
+/// deferred, or whose replies are under way, have the same ticket.
 pub fn answers_one_that_waits<M: Machine>()
     ensures one { Always M.meaning AnswersOneWaiting }
     ensures places { Always M.meaning EachAtOnePlace }
@@ -86,9 +88,17 @@ pub fn answers_one_that_waits<M: Machine>()
     rests_on_laws::<M>();
 }
 
-/// A reply that the debugger reads next is to the command that waits longest.
+/// As long as no target begins to defer replies, a reply that the debugger reads next is to the command that waits longest.
 pub fn answers_the_first_waiting<M: Machine>()
-    ensures { Always M.meaning AnswersFirstWaiting }
+    ensures { AlwaysUndeferred M.meaning AnswersFirstWaiting }
+{
+    rests_on_laws::<M>();
+}
+
+/// A target defers at most 16 commands at a time, all of them of the sets ReferenceType and Method, and none but in an established
+/// session.
+pub fn defers_few_commands<M: Machine>()
+    ensures { Always M.meaning DefersFew }
 {
     rests_on_laws::<M>();
 }
@@ -105,7 +115,8 @@ pub fn turns_close_at_ends_alone<M: Machine>()
     rests_on_laws::<M>();
 }
 
-/// A turn that handles no message and a step that is not made leave everything as it was, and nothing is told of them.
+/// A turn that handles no message, a release that answers no command and a step that is not made leave everything as it was, and
+/// nothing is told of them.
 pub fn idle_turns_change_nothing<M: Machine>()
     ensures { AtEachTurn M.meaning (IdlesUnchanged M.meaning) }
 {

@@ -1,5 +1,5 @@
 //! Sessions that were worked out by hand, over a machine of two threads: the definitions give what was worked out.
-ghost use Rattle.jdwp_model.specs.Worked.{CountsAsWorked, EndsAsWorked, CrossesAsWorked, LastsAsWorked, LosesAsWorked, LosesFirstAsWorked, HoldsAsWorked, DiesAsWorked};
+ghost use Rattle.jdwp_model.specs.Worked.{CountsAsWorked, EndsAsWorked, CrossesAsWorked, LastsAsWorked, LosesAsWorked, LosesFirstAsWorked, HoldsAsWorked, DiesAsWorked, DefersAsWorked};
 ghost use Rattle.jdwp_machine.specs.Laws.{IsLawful};
 ghost use Rattle.jdwp_model.specs.Headline.{MayBegin};
 ghost use Rattle.jdwp_model.specs.WorkedMachine.{small, small_opening, settings};
@@ -49,4 +49,10 @@ pub fn held_events_stop_threads()
 /// A thread whose death was reported is held until it is resumed; then it ends, and the debugger learns of it by an error.
 pub fn reported_death_holds_until_resume()
     ensures { DiesAsWorked }
+{}
+
+/// Three commands that are deferred are answered after a fourth, the last one first; those that a loss drops are never answered; and of
+/// seventeen the last is answered at once.
+pub fn deferred_commands_are_answered_in_any_order()
+    ensures { DefersAsWorked }
 {}

@@ -38,17 +38,20 @@ refusal_in (outcome.Seen composite ∷ outcomes) = refusal_in outcomes
 abbrev pub piece : ℕ
 piece = 4096
 
--- What happens in a round beside its line: bytes come to an end, an end handles what is in front of it, a thread makes a step.
+-- What happens in a round beside its line: bytes come to an end, an end handles what is in front of it, a deferred command is answered, a
+-- thread makes a step.
 abbrev pub IsOfRound : LinkEvent → Type 0
 IsOfRound (Events.ToTarget count) = count ≤ piece
 IsOfRound (Events.ToDebugger count) = count ≤ piece
 IsOfRound Events.TargetTurn = Unit {0}
 IsOfRound Events.DebuggerTurn = Unit {0}
 IsOfRound (Events.Step thread) = Unit {0}
+IsOfRound (Events.Release place) = Unit {0}
 IsOfRound Events.Attach = ⊥
 IsOfRound (Events.Ask command) = ⊥
 IsOfRound Events.TargetLoses = ⊥
 IsOfRound Events.DebuggerLoses = ⊥
+IsOfRound (Events.Defer deferring) = ⊥
 
 -- an end notices that the connection is lost
 abbrev pub IsLoss : LinkEvent → Type 0
@@ -61,6 +64,8 @@ IsLoss (Events.ToDebugger count) = ⊥
 IsLoss Events.TargetTurn = ⊥
 IsLoss Events.DebuggerTurn = ⊥
 IsLoss (Events.Step thread) = ⊥
+IsLoss (Events.Release place) = ⊥
+IsLoss (Events.Defer deferring) = ⊥
 
 -- ---- what events lead to
 

@@ -10,7 +10,7 @@ use Rattle.jdwp_debugger.specs.declared.asking.Refused.{Refused}
 use Rattle.jdwp_debugger.specs.declared.asking.Refused.TheVariants as refusal
 use Rattle.jdwp_debugger.specs.Debuggers.{has_tickets}
 use Rattle.jdwp_debugger.specs.RefusedNumbers.{refused_number}
-use Rattle.jdwp_model.specs.Events.{LinkEvent, Attach, Ask, DebuggerTurn, TargetLoses, DebuggerLoses}
+use Rattle.jdwp_model.specs.Events.{LinkEvent, Attach, Ask, DebuggerTurn, Defer, TargetLoses, DebuggerLoses}
 use Rattle.jdwp_link.specs.declared.events.Outcome.{Outcome}
 use Rattle.jdwp_link.specs.Clauses.{Ran}
 use Rattle.jdwp_link.specs.Links.{Link, new_link}
@@ -151,9 +151,10 @@ pub record Ends {S : Type 0} (m : Meaning S) (plan : List PlanLine) (first : Lin
 abbrev pub Pairs : {S : Type 0} → Meaning S → List PlanLine → PairEnded → Link S → Link S → Type 0
 Pairs {S} m plan ended old new = (first : Link S) × Happens m Attach old first × Ends m plan first ended new
 
--- a run of a plan, of a link before its first session
-abbrev pub PairsNew : {S : Type 0} → Meaning S → Settings → S → List PlanLine → PairEnded → Type 0
-PairsNew {S} m settings machine plan ended = (new : Link S) × Pairs m plan ended (new_link settings (record { state = new_state (m.live machine); machine = machine })) new
+-- a run of a plan, of a link before its first session, whose target defers replies from the beginning or answers each command at once
+abbrev pub PairsNew : {S : Type 0} → Meaning S → Settings → Bool → S → List PlanLine → PairEnded → Type 0
+PairsNew {S} m settings defer machine plan ended =
+    (begun : Link S) × (new : Link S) × Happens m (Defer defer) (new_link settings (record { state = new_state (m.live machine); machine = machine })) begun × Pairs m plan ended begun new
 
 -- how a run ends whose last flush failed: a refusal is told as one, and so is a connection that failed
 abbrev pub unflushed_end : PairEnded → PairEnded

@@ -9,8 +9,7 @@ ghost use Rattle.jdwp_pair.specs.PlanRuns.{AsksFor, EndsAsking, command_by};
 use crate::connection::Connection;
 use crate::ended::PairEnded;
 use crate::happening::happen;
-use crate::run::{Run, Waiting};
-use jdwp_debugger::{Command, Refused, Ticket};
+use jdwp_debugger::{Command, Refused};
 use jdwp_layout::{layout_of, read};
 use jdwp_link::{Link, LinkEvent, Outcome};
 use jdwp_machine::Machine;
@@ -51,7 +50,6 @@ pub(crate) fn ask_line<M: Machine + Drop, C: Connection>(
     alloc: Global,
     link: &mut Link<M>,
     connection: &mut C,
-    run: &mut Run,
     place: usize,
     asked: Asked<'_>,
 ) -> Result<(), PairEnded>
@@ -62,8 +60,6 @@ pub(crate) fn ask_line<M: Machine + Drop, C: Connection>(
     ensures ends { IfErr result (λ ended.
         EndsAsking M.meaning (command_by link.old.debugger.sizes asked.entry.set asked.entry.number
         asked.entry.data.now) place ended link.old link.new) }
-    ensures carried { run.new.carried ≡ run.old.carried }
-    ensures composites { run.new.composites ≡ run.old.composites }
     ensures failed { is_some (C.failed_by connection.new) ≡ disconnects result }
 {
     let (set, number) = (asked.set, asked.number);
@@ -72,21 +68,11 @@ pub(crate) fn ask_line<M: Machine + Drop, C: Connection>(
         Err(Unread::NoMemory) => return Err(PairEnded::NoMemory),
         Err(Unread::BadData) => return Err(refused_at(place, Refused::BadCommand)),
     };
-    if run.waiting.reserve(1).is_err() {
-        return Err(PairEnded::NoMemory);
-    }
     let outcomes = happen(link, connection, LinkEvent::Ask(command))?;
-    if let Some(refused) = refusal_in(&outcomes) {
-        return Err(refused_at(place, refused));
+    match refusal_in(&outcomes) {
+        Some(refused) => Err(refused_at(place, refused)),
+        None => Ok(()),
     }
-    if let Some(ticket) = ticket_in(&outcomes) {
-        run.waiting.push_reserved(Waiting {
-            ticket,
-            set,
-            number,
-        });
-    }
-    Ok(())
 }
 
 /// How the run ends at a command that was refused, of the line at this place.
@@ -141,14 +127,4 @@ fn refusal_in(outcomes: &[Outcome]) -> Option<Refused>
         [Outcome::Refused(refused), ..] => Some(*refused),
         [_, rest @ ..] => refusal_in(rest),
     }
-}
-
-/// The ticket under which a command was asked.
-fn ticket_in(outcomes: &[Outcome]) -> Option<Ticket> {
-    for outcome in outcomes {
-        if let Outcome::Asked(ticket) = outcome {
-            return Some(*ticket);
-        }
-    }
-    None
 }

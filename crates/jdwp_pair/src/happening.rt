@@ -58,6 +58,17 @@ pub(crate) fn act<M: Machine + Drop, C: Connection>(
     happen(link, connection, event)
 }
 
+/// From now on the target defers the replies that may come later, or it defers none.
+pub(crate) fn set_deferring<M: Machine + Drop>(link: &mut Link<M>, deferring: bool)
+    ensures { Happens M.meaning (events.Defer deferring) link.old link.new }
+{
+    let events = [LinkEvent::Defer(deferring)];
+    match link.run(&events) {
+        Ok(_) => {}
+        Err(_) => unreachable!(),
+    }
+}
+
 /// A session begins, where it may: on a new connection.
 ///
 /// # Errors

@@ -99,12 +99,12 @@ fn carry_out<M: Machine + Drop, C: Connection, W: Pipe>(
                 number: *number,
                 data,
             };
-            ask_line(alloc, link, connection, run, place, asked)
+            ask_line(alloc, link, connection, place, asked)
         }
         PlanLine::Answers | PlanLine::Events(_) => Ok(()),
         PlanLine::Mirror => tell_mirror(alloc, link.debugger(), out),
         PlanLine::LoseTarget => lose_target(link, connection),
-        PlanLine::LoseDebugger => lose_debugger(alloc, link, connection, out, run),
+        PlanLine::LoseDebugger => lose_debugger(alloc, link, connection, out),
         PlanLine::Attach => {
             attach(link, connection)?;
             run.composites = 0;

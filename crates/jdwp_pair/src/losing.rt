@@ -8,7 +8,6 @@ ghost use Rattle.jdwp_pair.specs.PlanRuns.{EndsLosing};
 use crate::connection::Connection;
 use crate::ended::PairEnded;
 use crate::happening::happen;
-use crate::run::Run;
 use crate::telling::tell_lost;
 use jdwp_link::{Link, LinkEvent, Side};
 use jdwp_machine::Machine;
@@ -42,18 +41,15 @@ pub(crate) fn lose_debugger<M: Machine + Drop, C: Connection, W: Pipe>(
     link: &mut Link<M>,
     connection: &mut C,
     out: &mut W,
-    run: &mut Run,
 ) -> Result<(), PairEnded>
     ensures loses { OnOk result (Happens M.meaning events.DebuggerLoses link.old link.new) }
     ensures ends { IfErr result EndsLosing }
     ensures lost { MayLose M.meaning link.old link.new }
-    ensures carried { run.new.carried ≡ run.old.carried }
-    ensures composites { run.new.composites ≡ run.old.composites }
     ensures failed { is_some (C.failed_by connection.new) ≡ disconnects result }
 {
     let outcomes = happen(link, connection, LinkEvent::DebuggerLoses)?;
     connection.lose(Side::Debugger);
-    tell_lost(alloc, &outcomes, out, &mut run.waiting)
+    tell_lost(alloc, &outcomes, out)
 }
 
 /// The debugger notices that the connection is lost, and then the target.
@@ -65,13 +61,12 @@ pub(crate) fn lose_both<M: Machine + Drop, C: Connection, W: Pipe>(
     link: &mut Link<M>,
     connection: &mut C,
     out: &mut W,
-    run: &mut Run,
 ) -> Result<(), PairEnded>
     ensures loses { OnOk result (LosesBoth M.meaning link.old link.new) }
     ensures ends { IfErr result EndsLosing }
     ensures lost { MayLose M.meaning link.old link.new }
     ensures failed { is_some (C.failed_by connection.new) ≡ disconnects result }
 {
-    lose_debugger(alloc, link, connection, out, run)?;
+    lose_debugger(alloc, link, connection, out)?;
     lose_target(link, connection)
 }

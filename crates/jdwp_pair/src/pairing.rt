@@ -13,12 +13,12 @@ ghost use Rattle.jdwp_pair.specs.PlanRuns.{EndsMoving, EndsSo, FinishesSo, GoesO
 
 use crate::connection::Connection;
 use crate::ended::PairEnded;
-use crate::happening::attach;
+use crate::happening::{attach, set_deferring};
 use crate::lines::{is_finished, next_line};
 use crate::losing::lose_both;
 use crate::parts::{run_debugger, run_target};
 use crate::run::Run;
-use crate::stepping::step_each;
+use crate::stepping::release_or_step;
 use jdwp_debuggee::Settings;
 use jdwp_link::Link;
 use jdwp_machine::Machine;
@@ -30,7 +30,8 @@ use jdwp_wire::NoMemory;
 use std::alloc::Global;
 
 /// Runs a new target over the machine of this script and a new debugger by the plan for at most so many rounds, as `pair` does. As many
-/// threads may live at the beginning as the limits of the settings have live threads.
+/// threads may live at the beginning as the limits of the settings have live threads. Where `defer` says so the target defers the replies to
+/// commands of the sets ReferenceType and Method, at most 16 at a time, in each session.
 ///
 /// # Errors
 /// The first fault of the script, or `NoMemory` where an allocation was refused; and then nothing was printed.
@@ -38,6 +39,7 @@ pub fn pair_script<C: Connection, W: Pipe>(
     alloc: Global,
     script: &str,
     settings: Settings,
+    defer: bool,
     connection: &mut C,
     plan: &[PlanLine],
     out: &mut W,
@@ -45,7 +47,7 @@ pub fn pair_script<C: Connection, W: Pipe>(
 ) -> Result<PairEnded, ScriptFault>
     ensures paired { IfOk result (λ ended. (machine : State)
         × (read_machine settings.limits.live script.now ≡ Ok machine)
-        × PairsNew script_meaning settings machine plan.now ended) }
+        × PairsNew script_meaning settings defer machine plan.now ended) }
     ensures failed { IfOk result (λ ended. is_some (C.failed_by connection.new)
         ≡ is_disconnected ended) }
     ensures fault { IfErr result (λ fault. (fault ≡ ScriptFault.NoMemory)
@@ -53,12 +55,15 @@ pub fn pair_script<C: Connection, W: Pipe>(
     ensures unprinted { OnErr result (out.new ≡ out.old) }
 {
     let machine = ScriptMachine::read_with(alloc, script, &settings.limits())?;
-    let ended = pair_session(alloc, machine, settings, connection, plan, out, rounds)?;
+    let ended = pair_session(
+        alloc, machine, settings, defer, connection, plan, out, rounds,
+    )?;
     Ok(ended)
 }
 
 /// Runs a new target over this machine and a new debugger by the plan for at most so many rounds, as `pair` does. The machine has 1 to
-/// `settings.limits().live()` live threads.
+/// `settings.limits().live()` live threads. Where `defer` says so the target defers the replies to commands of the sets ReferenceType and
+/// Method, at most 16 at a time, in each session.
 ///
 /// # Errors
 /// `NoMemory`, and then nothing was printed.
@@ -66,18 +71,20 @@ pub fn pair_session<M: Machine + Drop, C: Connection, W: Pipe>(
     alloc: Global,
     machine: M,
     settings: Settings,
+    defer: bool,
     connection: &mut C,
     plan: &[PlanLine],
     out: &mut W,
     rounds: u32,
 ) -> Result<PairEnded, NoMemory>
     requires { LivesWithin M.meaning settings.limits machine }
-    ensures paired { IfOk result (PairsNew M.meaning settings machine plan.now) }
+    ensures paired { IfOk result (PairsNew M.meaning settings defer machine plan.now) }
     ensures failed { IfOk result (λ ended. is_some (C.failed_by connection.new)
         ≡ is_disconnected ended) }
     ensures unprinted { OnErr result (out.new ≡ out.old) }
 {
     let mut link = Link::with_settings(alloc, machine, settings)?;
+    set_deferring(&mut link, defer);
     Ok(pair(alloc, &mut link, connection, plan, out, u64::from(rounds)))
 }
 
@@ -86,9 +93,10 @@ pub fn pair_session<M: Machine + Drop, C: Connection, W: Pipe>(
 ///
 /// It begins with a session (`Attach`), which changes nothing where an end is open, tickets wait or the machine is dead; then the run goes on
 /// with what there is. In a round the next line of the plan is carried out, if it can be; all bytes come to the target, and it
-/// turns until it handles nothing; where it handled nothing in this round, each live thread makes a step, by rising id; and all bytes come to
-/// the debugger, which turns until it handles nothing. Bytes come by at most 4,096 at once. What the debugger reads is printed to `out` in the
-/// lines of `show`, and `lost TICKET` for each ticket that is lost.
+/// turns until it handles nothing; where it handled nothing in this round, the newest of the commands that it defers is released, or where it
+/// defers none each live thread makes a step, by rising id; and all bytes come to the debugger, which turns until it handles nothing. Bytes
+/// come by at most 4,096 at once. What the debugger reads is printed to `out` in the lines of `show`, and `lost TICKET` for each ticket that
+/// is lost.
 ///
 /// No line is carried out before the widths of ids are known for the first time. Then `ask` asks a command at once, but waits where a session
 /// began and they are not known yet; `answers` waits until no command waits for its answer, `events` until so many composites were read in
@@ -150,7 +158,6 @@ fn run_plan<M: Machine + Drop, C: Connection, W: Pipe>(
         carried: 0,
         begun: false,
         composites: 0,
-        waiting: Vec::new(alloc),
     };
     if let Err(ended) = attach(link, connection) {
         return ended;
@@ -158,7 +165,7 @@ fn run_plan<M: Machine + Drop, C: Connection, W: Pipe>(
     if let Err(ended) = run_rounds(alloc, link, connection, plan, out, &mut run, rounds) {
         return ended;
     }
-    match lose_both(alloc, link, connection, out, &mut run) {
+    match lose_both(alloc, link, connection, out) {
         Ok(()) => PairEnded::Done,
         Err(ended) => ended,
     }
@@ -197,7 +204,7 @@ fn run_rounds<M: Machine + Drop, C: Connection, W: Pipe>(
     Err(PairEnded::TurnLimit)
 }
 
-/// One round. Whether something happened: a line was carried out, an end handled a message, or a thread made a step.
+/// One round. Whether something happened: a line was carried out, an end handled a message, a command was released, or a thread made a step.
 ///
 /// # Errors
 /// Why the run ends.
@@ -233,7 +240,8 @@ fn round<M: Machine + Drop, C: Connection, W: Pipe>(
     }
 }
 
-/// All bytes under way come to the target, and it handles them; where it handled nothing, each live thread makes a step. Whether something was done.
+/// All bytes under way come to the target, and it handles them; where it handled nothing, the newest deferred command is released, or each
+/// live thread makes a step. Whether something was done.
 ///
 /// # Errors
 /// `NoMemory` where an allocation was refused; `LostConnection`.
@@ -249,5 +257,5 @@ fn run_machine<M: Machine + Drop, C: Connection>(
     if run_target(link, connection)? {
         return Ok(true);
     }
-    step_each(link, connection)
+    release_or_step(link, connection)
 }

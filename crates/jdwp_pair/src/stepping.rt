@@ -1,4 +1,4 @@
-//! Steps of threads.
+//! Releases of deferred commands, and steps of threads.
 ghost use Rattle.std.specs.Prelude.{◌≡◌, true, false, IfErr, IfSome, is_some};
 ghost use Rattle.jdwp_engine.specs.Rounds.{id_in, is_above};
 ghost use Rattle.jdwp_pair.specs.Connections.{disconnects};
@@ -12,12 +12,34 @@ use jdwp_link::{Link, LinkEvent};
 use jdwp_machine::Machine;
 use jdwp_value::ObjectId;
 
+/// The newest of the commands that the target defers is released; where it defers none, each live thread makes a step. Whether something was
+/// done.
+///
+/// # Errors
+/// `NoMemory` where the release or a step wanted memory, and `LostConnection`.
+pub(crate) fn release_or_step<M: Machine + Drop, C: Connection>(
+    link: &mut Link<M>,
+    connection: &mut C,
+) -> Result<bool, PairEnded>
+    requires { is_some (C.failed_by connection.old) ≡ false }
+    ensures moves { Moves M.meaning link.old link.new }
+    ensures ends { IfErr result EndsMoving }
+    ensures failed { is_some (C.failed_by connection.new) ≡ disconnects result }
+{
+    let deferred = link.target().deferred();
+    if deferred == 0 {
+        return step_each(link, connection);
+    }
+    act(link, connection, LinkEvent::Release(deferred - 1))?;
+    Ok(link.did())
+}
+
 /// One step of each live thread, by rising id, and whether one of them stepped. Threads that a step starts are among them where their
 /// ids are higher.
 ///
 /// # Errors
 /// `NoMemory` where a step wanted memory, and `LostConnection`; those of lower ids were made.
-pub(crate) fn step_each<M: Machine + Drop, C: Connection>(
+fn step_each<M: Machine + Drop, C: Connection>(
     link: &mut Link<M>,
     connection: &mut C,
 ) -> Result<bool, PairEnded>

@@ -1,16 +1,15 @@
 //! What is told of what the debugger read.
-ghost use Rattle.std.specs.Prelude.{◌≡◌, ◌≤◌, ◌<◌, ◌+◌, IfErr, IfSome, length};
+ghost use Rattle.std.specs.Prelude.{◌≡◌, ◌≤◌, ◌+◌, IfErr};
 ghost use Rattle.jdwp_pair.specs.Events.{is_seen, seen_in};
 ghost use Rattle.jdwp_pair.specs.PlanRuns.{EndsTelling};
 
 use crate::ended::PairEnded;
-use crate::run::{Run, Waiting};
+use crate::run::Run;
 use jdwp_debugger::{Debugger, Head, Ticket};
-use jdwp_layout::Answer;
 use jdwp_link::Outcome;
 use jdwp_pipe::{Pipe, write_all};
 use jdwp_tell::{answered_line, hello_line, mirror_text, seen_line, sizes_line};
-use jdwp_wire::{Header, IdSizes, NoMemory, PacketKind};
+use jdwp_wire::{IdSizes, NoMemory};
 use std::alloc::Global;
 
 /// Prints what is told of a turn of the debugger, and of the tickets that are lost with it, and counts the composites that were read.
@@ -28,7 +27,7 @@ pub(crate) fn tell_turn<W: Pipe>(
     ensures carried { run.new.carried ≡ run.old.carried }
     ensures ends { IfErr result EndsTelling }
 {
-    match turn_text(alloc, debugger, outcomes, &run.waiting) {
+    match turn_text(alloc, debugger, outcomes) {
         Ok(text) => {
             if let Err(ended) = print(out, &text) {
                 return Err(ended);
@@ -37,7 +36,7 @@ pub(crate) fn tell_turn<W: Pipe>(
         Err(NoMemory) => return Err(PairEnded::NoMemory),
     }
     run.composites = run.composites.saturating_add(seen_in(outcomes));
-    tell_lost(alloc, outcomes, out, &mut run.waiting)
+    tell_lost(alloc, outcomes, out)
 }
 
 /// How many composites are told of.
@@ -63,7 +62,7 @@ fn is_seen(outcome: &Outcome) -> bool
     }
 }
 
-/// Prints the tickets that are lost. Commands that are answered or lost wait no more.
+/// Prints the tickets that are lost.
 ///
 /// # Errors
 /// `LostByWrite` where a write failed; `NoMemory` where an allocation was refused.
@@ -71,20 +70,17 @@ pub(crate) fn tell_lost<W: Pipe>(
     alloc: Global,
     outcomes: &[Outcome],
     out: &mut W,
-    waiting: &mut Vec<Waiting>,
 ) -> Result<(), PairEnded>
     ensures { IfErr result EndsTelling }
 {
     for outcome in outcomes {
         match outcome {
-            Outcome::Answered(ticket, _) => forget(waiting, *ticket),
             Outcome::Lost(ticket) => {
-                forget(waiting, *ticket);
                 if let Err(ended) = print_lost(alloc, *ticket, out) {
                     return Err(ended);
                 }
             }
-            Outcome::Asked(_) | Outcome::Refused(_) | Outcome::Seen(_) => {}
+            Outcome::Asked(_) | Outcome::Refused(_) | Outcome::Answered(..) | Outcome::Seen(_) => {}
         }
     }
     Ok(())
@@ -129,75 +125,41 @@ fn print<W: Pipe>(out: &mut W, text: &str) -> Result<(), PairEnded>
 }
 
 /// What is told of a turn that read these messages: each with what is told of it, one after the other.
-fn turn_text(
-    alloc: Global,
-    debugger: &Debugger,
-    outcomes: &[Outcome],
-    waiting: &[Waiting],
-) -> Result<String, NoMemory> {
+fn turn_text(alloc: Global, debugger: &Debugger, outcomes: &[Outcome]) -> Result<String, NoMemory> {
     let mut text = String::new(alloc);
     for (place, head) in debugger.last().iter().enumerate() {
-        let line = head_text(alloc, debugger, head, outcomes.get(place), waiting)?;
+        let line = head_text(alloc, debugger.sizes(), head, outcomes.get(place))?;
         text.push_str(&line)?;
     }
     Ok(text)
 }
 
-/// The line of a message with what is told of it.
+/// The line of a message with what is told of it. Nothing is told of a composite that waits for the widths of ids, nor of the reply that
+/// has them.
 fn head_text(
     alloc: Global,
-    debugger: &Debugger,
+    sizes: Option<IdSizes>,
     head: &Head,
     outcome: Option<&Outcome>,
-    waiting: &[Waiting],
 ) -> Result<String, NoMemory> {
-    match head {
-        Head::Hello => hello_line(alloc),
-        Head::Packet(header) => packet_text(alloc, debugger, header, outcome, waiting),
-    }
-}
-
-/// The line of a packet with what is told of it.
-fn packet_text(
-    alloc: Global,
-    debugger: &Debugger,
-    header: &Header,
-    outcome: Option<&Outcome>,
-    waiting: &[Waiting],
-) -> Result<String, NoMemory> {
-    match outcome {
-        Some(Outcome::Seen(composite)) => seen_line(alloc, header.id, composite),
-        Some(Outcome::Answered(ticket, answer)) => {
-            answer_text(alloc, header.id, *ticket, answer, waiting)
+    match (head, outcome) {
+        (Head::Hello, _) => hello_line(alloc),
+        (Head::Composite(header), Some(Outcome::Seen(composite))) => {
+            seen_line(alloc, header.id, composite)
         }
-        Some(Outcome::Asked(_) | Outcome::Refused(_) | Outcome::Lost(_)) | None => {
-            own_text(alloc, header, debugger.sizes())
-        }
-    }
-}
-
-/// The line of a packet of which nothing is told: a reply has the widths of ids, and a composite waits for them.
-fn own_text(alloc: Global, header: &Header, sizes: Option<IdSizes>) -> Result<String, NoMemory> {
-    match (header.kind, sizes) {
-        (PacketKind::Reply { .. }, Some(sizes)) => sizes_line(alloc, header.id, &sizes),
-        _ => Ok(String::new(alloc)),
-    }
-}
-
-/// The line of an answer, by the command that was asked under its ticket. What was asked before the run is not told.
-fn answer_text(
-    alloc: Global,
-    id: u32,
-    ticket: Ticket,
-    answer: &Answer,
-    waiting: &[Waiting],
-) -> Result<String, NoMemory> {
-    match place_of(waiting, ticket) {
-        Some(place) => {
-            let asked = waiting[place];
-            answered_line(alloc, id, asked.set, asked.number, answer)
-        }
-        None => Ok(String::new(alloc)),
+        (
+            Head::Reply {
+                header,
+                set,
+                number,
+            },
+            Some(Outcome::Answered(_, answer)),
+        ) => answered_line(alloc, header.id, *set, *number, answer),
+        (Head::Reply { header, .. }, _) => match sizes {
+            Some(sizes) => sizes_line(alloc, header.id, &sizes),
+            None => Ok(String::new(alloc)),
+        },
+        (Head::Composite(_), _) => Ok(String::new(alloc)),
     }
 }
 
@@ -206,18 +168,4 @@ fn lost_line(alloc: Global, ticket: Ticket) -> Result<String, NoMemory> {
     let number = ticket.0;
     let line = format!(in alloc; "lost {number}\n")?;
     Ok(line)
-}
-
-/// Takes the command under this ticket off those that wait.
-fn forget(waiting: &mut Vec<Waiting>, ticket: Ticket) {
-    if let Some(place) = place_of(waiting, ticket) {
-        let _ = waiting.remove(place);
-    }
-}
-
-/// The place of the command that was asked under this ticket.
-fn place_of(waiting: &[Waiting], ticket: Ticket) -> Option<usize>
-    ensures { IfSome result (λ place. place < length waiting.now) }
-{
-    waiting.iter().position(|one| one.ticket.0 == ticket.0)
 }

@@ -15,7 +15,7 @@ closed_by_loss m target (before, ran, kept, is) = rw is refl
 -- of a living machine
 closed_at_end : {S : Type 0} (m : Meaning S) (how : Ended) (start now : Story) (target : Target S) → MayEnd m how start now target → goes_on how ≡ true → is_open target.end ≡ false
 closed_at_end m ended.Done start now target (why, closed, kept, left) goes = closed
-closed_at_end m ended.LostByRead start now target (fails, front, is-lost, left) goes = closed_by_loss m target is-lost
+closed_at_end m ended.LostByRead start now target (fails, front, (before, ran, kept, rest, is), left) goes = closed_by_loss m target (before, ran, kept, is)
 closed_at_end m ended.LostByWrite start now target (fails, is-lost) goes = closed_by_loss m target is-lost
 closed_at_end m (ended.Refused number) start now target (front, is-lost, left) goes = closed_by_loss m target is-lost
 closed_at_end m ended.NoMemory start now target may goes = cc

@@ -25,11 +25,12 @@ use Rattle.jdwp_debuggee.specs.State.{Moment}
 use Rattle.jdwp_debuggee.specs.Steps.{start_event}
 use Rattle.jdwp_debuggee.specs.declared.command as code
 use Rattle.jdwp_target.specs.Standings.{carried_out}
-use Rattle.jdwp_target.specs.Targets.{Target}
+use Rattle.jdwp_target.specs.Deeds.{defers}
+use Rattle.jdwp_target.specs.Targets.{Target, full_standing}
 use Rattle.jdwp_target.specs.TurnParts.{IsRead}
 use Rattle.jdwp_target.specs.declared.turning.Came.TheVariants as came
 use Rattle.jdwp_target.specs.Sends.{IsEncoded}
-use Rattle.jdwp_target.specs.Turns.{EncodesByKind, EncodesFor, EncodesNext, EncodesStart}
+use Rattle.jdwp_target.specs.Turns.{EncodesByKind, EncodesFor, EncodesNext, EncodesStart, EncodesUnless}
 use Rattle.jdwp_target.proofs.RightTurns.{WasRead, asking-same, carried-shaken, was-read}
 
 -- ---- a command that is refused unread
@@ -97,9 +98,13 @@ carried-encoded m settings now w set number body a e shaken asked own =
 
 -- ---- by what there is to handle
 
-pub encodes-whole : {S : Type 0} (m : Meaning S) (v : Target S) (message : Message) (used : ℕ) → front_of v.end ≡ Whole message used → EncodesFor m v message
+pub encodes-whole : {S : Type 0} (m : Meaning S) (v : Target S) (message : Message) (used : ℕ) → front_of v.end ≡ Whole message used → defers (full_standing v) message ≡ false → EncodesFor m v message
     → EncodesNext m (front_of v.end) v
-encodes-whole m v message used front h = subst (λ (x : NextMessage). EncodesNext m x v) (sym front) h
+encodes-whole m v message used front at_once h = subst (λ (x : NextMessage). EncodesNext m x v) (sym front) (subst (λ (b : Bool). EncodesUnless m v message b) (sym at_once) h)
+
+-- nothing is sent for a command that is put off
+pub encodes-nothing : {S : Type 0} (m : Meaning S) (v : Target S) (message : Message) (used : ℕ) → front_of v.end ≡ Whole message used → defers (full_standing v) message ≡ true → EncodesNext m (front_of v.end) v
+encodes-nothing m v message used front deferred = subst (λ (x : NextMessage). EncodesNext m x v) (sym front) (subst (λ (b : Bool). EncodesUnless m v message b) (sym deferred) tt)
 
 -- VM_START, where the handshake is the first
 pub encodes-start : {S : Type 0} (m : Meaning S) (v : Target S) (b : Bool) → (b ≡ false → IsEncoded (m.sizes v.moment.machine) (Some (start_event v.settings v.moment.state))) → EncodesStart m v b

@@ -15,7 +15,9 @@ use Rattle.jdwp_action.specs.CommandReads.{command_read}
 use Rattle.jdwp_debuggee.specs.Effects.{Effect}
 use Rattle.jdwp_debuggee.specs.Settings.{Settings}
 use Rattle.jdwp_debuggee.specs.Steps.{Step, may_step, occurs}
-use Rattle.jdwp_target.specs.Standings.{Act, Handles, Steps, Loses, Standing, after, behind, established, handled, react, sent, carried_out, greets_by, handles, handles_packet, phase_after, replies_by, reports, steps_apart, steps_at, steps_by, steps_in_session}
+use Rattle.jdwp_debuggee.specs.Deferring.{released_at}
+use Rattle.jdwp_target.specs.Standings.{Act, Handles, Steps, Loses, Standing, behind, established, handled, react, carried_out, greets_by, handles, handles_packet, phase_after, replies_by, reports, steps_apart, steps_at, steps_by, steps_in_session}
+use Rattle.jdwp_target.specs.Deeds.{Deed, Does, FullStanding, Performance, Releases, SetsDeferring, acts_in, after, defers, handles_where, perform, releases_by, sent}
 
 -- ---- the phase after an act
 
@@ -76,15 +78,34 @@ act-waits m settings now (Handles message) e = absurd (no-wait _ (message-phase 
 act-waits m settings now (Steps t) e = step-by-waits m now t (may_step m settings now.moment t) e
 act-waits m settings now Loses e = absurd cc
 
-waits-before : {S : Type 0} (m : Meaning S) (settings : Settings) (now : Standing S) (acts : List Act) → (after m settings now acts).phase ≡ AwaitingHandshake → now.phase ≡ AwaitingHandshake
-waits-before m settings now [] e = e
-waits-before m settings now (act ∷ acts) e = (act-waits m settings now act (waits-before m settings (react m settings now act).after acts e)).0
+-- what a deed waits for, and sends
+abbrev Waits : {S : Type 0} → FullStanding S → Performance S → Type 0
+Waits now p = p.after.standing.phase ≡ AwaitingHandshake → (now.standing.phase ≡ AwaitingHandshake) × (p.sends ≡ [])
 
-pub waits-silent : {S : Type 0} (m : Meaning S) (settings : Settings) (now : Standing S) (acts : List Act) → (after m settings now acts).phase ≡ AwaitingHandshake → sent m settings now acts ≡ []
+where-waits : {S : Type 0} (m : Meaning S) (settings : Settings) (now : FullStanding S) (message : Message) (b : Bool) → Waits now (handles_where m settings now message b)
+where-waits m settings now message true e = (e, refl)
+where-waits m settings now message false e = act-waits m settings now.standing (Handles message) e
+
+released-waits : {S : Type 0} (m : Meaning S) (settings : Settings) (now : FullStanding S) (o : Option (Message × List Message)) → Waits now (releases_by m settings now o)
+released-waits m settings now None e = (e, refl)
+released-waits m settings now (Some (message, others)) e = act-waits m settings now.standing (Handles message) e
+
+deed-waits : {S : Type 0} (m : Meaning S) (settings : Settings) (now : FullStanding S) (deed : Deed) → Waits now (perform m settings now deed)
+deed-waits m settings now (Does (Handles message)) e = where-waits m settings now message (defers now message) e
+deed-waits m settings now (Does (Steps t)) e = act-waits m settings now.standing (Steps t) e
+deed-waits m settings now (Does Loses) e = act-waits m settings now.standing Loses e
+deed-waits m settings now (SetsDeferring deferring) e = (e, refl)
+deed-waits m settings now (Releases place) e = released-waits m settings now (released_at place now.deferred) e
+
+waits-before : {S : Type 0} (m : Meaning S) (settings : Settings) (now : FullStanding S) (deeds : List Deed) → (after m settings now deeds).standing.phase ≡ AwaitingHandshake → now.standing.phase ≡ AwaitingHandshake
+waits-before m settings now [] e = e
+waits-before m settings now (deed ∷ deeds) e = (deed-waits m settings now deed (waits-before m settings (perform m settings now deed).after deeds e)).0
+
+pub waits-silent : {S : Type 0} (m : Meaning S) (settings : Settings) (now : FullStanding S) (deeds : List Deed) → (after m settings now deeds).standing.phase ≡ AwaitingHandshake → sent m settings now deeds ≡ []
 waits-silent m settings now [] e = refl
-waits-silent m settings now (act ∷ acts) e =
-    let rest = waits-silent m settings (react m settings now act).after acts e in
-    let first = (act-waits m settings now act (waits-before m settings (react m settings now act).after acts e)).1 in
+waits-silent m settings now (deed ∷ deeds) e =
+    let rest = waits-silent m settings (perform m settings now deed).after deeds e in
+    let first = (deed-waits m settings now deed (waits-before m settings (perform m settings now deed).after deeds e)).1 in
     rw (first, rest) refl
 
 -- ---- the handshake is answered
@@ -97,14 +118,20 @@ greeting-some : {S : Type 0} (m : Meaning S) (settings : Settings) (now : Standi
 greeting-some m settings now true ys e = cc
 greeting-some m settings now false ys e = cc
 
-pub some-sent : {S : Type 0} (m : Meaning S) (settings : Settings) (limit : ℕ) (now : Standing S) (acts : List Act) → IsConversation limit (handled acts) → handled acts ≢ [] → sent m settings now acts ≢ []
+pub some-sent : {S : Type 0} (m : Meaning S) (settings : Settings) (limit : ℕ) (now : FullStanding S) (deeds : List Deed) → IsConversation limit (handled (acts_in deeds)) → handled (acts_in deeds) ≢ []
+    → sent m settings now deeds ≢ []
 some-sent m settings limit now [] c some = absurd (some refl)
-some-sent m settings limit now (Handles Handshake ∷ acts) c some = greeting-some m settings (established now) now.moment.state.handshaken (sent m settings (react m settings now (Handles Handshake)).after acts)
-some-sent m settings limit now (Handles (Packet header body) ∷ acts) c some = absurd c
-some-sent m settings limit now (Steps t ∷ acts) c some =
-    append-some (react m settings now (Steps t)).sends (sent m settings (react m settings now (Steps t)).after acts)
-    (some-sent m settings limit (react m settings now (Steps t)).after acts c some)
-some-sent m settings limit now (Loses ∷ acts) c some = some-sent m settings limit (react m settings now Loses).after acts c some
+some-sent m settings limit now (Does (Handles Handshake) ∷ deeds) c some =
+    greeting-some m settings (established now.standing) now.standing.moment.state.handshaken (sent m settings (perform m settings now (Does (Handles Handshake))).after deeds)
+some-sent m settings limit now (Does (Handles (Packet header body)) ∷ deeds) c some = absurd c
+some-sent m settings limit now (Does (Steps t) ∷ deeds) c some =
+    append-some (perform m settings now (Does (Steps t))).sends (sent m settings (perform m settings now (Does (Steps t))).after deeds)
+    (some-sent m settings limit (perform m settings now (Does (Steps t))).after deeds c some)
+some-sent m settings limit now (Does Loses ∷ deeds) c some = some-sent m settings limit (perform m settings now (Does Loses)).after deeds c some
+some-sent m settings limit now (SetsDeferring deferring ∷ deeds) c some = some-sent m settings limit (perform m settings now (SetsDeferring deferring)).after deeds c some
+some-sent m settings limit now (Releases place ∷ deeds) c some =
+    append-some (perform m settings now (Releases place)).sends (sent m settings (perform m settings now (Releases place)).after deeds)
+    (some-sent m settings limit (perform m settings now (Releases place)).after deeds c some)
 
 -- ---- an act more
 
@@ -168,6 +195,13 @@ at-converses : {S : Type 0} (limit : ℕ) (w : Widths) (id : ℕ) (o : Step S) (
 at-converses limit w id o now Established xs c some fits = goes-on limit xs _ c (some refl) (step-packets limit w id o now o.dies fits)
 at-converses limit w id o now AwaitingHandshake xs c some fits = nothing-more limit xs _ c (apart-silent now o.dies)
 at-converses limit w id o now Closed xs c some fits = nothing-more limit xs _ c (apart-silent now o.dies)
+
+-- a packet that is put off, or that was and is released now, calls for packets
+pub kind-converses : {S : Type 0} (m : Meaning S) (settings : Settings) (now : Standing S) (limit : ℕ) (xs : List Message) (message : Message) → message ≢ Handshake → IsConversation limit xs → xs ≢ []
+    → AreSendable limit (handles m settings now message).sends → IsConversation limit (xs ++ (handles m settings now message).sends)
+kind-converses m settings now limit xs Handshake packet c some fits = absurd (packet refl)
+kind-converses m settings now limit xs (Packet header body) packet c some fits =
+    goes-on limit xs (handles_packet m settings now header.id header.kind body).sends c some (kind-packets limit m settings now header.id header.kind body fits)
 
 pub stepping-converses : {S : Type 0} (m : Meaning S) (now : Standing S) (t : ℕ) (may : Bool) (limit : ℕ) (xs : List Message) → IsConversation limit xs → (now.phase ≡ Established → xs ≢ [])
     → AreSendable limit (steps_by m now t may).sends → IsConversation limit (xs ++ (steps_by m now t may).sends)

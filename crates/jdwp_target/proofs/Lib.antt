@@ -1,4 +1,6 @@
 pub mod EnqueueLemmas
+pub mod DeferredCommands
+pub mod Deferrals
 pub mod Sendable
 pub mod Conversing
 pub mod TargetRuns
@@ -9,4 +11,5 @@ pub mod Numbered
 pub mod Closing
 pub mod Encoded
 pub mod AnswersEncoded
+pub mod DeferredTurns
 pub mod Visited

@@ -23,7 +23,9 @@ use Rattle.jdwp_debuggee.specs.Settings.{Settings}
 use Rattle.jdwp_debuggee.specs.State.{Thread, State, Moment, at_limit, count_of, is_marked, new_state, next_packet_id, without_thread}
 use Rattle.jdwp_debuggee.specs.StepParts.{packet_after}
 use Rattle.jdwp_debuggee.specs.Steps.{Step, death_by, ended_by, ends, happens, may_step, occurs, occurs_by, report_by, with_happening, with_started}
-use Rattle.jdwp_target.specs.Lives.{Acts, AreNumbered, Begins, Deed, begun, begun_by, composite_ids, id_if_composite, sent_in_life}
+use Rattle.jdwp_debuggee.specs.Deferring.{released_at}
+use Rattle.jdwp_target.specs.Deeds.{Deed, Does, FullStanding, Performance, Releases, SetsDeferring, defers, handles_where, perform, releases_by, with_none_deferred}
+use Rattle.jdwp_target.specs.Lives.{AreNumbered, Begins, Goes, LifeDeed, begun, begun_by, composite_ids, id_if_composite, sent_in_life}
 use Rattle.jdwp_target.specs.Standings.{Act, Handles, Loses, Reaction, Standing, Steps, behind, carried_out, established, greets_by, handles_packet, react, replies_by, reports, stands, steps_apart, steps_at, steps_by, steps_in_session}
 
 -- ---- ids that follow one another
@@ -247,13 +249,33 @@ acted m settings now (Handles message) idle = handled-message m settings now mes
 acted m settings now (Steps t) idle = stepped-numbers m now t (may_step m settings now.moment t) idle
 acted m settings now Loses idle = record { ids = refl; idle = refl }
 
-begun-idle : {S : Type 0} (moment : Moment S) (phase : Phase) (alive : Bool) → IdleAt phase moment.state.requests → Idle (begun_by (stands moment phase) phase alive)
-begun-idle moment Closed true idle = idle
-begun-idle moment Closed false idle = idle
-begun-idle moment AwaitingHandshake alive idle = idle
-begun-idle moment Established alive idle = idle
+-- a deed
+record NumbersOf {S : Type 0} (now : Moment S) (p : Performance S) : Type 0 where
+  pub ids : Follows now.state.next_packet (composite_ids p.sends) p.after.standing.moment.state.next_packet
+  pub idle : Idle p.after.standing
 
-begun-packet : {S : Type 0} (now : Standing S) (phase : Phase) (alive : Bool) → (begun_by now phase alive).moment.state.next_packet ≡ now.moment.state.next_packet
+where-numbers : {S : Type 0} (m : Meaning S) (settings : Settings) (now : FullStanding S) (message : Message) (b : Bool) → Idle now.standing → NumbersOf now.standing.moment (handles_where m settings now message b)
+where-numbers m settings now message true idle = record { ids = refl; idle = idle }
+where-numbers m settings now message false idle = let r = acted m settings now.standing (Handles message) idle in record { ids = r.ids; idle = r.idle }
+
+released-numbers : {S : Type 0} (m : Meaning S) (settings : Settings) (now : FullStanding S) (o : Option (Message × List Message)) → Idle now.standing → NumbersOf now.standing.moment (releases_by m settings now o)
+released-numbers m settings now None idle = record { ids = refl; idle = idle }
+released-numbers m settings now (Some (message, others)) idle = let r = acted m settings now.standing (Handles message) idle in record { ids = r.ids; idle = r.idle }
+
+performed : {S : Type 0} (m : Meaning S) (settings : Settings) (now : FullStanding S) (deed : Deed) → Idle now.standing → NumbersOf now.standing.moment (perform m settings now deed)
+performed m settings now (Does (Handles message)) idle = where-numbers m settings now message (defers now message) idle
+performed m settings now (Does (Steps t)) idle = let r = acted m settings now.standing (Steps t) idle in record { ids = r.ids; idle = r.idle }
+performed m settings now (Does Loses) idle = let r = acted m settings now.standing Loses idle in record { ids = r.ids; idle = r.idle }
+performed m settings now (SetsDeferring deferring) idle = record { ids = refl; idle = idle }
+performed m settings now (Releases place) idle = released-numbers m settings now (released_at place now.deferred) idle
+
+begun-idle : {S : Type 0} (now : FullStanding S) (phase : Phase) (alive : Bool) → now.standing.phase ≡ phase → Idle now.standing → Idle (begun_by now phase alive).standing
+begun-idle now Closed true is idle = subst (λ (p : Phase). IdleAt p now.standing.moment.state.requests) is idle
+begun-idle now Closed false is idle = idle
+begun-idle now AwaitingHandshake alive is idle = idle
+begun-idle now Established alive is idle = idle
+
+begun-packet : {S : Type 0} (now : FullStanding S) (phase : Phase) (alive : Bool) → (begun_by now phase alive).standing.moment.state.next_packet ≡ now.standing.moment.state.next_packet
 begun-packet now Closed true = refl
 begun-packet now Closed false = refl
 begun-packet now AwaitingHandshake alive = refl
@@ -263,24 +285,25 @@ record Lived (from : ℕ) (ids : List ℕ) : Type 0 where
   pub to : ℕ
   pub follows : Follows from ids to
 
-lived : {S : Type 0} (m : Meaning S) (settings : Settings) (now : Standing S) (deeds : List Deed) → Idle now → Lived now.moment.state.next_packet (composite_ids (sent_in_life m settings now deeds))
-lived m settings now [] idle = record { to = now.moment.state.next_packet; follows = refl }
-lived m settings now (Begins ∷ deeds) idle =
-    subst (λ n. Lived n (composite_ids (sent_in_life m settings (begun now) deeds))) (begun-packet now now.phase now.moment.state.alive)
-    (lived m settings (begun now) deeds (begun-idle now.moment now.phase now.moment.state.alive idle))
-lived m settings now (Acts act ∷ deeds) idle =
-    let r = react m settings now act in
-    let one = acted m settings now act idle in
-    let rest = lived m settings r.after deeds one.idle in
-    let id = now.moment.state.next_packet in
+lived : {S : Type 0} (m : Meaning S) (settings : Settings) (now : FullStanding S) (life : List LifeDeed) → Idle now.standing → Lived now.standing.moment.state.next_packet (composite_ids (sent_in_life m settings now life))
+lived m settings now [] idle = record { to = now.standing.moment.state.next_packet; follows = refl }
+lived m settings now (Begins ∷ life) idle =
+    let phase = now.standing.phase in
+    let alive = now.standing.moment.state.alive in
+    subst (λ n. Lived n (composite_ids (sent_in_life m settings (begun now) life))) (begun-packet now phase alive) (lived m settings (begun now) life (begun-idle now phase alive refl idle))
+lived m settings now (Goes deed ∷ life) idle =
+    let p = perform m settings now deed in
+    let one = performed m settings now deed idle in
+    let rest = lived m settings p.after life one.idle in
+    let id = now.standing.moment.state.next_packet in
     record {
       to = rest.to;
-      follows = subst (λ l. Follows id l rest.to) (sym (ids-append r.sends (sent_in_life m settings r.after deeds)))
-          (follows-append id r.after.moment.state.next_packet rest.to (composite_ids r.sends) (composite_ids (sent_in_life m settings r.after deeds)) one.ids rest.follows);
+      follows = subst (λ l. Follows id l rest.to) (sym (ids-append p.sends (sent_in_life m settings p.after life)))
+          (follows-append id p.after.standing.moment.state.next_packet rest.to (composite_ids p.sends) (composite_ids (sent_in_life m settings p.after life)) one.ids rest.follows);
     }
 
-pub life-numbers : {S : Type 0} (m : Meaning S) (settings : Settings) (s : S) (deeds : List Deed)
-    → AreNumbered (composite_ids (sent_in_life m settings (stands (record { state = new_state (m.live s); machine = s }) Closed) deeds))
-life-numbers m settings s deeds =
-    let l = lived m settings (stands (record { state = new_state (m.live s); machine = s }) Closed) deeds refl in
+pub life-numbers : {S : Type 0} (m : Meaning S) (settings : Settings) (s : S) (life : List LifeDeed)
+    → AreNumbered (composite_ids (sent_in_life m settings (with_none_deferred (stands (record { state = new_state (m.live s); machine = s }) Closed) false) life))
+life-numbers m settings s life =
+    let l = lived m settings (with_none_deferred (stands (record { state = new_state (m.live s); machine = s }) Closed) false) life refl in
     λ k less. numbered-from 1 l.to _ l.follows k less

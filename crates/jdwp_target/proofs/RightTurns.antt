@@ -1,5 +1,5 @@
 -- Turns of a target over any machine.
-use Rattle.std.proofs.Common.{◌≡◌, ◌∙◌, ℕ, ◌+◌, ◌≤◌, List, [], ◌∷◌, ◌++◌, ◌==◌, length, Bool, true, false, not, ◌&&◌, ◌||◌, Some, None, Result, Ok, Err, IsOk, pos, sym, ap, refl, subst, arith}
+use Rattle.std.proofs.Common.{◌≡◌, ◌∙◌, ℕ, ◌+◌, ◌≤◌, List, [], ◌∷◌, ◌++◌, ◌==◌, length, Bool, true, false, cond, not, ◌&&◌, ◌||◌, Some, None, Result, Ok, Err, IsOk, pos, sym, ap, refl, subst, arith}
 use Rattle.std.proofs.lemmas.Bool.{leb-false}
 use Rattle.std.proofs.lemmas.List.{append-nil, length-append}
 use Rattle.byteorder.specs.Endian.{big_bytes}
@@ -18,7 +18,7 @@ use Rattle.jdwp_wire.specs.declared.packet.PacketKind.{PacketKind}
 use Rattle.jdwp_wire.specs.declared.packet.PacketKind.TheVariants as kind
 use Rattle.jdwp_end.specs.declared.phase.Phase.{Phase}
 use Rattle.jdwp_end.specs.declared.phase.Phase.TheVariants.{Closed, AwaitingHandshake, Established}
-use Rattle.jdwp_end.specs.Ends.{End, HasPacket, front_of, most_outgoing, with_enqueued}
+use Rattle.jdwp_end.specs.Ends.{End, front_of, is_established_phase, most_outgoing, with_enqueued}
 use Rattle.jdwp_end.specs.Ends as ends
 use Rattle.jdwp_end.specs.FrontLaws.{IsDue, front-whole, in-front}
 use Rattle.jdwp_layout.specs.Meanings.{DatumMeaning}
@@ -52,13 +52,14 @@ use Rattle.jdwp_target.specs.declared.target.Turn.{Turn}
 use Rattle.jdwp_target.specs.declared.target.Turn.TheVariants as turn
 use Rattle.jdwp_target.specs.declared.turning.Came.TheVariants as came
 use Rattle.jdwp_target.specs.declared.turning.Done.{Done}
-use Rattle.jdwp_target.specs.Insides.{IsRightTarget, target_of}
+use Rattle.jdwp_target.specs.Deeds.{Does, defers, perform}
+use Rattle.jdwp_target.specs.Insides.{Deferral, IsRightTarget, target_of}
 use Rattle.jdwp_target.specs.Sends.{reply_to, report_of}
-use Rattle.jdwp_target.specs.Standings.{Standing, carried_out, greets_by, handles, phase_after, replies_by, stands}
-use Rattle.jdwp_target.specs.Targets.{Ran, Target, in_phase, with_handled}
+use Rattle.jdwp_target.specs.Standings.{Handles, Standing, carried_out, greets_by, handles, handles_packet, phase_after, replies_by, stands}
+use Rattle.jdwp_target.specs.Targets.{Ran, Target, full_standing, in_phase, with_handled}
 use Rattle.jdwp_target.specs.StepParts.{debuggee_after, end_after}
 use Rattle.jdwp_target.specs.TurnParts.{IsDone, IsHandled, IsRead, after_deaths, closed_where, deaths, reply_of}
-use Rattle.jdwp_target.specs.Turns.{NeedsMemory, SendsAt, TurnsAt, kind_needs_memory, told_of, told_of_packet}
+use Rattle.jdwp_target.specs.Turns.{NeedsMemory, NeedsMemoryToHandle, SendsAt, TurnsAt, kind_needs_memory, told_of_packet, told_where}
 use Rattle.jdwp_target.specs.Visits.{visits_hello, visits_read}
 use Rattle.jdwp_target.proofs.EnqueueLemmas.{two_enqueued}
 use Rattle.jdwp_target.proofs.TargetRuns.{ran-handled}
@@ -74,7 +75,7 @@ pub taken-off : (end read new : End) (message : Message) (used : ℕ) → read �
 taken-off end read new message used same front off = off message (ap (λ (e : End). front_of e) same ∙ front) ∙ ap (λ (e : End). ends.with_handled message used e) same
 
 -- a packet comes in an established session
-packet-phase : (limit : ℕ) (phase : Phase) (header : Header) (body : List ℕ) → IsDue limit phase (Packet header body) → phase ≡ Established
+pub packet-phase : (limit : ℕ) (phase : Phase) (header : Header) (body : List ℕ) → IsDue limit phase (Packet header body) → phase ≡ Established
 packet-phase limit Closed header body due = absurd due
 packet-phase limit AwaitingHandshake header body due = absurd (let e = due in cc)
 packet-phase limit Established header body due = refl
@@ -262,13 +263,11 @@ died : {S : Type 0} (now : Standing S) (w : Widths) (id : ℕ) (e : Effect S) (b
 died now w id e true visits d = refl
 died now w id e false visits d = refl
 
-closed-by : {S : Type 0} (now : Standing S) (w : Widths) (id : ℕ) (e : Effect S) (b : Bool) (message : Message) (used : ℕ) (end : End)
-    → closed_where (b || e.closes) (with_enqueued (stream (reply_to w id e.answer ∷ deaths w e.after.state.next_packet b)) (ends.with_handled message used end))
-    ≡ end_after (replies_by now w id e b) (ends.with_handled message used end)
-closed-by now w id e true message used end = refl
-closed-by now w id e false message used end =
-    elim e.closes as (λ (x : Bool). closed_where x (with_enqueued (stream (reply_to w id e.answer ∷ [])) (ends.with_handled message used end))
-    ≡ in_phase (phase_after x) (with_enqueued (stream (reply_to w id e.answer ∷ [])) (ends.with_handled message used end))) [
+closed-by : {S : Type 0} (now : Standing S) (w : Widths) (id : ℕ) (e : Effect S) (b : Bool) (end : End)
+    → closed_where (b || e.closes) (with_enqueued (stream (reply_to w id e.answer ∷ deaths w e.after.state.next_packet b)) (in_phase Established end)) ≡ end_after (replies_by now w id e b) end
+closed-by now w id e true end = refl
+closed-by now w id e false end =
+    elim e.closes as (λ (x : Bool). closed_where x (with_enqueued (stream (reply_to w id e.answer ∷ [])) (in_phase Established end)) ≡ in_phase (phase_after x) (with_enqueued (stream (reply_to w id e.answer ∷ [])) end)) [
       | true ↦ refl
       | false ↦ refl
     ]
@@ -280,10 +279,10 @@ shaken-by now w id e false = refl
 reply-is : (w : Widths) (id : ℕ) (x : Sent) {S : Type 0} (e : Effect S) → IsSent w e.answer x → reply_of w id x ≡ reply_to w id e.answer
 reply-is w id x e is = rw (is.error, is.bytes) refl
 
-handled-kind : {S : Type 0} (m : Meaning S) (header : Header) (body : List ℕ) (k : PacketKind) (used : ℕ) (old new : Debuggee S) (end after : End) → header.kind ≡ k
-    → IsHandled m (Packet (record { length = header.length; id = header.id; kind = k }) body) used old new end after → IsHandled m (Packet header body) used old new end after
-handled-kind m header body k used old new end after e h =
-    subst (λ (x : PacketKind). IsHandled m (Packet (record { length = header.length; id = header.id; kind = x }) body) used old new end after) (sym e) h
+handled-kind : {S : Type 0} (m : Meaning S) (header : Header) (body : List ℕ) (k : PacketKind) (old new : Debuggee S) (end after : End) → header.kind ≡ k
+    → IsHandled m (Packet (record { length = header.length; id = header.id; kind = k }) body) old new end after → IsHandled m (Packet header body) old new end after
+handled-kind m header body k old new end after e h =
+    subst (λ (x : PacketKind). IsHandled m (Packet (record { length = header.length; id = header.id; kind = x }) body) old new end after) (sym e) h
 
 sent-is : (w : Widths) (id : ℕ) {S : Type 0} (e : Effect S) (visits : ℕ) (d mid : Debuggee S) (done : Done) (end : End) → IsDone w e visits d mid done
     → closed_where done.closes (with_enqueued (stream (reply_of w id done.sent ∷ deaths w mid.moment.state.next_packet done.dies)) end)
@@ -308,54 +307,66 @@ sends-are {S = S} limit now w id e visits d mid done h fits =
     ∙ (ap (λ (b : Bool). reply_to w id e.answer ∷ deaths w e.after.state.next_packet b) h.dies ∙ died-sends now w id e e.dies)))
     fits
 
--- a command was handled
-command-handled : {S : Type 0} (m : Meaning S) (d mid new : Debuggee S) (header : Header) (body : List ℕ) (used set number : ℕ) (end after : End) (done : Done) → header.kind ≡ kind.Command set number
+-- a command was handled, which was taken off an end that is established
+command-handled : {S : Type 0} (m : Meaning S) (d mid new : Debuggee S) (header : Header) (body : List ℕ) (set number : ℕ) (end after : End) (done : Done) → header.kind ≡ kind.Command set number → end.phase ≡ Established
     → IsDone (m.sizes d.moment.machine) (carried_out m d.settings d.moment (command_read (m.sizes d.moment.machine) set number body)) (visits_read m d.settings d.moment (command_read (m.sizes d.moment.machine) set number body) d.visits) d mid done → d.moment.state.handshaken ≡ true
     → new ≡ after_deaths done.dies mid
-    → after ≡ closed_where done.closes (with_enqueued (stream (reply_of (m.sizes d.moment.machine) header.id done.sent ∷ deaths (m.sizes d.moment.machine) mid.moment.state.next_packet done.dies)) (ends.with_handled (Packet header body) used end))
+    → after ≡ closed_where done.closes (with_enqueued (stream (reply_of (m.sizes d.moment.machine) header.id done.sent ∷ deaths (m.sizes d.moment.machine) mid.moment.state.next_packet done.dies)) end)
     → AreSendable end.limits.packet (reply_of (m.sizes d.moment.machine) header.id done.sent ∷ deaths (m.sizes d.moment.machine) mid.moment.state.next_packet done.dies)
-    → IsHandled m (Packet header body) used d new end after
-command-handled {S = S} m d mid new header body used set number end after done is h shaken new-is after-is fits =
+    → IsHandled m (Packet header body) d new end after
+command-handled {S = S} m d mid new header body set number end after done is session h shaken new-is after-is fits =
     let w = m.sizes d.moment.machine in
     let e = carried_out m d.settings d.moment (command_read w set number body) in
     let now = stands d.moment Established in
     let visits = visits_read m d.settings d.moment (command_read w set number body) d.visits in
     let debuggee : new ≡ visiting visits (debuggee_after (replies_by now w header.id e e.dies) d) = new-is ∙ (rw (h.dies, h.after) refl ∙ died now w header.id e e.dies visits d) in
-    let message = Packet (record { length = header.length; id = header.id; kind = kind.Command set number }) body in
-    let left : after ≡ closed_where done.closes (with_enqueued (stream (reply_of w header.id done.sent ∷ deaths w mid.moment.state.next_packet done.dies)) (ends.with_handled message used end)) =
-    subst
-    (λ (x : PacketKind). after ≡ closed_where done.closes (with_enqueued (stream (reply_of w header.id done.sent ∷ deaths w mid.moment.state.next_packet done.dies))
-    (ends.with_handled (Packet (record { length = header.length; id = header.id; kind = x }) body) used end)))
-    is after-is in
-    handled-kind m header body (kind.Command set number) used d new end after is (record {
+    let same : end ≡ in_phase Established end = ap (λ (p : Phase). in_phase p end) session in
+    handled-kind m header body (kind.Command set number) d new end after is (record {
       debuggee = debuggee;
-      left = left ∙ (sent-is w header.id e visits d mid done (ends.with_handled message used end) h ∙ closed-by now w header.id e e.dies message used end);
+      left = after-is
+          ∙ (sent-is w header.id e visits d mid done end h
+          ∙ (ap (λ (x : End). closed_where (e.dies || e.closes) (with_enqueued (stream (reply_to w header.id e.answer ∷ deaths w e.after.state.next_packet e.dies)) x)) same ∙ closed-by now w header.id e e.dies end));
       handshaken = ap (λ (x : Debuggee S). x.moment.state.handshaken) debuggee ∙ (shaken-by now w header.id e e.dies ∙ (h.handshaken ∙ shaken));
       sends = sends-are end.limits.packet now w header.id e visits d mid done h fits;
     })
 
--- the same, where the widths and the end without the message have names of their own
-command-replied : {S : Type 0} (m : Meaning S) (d mid new : Debuggee S) (header : Header) (body : List ℕ) (used set number : ℕ) (end off after : End) (done : Done) (w : Widths) → header.kind ≡ kind.Command set number
+-- the same, where the widths have a name of their own
+command-replied : {S : Type 0} (m : Meaning S) (d mid new : Debuggee S) (header : Header) (body : List ℕ) (set number : ℕ) (end after : End) (done : Done) (w : Widths) → header.kind ≡ kind.Command set number → end.phase ≡ Established
     → IsDone (m.sizes d.moment.machine) (carried_out m d.settings d.moment (command_read (m.sizes d.moment.machine) set number body)) (visits_read m d.settings d.moment (command_read (m.sizes d.moment.machine) set number body) d.visits) d mid done → d.moment.state.handshaken ≡ true
-    → new ≡ after_deaths done.dies mid → w ≡ m.sizes d.moment.machine → off ≡ ends.with_handled (Packet header body) used end
-    → after ≡ closed_where done.closes (with_enqueued (stream (reply_of w header.id done.sent ∷ deaths w mid.moment.state.next_packet done.dies)) off)
+    → new ≡ after_deaths done.dies mid → w ≡ m.sizes d.moment.machine
+    → after ≡ closed_where done.closes (with_enqueued (stream (reply_of w header.id done.sent ∷ deaths w mid.moment.state.next_packet done.dies)) end)
     → end.limits ≡ d.settings.limits → least_packet_limit ≤ end.limits.packet
     → ((limit : ℕ) → least_packet_limit ≤ limit → 11 + length (sent_bytes w done.sent) ≤ limit → AreSendable limit (reply_of w header.id done.sent ∷ deaths w mid.moment.state.next_packet done.dies))
-    → IsHandled m (Packet header body) used d new end after
-command-replied m d mid new header body used set number end off after done w is h shaken new-is w-is off-is after-is limits least fits =
+    → IsHandled m (Packet header body) d new end after
+command-replied m d mid new header body set number end after done w is session h shaken new-is w-is after-is limits least fits =
     let enough : least_packet_limit ≤ d.settings.limits.packet = subst (λ (l : Limits). least_packet_limit ≤ l.packet) limits least in
     let within : 11 + length (sent_bytes w done.sent) ≤ d.settings.limits.packet =
     subst (λ (x : Widths). 11 + length (sent_bytes x done.sent) ≤ d.settings.limits.packet) (sym w-is) (h.fits enough) in
     let sends : AreSendable end.limits.packet (reply_of w header.id done.sent ∷ deaths w mid.moment.state.next_packet done.dies) =
     subst (λ (l : Limits). AreSendable l.packet (reply_of w header.id done.sent ∷ deaths w mid.moment.state.next_packet done.dies)) (sym limits) (fits d.settings.limits.packet enough within) in
-    command-handled m d mid new header body used set number end after done is h shaken new-is
-    (after-is
-    ∙ (ap (λ (x : Widths). closed_where done.closes (with_enqueued (stream (reply_of x header.id done.sent ∷ deaths x mid.moment.state.next_packet done.dies)) off)) w-is
-    ∙ ap (λ (x : End). closed_where done.closes (with_enqueued (stream (reply_of (m.sizes d.moment.machine) header.id done.sent ∷ deaths (m.sizes d.moment.machine) mid.moment.state.next_packet done.dies)) x)) off-is))
+    command-handled m d mid new header body set number end after done is session h shaken new-is
+    (after-is ∙ ap (λ (x : Widths). closed_where done.closes (with_enqueued (stream (reply_of x header.id done.sent ∷ deaths x mid.moment.state.next_packet done.dies)) end)) w-is)
     (subst (λ (x : Widths). AreSendable end.limits.packet (reply_of x header.id done.sent ∷ deaths x mid.moment.state.next_packet done.dies)) w-is sends)
 
 -- the same of a command as it was read
-pub command-came : {S : Type 0} (m : Meaning S) (d mid new : Debuggee S) (header : Header) (body : List ℕ) (used : ℕ) (end off after : End) (done : Done) (w : Widths) (id : ℕ) (asked : code.ParsedCommand.ParsedCommand)
+pub command-came : {S : Type 0} (m : Meaning S) (d mid new : Debuggee S) (header : Header) (body : List ℕ) (end after : End) (done : Done) (w : Widths) (id : ℕ) (asked : code.ParsedCommand.ParsedCommand)
+    → IsRead w header.id header.kind body (came.Command id asked) → end.phase ≡ Established → w ≡ m.sizes d.moment.machine
+    → ((set number : ℕ) (bytes : List ℕ) → asked_meaning asked ≡ asks (command_read (m.sizes d.moment.machine) set number bytes)
+    → IsDone (m.sizes d.moment.machine) (carried_out m d.settings d.moment (command_read (m.sizes d.moment.machine) set number bytes)) (visits_read m d.settings d.moment (command_read (m.sizes d.moment.machine) set number bytes) d.visits) d mid done)
+    → d.moment.state.handshaken ≡ true → new ≡ after_deaths done.dies mid
+    → after ≡ closed_where done.closes (with_enqueued (stream (reply_of w id done.sent ∷ deaths w mid.moment.state.next_packet done.dies)) end)
+    → end.limits ≡ d.settings.limits → least_packet_limit ≤ end.limits.packet
+    → ((limit : ℕ) → least_packet_limit ≤ limit → 11 + length (sent_bytes w done.sent) ≤ limit → AreSendable limit (reply_of w id done.sent ∷ deaths w mid.moment.state.next_packet done.dies))
+    → IsHandled m (Packet header body) d new end after
+command-came m d mid new header body end after done w id asked (set, number, is, same, value, short) session w-is did shaken new-is after-is limits least fits =
+    command-replied m d mid new header body set number end after done w is session
+    (did set number body (subst (λ (x : Widths). asked_meaning asked ≡ asks (command_read x set number body)) w-is value)) shaken new-is w-is
+    (after-is ∙ ap (λ (n : ℕ). closed_where done.closes (with_enqueued (stream (reply_of w n done.sent ∷ deaths w mid.moment.state.next_packet done.dies)) end)) same)
+    limits least
+    (λ limit enough within. subst (λ (n : ℕ). AreSendable limit (reply_of w n done.sent ∷ deaths w mid.moment.state.next_packet done.dies)) same (fits limit enough within))
+
+-- the same at a turn, where the end without the message has a name of its own
+pub command-taken : {S : Type 0} (m : Meaning S) (d mid new : Debuggee S) (header : Header) (body : List ℕ) (used : ℕ) (end off after : End) (done : Done) (w : Widths) (id : ℕ) (asked : code.ParsedCommand.ParsedCommand)
     → IsRead w header.id header.kind body (came.Command id asked) → w ≡ m.sizes d.moment.machine
     → ((set number : ℕ) (bytes : List ℕ) → asked_meaning asked ≡ asks (command_read (m.sizes d.moment.machine) set number bytes)
     → IsDone (m.sizes d.moment.machine) (carried_out m d.settings d.moment (command_read (m.sizes d.moment.machine) set number bytes)) (visits_read m d.settings d.moment (command_read (m.sizes d.moment.machine) set number bytes) d.visits) d mid done)
@@ -363,26 +374,26 @@ pub command-came : {S : Type 0} (m : Meaning S) (d mid new : Debuggee S) (header
     → after ≡ closed_where done.closes (with_enqueued (stream (reply_of w id done.sent ∷ deaths w mid.moment.state.next_packet done.dies)) off)
     → end.limits ≡ d.settings.limits → least_packet_limit ≤ end.limits.packet
     → ((limit : ℕ) → least_packet_limit ≤ limit → 11 + length (sent_bytes w done.sent) ≤ limit → AreSendable limit (reply_of w id done.sent ∷ deaths w mid.moment.state.next_packet done.dies))
-    → IsHandled m (Packet header body) used d new end after
-command-came m d mid new header body used end off after done w id asked (set, number, is, same, value, short) w-is did shaken new-is off-is after-is limits least fits =
-    command-replied m d mid new header body used set number end off after done w is
-    (did set number body (subst (λ (x : Widths). asked_meaning asked ≡ asks (command_read x set number body)) w-is value)) shaken new-is w-is off-is
-    (after-is ∙ ap (λ (n : ℕ). closed_where done.closes (with_enqueued (stream (reply_of w n done.sent ∷ deaths w mid.moment.state.next_packet done.dies)) off)) same)
-    limits least
-    (λ limit enough within. subst (λ (n : ℕ). AreSendable limit (reply_of w n done.sent ∷ deaths w mid.moment.state.next_packet done.dies)) same (fits limit enough within))
+    → IsHandled m (Packet header body) d new (ends.with_handled (Packet header body) used end) after
+command-taken m d mid new header body used end off after done w id asked read w-is did shaken new-is off-is after-is limits least fits =
+    command-came m d mid new header body (ends.with_handled (Packet header body) used end) after done w id asked read refl w-is did shaken new-is
+    (after-is ∙ ap (λ (x : End). closed_where done.closes (with_enqueued (stream (reply_of w id done.sent ∷ deaths w mid.moment.state.next_packet done.dies)) x)) off-is)
+    limits least fits
 
 -- nothing was put
-nothing-put : (message : Message) (used : ℕ) (end : End) → ends.with_handled message used end ≡ in_phase Established (with_enqueued [] (ends.with_handled message used end))
+pub nothing-put : (message : Message) (used : ℕ) (end : End) → ends.with_handled message used end ≡ in_phase Established (with_enqueued [] (ends.with_handled message used end))
 nothing-put message used end = rw (append-nil end.outgoing, append-nil end.session.enqueued) refl
 
 -- a reply that came was ignored
 pub reply-handled : {S : Type 0} (m : Meaning S) (d : Debuggee S) (header : Header) (body : List ℕ) (used : ℕ) (error : ErrorCode) (end after : End) → header.kind ≡ kind.Reply error
-    → d.moment.state.handshaken ≡ true → after ≡ ends.with_handled (Packet header body) used end → IsHandled m (Packet header body) used d d end after
+    → d.moment.state.handshaken ≡ true → after ≡ ends.with_handled (Packet header body) used end → IsHandled m (Packet header body) d d (ends.with_handled (Packet header body) used end) after
 reply-handled m d header body used error end after is shaken after-is =
-    let message = Packet (record { length = header.length; id = header.id; kind = kind.Reply error }) body in
-    let left : after ≡ ends.with_handled message used end =
-    subst (λ (x : PacketKind). after ≡ ends.with_handled (Packet (record { length = header.length; id = header.id; kind = x }) body) used end) is after-is in
-    handled-kind m header body (kind.Reply error) used d d end after is (record { debuggee = refl; left = left ∙ nothing-put message used end; handshaken = shaken; sends = tt })
+    handled-kind m header body (kind.Reply error) d d (ends.with_handled (Packet header body) used end) after is (record {
+      debuggee = refl;
+      left = after-is ∙ nothing-put (Packet header body) used end;
+      handshaken = shaken;
+      sends = tt;
+    })
 
 -- the handshake was answered
 greeted-end : {S : Type 0} (m : Meaning S) (settings : Settings) (now : Moment S) (b : Bool) (end : End)
@@ -397,7 +408,8 @@ greeted-shaken m settings now false e = refl
 pub greeted : {S : Type 0} (m : Meaning S) (d new : Debuggee S) (end mid after : End) → mid ≡ ends.with_handled Handshake 14 end
     → new ≡ visiting (visits_hello d.settings d.moment.state d.moment.state.handshaken d.visits) (debuggee_after (greets_by m d.settings (stands d.moment Established) d.moment.state.handshaken) d)
     → after ≡ with_enqueued (stream (greets_by m d.settings (stands d.moment Established) d.moment.state.handshaken).sends) mid
-    → end.limits ≡ d.settings.limits → AreSendable d.settings.limits.packet (greets_by m d.settings (stands d.moment Established) d.moment.state.handshaken).sends → IsHandled m Handshake 14 d new end after
+    → end.limits ≡ d.settings.limits → AreSendable d.settings.limits.packet (greets_by m d.settings (stands d.moment Established) d.moment.state.handshaken).sends
+    → IsHandled m Handshake d new (ends.with_handled Handshake 14 end) after
 greeted {S = S} m d new end mid after mid-is new-is after-is limits fits =
     let b = d.moment.state.handshaken in
     record {
@@ -410,33 +422,68 @@ greeted {S = S} m d new end mid after mid-is new-is after-is limits fits =
 -- ---- the target behind a message
 
 -- a packet comes after the first handshake
-pub packet-handshaken : {S : Type 0} (m : Meaning S) (d : Debuggee S) (began : List (Debuggee S)) (phases : List Phase) (steps : ℕ) (end : End) (header : Header) (body : List ℕ) (used : ℕ)
-    → IsRightTarget m d began phases steps end → IsBytes end.incoming → front_of end ≡ Whole (Packet header body) used → d.moment.state.handshaken ≡ true
-packet-handshaken m d began phases steps end header body used right fits front =
+pub packet-handshaken : {S : Type 0} (m : Meaning S) (d : Debuggee S) (x : Deferral) (began : List (Debuggee S)) (phases : List Phase) (steps : ℕ) (end : End) (header : Header) (body : List ℕ) (used : ℕ)
+    → IsRightTarget m d x began phases steps end → IsBytes end.incoming → front_of end ≡ Whole (Packet header body) used → d.moment.state.handshaken ≡ true
+packet-handshaken m d x began phases steps end header body used right fits front =
     right.handshaken (packet-phase end.limits.packet end.phase header body (in-front end (Packet header body) used fits front).1)
 
-pub handled-view : {S : Type 0} (m : Meaning S) (d new : Debuggee S) (began : List (Debuggee S)) (phases : List Phase) (steps : ℕ) (end after : End) (message : Message) (used : ℕ)
-    → IsRightTarget m d began phases steps end → IsHandled m message used d new end after → target_of new began phases steps after ≡ with_handled m message used (target_of d began phases steps end)
-handled-view m d new began phases steps end after message used right h =
+-- what is deferred behind a message that is handled
+abbrev pub deferral_handled : {S : Type 0} → Meaning S → Message → Debuggee S → Deferral → Deferral
+deferral_handled m message d x = record x { commands = cond (is_established_phase (handles m d.settings (stands d.moment Established) message).after.phase) x.commands [] }
+
+-- the same, as the end tells it behind the message
+pub left-deferred : {S : Type 0} (m : Meaning S) (message : Message) (d new : Debuggee S) (x y : Deferral) (end after : End) (goes_on : Bool) → IsHandled m message d new end after
+    → goes_on ≡ is_established_phase after.phase → y ≡ record x { commands = cond goes_on x.commands [] } → y ≡ deferral_handled m message d x
+left-deferred m message d new x y end after goes_on h same left =
+    left ∙ (ap (λ (b : Bool). record x { commands = cond b x.commands [] }) same ∙ ap (λ (e : End). record x { commands = cond (is_established_phase e.phase) x.commands [] }) h.left)
+
+-- the handshake and replies leave all that is deferred
+greets-stays : {S : Type 0} (m : Meaning S) (settings : Settings) (now : Moment S) (x : Deferral) (b : Bool) → x ≡ record x { commands = cond (is_established_phase (greets_by m settings (stands now Established) b).after.phase) x.commands [] }
+greets-stays m settings now x true = refl
+greets-stays m settings now x false = refl
+
+pub hello-stays : {S : Type 0} (m : Meaning S) (d : Debuggee S) (x : Deferral) → x ≡ deferral_handled m Handshake d x
+hello-stays m d x = greets-stays m d.settings d.moment x d.moment.state.handshaken
+
+reply-stays-by : {S : Type 0} (m : Meaning S) (d : Debuggee S) (x : Deferral) (id : ℕ) (k : PacketKind) (body : List ℕ) (error : ErrorCode) → k ≡ kind.Reply error
+    → x ≡ record x { commands = cond (is_established_phase (handles_packet m d.settings (stands d.moment Established) id k body).after.phase) x.commands [] }
+reply-stays-by m d x id k body error is = rw is refl
+
+pub reply-stays : {S : Type 0} (m : Meaning S) (d : Debuggee S) (x : Deferral) (header : Header) (body : List ℕ) (error : ErrorCode) → header.kind ≡ kind.Reply error → x ≡ deferral_handled m (Packet header body) d x
+reply-stays m d x header body error is = reply-stays-by m d x header.id header.kind body error is
+
+pub handled-view : {S : Type 0} (m : Meaning S) (d new : Debuggee S) (x y : Deferral) (began : List (Debuggee S)) (phases : List Phase) (steps : ℕ) (end after : End) (message : Message) (used : ℕ)
+    → IsRightTarget m d x began phases steps end → defers (full_standing (target_of d x began phases steps end)) message ≡ false → y ≡ deferral_handled m message d x → IsHandled m message d new (ends.with_handled message used end) after
+    → target_of new y began phases steps after ≡ with_handled m message used (target_of d x began phases steps end)
+handled-view m d new x y began phases steps end after message used right at_once left h =
     let split = right.some.2 in
-    rw (h.debuggee, h.left, split) refl
+    rw (h.debuggee, h.left, left, at_once, split) refl
 
-pub right-handled : {S : Type 0} (m : Meaning S) (d new : Debuggee S) (began : List (Debuggee S)) (phases : List Phase) (steps : ℕ) (end after : End) (message : Message) (used : ℕ)
-    → IsRightTarget m d began phases steps end → IsBytes end.incoming → front_of end ≡ Whole message used → IsHandled m message used d new end after → IsRightTarget m new began phases steps after
-right-handled m d new began phases steps end after message used right fits front h = record {
-  some = right.some;
-  handshaken = λ _. h.handshaken;
-  limits = rw (h.debuggee, h.left) right.limits;
-  ran = subst (Ran m) (sym (handled-view m d new began phases steps end after message used right h)) (ran-handled m (target_of d began phases steps end) message used fits front h.sends right.ran);
-}
+-- what is sent for a message that is handled at once
+pub sends-at-once : {S : Type 0} (m : Meaning S) (v : Target S) (message : Message) → defers (full_standing v) message ≡ false → AreSendable v.end.limits.packet (handles m v.settings (stands v.moment Established) message).sends
+    → AreSendable v.end.limits.packet (perform m v.settings (full_standing v) (Does (Handles message))).sends
+sends-at-once m v message at_once fits = rw at_once fits
 
-pub turns-whole : {S : Type 0} (m : Meaning S) (old new : Target S) (message : Message) (used : ℕ) (told : Turn) → front_of old.end ≡ Whole message used
-    → told ≡ told_of m old message → new ≡ with_handled m message used old → TurnsAt m (front_of old.end) old (Ok told) new
-turns-whole m old new message used told front tells same = subst (λ (x : NextMessage). TurnsAt m x old (Ok told) new) (sym front) (tells, same)
+pub right-handled : {S : Type 0} (m : Meaning S) (d new : Debuggee S) (x y : Deferral) (began : List (Debuggee S)) (phases : List Phase) (steps : ℕ) (end after : End) (message : Message) (used : ℕ)
+    → IsRightTarget m d x began phases steps end → IsBytes end.incoming → front_of end ≡ Whole message used → defers (full_standing (target_of d x began phases steps end)) message ≡ false → y ≡ deferral_handled m message d x
+    → IsHandled m message d new (ends.with_handled message used end) after → IsRightTarget m new y began phases steps after
+right-handled m d new x y began phases steps end after message used right fits front at_once left h =
+    let old = target_of d x began phases steps end in
+    record {
+      some = right.some;
+      handshaken = λ _. h.handshaken;
+      limits = rw (h.debuggee, h.left) right.limits;
+      ran = subst (Ran m) (sym (handled-view m d new x y began phases steps end after message used right at_once left h)) (ran-handled m old message used fits front (sends-at-once m old message at_once h.sends) right.ran);
+    }
 
-pub sends-whole : {S : Type 0} (m : Meaning S) (old : Target S) (message : Message) (used : ℕ) → front_of old.end ≡ Whole message used
+pub turns-whole : {S : Type 0} (m : Meaning S) (old new : Target S) (message : Message) (used : ℕ) (told : Turn) (b : Bool) → front_of old.end ≡ Whole message used → defers (full_standing old) message ≡ b
+    → told ≡ told_where m old message b → new ≡ with_handled m message used old → TurnsAt m (front_of old.end) old (Ok told) new
+turns-whole m old new message used told b front deferred tells same =
+    subst (λ (x : NextMessage). TurnsAt m x old (Ok told) new) (sym front) (tells ∙ ap (λ (x : Bool). told_where m old message x) (sym deferred), same)
+
+pub sends-whole : {S : Type 0} (m : Meaning S) (old : Target S) (message : Message) (used : ℕ) → front_of old.end ≡ Whole message used → defers (full_standing old) message ≡ false
     → AreSendable old.end.limits.packet (handles m old.settings (stands old.moment Established) message).sends → SendsAt m (front_of old.end) old
-sends-whole m old message used front fits = subst (λ (x : NextMessage). SendsAt m x old) (sym front) fits
+sends-whole m old message used front at_once fits = subst (λ (x : NextMessage). SendsAt m x old) (sym front) (sends-at-once m old message at_once fits)
 
 -- ---- room, and want of memory
 
@@ -445,16 +492,15 @@ pub front-room : (end : End) (message : Message) (used : ℕ) → front_of end �
 front-room end message used found = omega (arith, leb-false end.limits.packet (length end.outgoing) (front-whole end message used found).0)
 
 -- there is room for what is sent for a command
-pub command-room : {S : Type 0} (m : Meaning S) (d mid : Debuggee S) (header : Header) (body : List ℕ) (used : ℕ) (end : End) (done : Done) (w : Widths) (id : ℕ) (asked : code.ParsedCommand.ParsedCommand)
+pub command-room : {S : Type 0} (m : Meaning S) (d mid : Debuggee S) (header : Header) (body : List ℕ) (end : End) (done : Done) (w : Widths) (id : ℕ) (asked : code.ParsedCommand.ParsedCommand)
     → IsRead w header.id header.kind body (came.Command id asked) → w ≡ m.sizes d.moment.machine
     → ((set number : ℕ) (bytes : List ℕ) → asked_meaning asked ≡ asks (command_read (m.sizes d.moment.machine) set number bytes)
     → IsDone (m.sizes d.moment.machine) (carried_out m d.settings d.moment (command_read (m.sizes d.moment.machine) set number bytes)) (visits_read m d.settings d.moment (command_read (m.sizes d.moment.machine) set number bytes) d.visits) d mid done)
-    → end.limits ≡ d.settings.limits → least_packet_limit ≤ end.limits.packet → front_of end ≡ Whole (Packet header body) used
+    → end.limits ≡ d.settings.limits → least_packet_limit ≤ end.limits.packet → length end.outgoing + 1 ≤ end.limits.packet
     → length end.outgoing + (11 + length (sent_bytes w done.sent)) ≤ most_outgoing end.limits
-command-room m d mid header body used end done w id asked (set, number, is, same, value, short) w-is did limits least front =
+command-room m d mid header body end done w id asked (set, number, is, same, value, short) w-is did limits least room =
     let one = did set number body (subst (λ (x : Widths). asked_meaning asked ≡ asks (command_read x set number body)) w-is value) in
     let small : 11 + length (sent_bytes w done.sent) ≤ end.limits.packet = rw (w-is, limits) (one.fits (subst (λ (x : Limits). least_packet_limit ≤ x.packet) limits least)) in
-    let room = front-room end (Packet header body) used front in
     omega (arith, room, small)
 
 reads-long : (r : Result Command ErrorCode) → is_short_asked (asks r) ≡ false → IsOk r
@@ -467,11 +513,19 @@ not-short false b short long = refl
 
 -- a command whose data read, and that is no short one, may want memory
 pub command-needs : {S : Type 0} (m : Meaning S) (old : Target S) (header : Header) (body : List ℕ) (w : Widths) (id : ℕ) (asked : code.ParsedCommand.ParsedCommand)
-    → IsRead w header.id header.kind body (came.Command id asked) → w ≡ m.sizes old.moment.machine → is_short_asked (asked_meaning asked) ≡ false → NeedsMemory m old (Packet header body)
+    → IsRead w header.id header.kind body (came.Command id asked) → w ≡ m.sizes old.moment.machine → is_short_asked (asked_meaning asked) ≡ false → NeedsMemoryToHandle m old (Packet header body)
 command-needs m old header body w id asked (set, number, is, same, value, short) w-is long =
     let read : asked_meaning asked ≡ asks (command_read (m.sizes old.moment.machine) set number body) = subst (λ (x : Widths). asked_meaning asked ≡ asks (command_read x set number body)) w-is value in
     let reads = reads-long (command_read (m.sizes old.moment.machine) set number body) (subst (λ (x : Result Asking ErrorCode). is_short_asked x ≡ false) read long) in
     subst (λ (x : PacketKind). kind_needs_memory m old x body) (sym is) (not-short (is_short set number) (is_short_asked (asked_meaning asked)) short long, reads)
+
+-- at a turn, where it is handled at once
+pub needs-at-once : {S : Type 0} (m : Meaning S) (old : Target S) (message : Message) → defers (full_standing old) message ≡ false → NeedsMemoryToHandle m old message → NeedsMemory m old message
+needs-at-once m old message at_once needs = rw at_once needs
+
+-- and where it is put off
+pub needs-to-defer : {S : Type 0} (m : Meaning S) (old : Target S) (message : Message) → defers (full_standing old) message ≡ true → NeedsMemory m old message
+needs-to-defer m old message deferred = rw deferred tt
 
 pub turns-wanting : {S : Type 0} (m : Meaning S) (old new : Target S) (message : Message) (used : ℕ) (result : Result Turn TargetFault) → front_of old.end ≡ Whole message used
     → result ≡ Err fault.NoMemory → NeedsMemory m old message → new ≡ old → TurnsAt m (front_of old.end) old result new
@@ -483,7 +537,7 @@ pub told-command : {S : Type 0} (m : Meaning S) (old : Target S) (header : Heade
     → IsRead w header.id header.kind body (came.Command id asked) → w ≡ m.sizes old.moment.machine
     → ((set number : ℕ) (bytes : List ℕ) → asked_meaning asked ≡ asks (command_read (m.sizes old.moment.machine) set number bytes)
     → error ≡ error_of (carried_out m old.settings old.moment (command_read (m.sizes old.moment.machine) set number bytes)).answer)
-    → turn.Replied id error ≡ told_of m old (Packet header body)
+    → turn.Replied id error ≡ told_of_packet m old header.id header.kind body
 told-command m old header body w id asked error (set, number, is, same, value, short) w-is e =
     let tells = e set number body (subst (λ (x : Widths). asked_meaning asked ≡ asks (command_read x set number body)) w-is value) in
     subst (λ (x : PacketKind). turn.Replied id error ≡ told_of_packet m old header.id x body) (sym is)

@@ -1,5 +1,5 @@
 -- What a step leaves of a target over a machine.
-use Rattle.std.proofs.Common.{◌≡◌, ◌∙◌, ◌≤◌, ◌<◌, ◌+◌, ℕ, nat_le, Bool, true, false, List, [], ◌∷◌, length, Option, Some, None, refl, sym, ap, subst, arith}
+use Rattle.std.proofs.Common.{◌≡◌, ◌∙◌, ◌≤◌, ◌<◌, ◌+◌, ℕ, nat_le, Bool, true, false, cond, List, [], ◌∷◌, length, Option, Some, None, refl, sym, ap, subst, arith}
 use Rattle.std.specs.Prelude.{IfSome}
 use Rattle.std.proofs.lemmas.Bool.{leb-false}
 use Rattle.jdwp_wire.specs.Widths.{Widths}
@@ -7,7 +7,7 @@ use Rattle.jdwp_wire.specs.Streams.{AreSendable}
 use Rattle.jdwp_wire.specs.Limits.{least_packet_limit, most_packet_limit}
 use Rattle.jdwp_end.specs.declared.phase.Phase.{Phase}
 use Rattle.jdwp_end.specs.declared.phase.Phase.TheVariants.{Closed, AwaitingHandshake, Established}
-use Rattle.jdwp_end.specs.Ends.{End, is_paused, most_outgoing}
+use Rattle.jdwp_end.specs.Ends.{End, is_established_phase, is_paused, most_outgoing}
 use Rattle.jdwp_layout.specs.Writes.{data_canonical}
 use Rattle.jdwp_event.specs.CompositeBytes.{composite_canonical}
 use Rattle.jdwp_event.specs.Composites.{CompositeMeaning, composite_data}
@@ -20,10 +20,11 @@ use Rattle.jdwp_debuggee.specs.StepParts as debuggee
 use Rattle.jdwp_debuggee.specs.Steps.{Step, death_by, ended_by, happens, may_step, occurs, occurs_by, report_by, with_happening, with_started}
 use Rattle.jdwp_debuggee.specs.Visits.{visits_stepped}
 use Rattle.jdwp_debuggee.specs.declared.steps.StepDone.{StepDone}
-use Rattle.jdwp_target.specs.Insides.{IsRightTarget, target_of}
+use Rattle.jdwp_target.specs.Insides.{Deferral, IsRightTarget, target_of}
 use Rattle.jdwp_target.specs.Standings.{Reaction, Standing, Steps, behind, react, reports_step, stands, steps_apart, steps_at, steps_by, steps_in_session}
 use Rattle.jdwp_target.specs.StepParts.{CanBeReported, CanLeave, debuggee_after, end_after, step_of}
-use Rattle.jdwp_target.specs.Targets.{Ran, Target, standing}
+use Rattle.jdwp_target.specs.Targets.{Ran, Target, full_standing}
+use Rattle.jdwp_target.specs.Deeds.{Does, perform}
 use Rattle.jdwp_target.specs.Turns.{SendsWhere, is_frozen}
 use Rattle.jdwp_target.proofs.TargetRuns.{ran-stepped}
 
@@ -82,7 +83,7 @@ occurs-alone m now t e = occurs-alone-by m now t (is_marked now.state t) e
 
 -- ---- what the target's acts leave
 
-abbrev stepped_by : {S : Type 0} → Meaning S → ℕ → Debuggee S → End → Reaction S
+abbrev pub stepped_by : {S : Type 0} → Meaning S → ℕ → Debuggee S → End → Reaction S
 stepped_by m t d end = react m d.settings (stands d.moment end.phase) (Steps t)
 
 apart-phase : {S : Type 0} (now : Standing S) (dies : Bool) → (steps_apart now dies).after.phase ≡ Established → now.phase ≡ Established
@@ -117,22 +118,27 @@ by-handshaken m t now true had e =
     let o = occurs m now.moment t in
     at-handshaken w id o now now.phase ∙ (occurs-handshaken m now.moment t ∙ had (at-phase w id o (behind o now) now.phase refl e))
 
+-- what is deferred behind a step
+abbrev pub deferral_stepped : {S : Type 0} → Meaning S → ℕ → Debuggee S → Deferral → End → Deferral
+deferral_stepped m t d x end = record x { commands = cond (is_established_phase (stepped_by m t d end).after.phase) x.commands [] }
+
 -- a target is as it should be after a step
-pub right-stepped : {S : Type 0} (m : Meaning S) (t : ℕ) (d : Debuggee S) (began : List (Debuggee S)) (phases : List Phase) (steps : ℕ) (end : End) → may_step m d.settings d.moment t ≡ true
-    → AreSendable end.limits.packet (stepped_by m t d end).sends → IsRightTarget m d began phases steps end
-    → IsRightTarget m (visiting (visits_stepped m d.moment t d.visits) (debuggee_after (stepped_by m t d end) d)) began phases (steps + 1) (end_after (stepped_by m t d end) end)
-right-stepped {S = S} m t d began phases steps end may sends k =
+pub right-stepped : {S : Type 0} (m : Meaning S) (t : ℕ) (d : Debuggee S) (x : Deferral) (began : List (Debuggee S)) (phases : List Phase) (steps : ℕ) (end : End) → may_step m d.settings d.moment t ≡ true
+    → AreSendable end.limits.packet (stepped_by m t d end).sends → IsRightTarget m d x began phases steps end
+    → IsRightTarget m (visiting (visits_stepped m d.moment t d.visits) (debuggee_after (stepped_by m t d end) d)) (deferral_stepped m t d x end) began phases (steps + 1) (end_after (stepped_by m t d end) end)
+right-stepped {S = S} m t d x began phases steps end may sends k =
     let first = k.some.0 in
     let rest = k.some.1 in
     let split : began ≡ first ∷ rest = k.some.2 in
     let new = visiting (visits_stepped m d.moment t d.visits) (debuggee_after (stepped_by m t d end) d) in
     let newer = end_after (stepped_by m t d end) end in
-    let ran : Ran m (target_of d (first ∷ rest) phases steps end) = subst (λ (b : List (Debuggee S)). Ran m (target_of d b phases steps end)) split k.ran in
+    let left = deferral_stepped m t d x end in
+    let ran : Ran m (target_of d x (first ∷ rest) phases steps end) = subst (λ (b : List (Debuggee S)). Ran m (target_of d x b phases steps end)) split k.ran in
     record {
       some = k.some;
       handshaken = λ e. by-handshaken m t (stands d.moment end.phase) (may_step m d.settings d.moment t) k.handshaken e;
       limits = k.limits;
-      ran = subst (λ (b : List (Debuggee S)). Ran m (target_of new b phases (steps + 1) newer)) (sym split) (ran-stepped m (target_of d (first ∷ rest) phases steps end) t may sends ran);
+      ran = subst (λ (b : List (Debuggee S)). Ran m (target_of new left b phases (steps + 1) newer)) (sym split) (ran-stepped m (target_of d x (first ∷ rest) phases steps end) t may sends ran);
     }
 
 -- ---- what the code does
@@ -169,10 +175,16 @@ stepped-sends m t d e end w id limit done s sizes packet sends =
     rw (acts m t d end s.may) (rw (o, sizes, packet, s.after) at sends)
 
 pub sends-where : {S : Type 0} (m : Meaning S) (t : ℕ) (v : Target S) → is_paused v.end ≡ false → may_step m v.settings v.moment t ≡ true
-    → AreSendable v.end.limits.packet (react m v.settings (standing v) (Steps t)).sends → SendsWhere m t v (is_frozen m t v)
+    → AreSendable v.end.limits.packet (perform m v.settings (full_standing v) (Does (Steps t))).sends → SendsWhere m t v (is_frozen m t v)
 sends-where m t v flows may sends =
     let going : is_frozen m t v ≡ false = rw (flows, may) refl in
     rw going sends
+
+-- what is deferred behind it, where the end is established or not
+pub stepped-deferral : {S : Type 0} (m : Meaning S) (t : ℕ) (d : Debuggee S) (x y : Deferral) (end new : End) (goes_on : Bool) → new ≡ end_after (stepped_by m t d end) end → goes_on ≡ is_established_phase new.phase
+    → y ≡ record x { commands = cond goes_on x.commands [] } → y ≡ deferral_stepped m t d x end
+stepped-deferral m t d x y end new goes_on is same left =
+    left ∙ (ap (λ (b : Bool). record x { commands = cond b x.commands [] }) same ∙ ap (λ (e : End). record x { commands = cond (is_established_phase e.phase) x.commands [] }) is)
 
 -- ---- what can be told
 

@@ -1,7 +1,8 @@
 -- What calls leave of the visits.
-use Rattle.std.proofs.Common.{◌≡◌, ◌∙◌, ◌==◌, ℕ, ◌⊎◌, inl, inr, Bool, true, false, cond, List, Option, Some, None, Result, Ok, Err, refl, sym, ap}
+use Rattle.std.proofs.Common.{◌≡◌, ◌∙◌, ◌==◌, ℕ, ◌⊎◌, inl, inr, Bool, true, false, cond, ◌||◌, List, Option, Some, None, Result, Ok, Err, refl, sym, ap, subst}
+use Rattle.std.specs.List.{AllByRecursion}
 use Rattle.std.proofs.lemmas.Bool.{eq-eqb, eqb-true, false_from_ne_true}
-use Rattle.jdwp_wire.specs.Streams.{Packet}
+use Rattle.jdwp_wire.specs.Streams.{Message, Handshake, Packet}
 use Rattle.jdwp_wire.specs.Widths.{Widths}
 use Rattle.jdwp_wire.specs.declared.error_code.ErrorCode.{ErrorCode}
 use Rattle.jdwp_wire.specs.declared.packet.Header.{Header}
@@ -14,7 +15,7 @@ use Rattle.jdwp_layout.specs.declared.answer.Answer.{Answer}
 use Rattle.jdwp_layout.specs.declared.answer.Answer.TheVariants.{Data, Error}
 use Rattle.jdwp_machine.specs.Meanings.{Meaning}
 use Rattle.jdwp_action.specs.Actions
-use Rattle.jdwp_action.specs.Actions.{Action, Command, action_of}
+use Rattle.jdwp_action.specs.Actions.{Action, Carried, Command, action_of}
 use Rattle.jdwp_action.specs.CommandReads.{command_read}
 use Rattle.jdwp_debuggee.specs.Effects.{Effect, effect}
 use Rattle.jdwp_debuggee.specs.Facts.{is_data}
@@ -22,10 +23,15 @@ use Rattle.jdwp_debuggee.specs.Settings.{Settings}
 use Rattle.jdwp_debuggee.specs.State.{State, Thread}
 use Rattle.jdwp_debuggee.specs.Steps.{Step, handshaken, may_step, occurs, starts, with_started}
 use Rattle.jdwp_debuggee.specs.Visits.{turned, visits_at, visits_by, visits_for}
-use Rattle.jdwp_target.specs.Standings.{Standing, behind, carried_out, established, greets_by, handles_packet, replies, replies_by, steps_apart, steps_at, steps_by, steps_in_session}
-use Rattle.jdwp_target.specs.Targets.{Target, standing, with_handled, with_step}
+use Rattle.jdwp_target.specs.Standings.{Standing, behind, carried_out, established, greets_by, handles, handles_packet, replies, replies_by, steps_apart, steps_at, steps_by, steps_in_session}
+use Rattle.jdwp_debuggee.specs.Deferring.{is_deferrable, released_at}
+use Rattle.jdwp_target.specs.Deeds.{MayBeDeferred, defers, handles_where}
+use Rattle.jdwp_target.specs.Targets.{Target, full_standing, standing, with_handled, with_step}
 use Rattle.jdwp_target.specs.VisitLaws.{VisitsWhatTurns, moves_all}
-use Rattle.jdwp_target.specs.Visits.{visits_hello, visits_packet, visits_read}
+use Rattle.jdwp_target.specs.Visits.{visits_handled, visits_hello, visits_packet, visits_read, visits_released, visits_where}
+use Rattle.jdwp_target.proofs.Deferrals.{put-off-kind}
+use Rattle.jdwp_target.specs.ReleaseLaws.{deferred-ones}
+use Rattle.jdwp_target.proofs.RightTurns.{was-read}
 
 -- ---- commands
 
@@ -52,20 +58,91 @@ replied-threads : {S : Type 0} (now : Standing S) (w : Widths) (id : ℕ) (e : E
 replied-threads now w id e true = refl
 replied-threads now w id e false = refl
 
--- the visits after a command that was read
-read-visits : {S : Type 0} (m : Meaning S) (v : Target S) (header : Header) (body : List ℕ) (used set number : ℕ) (r : Result Command ErrorCode) (n : ℕ) → header.kind ≡ kind.Command set number
-    → command_read (m.sizes v.moment.machine) set number body ≡ r → visits_read m v.settings v.moment r v.visits ≡ n → (with_handled m (Packet header body) used v).visits ≡ n
-read-visits m v header body used set number r n is read same =
+-- commands that may be deferred move no counts
+plain-class : (number : ℕ) (carried : Carried) → moves_all (action_of (record { set = 2; number = number; carried = carried })) ≡ false
+plain-class number carried = refl
+
+plain-method : (number : ℕ) (carried : Carried) → moves_all (action_of (record { set = 6; number = number; carried = carried })) ≡ false
+plain-method number carried = refl
+
+plain-at : (c : Command) (a b : Bool) → (c.set == 2) ≡ a → (c.set == 6) ≡ b → (a || b) ≡ true → moves_all (action_of c) ≡ false
+plain-at c true b e f h = let is : c.set ≡ 2 = eqb-true c.set 2 e in subst (λ (n : ℕ). moves_all (action_of (record { set = n; number = c.number; carried = c.carried })) ≡ false) (sym is) (plain-class c.number c.carried)
+plain-at c false true e f h = let is : c.set ≡ 6 = eqb-true c.set 6 f in subst (λ (n : ℕ). moves_all (action_of (record { set = n; number = c.number; carried = c.carried })) ≡ false) (sym is) (plain-method c.number c.carried)
+plain-at c false false e f h = absurd (cc)
+
+plain-deferrable : (c : Command) → is_deferrable c.set ≡ true → moves_all (action_of c) ≡ false
+plain-deferrable c h = plain-at c (c.set == 2) (c.set == 6) refl refl h
+
+deferred-plain : {S : Type 0} (m : Meaning S) (v : Target S) (header : Header) (body : List ℕ) (set number : ℕ) (c : Command) → header.kind ≡ kind.Command set number
+    → command_read (m.sizes v.moment.machine) set number body ≡ Ok c → defers (full_standing v) (Packet header body) ≡ true → moves_all (action_of c) ≡ false
+deferred-plain m v header body set number c is read deferred =
+    let command = (put-off-kind (full_standing v) header.kind deferred).command in
+    let same : kind.Command command.0 command.1 ≡ kind.Command set number = sym command.2 ∙ is in
+    let sets : command.0 ≡ set = cc in
+    let was = was-read (m.sizes v.moment.machine) set number body c read in
+    plain-deferrable c (subst (λ (n : ℕ). is_deferrable n ≡ true) (sets ∙ sym was.set) command.3)
+
+no-both : (b : Bool) → b ≡ true → b ≡ false → ⊥
+no-both b on off = cc
+
+-- a command that moves counts is handled at once
+moves-at-once : {S : Type 0} (m : Meaning S) (v : Target S) (header : Header) (body : List ℕ) (set number : ℕ) (c : Command) (b : Bool) → header.kind ≡ kind.Command set number
+    → command_read (m.sizes v.moment.machine) set number body ≡ Ok c → moves_all (action_of c) ≡ true → defers (full_standing v) (Packet header body) ≡ b → b ≡ false
+moves-at-once m v header body set number c true is read all deferred = absurd (no-both (moves_all (action_of c)) all (deferred-plain m v header body set number c is read deferred))
+moves-at-once m v header body set number c false is read all deferred = refl
+
+-- the visits after a command that was read, and handled at once, or put off where it leaves them
+packet-visits : {S : Type 0} (m : Meaning S) (v : Target S) (header : Header) (body : List ℕ) (set number : ℕ) (r : Result Command ErrorCode) (n : ℕ) → header.kind ≡ kind.Command set number
+    → command_read (m.sizes v.moment.machine) set number body ≡ r → visits_read m v.settings v.moment r v.visits ≡ n → visits_packet m v.settings v.moment header.kind body v.visits ≡ n
+packet-visits m v header body set number r n is read same =
     ap (λ (k : PacketKind). visits_packet m v.settings v.moment k body v.visits) is ∙ (ap (λ (x : Result Command ErrorCode). visits_read m v.settings v.moment x v.visits) read ∙ same)
 
-read-threads : {S : Type 0} (m : Meaning S) (v : Target S) (header : Header) (body : List ℕ) (used set number : ℕ) (c : Command) → header.kind ≡ kind.Command set number
+stay-visits : {S : Type 0} (m : Meaning S) (v : Target S) (message : Message) (b : Bool) → visits_handled m v.settings v.moment message v.visits ≡ v.visits → visits_where m v.settings v.moment message v.visits b ≡ v.visits
+stay-visits m v message true same = refl
+stay-visits m v message false same = same
+
+move-visits : {S : Type 0} (m : Meaning S) (v : Target S) (message : Message) (n : ℕ) (b : Bool) → b ≡ false → visits_handled m v.settings v.moment message v.visits ≡ n → visits_where m v.settings v.moment message v.visits b ≡ n
+move-visits m v message n b at_once same = rw at_once same
+
+-- those that are read and leave the visits
+read-stays : {S : Type 0} (m : Meaning S) (v : Target S) (header : Header) (body : List ℕ) (used set number : ℕ) (r : Result Command ErrorCode) → header.kind ≡ kind.Command set number
+    → command_read (m.sizes v.moment.machine) set number body ≡ r → visits_read m v.settings v.moment r v.visits ≡ v.visits → (with_handled m (Packet header body) used v).visits ≡ v.visits
+read-stays m v header body used set number r is read same =
+    stay-visits m v (Packet header body) (defers (full_standing v) (Packet header body)) (packet-visits m v header body set number r v.visits is read same)
+
+at-once-threads : {S : Type 0} (m : Meaning S) (v : Target S) (message : Message) (b : Bool) → b ≡ false
+    → (handles_where m v.settings (full_standing v) message b).after.standing.moment.state.threads ≡ (handles m v.settings (established (standing v)) message).after.moment.state.threads
+at-once-threads m v message b at_once = rw at_once refl
+
+read-threads : {S : Type 0} (m : Meaning S) (v : Target S) (header : Header) (body : List ℕ) (used set number : ℕ) (c : Command) → defers (full_standing v) (Packet header body) ≡ false → header.kind ≡ kind.Command set number
     → command_read (m.sizes v.moment.machine) set number body ≡ Ok c → (with_handled m (Packet header body) used v).moment.state.threads ≡ (effect m v.settings v.moment c).after.state.threads
-read-threads {S = S} m v header body used set number c is read =
+read-threads {S = S} m v header body used set number c at_once is read =
     let now = established (standing v) in
     let w = m.sizes v.moment.machine in
-    ap (λ (k : PacketKind). (handles_packet m v.settings now header.id k body).after.moment.state.threads) is
+    at-once-threads m v (Packet header body) (defers (full_standing v) (Packet header body)) at_once
+    ∙ (ap (λ (k : PacketKind). (handles_packet m v.settings now header.id k body).after.moment.state.threads) is
     ∙ (ap (λ (r : Result Command ErrorCode). (replies now w header.id (carried_out m v.settings v.moment r)).after.moment.state.threads) read
-    ∙ replied-threads now w header.id (effect m v.settings v.moment c) (effect m v.settings v.moment c).dies)
+    ∙ replied-threads now w header.id (effect m v.settings v.moment c) (effect m v.settings v.moment c).dies))
+
+-- a deferred command that is released
+deferrable-read : {S : Type 0} (m : Meaning S) (v : Target S) (set number : ℕ) (body : List ℕ) (r : Result Command ErrorCode) → command_read (m.sizes v.moment.machine) set number body ≡ r → is_deferrable set ≡ true
+    → visits_read m v.settings v.moment r v.visits ≡ v.visits
+deferrable-read m v set number body (Ok c) read may =
+    let was = was-read (m.sizes v.moment.machine) set number body c read in
+    let e = effect m v.settings v.moment c in
+    stays (action_of c) e.answer v.moment.state.threads e.after.state.threads v.visits (plain-deferrable c (subst (λ (n : ℕ). is_deferrable n ≡ true) (sym was.set) may))
+deferrable-read m v set number body (Err e) read may = refl
+
+deferred-visits : {S : Type 0} (m : Meaning S) (v : Target S) (message : Message) → MayBeDeferred message → visits_handled m v.settings v.moment message v.visits ≡ v.visits
+deferred-visits m v Handshake command = absurd command
+deferred-visits m v (Packet header body) (set, number, is, may) =
+    let w = m.sizes v.moment.machine in
+    packet-visits m v header body set number (command_read w set number body) v.visits is refl (deferrable-read m v set number body (command_read w set number body) refl may)
+
+released-visits : {S : Type 0} (m : Meaning S) (v : Target S) (place : ℕ) (o : Option (Message × List Message)) → released_at place v.deferred ≡ o → AllByRecursion MayBeDeferred v.deferred
+    → visits_released m v.settings v.moment o v.visits ≡ v.visits
+released-visits m v place None found all = refl
+released-visits m v place (Some (message, others)) found all = deferred-visits m v message (deferred-ones place v.deferred message others all found).0
 
 -- ---- the handshake
 
@@ -120,18 +197,23 @@ visits-turns {S = S} m = record {
   fed = λ v bytes. refl;
   taken = λ v bytes. refl;
   lost = λ v. refl;
+  deferring = λ v deferring. refl;
+  released = λ v place few. released-visits m v place (released_at place v.deferred) refl few.commands;
   moved = λ v header body used set number c is read all told.
       let e = effect m v.settings v.moment c in
-      read-visits m v header body used set number (Ok c) _ is read (moves (action_of c) e.answer v.moment.state.threads e.after.state.threads v.visits all told)
-      ∙ ap (λ (ts : List Thread). turned v.moment.state.threads ts) (sym (read-threads m v header body used set number c is read));
+      let at_once = moves-at-once m v header body set number c (defers (full_standing v) (Packet header body)) is read all refl in
+      let visits = moves (action_of c) e.answer v.moment.state.threads e.after.state.threads v.visits all told in
+      move-visits m v (Packet header body) _ (defers (full_standing v) (Packet header body)) at_once (packet-visits m v header body set number (Ok c) _ is read visits)
+      ∙ ap (λ (ts : List Thread). turned v.moment.state.threads ts) (sym (read-threads m v header body used set number c at_once is read));
   refused = λ v header body used set number c is read told.
       let e = effect m v.settings v.moment c in
-      read-visits m v header body used set number (Ok c) _ is read (refuses (action_of c) e.answer v.moment.state.threads e.after.state.threads v.visits told);
+      read-stays m v header body used set number (Ok c) is read (refuses (action_of c) e.answer v.moment.state.threads e.after.state.threads v.visits told);
   other = λ v header body used set number c is read all.
       let e = effect m v.settings v.moment c in
-      read-visits m v header body used set number (Ok c) _ is read (stays (action_of c) e.answer v.moment.state.threads e.after.state.threads v.visits all);
-  unread = λ v header body used set number e is read. read-visits m v header body used set number (Err e) _ is read refl;
-  ignored = λ v header body used e is. ap (λ (k : PacketKind). visits_packet m v.settings v.moment k body v.visits) is;
+      read-stays m v header body used set number (Ok c) is read (stays (action_of c) e.answer v.moment.state.threads e.after.state.threads v.visits all);
+  unread = λ v header body used set number e is read. read-stays m v header body used set number (Err e) is read refl;
+  ignored = λ v header body used e is.
+      stay-visits m v (Packet header body) (defers (full_standing v) (Packet header body)) (ap (λ (k : PacketKind). visits_packet m v.settings v.moment k body v.visits) is);
   started = λ v used off on.
       greeted-all v.settings v.moment.state v.visits v.moment.state.handshaken v.settings.start_all off on
       ∙ ap (λ (ts : List Thread). turned v.moment.state.threads ts) (sym (greeted-threads m v.settings (established (standing v)) v.moment.state.handshaken off));

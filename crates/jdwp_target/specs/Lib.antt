@@ -1,6 +1,7 @@
 pub mod Options
 pub mod Sends
 pub mod Standings
+pub mod Deeds
 pub mod Visits
 pub mod Targets
 pub mod VisitLaws
@@ -11,4 +12,5 @@ pub mod StepParts
 pub mod Lives
 pub mod Closings
 pub mod TakingLaws
+pub mod ReleaseLaws
 pub mod SetupNumbers

@@ -161,17 +161,7 @@ steps_made (Handles message ∷ acts) = steps_made acts
 steps_made (Steps t ∷ acts) = steps_made acts + 1
 steps_made (Loses ∷ acts) = steps_made acts
 
--- how the target stands after these acts
-abbrev pub after : {S : Type 0} → Meaning S → Settings → Standing S → List Act → Standing S
-after m settings now [] = now
-after m settings now (act ∷ acts) = after m settings (react m settings now act).after acts
-
--- what is sent for these acts
-abbrev pub sent : {S : Type 0} → Meaning S → Settings → Standing S → List Act → List Message
-sent m settings now [] = []
-sent m settings now (act ∷ acts) = (react m settings now act).sends ++ sent m settings (react m settings now act).after acts
-
--- ---- in which order
+-- ---- when
 
 -- Where an act may come, by how the target stands: a message is handled in an open session alone, and a thread is stepped that may make a
 -- step. The connection may be lost at any time; that closes the session, so nothing is handled behind it.
@@ -179,10 +169,6 @@ abbrev pub MayCome : {S : Type 0} → Meaning S → Settings → Standing S → 
 MayCome m settings now (Handles message) = is_open_phase now.phase ≡ true
 MayCome m settings now (Steps t) = may_step m settings now.moment t ≡ true
 MayCome m settings now Loses = Unit {0}
-
-abbrev pub InOrder : {S : Type 0} → Meaning S → Settings → Standing S → List Act → Type 0
-InOrder m settings now [] = Unit {0}
-InOrder m settings now (act ∷ acts) = MayCome m settings now act × InOrder m settings (react m settings now act).after acts
 
 -- whether the connection is lost in these acts
 abbrev pub has_loss : List Act → Bool

@@ -1,5 +1,5 @@
 -- Parts of a turn, as the code makes them one after the other.
-use Rattle.std.specs.Prelude.{◌≡◌, ◌≤◌, ℕ, ◌+◌, Bool, true, false, ◌||◌, List, [], ◌∷◌, length, Result, IsOk, MatchResult}
+use Rattle.std.specs.Prelude.{◌≡◌, ◌≤◌, ◌⊎◌, ℕ, ◌+◌, Bool, true, false, ◌||◌, ◌&&◌, List, [], ◌∷◌, length, Result, IsOk, MatchResult}
 use Rattle.jdwp_wire.specs.Streams.{Message, AreSendable}
 use Rattle.jdwp_wire.specs.Frames.{front}
 use Rattle.jdwp_wire.specs.Frames as frames
@@ -12,7 +12,6 @@ use Rattle.jdwp_wire.specs.declared.packet.PacketKind.TheVariants as kind
 use Rattle.jdwp_wire.specs.Limits.{least_packet_limit}
 use Rattle.jdwp_end.specs.declared.phase.Phase.TheVariants.{Established}
 use Rattle.jdwp_end.specs.Ends.{End, closed_end}
-use Rattle.jdwp_end.specs.Ends as ends
 use Rattle.jdwp_event.specs.Composites.{vm_death}
 use Rattle.jdwp_machine.specs.Meanings.{Meaning}
 use Rattle.jdwp_action.specs.CommandReads.{command_read}
@@ -22,6 +21,7 @@ use Rattle.jdwp_debuggee.specs.Effects.{Effect}
 use Rattle.jdwp_debuggee.specs.Sending.{IsSent, is_short_asked, sent_bytes, sent_error}
 use Rattle.jdwp_debuggee.specs.State.{with_packet}
 use Rattle.jdwp_debuggee.specs.declared.reply.Sent.{Sent}
+use Rattle.jdwp_debuggee.specs.Deferring.{is_deferrable}
 use Rattle.jdwp_target.specs.Sends.{packet_with, report_of}
 use Rattle.jdwp_target.specs.Standings.{handles, stands}
 use Rattle.jdwp_target.specs.StepParts.{debuggee_after, end_after}
@@ -35,20 +35,35 @@ abbrev pub HoldsPacket : ℕ → List ℕ → Type 0
 HoldsPacket limit bytes = (header : Header) × (body : List ℕ) × (used : ℕ) × (front limit bytes ≡ frames.Whole header body used)
 
 -- What was read of a packet of this id and kind with these data: the id of a command and what it comes to, which wants no memory where the
--- command is a short one; and of a reply that it is one.
+-- command is a short one; a command as it came; and of a reply that it is one.
 abbrev pub IsRead : Widths → ℕ → PacketKind → List ℕ → Came → Type 0
 IsRead w id k body (came.Command n asked) =
     (set : ℕ) × (number : ℕ) × (k ≡ kind.Command set number) × (n ≡ id) × (asked_meaning asked ≡ asks (command_read w set number body))
     × (is_short set number ≡ true → is_short_asked (asked_meaning asked) ≡ true)
+IsRead w id k body (came.Deferred c) =
+    (set : ℕ) × (number : ℕ) × (k ≡ kind.Command set number) × (c.id ≡ id) × (c.set ≡ set) × (c.number ≡ number) × (c.body.items ≡ body)
 IsRead w id k body came.Reply = (error : ErrorCode) × (k ≡ kind.Reply error)
+
+-- whether a packet of this kind is put off, where those that may be are
+abbrev pub puts_off : Bool → PacketKind → Bool
+puts_off defers (kind.Command set number) = defers && is_deferrable set
+puts_off defers (kind.Reply error) = false
+
+abbrev pub IsPutOff : Bool → PacketKind → Came → Type 0
+IsPutOff defers k (came.Command n asked) = puts_off defers k ≡ false
+IsPutOff defers k (came.Deferred c) = puts_off defers k ≡ true
+IsPutOff defers k came.Reply = Unit {0}
 
 -- commands whose data read, and that are no short ones
 abbrev pub IsLong : Widths → PacketKind → List ℕ → Type 0
 IsLong w k body = (set : ℕ) × (number : ℕ) × (k ≡ kind.Command set number) × (is_short set number ≡ false) × IsOk (command_read w set number body)
 
--- what a packet with this header and these data was read as, where memory may have been wanted
-abbrev pub ReadsPacket : Widths → Header → List ℕ → Result Came NoMemory → Type 0
-ReadsPacket w header body result = MatchResult result (IsRead w header.id header.kind body) (λ wanted. IsLong w header.kind body)
+-- what a packet with this header and these data was read as, where memory may have been wanted: it is where the packet is put off
+abbrev pub ReadsPacket : Widths → Header → List ℕ → Bool → Result Came NoMemory → Type 0
+ReadsPacket w header body defers result =
+    MatchResult result
+    (λ c. IsRead w header.id header.kind body c × IsPutOff defers header.kind c)
+    (λ wanted. (puts_off defers header.kind ≡ true) ⊎ ((puts_off defers header.kind ≡ false) × IsLong w header.kind body))
 
 -- what is sent for a command, as the reply to the command of this id
 abbrev pub reply_of : Widths → ℕ → Sent → Message
@@ -78,11 +93,11 @@ pub record IsDone {S : Type 0} (w : Widths) (e : Effect S) (visits : ℕ) (old n
   pub closes : done.closes ≡ (e.dies || e.closes)
   pub handshaken : e.after.state.handshaken ≡ old.moment.state.handshaken
 
--- A message of so many bytes was handled: the debuggee, and the end behind it; and what is sent are the handshake and packets within the
--- limit.
-pub record IsHandled {S : Type 0} (m : Meaning S) (message : Message) (used : ℕ) (old new : Debuggee S) (end after : End) : Type 0 where
+-- A message was handled, which was taken off this end before: the debuggee, and the end behind it; and what is sent are the handshake and
+-- packets within the limit.
+pub record IsHandled {S : Type 0} (m : Meaning S) (message : Message) (old new : Debuggee S) (end after : End) : Type 0 where
   pub debuggee : new ≡ visiting (visits_handled m old.settings old.moment message old.visits)
       (debuggee_after (handles m old.settings (stands old.moment Established) message) old)
-  pub left : after ≡ end_after (handles m old.settings (stands old.moment Established) message) (ends.with_handled message used end)
+  pub left : after ≡ end_after (handles m old.settings (stands old.moment Established) message) end
   pub handshaken : new.moment.state.handshaken ≡ true
   pub sends : AreSendable end.limits.packet (handles m old.settings (stands old.moment Established) message).sends

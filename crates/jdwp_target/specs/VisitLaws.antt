@@ -15,7 +15,8 @@ use Rattle.jdwp_debuggee.specs.Settings.{Settings}
 use Rattle.jdwp_debuggee.specs.State.{Moment}
 use Rattle.jdwp_debuggee.specs.Steps.{may_step, occurs, starts, with_started}
 use Rattle.jdwp_debuggee.specs.Visits.{turned}
-use Rattle.jdwp_target.specs.Targets.{Target, lost_target, new_target, opened_target, with_fed, with_handled, with_step, with_taken}
+use Rattle.jdwp_target.specs.Deeds.{DefersFew}
+use Rattle.jdwp_target.specs.Targets.{Target, full_standing, lost_target, new_target, opened_target, with_deferring, with_fed, with_handled, with_release, with_step, with_taken}
 
 -- Suspend and Resume of all threads
 abbrev pub moves_all : Action → Bool
@@ -32,6 +33,8 @@ pub record VisitsWhatTurns {S : Type 0} (m : Meaning S) : Type 0 where
   pub fed : (v : Target S) (bytes : List ℕ) → (with_fed bytes v).visits ≡ v.visits
   pub taken : (v : Target S) (bytes : List ℕ) → (with_taken bytes v).visits ≡ v.visits
   pub lost : (v : Target S) → (lost_target v).visits ≡ v.visits
+  pub deferring : (v : Target S) (deferring : Bool) → (with_deferring deferring v).visits ≡ v.visits
+  pub released : (v : Target S) (place : ℕ) → DefersFew (full_standing v) → (with_release m place v).visits ≡ v.visits
   pub moved : (v : Target S) (header : Header) (body : List ℕ) (used set number : ℕ) (c : Command) → header.kind ≡ kind.Command set number
       → command_read (m.sizes v.moment.machine) set number body ≡ Ok c → moves_all (action_of c) ≡ true → is_data (effect m v.settings v.moment c).answer ≡ true
       → (with_handled m (Packet header body) used v).visits ≡ turned v.moment.state.threads (with_handled m (Packet header body) used v).moment.state.threads

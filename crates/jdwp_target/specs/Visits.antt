@@ -1,5 +1,5 @@
 -- How many threads the last move of all suspend counts visited: after a message that is handled, and after a step.
-use Rattle.std.specs.Prelude.{ℕ, Bool, true, false, List, Result, Ok, Err}
+use Rattle.std.specs.Prelude.{ℕ, Bool, true, false, List, Option, Some, None, Result, Ok, Err}
 use Rattle.jdwp_wire.specs.Streams.{Message, Handshake, Packet}
 use Rattle.jdwp_wire.specs.declared.error_code.ErrorCode.{ErrorCode}
 use Rattle.jdwp_wire.specs.declared.packet.PacketKind.{PacketKind}
@@ -30,3 +30,13 @@ visits_packet m settings now (kind.Reply error) body visits = visits
 abbrev pub visits_handled : {S : Type 0} → Meaning S → Settings → Moment S → Message → ℕ → ℕ
 visits_handled m settings now Handshake visits = visits_hello settings now.state now.state.handshaken visits
 visits_handled m settings now (Packet header body) visits = visits_packet m settings now header.kind body visits
+
+-- a message that is put off visits none
+abbrev pub visits_where : {S : Type 0} → Meaning S → Settings → Moment S → Message → ℕ → Bool → ℕ
+visits_where m settings now message visits true = visits
+visits_where m settings now message visits false = visits_handled m settings now message visits
+
+-- after a deferred command that is released, if there is one
+abbrev pub visits_released : {S : Type 0} → Meaning S → Settings → Moment S → Option (Message × List Message) → ℕ → ℕ
+visits_released m settings now None visits = visits
+visits_released m settings now (Some (message, others)) visits = visits_handled m settings now message visits

@@ -4,6 +4,7 @@ ghost use Rattle.jdwp_wire.specs.Numbers.{id_refusal};
 ghost use Rattle.jdwp_wire.specs.Widths.{Widths};
 ghost use Rattle.jdwp_event.specs.Composites.{vm_start, vm_death};
 ghost use Rattle.jdwp_target.specs.Closings.{ClosesForReason};
+ghost use Rattle.jdwp_target.specs.Deeds.{AnswersWhatCame, StaysFew};
 ghost use Rattle.jdwp_target.specs.Lives.{NumbersComposites};
 ghost use Rattle.jdwp_target.specs.Sends.{IsEncoded};
 ghost use Rattle.jdwp_target.specs.Targets.{GoesOn};
@@ -11,10 +12,22 @@ ghost use Rattle.jdwp_target.specs.VisitLaws.{VisitsWhatTurns};
 
 use jdwp_machine::Machine;
 
-/// What was handled, what was enqueued to leave and how a target stands are, after each call, those of a list of
-/// acts: messages handled, threads stepped, connections lost. It does nothing.
+/// What was taken off, what was enqueued to leave and how a target stands are, after each call, those of a list of deeds: messages
+/// handled or deferred, threads stepped, connections lost, deferred commands released. It does nothing.
 pub fn goes_on_at_each_call<M: Machine>()
     ensures { GoesOn M.meaning }
+{}
+
+/// The messages that were taken off are those that were answered, at once or by a release, those that are deferred, and those that
+/// were dropped as a session ended, each as often. It does nothing.
+pub fn answers_what_came<M: Machine>()
+    ensures { AnswersWhatCame M.meaning }
+{}
+
+/// All that is deferred are commands of the sets ReferenceType and Method, 16 at most, and none where no session is established. It
+/// does nothing.
+pub fn few_are_deferred<M: Machine>()
+    ensures { StaysFew M.meaning }
 {}
 
 /// Over the life of a target, session after session, the k-th composite that it sends has the id k, modulo 2^32. It does nothing.

@@ -44,6 +44,7 @@ impl<M: Machine + Drop> Target<M> {
         };
         fits_step(packet, &done, &sizes, &self.debuggee, &self.end);
         tell(packet, &done, &sizes, &mut self.debuggee, &mut self.end);
+        self.deferral.keep_where(self.end.is_established());
         self.steps.push(&());
         Ok(told_of(&done))
     }

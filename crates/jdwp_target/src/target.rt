@@ -9,8 +9,10 @@ ghost use Rattle.jdwp_machine.specs.Meanings.{has, numbers};
 ghost use Rattle.jdwp_debuggee.specs.State as spec;
 ghost use Rattle.jdwp_target.specs.Options.{Lives, LivesWithin, settings_at};
 ghost use Rattle.jdwp_target.specs.declared.setup.SetupFault.TheVariants as setup;
-ghost use Rattle.jdwp_target.specs.Targets.{Ran, lost_target, new_target, opened_target, with_fed, with_taken};
+ghost use Rattle.jdwp_target.specs.Deeds.{DefersFew};
+ghost use Rattle.jdwp_target.specs.Targets.{Ran, full_standing, lost_target, new_target, opened_target, with_fed, with_taken};
 
+use crate::deferral::Deferral;
 use crate::options::TargetOptions;
 use crate::setup::SetupFault;
 use jdwp_debuggee::{Debuggee, Settings};
@@ -35,9 +37,11 @@ pub enum Turn {
     Replied(u32, ErrorCode),
     /// It took a reply packet off, which means nothing to a target.
     Ignored,
+    /// It took the command of this id off, and deferred its reply: `release` sends it.
+    Deferred(u32),
 }
 
-/// Why a turn failed.
+/// Why a turn or a release failed.
 #[derive(Clone, Copy, Debug, PartialEq, Eq, Error)]
 pub enum TargetFault {
     /// The bytes in front begin no message. The end is as after `lose`.
@@ -76,6 +80,7 @@ pub enum Stepped {
 pub struct Target<M: Machine> {
     pub(crate) alloc: Global,
     pub(crate) debuggee: Debuggee<M>,
+    pub(crate) deferral: Deferral,
     /// The debuggee as it was when the session began, for contracts alone.
     pub(crate) began: Trace<Debuggee<M>>,
     /// The phase in which the session began, for contracts alone.
@@ -92,9 +97,9 @@ impl<M: Machine> Model for Target<M> {
 
     ghost Value = { targets.Target M };
 
-    ghost view = { λ t. target_of t.debuggee t.began.items t.phases.items (length t.steps.items) t.end };
+    ghost view = { λ t. target_of t.debuggee t.deferral t.began.items t.phases.items (length t.steps.items) t.end };
 
-    ghost invariant = { λ t. IsRightTarget M.meaning t.debuggee t.began.items t.phases.items (length t.steps.items) t.end };
+    ghost invariant = { λ t. IsRightTarget M.meaning t.debuggee t.deferral t.began.items t.phases.items (length t.steps.items) t.end };
 }
 
 impl<M: Machine + Drop> Target<M> {
@@ -156,6 +161,7 @@ impl<M: Machine + Drop> Target<M> {
             })) }
     {
         let end = End::new(alloc, settings.limits())?;
+        let deferral = Deferral::new(alloc)?;
         let debuggee = Debuggee::new(alloc, machine, settings)?;
         let mut began = Trace::new();
         began.push(&debuggee);
@@ -165,6 +171,7 @@ impl<M: Machine + Drop> Target<M> {
         Ok(Target {
             alloc,
             debuggee,
+            deferral,
             began,
             phases,
             steps,
@@ -212,7 +219,7 @@ impl<M: Machine + Drop> Target<M> {
         self.debuggee.requests()
     }
 
-    /// Begins a session: both buffers are empty, and the handshake is waited for. False, and nothing changes, where a session is
+    /// Begins a session: both buffers are empty, nothing is deferred, and the handshake is waited for. False, and nothing changes, where a session is
     /// open or the machine is dead.
     pub fn accept(&mut self) -> bool
         ensures when { IsTrue result ↔ ((ends.is_open self.old.end ≡ false)
@@ -224,6 +231,7 @@ impl<M: Machine + Drop> Target<M> {
             return false;
         }
         self.end.open();
+        self.deferral.begin();
         self.began = Trace::new();
         self.began.push(&self.debuggee);
         self.phases = Trace::new();
@@ -265,19 +273,22 @@ impl<M: Machine + Drop> Target<M> {
         self.end.take(out)
     }
 
-    /// The connection is lost: the end is closed, both buffers are empty, every suspend count is 0, there are no requests, and
-    /// events are not held.
+    /// The connection is lost: the end is closed, both buffers are empty, nothing is deferred, every suspend count is 0, there are no
+    /// requests, and events are not held.
     pub fn lose(&mut self)
         ensures { self.new ≡ lost_target self.old }
     {
         self.debuggee.reset();
+        self.deferral.keep_where(false);
         self.end.lose();
     }
 
-    /// What holds after every list of calls in a session: the whole run; that what came are bytes; that an end at which nothing waits
-    /// is not paused; and that an open end that is not paused and asks for more has room for a byte. It changes nothing.
+    /// What holds after every list of calls in a session: the whole run; that all that is deferred are commands that may be, 16 at
+    /// most, and none where no session is established; that what came are bytes; that an end at which nothing waits is not paused; and
+    /// that an open end that is not paused and asks for more has room for a byte. It changes nothing.
     pub fn session(&self)
         ensures ran { Ran M.meaning self.now }
+        ensures few { DefersFew (full_standing self.now) }
         ensures bytes { IsBytes self.now.end.incoming }
         ensures flows { self.now.end.outgoing ≡ [] → ends.is_paused self.now.end ≡ false }
         ensures room { front_of self.now.end ≡ More → ends.is_open self.now.end ≡ true

@@ -4,6 +4,7 @@ ghost use Rattle.jdwp_end.specs.Ends.{HasPacket, front_of, most_outgoing, with_e
 ghost use Rattle.jdwp_end.specs.declared.phase.Phase.TheVariants.{Established};
 ghost use Rattle.jdwp_event.specs.Composites.{vm_start};
 ghost use Rattle.jdwp_event.specs.Constants.{policy_byte};
+ghost use Rattle.jdwp_wire.specs.Bytes.{IsBytes};
 ghost use Rattle.jdwp_wire.specs.Frames as frames;
 ghost use Rattle.jdwp_wire.specs.Frames.{front};
 ghost use Rattle.jdwp_wire.specs.Numbers.{id_refusal};
@@ -23,6 +24,7 @@ ghost use Rattle.jdwp_target.specs.TurnParts.{HoldsPacket, IsDone, ReadsPacket, 
 ghost use Rattle.jdwp_target.specs.Turns.{EncodesNext, SendsAt, TurnsAt};
 ghost use Rattle.jdwp_target.specs.Visits.{visits_hello, visits_read};
 
+use crate::deferral::{DeferredCommand, may_be_deferred};
 use crate::numbers::{enqueue_int, fits_code, fits_id};
 use crate::sending::{enqueue_composite_header, enqueue_death, enqueue_reply};
 use crate::target::{Target, TargetFault, Turn};
@@ -41,6 +43,8 @@ use std::alloc::Global;
 pub(crate) enum Came {
     /// A command: its id, and what it comes to.
     Command(u32, ParsedCommand),
+    /// A command whose reply is to be deferred.
+    Deferred(DeferredCommand),
     /// A reply, which means nothing to a target.
     Reply,
 }
@@ -48,7 +52,7 @@ pub(crate) enum Came {
 /// What became of a command: what is sent for it, whether the machine died by it, and whether the session closes behind it.
 #[derive(Drop)]
 pub struct Done {
-    sent: Sent,
+    pub(crate) sent: Sent,
     dies: bool,
     closes: bool,
 }
@@ -58,11 +62,14 @@ impl<M: Machine + Drop> Target<M> {
     /// asks for more has room for a byte. VM_START and what a command is answered are encoded by the bytes that are sent, so they can
     /// be read; and each packet that is sent is within the limit.
     ///
+    /// Where `set_deferring` says so and fewer than 16 commands are deferred, a command of the sets ReferenceType and Method is
+    /// deferred: it is taken off and kept, nothing is sent, and the debuggee stays as it is.
+    ///
     /// # Errors
     /// `Frame` exactly where the bytes in front begin no message; the end is then as after `lose`. `NoMemory` where an allocation
-    /// was refused, which only commands call for whose data read and that are none of these: VirtualMachine's Suspend, Resume,
-    /// HoldEvents, ReleaseEvents, IDSizes and Dispose; ThreadReference's Suspend, Resume, Status and SuspendCount; EventRequest's
-    /// Clear and ClearAllBreakpoints. Then nothing has changed.
+    /// was refused, which only commands call for that are deferred, or whose data read and that are none of these: VirtualMachine's
+    /// Suspend, Resume, HoldEvents, ReleaseEvents, IDSizes and Dispose; ThreadReference's Suspend, Resume, Status and SuspendCount;
+    /// EventRequest's Clear and ClearAllBreakpoints. Then nothing has changed.
     pub fn turn(&mut self) -> Result<Turn, TargetFault>
         ensures turns { TurnsAt M.meaning (front_of self.old.end) self.old result self.new }
         ensures encoded { IfOk result (λ _.
@@ -80,72 +87,122 @@ impl<M: Machine + Drop> Target<M> {
                 greet(&mut self.debuggee, &mut self.end);
                 Ok(Turn::Hello)
             }
-            Front::Packet(used) => {
-                let sizes = self.debuggee.sizes();
-                let came = read_front(self.alloc, &mut self.end, used, &sizes)?;
-                let Came::Command(id, asked) = came else {
-                    self.end.take_off(used);
-                    return Ok(Turn::Ignored);
-                };
+            Front::Packet(used) => self.take_packet(used),
+        }
+    }
+
+    /// Handles the packet in front, which takes so many bytes, or defers its reply.
+    ///
+    /// # Errors
+    /// `NoMemory`, as a turn.
+    fn take_packet(&mut self, used: usize) -> Result<Turn, TargetFault>
+        requires packet { HasPacket used self.old.end }
+        requires bytes { IsBytes self.old.end.incoming }
+        requires least { least_packet_limit ≤ self.old.end.limits.packet }
+        requires most { self.old.end.limits.packet ≤ most_packet_limit }
+        ensures turns { TurnsAt M.meaning (front_of self.old.end) self.old result self.new }
+        ensures encoded { IfOk result (λ _.
+            EncodesNext M.meaning (front_of self.old.end) self.old) }
+        ensures packets { IfOk result (λ _. SendsAt M.meaning (front_of self.old.end) self.old) }
+    {
+        let sizes = self.debuggee.sizes();
+        let defers = self.deferral.takes();
+        let came = read_front(self.alloc, &mut self.end, used, &sizes, defers)?;
+        match came {
+            Came::Reply => {
+                self.end.take_off(used);
+                Ok(Turn::Ignored)
+            }
+            Came::Deferred(command) => {
+                let id = command.id;
+                self.end.take_off(used);
+                self.deferral.push(command);
+                Ok(Turn::Deferred(id))
+            }
+            Came::Command(id, asked) => {
                 let done = handle(&mut self.debuggee, self.alloc, asked)?;
                 fits_reply(id, &done, &sizes, &self.debuggee);
                 self.end.take_off(used);
                 reply(id, &done, &sizes, &mut self.debuggee, &mut self.end);
+                self.deferral.keep_where(self.end.is_established());
                 Ok(Turn::Replied(id, error_of(&done.sent)))
             }
         }
     }
 }
 
-/// What came in the packet in front of an end, which takes so many bytes. It is read where it lies, or joined where it wraps; nothing of
-/// it is kept, and the end is as it was.
+/// What came in the packet in front of an end, which takes so many bytes, where so is said of the commands that may be deferred. It is
+/// read where it lies, or joined where it wraps, and the end is as it was.
 ///
 /// # Errors
 /// As those of `read_packet`.
-fn read_front(alloc: Global, end: &mut End, used: usize, sizes: &IdSizes) -> Result<Came, NoMemory>
+fn read_front(
+    alloc: Global,
+    end: &mut End,
+    used: usize,
+    sizes: &IdSizes,
+    defers: bool,
+) -> Result<Came, NoMemory>
     requires { HasPacket used end.old }
     ensures came { (header : Header) (body : List ℕ) → front_of end.old
-        ≡ Whole (Packet header body) used → ReadsPacket sizes.now header body result }
+        ≡ Whole (Packet header body) used → ReadsPacket sizes.now header body defers result }
     ensures same { end.new ≡ end.old }
 {
     let limits = end.limits();
     match end.packet_in_place(used) {
-        Some(bytes) => read_packet(alloc, bytes, &limits, sizes),
-        None => read_packet(alloc, end.packet_joined(used), &limits, sizes),
+        Some(bytes) => read_packet(alloc, bytes, &limits, sizes, defers),
+        None => read_packet(alloc, end.packet_joined(used), &limits, sizes, defers),
     }
 }
 
-/// What came in the packet in front of these bytes. Nothing of them is kept.
+/// What came in the packet in front of these bytes, where so is said of the commands that may be deferred.
 ///
 /// # Errors
-/// `NoMemory` where an allocation was refused, at a command whose data read and that is none of the twelve short ones.
+/// `NoMemory` where an allocation was refused, at a command that is deferred, or whose data read and that is none of the twelve short
+/// ones.
 fn read_packet(
     alloc: Global,
     bytes: &[u8],
     limits: &Limits,
     sizes: &IdSizes,
+    defers: bool,
 ) -> Result<Came, NoMemory>
     requires { HoldsPacket limits.now.packet bytes.now }
     ensures { (header : Header) (body : List ℕ) (used : ℕ) → front limits.now.packet bytes.now
-        ≡ frames.Whole header body used → ReadsPacket sizes.now header body result }
+        ≡ frames.Whole header body used → ReadsPacket sizes.now header body defers result }
 {
     match next_packet_within(bytes, limits) {
-        Next::Whole(packet, _) => read_came(alloc, &packet, sizes),
+        Next::Whole(packet, _) => read_came(alloc, &packet, sizes, defers),
         Next::More | Next::Fault(_) => unreachable!(),
     }
 }
 
-/// What came in this packet.
+/// What came in this packet, where so is said of the commands that may be deferred. Of any other nothing is kept.
 ///
 /// # Errors
 /// As those of `read_packet`.
-fn read_came(alloc: Global, packet: &PacketRef<'_>, sizes: &IdSizes) -> Result<Came, NoMemory>
-    ensures { ReadsPacket sizes.now packet.now.header packet.now.body.now result }
+fn read_came(
+    alloc: Global,
+    packet: &PacketRef<'_>,
+    sizes: &IdSizes,
+    defers: bool,
+) -> Result<Came, NoMemory>
+    ensures { ReadsPacket sizes.now packet.now.header packet.now.body.now defers result }
 {
+    let id = packet.header.id;
     match packet.header.kind {
         PacketKind::Command { set, number } => {
+            if defers && may_be_deferred(set) {
+                let body = Vec::from_slice(alloc, packet.body)?;
+                return Ok(Came::Deferred(DeferredCommand {
+                    id,
+                    set,
+                    number,
+                    body,
+                }));
+            }
             let asked = read_command(alloc, set, number, sizes, packet.body)?;
-            Ok(Came::Command(packet.header.id, asked))
+            Ok(Came::Command(id, asked))
         }
         PacketKind::Reply { .. } => Ok(Came::Reply),
     }
@@ -195,7 +252,7 @@ fn enqueue_start(start: Start, sizes: &IdSizes, end: &mut End)
 ///
 /// # Errors
 /// `NoMemory` where an allocation was refused, which what wants no memory never answers; then nothing has changed.
-fn handle<M: Machine>(
+pub(crate) fn handle<M: Machine>(
     debuggee: &mut Debuggee<M>,
     alloc: Global,
     asked: ParsedCommand,
@@ -234,7 +291,7 @@ fn handle<M: Machine>(
 }
 
 /// What is sent for a command, and VM_DEATH behind it, are packets within the limit, where its data are. It changes nothing.
-fn fits_reply<M: Machine>(id: u32, done: &Done, sizes: &IdSizes, debuggee: &Debuggee<M>)
+pub(crate) fn fits_reply<M: Machine>(id: u32, done: &Done, sizes: &IdSizes, debuggee: &Debuggee<M>)
     ensures { (limit : ℕ) → least_packet_limit ≤ limit
         → 11 + length (sent_bytes sizes.now done.now.sent) ≤ limit
         → AreSendable limit (reply_of sizes.now id done.now.sent ∷ deaths sizes.now
@@ -248,7 +305,7 @@ fn fits_reply<M: Machine>(id: u32, done: &Done, sizes: &IdSizes, debuggee: &Debu
 
 /// Enqueues what is sent for a command, and VM_DEATH behind it where the machine died; the session closes where it is to. It takes
 /// no memory.
-fn reply<M: Machine>(
+pub(crate) fn reply<M: Machine>(
     id: u32,
     done: &Done,
     sizes: &IdSizes,
@@ -275,7 +332,7 @@ fn reply<M: Machine>(
 }
 
 /// The error code of a reply.
-fn error_of(sent: &Sent) -> ErrorCode
+pub(crate) fn error_of(sent: &Sent) -> ErrorCode
     ensures { result ≡ sent_error sent.now }
 {
     match sent {

@@ -1,5 +1,5 @@
 -- The lines that are printed of what a turn read, and of a mirror.
-use Rattle.std.specs.Prelude.{◌≡◌, ℕ, ℤ, pos, ◌==◌, Bool, true, false, List, [], ◌∷◌, ◌++◌, map, flat_map, Option, Some, None, Result, Ok, Err, unwrap_or, codes, decimal, if◌then◌else◌, IsPermutation}
+use Rattle.std.specs.Prelude.{◌≡◌, ℕ, ℤ, pos, Bool, true, false, List, [], ◌∷◌, ◌++◌, map, flat_map, Option, Some, None, Result, Ok, Err, unwrap_or, codes, decimal, IsPermutation}
 use Rattle.std.specs.Fmt.{signed_decimal}
 use Rattle.std.specs.List.Sorted.{IsSortedByKey}
 use Rattle.std.specs.Ordering.{int_cmp, nat_cmp}
@@ -18,8 +18,8 @@ use Rattle.jdwp_debugger.specs.declared.faults.DebuggerFault.{DebuggerFault}
 use Rattle.jdwp_debugger.specs.declared.heads.Head.{Head}
 use Rattle.jdwp_debugger.specs.declared.heads.Head.TheVariants as head
 use Rattle.jdwp_debugger.specs.declared.turning.Read.{Read}
-use Rattle.jdwp_debugger.specs.Debuggers.{Debugger, Unanswered, unanswered}
-use Rattle.jdwp_debugger.specs.DebuggerTurns.{Told, Hello, Sizes, Answered, Seen, read_meaning}
+use Rattle.jdwp_debugger.specs.Debuggers.{Debugger}
+use Rattle.jdwp_debugger.specs.DebuggerTurns.{Told, Nothing, Hello, Parked, Sizes, Answered, Seen, read_meaning}
 use Rattle.jdwp_show.specs.declared.capture_line.Sender.TheVariants.{Target}
 use Rattle.jdwp_show.specs.declared.pending.CommandNumber.{CommandNumber}
 use Rattle.jdwp_show.specs.Data.{shapes_of}
@@ -61,38 +61,40 @@ sizes_line id w =
 
 -- ---- the lines of a turn
 
--- the command that waits under this ticket
-abbrev pub command_under : ℕ → List Unanswered → Option CommandNumber
-command_under ticket [] = None
-command_under ticket (u ∷ us) = if u.ticket == ticket then Some (named u.command.set u.command.number) else command_under ticket us
-
-abbrev pub answered_under : Option CommandNumber → ℕ → Answer → List ℕ
-answered_under None id answer = []
-answered_under (Some command) id answer = answered_line id command answer
-
 abbrev pub widths_line : Option Widths → ℕ → List ℕ
 widths_line None id = []
 widths_line (Some w) id = sizes_line id w
 
 -- a line for each composite that waited for the widths of ids, and then that of the reply that told them, each under its own packet's id
 abbrev pub sizes_lines : List CompositeMeaning → List Head → Option Widths → List ℕ
-sizes_lines (c ∷ cs) (head.Packet header ∷ heads) w = seen_line header.id c ++ sizes_lines cs heads w
-sizes_lines [] (head.Packet header ∷ []) w = widths_line w header.id
+sizes_lines (c ∷ cs) (head.Composite header ∷ heads) w = seen_line header.id c ++ sizes_lines cs heads w
+sizes_lines [] (head.Reply header set number ∷ []) w = widths_line w header.id
 sizes_lines cs heads w = []
 
--- The lines of what a turn told, of the messages with these heads, where these commands waited for their answers before it, and by the
--- widths that are known after it. No case but these occurs: what a turn tells is of as many packets as it names.
-abbrev pub turn_lines : List Unanswered → Told → List Head → Option Widths → List ℕ
-turn_lines waited Hello heads w = hello_line Target ++ codes "\n"
-turn_lines waited (Sizes cs) heads w = sizes_lines cs heads w
-turn_lines waited (Answered ticket answer) (head.Packet header ∷ []) w = answered_under (command_under ticket waited) header.id answer
-turn_lines waited (Seen c) (head.Packet header ∷ []) w = seen_line header.id c
-turn_lines waited other heads w = []
+-- the line of an answer that came with this head
+abbrev pub reply_lines : Answer → List Head → List ℕ
+reply_lines answer (head.Reply header set number ∷ []) = answered_line header.id (named set number) answer
+reply_lines answer heads = []
+
+-- the line of a composite that came with this head
+abbrev pub composite_lines : CompositeMeaning → List Head → List ℕ
+composite_lines c (head.Composite header ∷ []) = seen_line header.id c
+composite_lines c heads = []
+
+-- The lines of what a turn told, of the messages with these heads, by the widths that are known after it: a turn tells of as many
+-- messages as there are heads.
+abbrev pub turn_lines : Told → List Head → Option Widths → List ℕ
+turn_lines Hello heads w = hello_line Target ++ codes "\n"
+turn_lines (Sizes cs) heads w = sizes_lines cs heads w
+turn_lines (Answered ticket answer) heads w = reply_lines answer heads
+turn_lines (Seen c) heads w = composite_lines c heads
+turn_lines Nothing heads w = []
+turn_lines Parked heads w = []
 
 -- what is told of a turn; nothing of one that failed
-abbrev pub lines_of : Debugger → Result Read DebuggerFault → Debugger → List ℕ
-lines_of old (Ok read) new = turn_lines (unanswered old.pending) (read_meaning read) new.last new.sizes
-lines_of old (Err fault) new = []
+abbrev pub lines_of : Result Read DebuggerFault → Debugger → List ℕ
+lines_of (Ok read) new = turn_lines (read_meaning read) new.last new.sizes
+lines_of (Err fault) new = []
 
 -- ---- the lines of a mirror
 

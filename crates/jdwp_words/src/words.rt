@@ -48,7 +48,7 @@ pub struct SessionFiles<'a> {
     pub to: &'a str,
 }
 
-/// `serve-script MACHINE (--from F --to F | --port N) [--start all|none] [--count-limit N] [--limits L] [--turns N]`.
+/// `serve-script MACHINE (--from F --to F | --port N) [--start all|none] [--count-limit N] [--limits L] [--defer] [--turns N]`.
 #[derive(Clone, Copy, Debug, PartialEq, Eq)]
 pub struct ServeScript<'a> {
     /// The file of the machine's script.
@@ -58,6 +58,8 @@ pub struct ServeScript<'a> {
     /// Whether every thread is suspended when the target starts, the greatest suspend count that a Suspend gives, and the limits of a
     /// session.
     pub settings: Settings,
+    /// Whether the target defers the replies to commands of the sets ReferenceType and Method.
+    pub defer: bool,
     /// How many rounds a session has at most.
     pub turns: u32,
 }
@@ -75,7 +77,7 @@ pub struct Attach<'a> {
     pub turns: u32,
 }
 
-/// `pair MACHINE PLAN [--memory] [--start all|none] [--limits L] [--turns N]`.
+/// `pair MACHINE PLAN [--memory] [--start all|none] [--limits L] [--defer] [--turns N]`.
 #[derive(Clone, Copy, Debug, PartialEq, Eq)]
 pub struct Pair<'a> {
     /// The file of the machine's script.
@@ -86,6 +88,8 @@ pub struct Pair<'a> {
     pub between: Between,
     /// Whether every thread is suspended when the target starts, and the limits of both ends.
     pub settings: Settings,
+    /// Whether the target defers the replies to commands of the sets ReferenceType and Method.
+    pub defer: bool,
     /// How many rounds the run has at most.
     pub turns: u32,
 }
@@ -235,6 +239,7 @@ fn read_serve_script<'a>(
     let count_limit = number(alloc, found, "count-limit", Name::ServeScript)?;
     Ok(ServeScript {
         settings: read_settings(alloc, found, count_limit, Name::ServeScript)?,
+        defer: found.get_flag("defer"),
         machine: value(alloc, found, "machine")?,
         peer: read_peer(alloc, found, Name::ServeScript)?,
         turns: number(alloc, found, "turns", Name::ServeScript)?,
@@ -299,6 +304,7 @@ fn read_attach<'a>(alloc: Global, found: &ArgMatches<'a>) -> Result<Attach<'a>, 
 fn read_pair<'a>(alloc: Global, found: &ArgMatches<'a>) -> Result<Pair<'a>, Fault<'a>> {
     Ok(Pair {
         settings: read_settings(alloc, found, COUNT_LIMIT, Name::Pair)?,
+        defer: found.get_flag("defer"),
         machine: value(alloc, found, "machine")?,
         plan: value(alloc, found, "plan")?,
         between: read_between(found),
@@ -467,6 +473,7 @@ fn serve_script<'a>(alloc: Global) -> Result<Command<'a>, AllocError> {
         start(alloc),
         count_limit(alloc),
         limits_option(alloc),
+        defer(alloc),
         turns(alloc, "How many rounds a session has at most"),
     ]?;
     Command::new(alloc, "serve-script")
@@ -501,6 +508,7 @@ fn pair_command<'a>(alloc: Global) -> Result<Command<'a>, AllocError> {
         memory(alloc),
         start(alloc),
         limits_option(alloc),
+        defer(alloc),
         turns(alloc, "How many rounds the run has at most"),
     ]?;
     Command::new(alloc, "pair")
@@ -540,10 +548,15 @@ fn port<'a>(alloc: Global, help: &'a str) -> Result<Arg<'a>, AllocError> {
 
 /// That nothing but memory is between both ends of a session.
 fn memory<'a>(alloc: Global) -> Arg<'a> {
-    Arg::new(alloc, "memory")
-        .long("memory")
-        .help("Bytes go from one end to the other in memory, and no connection is made")
-        .action(ArgAction::SetTrue)
+    let help = "Bytes go from one end to the other in memory, and no connection is made";
+    flag(alloc, "memory", help)
+}
+
+/// That the target defers replies.
+fn defer<'a>(alloc: Global) -> Arg<'a> {
+    let help =
+        "Puts commands of the sets ReferenceType and Method off until a round handles nothing, the newest first";
+    flag(alloc, "defer", help)
 }
 
 /// Which threads begin suspended.
@@ -592,6 +605,14 @@ fn file<'a>(alloc: Global, name: &'a str, shown: &'a str, help: &'a str) -> Arg<
 /// An option with a value, which stands at most once.
 fn option<'a>(alloc: Global, name: &'a str, shown: &'a str, help: &'a str) -> Arg<'a> {
     argument(alloc, name, shown, help).long(name)
+}
+
+/// An option without a value, which stands at most once.
+fn flag<'a>(alloc: Global, name: &'a str, help: &'a str) -> Arg<'a> {
+    Arg::new(alloc, name)
+        .long(name)
+        .help(help)
+        .action(ArgAction::SetTrue)
 }
 
 /// An argument with one value.

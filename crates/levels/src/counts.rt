@@ -57,7 +57,6 @@ impl Counts {
             visits: 0,
         };
         for _ in 0..count {
-            counts.make_room()?;
             counts.add();
         }
         Ok(counts)

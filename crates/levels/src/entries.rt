@@ -109,7 +109,8 @@ impl Entries {
     /// No entries, with room for so many.
     pub fn with_capacity(alloc: Global, capacity: usize) -> Result<Entries, AllocError>
         requires { capacity < 2 ^ 32 }
-        ensures { IfOk result (λ e. e.list ≡ []) }
+        ensures none { IfOk result (λ e. e.list ≡ []) }
+        ensures room { IfOk result (λ e. capacity ≤ e.capacity) }
     {
         let list = Vec::with_capacity(alloc, capacity)?;
         Ok(Entries { list })

@@ -7,7 +7,5 @@ mod entries;
 mod level;
 mod moves;
 mod order;
-#[cfg(test)]
-mod tests;
 
 pub use counts::Counts;

@@ -36,7 +36,8 @@ impl Order {
     /// No ranks, with room for so many.
     pub fn with_capacity(alloc: Global, capacity: usize) -> Result<Order, AllocError>
         requires { capacity < 2 ^ 32 }
-        ensures { IfOk result (λ o. o.list ≡ []) }
+        ensures none { IfOk result (λ o. o.list ≡ []) }
+        ensures room { IfOk result (λ o. capacity ≤ o.capacity) }
     {
         let ranks = Vec::with_capacity(alloc, capacity)?;
         Ok(Order { ranks })

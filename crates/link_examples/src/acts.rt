@@ -3,7 +3,8 @@ use jdwp_debugger::Command;
 use jdwp_layout::event_kinds::{BREAKPOINT, SINGLE_STEP, THREAD_DEATH};
 use jdwp_layout::modifier_kinds::{COUNT, LOCATION_ONLY, STEP};
 use jdwp_layout::numbers::{
-    CLEAR_REQUEST, EVENT_REQUEST, EXIT, FRAMES, SET_REQUEST, THREAD_REFERENCE, VIRTUAL_MACHINE,
+    CLEAR_REQUEST, EVENT_REQUEST, EXIT, FRAMES, IS_OBSOLETE, METHOD, REFERENCE_TYPE, SET_REQUEST,
+    THREAD_REFERENCE, VIRTUAL_MACHINE,
 };
 use jdwp_layout::{Datum, Scalar};
 use jdwp_link::LinkEvent;
@@ -23,6 +24,10 @@ pub(crate) enum Wanted {
     Exit,
     /// ThreadReference's of this number, on a thread.
     OfThread(u8, u64),
+    /// ReferenceType's of this number, on a class.
+    OfClass(u8, u64),
+    /// Method.IsObsolete of method 20 of class 10.
+    IsObsolete,
     /// ThreadReference.Frames: all of a thread.
     FramesOf(u64),
     /// EventRequest.Set with this policy: breakpoints at index 3.
@@ -51,6 +56,12 @@ pub(crate) enum Act {
     Step(u64),
     TargetLoses,
     DebuggerLoses,
+    Defer(bool),
+    Release(usize),
+    /// A command is asked, comes, and is handled or deferred.
+    Give(Wanted),
+    /// What the target put comes, and one message of it is read.
+    Read,
     /// A command is asked and handled, and its reply is read.
     Round(Wanted),
     /// A session begins: both handshakes, and the reply to IDSizes. In the first session VM_START comes before it.
@@ -84,6 +95,14 @@ fn of_machine(alloc: Global, number: u8) -> Command {
 fn with_one(alloc: Global, set: u8, number: u8, scalar: Scalar) -> Result<Command, Fail> {
     let items = vec![in alloc; Datum::One(scalar)]?;
     Ok(Command::new(set, number, items))
+}
+
+fn is_obsolete(alloc: Global) -> Result<Command, Fail> {
+    let items = vec![in alloc;
+        Datum::One(Scalar::ReferenceTypeId(ReferenceTypeId(10))),
+        Datum::One(Scalar::MethodId(MethodId(20))),
+    ]?;
+    Ok(Command::new(METHOD, IS_OBSOLETE, items))
 }
 
 fn frames_of(alloc: Global, thread: u64) -> Result<Command, Fail> {
@@ -134,7 +153,7 @@ fn clear(alloc: Global, id: i32) -> Result<Command, Fail> {
     Ok(Command::new(EVENT_REQUEST, CLEAR_REQUEST, items))
 }
 
-fn command(alloc: Global, wanted: Wanted) -> Result<Command, Fail> {
+pub(crate) fn command(alloc: Global, wanted: Wanted) -> Result<Command, Fail> {
     match wanted {
         Wanted::OfMachine(number) => Ok(of_machine(alloc, number)),
         Wanted::Exit => with_one(alloc, VIRTUAL_MACHINE, EXIT, Scalar::Int(0)),
@@ -142,6 +161,11 @@ fn command(alloc: Global, wanted: Wanted) -> Result<Command, Fail> {
             let thread = Scalar::ObjectId(ObjectId(thread));
             with_one(alloc, THREAD_REFERENCE, number, thread)
         }
+        Wanted::OfClass(number, class) => {
+            let class = Scalar::ReferenceTypeId(ReferenceTypeId(class));
+            with_one(alloc, REFERENCE_TYPE, number, class)
+        }
+        Wanted::IsObsolete => is_obsolete(alloc),
         Wanted::FramesOf(thread) => frames_of(alloc, thread),
         Wanted::Breakpoint(policy) => breakpoint(alloc, policy),
         Wanted::SecondBreakpoint(policy) => second_breakpoint(alloc, policy),
@@ -159,13 +183,24 @@ fn push_ask(alloc: Global, wanted: Wanted, events: &mut Vec<LinkEvent>) -> Resul
     Ok(())
 }
 
-/// Appends the coming and handling of what the debugger put, and the coming and reading of what is sent then.
-fn push_exchange(events: &mut Vec<LinkEvent>) -> Result<(), Fail> {
+/// Appends the coming and handling of what the debugger put.
+fn push_handling(events: &mut Vec<LinkEvent>) -> Result<(), Fail> {
     events.push(LinkEvent::ToTarget(ALL))?;
     events.push(LinkEvent::TargetTurn)?;
+    Ok(())
+}
+
+/// Appends the coming and reading of what the target put.
+fn push_reading(events: &mut Vec<LinkEvent>) -> Result<(), Fail> {
     events.push(LinkEvent::ToDebugger(ALL))?;
     events.push(LinkEvent::DebuggerTurn)?;
     Ok(())
+}
+
+/// Appends the coming and handling of what the debugger put, and the coming and reading of what is sent then.
+fn push_exchange(events: &mut Vec<LinkEvent>) -> Result<(), Fail> {
+    push_handling(events)?;
+    push_reading(events)
 }
 
 fn push_greeting(events: &mut Vec<LinkEvent>) -> Result<(), Fail> {
@@ -191,6 +226,13 @@ pub(crate) fn push_events(
         Act::Step(thread) => events.push(LinkEvent::Step(ObjectId(thread)))?,
         Act::TargetLoses => events.push(LinkEvent::TargetLoses)?,
         Act::DebuggerLoses => events.push(LinkEvent::DebuggerLoses)?,
+        Act::Defer(deferring) => events.push(LinkEvent::Defer(deferring))?,
+        Act::Release(place) => events.push(LinkEvent::Release(place))?,
+        Act::Give(wanted) => {
+            push_ask(alloc, wanted, events)?;
+            push_handling(events)?;
+        }
+        Act::Read => push_reading(events)?,
         Act::Round(wanted) => {
             push_ask(alloc, wanted, events)?;
             push_exchange(events)?;

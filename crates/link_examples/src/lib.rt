@@ -7,6 +7,12 @@ mod acts;
 #[cfg(test)]
 mod asserts;
 #[cfg(test)]
+mod deferred;
+#[cfg(test)]
+mod deferred_tests;
+#[cfg(test)]
+mod ends;
+#[cfg(test)]
 mod idle_tests;
 #[cfg(test)]
 mod limit_tests;

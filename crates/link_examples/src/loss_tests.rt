@@ -2,7 +2,7 @@
 use crate::asserts::expect_same;
 use crate::losses::{Loss, WAYS, Way};
 use crate::machine_a::{begins_anew_on_a, waits_on_a};
-use crate::sessions::events_of;
+use crate::sessions::{Line, events_of};
 use crate::worked::CROSSED;
 use jdwp_link::LinkEvent;
 use std::alloc::Global;
@@ -70,9 +70,14 @@ fn first_wrong(
     Ok(None)
 }
 
-/// After each byte of each direction the session is lost in this way.
-fn is_lost_anywhere(rt: &impl Abort, alloc: Global, way: &Way) -> Result<(), Fail> {
-    let events = events_of(alloc, &CROSSED)?;
+/// After each byte of each direction a session is lost in this way.
+pub(crate) fn is_lost_anywhere(
+    rt: &impl Abort,
+    alloc: Global,
+    lines: &[Line],
+    way: &Way,
+) -> Result<(), Fail> {
+    let events = events_of(alloc, lines)?;
     let found = first_wrong(alloc, &events, way)?;
     expect_same(rt, &found, &None);
     Ok(())
@@ -80,20 +85,20 @@ fn is_lost_anywhere(rt: &impl Abort, alloc: Global, way: &Way) -> Result<(), Fai
 
 #[test]
 fn the_target_loses_first(rt: HostRuntime) -> Result<(), Fail> {
-    is_lost_anywhere(&rt, rt.alloc(), &WAYS[0])
+    is_lost_anywhere(&rt, rt.alloc(), &CROSSED, &WAYS[0])
 }
 
 #[test]
 fn the_target_loses_first_and_what_it_put_is_read(rt: HostRuntime) -> Result<(), Fail> {
-    is_lost_anywhere(&rt, rt.alloc(), &WAYS[1])
+    is_lost_anywhere(&rt, rt.alloc(), &CROSSED, &WAYS[1])
 }
 
 #[test]
 fn the_debugger_loses_first(rt: HostRuntime) -> Result<(), Fail> {
-    is_lost_anywhere(&rt, rt.alloc(), &WAYS[2])
+    is_lost_anywhere(&rt, rt.alloc(), &CROSSED, &WAYS[2])
 }
 
 #[test]
 fn the_debugger_loses_first_and_what_it_put_is_handled(rt: HostRuntime) -> Result<(), Fail> {
-    is_lost_anywhere(&rt, rt.alloc(), &WAYS[3])
+    is_lost_anywhere(&rt, rt.alloc(), &CROSSED, &WAYS[3])
 }

@@ -112,7 +112,7 @@ fn go_on<M: Machine + Drop>(
     do_all(alloc, link, loss.way.before, told)
 }
 
-/// Both ends are closed, nobody is suspended, nothing is requested, known, under way or unanswered.
+/// Both ends are closed, nobody is suspended, nothing is requested, known, under way, deferred or unanswered.
 fn is_empty(standing: &Standing) -> bool {
     standing.open == (false, false)
         && standing.counts == (Some(0), Some(0))
@@ -122,6 +122,7 @@ fn is_empty(standing: &Standing) -> bool {
         && standing.room == (0, 0)
         && standing.threads == (2, 0)
         && standing.unanswered.is_none()
+        && standing.deferred == 0
         && !standing.did
 }
 

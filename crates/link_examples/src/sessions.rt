@@ -29,6 +29,8 @@ pub(crate) enum Shown {
 #[derive(Clone, Copy)]
 pub(crate) enum Line {
     Does(Act),
+    /// The same so many times.
+    Repeats(u32, Act),
     /// This was told since the last such line, and nothing else.
     Tells(&'static [Told]),
     /// The suspend counts of threads 1 and 2 in the target; None where they do not live.
@@ -41,7 +43,9 @@ pub(crate) enum Line {
     Waits(usize, usize),
     /// Whether the target is open, and whether the debugger is.
     Open(bool, bool),
-    /// Whether the last event was a turn that handled a message, or a step that was made.
+    /// How many commands the target defers.
+    Deferred(usize),
+    /// Whether the last event was a turn that handled a message, a release that answered a command, or a step that was made.
     Did(bool),
 }
 
@@ -59,6 +63,8 @@ pub(crate) struct Standing {
     pub(crate) threads: (usize, usize),
     /// The first ticket that is unanswered.
     pub(crate) unanswered: Option<u64>,
+    /// How many commands are deferred.
+    pub(crate) deferred: usize,
     pub(crate) did: bool,
 }
 
@@ -120,6 +126,7 @@ pub(crate) fn standing_of<M: Machine + Drop>(link: &Link<M>) -> Standing {
         room: room(link),
         threads: threads(link),
         unanswered: unanswered(link),
+        deferred: link.target().deferred(),
         did: link.did(),
     }
 }
@@ -171,6 +178,12 @@ fn holds<M: Machine + Drop>(
             does(alloc, link, act, told)?;
             Ok(true)
         }
+        Line::Repeats(times, act) => {
+            for _ in 0..*times {
+                does(alloc, link, act, told)?;
+            }
+            Ok(true)
+        }
         Line::Tells(expected) => {
             let are = are_told(told, expected);
             told.clear();
@@ -188,8 +201,9 @@ fn is_so<M: Machine + Drop>(link: &Link<M>, line: &Line) -> bool {
         Line::Requests(target, mirror) => requests(link) == (target, mirror),
         Line::Waits(debugger, target) => waits(link) == (debugger, target),
         Line::Open(target, debugger) => open(link) == (target, debugger),
+        Line::Deferred(count) => link.target().deferred() == count,
         Line::Did(did) => link.did() == did,
-        Line::Does(_) | Line::Tells(_) => false,
+        Line::Does(_) | Line::Repeats(..) | Line::Tells(_) => false,
     }
 }
 
@@ -242,8 +256,14 @@ pub(crate) fn goes_as_told<M: Machine + Drop>(
 pub(crate) fn events_of(alloc: Global, lines: &[Line]) -> Result<Vec<LinkEvent>, Fail> {
     let mut events = Vec::new(alloc);
     for line in lines {
-        if let Line::Does(act) = line {
-            push_events(alloc, act, &mut events)?;
+        match line {
+            Line::Does(act) => push_events(alloc, act, &mut events)?,
+            Line::Repeats(times, act) => {
+                for _ in 0..*times {
+                    push_events(alloc, act, &mut events)?;
+                }
+            }
+            _ => {}
         }
     }
     Ok(events)

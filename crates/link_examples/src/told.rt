@@ -21,8 +21,12 @@ pub(crate) enum Told {
 pub(crate) enum Reply {
     /// No data.
     Done,
-    /// A number: a suspend count, or the id of a request.
+    /// A number: a suspend count, the id of a request, or the status of a class.
     Number(i32),
+    /// A text: the signature of a class.
+    Text(&'static str),
+    /// Whether it is so: that a method is obsolete.
+    Truth(bool),
     /// These threads.
     Threads(&'static [u64]),
     /// One frame, of id 30, at this index of method 20 of class 10.
@@ -87,6 +91,8 @@ fn are_data(items: &[Datum], reply: &Reply) -> bool {
     match (items, reply) {
         ([], Reply::Done) => true,
         ([Datum::One(Scalar::Int(found))], Reply::Number(number)) => *found == *number,
+        ([Datum::One(Scalar::String(found))], Reply::Text(text)) => found.as_str() == *text,
+        ([Datum::One(Scalar::Boolean(found))], Reply::Truth(truth)) => *found == *truth,
         ([Datum::Many(entries)], Reply::Threads(threads)) => {
             are_threads(entries.as_slice(), threads)
         }
@@ -97,7 +103,8 @@ fn are_data(items: &[Datum], reply: &Reply) -> bool {
     }
 }
 
-fn is_reply(answer: &Answer, reply: &Reply) -> bool {
+/// Whether a command is answered so.
+pub(crate) fn is_reply(answer: &Answer, reply: &Reply) -> bool {
     match answer {
         Answer::Data(data) => are_data(data.items(), reply),
         Answer::Error(code) => match reply {

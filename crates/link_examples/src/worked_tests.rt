@@ -84,7 +84,7 @@ fn first_cut(alloc: Global, events: &[LinkEvent], told: &[Told]) -> Result<Optio
 }
 
 /// One run of a session's events tells what the lines say, and leaves what two runs leave, wherever they are cut.
-fn is_the_same_cut(rt: &impl Abort, alloc: Global, lines: &[Line]) -> Result<(), Fail> {
+pub(crate) fn is_the_same_cut(rt: &impl Abort, alloc: Global, lines: &[Line]) -> Result<(), Fail> {
     let events = events_of(alloc, lines)?;
     let told = told_in(alloc, lines)?;
     let found = first_cut(alloc, &events, &told)?;

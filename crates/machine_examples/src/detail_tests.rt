@@ -231,192 +231,65 @@ fn wide_ids_are_told_with_their_place(rt: HostRuntime) -> Result<(), Fail> {
     Ok(())
 }
 
-/// Bad references.
-static BAD: [Edit; 36] = [
-    ("\"id\":6,", "\"id\":0,", "the group has id 0, in groups[1]"),
-    (
-        "\"id\":6,\"name\":\"pool\",\"parent\":5",
-        "\"id\":6,\"name\":\"pool\",\"parent\":6",
-        "no group 6 is known here, in groups[1]",
-    ),
-    (
-        "\"id\":10,\"tag\"",
-        "\"id\":0,\"tag\"",
-        "the class has id 0, in classes[0]",
-    ),
-    (
-        "\"super\":0,\"interfaces\":[],\"source\":null",
-        "\"super\":11,\"interfaces\":[],\"source\":null",
-        "no class 11 is known here, in classes[0]",
-    ),
-    (
-        "\"interfaces\":[10]",
-        "\"interfaces\":[11]",
-        "no class 11 is known here, in classes[1]",
-    ),
-    (
-        "\"interfaces\":[10]",
-        "\"interfaces\":[0]",
-        "no class 0 is known here, in classes[1]",
-    ),
-    (
-        "[\"I\",7]",
-        "[\"I\",4294967296]",
-        "bits 4294967296 past the width of their tag, in classes[1].fields[0]",
-    ),
-    (
-        "[\"I\",7]",
-        "[\"L\",99]",
-        "no thread, group or object 99 is known here, in classes[1].fields[0]",
-    ),
-    (
-        "\"id\":40,",
-        "\"id\":0,",
-        "the field has id 0, in classes[1].fields[0]",
-    ),
-    (
-        "\"id\":20,",
-        "\"id\":0,",
-        "the method has id 0, in classes[1].methods[0]",
-    ),
-    (
-        "[3,2]]",
-        "[10,2]]",
-        "lines that don't rise up to the method's last index, in classes[1].methods[0]",
-    ),
-    (
-        "\"id\":50,\"class\":11",
-        "\"id\":50,\"class\":12",
-        "no class 12 is known here, in objects[0]",
-    ),
-    (
-        "\"id\":50,\"class\"",
-        "\"id\":0,\"class\"",
-        "the object has id 0, in objects[0]",
-    ),
-    (
-        "[40,[\"I\",1]]",
-        "[42,[\"I\",1]]",
-        "no field 42 is known here, in objects[0].fields[0]",
-    ),
-    (
-        "[41,[\"L\",51]]",
-        "[40,[\"L\",51]]",
-        "40 of a field, in objects[0]",
-    ),
-    (
-        "[41,[\"L\",51]]",
-        "[41,[\"L\",52]]",
-        "no thread, group or object 52 is known here, in objects[0].fields[1]",
-    ),
-    (
-        "[50,0]",
-        "[50,52]",
-        "no thread, group or object 52 is known here, in objects[1]",
-    ),
-    (
-        "\"group\":6",
-        "\"group\":7",
-        "no group 7 is known here, in threads[1]",
-    ),
-    (
-        "\"id\":2,\"name\":\"work\"",
-        "\"id\":0,\"name\":\"work\"",
-        "no thread 2 is known here, in threads[0].steps[1]",
-    ),
-    (
-        "\"id\":1,\"name\":\"main\"",
-        "\"id\":0,\"name\":\"main\"",
-        "the thread has id 0, in threads[0]",
-    ),
-    (
-        "[\"call\",30",
-        "[\"call\",0",
-        "the frame has id 0, in threads[0].steps[2]",
-    ),
-    (
-        "30,11,20,50",
-        "30,12,20,50",
-        "no class 12 is known here, in threads[0].steps[2]",
-    ),
-    (
-        "30,11,20,50",
-        "30,11,21,50",
-        "no method 21 is known here, in threads[0].steps[2]",
-    ),
-    (
-        "30,11,20,50",
-        "30,11,20,5",
-        "no object 5 is known here, in threads[0].steps[2]",
-    ),
-    (
-        "[[0,[\"L\",50]]]",
-        "[[0,[\"L\",50]],[0,[\"I\",1]]]",
-        "the slot 0 stands twice, in threads[0].steps[2]",
-    ),
-    (
-        "[[0,[\"L\",50]]]",
-        "[[0,[\"L\",99]]]",
-        "no thread, group or object 99 is known here, in threads[0].steps[2]",
-    ),
-    (
-        "[\"go\",3]",
-        "[\"go\",10]",
-        "an index 10 past the method's last, in threads[0].steps[3]",
-    ),
-    (
-        "[\"prepare\",11]",
-        "[\"go\",0]",
-        "a step without a frame, in threads[0].steps[0]",
-    ),
-    (
-        "[\"prepare\",11]",
-        "[\"return\",[\"V\",0]]",
-        "a step without a frame, in threads[0].steps[0]",
-    ),
-    (
-        "[\"throw\",51",
-        "[\"throw\",5",
-        "no object 5 is known here, in threads[0].steps[4]",
-    ),
-    (
-        "[11,20,9]",
-        "[11,20,10]",
-        "an index 10 past the method's last, in threads[0].steps[4]",
-    ),
-    (
-        "[11,20,9]",
-        "[10,20,9]",
-        "no method 20 is known here, in threads[0].steps[4]",
-    ),
-    (
-        "[\"prepare\",11]",
-        "[\"prepare\",12]",
-        "no class 12 is known here, in threads[0].steps[0]",
-    ),
-    (
-        "[\"prepare\",11]",
-        "[\"prepare\",11],[\"prepare\",11]",
-        "the class 11 begins a second time",
-    ),
-    (
-        "[\"start\",2]",
-        "[\"start\",2],[\"start\",2]",
-        "the thread 2 begins a second time",
-    ),
-    (
-        "[\"start\",2]",
-        "[\"start\",2],[\"start\",1]",
-        "no thread lives at the beginning",
-    ),
-];
+/// Bad references, a line each: what gives way, what comes for it, and what is told.
+const BAD: &str = "\"id\":6, => \"id\":0, => the group has id 0, in groups[1]
+\"id\":6,\"name\":\"pool\",\"parent\":5 => \"id\":6,\"name\":\"pool\",\"parent\":6 => no group 6 is known here, in groups[1]
+\"id\":10,\"tag\" => \"id\":0,\"tag\" => the class has id 0, in classes[0]
+\"super\":0,\"interfaces\":[],\"source\":null => \"super\":11,\"interfaces\":[],\"source\":null => no class 11 is known here, in classes[0]
+\"interfaces\":[10] => \"interfaces\":[11] => no class 11 is known here, in classes[1]
+\"interfaces\":[10] => \"interfaces\":[0] => no class 0 is known here, in classes[1]
+[\"I\",7] => [\"I\",4294967296] => bits 4294967296 past the width of their tag, in classes[1].fields[0]
+[\"I\",7] => [\"L\",99] => no thread, group or object 99 is known here, in classes[1].fields[0]
+\"id\":40, => \"id\":0, => the field has id 0, in classes[1].fields[0]
+\"id\":20, => \"id\":0, => the method has id 0, in classes[1].methods[0]
+[3,2]] => [10,2]] => lines that don't rise up to the method's last index, in classes[1].methods[0]
+\"id\":50,\"class\":11 => \"id\":50,\"class\":12 => no class 12 is known here, in objects[0]
+\"id\":50,\"class\" => \"id\":0,\"class\" => the object has id 0, in objects[0]
+[40,[\"I\",1]] => [42,[\"I\",1]] => no field 42 is known here, in objects[0].fields[0]
+[41,[\"L\",51]] => [40,[\"L\",51]] => 40 of a field, in objects[0]
+[41,[\"L\",51]] => [41,[\"L\",52]] => no thread, group or object 52 is known here, in objects[0].fields[1]
+[50,0] => [50,52] => no thread, group or object 52 is known here, in objects[1]
+\"group\":6 => \"group\":7 => no group 7 is known here, in threads[1]
+\"id\":2,\"name\":\"work\" => \"id\":0,\"name\":\"work\" => no thread 2 is known here, in threads[0].steps[1]
+\"id\":1,\"name\":\"main\" => \"id\":0,\"name\":\"main\" => the thread has id 0, in threads[0]
+[\"call\",30 => [\"call\",0 => the frame has id 0, in threads[0].steps[2]
+30,11,20,50 => 30,12,20,50 => no class 12 is known here, in threads[0].steps[2]
+30,11,20,50 => 30,11,21,50 => no method 21 is known here, in threads[0].steps[2]
+30,11,20,50 => 30,11,20,5 => no object 5 is known here, in threads[0].steps[2]
+[[0,[\"L\",50]]] => [[0,[\"L\",50]],[0,[\"I\",1]]] => the slot 0 stands twice, in threads[0].steps[2]
+[[0,[\"L\",50]]] => [[0,[\"L\",99]]] => no thread, group or object 99 is known here, in threads[0].steps[2]
+[\"go\",3] => [\"go\",10] => an index 10 past the method's last, in threads[0].steps[3]
+[\"prepare\",11] => [\"go\",0] => a step without a frame, in threads[0].steps[0]
+[\"prepare\",11] => [\"return\",[\"V\",0]] => a step without a frame, in threads[0].steps[0]
+[\"throw\",51 => [\"throw\",5 => no object 5 is known here, in threads[0].steps[4]
+[11,20,9] => [11,20,10] => an index 10 past the method's last, in threads[0].steps[4]
+[11,20,9] => [10,20,9] => no method 20 is known here, in threads[0].steps[4]
+[\"prepare\",11] => [\"prepare\",12] => no class 12 is known here, in threads[0].steps[0]
+[\"prepare\",11] => [\"prepare\",11],[\"prepare\",11] => the class 11 begins a second time
+[\"start\",2] => [\"start\",2],[\"start\",2] => the thread 2 begins a second time
+[\"start\",2] => [\"start\",2],[\"start\",1] => no thread lives at the beginning";
+
+/// Machine B with such an edit is told so.
+fn is_bad(rt: &impl Abort, alloc: Global, old: &str, new: &str, words: &str) -> Result<(), Fail> {
+    let script = edited(alloc, MACHINE_B, old, new)?;
+    let told = format!(in alloc; "fault 25: a bad reference: {words}")?;
+    is_told(rt, alloc, script.as_str(), told.as_str())
+}
+
+fn row_is_bad(rt: &impl Abort, alloc: Global, row: &str) -> Result<(), Fail> {
+    let Some((old, behind)) = row.split_once(" => ") else {
+        return Err(Fail::from("no row"));
+    };
+    match behind.split_once(" => ") {
+        Some((new, words)) => is_bad(rt, alloc, old, new, words),
+        None => Err(Fail::from("no words")),
+    }
+}
 
 #[test]
 fn bad_references_are_told_with_their_place(rt: HostRuntime) -> Result<(), Fail> {
-    for (old, new, words) in BAD.iter() {
-        let script = edited(rt.alloc(), MACHINE_B, old, new)?;
-        let told = format!(in rt.alloc(); "fault 25: a bad reference: {words}")?;
-        is_told(&rt, rt.alloc(), script.as_str(), told.as_str())?;
+    for row in BAD.lines() {
+        row_is_bad(&rt, rt.alloc(), row)?;
     }
     Ok(())
 }

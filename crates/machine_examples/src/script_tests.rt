@@ -102,71 +102,65 @@ fn small_edits_of_machine_a(rt: HostRuntime) -> Result<(), Fail> {
     are_outcomes(&rt, rt.alloc(), MACHINE_A, &SMALL_EDITS)
 }
 
-/// Edits of the script with something of each kind that make a bad reference: what gives way, and what comes for it.
-static BAD_REFERENCES: [(&str, &str); 44] = [
-    ("\"id\":6,", "\"id\":0,"),
-    (
-        "\"id\":6,\"name\":\"pool\",\"parent\":5",
-        "\"id\":6,\"name\":\"pool\",\"parent\":6",
-    ),
-    (
-        "\"super\":0,\"interfaces\":[],\"source\":null",
-        "\"super\":11,\"interfaces\":[],\"source\":null",
-    ),
-    ("\"interfaces\":[10]", "\"interfaces\":[11]"),
-    ("\"interfaces\":[10]", "\"interfaces\":[0]"),
-    ("\"id\":10,\"tag\"", "\"id\":0,\"tag\""),
-    ("[\"I\",7]", "[\"I\",4294967296]"),
-    ("[\"I\",7]", "[\"B\",256]"),
-    ("[\"I\",7]", "[\"S\",65536]"),
-    ("[\"I\",7]", "[\"Z\",2]"),
-    ("[\"I\",7]", "[\"V\",1]"),
-    ("[\"I\",7]", "[\"L\",99]"),
-    ("\"id\":40,", "\"id\":0,"),
-    ("\"id\":20,", "\"id\":0,"),
-    ("[3,2]]", "[10,2]]"),
-    ("[[0,1],", "[[3,1],"),
-    ("\"id\":50,\"class\":11", "\"id\":50,\"class\":12"),
-    ("\"id\":51,", "\"id\":0,"),
-    ("[40,[\"I\",1]]", "[42,[\"I\",1]]"),
-    ("[41,[\"L\",51]]", "[40,[\"L\",51]]"),
-    ("[41,[\"L\",51]]", "[41,[\"L\",52]]"),
-    ("[50,0]", "[50,52]"),
-    ("\"group\":6", "\"group\":7"),
-    ("\"id\":2,\"name\":\"work\"", "\"id\":0,\"name\":\"work\""),
-    ("[\"call\",30", "[\"call\",0"),
-    ("30,11,20,50", "30,12,20,50"),
-    ("30,11,20,50", "30,10,20,50"),
-    ("30,11,20,50", "30,11,21,50"),
-    ("30,11,20,50", "30,11,20,5"),
-    ("[[0,[\"L\",50]]]", "[[0,[\"L\",50]],[0,[\"I\",1]]]"),
-    ("[[0,[\"L\",50]]]", "[[0,[\"L\",99]]]"),
-    ("[\"go\",3]", "[\"go\",10]"),
-    ("[\"prepare\",11]", "[\"go\",0]"),
-    ("[\"prepare\",11]", "[\"return\",[\"V\",0]]"),
-    ("[\"prepare\",11]", "[\"throw\",50,null]"),
-    ("[\"throw\",51", "[\"throw\",5"),
-    ("[11,20,9]", "[11,20,10]"),
-    ("[11,20,9]", "[10,20,9]"),
-    ("[\"prepare\",11]", "[\"prepare\",12]"),
-    ("[\"prepare\",11]", "[\"prepare\",11],[\"prepare\",11]"),
-    ("[\"start\",2]", "[\"start\",3]"),
-    ("[\"start\",2]", "[\"start\",2],[\"start\",2]"),
-    ("[\"start\",2]", "[\"start\",2],[\"start\",1]"),
-    ("[\"V\",0]]]", "[\"C\",65536]]]"),
-];
+/// Edits of the script with something of each kind that make a bad reference, a line each: what gives way, and what comes
+/// for it.
+const BAD_REFERENCES: &str = "\"id\":6, => \"id\":0,
+\"id\":6,\"name\":\"pool\",\"parent\":5 => \"id\":6,\"name\":\"pool\",\"parent\":6
+\"super\":0,\"interfaces\":[],\"source\":null => \"super\":11,\"interfaces\":[],\"source\":null
+\"interfaces\":[10] => \"interfaces\":[11]
+\"interfaces\":[10] => \"interfaces\":[0]
+\"id\":10,\"tag\" => \"id\":0,\"tag\"
+[\"I\",7] => [\"I\",4294967296]
+[\"I\",7] => [\"B\",256]
+[\"I\",7] => [\"S\",65536]
+[\"I\",7] => [\"Z\",2]
+[\"I\",7] => [\"V\",1]
+[\"I\",7] => [\"L\",99]
+\"id\":40, => \"id\":0,
+\"id\":20, => \"id\":0,
+[3,2]] => [10,2]]
+[[0,1], => [[3,1],
+\"id\":50,\"class\":11 => \"id\":50,\"class\":12
+\"id\":51, => \"id\":0,
+[40,[\"I\",1]] => [42,[\"I\",1]]
+[41,[\"L\",51]] => [40,[\"L\",51]]
+[41,[\"L\",51]] => [41,[\"L\",52]]
+[50,0] => [50,52]
+\"group\":6 => \"group\":7
+\"id\":2,\"name\":\"work\" => \"id\":0,\"name\":\"work\"
+[\"call\",30 => [\"call\",0
+30,11,20,50 => 30,12,20,50
+30,11,20,50 => 30,10,20,50
+30,11,20,50 => 30,11,21,50
+30,11,20,50 => 30,11,20,5
+[[0,[\"L\",50]]] => [[0,[\"L\",50]],[0,[\"I\",1]]]
+[[0,[\"L\",50]]] => [[0,[\"L\",99]]]
+[\"go\",3] => [\"go\",10]
+[\"prepare\",11] => [\"go\",0]
+[\"prepare\",11] => [\"return\",[\"V\",0]]
+[\"prepare\",11] => [\"throw\",50,null]
+[\"throw\",51 => [\"throw\",5
+[11,20,9] => [11,20,10]
+[11,20,9] => [10,20,9]
+[\"prepare\",11] => [\"prepare\",12]
+[\"prepare\",11] => [\"prepare\",11],[\"prepare\",11]
+[\"start\",2] => [\"start\",3]
+[\"start\",2] => [\"start\",2],[\"start\",2]
+[\"start\",2] => [\"start\",2],[\"start\",1]
+[\"V\",0]]] => [\"C\",65536]]]";
+
+fn is_bad(rt: &impl Abort, alloc: Global, row: &str) -> Result<(), Fail> {
+    let Some((old, new)) = row.split_once(" => ") else {
+        return Err(Fail::from("no row"));
+    };
+    let bad = Some(ScriptFault::BadReference);
+    has_outcome(rt, alloc, MACHINE_B, old, new, &bad)
+}
 
 #[test]
 fn bad_references(rt: HostRuntime) -> Result<(), Fail> {
-    for (old, new) in BAD_REFERENCES.iter() {
-        has_outcome(
-            &rt,
-            rt.alloc(),
-            MACHINE_B,
-            old,
-            new,
-            &Some(ScriptFault::BadReference),
-        )?;
+    for row in BAD_REFERENCES.lines() {
+        is_bad(&rt, rt.alloc(), row)?;
     }
     Ok(())
 }

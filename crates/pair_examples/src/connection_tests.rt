@@ -183,7 +183,16 @@ fn long_answers_pass_a_connection(rt: HostRuntime) -> Result<(), Fail> {
     let writer = Writer::failing(alloc, 0, 0);
     let mut loopback = Loopback::new(&rt);
     let settings = standard(true)?;
-    let (ended, told) = run_script(alloc, &mut loopback, &script, settings, &plan, writer, 100)?;
+    let (ended, told) = run_script(
+        alloc,
+        &mut loopback,
+        &script,
+        settings,
+        false,
+        &plan,
+        writer,
+        100,
+    )?;
     expect_same(&rt, &ended, &PairEnded::Done);
     expect_same(&rt, &told.as_slice(), &lines.as_bytes());
     Ok(())

@@ -6,6 +6,8 @@ mod asserts;
 #[cfg(test)]
 mod connection_tests;
 #[cfg(test)]
+mod deferring_tests;
+#[cfg(test)]
 mod loss_tests;
 #[cfg(test)]
 mod pair_tests;

@@ -358,7 +358,16 @@ fn a_command_that_is_too_long_is_refused(rt: HostRuntime) -> Result<(), Fail> {
 fn run_within(alloc: Global, limits: Limits) -> Result<(PairEnded, Vec<u8>), Fail> {
     let settings = Settings::new(true, 65_535, limits).ok_or("a count limit")?;
     let (plan, writer) = (read_plan(alloc, BREAKPOINT)?, Writer::failing(alloc, 0, 0));
-    run_script(alloc, &mut Memory, MACHINE_A, settings, &plan, writer, 1000)
+    run_script(
+        alloc,
+        &mut Memory,
+        MACHINE_A,
+        settings,
+        false,
+        &plan,
+        writer,
+        1000,
+    )
 }
 
 /// Within limits that are large enough the lines are the same.

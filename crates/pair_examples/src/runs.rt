@@ -23,6 +23,8 @@ pub(crate) const READY: &str = "< hello
 #[derive(Clone, Copy)]
 pub(crate) struct Case {
     pub start_all: bool,
+    /// Whether the target defers replies.
+    pub defer: bool,
     pub plan: &'static str,
     pub rounds: u32,
     /// Which write fails, from 1; 0 for none.
@@ -33,9 +35,10 @@ pub(crate) struct Case {
     pub lines: &'static str,
 }
 
-/// All threads begin suspended, there are rounds enough, and no write fails.
+/// All threads begin suspended, no reply is deferred, there are rounds enough, and no write fails.
 pub(crate) const CASE: Case = Case {
     start_all: true,
+    defer: false,
     plan: "",
     rounds: 1000,
     write_fails: 0,
@@ -96,17 +99,20 @@ pub(crate) fn run_script<C: Connection>(
     connection: &mut C,
     script: &str,
     settings: Settings,
+    defer: bool,
     plan: &[PlanLine],
     writer: Writer,
     rounds: u32,
 ) -> Result<(PairEnded, Vec<u8>), Fail> {
     let mut out: Streams<Empty, Writer> = Streams::new(io::empty(), writer);
-    let ended = pair_script(alloc, script, settings, connection, plan, &mut out, rounds)?;
+    let ended = pair_script(
+        alloc, script, settings, defer, connection, plan, &mut out, rounds,
+    )?;
     let (_, writer) = out.into_parts();
     Ok((ended, writer.bytes))
 }
 
-/// The same over machine A, by a plan that a text is.
+/// The same over machine A, by a plan that a text is, where no reply is deferred.
 pub(crate) fn run_text<C: Connection>(
     alloc: Global,
     connection: &mut C,
@@ -117,7 +123,7 @@ pub(crate) fn run_text<C: Connection>(
 ) -> Result<(PairEnded, Vec<u8>), Fail> {
     let (plan, settings) = (read_plan(alloc, plan)?, standard(start_all)?);
     run_script(
-        alloc, connection, MACHINE_A, settings, &plan, writer, rounds,
+        alloc, connection, MACHINE_A, settings, false, &plan, writer, rounds,
     )
 }
 
@@ -134,8 +140,11 @@ pub(crate) fn passes_over<C: Connection>(
     case: &Case,
 ) -> Result<(), Fail> {
     let writer = Writer::failing(alloc, case.write_fails, case.flush_fails);
-    let (start_all, plan) = (case.start_all, case.plan);
-    let (ended, lines) = run_text(alloc, connection, start_all, plan, writer, case.rounds)?;
+    let (plan, settings) = (read_plan(alloc, case.plan)?, standard(case.start_all)?);
+    let (defer, rounds) = (case.defer, case.rounds);
+    let (ended, lines) = run_script(
+        alloc, connection, MACHINE_A, settings, defer, &plan, writer, rounds,
+    )?;
     expect_same_for(rt, &ended, &case.ended, &case.plan);
     expect_same_for(rt, &lines.as_slice(), &case.lines.as_bytes(), &case.plan);
     Ok(())

@@ -5,6 +5,8 @@
 #[cfg(test)]
 mod asserts;
 #[cfg(test)]
+mod deferred_tests;
+#[cfg(test)]
 mod engine_tests;
 #[cfg(test)]
 mod example_tests;
@@ -16,6 +18,8 @@ mod falling;
 mod limit_tests;
 #[cfg(test)]
 mod module_tests;
+#[cfg(test)]
+mod release_tests;
 #[cfg(test)]
 mod request_tests;
 #[cfg(test)]

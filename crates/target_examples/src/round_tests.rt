@@ -62,7 +62,7 @@ fn composites(alloc: Global, reports: &[Report]) -> Result<Vec<u8>, Fail> {
 fn served(alloc: Global, script: &str, rounds: u32) -> Result<(Ended, Vec<u8>), Fail> {
     let settings = Settings::new(false, 65535, Limits::standard()).ok_or("a count limit")?;
     let mut pipe = Streams::new(REQUESTS.as_slice(), Vec::new(alloc));
-    let ended = serve_script(alloc, script, settings, &mut pipe, rounds)?;
+    let ended = serve_script(alloc, script, settings, false, &mut pipe, rounds)?;
     let (_, bytes) = pipe.into_parts();
     Ok((ended, bytes))
 }
@@ -202,7 +202,7 @@ fn served_falling(alloc: Global, prepares: bool, rounds: u32) -> Result<(Ended, 
     let settings = Settings::new(false, 65535, Limits::standard()).ok_or("a count limit")?;
     let mut pipe = Streams::new(REQUESTS.as_slice(), Vec::new(alloc));
     let machine = Falling::new(alloc, prepares)?;
-    let ended = serve_session(alloc, machine, settings, &mut pipe, rounds)?;
+    let ended = serve_session(alloc, machine, settings, false, &mut pipe, rounds)?;
     let (_, bytes) = pipe.into_parts();
     Ok((ended, bytes))
 }

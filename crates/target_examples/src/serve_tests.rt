@@ -1,6 +1,6 @@
 //! Sessions served over the machine of a script, from the bytes read to the bytes written.
 use crate::asserts::expect_same;
-use example_parts::MACHINE_A;
+use example_parts::{MACHINE_A, push_bytes};
 use jdwp_debuggee::Settings;
 use jdwp_pipe::{Ended, Streams};
 use jdwp_script::ScriptFault;
@@ -9,6 +9,7 @@ use jdwp_wire::Limits;
 use std::alloc::Global;
 use std::io;
 use std::io::{ErrorKind, Write};
+use std::process::Abort;
 use std::test::Fail;
 
 /// Keeps what is written. The flush of this number fails, counted from 1.
@@ -78,7 +79,7 @@ fn served(
 ) -> Result<(Ended, Vec<u8>), Fail> {
     let settings = Settings::new(false, 65535, Limits::standard()).ok_or("a count limit")?;
     let mut pipe = Streams::new(input, writer);
-    let ended = serve_script(alloc, MACHINE_A, settings, &mut pipe, rounds)?;
+    let ended = serve_script(alloc, MACHINE_A, settings, false, &mut pipe, rounds)?;
     let (_, writer) = pipe.into_parts();
     Ok((ended, writer.bytes))
 }
@@ -112,10 +113,73 @@ fn a_script_is_refused(rt: HostRuntime) -> Result<(), Fail> {
     let alloc = rt.alloc();
     let settings = Settings::new(false, 65535, Limits::standard()).ok_or("a count limit")?;
     let mut pipe = Streams::new(SESSION.as_slice(), Output::new(alloc, 0));
-    let ended = serve_script(alloc, "A", settings, &mut pipe, 6);
+    let ended = serve_script(alloc, "A", settings, false, &mut pipe, 6);
     expect_same(&rt, &ended, &Err(ScriptFault::NotJson));
     let (rest, writer) = pipe.into_parts();
     expect_same(&rt, &rest.len(), &SESSION.len());
     expect_same(&rt, &writer.calls, &0);
     Ok(())
+}
+
+/// The handshake, Signature of class 10 with id 2, its Status with id 3, and AllThreads with id 4.
+const THREE: &str = "4a44 5750 2d48 616e 6473 6861 6b65
+ 00000013 00000002 00 02 01 000000000000000a 00000013 00000003 00 02 09 000000000000000a
+ 0000000b 00000004 00 01 04";
+
+/// Dispose with id 5.
+const DISPOSE: &str = "0000000b 00000005 00 01 06";
+
+/// The handshake, and VM_START, which suspends all threads.
+const BEGUN: &str = "4a44 5750 2d48 616e 6473 6861 6b65
+ 0000001d 00000001 00 40 64 02 00000001 5a 00000000 0000000000000001";
+
+const SIGNATURE: &str = "00000015 00000002 80 0000 00000006 4c4d61696e3b";
+
+const STATUS: &str = "0000000f 00000003 80 0000 00000003";
+
+const THREADS: &str = "0000001f 00000004 80 0000 00000002 0000000000000001 0000000000000002";
+
+const DISPOSED: &str = "0000000b 00000005 80 0000";
+
+/// Serves these bytes over machine A, whose threads all begin suspended: it ends so, and these are written, one behind the other.
+fn serves(
+    rt: &impl Abort,
+    alloc: Global,
+    defer: bool,
+    input: &[&str],
+    want: Ended,
+    replies: &[&str],
+) -> Result<(), Fail> {
+    let settings = Settings::new(true, 65535, Limits::standard()).ok_or("a count limit")?;
+    let input = joined(alloc, input)?;
+    let mut pipe = Streams::new(input.as_slice(), Vec::new(alloc));
+    let ended = serve_script(alloc, MACHINE_A, settings, defer, &mut pipe, 100)?;
+    let (_, written) = pipe.into_parts();
+    expect_same(rt, &ended, &want);
+    expect_same(rt, &written, &joined(alloc, replies)?);
+    Ok(())
+}
+
+/// The bytes of these, one behind the other.
+fn joined(alloc: Global, parts: &[&str]) -> Result<Vec<u8>, Fail> {
+    let mut all = Vec::new(alloc);
+    for part in parts {
+        push_bytes(&mut all, part)?;
+    }
+    Ok(all)
+}
+
+/// A target that defers replies answers the newest first, once there is nothing more to handle; a Dispose that came before drops them.
+#[test]
+fn replies_are_deferred(rt: HostRuntime) -> Result<(), Fail> {
+    let alloc = rt.alloc();
+    let lost = Ended::LostByRead;
+    let replies = [BEGUN, THREADS, STATUS, SIGNATURE];
+    serves(&rt, alloc, true, &[THREE], lost, &replies)?;
+    let replies = [BEGUN, SIGNATURE, STATUS, THREADS];
+    serves(&rt, alloc, false, &[THREE], lost, &replies)?;
+    let replies = [BEGUN, THREADS, DISPOSED];
+    serves(&rt, alloc, true, &[THREE, DISPOSE], Ended::Done, &replies)?;
+    let replies = [BEGUN, SIGNATURE, STATUS, THREADS, DISPOSED];
+    serves(&rt, alloc, false, &[THREE, DISPOSE], Ended::Done, &replies)
 }

@@ -91,6 +91,12 @@ pub(crate) enum Act {
     Accepts(bool),
     /// The connection is lost.
     Loses,
+    /// It defers from now on, or not.
+    Defers(bool),
+    /// How many commands are deferred.
+    Waits(usize),
+    /// The deferred command at this place is released; the release tells this, and these bytes are sent.
+    Releases(usize, Turn, &'static str),
 }
 
 /// Whether this comes of it.
@@ -115,6 +121,14 @@ pub(crate) fn comes(alloc: Global, target: &mut Target, act: &Act) -> Result<boo
         Act::Loses => {
             target.lose();
             Ok(target.room() == 0 && target.waiting() == 0)
+        }
+        Act::Defers(deferring) => {
+            target.set_deferring(*deferring);
+            Ok(true)
+        }
+        Act::Waits(count) => Ok(target.deferred() == *count),
+        Act::Releases(place, told, output) => {
+            Ok(target.release(*place) == Ok(*told) && sends(alloc, target, output)?)
         }
     }
 }

@@ -2,11 +2,9 @@ use Rattle.std.proofs.lemmas.Grind.{common_steps}
 use Rattle.std.proofs.lemmas.List.{append-nil}
 use Rattle.std.proofs.Common.{◌∙◌, ◌++◌, ◌∷◌, [], inl, sym, ap, refl, arith}
 use Rattle.jdwp_debugger.specs.Debuggers.{Debugger, lost_debugger, with_taken}
-use Rattle.jdwp_pipe.specs.declared.ended.Ended.TheVariants as ended
 use Rattle.jdwp_attach.proofs.Counting.{asked-keeps, counts-kept}
-use Rattle.jdwp_attach.proofs.Ending.{asked-in-order, line-memory, loses-ends, moved-ends, refused-ends, unread-ends}
+use Rattle.jdwp_attach.proofs.Ending.{asked-in-order, line-memory, loses-ends, refused-ends, unread-ends}
 use Rattle.jdwp_attach.proofs.Moves.{asked-moves, asked-open, asked-passes, begins-line, moved-goes, written-none}
-use Rattle.jdwp_attach.proofs.Naming.{line-names, names-kept}
 use Rattle.jdwp_attach.proofs.Reached.{reach-asked}
 use Rattle.jdwp_attach.proofs.RefusedLines.{lost-tells, memory-tells, refused-tells, unread-tells}
 use Rattle.jdwp_attach.proofs.Stages.{asks-append, one-asked, stands-asked}
@@ -31,7 +29,7 @@ returns-then-not-write_out-clause-ends g c = λ out line asks-it done rest base 
     let mid = c.ask.new.self in
     let s = g.P.Pipe.story c.args.pipe.now in
     let s' = g.P.Pipe.story c.write_out.new.pipe in
-    let asked = c.in-Ok-ask.ensures.ok.2 in
+    let asked = c.in_default-ask.ensures.ok.2 in
     let fails = c.if-not-write_out.ensures.fails refl in
     let in-order = asked-in-order done rest line base s out old mid c.args.run.now.left c.args.set c.args.number c.args.bytes.now c.in-Some.sizes c.in-Ok.command asks-it
     (sym c.sizes.ensures ∙ c.in-Some.is) c.in-Ok.ensures.ok asked k in
@@ -44,12 +42,12 @@ returns-then-not-write_out-clause-ends g c = λ out line asks-it done rest base 
       fails = inl (fails.2, fails.3, refl);
     })
 
-pub returns-in-Ok-push-clause-goes : goal.returns-in-Ok-push-clause-goes
-returns-in-Ok-push-clause-goes g c = λ out line asks-it done base k.
+pub returns-clause-goes : goal.returns-clause-goes
+returns-clause-goes g c = λ out line asks-it done base k.
     let old = c.args.debugger.now in
     let mid = c.ask.new.self in
     let s = g.P.Pipe.story c.args.pipe.now in
-    let asked = c.in-Ok-ask.ensures.ok.2 in
+    let asked = c.in_default-ask.ensures.ok.2 in
     let w = c.if-not-write_out.ensures.all refl in
     let one = one-asked line c.args.set c.args.number c.args.bytes.now asks-it in
     let stands = stands-asked done line base.debugger old mid c.args.set c.args.number c.args.bytes.now c.in-Some.sizes c.in-Ok.command asks-it
@@ -59,38 +57,15 @@ returns-in-Ok-push-clause-goes g c = λ out line asks-it done base k.
     (asked-passes done line base.debugger old mid k.told c.in-Ok.command c.args.set c.args.number c.args.bytes.now asks-it k.ready.0 asked k.asked k.reached) refl stands
     (asked-open c.in-Ok.command old mid asked c.requires.ready.0) (omega (arith, asks-append done line, one)) (omega arith) w.0 w.1 (sym (written-none out))
 
-pub returns-in-Err-push-clause-ends : goal.returns-in-Err-push-clause-ends
-returns-in-Err-push-clause-ends g c = λ out line asks-it done rest base k.
-    let old = c.args.debugger.now in
-    let mid = c.ask.new.self in
-    let s = g.P.Pipe.story c.args.pipe.now in
-    let asked = c.in-Ok-ask.ensures.ok.2 in
-    let opened = asked-open c.in-Ok.command old mid asked c.requires.ready.0 in
-    let w = c.if-not-write_out.ensures.all refl in
-    let in-order = asked-in-order done rest line base s out old mid c.args.run.now.left c.args.set c.args.number c.args.bytes.now c.in-Some.sizes c.in-Ok.command asks-it
-    (sym c.sizes.ensures ∙ c.in-Some.is) c.in-Ok.ensures.ok asked k in
-    moved-ends (done ++ line ∷ rest) done base s out old mid c.args.run.now.left c.args.run.now.left c.args.run.now.left 0 1 (g.P.Pipe.story c.write_out.new.pipe) out c.write_out.new.end ended.NoMemory [] k.told
-    (begins-line done rest line) k (asked-moves c.in-Ok.command old mid asked) (reach-asked base.debugger done k.told old mid c.in-Ok.command k.reached k.ready.0 asked) (sym (append-nil k.told)) in-order
-    (λ closed. absurd (let e = sym opened ∙ closed in cc)) (record { debugger = w.0; pipe = w.1; out = refl; left = refl })
-
-pub returns-in-Ok-push-clause-ready : goal.returns-in-Ok-push-clause-ready
-returns-in-Ok-push-clause-ready g c =
+pub returns-clause-ready : goal.returns-clause-ready
+returns-clause-ready g c =
     grind (arith, common_steps)
 
-pub returns-in-Ok-push-clause-counts : goal.returns-in-Ok-push-clause-counts
-returns-in-Ok-push-clause-counts g c =
+pub returns-clause-counts : goal.returns-clause-counts
+returns-clause-counts g c =
     let w = c.if-not-write_out.ensures.all refl in
-    rw w.0 (counts-kept c.args.run.now.composites c.args.debugger.now (with_taken c.ask.new.self.end.outgoing c.ask.new.self) (asked-keeps c.in-Ok.command c.args.debugger.now c.ask.new.self c.in-Ok-ask.ensures.ok.2)
+    rw w.0 (counts-kept c.args.run.now.composites c.args.debugger.now (with_taken c.ask.new.self.end.outgoing c.ask.new.self) (asked-keeps c.in-Ok.command c.args.debugger.now c.ask.new.self c.in_default-ask.ensures.ok.2)
     c.requires.counts)
-
-pub returns-in-Ok-push-clause-names : goal.returns-in-Ok-push-clause-names
-returns-in-Ok-push-clause-names g c =
-    let w = c.if-not-write_out.ensures.all refl in
-    let mid = c.ask.new.self in
-    let asked = c.in-Ok-ask.ensures.ok in
-    rw (w.0, c.in-Ok-push.ensures.items) (names-kept _ mid (with_taken mid.end.outgoing mid) refl refl
-    (line-names c.in-Some.sizes c.args.set c.args.number c.args.bytes.now c.in-Ok.command c.args.run.now.waiting.items c.args.debugger.now mid c.in-Ok-ask.ticket c.in-Ok.ensures.ok asked.1 asked.2
-    c.requires.names))
 
 pub returns-in-Err-NoMemory-clause-tells : goal.returns-in-Err-NoMemory-clause-tells
 returns-in-Err-NoMemory-clause-tells g c = λ out line asks-it. memory-tells line _ _
@@ -107,6 +82,3 @@ returns-in-Err-clause-tells g c = λ out line asks-it.
 
 pub returns-then-not-write_out-clause-tells : goal.returns-then-not-write_out-clause-tells
 returns-then-not-write_out-clause-tells g c = λ out line asks-it. lost-tells line _ _
-
-pub returns-in-Err-push-clause-tells : goal.returns-in-Err-push-clause-tells
-returns-in-Err-push-clause-tells g c = λ out line asks-it. memory-tells line _ _

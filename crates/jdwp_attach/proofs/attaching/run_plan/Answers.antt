@@ -21,7 +21,6 @@ loop-place-init g c =
       goes = c.in_default-until_sizes.ensures.goes [] base (c.in_default.ensures.goes (g.W.Pipe.story c.args.out.now) c.args.run.now.left);
       ready = c.in_default-until_sizes.ensures.ready;
       counts = c.in_default-until_sizes.ensures.counts;
-      names = c.in_default-until_sizes.ensures.names;
       known = c.in_default-until_sizes.ensures.known;
     }
 
@@ -49,7 +48,6 @@ loop-place-preserved g c =
       goes = line-goes-on c.args.plan.now c.loop-place.place c.index-plan-place.result now new c.loop-place-test.true c.index-plan-place.is c.in_default-carry_out.ensures.goes base c.loop-place.invariant.goes;
       ready = c.in_default-carry_out.ensures.ready;
       counts = c.in_default-carry_out.ensures.counts;
-      names = c.in_default-carry_out.ensures.names;
       known = c.in_default-carry_out.ensures.known;
     }
 

@@ -8,7 +8,6 @@ loop-run-preserved g c =
       goes = λ done base k. c.in_default.ensures.goes done base (c.loop-run.invariant.goes done base k);
       ready = c.in_default.ensures.ready;
       counts = c.in_default.ensures.counts;
-      names = c.in_default.ensures.names;
       known = c.in_default.ensures.known c.loop-run.invariant.known;
     }
 

@@ -6,7 +6,6 @@ loop-alloc-preserved g c =
       goes = λ done base k. c.in_default.ensures.goes done base (c.loop-alloc.invariant.goes done base k);
       ready = c.in_default.ensures.ready;
       counts = c.in_default.ensures.counts;
-      names = c.in_default.ensures.names;
     }
 
 pub returns-in-Err-clause-ends : goal.returns-in-Err-clause-ends

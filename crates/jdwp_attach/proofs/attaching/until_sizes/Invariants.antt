@@ -1,4 +1,3 @@
-use Rattle.jdwp_attach.specs.Naming.{Names}
 use Rattle.jdwp_attach.specs.PlanWaits.{Counts}
 use Rattle.jdwp_attach.specs.Runs.{GoesOn, IsReady, at}
 use Rattle.jdwp_attach.proofs.attaching.until_sizes.Given as goal
@@ -9,7 +8,6 @@ invariant-loop-alloc g l = record {
   goes : GoesOn (at (g.P.Pipe.story l.fn.pipe) (g.W.Pipe.story l.fn.out) l.fn.debugger l.fn.run.left) (at (g.P.Pipe.story l.pipe) (g.W.Pipe.story l.out) l.debugger l.run.left);
   ready : IsReady l.debugger;
   counts : Counts l.run.composites l.debugger;
-  names : Names l.run.waiting.items l.debugger;
 }
 
 abbrev pub decreases-loop-alloc : goal.decreases-loop-alloc

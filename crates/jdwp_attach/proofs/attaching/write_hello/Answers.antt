@@ -1,8 +1,7 @@
-use Rattle.std.proofs.Common.{◌∙◌, [], ap, refl}
+use Rattle.std.proofs.Common.{◌∙◌, ap, refl}
 use Rattle.jdwp_debugger.specs.Debuggers.{Debugger, lost_debugger, with_taken}
 use Rattle.jdwp_attach.proofs.Counting.{begun-counts, counts-kept}
 use Rattle.jdwp_attach.proofs.Ending.{hello-ends, hello-goes}
-use Rattle.jdwp_attach.proofs.Naming.{begun-names, names-kept}
 use Rattle.jdwp_attach.proofs.attaching.write_hello.Goals as goal
 
 pub returns-then-not-write_out-clause-ends : goal.returns-then-not-write_out-clause-ends
@@ -21,8 +20,3 @@ returns-clause-counts g c =
     let w = c.if-not-write_out.ensures.all refl in
     rw w.0 (counts-kept 0 c.args.debugger.now (with_taken c.args.debugger.now.end.outgoing c.args.debugger.now) (record { limit = refl; handled = refl; phase = refl; parked = refl })
     (begun-counts c.args.debugger.now c.requires))
-
-pub returns-clause-names : goal.returns-clause-names
-returns-clause-names g c =
-    let w = c.if-not-write_out.ensures.all refl in
-    rw w.0 (names-kept [] c.args.debugger.now (with_taken c.args.debugger.now.end.outgoing c.args.debugger.now) refl refl (begun-names c.args.debugger.now c.requires))

@@ -1,13 +1,12 @@
-use Rattle.std.proofs.Common.{◌-◌, ◌+◌, ◌++◌, [], Ok, ap, refl, arith, rules}
+use Rattle.std.proofs.Common.{◌-◌, ◌+◌, ◌++◌, [], Ok, refl, arith, rules}
 use Rattle.jdwp_end.specs.Ends.{front_of}
-use Rattle.jdwp_debugger.specs.Debuggers.{Debugger, unanswered, with_fed, with_taken}
+use Rattle.jdwp_debugger.specs.Debuggers.{with_fed, with_taken}
 use Rattle.jdwp_debugger.specs.DebuggerTurns.{read_meaning}
 use Rattle.jdwp_attach.specs.PlanWaits.{Counts, composites_of}
 use Rattle.jdwp_tell.specs.Telling.{lines_of}
 use Rattle.jdwp_attach.proofs.Counting.{counts-fewer, counts-kept, counts-turned}
 use Rattle.jdwp_attach.proofs.Ending.{limit-ends, moved-ends, read-ends, turn-ends}
-use Rattle.jdwp_attach.proofs.Moves.{if-err, moved-goes, on-both, on-ok, read-goes, taken-ready}
-use Rattle.jdwp_attach.proofs.Naming.{names-kept, turned-can, turned-names}
+use Rattle.jdwp_attach.proofs.Moves.{if-err, moved-goes, on-ok, read-goes, taken-ready}
 use Rattle.jdwp_attach.proofs.Reached.{reach-turned}
 use Rattle.jdwp_attach.proofs.RefusedLines.{failed-by-turn, read-by-turn, told-by-turn}
 use Rattle.jdwp_attach.proofs.Stages.{turned-puts, turned-stands}
@@ -61,30 +60,23 @@ returns g c =
     (counts-turned (front_of old.end) c.args.run.now.composites old mid c.in-Ok.turn refl c.session.ensures.bytes c.in-Ok.ensures.turns c.requires.counts)
     in
     let reads = read-Whole (front_of old.end) old mid c.in-Ok.turn c.in-Ok.ensures.turns c.in_default.not-Nothing in
-    let waited = unanswered old.pending in
-    let text = lines_of old (Ok c.in-Ok.turn) mid in
+    let text = lines_of (Ok c.in-Ok.turn) mid in
     record {
-      goes = on-ok c.tell.result (λ f done base k.
-          let h = f waited c.requires.names.named in
+      goes = on-ok c.tell.result (λ h done base k.
           moved-goes done done base s o old mid c.args.run.now.left c.tell.new.run.left 1 0 s' o' new text (k.told ++ text) k reads.moves
           (reach-turned base.debugger done k.told old mid (Ok c.in-Ok.turn) k.reached c.in-Ok.ensures.turns) refl
           (turned-stands (front_of old.end) done base.debugger old mid c.in-Ok.turn refl c.in-Ok.ensures.turns c.in_default.not-Nothing h.0 k.stands) h.0 (omega arith) (omega (arith, h.1.left, c.if-run-eq0.false)) h.1.debugger h.1.pipe h.1.out) c.tell.ensures.goes;
-      ready = on-ok c.tell.result (λ f. let h = f waited c.requires.names.named in taken-ready mid new h.0 h.1.debugger) c.tell.ensures.goes;
-      known = on-ok c.tell.result (λ f known. let h = f waited c.requires.names.named in rw h.1.debugger (reads.known known h.0)) c.tell.ensures.goes;
-      left = on-ok c.tell.result (λ f. let h = f waited c.requires.names.named in omega (arith, h.1.left, c.if-run-eq0.false)) c.tell.ensures.goes;
-      counts = on-ok c.tell.result (λ f. let h = f waited c.requires.names.named in rw (c.tell.ensures.counts, h.1.debugger)
+      ready = on-ok c.tell.result (λ h. taken-ready mid new h.0 h.1.debugger) c.tell.ensures.goes;
+      known = on-ok c.tell.result (λ h known. rw h.1.debugger (reads.known known h.0)) c.tell.ensures.goes;
+      left = on-ok c.tell.result (λ h. omega (arith, h.1.left, c.if-run-eq0.false)) c.tell.ensures.goes;
+      counts = on-ok c.tell.result (λ h. rw (c.tell.ensures.counts, h.1.debugger)
           (counts-kept c.saturating_add-run.result mid (with_taken mid.end.outgoing mid) (record { limit = refl; handled = refl; phase = refl; parked = refl }) counts)) c.tell.ensures.goes;
-      names = on-both c.tell.result (λ f table.
-          let h = f waited c.requires.names.named in
-          names-kept c.tell.new.run.waiting.items mid new (ap (λ (d : Debugger). d.pending) h.1.debugger) (ap (λ (d : Debugger). d.tickets) h.1.debugger)
-          (turned-names (front_of old.end) c.args.run.now.waiting.items c.tell.new.run.waiting.items old mid c.in-Ok.turn c.in-Ok.ensures.turns c.requires.names (table waited c.requires.names.named)))
-          c.tell.ensures.goes c.tell.ensures.waits;
-      by_turn = if-err c.tell.result (λ ended h. told-by-turn ended _ _ _ (h waited c.requires.names.named)) c.tell.ensures.ends;
+      by_turn = if-err c.tell.result (λ ended h. told-by-turn ended _ _ _ h) c.tell.ensures.ends;
       ends = if-err c.tell.result (λ ended h plan done base begins k.
           moved-ends plan done base s o old mid c.args.run.now.left (c.args.run.now.left - 1) c.tell.new.run.left 1 0 s' o' new ended text (k.told ++ text) begins k reads.moves
           (reach-turned base.debugger done k.told old mid (Ok c.in-Ok.turn) k.reached c.in-Ok.ensures.turns) refl
           (done, begins, (omega (arith, reads.moves.tickets_are, k.asked), turned-puts (front_of old.end) done base.debugger old mid c.in-Ok.turn refl c.in-Ok.ensures.turns c.in_default.not-Nothing k.stands))
-          (λ closed. (old, c.in-Ok.turn, mid, (done, k.told, k.reached), c.in-Ok.ensures.turns, reads.closes closed, refl)) (h waited c.requires.names.named)) c.tell.ensures.ends;
+          (λ closed. (old, c.in-Ok.turn, mid, (done, k.told, k.reached), c.in-Ok.ensures.turns, reads.closes closed, refl)) h) c.tell.ensures.ends;
     }
 
 pub returns-in-Err-clause-by_turn : goal.returns-in-Err-clause-by_turn
@@ -92,16 +84,6 @@ returns-in-Err-clause-by_turn g c = failed-by-turn c.in-Err.fault c.turn.new.sel
 
 pub returns-in-Nothing-clause-by_turn : goal.returns-in-Nothing-clause-by_turn
 returns-in-Nothing-clause-by_turn g c = if-err c.flush_and_read.result (λ ended h. read-by-turn ended _ _ _ _ h) c.flush_and_read.ensures.ends
-
-pub tell-requires : goal.tell-requires
-tell-requires g c =
-    (unanswered c.args.debugger.now.pending, c.requires.names.named, turned-can (front_of c.args.debugger.now.end) c.args.run.now.waiting.items c.args.debugger.now c.turn.new.self c.in-Ok.turn c.in-Ok.ensures.turns c.requires.names)
-
-pub returns-in-Nothing-clause-names : goal.returns-in-Nothing-clause-names
-returns-in-Nothing-clause-names g c =
-    let more = nothing-More (front_of c.args.debugger.now.end) c.args.debugger.now c.turn.new.self (rw c.in-Nothing.is at c.in-Ok.ensures.turns) in
-    on-ok c.flush_and_read.result (λ m. rw (m.1, more.1)
-    (names-kept c.args.run.now.waiting.items c.args.debugger.now (with_fed m.0 (record c.args.debugger.now { last = [] })) refl refl c.requires.names)) c.flush_and_read.ensures.goes
 
 pub returns-in-Nothing-clause-left : goal.returns-in-Nothing-clause-left
 returns-in-Nothing-clause-left g c =

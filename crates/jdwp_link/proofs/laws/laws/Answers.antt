@@ -31,6 +31,7 @@ returns g c = record {
     calls = c.meets_no_fault.ensures.target;
     one = c.answers_one_that_waits.ensures.one;
     places = c.answers_one_that_waits.ensures.places;
+    few = c.defers_few_commands.ensures;
     known_and_held = c.mirrors_what_was_seen.ensures.known_and_held;
     counts = c.mirrors_what_was_seen.ensures.counts;
     requests = c.mirrors_what_was_seen.ensures.requests;

@@ -20,7 +20,7 @@ returns-in-Ok-clause-pairs g c =
     let f = c.in_default-run_rounds.ensures.finished c.attach.new.link (stands-first g.M.Machine.meaning c.args.plan.now c.attach.new.link) in
     (c.attach.new.link, c.attach.ensures.attaches, ends-finished g.M.Machine.meaning c.args.plan.now c.attach.new.link c.run_rounds.new.link c.lose_both.new.link f c.in-Ok.ensures.loses)
 
-pub returns-clause-pairs : goal.returns-clause-pairs
-returns-clause-pairs g c =
+pub returns-in-Err-lose_both-clause-pairs : goal.returns-in-Err-lose_both-clause-pairs
+returns-in-Err-lose_both-clause-pairs g c =
     let f = c.in_default-run_rounds.ensures.finished c.attach.new.link (stands-first g.M.Machine.meaning c.args.plan.now c.attach.new.link) in
     (c.attach.new.link, c.attach.ensures.attaches, ends-losing g.M.Machine.meaning c.args.plan.now c.attach.new.link c.run_rounds.new.link c.lose_both.new.link c.in-Err-lose_both.ended f c.in-Err-lose_both.ensures.ends c.lose_both.ensures.lost)

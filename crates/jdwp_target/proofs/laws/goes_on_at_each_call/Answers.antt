@@ -1,4 +1,4 @@
-use Rattle.jdwp_target.proofs.TargetRuns.{ran-new, ran-opened, ran-fed, ran-taken, ran-lost, ran-handled, ran-stepped}
+use Rattle.jdwp_target.proofs.TargetRuns.{ran-new, ran-opened, ran-fed, ran-taken, ran-lost, ran-handled, ran-stepped, ran-deferring, ran-released}
 use Rattle.jdwp_target.proofs.laws.goes_on_at_each_call.Goals as goal
 
 pub returns : goal.returns
@@ -12,4 +12,6 @@ returns g c =
       lost = λ v ran. ran-lost m v ran;
       handled = λ v message used fits front sends ran. ran-handled m v message used fits front sends ran;
       stepped = λ v t may sends ran. ran-stepped m v t may sends ran;
+      deferring = λ v deferring ran. ran-deferring m v deferring ran;
+      released = λ v place session there sends ran. ran-released m v place session there sends ran;
     }

@@ -57,11 +57,11 @@ returns c = λ content front.
     let header = c.args.header in
     let here = ap (λ (d : Debugger). front_of d.end) c.self.view_is ∙ front in
     let end = with_handled (Packet header content) c.args.used s.end in
-    let last : c.push.new.self ≡ head.Packet header ∷ [] = c.push.ensures ∙ ap (λ (hs : List Head). hs ++ head.Packet header ∷ []) c.clear.ensures in
+    let last : c.push.new.self ≡ head.Composite header ∷ [] = c.push.ensures ∙ ap (λ (hs : List Head). hs ++ head.Composite header ∷ []) c.clear.ensures in
     let left =
     ap (λ (e : End). record (view_of s) { end = e; mirror = m; last = c.push.new.self }) (c.take_off.ensures (Packet header content) here)
     ∙ ap (λ (hs : List Head). record (view_of s) { end = end; mirror = m; last = hs }) last
-    ∙ ap (λ (d : Debugger). record (with_read (Packet header content) c.args.used (head.Packet header ∷ []) d) { mirror = m }) c.self.view_is in (
+    ∙ ap (λ (d : Debugger). record (with_read (Packet header content) c.args.used (head.Composite header ∷ []) d) { mirror = m }) c.self.view_is in (
       ap bad_where good,
       (
         refl,

@@ -1,14 +1,13 @@
-use Rattle.std.proofs.Common.{◌≡◌, ◌∙◌, ◌<◌, ◌≤◌, List, ap, sym, subst, refl, Bool, [], ◌∷◌, ◌++◌, length, Some, rules, arith}
+use Rattle.std.proofs.Common.{◌≡◌, ◌∙◌, ◌<◌, ◌≤◌, List, ap, sym, subst, refl, Bool, [], ◌∷◌, ◌++◌, length, Some, arith}
 use Rattle.std.specs.Prelude.{remove}
 use Rattle.jdwp_wire.specs.Bytes.{IsBytes}
 use Rattle.jdwp_wire.specs.Streams.{Packet}
 use Rattle.jdwp_end.specs.Ends.{End, front_of, with_handled}
 use Rattle.jdwp_action.specs.Actions.{Command}
 use Rattle.jdwp_debugger.specs.declared.heads.Head.{Head}
-use Rattle.jdwp_debugger.specs.declared.heads.Head.TheVariants as head
 use Rattle.jdwp_debugger.specs.Debuggers.{AreDistinct, AreOwn, Asked, Debugger}
 use Rattle.jdwp_debugger.specs.DebuggersKept.{view_of}
-use Rattle.jdwp_debugger.specs.DebuggerTurns.{IsSaid, closed_where, command_at, command_of, with_read}
+use Rattle.jdwp_debugger.specs.DebuggerTurns.{IsSaid, closed_where, command_at, command_of, reply_head, with_read}
 use Rattle.jdwp_debugger.specs.News.{Answers}
 use Rattle.jdwp_debugger.specs.Runs.{HasRun}
 use Rattle.jdwp_mirror.specs.Messages.{Reply}
@@ -85,12 +84,14 @@ returns c = λ content front.
     let used = c.args.packet.1 in
     let here = ap (λ (d : Debugger). front_of d.end) c.self.view_is ∙ front in
     let end = with_handled (Packet header content) used s.end in
-    let last : c.push.new.self ≡ head.Packet header ∷ [] = c.push.ensures ∙ ap (λ (hs : List Head). hs ++ head.Packet header ∷ []) c.clear.ensures in
+    let told : c.of_reply-head.result ≡ reply_head header (command_at place ps) = c.of_reply-head.ensures ∙ ap (reply_head header) seen in
+    let last : c.push.new.self ≡ reply_head header (command_at place ps) ∷ [] =
+    c.push.ensures ∙ ap (λ (hs : List Head). hs ++ c.of_reply-head.result ∷ []) c.clear.ensures ∙ ap (λ (h : Head). h ∷ []) told in
     let left =
     ap (λ (e : End). record (view_of s) { end = e; mirror = m; pending = c.remove.new.self; last = c.push.new.self }) (c.take_off.ensures (Packet header content) here)
     ∙ ap (λ (qs : List Asked). record (view_of s) { end = end; mirror = m; pending = qs; last = c.push.new.self }) c.remove.ensures
     ∙ ap (λ (hs : List Head). record (view_of s) { end = end; mirror = m; pending = remove s.pending place; last = hs }) last
-    ∙ ap (λ (d : Debugger). record (with_read (Packet header content) used (head.Packet header ∷ []) d) { mirror = m; pending = remove d.pending place }) c.self.view_is in (
+    ∙ ap (λ (d : Debugger). record (with_read (Packet header content) used (reply_head header (command_at place ps) ∷ []) d) { mirror = m; pending = remove d.pending place }) c.self.view_is in (
       refl,
       (
         refl,

@@ -4,8 +4,8 @@ use Rattle.jdwp_target.proofs.target.Target.lose.Goals as goal
 
 pub invariant_of-self : goal.invariant_of-self
 invariant_of-self g c =
-    rw (c.reset.ensures, c.lose.ensures)
-    (right-lost g.M.Machine.meaning c.self.inside.debuggee c.self.inside.began.items c.self.inside.phases.items (length c.self.inside.steps.items) c.self.inside.end c.self.invariant)
+    rw (c.reset.ensures, c.keep_where.ensures, c.lose.ensures)
+    (right-lost g.M.Machine.meaning c.self.inside.debuggee c.self.inside.deferral c.self.inside.began.items c.self.inside.phases.items (length c.self.inside.steps.items) c.self.inside.end c.self.invariant)
 
 pub returns : goal.returns
 returns g c = search rules

@@ -3,7 +3,7 @@ use Rattle.std.proofs.lemmas.List.{length-append}
 use Rattle.jdwp_end.specs.Ends.{is_paused}
 use Rattle.jdwp_debuggee.specs.StepParts as debuggee
 use Rattle.jdwp_target.specs.Insides.{target_of}
-use Rattle.jdwp_target.proofs.StepLemmas.{death-leaves, dies-alone, reports-leave, right-stepped, sends-where, stepped-debuggee, stepped-end, stepped-sends}
+use Rattle.jdwp_target.proofs.StepLemmas.{death-leaves, dies-alone, reports-leave, right-stepped, sends-where, stepped-debuggee, stepped-deferral, stepped-end, stepped-sends}
 use Rattle.jdwp_target.proofs.target.Target.step.Goals as goal
 
 pub fits_step-requires : goal.fits_step-requires
@@ -49,9 +49,10 @@ invariant_of-self-2 g c =
     let step : debuggee.Steps m t s.debuggee c.step.new.self done = rw c.in-Ok-Some.field-0-is at c.in-Ok-Some.ensures.exact in
     let one = stepped-debuggee m t s.debuggee c.step.new.self c.tell.new.debuggee s.end c.sizes-sizes.result c.next_packet-packet.result done step c.sizes-sizes.ensures c.next_packet-packet.ensures c.tell.ensures.debuggee in
     let two = stepped-end m t s.debuggee c.step.new.self s.end c.tell.new.end c.sizes-sizes.result c.next_packet-packet.result done step c.sizes-sizes.ensures c.next_packet-packet.ensures c.tell.ensures.end in
+    let left = stepped-deferral m t s.debuggee s.deferral c.keep_where.new.self s.end c.tell.new.end c.is_established.result two c.is_established.ensures c.keep_where.ensures in
     let counted : length c.push.new.self.items ≡ length s.steps.items + 1 = rw c.push.ensures (length-append s.steps.items (tt ∷ [])) in
     let sends = stepped-sends m t s.debuggee c.step.new.self s.end c.sizes-sizes.result c.next_packet-packet.result s.end.limits.packet done step c.sizes-sizes.ensures c.next_packet-packet.ensures c.fits_step.ensures in
-    rw (one, two, counted) (right-stepped m t s.debuggee s.began.items s.phases.items (length s.steps.items) s.end step.may sends c.self.invariant)
+    rw (one, two, left, counted) (right-stepped m t s.debuggee s.deferral s.began.items s.phases.items (length s.steps.items) s.end step.may sends c.self.invariant)
 
 pub returns-in-Ok-None-clause-steps : goal.returns-in-Ok-None-clause-steps
 returns-in-Ok-None-clause-steps g c = search rules
@@ -68,4 +69,4 @@ returns-clause-packets g c =
     let step : debuggee.Steps m t s.debuggee c.step.new.self done = rw c.in-Ok-Some.field-0-is at c.in-Ok-Some.ensures.exact in
     let flows : is_paused s.end ≡ false = sym c.is_paused.ensures.paused ∙ c.if-is_paused.false in
     let sends = stepped-sends m t s.debuggee c.step.new.self s.end c.sizes-sizes.result c.next_packet-packet.result s.end.limits.packet done step c.sizes-sizes.ensures c.next_packet-packet.ensures c.fits_step.ensures in
-    rw (← c.self.view_is) (sends-where m t (target_of s.debuggee s.began.items s.phases.items (length s.steps.items) s.end) flows step.may sends)
+    rw (← c.self.view_is) (sends-where m t (target_of s.debuggee s.deferral s.began.items s.phases.items (length s.steps.items) s.end) flows step.may sends)

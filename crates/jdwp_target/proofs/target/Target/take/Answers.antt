@@ -5,7 +5,7 @@ use Rattle.jdwp_target.proofs.target.Target.take.Goals as goal
 pub invariant_of-self : goal.invariant_of-self
 invariant_of-self g c =
     let le : c.take.result ≤ length c.self.inside.end.outgoing = omega (arith, c.take.ensures.count) in
-    rw c.take.ensures.taken (right-taken g.M.Machine.meaning c.self.inside.debuggee c.self.inside.began.items c.self.inside.phases.items (length c.self.inside.steps.items) c.self.inside.end c.take.result le c.self.invariant)
+    rw c.take.ensures.taken (right-taken g.M.Machine.meaning c.self.inside.debuggee c.self.inside.deferral c.self.inside.began.items c.self.inside.phases.items (length c.self.inside.steps.items) c.self.inside.end c.take.result le c.self.invariant)
 
 pub returns-clause-count : goal.returns-clause-count
 returns-clause-count g c = search rules

@@ -1,5 +1,5 @@
 //! Moves of the counts of two threads, and how many threads each visits.
-use crate::Counts;
+use levels::Counts;
 use std::test::Fail;
 
 #[test]

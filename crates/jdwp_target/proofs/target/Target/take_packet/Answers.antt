@@ -1,0 +1,466 @@
+use Rattle.std.proofs.Common.{◌≡◌, ◌≤◌, ◌+◌, ◌∙◌, ◌++◌, ◌∷◌, [], length, rules, true, false, arith, ap}
+use Rattle.jdwp_wire.specs.Bytes.{IsBytes}
+use Rattle.jdwp_wire.specs.Limits.{least_packet_limit}
+use Rattle.jdwp_wire.specs.Streams.{Message, Packet, Whole}
+use Rattle.jdwp_wire.specs.declared.packet.PacketKind.TheVariants as kind
+use Rattle.jdwp_end.specs.Ends.{End, HasPacket, front_of}
+use Rattle.jdwp_target.specs.Deeds.{defers}
+use Rattle.jdwp_target.specs.Insides.{target_of}
+use Rattle.jdwp_target.specs.Targets.{full_standing}
+use Rattle.jdwp_target.specs.TurnParts.{IsPutOff, IsRead}
+use Rattle.jdwp_target.specs.declared.target.Turn.TheVariants as turn
+use Rattle.jdwp_target.specs.declared.turning.Came.TheVariants as came
+use Rattle.jdwp_target.proofs.AnswersEncoded.{encodes-command, encodes-ignored, encodes-nothing, encodes-whole}
+use Rattle.jdwp_target.proofs.DeferredTurns.{as-told, put-off-came, put-off-view, reply-apart, right-put-off, room-left, sends-nothing, told-ignored, wants-to-read}
+use Rattle.jdwp_target.proofs.RightTurns.{command-needs, command-room, command-taken, front-room, handled-view, left-deferred, needs-at-once, packet-handshaken, reply-handled, reply-stays, right-handled, sends-whole, taken-off, told-command, turns-wanting, turns-whole}
+use Rattle.jdwp_target.proofs.target.Target.take_packet.Goals as goal
+use Rattle.jdwp_target.proofs.target.Target.take_packet.Goals.{in-Written-1, in-Short-1}
+
+pub read_front-requires : goal.read_front-requires
+read_front-requires g c =
+    rw (← c.self.view_is) at c.requires.packet
+
+pub invariant_of-self-in-Reply : goal.invariant_of-self-in-Reply
+invariant_of-self-in-Reply g c =
+    let m = g.M.Machine.meaning in
+    let t = c.self.inside in
+    let packet : HasPacket c.args.used t.end = rw (← c.self.view_is) at c.requires.packet in
+    let fits : IsBytes t.end.incoming = rw (← c.self.view_is) at c.requires.bytes in
+    let header = packet.0 in
+    let body = packet.1 in
+    let used = c.args.used in
+    let front : front_of t.end ≡ Whole (Packet header body) used = packet.2 in
+    let old = target_of t.debuggee t.deferral t.began.items t.phases.items (length t.steps.items) t.end in
+    let w = c.sizes-sizes.result in
+    let told = c.takes-defers.result in
+    let shaken = packet-handshaken m t.debuggee t.deferral t.began.items t.phases.items (length t.steps.items) t.end header body used c.self.invariant fits front in
+    let read : IsRead w header.id header.kind body (came.Reply) × IsPutOff told header.kind (came.Reply) = rw c.in-Reply.is at (c.in_ok-came.ensures.came header body front) in
+    let error = read.0.0 in
+    let is : header.kind ≡ kind.Reply error = read.0.1 in
+    let at_once : defers (full_standing old) (Packet header body) ≡ false = as-told old header body used told false fits front c.takes-defers.ensures (reply-apart told header.kind error is) in
+    let h = reply-handled m t.debuggee header body used error t.end _ is shaken (taken-off t.end c.read_front.new.end _ (Packet header body) used c.read_front.ensures.same front c.take_off.ensures) in
+    right-handled m t.debuggee _ t.deferral t.deferral t.began.items t.phases.items (length t.steps.items) t.end _ (Packet header body) used c.self.invariant fits front at_once (reply-stays m t.debuggee t.deferral header body error is) h
+
+pub returns-in-Reply-clause-turns : goal.returns-in-Reply-clause-turns
+returns-in-Reply-clause-turns g c =
+    let m = g.M.Machine.meaning in
+    let t = c.self.inside in
+    let packet : HasPacket c.args.used t.end = rw (← c.self.view_is) at c.requires.packet in
+    let fits : IsBytes t.end.incoming = rw (← c.self.view_is) at c.requires.bytes in
+    let header = packet.0 in
+    let body = packet.1 in
+    let used = c.args.used in
+    let front : front_of t.end ≡ Whole (Packet header body) used = packet.2 in
+    let old = target_of t.debuggee t.deferral t.began.items t.phases.items (length t.steps.items) t.end in
+    let w = c.sizes-sizes.result in
+    let told = c.takes-defers.result in
+    let shaken = packet-handshaken m t.debuggee t.deferral t.began.items t.phases.items (length t.steps.items) t.end header body used c.self.invariant fits front in
+    let read : IsRead w header.id header.kind body (came.Reply) × IsPutOff told header.kind (came.Reply) = rw c.in-Reply.is at (c.in_ok-came.ensures.came header body front) in
+    let error = read.0.0 in
+    let is : header.kind ≡ kind.Reply error = read.0.1 in
+    let at_once : defers (full_standing old) (Packet header body) ≡ false = as-told old header body used told false fits front c.takes-defers.ensures (reply-apart told header.kind error is) in
+    let h = reply-handled m t.debuggee header body used error t.end _ is shaken (taken-off t.end c.read_front.new.end _ (Packet header body) used c.read_front.ensures.same front c.take_off.ensures) in
+    rw (← c.self.view_is)
+    (turns-whole m old _ (Packet header body) used _ false front at_once (told-ignored m old header body error is)
+    (handled-view m t.debuggee _ t.deferral t.deferral t.began.items t.phases.items (length t.steps.items) t.end _ (Packet header body) used c.self.invariant at_once (reply-stays m t.debuggee t.deferral header body error is) h))
+
+pub returns-in-Reply-clause-encoded : goal.returns-in-Reply-clause-encoded
+returns-in-Reply-clause-encoded g c =
+    let m = g.M.Machine.meaning in
+    let t = c.self.inside in
+    let packet : HasPacket c.args.used t.end = rw (← c.self.view_is) at c.requires.packet in
+    let fits : IsBytes t.end.incoming = rw (← c.self.view_is) at c.requires.bytes in
+    let header = packet.0 in
+    let body = packet.1 in
+    let used = c.args.used in
+    let front : front_of t.end ≡ Whole (Packet header body) used = packet.2 in
+    let old = target_of t.debuggee t.deferral t.began.items t.phases.items (length t.steps.items) t.end in
+    let w = c.sizes-sizes.result in
+    let told = c.takes-defers.result in
+    let read : IsRead w header.id header.kind body (came.Reply) × IsPutOff told header.kind (came.Reply) = rw c.in-Reply.is at (c.in_ok-came.ensures.came header body front) in
+    let error = read.0.0 in
+    let is : header.kind ≡ kind.Reply error = read.0.1 in
+    let at_once : defers (full_standing old) (Packet header body) ≡ false = as-told old header body used told false fits front c.takes-defers.ensures (reply-apart told header.kind error is) in
+    rw (← c.self.view_is) (encodes-whole m old (Packet header body) used front at_once (encodes-ignored m old header body error is))
+
+pub returns-in-Reply-clause-packets : goal.returns-in-Reply-clause-packets
+returns-in-Reply-clause-packets g c =
+    let m = g.M.Machine.meaning in
+    let t = c.self.inside in
+    let packet : HasPacket c.args.used t.end = rw (← c.self.view_is) at c.requires.packet in
+    let fits : IsBytes t.end.incoming = rw (← c.self.view_is) at c.requires.bytes in
+    let header = packet.0 in
+    let body = packet.1 in
+    let used = c.args.used in
+    let front : front_of t.end ≡ Whole (Packet header body) used = packet.2 in
+    let old = target_of t.debuggee t.deferral t.began.items t.phases.items (length t.steps.items) t.end in
+    let w = c.sizes-sizes.result in
+    let told = c.takes-defers.result in
+    let shaken = packet-handshaken m t.debuggee t.deferral t.began.items t.phases.items (length t.steps.items) t.end header body used c.self.invariant fits front in
+    let read : IsRead w header.id header.kind body (came.Reply) × IsPutOff told header.kind (came.Reply) = rw c.in-Reply.is at (c.in_ok-came.ensures.came header body front) in
+    let error = read.0.0 in
+    let is : header.kind ≡ kind.Reply error = read.0.1 in
+    let at_once : defers (full_standing old) (Packet header body) ≡ false = as-told old header body used told false fits front c.takes-defers.ensures (reply-apart told header.kind error is) in
+    let h = reply-handled m t.debuggee header body used error t.end _ is shaken (taken-off t.end c.read_front.new.end _ (Packet header body) used c.read_front.ensures.same front c.take_off.ensures) in
+    rw (← c.self.view_is) (sends-whole m old (Packet header body) used front at_once h.sends)
+
+pub invariant_of-self-in-Deferred : goal.invariant_of-self-in-Deferred
+invariant_of-self-in-Deferred g c =
+    let m = g.M.Machine.meaning in
+    let t = c.self.inside in
+    let packet : HasPacket c.args.used t.end = rw (← c.self.view_is) at c.requires.packet in
+    let fits : IsBytes t.end.incoming = rw (← c.self.view_is) at c.requires.bytes in
+    let header = packet.0 in
+    let body = packet.1 in
+    let used = c.args.used in
+    let front : front_of t.end ≡ Whole (Packet header body) used = packet.2 in
+    let old = target_of t.debuggee t.deferral t.began.items t.phases.items (length t.steps.items) t.end in
+    let w = c.sizes-sizes.result in
+    let told = c.takes-defers.result in
+    let command = c.in-Deferred.command in
+    let read : IsRead w header.id header.kind body (came.Deferred command) × IsPutOff told header.kind (came.Deferred command) = rw c.in-Deferred.is at (c.in_ok-came.ensures.came header body front) in
+    let deferred : defers (full_standing old) (Packet header body) ≡ true = as-told old header body used told true fits front c.takes-defers.ensures read.1 in
+    let off = taken-off t.end c.read_front.new.end _ (Packet header body) used c.read_front.ensures.same front c.take_off-in-Deferred.ensures in
+    let message = put-off-came t.end w header body used command fits front read.0 in
+    let left = c.push.ensures ∙ ap (λ (x : Message). record t.deferral { commands = t.deferral.commands ++ x ∷ [] }) message in
+    right-put-off m t.debuggee t.deferral _ t.began.items t.phases.items (length t.steps.items) t.end _ header body used c.self.invariant fits front deferred left off
+
+pub push-requires : goal.push-requires
+push-requires g c =
+    let m = g.M.Machine.meaning in
+    let t = c.self.inside in
+    let packet : HasPacket c.args.used t.end = rw (← c.self.view_is) at c.requires.packet in
+    let fits : IsBytes t.end.incoming = rw (← c.self.view_is) at c.requires.bytes in
+    let header = packet.0 in
+    let body = packet.1 in
+    let used = c.args.used in
+    let front : front_of t.end ≡ Whole (Packet header body) used = packet.2 in
+    let old = target_of t.debuggee t.deferral t.began.items t.phases.items (length t.steps.items) t.end in
+    let w = c.sizes-sizes.result in
+    let told = c.takes-defers.result in
+    let command = c.in-Deferred.command in
+    let read : IsRead w header.id header.kind body (came.Deferred command) × IsPutOff told header.kind (came.Deferred command) = rw c.in-Deferred.is at (c.in_ok-came.ensures.came header body front) in
+    let deferred : defers (full_standing old) (Packet header body) ≡ true = as-told old header body used told true fits front c.takes-defers.ensures read.1 in
+    room-left told t.deferral.on (length t.deferral.commands) header.kind c.takes-defers.ensures read.1
+
+pub returns-in-Deferred-clause-turns : goal.returns-in-Deferred-clause-turns
+returns-in-Deferred-clause-turns g c =
+    let m = g.M.Machine.meaning in
+    let t = c.self.inside in
+    let packet : HasPacket c.args.used t.end = rw (← c.self.view_is) at c.requires.packet in
+    let fits : IsBytes t.end.incoming = rw (← c.self.view_is) at c.requires.bytes in
+    let header = packet.0 in
+    let body = packet.1 in
+    let used = c.args.used in
+    let front : front_of t.end ≡ Whole (Packet header body) used = packet.2 in
+    let old = target_of t.debuggee t.deferral t.began.items t.phases.items (length t.steps.items) t.end in
+    let w = c.sizes-sizes.result in
+    let told = c.takes-defers.result in
+    let command = c.in-Deferred.command in
+    let read : IsRead w header.id header.kind body (came.Deferred command) × IsPutOff told header.kind (came.Deferred command) = rw c.in-Deferred.is at (c.in_ok-came.ensures.came header body front) in
+    let deferred : defers (full_standing old) (Packet header body) ≡ true = as-told old header body used told true fits front c.takes-defers.ensures read.1 in
+    let off = taken-off t.end c.read_front.new.end _ (Packet header body) used c.read_front.ensures.same front c.take_off-in-Deferred.ensures in
+    let message = put-off-came t.end w header body used command fits front read.0 in
+    let left = c.push.ensures ∙ ap (λ (x : Message). record t.deferral { commands = t.deferral.commands ++ x ∷ [] }) message in
+    rw (← c.self.view_is)
+    (turns-whole m old _ (Packet header body) used _ true front deferred (ap turn.Deferred read.0.3) (put-off-view m t.debuggee t.deferral _ t.began.items t.phases.items (length t.steps.items) t.end _ header body used fits front deferred left off))
+
+pub returns-in-Deferred-clause-encoded : goal.returns-in-Deferred-clause-encoded
+returns-in-Deferred-clause-encoded g c =
+    let m = g.M.Machine.meaning in
+    let t = c.self.inside in
+    let packet : HasPacket c.args.used t.end = rw (← c.self.view_is) at c.requires.packet in
+    let fits : IsBytes t.end.incoming = rw (← c.self.view_is) at c.requires.bytes in
+    let header = packet.0 in
+    let body = packet.1 in
+    let used = c.args.used in
+    let front : front_of t.end ≡ Whole (Packet header body) used = packet.2 in
+    let old = target_of t.debuggee t.deferral t.began.items t.phases.items (length t.steps.items) t.end in
+    let w = c.sizes-sizes.result in
+    let told = c.takes-defers.result in
+    let command = c.in-Deferred.command in
+    let read : IsRead w header.id header.kind body (came.Deferred command) × IsPutOff told header.kind (came.Deferred command) = rw c.in-Deferred.is at (c.in_ok-came.ensures.came header body front) in
+    let deferred : defers (full_standing old) (Packet header body) ≡ true = as-told old header body used told true fits front c.takes-defers.ensures read.1 in
+    rw (← c.self.view_is) (encodes-nothing m old (Packet header body) used front deferred)
+
+pub returns-in-Deferred-clause-packets : goal.returns-in-Deferred-clause-packets
+returns-in-Deferred-clause-packets g c =
+    let m = g.M.Machine.meaning in
+    let t = c.self.inside in
+    let packet : HasPacket c.args.used t.end = rw (← c.self.view_is) at c.requires.packet in
+    let fits : IsBytes t.end.incoming = rw (← c.self.view_is) at c.requires.bytes in
+    let header = packet.0 in
+    let body = packet.1 in
+    let used = c.args.used in
+    let front : front_of t.end ≡ Whole (Packet header body) used = packet.2 in
+    let old = target_of t.debuggee t.deferral t.began.items t.phases.items (length t.steps.items) t.end in
+    let w = c.sizes-sizes.result in
+    let told = c.takes-defers.result in
+    let command = c.in-Deferred.command in
+    let read : IsRead w header.id header.kind body (came.Deferred command) × IsPutOff told header.kind (came.Deferred command) = rw c.in-Deferred.is at (c.in_ok-came.ensures.came header body front) in
+    let deferred : defers (full_standing old) (Packet header body) ≡ true = as-told old header body used told true fits front c.takes-defers.ensures read.1 in
+    rw (← c.self.view_is) (sends-nothing m old (Packet header body) used front deferred)
+
+pub invariant_of-self-in_ok-done-in-Command : goal.invariant_of-self-in_ok-done-in-Command
+invariant_of-self-in_ok-done-in-Command g c =
+    let m = g.M.Machine.meaning in
+    let t = c.self.inside in
+    let packet : HasPacket c.args.used t.end = rw (← c.self.view_is) at c.requires.packet in
+    let fits : IsBytes t.end.incoming = rw (← c.self.view_is) at c.requires.bytes in
+    let header = packet.0 in
+    let body = packet.1 in
+    let used = c.args.used in
+    let front : front_of t.end ≡ Whole (Packet header body) used = packet.2 in
+    let old = target_of t.debuggee t.deferral t.began.items t.phases.items (length t.steps.items) t.end in
+    let w = c.sizes-sizes.result in
+    let told = c.takes-defers.result in
+    let shaken = packet-handshaken m t.debuggee t.deferral t.began.items t.phases.items (length t.steps.items) t.end header body used c.self.invariant fits front in
+    let id = c.in-Command.id in
+    let asked = c.in-Command.asked in
+    let read : IsRead w header.id header.kind body (came.Command id asked) × IsPutOff told header.kind (came.Command id asked) = rw c.in-Command.is at (c.in_ok-came.ensures.came header body front) in
+    let at_once : defers (full_standing old) (Packet header body) ≡ false = as-told old header body used told false fits front c.takes-defers.ensures read.1 in
+    let off = taken-off t.end c.read_front.new.end _ (Packet header body) used c.read_front.ensures.same front c.take_off-in-Command.ensures in
+    let least : least_packet_limit ≤ t.end.limits.packet = rw (← c.self.view_is) at c.requires.least in
+    let h =
+    command-taken m t.debuggee c.handle.new.debuggee c.reply.new.debuggee header body used t.end c.take_off-in-Command.new.self c.reply.new.end c.in_ok-done-in-Command.done w id asked read.0 c.sizes-sizes.ensures
+    c.in_ok-done-in-Command.ensures.ok shaken c.reply.ensures.debuggee off c.reply.ensures.end c.self.invariant.limits least c.fits_reply.ensures in
+    let left = left-deferred m (Packet header body) t.debuggee c.reply.new.debuggee t.deferral c.keep_where.new.self _ c.reply.new.end c.is_established.result h c.is_established.ensures c.keep_where.ensures in
+    right-handled m t.debuggee _ t.deferral _ t.began.items t.phases.items (length t.steps.items) t.end _ (Packet header body) used c.self.invariant fits front at_once left h
+
+pub invariant_of-self-in_ok-done-in-Command-2 : goal.invariant_of-self-in_ok-done-in-Command-2
+invariant_of-self-in_ok-done-in-Command-2 g c =
+    let m = g.M.Machine.meaning in
+    let t = c.self.inside in
+    let packet : HasPacket c.args.used t.end = rw (← c.self.view_is) at c.requires.packet in
+    let fits : IsBytes t.end.incoming = rw (← c.self.view_is) at c.requires.bytes in
+    let header = packet.0 in
+    let body = packet.1 in
+    let used = c.args.used in
+    let front : front_of t.end ≡ Whole (Packet header body) used = packet.2 in
+    let old = target_of t.debuggee t.deferral t.began.items t.phases.items (length t.steps.items) t.end in
+    let w = c.sizes-sizes.result in
+    let told = c.takes-defers.result in
+    let shaken = packet-handshaken m t.debuggee t.deferral t.began.items t.phases.items (length t.steps.items) t.end header body used c.self.invariant fits front in
+    let id = c.in-Command.id in
+    let asked = c.in-Command.asked in
+    let read : IsRead w header.id header.kind body (came.Command id asked) × IsPutOff told header.kind (came.Command id asked) = rw c.in-Command.is at (c.in_ok-came.ensures.came header body front) in
+    let at_once : defers (full_standing old) (Packet header body) ≡ false = as-told old header body used told false fits front c.takes-defers.ensures read.1 in
+    let off = taken-off t.end c.read_front.new.end _ (Packet header body) used c.read_front.ensures.same front c.take_off-in-Command.ensures in
+    let least : least_packet_limit ≤ t.end.limits.packet = rw (← c.self.view_is) at c.requires.least in
+    let h =
+    command-taken m t.debuggee c.handle.new.debuggee c.reply.new.debuggee header body used t.end c.take_off-in-Command.new.self c.reply.new.end c.in_ok-done-in-Command.done w id asked read.0 c.sizes-sizes.ensures
+    c.in_ok-done-in-Command.ensures.ok shaken c.reply.ensures.debuggee off c.reply.ensures.end c.self.invariant.limits least c.fits_reply.ensures in
+    let left = left-deferred m (Packet header body) t.debuggee c.reply.new.debuggee t.deferral c.keep_where.new.self _ c.reply.new.end c.is_established.result h c.is_established.ensures c.keep_where.ensures in
+    right-handled m t.debuggee _ t.deferral _ t.began.items t.phases.items (length t.steps.items) t.end _ (Packet header body) used c.self.invariant fits front at_once left h
+
+pub returns-in_ok-done-in-Command-clause-turns : goal.returns-in_ok-done-in-Command-clause-turns
+returns-in_ok-done-in-Command-clause-turns g c =
+    let m = g.M.Machine.meaning in
+    let t = c.self.inside in
+    let packet : HasPacket c.args.used t.end = rw (← c.self.view_is) at c.requires.packet in
+    let fits : IsBytes t.end.incoming = rw (← c.self.view_is) at c.requires.bytes in
+    let header = packet.0 in
+    let body = packet.1 in
+    let used = c.args.used in
+    let front : front_of t.end ≡ Whole (Packet header body) used = packet.2 in
+    let old = target_of t.debuggee t.deferral t.began.items t.phases.items (length t.steps.items) t.end in
+    let w = c.sizes-sizes.result in
+    let told = c.takes-defers.result in
+    let shaken = packet-handshaken m t.debuggee t.deferral t.began.items t.phases.items (length t.steps.items) t.end header body used c.self.invariant fits front in
+    let id = c.in-Command.id in
+    let asked = c.in-Command.asked in
+    let read : IsRead w header.id header.kind body (came.Command id asked) × IsPutOff told header.kind (came.Command id asked) = rw c.in-Command.is at (c.in_ok-came.ensures.came header body front) in
+    let at_once : defers (full_standing old) (Packet header body) ≡ false = as-told old header body used told false fits front c.takes-defers.ensures read.1 in
+    let off = taken-off t.end c.read_front.new.end _ (Packet header body) used c.read_front.ensures.same front c.take_off-in-Command.ensures in
+    let least : least_packet_limit ≤ t.end.limits.packet = rw (← c.self.view_is) at c.requires.least in
+    let h =
+    command-taken m t.debuggee c.handle.new.debuggee c.reply.new.debuggee header body used t.end c.take_off-in-Command.new.self c.reply.new.end c.in_ok-done-in-Command.done w id asked read.0 c.sizes-sizes.ensures
+    c.in_ok-done-in-Command.ensures.ok shaken c.reply.ensures.debuggee off c.reply.ensures.end c.self.invariant.limits least c.fits_reply.ensures in
+    let left = left-deferred m (Packet header body) t.debuggee c.reply.new.debuggee t.deferral c.keep_where.new.self _ c.reply.new.end c.is_established.result h c.is_established.ensures c.keep_where.ensures in
+    let tells =
+    told-command m old header body w id asked c.error_of.result read.0 c.sizes-sizes.ensures (λ set number bytes asks. c.error_of.ensures ∙ (c.in_ok-done-in-Command.ensures.ok set number bytes asks).sends.error) in
+    let same : c.match-done.self ≡ target_of c.reply.new.debuggee c.keep_where.new.self t.began.items t.phases.items (length t.steps.items) c.reply.new.end = elim c.match-done.branch [ in-Written-1 w ↦ w.self-is | in-Short-1 w ↦ w.self-is ] in
+    rw (← c.self.view_is)
+    (turns-whole m old c.match-done.self (Packet header body) used _ false front at_once tells
+    (same ∙ handled-view m t.debuggee c.reply.new.debuggee t.deferral c.keep_where.new.self t.began.items t.phases.items (length t.steps.items) t.end c.reply.new.end (Packet header body) used c.self.invariant at_once left h))
+
+pub returns-in_ok-done-in-Command-clause-encoded : goal.returns-in_ok-done-in-Command-clause-encoded
+returns-in_ok-done-in-Command-clause-encoded g c =
+    let m = g.M.Machine.meaning in
+    let t = c.self.inside in
+    let packet : HasPacket c.args.used t.end = rw (← c.self.view_is) at c.requires.packet in
+    let fits : IsBytes t.end.incoming = rw (← c.self.view_is) at c.requires.bytes in
+    let header = packet.0 in
+    let body = packet.1 in
+    let used = c.args.used in
+    let front : front_of t.end ≡ Whole (Packet header body) used = packet.2 in
+    let old = target_of t.debuggee t.deferral t.began.items t.phases.items (length t.steps.items) t.end in
+    let w = c.sizes-sizes.result in
+    let told = c.takes-defers.result in
+    let id = c.in-Command.id in
+    let asked = c.in-Command.asked in
+    let read : IsRead w header.id header.kind body (came.Command id asked) × IsPutOff told header.kind (came.Command id asked) = rw c.in-Command.is at (c.in_ok-came.ensures.came header body front) in
+    let at_once : defers (full_standing old) (Packet header body) ≡ false = as-told old header body used told false fits front c.takes-defers.ensures read.1 in
+    rw (← c.self.view_is) (encodes-whole m old (Packet header body) used front at_once (encodes-command m old header body w id asked read.0 c.sizes-sizes.ensures c.in_ok-done-in-Command.ensures.encoded))
+
+pub returns-in_ok-done-in-Command-clause-packets : goal.returns-in_ok-done-in-Command-clause-packets
+returns-in_ok-done-in-Command-clause-packets g c =
+    let m = g.M.Machine.meaning in
+    let t = c.self.inside in
+    let packet : HasPacket c.args.used t.end = rw (← c.self.view_is) at c.requires.packet in
+    let fits : IsBytes t.end.incoming = rw (← c.self.view_is) at c.requires.bytes in
+    let header = packet.0 in
+    let body = packet.1 in
+    let used = c.args.used in
+    let front : front_of t.end ≡ Whole (Packet header body) used = packet.2 in
+    let old = target_of t.debuggee t.deferral t.began.items t.phases.items (length t.steps.items) t.end in
+    let w = c.sizes-sizes.result in
+    let told = c.takes-defers.result in
+    let shaken = packet-handshaken m t.debuggee t.deferral t.began.items t.phases.items (length t.steps.items) t.end header body used c.self.invariant fits front in
+    let id = c.in-Command.id in
+    let asked = c.in-Command.asked in
+    let read : IsRead w header.id header.kind body (came.Command id asked) × IsPutOff told header.kind (came.Command id asked) = rw c.in-Command.is at (c.in_ok-came.ensures.came header body front) in
+    let at_once : defers (full_standing old) (Packet header body) ≡ false = as-told old header body used told false fits front c.takes-defers.ensures read.1 in
+    let off = taken-off t.end c.read_front.new.end _ (Packet header body) used c.read_front.ensures.same front c.take_off-in-Command.ensures in
+    let least : least_packet_limit ≤ t.end.limits.packet = rw (← c.self.view_is) at c.requires.least in
+    let h =
+    command-taken m t.debuggee c.handle.new.debuggee c.reply.new.debuggee header body used t.end c.take_off-in-Command.new.self c.reply.new.end c.in_ok-done-in-Command.done w id asked read.0 c.sizes-sizes.ensures
+    c.in_ok-done-in-Command.ensures.ok shaken c.reply.ensures.debuggee off c.reply.ensures.end c.self.invariant.limits least c.fits_reply.ensures in
+    rw (← c.self.view_is) (sends-whole m old (Packet header body) used front at_once h.sends)
+
+pub handle-requires : goal.handle-requires
+handle-requires g c =
+    let m = g.M.Machine.meaning in
+    let t = c.self.inside in
+    let packet : HasPacket c.args.used t.end = rw (← c.self.view_is) at c.requires.packet in
+    let fits : IsBytes t.end.incoming = rw (← c.self.view_is) at c.requires.bytes in
+    let header = packet.0 in
+    let body = packet.1 in
+    let used = c.args.used in
+    let front : front_of t.end ≡ Whole (Packet header body) used = packet.2 in
+    let old = target_of t.debuggee t.deferral t.began.items t.phases.items (length t.steps.items) t.end in
+    let w = c.sizes-sizes.result in
+    let told = c.takes-defers.result in
+    let shaken = packet-handshaken m t.debuggee t.deferral t.began.items t.phases.items (length t.steps.items) t.end header body used c.self.invariant fits front in
+    shaken
+
+pub returns-in_err-came-clause-turns : goal.returns-in_err-came-clause-turns
+returns-in_err-came-clause-turns g c =
+    let m = g.M.Machine.meaning in
+    let t = c.self.inside in
+    let packet : HasPacket c.args.used t.end = rw (← c.self.view_is) at c.requires.packet in
+    let fits : IsBytes t.end.incoming = rw (← c.self.view_is) at c.requires.bytes in
+    let header = packet.0 in
+    let body = packet.1 in
+    let used = c.args.used in
+    let front : front_of t.end ≡ Whole (Packet header body) used = packet.2 in
+    let old = target_of t.debuggee t.deferral t.began.items t.phases.items (length t.steps.items) t.end in
+    let w = c.sizes-sizes.result in
+    let told = c.takes-defers.result in
+    let needs = wants-to-read m old header body used w told fits front c.takes-defers.ensures c.sizes-sizes.ensures (c.in_err-came.ensures.came header body front) in
+    rw (← c.self.view_is) (turns-wanting m old _ (Packet header body) used _ front (search rules) needs (search rules))
+
+pub returns-in_err-done-in-Command-clause-turns : goal.returns-in_err-done-in-Command-clause-turns
+returns-in_err-done-in-Command-clause-turns g c =
+    let m = g.M.Machine.meaning in
+    let t = c.self.inside in
+    let packet : HasPacket c.args.used t.end = rw (← c.self.view_is) at c.requires.packet in
+    let fits : IsBytes t.end.incoming = rw (← c.self.view_is) at c.requires.bytes in
+    let header = packet.0 in
+    let body = packet.1 in
+    let used = c.args.used in
+    let front : front_of t.end ≡ Whole (Packet header body) used = packet.2 in
+    let old = target_of t.debuggee t.deferral t.began.items t.phases.items (length t.steps.items) t.end in
+    let w = c.sizes-sizes.result in
+    let told = c.takes-defers.result in
+    let id = c.in-Command.id in
+    let asked = c.in-Command.asked in
+    let read : IsRead w header.id header.kind body (came.Command id asked) × IsPutOff told header.kind (came.Command id asked) = rw c.in-Command.is at (c.in_ok-came.ensures.came header body front) in
+    let at_once : defers (full_standing old) (Packet header body) ≡ false = as-told old header body used told false fits front c.takes-defers.ensures read.1 in
+    let needs = needs-at-once m old (Packet header body) at_once (command-needs m old header body w id asked read.0 c.sizes-sizes.ensures c.in_err-done-in-Command.ensures.memory) in
+    rw (← c.self.view_is) (turns-wanting m old _ (Packet header body) used _ front (search rules) needs (search rules))
+
+pub reply-requires-clause-short : goal.reply-requires-clause-short
+reply-requires-clause-short g c =
+    let m = g.M.Machine.meaning in
+    let t = c.self.inside in
+    let packet : HasPacket c.args.used t.end = rw (← c.self.view_is) at c.requires.packet in
+    let fits : IsBytes t.end.incoming = rw (← c.self.view_is) at c.requires.bytes in
+    let header = packet.0 in
+    let body = packet.1 in
+    let used = c.args.used in
+    let front : front_of t.end ≡ Whole (Packet header body) used = packet.2 in
+    let old = target_of t.debuggee t.deferral t.began.items t.phases.items (length t.steps.items) t.end in
+    let w = c.sizes-sizes.result in
+    let told = c.takes-defers.result in
+    let off = taken-off t.end c.read_front.new.end _ (Packet header body) used c.read_front.ensures.same front c.take_off-in-Command.ensures in
+    let least : least_packet_limit ≤ t.end.limits.packet = rw (← c.self.view_is) at c.requires.least in
+    let room = front-room t.end (Packet header body) used front in
+    rw off (omega (arith, room, least))
+
+pub reply-requires-clause-room : goal.reply-requires-clause-room
+reply-requires-clause-room g c =
+    let m = g.M.Machine.meaning in
+    let t = c.self.inside in
+    let packet : HasPacket c.args.used t.end = rw (← c.self.view_is) at c.requires.packet in
+    let fits : IsBytes t.end.incoming = rw (← c.self.view_is) at c.requires.bytes in
+    let header = packet.0 in
+    let body = packet.1 in
+    let used = c.args.used in
+    let front : front_of t.end ≡ Whole (Packet header body) used = packet.2 in
+    let old = target_of t.debuggee t.deferral t.began.items t.phases.items (length t.steps.items) t.end in
+    let w = c.sizes-sizes.result in
+    let told = c.takes-defers.result in
+    let id = c.in-Command.id in
+    let asked = c.in-Command.asked in
+    let read : IsRead w header.id header.kind body (came.Command id asked) × IsPutOff told header.kind (came.Command id asked) = rw c.in-Command.is at (c.in_ok-came.ensures.came header body front) in
+    let at_once : defers (full_standing old) (Packet header body) ≡ false = as-told old header body used told false fits front c.takes-defers.ensures read.1 in
+    let off = taken-off t.end c.read_front.new.end _ (Packet header body) used c.read_front.ensures.same front c.take_off-in-Command.ensures in
+    let least : least_packet_limit ≤ t.end.limits.packet = rw (← c.self.view_is) at c.requires.least in
+    let room = front-room t.end (Packet header body) used front in
+    rw off (command-room m t.debuggee c.handle.new.debuggee header body t.end c.in_ok-done-in-Command.done w id asked read.0 c.sizes-sizes.ensures c.in_ok-done-in-Command.ensures.ok c.self.invariant.limits least room)
+
+pub take_off-requires : goal.take_off-requires
+take_off-requires g c =
+    let m = g.M.Machine.meaning in
+    let t = c.self.inside in
+    let packet : HasPacket c.args.used t.end = rw (← c.self.view_is) at c.requires.packet in
+    let fits : IsBytes t.end.incoming = rw (← c.self.view_is) at c.requires.bytes in
+    let header = packet.0 in
+    let body = packet.1 in
+    let used = c.args.used in
+    let front : front_of t.end ≡ Whole (Packet header body) used = packet.2 in
+    let old = target_of t.debuggee t.deferral t.began.items t.phases.items (length t.steps.items) t.end in
+    let w = c.sizes-sizes.result in
+    let told = c.takes-defers.result in
+    (Packet header body, ap (λ (e : End). front_of e) c.read_front.ensures.same ∙ front)
+
+pub take_off-requires-in-Deferred : goal.take_off-requires-in-Deferred
+take_off-requires-in-Deferred g c =
+    let m = g.M.Machine.meaning in
+    let t = c.self.inside in
+    let packet : HasPacket c.args.used t.end = rw (← c.self.view_is) at c.requires.packet in
+    let fits : IsBytes t.end.incoming = rw (← c.self.view_is) at c.requires.bytes in
+    let header = packet.0 in
+    let body = packet.1 in
+    let used = c.args.used in
+    let front : front_of t.end ≡ Whole (Packet header body) used = packet.2 in
+    let old = target_of t.debuggee t.deferral t.began.items t.phases.items (length t.steps.items) t.end in
+    let w = c.sizes-sizes.result in
+    let told = c.takes-defers.result in
+    (Packet header body, ap (λ (e : End). front_of e) c.read_front.ensures.same ∙ front)
+
+pub take_off-requires-in-Command : goal.take_off-requires-in-Command
+take_off-requires-in-Command g c =
+    let m = g.M.Machine.meaning in
+    let t = c.self.inside in
+    let packet : HasPacket c.args.used t.end = rw (← c.self.view_is) at c.requires.packet in
+    let fits : IsBytes t.end.incoming = rw (← c.self.view_is) at c.requires.bytes in
+    let header = packet.0 in
+    let body = packet.1 in
+    let used = c.args.used in
+    let front : front_of t.end ≡ Whole (Packet header body) used = packet.2 in
+    let old = target_of t.debuggee t.deferral t.began.items t.phases.items (length t.steps.items) t.end in
+    let w = c.sizes-sizes.result in
+    let told = c.takes-defers.result in
+    (Packet header body, ap (λ (e : End). front_of e) c.read_front.ensures.same ∙ front)
