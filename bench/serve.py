@@ -58,14 +58,14 @@ def processor_time():
     return usage.ru_utime + usage.ru_stime
 
 
-def seconds_of(program, folder, commands):
-    """The seconds of the best of three runs on a file, and the least processor time of one."""
+def seconds_of(program, folder, commands, runs=3):
+    """The seconds of the best of some runs on a file, and the least processor time of one."""
     given = os.path.join(folder, "from")
     with open(given, "wb") as file:
         file.write(session(commands))
     words, made = words_of(program, folder, given, commands)
     times, busy = [], []
-    for _ in range(3):
+    for _ in range(runs):
         start, used = time.perf_counter(), processor_time()
         status = subprocess.run(words).returncode
         times.append(time.perf_counter() - start)

@@ -1,5 +1,5 @@
 -- Commands as they are kept by their ids, and as they wait in the order asked.
-use Rattle.std.proofs.Common.{◌≡◌, ◌∙◌, ℕ, ◌+◌, Bool, true, false, cond, ◌||◌, ◌++◌, List, [], ◌∷◌, Option, Some, None, drop, map, is_some, slice_get, sym, ap, refl, eqb, inl, inr}
+use Rattle.std.proofs.Common.{◌≡◌, ◌∙◌, ℕ, ◌+◌, Bool, true, false, cond, ◌||◌, ◌++◌, List, [], ◌∷◌, Option, Some, None, drop, is_some, slice_get, sym, ap, refl, eqb, inl, inr}
 use Rattle.std.proofs.lemmas.Bool.{cases_Bool, eqb-true, eq-eqb}
 use Rattle.std.proofs.lemmas.List.{drop_more}
 use Rattle.std.proofs.lemmas.Option.{get_or_from_slice_get, slice_get_within}
@@ -23,7 +23,7 @@ eqb_turned a b = elim (cases_Bool (eqb a b)) [
   ]
 ]
 
-any_step : (b : Bool) (x : kept.Asked) (rest : Option kept.Asked) (more : Bool) → is_some rest ≡ more → is_some (cond b (Some x) rest) ≡ (b || more)
+pub any_step : {X : Type 0} (b : Bool) (x : X) (rest : Option X) (more : Bool) → is_some rest ≡ more → is_some (cond b (Some x) rest) ≡ (b || more)
 any_step true x rest more e = refl
 any_step false x rest more e = e
 

@@ -1,4 +1,5 @@
 pub mod Entries
+pub mod Settled
 pub mod Ids
 pub mod Losing
 pub mod Keeping
@@ -14,3 +15,4 @@ pub mod AnsweredReads
 pub mod ReportedReads
 pub mod SizesReads
 pub mod Judged
+pub mod Telling

@@ -6,6 +6,7 @@ pub mod RefusedNumbers
 pub mod FaultNumbers
 pub mod News
 pub mod DebuggerTurns
+pub mod TellsHeads
 pub mod Runs
 pub mod Judging
 pub mod TakingLaws

@@ -1,6 +1,7 @@
 //! What lasts from call to call, that each end reads what the other sent, and which packets are refused.
-ghost use Rattle.std.specs.Prelude.{◌≡◌, ℕ, List, [], Some};
+ghost use Rattle.std.specs.Prelude.{◌≡◌, ℕ, List, [], Some, Ok};
 ghost use Rattle.jdwp_wire.specs.ErrorCodes.{NONE};
+ghost use Rattle.jdwp_wire.specs.Streams.{NextMessage};
 ghost use Rattle.jdwp_wire.specs.Widths.{AreWidths, Widths};
 ghost use Rattle.jdwp_wire.specs.declared.packet.Header.{Header};
 ghost use Rattle.jdwp_event.specs.CompositeBytes.{EncodesComposite};
@@ -11,10 +12,12 @@ ghost use Rattle.jdwp_action.specs.AnswerPackets.{sizes_answer, EncodesAnswer, a
 ghost use Rattle.jdwp_action.specs.CommandPackets.{carried_bytes};
 ghost use Rattle.jdwp_debugger.specs.Asking.{EncodesCommand, ReadsAsAsked, command_header};
 ghost use Rattle.jdwp_debugger.specs.Debuggers.{Debugger};
-ghost use Rattle.jdwp_debugger.specs.DebuggerTurns.{sizes_header};
+ghost use Rattle.jdwp_debugger.specs.DebuggerTurns.{TurnsAt, read_meaning, sizes_header};
 ghost use Rattle.jdwp_debugger.specs.Judging.{EncodesMessage, IsJudgedAs, Stands};
 ghost use Rattle.jdwp_debugger.specs.News.{EIGHT, answer_in, composite_in};
 ghost use Rattle.jdwp_debugger.specs.Runs.{GoesOn};
+ghost use Rattle.jdwp_debugger.specs.TellsHeads.{TellsHeads};
+ghost use Rattle.jdwp_debugger.specs.declared.turning.Read.{Read};
 ghost use Rattle.jdwp_mirror.specs.Messages.{Message, id_sizes};
 ghost use Rattle.jdwp_mirror.specs.Widths.{widths_in};
 
@@ -74,6 +77,14 @@ pub fn reads_widths()
 {
     reads_what_is_encoded();
 }
+
+/// What a turn tells can be told under the heads that it leaves: one of its kind for each message, in the order in which they are told, and
+/// for an answer the one that names the command that waited under its id, with the ticket that is told. It does nothing.
+pub fn tells_what_it_read()
+    ensures { (next : NextMessage) (old new : Debugger) (read : Read)
+        → TurnsAt next old (Ok read) new
+        → TellsHeads old.pending (read_meaning read) new.last new.sizes }
+{}
 
 /// A packet that encodes a message is refused where the message is refused, and for the same. It does nothing.
 pub fn refuses_what_is_refused()

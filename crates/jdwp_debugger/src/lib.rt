@@ -22,6 +22,7 @@ pub use jdwp_mirror::{Carried, Command, KeptRequest, Known, KnownThreads, Mirror
 pub use laws::{
     goes_on_at_each_call, puts_id_sizes, reads_id_sizes_at_any_widths, reads_what_was_answered,
     reads_what_was_asked, reads_what_was_reported, reads_widths, refuses_what_is_refused,
+    tells_what_it_read,
 };
 pub use lost::Lost;
 pub use pending::Ticket;

@@ -1,5 +1,5 @@
 //! The commands that wait for replies.
-ghost use Rattle.std.specs.Prelude.{◌≡◌, ◌<◌, ◌^◌, ◌++◌, ◌∷◌, [], IfSome, OnErr, OnOk, Some, false, length, remove, slice_get};
+ghost use Rattle.std.specs.Prelude.{◌≡◌, ◌<◌, ◌≤◌, ◌^◌, ◌++◌, ◌∷◌, [], IfSome, OnErr, OnOk, Some, drop, false, length, remove, slice_get};
 ghost use Rattle.jdwp_debugger.specs.Asking.{IsNextFree, is_outstanding};
 ghost use Rattle.jdwp_debugger.specs.Debuggers.{at_place, has_tickets, seen_unanswered, unanswered};
 ghost use Rattle.jdwp_debugger.specs.News.{place_of};
@@ -23,21 +23,41 @@ pub(crate) struct Asked {
     pub command: Command,
 }
 
-/// The commands that wait for replies, in the order asked, and by the ids of their packets.
+/// So many settled commands stay in front, where others wait.
+const MOST_SETTLED: usize = 256;
+
+/// The commands that wait for replies, in the order asked, and by the ids of their packets. One that is settled while it is the oldest stays
+/// in front until none waits, or until 256 are settled and as many as wait, and then they go together: to settle the oldest takes no walk
+/// over the others.
 #[derive(Drop)]
 pub(crate) struct Pending {
+    /// Those that were settled as the oldest, and behind them those that wait.
     commands: IndexMap<u32, Asked>,
+    /// How many of them are settled.
+    settled: usize,
 }
 
 impl Model for Pending {
-    ghost use Rattle.std.specs.Prelude.{List};
+    ghost use Rattle.std.specs.Prelude.{◌≤◌, List, length};
     ghost use Rattle.jdwp_debugger.specs.Debuggers as debuggers;
 
     ghost Value = { List debuggers.Asked };
 
-    ghost use Rattle.jdwp_debugger.specs.PendingKept.{asked_in};
+    ghost use Rattle.jdwp_debugger.specs.PendingKept.{waiting_in};
 
-    ghost view = { λ p. asked_in p.commands.entries };
+    ghost view = { λ p. waiting_in p.settled p.commands.entries };
+
+    ghost invariant = { λ p. p.settled ≤ length p.commands.entries };
+}
+
+/// The settled ones, which stand in front, are taken out.
+fn take_out(commands: &mut IndexMap<u32, Asked>, settled: &mut usize)
+    requires { settled.old ≤ length commands.old.entries }
+    ensures others { commands.new.entries ≡ drop settled.old commands.old.entries }
+    ensures none { settled.new ≡ 0 }
+{
+    commands.drain(..*settled);
+    *settled = 0;
 }
 
 impl Pending {
@@ -47,6 +67,7 @@ impl Pending {
     {
         Pending {
             commands: IndexMap::new(alloc),
+            settled: 0,
         }
     }
 
@@ -54,14 +75,14 @@ impl Pending {
     pub fn len(&self) -> usize
         ensures { result ≡ length self.now }
     {
-        self.commands.len()
+        self.commands.len() - self.settled
     }
 
     /// Whether a command waits under this id.
     pub fn has_outstanding(&self, id: u32) -> bool
         ensures { result ≡ is_outstanding self.now id }
     {
-        self.commands.contains_key(&id)
+        self.place_under(id).is_some()
     }
 
     /// The place of the command that waits under an id; None where none does.
@@ -69,7 +90,8 @@ impl Pending {
         ensures place { result ≡ place_of id self.now }
         ensures within { IfSome result (λ place. place < length self.now) }
     {
-        self.commands.get_index_of(&id)
+        let place = self.commands.get_index_of(&id)?;
+        place.checked_sub(self.settled)
     }
 
     /// The command at a place, and the id of its packet.
@@ -77,7 +99,9 @@ impl Pending {
         requires { place < length self.now }
         ensures { slice_get self.now place ≡ Some (asked_of (result.0, result.1.now)) }
     {
-        match self.commands.get_index(place) {
+        // `len` is called for its clause that a map is small, so that the sum does not wrap.
+        let _kept = self.commands.len();
+        match self.commands.get_index(self.settled + place) {
             Some((id, asked)) => (*id, asked),
             None => unreachable!(),
         }
@@ -98,6 +122,9 @@ impl Pending {
             ++ record { id = id; ticket = ticket; command = command } ∷ []) }
         ensures err { OnErr result (self.new ≡ self.old) }
     {
+        if self.commands.contains_key(&id) {
+            take_out(&mut self.commands, &mut self.settled); // it is under a settled one
+        }
         match self.commands.insert(id, Asked { ticket, command }) {
             Ok(_) => Ok(()),
             Err(_) => Err(NoMemory),
@@ -109,7 +136,36 @@ impl Pending {
         requires { place < length self.old }
         ensures { self.new ≡ remove self.old place }
     {
-        let _ = self.commands.shift_remove_index(place);
+        if place == 0 {
+            self.settle_oldest();
+        } else {
+            self.remove_later(place);
+        }
+    }
+
+    /// The oldest waits no more.
+    fn settle_oldest(&mut self)
+        requires { 0 < length self.old }
+        ensures { self.new ≡ remove self.old 0 }
+    {
+        let kept = self.commands.len();
+        self.settled += 1;
+        if self.settled == kept {
+            self.commands.clear();
+            self.settled = 0;
+        } else if self.settled >= MOST_SETTLED.max(kept - self.settled) {
+            take_out(&mut self.commands, &mut self.settled);
+        }
+    }
+
+    /// The command at a place waits no more: those behind it move up.
+    fn remove_later(&mut self, place: usize)
+        requires { place < length self.old }
+        ensures { self.new ≡ remove self.old place }
+    {
+        // `len` is called for its clause that a map is small, so that the sum does not wrap.
+        let _kept = self.commands.len();
+        let _ = self.commands.shift_remove_index(self.settled + place);
     }
 
     /// No command waits any more. It takes no memory.
@@ -117,6 +173,7 @@ impl Pending {
         ensures { self.new ≡ [] }
     {
         self.commands.clear();
+        self.settled = 0;
     }
 
     /// Whether one of them has a ticket.

@@ -11,11 +11,11 @@ ghost use Rattle.jdwp_end.specs.Ends as ends;
 ghost use Rattle.jdwp_end.specs.Ends.{HasPacket, TellsFront, closed_end, front_of, lost_end, most_outgoing, new_end, opened_end, room_of, with_enqueued, with_fed, with_handled, with_taken};
 
 use crate::front::Front;
-use crate::parts::{are_bytes, join, shared};
+use crate::parts::{are_bytes, join, packet_standing, shared, take_into};
 use crate::phase::Phase;
 use crate::session::Session;
 use circular_buffer::HeapCircularBuffer;
-use jdwp_wire::{IdSizes, Limits, NextHello, Standing, Wire, next_hello_in, standing_in};
+use jdwp_wire::{IdSizes, Limits, NextHello, Standing, Wire, next_hello_in};
 use std::alloc::{AllocError, Global};
 use std::marker::Model;
 
@@ -177,7 +177,7 @@ impl End {
                 NextHello::More => Front::More,
                 NextHello::Fault(fault) => Front::Fault(fault),
             },
-            Phase::Established => match standing_in(&self.incoming, &self.limits) {
+            Phase::Established => match packet_standing(&self.incoming, &self.limits) {
                 Standing::Whole(used) => Front::Packet(used),
                 Standing::More => Front::More,
                 Standing::Fault(fault) => Front::Fault(fault),
@@ -283,7 +283,7 @@ impl End {
         ensures bytes { out.new ≡ take result self.old.outgoing ++ drop result out.old }
         ensures taken { self.new ≡ with_taken (take result self.old.outgoing) self.old }
     {
-        let count = self.outgoing.read_into(out);
+        let count = take_into(&mut self.outgoing, out);
         self.session.take(&out[..count]);
         count
     }

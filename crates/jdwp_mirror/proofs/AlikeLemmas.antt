@@ -1,5 +1,5 @@
 -- A lesson without a walk: all are moved alike, and then the thread that the packet is about is put in.
-use Rattle.std.proofs.Common.{inl, inr, ◌≡◌, ℕ, ◌≤◌, ◌+◌, Bool, true, false, ◌||◌, ◌&&◌, not, List, [], ◌∷◌, map, refl, ◌∙◌, ap, sym, subst, Option, Some, None, if◌then◌else◌, arith}
+use Rattle.std.proofs.Common.{◌≡◌, ℕ, ◌+◌, Bool, true, false, ◌||◌, ◌&&◌, not, List, [], ◌∷◌, map, refl, ◌∙◌, ap, sym, Option, Some, None, if◌then◌else◌, arith}
 use Rattle.std.specs.Prelude.{◌==◌}
 use Rattle.std.specs.Map.{values_of}
 use Rattle.std.proofs.lemmas.Bool.Decides.{nat_tests}
@@ -10,9 +10,9 @@ use Rattle.jdwp_mirror.specs.declared.threads.Known.{Known}
 use Rattle.jdwp_mirror.specs.declared.threads.Lesson.{Lesson}
 use Rattle.jdwp_mirror.specs.KnownThreads.{AreDistinct, AreSound, HeldHaveCounts, all_taught, change_of, count_in, is_of_id, taught_by}
 use Rattle.jdwp_mirror.specs.Mirror.{one_more}
-use Rattle.jdwp_mirror.specs.Numbering.{AreBefore, entries_seen, is_kept_or_raised, known_in, moved, moves_alike, own_in, put_in, seen}
-use Rattle.jdwp_mirror.proofs.KnownLemmas.{eq-self, other_of, rest_of, same_from, turned}
-use Rattle.jdwp_mirror.proofs.NumberingLemmas.{known-id, put-absent, unknown-count}
+use Rattle.jdwp_mirror.specs.Numbering.{AreBefore, entries_seen, is_kept_or_raised, known_in, moves_alike, seen}
+use Rattle.jdwp_mirror.proofs.KnownLemmas.{other_of, rest_of, same_from, turned}
+use Rattle.jdwp_mirror.proofs.NumberingLemmas.{known-id, own_in, put-absent, put_in, unknown-count}
 use Rattle.jdwp_mirror.proofs.SeenLemmas.{Kept, seen-more}
 
 abbrev pub IsCounted : Known → Type 0
@@ -38,6 +38,10 @@ sound-mapped : (f : Known → Known) → ((k : Known) → (f k).id.0 ≡ k.id.0)
 sound-mapped f same keeps ks s = record { distinct = distinct-mapped f same ks s.distinct; counted = counted-mapped f keeps ks s.counted }
 
 -- ---- moved
+
+-- a thread whose count becomes what a lesson makes of those of the others
+abbrev pub moved : Lesson → Known → Known
+moved l k = record { id = k.id; count = change_of l.others k.count; held = k.held }
 
 positive-more : (n : ℕ) → (one_more n == 0) ≡ false
 positive-more n = grind (arith, nat_tests)

@@ -1,5 +1,6 @@
 -- What calls leave of threads as they are kept: what holds of them goes on, and which threads they are.
-use Rattle.std.proofs.Common.{◌≡◌, ℕ, ◌≤◌, ◌+◌, Bool, true, List, [], ◌∷◌, ◌++◌, map, refl, ◌∙◌, ap, sym, subst, Option, Some, None, arith}
+use Rattle.std.proofs.Common.{◌≡◌, ℕ, ◌≤◌, ◌+◌, Bool, true, ◌&&◌, ◌||◌, not, List, [], ◌∷◌, ◌++◌, map, refl, ◌∙◌, ap, sym, subst, Some, None, arith}
+use Rattle.std.specs.Prelude.{◌==◌}
 use Rattle.std.specs.List.{filter}
 use Rattle.std.specs.List.Sorted.{IsStrictlySortedBy}
 use Rattle.std.specs.Map.{lookup, remove_entry, set_value, keys_of, values_of}
@@ -7,15 +8,16 @@ use Rattle.std.specs.BTreeMap.{BTreeMap, Updates, get, is_at}
 use Rattle.std.specs.Option.{option_map}
 use Rattle.std.specs.Ordering.{nat_cmp}
 use Rattle.jdwp_mirror.specs.declared.met.Met.{Met}
-use Rattle.jdwp_mirror.specs.declared.threads.Change.TheVariants.{Raise}
+use Rattle.jdwp_mirror.specs.declared.threads.Change.{Change}
+use Rattle.jdwp_mirror.specs.declared.threads.Change.TheVariants.{Keep, Raise, Lower, Set}
 use Rattle.jdwp_mirror.specs.declared.threads.Known.{Known}
 use Rattle.jdwp_mirror.specs.declared.threads.Lesson.{Lesson}
-use Rattle.jdwp_mirror.specs.KnownThreads.{AreSound, all_taught, count_in, only, without}
-use Rattle.jdwp_mirror.specs.Numbering.{AreBefore, AreKept, entries_seen, moved, moves_alike, put_in, seen}
-use Rattle.jdwp_mirror.proofs.KnownLemmas.{sound-added, sound-only, sound-taught, sound-without}
-use Rattle.jdwp_mirror.proofs.NumberingLemmas.{Entries, found, known-id, numbered-added, numbered-only, numbered-removed, numbered-undone, numbered-written, only_entries, put-found, threads-removed, values-added, values-only}
+use Rattle.jdwp_mirror.specs.KnownThreads.{AreSound, all_taught, count_by, count_in, only, shown_by, taught_by, without}
+use Rattle.jdwp_mirror.specs.Numbering.{AreBefore, AreKept, entries_seen, is_kept_or_raised, moves_alike, own_number_in, raised_by, seen}
+use Rattle.jdwp_mirror.proofs.KnownLemmas.{and_twice, sound-added, sound-only, sound-taught, sound-without}
+use Rattle.jdwp_mirror.proofs.NumberingLemmas.{found, known-id, numbered-added, numbered-only, numbered-removed, numbered-undone, numbered-written, only_entries, own-found, own-number, own_in, put-found, put_in, threads-removed, values-added, values-only}
 use Rattle.jdwp_mirror.proofs.SeenLemmas.{Kept, added-seen, before-added, before-anew, before-later, before-only, before-removed, before-written, lookup-seen, numbered-anew, numbered-seen, only-seen, only_kept, ordered-seen, removed-seen, seen-new, taught_kept, values-anew, written-seen}
-use Rattle.jdwp_mirror.proofs.AlikeLemmas.{IsCounted, seen-raised, sound-moved, sound-put}
+use Rattle.jdwp_mirror.proofs.AlikeLemmas.{IsCounted, alike-others, alike-own, moved, moved-kept, seen-raised, sound-moved, sound-put}
 
 abbrev written : ℕ → Known → Met
 written raises k = record { known = k; raises = raises }
@@ -23,6 +25,10 @@ written raises k = record { known = k; raises = raises }
 -- the threads, as they are
 abbrev now : ℕ → Kept → List Known
 now raises es = values_of (entries_seen raises es)
+
+-- what holds of threads goes on, and they are as a lesson leaves them
+abbrev pub AreTaught : Lesson → ℕ → ℕ → Kept → Kept → BTreeMap ℕ ℕ → Type 0
+AreTaught l raises later es new numbers = AreKept later new numbers × (now later new ≡ all_taught l (now raises es))
 
 pub added-kept : (raises : ℕ) (es new : Kept) (before after : BTreeMap ℕ ℕ) (n : ℕ) (m : Met) (k : Known) → AreKept raises es before → count_in (now raises es) k.id.0 ≡ None → IsCounted k → m ≡ written raises k
     → new ≡ es ++ (n, m) ∷ [] → IsStrictlySortedBy nat_cmp (keys_of new) → Updates nat_cmp before after k.id.0 (Some n)
@@ -77,7 +83,7 @@ only-kept test raises es new before after s e ordered numbers =
       values,
     )
 
-pub put-kept : (raises : ℕ) (es new : Kept) (numbers : BTreeMap ℕ ℕ) (n : ℕ) (m w : Met) (v : Known) → AreKept raises es numbers → IsCounted v → get nat_cmp numbers v.id.0 ≡ Some n → lookup (is_at (nat_cmp n)) es ≡ Some m
+put-kept : (raises : ℕ) (es new : Kept) (numbers : BTreeMap ℕ ℕ) (n : ℕ) (m w : Met) (v : Known) → AreKept raises es numbers → IsCounted v → get nat_cmp numbers v.id.0 ≡ Some n → lookup (is_at (nat_cmp n)) es ≡ Some m
     → w ≡ written raises v → new ≡ set_value (is_at (nat_cmp n)) es w → IsStrictlySortedBy nat_cmp (keys_of new)
     → AreKept raises new numbers × (now raises new ≡ map (put_in v) (now raises es))
 put-kept raises es new numbers n m w v s h g here is e ordered =
@@ -97,7 +103,7 @@ put-kept raises es new numbers n m w v s h g here is e ordered =
       values,
     )
 
-pub raised-kept : (l : Lesson) (raises : ℕ) (es : Kept) (numbers : BTreeMap ℕ ℕ) → l.others ≡ Raise → moves_alike l ≡ true → AreKept raises es numbers
+raised-kept : (l : Lesson) (raises : ℕ) (es : Kept) (numbers : BTreeMap ℕ ℕ) → l.others ≡ Raise → moves_alike l ≡ true → AreKept raises es numbers
     → AreKept (raises + 1) es numbers × (now (raises + 1) es ≡ map (moved l) (now raises es))
 raised-kept l raises es numbers o m s =
     let values = seen-raised l raises es o s.before in (
@@ -109,8 +115,39 @@ raised-kept l raises es numbers o m s =
       values,
     )
 
+-- where the others are kept or raised
+alike-kept : (l : Lesson) (raises later : ℕ) (es : Kept) (numbers : BTreeMap ℕ ℕ) → moves_alike l ≡ true → later ≡ raised_by l.others raises → AreKept raises es numbers
+    → AreKept later es numbers × (now later es ≡ map (moved l) (now raises es))
+alike-kept l raises later es numbers m next s =
+    elim l.others as (λ (o : Change). l.others ≡ o → (is_kept_or_raised o && not l.shows_all) ≡ true → later ≡ raised_by o raises → AreKept later es numbers × (now later es ≡ map (moved l) (now raises es))) [
+      | Keep ↦ λ o e f. (subst (λ (r : ℕ). AreKept r es numbers) (sym f) s, ap (λ (r : ℕ). now r es) f ∙ moved-kept l (now raises es) o)
+      | Raise ↦ λ o e f. let all = raised-kept l raises es numbers o m s in (subst (λ (r : ℕ). AreKept r es numbers) (sym f) all.0, ap (λ (r : ℕ). now r es) f ∙ all.1)
+      | Lower ↦ λ o e f. absurd (cc)
+      | Set n ↦ λ o e f. absurd (cc)
+    ] refl m next
+
+-- where, besides, the thread that the lesson is about is not known, or it is about none
+pub others-kept : (l : Lesson) (raises later : ℕ) (es : Kept) (numbers : BTreeMap ℕ ℕ) → moves_alike l ≡ true → later ≡ raised_by l.others raises → AreKept raises es numbers → own_in l.thread (now raises es) ≡ None
+    → AreTaught l raises later es es numbers
+others-kept l raises later es numbers m next s none =
+    let others = alike-kept l raises later es numbers m next s in (others.0, others.1 ∙ alike-others l (now raises es) m s.sound none)
+
+-- where, besides, the thread that the lesson is about is written
+pub own-kept : (l : Lesson) (raises later : ℕ) (es new : Kept) (numbers : BTreeMap ℕ ℕ) (n : ℕ) (m w : Met) → moves_alike l ≡ true → later ≡ raised_by l.others raises → AreKept raises es numbers → own_number_in numbers l.thread ≡ Some n
+    → lookup (is_at (nat_cmp n)) es ≡ Some m → w ≡ written later (taught_by l (seen raises m)) → new ≡ set_value (is_at (nat_cmp n)) es w → IsStrictlySortedBy nat_cmp (keys_of new)
+    → AreTaught l raises later es new numbers
+own-kept l raises later es new numbers n m w a next s g here is e ordered =
+    let k = seen raises m in
+    let v = taught_by l k in
+    let there : lookup (is_at (nat_cmp n)) (entries_seen raises es) ≡ Some k = lookup-seen (is_at (nat_cmp n)) raises es ∙ ap (option_map (seen raises)) here in
+    let own : own_in l.thread (now raises es) ≡ Some k = sym (own-found (entries_seen raises es) numbers l.thread n s.numbered g) ∙ there in
+    let counted : IsCounted v = and_twice (not (count_by l k.id.0 k.count == 0)) (shown_by l k.id.0 || k.held) in
+    let others = alike-kept l raises later es numbers a next s in
+    let all = put-kept later es new numbers n m w v others.0 counted (own-number (now raises es) numbers l.thread n k g own) here is e ordered in
+    (all.0, all.1 ∙ (ap (map (put_in v)) others.1 ∙ alike-own l (now raises es) k a s.sound own))
+
 pub anew-kept : (l : Lesson) (raises : ℕ) (es new : Kept) (numbers : BTreeMap ℕ ℕ) → AreKept raises es numbers → new ≡ taught_kept l raises es → IsStrictlySortedBy nat_cmp (keys_of new)
-    → AreKept 0 new numbers × (now 0 new ≡ all_taught l (now raises es))
+    → AreTaught l raises 0 es new numbers
 anew-kept l raises es new numbers s e ordered =
     let values : now 0 new ≡ all_taught l (now raises es) = ap (now 0) e ∙ values-anew l raises es in (
       record {

@@ -1,5 +1,5 @@
 -- Threads found by their ids.
-use Rattle.std.proofs.Common.{◌≡◌, ℕ, ◌<◌, Bool, true, false, ◌||◌, ◌&&◌, not, List, [], ◌∷◌, ◌++◌, map, refl, ◌∙◌, ap, sym, Option, Some, None, if◌then◌else◌, cond, Greater, arith}
+use Rattle.std.proofs.Common.{◌≡◌, ℕ, ◌<◌, Bool, true, false, not, List, [], ◌∷◌, ◌++◌, map, refl, ◌∙◌, ap, sym, Option, Some, None, is_some, if◌then◌else◌, cond, Greater, arith}
 use Rattle.std.specs.Prelude.{◌==◌}
 use Rattle.std.specs.List.{AllByRecursion, IsDistinct, filter}
 use Rattle.std.specs.Ordering.{eq_by_cmp, nat_cmp}
@@ -10,9 +10,10 @@ use Rattle.std.specs.List.Sorted.{IsStrictlySortedBy}
 use Rattle.std.proofs.lemmas.Map.Entries.{lookup-filter-keys}
 use Rattle.std.proofs.lemmas.Map.Keys.{IsDistinct-from_sorted, IsDistinct-head, IsDistinct-tail}
 use Rattle.std.proofs.lemmas.Bool.Decides.{nat_tests}
+use Rattle.jdwp_value.specs.declared.id.ObjectId.{ObjectId}
 use Rattle.jdwp_mirror.specs.declared.threads.Known.{Known}
 use Rattle.jdwp_mirror.specs.KnownThreads.{only, count_in, is_held_in, without, AreDistinct}
-use Rattle.jdwp_mirror.specs.Numbering.{known_in, number_in, put_in, AreNumbered}
+use Rattle.jdwp_mirror.specs.Numbering.{known_in, number_in, own_number_in, AreNumbered}
 use Rattle.jdwp_mirror.proofs.KnownLemmas.{same_from, turned, other_of, rest_of}
 
 abbrev pub Entries : Type 0
@@ -51,6 +52,11 @@ unknown-held (k ∷ ks) t e =
       | true ↦ λ f. cc
       | false ↦ λ f. unknown-held ks t f
     ] e
+
+-- the thread that a packet is about
+abbrev pub own_in : Option ObjectId → List Known → Option Known
+own_in None ks = None
+own_in (Some t) ks = known_in ks t.0
 
 -- ---- found under its number
 
@@ -92,6 +98,30 @@ found threads numbers t n s e = found-under threads t n (distinct-numbers thread
 
 pub missing : (threads : Entries) (numbers : BTreeMap ℕ ℕ) (t : ℕ) → AreNumbered threads numbers → get nat_cmp numbers t ≡ None → known_in (values_of threads) t ≡ None
 missing threads numbers t s e = missing-known threads t (sym (s.found t) ∙ e)
+
+pub own-found : (threads : Entries) (numbers : BTreeMap ℕ ℕ) (thread : Option ObjectId) (n : ℕ) → AreNumbered threads numbers → own_number_in numbers thread ≡ Some n → lookup (is_at (nat_cmp n)) threads ≡ own_in thread (values_of threads)
+own-found threads numbers None n s e = cc
+own-found threads numbers (Some t) n s e = found threads numbers t.0 n s e
+
+pub own-missing : (threads : Entries) (numbers : BTreeMap ℕ ℕ) (thread : Option ObjectId) → AreNumbered threads numbers → own_number_in numbers thread ≡ None → own_in thread (values_of threads) ≡ None
+own-missing threads numbers None s e = refl
+own-missing threads numbers (Some t) s e = missing threads numbers t.0 s e
+
+number-count : (es : Entries) (t : ℕ) → is_some (number_in es t) ≡ is_some (count_in (values_of es) t)
+number-count [] t = refl
+number-count (x ∷ es) t =
+    elim (x.1.id.0 == t) as (λ b. is_some (if b then Some x.0 else number_in es t) ≡ is_some (if b then Some x.1.count else count_in (values_of es) t)) [
+      | true ↦ refl
+      | false ↦ number-count es t
+    ]
+
+-- known exactly where its number is kept
+pub numbered-count : (threads : Entries) (numbers : BTreeMap ℕ ℕ) (ks : List Known) (t : ℕ) → AreNumbered threads numbers → values_of threads ≡ ks → is_some (count_in ks t) ≡ is_some (get nat_cmp numbers t)
+numbered-count threads numbers ks t s e = ap (λ (xs : List Known). is_some (count_in xs t)) (sym e) ∙ sym (ap is_some (s.found t) ∙ number-count threads t)
+
+pub none-from : (n : Option ℕ) → is_some n ≡ false → n ≡ None
+none-from None e = refl
+none-from (Some n) e = cc
 
 -- ---- added
 
@@ -265,6 +295,14 @@ known-id (k ∷ ks) t w e =
       | true ↦ λ j f. let same : k ≡ w = cc in ap (λ (x : Known). x.id.0) (sym same) ∙ same_from k.id.0 t j
       | false ↦ λ j f. known-id ks t w f
     ] refl e
+
+pub own-number : (ks : List Known) (numbers : BTreeMap ℕ ℕ) (thread : Option ObjectId) (n : ℕ) (w : Known) → own_number_in numbers thread ≡ Some n → own_in thread ks ≡ Some w → get nat_cmp numbers w.id.0 ≡ Some n
+own-number ks numbers None n w e f = cc
+own-number ks numbers (Some t) n w e f = ap (get nat_cmp numbers) (known-id ks t.0 w f) ∙ e
+
+-- another in place of the thread with its id
+abbrev pub put_in : Known → Known → Known
+put_in new k = if k.id.0 == new.id.0 then new else k
 
 pub put-absent : (v : Known) (ks : List Known) → count_in ks v.id.0 ≡ None → map (put_in v) ks ≡ ks
 put-absent v [] e = refl

@@ -9,10 +9,10 @@ use Rattle.std.specs.Map.{keys_of, values_of}
 use Rattle.jdwp_value.specs.declared.id.ObjectId.{ObjectId}
 use Rattle.jdwp_mirror.specs.declared.met.Met.{Met}
 use Rattle.jdwp_mirror.specs.declared.threads.Change.{Change}
-use Rattle.jdwp_mirror.specs.declared.threads.Change.TheVariants.{Keep, Raise, Lower, Set}
+use Rattle.jdwp_mirror.specs.declared.threads.Change.TheVariants.{Keep, Raise}
 use Rattle.jdwp_mirror.specs.declared.threads.Known.{Known}
 use Rattle.jdwp_mirror.specs.declared.threads.Lesson.{Lesson}
-use Rattle.jdwp_mirror.specs.KnownThreads.{AreSound, change_of}
+use Rattle.jdwp_mirror.specs.KnownThreads.{AreSound}
 use Rattle.jdwp_mirror.specs.Mirror.{COUNT_MOST}
 
 -- ---- threads that were raised since they were written
@@ -48,13 +48,10 @@ is_kept_or_raised change = false
 abbrev pub moves_alike : Lesson → Bool
 moves_alike l = is_kept_or_raised l.others && not l.shows_all
 
--- a thread whose count becomes what a lesson makes of those of the others
-abbrev pub moved : Lesson → Known → Known
-moved l k = record { id = k.id; count = change_of l.others k.count; held = k.held }
-
--- another in place of the thread with its id
-abbrev pub put_in : Known → Known → Known
-put_in new k = if k.id.0 == new.id.0 then new else k
+-- how many times all counts are raised after such a change of the others
+abbrev pub raised_by : Change → ℕ → ℕ
+raised_by Raise raises = raises + 1
+raised_by change raises = raises
 
 -- ---- threads under their numbers
 
@@ -63,15 +60,15 @@ abbrev pub known_in : List Known → ℕ → Option Known
 known_in [] t = None
 known_in (k ∷ ks) t = if k.id.0 == t then Some k else known_in ks t
 
--- the thread that a packet is about
-abbrev pub own_in : Option ObjectId → List Known → Option Known
-own_in None ks = None
-own_in (Some t) ks = known_in ks t.0
-
 -- the number of a thread
 abbrev pub number_in : List (ℕ × Known) → ℕ → Option ℕ
 number_in [] t = None
 number_in (e ∷ es) t = if e.1.id.0 == t then Some e.0 else number_in es t
+
+-- the number of the thread that a packet is about
+abbrev pub own_number_in : BTreeMap ℕ ℕ → Option ObjectId → Option ℕ
+own_number_in numbers None = None
+own_number_in numbers (Some t) = get nat_cmp numbers t.0
 
 pub record AreNumbered (threads : List (ℕ × Known)) (numbers : BTreeMap ℕ ℕ) : Type 0 where
   pub ordered : IsStrictlySortedBy nat_cmp (keys_of threads)

@@ -1,5 +1,5 @@
 //! The threads that a debugger knows.
-ghost use Rattle.std.specs.Prelude.{◌≡◌, ◌==◌, ◌&&◌, ◌++◌, ◌∷◌, ◌<◌, IfOk, IsSome, None, OnErr, OnOk, [], map, not, true};
+ghost use Rattle.std.specs.Prelude.{◌≡◌, ◌==◌, ◌&&◌, ◌++◌, ◌∷◌, ◌<◌, IfOk, IfSome, IsSome, None, OnErr, OnOk, [], map, not, true};
 ghost use Rattle.std.specs.Bool.{OnFalse, OnTrue};
 ghost use Rattle.std.specs.BTreeMap.{IsOrdered, get, keys};
 ghost use Rattle.std.specs.BTreeSet.{contains};
@@ -11,7 +11,7 @@ ghost use Rattle.jdwp_mirror.specs.declared.threads.Known.{Known};
 ghost use Rattle.jdwp_mirror.specs.CommandKinds.{lesson_of, lesson_of_event, own_change, others_change, ready_for, with_counted};
 ghost use Rattle.jdwp_mirror.specs.KnownThreads.{AreSound, all_taught, change_of, count_in, is_held_in, is_of_id, only, taught_by, with_thread, without};
 ghost use Rattle.jdwp_mirror.specs.Mirror.{counted, lists};
-ghost use Rattle.jdwp_mirror.specs.Numbering.{anew, known_in, moved, moves_alike, own_in, put_in, seen};
+ghost use Rattle.jdwp_mirror.specs.Numbering.{anew, known_in, moves_alike, own_number_in, raised_by, seen};
 
 use crate::command::CommandKind;
 use crate::known::KnownThreads;
@@ -158,6 +158,18 @@ impl Lesson {
             held: count != 0 && (self.shows_all || is_own || known.held),
         }
     }
+
+    /// How many times all counts are raised once this is learned, or None where that takes a walk over all threads.
+    fn raises_after(self, raises: u64) -> Option<u64>
+        ensures alike { IfSome result (λ _. moves_alike self ≡ true) }
+        ensures next { IfSome result (λ next. next ≡ raised_by self.others raises) }
+    {
+        match (self.others, self.shows_all) {
+            (Change::Keep, false) => Some(raises),
+            (Change::Raise, false) => raises.checked_add(1),
+            _ => None,
+        }
+    }
 }
 
 /// Known threads in the order in which they became known, each once, and found by their ids. To raise all counts takes no walk over
@@ -236,16 +248,6 @@ impl Threads {
         }
     }
 
-    /// The thread that a packet is about, where it is known.
-    fn find_own(&self, thread: Option<ObjectId>) -> Option<Known>
-        ensures { result ≡ own_in thread self.now }
-    {
-        match thread {
-            Some(id) => self.find(id),
-            None => None,
-        }
-    }
-
     /// Makes a thread known, with a count of 0, where it is not.
     ///
     /// # Errors
@@ -255,7 +257,7 @@ impl Threads {
         ensures err { OnErr result (self.new ≡ self.old) }
         ensures memory { OnErr result (count_in self.old id.0 ≡ None) }
     {
-        if self.count(id).is_some() {
+        if self.numbers.contains_key(&id.0) {
             return Ok(());
         }
         self.add(Known {
@@ -292,46 +294,26 @@ impl Threads {
     pub fn learn(&mut self, lesson: Lesson)
         ensures { self.new ≡ all_taught lesson self.old }
     {
-        self.are_sound();
-        let own = self.find_own(lesson.thread);
-        if self.move_others(lesson) {
-            if let Some(known) = own {
-                self.put(lesson.teach(known));
-            }
-        } else {
+        if !self.teach_alike(lesson) {
             self.teach_all(lesson);
         }
     }
 
-    /// Changes all counts as a lesson does those of the others, where that takes no walk over them. Whether it did so.
-    fn move_others(&mut self, lesson: Lesson) -> bool
-        ensures alike { OnTrue result (moves_alike lesson ≡ true) }
-        ensures done { OnTrue result (self.new ≡ map (moved lesson) self.old) }
+    /// Changes all threads where no more than the one that a lesson is about has to be written. Whether it did so.
+    fn teach_alike(&mut self, lesson: Lesson) -> bool
+        ensures done { OnTrue result (self.new ≡ all_taught lesson self.old) }
         ensures other { OnFalse result (self.new ≡ self.old) }
     {
-        match (lesson.others, lesson.shows_all) {
-            (Change::Keep, false) => true,
-            (Change::Raise, false) => match self.raises.checked_add(1) {
-                Some(raises) => {
-                    self.raises = raises;
-                    true
-                }
-                None => false,
-            },
-            _ => false,
-        }
-    }
-
-    /// Puts a thread in place of the one with its id, where that is known.
-    fn put(&mut self, known: Known)
-        requires { known.held ≡ (not (known.count == 0) && known.held) }
-        ensures { self.new ≡ map (put_in known) self.old }
-    {
-        if let Some(number) = self.numbers.get(&known.id.0) {
-            if let Some(met) = self.entries.get_mut(number) {
-                *met = Met::of(known, self.raises);
+        let Some(raises) = lesson.raises_after(self.raises) else {
+            return false;
+        };
+        if let Some(number) = own_number(&self.numbers, lesson.thread) {
+            if let Some(met) = self.entries.get_mut(&number) {
+                *met = Met::of(lesson.teach(met.seen(self.raises)), raises);
             }
         }
+        self.raises = raises;
+        true
     }
 
     /// Changes all threads, one after the other.
@@ -434,6 +416,16 @@ fn next_number(entries: &BTreeMap<u64, Met>) -> Result<u64, NoMemory>
     match last.checked_add(1) {
         Some(number) => Ok(number),
         None => Err(NoMemory),
+    }
+}
+
+/// The number of the thread that a packet is about, where it is known.
+fn own_number(numbers: &BTreeMap<u64, u64>, thread: Option<ObjectId>) -> Option<u64>
+    ensures { result ≡ own_number_in numbers.now thread }
+{
+    match thread {
+        Some(id) => numbers.get(&id.0).copied(),
+        None => None,
     }
 }
 

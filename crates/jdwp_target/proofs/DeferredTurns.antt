@@ -1,6 +1,6 @@
 -- Turns that put a command off, and releases.
-use Rattle.std.proofs.Common.{◌≡◌, ◌∙◌, ℕ, ◌+◌, ◌<◌, ◌≤◌, List, [], ◌∷◌, ◌++◌, length, Bool, true, false, not, ◌&&◌, ◌⊎◌, inl, inr, Option, Some, None, Result, Ok, Err, sym, ap, refl, subst, arith}
-use Rattle.std.specs.Prelude.{IsOk, nat_lt}
+use Rattle.std.proofs.Common.{◌≡◌, ◌∙◌, ℕ, ◌+◌, ◌<◌, ◌≤◌, List, [], ◌∷◌, ◌++◌, length, Bool, true, false, not, ◌&&◌, Option, Some, None, Result, Ok, Err, sym, ap, refl, subst, arith}
+use Rattle.std.specs.Prelude.{IfOk, IsOk, nat_lt}
 use Rattle.std.proofs.lemmas.Bool.{leb-false, ltb-true}
 use Rattle.jdwp_wire.specs.Bytes.{IsBytes}
 use Rattle.jdwp_wire.specs.Streams.{Message, Packet, NextMessage, Whole, AreSendable}
@@ -31,10 +31,10 @@ use Rattle.jdwp_target.specs.Standings.{Handles, handles, stands}
 use Rattle.jdwp_target.specs.Deeds.{Does, FullStanding, Releases, defers, defers_kind, perform}
 use Rattle.jdwp_target.specs.Insides.{Deferral, IsRightTarget, message_of, target_of}
 use Rattle.jdwp_target.specs.Targets.{Ran, Target, full_standing, with_handled, with_release}
-use Rattle.jdwp_target.specs.TurnParts.{IsHandled, IsLong, IsRead, puts_off}
-use Rattle.jdwp_target.specs.Turns.{EncodesFor, EncodesReleased, NeedsMemory, NeedsMemoryToHandle, ReleasesAt, SendsAt, SendsReleased, at_place, deferred_at, kind_needs_memory, told_of, told_of_packet}
+use Rattle.jdwp_target.specs.TurnParts.{IsCommand, IsCopied, IsHandled, IsLong, IsRead, puts_off}
+use Rattle.jdwp_target.specs.Turns.{EncodesFor, EncodesReleased, NeedsMemory, NeedsMemoryToHandle, ReleasesAt, SendsAt, SendsReleased, TurnsAt, at_place, deferred_at, kind_needs_memory, told_of, told_of_packet}
 use Rattle.jdwp_target.specs.ReleaseLaws.{none-found}
-use Rattle.jdwp_target.proofs.RightTurns.{deferral_handled, needs-at-once, needs-to-defer, nothing-put, packet-phase}
+use Rattle.jdwp_target.proofs.RightTurns.{deferral_handled, needs-at-once, nothing-put, packet-phase}
 use Rattle.jdwp_target.proofs.TargetRuns.{ran-handled, ran-released}
 
 -- ---- which commands are put off
@@ -67,27 +67,31 @@ reply-apart told k error is = rw is refl
 pub told-ignored : {S : Type 0} (m : Meaning S) (old : Target S) (header : Header) (body : List ℕ) (error : ErrorCode) → header.kind ≡ kind.Reply error → turn.Ignored ≡ told_of_packet m old header.id header.kind body
 told-ignored m old header body error is = rw is refl
 
--- where a command is put off there is a place left
-room-by : (on less : Bool) (set : ℕ) → ((on && less) && is_deferrable set) ≡ true → less ≡ true
-room-by true true set e = refl
-room-by true false set e = absurd (cc)
-room-by false less set e = absurd (cc)
+-- where a packet is put off it is a command, and there is a place left
+pub puts-off-command : {S : Type 0} (now : FullStanding S) (k : PacketKind) → defers_kind now k ≡ true → IsCommand k
+puts-off-command now (kind.Command set number) e = (set, number, refl)
+puts-off-command now (kind.Reply error) e = absurd (cc)
 
-pub room-left : (told on : Bool) (n : ℕ) (k : PacketKind) → told ≡ takes on n → puts_off told k ≡ true → n < 16
-room-left told on n (kind.Command set number) same e =
-    let less : nat_lt n 16 ≡ true = room-by on (nat_lt n 16) set (subst (λ (b : Bool). (b && is_deferrable set) ≡ true) same e) in
-    ltb-true n 16 less
-room-left told on n (kind.Reply error) same e = absurd (cc)
+room-by : (session on may less : Bool) → (session && (on && (may && less))) ≡ true → less ≡ true
+room-by true true true true e = refl
+room-by true true true false e = absurd (cc)
+room-by true true false less e = absurd (cc)
+room-by true false may less e = absurd (cc)
+room-by false on may less e = absurd (cc)
 
--- what may want memory: that a command is put off, or that its data are read
+pub room-left : {S : Type 0} (now : FullStanding S) (k : PacketKind) → defers_kind now k ≡ true → length now.deferred < 16
+room-left now (kind.Command set number) e =
+    ltb-true (length now.deferred) 16 (room-by (is_established_phase now.standing.phase) now.deferring (is_deferrable set) (nat_lt (length now.deferred) 16) e)
+room-left now (kind.Reply error) e = absurd (cc)
+
+-- what may want memory: that the data of a command are read that is not put off
 reads-kind : {S : Type 0} (m : Meaning S) (old : Target S) (w : Widths) (k : PacketKind) (body : List ℕ) → w ≡ m.sizes old.moment.machine → IsLong w k body → kind_needs_memory m old k body
 reads-kind m old w k body w-is (set, number, is, long, reads) =
     subst (λ (x : PacketKind). kind_needs_memory m old x body) (sym is) (long, subst (λ (x : Widths). IsOk (command_read x set number body)) w-is reads)
 
 pub wants-to-read : {S : Type 0} (m : Meaning S) (old : Target S) (header : Header) (body : List ℕ) (used : ℕ) (w : Widths) (told : Bool) → IsBytes old.end.incoming → front_of old.end ≡ Whole (Packet header body) used
-    → told ≡ takes old.deferring (length old.deferred) → w ≡ m.sizes old.moment.machine → (puts_off told header.kind ≡ true) ⊎ ((puts_off told header.kind ≡ false) × IsLong w header.kind body) → NeedsMemory m old (Packet header body)
-wants-to-read m old header body used w told fits front same w-is (inl off) = needs-to-defer m old (Packet header body) (as-told old header body used told true fits front same off)
-wants-to-read m old header body used w told fits front same w-is (inr (off, long)) =
+    → told ≡ takes old.deferring (length old.deferred) → w ≡ m.sizes old.moment.machine → (puts_off told header.kind ≡ false) × IsLong w header.kind body → NeedsMemory m old (Packet header body)
+wants-to-read m old header body used w told fits front same w-is (off, long) =
     needs-at-once m old (Packet header body) (as-told old header body used told false fits front same off) (reads-kind m old w header.kind body w-is long)
 
 -- ---- what was put off
@@ -98,13 +102,13 @@ due-length limit Closed header body due = absurd due
 due-length limit AwaitingHandshake header body due = absurd (let e = due in cc)
 due-length limit Established header body due = due.length_counts_all
 
-as-came : (w : Widths) (header : Header) (body : List ℕ) (c : DeferredCommand) → IsRead w header.id header.kind body (came.Deferred c) → header.length ≡ 11 + length body → message_of c ≡ Packet header body
-as-came w header body c (set, number, is, id, set-is, number-is, body-is) size = rw (body-is, set-is, number-is, id, ← size, ← is) refl
+as-came : (header : Header) (body : List ℕ) (c : DeferredCommand) → IsCopied header body c → header.length ≡ 11 + length body → message_of c ≡ Packet header body
+as-came header body c (is, id, body-is) size = rw (body-is, id, ← size, ← is) refl
 
-pub put-off-came : (end : End) (w : Widths) (header : Header) (body : List ℕ) (used : ℕ) (c : DeferredCommand) → IsBytes end.incoming → front_of end ≡ Whole (Packet header body) used
-    → IsRead w header.id header.kind body (came.Deferred c) → message_of c ≡ Packet header body
-put-off-came end w header body used c fits front read =
-    as-came w header body c read (due-length end.limits.packet end.phase header body (in-front end (Packet header body) used fits front).1)
+pub put-off-came : (end : End) (header : Header) (body : List ℕ) (used : ℕ) (c : DeferredCommand) → IsBytes end.incoming → front_of end ≡ Whole (Packet header body) used
+    → IsCopied header body c → message_of c ≡ Packet header body
+put-off-came end header body used c fits front copied =
+    as-came header body c copied (due-length end.limits.packet end.phase header body (in-front end (Packet header body) used fits front).1)
 
 pub put-off-view : {S : Type 0} (m : Meaning S) (d : Debuggee S) (x y : Deferral) (began : List (Debuggee S)) (phases : List Phase) (steps : ℕ) (end after : End) (header : Header) (body : List ℕ) (used : ℕ)
     → IsBytes end.incoming → front_of end ≡ Whole (Packet header body) used → defers (full_standing (target_of d x began phases steps end)) (Packet header body) ≡ true
@@ -120,6 +124,16 @@ nothing-sent m v message deferred = rw deferred tt
 
 pub sends-nothing : {S : Type 0} (m : Meaning S) (v : Target S) (message : Message) (used : ℕ) → front_of v.end ≡ Whole message used → defers (full_standing v) message ≡ true → SendsAt m (front_of v.end) v
 sends-nothing m v message used front deferred = subst (λ (x : NextMessage). SendsAt m x v) (sym front) (nothing-sent m v message deferred)
+
+-- what holds whatever is answered
+pub whatever-came : (result : Result Turn TargetFault) (P : Type 0) → P → IfOk result (λ _. P)
+whatever-came (Ok turn) P h = h
+whatever-came (Err fault) P h = tt
+
+-- what is answered where the end was read before, which left it as it was
+pub turns-read : {S : Type 0} (m : Meaning S) (d : Debuggee S) (x : Deferral) (began : List (Debuggee S)) (phases : List Phase) (steps : ℕ) (end read : End) (result : Result Turn TargetFault) (new : Target S) → read ≡ end
+    → TurnsAt m (front_of read) (target_of d x began phases steps read) result new → TurnsAt m (front_of end) (target_of d x began phases steps end) result new
+turns-read m d x began phases steps end read result new same h = subst (λ (e : End). TurnsAt m (front_of e) (target_of d x began phases steps e) result new) same h
 
 pub right-put-off : {S : Type 0} (m : Meaning S) (d : Debuggee S) (x y : Deferral) (began : List (Debuggee S)) (phases : List Phase) (steps : ℕ) (end after : End) (header : Header) (body : List ℕ) (used : ℕ)
     → IsRightTarget m d x began phases steps end → IsBytes end.incoming → front_of end ≡ Whole (Packet header body) used → defers (full_standing (target_of d x began phases steps end)) (Packet header body) ≡ true

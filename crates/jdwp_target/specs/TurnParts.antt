@@ -1,6 +1,6 @@
 -- Parts of a turn, as the code makes them one after the other.
-use Rattle.std.specs.Prelude.{◌≡◌, ◌≤◌, ◌⊎◌, ℕ, ◌+◌, Bool, true, false, ◌||◌, ◌&&◌, List, [], ◌∷◌, length, Result, IsOk, MatchResult}
-use Rattle.jdwp_wire.specs.Streams.{Message, AreSendable}
+use Rattle.std.specs.Prelude.{◌≡◌, ◌≤◌, ℕ, ◌+◌, Bool, true, false, ◌||◌, ◌&&◌, List, [], ◌∷◌, length, Result, IsOk, MatchResult}
+use Rattle.jdwp_wire.specs.Streams.{Message, Packet, Whole, AreSendable}
 use Rattle.jdwp_wire.specs.Frames.{front}
 use Rattle.jdwp_wire.specs.Frames as frames
 use Rattle.jdwp_wire.specs.Widths.{Widths}
@@ -11,7 +11,7 @@ use Rattle.jdwp_wire.specs.declared.packet.PacketKind.{PacketKind}
 use Rattle.jdwp_wire.specs.declared.packet.PacketKind.TheVariants as kind
 use Rattle.jdwp_wire.specs.Limits.{least_packet_limit}
 use Rattle.jdwp_end.specs.declared.phase.Phase.TheVariants.{Established}
-use Rattle.jdwp_end.specs.Ends.{End, closed_end}
+use Rattle.jdwp_end.specs.Ends.{End, closed_end, front_of}
 use Rattle.jdwp_event.specs.Composites.{vm_death}
 use Rattle.jdwp_machine.specs.Meanings.{Meaning}
 use Rattle.jdwp_action.specs.CommandReads.{command_read}
@@ -22,10 +22,13 @@ use Rattle.jdwp_debuggee.specs.Sending.{IsSent, is_short_asked, sent_bytes, sent
 use Rattle.jdwp_debuggee.specs.State.{with_packet}
 use Rattle.jdwp_debuggee.specs.declared.reply.Sent.{Sent}
 use Rattle.jdwp_debuggee.specs.Deferring.{is_deferrable}
+use Rattle.jdwp_target.specs.Deeds.{defers}
 use Rattle.jdwp_target.specs.Sends.{packet_with, report_of}
 use Rattle.jdwp_target.specs.Standings.{handles, stands}
 use Rattle.jdwp_target.specs.StepParts.{debuggee_after, end_after}
+use Rattle.jdwp_target.specs.Targets.{Target, full_standing}
 use Rattle.jdwp_target.specs.Visits.{visits_handled}
+use Rattle.jdwp_target.specs.declared.deferral.DeferredCommand.{DeferredCommand}
 use Rattle.jdwp_target.specs.declared.turning.Came.{Came}
 use Rattle.jdwp_target.specs.declared.turning.Came.TheVariants as came
 use Rattle.jdwp_target.specs.declared.turning.Done.{Done}
@@ -34,14 +37,33 @@ use Rattle.jdwp_target.specs.declared.turning.Done.{Done}
 abbrev pub HoldsPacket : ℕ → List ℕ → Type 0
 HoldsPacket limit bytes = (header : Header) × (body : List ℕ) × (used : ℕ) × (front limit bytes ≡ frames.Whole header body used)
 
+-- a packet of this kind is a command
+abbrev pub IsCommand : PacketKind → Type 0
+IsCommand k = (set : ℕ) × (number : ℕ) × (k ≡ kind.Command set number)
+
+-- a command stands in front of these bytes
+abbrev pub HoldsCommand : ℕ → List ℕ → Type 0
+HoldsCommand limit bytes = (header : Header) × (body : List ℕ) × (used : ℕ) × (front limit bytes ≡ frames.Whole header body used) × IsCommand header.kind
+
+-- a command stands in front of an end, in a packet of so many bytes
+abbrev pub HasCommand : ℕ → End → Type 0
+HasCommand used end = (header : Header) × (body : List ℕ) × (front_of end ≡ Whole (Packet header body) used) × IsCommand header.kind
+
+-- a packet of so many bytes stands in front of a target, which puts it off
+abbrev pub HasDeferred : {S : Type 0} → ℕ → Target S → Type 0
+HasDeferred used t = (header : Header) × (body : List ℕ) × (front_of t.end ≡ Whole (Packet header body) used) × (defers (full_standing t) (Packet header body) ≡ true)
+
+-- what is kept of a command in a packet with this header and these data
+abbrev pub IsCopied : Header → List ℕ → DeferredCommand → Type 0
+IsCopied header body c = (header.kind ≡ kind.Command c.set c.number) × (c.id ≡ header.id) × (c.body.items ≡ body)
+
 -- What was read of a packet of this id and kind with these data: the id of a command and what it comes to, which wants no memory where the
--- command is a short one; a command as it came; and of a reply that it is one.
+-- command is a short one; of one that is put off that it is a command; and of a reply that it is one.
 abbrev pub IsRead : Widths → ℕ → PacketKind → List ℕ → Came → Type 0
 IsRead w id k body (came.Command n asked) =
     (set : ℕ) × (number : ℕ) × (k ≡ kind.Command set number) × (n ≡ id) × (asked_meaning asked ≡ asks (command_read w set number body))
     × (is_short set number ≡ true → is_short_asked (asked_meaning asked) ≡ true)
-IsRead w id k body (came.Deferred c) =
-    (set : ℕ) × (number : ℕ) × (k ≡ kind.Command set number) × (c.id ≡ id) × (c.set ≡ set) × (c.number ≡ number) × (c.body.items ≡ body)
+IsRead w id k body came.Deferred = IsCommand k
 IsRead w id k body came.Reply = (error : ErrorCode) × (k ≡ kind.Reply error)
 
 -- whether a packet of this kind is put off, where those that may be are
@@ -51,19 +73,19 @@ puts_off defers (kind.Reply error) = false
 
 abbrev pub IsPutOff : Bool → PacketKind → Came → Type 0
 IsPutOff defers k (came.Command n asked) = puts_off defers k ≡ false
-IsPutOff defers k (came.Deferred c) = puts_off defers k ≡ true
+IsPutOff defers k came.Deferred = puts_off defers k ≡ true
 IsPutOff defers k came.Reply = Unit {0}
 
 -- commands whose data read, and that are no short ones
 abbrev pub IsLong : Widths → PacketKind → List ℕ → Type 0
 IsLong w k body = (set : ℕ) × (number : ℕ) × (k ≡ kind.Command set number) × (is_short set number ≡ false) × IsOk (command_read w set number body)
 
--- what a packet with this header and these data was read as, where memory may have been wanted: it is where the packet is put off
+-- what a packet with this header and these data was read as, where memory may have been wanted: it is not where the packet is put off
 abbrev pub ReadsPacket : Widths → Header → List ℕ → Bool → Result Came NoMemory → Type 0
 ReadsPacket w header body defers result =
     MatchResult result
     (λ c. IsRead w header.id header.kind body c × IsPutOff defers header.kind c)
-    (λ wanted. (puts_off defers header.kind ≡ true) ⊎ ((puts_off defers header.kind ≡ false) × IsLong w header.kind body))
+    (λ wanted. (puts_off defers header.kind ≡ false) × IsLong w header.kind body)
 
 -- what is sent for a command, as the reply to the command of this id
 abbrev pub reply_of : Widths → ℕ → Sent → Message

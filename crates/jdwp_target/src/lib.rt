@@ -4,6 +4,7 @@
 #![tactic(auto)]
 
 mod deferral;
+mod deferring;
 mod laws;
 mod numbers;
 mod options;

@@ -3,15 +3,18 @@ ghost use Rattle.std.specs.Prelude.{◌≡◌, ◌≤◌, ◌<◌, ◌+◌, ◌^
 ghost use Rattle.jdwp_end.specs.Ends.{most_outgoing, with_enqueued};
 ghost use Rattle.jdwp_wire.specs.Basic.{int_canonical};
 
+use byteorder::{BigEndian, ByteOrder};
 use jdwp_end::End;
-use jdwp_wire::{ErrorCode, IdSizes};
+use jdwp_wire::ErrorCode;
 
 /// Enqueues a number as an int.
-pub fn enqueue_int(number: u32, sizes: &IdSizes, end: &mut End)
+pub fn enqueue_int(number: u32, end: &mut End)
     requires { length end.old.outgoing + 4 ≤ most_outgoing end.old.limits }
     ensures { end.new ≡ with_enqueued (int_canonical (pos number)) end.old }
 {
-    end.put(&number.cast_signed(), sizes);
+    let mut bytes = [0; 4];
+    BigEndian::write_u32(&mut bytes, number);
+    end.enqueue(&bytes);
 }
 
 /// The id of a packet fits its four bytes. It does nothing.

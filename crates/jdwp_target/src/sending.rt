@@ -1,6 +1,7 @@
 //! Replies and composites as they are enqueued to leave.
 ghost use Rattle.std.specs.Prelude.{◌≡◌, ◌≤◌, ◌+◌, None, length, pos};
 ghost use Rattle.jdwp_end.specs.Ends.{most_outgoing, with_enqueued};
+ghost use Rattle.jdwp_wire.specs.Basic.{int_canonical};
 ghost use Rattle.jdwp_wire.specs.Frames.{header_bytes};
 ghost use Rattle.jdwp_wire.specs.Streams.{message_bytes};
 ghost use Rattle.jdwp_wire.specs.Limits.{most_packet_limit};
@@ -12,6 +13,7 @@ ghost use Rattle.jdwp_layout.specs.CommandNumbers as commands;
 ghost use Rattle.jdwp_target.specs.Sends.{packet_with, reply_to, report_of};
 
 use crate::numbers::enqueue_int;
+use byteorder::{BigEndian, ByteOrder};
 use jdwp_debuggee::{Reply, Sent};
 use jdwp_end::End;
 use jdwp_event::{Composite, EventKind, Policy};
@@ -34,6 +36,25 @@ fn enqueue_header(id: u32, error: ErrorCode, size: u32, end: &mut End)
     end.enqueue(&header.to_bytes());
 }
 
+/// Enqueues a number as the reply to the command of this id, with its header at once.
+fn enqueue_number(id: u32, number: u32, end: &mut End)
+    requires { length end.old.outgoing + 15 ≤ most_outgoing end.old.limits }
+    ensures { end.new ≡ with_enqueued (message_bytes (packet_with id
+        (PacketKind.Reply ErrorCode.NONE) (int_canonical (pos number)))) end.old }
+{
+    let header = Header {
+        length: 15,
+        id,
+        kind: PacketKind::Reply {
+            error: ErrorCode::NONE,
+        },
+    };
+    let mut bytes = [0; 15];
+    bytes[..11].copy_from_slice(&header.to_bytes());
+    BigEndian::write_u32(&mut bytes[11..], number);
+    end.enqueue(&bytes);
+}
+
 /// Enqueues a reply that takes no memory, to the command of this id.
 fn enqueue_short(id: u32, reply: Reply, sizes: &IdSizes, end: &mut End)
     requires { length end.old.outgoing + 31 ≤ most_outgoing end.old.limits }
@@ -42,22 +63,19 @@ fn enqueue_short(id: u32, reply: Reply, sizes: &IdSizes, end: &mut End)
 {
     match reply {
         Reply::Done => enqueue_header(id, ErrorCode::NONE, 0, end),
-        Reply::Number(number) => {
-            enqueue_header(id, ErrorCode::NONE, 4, end);
-            enqueue_int(number, sizes, end);
-        }
+        Reply::Number(number) => enqueue_number(id, number, end),
         Reply::Status(count) => {
             enqueue_header(id, ErrorCode::NONE, 8, end);
-            enqueue_int(1, sizes, end);
-            enqueue_int(if count == 0 { 0 } else { 1 }, sizes, end);
+            enqueue_int(1, end);
+            enqueue_int(if count == 0 { 0 } else { 1 }, end);
         }
         Reply::Sizes(widths) => {
             enqueue_header(id, ErrorCode::NONE, 20, end);
-            enqueue_int(u32::from(widths.field()), sizes, end);
-            enqueue_int(u32::from(widths.method()), sizes, end);
-            enqueue_int(u32::from(widths.object()), sizes, end);
-            enqueue_int(u32::from(widths.reference()), sizes, end);
-            enqueue_int(u32::from(widths.frame()), sizes, end);
+            enqueue_int(u32::from(widths.field()), end);
+            enqueue_int(u32::from(widths.method()), end);
+            enqueue_int(u32::from(widths.object()), end);
+            enqueue_int(u32::from(widths.reference()), end);
+            enqueue_int(u32::from(widths.frame()), end);
         }
         Reply::Refused(error) => enqueue_header(id, error, 0, end),
     }
@@ -127,7 +145,7 @@ pub fn enqueue_death(id: u32, sizes: &IdSizes, end: &mut End)
 {
     enqueue_composite_header(id, 10, end);
     end.put(&Policy::None.byte(), sizes);
-    enqueue_int(1, sizes, end);
+    enqueue_int(1, end);
     end.put(&EventKind::VmDeath.byte(), sizes);
-    enqueue_int(0, sizes, end);
+    enqueue_int(0, end);
 }

@@ -24,7 +24,7 @@ ghost use Rattle.jdwp_target.specs.TurnParts.{HoldsPacket, IsDone, ReadsPacket, 
 ghost use Rattle.jdwp_target.specs.Turns.{EncodesNext, SendsAt, TurnsAt};
 ghost use Rattle.jdwp_target.specs.Visits.{visits_hello, visits_read};
 
-use crate::deferral::{DeferredCommand, may_be_deferred};
+use crate::deferral::may_be_deferred;
 use crate::numbers::{enqueue_int, fits_code, fits_id};
 use crate::sending::{enqueue_composite_header, enqueue_death, enqueue_reply};
 use crate::target::{Target, TargetFault, Turn};
@@ -44,7 +44,7 @@ pub(crate) enum Came {
     /// A command: its id, and what it comes to.
     Command(u32, ParsedCommand),
     /// A command whose reply is to be deferred.
-    Deferred(DeferredCommand),
+    Deferred,
     /// A reply, which means nothing to a target.
     Reply,
 }
@@ -113,12 +113,7 @@ impl<M: Machine + Drop> Target<M> {
                 self.end.take_off(used);
                 Ok(Turn::Ignored)
             }
-            Came::Deferred(command) => {
-                let id = command.id;
-                self.end.take_off(used);
-                self.deferral.push(command);
-                Ok(Turn::Deferred(id))
-            }
+            Came::Deferred => self.defer(used),
             Came::Command(id, asked) => {
                 let done = handle(&mut self.debuggee, self.alloc, asked)?;
                 fits_reply(id, &done, &sizes, &self.debuggee);
@@ -158,7 +153,7 @@ fn read_front(
 /// What came in the packet in front of these bytes, where so is said of the commands that may be deferred.
 ///
 /// # Errors
-/// `NoMemory` where an allocation was refused, at a command that is deferred, or whose data read and that is none of the twelve short
+/// `NoMemory` where an allocation was refused, at a command that is not deferred, whose data read and that is none of the twelve short
 /// ones.
 fn read_packet(
     alloc: Global,
@@ -193,13 +188,7 @@ fn read_came(
     match packet.header.kind {
         PacketKind::Command { set, number } => {
             if defers && may_be_deferred(set) {
-                let body = Vec::from_slice(alloc, packet.body)?;
-                return Ok(Came::Deferred(DeferredCommand {
-                    id,
-                    set,
-                    number,
-                    body,
-                }));
+                return Ok(Came::Deferred);
             }
             let asked = read_command(alloc, set, number, sizes, packet.body)?;
             Ok(Came::Command(id, asked))
@@ -242,9 +231,9 @@ fn enqueue_start(start: Start, sizes: &IdSizes, end: &mut End)
 {
     enqueue_composite_header(start.packet, 10 + u32::from(sizes.object()), end);
     end.put(&start.policy.byte(), sizes);
-    enqueue_int(1, sizes, end);
+    enqueue_int(1, end);
     end.put(&EventKind::VmStart.byte(), sizes);
-    enqueue_int(0, sizes, end);
+    enqueue_int(0, end);
     end.put(&start.thread, sizes);
 }
 

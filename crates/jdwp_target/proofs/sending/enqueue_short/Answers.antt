@@ -32,9 +32,6 @@ enqueue_int-requires c = grind (arith, common_steps)
 pub enqueue_int-requires-in-Status : goal.enqueue_int-requires-in-Status
 enqueue_int-requires-in-Status c = grind (arith, common_steps)
 
-pub enqueue_int-requires-in-Status-2 : goal.enqueue_int-requires-in-Status-2
-enqueue_int-requires-in-Status-2 c = grind (arith, common_steps)
-
 pub enqueue_int-requires-in-Sizes : goal.enqueue_int-requires-in-Sizes
 enqueue_int-requires-in-Sizes c = grind (arith, common_steps)
 
@@ -49,9 +46,6 @@ enqueue_int-requires-in-Sizes-4 c = grind (arith, common_steps)
 
 pub enqueue_int-requires-in-Sizes-5 : goal.enqueue_int-requires-in-Sizes-5
 enqueue_int-requires-in-Sizes-5 c = grind (arith, common_steps)
-
-pub returns-in-Number : goal.returns-in-Number
-returns-in-Number c = grind (arith, common_steps)
 
 pub returns-after-count-eq0 : goal.returns-after-count-eq0
 returns-after-count-eq0 c = grind (arith, common_steps)

@@ -1,6 +1,6 @@
-use Rattle.std.proofs.Common.{◌∙◌}
-use Rattle.jdwp_debugger.proofs.Entries.{outstanding_is}
+use Rattle.std.proofs.Common.{◌∙◌, ap, is_some}
+use Rattle.jdwp_debugger.proofs.Settled.{has_place}
 use Rattle.jdwp_debugger.proofs.pending.Pending.has_outstanding.Goals as goal
 
 pub returns : goal.returns
-returns c = rw (← c.self.view_is) (c.contains_key.ensures ∙ outstanding_is c.args.id c.self.inside.commands.entries)
+returns c = c.is_some.ensures ∙ ap is_some c.place_under.ensures.place ∙ has_place c.args.id c.args.self.now

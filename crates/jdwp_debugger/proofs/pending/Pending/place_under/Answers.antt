@@ -1,10 +1,15 @@
-use Rattle.std.proofs.Common.{◌∙◌, eqb}
-use Rattle.std.specs.Map.{keys_of}
-use Rattle.std.proofs.lemmas.Iterator.Adapters.{position_from-zero}
-use Rattle.jdwp_debugger.proofs.Entries.{place_is}
+use Rattle.std.proofs.Common.{◌∙◌, None, Some}
+use Rattle.jdwp_debugger.proofs.Settled.{behind_from, place_waits}
 use Rattle.jdwp_debugger.proofs.pending.Pending.place_under.Goals as goal
+
+pub returns-in_err-place-clause-place : goal.returns-in_err-place-clause-place
+returns-in_err-place-clause-place c =
+    let kept = c.self.inside in
+    rw (← c.self.view_is) (c.from_residual.ensures ∙ place_waits c.args.id kept.settled kept.commands.entries None c.get_index_of.ensures.unique c.in_err-place.ensures.index)
 
 pub returns-clause-place : goal.returns-clause-place
 returns-clause-place c =
-    let es = c.self.inside.commands.entries in
-    rw (← c.self.view_is) (c.get_index_of.ensures.index ∙ position_from-zero (eqb c.args.id) (keys_of es) ∙ place_is c.args.id 0 es)
+    let kept = c.self.inside in
+    let place = c.in_ok-place.place in
+    rw (← c.self.view_is) (behind_from kept.settled place c.checked_sub.result c.checked_sub.ensures
+    ∙ place_waits c.args.id kept.settled kept.commands.entries (Some place) c.get_index_of.ensures.unique c.in_ok-place.ensures.index)

@@ -1,18 +1,35 @@
-use Rattle.std.proofs.Common.{◌≡◌, ◌∙◌, List, None, ap, eqb, false, rules}
+use Rattle.std.proofs.Common.{◌≡◌, ◌∙◌, ◌≤◌, ◌++◌, ◌∷◌, List, [], None, ap, arith, eqb, false, length, sym, rules}
 use Rattle.std.specs.Map.{lookup}
-use Rattle.indexmap.proofs.CallerLemmas.{insert_entry-new}
 use Rattle.jdwp_debugger.specs.declared.pending.Asked as kept
 use Rattle.jdwp_debugger.specs.Asking.{is_outstanding}
-use Rattle.jdwp_debugger.specs.PendingKept.{asked_in}
-use Rattle.jdwp_debugger.proofs.Entries.{asked_behind, none_of, outstanding_is}
+use Rattle.jdwp_debugger.specs.Debuggers.{Asked}
+use Rattle.jdwp_debugger.specs.PendingKept.{asked_of, waiting_in}
+use Rattle.jdwp_debugger.proofs.Entries.{none_of}
+use Rattle.jdwp_debugger.proofs.Settled.{none_waits, one_more}
 use Rattle.jdwp_debugger.proofs.pending.Pending.push.Goals as goal
+use Rattle.jdwp_debugger.proofs.pending.Pending.push.Goals.{then-contains_key, else-contains_key}
 
 pub returns-in-Ok-clause-ok : goal.returns-in-Ok-clause-ok
 returns-in-Ok-clause-ok c =
-    let m = c.self.inside.commands in
+    let before = c.self.inside in
+    let ready = c.if-contains_key.self-inside in
     let id = c.args.id in
     let asked : kept.Asked = record { ticket = c.args.ticket; command = c.args.command } in
-    let free : is_outstanding (asked_in m.entries) id ≡ false = search rules in
-    let none : lookup (eqb id) m.entries ≡ None = none_of (lookup (eqb id) m.entries) (outstanding_is id m.entries ∙ free) in
-    let put = insert_entry-new eqb m id asked none in
-    rw (← c.self.view_is) (ap asked_in ((rw c.in-Ok.is at c.insert.ensures.entries) ∙ put) ∙ asked_behind m.entries (id, asked))
+    let free : is_outstanding (waiting_in before.settled before.commands.entries) id ≡ false = search rules in
+    let none : lookup (eqb id) ready.commands.entries ≡ None = elim c.if-contains_key.branch [
+      | then-contains_key w ↦ rw (w.self-inside-is, w.take_out.ensures.others) (none_waits before.settled id before.commands.entries free)
+      | else-contains_key w ↦ rw w.self-inside-is (none_of (lookup (eqb id) before.commands.entries) (sym c.contains_key.ensures ∙ w.if-contains_key.false))
+    ] in
+    let within : ready.settled ≤ length ready.commands.entries = elim c.if-contains_key.branch [
+      | then-contains_key w ↦ rw (w.self-inside-is, w.take_out.ensures.none) (omega arith)
+      | else-contains_key w ↦ rw w.self-inside-is c.self.invariant
+    ] in
+    let same : waiting_in ready.settled ready.commands.entries ≡ waiting_in before.settled before.commands.entries = elim c.if-contains_key.branch [
+      | then-contains_key w ↦ rw w.self-inside-is (λ j. waiting_in (w.take_out.ensures.none j) (w.take_out.ensures.others j))
+      | else-contains_key w ↦ ap (λ p. waiting_in p.settled p.commands.entries) w.self-inside-is
+    ] in
+    rw (← c.self.view_is) (
+    ap (waiting_in ready.settled) (rw c.in-Ok.is at c.insert.ensures.entries)
+    ∙ one_more ready.commands ready.settled id asked within none
+    ∙ ap (λ (ps : List Asked). ps ++ asked_of (id, asked) ∷ []) same
+    )

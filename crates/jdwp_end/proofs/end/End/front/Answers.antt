@@ -10,13 +10,13 @@ returns-in-More-clause-room c =
     let low : least_packet_limit ≤ c.args.self.now.limits.packet = search rules in
     more-has-room c.args.self.now low fits
 
-pub returns-in-More-standing_in-clause-room : goal.returns-in-More-standing_in-clause-room
-returns-in-More-standing_in-clause-room c =
+pub returns-in-More-packet_standing-clause-room : goal.returns-in-More-packet_standing-clause-room
+returns-in-More-packet_standing-clause-room c =
     let fits : IsBytes c.args.self.now.incoming = search rules in
     let low : least_packet_limit ≤ c.args.self.now.limits.packet = search rules in
     more-has-room c.args.self.now low fits
 
-pub returns-in-Whole-standing_in-clause-front : goal.returns-in-Whole-standing_in-clause-front
-returns-in-Whole-standing_in-clause-front c =
-    let found = c.in-Whole-standing_in.ensures in
+pub returns-in-Whole-packet_standing-clause-front : goal.returns-in-Whole-packet_standing-clause-front
+returns-in-Whole-packet_standing-clause-front c =
+    let found = c.in-Whole-packet_standing.ensures in
     (found.0, found.1, search (rules, found.2))

@@ -1,5 +1,4 @@
-use Rattle.std.proofs.Common.{sym, subst, ◌∙◌}
-use Rattle.jdwp_mirror.specs.KnownThreads.{AreSound}
+use Rattle.std.proofs.Common.{sym, ◌∙◌}
 use Rattle.jdwp_mirror.proofs.SeenLemmas.{values-seen}
 use Rattle.jdwp_mirror.proofs.threads.Threads.iter.Goals as goal
 

@@ -1,17 +1,16 @@
-use Rattle.std.proofs.Common.{◌≡◌, ◌≤◌, ◌+◌, ◌∙◌, ◌++◌, ◌∷◌, [], length, rules, true, false, arith, ap}
+use Rattle.std.proofs.Common.{◌≡◌, ◌≤◌, ◌∙◌, length, rules, true, false, arith, ap}
 use Rattle.jdwp_wire.specs.Bytes.{IsBytes}
 use Rattle.jdwp_wire.specs.Limits.{least_packet_limit}
-use Rattle.jdwp_wire.specs.Streams.{Message, Packet, Whole}
+use Rattle.jdwp_wire.specs.Streams.{Packet, Whole}
 use Rattle.jdwp_wire.specs.declared.packet.PacketKind.TheVariants as kind
 use Rattle.jdwp_end.specs.Ends.{End, HasPacket, front_of}
 use Rattle.jdwp_target.specs.Deeds.{defers}
 use Rattle.jdwp_target.specs.Insides.{target_of}
 use Rattle.jdwp_target.specs.Targets.{full_standing}
 use Rattle.jdwp_target.specs.TurnParts.{IsPutOff, IsRead}
-use Rattle.jdwp_target.specs.declared.target.Turn.TheVariants as turn
 use Rattle.jdwp_target.specs.declared.turning.Came.TheVariants as came
 use Rattle.jdwp_target.proofs.AnswersEncoded.{encodes-command, encodes-ignored, encodes-nothing, encodes-whole}
-use Rattle.jdwp_target.proofs.DeferredTurns.{as-told, put-off-came, put-off-view, reply-apart, right-put-off, room-left, sends-nothing, told-ignored, wants-to-read}
+use Rattle.jdwp_target.proofs.DeferredTurns.{as-told, reply-apart, sends-nothing, told-ignored, turns-read, wants-to-read, whatever-came}
 use Rattle.jdwp_target.proofs.RightTurns.{command-needs, command-room, command-taken, front-room, handled-view, left-deferred, needs-at-once, packet-handshaken, reply-handled, reply-stays, right-handled, sends-whole, taken-off, told-command, turns-wanting, turns-whole}
 use Rattle.jdwp_target.proofs.target.Target.take_packet.Goals as goal
 use Rattle.jdwp_target.proofs.target.Target.take_packet.Goals.{in-Written-1, in-Short-1}
@@ -104,8 +103,8 @@ returns-in-Reply-clause-packets g c =
     let h = reply-handled m t.debuggee header body used error t.end _ is shaken (taken-off t.end c.read_front.new.end _ (Packet header body) used c.read_front.ensures.same front c.take_off.ensures) in
     rw (← c.self.view_is) (sends-whole m old (Packet header body) used front at_once h.sends)
 
-pub invariant_of-self-in-Deferred : goal.invariant_of-self-in-Deferred
-invariant_of-self-in-Deferred g c =
+pub defer-requires-clause-deferred : goal.defer-requires-clause-deferred
+defer-requires-clause-deferred g c =
     let m = g.M.Machine.meaning in
     let t = c.self.inside in
     let packet : HasPacket c.args.used t.end = rw (← c.self.view_is) at c.requires.packet in
@@ -117,53 +116,23 @@ invariant_of-self-in-Deferred g c =
     let old = target_of t.debuggee t.deferral t.began.items t.phases.items (length t.steps.items) t.end in
     let w = c.sizes-sizes.result in
     let told = c.takes-defers.result in
-    let command = c.in-Deferred.command in
-    let read : IsRead w header.id header.kind body (came.Deferred command) × IsPutOff told header.kind (came.Deferred command) = rw c.in-Deferred.is at (c.in_ok-came.ensures.came header body front) in
+    let read : IsRead w header.id header.kind body came.Deferred × IsPutOff told header.kind came.Deferred = rw c.in-Deferred.is at (c.in_ok-came.ensures.came header body front) in
     let deferred : defers (full_standing old) (Packet header body) ≡ true = as-told old header body used told true fits front c.takes-defers.ensures read.1 in
-    let off = taken-off t.end c.read_front.new.end _ (Packet header body) used c.read_front.ensures.same front c.take_off-in-Deferred.ensures in
-    let message = put-off-came t.end w header body used command fits front read.0 in
-    let left = c.push.ensures ∙ ap (λ (x : Message). record t.deferral { commands = t.deferral.commands ++ x ∷ [] }) message in
-    right-put-off m t.debuggee t.deferral _ t.began.items t.phases.items (length t.steps.items) t.end _ header body used c.self.invariant fits front deferred left off
+    rw c.read_front.ensures.same (header, body, front, deferred)
 
-pub push-requires : goal.push-requires
-push-requires g c =
+pub defer-requires-clause-bytes : goal.defer-requires-clause-bytes
+defer-requires-clause-bytes g c =
     let m = g.M.Machine.meaning in
     let t = c.self.inside in
     let packet : HasPacket c.args.used t.end = rw (← c.self.view_is) at c.requires.packet in
     let fits : IsBytes t.end.incoming = rw (← c.self.view_is) at c.requires.bytes in
-    let header = packet.0 in
-    let body = packet.1 in
-    let used = c.args.used in
-    let front : front_of t.end ≡ Whole (Packet header body) used = packet.2 in
-    let old = target_of t.debuggee t.deferral t.began.items t.phases.items (length t.steps.items) t.end in
-    let w = c.sizes-sizes.result in
-    let told = c.takes-defers.result in
-    let command = c.in-Deferred.command in
-    let read : IsRead w header.id header.kind body (came.Deferred command) × IsPutOff told header.kind (came.Deferred command) = rw c.in-Deferred.is at (c.in_ok-came.ensures.came header body front) in
-    let deferred : defers (full_standing old) (Packet header body) ≡ true = as-told old header body used told true fits front c.takes-defers.ensures read.1 in
-    room-left told t.deferral.on (length t.deferral.commands) header.kind c.takes-defers.ensures read.1
+    rw c.read_front.ensures.same fits
 
 pub returns-in-Deferred-clause-turns : goal.returns-in-Deferred-clause-turns
 returns-in-Deferred-clause-turns g c =
     let m = g.M.Machine.meaning in
     let t = c.self.inside in
-    let packet : HasPacket c.args.used t.end = rw (← c.self.view_is) at c.requires.packet in
-    let fits : IsBytes t.end.incoming = rw (← c.self.view_is) at c.requires.bytes in
-    let header = packet.0 in
-    let body = packet.1 in
-    let used = c.args.used in
-    let front : front_of t.end ≡ Whole (Packet header body) used = packet.2 in
-    let old = target_of t.debuggee t.deferral t.began.items t.phases.items (length t.steps.items) t.end in
-    let w = c.sizes-sizes.result in
-    let told = c.takes-defers.result in
-    let command = c.in-Deferred.command in
-    let read : IsRead w header.id header.kind body (came.Deferred command) × IsPutOff told header.kind (came.Deferred command) = rw c.in-Deferred.is at (c.in_ok-came.ensures.came header body front) in
-    let deferred : defers (full_standing old) (Packet header body) ≡ true = as-told old header body used told true fits front c.takes-defers.ensures read.1 in
-    let off = taken-off t.end c.read_front.new.end _ (Packet header body) used c.read_front.ensures.same front c.take_off-in-Deferred.ensures in
-    let message = put-off-came t.end w header body used command fits front read.0 in
-    let left = c.push.ensures ∙ ap (λ (x : Message). record t.deferral { commands = t.deferral.commands ++ x ∷ [] }) message in
-    rw (← c.self.view_is)
-    (turns-whole m old _ (Packet header body) used _ true front deferred (ap turn.Deferred read.0.3) (put-off-view m t.debuggee t.deferral _ t.began.items t.phases.items (length t.steps.items) t.end _ header body used fits front deferred left off))
+    rw (← c.self.view_is) (turns-read m t.debuggee t.deferral t.began.items t.phases.items (length t.steps.items) t.end c.read_front.new.end _ _ c.read_front.ensures.same c.defer.ensures)
 
 pub returns-in-Deferred-clause-encoded : goal.returns-in-Deferred-clause-encoded
 returns-in-Deferred-clause-encoded g c =
@@ -178,10 +147,9 @@ returns-in-Deferred-clause-encoded g c =
     let old = target_of t.debuggee t.deferral t.began.items t.phases.items (length t.steps.items) t.end in
     let w = c.sizes-sizes.result in
     let told = c.takes-defers.result in
-    let command = c.in-Deferred.command in
-    let read : IsRead w header.id header.kind body (came.Deferred command) × IsPutOff told header.kind (came.Deferred command) = rw c.in-Deferred.is at (c.in_ok-came.ensures.came header body front) in
+    let read : IsRead w header.id header.kind body came.Deferred × IsPutOff told header.kind came.Deferred = rw c.in-Deferred.is at (c.in_ok-came.ensures.came header body front) in
     let deferred : defers (full_standing old) (Packet header body) ≡ true = as-told old header body used told true fits front c.takes-defers.ensures read.1 in
-    rw (← c.self.view_is) (encodes-nothing m old (Packet header body) used front deferred)
+    rw (← c.self.view_is) (whatever-came c.defer.result _ (encodes-nothing m old (Packet header body) used front deferred))
 
 pub returns-in-Deferred-clause-packets : goal.returns-in-Deferred-clause-packets
 returns-in-Deferred-clause-packets g c =
@@ -196,10 +164,9 @@ returns-in-Deferred-clause-packets g c =
     let old = target_of t.debuggee t.deferral t.began.items t.phases.items (length t.steps.items) t.end in
     let w = c.sizes-sizes.result in
     let told = c.takes-defers.result in
-    let command = c.in-Deferred.command in
-    let read : IsRead w header.id header.kind body (came.Deferred command) × IsPutOff told header.kind (came.Deferred command) = rw c.in-Deferred.is at (c.in_ok-came.ensures.came header body front) in
+    let read : IsRead w header.id header.kind body came.Deferred × IsPutOff told header.kind came.Deferred = rw c.in-Deferred.is at (c.in_ok-came.ensures.came header body front) in
     let deferred : defers (full_standing old) (Packet header body) ≡ true = as-told old header body used told true fits front c.takes-defers.ensures read.1 in
-    rw (← c.self.view_is) (sends-nothing m old (Packet header body) used front deferred)
+    rw (← c.self.view_is) (whatever-came c.defer.result _ (sends-nothing m old (Packet header body) used front deferred))
 
 pub invariant_of-self-in_ok-done-in-Command : goal.invariant_of-self-in_ok-done-in-Command
 invariant_of-self-in_ok-done-in-Command g c =
@@ -422,21 +389,6 @@ reply-requires-clause-room g c =
 
 pub take_off-requires : goal.take_off-requires
 take_off-requires g c =
-    let m = g.M.Machine.meaning in
-    let t = c.self.inside in
-    let packet : HasPacket c.args.used t.end = rw (← c.self.view_is) at c.requires.packet in
-    let fits : IsBytes t.end.incoming = rw (← c.self.view_is) at c.requires.bytes in
-    let header = packet.0 in
-    let body = packet.1 in
-    let used = c.args.used in
-    let front : front_of t.end ≡ Whole (Packet header body) used = packet.2 in
-    let old = target_of t.debuggee t.deferral t.began.items t.phases.items (length t.steps.items) t.end in
-    let w = c.sizes-sizes.result in
-    let told = c.takes-defers.result in
-    (Packet header body, ap (λ (e : End). front_of e) c.read_front.ensures.same ∙ front)
-
-pub take_off-requires-in-Deferred : goal.take_off-requires-in-Deferred
-take_off-requires-in-Deferred g c =
     let m = g.M.Machine.meaning in
     let t = c.self.inside in
     let packet : HasPacket c.args.used t.end = rw (← c.self.view_is) at c.requires.packet in
