@@ -5,8 +5,9 @@ Runs the program within three limits, the least, the standard and the greatest, 
 - memory: what `serve-script` and `attach` asked for and what they used at the peak, in a session at a port in which a message as long as a packet may be came, at each of the limits: the
   program's own, with that of the C library. To reach: in proportion to the packets (each end has room for a packet that came and for two that leave);
 - replies: AllClassesWithGeneric of a script of 1,024 classes with signatures of 500 bytes, half a megabyte a reply, within the greatest limits; beside it a script of 120 such classes, whose
-  reply fits a packet of 65,536 bytes, within the standard ones, asked so often that as many bytes are answered. Bytes answered a second, the best of five runs by the processor's time, one in
-  turn with the other, each less the time of a session that ends at once. To reach: no fewer bytes a second in the large packets.
+  reply fits a packet of 65,536 bytes, within the standard ones, asked so often that as many bytes are answered. Bytes that `serve-script` answers a second, and bytes that `attach` reads a
+  second and tells in lines, the best of some runs by the processor's time, one in turn with the other, less the best time of a session that ends at once. To reach: no fewer bytes a second in
+  the large packets.
 
     bench/limits.py [PROGRAM]
 
@@ -27,7 +28,8 @@ HANDSHAKE = b"JDWP-Handshake"
 LIMITS = ("2048,2,1,1", "65536,64,64,64", "1048576,1024,1024,1024")
 SIGNATURE = 500
 ANSWERED = 200_000_000
-RUNS = 5
+READ = 50_000_000
+RUNS = 15
 
 
 def command(number, command_set, command_number, data=b""):
@@ -151,32 +153,71 @@ def memory(program, folder):
 
 
 def asked(times):
-    return HANDSHAKE + b"".join(command(i, 1, 20) for i in range(1, times + 1)) + command(times + 1, 1, 6)
+    """A session in which the classes are asked for so often, behind the widths of ids, as `attach` asks for them."""
+    return HANDSHAKE + command(1, 1, 7) + b"".join(command(2 + i, 1, 20) for i in range(times)) + command(2 + times, 1, 6)
 
 
-def reply_bytes(folder, program, script, session, limits):
-    """How many bytes a session's target writes."""
+def plan(times):
+    return b"ask 1 20\nanswers\n" * times + b"ask 1 6\nanswers\n"
+
+
+def answered(folder, program, script, session, limits):
+    """What a session's target writes."""
     serve(program, folder, script, session, limits)
-    return os.path.getsize(os.path.join(folder, "to"))
+    with open(os.path.join(folder, "to"), "rb") as file:
+        return file.read()
+
+
+def attach(program, lines, came, limits):
+    return run([program, "attach", lines, "--from", came, "--to", os.devnull, "--limits", limits, "--turns", "4000000000"])
+
+
+class Replies:
+    """Sessions of one size of replies: the script, and by how often it is asked the debugger's bytes, the target's, and the plan."""
+
+    def __init__(self, program, folder, name, classes, limits):
+        self.program, self.folder, self.name, self.limits = program, folder, name, limits
+        self.script = written(folder, name, json.dumps(machine(classes)).encode())
+        self.size = len(self.made(1)[1]) - len(self.made(0)[1])
+        self.none = self.files(0)
+        self.answers, self.reads = self.files(ANSWERED // self.size), self.files(READ // self.size)
+        self.seconds = {"answered": ([], []), "read": ([], [])}
+
+    def made(self, times):
+        session = written(self.folder, f"{self.name}.asked", asked(times))
+        return session, answered(self.folder, self.program, self.script, session, self.limits)
+
+    def files(self, times):
+        session, came = self.made(times)
+        kept = f"{session}.{times}"
+        os.rename(session, kept)
+        return times, kept, written(self.folder, f"{self.name}.came.{times}", came), written(self.folder, f"{self.name}.plan.{times}", plan(times))
+
+    def run(self):
+        """Each session, and beside it the one that ends at once."""
+        for kept, files in zip(self.seconds["answered"], (self.answers, self.none)):
+            kept.append(serve(self.program, self.folder, self.script, files[1], self.limits))
+        for kept, files in zip(self.seconds["read"], (self.reads, self.none)):
+            kept.append(attach(self.program, files[3], files[2], self.limits))
+
+    def rate(self, what):
+        times = self.answers[0] if what == "answered" else self.reads[0]
+        sessions, none = self.seconds[what]
+        return times, times * self.size / (min(sessions) - min(none))
 
 
 def replies(program, folder):
-    ways = []
-    for name, classes, limits in (("standard", 120, LIMITS[1]), ("greatest", 1024, LIMITS[2])):
-        script = written(folder, name, json.dumps(machine(classes)).encode())
-        none = written(folder, f"{name}.none", asked(0))
-        once = reply_bytes(folder, program, script, written(folder, f"{name}.once", asked(1)), limits) - reply_bytes(folder, program, script, none, limits)
-        times = ANSWERED // once
-        ways.append((name, limits, script, none, written(folder, f"{name}.session", asked(times)), once, times, []))
+    ways = [Replies(program, folder, "standard", 120, LIMITS[1]), Replies(program, folder, "greatest", 1024, LIMITS[2])]
     for _ in range(RUNS):
-        for _name, limits, script, none, session, _once, _times, seconds in ways:
-            idle = serve(program, folder, script, none, limits)
-            seconds.append(serve(program, folder, script, session, limits) - idle)
-    rates = []
-    for name, limits, _script, _none, _session, once, times, seconds in ways:
-        rates.append(once * times / min(seconds))
-        print(f"{limits}: {times} replies of {once} bytes, {rates[-1] / 1e6:.0f} MB answered a second")
-    print(f"the large packets reach {rates[1] / rates[0]:.2f} of the bytes a second of the standard ones")
+        for way in ways:
+            way.run()
+    for what in ("answered", "read"):
+        rates = []
+        for way in ways:
+            times, rate = way.rate(what)
+            rates.append(rate)
+            print(f"{way.limits}: {times} replies of {way.size} bytes, {rate / 1e6:.0f} MB {what} a second")
+        print(f"{what}: the large packets reach {rates[1] / rates[0]:.2f} of the bytes a second of the standard ones")
 
 
 def main():

@@ -82,6 +82,8 @@ enum Act {
     Fills,
     /// These bytes leave.
     Leaves(&'static [u8]),
+    /// The same, from where they lie.
+    LeavesFromThere(&'static [u8]),
     /// So many bytes wait.
     Waits(usize),
     /// Whether a session begins.
@@ -118,6 +120,7 @@ fn comes(alloc: Global, debugger: &mut Debugger, act: &Act) -> Result<bool, Fail
         Act::Refuses(asks, refused) => is_answered(alloc, debugger, *asks, Err(*refused)),
         Act::Fills => Ok(fills(alloc, debugger)),
         Act::Leaves(bytes) => Ok(leaves(debugger, bytes)),
+        Act::LeavesFromThere(bytes) => Ok(leaves_from_there(debugger, bytes)),
         Act::Waits(count) => Ok(debugger.waiting() == *count),
         Act::Attaches(attaches) => Ok(debugger.attach() == *attaches),
         Act::Comes(bytes) => Ok(debugger.feed(bytes) == bytes.len()),
@@ -160,6 +163,13 @@ fn leaves(debugger: &mut Debugger, bytes: &[u8]) -> bool {
     let mut out = [0; 64];
     let count = debugger.take(&mut out);
     &out[..count] == bytes
+}
+
+fn leaves_from_there(debugger: &mut Debugger, bytes: &[u8]) -> bool {
+    let lies = debugger.waiting_in_front() == bytes;
+    let count = debugger.waiting();
+    debugger.leave(count);
+    lies && debugger.waiting() == 0
 }
 
 /// The place, from 0, of the first act of which something else comes; None where all is as it is to be. If a width is given, the session
@@ -213,7 +223,7 @@ static PACKETS: [Act; 8] = [
     Act::KnowsNothing,
     Act::Loses(&[Ticket(1), Ticket(2)]),
     Act::Attaches(true),
-    Act::Leaves(&HANDSHAKE),
+    Act::LeavesFromThere(&HANDSHAKE),
 ];
 
 #[test]

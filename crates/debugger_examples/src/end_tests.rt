@@ -133,6 +133,25 @@ fn what_is_enqueued_is_taken(rt: HostRuntime) -> Result<(), Fail> {
     Ok(())
 }
 
+/// The ring goes on where it was, so what is enqueued next wraps round its end: it leaves in two pieces, each from where it lies.
+#[test]
+fn what_wraps_leaves_in_two_pieces(rt: HostRuntime) -> Result<(), Fail> {
+    let mut end = end(rt.alloc())?;
+    end.open();
+    end.enqueue(&[1; 4090]);
+    let count = end.waiting();
+    end.leave(count);
+    end.open();
+    end.enqueue(&HANDSHAKE);
+    assert!(&rt; end.waiting_in_front() == b"JDWP-H".as_slice());
+    end.leave(6);
+    assert!(&rt; end.waiting_in_front() == b"andshake".as_slice());
+    expect_same(&rt, &end.waiting(), &8);
+    end.leave(100);
+    assert!(&rt; end.waiting_in_front().is_empty());
+    Ok(())
+}
+
 #[test]
 fn a_loss_keeps_nothing(rt: HostRuntime) -> Result<(), Fail> {
     let mut end = end_with_two(rt.alloc())?;

@@ -104,7 +104,7 @@ pub(crate) fn ask_line<P: Pipe>(
     if let Err(refused) = debugger.ask(alloc, command) {
         return Err(end_refused(debugger, refused));
     }
-    if !write_out(debugger, pipe, &mut run.buffer) {
+    if !write_out(debugger, pipe) {
         debugger.lose();
         return Err(Ended::LostByWrite);
     }

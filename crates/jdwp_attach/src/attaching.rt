@@ -189,7 +189,7 @@ fn run_plan<P: Pipe, W: Pipe>(
         × MayEnd plan.now (ended_of how) (at (P.story pipe.old) (W.story out.old) debugger.old
         run.old.left) (flushed (P.story pipe.new)) (flushed (W.story out.new)) debugger.new) }
 {
-    if let Err(ended) = write_hello(debugger, pipe, &mut run.buffer) {
+    if let Err(ended) = write_hello(debugger, pipe) {
         return Err(Attached::Ended(ended));
     }
     if let Err(ended) = until_sizes(alloc, debugger, pipe, out, run) {
@@ -226,11 +226,7 @@ fn ended_at(line: &PlanLine, place: usize, ended: Ended) -> Attached
 ///
 /// # Errors
 /// `LostByWrite` where a write failed.
-fn write_hello<P: Pipe>(
-    debugger: &mut Debugger,
-    pipe: &mut P,
-    buffer: &mut [u8; CHUNK],
-) -> Result<(), Ended>
+fn write_hello<P: Pipe>(debugger: &mut Debugger, pipe: &mut P) -> Result<(), Ended>
     requires { debugger.old ≡ attached debugger.old }
     ensures goes { OnOk result ((out : Story) (left : ℕ)
         → IsGoing [] (at (P.story pipe.old) out debugger.old left)
@@ -243,7 +239,7 @@ fn write_hello<P: Pipe>(
         debugger.new × MayEnd plan ended (at (P.story pipe.old) out debugger.old left)
         (flushed (P.story pipe.new)) (flushed out) debugger.new) }
 {
-    if !write_out(debugger, pipe, buffer) {
+    if !write_out(debugger, pipe) {
         debugger.lose();
         return Err(Ended::LostByWrite);
     }

@@ -141,7 +141,7 @@ fn tell<P: Pipe, W: Pipe>(
         (at (P.story pipe.old) (W.story out.old) debugger.old run.old.left) (at (P.story pipe.new)
         (W.story out.new) debugger.new run.new.left)) }
 {
-    if !write_out(debugger, pipe, &mut run.buffer) {
+    if !write_out(debugger, pipe) {
         debugger.lose();
         return Err(Ended::LostByWrite);
     }

@@ -1,5 +1,6 @@
 -- Reading commands.
-use Rattle.std.proofs.Common.{◌≡◌, ℕ, Bool, true, false, List, [], Some, None, Result, Ok, Err, refl, ap, sym, ◌∙◌, if◌then◌else◌}
+use Rattle.std.proofs.Common.{◌≡◌, ℕ, Bool, true, false, ◌||◌, List, [], Option, Some, None, Result, Ok, Err, refl, ap, sym, subst, ◌∙◌, if◌then◌else◌}
+use Rattle.std.specs.Prelude.{MatchOption}
 use Rattle.std.specs.List.{filter_map}
 use Rattle.std.proofs.lemmas.List.Elements.{filter_map-append}
 use Rattle.std.proofs.Common.{◌++◌, ◌∷◌, ◌+◌, ◌<◌, length, take, get_or, IfOk}
@@ -12,6 +13,7 @@ use Rattle.jdwp_wire.specs.declared.no_memory.NoMemory.{NoMemory}
 use Rattle.jdwp_wire.specs.declared.error_code.ErrorCode.{ErrorCode}
 use Rattle.jdwp_wire.specs.ErrorCodes.{NOT_IMPLEMENTED}
 use Rattle.jdwp_wire.specs.Widths.{Widths}
+use Rattle.jdwp_layout.specs.CommandNumbers.{CLEAR_REQUEST, is_command}
 use Rattle.jdwp_layout.specs.CommandTable.{row_at}
 use Rattle.jdwp_layout.specs.Meanings.{ScalarMeaning, DatumMeaning, entry_meaning, entry_meanings}
 use Rattle.jdwp_layout.specs.Reads.{data_at}
@@ -20,7 +22,7 @@ use Rattle.jdwp_debuggee.specs.declared.command.ParsedCommand.{ParsedCommand}
 use Rattle.jdwp_action.specs.Actions.{Command, slot_of, is_implemented}
 use Rattle.jdwp_action.specs.CommandReads.{command_read, content_read, read_by, with_content}
 use Rattle.jdwp_action.specs.RowLayouts.{row_request}
-use Rattle.jdwp_debuggee.specs.Askings.{Asking, asked_meaning, asks, asking_of}
+use Rattle.jdwp_debuggee.specs.Askings.{Asking, asked_meaning, asks, asking_of, carries_nothing, carries_thread, is_short}
 use Rattle.jdwp_debuggee.specs.ReadParts.{IsBare, implemented_request, unread}
 
 -- one entry more of a list of slots
@@ -31,6 +33,21 @@ pub slots_step : (xs : List (Vec Scalar)) (i : ℕ) (x : Vec Scalar) → i < len
     → filter_map slot_of (entry_meanings (take (i + 1) xs)) ≡ filter_map slot_of (entry_meanings (take i xs)) ++ filter_map slot_of (entry_meaning x ∷ [])
 slots_step xs i x lt is =
     rw ((take_at_read xs i x lt).1, ← is) (ap (filter_map slot_of) (map-append entry_meaning (take i xs) (x ∷ [])) ∙ slots_more (entry_meanings (take i xs)) (entry_meaning x ∷ []))
+
+-- ---- a command that carries neither a thread nor what Clear does is read without memory only where it carries nothing
+
+or_none : (b : Bool) → (b || (false || false)) ≡ b
+or_none true = refl
+or_none false = refl
+
+pub short_as_bare : (set number : ℕ) (P : ParsedCommand → Type 0) (result : Option ParsedCommand) → carries_thread set number ≡ false → is_command CLEAR_REQUEST set number ≡ false
+    → MatchOption result (carries_nothing set number ≡ false) (λ asked. (carries_nothing set number ≡ true) × P asked)
+    → MatchOption result (is_short set number ≡ false) (λ asked. (is_short set number ≡ true) × P asked)
+short_as_bare set number P result thread clear h =
+    let same : is_short set number ≡ carries_nothing set number =
+    ap (λ (x : Bool). carries_nothing set number || (x || is_command CLEAR_REQUEST set number)) thread
+    ∙ (ap (λ (x : Bool). carries_nothing set number || (false || x)) clear ∙ or_none (carries_nothing set number)) in
+    subst (λ (b : Bool). MatchOption result (b ≡ false) (λ asked. (b ≡ true) × P asked)) (sym same) h
 
 -- ---- a command that is implemented is read by its layout, and another is not read
 

@@ -7,7 +7,7 @@ ghost use Rattle.jdwp_wire.specs.declared.data_fault.DataFault.TheVariants.{NoMe
 ghost use Rattle.jdwp_wire.specs.Reading.{Fails};
 ghost use Rattle.jdwp_layout.specs.Meanings.{DatumMeaning};
 ghost use Rattle.jdwp_action.specs.CommandReads.{command_read, content_read};
-ghost use Rattle.jdwp_debuggee.specs.Askings.{action_meaning, asked_meaning, asking, asks, is_short};
+ghost use Rattle.jdwp_debuggee.specs.Askings.{action_meaning, asked_meaning, asking, asks, carries_nothing, is_short};
 ghost use Rattle.jdwp_action.specs.RowLayouts.{found_layout};
 ghost use Rattle.jdwp_debuggee.specs.ReadParts.{IsBare, clear_asks, implemented_request, object_alone};
 ghost use Rattle.jdwp_debuggee.specs.RefusalParts.{found_thread};
@@ -36,6 +36,29 @@ fn bare(set: u8, number: u8, action: Action, bytes: &[u8]) -> ParsedCommand
         ParsedCommand::Carries(action)
     } else {
         ParsedCommand::Refuses(ErrorCode::ILLEGAL_ARGUMENT)
+    }
+}
+
+/// What a command comes to that carries nothing; None where it is none of those.
+fn read_bare(set: u8, number: u8, bytes: &[u8]) -> Option<ParsedCommand>
+    ensures value { (w : Widths) → MatchOption result (carries_nothing set number ≡ false) (λ asked.
+        (carries_nothing set number ≡ true)
+        × (asked_meaning asked ≡ asks (command_read w set number bytes.now))) }
+    ensures short { IfSome result (λ asked. is_short_asked (asked_meaning asked) ≡ true) }
+{
+    match (set, number) {
+        (VIRTUAL_MACHINE, SUSPEND) => Some(bare(set, number, Action::Suspend, bytes)),
+        (VIRTUAL_MACHINE, RESUME) => Some(bare(set, number, Action::Resume, bytes)),
+        (VIRTUAL_MACHINE, HOLD_EVENTS) => Some(bare(set, number, Action::HoldEvents, bytes)),
+        (VIRTUAL_MACHINE, RELEASE_EVENTS) => {
+            Some(bare(set, number, Action::ReleaseEvents, bytes))
+        }
+        (VIRTUAL_MACHINE, ID_SIZES) => Some(bare(set, number, Action::IdSizes, bytes)),
+        (VIRTUAL_MACHINE, DISPOSE) => Some(bare(set, number, Action::Dispose, bytes)),
+        (EVENT_REQUEST, CLEAR_ALL_BREAKPOINTS) => {
+            Some(bare(set, number, Action::ClearBreakpoints, bytes))
+        }
+        _ => None,
     }
 }
 
@@ -108,20 +131,9 @@ fn read_short(
     ensures short { IfSome result (λ asked. is_short_asked (asked_meaning asked) ≡ true) }
 {
     match (set, number) {
-        (VIRTUAL_MACHINE, SUSPEND) => Some(bare(set, number, Action::Suspend, bytes)),
-        (VIRTUAL_MACHINE, RESUME) => Some(bare(set, number, Action::Resume, bytes)),
-        (VIRTUAL_MACHINE, HOLD_EVENTS) => Some(bare(set, number, Action::HoldEvents, bytes)),
-        (VIRTUAL_MACHINE, RELEASE_EVENTS) => {
-            Some(bare(set, number, Action::ReleaseEvents, bytes))
-        }
-        (VIRTUAL_MACHINE, ID_SIZES) => Some(bare(set, number, Action::IdSizes, bytes)),
-        (VIRTUAL_MACHINE, DISPOSE) => Some(bare(set, number, Action::Dispose, bytes)),
-        (EVENT_REQUEST, CLEAR_ALL_BREAKPOINTS) => {
-            Some(bare(set, number, Action::ClearBreakpoints, bytes))
-        }
-        (EVENT_REQUEST, CLEAR_REQUEST) => Some(read_clear(alloc, sizes, bytes)),
         (THREAD_REFERENCE, _) => read_of_thread(alloc, number, sizes, bytes),
-        _ => None,
+        (EVENT_REQUEST, CLEAR_REQUEST) => Some(read_clear(alloc, sizes, bytes)),
+        _ => read_bare(set, number, bytes),
     }
 }
 

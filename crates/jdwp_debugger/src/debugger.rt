@@ -244,6 +244,21 @@ impl Debugger {
         self.end.waiting()
     }
 
+    /// The first of the bytes that wait to leave, where they lie: those in one piece, and none exactly where none waits.
+    pub fn waiting_in_front(&self) -> &[u8]
+        ensures front { result.now ≡ take (length result.now) self.now.end.outgoing }
+        ensures none { result.now ≡ [] → self.now.end.outgoing ≡ [] }
+    {
+        self.end.waiting_in_front()
+    }
+
+    /// So many of the bytes that wait, the first, have left, or all where no more wait.
+    pub fn leave(&mut self, count: usize)
+        ensures { self.new ≡ with_taken (take count self.old.end.outgoing) self.old }
+    {
+        self.end.leave(count);
+    }
+
     /// Moves as many of the bytes that wait to the front of `out` as fit, and answers how many.
     pub fn take(&mut self, out: &mut [u8]) -> usize
         ensures count { result ≡ min (length out.old) (length self.old.end.outgoing) }

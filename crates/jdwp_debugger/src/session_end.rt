@@ -31,6 +31,14 @@ impl SessionEnd for Debugger {
         Debugger::waiting(self)
     }
 
+    fn waiting_in_front(&self) -> &[u8] {
+        Debugger::waiting_in_front(self)
+    }
+
+    fn leave(&mut self, count: usize) {
+        Debugger::leave(self, count);
+    }
+
     fn take(&mut self, out: &mut [u8]) -> usize {
         Debugger::take(self, out)
     }

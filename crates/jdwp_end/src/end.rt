@@ -11,7 +11,7 @@ ghost use Rattle.jdwp_end.specs.Ends as ends;
 ghost use Rattle.jdwp_end.specs.Ends.{HasPacket, TellsFront, closed_end, front_of, lost_end, most_outgoing, new_end, opened_end, room_of, with_enqueued, with_fed, with_handled, with_taken};
 
 use crate::front::Front;
-use crate::parts::{are_bytes, join, packet_standing, shared, take_into};
+use crate::parts::{are_bytes, front_piece, join, packet_standing, shared, take_into};
 use crate::phase::Phase;
 use crate::session::Session;
 use circular_buffer::HeapCircularBuffer;
@@ -275,6 +275,24 @@ impl End {
         ensures bound { result ≤ most_outgoing self.now.limits }
     {
         self.outgoing.len()
+    }
+
+    /// The first of the bytes that wait to leave, where they lie: those in one piece, and none exactly where none waits.
+    pub fn waiting_in_front(&self) -> &[u8]
+        ensures front { result.now ≡ take (length result.now) self.now.outgoing }
+        ensures none { result.now ≡ [] → self.now.outgoing ≡ [] }
+    {
+        front_piece(&self.outgoing)
+    }
+
+    /// So many of the bytes that wait, the first, have left, or all where no more wait.
+    pub fn leave(&mut self, count: usize)
+        ensures { self.new ≡ with_taken (take count self.old.outgoing) self.old }
+    {
+        let count = count.min(self.outgoing.len());
+        let (first, second) = self.outgoing.as_slices();
+        self.session.leave(first, second, count);
+        self.outgoing.truncate_front(self.outgoing.len() - count);
     }
 
     /// Moves as many of the bytes that wait to the front of `out` as fit, and answers how many.

@@ -1,5 +1,5 @@
 //! Bytes that lie in two parts, as those of a ring do.
-ghost use Rattle.std.specs.Prelude.{◌≡◌, ◌≤◌, ◌+◌, ◌++◌, drop, length, min, take, vec_capacity};
+ghost use Rattle.std.specs.Prelude.{◌≡◌, ◌≤◌, ◌+◌, ◌++◌, [], drop, length, min, take, vec_capacity};
 ghost use Rattle.std.specs.Borrow.{sem};
 ghost use Rattle.circular_buffer.specs.Buffer.{buffer};
 ghost use Rattle.jdwp_wire.specs.Bytes.{IsBytes};
@@ -32,6 +32,15 @@ fn standing_of(bytes: &[u8], limits: &Limits) -> Standing
         Next::More => Standing::More,
         Next::Fault(fault) => Standing::Fault(fault),
     }
+}
+
+/// The first bytes of a ring, those that lie in one piece; none exactly where it is empty.
+pub(crate) fn front_piece(ring: &HeapCircularBuffer<u8>) -> &[u8]
+    ensures front { result.now ≡ take (length result.now) ring.now.items }
+    ensures none { result.now ≡ [] → ring.now.items ≡ [] }
+{
+    let (first, second) = ring.as_slices();
+    if first.is_empty() { second } else { first }
 }
 
 /// Moves as many bytes from the front of a ring to the front of `out` as fit, and answers how many.

@@ -81,6 +81,16 @@ impl Session {
         self.taken.extend(bytes);
     }
 
+    /// The first `count` bytes of these two parts have left.
+    pub fn leave(&mut self, first: &[u8], second: &[u8], count: usize)
+        requires { count ≤ length first.now + length second.now }
+        ensures { self.new ≡ record self.old {
+          taken = self.old.taken ++ take count (first.now ++ second.now);
+        } }
+    {
+        note(&mut self.taken, first, second, count);
+    }
+
     /// A loss was noticed.
     pub fn lose(&mut self)
         ensures { self.new ≡ record self.old { lost = true } }

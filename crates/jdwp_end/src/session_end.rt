@@ -34,6 +34,15 @@ pub trait SessionEnd {
     fn waiting(&self) -> usize
         ensures { result ≡ length (end self.now).outgoing };
 
+    /// The first of the bytes that wait to leave, where they lie: those in one piece, and none exactly where none waits.
+    fn waiting_in_front(&self) -> &[u8]
+        ensures front { result.now ≡ take (length result.now) (end self.now).outgoing }
+        ensures none { result.now ≡ [] → (end self.now).outgoing ≡ [] };
+
+    /// So many of the bytes that wait, the first, have left, or all where no more wait.
+    fn leave(&mut self, count: usize)
+        ensures { self.new ≡ with_taken (take count (end self.old).outgoing) self.old };
+
     /// Moves as many of the bytes that wait to the front of `out` as fit, and answers how many.
     fn take(&mut self, out: &mut [u8]) -> usize
         ensures count { result ≡ min (length out.old) (length (end self.old).outgoing) }

@@ -165,7 +165,7 @@ fn round<M: Machine + Drop, P: Pipe>(
     };
     match turn {
         Turn::Nothing => flush_and_go(target, pipe, buffer),
-        _ => write_and_go(target, pipe, buffer),
+        _ => write_and_go(target, pipe),
     }
 }
 
@@ -195,18 +195,14 @@ fn flush_and_go<M: Machine + Drop, P: Pipe>(
         return Next::Ends(Ended::LostByWrite);
     }
     if target.deferred() > 0 {
-        release_and_go(target, pipe, buffer)
+        release_and_go(target, pipe)
     } else {
         step_or_read(target, pipe, buffer)
     }
 }
 
 /// Releases the newest deferred command. What waits to leave is written.
-fn release_and_go<M: Machine + Drop, P: Pipe>(
-    target: &mut Target<M>,
-    pipe: &mut P,
-    buffer: &mut [u8; CHUNK],
-) -> Next
+fn release_and_go<M: Machine + Drop, P: Pipe>(target: &mut Target<M>, pipe: &mut P) -> Next
     requires is_open { is_open target.old.end ≡ true }
     requires asks { front_of target.old.end ≡ More }
     requires flows { is_paused target.old.end ≡ false }
@@ -225,7 +221,7 @@ fn release_and_go<M: Machine + Drop, P: Pipe>(
     target.session();
     let newest = target.deferred() - 1;
     match target.release(newest) {
-        Ok(_) => write_and_go(target, pipe, buffer),
+        Ok(_) => write_and_go(target, pipe),
         Err(_) => Next::Ends(Ended::NoMemory),
     }
 }
@@ -255,8 +251,8 @@ fn step_or_read<M: Machine + Drop, P: Pipe>(
     target.session();
     match step_each(target) {
         Ok(false) => read_and_go(target, pipe, buffer),
-        Ok(true) => write_and_go(target, pipe, buffer),
-        Err(_) => match write_and_go(target, pipe, buffer) {
+        Ok(true) => write_and_go(target, pipe),
+        Err(_) => match write_and_go(target, pipe) {
             Next::Goes => Next::Ends(Ended::NoMemory),
             Next::Ends(ended) => Next::Ends(ended),
         },
@@ -371,11 +367,7 @@ fn read_and_go<M: Machine + Drop, P: Pipe>(
 }
 
 /// Writes what waits, and ends where a write fails or the session has closed.
-fn write_and_go<M: Machine + Drop, P: Pipe>(
-    target: &mut Target<M>,
-    pipe: &mut P,
-    buffer: &mut [u8; CHUNK],
-) -> Next
+fn write_and_go<M: Machine + Drop, P: Pipe>(target: &mut Target<M>, pipe: &mut P) -> Next
     ensures goes { result ≡ Next.Goes → (is_open target.old.end ≡ true)
         × WritesAll target.old target.new (P.story pipe.old) (P.story pipe.new) }
     ensures done { result ≡ Next.Ends Ended.Done → (is_open target.old.end ≡ false)
@@ -385,7 +377,7 @@ fn write_and_go<M: Machine + Drop, P: Pipe>(
     ensures fails { result ≡ Next.Ends Ended.LostByWrite
         → LosesAtWrite M.meaning target.old target.new (P.story pipe.old) (P.story pipe.new) }
 {
-    let written = write_out(target, pipe, buffer);
+    let written = write_out(target, pipe);
     target.session();
     if !written {
         target.lose();

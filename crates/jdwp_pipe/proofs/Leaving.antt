@@ -1,26 +1,32 @@
 -- Bytes that leave an end and are written, by one piece after the other.
-use Rattle.std.proofs.Common.{◌≡◌, ◌∙◌, ℕ, ◌++◌, List, length, min, take, drop, ap, append_assoc, arith}
+use Rattle.std.proofs.Common.{◌≡◌, ◌∙◌, ℕ, zero, suc, ◌+◌, ◌*◌, ◌<◌, ◌≤◌, ◌++◌, List, length, min, take, drop, sym, ap, append_assoc, arith}
 use Rattle.std.proofs.lemmas.Grind.{common_steps}
-use Rattle.std.proofs.lemmas.List.{length-take, take_at}
-use Rattle.jdwp_pipe.specs.Story.{FailsWrite, Story, with_written}
+use Rattle.std.proofs.lemmas.List.{length-take, length-take-le, take-append-drop, take-append-le}
+use Rattle.jdwp_pipe.specs.Story.{Story, some_of, with_written, zero_of}
 
--- a write that failed behind bytes that were written
-pub fails-after : (s t : Story) (done chunk more whole : List ℕ) → whole ≡ done ++ chunk ++ more → FailsWrite (with_written done s) t chunk → FailsWrite s t whole
-fails-after s t done chunk more whole e f =
-    let w = f.written in
-    record {
-      written = (
-        done ++ w.0,
-        w.1 ∙ append_assoc s.written done w.0,
-        (w.2.0 ++ more, grind (arith, common_steps, e, w.2.1, append_assoc)),
-      );
-      failed_writes = f.failed_writes;
-      read = f.read;
-      early = f.early;
-    }
+-- the first bytes of a piece that lies in front are the first of all
+pub first-of-piece : (waits piece : List ℕ) (count : ℕ) → piece ≡ take (length piece) waits → count ≤ length piece → take count piece ≡ take count waits
+first-of-piece waits piece count front within =
+    let rest = drop (length piece) waits in
+    let whole : piece ++ rest ≡ waits = ap (λ (xs : List ℕ). xs ++ rest) front ∙ take-append-drop (length piece) waits in
+    sym (take-append-le count piece rest within) ∙ ap (λ (xs : List ℕ). take count xs) whole
 
--- what was moved to the front of a buffer
-pub taken-front : (out buffer out' : List ℕ) (count : ℕ) → count ≡ min (length buffer) (length out) → out' ≡ take count out ++ drop count buffer → take count out' ≡ take count out
-taken-front out buffer out' count counts e =
-    let fits : length (take count out) ≡ count = omega (arith, counts, length-take count out) in
-    ap (λ (xs : List ℕ). take count xs) e ∙ take_at (take count out) (drop count buffer) count fits
+pub within-all : (waits piece : List ℕ) (count : ℕ) → piece ≡ take (length piece) waits → count ≤ length piece → count ≤ length waits
+within-all waits piece count front within =
+    let long : length piece ≡ min (length piece) (length waits) = ap length front ∙ length-take (length piece) waits in
+    omega (arith, within, long)
+
+-- what has left, and then what waits
+pub left-more : (all done waits after : List ℕ) (count : ℕ) → all ≡ done ++ waits → count ≤ length waits → after ≡ drop (length (take count waits)) waits → all ≡ (done ++ take count waits) ++ after
+left-more all done waits after count e within left =
+    let long : length (take count waits) ≡ count = length-take-le count waits within in
+    let rest : after ≡ drop count waits = left ∙ ap (λ (n : ℕ). drop n waits) long in
+    e
+    ∙ (ap (λ (xs : List ℕ). done ++ xs) (sym (take-append-drop count waits))
+    ∙ (sym (append_assoc done (take count waits) (drop count waits)) ∙ ap (λ (xs : List ℕ). (done ++ take count waits) ++ xs) (sym rest)))
+
+-- what was written before, and then these bytes
+pub written-more : (s t u : Story) (done piece more : List ℕ) (count : ℕ) → t ≡ with_written done s → 0 < count → take count piece ≡ more
+    → u ≡ record t { written = t.written ++ take count piece; unflushed = t.unflushed ++ take count piece; failed_writes = t.failed_writes + some_of piece * zero_of count } → u ≡ with_written (done ++ more) s
+written-more s t u done piece more zero before some same after = absurd (omega (arith, some))
+written-more s t u done piece more (suc n) before some same after = rw (after, before, same) (grind (arith, common_steps, append_assoc))

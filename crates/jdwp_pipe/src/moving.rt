@@ -8,7 +8,7 @@ use crate::pipe::Pipe;
 use jdwp_end::SessionEnd;
 use thiserror::Error;
 
-/// How many bytes are read or written at once at most.
+/// How many bytes are read at once at most.
 pub const CHUNK: usize = 4096;
 
 /// No byte came: the read failed, or gave 0 where there was room for one, which is the end of the input.
@@ -16,13 +16,9 @@ pub const CHUNK: usize = 4096;
 #[error("no byte came")]
 pub struct NoInput;
 
-/// Writes all that waits to leave the end, by at most 4,096 bytes at once, or says that a write failed. Then some of what waited was
-/// taken, and a beginning of that was written. Nothing is flushed.
-pub fn write_out<E: SessionEnd, P: Pipe>(
-    end: &mut E,
-    pipe: &mut P,
-    buffer: &mut [u8; CHUNK],
-) -> bool
+/// Writes all that waits to leave the end, each piece from where it lies, or says that a write failed. Then what was written before has
+/// left the end. Nothing is flushed.
+pub fn write_out<E: SessionEnd, P: Pipe>(end: &mut E, pipe: &mut P) -> bool
     ensures all { IsTrue result → WritesAll E.end E.with_taken end.old end.new (P.story pipe.old)
         (P.story pipe.new) }
     ensures fails { result ≡ false → WritesPart E.end E.with_taken end.old end.new
@@ -30,9 +26,9 @@ pub fn write_out<E: SessionEnd, P: Pipe>(
     ensures rooms { (P.story pipe.new).rooms ≡ (P.story pipe.old).rooms }
 {
     while end.waiting() > 0 {
-        let count = end.take(buffer);
-        if !write_all(pipe, &buffer[..count]) {
-            return false;
+        match pipe.write(end.waiting_in_front()) {
+            Ok(0) | Err(_) => return false,
+            Ok(count) => end.leave(count),
         }
     }
     true

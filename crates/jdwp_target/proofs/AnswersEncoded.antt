@@ -1,10 +1,12 @@
 -- What a command is answered is encoded by the bytes that are sent for it, whether it was carried out or refused.
 use Rattle.std.proofs.Common.{◌≡◌, ◌≢◌, ℕ, Bool, true, false, List, Some, Result, Ok, Err, refl, sym, subst, arith}
+use Rattle.std.specs.Prelude.{IfErr, IfOk}
 use Rattle.jdwp_wire.specs.ErrorCodes.{ILLEGAL_ARGUMENT, NONE, NOT_IMPLEMENTED}
 use Rattle.jdwp_wire.specs.Streams.{Message, NextMessage, Packet, Whole}
 use Rattle.jdwp_wire.specs.Widths.{Widths}
 use Rattle.jdwp_wire.specs.declared.data_fault.DataFault.{DataFault}
 use Rattle.jdwp_wire.specs.declared.error_code.ErrorCode.{ErrorCode}
+use Rattle.jdwp_wire.specs.declared.no_memory.NoMemory.{NoMemory}
 use Rattle.jdwp_wire.specs.declared.packet.Header.{Header}
 use Rattle.jdwp_wire.specs.declared.packet.PacketKind.{PacketKind}
 use Rattle.jdwp_wire.specs.declared.packet.PacketKind.TheVariants as kind
@@ -17,6 +19,7 @@ use Rattle.jdwp_action.specs.Actions.{Command, Raw, action_of, is_implemented}
 use Rattle.jdwp_action.specs.CommandReads.{command_read, content_read, read_by}
 use Rattle.jdwp_action.specs.RowLayouts.{row_request}
 use Rattle.jdwp_debuggee.specs.Askings.{asked_meaning, asking, asking_of, asks}
+use Rattle.jdwp_debuggee.specs.Debuggees.{Debuggee}
 use Rattle.jdwp_debuggee.specs.Effects.{carried, does, effect, effect_by}
 use Rattle.jdwp_action.specs.AnswerPackets.{EncodesAnswer}
 use Rattle.jdwp_debuggee.specs.Sending.{is_question}
@@ -27,10 +30,11 @@ use Rattle.jdwp_debuggee.specs.declared.command as code
 use Rattle.jdwp_target.specs.Standings.{carried_out}
 use Rattle.jdwp_target.specs.Deeds.{defers}
 use Rattle.jdwp_target.specs.Targets.{Target, full_standing}
-use Rattle.jdwp_target.specs.TurnParts.{IsRead}
-use Rattle.jdwp_target.specs.declared.turning.Came.TheVariants as came
 use Rattle.jdwp_target.specs.Sends.{IsEncoded}
+use Rattle.jdwp_target.specs.TurnParts.{IsCarriedOut, IsDone}
 use Rattle.jdwp_target.specs.Turns.{EncodesByKind, EncodesFor, EncodesNext, EncodesStart, EncodesUnless}
+use Rattle.jdwp_target.specs.Visits.{visits_read}
+use Rattle.jdwp_target.specs.declared.turning.Done.{Done}
 use Rattle.jdwp_target.proofs.RightTurns.{WasRead, asking-same, carried-shaken, was-read}
 
 -- ---- a command that is refused unread
@@ -96,6 +100,23 @@ pub carried-encoded : {S : Type 0} (m : Meaning S) (settings : Settings) (now : 
 carried-encoded m settings now w set number body a e shaken asked own =
     carried-read m settings now w set number a (command_read w set number body) (was-read w set number body) e shaken asked own
 
+-- ---- a command that was read, and carried out or refused
+
+pub carried-out : {S : Type 0} (m : Meaning S) (old new : Debuggee S) (set number : ℕ) (body : List ℕ) (asked : code.ParsedCommand.ParsedCommand) (result : Result Done NoMemory)
+    → asked_meaning asked ≡ asks (command_read (m.sizes old.moment.machine) set number body)
+    → IfOk result (λ done. (s n : ℕ) (b : List ℕ) → asked_meaning asked ≡ asks (command_read (m.sizes old.moment.machine) s n b)
+    → IsDone (m.sizes old.moment.machine) (carried_out m old.settings old.moment (command_read (m.sizes old.moment.machine) s n b)) (visits_read m old.settings old.moment (command_read (m.sizes old.moment.machine) s n b) old.visits) old new done)
+    → IfOk result (λ _. (s n : ℕ) (b : List ℕ) → asked_meaning asked ≡ asks (command_read (m.sizes old.moment.machine) s n b)
+    → EncodesAnswer (m.sizes old.moment.machine) s n (carried_out m old.settings old.moment (command_read (m.sizes old.moment.machine) s n b)).answer)
+    → IfOk result (IsCarriedOut m old new set number body)
+carried-out m old new set number body asked (Ok done) value did encoded = record { becomes = did set number body value; encoded = encoded set number body value }
+carried-out m old new set number body asked (Err e) value did encoded = tt
+
+-- what holds where memory is wanted
+pub wants-as : (result : Result Done NoMemory) (P Q : Type 0) → IfErr result (λ _. P) → (P → Q) → IfErr result (λ _. Q)
+wants-as (Ok done) P Q p h = tt
+wants-as (Err e) P Q p h = h p
+
 -- ---- by what there is to handle
 
 pub encodes-whole : {S : Type 0} (m : Meaning S) (v : Target S) (message : Message) (used : ℕ) → front_of v.end ≡ Whole message used → defers (full_standing v) message ≡ false → EncodesFor m v message
@@ -111,13 +132,10 @@ pub encodes-start : {S : Type 0} (m : Meaning S) (v : Target S) (b : Bool) → (
 encodes-start m v true h = tt
 encodes-start m v false h = h refl
 
-pub encodes-command : {S : Type 0} (m : Meaning S) (v : Target S) (header : Header) (body : List ℕ) (w : Widths) (id : ℕ) (asked : code.ParsedCommand.ParsedCommand)
-    → IsRead w header.id header.kind body (came.Command id asked) → w ≡ m.sizes v.moment.machine
-    → ((set number : ℕ) (bytes : List ℕ) → asked_meaning asked ≡ asks (command_read (m.sizes v.moment.machine) set number bytes)
-    → EncodesAnswer (m.sizes v.moment.machine) set number (carried_out m v.settings v.moment (command_read (m.sizes v.moment.machine) set number bytes)).answer)
+pub encodes-command : {S : Type 0} (m : Meaning S) (v : Target S) (header : Header) (body : List ℕ) (set number : ℕ) → header.kind ≡ kind.Command set number
+    → EncodesAnswer (m.sizes v.moment.machine) set number (carried_out m v.settings v.moment (command_read (m.sizes v.moment.machine) set number body)).answer
     → EncodesFor m v (Packet header body)
-encodes-command m v header body w id asked (set, number, is, same, value, short) w-is h =
-    subst (λ (x : PacketKind). EncodesByKind m v x body) (sym is) (h set number body (subst (λ (x : Widths). asked_meaning asked ≡ asks (command_read x set number body)) w-is value))
+encodes-command m v header body set number is h = subst (λ (x : PacketKind). EncodesByKind m v x body) (sym is) h
 
 pub encodes-ignored : {S : Type 0} (m : Meaning S) (v : Target S) (header : Header) (body : List ℕ) (error : ErrorCode) → header.kind ≡ kind.Reply error → EncodesFor m v (Packet header body)
 encodes-ignored m v header body error is = subst (λ (x : PacketKind). EncodesByKind m v x body) (sym is) tt

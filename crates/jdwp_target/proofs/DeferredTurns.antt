@@ -16,22 +16,21 @@ use Rattle.jdwp_end.specs.Ends as ends
 use Rattle.jdwp_end.specs.FrontLaws.{IsDue, in-front}
 use Rattle.jdwp_machine.specs.Meanings.{Meaning}
 use Rattle.jdwp_action.specs.CommandReads.{command_read}
-use Rattle.jdwp_debuggee.specs.Askings.{asked_meaning, asks, is_short}
+use Rattle.jdwp_debuggee.specs.Askings.{is_short}
 use Rattle.jdwp_debuggee.specs.Debuggees.{Debuggee}
-use Rattle.jdwp_debuggee.specs.Sending.{is_short_asked}
-use Rattle.jdwp_debuggee.specs.declared.command as code
 use Rattle.jdwp_target.specs.declared.deferral.DeferredCommand.{DeferredCommand}
 use Rattle.jdwp_target.specs.declared.target.TargetFault.{TargetFault}
 use Rattle.jdwp_target.specs.declared.target.TargetFault.TheVariants as fault
 use Rattle.jdwp_target.specs.declared.target.Turn.{Turn}
 use Rattle.jdwp_target.specs.declared.target.Turn.TheVariants as turn
 use Rattle.jdwp_target.specs.declared.turning.Came.TheVariants as came
+use Rattle.jdwp_target.specs.declared.turning.Done.{Done}
 use Rattle.jdwp_debuggee.specs.Deferring.{MOST_DEFERRED, is_deferrable, released_at}
 use Rattle.jdwp_target.specs.Standings.{Handles, handles, stands}
 use Rattle.jdwp_target.specs.Deeds.{Does, FullStanding, Releases, defers, defers_kind, perform}
 use Rattle.jdwp_target.specs.Insides.{Deferral, IsRightTarget, message_of, target_of}
 use Rattle.jdwp_target.specs.Targets.{Ran, Target, full_standing, with_handled, with_release}
-use Rattle.jdwp_target.specs.TurnParts.{IsCommand, IsCopied, IsHandled, IsLong, IsRead, puts_off}
+use Rattle.jdwp_target.specs.TurnParts.{IsCarriedOut, IsCommand, IsCopied, IsHandled, IsLong, IsRead, puts_off}
 use Rattle.jdwp_target.specs.Turns.{EncodesFor, EncodesReleased, NeedsMemory, NeedsMemoryToHandle, ReleasesAt, SendsAt, SendsReleased, TurnsAt, at_place, deferred_at, kind_needs_memory, told_of, told_of_packet}
 use Rattle.jdwp_target.specs.ReleaseLaws.{none-found}
 use Rattle.jdwp_target.proofs.RightTurns.{deferral_handled, needs-at-once, nothing-put, packet-phase}
@@ -84,15 +83,14 @@ room-left now (kind.Command set number) e =
     ltb-true (length now.deferred) 16 (room-by (is_established_phase now.standing.phase) now.deferring (is_deferrable set) (nat_lt (length now.deferred) 16) e)
 room-left now (kind.Reply error) e = absurd (cc)
 
--- what may want memory: that the data of a command are read that is not put off
-reads-kind : {S : Type 0} (m : Meaning S) (old : Target S) (w : Widths) (k : PacketKind) (body : List ℕ) → w ≡ m.sizes old.moment.machine → IsLong w k body → kind_needs_memory m old k body
-reads-kind m old w k body w-is (set, number, is, long, reads) =
-    subst (λ (x : PacketKind). kind_needs_memory m old x body) (sym is) (long, subst (λ (x : Widths). IsOk (command_read x set number body)) w-is reads)
+-- what may want memory: a command that is not put off
+reads-kind : {S : Type 0} (m : Meaning S) (old : Target S) (k : PacketKind) (body : List ℕ) → IsLong (m.sizes old.moment.machine) k body → kind_needs_memory m old k body
+reads-kind m old k body (set, number, is, long, reads) = subst (λ (x : PacketKind). kind_needs_memory m old x body) (sym is) (long, reads)
 
-pub wants-to-read : {S : Type 0} (m : Meaning S) (old : Target S) (header : Header) (body : List ℕ) (used : ℕ) (w : Widths) (told : Bool) → IsBytes old.end.incoming → front_of old.end ≡ Whole (Packet header body) used
-    → told ≡ takes old.deferring (length old.deferred) → w ≡ m.sizes old.moment.machine → (puts_off told header.kind ≡ false) × IsLong w header.kind body → NeedsMemory m old (Packet header body)
-wants-to-read m old header body used w told fits front same w-is (off, long) =
-    needs-at-once m old (Packet header body) (as-told old header body used told false fits front same off) (reads-kind m old w header.kind body w-is long)
+pub wants-to-read : {S : Type 0} (m : Meaning S) (old : Target S) (header : Header) (body : List ℕ) (used : ℕ) (told : Bool) → IsBytes old.end.incoming → front_of old.end ≡ Whole (Packet header body) used
+    → told ≡ takes old.deferring (length old.deferred) → puts_off told header.kind ≡ false → IsLong (m.sizes old.moment.machine) header.kind body → NeedsMemory m old (Packet header body)
+wants-to-read m old header body used told fits front same off long =
+    needs-at-once m old (Packet header body) (as-told old header body used told false fits front same off) (reads-kind m old header.kind body long)
 
 -- ---- what was put off
 
@@ -130,10 +128,12 @@ pub whatever-came : (result : Result Turn TargetFault) (P : Type 0) → P → If
 whatever-came (Ok turn) P h = h
 whatever-came (Err fault) P h = tt
 
--- what is answered where the end was read before, which left it as it was
-pub turns-read : {S : Type 0} (m : Meaning S) (d : Debuggee S) (x : Deferral) (began : List (Debuggee S)) (phases : List Phase) (steps : ℕ) (end read : End) (result : Result Turn TargetFault) (new : Target S) → read ≡ end
-    → TurnsAt m (front_of read) (target_of d x began phases steps read) result new → TurnsAt m (front_of end) (target_of d x began phases steps end) result new
-turns-read m d x began phases steps end read result new same h = subst (λ (e : End). TurnsAt m (front_of e) (target_of d x began phases steps e) result new) same h
+-- what is answered where the packet was looked at before, which left the debuggee and the end as they were
+pub turns-read : {S : Type 0} (m : Meaning S) (d seen : Debuggee S) (x : Deferral) (began : List (Debuggee S)) (phases : List Phase) (steps : ℕ) (end read : End) (result : Result Turn TargetFault) (new : Target S) → seen ≡ d → read ≡ end
+    → TurnsAt m (front_of read) (target_of seen x began phases steps read) result new → TurnsAt m (front_of end) (target_of d x began phases steps end) result new
+turns-read {S = S} m d seen x began phases steps end read result new alike same h =
+    subst (λ (e : End). TurnsAt m (front_of e) (target_of d x began phases steps e) result new) same
+    (subst (λ (y : Debuggee S). TurnsAt m (front_of read) (target_of y x began phases steps read) result new) alike h)
 
 pub right-put-off : {S : Type 0} (m : Meaning S) (d : Debuggee S) (x y : Deferral) (began : List (Debuggee S)) (phases : List Phase) (steps : ℕ) (end after : End) (header : Header) (body : List ℕ) (used : ℕ)
     → IsRightTarget m d x began phases steps end → IsBytes end.incoming → front_of end ≡ Whole (Packet header body) used → defers (full_standing (target_of d x began phases steps end)) (Packet header body) ≡ true
@@ -228,10 +228,14 @@ right-released m d new x y began phases steps end after place message others rig
           (ran-released m old place session less (sends-one m old place message others found h.sends) right.ran);
     }
 
--- a deferred command as it is read
-pub deferred-read : (w : Widths) (c : DeferredCommand) (asked : code.ParsedCommand.ParsedCommand) → asked_meaning asked ≡ asks (command_read w c.set c.number c.body.items)
-    → (is_short c.set c.number ≡ true → is_short_asked (asked_meaning asked) ≡ true) → IsRead w c.id (kind.Command c.set c.number) c.body.items (came.Command c.id asked)
-deferred-read w c asked value short = (c.set, c.number, refl, refl, value, short)
+-- a deferred command that was carried out
+pub deferred-done : {S : Type 0} (m : Meaning S) (d new : Debuggee S) (c : DeferredCommand) (bytes : List ℕ) (done : Done) → bytes ≡ c.body.items → IsCarriedOut m d new c.set c.number bytes done
+    → IsCarriedOut m d new c.set c.number c.body.items done
+deferred-done m d new c bytes done same did = subst (λ (b : List ℕ). IsCarriedOut m d new c.set c.number b done) same did
+
+pub deferred-read : {S : Type 0} (m : Meaning S) (d new : Debuggee S) (c : DeferredCommand) (done : Done) → IsCarriedOut m d new c.set c.number c.body.items done
+    → IsRead m d new c.id (kind.Command c.set c.number) c.body.items (came.Command c.id done)
+deferred-read m d new c done did = (c.set, c.number, refl, refl, did)
 
 pub deferred-needs : {S : Type 0} (m : Meaning S) (old : Target S) (w : Widths) (c : DeferredCommand) → w ≡ m.sizes old.moment.machine → is_short c.set c.number ≡ false → IsOk (command_read w c.set c.number c.body.items)
     → NeedsMemoryToHandle m old (message_of c)

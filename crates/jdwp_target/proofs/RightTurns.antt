@@ -59,7 +59,7 @@ use Rattle.jdwp_target.specs.Standings.{Handles, Standing, carried_out, greets_b
 use Rattle.jdwp_target.specs.Targets.{Ran, Target, full_standing, in_phase, with_handled}
 use Rattle.jdwp_target.specs.StepParts.{debuggee_after, end_after}
 use Rattle.jdwp_target.specs.TurnParts.{IsDone, IsHandled, IsRead, after_deaths, closed_where, deaths, reply_of}
-use Rattle.jdwp_target.specs.Turns.{NeedsMemory, NeedsMemoryToHandle, SendsAt, TurnsAt, kind_needs_memory, told_of_packet, told_where}
+use Rattle.jdwp_target.specs.Turns.{NeedsMemory, NeedsMemoryToHandle, SendsAt, TurnsAt, told_of_packet, told_where}
 use Rattle.jdwp_target.specs.Visits.{visits_hello, visits_read}
 use Rattle.jdwp_target.proofs.EnqueueLemmas.{two_enqueued}
 use Rattle.jdwp_target.proofs.TargetRuns.{ran-handled}
@@ -349,34 +349,29 @@ command-replied m d mid new header body set number end after done w is session h
     (subst (λ (x : Widths). AreSendable end.limits.packet (reply_of x header.id done.sent ∷ deaths x mid.moment.state.next_packet done.dies)) w-is sends)
 
 -- the same of a command as it was read
-pub command-came : {S : Type 0} (m : Meaning S) (d mid new : Debuggee S) (header : Header) (body : List ℕ) (end after : End) (done : Done) (w : Widths) (id : ℕ) (asked : code.ParsedCommand.ParsedCommand)
-    → IsRead w header.id header.kind body (came.Command id asked) → end.phase ≡ Established → w ≡ m.sizes d.moment.machine
-    → ((set number : ℕ) (bytes : List ℕ) → asked_meaning asked ≡ asks (command_read (m.sizes d.moment.machine) set number bytes)
-    → IsDone (m.sizes d.moment.machine) (carried_out m d.settings d.moment (command_read (m.sizes d.moment.machine) set number bytes)) (visits_read m d.settings d.moment (command_read (m.sizes d.moment.machine) set number bytes) d.visits) d mid done)
+pub command-came : {S : Type 0} (m : Meaning S) (d mid new : Debuggee S) (header : Header) (body : List ℕ) (end after : End) (done : Done) (w : Widths) (id : ℕ)
+    → IsRead m d mid header.id header.kind body (came.Command id done) → end.phase ≡ Established → w ≡ m.sizes d.moment.machine
     → d.moment.state.handshaken ≡ true → new ≡ after_deaths done.dies mid
     → after ≡ closed_where done.closes (with_enqueued (stream (reply_of w id done.sent ∷ deaths w mid.moment.state.next_packet done.dies)) end)
     → end.limits ≡ d.settings.limits → least_packet_limit ≤ end.limits.packet
     → ((limit : ℕ) → least_packet_limit ≤ limit → 11 + length (sent_bytes w done.sent) ≤ limit → AreSendable limit (reply_of w id done.sent ∷ deaths w mid.moment.state.next_packet done.dies))
     → IsHandled m (Packet header body) d new end after
-command-came m d mid new header body end after done w id asked (set, number, is, same, value, short) session w-is did shaken new-is after-is limits least fits =
-    command-replied m d mid new header body set number end after done w is session
-    (did set number body (subst (λ (x : Widths). asked_meaning asked ≡ asks (command_read x set number body)) w-is value)) shaken new-is w-is
+command-came m d mid new header body end after done w id (set, number, is, same, did) session w-is shaken new-is after-is limits least fits =
+    command-replied m d mid new header body set number end after done w is session did.becomes shaken new-is w-is
     (after-is ∙ ap (λ (n : ℕ). closed_where done.closes (with_enqueued (stream (reply_of w n done.sent ∷ deaths w mid.moment.state.next_packet done.dies)) end)) same)
     limits least
     (λ limit enough within. subst (λ (n : ℕ). AreSendable limit (reply_of w n done.sent ∷ deaths w mid.moment.state.next_packet done.dies)) same (fits limit enough within))
 
 -- the same at a turn, where the end without the message has a name of its own
-pub command-taken : {S : Type 0} (m : Meaning S) (d mid new : Debuggee S) (header : Header) (body : List ℕ) (used : ℕ) (end off after : End) (done : Done) (w : Widths) (id : ℕ) (asked : code.ParsedCommand.ParsedCommand)
-    → IsRead w header.id header.kind body (came.Command id asked) → w ≡ m.sizes d.moment.machine
-    → ((set number : ℕ) (bytes : List ℕ) → asked_meaning asked ≡ asks (command_read (m.sizes d.moment.machine) set number bytes)
-    → IsDone (m.sizes d.moment.machine) (carried_out m d.settings d.moment (command_read (m.sizes d.moment.machine) set number bytes)) (visits_read m d.settings d.moment (command_read (m.sizes d.moment.machine) set number bytes) d.visits) d mid done)
+pub command-taken : {S : Type 0} (m : Meaning S) (d mid new : Debuggee S) (header : Header) (body : List ℕ) (used : ℕ) (end off after : End) (done : Done) (w : Widths) (id : ℕ)
+    → IsRead m d mid header.id header.kind body (came.Command id done) → w ≡ m.sizes d.moment.machine
     → d.moment.state.handshaken ≡ true → new ≡ after_deaths done.dies mid → off ≡ ends.with_handled (Packet header body) used end
     → after ≡ closed_where done.closes (with_enqueued (stream (reply_of w id done.sent ∷ deaths w mid.moment.state.next_packet done.dies)) off)
     → end.limits ≡ d.settings.limits → least_packet_limit ≤ end.limits.packet
     → ((limit : ℕ) → least_packet_limit ≤ limit → 11 + length (sent_bytes w done.sent) ≤ limit → AreSendable limit (reply_of w id done.sent ∷ deaths w mid.moment.state.next_packet done.dies))
     → IsHandled m (Packet header body) d new (ends.with_handled (Packet header body) used end) after
-command-taken m d mid new header body used end off after done w id asked read w-is did shaken new-is off-is after-is limits least fits =
-    command-came m d mid new header body (ends.with_handled (Packet header body) used end) after done w id asked read refl w-is did shaken new-is
+command-taken m d mid new header body used end off after done w id read w-is shaken new-is off-is after-is limits least fits =
+    command-came m d mid new header body (ends.with_handled (Packet header body) used end) after done w id read refl w-is shaken new-is
     (after-is ∙ ap (λ (x : End). closed_where done.closes (with_enqueued (stream (reply_of w id done.sent ∷ deaths w mid.moment.state.next_packet done.dies)) x)) off-is)
     limits least fits
 
@@ -385,13 +380,13 @@ pub nothing-put : (message : Message) (used : ℕ) (end : End) → ends.with_han
 nothing-put message used end = rw (append-nil end.outgoing, append-nil end.session.enqueued) refl
 
 -- a reply that came was ignored
-pub reply-handled : {S : Type 0} (m : Meaning S) (d : Debuggee S) (header : Header) (body : List ℕ) (used : ℕ) (error : ErrorCode) (end after : End) → header.kind ≡ kind.Reply error
-    → d.moment.state.handshaken ≡ true → after ≡ ends.with_handled (Packet header body) used end → IsHandled m (Packet header body) d d (ends.with_handled (Packet header body) used end) after
-reply-handled m d header body used error end after is shaken after-is =
-    handled-kind m header body (kind.Reply error) d d (ends.with_handled (Packet header body) used end) after is (record {
-      debuggee = refl;
+pub reply-handled : {S : Type 0} (m : Meaning S) (d new : Debuggee S) (header : Header) (body : List ℕ) (used : ℕ) (error : ErrorCode) (end after : End) → header.kind ≡ kind.Reply error
+    → d.moment.state.handshaken ≡ true → new ≡ d → after ≡ ends.with_handled (Packet header body) used end → IsHandled m (Packet header body) d new (ends.with_handled (Packet header body) used end) after
+reply-handled {S = S} m d new header body used error end after is shaken same after-is =
+    handled-kind m header body (kind.Reply error) d new (ends.with_handled (Packet header body) used end) after is (record {
+      debuggee = same;
       left = after-is ∙ nothing-put (Packet header body) used end;
-      handshaken = shaken;
+      handshaken = ap (λ (x : Debuggee S). x.moment.state.handshaken) same ∙ shaken;
       sends = tt;
     })
 
@@ -492,15 +487,12 @@ pub front-room : (end : End) (message : Message) (used : ℕ) → front_of end �
 front-room end message used found = omega (arith, leb-false end.limits.packet (length end.outgoing) (front-whole end message used found).0)
 
 -- there is room for what is sent for a command
-pub command-room : {S : Type 0} (m : Meaning S) (d mid : Debuggee S) (header : Header) (body : List ℕ) (end : End) (done : Done) (w : Widths) (id : ℕ) (asked : code.ParsedCommand.ParsedCommand)
-    → IsRead w header.id header.kind body (came.Command id asked) → w ≡ m.sizes d.moment.machine
-    → ((set number : ℕ) (bytes : List ℕ) → asked_meaning asked ≡ asks (command_read (m.sizes d.moment.machine) set number bytes)
-    → IsDone (m.sizes d.moment.machine) (carried_out m d.settings d.moment (command_read (m.sizes d.moment.machine) set number bytes)) (visits_read m d.settings d.moment (command_read (m.sizes d.moment.machine) set number bytes) d.visits) d mid done)
+pub command-room : {S : Type 0} (m : Meaning S) (d mid : Debuggee S) (header : Header) (body : List ℕ) (end : End) (done : Done) (w : Widths) (id : ℕ)
+    → IsRead m d mid header.id header.kind body (came.Command id done) → w ≡ m.sizes d.moment.machine
     → end.limits ≡ d.settings.limits → least_packet_limit ≤ end.limits.packet → length end.outgoing + 1 ≤ end.limits.packet
     → length end.outgoing + (11 + length (sent_bytes w done.sent)) ≤ most_outgoing end.limits
-command-room m d mid header body end done w id asked (set, number, is, same, value, short) w-is did limits least room =
-    let one = did set number body (subst (λ (x : Widths). asked_meaning asked ≡ asks (command_read x set number body)) w-is value) in
-    let small : 11 + length (sent_bytes w done.sent) ≤ end.limits.packet = rw (w-is, limits) (one.fits (subst (λ (x : Limits). least_packet_limit ≤ x.packet) limits least)) in
+command-room m d mid header body end done w id (set, number, is, same, did) w-is limits least room =
+    let small : 11 + length (sent_bytes w done.sent) ≤ end.limits.packet = rw (w-is, limits) (did.becomes.fits (subst (λ (x : Limits). least_packet_limit ≤ x.packet) limits least)) in
     omega (arith, room, small)
 
 reads-long : (r : Result Command ErrorCode) → is_short_asked (asks r) ≡ false → IsOk r
@@ -511,13 +503,14 @@ not-short : (a b : Bool) → (a ≡ true → b ≡ true) → b ≡ false → a �
 not-short true b short long = absurd (let same = short refl in cc)
 not-short false b short long = refl
 
--- a command whose data read, and that is no short one, may want memory
-pub command-needs : {S : Type 0} (m : Meaning S) (old : Target S) (header : Header) (body : List ℕ) (w : Widths) (id : ℕ) (asked : code.ParsedCommand.ParsedCommand)
-    → IsRead w header.id header.kind body (came.Command id asked) → w ≡ m.sizes old.moment.machine → is_short_asked (asked_meaning asked) ≡ false → NeedsMemoryToHandle m old (Packet header body)
-command-needs m old header body w id asked (set, number, is, same, value, short) w-is long =
-    let read : asked_meaning asked ≡ asks (command_read (m.sizes old.moment.machine) set number body) = subst (λ (x : Widths). asked_meaning asked ≡ asks (command_read x set number body)) w-is value in
-    let reads = reads-long (command_read (m.sizes old.moment.machine) set number body) (subst (λ (x : Result Asking ErrorCode). is_short_asked x ≡ false) read long) in
-    subst (λ (x : PacketKind). kind_needs_memory m old x body) (sym is) (not-short (is_short set number) (is_short_asked (asked_meaning asked)) short long, reads)
+-- what wants memory is no short command, and its data read
+pub wants-long : (set number : ℕ) (asked : code.ParsedCommand.ParsedCommand) → (is_short set number ≡ true → is_short_asked (asked_meaning asked) ≡ true) → is_short_asked (asked_meaning asked) ≡ false
+    → is_short set number ≡ false
+wants-long set number asked short long = not-short (is_short set number) (is_short_asked (asked_meaning asked)) short long
+
+pub wants-read : (w : Widths) (set number : ℕ) (body : List ℕ) (asked : code.ParsedCommand.ParsedCommand) → asked_meaning asked ≡ asks (command_read w set number body) → is_short_asked (asked_meaning asked) ≡ false
+    → IsOk (command_read w set number body)
+wants-read w set number body asked value long = reads-long (command_read w set number body) (subst (λ (x : Result Asking ErrorCode). is_short_asked x ≡ false) value long)
 
 -- at a turn, where it is handled at once
 pub needs-at-once : {S : Type 0} (m : Meaning S) (old : Target S) (message : Message) → defers (full_standing old) message ≡ false → NeedsMemoryToHandle m old message → NeedsMemory m old message
@@ -532,14 +525,11 @@ pub turns-wanting : {S : Type 0} (m : Meaning S) (old new : Target S) (message :
 turns-wanting m old new message used result front is needs same =
     subst (λ (x : NextMessage). TurnsAt m x old result new) (sym front) (subst (λ (x : Result Turn TargetFault). TurnsAt m (Whole message used) old x new) (sym is) (refl, needs, same))
 
--- what is told of a command as it was read
-pub told-command : {S : Type 0} (m : Meaning S) (old : Target S) (header : Header) (body : List ℕ) (w : Widths) (id : ℕ) (asked : code.ParsedCommand.ParsedCommand) (error : ErrorCode)
-    → IsRead w header.id header.kind body (came.Command id asked) → w ≡ m.sizes old.moment.machine
-    → ((set number : ℕ) (bytes : List ℕ) → asked_meaning asked ≡ asks (command_read (m.sizes old.moment.machine) set number bytes)
-    → error ≡ error_of (carried_out m old.settings old.moment (command_read (m.sizes old.moment.machine) set number bytes)).answer)
+-- what is told of a command that was carried out
+pub told-command : {S : Type 0} (m : Meaning S) (old : Target S) (header : Header) (body : List ℕ) (id set number : ℕ) (error : ErrorCode) → header.kind ≡ kind.Command set number → id ≡ header.id
+    → error ≡ error_of (carried_out m old.settings old.moment (command_read (m.sizes old.moment.machine) set number body)).answer
     → turn.Replied id error ≡ told_of_packet m old header.id header.kind body
-told-command m old header body w id asked error (set, number, is, same, value, short) w-is e =
-    let tells = e set number body (subst (λ (x : Widths). asked_meaning asked ≡ asks (command_read x set number body)) w-is value) in
+told-command m old header body id set number error is same tells =
     subst (λ (x : PacketKind). turn.Replied id error ≡ told_of_packet m old header.id x body) (sym is)
     (ap (λ (n : ℕ). turn.Replied n error) same ∙ ap (λ (x : ErrorCode). turn.Replied header.id x) tells)
 

@@ -14,20 +14,21 @@ use Rattle.jdwp_end.specs.declared.phase.Phase.TheVariants.{Established}
 use Rattle.jdwp_end.specs.Ends.{End, closed_end, front_of}
 use Rattle.jdwp_event.specs.Composites.{vm_death}
 use Rattle.jdwp_machine.specs.Meanings.{Meaning}
+use Rattle.jdwp_action.specs.AnswerPackets.{EncodesAnswer}
 use Rattle.jdwp_action.specs.CommandReads.{command_read}
-use Rattle.jdwp_debuggee.specs.Askings.{asked_meaning, asks, is_short}
+use Rattle.jdwp_debuggee.specs.Askings.{is_short}
 use Rattle.jdwp_debuggee.specs.Debuggees.{Debuggee, at_moment, visiting, with_state}
 use Rattle.jdwp_debuggee.specs.Effects.{Effect}
-use Rattle.jdwp_debuggee.specs.Sending.{IsSent, is_short_asked, sent_bytes, sent_error}
+use Rattle.jdwp_debuggee.specs.Sending.{IsSent, sent_bytes, sent_error}
 use Rattle.jdwp_debuggee.specs.State.{with_packet}
 use Rattle.jdwp_debuggee.specs.declared.reply.Sent.{Sent}
 use Rattle.jdwp_debuggee.specs.Deferring.{is_deferrable}
 use Rattle.jdwp_target.specs.Deeds.{defers}
 use Rattle.jdwp_target.specs.Sends.{packet_with, report_of}
-use Rattle.jdwp_target.specs.Standings.{handles, stands}
+use Rattle.jdwp_target.specs.Standings.{carried_out, handles, stands}
 use Rattle.jdwp_target.specs.StepParts.{debuggee_after, end_after}
 use Rattle.jdwp_target.specs.Targets.{Target, full_standing}
-use Rattle.jdwp_target.specs.Visits.{visits_handled}
+use Rattle.jdwp_target.specs.Visits.{visits_handled, visits_read}
 use Rattle.jdwp_target.specs.declared.deferral.DeferredCommand.{DeferredCommand}
 use Rattle.jdwp_target.specs.declared.turning.Came.{Came}
 use Rattle.jdwp_target.specs.declared.turning.Came.TheVariants as came
@@ -57,14 +58,30 @@ HasDeferred used t = (header : Header) × (body : List ℕ) × (front_of t.end �
 abbrev pub IsCopied : Header → List ℕ → DeferredCommand → Type 0
 IsCopied header body c = (header.kind ≡ kind.Command c.set c.number) × (c.id ≡ header.id) × (c.body.items ≡ body)
 
--- What was read of a packet of this id and kind with these data: the id of a command and what it comes to, which wants no memory where the
--- command is a short one; of one that is put off that it is a command; and of a reply that it is one.
-abbrev pub IsRead : Widths → ℕ → PacketKind → List ℕ → Came → Type 0
-IsRead w id k body (came.Command n asked) =
-    (set : ℕ) × (number : ℕ) × (k ≡ kind.Command set number) × (n ≡ id) × (asked_meaning asked ≡ asks (command_read w set number body))
-    × (is_short set number ≡ true → is_short_asked (asked_meaning asked) ≡ true)
-IsRead w id k body came.Deferred = IsCommand k
-IsRead w id k body came.Reply = (error : ErrorCode) × (k ≡ kind.Reply error)
+-- A command was carried out or refused: what became of the debuggee, and its visits; what is sent, which fits a packet, and has no data where the
+-- machine died; and whether the session closes.
+pub record IsDone {S : Type 0} (w : Widths) (e : Effect S) (visits : ℕ) (old new : Debuggee S) (done : Done) : Type 0 where
+  pub after : new ≡ visiting visits (at_moment e.after old)
+  pub sends : IsSent w e.answer done.sent
+  pub fits : least_packet_limit ≤ old.settings.limits.packet → 11 + length (sent_bytes w done.sent) ≤ old.settings.limits.packet
+  pub dies : done.dies ≡ e.dies
+  pub bare : done.dies ≡ true → length (sent_bytes w done.sent) ≡ 0
+  pub closes : done.closes ≡ (e.dies || e.closes)
+  pub handshaken : e.after.state.handshaken ≡ old.moment.state.handshaken
+
+-- A command of this set and number with these data was read, and carried out or refused. What it is answered is encoded by the bytes that are sent.
+pub record IsCarriedOut {S : Type 0} (m : Meaning S) (old new : Debuggee S) (set number : ℕ) (body : List ℕ) (done : Done) : Type 0 where
+  pub becomes : IsDone (m.sizes old.moment.machine) (carried_out m old.settings old.moment (command_read (m.sizes old.moment.machine) set number body))
+      (visits_read m old.settings old.moment (command_read (m.sizes old.moment.machine) set number body) old.visits) old new done
+  pub encoded : EncodesAnswer (m.sizes old.moment.machine) set number (carried_out m old.settings old.moment (command_read (m.sizes old.moment.machine) set number body)).answer
+
+-- What was made of a packet of this id and kind with these data: the id of a command and what became of it; of one that is put off and of a
+-- reply nothing, and the debuggee is as it was.
+abbrev pub IsRead : {S : Type 0} → Meaning S → Debuggee S → Debuggee S → ℕ → PacketKind → List ℕ → Came → Type 0
+IsRead m old new id k body (came.Command n done) =
+    (set : ℕ) × (number : ℕ) × (k ≡ kind.Command set number) × (n ≡ id) × IsCarriedOut m old new set number body done
+IsRead m old new id k body came.Deferred = IsCommand k × (new ≡ old)
+IsRead m old new id k body came.Reply = (error : ErrorCode) × (k ≡ kind.Reply error) × (new ≡ old)
 
 -- whether a packet of this kind is put off, where those that may be are
 abbrev pub puts_off : Bool → PacketKind → Bool
@@ -72,7 +89,7 @@ puts_off defers (kind.Command set number) = defers && is_deferrable set
 puts_off defers (kind.Reply error) = false
 
 abbrev pub IsPutOff : Bool → PacketKind → Came → Type 0
-IsPutOff defers k (came.Command n asked) = puts_off defers k ≡ false
+IsPutOff defers k (came.Command n done) = puts_off defers k ≡ false
 IsPutOff defers k came.Deferred = puts_off defers k ≡ true
 IsPutOff defers k came.Reply = Unit {0}
 
@@ -80,12 +97,13 @@ IsPutOff defers k came.Reply = Unit {0}
 abbrev pub IsLong : Widths → PacketKind → List ℕ → Type 0
 IsLong w k body = (set : ℕ) × (number : ℕ) × (k ≡ kind.Command set number) × (is_short set number ≡ false) × IsOk (command_read w set number body)
 
--- what a packet with this header and these data was read as, where memory may have been wanted: it is not where the packet is put off
-abbrev pub ReadsPacket : Widths → Header → List ℕ → Bool → Result Came NoMemory → Type 0
-ReadsPacket w header body defers result =
+-- what was made of a packet with this header and these data, where memory may have been wanted: it is not where the packet is put off, and then
+-- the debuggee is as it was
+abbrev pub ReadsPacket : {S : Type 0} → Meaning S → Debuggee S → Debuggee S → Header → List ℕ → Bool → Result Came NoMemory → Type 0
+ReadsPacket m old new header body defers result =
     MatchResult result
-    (λ c. IsRead w header.id header.kind body c × IsPutOff defers header.kind c)
-    (λ wanted. (puts_off defers header.kind ≡ false) × IsLong w header.kind body)
+    (λ c. IsRead m old new header.id header.kind body c × IsPutOff defers header.kind c)
+    (λ wanted. (puts_off defers header.kind ≡ false) × IsLong (m.sizes old.moment.machine) header.kind body × (new ≡ old))
 
 -- what is sent for a command, as the reply to the command of this id
 abbrev pub reply_of : Widths → ℕ → Sent → Message
@@ -103,17 +121,6 @@ after_deaths false d = d
 abbrev pub closed_where : Bool → End → End
 closed_where true end = closed_end end
 closed_where false end = end
-
--- A command was carried out or refused: what became of the debuggee, and its visits; what is sent, which fits a packet, and has no data where the
--- machine died; and whether the session closes.
-pub record IsDone {S : Type 0} (w : Widths) (e : Effect S) (visits : ℕ) (old new : Debuggee S) (done : Done) : Type 0 where
-  pub after : new ≡ visiting visits (at_moment e.after old)
-  pub sends : IsSent w e.answer done.sent
-  pub fits : least_packet_limit ≤ old.settings.limits.packet → 11 + length (sent_bytes w done.sent) ≤ old.settings.limits.packet
-  pub dies : done.dies ≡ e.dies
-  pub bare : done.dies ≡ true → length (sent_bytes w done.sent) ≡ 0
-  pub closes : done.closes ≡ (e.dies || e.closes)
-  pub handshaken : e.after.state.handshaken ≡ old.moment.state.handshaken
 
 -- A message was handled, which was taken off this end before: the debuggee, and the end behind it; and what is sent are the handshake and
 -- packets within the limit.

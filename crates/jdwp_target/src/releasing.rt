@@ -5,8 +5,7 @@ ghost use Rattle.jdwp_target.specs.Targets.{with_deferring};
 ghost use Rattle.jdwp_target.specs.Turns.{EncodesReleased, ReleasesAt, SendsReleased, deferred_at};
 
 use crate::target::{Target, TargetFault, Turn};
-use crate::turning::{error_of, fits_reply, handle, reply};
-use jdwp_debuggee::read_command;
+use crate::turning::{error_of, fits_reply, handle_command, reply};
 use jdwp_machine::Machine;
 
 impl<M: Machine + Drop> Target<M> {
@@ -47,14 +46,14 @@ impl<M: Machine + Drop> Target<M> {
         let sizes = self.debuggee.sizes();
         let command = self.deferral.command(place);
         let id = command.id;
-        let asked = read_command(
+        let done = handle_command(
+            &mut self.debuggee,
             self.alloc,
             command.set,
             command.number,
             &sizes,
             &command.body,
         )?;
-        let done = handle(&mut self.debuggee, self.alloc, asked)?;
         fits_reply(id, &done, &sizes, &self.debuggee);
         reply(id, &done, &sizes, &mut self.debuggee, &mut self.end);
         self.deferral.remove(place);

@@ -32,6 +32,14 @@ impl<M: Machine + Drop> SessionEnd for Target<M> {
         Target::waiting(self)
     }
 
+    fn waiting_in_front(&self) -> &[u8] {
+        Target::waiting_in_front(self)
+    }
+
+    fn leave(&mut self, count: usize) {
+        Target::leave(self, count);
+    }
+
     fn take(&mut self, out: &mut [u8]) -> usize {
         Target::take(self, out)
     }

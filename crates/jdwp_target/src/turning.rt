@@ -1,5 +1,5 @@
 //! Messages as a target over any machine handles them.
-ghost use Rattle.std.specs.Prelude.{◌≡◌, ◌≤◌, ◌+◌, ◌∷◌, ℕ, List, Some, None, true, false, length, IfOk, IfErr, OnErr};
+ghost use Rattle.std.specs.Prelude.{◌≡◌, ◌≤◌, ◌+◌, ◌∷◌, ℕ, List, Some, None, true, false, length, IfOk, IfErr, IsOk, OnErr};
 ghost use Rattle.jdwp_end.specs.Ends.{HasPacket, front_of, most_outgoing, with_enqueued};
 ghost use Rattle.jdwp_end.specs.declared.phase.Phase.TheVariants.{Established};
 ghost use Rattle.jdwp_event.specs.Composites.{vm_start};
@@ -12,7 +12,7 @@ ghost use Rattle.jdwp_wire.specs.Streams.{AreSendable, Packet, Whole, message_by
 ghost use Rattle.jdwp_wire.specs.declared.packet.Header.{Header};
 ghost use Rattle.jdwp_wire.specs.Limits.{least_packet_limit, most_packet_limit};
 ghost use Rattle.jdwp_action.specs.CommandReads.{command_read};
-ghost use Rattle.jdwp_debuggee.specs.Askings.{asked_meaning, asks};
+ghost use Rattle.jdwp_debuggee.specs.Askings.{asked_meaning, asks, is_short};
 ghost use Rattle.jdwp_action.specs.AnswerPackets.{EncodesAnswer};
 ghost use Rattle.jdwp_debuggee.specs.Sending.{is_short_asked, sent_bytes, sent_error};
 ghost use Rattle.jdwp_debuggee.specs.Debuggees.{visiting};
@@ -20,7 +20,7 @@ ghost use Rattle.jdwp_debuggee.specs.Steps.{start_event};
 ghost use Rattle.jdwp_target.specs.Sends.{IsEncoded, report_of};
 ghost use Rattle.jdwp_target.specs.Standings.{carried_out, greets_by, stands};
 ghost use Rattle.jdwp_target.specs.StepParts.{debuggee_after};
-ghost use Rattle.jdwp_target.specs.TurnParts.{HoldsPacket, IsDone, ReadsPacket, after_deaths, closed_where, deaths, reply_of};
+ghost use Rattle.jdwp_target.specs.TurnParts.{HoldsPacket, IsCarriedOut, IsDone, ReadsPacket, after_deaths, closed_where, deaths, reply_of};
 ghost use Rattle.jdwp_target.specs.Turns.{EncodesNext, SendsAt, TurnsAt};
 ghost use Rattle.jdwp_target.specs.Visits.{visits_hello, visits_read};
 
@@ -41,8 +41,8 @@ use std::alloc::Global;
 /// What came in a packet.
 #[derive(Drop)]
 pub(crate) enum Came {
-    /// A command: its id, and what it comes to.
-    Command(u32, ParsedCommand),
+    /// A command that was carried out or refused: its id, and what became of it.
+    Command(u32, Done),
     /// A command whose reply is to be deferred.
     Deferred,
     /// A reply, which means nothing to a target.
@@ -107,15 +107,21 @@ impl<M: Machine + Drop> Target<M> {
     {
         let sizes = self.debuggee.sizes();
         let defers = self.deferral.takes();
-        let came = read_front(self.alloc, &mut self.end, used, &sizes, defers)?;
+        let came = handle_front(
+            &mut self.debuggee,
+            self.alloc,
+            &mut self.end,
+            used,
+            &sizes,
+            defers,
+        )?;
         match came {
             Came::Reply => {
                 self.end.take_off(used);
                 Ok(Turn::Ignored)
             }
             Came::Deferred => self.defer(used),
-            Came::Command(id, asked) => {
-                let done = handle(&mut self.debuggee, self.alloc, asked)?;
+            Came::Command(id, done) => {
                 fits_reply(id, &done, &sizes, &self.debuggee);
                 self.end.take_off(used);
                 reply(id, &done, &sizes, &mut self.debuggee, &mut self.end);
@@ -126,63 +132,82 @@ impl<M: Machine + Drop> Target<M> {
     }
 }
 
-/// What came in the packet in front of an end, which takes so many bytes, where so is said of the commands that may be deferred. It is
-/// read where it lies, or joined where it wraps, and the end is as it was.
+/// Carries out or refuses the command in the packet in front of an end, which takes so many bytes, where its reply is not deferred. The
+/// packet is read where it lies, or joined where it wraps, and the end is as it was.
 ///
 /// # Errors
-/// As those of `read_packet`.
-fn read_front(
+/// As those of `handle_packet`.
+fn handle_front<M: Machine>(
+    debuggee: &mut Debuggee<M>,
     alloc: Global,
     end: &mut End,
     used: usize,
     sizes: &IdSizes,
     defers: bool,
 ) -> Result<Came, NoMemory>
-    requires { HasPacket used end.old }
+    requires packet { HasPacket used end.old }
+    requires shaken { debuggee.old.moment.state.handshaken ≡ true }
+    requires widths { sizes.now ≡ M.meaning.sizes debuggee.old.moment.machine }
     ensures came { (header : Header) (body : List ℕ) → front_of end.old
-        ≡ Whole (Packet header body) used → ReadsPacket sizes.now header body defers result }
+        ≡ Whole (Packet header body) used
+        → ReadsPacket M.meaning debuggee.old debuggee.new header body defers result }
     ensures same { end.new ≡ end.old }
 {
     let limits = end.limits();
     match end.packet_in_place(used) {
-        Some(bytes) => read_packet(alloc, bytes, &limits, sizes, defers),
-        None => read_packet(alloc, end.packet_joined(used), &limits, sizes, defers),
+        Some(bytes) => handle_packet(debuggee, alloc, bytes, &limits, sizes, defers),
+        None => handle_packet(
+            debuggee,
+            alloc,
+            end.packet_joined(used),
+            &limits,
+            sizes,
+            defers,
+        ),
     }
 }
 
-/// What came in the packet in front of these bytes, where so is said of the commands that may be deferred.
+/// Carries out or refuses the command in the packet in front of these bytes, where its reply is not deferred.
 ///
 /// # Errors
 /// `NoMemory` where an allocation was refused, at a command that is not deferred, whose data read and that is none of the twelve short
-/// ones.
-fn read_packet(
+/// ones. Then nothing has changed.
+fn handle_packet<M: Machine>(
+    debuggee: &mut Debuggee<M>,
     alloc: Global,
     bytes: &[u8],
     limits: &Limits,
     sizes: &IdSizes,
     defers: bool,
 ) -> Result<Came, NoMemory>
-    requires { HoldsPacket limits.now.packet bytes.now }
+    requires packet { HoldsPacket limits.now.packet bytes.now }
+    requires shaken { debuggee.old.moment.state.handshaken ≡ true }
+    requires widths { sizes.now ≡ M.meaning.sizes debuggee.old.moment.machine }
     ensures { (header : Header) (body : List ℕ) (used : ℕ) → front limits.now.packet bytes.now
-        ≡ frames.Whole header body used → ReadsPacket sizes.now header body defers result }
+        ≡ frames.Whole header body used
+        → ReadsPacket M.meaning debuggee.old debuggee.new header body defers result }
 {
     match next_packet_within(bytes, limits) {
-        Next::Whole(packet, _) => read_came(alloc, &packet, sizes, defers),
+        Next::Whole(packet, _) => handle_came(debuggee, alloc, &packet, sizes, defers),
         Next::More | Next::Fault(_) => unreachable!(),
     }
 }
 
-/// What came in this packet, where so is said of the commands that may be deferred. Of any other nothing is kept.
+/// Carries out or refuses the command in this packet, where its reply is not deferred.
 ///
 /// # Errors
-/// As those of `read_packet`.
-fn read_came(
+/// As those of `handle_packet`.
+fn handle_came<M: Machine>(
+    debuggee: &mut Debuggee<M>,
     alloc: Global,
     packet: &PacketRef<'_>,
     sizes: &IdSizes,
     defers: bool,
 ) -> Result<Came, NoMemory>
-    ensures { ReadsPacket sizes.now packet.now.header packet.now.body.now defers result }
+    requires shaken { debuggee.old.moment.state.handshaken ≡ true }
+    requires widths { sizes.now ≡ M.meaning.sizes debuggee.old.moment.machine }
+    ensures { ReadsPacket M.meaning debuggee.old debuggee.new packet.now.header packet.now.body.now
+        defers result }
 {
     let id = packet.header.id;
     match packet.header.kind {
@@ -190,11 +215,35 @@ fn read_came(
             if defers && may_be_deferred(set) {
                 return Ok(Came::Deferred);
             }
-            let asked = read_command(alloc, set, number, sizes, packet.body)?;
-            Ok(Came::Command(id, asked))
+            let done = handle_command(debuggee, alloc, set, number, sizes, packet.body)?;
+            Ok(Came::Command(id, done))
         }
         PacketKind::Reply { .. } => Ok(Came::Reply),
     }
+}
+
+/// Reads a command of this set and number with these data, and carries it out or refuses it.
+///
+/// # Errors
+/// `NoMemory` where an allocation was refused, at a command whose data read and that is none of the twelve short ones. Then nothing has
+/// changed.
+pub(crate) fn handle_command<M: Machine>(
+    debuggee: &mut Debuggee<M>,
+    alloc: Global,
+    set: u8,
+    number: u8,
+    sizes: &IdSizes,
+    body: &[u8],
+) -> Result<Done, NoMemory>
+    requires shaken { debuggee.old.moment.state.handshaken ≡ true }
+    requires widths { sizes.now ≡ M.meaning.sizes debuggee.old.moment.machine }
+    ensures ok { IfOk result (IsCarriedOut M.meaning debuggee.old debuggee.new set number body.now) }
+    ensures err { OnErr result (debuggee.new ≡ debuggee.old) }
+    ensures long { IfErr result (λ _. is_short set number ≡ false) }
+    ensures reads { IfErr result (λ _. IsOk (command_read sizes.now set number body.now)) }
+{
+    let asked = read_command(alloc, set, number, sizes, body)?;
+    handle(debuggee, alloc, asked)
 }
 
 /// Answers the handshake; behind the first of the target's life follows VM_START. It takes no memory.
@@ -241,7 +290,7 @@ fn enqueue_start(start: Start, sizes: &IdSizes, end: &mut End)
 ///
 /// # Errors
 /// `NoMemory` where an allocation was refused, which what wants no memory never answers; then nothing has changed.
-pub(crate) fn handle<M: Machine>(
+fn handle<M: Machine>(
     debuggee: &mut Debuggee<M>,
     alloc: Global,
     asked: ParsedCommand,

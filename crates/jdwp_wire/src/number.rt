@@ -1,11 +1,12 @@
 //! Bytes, booleans, and unsigned numbers of 1 to 8 bytes, the highest byte first (JDWP specification, "Data Types").
 ghost use Rattle.std.specs.Prelude.{◌≡◌, ◌≤◌, ◌<◌, ◌^◌, ◌++◌, ◌↔◌, IsTrue, length, IfOk, IfErr, ◌+◌, vec_len, vec_capacity};
 ghost use Rattle.std.specs.Result.{IsErrOf};
-ghost use Rattle.byteorder.specs.Endian.{big_bytes};
+ghost use Rattle.byteorder.specs.Endian.{big_bytes, big_number};
 ghost use Rattle.jdwp_wire.specs.declared.data_fault.DataFault.TheVariants.{NoMemory};
 ghost use Rattle.jdwp_wire.specs.Reading.{Gives, passed};
 ghost use Rattle.jdwp_wire.specs.Writing.{Appends, Leaves, HasRoom};
 ghost use Rattle.jdwp_wire.specs.Basic.{byte_at, bool_at};
+ghost use Rattle.jdwp_wire.specs.Widths.{IsWidth};
 ghost use Rattle.jdwp_wire.specs.Numbers.{EncodesNumber, EncodesCount, number_at, greatest_int, count_at, id_refusal, count_refusal};
 
 use crate::data_fault::DataFault;
@@ -75,8 +76,21 @@ pub fn take_number(rest: &[u8], whole: usize, width: Width) -> Result<(u64, &[u8
     if rest.len() < count {
         return Err(DataFault::Short(whole));
     }
-    let number = BigEndian::read_uint(rest, count);
+    let number = read_number(rest, count);
     Ok((number, &rest[count..]))
+}
+
+/// The number of `count` bytes in front of these. Eight, as most ids have, are read at once.
+fn read_number(bytes: &[u8], count: usize) -> u64
+    requires width { IsWidth count }
+    requires within { count ≤ length bytes.now }
+    ensures { result ≡ big_number count bytes.now }
+{
+    if count == 8 {
+        BigEndian::read_u64(bytes)
+    } else {
+        BigEndian::read_uint(bytes, count)
+    }
 }
 
 /// The count or length at the front of the rest of a slice of `whole` bytes, and what follows it.
@@ -112,6 +126,9 @@ pub fn put_number(number: u64, width: Width, output: &mut Vec<u8>) -> Result<(),
     let length = width.bytes();
     if !fits(number, length) {
         return Err(DataFault::IdTooWide);
+    }
+    if length == 8 {
+        return put_long(number, output);
     }
     let mut bytes = [0; 8];
     BigEndian::write_uint(&mut bytes, number, length);

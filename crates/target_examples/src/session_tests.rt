@@ -28,6 +28,8 @@ enum Trial {
     TakesTheGreatestLengthInPieces,
     /// What waits to leave is taken in pieces.
     LeavesInPieces,
+    /// It leaves from where it lies.
+    LeavesFromThere,
 }
 
 /// Whether it goes as it is to.
@@ -42,6 +44,7 @@ fn goes(alloc: Global, target: &mut Target, trial: Trial) -> Result<bool, Fail> 
             takes_the_greatest_length_in_pieces(alloc, target)
         }
         Trial::LeavesInPieces => leaves_in_pieces(alloc, target),
+        Trial::LeavesFromThere => leaves_from_there(alloc, target),
     }
 }
 
@@ -756,4 +759,23 @@ fn leaves_in_pieces(alloc: Global, target: &mut Target) -> Result<bool, Fail> {
 #[test]
 fn what_waits_leaves_in_pieces(rt: HostRuntime) -> Result<(), Fail> {
     goes_well(&rt, rt.alloc(), false, Trial::LeavesInPieces)
+}
+
+/// Whether the same bytes leave from where they lie.
+fn leaves_from_there(alloc: Global, target: &mut Target) -> Result<bool, Fail> {
+    target.accept();
+    target.feed(b"JDWP-Handshake");
+    target.feed(&bytes(alloc, COMMANDS)?);
+    for _ in 0..5u32 {
+        target.turn()?;
+    }
+    let lies = target.waiting_in_front() == bytes(alloc, SENT)?.as_slice();
+    let count = target.waiting();
+    target.leave(count);
+    Ok(lies && target.waiting() == 0 && target.waiting_in_front().is_empty())
+}
+
+#[test]
+fn what_waits_leaves_from_where_it_lies(rt: HostRuntime) -> Result<(), Fail> {
+    goes_well(&rt, rt.alloc(), false, Trial::LeavesFromThere)
 }

@@ -1,8 +1,11 @@
-use Rattle.std.proofs.Common.{rules}
+use Rattle.std.proofs.Common.{◌≡◌, false, rules}
+use Rattle.jdwp_layout.specs.CommandNumbers.{CLEAR_REQUEST, is_command}
+use Rattle.jdwp_debuggee.specs.Askings.{carries_thread}
+use Rattle.jdwp_debuggee.proofs.Read.{short_as_bare}
 use Rattle.jdwp_debuggee.proofs.reading.read_short.Goals as goal
 
-pub bare-requires-in-1-eq7-clause-bare : goal.bare-requires-in-1-eq7-clause-bare
-bare-requires-in-1-eq7-clause-bare c = search rules
-
-pub bare-requires-in-1-eq7-clause-short : goal.bare-requires-in-1-eq7-clause-short
-bare-requires-in-1-eq7-clause-short c = search rules
+pub returns-in_default-clause-value : goal.returns-in_default-clause-value
+returns-in_default-clause-value c =
+    let thread : carries_thread c.args.set c.args.number ≡ false = search rules in
+    let clear : is_command CLEAR_REQUEST c.args.set c.args.number ≡ false = search rules in
+    short_as_bare c.args.set c.args.number _ c.read_bare.result thread clear (c.read_bare.ensures.value c.args.sizes.now)

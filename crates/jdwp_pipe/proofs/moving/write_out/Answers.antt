@@ -1,20 +1,20 @@
-use Rattle.std.proofs.Common.{◌≡◌, ◌++◌, ◌∙◌, ℕ, List, [], drop, take, refl, sym, ap, append_assoc}
-use Rattle.std.proofs.lemmas.List.{append-nil, take-append-drop}
-use Rattle.jdwp_pipe.proofs.Leaving.{fails-after, taken-front}
+use Rattle.std.proofs.Common.{◌≡◌, ◌<◌, ◌≤◌, ◌∙◌, ◌++◌, ℕ, List, length, take, ap, arith}
+use Rattle.jdwp_pipe.proofs.Leaving.{first-of-piece, left-more, within-all, written-more}
 use Rattle.jdwp_pipe.proofs.moving.write_out.Goals as goal
 
-pub returns-then-not-write_all-clause-fails : goal.returns-then-not-write_all-clause-fails
-returns-then-not-write_all-clause-fails g c = λ _.
-    let i = c.loop-end.invariant in
-    let fails = c.if-not-write_all.ensures.fails refl in
-    let waits : List ℕ = (g.E.SessionEnd.end c.loop-end.end).outgoing in
-    let count = c.take-count.result in
-    let chunk : List ℕ = take count c.take-count.new.out in
+pub loop-pipe-preserved : goal.loop-pipe-preserved
+loop-pipe-preserved g c =
+    let i = c.loop-pipe.invariant in
+    let waits : List ℕ = (g.E.SessionEnd.end c.loop-pipe.end).outgoing in
+    let piece : List ℕ = c.waiting_in_front.result.now in
+    let count = c.in-Ok.count in
+    let within : count ≤ length piece = rw c.in-Ok.is at c.write.ensures.within in
     let more : List ℕ = take count waits in
-    let same : chunk ≡ more = taken-front waits c.loop-end.buffer c.take-count.new.out count c.take-count.ensures.count c.take-count.ensures.bytes in (
+    let same : take count piece ≡ more = first-of-piece waits piece count c.waiting_in_front.ensures.front within in
+    let some : 0 < count = omega arith in (
       i.0 ++ more,
-      c.take-count.ensures.taken ∙ ap (λ (e : g.row.E.Denot). g.E.SessionEnd.with_taken more e) i.2 ∙ g.met.E.SessionEnd.taken_twice i.0 more c.args.end.now,
-      (drop count waits, i.1 ∙ ap (λ (x : List ℕ). i.0 ++ x) (sym (take-append-drop count waits)) ∙ sym (append_assoc i.0 more (drop count waits))),
-      fails-after (g.P.Pipe.story c.args.pipe.now) (g.P.Pipe.story c.write_all.new.pipe) i.0 chunk [] (i.0 ++ more)
-          (ap (λ (x : List ℕ). i.0 ++ x) (sym same) ∙ sym (append-nil (i.0 ++ chunk))) (rw i.3 at fails),
+      left-more (g.E.SessionEnd.end c.args.end.now).outgoing i.0 waits (g.E.SessionEnd.end c.leave.new.self).outgoing count i.1 (within-all waits piece count c.waiting_in_front.ensures.front within)
+          (ap (λ (e : g.row.E.Denot). (g.E.SessionEnd.end e).outgoing) c.leave.ensures ∙ ap (λ e. e.outgoing) (g.met.E.SessionEnd.taken_end more c.loop-pipe.end)),
+      c.leave.ensures ∙ ap (λ (e : g.row.E.Denot). g.E.SessionEnd.with_taken more e) i.2 ∙ g.met.E.SessionEnd.taken_twice i.0 more c.args.end.now,
+      written-more (g.P.Pipe.story c.args.pipe.now) (g.P.Pipe.story c.loop-pipe.pipe) (g.P.Pipe.story c.write.new.self) i.0 piece more count i.3 some same (rw c.in-Ok.is at c.write.ensures.story),
     )

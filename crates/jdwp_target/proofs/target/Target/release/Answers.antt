@@ -6,8 +6,8 @@ use Rattle.jdwp_debuggee.specs.Deferring.{released_at}
 use Rattle.jdwp_target.specs.Insides.{Deferral, message_of, target_of}
 use Rattle.jdwp_target.specs.Turns.{deferred_at}
 use Rattle.jdwp_target.proofs.AnswersEncoded.{encodes-command}
-use Rattle.jdwp_target.proofs.DeferredTurns.{deferred-needs, deferred-read, encodes-released, flowing-room, in-session, no-session, nothing-encoded, nothing-released, nothing-sendable, past-the-last, paused-end, released-view, releases-one, releases-wanting, right-released, sends-released, there}
-use Rattle.jdwp_target.proofs.RightTurns.{command-came, command-needs, command-room, left-deferred, told-command}
+use Rattle.jdwp_target.proofs.DeferredTurns.{deferred-done, deferred-needs, deferred-read, encodes-released, flowing-room, in-session, no-session, nothing-encoded, nothing-released, nothing-sendable, past-the-last, paused-end, released-view, releases-one, releases-wanting, right-released, sends-released, there}
+use Rattle.jdwp_target.proofs.RightTurns.{command-came, command-room, left-deferred, told-command}
 use Rattle.jdwp_target.proofs.target.Target.release.Goals as goal
 use Rattle.jdwp_target.proofs.target.Target.release.Goals.{then-not-is_established-via-then-not-is_established, then-not-is_established-via-else-not-is_established+then-is_paused, then-not-is_established-via-else-not-is_established+else-is_paused+then-place-len}
 
@@ -15,8 +15,8 @@ pub command-command-requires : goal.command-command-requires
 command-command-requires g c =
     omega (arith, c.len.ensures.count)
 
-pub handle-requires : goal.handle-requires
-handle-requires g c =
+pub handle_command-requires-clause-shaken : goal.handle_command-requires-clause-shaken
+handle_command-requires-clause-shaken g c =
     let m = g.M.Machine.meaning in
     let t = c.self.inside in
     let place = c.args.place in
@@ -51,10 +51,9 @@ reply-requires-clause-room g c =
     let w = c.sizes-sizes.result in
     let header : Header = record { length = 11 + length command.body.items; id = command.id; kind = kind.Command command.set command.number } in
     let body = command.body.items in
-    let asked = c.in_ok-asked.asked in
-    let value = rw c.deref.ensures.value at c.in_ok-asked.ensures.value in
-    let read = deferred-read w command asked value c.in_ok-asked.ensures.short in
-    command-room m t.debuggee c.handle.new.debuggee header body t.end c.in_ok-done.done w command.id asked read c.sizes-sizes.ensures c.in_ok-done.ensures.ok c.self.invariant.limits c.is_paused.ensures.least (flowing-room t.end flows)
+    let did = deferred-done m t.debuggee c.handle_command.new.debuggee command c.deref.result.now c.in_ok-done.done c.deref.ensures.value c.in_ok-done.ensures.ok in
+    let read = deferred-read m t.debuggee c.handle_command.new.debuggee command c.in_ok-done.done did in
+    command-room m t.debuggee c.handle_command.new.debuggee header body t.end c.in_ok-done.done w command.id read c.sizes-sizes.ensures c.self.invariant.limits c.is_paused.ensures.least (flowing-room t.end flows)
 
 pub remove-requires : goal.remove-requires
 remove-requires g c =
@@ -75,13 +74,12 @@ invariant_of-self-2 g c =
     let w = c.sizes-sizes.result in
     let header : Header = record { length = 11 + length command.body.items; id = command.id; kind = kind.Command command.set command.number } in
     let body = command.body.items in
-    let asked = c.in_ok-asked.asked in
-    let value = rw c.deref.ensures.value at c.in_ok-asked.ensures.value in
-    let read = deferred-read w command asked value c.in_ok-asked.ensures.short in
+    let did = deferred-done m t.debuggee c.handle_command.new.debuggee command c.deref.result.now c.in_ok-done.done c.deref.ensures.value c.in_ok-done.ensures.ok in
+    let read = deferred-read m t.debuggee c.handle_command.new.debuggee command c.in_ok-done.done did in
     let shaken = c.self.invariant.handshaken (in-session t.end session) in
     let h =
-    command-came m t.debuggee c.handle.new.debuggee c.reply.new.debuggee header body t.end c.reply.new.end c.in_ok-done.done w command.id asked read (in-session t.end session) c.sizes-sizes.ensures
-    c.in_ok-done.ensures.ok shaken c.reply.ensures.debuggee c.reply.ensures.end c.self.invariant.limits c.is_paused.ensures.least c.fits_reply.ensures in
+    command-came m t.debuggee c.handle_command.new.debuggee c.reply.new.debuggee header body t.end c.reply.new.end c.in_ok-done.done w command.id read (in-session t.end session) c.sizes-sizes.ensures
+    shaken c.reply.ensures.debuggee c.reply.ensures.end c.self.invariant.limits c.is_paused.ensures.least c.fits_reply.ensures in
     let rest = record t.deferral { commands = others; released = t.deferral.released + 1 } in
     let kept = c.keep_where.ensures ∙ ap (λ (x : Deferral). record x { commands = cond c.is_established-2.result x.commands [] }) (c.remove.ensures (message_of command) others found) in
     let left = left-deferred m (message_of command) t.debuggee c.reply.new.debuggee rest c.keep_where.new.self t.end c.reply.new.end c.is_established-2.result h c.is_established-2.ensures kept in
@@ -103,18 +101,17 @@ returns-clause-releases g c =
     let w = c.sizes-sizes.result in
     let header : Header = record { length = 11 + length command.body.items; id = command.id; kind = kind.Command command.set command.number } in
     let body = command.body.items in
-    let asked = c.in_ok-asked.asked in
-    let value = rw c.deref.ensures.value at c.in_ok-asked.ensures.value in
-    let read = deferred-read w command asked value c.in_ok-asked.ensures.short in
+    let did = deferred-done m t.debuggee c.handle_command.new.debuggee command c.deref.result.now c.in_ok-done.done c.deref.ensures.value c.in_ok-done.ensures.ok in
+    let read = deferred-read m t.debuggee c.handle_command.new.debuggee command c.in_ok-done.done did in
     let shaken = c.self.invariant.handshaken (in-session t.end session) in
     let h =
-    command-came m t.debuggee c.handle.new.debuggee c.reply.new.debuggee header body t.end c.reply.new.end c.in_ok-done.done w command.id asked read (in-session t.end session) c.sizes-sizes.ensures
-    c.in_ok-done.ensures.ok shaken c.reply.ensures.debuggee c.reply.ensures.end c.self.invariant.limits c.is_paused.ensures.least c.fits_reply.ensures in
+    command-came m t.debuggee c.handle_command.new.debuggee c.reply.new.debuggee header body t.end c.reply.new.end c.in_ok-done.done w command.id read (in-session t.end session) c.sizes-sizes.ensures
+    shaken c.reply.ensures.debuggee c.reply.ensures.end c.self.invariant.limits c.is_paused.ensures.least c.fits_reply.ensures in
     let rest = record t.deferral { commands = others; released = t.deferral.released + 1 } in
     let kept = c.keep_where.ensures ∙ ap (λ (x : Deferral). record x { commands = cond c.is_established-2.result x.commands [] }) (c.remove.ensures (message_of command) others found) in
     let left = left-deferred m (message_of command) t.debuggee c.reply.new.debuggee rest c.keep_where.new.self t.end c.reply.new.end c.is_established-2.result h c.is_established-2.ensures kept in
     let tells =
-    told-command m old header body w command.id asked c.error_of.result read c.sizes-sizes.ensures (λ set number bytes asks. c.error_of.ensures ∙ (c.in_ok-done.ensures.ok set number bytes asks).sends.error) in
+    told-command m old header body command.id command.set command.number c.error_of.result refl refl (c.error_of.ensures ∙ did.becomes.sends.error) in
     rw (← c.self.view_is)
     (releases-one m old _ place (message_of command) others _ at tells (released-view m t.debuggee c.reply.new.debuggee t.deferral c.keep_where.new.self t.began.items t.phases.items (length t.steps.items) t.end c.reply.new.end place (message_of command) others c.self.invariant found left h))
 
@@ -175,10 +172,9 @@ returns-clause-encoded g c =
     let w = c.sizes-sizes.result in
     let header : Header = record { length = 11 + length command.body.items; id = command.id; kind = kind.Command command.set command.number } in
     let body = command.body.items in
-    let asked = c.in_ok-asked.asked in
-    let value = rw c.deref.ensures.value at c.in_ok-asked.ensures.value in
-    let read = deferred-read w command asked value c.in_ok-asked.ensures.short in
-    rw (← c.self.view_is) (encodes-released m old place (message_of command) others at (encodes-command m old header body w command.id asked read c.sizes-sizes.ensures c.in_ok-done.ensures.encoded))
+    let did = deferred-done m t.debuggee c.handle_command.new.debuggee command c.deref.result.now c.in_ok-done.done c.deref.ensures.value c.in_ok-done.ensures.ok in
+    let read = deferred-read m t.debuggee c.handle_command.new.debuggee command c.in_ok-done.done did in
+    rw (← c.self.view_is) (encodes-released m old place (message_of command) others at (encodes-command m old header body command.set command.number refl did.encoded))
 
 pub returns-clause-packets : goal.returns-clause-packets
 returns-clause-packets g c =
@@ -195,30 +191,13 @@ returns-clause-packets g c =
     let w = c.sizes-sizes.result in
     let header : Header = record { length = 11 + length command.body.items; id = command.id; kind = kind.Command command.set command.number } in
     let body = command.body.items in
-    let asked = c.in_ok-asked.asked in
-    let value = rw c.deref.ensures.value at c.in_ok-asked.ensures.value in
-    let read = deferred-read w command asked value c.in_ok-asked.ensures.short in
+    let did = deferred-done m t.debuggee c.handle_command.new.debuggee command c.deref.result.now c.in_ok-done.done c.deref.ensures.value c.in_ok-done.ensures.ok in
+    let read = deferred-read m t.debuggee c.handle_command.new.debuggee command c.in_ok-done.done did in
     let shaken = c.self.invariant.handshaken (in-session t.end session) in
     let h =
-    command-came m t.debuggee c.handle.new.debuggee c.reply.new.debuggee header body t.end c.reply.new.end c.in_ok-done.done w command.id asked read (in-session t.end session) c.sizes-sizes.ensures
-    c.in_ok-done.ensures.ok shaken c.reply.ensures.debuggee c.reply.ensures.end c.self.invariant.limits c.is_paused.ensures.least c.fits_reply.ensures in
+    command-came m t.debuggee c.handle_command.new.debuggee c.reply.new.debuggee header body t.end c.reply.new.end c.in_ok-done.done w command.id read (in-session t.end session) c.sizes-sizes.ensures
+    shaken c.reply.ensures.debuggee c.reply.ensures.end c.self.invariant.limits c.is_paused.ensures.least c.fits_reply.ensures in
     rw (← c.self.view_is) (sends-released m old place (message_of command) others at found h.sends)
-
-pub returns-in_err-asked-clause-releases : goal.returns-in_err-asked-clause-releases
-returns-in_err-asked-clause-releases g c =
-    let m = g.M.Machine.meaning in
-    let t = c.self.inside in
-    let place = c.args.place in
-    let old = target_of t.debuggee t.deferral t.began.items t.phases.items (length t.steps.items) t.end in
-    let session : is_established t.end ≡ true = search rules in
-    let flows : is_paused t.end ≡ false = search rules in
-    let command = c.command-command.result.now in
-    let others = c.command-command.ensures.0 in
-    let found : released_at place t.deferral.commands ≡ Some (message_of command, others) = c.command-command.ensures.1 in
-    let at = there old place (message_of command) others session flows found in
-    let reads = rw c.deref.ensures.value at c.in_err-asked.ensures.reads in
-    let needs = deferred-needs m old c.sizes-sizes.result command c.sizes-sizes.ensures c.in_err-asked.ensures.memory reads in
-    rw (← c.self.view_is) (releases-wanting m old _ place (message_of command) others _ at (search rules) needs (search rules))
 
 pub returns-in_err-done-clause-releases : goal.returns-in_err-done-clause-releases
 returns-in_err-done-clause-releases g c =
@@ -232,11 +211,6 @@ returns-in_err-done-clause-releases g c =
     let others = c.command-command.ensures.0 in
     let found : released_at place t.deferral.commands ≡ Some (message_of command, others) = c.command-command.ensures.1 in
     let at = there old place (message_of command) others session flows found in
-    let w = c.sizes-sizes.result in
-    let header : Header = record { length = 11 + length command.body.items; id = command.id; kind = kind.Command command.set command.number } in
-    let body = command.body.items in
-    let asked = c.in_ok-asked.asked in
-    let value = rw c.deref.ensures.value at c.in_ok-asked.ensures.value in
-    let read = deferred-read w command asked value c.in_ok-asked.ensures.short in
-    let needs = command-needs m old header body w command.id asked read c.sizes-sizes.ensures c.in_err-done.ensures.memory in
+    let reads = rw c.deref.ensures.value at c.in_err-done.ensures.reads in
+    let needs = deferred-needs m old c.sizes-sizes.result command c.sizes-sizes.ensures c.in_err-done.ensures.long reads in
     rw (← c.self.view_is) (releases-wanting m old _ place (message_of command) others _ at (search rules) needs (search rules))

@@ -1,0 +1,27 @@
+use Rattle.std.proofs.Common.{◌≤◌, ℕ, List, length, take, min, ap, subst, arith}
+use Rattle.std.proofs.lemmas.List.{take_min}
+use Rattle.jdwp_end.specs.Ends.{End, with_taken}
+use Rattle.jdwp_debugger.specs.Runs.{HasRun}
+use Rattle.jdwp_debugger.proofs.DebuggerRuns.{ran-taken}
+use Rattle.jdwp_debugger.proofs.debugger.Debugger.leave.Goals as goal
+
+pub invariant_of-self : goal.invariant_of-self
+invariant_of-self c =
+    let s = c.self.inside in
+    let kept = c.self.invariant in
+    let out : List ℕ = s.end.outgoing in
+    let count = min c.args.count (length out) in
+    let within : count ≤ length out = omega arith in
+    rw c.leave.ensures
+    (record {
+      limits = kept.limits;
+      few = kept.few;
+      few_parked = kept.few_parked;
+      distinct = kept.distinct;
+      own = kept.own;
+      begins = kept.begins;
+      alone = kept.alone;
+      unlearned = kept.unlearned;
+      unparked = kept.unparked;
+      ran = subst (λ (e : End). HasRun e s.pending) (ap (λ (bytes : List ℕ). with_taken bytes s.end) (take_min c.args.count out)) (ran-taken s.end s.pending count within kept.ran);
+    })
