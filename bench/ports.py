@@ -9,9 +9,9 @@ counts, so that other processes of the machine disturb both alike, and little:
 - 256 at once: the same debugger, of whose commands 256 wait for their answers; beside it, a plain target that knows little more than that (`plain_target.rs`). To reach: 0.5 of
   its rate;
 - memory: the peak of the target's memory in one session behind 100,000 commands, and behind as many more as make a million;
-- sessions: the same, and how many files the target has open, behind 1,000 sessions at one port and behind as many more as make 5,000: in turn one that is disposed of, one that
-  the debugger leaves behind the handshakes, one that begins with no handshake, and one that says nothing. The machine's threads can't step: each would start one too many. To reach: no
-  growth in either.
+- sessions: the same, and how many files the target has open, behind 10,000 sessions at one port, when each of its rings was gone round once and so is in use as a whole, and behind as
+  many more as make 20,000: in turn one that is disposed of, one that the debugger leaves behind the handshakes, one that begins with no handshake, and one that says nothing. The
+  machine's threads can't step: each would start one too many. To reach: no growth in either.
 
 A rate is by the clock; behind it stand the microseconds of processor time (with that of the system) that the end which serves took for a command, over all rounds. Each run is bounded, and
 the machine that is served exits behind it.
@@ -266,7 +266,7 @@ def main():
         stands = os.path.join(folder, "stands.json")
         with open(stands, "w", encoding="ascii") as file:
             json.dump(machine_that_stands(), file)
-        memory_of_sessions(target(program, stands), [1_000, 100_000 if long else 5_000])
+        memory_of_sessions(target(program, stands), [10_000, 100_000 if long else 20_000])
 
 
 if __name__ == "__main__":

@@ -34,7 +34,7 @@ pub trait SessionEnd {
     fn waiting(&self) -> usize
         ensures { result ≡ length (end self.now).outgoing };
 
-    /// The first of the bytes that wait to leave, where they lie: those in one piece, and none exactly where none waits.
+    /// A beginning of the bytes that wait to leave, where they lie; empty exactly where none waits. How many it lends is not told.
     fn waiting_in_front(&self) -> &[u8]
         ensures front { result.now ≡ take (length result.now) (end self.now).outgoing }
         ensures none { result.now ≡ [] → (end self.now).outgoing ≡ [] };

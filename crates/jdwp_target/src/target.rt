@@ -264,7 +264,7 @@ impl<M: Machine + Drop> Target<M> {
         self.end.waiting()
     }
 
-    /// The first of the bytes that wait to leave, where they lie: those in one piece, and none exactly where none waits.
+    /// A beginning of the bytes that wait to leave, where they lie; empty exactly where none waits. How many it lends is not told.
     pub fn waiting_in_front(&self) -> &[u8]
         ensures front { result.now ≡ take (length result.now) self.now.end.outgoing }
         ensures none { result.now ≡ [] → self.now.end.outgoing ≡ [] }
