@@ -4,10 +4,12 @@
 Runs the program within three limits, the least, the standard and the greatest, and prints
 - memory: what `serve-script` and `attach` asked for and what they used at the peak, in a session at a port in which a message as long as a packet may be came, at each of the limits: the
   program's own, with that of the C library. To reach: in proportion to the packets (each end has room for a packet that came and for two that leave);
-- replies: AllClassesWithGeneric of a script of 1,024 classes with signatures of 500 bytes, half a megabyte a reply, within the greatest limits; beside it a script of 120 such classes, whose
-  reply fits a packet of 65,536 bytes, within the standard ones, asked so often that as many bytes are answered. Bytes that `serve-script` answers a second, and bytes that `attach` reads a
-  second and tells in lines, the best of some runs by the processor's time, one in turn with the other, less the best time of a session that ends at once. To reach: no fewer bytes a second in
-  the large packets.
+- classes: AllClassesWithGeneric of a script of 1,024 classes with signatures of 500 bytes, half a megabyte a reply, within the greatest limits; beside it a script of 120 such classes, whose
+  reply fits a packet of 65,536 bytes, within the standard ones, asked so often that as many bytes are answered. All of the small script fits a processor's own cache, and the large one's doesn't.
+- methods: MethodsWithGeneric of 1,024 methods, each of a name and a signature of 500 bytes, which are the same in both: of 4 classes with 256 each, a quarter of a megabyte a reply, within the
+  greatest limits; beside it of 18 classes with 57 each or fewer, whose replies fit a packet of 65,536 bytes, within the standard ones. So the same data are answered in large packets and in small ones.
+Of either it tells the bytes that `serve-script` answers a second, and those that `attach` reads a second and tells in lines, the best of some runs by the processor's time, one in turn with the
+other, less the best time of a session that ends at once. To reach: no fewer bytes a second in the large packets.
 
     bench/limits.py [PROGRAM]
 
@@ -27,6 +29,7 @@ ROOT = os.path.dirname(os.path.dirname(os.path.abspath(__file__)))
 HANDSHAKE = b"JDWP-Handshake"
 LIMITS = ("2048,2,1,1", "65536,64,64,64", "1048576,1024,1024,1024")
 SIGNATURE = 500
+METHODS = 1024
 ANSWERED = 200_000_000
 READ = 50_000_000
 RUNS = 15
@@ -36,19 +39,39 @@ def command(number, command_set, command_number, data=b""):
     return struct.pack(">IIBBB", 11 + len(data), number, 0, command_set, command_number) + data
 
 
-def machine(classes):
-    """A script of so many classes, and of one thread that has run out."""
+def class_of(number, signature, methods=()):
+    """A class of a script, with these methods."""
+    return {"id": number, "tag": 1, "signature": signature, "modifiers": 1, "super": 0, "interfaces": [], "source": None, "fields": [], "methods": list(methods)}
+
+
+def method(number):
+    """A method of a script, whose name and signature are of this number alone."""
+    text = f"{number:0{SIGNATURE}}"
+    return {"id": 10_000 + number, "name": text, "signature": text, "modifiers": 1, "args": 0, "last": 0, "lines": [], "slots": []}
+
+
+def script_of(classes):
+    """A script of these classes, and of one thread that has run out."""
     return {
         "name": "limits",
         "sizes": [8, 8, 8, 8, 8],
         "groups": [{"id": 1, "name": "main", "parent": 0}],
-        "classes": [
-            {"id": 10 + i, "tag": 1, "signature": f"L{i:0{SIGNATURE - 2}};", "modifiers": 1, "super": 0, "interfaces": [], "source": None, "fields": [], "methods": []}
-            for i in range(classes)
-        ],
+        "classes": classes,
         "objects": [],
         "threads": [{"id": 2, "name": "main", "group": 1, "steps": []}],
     }
+
+
+def of_classes(count):
+    """A script of so many classes without methods, and the command that asks for all of them."""
+    return script_of([class_of(10 + i, f"L{i:0{SIGNATURE - 2}};") for i in range(count)]), [(1, 20, b"")]
+
+
+def of_methods(most):
+    """A script of 1,024 methods, so many a class at most, and the commands that ask each class for its own."""
+    numbers = range(0, METHODS, most)
+    classes = [class_of(10 + first, f"L{first};", [method(i) for i in range(first, min(first + most, METHODS))]) for first in numbers]
+    return script_of(classes), [(2, 15, struct.pack(">Q", 10 + first)) for first in numbers]
 
 
 def run(words):
@@ -152,13 +175,15 @@ def memory(program, folder):
         print(f"{limits}: attach asked for {asked_for} KB and used {used} KB")
 
 
-def asked(times):
-    """A session in which the classes are asked for so often, behind the widths of ids, as `attach` asks for them."""
-    return HANDSHAKE + command(1, 1, 7) + b"".join(command(2 + i, 1, 20) for i in range(times)) + command(2 + times, 1, 6)
+def asked(commands, times):
+    """A session in which these commands are asked so often, behind the widths of ids, as `attach` asks them."""
+    all_asked = [*(commands * times), (1, 6, b"")]
+    return HANDSHAKE + command(1, 1, 7) + b"".join(command(2 + i, *it) for i, it in enumerate(all_asked))
 
 
-def plan(times):
-    return b"ask 1 20\nanswers\n" * times + b"ask 1 6\nanswers\n"
+def plan(commands, times):
+    lines = [f"ask {it[0]} {it[1]} {it[2].hex()}".rstrip() + "\nanswers\n" for it in commands * times]
+    return "".join([*lines, "ask 1 6\nanswers\n"]).encode()
 
 
 def answered(folder, program, script, session, limits):
@@ -173,25 +198,25 @@ def attach(program, lines, came, limits):
 
 
 class Replies:
-    """Sessions of one size of replies: the script, and by how often it is asked the debugger's bytes, the target's, and the plan."""
+    """Sessions of one size of replies: the script, and by how often its commands are asked the debugger's bytes, the target's, and the plan."""
 
-    def __init__(self, program, folder, name, classes, limits):
-        self.program, self.folder, self.name, self.limits = program, folder, name, limits
-        self.script = written(folder, name, json.dumps(machine(classes)).encode())
+    def __init__(self, program, folder, name, script, commands, limits):
+        self.program, self.folder, self.name, self.commands, self.limits = program, folder, name, commands, limits
+        self.script = written(folder, name, json.dumps(script).encode())
         self.size = len(self.made(1)[1]) - len(self.made(0)[1])
         self.none = self.files(0)
         self.answers, self.reads = self.files(ANSWERED // self.size), self.files(READ // self.size)
         self.seconds = {"answered": ([], []), "read": ([], [])}
 
     def made(self, times):
-        session = written(self.folder, f"{self.name}.asked", asked(times))
+        session = written(self.folder, f"{self.name}.asked", asked(self.commands, times))
         return session, answered(self.folder, self.program, self.script, session, self.limits)
 
     def files(self, times):
         session, came = self.made(times)
         kept = f"{session}.{times}"
         os.rename(session, kept)
-        return times, kept, written(self.folder, f"{self.name}.came.{times}", came), written(self.folder, f"{self.name}.plan.{times}", plan(times))
+        return times, kept, written(self.folder, f"{self.name}.came.{times}", came), written(self.folder, f"{self.name}.plan.{times}", plan(self.commands, times))
 
     def run(self):
         """Each session, and beside it the one that ends at once."""
@@ -206,8 +231,9 @@ class Replies:
         return times, times * self.size / (min(sessions) - min(none))
 
 
-def replies(program, folder):
-    ways = [Replies(program, folder, "standard", 120, LIMITS[1]), Replies(program, folder, "greatest", 1024, LIMITS[2])]
+def replies(program, folder, name, small, large):
+    """Prints what two scripts with their commands come to, one within the standard limits and one within the greatest."""
+    ways = [Replies(program, folder, f"{name}.standard", *small, LIMITS[1]), Replies(program, folder, f"{name}.greatest", *large, LIMITS[2])]
     for _ in range(RUNS):
         for way in ways:
             way.run()
@@ -216,15 +242,16 @@ def replies(program, folder):
         for way in ways:
             times, rate = way.rate(what)
             rates.append(rate)
-            print(f"{way.limits}: {times} replies of {way.size} bytes, {rate / 1e6:.0f} MB {what} a second")
-        print(f"{what}: the large packets reach {rates[1] / rates[0]:.2f} of the bytes a second of the standard ones")
+            print(f"{name}, {way.limits}: {times * len(way.commands)} replies of {way.size // len(way.commands)} bytes, {rate / 1e6:.0f} MB {what} a second")
+        print(f"{name} {what}: the large packets reach {rates[1] / rates[0]:.2f} of the bytes a second of the standard ones")
 
 
 def main():
     program = os.path.abspath(sys.argv[1] if len(sys.argv) > 1 else os.path.join(ROOT, "crates", "jdwp", "out", "jdwp"))
     with tempfile.TemporaryDirectory() as folder:
         memory(program, folder)
-        replies(program, folder)
+        replies(program, folder, "classes", of_classes(120), of_classes(1024))
+        replies(program, folder, "methods", of_methods(57), of_methods(256))
 
 
 if __name__ == "__main__":

@@ -1,16 +1,17 @@
 //! Suspend counts, asked in rounds (JDWP specification, "Protocol Details": ThreadReference.SuspendCount).
+ghost use Rattle.jdwp_target.specs.Options.{LivesWithin};
+ghost use Rattle.jdwp_wire.specs.Limits.{standard_limits};
+
 use anyhow::Context;
 use jdwp_debugger::{Command, Debugger, Read};
 use jdwp_layout::numbers::{SUSPEND_COUNT, THREAD_REFERENCE};
 use jdwp_layout::{Datum, Scalar};
 use jdwp_link::{Memory, Side, deliver};
+use jdwp_machine::Machine;
 use jdwp_script_machine::ScriptMachine;
-use jdwp_target::{TargetOptions, Turn};
+use jdwp_target::{Target, TargetOptions, Turn};
 use jdwp_value::ObjectId;
 use std::alloc::Global;
-
-/// A target over the machine of a script.
-type Target = jdwp_target::Target<ScriptMachine>;
 
 /// How many commands are asked at once, as many as may wait.
 pub const AT_ONCE: u32 = 64;
@@ -25,20 +26,32 @@ pub const SCRIPT: &str = "{\"name\":\"one\",\"sizes\":[8,8,8,8,8],\
 
 /// Asks 64 counts in each round of one session, and answers how many answers came.
 pub fn answered(alloc: Global, rounds: u32) -> anyhow::Result<u64> {
-    let mut target = target(alloc)?;
+    let options = options()?;
+    let machine = ScriptMachine::read(alloc, SCRIPT)?;
+    answered_over(alloc, machine, options, rounds)
+}
+
+/// The same over this machine.
+fn answered_over<M: Machine + Drop>(
+    alloc: Global,
+    machine: M,
+    options: TargetOptions,
+    rounds: u32,
+) -> anyhow::Result<u64>
+    requires { LivesWithin M.meaning standard_limits machine }
+{
+    let mut target = Target::new(alloc, machine, options)?;
     answered_by(alloc, &mut target, rounds)
 }
 
 /// The same of a new debugger and this target.
-fn answered_by(alloc: Global, target: &mut Target, rounds: u32) -> anyhow::Result<u64> {
+fn answered_by<M: Machine + Drop>(
+    alloc: Global,
+    target: &mut Target<M>,
+    rounds: u32,
+) -> anyhow::Result<u64> {
     let mut debugger = Debugger::new(alloc)?;
     ask_counts(alloc, &mut debugger, target, rounds)
-}
-
-fn target(alloc: Global) -> anyhow::Result<Target> {
-    let options = options()?;
-    let machine = ScriptMachine::read(alloc, SCRIPT)?;
-    Ok(Target::new(alloc, machine, options)?)
 }
 
 /// All threads begin suspended.
@@ -47,10 +60,10 @@ pub fn options() -> anyhow::Result<TargetOptions> {
 }
 
 /// Begins a session, and asks 64 counts in each round.
-fn ask_counts(
+fn ask_counts<M: Machine + Drop>(
     alloc: Global,
     debugger: &mut Debugger,
-    target: &mut Target,
+    target: &mut Target<M>,
     rounds: u32,
 ) -> anyhow::Result<u64> {
     target.accept();
@@ -77,10 +90,10 @@ pub fn count_of_the_thread(alloc: Global) -> anyhow::Result<Command> {
 }
 
 /// The target handles what the debugger put, and the debugger what the target sent. How many answers came.
-fn exchange(
+fn exchange<M: Machine + Drop>(
     alloc: Global,
     debugger: &mut Debugger,
-    target: &mut Target,
+    target: &mut Target<M>,
     buffer: &mut [u8; CHUNK],
 ) -> anyhow::Result<u32> {
     deliver(debugger, target, &mut Memory, Side::Debugger, buffer);

@@ -1,9 +1,13 @@
 //! The same suspend counts, asked through a link.
+ghost use Rattle.jdwp_target.specs.Options.{LivesWithin};
+ghost use Rattle.jdwp_wire.specs.Limits.{standard_limits};
+
 use crate::counts::{AT_ONCE, SCRIPT, count_of_the_thread, options};
 use anyhow::bail;
 use jdwp_link::{Link, LinkEvent, Outcome, Stopped};
 use jdwp_machine::Machine;
 use jdwp_script_machine::ScriptMachine;
+use jdwp_target::TargetOptions;
 use std::alloc::Global;
 
 /// How many bytes are delivered at once, more than 64 such commands or replies take.
@@ -13,6 +17,18 @@ const DELIVERED: usize = 4_096;
 pub fn answered_by_link(alloc: Global, rounds: u32) -> anyhow::Result<u64> {
     let options = options()?;
     let machine = ScriptMachine::read(alloc, SCRIPT)?;
+    answered_over(alloc, machine, options, rounds)
+}
+
+/// The same over this machine.
+fn answered_over<M: Machine + Drop>(
+    alloc: Global,
+    machine: M,
+    options: TargetOptions,
+    rounds: u32,
+) -> anyhow::Result<u64>
+    requires { LivesWithin M.meaning standard_limits machine }
+{
     let mut link = Link::new(alloc, machine, options)?;
     ask_counts(alloc, &mut link, rounds)
 }

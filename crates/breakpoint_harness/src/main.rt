@@ -2,6 +2,9 @@
 //! lost, and a new session begins.
 #![tactic(auto)]
 
+ghost use Rattle.jdwp_target.specs.Options.{LivesWithin};
+ghost use Rattle.jdwp_wire.specs.Limits.{standard_limits};
+
 mod commands;
 mod events;
 
@@ -28,12 +31,32 @@ const SCRIPT: &str = "{\"name\":\"one\",\"sizes\":[8,8,8,8,8],
 const THREAD: ObjectId = ObjectId(1);
 
 fn main(rt: HostRuntime) -> anyhow::Result<()> {
-    let alloc = rt.alloc();
     let options = TargetOptions::new(true, 65_535).context("a limit that there may be")?;
-    let machine = ScriptMachine::read(alloc, SCRIPT)?;
+    let machine = ScriptMachine::read(rt.alloc(), SCRIPT)?;
+    debug(&rt, rt.alloc(), machine, options)
+}
+
+/// Both ends over this machine, from the first session to the second.
+fn debug<M: Machine + Drop>(
+    rt: &impl Print,
+    alloc: Global,
+    machine: M,
+    options: TargetOptions,
+) -> anyhow::Result<()>
+    requires { LivesWithin M.meaning standard_limits machine }
+{
     let mut link = Link::new(alloc, machine, options)?;
-    stop_at_breakpoint(&rt, alloc, &mut link)?;
-    lose_and_attach(&rt, alloc, &mut link)
+    debug_over(rt, alloc, &mut link)
+}
+
+/// The same over this link.
+fn debug_over<M: Machine + Drop>(
+    rt: &impl Print,
+    alloc: Global,
+    link: &mut Link<M>,
+) -> anyhow::Result<()> {
+    stop_at_breakpoint(rt, alloc, link)?;
+    lose_and_attach(rt, alloc, link)
 }
 
 /// From the beginning of a session, in which all threads are suspended, until the frames of a thread at a breakpoint are read.

@@ -1,7 +1,7 @@
 //! Verdicts on whole captures.
 use crate::asserts::expect_same;
 use jdwp_show::{CaptureFault, Verdict, check};
-use jdwp_wire::{DataFault, FrameFault, NoMemory};
+use jdwp_wire::{DataFault, FrameFault};
 use std::alloc::Global;
 use std::process::Abort;
 
@@ -20,17 +20,12 @@ fn numbers(verdict: Verdict) -> (usize, u16, u16) {
 }
 
 /// Captures of both handshakes, this and each of these are judged so.
-fn are_judged(
-    rt: &impl Abort,
-    alloc: Global,
-    before: &str,
-    rows: &[(&str, (usize, u16, u16))],
-) -> Result<(), NoMemory> {
+fn are_judged(rt: &impl Abort, alloc: Global, before: &str, rows: &[(&str, (usize, u16, u16))]) {
     for (more, wanted) in rows {
-        let text = format!(in alloc; "{HANDSHAKES}{before}{more}")?;
-        expect_same(rt, &numbers(check(alloc, text.as_str())?), &*wanted);
+        let text = format!(in alloc; "{HANDSHAKES}{before}{more}").expect(rt, "memory");
+        let verdict = check(alloc, text.as_str()).expect(rt, "memory");
+        expect_same(rt, &numbers(verdict), wanted);
     }
-    Ok(())
 }
 
 /// Lines behind both handshakes, and how they are judged.
@@ -52,8 +47,8 @@ static FAULTS: [(&str, (usize, u16, u16)); 11] = [
 ];
 
 #[test]
-fn faults_in_their_lines(rt: HostRuntime) -> Result<(), NoMemory> {
-    are_judged(&rt, rt.alloc(), "", &FAULTS)
+fn faults_in_their_lines(rt: HostRuntime) {
+    are_judged(&rt, rt.alloc(), "", &FAULTS);
 }
 
 /// Lines behind the widths of ids, and how they are judged.
@@ -89,8 +84,8 @@ static DATA: [(&str, (usize, u16, u16)); 9] = [
 ];
 
 #[test]
-fn data_that_do_not_read(rt: HostRuntime) -> Result<(), NoMemory> {
-    are_judged(&rt, rt.alloc(), SIZES, &DATA)
+fn data_that_do_not_read(rt: HostRuntime) {
+    are_judged(&rt, rt.alloc(), SIZES, &DATA);
 }
 
 /// Lines behind both handshakes that tell widths of ids, and how they are judged.
@@ -125,67 +120,59 @@ static WIDTHS: [(&str, (usize, u16, u16)); 6] = [
 ];
 
 #[test]
-fn widths_of_ids(rt: HostRuntime) -> Result<(), NoMemory> {
-    are_judged(&rt, rt.alloc(), "", &WIDTHS)
+fn widths_of_ids(rt: HostRuntime) {
+    are_judged(&rt, rt.alloc(), "", &WIDTHS);
 }
 
 /// The capture of this text is judged so.
-fn is_judged(rt: &impl Abort, alloc: Global, text: &str, wanted: Verdict) -> Result<(), NoMemory> {
-    expect_same(rt, &check(alloc, text)?, &wanted);
-    Ok(())
+fn is_judged(rt: &impl Abort, alloc: Global, text: &str, wanted: Verdict) {
+    let verdict = check(alloc, text).expect(rt, "memory");
+    expect_same(rt, &verdict, &wanted);
 }
 
 #[test]
-fn smallest_captures(rt: HostRuntime) -> Result<(), NoMemory> {
-    is_judged(&rt, rt.alloc(), "", Verdict::Yes)?;
-    is_judged(&rt, rt.alloc(), "> 4a44", Verdict::Yes)?;
+fn smallest_captures(rt: HostRuntime) {
+    is_judged(&rt, rt.alloc(), "", Verdict::Yes);
+    is_judged(&rt, rt.alloc(), "> 4a44", Verdict::Yes);
     let wrong_way = Verdict::No(1, CaptureFault::WrongWay);
-    is_judged(&rt, rt.alloc(), "< 4a4457502d48616e647368616b65", wrong_way)?;
+    is_judged(&rt, rt.alloc(), "< 4a4457502d48616e647368616b65", wrong_way);
     let bad = Verdict::No(1, CaptureFault::Frame(FrameFault::BadHandshake(1)));
-    is_judged(&rt, rt.alloc(), "> 4a45", bad)
+    is_judged(&rt, rt.alloc(), "> 4a45", bad);
 }
 
 /// None of these lines is a line of a capture.
-fn are_no_lines(rt: &impl Abort, alloc: Global, lines: &[&str]) -> Result<(), NoMemory> {
+fn are_no_lines(rt: &impl Abort, alloc: Global, lines: &[&str]) {
     for line in lines {
-        let text = format!(in alloc; "{line}\n> 4a")?;
-        is_judged(
-            rt,
-            alloc,
-            text.as_str(),
-            Verdict::No(1, CaptureFault::BadLine),
-        )?;
+        let text = format!(in alloc; "{line}\n> 4a").expect(rt, "memory");
+        let bad = Verdict::No(1, CaptureFault::BadLine);
+        is_judged(rt, alloc, text.as_str(), bad);
     }
-    Ok(())
 }
 
 #[test]
-fn bad_lines(rt: HostRuntime) -> Result<(), NoMemory> {
+fn bad_lines(rt: HostRuntime) {
     let lines = [
         "", "\n", "> ", "> 4", "4a44", ">4a44", "> 4g", "= 4a", ">  4a", "> 4a 44",
     ];
-    are_no_lines(&rt, rt.alloc(), &lines)
+    are_no_lines(&rt, rt.alloc(), &lines);
 }
 
 /// A line of a capture, if it has any byte.
-fn push_line(alloc: Global, text: &mut String, mark: char, bytes: &[u8]) -> Result<(), NoMemory> {
-    if bytes.is_empty() {
-        return Ok(());
+fn push_line(rt: &impl Abort, alloc: Global, text: &mut String, mark: char, bytes: &[u8]) {
+    if !bytes.is_empty() {
+        let digits = hex::encode(alloc, bytes).expect(rt, "memory");
+        write!(text, "{mark} {digits}\n").expect(rt, "memory");
     }
-    text.push(mark)?;
-    text.push(' ')?;
-    text.push_str(hex::encode(alloc, bytes)?.as_str())?;
-    text.push('\n')?;
-    Ok(())
 }
 
 /// A capture of these lines, the line at `place` cut in two behind its first `count` bytes.
 fn cut_at(
+    rt: &impl Abort,
     alloc: Global,
     lines: &[(char, &[u8])],
     place: usize,
     count: usize,
-) -> Result<String, NoMemory> {
+) -> String {
     let mut text = String::new(alloc);
     for (index, (mark, bytes)) in lines.iter().enumerate() {
         let first = if index == place {
@@ -193,10 +180,10 @@ fn cut_at(
         } else {
             0
         };
-        push_line(alloc, &mut text, *mark, &bytes[..first])?;
-        push_line(alloc, &mut text, *mark, &bytes[first..])?;
+        push_line(rt, alloc, &mut text, *mark, &bytes[..first]);
+        push_line(rt, alloc, &mut text, *mark, &bytes[first..]);
     }
-    Ok(text)
+    text
 }
 
 static LINES: [(char, &[u8]); 5] = [
@@ -221,24 +208,23 @@ fn is_judged_cut(
     lines: &[(char, &[u8])],
     (place, count): (usize, usize),
     wanted: Verdict,
-) -> Result<(), NoMemory> {
-    let text = cut_at(alloc, lines, place, count)?;
-    is_judged(rt, alloc, text.as_str(), wanted)
+) {
+    let text = cut_at(rt, alloc, lines, place, count);
+    is_judged(rt, alloc, text.as_str(), wanted);
 }
 
 #[test]
-fn cut_anywhere(rt: HostRuntime) -> Result<(), NoMemory> {
+fn cut_anywhere(rt: HostRuntime) {
     for (place, (_, bytes)) in LINES.iter().enumerate() {
         for count in 1..bytes.len() {
             let line = if place == 4 && count >= 9 { 5 } else { 6 };
             let wanted = Verdict::No(line, CaptureFault::Frame(FrameFault::BadFlags));
-            is_judged_cut(&rt, rt.alloc(), &LINES, (place, count), wanted)?;
+            is_judged_cut(&rt, rt.alloc(), &LINES, (place, count), wanted);
         }
     }
     for count in 1..31usize {
-        is_judged_cut(&rt, rt.alloc(), &LINES[..4], (3, count), Verdict::Yes)?;
+        is_judged_cut(&rt, rt.alloc(), &LINES[..4], (3, count), Verdict::Yes);
     }
-    Ok(())
 }
 
 /// The fault's number, the number that is printed, and its text.
@@ -248,43 +234,38 @@ fn is_told(
     fault: CaptureFault,
     (number, printed): (u16, u16),
     text: &str,
-) -> Result<(), NoMemory> {
+) {
     expect_same(rt, &fault.number(), &number);
     expect_same(rt, &fault.printed_number(), &printed);
-    expect_same(rt, &fault.to_string(alloc)?.as_str(), &text);
-    Ok(())
+    let told = fault.to_string(alloc).expect(rt, "memory");
+    expect_same(rt, &told.as_str(), &text);
 }
 
 #[test]
-fn faults_of_lines_are_told(rt: HostRuntime) -> Result<(), NoMemory> {
+fn faults_of_lines_are_told(rt: HostRuntime) {
     let alloc = rt.alloc();
     let text = "fault 51: not a line of a capture";
-    is_told(&rt, alloc, CaptureFault::BadLine, (51, 51), text)?;
+    is_told(&rt, alloc, CaptureFault::BadLine, (51, 51), text);
     let too_long = CaptureFault::Frame(FrameFault::TooLong);
     let text = "fault 52: fault 2: a packet length above the limit";
-    is_told(&rt, alloc, too_long, (52, 2), text)?;
+    is_told(&rt, alloc, too_long, (52, 2), text);
     let handshake = CaptureFault::Frame(FrameFault::BadHandshake(3));
     let text = "fault 52: fault 4: not the handshake at byte 3";
-    is_told(&rt, alloc, handshake, (52, 4), text)?;
+    is_told(&rt, alloc, handshake, (52, 4), text);
     let text = "fault 56: a message of the other end";
-    is_told(&rt, alloc, CaptureFault::WrongWay, (56, 56), text)
+    is_told(&rt, alloc, CaptureFault::WrongWay, (56, 56), text);
 }
 
 #[test]
-fn faults_of_packets_are_told(rt: HostRuntime) -> Result<(), NoMemory> {
+fn faults_of_packets_are_told(rt: HostRuntime) {
     let alloc = rt.alloc();
     let text = "fault 53: the id of a command that waits for its reply";
-    is_told(&rt, alloc, CaptureFault::IdInUse, (53, 53), text)?;
+    is_told(&rt, alloc, CaptureFault::IdInUse, (53, 53), text);
     let text = "fault 54: a reply to no command";
-    is_told(&rt, alloc, CaptureFault::UnknownReply, (54, 54), text)?;
+    is_told(&rt, alloc, CaptureFault::UnknownReply, (54, 54), text);
     let bad_tag = CaptureFault::BadData(DataFault::BadTag);
-    is_told(
-        &rt,
-        alloc,
-        bad_tag,
-        (55, 13),
-        "fault 55: fault 13: a bad tag",
-    )?;
+    let text = "fault 55: fault 13: a bad tag";
+    is_told(&rt, alloc, bad_tag, (55, 13), text);
     let text = "fault 55: data in a reply with an error";
-    is_told(&rt, alloc, CaptureFault::ErrorWithData, (55, 55), text)
+    is_told(&rt, alloc, CaptureFault::ErrorWithData, (55, 55), text);
 }

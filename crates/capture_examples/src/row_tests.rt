@@ -8,12 +8,18 @@ use jdwp_show::{CaptureFault, Verdict, check, show};
 use jdwp_wire::{DataFault, IdSizes};
 use std::alloc::Global;
 use std::process::Abort;
-use std::test::Fail;
 
 /// Data, and the words in which they are shown, each after a space.
 #[derive(Drop)]
 struct Sample {
     bytes: Vec<u8>,
+    words: String,
+}
+
+/// A capture, and the words in which it is shown.
+#[derive(Drop)]
+struct Shown {
+    text: String,
     words: String,
 }
 
@@ -25,39 +31,52 @@ const MODIFIERS: &str =
 const EVENTS: &str =
     " [(1, -2, #5, 2:#10:#20:3), (2, -2, #5, 2:#10:#20:3), (4, -2, #5, 2:#10:#20:3, L#5, 2:#10:#20:3), (6, -2, #5), (7, -2, #5), (8, -2, #5, 7, #10, \"h\u{e9}\", -2), (9, -2, \"h\u{e9}\"), (20, -2, #5, 2:#10:#20:3, 7, #10, #30, L#5), (21, -2, #5, 2:#10:#20:3, 7, #10, #30, L#5, I:9), (40, -2, #5, 2:#10:#20:3), (41, -2, #5, 2:#10:#20:3), (42, -2, #5, 2:#10:#20:3, I:9), (43, -2, #5, L#5, 2:#10:#20:3), (44, -2, #5, L#5, 2:#10:#20:3), (45, -2, #5, L#5, 2:#10:#20:3, -9223372036854775805), (46, -2, #5, L#5, 2:#10:#20:3, true), (90, -2, #5), (99, -2)]";
 
-fn push_id(width: u8, id: u8, bytes: &mut Vec<u8>) -> Result<(), Fail> {
+/// Adds an id of so many bytes.
+fn push_id(rt: &impl Abort, width: u8, id: u8, bytes: &mut Vec<u8>) {
     for _ in 1..width {
-        bytes.push(0)?;
+        push(rt, &[0], bytes);
     }
-    bytes.push(id)?;
-    Ok(())
+    push(rt, &[id], bytes);
 }
 
-fn push_field(field: Field, sizes: &IdSizes, bytes: &mut Vec<u8>) -> Result<(), Fail> {
+/// Adds these bytes.
+fn push(rt: &impl Abort, more: &[u8], bytes: &mut Vec<u8>) {
+    bytes.extend_from_slice(more).expect(rt, "memory");
+}
+
+/// Adds this text.
+fn say(rt: &impl Abort, more: &str, words: &mut String) {
+    words.push_str(more).expect(rt, "memory");
+}
+
+/// Adds a sample of a field.
+fn push_field(rt: &impl Abort, field: Field, sizes: &IdSizes, bytes: &mut Vec<u8>) {
     match field {
-        Field::Byte => bytes.push(7)?,
-        Field::Boolean => bytes.push(1)?,
-        Field::Int => bytes.extend_from_slice(&[0xff, 0xff, 0xff, 0xfe])?,
-        Field::Long => bytes.extend_from_slice(&[0x80, 0, 0, 0, 0, 0, 0, 3])?,
-        Field::String => bytes.extend_from_slice(&[0, 0, 0, 3, 0x68, 0xc3, 0xa9])?,
-        Field::ObjectId => push_id(sizes.object(), 5, bytes)?,
-        Field::ReferenceTypeId => push_id(sizes.reference(), 10, bytes)?,
-        Field::MethodId => push_id(sizes.method(), 20, bytes)?,
-        Field::FieldId => push_id(sizes.field(), 30, bytes)?,
-        Field::FrameId => push_id(sizes.frame(), 40, bytes)?,
-        Field::Location => {
-            bytes.push(2)?;
-            push_id(sizes.reference(), 10, bytes)?;
-            push_id(sizes.method(), 20, bytes)?;
-            push_id(8, 3, bytes)?;
-        }
-        Field::Value => bytes.extend_from_slice(&[0x49, 0, 0, 0, 9])?,
+        Field::Byte => push(rt, &[7], bytes),
+        Field::Boolean => push(rt, &[1], bytes),
+        Field::Int => push(rt, &[0xff, 0xff, 0xff, 0xfe], bytes),
+        Field::Long => push(rt, &[0x80, 0, 0, 0, 0, 0, 0, 3], bytes),
+        Field::String => push(rt, &[0, 0, 0, 3, 0x68, 0xc3, 0xa9], bytes),
+        Field::ObjectId => push_id(rt, sizes.object(), 5, bytes),
+        Field::ReferenceTypeId => push_id(rt, sizes.reference(), 10, bytes),
+        Field::MethodId => push_id(rt, sizes.method(), 20, bytes),
+        Field::FieldId => push_id(rt, sizes.field(), 30, bytes),
+        Field::FrameId => push_id(rt, sizes.frame(), 40, bytes),
+        Field::Location => push_location(rt, sizes, bytes),
+        Field::Value => push(rt, &[0x49, 0, 0, 0, 9], bytes),
         Field::TaggedId => {
-            bytes.push(0x4c)?;
-            push_id(sizes.object(), 5, bytes)?;
+            push(rt, &[0x4c], bytes);
+            push_id(rt, sizes.object(), 5, bytes);
         }
     }
-    Ok(())
+}
+
+/// Adds a sample of a location.
+fn push_location(rt: &impl Abort, sizes: &IdSizes, bytes: &mut Vec<u8>) {
+    push(rt, &[2], bytes);
+    push_id(rt, sizes.reference(), 10, bytes);
+    push_id(rt, sizes.method(), 20, bytes);
+    push_id(rt, 8, 3, bytes);
 }
 
 /// The words of what `push_field` pushes.
@@ -79,194 +98,190 @@ fn word(field: Field) -> &'static str {
     }
 }
 
+/// The fields of a kind of event, or of modifier.
+fn fields_of(events: bool, kind: u8) -> Option<&'static [Field]> {
+    if events {
+        fields_of_event(kind)
+    } else {
+        fields_of_modifier(kind)
+    }
+}
+
 /// An entry of each kind.
-fn push_kinds(events: bool, sizes: &IdSizes, bytes: &mut Vec<u8>) -> Result<(), Fail> {
-    bytes.extend_from_slice(&[0, 0, 0, if events { 18 } else { 12 }])?;
-    for kind in 0..256u32 {
-        let fields = if events {
-            fields_of_event(kind as u8)
-        } else {
-            fields_of_modifier(kind as u8)
-        };
-        if let Some(fields) = fields {
-            bytes.push(kind as u8)?;
+fn push_kinds(rt: &impl Abort, events: bool, sizes: &IdSizes, bytes: &mut Vec<u8>) {
+    push(rt, &[0, 0, 0, if events { 18 } else { 12 }], bytes);
+    for kind in 0..=255u8 {
+        if let Some(fields) = fields_of(events, kind) {
+            push(rt, &[kind], bytes);
             for field in fields {
-                push_field(*field, sizes, bytes)?;
+                push_field(rt, *field, sizes, bytes);
             }
         }
     }
-    Ok(())
 }
 
 /// Two entries of these fields.
-fn push_entries(fields: &[Field], sizes: &IdSizes, sample: &mut Sample) -> Result<(), Fail> {
-    sample.bytes.extend_from_slice(&[0, 0, 0, 2])?;
-    sample.words.push_str(" [")?;
-    for entry in 0..2u32 {
-        if entry > 0 {
-            sample.words.push_str(", ")?;
+fn push_entries(rt: &impl Abort, fields: &[Field], sizes: &IdSizes, sample: &mut Sample) {
+    push(rt, &[0, 0, 0, 2], &mut sample.bytes);
+    say(rt, " [", &mut sample.words);
+    push_fields(rt, fields, sizes, sample);
+    say(rt, ", ", &mut sample.words);
+    push_fields(rt, fields, sizes, sample);
+    say(rt, "]", &mut sample.words);
+}
+
+/// One entry of these fields, in brackets where they are several.
+fn push_fields(rt: &impl Abort, fields: &[Field], sizes: &IdSizes, sample: &mut Sample) {
+    let (open, close) = if fields.len() > 1 {
+        ("(", ")")
+    } else {
+        ("", "")
+    };
+    say(rt, open, &mut sample.words);
+    for (index, field) in fields.iter().enumerate() {
+        if index > 0 {
+            say(rt, ", ", &mut sample.words);
         }
-        if fields.len() > 1 {
-            sample.words.push('(')?;
-        }
-        for (index, field) in fields.iter().enumerate() {
-            if index > 0 {
-                sample.words.push_str(", ")?;
-            }
-            push_field(*field, sizes, &mut sample.bytes)?;
-            sample.words.push_str(word(*field))?;
-        }
-        if fields.len() > 1 {
-            sample.words.push(')')?;
-        }
+        push_field(rt, *field, sizes, &mut sample.bytes);
+        say(rt, word(*field), &mut sample.words);
     }
-    sample.words.push(']')?;
-    Ok(())
+    say(rt, close, &mut sample.words);
 }
 
 /// Data of the layout.
-fn sample_of(alloc: Global, layout: &Layout, sizes: &IdSizes) -> Result<Sample, Fail> {
+fn sample_of(rt: &impl Abort, alloc: Global, layout: &Layout, sizes: &IdSizes) -> Sample {
     let mut sample = Sample {
         bytes: Vec::new(alloc),
         words: String::new(alloc),
     };
     for item in layout.items {
-        match *item {
-            Item::One(field) => {
-                push_field(field, sizes, &mut sample.bytes)?;
-                sample.words.push(' ')?;
-                sample.words.push_str(word(field))?;
-            }
-            Item::Many(Entry::Modifier) => {
-                push_kinds(false, sizes, &mut sample.bytes)?;
-                sample.words.push_str(MODIFIERS)?;
-            }
-            Item::Many(Entry::Event) => {
-                push_kinds(true, sizes, &mut sample.bytes)?;
-                sample.words.push_str(EVENTS)?;
-            }
-            Item::Many(Entry::Fields(fields)) => push_entries(fields, sizes, &mut sample)?,
-            Item::Region => {
-                sample
-                    .bytes
-                    .extend_from_slice(&[0x53, 0, 0, 0, 2, 0, 1, 0, 2])?;
-                sample.words.push_str(" S[1, 2]")?;
-            }
+        push_item(rt, *item, sizes, &mut sample);
+    }
+    sample
+}
+
+/// Adds data of one item of a layout.
+fn push_item(rt: &impl Abort, item: Item, sizes: &IdSizes, sample: &mut Sample) {
+    match item {
+        Item::One(field) => {
+            push_field(rt, field, sizes, &mut sample.bytes);
+            say(rt, " ", &mut sample.words);
+            say(rt, word(field), &mut sample.words);
+        }
+        Item::Many(Entry::Modifier) => {
+            push_kinds(rt, false, sizes, &mut sample.bytes);
+            say(rt, MODIFIERS, &mut sample.words);
+        }
+        Item::Many(Entry::Event) => {
+            push_kinds(rt, true, sizes, &mut sample.bytes);
+            say(rt, EVENTS, &mut sample.words);
+        }
+        Item::Many(Entry::Fields(fields)) => push_entries(rt, fields, sizes, sample),
+        Item::Region => {
+            push(rt, &[0x53, 0, 0, 0, 2, 0, 1, 0, 2], &mut sample.bytes);
+            say(rt, " S[1, 2]", &mut sample.words);
         }
     }
-    Ok(sample)
 }
 
 /// Appends a line of one packet: its id is 2, and what stands between the id and the data is given.
 fn push_packet(
+    rt: &impl Abort,
     alloc: Global,
     text: &mut String,
     mark: char,
     kind: &[u8],
     data: &[u8],
-) -> Result<(), Fail> {
-    let packet = packet(alloc, kind, data)?;
-    text.push(mark)?;
-    text.push(' ')?;
-    text.push_str(hex::encode(alloc, &packet)?.as_str())?;
-    text.push('\n')?;
-    Ok(())
+) {
+    let packet = packet(rt, alloc, kind, data);
+    let digits = hex::encode(alloc, &packet).expect(rt, "memory");
+    write!(text, "{mark} {digits}\n").expect(rt, "memory");
 }
 
 /// The packet with the id 2.
-fn packet(alloc: Global, kind: &[u8], data: &[u8]) -> Result<Vec<u8>, Fail> {
+fn packet(rt: &impl Abort, alloc: Global, kind: &[u8], data: &[u8]) -> Vec<u8> {
     let length = data.len().saturating_add(11);
     let mut packet = Vec::new(alloc);
-    packet.extend_from_slice(&[0, 0, (length / 256 % 256) as u8, (length % 256) as u8])?;
-    packet.extend_from_slice(&[0, 0, 0, 2])?;
-    packet.extend_from_slice(kind)?;
-    packet.extend_from_slice(data)?;
-    Ok(packet)
+    let (high, low) = ((length / 256 % 256) as u8, (length % 256) as u8);
+    push(rt, &[0, 0, high, low], &mut packet);
+    push(rt, &[0, 0, 0, 2], &mut packet);
+    push(rt, kind, &mut packet);
+    push(rt, data, &mut packet);
+    packet
 }
 
 /// A capture that tells these widths.
-fn beginning(alloc: Global, sizes: &IdSizes) -> Result<String, Fail> {
+fn beginning(rt: &impl Abort, alloc: Global, sizes: &IdSizes) -> String {
     let (field, method, object) = (sizes.field(), sizes.method(), sizes.object());
     let (reference, frame) = (sizes.reference(), sizes.frame());
-    Ok(format!(in alloc;
+    let text = format!(in alloc;
         "> 4a4457502d48616e647368616b65\n< 4a4457502d48616e647368616b65\n> 0000000b00000001000107\n< 0000001f00000001800000{field:08}{method:08}{object:08}{reference:08}{frame:08}\n"
-    )?)
+    );
+    text.expect(rt, "memory")
 }
 
-fn beginning_words(alloc: Global, sizes: &IdSizes) -> Result<String, Fail> {
+/// The same in words.
+fn beginning_words(rt: &impl Abort, alloc: Global, sizes: &IdSizes) -> String {
     let (field, method, object) = (sizes.field(), sizes.method(), sizes.object());
     let (reference, frame) = (sizes.reference(), sizes.frame());
-    Ok(format!(in alloc;
+    let text = format!(in alloc;
         "> hello\n< hello\n> 1 VirtualMachine.IDSizes\n< 1 reply VirtualMachine.IDSizes 0 {field} {method} {object} {reference} {frame}\n"
-    )?)
+    );
+    text.expect(rt, "memory")
 }
 
 /// Appends the request's packet, and the words in which it is shown.
 fn push_request(
+    rt: &impl Abort,
     alloc: Global,
-    text: &mut String,
-    words: &mut String,
+    shown: &mut Shown,
     (set, number): (u8, u8),
     row: &CommandRow,
-    layouts: &Layouts,
-    sizes: &IdSizes,
-) -> Result<(), Fail> {
-    let request = sample_of(alloc, &layouts.request, sizes)?;
+    request: &Sample,
+) {
     let mark = if set == 64 { '<' } else { '>' };
-    push_packet(alloc, text, mark, &[0, set, number], &request.bytes)?;
+    let kind = [0, set, number];
+    push_packet(rt, alloc, &mut shown.text, mark, &kind, &request.bytes);
     let (set_name, name, data) = (row.set_name, row.name, request.words.as_str());
-    words.push_str(format!(in alloc; "{mark} 2 {set_name}.{name}{data}\n")?.as_str())?;
-    Ok(())
+    write!(shown.words, "{mark} 2 {set_name}.{name}{data}\n").expect(rt, "memory");
 }
 
 /// Appends the reply's packet, and the words in which it is shown.
-fn push_reply(
-    alloc: Global,
-    text: &mut String,
-    words: &mut String,
-    row: &CommandRow,
-    reply: &Sample,
-) -> Result<(), Fail> {
-    push_packet(alloc, text, '<', &[0x80, 0, 0], &reply.bytes)?;
+fn push_reply(rt: &impl Abort, alloc: Global, shown: &mut Shown, row: &CommandRow, reply: &Sample) {
+    push_packet(rt, alloc, &mut shown.text, '<', &[0x80, 0, 0], &reply.bytes);
     let (set_name, name, data) = (row.set_name, row.name, reply.words.as_str());
-    words.push_str(format!(in alloc; "< 2 reply {set_name}.{name} 0{data}\n")?.as_str())?;
-    Ok(())
+    write!(shown.words, "< 2 reply {set_name}.{name} 0{data}\n").expect(rt, "memory");
 }
 
-fn followed(alloc: Global, reply: &[u8]) -> Result<Vec<u8>, Fail> {
+/// The reply's data and a byte more.
+fn followed(rt: &impl Abort, alloc: Global, reply: &[u8]) -> Vec<u8> {
     let mut more = Vec::new(alloc);
-    more.extend_from_slice(reply)?;
-    more.push(0)?;
-    Ok(more)
+    push(rt, reply, &mut more);
+    push(rt, &[0], &mut more);
+    more
 }
 
 /// With a byte more the reply behind this text is a fault of its line.
-fn longer_reply_is_refused(
-    rt: &impl Abort,
-    alloc: Global,
-    text: &str,
-    reply: &[u8],
-) -> Result<(), Fail> {
-    let mut faulty = String::from_str(alloc, text)?;
-    push_packet(
-        alloc,
-        &mut faulty,
-        '<',
-        &[0x80, 0, 0],
-        &followed(alloc, reply)?,
-    )?;
+fn longer_reply_is_refused(rt: &impl Abort, alloc: Global, text: &str, reply: &[u8]) {
+    let mut faulty = String::from_str(alloc, text).expect(rt, "memory");
+    let longer = followed(rt, alloc, reply);
+    push_packet(rt, alloc, &mut faulty, '<', &[0x80, 0, 0], &longer);
     let fault = CaptureFault::BadData(DataFault::Extra(reply.len()));
-    expect_same(rt, &check(alloc, faulty.as_str())?, &Verdict::No(6, fault));
-    Ok(())
+    is_judged(rt, alloc, faulty.as_str(), Verdict::No(6, fault));
+}
+
+/// The capture is judged so.
+fn is_judged(rt: &impl Abort, alloc: Global, text: &str, wanted: Verdict) {
+    let verdict = check(alloc, text).expect(rt, "memory");
+    expect_same(rt, &verdict, &wanted);
 }
 
 /// The capture has no fault and is shown in these words.
-fn is_shown_as(rt: &impl Abort, alloc: Global, text: &str, words: &str) -> Result<(), Fail> {
-    expect_same(rt, &check(alloc, text)?, &Verdict::Yes);
-    let shown = show(alloc, text)?;
+fn is_shown_as(rt: &impl Abort, alloc: Global, text: &str, words: &str) {
+    is_judged(rt, alloc, text, Verdict::Yes);
+    let shown = show(alloc, text).expect(rt, "memory");
     expect_same(rt, &shown.lines.as_str(), &words);
     expect_same(rt, &shown.fault, &None);
-    Ok(())
 }
 
 /// The command and its reply are shown in these words and begin a session; with a byte more they don't.
@@ -274,44 +289,51 @@ fn shown_and_judged(
     rt: &impl Abort,
     alloc: Global,
     sizes: &IdSizes,
-    set: u8,
-    number: u8,
+    command: (u8, u8),
     row: &CommandRow,
-) -> Result<(), Fail> {
-    let Some(layouts) = row.layouts else {
-        return Ok(());
+    layouts: &Layouts,
+) {
+    let mut shown = Shown {
+        text: beginning(rt, alloc, sizes),
+        words: beginning_words(rt, alloc, sizes),
     };
-    let mut text = beginning(alloc, sizes)?;
-    let mut words = beginning_words(alloc, sizes)?;
-    let command = (set, number);
-    push_request(alloc, &mut text, &mut words, command, row, &layouts, sizes)?;
-    if set != 64 {
-        let reply = sample_of(alloc, &layouts.reply, sizes)?;
-        longer_reply_is_refused(rt, alloc, text.as_str(), &reply.bytes)?;
-        push_reply(alloc, &mut text, &mut words, row, &reply)?;
+    let request = sample_of(rt, alloc, &layouts.request, sizes);
+    push_request(rt, alloc, &mut shown, command, row, &request);
+    if command.0 != 64 {
+        let reply = sample_of(rt, alloc, &layouts.reply, sizes);
+        longer_reply_is_refused(rt, alloc, shown.text.as_str(), &reply.bytes);
+        push_reply(rt, alloc, &mut shown, row, &reply);
     }
-    is_shown_as(rt, alloc, text.as_str(), words.as_str())
+    is_shown_as(rt, alloc, shown.text.as_str(), shown.words.as_str());
 }
 
-/// How many rows there are, each of which is shown and judged at these widths.
-fn every_row_at(rt: &impl Abort, alloc: Global, sizes: &IdSizes) -> Result<u32, Fail> {
+/// How many rows there are of this set, each of which is shown and judged at these widths.
+fn every_row_of(rt: &impl Abort, alloc: Global, sizes: &IdSizes, set: u8) -> u32 {
     let mut rows = 0u32;
-    for set in 0..65u32 {
-        for number in 0..101u32 {
-            if let Some(row) = layout_of(set as u8, number as u8) {
-                rows = rows.saturating_add(1);
-                // each capture begins with IDSizes
-                if set != 1 || number != 7 {
-                    shown_and_judged(rt, alloc, sizes, set as u8, number as u8, row)?;
-                }
+    for number in 0..101u8 {
+        if let Some(row) = layout_of(set, number) {
+            rows = rows.saturating_add(1);
+            // each capture begins with IDSizes
+            let is_told = set == 1 && number == 7;
+            if let (false, Some(layouts)) = (is_told, &row.layouts) {
+                shown_and_judged(rt, alloc, sizes, (set, number), row, layouts);
             }
         }
     }
-    Ok(rows)
+    rows
+}
+
+/// How many rows there are, each of which is shown and judged at these widths.
+fn every_row_at(rt: &impl Abort, alloc: Global, sizes: &IdSizes) -> u32 {
+    let mut rows = 0u32;
+    for set in 0..65u8 {
+        rows = rows.saturating_add(every_row_of(rt, alloc, sizes, set));
+    }
+    rows
 }
 
 #[test]
-fn every_row(rt: HostRuntime) -> Result<(), Fail> {
+fn every_row(rt: HostRuntime) {
     let alloc = rt.alloc();
     for (field, method, object, reference, frame) in [
         row((1, 2, 3, 4, 5)),
@@ -319,8 +341,7 @@ fn every_row(rt: HostRuntime) -> Result<(), Fail> {
         row((1, 1, 1, 1, 1)),
         row((8, 8, 8, 8, 8)),
     ] {
-        let sizes = IdSizes::new(field, method, object, reference, frame)?;
-        expect_same(&rt, &every_row_at(&rt, alloc, &sizes)?, &94);
+        let sizes = IdSizes::new(field, method, object, reference, frame).expect(&rt, "widths");
+        expect_same(&rt, &every_row_at(&rt, alloc, &sizes), &94);
     }
-    Ok(())
 }

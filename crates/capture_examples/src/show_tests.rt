@@ -4,7 +4,7 @@ use jdwp_event::{Composite, Policy};
 use jdwp_layout::{Datum, Scalar};
 use jdwp_show::{CaptureFault, composite_data_line, composite_line, reply_line, show};
 use jdwp_value::ObjectId;
-use jdwp_wire::{ErrorCode, FrameFault, NoMemory};
+use jdwp_wire::{ErrorCode, FrameFault};
 use std::alloc::Global;
 use std::process::Abort;
 
@@ -19,17 +19,17 @@ const BEGINNING: &str =
     "> hello\n< hello\n> 1 VirtualMachine.IDSizes\n< 1 reply VirtualMachine.IDSizes 0 8 8 8 8 8\n";
 
 /// A capture that begins so and goes on with these lines is shown without a fault, and so it goes on in words.
-fn is_shown(rt: &impl Abort, alloc: Global, more: &str, wanted: &str) -> Result<(), NoMemory> {
-    let text = format!(in alloc; "{HANDSHAKES}{SIZES}{more}")?;
-    let lines = format!(in alloc; "{BEGINNING}{wanted}")?;
-    ends_so(rt, alloc, text.as_str(), lines.as_str(), &None)
+fn is_shown(rt: &impl Abort, alloc: Global, more: &str, wanted: &str) {
+    let text = format!(in alloc; "{HANDSHAKES}{SIZES}{more}").expect(rt, "memory");
+    let lines = format!(in alloc; "{BEGINNING}{wanted}").expect(rt, "memory");
+    ends_so(rt, alloc, text.as_str(), lines.as_str(), &None);
 }
 
-fn are_shown(rt: &impl Abort, alloc: Global, rows: &[(&str, &str)]) -> Result<(), NoMemory> {
+/// A capture that goes on with the lines of each row is shown so.
+fn are_shown(rt: &impl Abort, alloc: Global, rows: &[(&str, &str)]) {
     for (more, wanted) in rows {
-        is_shown(rt, alloc, more, wanted)?;
+        is_shown(rt, alloc, more, wanted);
     }
-    Ok(())
 }
 
 /// Lines of packets, and their words.
@@ -65,8 +65,8 @@ static PACKETS: [(&str, &str); 7] = [
 ];
 
 #[test]
-fn packets_in_words(rt: HostRuntime) -> Result<(), NoMemory> {
-    are_shown(&rt, rt.alloc(), &PACKETS)
+fn packets_in_words(rt: HostRuntime) {
+    are_shown(&rt, rt.alloc(), &PACKETS);
 }
 
 /// Lines of values, and their words.
@@ -88,8 +88,8 @@ static VALUES: [(&str, &str); 3] = [
 ];
 
 #[test]
-fn values_and_regions(rt: HostRuntime) -> Result<(), NoMemory> {
-    are_shown(&rt, rt.alloc(), &VALUES)
+fn values_and_regions(rt: HostRuntime) {
+    are_shown(&rt, rt.alloc(), &VALUES);
 }
 
 /// Lines of each kind of data, and their words.
@@ -136,8 +136,8 @@ static KINDS: [(&str, &str); 8] = [
 ];
 
 #[test]
-fn each_kind_of_text(rt: HostRuntime) -> Result<(), NoMemory> {
-    are_shown(&rt, rt.alloc(), &KINDS)
+fn each_kind_of_text(rt: HostRuntime) {
+    are_shown(&rt, rt.alloc(), &KINDS);
 }
 
 /// The line of a reply under this id to this command.
@@ -147,43 +147,46 @@ fn is_line(
     (id, set, number): (u32, u8, u8),
     answer: (ErrorCode, &[Datum], &[u8]),
     wanted: &str,
-) -> Result<(), NoMemory> {
+) {
     let (error, data, bytes) = answer;
-    let line = reply_line(alloc, id, set, number, error, data, bytes)?;
-    expect_same(rt, &line.as_str(), &wanted);
-    Ok(())
+    let line = reply_line(alloc, id, set, number, error, data, bytes);
+    expect_same(rt, &line.expect(rt, "memory").as_str(), &wanted);
 }
 
 #[test]
-fn lines_of_replies(rt: HostRuntime) -> Result<(), NoMemory> {
+fn lines_of_replies(rt: HostRuntime) {
     let alloc = rt.alloc();
     let count = [Datum::One(Scalar::Int(-1))];
     let data = (ErrorCode::NONE, &count[..], &[][..]);
     let wanted = "< 3 reply ThreadReference.SuspendCount 0 -1";
-    is_line(&rt, alloc, (3, 11, 12), data, wanted)?;
+    is_line(&rt, alloc, (3, 11, 12), data, wanted);
     let unknown = (ErrorCode(99), &[][..], &[][..]);
-    is_line(&rt, alloc, (6, 1, 99), unknown, "< 6 reply 1.99 99")?;
+    is_line(&rt, alloc, (6, 1, 99), unknown, "< 6 reply 1.99 99");
     let raw = (ErrorCode::NONE, &[][..], &[0x07, 0xab][..]);
     let wanted = "< 7 reply VirtualMachine.ClassPaths 0 raw 07ab";
-    is_line(&rt, alloc, (7, 1, 13), raw, wanted)
+    is_line(&rt, alloc, (7, 1, 13), raw, wanted);
 }
 
-#[test]
-fn line_of_a_composite(rt: HostRuntime) -> Result<(), NoMemory> {
-    let alloc = rt.alloc();
+/// A list of the start of the machine in thread 1.
+fn list_of_start(rt: &impl Abort, alloc: Global) -> Datum {
     let event = vec![in alloc;
         Scalar::Byte(90),
         Scalar::Int(0),
         Scalar::ObjectId(ObjectId(1)),
-    ]?;
-    let events = vec![in alloc; event]?;
-    let data = [Datum::One(Scalar::Byte(0)), Datum::Many(events)];
-    let line = composite_data_line(alloc, 1, &data)?;
+    ];
+    let events = vec![in alloc; event.expect(rt, "memory")];
+    Datum::Many(events.expect(rt, "memory"))
+}
+
+#[test]
+fn line_of_a_composite(rt: HostRuntime) {
+    let alloc = rt.alloc();
+    let data = [Datum::One(Scalar::Byte(0)), list_of_start(&rt, alloc)];
+    let line = composite_data_line(alloc, 1, &data).expect(&rt, "memory");
     expect_same(&rt, &line.as_str(), &"< 1 Event.Composite 0 [(90, 0, #1)]");
-    let start = Composite::vm_start(alloc, Policy::None, ObjectId(1))?;
-    let line = composite_line(alloc, 1, &start)?;
+    let start = Composite::vm_start(alloc, Policy::None, ObjectId(1)).expect(&rt, "memory");
+    let line = composite_line(alloc, 1, &start).expect(&rt, "memory");
     expect_same(&rt, &line.as_str(), &"< 1 Event.Composite 0 [(90, 0, #1)]");
-    Ok(())
 }
 
 /// The capture is shown in these words, and has this fault.
@@ -193,11 +196,10 @@ fn ends_so(
     text: &str,
     wanted: &str,
     fault: &Option<(usize, CaptureFault)>,
-) -> Result<(), NoMemory> {
-    let shown = show(alloc, text)?;
+) {
+    let shown = show(alloc, text).expect(rt, "memory");
     expect_same(rt, &shown.lines.as_str(), &wanted);
     expect_same(rt, &shown.fault, fault);
-    Ok(())
 }
 
 /// Captures, their words, and their faults.
@@ -241,9 +243,8 @@ static LEFT: [(&str, &str, Option<(usize, CaptureFault)>); 8] = [
 ];
 
 #[test]
-fn what_is_left(rt: HostRuntime) -> Result<(), NoMemory> {
+fn what_is_left(rt: HostRuntime) {
     for (text, wanted, fault) in LEFT.iter() {
-        ends_so(&rt, rt.alloc(), text, wanted, fault)?;
+        ends_so(&rt, rt.alloc(), text, wanted, fault);
     }
-    Ok(())
 }

@@ -8,45 +8,48 @@ use jdwp_value::{
 use jdwp_wire::ErrorCode;
 use std::alloc::Global;
 use std::process::Abort;
-use std::test::Fail;
 
 /// An answer of one item.
-fn one(alloc: Global, item: Datum) -> Result<Answer, Fail> {
-    Ok(Answer::Data(Data::new(vec![in alloc; item]?)))
+fn one(rt: &impl Abort, alloc: Global, item: Datum) -> Answer {
+    Answer::Data(Data::new(vec![in alloc; item].expect(rt, "memory")))
 }
 
 /// An answer of two items.
-fn two(alloc: Global, first: Datum, second: Datum) -> Result<Answer, Fail> {
-    Ok(Answer::Data(Data::new(vec![in alloc; first, second]?)))
+fn two(rt: &impl Abort, alloc: Global, first: Datum, second: Datum) -> Answer {
+    Answer::Data(Data::new(vec![in alloc; first, second].expect(rt, "memory")))
 }
 
-fn text(alloc: Global, text: &str) -> Result<Datum, Fail> {
-    Ok(Datum::One(Scalar::String(String::from_str(alloc, text)?)))
+/// A datum of this text.
+fn text(rt: &impl Abort, alloc: Global, text: &str) -> Datum {
+    let text = String::from_str(alloc, text).expect(rt, "memory");
+    Datum::One(Scalar::String(text))
 }
 
 /// An answer of one text.
-fn named(alloc: Global, name: &str) -> Result<Answer, Fail> {
-    one(alloc, text(alloc, name)?)
+fn named(rt: &impl Abort, alloc: Global, name: &str) -> Answer {
+    one(rt, alloc, text(rt, alloc, name))
 }
 
 /// An answer of two texts.
-fn named_twice(alloc: Global, first: &str, second: &str) -> Result<Answer, Fail> {
-    let first = text(alloc, first)?;
-    two(alloc, first, text(alloc, second)?)
+fn named_twice(rt: &impl Abort, alloc: Global, first: &str, second: &str) -> Answer {
+    let first = text(rt, alloc, first);
+    let second = text(rt, alloc, second);
+    two(rt, alloc, first, second)
 }
 
 /// The fields of a frame at no place.
-fn frame_fields(alloc: Global, frame: u64) -> Result<Vec<Scalar>, Fail> {
-    Ok(vec![in alloc;
+fn frame_fields(rt: &impl Abort, alloc: Global, frame: u64) -> Vec<Scalar> {
+    vec![in alloc;
         Scalar::FrameId(FrameId(frame)),
         Scalar::Location(Location::Null),
-    ]?)
+    ]
+    .expect(rt, "memory")
 }
 
 /// A list of one frame at no place.
-fn frames(alloc: Global, frame: u64) -> Result<Datum, Fail> {
-    let entry = frame_fields(alloc, frame)?;
-    Ok(Datum::Many(vec![in alloc; entry]?))
+fn frames(rt: &impl Abort, alloc: Global, frame: u64) -> Datum {
+    let entry = frame_fields(rt, alloc, frame);
+    Datum::Many(vec![in alloc; entry].expect(rt, "memory"))
 }
 
 /// An error.
@@ -55,13 +58,12 @@ fn error() -> Answer {
 }
 
 #[test]
-fn an_empty_reply_is_done(rt: HostRuntime) -> Result<(), Fail> {
+fn an_empty_reply_is_done(rt: HostRuntime) {
     let nothing = Data::new(Vec::new(rt.alloc()));
     expect_same(&rt, &answers::is_done(&Answer::Data(nothing)), &true);
     expect_same(&rt, &answers::is_done(&error()), &false);
-    let number = one(rt.alloc(), Datum::One(Scalar::Int(1)))?;
+    let number = one(&rt, rt.alloc(), Datum::One(Scalar::Int(1)));
     expect_same(&rt, &answers::is_done(&number), &false);
-    Ok(())
 }
 
 /// Nothing but -5 is read.
@@ -75,16 +77,18 @@ fn is_no_number(rt: &impl Abort, answer: &Answer) {
     expect_same(rt, &answers::one_int(answer), &None);
 }
 
+/// The boolean true is read.
 fn is_true(rt: &impl Abort, answer: &Answer) {
     expect_same(rt, &answers::one_boolean(answer), &Some(true));
 }
 
 #[test]
-fn one_number(rt: HostRuntime) -> Result<(), Fail> {
-    is_minus_five(&rt, &one(rt.alloc(), Datum::One(Scalar::Int(-5)))?);
+fn one_number(rt: HostRuntime) {
+    let minus_five = one(&rt, rt.alloc(), Datum::One(Scalar::Int(-5)));
+    is_minus_five(&rt, &minus_five);
     is_no_number(&rt, &error());
-    is_true(&rt, &one(rt.alloc(), Datum::One(Scalar::Boolean(true)))?);
-    Ok(())
+    let yes = one(&rt, rt.alloc(), Datum::One(Scalar::Boolean(true)));
+    is_true(&rt, &yes);
 }
 
 /// One text is read, and not two.
@@ -100,10 +104,10 @@ fn are_two_texts(rt: &impl Abort, answer: &Answer, wanted: (&str, &str)) {
 }
 
 #[test]
-fn one_text_and_two(rt: HostRuntime) -> Result<(), Fail> {
-    is_one_text(&rt, &named(rt.alloc(), "main")?, "main");
-    are_two_texts(&rt, &named_twice(rt.alloc(), "LA;", "")?, ("LA;", ""));
-    Ok(())
+fn one_text_and_two(rt: HostRuntime) {
+    is_one_text(&rt, &named(&rt, rt.alloc(), "main"), "main");
+    let answer = named_twice(&rt, rt.alloc(), "LA;", "");
+    are_two_texts(&rt, &answer, ("LA;", ""));
 }
 
 /// An object is read, and no class.
@@ -112,61 +116,55 @@ fn is_object(rt: &impl Abort, answer: &Answer, wanted: ObjectId) {
     expect_same(rt, &answers::one_class(answer), &None);
 }
 
+/// A class is read.
 fn is_class(rt: &impl Abort, answer: &Answer, wanted: ReferenceTypeId) {
     expect_same(rt, &answers::one_class(answer), &Some(wanted));
 }
 
 #[test]
-fn one_id(rt: HostRuntime) -> Result<(), Fail> {
+fn one_id(rt: HostRuntime) {
     let group = Datum::One(Scalar::ObjectId(ObjectId(5)));
-    is_object(&rt, &one(rt.alloc(), group)?, ObjectId(5));
+    is_object(&rt, &one(&rt, rt.alloc(), group), ObjectId(5));
     let class = ReferenceTypeId(10);
     let parent = Datum::One(Scalar::ReferenceTypeId(class));
-    is_class(&rt, &one(rt.alloc(), parent)?, class);
-    Ok(())
+    is_class(&rt, &one(&rt, rt.alloc(), parent), class);
 }
 
+/// An object behind its tag is read.
 fn is_tagged(rt: &impl Abort, answer: &Answer, wanted: TaggedId) {
     expect_same(rt, &answers::one_tagged(answer), &Some(wanted));
 }
 
 #[test]
-fn one_tagged_id(rt: HostRuntime) -> Result<(), Fail> {
+fn one_tagged_id(rt: HostRuntime) {
     let this = TaggedId {
         tag: ObjectTag::Object,
         id: ObjectId(7),
     };
-    is_tagged(
-        &rt,
-        &one(rt.alloc(), Datum::One(Scalar::TaggedId(this)))?,
-        this,
-    );
-    Ok(())
+    let answer = one(&rt, rt.alloc(), Datum::One(Scalar::TaggedId(this)));
+    is_tagged(&rt, &answer, this);
 }
 
 /// An answer of the ints 3 and 4, in an array.
-fn three_and_four(alloc: Global) -> Result<Answer, Fail> {
-    let elements = vec![in alloc; Value::Int(3), Value::Int(4)]?;
-    match ArrayRegion::new(Tag::Int, elements) {
-        Some(region) => one(alloc, Datum::Region(region)),
-        None => Err(Fail::from("no region")),
-    }
+fn three_and_four(rt: &impl Abort, alloc: Global) -> Answer {
+    let elements = vec![in alloc; Value::Int(3), Value::Int(4)].expect(rt, "memory");
+    let region = ArrayRegion::new(Tag::Int, elements).expect(rt, "a region");
+    one(rt, alloc, Datum::Region(region))
 }
 
-fn are_elements(rt: &impl Abort, answer: &Answer, wanted: &[Value]) -> Result<(), Fail> {
-    let Some(read) = answers::one_region(answer) else {
-        return Err(Fail::from("no region is read"));
-    };
+/// The elements of an array are read.
+fn are_elements(rt: &impl Abort, answer: &Answer, wanted: &[Value]) {
+    let read = answers::one_region(answer).expect(rt, "a region is read");
     expect_same(rt, &read.elements(), &wanted);
-    Ok(())
 }
 
 #[test]
-fn elements_of_an_array(rt: HostRuntime) -> Result<(), Fail> {
-    let answer = three_and_four(rt.alloc())?;
-    are_elements(&rt, &answer, &[Value::Int(3), Value::Int(4)])
+fn elements_of_an_array(rt: HostRuntime) {
+    let answer = three_and_four(&rt, rt.alloc());
+    are_elements(&rt, &answer, &[Value::Int(3), Value::Int(4)]);
 }
 
+/// Two numbers are read.
 fn are_two_ints(rt: &impl Abort, answer: &Answer, wanted: (i32, i32)) {
     expect_same(rt, &answers::two_ints(answer), &Some(wanted));
 }
@@ -178,18 +176,22 @@ fn is_typed(rt: &impl Abort, answer: &Answer, wanted: (u8, ReferenceTypeId)) {
 }
 
 /// An answer of two fields.
-fn fields(alloc: Global, first: Scalar, second: Scalar) -> Result<Answer, Fail> {
-    two(alloc, Datum::One(first), Datum::One(second))
+fn fields(rt: &impl Abort, alloc: Global, first: Scalar, second: Scalar) -> Answer {
+    two(rt, alloc, Datum::One(first), Datum::One(second))
 }
 
 #[test]
-fn two_numbers(rt: HostRuntime) -> Result<(), Fail> {
-    let status = fields(rt.alloc(), Scalar::Int(1), Scalar::Int(0))?;
+fn two_numbers(rt: HostRuntime) {
+    let status = fields(&rt, rt.alloc(), Scalar::Int(1), Scalar::Int(0));
     are_two_ints(&rt, &status, (1, 0));
     let class = ReferenceTypeId(10);
-    let typed = fields(rt.alloc(), Scalar::Byte(2), Scalar::ReferenceTypeId(class))?;
+    let typed = fields(
+        &rt,
+        rt.alloc(),
+        Scalar::Byte(2),
+        Scalar::ReferenceTypeId(class),
+    );
     is_typed(&rt, &typed, (2, class));
-    Ok(())
 }
 
 /// A frame is read, and no object.
@@ -202,40 +204,37 @@ fn is_frame(rt: &impl Abort, entry: &[Scalar], wanted: FrameId) {
     expect_same(rt, &answers::object_in(entry), &None);
 }
 
-fn is_list_of_frame(rt: &impl Abort, answer: &Answer, wanted: FrameId) -> Result<(), Fail> {
+/// A list of one entry is read, which is a frame.
+fn is_list_of_frame(rt: &impl Abort, answer: &Answer, wanted: FrameId) {
     match answers::one_list(answer) {
-        Some([entry]) => {
-            is_frame(rt, entry, wanted);
-            Ok(())
-        }
-        _ => Err(Fail::from("no list of one entry is read")),
+        Some([entry]) => is_frame(rt, entry, wanted),
+        _ => panic!(rt; "no list of one entry is read"),
     }
 }
 
 #[test]
-fn a_list_of_frames(rt: HostRuntime) -> Result<(), Fail> {
-    let answer = one(rt.alloc(), frames(rt.alloc(), 30)?)?;
-    is_list_of_frame(&rt, &answer, FrameId(30))
+fn a_list_of_frames(rt: HostRuntime) {
+    let frames = frames(&rt, rt.alloc(), 30);
+    let answer = one(&rt, rt.alloc(), frames);
+    is_list_of_frame(&rt, &answer, FrameId(30));
 }
 
 /// Two lists of so many entries are read, and not one.
-fn are_lists(rt: &impl Abort, answer: &Answer, wanted: (usize, usize)) -> Result<(), Fail> {
-    let Some((first, second)) = answers::two_lists(answer) else {
-        return Err(Fail::from("no lists are read"));
-    };
+fn are_lists(rt: &impl Abort, answer: &Answer, wanted: (usize, usize)) {
+    let (first, second) = answers::two_lists(answer).expect(rt, "two lists are read");
     expect_same(rt, &(first.len(), second.len()), &wanted);
     expect_same(rt, &answers::one_list(answer).is_none(), &true);
-    Ok(())
 }
 
 /// An answer of a list of one frame, and of a list of nothing.
-fn frame_and_nothing(alloc: Global) -> Result<Answer, Fail> {
-    two(alloc, frames(alloc, 1)?, Datum::Many(Vec::new(alloc)))
+fn frame_and_nothing(rt: &impl Abort, alloc: Global) -> Answer {
+    let frames = frames(rt, alloc, 1);
+    two(rt, alloc, frames, Datum::Many(Vec::new(alloc)))
 }
 
 #[test]
-fn two_lists_of_entries(rt: HostRuntime) -> Result<(), Fail> {
-    are_lists(&rt, &frame_and_nothing(rt.alloc())?, (1, 0))
+fn two_lists_of_entries(rt: HostRuntime) {
+    are_lists(&rt, &frame_and_nothing(&rt, rt.alloc()), (1, 0));
 }
 
 /// A thread is read, and no value.
@@ -244,10 +243,12 @@ fn is_thread(rt: &impl Abort, entry: &[Scalar]) {
     expect_same(rt, &answers::value_in(entry), &None);
 }
 
+/// A class is read.
 fn is_class_entry(rt: &impl Abort, entry: &[Scalar]) {
     expect_same(rt, &answers::class_in(entry), &Some(ReferenceTypeId(10)));
 }
 
+/// A value is read.
 fn is_value_entry(rt: &impl Abort, entry: &[Scalar]) {
     expect_same(rt, &answers::value_in(entry), &Some(Value::Int(3)));
 }

@@ -6,19 +6,19 @@ use jdwp_mirror::{Carried, Command};
 use jdwp_wire::IdSizes;
 use std::alloc::Global;
 use std::process::Abort;
-use std::test::Fail;
 
 /// The data of a command as bytes.
-fn written(alloc: Global, command: &Command) -> Result<Vec<u8>, Fail> {
-    let row = layout_of(command.set(), command.number()).ok_or("no row")?;
-    let layouts = row.layouts.ok_or("a raw row")?;
+fn written(rt: &impl Abort, alloc: Global, command: &Command) -> Vec<u8> {
+    let row = layout_of(command.set(), command.number()).expect(rt, "a row");
+    let layouts = row.layouts.expect(rt, "a row with layouts");
     let Carried::Content(content) = command.carried() else {
-        return Err(Fail::from("raw bytes"));
+        panic!(rt; "raw bytes");
     };
-    let sizes = IdSizes::new(8, 8, 8, 8, 8)?;
+    let sizes = IdSizes::new(8, 8, 8, 8, 8).expect(rt, "widths");
     let mut bytes = Vec::new(alloc);
-    write(&layouts.request, &sizes, content.items(), &mut bytes)?;
-    Ok(bytes)
+    let items = content.items();
+    write(&layouts.request, &sizes, items, &mut bytes).expect(rt, "the data are written");
+    bytes
 }
 
 /// The command has this set and this number, and these are its data.
@@ -29,8 +29,8 @@ pub(crate) fn is_written(
     set: u8,
     number: u8,
     hex: &str,
-) -> Result<(), Fail> {
+) {
     expect_same(rt, &(command.set(), command.number()), &(set, number));
-    expect_same(rt, &written(alloc, command)?, &bytes(alloc, hex)?);
-    Ok(())
+    let wanted = bytes(alloc, hex).expect(rt, "memory");
+    expect_same(rt, &written(rt, alloc, command), &wanted);
 }

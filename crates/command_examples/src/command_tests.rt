@@ -14,7 +14,6 @@ use jdwp_value::{
 };
 use std::alloc::Global;
 use std::process::Abort;
-use std::test::Fail;
 
 const THREAD: ObjectId = ObjectId(1);
 
@@ -120,11 +119,21 @@ static COMMANDS: [(u8, u8, &str); 62] = [
     (18, 2, "0000000000000006"),
 ];
 
+/// A command of the set VirtualMachine that has data, by its number.
+fn of_machine_with_data(rt: &impl Abort, alloc: Global, number: u8) -> Option<Command> {
+    let command = match number {
+        2 => virtual_machine::classes_by_signature(alloc, "LMain;"),
+        10 => virtual_machine::exit(alloc, -2),
+        14 => virtual_machine::dispose_objects(alloc, &[(OBJECT, 1), (STRING, 3)]),
+        _ => return None,
+    };
+    Some(command.expect(rt, "memory"))
+}
+
 /// A command of the set VirtualMachine by its number.
-fn of_machine(alloc: Global, number: u8) -> Result<Option<Command>, Fail> {
+fn of_machine(rt: &impl Abort, alloc: Global, number: u8) -> Option<Command> {
     let command = match number {
         1 => virtual_machine::version(alloc),
-        2 => virtual_machine::classes_by_signature(alloc, "LMain;")?,
         3 => virtual_machine::all_classes(alloc),
         4 => virtual_machine::all_threads(alloc),
         5 => virtual_machine::top_level_thread_groups(alloc),
@@ -132,169 +141,166 @@ fn of_machine(alloc: Global, number: u8) -> Result<Option<Command>, Fail> {
         7 => virtual_machine::id_sizes(alloc),
         8 => virtual_machine::suspend(alloc),
         9 => virtual_machine::resume(alloc),
-        10 => virtual_machine::exit(alloc, -2)?,
         12 => virtual_machine::capabilities(alloc),
-        14 => virtual_machine::dispose_objects(alloc, &[(OBJECT, 1), (STRING, 3)])?,
         15 => virtual_machine::hold_events(alloc),
         16 => virtual_machine::release_events(alloc),
         17 => virtual_machine::capabilities_new(alloc),
         20 => virtual_machine::all_classes_with_generic(alloc),
         22 => virtual_machine::all_modules(alloc),
-        _ => return Ok(None),
+        _ => return of_machine_with_data(rt, alloc, number),
     };
-    Ok(Some(command))
+    Some(command)
 }
 
 /// A command of the set ReferenceType by its number.
-fn of_class(alloc: Global, number: u8) -> Result<Option<Command>, Fail> {
+fn of_class(rt: &impl Abort, alloc: Global, number: u8) -> Option<Command> {
     let command = match number {
-        1 => reference_type::signature(alloc, CLASS)?,
-        2 => reference_type::class_loader(alloc, CLASS)?,
-        3 => reference_type::modifiers(alloc, CLASS)?,
-        4 => reference_type::fields(alloc, CLASS)?,
-        5 => reference_type::methods(alloc, CLASS)?,
-        6 => reference_type::get_values(alloc, CLASS, &[FieldId(40), FieldId(41)])?,
-        7 => reference_type::source_file(alloc, CLASS)?,
-        9 => reference_type::status(alloc, CLASS)?,
-        10 => reference_type::interfaces(alloc, CLASS)?,
-        13 => reference_type::signature_with_generic(alloc, CLASS)?,
-        14 => reference_type::fields_with_generic(alloc, CLASS)?,
-        15 => reference_type::methods_with_generic(alloc, CLASS)?,
-        19 => reference_type::module(alloc, CLASS)?,
-        _ => return Ok(None),
+        1 => reference_type::signature(alloc, CLASS),
+        2 => reference_type::class_loader(alloc, CLASS),
+        3 => reference_type::modifiers(alloc, CLASS),
+        4 => reference_type::fields(alloc, CLASS),
+        5 => reference_type::methods(alloc, CLASS),
+        6 => reference_type::get_values(alloc, CLASS, &[FieldId(40), FieldId(41)]),
+        7 => reference_type::source_file(alloc, CLASS),
+        9 => reference_type::status(alloc, CLASS),
+        10 => reference_type::interfaces(alloc, CLASS),
+        13 => reference_type::signature_with_generic(alloc, CLASS),
+        14 => reference_type::fields_with_generic(alloc, CLASS),
+        15 => reference_type::methods_with_generic(alloc, CLASS),
+        19 => reference_type::module(alloc, CLASS),
+        _ => return None,
     };
-    Ok(Some(command))
+    Some(command.expect(rt, "memory"))
 }
 
 /// A command of the set Method by its number.
-fn of_method(alloc: Global, number: u8) -> Result<Option<Command>, Fail> {
+fn of_method(rt: &impl Abort, alloc: Global, number: u8) -> Option<Command> {
     let command = match number {
-        1 => method::line_table(alloc, CLASS, METHOD)?,
-        2 => method::variable_table(alloc, CLASS, METHOD)?,
-        4 => method::is_obsolete(alloc, CLASS, METHOD)?,
-        5 => method::variable_table_with_generic(alloc, CLASS, METHOD)?,
-        _ => return Ok(None),
+        1 => method::line_table(alloc, CLASS, METHOD),
+        2 => method::variable_table(alloc, CLASS, METHOD),
+        4 => method::is_obsolete(alloc, CLASS, METHOD),
+        5 => method::variable_table_with_generic(alloc, CLASS, METHOD),
+        _ => return None,
     };
-    Ok(Some(command))
+    Some(command.expect(rt, "memory"))
 }
 
 /// A command of the set ObjectReference by its number.
-fn of_object(alloc: Global, number: u8) -> Result<Option<Command>, Fail> {
+fn of_object(rt: &impl Abort, alloc: Global, number: u8) -> Option<Command> {
     let command = match number {
-        1 => object_reference::reference_type(alloc, OBJECT)?,
-        2 => object_reference::get_values(alloc, OBJECT, &[FieldId(40)])?,
-        7 => object_reference::disable_collection(alloc, OBJECT)?,
-        8 => object_reference::enable_collection(alloc, OBJECT)?,
-        9 => object_reference::is_collected(alloc, OBJECT)?,
-        _ => return Ok(None),
+        1 => object_reference::reference_type(alloc, OBJECT),
+        2 => object_reference::get_values(alloc, OBJECT, &[FieldId(40)]),
+        7 => object_reference::disable_collection(alloc, OBJECT),
+        8 => object_reference::enable_collection(alloc, OBJECT),
+        9 => object_reference::is_collected(alloc, OBJECT),
+        _ => return None,
     };
-    Ok(Some(command))
+    Some(command.expect(rt, "memory"))
 }
 
 /// A command of the set ThreadReference by its number.
-fn of_thread(alloc: Global, number: u8) -> Result<Option<Command>, Fail> {
+fn of_thread(rt: &impl Abort, alloc: Global, number: u8) -> Option<Command> {
     let command = match number {
-        1 => thread_reference::name(alloc, THREAD)?,
-        2 => thread_reference::suspend(alloc, THREAD)?,
-        3 => thread_reference::resume(alloc, THREAD)?,
-        4 => thread_reference::status(alloc, THREAD)?,
-        5 => thread_reference::thread_group(alloc, THREAD)?,
-        6 => thread_reference::frames(alloc, THREAD, 2, -1)?,
-        7 => thread_reference::frame_count(alloc, THREAD)?,
-        12 => thread_reference::suspend_count(alloc, THREAD)?,
-        _ => return Ok(None),
+        1 => thread_reference::name(alloc, THREAD),
+        2 => thread_reference::suspend(alloc, THREAD),
+        3 => thread_reference::resume(alloc, THREAD),
+        4 => thread_reference::status(alloc, THREAD),
+        5 => thread_reference::thread_group(alloc, THREAD),
+        6 => thread_reference::frames(alloc, THREAD, 2, -1),
+        7 => thread_reference::frame_count(alloc, THREAD),
+        12 => thread_reference::suspend_count(alloc, THREAD),
+        _ => return None,
     };
-    Ok(Some(command))
+    Some(command.expect(rt, "memory"))
 }
 
 /// A command of the set ThreadGroupReference by its number.
-fn of_group(alloc: Global, number: u8) -> Result<Option<Command>, Fail> {
+fn of_group(rt: &impl Abort, alloc: Global, number: u8) -> Option<Command> {
     let command = match number {
-        1 => thread_group_reference::name(alloc, GROUP)?,
-        2 => thread_group_reference::parent(alloc, GROUP)?,
-        3 => thread_group_reference::children(alloc, GROUP)?,
-        _ => return Ok(None),
+        1 => thread_group_reference::name(alloc, GROUP),
+        2 => thread_group_reference::parent(alloc, GROUP),
+        3 => thread_group_reference::children(alloc, GROUP),
+        _ => return None,
     };
-    Ok(Some(command))
+    Some(command.expect(rt, "memory"))
 }
 
 /// A breakpoint at index 3 of the method that suspends its thread, the fifth time that it is reached.
-fn breakpoint(alloc: Global) -> Result<Command, Fail> {
+fn breakpoint(rt: &impl Abort, alloc: Global) -> Command {
     let place = Location::At {
         tag: TypeTag::Class,
         class: CLASS,
         method: METHOD,
         index: 3,
     };
-    let modifiers = vec![in alloc; Modifier::LocationOnly(place), Modifier::Count(5)]?;
-    let command = event_request::set(alloc, EventKind::Breakpoint, Policy::EventThread, modifiers)?;
-    Ok(command)
+    let modifiers = vec![in alloc; Modifier::LocationOnly(place), Modifier::Count(5)];
+    let modifiers = modifiers.expect(rt, "memory");
+    let set = event_request::set(alloc, EventKind::Breakpoint, Policy::EventThread, modifiers);
+    set.expect(rt, "memory")
 }
 
 /// A command of the set EventRequest by its number.
-fn of_request(alloc: Global, number: u8) -> Result<Option<Command>, Fail> {
-    let command = match number {
-        1 => breakpoint(alloc)?,
-        2 => event_request::clear(alloc, EventKind::SingleStep, 7)?,
-        3 => event_request::clear_all_breakpoints(alloc),
-        _ => return Ok(None),
-    };
-    Ok(Some(command))
+fn of_request(rt: &impl Abort, alloc: Global, number: u8) -> Option<Command> {
+    match number {
+        1 => Some(breakpoint(rt, alloc)),
+        2 => Some(event_request::clear(alloc, EventKind::SingleStep, 7).expect(rt, "memory")),
+        3 => Some(event_request::clear_all_breakpoints(alloc)),
+        _ => None,
+    }
 }
 
 /// A command of the set StackFrame by its number.
-fn of_frame(alloc: Global, number: u8) -> Result<Option<Command>, Fail> {
+fn of_frame(rt: &impl Abort, alloc: Global, number: u8) -> Option<Command> {
     let command = match number {
         1 => {
             let slots = [(0, Tag::Int), (2, Tag::Object(ObjectTag::String))];
-            stack_frame::get_values(alloc, THREAD, FRAME, &slots)?
+            stack_frame::get_values(alloc, THREAD, FRAME, &slots)
         }
         2 => {
             let values = [(1, Value::Int(7)), (3, Value::Boolean(true))];
-            stack_frame::set_values(alloc, THREAD, FRAME, &values)?
+            stack_frame::set_values(alloc, THREAD, FRAME, &values)
         }
-        3 => stack_frame::this_object(alloc, THREAD, FRAME)?,
-        _ => return Ok(None),
+        3 => stack_frame::this_object(alloc, THREAD, FRAME),
+        _ => return None,
     };
-    Ok(Some(command))
+    Some(command.expect(rt, "memory"))
 }
 
 /// A command of the sets that have one or two.
-fn of_small_set(alloc: Global, set: u8, number: u8) -> Result<Option<Command>, Fail> {
+fn of_small_set(rt: &impl Abort, alloc: Global, set: u8, number: u8) -> Option<Command> {
     let command = match (set, number) {
-        (3, 1) => class_type::superclass(alloc, CLASS)?,
-        (10, 1) => string_reference::value(alloc, STRING)?,
-        (13, 1) => array_reference::length(alloc, ARRAY)?,
-        (13, 2) => array_reference::get_values(alloc, ARRAY, 3, 4)?,
-        (18, 1) => module_reference::name(alloc, MODULE)?,
-        (18, 2) => module_reference::class_loader(alloc, MODULE)?,
-        _ => return Ok(None),
+        (3, 1) => class_type::superclass(alloc, CLASS),
+        (10, 1) => string_reference::value(alloc, STRING),
+        (13, 1) => array_reference::length(alloc, ARRAY),
+        (13, 2) => array_reference::get_values(alloc, ARRAY, 3, 4),
+        (18, 1) => module_reference::name(alloc, MODULE),
+        (18, 2) => module_reference::class_loader(alloc, MODULE),
+        _ => return None,
     };
-    Ok(Some(command))
+    Some(command.expect(rt, "memory"))
 }
 
 /// The command of a set and a number, where there is one by name.
-fn named(alloc: Global, set: u8, number: u8) -> Result<Option<Command>, Fail> {
+fn named(rt: &impl Abort, alloc: Global, set: u8, number: u8) -> Option<Command> {
     match set {
-        1 => of_machine(alloc, number),
-        2 => of_class(alloc, number),
-        6 => of_method(alloc, number),
-        9 => of_object(alloc, number),
-        11 => of_thread(alloc, number),
-        12 => of_group(alloc, number),
-        15 => of_request(alloc, number),
-        16 => of_frame(alloc, number),
-        _ => of_small_set(alloc, set, number),
+        1 => of_machine(rt, alloc, number),
+        2 => of_class(rt, alloc, number),
+        6 => of_method(rt, alloc, number),
+        9 => of_object(rt, alloc, number),
+        11 => of_thread(rt, alloc, number),
+        12 => of_group(rt, alloc, number),
+        15 => of_request(rt, alloc, number),
+        16 => of_frame(rt, alloc, number),
+        _ => of_small_set(rt, alloc, set, number),
     }
 }
 
 #[test]
-fn each_command_has_its_bytes(rt: HostRuntime) -> Result<(), Fail> {
+fn each_command_has_its_bytes(rt: HostRuntime) {
     for &(set, number, hex) in COMMANDS.iter() {
-        let command = named(rt.alloc(), set, number)?.ok_or("no such command by name")?;
-        is_written(&rt, rt.alloc(), &command, set, number, hex)?;
+        let command = named(&rt, rt.alloc(), set, number).expect(&rt, "a command by name");
+        is_written(&rt, rt.alloc(), &command, set, number, hex);
     }
-    Ok(())
 }
 
 /// Whether a target answers the command, and reads its data.
@@ -306,27 +312,20 @@ fn is_answered(set: u8, number: u8) -> bool {
 }
 
 /// Where a target answers the command, it is made by name, and else none is.
-fn is_named_where_answered(
-    rt: &impl Abort,
-    alloc: Global,
-    set: u8,
-    number: u8,
-) -> Result<(), Fail> {
-    let named = named(alloc, set, number)?;
+fn is_named_where_answered(rt: &impl Abort, alloc: Global, set: u8, number: u8) {
+    let named = named(rt, alloc, set, number);
     let found = named
         .as_ref()
         .map(|command| (command.set(), command.number()));
     let wanted = is_answered(set, number).then_some((set, number));
     expect_same(rt, &found, &wanted);
-    Ok(())
 }
 
 #[test]
-fn each_command_that_is_answered_has_a_name(rt: HostRuntime) -> Result<(), Fail> {
+fn each_command_that_is_answered_has_a_name(rt: HostRuntime) {
     for set in 0..=255u8 {
         for number in 0..=255u8 {
-            is_named_where_answered(&rt, rt.alloc(), set, number)?;
+            is_named_where_answered(&rt, rt.alloc(), set, number);
         }
     }
-    Ok(())
 }

@@ -5,7 +5,7 @@ use jdwp_event::{EventKind, Modifier, Policy};
 use jdwp_mirror::Command;
 use jdwp_value::{FieldId, Location, ObjectId, ReferenceTypeId};
 use std::alloc::Global;
-use std::test::Fail;
+use std::process::Abort;
 
 /// The requests of METHOD_ENTRY with the policy ALL and one modifier, by rising kind.
 static REQUESTS: [&str; 12] = [
@@ -52,33 +52,39 @@ fn plain_modifier(kind: usize) -> Option<Modifier> {
     Some(modifier)
 }
 
+/// The text of a pattern.
+fn pattern(rt: &impl Abort, alloc: Global, text: &str) -> String {
+    String::from_str(alloc, text).expect(rt, "memory")
+}
+
 /// A modifier that holds a pattern, by its kind.
-fn pattern_modifier(alloc: Global, kind: usize) -> Result<Modifier, Fail> {
+fn pattern_modifier(rt: &impl Abort, alloc: Global, kind: usize) -> Modifier {
     match kind {
-        5 => Ok(Modifier::ClassMatch(String::from_str(alloc, "A*")?)),
-        6 => Ok(Modifier::ClassExclude(String::from_str(alloc, "*B")?)),
-        12 => Ok(Modifier::SourceNameMatch(String::from_str(alloc, "C")?)),
-        _ => Err(Fail::from("no such kind")),
+        5 => Modifier::ClassMatch(pattern(rt, alloc, "A*")),
+        6 => Modifier::ClassExclude(pattern(rt, alloc, "*B")),
+        12 => Modifier::SourceNameMatch(pattern(rt, alloc, "C")),
+        _ => panic!(rt; "no such kind"),
     }
 }
 
-fn modifier(alloc: Global, kind: usize) -> Result<Modifier, Fail> {
+/// A modifier by its kind.
+fn modifier(rt: &impl Abort, alloc: Global, kind: usize) -> Modifier {
     match plain_modifier(kind) {
-        Some(modifier) => Ok(modifier),
-        None => pattern_modifier(alloc, kind),
+        Some(modifier) => modifier,
+        None => pattern_modifier(rt, alloc, kind),
     }
 }
 
-fn request(alloc: Global, kind: usize) -> Result<Command, Fail> {
-    let modifiers = vec![in alloc; modifier(alloc, kind)?]?;
-    Ok(event_request::set(alloc, EventKind::MethodEntry, Policy::All, modifiers)?)
+/// A request with one modifier, by its kind.
+fn request(rt: &impl Abort, alloc: Global, kind: usize) -> Command {
+    let modifiers = vec![in alloc; modifier(rt, alloc, kind)].expect(rt, "memory");
+    event_request::set(alloc, EventKind::MethodEntry, Policy::All, modifiers).expect(rt, "memory")
 }
 
 #[test]
-fn each_modifier_has_its_bytes(rt: HostRuntime) -> Result<(), Fail> {
+fn each_modifier_has_its_bytes(rt: HostRuntime) {
     for (index, hex) in REQUESTS.iter().enumerate() {
-        let command = request(rt.alloc(), index.saturating_add(1))?;
-        is_written(&rt, rt.alloc(), &command, 15, 1, hex)?;
+        let command = request(&rt, rt.alloc(), index.saturating_add(1));
+        is_written(&rt, rt.alloc(), &command, 15, 1, hex);
     }
-    Ok(())
 }

@@ -6,24 +6,27 @@ use jdwp_value::ObjectId;
 use jdwp_wire::{HANDSHAKE, Limits};
 use std::alloc::Global;
 use std::process::Abort;
-use std::test::Fail;
+
+/// Makes a turn, whatever it tells.
+fn turn(rt: &impl Abort, alloc: Global, debugger: &mut Debugger) {
+    debugger.turn(alloc).expect(rt, "a turn");
+}
 
 /// Begins the session, up to the widths of ids, which are all this, and takes what it puts. The next id is 1, nothing waits, and the last
 /// turn read nothing.
-fn begin(alloc: Global, debugger: &mut Debugger, width: u8) -> Result<(), Fail> {
+fn begin(rt: &impl Abort, alloc: Global, debugger: &mut Debugger, width: u8) {
     debugger.attach();
     debugger.feed(&HANDSHAKE);
-    debugger.turn(alloc)?;
+    turn(rt, alloc, debugger);
     debugger.feed(&[
         0, 0, 0, 31, 0, 0, 0, 1, 0x80, 0, 0, 0, 0, 0, width, 0, 0, 0, width, 0, 0, 0, width, 0, 0,
         0, width, 0, 0, 0, width,
     ]);
-    debugger.turn(alloc)?;
-    debugger.turn(alloc)?;
+    turn(rt, alloc, debugger);
+    turn(rt, alloc, debugger);
     let mut out = [0; 32];
     debugger.take(&mut out);
     debugger.set_next_id(1);
-    Ok(())
 }
 
 /// A command without data.
@@ -31,29 +34,28 @@ fn plain(alloc: Global, set: u8, number: u8) -> Command {
     Command::new(set, number, Vec::new(alloc))
 }
 
-/// ThreadReference.SuspendCount.
-fn count_of(alloc: Global, thread: u64) -> Result<Command, Fail> {
-    let items = vec![in alloc; Datum::One(Scalar::ObjectId(ObjectId(thread)))]?;
-    Ok(Command::new(11, 12, items))
+/// A command with one item as its data.
+fn with_one(rt: &impl Abort, alloc: Global, set: u8, number: u8, scalar: Scalar) -> Command {
+    let items = vec![in alloc; Datum::One(scalar)].expect(rt, "memory");
+    Command::new(set, number, items)
 }
 
 /// VirtualMachine.ClassesBySignature with a signature of so many bytes.
-fn class_of(alloc: Global, length: usize) -> Result<Command, Fail> {
+fn class_of(rt: &impl Abort, alloc: Global, length: usize) -> Command {
     let mut signature = String::new(alloc);
     for _ in 0..length {
-        signature.push('x')?;
+        signature.push('x').expect(rt, "memory");
     }
-    let items = vec![in alloc; Datum::One(Scalar::String(signature))]?;
-    Ok(Command::new(1, 2, items))
+    with_one(rt, alloc, 1, 2, Scalar::String(signature))
 }
 
 /// Bytes as the command's data.
-fn raw(alloc: Global, set: u8, number: u8, length: usize) -> Result<Command, Fail> {
+fn raw(rt: &impl Abort, alloc: Global, set: u8, number: u8, length: usize) -> Command {
     let mut bytes = Vec::new(alloc);
     for _ in 0..length {
-        bytes.push(0)?;
+        bytes.push(0).expect(rt, "memory");
     }
-    Ok(Command::raw(set, number, bytes))
+    Command::raw(set, number, bytes)
 }
 
 /// A command that is asked.
@@ -100,55 +102,58 @@ enum Act {
     KnowsNothing,
 }
 
-fn command(alloc: Global, asks: Asks) -> Result<Command, Fail> {
+/// The command that is asked; the suspend count is ThreadReference.SuspendCount.
+fn command(rt: &impl Abort, alloc: Global, asks: Asks) -> Command {
     match asks {
-        Asks::Plain(set, number) => Ok(plain(alloc, set, number)),
-        Asks::Count(thread) => count_of(alloc, thread),
-        Asks::Class(length) => class_of(alloc, length),
-        Asks::Raw(set, number, length) => raw(alloc, set, number, length),
+        Asks::Plain(set, number) => plain(alloc, set, number),
+        Asks::Count(thread) => with_one(rt, alloc, 11, 12, Scalar::ObjectId(ObjectId(thread))),
+        Asks::Class(length) => class_of(rt, alloc, length),
+        Asks::Raw(set, number, length) => raw(rt, alloc, set, number, length),
     }
 }
 
 /// Whether this comes of it.
-fn comes(alloc: Global, debugger: &mut Debugger, act: &Act) -> Result<bool, Fail> {
+fn comes(rt: &impl Abort, alloc: Global, debugger: &mut Debugger, act: &Act) -> bool {
     match act {
         Act::Next(id) => {
             debugger.set_next_id(*id);
-            Ok(true)
+            true
         }
-        Act::Gives(asks, ticket) => is_answered(alloc, debugger, *asks, Ok(Ticket(*ticket))),
-        Act::Refuses(asks, refused) => is_answered(alloc, debugger, *asks, Err(*refused)),
-        Act::Fills => Ok(fills(alloc, debugger)),
-        Act::Leaves(bytes) => Ok(leaves(debugger, bytes)),
-        Act::LeavesFromThere(bytes) => Ok(leaves_from_there(debugger, bytes)),
-        Act::Waits(count) => Ok(debugger.waiting() == *count),
-        Act::Attaches(attaches) => Ok(debugger.attach() == *attaches),
-        Act::Comes(bytes) => Ok(debugger.feed(bytes) == bytes.len()),
-        Act::HasFront(has_front) => Ok(debugger.has_front() == *has_front),
-        Act::Loses(tickets) => Ok(loses(debugger, tickets)),
-        Act::LosesSoMany(count) => Ok(debugger.lose().as_slice().len() == *count),
-        Act::KnowsNothing => {
-            Ok(debugger.last().is_empty() && debugger.mirror().known().len() == 0)
-        }
+        Act::Gives(asks, ticket) => is_answered(rt, alloc, debugger, *asks, Ok(Ticket(*ticket))),
+        Act::Refuses(asks, refused) => is_answered(rt, alloc, debugger, *asks, Err(*refused)),
+        Act::Fills => fills(alloc, debugger),
+        Act::Leaves(bytes) => leaves(debugger, bytes),
+        Act::LeavesFromThere(bytes) => leaves_from_there(debugger, bytes),
+        Act::Waits(count) => debugger.waiting() == *count,
+        Act::Attaches(attaches) => debugger.attach() == *attaches,
+        Act::Comes(bytes) => debugger.feed(bytes) == bytes.len(),
+        Act::HasFront(has_front) => debugger.has_front() == *has_front,
+        Act::Loses(tickets) => loses(debugger, tickets),
+        Act::LosesSoMany(count) => debugger.lose().as_slice().len() == *count,
+        Act::KnowsNothing => debugger.last().is_empty() && debugger.mirror().known().len() == 0,
     }
 }
 
+/// Whether asking this command is answered so.
 fn is_answered(
+    rt: &impl Abort,
     alloc: Global,
     debugger: &mut Debugger,
     asks: Asks,
     wanted: Result<Ticket, Refused>,
-) -> Result<bool, Fail> {
-    let command = command(alloc, asks)?;
-    Ok(debugger.ask(alloc, command) == wanted)
+) -> bool {
+    let command = command(rt, alloc, asks);
+    debugger.ask(alloc, command) == wanted
 }
 
+/// Whether these tickets wait, the connection is lost with them, and none waits then.
 fn loses(debugger: &mut Debugger, tickets: &[Ticket]) -> bool {
     let unanswered = tickets.len();
     let waits = unanswered == 0 || debugger.unanswered(unanswered - 1).is_some();
     waits && debugger.lose().as_slice() == tickets && debugger.unanswered(0).is_none()
 }
 
+/// Whether 64 commands are asked under the tickets from 1 on.
 fn fills(alloc: Global, debugger: &mut Debugger) -> bool {
     for ticket in 1..65u64 {
         if debugger.ask(alloc, plain(alloc, 1, 8)) != Ok(Ticket(ticket)) {
@@ -165,6 +170,7 @@ fn leaves(debugger: &mut Debugger, bytes: &[u8]) -> bool {
     &out[..count] == bytes
 }
 
+/// The same, where they are read from where they lie.
 fn leaves_from_there(debugger: &mut Debugger, bytes: &[u8]) -> bool {
     let lies = debugger.waiting_in_front() == bytes;
     let count = debugger.waiting();
@@ -175,41 +181,28 @@ fn leaves_from_there(debugger: &mut Debugger, bytes: &[u8]) -> bool {
 /// The place, from 0, of the first act of which something else comes; None where all is as it is to be. If a width is given, the session
 /// is begun before, with ids of this width.
 fn first_wrong(
+    rt: &impl Abort,
     alloc: Global,
     debugger: &mut Debugger,
     width: Option<u8>,
     acts: &[Act],
-) -> Result<Option<usize>, Fail> {
+) -> Option<usize> {
     if let Some(width) = width {
-        begin(alloc, debugger, width)?;
+        begin(rt, alloc, debugger, width);
     }
     for (place, act) in acts.iter().enumerate() {
-        if !comes(alloc, debugger, act)? {
-            return Ok(Some(place));
+        if !comes(rt, alloc, debugger, act) {
+            return Some(place);
         }
     }
-    Ok(None)
-}
-
-/// The same of a new debugger.
-fn first_wrong_of_new(
-    alloc: Global,
-    width: Option<u8>,
-    acts: &[Act],
-) -> Result<Option<usize>, Fail> {
-    let mut debugger = Debugger::new(alloc)?;
-    first_wrong(alloc, &mut debugger, width, acts)
+    None
 }
 
 /// Of each act comes what it says, with a debugger that knows the widths of ids, which are all this, or that is closed.
-fn goes_as_told(
-    rt: &impl Abort,
-    alloc: Global,
-    width: Option<u8>,
-    acts: &[Act],
-) -> Result<(), Fail> {
-    expect_same(rt, &first_wrong_of_new(alloc, width, acts)?, &None);
-    Ok(())
+fn goes_as_told(rt: &impl Abort, alloc: Global, width: Option<u8>, acts: &[Act]) {
+    let mut debugger = Debugger::new(alloc).expect(rt, "memory");
+    let found = first_wrong(rt, alloc, &mut debugger, width, acts);
+    expect_same(rt, &found, &None);
 }
 
 static PACKETS: [Act; 8] = [
@@ -227,8 +220,8 @@ static PACKETS: [Act; 8] = [
 ];
 
 #[test]
-fn packets_leave_in_the_order_asked(rt: HostRuntime) -> Result<(), Fail> {
-    goes_as_told(&rt, rt.alloc(), Some(8), &PACKETS)
+fn packets_leave_in_the_order_asked(rt: HostRuntime) {
+    goes_as_told(&rt, rt.alloc(), Some(8), &PACKETS);
 }
 
 static IDS_WRAP_AND_SKIP_THOSE_THAT_WAIT: [Act; 8] = [
@@ -246,8 +239,8 @@ static IDS_WRAP_AND_SKIP_THOSE_THAT_WAIT: [Act; 8] = [
 ];
 
 #[test]
-fn ids_wrap_and_skip_those_that_wait(rt: HostRuntime) -> Result<(), Fail> {
-    goes_as_told(&rt, rt.alloc(), Some(8), &IDS_WRAP_AND_SKIP_THOSE_THAT_WAIT)
+fn ids_wrap_and_skip_those_that_wait(rt: HostRuntime) {
+    goes_as_told(&rt, rt.alloc(), Some(8), &IDS_WRAP_AND_SKIP_THOSE_THAT_WAIT);
 }
 
 static CLOSED_AND_UNREADY: [Act; 6] = [
@@ -260,8 +253,8 @@ static CLOSED_AND_UNREADY: [Act; 6] = [
 ];
 
 #[test]
-fn closed_and_unready_ends_ask_nothing(rt: HostRuntime) -> Result<(), Fail> {
-    goes_as_told(&rt, rt.alloc(), None, &CLOSED_AND_UNREADY)
+fn closed_and_unready_ends_ask_nothing(rt: HostRuntime) {
+    goes_as_told(&rt, rt.alloc(), None, &CLOSED_AND_UNREADY);
 }
 
 static FULL: [Act; 4] = [
@@ -272,8 +265,8 @@ static FULL: [Act; 4] = [
 ];
 
 #[test]
-fn only_so_many_commands_wait(rt: HostRuntime) -> Result<(), Fail> {
-    goes_as_told(&rt, rt.alloc(), Some(8), &FULL)
+fn only_so_many_commands_wait(rt: HostRuntime) {
+    goes_as_told(&rt, rt.alloc(), Some(8), &FULL);
 }
 
 /// One command waits, and the one behind it is refused.
@@ -285,12 +278,11 @@ static ONE_WAITS: [Act; 4] = [
 ];
 
 #[test]
-fn as_many_commands_wait_as_the_limits_let(rt: HostRuntime) -> Result<(), Fail> {
-    let limits = Limits::new(2048, 2, 1, 1).ok_or("no limits")?;
-    let mut debugger = Debugger::with_limits(rt.alloc(), 1, limits)?;
-    let found = first_wrong(rt.alloc(), &mut debugger, Some(8), &ONE_WAITS)?;
+fn as_many_commands_wait_as_the_limits_let(rt: HostRuntime) {
+    let limits = Limits::new(2048, 2, 1, 1).expect(&rt, "limits in range");
+    let mut debugger = Debugger::with_limits(rt.alloc(), 1, limits).expect(&rt, "memory");
+    let found = first_wrong(&rt, rt.alloc(), &mut debugger, Some(8), &ONE_WAITS);
     expect_same(&rt, &found, &None);
-    Ok(())
 }
 
 static ONLY_SO_MANY_BYTES_WAIT: [Act; 5] = [
@@ -302,8 +294,8 @@ static ONLY_SO_MANY_BYTES_WAIT: [Act; 5] = [
 ];
 
 #[test]
-fn only_so_many_bytes_wait(rt: HostRuntime) -> Result<(), Fail> {
-    goes_as_told(&rt, rt.alloc(), Some(8), &ONLY_SO_MANY_BYTES_WAIT)
+fn only_so_many_bytes_wait(rt: HostRuntime) {
+    goes_as_told(&rt, rt.alloc(), Some(8), &ONLY_SO_MANY_BYTES_WAIT);
 }
 
 static DATA_HAVE_TO_FIT_THE_COMMAND: [Act; 12] = [
@@ -324,8 +316,8 @@ static DATA_HAVE_TO_FIT_THE_COMMAND: [Act; 12] = [
 ];
 
 #[test]
-fn data_have_to_fit_the_command(rt: HostRuntime) -> Result<(), Fail> {
-    goes_as_told(&rt, rt.alloc(), Some(1), &DATA_HAVE_TO_FIT_THE_COMMAND)
+fn data_have_to_fit_the_command(rt: HostRuntime) {
+    goes_as_told(&rt, rt.alloc(), Some(1), &DATA_HAVE_TO_FIT_THE_COMMAND);
 }
 
 static A_WHOLE_MESSAGE_IN_FRONT: [Act; 9] = [
@@ -341,8 +333,8 @@ static A_WHOLE_MESSAGE_IN_FRONT: [Act; 9] = [
 ];
 
 #[test]
-fn a_whole_message_in_front(rt: HostRuntime) -> Result<(), Fail> {
-    goes_as_told(&rt, rt.alloc(), None, &A_WHOLE_MESSAGE_IN_FRONT)
+fn a_whole_message_in_front(rt: HostRuntime) {
+    goes_as_told(&rt, rt.alloc(), None, &A_WHOLE_MESSAGE_IN_FRONT);
 }
 
 static A_FAULT_IN_FRONT: [Act; 5] = [
@@ -355,8 +347,8 @@ static A_FAULT_IN_FRONT: [Act; 5] = [
 
 /// A length below 11 is a fault, and with 65,536 bytes that wait to leave the end is paused.
 #[test]
-fn a_fault_in_front(rt: HostRuntime) -> Result<(), Fail> {
-    goes_as_told(&rt, rt.alloc(), Some(8), &A_FAULT_IN_FRONT)
+fn a_fault_in_front(rt: HostRuntime) {
+    goes_as_told(&rt, rt.alloc(), Some(8), &A_FAULT_IN_FRONT);
 }
 
 /// The number of each refusal.
@@ -370,12 +362,11 @@ static NUMBERS: [(Refused, u16); 6] = [
 ];
 
 #[test]
-fn refusals_have_their_numbers(rt: HostRuntime) -> Result<(), Fail> {
+fn refusals_have_their_numbers(rt: HostRuntime) {
     for (refused, number) in NUMBERS.iter() {
         expect_same(&rt, &refused.number(), number);
     }
-    let text = format!(in rt.alloc(); "{}", Refused::BadCommand)?;
+    let text = format!(in rt.alloc(); "{}", Refused::BadCommand).expect(&rt, "memory");
     let said = "fault 36: a command that no target has, or data that do not read in its layout";
     expect_same(&rt, &text.as_str(), &said);
-    Ok(())
 }

@@ -4,14 +4,11 @@ use jdwp_end::{End, Front};
 use jdwp_wire::{FrameFault, HANDSHAKE, IdSizes, Limits, Next, next_packet_within};
 use std::alloc::Global;
 use std::process::Abort;
-use std::test::Fail;
 
 /// A closed end.
-fn end(alloc: Global) -> Result<End, Fail> {
-    let Some(limits) = Limits::new(2048, 1, 1, 1) else {
-        return Err(Fail::from("the limits are in range"));
-    };
-    Ok(End::new(alloc, limits)?)
+fn end(rt: &impl Abort, alloc: Global) -> End {
+    let limits = Limits::new(2048, 1, 1, 1).expect(rt, "limits in range");
+    End::new(alloc, limits).expect(rt, "memory")
 }
 
 /// What there is to handle, without the packet: its id and how many bytes it takes.
@@ -38,9 +35,8 @@ fn packet_of(bytes: &[u8], limits: &Limits) -> Result<Option<(u32, usize)>, Fram
 }
 
 #[test]
-fn a_session_in_pieces(rt: HostRuntime) -> Result<(), Fail> {
-    is_read_in_pieces(&rt, &mut end(rt.alloc())?);
-    Ok(())
+fn a_session_in_pieces(rt: HostRuntime) {
+    is_read_in_pieces(&rt, &mut end(&rt, rt.alloc()));
 }
 
 /// A closed end takes nothing; once it is open, the handshake stands in front as its last byte came.
@@ -58,27 +54,27 @@ fn is_read_in_pieces(rt: &impl Abort, end: &mut End) {
 
 /// What is in front of an end at which the handshake was handled, once these bytes came.
 fn front_behind(
+    rt: &impl Abort,
     alloc: Global,
     length: [u8; 4],
-) -> Result<Result<Option<(u32, usize)>, FrameFault>, Fail> {
-    let mut end = established(alloc)?;
+) -> Result<Option<(u32, usize)>, FrameFault> {
+    let mut end = established(rt, alloc);
     end.feed(&length);
-    Ok(front_of(&mut end))
+    front_of(&mut end)
 }
 
 #[test]
-fn a_length_above_the_packet_limit(rt: HostRuntime) -> Result<(), Fail> {
-    let greatest = front_behind(rt.alloc(), [0, 0, 8, 0])?;
+fn a_length_above_the_packet_limit(rt: HostRuntime) {
+    let greatest = front_behind(&rt, rt.alloc(), [0, 0, 8, 0]);
     expect_same(&rt, &greatest, &Ok(None));
-    let one_more = front_behind(rt.alloc(), [0, 0, 8, 1])?;
+    let one_more = front_behind(&rt, rt.alloc(), [0, 0, 8, 1]);
     expect_same(&rt, &one_more, &Err(FrameFault::TooLong));
-    Ok(())
 }
 
 /// A packet of 2,040 bytes behind the handshake wraps round the end of the room of 2,048, and is found once its last byte came.
 #[test]
-fn a_packet_that_wraps(rt: HostRuntime) -> Result<(), Fail> {
-    let mut end = established(rt.alloc())?;
+fn a_packet_that_wraps(rt: HostRuntime) {
+    let mut end = established(&rt, rt.alloc());
     expect_same(
         &rt,
         &end.feed(&[0, 0, 0x07, 0xf8, 0, 0, 0, 7, 0, 1, 7]),
@@ -89,31 +85,28 @@ fn a_packet_that_wraps(rt: HostRuntime) -> Result<(), Fail> {
     expect_same(&rt, &end.feed(&[0; 100]), &9);
     expect_same(&rt, &front_of(&mut end), &Ok(Some((7, 2040))));
     expect_same(&rt, &front_of(&mut end), &Ok(Some((7, 2040))));
-    Ok(())
 }
 
 /// An end at which the handshake was handled.
-fn established(alloc: Global) -> Result<End, Fail> {
-    let mut end = end(alloc)?;
+fn established(rt: &impl Abort, alloc: Global) -> End {
+    let mut end = end(rt, alloc);
     end.open();
     end.feed(&HANDSHAKE);
     if let Front::Handshake = end.front() {
         end.take_off(HANDSHAKE.len());
     }
-    Ok(end)
+    end
 }
 
 /// The handshake and an int wait to leave, and the end is closed.
-fn end_with_two(alloc: Global) -> Result<End, Fail> {
-    let Ok(sizes) = IdSizes::new(8, 8, 8, 8, 8) else {
-        return Err(Fail::from("the widths are in range"));
-    };
-    let mut end = end(alloc)?;
+fn end_with_two(rt: &impl Abort, alloc: Global) -> End {
+    let sizes = IdSizes::new(8, 8, 8, 8, 8).expect(rt, "widths in range");
+    let mut end = end(rt, alloc);
     end.open();
     end.enqueue(&HANDSHAKE);
     end.put(&7i32, &sizes);
     end.close();
-    Ok(end)
+    end
 }
 
 /// What is enqueued is taken though the end is closed.
@@ -128,36 +121,43 @@ fn leaves(rt: &impl Abort, end: &mut End) {
 }
 
 #[test]
-fn what_is_enqueued_is_taken(rt: HostRuntime) -> Result<(), Fail> {
-    leaves(&rt, &mut end_with_two(rt.alloc())?);
-    Ok(())
+fn what_is_enqueued_is_taken(rt: HostRuntime) {
+    leaves(&rt, &mut end_with_two(&rt, rt.alloc()));
 }
 
-/// The ring goes on where it was, so what is enqueued next wraps round its end: it leaves in two pieces, each from where it lies.
-#[test]
-fn what_wraps_leaves_in_two_pieces(rt: HostRuntime) -> Result<(), Fail> {
-    let mut end = end(rt.alloc())?;
+/// An open end whose ring goes on at its byte 4,090, and at which the handshake waits.
+fn end_near_the_turn(rt: &impl Abort, alloc: Global) -> End {
+    let mut end = end(rt, alloc);
     end.open();
     end.enqueue(&[1; 4090]);
     let count = end.waiting();
     end.leave(count);
     end.open();
     end.enqueue(&HANDSHAKE);
-    assert!(&rt; end.waiting_in_front() == b"JDWP-H".as_slice());
+    end
+}
+
+/// The handshake leaves in two pieces, each from where it lies.
+fn leaves_in_two_pieces(rt: &impl Abort, end: &mut End) {
+    assert!(rt; end.waiting_in_front() == b"JDWP-H".as_slice());
     end.leave(6);
-    assert!(&rt; end.waiting_in_front() == b"andshake".as_slice());
-    expect_same(&rt, &end.waiting(), &8);
+    assert!(rt; end.waiting_in_front() == b"andshake".as_slice());
+    expect_same(rt, &end.waiting(), &8);
     end.leave(100);
-    assert!(&rt; end.waiting_in_front().is_empty());
-    Ok(())
+    assert!(rt; end.waiting_in_front().is_empty());
+}
+
+/// The ring goes on where it was, so what is enqueued next wraps round its end: it leaves in two pieces.
+#[test]
+fn what_wraps_leaves_in_two_pieces(rt: HostRuntime) {
+    leaves_in_two_pieces(&rt, &mut end_near_the_turn(&rt, rt.alloc()));
 }
 
 #[test]
-fn a_loss_keeps_nothing(rt: HostRuntime) -> Result<(), Fail> {
-    let mut end = end_with_two(rt.alloc())?;
+fn a_loss_keeps_nothing(rt: HostRuntime) {
+    let mut end = end_with_two(&rt, rt.alloc());
     end.open();
     end.enqueue(&HANDSHAKE);
     end.lose();
     expect_same(&rt, &(end.waiting(), end.room()), &(0, 0));
-    Ok(())
 }

@@ -6,20 +6,24 @@ use crate::turning_tests::{HELLO, SIZES, VM_START};
 use example_parts::bytes;
 use jdwp_debugger::{Command, Debugger, Mirror, Read, Ticket};
 use jdwp_event::{Composite, Event};
-use jdwp_layout::{Answer, Datum, Scalar};
+use jdwp_layout::{Answer, Data, Datum, Scalar};
 use jdwp_value::ObjectId;
 use std::alloc::Global;
 use std::process::Abort;
-use std::test::Fail;
+
+/// The mirror learns an event of the kind THREAD_START, with a policy, of a thread.
+fn starts(rt: &impl Abort, alloc: Global, mirror: &mut Mirror, policy: u8, thread: u64) {
+    let started = event(rt, alloc, 6, policy, thread);
+    mirror.learn_composite(&started).expect(rt, "memory");
+}
 
 /// A mirror that saw each of the threads 0 to 256 start, from the last on, with no thread suspended by it.
-fn of_257_threads(alloc: Global) -> Result<Mirror, Fail> {
+fn of_257_threads(rt: &impl Abort, alloc: Global) -> Mirror {
     let mut mirror = Mirror::new(alloc);
     for before in 0..257u64 {
-        let started = event(alloc, 6, 0, 256u64.saturating_sub(before))?;
-        mirror.learn_composite(&started)?;
+        starts(rt, alloc, &mut mirror, 0, 256u64.saturating_sub(before));
     }
-    Ok(mirror)
+    mirror
 }
 
 /// Whether these are the threads 256 to 0, each with this count, held or not.
@@ -35,60 +39,96 @@ fn are_all(mirror: &Mirror, count: u32, held: bool) -> bool {
 }
 
 #[test]
-fn threads_0_to_256_are_known(rt: HostRuntime) -> Result<(), Fail> {
-    let mut mirror = of_257_threads(rt.alloc())?;
+fn threads_0_to_256_are_known(rt: HostRuntime) {
+    let mut mirror = of_257_threads(&rt, rt.alloc());
     expect_same(&rt, &are_all(&mirror, 0, false), &true);
     expect_same(&rt, &mirror.count(ObjectId(0)), &Some(0));
     expect_same(&rt, &mirror.count(ObjectId(257)), &None);
     // An event of thread 0 that suspends all: its own count is 1, and so is each other's, which it shows alive no more than before.
-    mirror.learn_composite(&event(rt.alloc(), 6, 2, 0)?)?;
+    starts(&rt, rt.alloc(), &mut mirror, 2, 0);
     expect_same(&rt, &mirror.count(ObjectId(256)), &Some(1));
     expect_same(&rt, &mirror.is_held(ObjectId(256)), &false);
     expect_same(&rt, &mirror.is_held(ObjectId(0)), &true);
-    Ok(())
+}
+
+/// What the debugger reads as these bytes, as hex digits, come.
+fn read(rt: &impl Abort, alloc: Global, debugger: &mut Debugger, hex: &str) -> Read {
+    debugger.feed(&bytes(alloc, hex).expect(rt, "memory"));
+    debugger.turn(alloc).expect(rt, "a turn")
 }
 
 /// A debugger that read the target's handshake.
-fn greeted(alloc: Global) -> Result<Debugger, Fail> {
-    let mut debugger = Debugger::new(alloc)?;
+fn greeted(rt: &impl Abort, alloc: Global) -> Debugger {
+    let mut debugger = Debugger::new(alloc).expect(rt, "memory");
     debugger.attach();
-    debugger.feed(&bytes(alloc, HELLO)?);
-    debugger.turn(alloc)?;
-    Ok(debugger)
+    read(rt, alloc, &mut debugger, HELLO);
+    debugger
+}
+
+/// A debugger that read the widths of ids, too.
+fn established(rt: &impl Abort, alloc: Global) -> Debugger {
+    let mut debugger = greeted(rt, alloc);
+    read(rt, alloc, &mut debugger, SIZES);
+    debugger
 }
 
 /// A packet of 34,704 bytes under the id 2: CLASS_PREPARE for each of the requests 1 to 64, whose signature has 512 bytes, so that each
 /// event has 542.
-fn longest_composite(alloc: Global) -> Result<Vec<u8>, Fail> {
+fn longest_composite(rt: &impl Abort, alloc: Global) -> Vec<u8> {
     let head = [
         0, 0, 0x87, 0x90, 0, 0, 0, 2, 0, 0x40, 0x64, 0, 0, 0, 0, 0x40,
     ];
-    let mut packet = Vec::from_slice(alloc, &head)?;
+    let mut packet = Vec::from_slice(alloc, &head).expect(rt, "memory");
     for request in 1..65u8 {
-        packet.extend_from_slice(&[8, 0, 0, 0, request, 0, 0, 0, 0, 0, 0, 0, 1])?;
-        packet.extend_from_slice(&[1, 0, 0, 0, 0, 0, 0, 0, 10, 0, 0, 2, 0])?;
-        for _ in 0..512u32 {
-            packet.push(b'x')?;
-        }
-        packet.extend_from_slice(&[0, 0, 0, 7])?;
+        push(
+            rt,
+            &mut packet,
+            &[8, 0, 0, 0, request, 0, 0, 0, 0, 0, 0, 0, 1],
+        );
+        push(rt, &mut packet, &[1, 0, 0, 0, 0, 0, 0, 0, 10, 0, 0, 2, 0]);
+        push(rt, &mut packet, &[b'x'; 512]);
+        push(rt, &mut packet, &[0, 0, 0, 7]);
     }
-    Ok(packet)
+    packet
 }
 
-/// Whether this is CLASS_PREPARE of thread 1 and class 10 for this request, with a signature of 512 bytes.
-fn is_prepared(event: &Event, wanted: i32) -> bool {
-    match event.fields() {
+/// Appends bytes to a packet.
+fn push(rt: &impl Abort, packet: &mut Vec<u8>, bytes: &[u8]) {
+    packet.extend_from_slice(bytes).expect(rt, "memory");
+}
+
+/// Whether the first of these fields are CLASS_PREPARE for this request, of thread 1.
+fn are_of_request(fields: &[Scalar], wanted: i32) -> bool {
+    match fields {
         [
             Scalar::Byte(8),
             Scalar::Int(request),
             Scalar::ObjectId(thread),
+            ..
+        ] => { *request == wanted && thread.0 == 1 }
+        _ => false,
+    }
+}
+
+/// Whether these are seven fields, of which the last four are those of class 10, with a signature of 512 bytes.
+fn are_of_class(fields: &[Scalar]) -> bool {
+    match fields {
+        [
+            _,
+            _,
+            _,
             Scalar::Byte(1),
             Scalar::ReferenceTypeId(class),
             Scalar::String(signature),
             Scalar::Int(7),
-        ] => { *request == wanted && thread.0 == 1 && class.0 == 10 && signature.len() == 512 }
+        ] => class.0 == 10 && signature.len() == 512,
         _ => false,
     }
+}
+
+/// Whether this is CLASS_PREPARE of thread 1 and class 10 for this request, with a signature of 512 bytes.
+fn is_prepared(event: &Event, wanted: i32) -> bool {
+    are_of_request(event.fields(), wanted) && are_of_class(event.fields())
 }
 
 /// Whether these are CLASS_PREPARE for the requests 1 to 64, in this order.
@@ -103,74 +143,89 @@ fn are_prepared(composite: &Composite) -> bool {
     request == 64
 }
 
+/// Whether this is a composite of CLASS_PREPARE for the requests 1 to 64.
+fn is_longest_composite(read: &Read) -> bool {
+    match read {
+        Read::Seen(composite) => are_prepared(composite),
+        _ => false,
+    }
+}
+
 #[test]
-fn the_longest_composite(rt: HostRuntime) -> Result<(), Fail> {
-    let mut debugger = greeted(rt.alloc())?;
-    debugger.feed(&bytes(rt.alloc(), SIZES)?);
-    debugger.turn(rt.alloc())?;
-    let packet = longest_composite(rt.alloc())?;
+fn the_longest_composite(rt: HostRuntime) {
+    let alloc = rt.alloc();
+    let mut debugger = established(&rt, alloc);
+    let packet = longest_composite(&rt, alloc);
     expect_same(&rt, &packet.len(), &34_704usize);
     expect_same(&rt, &debugger.feed(&packet), &34_704usize);
-    match debugger.turn(rt.alloc())? {
-        Read::Seen(composite) => expect_same(&rt, &are_prepared(&composite), &true),
-        _ => return Err(Fail::from("no composite")),
-    }
+    let read = debugger.turn(alloc).expect(&rt, "a turn");
+    expect_same(&rt, &is_longest_composite(&read), &true);
     expect_same(&rt, &debugger.mirror().count(ObjectId(1)), &Some(0));
-    Ok(())
 }
 
 /// How many composites the debugger tells of in the turn that reads the widths of ids.
-fn told_with_the_widths(alloc: Global, debugger: &mut Debugger) -> Result<usize, Fail> {
-    debugger.feed(&bytes(alloc, SIZES)?);
-    match debugger.turn(alloc)? {
-        Read::Sizes(composites) => Ok(composites.len()),
-        _ => Err(Fail::from("no widths")),
+fn told_with_the_widths(rt: &impl Abort, alloc: Global, debugger: &mut Debugger) -> usize {
+    match read(rt, alloc, debugger, SIZES) {
+        Read::Sizes(composites) => composites.len(),
+        _ => panic!(rt; "no widths"),
     }
 }
 
 /// Four composites may wait for the widths of ids: with these all four are told.
 #[test]
-fn four_composites_wait(rt: HostRuntime) -> Result<(), Fail> {
+fn four_composites_wait(rt: HostRuntime) {
     let alloc = rt.alloc();
-    let mut debugger = greeted(alloc)?;
+    let mut debugger = greeted(&rt, alloc);
     for _ in 0..4u32 {
-        debugger.feed(&bytes(alloc, VM_START)?);
-        expect_same(&rt, &matches!(debugger.turn(alloc)?, Read::Parked), &true);
+        let parked = matches!(read(&rt, alloc, &mut debugger, VM_START), Read::Parked);
+        expect_same(&rt, &parked, &true);
     }
-    let told = told_with_the_widths(alloc, &mut debugger)?;
+    let told = told_with_the_widths(&rt, alloc, &mut debugger);
     expect_same(&rt, &told, &4usize);
     expect_same(&rt, &debugger.last().len(), &5usize);
-    Ok(())
 }
 
 /// The longest reply under the id 2: a packet of 65,536 bytes, whose data have no period of 256.
-fn longest_reply(alloc: Global) -> Result<Vec<u8>, Fail> {
-    let mut packet = Vec::from_slice(alloc, &[0, 1, 0, 0, 0, 0, 0, 2, 0x80, 0, 0])?;
+fn longest_reply(rt: &impl Abort, alloc: Global) -> Vec<u8> {
+    let head = [0, 1, 0, 0, 0, 0, 0, 2, 0x80, 0, 0];
+    let mut packet = Vec::from_slice(alloc, &head).expect(rt, "memory");
     for place in 0..65_525u32 {
-        packet.push((place % 251) as u8)?;
+        packet.push((place % 251) as u8).expect(rt, "memory");
     }
-    Ok(packet)
+    packet
+}
+
+/// A debugger that knows the widths of ids, and has asked VirtualMachine.ClassPaths.
+fn that_asked_class_paths(rt: &impl Abort, alloc: Global) -> Debugger {
+    let mut debugger = established(rt, alloc);
+    let asked = debugger.ask(alloc, Command::raw(1, 13, Vec::new(alloc)));
+    expect_same(rt, &asked, &Ok(Ticket(1)));
+    debugger
+}
+
+/// The data of the answer that was read.
+fn data_of(rt: &impl Abort, read: Read) -> Data {
+    match read {
+        Read::Answered(_, Answer::Data(data)) => data,
+        _ => panic!(rt; "no data"),
+    }
+}
+
+/// The data are these bytes, and their first item has them, too.
+fn are_raw(rt: &impl Abort, alloc: Global, data: &Data, wanted: &[u8]) {
+    expect_same(rt, &data.raw(), &Some(wanted));
+    let item = Datum::Raw(Vec::from_slice(alloc, wanted).expect(rt, "memory"));
+    expect_same(rt, &data.items().first(), &Some(&item));
 }
 
 /// VirtualMachine.ClassPaths, whose data are not read: its answer has the bytes of the reply as they came.
 #[test]
-fn the_longest_data_that_are_not_read(rt: HostRuntime) -> Result<(), Fail> {
+fn the_longest_data_that_are_not_read(rt: HostRuntime) {
     let alloc = rt.alloc();
-    let mut debugger = greeted(alloc)?;
-    debugger.feed(&bytes(alloc, SIZES)?);
-    debugger.turn(alloc)?;
-    let asked = debugger.ask(alloc, Command::raw(1, 13, Vec::new(alloc)));
-    expect_same(&rt, &asked, &Ok(Ticket(1)));
-    let reply = longest_reply(alloc)?;
-    let wanted = reply.get(11..).ok_or("no data")?;
+    let mut debugger = that_asked_class_paths(&rt, alloc);
+    let reply = longest_reply(&rt, alloc);
     expect_same(&rt, &debugger.feed(&reply), &65_536usize);
-    match debugger.turn(alloc)? {
-        Read::Answered(_, Answer::Data(data)) => {
-            expect_same(&rt, &data.raw(), &Some(wanted));
-            let item = Datum::Raw(Vec::from_slice(alloc, wanted)?);
-            expect_same(&rt, &data.items().first(), &Some(&item));
-        }
-        _ => return Err(Fail::from("no data")),
-    }
-    Ok(())
+    let read = debugger.turn(alloc).expect(&rt, "a turn");
+    let wanted = reply.get(11..).expect(&rt, "data");
+    are_raw(&rt, alloc, &data_of(&rt, read), wanted);
 }

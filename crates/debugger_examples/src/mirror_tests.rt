@@ -7,7 +7,6 @@ use jdwp_value::ObjectId;
 use jdwp_wire::ErrorCode;
 use std::alloc::Global;
 use std::process::Abort;
-use std::test::Fail;
 
 const NONE: u8 = 0;
 
@@ -22,9 +21,9 @@ const THREAD_DEATH: u8 = 7;
 const VM_DEATH: u8 = 99;
 
 /// A command of ThreadReference about a thread.
-pub(crate) fn of_thread(alloc: Global, number: u8, thread: u64) -> Result<Command, Fail> {
-    let items = vec![in alloc; Datum::One(Scalar::ObjectId(ObjectId(thread)))]?;
-    Ok(Command::new(11, number, items))
+pub(crate) fn of_thread(rt: &impl Abort, alloc: Global, number: u8, thread: u64) -> Command {
+    let items = vec![in alloc; Datum::One(Scalar::ObjectId(ObjectId(thread)))];
+    Command::new(11, number, items.expect(rt, "memory"))
 }
 
 /// A command without data.
@@ -32,47 +31,60 @@ pub(crate) fn plain(alloc: Global, set: u8, number: u8) -> Command {
     Command::new(set, number, Vec::new(alloc))
 }
 
+/// The answer without data.
 fn done(alloc: Global) -> Answer {
     Answer::Data(Data::new(Vec::new(alloc)))
 }
 
-pub(crate) fn with_int(alloc: Global, int: i32) -> Result<Answer, Fail> {
-    Ok(Answer::Data(Data::new(vec![in alloc; Datum::One(Scalar::Int(int))]?)))
+/// The answer whose data are an int.
+pub(crate) fn with_int(rt: &impl Abort, alloc: Global, int: i32) -> Answer {
+    let items = vec![in alloc; Datum::One(Scalar::Int(int))];
+    Answer::Data(Data::new(items.expect(rt, "memory")))
+}
+
+/// A composite of one event with these fields.
+fn of_one(rt: &impl Abort, alloc: Global, policy: u8, fields: Vec<Scalar>) -> Composite {
+    let events = vec![in alloc; Event::new(fields)];
+    Composite::new(policy, events.expect(rt, "memory"))
 }
 
 /// An event of a thread.
-pub(crate) fn event(alloc: Global, kind: u8, policy: u8, thread: u64) -> Result<Composite, Fail> {
+pub(crate) fn event(
+    rt: &impl Abort,
+    alloc: Global,
+    kind: u8,
+    policy: u8,
+    thread: u64,
+) -> Composite {
     let fields = vec![in alloc;
         Scalar::Byte(kind),
         Scalar::Int(0),
         Scalar::ObjectId(ObjectId(thread)),
-    ]?;
-    let events = vec![in alloc; Event::new(fields)]?;
-    Ok(Composite::new(policy, events))
+    ];
+    of_one(rt, alloc, policy, fields.expect(rt, "memory"))
 }
 
 /// An event of no thread.
-pub(crate) fn event_of_none(alloc: Global, kind: u8) -> Result<Composite, Fail> {
-    let fields = vec![in alloc; Scalar::Byte(kind), Scalar::Int(0)]?;
-    let events = vec![in alloc; Event::new(fields)]?;
-    Ok(Composite::new(NONE, events))
+pub(crate) fn event_of_none(rt: &impl Abort, alloc: Global, kind: u8) -> Composite {
+    let fields = vec![in alloc; Scalar::Byte(kind), Scalar::Int(0)];
+    of_one(rt, alloc, NONE, fields.expect(rt, "memory"))
 }
 
 /// EventRequest.Set of a kind, with a Count of 3.
-fn set_request(alloc: Global, kind: u8) -> Result<Command, Fail> {
-    let modifiers = three_times(alloc)?;
+fn set_request(rt: &impl Abort, alloc: Global, kind: u8) -> Command {
+    let modifiers = three_times(rt, alloc);
     let items = vec![in alloc;
         Datum::One(Scalar::Byte(kind)),
         Datum::One(Scalar::Byte(ALL)),
         modifiers,
-    ]?;
-    Ok(Command::new(15, 1, items))
+    ];
+    Command::new(15, 1, items.expect(rt, "memory"))
 }
 
 /// The modifiers, which are a Count of 3.
-fn three_times(alloc: Global) -> Result<Datum, Fail> {
-    let count = vec![in alloc; Scalar::Byte(1), Scalar::Int(3)]?;
-    Ok(Datum::Many(vec![in alloc; count]?))
+fn three_times(rt: &impl Abort, alloc: Global) -> Datum {
+    let count = vec![in alloc; Scalar::Byte(1), Scalar::Int(3)].expect(rt, "memory");
+    Datum::Many(vec![in alloc; count].expect(rt, "memory"))
 }
 
 /// What a mirror learns, or what it shows.
@@ -111,90 +123,88 @@ enum Act {
 }
 
 /// Whether it learns or shows this.
-fn comes(alloc: Global, mirror: &mut Mirror, act: &Act) -> Result<bool, Fail> {
+fn comes(rt: &impl Abort, alloc: Global, mirror: &mut Mirror, act: &Act) -> bool {
     match act {
-        Act::Event(kind, policy, thread) => { sees(mirror, event(alloc, *kind, *policy, *thread)) }
-        Act::Death => sees(mirror, event_of_none(alloc, VM_DEATH)),
+        Act::Event(kind, policy, thread) => {
+            sees(rt, mirror, &event(rt, alloc, *kind, *policy, *thread))
+        }
+        Act::Death => sees(rt, mirror, &event_of_none(rt, alloc, VM_DEATH)),
         Act::Empties => {
             mirror.clear();
-            Ok(true)
+            true
         }
-        Act::Knows(known) => Ok(knows(mirror, known)),
-        Act::Shows(thread, count, held) => Ok(
-            mirror.count(ObjectId(*thread)) == *count && mirror.is_held(ObjectId(*thread)) == *held,
-        ),
-        Act::Keeps(asked) => Ok(keeps(mirror, asked)),
-        _ => hears(alloc, mirror, &asked(alloc, act)?, answered(alloc, act)),
+        Act::Knows(known) => knows(mirror, known),
+        Act::Shows(thread, count, held) => {
+            mirror.count(ObjectId(*thread)) == *count && mirror.is_held(ObjectId(*thread)) == *held
+        }
+        Act::Keeps(asked) => keeps(mirror, asked),
+        _ => hears(rt, alloc, mirror, act),
     }
 }
 
-fn sees(mirror: &mut Mirror, composite: Result<Composite, Fail>) -> Result<bool, Fail> {
-    mirror.learn_composite(&composite?)?;
-    Ok(true)
+/// True, once the mirror has learnt the composite.
+fn sees(rt: &impl Abort, mirror: &mut Mirror, composite: &Composite) -> bool {
+    mirror.learn_composite(composite).expect(rt, "memory");
+    true
 }
 
-fn hears(
-    alloc: Global,
-    mirror: &mut Mirror,
-    command: &Command,
-    answer: Result<Answer, Fail>,
-) -> Result<bool, Fail> {
-    mirror.learn_reply(alloc, command, &answer?)?;
-    Ok(true)
+/// True, once the mirror has learnt the reply that this is.
+fn hears(rt: &impl Abort, alloc: Global, mirror: &mut Mirror, act: &Act) -> bool {
+    let command = asked(rt, alloc, act);
+    let answer = answered(rt, alloc, act);
+    let learnt = mirror.learn_reply(alloc, &command, &answer);
+    learnt.expect(rt, "memory");
+    true
 }
 
 /// The command that is replied to.
-fn asked(alloc: Global, act: &Act) -> Result<Command, Fail> {
+fn asked(rt: &impl Abort, alloc: Global, act: &Act) -> Command {
     match act {
-        Act::Done(set, number) | Act::Fails(set, number, _) => Ok(plain(alloc, *set, *number)),
+        Act::Done(set, number) | Act::Fails(set, number, _) => plain(alloc, *set, *number),
         Act::ThreadDone(number, thread) | Act::ThreadFails(number, thread, _) => {
-            of_thread(alloc, *number, *thread)
+            of_thread(rt, alloc, *number, *thread)
         }
-        Act::Count(thread, _) => of_thread(alloc, 12, *thread),
-        Act::Lists(_, _) => Ok(plain(alloc, 1, 4)),
-        Act::Sets(kind, _) | Act::SetFails(kind, _) => set_request(alloc, *kind),
-        Act::Clears(kind, id) => clear(alloc, *kind, *id),
-        _ => Err(Fail::from("no reply")),
+        Act::Count(thread, _) => of_thread(rt, alloc, 12, *thread),
+        Act::Lists(_, _) => plain(alloc, 1, 4),
+        Act::Sets(kind, _) | Act::SetFails(kind, _) => set_request(rt, alloc, *kind),
+        Act::Clears(kind, id) => clear(rt, alloc, *kind, *id),
+        _ => panic!(rt; "no reply"),
     }
 }
 
 /// The answer in the reply.
-fn answered(alloc: Global, act: &Act) -> Result<Answer, Fail> {
+fn answered(rt: &impl Abort, alloc: Global, act: &Act) -> Answer {
     match act {
         Act::Fails(_, _, error) | Act::ThreadFails(_, _, error) | Act::SetFails(_, error) => {
-            Ok(Answer::Error(*error))
+            Answer::Error(*error)
         }
-        Act::Count(_, int) | Act::Sets(_, int) => with_int(alloc, *int),
-        Act::Lists(one, other) => threads(alloc, *one, *other),
-        _ => Ok(done(alloc)),
+        Act::Count(_, int) | Act::Sets(_, int) => with_int(rt, alloc, *int),
+        Act::Lists(one, other) => threads(rt, alloc, *one, *other),
+        _ => done(alloc),
     }
 }
 
 /// The reply of AllThreads with two threads.
-fn threads(alloc: Global, one: u64, other: u64) -> Result<Answer, Fail> {
-    let first = entry(alloc, one)?;
-    let listed = listed(alloc, first, entry(alloc, other))?;
-    Ok(Answer::Data(Data::new(vec![in alloc; Datum::Many(listed)]?)))
+fn threads(rt: &impl Abort, alloc: Global, one: u64, other: u64) -> Answer {
+    let first = entry(rt, alloc, one);
+    let second = entry(rt, alloc, other);
+    let listed = vec![in alloc; first, second].expect(rt, "memory");
+    let items = vec![in alloc; Datum::Many(listed)];
+    Answer::Data(Data::new(items.expect(rt, "memory")))
 }
 
-fn listed(
-    alloc: Global,
-    first: Vec<Scalar>,
-    second: Result<Vec<Scalar>, Fail>,
-) -> Result<Vec<Vec<Scalar>>, Fail> {
-    Ok(vec![in alloc; first, second?]?)
-}
-
-fn entry(alloc: Global, thread: u64) -> Result<Vec<Scalar>, Fail> {
-    Ok(vec![in alloc; Scalar::ObjectId(ObjectId(thread))]?)
+/// The entry of a thread in the list of all.
+fn entry(rt: &impl Abort, alloc: Global, thread: u64) -> Vec<Scalar> {
+    vec![in alloc; Scalar::ObjectId(ObjectId(thread))].expect(rt, "memory")
 }
 
 /// EventRequest.Clear of a kind and an id.
-fn clear(alloc: Global, kind: u8, id: i32) -> Result<Command, Fail> {
-    let items = vec![in alloc; Datum::One(Scalar::Byte(kind)), Datum::One(Scalar::Int(id))]?;
-    Ok(Command::new(15, 2, items))
+fn clear(rt: &impl Abort, alloc: Global, kind: u8, id: i32) -> Command {
+    let items = vec![in alloc; Datum::One(Scalar::Byte(kind)), Datum::One(Scalar::Int(id))];
+    Command::new(15, 2, items.expect(rt, "memory"))
 }
 
+/// Whether these are the threads that it knows, each with its count, and whether it is held.
 fn knows(mirror: &Mirror, wanted: &[(u64, u32, bool)]) -> bool {
     for (known, (id, count, held)) in mirror.known().zip(wanted) {
         if known.id.0 != *id || known.count != *count || known.held != *held {
@@ -204,6 +214,7 @@ fn knows(mirror: &Mirror, wanted: &[(u64, u32, bool)]) -> bool {
     mirror.known().len() == wanted.len()
 }
 
+/// Whether these are the ids and kinds of the requests that it keeps, each with the policy ALL and a Count of 3.
 fn keeps(mirror: &Mirror, wanted: &[(i32, u8)]) -> bool {
     for (request, (id, kind)) in mirror.requests().iter().zip(wanted) {
         if request.id() != *id
@@ -218,25 +229,20 @@ fn keeps(mirror: &Mirror, wanted: &[(i32, u8)]) -> bool {
 }
 
 /// The place, from 0, of the first act of which something else comes; None where all is as it is to be.
-fn first_wrong(alloc: Global, mirror: &mut Mirror, acts: &[Act]) -> Result<Option<usize>, Fail> {
+fn first_wrong(rt: &impl Abort, alloc: Global, mirror: &mut Mirror, acts: &[Act]) -> Option<usize> {
     for (place, act) in acts.iter().enumerate() {
-        if !comes(alloc, mirror, act)? {
-            return Ok(Some(place));
+        if !comes(rt, alloc, mirror, act) {
+            return Some(place);
         }
     }
-    Ok(None)
-}
-
-/// The same of an empty mirror.
-fn first_wrong_of_new(alloc: Global, acts: &[Act]) -> Result<Option<usize>, Fail> {
-    let mut mirror = Mirror::new(alloc);
-    first_wrong(alloc, &mut mirror, acts)
+    None
 }
 
 /// Of each act comes what it says, from an empty mirror on.
-fn goes_as_told(rt: &impl Abort, alloc: Global, acts: &[Act]) -> Result<(), Fail> {
-    expect_same(rt, &first_wrong_of_new(alloc, acts)?, &None);
-    Ok(())
+fn goes_as_told(rt: &impl Abort, alloc: Global, acts: &[Act]) {
+    let mut mirror = Mirror::new(alloc);
+    let found = first_wrong(rt, alloc, &mut mirror, acts);
+    expect_same(rt, &found, &None);
 }
 
 /// Thread 1 becomes known with count 1, held.
@@ -257,8 +263,8 @@ static EVENTS_TEACH_THEIR_THREAD: [Act; 8] = [
 ];
 
 #[test]
-fn events_teach_their_thread(rt: HostRuntime) -> Result<(), Fail> {
-    goes_as_told(&rt, rt.alloc(), &EVENTS_TEACH_THEIR_THREAD)
+fn events_teach_their_thread(rt: HostRuntime) {
+    goes_as_told(&rt, rt.alloc(), &EVENTS_TEACH_THEIR_THREAD);
 }
 
 static SUSPENDS_AND_RESUMES_CHANGE_COUNTS: [Act; 12] = [
@@ -277,8 +283,8 @@ static SUSPENDS_AND_RESUMES_CHANGE_COUNTS: [Act; 12] = [
 ];
 
 #[test]
-fn suspends_and_resumes_change_counts(rt: HostRuntime) -> Result<(), Fail> {
-    goes_as_told(&rt, rt.alloc(), &SUSPENDS_AND_RESUMES_CHANGE_COUNTS)
+fn suspends_and_resumes_change_counts(rt: HostRuntime) {
+    goes_as_told(&rt, rt.alloc(), &SUSPENDS_AND_RESUMES_CHANGE_COUNTS);
 }
 
 static REPLIES_SHOW_THREADS_ALIVE: [Act; 12] = [
@@ -297,8 +303,8 @@ static REPLIES_SHOW_THREADS_ALIVE: [Act; 12] = [
 ];
 
 #[test]
-fn replies_show_threads_alive(rt: HostRuntime) -> Result<(), Fail> {
-    goes_as_told(&rt, rt.alloc(), &REPLIES_SHOW_THREADS_ALIVE)
+fn replies_show_threads_alive(rt: HostRuntime) {
+    goes_as_told(&rt, rt.alloc(), &REPLIES_SHOW_THREADS_ALIVE);
 }
 
 static LISTS_OF_ALL_THREADS_FORGET_THE_OTHERS: [Act; 5] = [
@@ -310,8 +316,8 @@ static LISTS_OF_ALL_THREADS_FORGET_THE_OTHERS: [Act; 5] = [
 ];
 
 #[test]
-fn lists_of_all_threads_forget_the_others(rt: HostRuntime) -> Result<(), Fail> {
-    goes_as_told(&rt, rt.alloc(), &LISTS_OF_ALL_THREADS_FORGET_THE_OTHERS)
+fn lists_of_all_threads_forget_the_others(rt: HostRuntime) {
+    goes_as_told(&rt, rt.alloc(), &LISTS_OF_ALL_THREADS_FORGET_THE_OTHERS);
 }
 
 static THREADS_THAT_ARE_NOT_ALIVE_ARE_FORGOTTEN: [Act; 12] = [
@@ -330,8 +336,8 @@ static THREADS_THAT_ARE_NOT_ALIVE_ARE_FORGOTTEN: [Act; 12] = [
 ];
 
 #[test]
-fn threads_that_are_not_alive_are_forgotten(rt: HostRuntime) -> Result<(), Fail> {
-    goes_as_told(&rt, rt.alloc(), &THREADS_THAT_ARE_NOT_ALIVE_ARE_FORGOTTEN)
+fn threads_that_are_not_alive_are_forgotten(rt: HostRuntime) {
+    goes_as_told(&rt, rt.alloc(), &THREADS_THAT_ARE_NOT_ALIVE_ARE_FORGOTTEN);
 }
 
 static THREADS_BEHIND_A_FORGOTTEN_ONE_ARE_FOUND: [Act; 11] = [
@@ -349,8 +355,8 @@ static THREADS_BEHIND_A_FORGOTTEN_ONE_ARE_FOUND: [Act; 11] = [
 ];
 
 #[test]
-fn threads_behind_a_forgotten_one_are_found(rt: HostRuntime) -> Result<(), Fail> {
-    goes_as_told(&rt, rt.alloc(), &THREADS_BEHIND_A_FORGOTTEN_ONE_ARE_FOUND)
+fn threads_behind_a_forgotten_one_are_found(rt: HostRuntime) {
+    goes_as_told(&rt, rt.alloc(), &THREADS_BEHIND_A_FORGOTTEN_ONE_ARE_FOUND);
 }
 
 static REQUESTS_ARE_KEPT_AS_ASKED: [Act; 15] = [
@@ -372,12 +378,12 @@ static REQUESTS_ARE_KEPT_AS_ASKED: [Act; 15] = [
 ];
 
 #[test]
-fn requests_are_kept_as_asked(rt: HostRuntime) -> Result<(), Fail> {
-    goes_as_told(&rt, rt.alloc(), &REQUESTS_ARE_KEPT_AS_ASKED)
+fn requests_are_kept_as_asked(rt: HostRuntime) {
+    goes_as_told(&rt, rt.alloc(), &REQUESTS_ARE_KEPT_AS_ASKED);
 }
 
 /// A command of VirtualMachine that ends the session, or the machine, empties a mirror once it is done.
-fn ends(rt: &impl Abort, alloc: Global, number: u8) -> Result<(), Fail> {
+fn ends(rt: &impl Abort, alloc: Global, number: u8) {
     let acts = [
         FIRST,
         SECOND,
@@ -388,13 +394,13 @@ fn ends(rt: &impl Abort, alloc: Global, number: u8) -> Result<(), Fail> {
         Act::Knows(&[]),
         Act::Keeps(&[]),
     ];
-    goes_as_told(rt, alloc, &acts)
+    goes_as_told(rt, alloc, &acts);
 }
 
 #[test]
-fn ends_empty_the_mirror(rt: HostRuntime) -> Result<(), Fail> {
-    ends(&rt, rt.alloc(), 6)?;
-    ends(&rt, rt.alloc(), 10)
+fn ends_empty_the_mirror(rt: HostRuntime) {
+    ends(&rt, rt.alloc(), 6);
+    ends(&rt, rt.alloc(), 10);
 }
 
 static DEATH: [Act; 5] = [
@@ -406,13 +412,13 @@ static DEATH: [Act; 5] = [
 ];
 
 #[test]
-fn a_death_empties_the_mirror(rt: HostRuntime) -> Result<(), Fail> {
-    goes_as_told(&rt, rt.alloc(), &DEATH)
+fn a_death_empties_the_mirror(rt: HostRuntime) {
+    goes_as_told(&rt, rt.alloc(), &DEATH);
 }
 
 static EMPTIED: [Act; 3] = [FIRST, Act::Empties, Act::Knows(&[])];
 
 #[test]
-fn a_mirror_is_emptied(rt: HostRuntime) -> Result<(), Fail> {
-    goes_as_told(&rt, rt.alloc(), &EMPTIED)
+fn a_mirror_is_emptied(rt: HostRuntime) {
+    goes_as_told(&rt, rt.alloc(), &EMPTIED);
 }

@@ -9,40 +9,49 @@ use jdwp_value::{FrameId, ObjectId, Value};
 use jdwp_wire::IdSizes;
 use std::alloc::Global;
 use std::process::Abort;
-use std::test::Fail;
 
-fn sizes() -> Result<IdSizes, Fail> {
-    match IdSizes::new(8, 8, 8, 8, 8) {
-        Ok(sizes) => Ok(sizes),
-        Err(_) => Err(Fail::from("ids have 1 to 8 bytes")),
-    }
+/// Ids of 8 bytes.
+fn sizes(rt: &impl Abort) -> IdSizes {
+    IdSizes::new(8, 8, 8, 8, 8).expect(rt, "widths in range")
 }
 
-fn asked(alloc: Global, set: u8, number: u8, hex: &str) -> Result<ParsedCommand, Fail> {
-    let data = bytes(alloc, hex)?;
-    match read_command(alloc, set, number, &sizes()?, &data) {
-        Ok(asked) => Ok(asked),
-        Err(_) => Err(Fail::from("no memory")),
-    }
+/// What is read of the command whose data are these bytes.
+fn asked(rt: &impl Abort, alloc: Global, set: u8, number: u8, hex: &str) -> ParsedCommand {
+    let data = bytes(alloc, hex).expect(rt, "memory");
+    let asked = read_command(alloc, set, number, &sizes(rt), &data);
+    asked.expect(rt, "memory")
 }
 
 /// Whether the question is this command, with data that are written as these bytes.
-fn is_question(alloc: Global, query: &Query, set: u8, number: u8, hex: &str) -> Result<bool, Fail> {
-    let is_command = query.set == set && query.number == number;
-    let wanted = bytes(alloc, hex)?;
-    Ok(is_command && written(alloc, query)?.as_slice() == wanted.as_slice())
+fn is_question(
+    rt: &impl Abort,
+    alloc: Global,
+    query: &Query,
+    set: u8,
+    number: u8,
+    hex: &str,
+) -> bool {
+    query.set == set && query.number == number && is_written(rt, alloc, query, hex)
+}
+
+/// Whether the data of a question are written as these bytes.
+fn is_written(rt: &impl Abort, alloc: Global, query: &Query, hex: &str) -> bool {
+    let wanted = bytes(alloc, hex).expect(rt, "memory");
+    written(rt, alloc, query).as_slice() == wanted.as_slice()
 }
 
 /// The data of a question as bytes.
-fn written(alloc: Global, query: &Query) -> Result<Vec<u8>, Fail> {
-    let row = layout_of(query.set, query.number).ok_or("no row")?;
-    let layouts = row.layouts.ok_or("a raw row")?;
+fn written(rt: &impl Abort, alloc: Global, query: &Query) -> Vec<u8> {
+    let row = layout_of(query.set, query.number).expect(rt, "a row");
+    let layouts = row.layouts.expect(rt, "a row with layouts");
     let mut bytes = Vec::new(alloc);
     let data = query.content.items();
-    write(&layouts.request, &sizes()?, data, &mut bytes)?;
-    Ok(bytes)
+    let wrote = write(&layouts.request, &sizes(rt), data, &mut bytes);
+    wrote.expect(rt, "data that fit the layout");
+    bytes
 }
 
+/// The error with which a command is refused; None where it is carried out.
 fn refused(asked: &ParsedCommand) -> Option<u16> {
     match asked {
         ParsedCommand::Refuses(error) => Some(error.0),
@@ -87,13 +96,12 @@ fn is_named(
     hex: &str,
     name: &str,
     thread: Option<ObjectId>,
-) -> Result<(), Fail> {
-    let asked = asked(alloc, set, number, hex)?;
+) {
+    let asked = asked(rt, alloc, set, number, hex);
     let (found, named_thread, query) = named(&asked);
     expect_same(rt, &found, &name);
     expect_same(rt, &named_thread, &thread);
     assert!(rt; query.is_none());
-    Ok(())
 }
 
 static OF_NO_THREAD: [(u8, u8, &str, &str); 9] = [
@@ -109,15 +117,14 @@ static OF_NO_THREAD: [(u8, u8, &str, &str); 9] = [
 ];
 
 #[test]
-fn commands_of_no_thread(rt: HostRuntime) -> Result<(), Fail> {
+fn commands_of_no_thread(rt: HostRuntime) {
     for &(set, number, hex, name) in OF_NO_THREAD.iter() {
-        is_named(&rt, rt.alloc(), set, number, hex, name, None)?;
+        is_named(&rt, rt.alloc(), set, number, hex, name, None);
     }
-    Ok(())
 }
 
 #[test]
-fn commands_of_a_thread(rt: HostRuntime) -> Result<(), Fail> {
+fn commands_of_a_thread(rt: HostRuntime) {
     for (number, name) in [
         (2, "SuspendThread"),
         (3, "ResumeThread"),
@@ -126,9 +133,8 @@ fn commands_of_a_thread(rt: HostRuntime) -> Result<(), Fail> {
     ] {
         let hex = "0000000000000007";
         let thread = Some(ObjectId(7));
-        is_named(&rt, rt.alloc(), 11, number, hex, name, thread)?;
+        is_named(&rt, rt.alloc(), 11, number, hex, name, thread);
     }
-    Ok(())
 }
 
 /// Questions: the set, the number, the data, the action, and the thread that it names.
@@ -162,46 +168,47 @@ fn asks(
     hex: &str,
     name: &str,
     thread: Option<ObjectId>,
-) -> Result<(), Fail> {
-    let asked = asked(alloc, set, number, hex)?;
+) {
+    let asked = asked(rt, alloc, set, number, hex);
     let (found, named_thread, query) = named(&asked);
     expect_same(rt, &found, &name);
     expect_same(rt, &named_thread, &thread);
-    let query = query.ok_or("no question")?;
-    assert!(rt; is_question(alloc, query, set, number, hex)?);
-    Ok(())
+    let query = query.expect(rt, "a question");
+    assert!(rt; is_question(rt, alloc, query, set, number, hex));
 }
 
 #[test]
-fn questions(rt: HostRuntime) -> Result<(), Fail> {
+fn questions(rt: HostRuntime) {
     for &(set, number, hex, name, thread) in QUESTIONS.iter() {
-        asks(&rt, rt.alloc(), set, number, hex, name, thread)?;
+        asks(&rt, rt.alloc(), set, number, hex, name, thread);
     }
-    Ok(())
+}
+
+/// The kind and the id of the request that a command clears; None where it is another command.
+fn cleared(asked: &ParsedCommand) -> Option<(u8, i32)> {
+    match asked {
+        ParsedCommand::Carries(Action::ClearRequest { kind, id }) => Some((*kind, *id)),
+        _ => None,
+    }
 }
 
 #[test]
-fn a_request_that_is_cleared(rt: HostRuntime) -> Result<(), Fail> {
-    match &asked(rt.alloc(), 15, 2, "02 00000003")? {
-        ParsedCommand::Carries(Action::ClearRequest { kind, id }) => {
-            expect_same(&rt, &(*kind, *id), &(2, 3));
-            Ok(())
-        }
-        _ => Err(Fail::from("no Clear")),
-    }
+fn a_request_that_is_cleared(rt: HostRuntime) {
+    let asked = asked(&rt, rt.alloc(), 15, 2, "02 00000003");
+    expect_same(&rt, &cleared(&asked), &Some((2, 3)));
 }
 
 /// The kind, the policy and the entries of the modifiers of a Set.
-fn request(alloc: Global, hex: &str) -> Result<(u8, u8, Vec<Vec<Scalar>>), Fail> {
-    match asked(alloc, 15, 1, hex)? {
+fn request(rt: &impl Abort, alloc: Global, hex: &str) -> (u8, u8, Vec<Vec<Scalar>>) {
+    match asked(rt, alloc, 15, 1, hex) {
         ParsedCommand::Carries(
             Action::SetRequest {
                 kind,
                 policy,
                 modifiers,
             },
-        ) => Ok((kind, policy, modifiers)),
-        _ => Err(Fail::from("no Set")),
+        ) => (kind, policy, modifiers),
+        _ => panic!(rt; "no Set"),
     }
 }
 
@@ -222,32 +229,27 @@ fn are_two_entries(entries: &[Vec<Scalar>]) -> bool {
 }
 
 #[test]
-fn a_request_that_is_set(rt: HostRuntime) -> Result<(), Fail> {
-    let (kind, policy, entries) = request(rt.alloc(), TWO_MODIFIERS)?;
+fn a_request_that_is_set(rt: HostRuntime) {
+    let (kind, policy, entries) = request(&rt, rt.alloc(), TWO_MODIFIERS);
     expect_same(&rt, &(kind, policy), &(6, 1));
     assert!(rt; are_two_entries(&entries));
-    Ok(())
 }
 
 /// The modifiers of a Set.
-fn modifiers(alloc: Global, hex: &str) -> Result<Vec<Modifier>, Fail> {
-    let (_, _, entries) = request(alloc, hex)?;
-    match Modifier::of_entries(alloc, entries) {
-        Ok(modifiers) => Ok(modifiers),
-        Err(_) => Err(Fail::from("no memory")),
-    }
+fn modifiers(rt: &impl Abort, alloc: Global, hex: &str) -> Vec<Modifier> {
+    let (_, _, entries) = request(rt, alloc, hex);
+    Modifier::of_entries(alloc, entries).expect(rt, "memory")
 }
 
 #[test]
-fn modifiers_of_a_request(rt: HostRuntime) -> Result<(), Fail> {
-    let modifiers = modifiers(rt.alloc(), TWO_MODIFIERS)?;
+fn modifiers_of_a_request(rt: HostRuntime) {
+    let modifiers = modifiers(&rt, rt.alloc(), TWO_MODIFIERS);
     assert!(rt;
         matches!(
             modifiers.as_slice(),
             [Modifier::ThreadOnly(ObjectId(7)), Modifier::Count(1)]
         )
     );
-    Ok(())
 }
 
 /// Whether these are the slot 1, an int, and the slot 2, which is true.
@@ -255,23 +257,27 @@ fn are_two_slots(values: &[(i32, Value)]) -> bool {
     matches!(values, [(1, Value::Int(0x2a)), (2, Value::Boolean(true))])
 }
 
-#[test]
-fn slots(rt: HostRuntime) -> Result<(), Fail> {
-    let data = "0000000000000007 0000000000000009 00000002 00000001 49 0000002a 00000002 5a 01";
-    match &asked(rt.alloc(), 16, 2, data)? {
+/// The thread, the frame and the values of the slots that a command sets; None where it is another command.
+fn slots_of(asked: &ParsedCommand) -> Option<(ObjectId, FrameId, &[(i32, Value)])> {
+    match asked {
         ParsedCommand::Carries(
             Action::SetSlots {
                 thread,
                 frame,
                 values,
             },
-        ) => {
-            expect_same(&rt, &(*thread, *frame), &(ObjectId(7), FrameId(9)));
-            assert!(rt; are_two_slots(values));
-            Ok(())
-        }
-        _ => Err(Fail::from("no SetValues")),
+        ) => Some((*thread, *frame, values.as_slice())),
+        _ => None,
     }
+}
+
+#[test]
+fn slots(rt: HostRuntime) {
+    let data = "0000000000000007 0000000000000009 00000002 00000001 49 0000002a 00000002 5a 01";
+    let asked = asked(&rt, rt.alloc(), 16, 2, data);
+    let (thread, frame, values) = slots_of(&asked).expect(&rt, "SetValues");
+    expect_same(&rt, &(thread, frame), &(ObjectId(7), FrameId(9)));
+    assert!(rt; are_two_slots(values));
 }
 
 /// NOT_IMPLEMENTED is 99, and ILLEGAL_ARGUMENT is 103.
@@ -304,23 +310,15 @@ static REFUSALS: [(u8, u8, &str, u16); 23] = [
     (15, 1, "06 01 ffffffff", 103),
 ];
 
-fn is_refused(
-    rt: &impl Abort,
-    alloc: Global,
-    set: u8,
-    number: u8,
-    hex: &str,
-    error: u16,
-) -> Result<(), Fail> {
-    let asked = asked(alloc, set, number, hex)?;
+/// The command is refused with this error.
+fn is_refused(rt: &impl Abort, alloc: Global, set: u8, number: u8, hex: &str, error: u16) {
+    let asked = asked(rt, alloc, set, number, hex);
     expect_same(rt, &refused(&asked), &Some(error));
-    Ok(())
 }
 
 #[test]
-fn refusals(rt: HostRuntime) -> Result<(), Fail> {
+fn refusals(rt: HostRuntime) {
     for &(set, number, hex, error) in REFUSALS.iter() {
-        is_refused(&rt, rt.alloc(), set, number, hex, error)?;
+        is_refused(&rt, rt.alloc(), set, number, hex, error);
     }
-    Ok(())
 }

@@ -6,7 +6,6 @@ use jdwp_layout::{Datum, Scalar};
 use jdwp_value::ObjectId;
 use std::alloc::Global;
 use std::process::Abort;
-use std::test::Fail;
 
 pub(crate) const HELLO: &str = "4a4457502d48616e647368616b65";
 
@@ -33,6 +32,7 @@ enum Tells {
     Fails(u16),
 }
 
+/// What a turn with this result tells.
 fn outcome(told: &Result<Read, DebuggerFault>) -> Tells {
     match told {
         Ok(Read::Nothing) => Tells::Nothing,
@@ -60,35 +60,39 @@ enum Wanted {
     Clear(u8, i32),
 }
 
-fn command(alloc: Global, wanted: Wanted) -> Result<Command, Fail> {
+/// The command that is wanted.
+fn command(rt: &impl Abort, alloc: Global, wanted: Wanted) -> Command {
     match wanted {
-        Wanted::Plain(set, number) => Ok(Command::new(set, number, Vec::new(alloc))),
-        Wanted::Exit(status) => with_one(alloc, 1, 10, Scalar::Int(status)),
+        Wanted::Plain(set, number) => Command::new(set, number, Vec::new(alloc)),
+        Wanted::Exit(status) => with_one(rt, alloc, 1, 10, Scalar::Int(status)),
         Wanted::OfThread(number, thread) => {
-            with_one(alloc, 11, number, Scalar::ObjectId(ObjectId(thread)))
+            with_one(rt, alloc, 11, number, Scalar::ObjectId(ObjectId(thread)))
         }
-        Wanted::Request(kind) => request(alloc, kind),
-        Wanted::Clear(kind, id) => clear(alloc, kind, id),
+        Wanted::Request(kind) => request(rt, alloc, kind),
+        Wanted::Clear(kind, id) => clear(rt, alloc, kind, id),
     }
 }
 
-fn with_one(alloc: Global, set: u8, number: u8, scalar: Scalar) -> Result<Command, Fail> {
-    let items = vec![in alloc; Datum::One(scalar)]?;
-    Ok(Command::new(set, number, items))
+/// A command with one item as its data.
+fn with_one(rt: &impl Abort, alloc: Global, set: u8, number: u8, scalar: Scalar) -> Command {
+    let items = vec![in alloc; Datum::One(scalar)];
+    Command::new(set, number, items.expect(rt, "memory"))
 }
 
-fn request(alloc: Global, kind: u8) -> Result<Command, Fail> {
+/// EventRequest.Set of a kind, with the policy ALL and no modifier.
+fn request(rt: &impl Abort, alloc: Global, kind: u8) -> Command {
     let items = vec![in alloc;
         Datum::One(Scalar::Byte(kind)),
         Datum::One(Scalar::Byte(2)),
         Datum::Many(Vec::new(alloc)),
-    ]?;
-    Ok(Command::new(15, 1, items))
+    ];
+    Command::new(15, 1, items.expect(rt, "memory"))
 }
 
-fn clear(alloc: Global, kind: u8, id: i32) -> Result<Command, Fail> {
-    let items = vec![in alloc; Datum::One(Scalar::Byte(kind)), Datum::One(Scalar::Int(id))]?;
-    Ok(Command::new(15, 2, items))
+/// EventRequest.Clear of a kind and an id.
+fn clear(rt: &impl Abort, alloc: Global, kind: u8, id: i32) -> Command {
+    let items = vec![in alloc; Datum::One(Scalar::Byte(kind)), Datum::One(Scalar::Int(id))];
+    Command::new(15, 2, items.expect(rt, "memory"))
 }
 
 /// What is done with a debugger, and what comes of it.
@@ -117,50 +121,55 @@ enum Act {
 }
 
 /// Whether this comes of it.
-fn comes(alloc: Global, debugger: &mut Debugger, act: &Act) -> Result<bool, Fail> {
+fn comes(rt: &impl Abort, alloc: Global, debugger: &mut Debugger, act: &Act) -> bool {
     match act {
-        Act::Attaches(attaches) => Ok(debugger.attach() == *attaches),
-        Act::Reads(input, told, ids) => reads(alloc, debugger, input, *told, ids),
-        Act::Asks(wanted, ticket) => is_asked(alloc, debugger, *wanted, *ticket),
+        Act::Attaches(attaches) => debugger.attach() == *attaches,
+        Act::Reads(input, told, ids) => reads(rt, alloc, debugger, input, *told, ids),
+        Act::Asks(wanted, ticket) => is_asked(rt, alloc, debugger, *wanted, *ticket),
         Act::NextId(id) => {
             debugger.set_next_id(*id);
-            Ok(true)
+            true
         }
-        Act::Sends(output) => sends(alloc, debugger, output),
-        Act::Knows(threads) => Ok(are_known(debugger.mirror().known(), threads)),
-        Act::Requests(requests) => Ok(are_requested(debugger, requests)),
+        Act::Sends(output) => sends(rt, alloc, debugger, output),
+        Act::Knows(threads) => are_known(debugger.mirror().known(), threads),
+        Act::Requests(requests) => are_requested(debugger, requests),
         Act::Stands(open, measured) => {
-            Ok(debugger.is_open() == *open && debugger.sizes().is_some() == *measured)
+            debugger.is_open() == *open && debugger.sizes().is_some() == *measured
         }
-        Act::Waits(tickets) => Ok(are_unanswered(debugger, tickets)),
-        Act::Loses(tickets) => Ok(are_tickets(debugger.lose().as_slice(), tickets)),
+        Act::Waits(tickets) => are_unanswered(debugger, tickets),
+        Act::Loses(tickets) => are_tickets(debugger.lose().as_slice(), tickets),
     }
 }
 
+/// Whether a turn tells this once these bytes came, and has read packets with these ids, or the handshake.
 fn reads(
+    rt: &impl Abort,
     alloc: Global,
     debugger: &mut Debugger,
     input: &str,
     told: Tells,
     ids: &[u32],
-) -> Result<bool, Fail> {
-    debugger.feed(&bytes(alloc, input)?);
+) -> bool {
+    debugger.feed(&bytes(alloc, input).expect(rt, "memory"));
     let found = turned(alloc, debugger);
-    Ok(found == told && have_been_read(debugger.last(), told, ids))
+    found == told && have_been_read(debugger.last(), told, ids)
 }
 
+/// What a turn tells.
 fn turned(alloc: Global, debugger: &mut Debugger) -> Tells {
     outcome(&debugger.turn(alloc))
 }
 
+/// Whether the command is asked under this ticket.
 fn is_asked(
+    rt: &impl Abort,
     alloc: Global,
     debugger: &mut Debugger,
     wanted: Wanted,
     ticket: u64,
-) -> Result<bool, Fail> {
-    let command = command(alloc, wanted)?;
-    Ok(debugger.ask(alloc, command) == Ok(Ticket(ticket)))
+) -> bool {
+    let command = command(rt, alloc, wanted);
+    debugger.ask(alloc, command) == Ok(Ticket(ticket))
 }
 
 /// Whether a turn that tells this read the handshake, or packets with these ids.
@@ -181,12 +190,14 @@ fn have_been_read(heads: &[Head], told: Tells, ids: &[u32]) -> bool {
 }
 
 /// Whether these bytes wait to leave, at most 256; they are taken.
-fn sends(alloc: Global, debugger: &mut Debugger, output: &str) -> Result<bool, Fail> {
+fn sends(rt: &impl Abort, alloc: Global, debugger: &mut Debugger, output: &str) -> bool {
+    let wanted = bytes(alloc, output).expect(rt, "memory");
     let mut buffer = [0; 256];
     let count = debugger.take(&mut buffer);
-    Ok(&buffer[..count] == bytes(alloc, output)?.as_slice())
+    &buffer[..count] == wanted.as_slice()
 }
 
+/// Whether these are the known threads with their counts, and whether they are held.
 fn are_known(known: KnownThreads<'_>, threads: &[(u64, u32, bool)]) -> bool {
     if known.len() != threads.len() {
         return false;
@@ -199,6 +210,7 @@ fn are_known(known: KnownThreads<'_>, threads: &[(u64, u32, bool)]) -> bool {
     true
 }
 
+/// Whether these are the ids and kinds of the event requests, each with the policy ALL.
 fn are_requested(debugger: &Debugger, requests: &[(i32, u8)]) -> bool {
     let kept = debugger.mirror().requests();
     if kept.len() != requests.len() {
@@ -212,6 +224,7 @@ fn are_requested(debugger: &Debugger, requests: &[(i32, u8)]) -> bool {
     true
 }
 
+/// Whether these tickets, and no more, are unanswered.
 fn are_unanswered(debugger: &Debugger, tickets: &[u64]) -> bool {
     for (place, ticket) in tickets.iter().enumerate() {
         match debugger.unanswered(place) {
@@ -222,6 +235,7 @@ fn are_unanswered(debugger: &Debugger, tickets: &[u64]) -> bool {
     debugger.unanswered(tickets.len()).is_none()
 }
 
+/// Whether what was lost are these tickets.
 fn are_tickets(lost: &[Ticket], tickets: &[u64]) -> bool {
     if lost.len() != tickets.len() {
         return false;
@@ -236,28 +250,24 @@ fn are_tickets(lost: &[Ticket], tickets: &[u64]) -> bool {
 
 /// The place, from 0, of the first of these acts of which something else comes; None where all is as it is to be.
 fn first_wrong(
+    rt: &impl Abort,
     alloc: Global,
     debugger: &mut Debugger,
     acts: &[Act],
-) -> Result<Option<usize>, Fail> {
+) -> Option<usize> {
     for (place, act) in acts.iter().enumerate() {
-        if !comes(alloc, debugger, act)? {
-            return Ok(Some(place));
+        if !comes(rt, alloc, debugger, act) {
+            return Some(place);
         }
     }
-    Ok(None)
-}
-
-/// The same of a debugger whose first packet has this id.
-fn first_wrong_of_new(alloc: Global, first_id: u32, acts: &[Act]) -> Result<Option<usize>, Fail> {
-    let mut debugger = Debugger::with_first_id(alloc, first_id)?;
-    first_wrong(alloc, &mut debugger, acts)
+    None
 }
 
 /// Of each of these acts comes what it says, with a debugger whose first packet has this id.
-fn goes_as_told(rt: &impl Abort, alloc: Global, first_id: u32, acts: &[Act]) -> Result<(), Fail> {
-    expect_same(rt, &first_wrong_of_new(alloc, first_id, acts)?, &None);
-    Ok(())
+fn goes_as_told(rt: &impl Abort, alloc: Global, first_id: u32, acts: &[Act]) {
+    let mut debugger = Debugger::with_first_id(alloc, first_id).expect(rt, "memory");
+    let found = first_wrong(rt, alloc, &mut debugger, acts);
+    expect_same(rt, &found, &None);
 }
 
 static HANDSHAKE_PUTS_ID_SIZES: [Act; 8] = [
@@ -272,8 +282,8 @@ static HANDSHAKE_PUTS_ID_SIZES: [Act; 8] = [
 ];
 
 #[test]
-fn handshake_puts_id_sizes(rt: HostRuntime) -> Result<(), Fail> {
-    goes_as_told(&rt, rt.alloc(), 1, &HANDSHAKE_PUTS_ID_SIZES)
+fn handshake_puts_id_sizes(rt: HostRuntime) {
+    goes_as_told(&rt, rt.alloc(), 1, &HANDSHAKE_PUTS_ID_SIZES);
 }
 
 static EVENTS_THAT_WAITED_ARE_READ_WITH_THE_WIDTHS: [Act; 7] = [
@@ -296,13 +306,13 @@ static EVENTS_THAT_WAITED_ARE_READ_WITH_THE_WIDTHS: [Act; 7] = [
 
 /// VM_START with ids one byte wide comes before the widths are known.
 #[test]
-fn events_that_waited_are_read_with_the_widths(rt: HostRuntime) -> Result<(), Fail> {
+fn events_that_waited_are_read_with_the_widths(rt: HostRuntime) {
     goes_as_told(
         &rt,
         rt.alloc(),
         1,
         &EVENTS_THAT_WAITED_ARE_READ_WITH_THE_WIDTHS,
-    )
+    );
 }
 
 static A_DEATH_THAT_WAITED_ENDS_THE_SESSION: [Act; 9] = [
@@ -323,8 +333,8 @@ static A_DEATH_THAT_WAITED_ENDS_THE_SESSION: [Act; 9] = [
 
 /// VM_DEATH waits, too: the session ends as the widths become known, which stay until it is lost.
 #[test]
-fn a_death_that_waited_ends_the_session(rt: HostRuntime) -> Result<(), Fail> {
-    goes_as_told(&rt, rt.alloc(), 1, &A_DEATH_THAT_WAITED_ENDS_THE_SESSION)
+fn a_death_that_waited_ends_the_session(rt: HostRuntime) {
+    goes_as_told(&rt, rt.alloc(), 1, &A_DEATH_THAT_WAITED_ENDS_THE_SESSION);
 }
 
 static EVENTS_AND_REPLIES_CHANGE_COUNTS: [Act; 25] = [
@@ -372,8 +382,8 @@ static EVENTS_AND_REPLIES_CHANGE_COUNTS: [Act; 25] = [
 ];
 
 #[test]
-fn events_and_replies_change_counts(rt: HostRuntime) -> Result<(), Fail> {
-    goes_as_told(&rt, rt.alloc(), 1, &EVENTS_AND_REPLIES_CHANGE_COUNTS)
+fn events_and_replies_change_counts(rt: HostRuntime) {
+    goes_as_told(&rt, rt.alloc(), 1, &EVENTS_AND_REPLIES_CHANGE_COUNTS);
 }
 
 static REPLIES_TEACH_AND_FORGET_THREADS: [Act; 21] = [
@@ -417,8 +427,8 @@ static REPLIES_TEACH_AND_FORGET_THREADS: [Act; 21] = [
 ];
 
 #[test]
-fn replies_teach_and_forget_threads(rt: HostRuntime) -> Result<(), Fail> {
-    goes_as_told(&rt, rt.alloc(), 1, &REPLIES_TEACH_AND_FORGET_THREADS)
+fn replies_teach_and_forget_threads(rt: HostRuntime) {
+    goes_as_told(&rt, rt.alloc(), 1, &REPLIES_TEACH_AND_FORGET_THREADS);
 }
 
 static REQUESTS_ARE_SET_AND_CLEARED: [Act; 20] = [
@@ -457,8 +467,8 @@ static REQUESTS_ARE_SET_AND_CLEARED: [Act; 20] = [
 ];
 
 #[test]
-fn requests_are_set_and_cleared(rt: HostRuntime) -> Result<(), Fail> {
-    goes_as_told(&rt, rt.alloc(), 1, &REQUESTS_ARE_SET_AND_CLEARED)
+fn requests_are_set_and_cleared(rt: HostRuntime) {
+    goes_as_told(&rt, rt.alloc(), 1, &REQUESTS_ARE_SET_AND_CLEARED);
 }
 
 static ENDS_EMPTY_THE_MIRROR: [Act; 25] = [
@@ -494,8 +504,8 @@ static ENDS_EMPTY_THE_MIRROR: [Act; 25] = [
 ];
 
 #[test]
-fn ends_empty_the_mirror(rt: HostRuntime) -> Result<(), Fail> {
-    goes_as_told(&rt, rt.alloc(), 1, &ENDS_EMPTY_THE_MIRROR)
+fn ends_empty_the_mirror(rt: HostRuntime) {
+    goes_as_told(&rt, rt.alloc(), 1, &ENDS_EMPTY_THE_MIRROR);
 }
 
 static AN_EVENT_CROSSES_A_SUSPEND: [Act; 11] = [
@@ -523,8 +533,8 @@ static AN_EVENT_CROSSES_A_SUSPEND: [Act; 11] = [
 
 /// An event that the target reported before it handled a Suspend is read before the reply to it.
 #[test]
-fn an_event_crosses_a_suspend(rt: HostRuntime) -> Result<(), Fail> {
-    goes_as_told(&rt, rt.alloc(), 1, &AN_EVENT_CROSSES_A_SUSPEND)
+fn an_event_crosses_a_suspend(rt: HostRuntime) {
+    goes_as_told(&rt, rt.alloc(), 1, &AN_EVENT_CROSSES_A_SUSPEND);
 }
 
 static A_DEATH_HOLDS_ITS_THREAD: [Act; 11] = [
@@ -547,8 +557,8 @@ static A_DEATH_HOLDS_ITS_THREAD: [Act; 11] = [
 
 /// A thread whose death is reported is suspended by the report; once it is resumed it ends.
 #[test]
-fn a_death_holds_its_thread(rt: HostRuntime) -> Result<(), Fail> {
-    goes_as_told(&rt, rt.alloc(), 1, &A_DEATH_HOLDS_ITS_THREAD)
+fn a_death_holds_its_thread(rt: HostRuntime) {
+    goes_as_told(&rt, rt.alloc(), 1, &A_DEATH_HOLDS_ITS_THREAD);
 }
 
 static REPLIES_REACH_THEIR_TICKETS: [Act; 17] = [
@@ -584,8 +594,8 @@ static REPLIES_REACH_THEIR_TICKETS: [Act; 17] = [
 
 /// Ids go on modulo 2^32 and skip those that wait; replies in any order reach their tickets.
 #[test]
-fn replies_reach_their_tickets(rt: HostRuntime) -> Result<(), Fail> {
-    goes_as_told(&rt, rt.alloc(), 4294967294, &REPLIES_REACH_THEIR_TICKETS)
+fn replies_reach_their_tickets(rt: HostRuntime) {
+    goes_as_told(&rt, rt.alloc(), 4294967294, &REPLIES_REACH_THEIR_TICKETS);
 }
 
 static FAULTS_BEFORE_THE_WIDTHS_ARE_KNOWN: [Act; 27] = [
@@ -624,8 +634,8 @@ static FAULTS_BEFORE_THE_WIDTHS_ARE_KNOWN: [Act; 27] = [
 
 /// What is refused before the widths of ids are known.
 #[test]
-fn faults_before_the_widths_are_known(rt: HostRuntime) -> Result<(), Fail> {
-    goes_as_told(&rt, rt.alloc(), 1, &FAULTS_BEFORE_THE_WIDTHS_ARE_KNOWN)
+fn faults_before_the_widths_are_known(rt: HostRuntime) {
+    goes_as_told(&rt, rt.alloc(), 1, &FAULTS_BEFORE_THE_WIDTHS_ARE_KNOWN);
 }
 
 /// What a target sends once the widths are known, and the number of the fault that it is.
@@ -655,12 +665,7 @@ static FAULTY: [(&str, u16); 12] = [
 ];
 
 /// The session that comes to these bytes ends with this fault; the ticket waits for the loss.
-fn fails_with(
-    rt: &impl Abort,
-    alloc: Global,
-    input: &'static str,
-    number: u16,
-) -> Result<(), Fail> {
+fn fails_with(rt: &impl Abort, alloc: Global, input: &'static str, number: u16) {
     let acts = [
         Act::Attaches(true),
         Act::Reads(HELLO, Tells::Hello, &[]),
@@ -678,15 +683,14 @@ fn fails_with(
         Act::Waits(&[1]),
         Act::Loses(&[1]),
     ];
-    goes_as_told(rt, alloc, 1, &acts)
+    goes_as_told(rt, alloc, 1, &acts);
 }
 
 #[test]
-fn faults_once_the_widths_are_known(rt: HostRuntime) -> Result<(), Fail> {
+fn faults_once_the_widths_are_known(rt: HostRuntime) {
     for &(input, number) in FAULTY.iter() {
-        fails_with(&rt, rt.alloc(), input, number)?;
+        fails_with(&rt, rt.alloc(), input, number);
     }
-    Ok(())
 }
 
 /// How many turns tell something as these bytes come in two pieces, of which the first has so many. At most 16 turns are made behind each.
@@ -706,9 +710,9 @@ fn turns_in_pieces(alloc: Global, debugger: &mut Debugger, bytes: &[u8], first: 
 }
 
 /// How many turns tell something as the bytes of these digits come in two pieces.
-fn turns(alloc: Global, debugger: &mut Debugger, hex: &str, first: usize) -> Result<u32, Fail> {
-    let bytes = bytes(alloc, hex)?;
-    Ok(turns_in_pieces(alloc, debugger, &bytes, first))
+fn turns(rt: &impl Abort, alloc: Global, debugger: &mut Debugger, hex: &str, first: usize) -> u32 {
+    let bytes = bytes(alloc, hex).expect(rt, "memory");
+    turns_in_pieces(alloc, debugger, &bytes, first)
 }
 
 /// The handshake, VM_START and the reply to IDSizes.
@@ -720,27 +724,27 @@ const OPENING: &str = "4a4457502d48616e647368616b65
 const REPLIES: &str = "0000000b 00000002 80 0000 0000000f 00000003 80 0000 00000001";
 
 /// Whether a session goes as it is to go, where what comes is cut behind so many bytes.
-fn goes_in_pieces(alloc: Global, debugger: &mut Debugger, first: usize) -> Result<bool, Fail> {
+fn goes_in_pieces(rt: &impl Abort, alloc: Global, debugger: &mut Debugger, first: usize) -> bool {
     debugger.attach();
-    if turns(alloc, debugger, OPENING, first)? != 3 {
-        return Ok(false);
+    if turns(rt, alloc, debugger, OPENING, first) != 3 {
+        return false;
     }
-    let asks = is_asked(alloc, debugger, Wanted::Plain(1, 8), 1)?
-        && is_asked(alloc, debugger, Wanted::OfThread(12, 1), 2)?;
-    let answered = turns(alloc, debugger, REPLIES, first)?;
-    Ok(asks && answered == 2 && are_known(debugger.mirror().known(), &[(1, 1, true)]))
+    let asks = is_asked(rt, alloc, debugger, Wanted::Plain(1, 8), 1)
+        && is_asked(rt, alloc, debugger, Wanted::OfThread(12, 1), 2);
+    let answered = turns(rt, alloc, debugger, REPLIES, first);
+    asks && answered == 2 && are_known(debugger.mirror().known(), &[(1, 1, true)])
 }
 
 /// The same of a new debugger.
-fn goes_in_pieces_from_new(alloc: Global, first: usize) -> Result<bool, Fail> {
-    let mut debugger = Debugger::new(alloc)?;
-    goes_in_pieces(alloc, &mut debugger, first)
+fn goes_in_pieces_from_new(rt: &impl Abort, alloc: Global, first: usize) -> bool {
+    let mut debugger = Debugger::new(alloc).expect(rt, "memory");
+    goes_in_pieces(rt, alloc, &mut debugger, first)
 }
 
 #[test]
-fn a_session_cut_anywhere(rt: HostRuntime) -> Result<(), Fail> {
+fn a_session_cut_anywhere(rt: HostRuntime) {
     for first in 0..75usize {
-        expect_same(&rt, &goes_in_pieces_from_new(rt.alloc(), first)?, &true);
+        let goes = goes_in_pieces_from_new(&rt, rt.alloc(), first);
+        expect_same(&rt, &goes, &true);
     }
-    Ok(())
 }

@@ -7,7 +7,6 @@ use jdwp_layout::{Datum, Scalar};
 use jdwp_value::ObjectId;
 use std::alloc::Global;
 use std::process::Abort;
-use std::test::Fail;
 
 /// What a debugger made of what came.
 #[derive(Clone, Copy)]
@@ -21,17 +20,22 @@ struct Course {
 }
 
 /// Suspend, SuspendCount of thread 1 and Dispose are asked; the ticket of the first.
-fn ask_all(alloc: Global, debugger: &mut Debugger) -> Result<u64, Fail> {
-    let thread = vec![in alloc; Datum::One(Scalar::ObjectId(ObjectId(1)))]?;
-    let first = debugger.ask(alloc, Command::new(1, 8, Vec::new(alloc)))?;
-    debugger.ask(alloc, Command::new(11, 12, thread))?;
-    debugger.ask(alloc, Command::new(1, 6, Vec::new(alloc)))?;
-    Ok(first.0)
+fn ask_all(rt: &impl Abort, alloc: Global, debugger: &mut Debugger) -> u64 {
+    let suspend = Command::new(1, 8, Vec::new(alloc));
+    let first = debugger.ask(alloc, suspend).expect(rt, "Suspend is asked");
+    let thread = vec![in alloc; Datum::One(Scalar::ObjectId(ObjectId(1)))].expect(rt, "memory");
+    let count = Command::new(11, 12, thread);
+    debugger
+        .ask(alloc, count)
+        .expect(rt, "SuspendCount is asked");
+    let dispose = Command::new(1, 6, Vec::new(alloc));
+    debugger.ask(alloc, dispose).expect(rt, "Dispose is asked");
+    first.0
 }
 
 /// Begins a session to which these bytes come, asks once the widths of ids are known, and turns until nothing is left to read or a turn
 /// fails, 32 times at most.
-fn handled(alloc: Global, debugger: &mut Debugger, input: &[u8]) -> Result<Course, Fail> {
+fn handled(rt: &impl Abort, alloc: Global, debugger: &mut Debugger, input: &[u8]) -> Course {
     let mut all = Course {
         messages: 0,
         fault: None,
@@ -44,7 +48,7 @@ fn handled(alloc: Global, debugger: &mut Debugger, input: &[u8]) -> Result<Cours
         match debugger.turn(alloc) {
             Ok(Read::Nothing) => break,
             Ok(Read::Sizes(_)) => {
-                all.first = ask_all(alloc, debugger)?;
+                all.first = ask_all(rt, alloc, debugger);
             }
             Ok(_) => {}
             Err(fault) => {
@@ -54,7 +58,7 @@ fn handled(alloc: Global, debugger: &mut Debugger, input: &[u8]) -> Result<Cours
         }
         all.messages = all.messages.saturating_add(1);
     }
-    Ok(all)
+    all
 }
 
 /// How many bytes wait to leave once so many messages were read: the handshake, IDSizes and the three commands.
@@ -120,46 +124,46 @@ fn has_come(debugger: &mut Debugger, place: usize, value: u8, all: &Course) -> b
 }
 
 /// Whether this comes of a change; the connection is lost then.
-fn comes(alloc: Global, debugger: &mut Debugger, place: usize, value: u8) -> Result<bool, Fail> {
+fn comes(rt: &impl Abort, alloc: Global, debugger: &mut Debugger, place: usize, value: u8) -> bool {
     let mut input = ANSWERED;
     input[place.min(110)] = value;
-    let all = handled(alloc, debugger, &input)?;
+    let all = handled(rt, alloc, debugger, &input);
     let has = has_come(debugger, place, value, &all);
     debugger.lose();
-    Ok(has && is_closed(debugger))
+    has && is_closed(debugger)
 }
 
 /// The first change, as a place and a value, of which something else comes.
-fn first_wrong(alloc: Global, debugger: &mut Debugger) -> Result<Option<(usize, u8)>, Fail> {
+fn first_wrong(rt: &impl Abort, alloc: Global, debugger: &mut Debugger) -> Option<(usize, u8)> {
     for (place, byte) in ANSWERED.iter().enumerate() {
         for value in 0..=255u8 {
-            if value != *byte && !comes(alloc, debugger, place, value)? {
-                return Ok(Some((place, value)));
+            if value != *byte && !comes(rt, alloc, debugger, place, value) {
+                return Some((place, value));
             }
         }
     }
-    Ok(None)
+    None
 }
 
 /// Whether the undisturbed session is read and closed, and what is sent in it is as recorded.
-fn is_undisturbed(alloc: Global, debugger: &mut Debugger) -> Result<bool, Fail> {
-    let all = handled(alloc, debugger, &ANSWERED)?;
+fn is_undisturbed(rt: &impl Abort, alloc: Global, debugger: &mut Debugger) -> bool {
+    let all = handled(rt, alloc, debugger, &ANSWERED);
     let mut sent = [0; 67];
     let count = debugger.take(&mut sent);
     let is = all.fault.is_none() && all.messages == 6 && !debugger.is_open();
-    Ok(is && &sent[..count] == ASKED.as_slice() && debugger.lose().as_slice().is_empty())
+    is && &sent[..count] == ASKED.as_slice() && debugger.lose().as_slice().is_empty()
 }
 
-fn survives(rt: &impl Abort, alloc: Global) -> Result<(), Fail> {
-    let mut debugger = Debugger::new(alloc)?;
-    expect_same(rt, &is_undisturbed(alloc, &mut debugger)?, &true);
-    expect_same(rt, &first_wrong(alloc, &mut debugger)?, &None);
-    expect_same(rt, &is_undisturbed(alloc, &mut debugger)?, &true);
-    Ok(())
+/// Each change comes to what it is to come to, between two undisturbed sessions.
+fn survives(rt: &impl Abort, alloc: Global) {
+    let mut debugger = Debugger::new(alloc).expect(rt, "memory");
+    expect_same(rt, &is_undisturbed(rt, alloc, &mut debugger), &true);
+    expect_same(rt, &first_wrong(rt, alloc, &mut debugger), &None);
+    expect_same(rt, &is_undisturbed(rt, alloc, &mut debugger), &true);
 }
 
 /// 28,305 sessions between two undisturbed ones.
 #[test]
-fn each_byte_changed_to_each_other(rt: HostRuntime) -> Result<(), Fail> {
-    survives(&rt, rt.alloc())
+fn each_byte_changed_to_each_other(rt: HostRuntime) {
+    survives(&rt, rt.alloc());
 }

@@ -7,7 +7,6 @@ use jdwp_value::ObjectId;
 use jdwp_wire::FrameFault;
 use std::alloc::Global;
 use std::process::Abort;
-use std::test::Fail;
 
 /// The reply to IDSizes, ids 8 bytes wide.
 const SIZES: &str = "0000001f 00000001 80 0000 00000008 00000008 00000008 00000008 00000008";
@@ -100,13 +99,19 @@ static LATE: [Row; 7] = [
 ];
 
 /// Whether a turn reads these bytes, and tells this.
-fn reads(alloc: Global, debugger: &mut Debugger, input: &str, told: Tells) -> Result<bool, Fail> {
-    debugger.feed(&bytes(alloc, input)?);
-    Ok(match debugger.turn(alloc) {
+fn reads(
+    rt: &impl Abort,
+    alloc: Global,
+    debugger: &mut Debugger,
+    input: &str,
+    told: Tells,
+) -> bool {
+    debugger.feed(&bytes(alloc, input).expect(rt, "memory"));
+    match debugger.turn(alloc) {
         Ok(Read::Parked) => told == Tells::Parked,
         Ok(Read::Seen(_)) => told == Tells::Seen,
         _ => false,
-    })
+    }
 }
 
 /// Begins a session, up to the target's handshake.
@@ -118,14 +123,19 @@ fn greets(alloc: Global, debugger: &mut Debugger) -> bool {
 }
 
 /// Reads the widths of ids, and asks the three commands, the first of them under this ticket.
-fn measures(alloc: Global, debugger: &mut Debugger, first: u64) -> Result<bool, Fail> {
-    debugger.feed(&bytes(alloc, SIZES)?);
+fn measures(rt: &impl Abort, alloc: Global, debugger: &mut Debugger, first: u64) -> bool {
+    debugger.feed(&bytes(alloc, SIZES).expect(rt, "memory"));
     let is_measured = matches!(debugger.turn(alloc), Ok(Read::Sizes(_)));
-    let thread = vec![in alloc; Datum::One(Scalar::ObjectId(ObjectId(1)))]?;
-    let ticket = debugger.ask(alloc, Command::new(11, 12, thread))?;
-    debugger.ask(alloc, Command::new(1, 8, Vec::new(alloc)))?;
-    debugger.ask(alloc, Command::new(1, 9, Vec::new(alloc)))?;
-    Ok(is_measured && ticket == Ticket(first))
+    let thread = vec![in alloc; Datum::One(Scalar::ObjectId(ObjectId(1)))].expect(rt, "memory");
+    let count = Command::new(11, 12, thread);
+    let ticket = debugger
+        .ask(alloc, count)
+        .expect(rt, "SuspendCount is asked");
+    let suspend = Command::new(1, 8, Vec::new(alloc));
+    debugger.ask(alloc, suspend).expect(rt, "Suspend is asked");
+    let resume = Command::new(1, 9, Vec::new(alloc));
+    debugger.ask(alloc, resume).expect(rt, "Resume is asked");
+    is_measured && ticket == Ticket(first)
 }
 
 /// Whether the session is closed, the mirror empty, and no byte taken; the tickets are lost in the order asked.
@@ -142,67 +152,74 @@ fn is_left(debugger: &mut Debugger, lost: &[Ticket]) -> bool {
 
 /// Whether a packet is refused with this fault, and the session left so.
 fn refuses(
+    rt: &impl Abort,
     alloc: Global,
     debugger: &mut Debugger,
     row: &Row,
     lost: &[Ticket],
-) -> Result<bool, Fail> {
-    debugger.feed(&bytes(alloc, row.refused)?);
+) -> bool {
+    debugger.feed(&bytes(alloc, row.refused).expect(rt, "memory"));
     let is_refused = debugger.turn(alloc).err() == Some(row.fault);
-    Ok(is_refused && debugger.last().is_empty() && is_left(debugger, lost))
+    is_refused && debugger.last().is_empty() && is_left(debugger, lost)
 }
 
 /// Whether what is read tells what the row says, and then a packet is refused.
-fn goes(alloc: Global, debugger: &mut Debugger, row: &Row, lost: &[Ticket]) -> Result<bool, Fail> {
+fn goes(
+    rt: &impl Abort,
+    alloc: Global,
+    debugger: &mut Debugger,
+    row: &Row,
+    lost: &[Ticket],
+) -> bool {
     for (input, told) in row.read.iter() {
-        if !reads(alloc, debugger, input, *told)? {
-            return Ok(false);
+        if !reads(rt, alloc, debugger, input, *told) {
+            return false;
         }
     }
-    refuses(alloc, debugger, row, lost)
+    refuses(rt, alloc, debugger, row, lost)
 }
 
 /// The same in a session in which the widths of ids are not known.
-fn goes_early(alloc: Global, debugger: &mut Debugger, row: &Row) -> Result<bool, Fail> {
-    Ok(greets(alloc, debugger) && goes(alloc, debugger, row, &[])?)
+fn goes_early(rt: &impl Abort, alloc: Global, debugger: &mut Debugger, row: &Row) -> bool {
+    greets(alloc, debugger) && goes(rt, alloc, debugger, row, &[])
 }
 
 /// The same in one in which they are. Its commands have the tickets from this one on.
-fn goes_late(alloc: Global, debugger: &mut Debugger, row: &Row, first: u64) -> Result<bool, Fail> {
+fn goes_late(
+    rt: &impl Abort,
+    alloc: Global,
+    debugger: &mut Debugger,
+    row: &Row,
+    first: u64,
+) -> bool {
     let tickets = [
         Ticket(first),
         Ticket(first.saturating_add(1)),
         Ticket(first.saturating_add(2)),
     ];
-    Ok(
-        greets(alloc, debugger)
-            && measures(alloc, debugger, first)?
-            && goes(alloc, debugger, row, &tickets)?,
-    )
+    greets(alloc, debugger)
+        && measures(rt, alloc, debugger, first)
+        && goes(rt, alloc, debugger, row, &tickets)
 }
 
 /// Each row, in sessions of one debugger.
-fn all_go(rt: &impl Abort, alloc: Global) -> Result<(), Fail> {
-    let mut debugger = Debugger::new(alloc)?;
+fn all_go(rt: &impl Abort, alloc: Global) {
+    let mut debugger = Debugger::new(alloc).expect(rt, "memory");
     for row in EARLY.iter() {
-        expect_same_for(rt, &goes_early(alloc, &mut debugger, row)?, &true, row);
+        let is = goes_early(rt, alloc, &mut debugger, row);
+        expect_same_for(rt, &is, &true, row);
     }
     let mut first = 1u64;
     for row in LATE.iter() {
-        expect_same_for(
-            rt,
-            &goes_late(alloc, &mut debugger, row, first)?,
-            &true,
-            row,
-        );
+        let is = goes_late(rt, alloc, &mut debugger, row, first);
+        expect_same_for(rt, &is, &true, row);
         first = first.saturating_add(3);
     }
-    Ok(())
 }
 
 #[test]
-fn what_no_target_may_send(rt: HostRuntime) -> Result<(), Fail> {
-    all_go(&rt, rt.alloc())
+fn what_no_target_may_send(rt: HostRuntime) {
+    all_go(&rt, rt.alloc());
 }
 
 /// The number of each fault, and that of a fault of the bytes.
@@ -238,16 +255,16 @@ fn taken_behind(debugger: &mut Debugger, count: usize) -> usize {
     debugger.feed(&[0, 0])
 }
 
-fn rooms_are_so(rt: &impl Abort, alloc: Global) -> Result<(), Fail> {
-    let mut debugger = Debugger::new(alloc)?;
+/// The same of each row, in sessions of one debugger.
+fn rooms_are_so(rt: &impl Abort, alloc: Global) {
+    let mut debugger = Debugger::new(alloc).expect(rt, "memory");
     for &(count, want) in ROOMS.iter() {
         expect_same_for(rt, &taken_behind(&mut debugger, count), &want, &count);
     }
-    Ok(())
 }
 
 /// The inbox has room for 65,536 bytes.
 #[test]
-fn as_many_bytes_as_fit(rt: HostRuntime) -> Result<(), Fail> {
-    rooms_are_so(&rt, rt.alloc())
+fn as_many_bytes_as_fit(rt: HostRuntime) {
+    rooms_are_so(&rt, rt.alloc());
 }

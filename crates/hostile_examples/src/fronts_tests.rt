@@ -5,7 +5,6 @@ use jdwp_layout::{Field, Item, Layout, layout_of, read};
 use jdwp_wire::{DataFault, IdSizes};
 use std::alloc::Global;
 use std::process::Abort;
-use std::test::Fail;
 
 /// Whose data they are.
 #[derive(Clone, Copy, Debug)]
@@ -29,23 +28,24 @@ static REGION: [Item; 1] = [Item::Region];
 static LOCATION: [Item; 1] = [Item::One(Field::Location)];
 
 /// The layout of a command's data, or of its reply's.
-fn layout_in_row(set: u8, number: u8, is_reply: bool) -> Result<Layout, Fail> {
-    let row = layout_of(set, number).ok_or("no row")?;
-    let layouts = row.layouts.ok_or("a raw row")?;
-    Ok(if is_reply {
+fn layout_in_row(rt: &impl Abort, set: u8, number: u8, is_reply: bool) -> Layout {
+    let row = layout_of(set, number).expect(rt, "a row");
+    let layouts = row.layouts.expect(rt, "layouts in the row");
+    if is_reply {
         layouts.reply
     } else {
         layouts.request
-    })
+    }
 }
 
-fn layout(of: Of) -> Result<Layout, Fail> {
+/// The layout of these data.
+fn layout(rt: &impl Abort, of: Of) -> Layout {
     match of {
-        Of::Command(set, number) => layout_in_row(set, number, false),
-        Of::Reply(set, number) => layout_in_row(set, number, true),
-        Of::Value => Ok(Layout { items: &VALUE }),
-        Of::Region => Ok(Layout { items: &REGION }),
-        Of::Location => Ok(Layout { items: &LOCATION }),
+        Of::Command(set, number) => layout_in_row(rt, set, number, false),
+        Of::Reply(set, number) => layout_in_row(rt, set, number, true),
+        Of::Value => Layout { items: &VALUE },
+        Of::Region => Layout { items: &REGION },
+        Of::Location => Layout { items: &LOCATION },
     }
 }
 
@@ -254,54 +254,52 @@ fn is_short_at_each_front(
 }
 
 /// The same of a row.
-fn is_short(rt: &impl Abort, alloc: Global, vector: &Vector) -> Result<(), Fail> {
+fn is_short(rt: &impl Abort, alloc: Global, vector: &Vector) {
     let (of, width, hex) = *vector;
-    let sizes = IdSizes::new(width, width, width, width, width)?;
-    let data = bytes(alloc, hex)?;
+    let sizes = IdSizes::new(width, width, width, width, width).expect(rt, "widths of ids");
+    let data = bytes(alloc, hex).expect(rt, "memory");
     expect_same_for(rt, &data.is_empty(), &false, &of);
-    is_short_at_each_front(rt, alloc, &layout(of)?, &sizes, &data);
-    Ok(())
+    is_short_at_each_front(rt, alloc, &layout(rt, of), &sizes, &data);
 }
 
-fn are_short(rt: &impl Abort, alloc: Global, vectors: &[Vector]) -> Result<(), Fail> {
+/// The same of each row.
+fn are_short(rt: &impl Abort, alloc: Global, vectors: &[Vector]) {
     for vector in vectors {
-        is_short(rt, alloc, vector)?;
+        is_short(rt, alloc, vector);
     }
-    Ok(())
 }
 
 #[test]
-fn commands_cut_short(rt: HostRuntime) -> Result<(), Fail> {
-    are_short(&rt, rt.alloc(), &COMMANDS)
+fn commands_cut_short(rt: HostRuntime) {
+    are_short(&rt, rt.alloc(), &COMMANDS);
 }
 
 #[test]
-fn replies_cut_short(rt: HostRuntime) -> Result<(), Fail> {
-    are_short(&rt, rt.alloc(), &REPLIES)
+fn replies_cut_short(rt: HostRuntime) {
+    are_short(&rt, rt.alloc(), &REPLIES);
 }
 
 #[test]
-fn composites_and_values_cut_short(rt: HostRuntime) -> Result<(), Fail> {
-    are_short(&rt, rt.alloc(), &OTHERS)
+fn composites_and_values_cut_short(rt: HostRuntime) {
+    are_short(&rt, rt.alloc(), &OTHERS);
 }
 
 /// A signature of 65,521 bytes.
-fn longest_signature(alloc: Global) -> Result<Vec<u8>, Fail> {
-    let mut data = bytes(alloc, "0000fff1")?;
+fn longest_signature(rt: &impl Abort, alloc: Global) -> Vec<u8> {
+    let mut data = bytes(alloc, "0000fff1").expect(rt, "memory");
     for _ in 0..65_521u32 {
-        data.push(b'x')?;
+        data.push(b'x').expect(rt, "memory");
     }
-    Ok(data)
+    data
 }
 
 /// The data of the longest packet, at each of their 65,525 fronts.
 #[test]
-fn the_longest_command_cut_short(rt: HostRuntime) -> Result<(), Fail> {
-    let data = longest_signature(rt.alloc())?;
-    let sizes = IdSizes::new(8, 8, 8, 8, 8)?;
-    let layout = layout_in_row(1, 2, false)?;
+fn the_longest_command_cut_short(rt: HostRuntime) {
+    let data = longest_signature(&rt, rt.alloc());
+    let sizes = IdSizes::new(8, 8, 8, 8, 8).expect(&rt, "widths of ids");
+    let layout = layout_in_row(&rt, 1, 2, false);
     is_short_at_each_front(&rt, rt.alloc(), &layout, &sizes, &data);
-    Ok(())
 }
 
 /// It has the number 11.

@@ -4,7 +4,6 @@ use example_parts::MACHINE_A;
 use jdwp_script::{Member, Script, ScriptFault};
 use std::alloc::Global;
 use std::process::Abort;
-use std::test::Fail;
 
 /// Pieces: a front, one that stands so many times, a middle, another that stands as often, and a back.
 type Pieces = (
@@ -16,34 +15,36 @@ type Pieces = (
     &'static str,
 );
 
-fn push_all(text: &mut String, pieces: &Pieces) -> Result<(), Fail> {
+/// Appends a piece, so many times.
+fn push_times(rt: &impl Abort, alloc: Global, text: &mut String, piece: &str, count: usize) {
+    let all = piece.repeat(alloc, count).expect(rt, "memory");
+    text.push_str(all.as_str()).expect(rt, "memory");
+}
+
+/// Appends all pieces.
+fn push_all(rt: &impl Abort, alloc: Global, text: &mut String, pieces: &Pieces) {
     let (front, piece, count, middle, other, back) = *pieces;
-    text.push_str(front)?;
-    for _ in 0..count {
-        text.push_str(piece)?;
-    }
-    text.push_str(middle)?;
-    for _ in 0..count {
-        text.push_str(other)?;
-    }
-    text.push_str(back)?;
-    Ok(())
+    text.push_str(front).expect(rt, "memory");
+    push_times(rt, alloc, text, piece, count);
+    text.push_str(middle).expect(rt, "memory");
+    push_times(rt, alloc, text, other, count);
+    text.push_str(back).expect(rt, "memory");
 }
 
 /// What a script is that says this alone.
-fn fault(alloc: Global, pieces: &Pieces) -> Result<Option<ScriptFault>, Fail> {
+fn fault(rt: &impl Abort, alloc: Global, pieces: &Pieces) -> Option<ScriptFault> {
     let mut text = String::new(alloc);
-    push_all(&mut text, pieces)?;
-    Ok(Script::read(alloc, text.as_str()).err())
+    push_all(rt, alloc, &mut text, pieces);
+    Script::read(alloc, text.as_str()).err()
 }
 
 /// What machine A is with these in place of the first `old`.
-fn fault_in(alloc: Global, old: &str, pieces: &Pieces) -> Result<Option<ScriptFault>, Fail> {
-    let (front, back) = MACHINE_A.split_once(old).ok_or("the text is not there")?;
-    let mut text = String::from_str(alloc, front)?;
-    push_all(&mut text, pieces)?;
-    text.push_str(back)?;
-    Ok(Script::read(alloc, text.as_str()).err())
+fn fault_in(rt: &impl Abort, alloc: Global, old: &str, pieces: &Pieces) -> Option<ScriptFault> {
+    let (front, back) = MACHINE_A.split_once(old).expect(rt, "the text is there");
+    let mut text = String::from_str(alloc, front).expect(rt, "memory");
+    push_all(rt, alloc, &mut text, pieces);
+    text.push_str(back).expect(rt, "memory");
+    Script::read(alloc, text.as_str()).err()
 }
 
 const NO_JSON: Option<ScriptFault> = Some(ScriptFault::NotJson);
@@ -61,22 +62,22 @@ static DEEP: [Pieces; 6] = [
 ];
 
 #[test]
-fn nested_a_million_times(rt: HostRuntime) -> Result<(), Fail> {
+fn nested_a_million_times(rt: HostRuntime) {
     for pieces in DEEP.iter() {
-        expect_same_for(&rt, &fault(rt.alloc(), pieces)?, &NO_JSON, pieces);
+        let found = fault(&rt, rt.alloc(), pieces);
+        expect_same_for(&rt, &found, &NO_JSON, pieces);
     }
-    Ok(())
 }
 
 /// What gives way in machine A, what comes for it, and the outcome.
 type Edit = (&'static str, Pieces, Option<ScriptFault>);
 
-fn are_outcomes(rt: &impl Abort, alloc: Global, edits: &[Edit]) -> Result<(), Fail> {
+/// Each edit has its outcome.
+fn are_outcomes(rt: &impl Abort, alloc: Global, edits: &[Edit]) {
     for (old, pieces, wanted) in edits {
-        let found = fault_in(alloc, old, pieces)?;
+        let found = fault_in(rt, alloc, old, pieces);
         expect_same_for(rt, &found, wanted, &(old, pieces));
     }
-    Ok(())
 }
 
 /// A member that is no script's, nested as deep as the whole may be, 127, and deeper.
@@ -99,8 +100,8 @@ static NESTED: [Edit; 3] = [
 ];
 
 #[test]
-fn a_member_that_is_deep(rt: HostRuntime) -> Result<(), Fail> {
-    are_outcomes(&rt, rt.alloc(), &NESTED)
+fn a_member_that_is_deep(rt: HostRuntime) {
+    are_outcomes(&rt, rt.alloc(), &NESTED);
 }
 
 /// Numbers of a million digits.
@@ -133,8 +134,8 @@ static LONG_NUMBERS: [Edit; 5] = [
 ];
 
 #[test]
-fn numbers_of_a_million_digits(rt: HostRuntime) -> Result<(), Fail> {
-    are_outcomes(&rt, rt.alloc(), &LONG_NUMBERS)
+fn numbers_of_a_million_digits(rt: HostRuntime) {
+    are_outcomes(&rt, rt.alloc(), &LONG_NUMBERS);
 }
 
 /// Texts of 65,000 bytes and more.
@@ -172,8 +173,8 @@ static LONG_TEXTS: [Edit; 6] = [
 ];
 
 #[test]
-fn texts_of_many_bytes(rt: HostRuntime) -> Result<(), Fail> {
-    are_outcomes(&rt, rt.alloc(), &LONG_TEXTS)
+fn texts_of_many_bytes(rt: HostRuntime) {
+    are_outcomes(&rt, rt.alloc(), &LONG_TEXTS);
 }
 
 /// Lists and objects of very many parts.
@@ -206,6 +207,6 @@ static WIDE: [Edit; 5] = [
 ];
 
 #[test]
-fn lists_of_very_many(rt: HostRuntime) -> Result<(), Fail> {
-    are_outcomes(&rt, rt.alloc(), &WIDE)
+fn lists_of_very_many(rt: HostRuntime) {
+    are_outcomes(&rt, rt.alloc(), &WIDE);
 }

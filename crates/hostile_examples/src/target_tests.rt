@@ -7,7 +7,6 @@ use jdwp_value::ObjectId;
 use jdwp_wire::{ErrorCode, FrameFault};
 use std::alloc::Global;
 use std::process::Abort;
-use std::test::Fail;
 
 /// Bytes that begin no packet, and why.
 static FAULTS: [(&str, FrameFault); 17] = [
@@ -63,26 +62,24 @@ fn is_refused(
     alloc: Global,
     target: &mut Target,
     row: &(&'static str, FrameFault),
-) -> Result<(), Fail> {
-    let beginning = bytes(alloc, BEGINNING)?;
-    let input = bytes(alloc, row.0)?;
+) {
+    let beginning = bytes(alloc, BEGINNING).expect(rt, "memory");
+    let input = bytes(alloc, row.0).expect(rt, "memory");
     let is = begins(target, &beginning) && fails(target, &input, row.1);
     expect_same_for(rt, &is, &true, row);
-    Ok(())
 }
 
 /// The same of each row, in sessions of one target.
-fn are_refused(rt: &impl Abort, alloc: Global) -> Result<(), Fail> {
-    let mut target = target(alloc)?;
+fn are_refused(rt: &impl Abort, alloc: Global) {
+    let mut target = target(rt, alloc);
     for row in FAULTS.iter() {
-        is_refused(rt, alloc, &mut target, row)?;
+        is_refused(rt, alloc, &mut target, row);
     }
-    Ok(())
 }
 
 #[test]
-fn bytes_that_begin_no_packet(rt: HostRuntime) -> Result<(), Fail> {
-    are_refused(&rt, rt.alloc())
+fn bytes_that_begin_no_packet(rt: HostRuntime) {
+    are_refused(&rt, rt.alloc());
 }
 
 /// What a debugger sends behind a beginning, what the turn tells, and how many bytes it is answered.
@@ -125,22 +122,23 @@ fn changes_nothing(target: &mut Target, input: &[u8], told: Turn, answered: usiz
         && target.requests().len() == 1
 }
 
-fn all_change_nothing(rt: &impl Abort, alloc: Global) -> Result<(), Fail> {
-    let mut target = target(alloc)?;
-    let is = begins(&mut target, &bytes(alloc, BEGINNING)?);
+/// The same of each row, one behind another in a session.
+fn all_change_nothing(rt: &impl Abort, alloc: Global) {
+    let mut target = target(rt, alloc);
+    let beginning = bytes(alloc, BEGINNING).expect(rt, "memory");
+    let is = begins(&mut target, &beginning);
     expect_same_for(rt, &is, &true, &"the beginning");
     for &(hex, told, answered) in PACKETS.iter() {
-        let input = bytes(alloc, hex)?;
+        let input = bytes(alloc, hex).expect(rt, "memory");
         let is = changes_nothing(&mut target, &input, told, answered);
         expect_same_for(rt, &is, &true, &hex);
     }
-    Ok(())
 }
 
 /// Replies are ignored, and commands that there are not, and data that do not read, are answered.
 #[test]
-fn packets_that_change_nothing(rt: HostRuntime) -> Result<(), Fail> {
-    all_change_nothing(&rt, rt.alloc())
+fn packets_that_change_nothing(rt: HostRuntime) {
+    all_change_nothing(&rt, rt.alloc());
 }
 
 /// How many bytes were fed, and how many more are taken of two.
@@ -159,18 +157,18 @@ fn taken_behind(target: &mut Target, count: usize) -> usize {
     target.feed(&[0, 0])
 }
 
-fn rooms_are_so(rt: &impl Abort, alloc: Global) -> Result<(), Fail> {
-    let mut target = target(alloc)?;
+/// The same of each row, in sessions of one target.
+fn rooms_are_so(rt: &impl Abort, alloc: Global) {
+    let mut target = target(rt, alloc);
     for &(count, want) in ROOMS.iter() {
         expect_same_for(rt, &taken_behind(&mut target, count), &want, &count);
     }
-    Ok(())
 }
 
 /// The inbox has room for 65,536 bytes.
 #[test]
-fn as_many_bytes_as_fit(rt: HostRuntime) -> Result<(), Fail> {
-    rooms_are_so(&rt, rt.alloc())
+fn as_many_bytes_as_fit(rt: HostRuntime) {
+    rooms_are_so(&rt, rt.alloc());
 }
 
 /// SuspendCount of thread 1.
@@ -194,17 +192,16 @@ fn stalls_at_the_line(target: &mut Target, count: &[u8]) -> bool {
 }
 
 /// The same of a new target.
-fn stalls(alloc: Global) -> Result<bool, Fail> {
-    let mut target = target(alloc)?;
+fn stalls(rt: &impl Abort, alloc: Global) -> bool {
+    let mut target = target(rt, alloc);
+    let count = bytes(alloc, COUNT).expect(rt, "memory");
     target.accept();
     target.feed(b"JDWP-Handshake");
-    let greets = target.turn() == Ok(Turn::Hello);
-    Ok(greets && stalls_at_the_line(&mut target, &bytes(alloc, COUNT)?))
+    target.turn() == Ok(Turn::Hello) && stalls_at_the_line(&mut target, &count)
 }
 
 /// A debugger that takes nothing is answered until 65,536 bytes wait, and again from 65,535 on.
 #[test]
-fn nothing_is_taken(rt: HostRuntime) -> Result<(), Fail> {
-    expect_same_for(&rt, &stalls(rt.alloc())?, &true, &"stalls");
-    Ok(())
+fn nothing_is_taken(rt: HostRuntime) {
+    expect_same_for(&rt, &stalls(&rt, rt.alloc()), &true, &"stalls");
 }

@@ -4,23 +4,16 @@ use jdwp_script_machine::ScriptMachine;
 use jdwp_target::{TargetFault, TargetOptions, Turn};
 use jdwp_value::ObjectId;
 use std::alloc::Global;
-use std::test::Fail;
+use std::process::Abort;
 
 /// A target over the machine of a script.
 pub(crate) type Target = jdwp_target::Target<ScriptMachine>;
 
 /// A closed target over that machine, no thread of which begins suspended.
-pub(crate) fn target(alloc: Global) -> Result<Target, Fail> {
-    let Some(options) = TargetOptions::new(false, 65_535) else {
-        return Err(Fail::from("the count limit is refused"));
-    };
-    let Ok(machine) = ScriptMachine::read(alloc, MACHINE_A) else {
-        return Err(Fail::from("the script is refused"));
-    };
-    match Target::new(alloc, machine, options) {
-        Ok(target) => Ok(target),
-        Err(_) => Err(Fail::from("no memory")),
-    }
+pub(crate) fn target(rt: &impl Abort, alloc: Global) -> Target {
+    let options = TargetOptions::new(false, 65_535).expect(rt, "a count limit");
+    let machine = ScriptMachine::read(alloc, MACHINE_A).expect(rt, "the script is read");
+    Target::new(alloc, machine, options).expect(rt, "memory")
 }
 
 /// What a target answers to what came.

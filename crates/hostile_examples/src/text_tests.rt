@@ -5,19 +5,18 @@ use jdwp_show::{CaptureFault, Verdict, check, show};
 use jdwp_wire::FrameFault;
 use std::alloc::Global;
 use std::process::Abort;
-use std::test::Fail;
 
 /// A front, a piece, how many of them, and a back.
 type Pieces = (&'static str, &'static str, usize, &'static str);
 
-fn text_of(alloc: Global, pieces: &Pieces) -> Result<String, Fail> {
+/// The text of these pieces.
+fn text_of(rt: &impl Abort, alloc: Global, pieces: &Pieces) -> String {
     let (front, piece, count, back) = *pieces;
-    let mut text = String::from_str(alloc, front)?;
-    for _ in 0..count {
-        text.push_str(piece)?;
-    }
-    text.push_str(back)?;
-    Ok(text)
+    let middle = piece.repeat(alloc, count).expect(rt, "memory");
+    let mut text = String::from_str(alloc, front).expect(rt, "memory");
+    text.push_str(middle.as_str()).expect(rt, "memory");
+    text.push_str(back).expect(rt, "memory");
+    text
 }
 
 /// Captures, the number of the line in which the first fault stands, and the fault.
@@ -48,57 +47,52 @@ static CAPTURES: [(Pieces, usize, CaptureFault); 8] = [
     ),
 ];
 
-fn is_judged(
-    rt: &impl Abort,
-    alloc: Global,
-    row: &(Pieces, usize, CaptureFault),
-) -> Result<(), Fail> {
+/// The capture has the fault of the row, checked and shown.
+fn is_judged(rt: &impl Abort, alloc: Global, row: &(Pieces, usize, CaptureFault)) {
     let (pieces, line, fault) = row;
-    let text = text_of(alloc, pieces)?;
-    let verdict = check(alloc, text.as_str())?;
+    let text = text_of(rt, alloc, pieces);
+    let verdict = check(alloc, text.as_str()).expect(rt, "memory");
     expect_same_for(rt, &verdict, &Verdict::No(*line, *fault), row);
-    let shown = show(alloc, text.as_str())?;
+    let shown = show(alloc, text.as_str()).expect(rt, "memory");
     expect_same_for(rt, &shown.fault, &Some((*line, *fault)), row);
-    Ok(())
 }
 
 #[test]
-fn captures_of_many_digits(rt: HostRuntime) -> Result<(), Fail> {
+fn captures_of_many_digits(rt: HostRuntime) {
     for row in CAPTURES.iter() {
-        is_judged(&rt, rt.alloc(), row)?;
+        is_judged(&rt, rt.alloc(), row);
     }
-    Ok(())
 }
 
 /// The handshakes, and in one line 45,454 commands, none of which is answered: VirtualMachine.Suspend under the ids from 1 on.
-fn commands_in_one_line(alloc: Global) -> Result<String, Fail> {
+fn commands_in_one_line(rt: &impl Abort, alloc: Global) -> String {
     let front = "> 4a4457502d48616e647368616b65\n< 4a4457502d48616e647368616b65\n> ";
-    let mut text = String::from_str(alloc, front)?;
+    let mut text = String::from_str(alloc, front).expect(rt, "memory");
     for id in 1..45_455u32 {
-        write!(text, "0000000b{id:08x}000108")?;
+        write!(text, "0000000b{id:08x}000108").expect(rt, "memory");
     }
-    Ok(text)
+    text
 }
 
 /// The same in words.
-fn commands_in_words(alloc: Global) -> Result<String, Fail> {
-    let mut text = String::from_str(alloc, "> hello\n< hello\n")?;
+fn commands_in_words(rt: &impl Abort, alloc: Global) -> String {
+    let mut text = String::from_str(alloc, "> hello\n< hello\n").expect(rt, "memory");
     for id in 1..45_455u32 {
-        write!(text, "> {id} VirtualMachine.Suspend\n")?;
+        write!(text, "> {id} VirtualMachine.Suspend\n").expect(rt, "memory");
     }
-    Ok(text)
+    text
 }
 
 /// A line of a million digits.
 #[test]
-fn commands_of_a_million_digits(rt: HostRuntime) -> Result<(), Fail> {
-    let text = commands_in_one_line(rt.alloc())?;
-    expect_same(&rt, &check(rt.alloc(), text.as_str())?, &Verdict::Yes);
-    let words = commands_in_words(rt.alloc())?;
-    let shown = show(rt.alloc(), text.as_str())?;
+fn commands_of_a_million_digits(rt: HostRuntime) {
+    let text = commands_in_one_line(&rt, rt.alloc());
+    let verdict = check(rt.alloc(), text.as_str()).expect(&rt, "memory");
+    expect_same(&rt, &verdict, &Verdict::Yes);
+    let words = commands_in_words(&rt, rt.alloc());
+    let shown = show(rt.alloc(), text.as_str()).expect(&rt, "memory");
     expect_same(&rt, &(shown.lines.as_str() == words.as_str()), &true);
     expect_same(&rt, &shown.fault, &None);
-    Ok(())
 }
 
 /// Plans, the number of the first line that is none, and why.
@@ -121,24 +115,19 @@ static PLANS: [(Pieces, usize, LineFault); 8] = [
     (("mirror\n", " ", 1_000_000, ""), 2, LineFault::Spacing),
 ];
 
-fn is_refused(
-    rt: &impl Abort,
-    alloc: Global,
-    row: &(Pieces, usize, LineFault),
-) -> Result<(), Fail> {
+/// The plan is refused as the row says.
+fn is_refused(rt: &impl Abort, alloc: Global, row: &(Pieces, usize, LineFault)) {
     let (pieces, line, fault) = row;
-    let text = text_of(alloc, pieces)?;
+    let text = text_of(rt, alloc, pieces);
     let found = read_plan(alloc, text.as_str()).err();
     expect_same_for(rt, &found, &Some(PlanFault::Line(*line, *fault)), row);
-    Ok(())
 }
 
 #[test]
-fn plans_of_many_lines_that_are_refused(rt: HostRuntime) -> Result<(), Fail> {
+fn plans_of_many_lines_that_are_refused(rt: HostRuntime) {
     for row in PLANS.iter() {
-        is_refused(&rt, rt.alloc(), row)?;
+        is_refused(&rt, rt.alloc(), row);
     }
-    Ok(())
 }
 
 /// How many lines a plan has that say this.
@@ -153,12 +142,11 @@ fn lines_that_say(plan: &[PlanLine], events: u32) -> usize {
 }
 
 #[test]
-fn a_plan_of_many_lines(rt: HostRuntime) -> Result<(), Fail> {
-    let text = text_of(rt.alloc(), &("", "events 7\n", 100_000, "mirror"))?;
-    let plan = read_plan(rt.alloc(), text.as_str())?;
+fn a_plan_of_many_lines(rt: HostRuntime) {
+    let text = text_of(&rt, rt.alloc(), &("", "events 7\n", 100_000, "mirror"));
+    let plan = read_plan(rt.alloc(), text.as_str()).expect(&rt, "the plan is read");
     expect_same(&rt, &plan.len(), &100_001);
     expect_same(&rt, &lines_that_say(&plan, 7), &100_000);
-    Ok(())
 }
 
 /// How many bytes the first line of a plan asks with, and whether all are this.
@@ -170,9 +158,8 @@ fn is_asked_with(plan: &[PlanLine], byte: u8) -> Option<usize> {
 }
 
 #[test]
-fn a_command_of_a_million_digits(rt: HostRuntime) -> Result<(), Fail> {
-    let text = text_of(rt.alloc(), &("ask 1 8 ", "a5", 500_000, ""))?;
-    let plan = read_plan(rt.alloc(), text.as_str())?;
+fn a_command_of_a_million_digits(rt: HostRuntime) {
+    let text = text_of(&rt, rt.alloc(), &("ask 1 8 ", "a5", 500_000, ""));
+    let plan = read_plan(rt.alloc(), text.as_str()).expect(&rt, "the plan is read");
     expect_same(&rt, &is_asked_with(&plan, 0xa5), &Some(500_000));
-    Ok(())
 }

@@ -1,7 +1,5 @@
 //! Runs of the program without files between its ends.
-use crate::tests::{MACHINE, is_refused, is_run, remove};
-use std::fs;
-use std::test::Fail;
+use crate::tests::{MACHINE, is_refused, is_run, remove, write};
 
 /// A breakpoint that suspends all threads, then Resume; and the mirror once it was reached.
 const PLAN: &str = "ask 15 1 0202000000010701000000000000000a00000000000000140000000000000003
@@ -23,14 +21,14 @@ request 1 2 2
 
 /// Over memory and over a connection the same is printed.
 #[test]
-fn both_ends_run_a_plan(rt: HostRuntime) -> Result<(), Fail> {
+fn both_ends_run_a_plan(rt: HostRuntime) {
     let (machine, plan) = ("pair_machine", "pair_plan");
-    fs::write(&rt, machine, MACHINE)?;
-    fs::write(&rt, plan, PLAN)?;
+    write(&rt, machine, MACHINE.as_bytes());
+    write(&rt, plan, PLAN.as_bytes());
     let words = ["pair", machine, plan, "--memory", "--start", "all"];
-    is_run(&rt, &words, 0, PRINTED, "")?;
-    is_run(&rt, &["pair", machine, plan], 0, PRINTED, "")?;
-    remove(&rt, &[machine, plan])
+    is_run(&rt, &words, 0, PRINTED, "");
+    is_run(&rt, &["pair", machine, plan], 0, PRINTED, "");
+    remove(&rt, &[machine, plan]);
 }
 
 /// All threads are suspended; both ends lose the connection; and in the next session nobody is.
@@ -56,15 +54,15 @@ thread 1 0 free
 ";
 
 #[test]
-fn both_ends_begin_anew(rt: HostRuntime) -> Result<(), Fail> {
+fn both_ends_begin_anew(rt: HostRuntime) {
     let (machine, plan) = ("loss_machine", "loss_plan");
-    fs::write(&rt, machine, MACHINE)?;
-    fs::write(&rt, plan, LOSSES)?;
+    write(&rt, machine, MACHINE.as_bytes());
+    write(&rt, plan, LOSSES.as_bytes());
     let words = ["pair", machine, plan, "--start", "none"];
-    is_run(&rt, &words, 0, LOST, "")?;
+    is_run(&rt, &words, 0, LOST, "");
     let words = ["pair", machine, plan, "--start", "none", "--memory"];
-    is_run(&rt, &words, 0, LOST, "")?;
-    remove(&rt, &[machine, plan])
+    is_run(&rt, &words, 0, LOST, "");
+    remove(&rt, &[machine, plan]);
 }
 
 /// The signature and the status of a class are asked, and then which threads there are.
@@ -84,23 +82,23 @@ const DEFERRED: &str = "< hello
 ";
 
 #[test]
-fn a_target_defers_replies(rt: HostRuntime) -> Result<(), Fail> {
+fn a_target_defers_replies(rt: HostRuntime) {
     let (machine, plan) = ("defer_machine", "defer_plan");
-    fs::write(&rt, machine, MACHINE)?;
-    fs::write(&rt, plan, THREE)?;
+    write(&rt, machine, MACHINE.as_bytes());
+    write(&rt, plan, THREE.as_bytes());
     let words = ["pair", machine, plan, "--start", "all", "--defer"];
-    is_run(&rt, &words, 0, DEFERRED, "")?;
+    is_run(&rt, &words, 0, DEFERRED, "");
     let words = ["pair", machine, plan, "--memory", "--defer"];
-    is_run(&rt, &words, 0, DEFERRED, "")?;
-    remove(&rt, &[machine, plan])
+    is_run(&rt, &words, 0, DEFERRED, "");
+    remove(&rt, &[machine, plan]);
 }
 
 /// A command that no target has is told with its line.
 #[test]
-fn a_line_that_is_refused_is_told(rt: HostRuntime) -> Result<(), Fail> {
+fn a_line_that_is_refused_is_told(rt: HostRuntime) {
     let (machine, plan) = ("pair_other_machine", "pair_other_plan");
-    fs::write(&rt, machine, MACHINE)?;
-    fs::write(&rt, plan, "ask 1 8\nanswers\nask 1 99\n")?;
+    write(&rt, machine, MACHINE.as_bytes());
+    write(&rt, plan, b"ask 1 8\nanswers\nask 1 99\n");
     let words = ["pair", machine, plan, "--memory", "--start", "none"];
     let printed = "< hello
 < 1 Event.Composite 0 [(90, 0, #1)]
@@ -109,29 +107,29 @@ fn a_line_that_is_refused_is_told(rt: HostRuntime) -> Result<(), Fail> {
 ";
     let told =
         "jdwp: line 3 of the plan: fault 36: a command that no target has, or data that do not read in its layout\n";
-    is_run(&rt, &words, 1, printed, told)?;
-    remove(&rt, &[machine, plan])
+    is_run(&rt, &words, 1, printed, told);
+    remove(&rt, &[machine, plan]);
 }
 
 /// A script and a plan that are refused are told with their files, the script first.
 #[test]
-fn files_of_both_ends_are_judged(rt: HostRuntime) -> Result<(), Fail> {
+fn files_of_both_ends_are_judged(rt: HostRuntime) {
     let (machine, plan) = ("pair_bad_machine", "pair_bad_plan");
-    fs::write(&rt, machine, "{")?;
-    fs::write(&rt, plan, "asks\n")?;
+    write(&rt, machine, b"{");
+    write(&rt, plan, b"asks\n");
     let words = ["pair", machine, plan, "--memory"];
-    assert!(rt; is_refused(&rt, &words, &["pair_bad_machine: fault 21: "])?);
-    fs::write(&rt, machine, MACHINE)?;
-    assert!(rt; is_refused(&rt, &words, &["pair_bad_plan: line 1 of the plan: "])?);
-    remove(&rt, &[machine, plan])
+    assert!(rt; is_refused(&rt, &words, &["pair_bad_machine: fault 21: "]));
+    write(&rt, machine, MACHINE.as_bytes());
+    assert!(rt; is_refused(&rt, &words, &["pair_bad_plan: line 1 of the plan: "]));
+    remove(&rt, &[machine, plan]);
 }
 
 /// At a port where nobody listens there is no session: the first one is the system's own, which no test takes.
 #[test]
-fn a_port_where_nobody_listens_is_told(rt: HostRuntime) -> Result<(), Fail> {
+fn a_port_where_nobody_listens_is_told(rt: HostRuntime) {
     let plan = "port_plan";
-    fs::write(&rt, plan, "ask 1 8\n")?;
+    write(&rt, plan, b"ask 1 8\n");
     let words = ["attach", plan, "--port", "1"];
-    is_run(&rt, &words, 2, "", "jdwp: port 1: connection refused\n")?;
-    remove(&rt, &[plan])
+    is_run(&rt, &words, 2, "", "jdwp: port 1: connection refused\n");
+    remove(&rt, &[plan]);
 }

@@ -5,7 +5,6 @@ use std::io::{Cursor, ErrorKind, Write};
 use std::net::Net;
 use std::process::Abort;
 use std::rt::Files;
-use std::test::Fail;
 use std::{fs, io};
 
 /// The handshake, IDSizes with id 1, Suspend with id 2, SuspendCount of thread 1 with id 3, Dispose with id 4.
@@ -63,37 +62,37 @@ impl Run {
 }
 
 /// Runs the words, which stand behind the program's name.
-fn run_words<R: Files + Net + AllocGlobal>(rt: &R, words: &[&str]) -> Result<Run, Fail> {
+fn run_words<R: Files + Net + AllocGlobal + Abort>(rt: &R, words: &[&str]) -> Run {
     let mut all = Vec::new(rt.alloc());
-    all.push("jdwp")?;
-    all.extend_from_slice(words)?;
+    all.push("jdwp").expect(rt, "memory");
+    all.extend_from_slice(words).expect(rt, "memory");
     let mut out = Cursor::new(Vec::new(rt.alloc()));
     let mut err = Cursor::new(Vec::new(rt.alloc()));
     let status = run(rt, all.as_slice(), &mut out, &mut err);
-    Ok(Run {
+    Run {
         status,
         out: out.into_inner(),
         err: err.into_inner(),
-    })
+    }
 }
 
 /// The exit status of the words, where what is told is told on standard error behind `jdwp: `.
-pub(crate) fn status_of<R: Files + Net + AllocGlobal>(rt: &R, words: &[&str]) -> Result<u8, Fail> {
-    let ran = run_words(rt, words)?;
+pub(crate) fn status_of<R: Files + Net + AllocGlobal + Abort>(rt: &R, words: &[&str]) -> u8 {
+    let ran = run_words(rt, words);
     if !ran.is_told() {
-        return Err(Fail::from("words behind `jdwp: ` for each status but 0"));
+        panic!(rt; "words behind `jdwp: ` for each status but 0");
     }
-    Ok(ran.status)
+    ran.status
 }
 
 /// Whether the words are refused with status 1, and all of these texts stand on standard error, the first behind `jdwp: `.
-pub(crate) fn is_refused<R: Files + Net + AllocGlobal>(
+pub(crate) fn is_refused<R: Files + Net + AllocGlobal + Abort>(
     rt: &R,
     words: &[&str],
     texts: &[&str],
-) -> Result<bool, Fail> {
-    let ran = run_words(rt, words)?;
-    let told = String::from_utf8_lossy(rt.alloc(), ran.err.as_slice())?;
+) -> bool {
+    let ran = run_words(rt, words);
+    let told = String::from_utf8_lossy(rt.alloc(), ran.err.as_slice()).expect(rt, "memory");
     let mut is_refused = ran.status == 1 && ran.is_told();
     for (place, text) in texts.iter().enumerate() {
         let found = told.as_str().find(*text);
@@ -104,7 +103,7 @@ pub(crate) fn is_refused<R: Files + Net + AllocGlobal>(
                 found.is_some()
             });
     }
-    Ok(is_refused)
+    is_refused
 }
 
 /// The words are run with this status, and these are printed.
@@ -114,30 +113,29 @@ pub(crate) fn is_run<R: Files + Net + AllocGlobal + Abort>(
     status: u8,
     out: &str,
     err: &str,
-) -> Result<(), Fail> {
-    let ran = run_words(rt, words)?;
+) {
+    let ran = run_words(rt, words);
     expect_same_for(rt, &ran.status, &status, &err);
     expect_same_for(rt, &ran.out.as_slice(), &out.as_bytes(), &err);
     expect_same_for(rt, &ran.err.as_slice(), &err.as_bytes(), &err);
-    Ok(())
 }
 
 /// The file holds these bytes.
-fn holds<R: Files + Net + AllocGlobal + Abort>(
-    rt: &R,
-    file: &str,
-    bytes: &[u8],
-) -> Result<(), Fail> {
-    let found = fs::read(rt, file)?;
+fn holds<R: Files + Net + AllocGlobal + Abort>(rt: &R, file: &str, bytes: &[u8]) {
+    let found = fs::read(rt, file).expect(rt, "the file is read");
     expect_same(rt, &found.as_slice(), &bytes);
-    Ok(())
 }
 
-pub(crate) fn remove<R: Files>(rt: &R, files: &[&str]) -> Result<(), Fail> {
+/// Makes a file of these bytes.
+pub(crate) fn write<R: Files + Abort>(rt: &R, file: &str, bytes: &[u8]) {
+    fs::write(rt, file, bytes).expect(rt, "the file is written");
+}
+
+/// Removes these files, each of which is there.
+pub(crate) fn remove<R: Files + Abort>(rt: &R, files: &[&str]) {
     for file in files {
-        fs::remove_file(rt, *file)?;
+        fs::remove_file(rt, *file).expect(rt, "the file is removed");
     }
-    Ok(())
 }
 
 const PLAN: &str = "ask 1 8\nask 11 12 0000000000000001\nask 1 6\nanswers\n";
@@ -152,29 +150,28 @@ const PRINTED: &str = "< hello
 ";
 
 #[test]
-fn a_plan_of_a_file_is_run(rt: HostRuntime) -> Result<(), Fail> {
+fn a_plan_of_a_file_is_run(rt: HostRuntime) {
     let (plan, from, to) = ("attach_plan", "attach_from", "attach_to");
-    fs::write(&rt, plan, PLAN)?;
-    fs::write(&rt, from, ANSWERS.as_slice())?;
+    write(&rt, plan, PLAN.as_bytes());
+    write(&rt, from, &ANSWERS);
     let words = [
         "attach", plan, "--from", from, "--to", to, "--turns", "1000",
     ];
-    is_run(&rt, &words, 0, PRINTED, "")?;
-    holds(&rt, to, &SESSION)?;
-    remove(&rt, &[plan, from, to])
+    is_run(&rt, &words, 0, PRINTED, "");
+    holds(&rt, to, &SESSION);
+    remove(&rt, &[plan, from, to]);
 }
 
 #[test]
-fn a_plan_that_is_refused_is_told(rt: HostRuntime) -> Result<(), Fail> {
+fn a_plan_that_is_refused_is_told(rt: HostRuntime) {
     let (plan, from, to) = ("refused_plan", "plan_from", "plan_to");
-    fs::write(&rt, plan, "ask 1 8\n\nanswers\n")?;
-    fs::write(&rt, from, ANSWERS.as_slice())?;
+    write(&rt, plan, b"ask 1 8\n\nanswers\n");
+    write(&rt, from, &ANSWERS);
     let words = ["attach", plan, "--from", from, "--to", to];
     let refused = ["refused_plan: line 2 of the plan: an empty line"];
-    assert!(rt; is_refused(&rt, &words, &refused)?);
+    assert!(rt; is_refused(&rt, &words, &refused));
     let plus = ["attach", plan, "--from", from, "--to", to, "--turns", "+5"];
-    assert!(rt; is_refused(&rt, &plus, &["error: ", "jdwp attach"])?);
-    Ok(())
+    assert!(rt; is_refused(&rt, &plus, &["error: ", "jdwp attach"]));
 }
 
 /// What is answered where every thread stands at the limit 1 at the start: VM_START's policy is ALL, and Suspend is refused.
@@ -186,10 +183,10 @@ fn answers_at_the_limit() -> [u8; 111] {
 }
 
 #[test]
-fn a_session_of_a_file_is_answered(rt: HostRuntime) -> Result<(), Fail> {
+fn a_session_of_a_file_is_answered(rt: HostRuntime) {
     let (machine, from, to) = ("session_machine", "session_from", "session_to");
-    fs::write(&rt, machine, MACHINE)?;
-    fs::write(&rt, from, SESSION.as_slice())?;
+    write(&rt, machine, MACHINE.as_bytes());
+    write(&rt, from, &SESSION);
     let words = [
         "serve-script",
         machine,
@@ -200,16 +197,16 @@ fn a_session_of_a_file_is_answered(rt: HostRuntime) -> Result<(), Fail> {
         "--to",
         to,
     ];
-    expect_same(&rt, &status_of(&rt, &words)?, &0);
-    holds(&rt, to, &ANSWERS)?;
-    remove(&rt, &[machine, from, to])
+    expect_same(&rt, &status_of(&rt, &words), &0);
+    holds(&rt, to, &ANSWERS);
+    remove(&rt, &[machine, from, to]);
 }
 
 #[test]
-fn a_session_at_the_count_limit_is_answered(rt: HostRuntime) -> Result<(), Fail> {
+fn a_session_at_the_count_limit_is_answered(rt: HostRuntime) {
     let (machine, from, to) = ("limit_machine", "limit_from", "limit_to");
-    fs::write(&rt, machine, MACHINE)?;
-    fs::write(&rt, from, SESSION.as_slice())?;
+    write(&rt, machine, MACHINE.as_bytes());
+    write(&rt, from, &SESSION);
     let words = [
         "serve-script",
         "--to",
@@ -220,9 +217,9 @@ fn a_session_at_the_count_limit_is_answered(rt: HostRuntime) -> Result<(), Fail>
         "1",
         machine,
     ];
-    expect_same(&rt, &status_of(&rt, &words)?, &0);
-    holds(&rt, to, &answers_at_the_limit())?;
-    remove(&rt, &[machine, from, to])
+    expect_same(&rt, &status_of(&rt, &words), &0);
+    holds(&rt, to, &answers_at_the_limit());
+    remove(&rt, &[machine, from, to]);
 }
 
 const LOST: &str = "jdwp: ends_from: the file ended before the session did\n";
@@ -277,6 +274,7 @@ static ENDS: [(&[u8], &str, u8, &str, usize); 10] = [
     (&SESSION, "4294967295", 0, "", 111),
 ];
 
+/// A session to which this comes ends so.
 fn ends_so<R: Files + Net + AllocGlobal + Abort>(
     rt: &R,
     input: &[u8],
@@ -284,9 +282,9 @@ fn ends_so<R: Files + Net + AllocGlobal + Abort>(
     status: u8,
     told: &str,
     written: usize,
-) -> Result<(), Fail> {
+) {
     let (machine, from, to) = ("ends_machine", "ends_from", "ends_to");
-    fs::write(rt, from, input)?;
+    write(rt, from, input);
     let words = [
         "serve-script",
         machine,
@@ -299,17 +297,17 @@ fn ends_so<R: Files + Net + AllocGlobal + Abort>(
         "--turns",
         turns,
     ];
-    is_run(rt, &words, status, "", told)?;
-    holds(rt, to, &ANSWERS[..written.min(111)])
+    is_run(rt, &words, status, "", told);
+    holds(rt, to, &ANSWERS[..written.min(111)]);
 }
 
 #[test]
-fn each_end_has_its_status(rt: HostRuntime) -> Result<(), Fail> {
-    fs::write(&rt, "ends_machine", MACHINE)?;
+fn each_end_has_its_status(rt: HostRuntime) {
+    write(&rt, "ends_machine", MACHINE.as_bytes());
     for &(input, turns, status, told, written) in ENDS.iter() {
-        ends_so(&rt, input, turns, status, told, written)?;
+        ends_so(&rt, input, turns, status, told, written);
     }
-    remove(&rt, &["ends_machine", "ends_from", "ends_to"])
+    remove(&rt, &["ends_machine", "ends_from", "ends_to"]);
 }
 
 /// Refused words make no file.
@@ -340,27 +338,26 @@ fn is_told_of<R: Files + Net + AllocGlobal + Abort>(
     status: u8,
     shown: &str,
     judged: &str,
-) -> Result<(), Fail> {
+) {
     let file = "capture";
-    fs::write(rt, file, capture)?;
-    is_run(rt, &["show", file], status, shown, "")?;
-    is_run(rt, &["check", file], status, judged, "")?;
-    remove(rt, &[file])
+    write(rt, file, capture.as_bytes());
+    is_run(rt, &["show", file], status, shown, "");
+    is_run(rt, &["check", file], status, judged, "");
+    remove(rt, &[file]);
 }
 
 #[test]
-fn captures_are_shown_and_checked(rt: HostRuntime) -> Result<(), Fail> {
-    is_told_of(&rt, CAPTURE, 0, SHOWN, "yes\n")?;
+fn captures_are_shown_and_checked(rt: HostRuntime) {
+    is_told_of(&rt, CAPTURE, 0, SHOWN, "yes\n");
     is_told_of(
         &rt,
         "> 4a4457502d48616e647368616b65\n> 0000000a\n",
         1,
         "> hello\nline 2: fault 1\n",
         "no: line 2: fault 1\n",
-    )?;
-    expect_same(&rt, &status_of(&rt, &["show"])?, &1);
-    expect_same(&rt, &status_of(&rt, &["check", "capture", "capture"])?, &1);
-    Ok(())
+    );
+    expect_same(&rt, &status_of(&rt, &["show"]), &1);
+    expect_same(&rt, &status_of(&rt, &["check", "capture", "capture"]), &1);
 }
 
 /// Takes so many bytes, and then fails so.
@@ -386,11 +383,14 @@ impl Write for Output {
     }
 }
 
-/// The capture is shown on an output that has so much room, and then fails so.
+/// The words are run on an output that has so much room, and then fails so: as much of the text is
+/// printed, and this is told.
 fn breaks_at<R: Files + Net + AllocGlobal + Abort>(
     rt: &R,
-    kind: ErrorKind,
+    words: &[&str],
+    text: &str,
     room: usize,
+    kind: ErrorKind,
     told: &str,
 ) {
     let mut out = Output {
@@ -399,49 +399,44 @@ fn breaks_at<R: Files + Net + AllocGlobal + Abort>(
         kind,
     };
     let mut err = Cursor::new(Vec::new(rt.alloc()));
-    let words = ["jdwp", "show", "breaks_capture"];
-    expect_same(rt, &run(rt, &words, &mut out, &mut err), &2);
-    expect_same(
-        rt,
-        &Some(out.bytes.as_slice()),
-        &SHOWN.as_bytes().get(..room),
-    );
-    expect_same(rt, &err.get_ref().as_slice(), &told.as_bytes());
+    expect_same(rt, &run(rt, words, &mut out, &mut err), &2);
+    let printed = text.as_bytes().get(..room);
+    expect_same_for(rt, &Some(out.bytes.as_slice()), &printed, &room);
+    expect_same_for(rt, &err.get_ref().as_slice(), &told.as_bytes(), &room);
+}
+
+/// The words are run on outputs that break, with less room than the text needs.
+fn breaks<R: Files + Net + AllocGlobal + Abort>(rt: &R, words: &[&str], text: &str) {
+    let full = "jdwp: the output can't be written: no storage space\n";
+    for room in [0, 1, 8, 100] {
+        breaks_at(rt, words, text, room, ErrorKind::BrokenPipe, "");
+        breaks_at(rt, words, text, room, ErrorKind::StorageFull, full);
+    }
 }
 
 #[test]
-fn an_output_that_breaks_is_status_2(rt: HostRuntime) -> Result<(), Fail> {
-    fs::write(&rt, "breaks_capture", CAPTURE)?;
-    let full = "jdwp: the output can't be written: no storage space\n";
-    for room in [0, 1, 8, 100] {
-        breaks_at(&rt, ErrorKind::BrokenPipe, room, "");
-        breaks_at(&rt, ErrorKind::StorageFull, room, full);
-    }
-    remove(&rt, &["breaks_capture"])
+fn an_output_that_breaks_is_status_2(rt: HostRuntime) {
+    write(&rt, "breaks_capture", CAPTURE.as_bytes());
+    breaks(&rt, &["jdwp", "show", "breaks_capture"], SHOWN);
+    remove(&rt, &["breaks_capture"]);
 }
 
 /// A capture in this file can't be used, for this reason.
-fn is_no_capture<R: Files + Net + AllocGlobal + Abort>(
-    rt: &R,
-    file: &str,
-    text: &str,
-) -> Result<(), Fail> {
-    assert!(rt; is_refused(rt, &["show", file], &[text])?);
-    assert!(rt; is_refused(rt, &["check", file], &[text])?);
-    Ok(())
+fn is_no_capture<R: Files + Net + AllocGlobal + Abort>(rt: &R, file: &str, text: &str) {
+    assert!(rt; is_refused(rt, &["show", file], &[text]));
+    assert!(rt; is_refused(rt, &["check", file], &[text]));
 }
 
 #[test]
-fn a_capture_that_can_not_be_used_is_named(rt: HostRuntime) -> Result<(), Fail> {
-    fs::create_dir(&rt, "no_folder")?;
-    fs::write(&rt, "no_text", b"> 4a\n> \xff".as_slice())?;
-    is_no_capture(&rt, "no_file", "no_file: no such file or folder\n")?;
-    is_no_capture(&rt, "no_folder", "no_folder: a folder, not a file\n")?;
+fn a_capture_that_can_not_be_used_is_named(rt: HostRuntime) {
+    fs::create_dir(&rt, "no_folder").expect(&rt, "a folder is made");
+    write(&rt, "no_text", b"> 4a\n> \xff");
+    is_no_capture(&rt, "no_file", "no_file: no such file or folder\n");
+    is_no_capture(&rt, "no_folder", "no_folder: a folder, not a file\n");
     let not_text = "no_text: not UTF-8 at byte 7, counted from 0\n";
-    is_no_capture(&rt, "no_text", not_text)?;
-    fs::remove_file(&rt, "no_text")?;
-    fs::remove_dir(&rt, "no_folder")?;
-    Ok(())
+    is_no_capture(&rt, "no_text", not_text);
+    remove(&rt, &["no_text"]);
+    fs::remove_dir(&rt, "no_folder").expect(&rt, "the folder is removed");
 }
 
 /// The machine, what comes, where what is sent goes, and what is told.
@@ -492,27 +487,26 @@ static UNUSED: [(&str, &str, &str, &str); 7] = [
 ];
 
 #[test]
-fn a_file_that_can_not_be_used_is_named(rt: HostRuntime) -> Result<(), Fail> {
-    fs::create_dir(&rt, "named_folder")?;
-    fs::write(&rt, "named_other", b"> 4a\n> \xff".as_slice())?;
+fn a_file_that_can_not_be_used_is_named(rt: HostRuntime) {
+    fs::create_dir(&rt, "named_folder").expect(&rt, "a folder is made");
+    write(&rt, "named_other", b"> 4a\n> \xff");
     for &(machine, from, to, text) in UNUSED.iter() {
         let words = ["serve-script", machine, "--from", from, "--to", to];
-        assert!(rt; is_refused(&rt, &words, &[text])?, "{text}");
+        assert!(rt; is_refused(&rt, &words, &[text]), "{text}");
         is_not_made(&rt, "named_to");
     }
-    fs::remove_file(&rt, "named_other")?;
-    fs::remove_dir(&rt, "named_folder")?;
-    Ok(())
+    remove(&rt, &["named_other"]);
+    fs::remove_dir(&rt, "named_folder").expect(&rt, "the folder is removed");
 }
 
 #[test]
-fn a_machine_that_is_no_text_is_named(rt: HostRuntime) -> Result<(), Fail> {
+fn a_machine_that_is_no_text_is_named(rt: HostRuntime) {
     let (other, to) = ("text_other", "text_to");
-    fs::write(&rt, other, b"> 4a\n> \xff".as_slice())?;
+    write(&rt, other, b"> 4a\n> \xff");
     let words = ["serve-script", other, "--from", other, "--to", to];
     let not_text = "text_other: not UTF-8 at byte 7, counted from 0\n";
-    assert!(rt; is_refused(&rt, &words, &[not_text])?);
-    remove(&rt, &[to, other])
+    assert!(rt; is_refused(&rt, &words, &[not_text]));
+    remove(&rt, &[to, other]);
 }
 
 /// A part of the machine, what stands for it, and what is told behind the file's name.
@@ -554,28 +548,26 @@ static SCRIPTS: [(&str, &str, &str); 7] = [
     ),
 ];
 
-fn is_no_script<R: Files + Net + AllocGlobal + Abort>(
-    rt: &R,
-    part: &str,
-    other: &str,
-    text: &str,
-) -> Result<(), Fail> {
+/// Machine A with another text in place of a part is refused, and told so.
+fn is_no_script<R: Files + Net + AllocGlobal + Abort>(rt: &R, part: &str, other: &str, text: &str) {
     let (machine, from, to) = ("refused_machine", "refused_from", "refused_to");
-    let script = MACHINE.replacen(rt.alloc(), part, other, 1)?;
-    fs::write(rt, machine, script.as_str())?;
+    let script = MACHINE
+        .replacen(rt.alloc(), part, other, 1)
+        .expect(rt, "memory");
+    write(rt, machine, script.as_str().as_bytes());
     let words = ["serve-script", machine, "--from", from, "--to", to];
-    assert!(rt; is_refused(rt, &words, &[text])?, "{text}");
-    holds(rt, to, &[])
+    assert!(rt; is_refused(rt, &words, &[text]), "{text}");
+    holds(rt, to, &[]);
 }
 
 /// A script that is refused is told by its file, its fault's number and words, and what is known of the place; nothing is sent.
 #[test]
-fn a_script_that_is_refused_is_told(rt: HostRuntime) -> Result<(), Fail> {
-    fs::write(&rt, "refused_from", SESSION.as_slice())?;
+fn a_script_that_is_refused_is_told(rt: HostRuntime) {
+    write(&rt, "refused_from", &SESSION);
     for &(part, other, text) in SCRIPTS.iter() {
-        is_no_script(&rt, part, other, text)?;
+        is_no_script(&rt, part, other, text);
     }
-    remove(&rt, &["refused_machine", "refused_from", "refused_to"])
+    remove(&rt, &["refused_machine", "refused_from", "refused_to"]);
 }
 
 /// Words whose file of `--to` is one that is read, by the same name: the file, and what is told.
@@ -600,37 +592,29 @@ static SAME_NAMES: [(&[&str], &str); 4] = [
 
 /// A file that is read is not emptied by `--to`, whether it is named so or in another way, and nothing is opened.
 #[test]
-fn a_file_that_is_read_is_not_emptied(rt: HostRuntime) -> Result<(), Fail> {
-    fs::write(&rt, "same", "text")?;
+fn a_file_that_is_read_is_not_emptied(rt: HostRuntime) {
+    write(&rt, "same", b"text");
     for &(words, text) in SAME_NAMES.iter() {
-        assert!(rt; is_refused(&rt, words, &[text, "Usage: jdwp "])?, "{text}");
-        holds(&rt, "same", b"text")?;
+        assert!(rt; is_refused(&rt, words, &[text, "Usage: jdwp "]), "{text}");
+        holds(&rt, "same", b"text");
     }
     for command in ["serve-script", "attach"] {
         let also_read = "./same: a file that is read, too: writing to it would empty it\n";
         let first = [command, "same", "--from", "other", "--to", "./same"];
-        assert!(rt; is_refused(&rt, &first, &[also_read])?);
+        assert!(rt; is_refused(&rt, &first, &[also_read]));
         let second = [command, "other", "--from", "same", "--to", "./same"];
-        assert!(rt; is_refused(&rt, &second, &[also_read])?);
-        holds(&rt, "same", b"text")?;
+        assert!(rt; is_refused(&rt, &second, &[also_read]));
+        holds(&rt, "same", b"text");
     }
     is_not_made(&rt, "other");
-    remove(&rt, &["same"])
+    remove(&rt, &["same"]);
 }
 
-/// `attach` is run on an output that has so much room and then fails so: no connection is blamed.
-fn attach_breaks_at<R: Files + Net + AllocGlobal + Abort>(
-    rt: &R,
-    kind: ErrorKind,
-    room: usize,
-    told: &str,
-) {
-    let mut out = Output {
-        bytes: Vec::new(rt.alloc()),
-        room,
-        kind,
-    };
-    let mut err = Cursor::new(Vec::new(rt.alloc()));
+/// No connection is blamed.
+#[test]
+fn an_output_of_attach_that_breaks_is_told_as_such(rt: HostRuntime) {
+    write(&rt, "broken_plan", PLAN.as_bytes());
+    write(&rt, "broken_from", &ANSWERS);
     let words = [
         "jdwp",
         "attach",
@@ -640,25 +624,8 @@ fn attach_breaks_at<R: Files + Net + AllocGlobal + Abort>(
         "--to",
         "broken_to",
     ];
-    expect_same(rt, &run(rt, &words, &mut out, &mut err), &2);
-    expect_same(
-        rt,
-        &Some(out.bytes.as_slice()),
-        &PRINTED.as_bytes().get(..room),
-    );
-    expect_same(rt, &err.get_ref().as_slice(), &told.as_bytes());
-}
-
-#[test]
-fn an_output_of_attach_that_breaks_is_told_as_such(rt: HostRuntime) -> Result<(), Fail> {
-    fs::write(&rt, "broken_plan", PLAN)?;
-    fs::write(&rt, "broken_from", ANSWERS.as_slice())?;
-    let full = "jdwp: the output can't be written: no storage space\n";
-    for room in [0, 1, 8, 100] {
-        attach_breaks_at(&rt, ErrorKind::BrokenPipe, room, "");
-        attach_breaks_at(&rt, ErrorKind::StorageFull, room, full);
-    }
-    remove(&rt, &["broken_plan", "broken_from", "broken_to"])
+    breaks(&rt, &words, PRINTED);
+    remove(&rt, &["broken_plan", "broken_from", "broken_to"]);
 }
 
 /// A plan of this text, what is told, and its status.
@@ -686,21 +653,24 @@ static TOLD_OF_PLANS: [(&str, u8, &str); 5] = [
     ),
 ];
 
+/// A plan of this text ends with this status, and this is told, whatever is printed.
+fn text_ends<R: Files + Net + AllocGlobal + Abort>(rt: &R, text: &str, status: u8, told: &str) {
+    let (plan, from, to) = ("told_plan", "told_from", "told_to");
+    write(rt, plan, text.as_bytes());
+    let ran = run_words(rt, &["attach", plan, "--from", from, "--to", to]);
+    expect_same_for(rt, &ran.status, &status, &text);
+    expect_same_for(rt, &ran.err.as_slice(), &told.as_bytes(), &text);
+}
+
 /// How a plan ends is told; one that is finished without Dispose has status 0.
 #[test]
-fn ends_of_plans_are_told(rt: HostRuntime) -> Result<(), Fail> {
-    let (plan, from, to) = ("told_plan", "told_from", "told_to");
+fn ends_of_plans_are_told(rt: HostRuntime) {
     // Up to the widths of ids.
-    fs::write(&rt, from, &ANSWERS[..74])?;
+    write(&rt, "told_from", &ANSWERS[..74]);
     for &(text, status, told) in TOLD_OF_PLANS.iter() {
-        fs::write(&rt, plan, text)?;
-        let mut out = Cursor::new(Vec::new(rt.alloc()));
-        let mut err = Cursor::new(Vec::new(rt.alloc()));
-        let words = ["jdwp", "attach", plan, "--from", from, "--to", to];
-        expect_same_for(&rt, &run(&rt, &words, &mut out, &mut err), &status, &text);
-        expect_same_for(&rt, &err.get_ref().as_slice(), &told.as_bytes(), &text);
+        text_ends(&rt, text, status, told);
     }
-    remove(&rt, &[plan, from, to])
+    remove(&rt, &["told_plan", "told_from", "told_to"]);
 }
 
 /// A plan with a line of `pair` alone, and what `attach` tells of it.
@@ -721,52 +691,35 @@ static OF_PAIR: [(&str, &str); 3] = [
 
 /// Nothing is sent or printed then, and the plan is told before a port at which nobody listens.
 #[test]
-fn lines_of_pair_are_refused_by_attach(rt: HostRuntime) -> Result<(), Fail> {
+fn lines_of_pair_are_refused_by_attach(rt: HostRuntime) {
     let (plan, from, to) = ("of_pair_plan", "of_pair_from", "of_pair_to");
-    fs::write(&rt, from, ANSWERS.as_slice())?;
+    write(&rt, from, &ANSWERS);
     for &(text, told) in OF_PAIR.iter() {
-        fs::write(&rt, plan, text)?;
+        write(&rt, plan, text.as_bytes());
         let words = ["attach", plan, "--from", from, "--to", to];
-        is_run(&rt, &words, 1, "", told)?;
-        holds(&rt, to, &[])?;
-        is_run(&rt, &["attach", plan, "--port", "1"], 1, "", told)?;
+        is_run(&rt, &words, 1, "", told);
+        holds(&rt, to, &[]);
+        is_run(&rt, &["attach", plan, "--port", "1"], 1, "", told);
     }
-    remove(&rt, &[plan, from, to])
+    remove(&rt, &[plan, from, to]);
 }
 
 /// The plan of the file `by_lines_plan`, over these bytes of a target, ends so: it is told by this status and this text.
-fn plan_ends<R: Files + Net + AllocGlobal + Abort>(
-    rt: &R,
-    bytes: &[u8],
-    told: &str,
-) -> Result<(), Fail> {
-    fs::write(rt, "by_lines_from", bytes)?;
-    let mut out = Cursor::new(Vec::new(rt.alloc()));
-    let mut err = Cursor::new(Vec::new(rt.alloc()));
-    let words = [
-        "jdwp",
-        "attach",
-        "by_lines_plan",
-        "--from",
-        "by_lines_from",
-        "--to",
-        "by_lines_to",
-    ];
-    expect_same(rt, &run(rt, &words, &mut out, &mut err), &1);
-    expect_same(rt, &err.get_ref().as_slice(), &told.as_bytes());
-    Ok(())
+fn plan_ends<R: Files + Net + AllocGlobal + Abort>(rt: &R, bytes: &[u8], told: &str) {
+    let (plan, from, to) = ("by_lines_plan", "by_lines_from", "by_lines_to");
+    write(rt, from, bytes);
+    let ran = run_words(rt, &["attach", plan, "--from", from, "--to", to]);
+    expect_same(rt, &ran.status, &1);
+    expect_same(rt, &ran.err.as_slice(), &told.as_bytes());
 }
 
 /// 64 commands may wait: the line of the 65th is told. Where what the target sent is refused, no line is.
 #[test]
-fn the_line_of_a_refused_command_is_told(rt: HostRuntime) -> Result<(), Fail> {
-    let mut plan = String::new(rt.alloc());
-    for _ in 0..65u32 {
-        plan.push_str("ask 1 8\n")?;
-    }
-    fs::write(&rt, "by_lines_plan", plan.as_str())?;
+fn the_line_of_a_refused_command_is_told(rt: HostRuntime) {
+    let plan = "ask 1 8\n".repeat(rt.alloc(), 65).expect(&rt, "memory");
+    write(&rt, "by_lines_plan", plan.as_str().as_bytes());
     let refused = "jdwp: line 65 of the plan: fault 32: too much waits: 64 commands at most\n";
-    plan_ends(&rt, &ANSWERS, refused)?;
-    plan_ends(&rt, b"JDWP-HandshakE", "jdwp: fault 4: not the handshake\n")?;
-    remove(&rt, &["by_lines_plan", "by_lines_from", "by_lines_to"])
+    plan_ends(&rt, &ANSWERS, refused);
+    plan_ends(&rt, b"JDWP-HandshakE", "jdwp: fault 4: not the handshake\n");
+    remove(&rt, &["by_lines_plan", "by_lines_from", "by_lines_to"]);
 }

@@ -1,5 +1,6 @@
 //! Modifiers, events and composites as bytes, row by row of the specification's listings, at two sets of widths.
 use crate::asserts::expect_same;
+use crate::wire_calls::{is_not_taken, written};
 use jdwp_event::{Composite, Event, Modifier};
 use jdwp_layout::{Data, Datum, Scalar};
 use jdwp_value::{
@@ -9,7 +10,6 @@ use jdwp_value::{
 use jdwp_wire::{DataFault, IdSizes, Wire};
 use std::alloc::Global;
 use std::process::Abort;
-use std::test::Fail;
 
 const PLACE: Location = Location::At {
     tag: TypeTag::Class,
@@ -19,21 +19,27 @@ const PLACE: Location = Location::At {
 };
 
 /// All ids of 8 bytes.
-fn wide() -> Result<IdSizes, Fail> {
-    Ok(IdSizes::new(8, 8, 8, 8, 8)?)
+fn wide(rt: &impl Abort) -> IdSizes {
+    IdSizes::new(8, 8, 8, 8, 8).expect(rt, "widths")
 }
 
 /// Fields of 1 byte, methods of 2, objects of 3, reference types of 4.
-fn narrow() -> Result<IdSizes, Fail> {
-    Ok(IdSizes::new(1, 2, 3, 4, 5)?)
+fn narrow(rt: &impl Abort) -> IdSizes {
+    IdSizes::new(1, 2, 3, 4, 5).expect(rt, "widths")
 }
 
-fn digits(alloc: Global, bytes: &[u8]) -> Result<String, Fail> {
+/// The bytes as hexadecimal digits.
+fn digits(rt: &impl Abort, alloc: Global, bytes: &[u8]) -> String {
     let mut text = String::new(alloc);
     for byte in bytes {
-        write!(text, "{byte:02x}")?;
+        write!(text, "{byte:02x}").expect(rt, "memory");
     }
-    Ok(text)
+    text
+}
+
+/// The text as a `String`.
+fn text(rt: &impl Abort, alloc: Global, text: &str) -> String {
+    String::from_str(alloc, text).expect(rt, "memory")
 }
 
 /// The value is written as these digits, and read back from them, with and without bytes behind them.
@@ -43,15 +49,13 @@ fn goes_there_and_back<R: Abort, T: Wire + std::fmt::Debug + Drop>(
     value: &T,
     sizes: &IdSizes,
     hex: &str,
-) -> Result<(), Fail> {
-    let mut bytes = Vec::new(alloc);
-    value.put(sizes, &mut bytes)?;
-    expect_same(rt, &digits(alloc, &bytes)?.as_str(), &hex);
-    expect_same(rt, &value.size(sizes).ok_or("no size")?, &bytes.len());
-    let wanted = format!(in alloc; "{value:?}")?;
-    let read = read_as_text::<R, T>(rt, alloc, &bytes, sizes)?;
+) {
+    let bytes = written(rt, alloc, value, sizes);
+    expect_same(rt, &digits(rt, alloc, &bytes).as_str(), &hex);
+    let wanted = format!(in alloc; "{value:?}").expect(rt, "memory");
+    let read = read_as_text::<R, T>(rt, alloc, &bytes, sizes);
     expect_same(rt, &read.as_str(), &wanted.as_str());
-    no_beginning_reads::<R, T>(rt, alloc, &bytes, sizes)
+    no_beginning_reads::<R, T>(rt, alloc, &bytes, sizes);
 }
 
 /// The value that all of these bytes are, as text.
@@ -60,22 +64,16 @@ fn read_as_text<R: Abort, T: Wire + std::fmt::Debug + Drop>(
     alloc: Global,
     bytes: &[u8],
     sizes: &IdSizes,
-) -> Result<String, Fail> {
-    let read = read_whole::<R, T>(rt, alloc, bytes, sizes)?;
-    Ok(format!(in alloc; "{read:?}")?)
+) -> String {
+    let read = read_whole::<R, T>(rt, alloc, bytes, sizes);
+    format!(in alloc; "{read:?}").expect(rt, "memory")
 }
 
 /// The value that all of these bytes are.
-fn read_whole<R: Abort, T: Wire + Drop>(
-    rt: &R,
-    alloc: Global,
-    bytes: &[u8],
-    sizes: &IdSizes,
-) -> Result<T, Fail> {
-    expect_same(rt, &T::pass_front(bytes, bytes.len(), sizes)?.len(), &0);
-    let (read, used) = T::take(alloc, bytes, sizes)?;
+fn read_whole<R: Abort, T: Wire + Drop>(rt: &R, alloc: Global, bytes: &[u8], sizes: &IdSizes) -> T {
+    let (read, used) = T::take(alloc, bytes, sizes).expect(rt, "a value");
     expect_same(rt, &used, &bytes.len());
-    Ok(read)
+    read
 }
 
 /// Fewer of these bytes are no value.
@@ -84,14 +82,11 @@ fn no_beginning_reads<R: Abort, T: Wire + Drop>(
     alloc: Global,
     bytes: &[u8],
     sizes: &IdSizes,
-) -> Result<(), Fail> {
+) {
     for length in 0..bytes.len() {
-        let fault = T::take(alloc, &bytes[..length], sizes)
-            .err()
-            .ok_or("a value")?;
-        assert!(rt; fault == DataFault::Short(length));
+        let short = DataFault::Short(length);
+        is_not_taken::<T>(rt, alloc, &bytes[..length], sizes, short);
     }
-    Ok(())
 }
 
 /// The modifier is written as these digits where ids have 8 bytes, and as those at the other widths.
@@ -101,21 +96,21 @@ fn modifier_is<R: Abort>(
     modifier: Modifier,
     at_eight: &str,
     at_others: &str,
-) -> Result<(), Fail> {
-    is_written(rt, alloc, &modifier, at_eight, at_others)
+) {
+    is_written(rt, alloc, &modifier, at_eight, at_others);
 }
 
 #[test]
-fn modifiers_of_numbers_and_threads(rt: HostRuntime) -> Result<(), Fail> {
+fn modifiers_of_numbers_and_threads(rt: HostRuntime) {
     let alloc = rt.alloc();
     let count = Modifier::Count(5);
-    modifier_is(&rt, alloc, count, "0100000005", "0100000005")?;
+    modifier_is(&rt, alloc, count, "0100000005", "0100000005");
     let conditional = Modifier::Conditional(6);
-    modifier_is(&rt, alloc, conditional, "0200000006", "0200000006")?;
+    modifier_is(&rt, alloc, conditional, "0200000006", "0200000006");
     let thread = Modifier::ThreadOnly(ObjectId(7));
-    modifier_is(&rt, alloc, thread, "030000000000000007", "03000007")?;
+    modifier_is(&rt, alloc, thread, "030000000000000007", "03000007");
     let instance = Modifier::InstanceOnly(ObjectId(9));
-    modifier_is(&rt, alloc, instance, "0b0000000000000009", "0b000009")?;
+    modifier_is(&rt, alloc, instance, "0b0000000000000009", "0b000009");
     let step = Modifier::Step {
         thread: ObjectId(1),
         size: 1,
@@ -125,34 +120,34 @@ fn modifiers_of_numbers_and_threads(rt: HostRuntime) -> Result<(), Fail> {
         "0a00000000000000010000000100000002",
         "0a0000010000000100000002",
     );
-    modifier_is(&rt, alloc, step, at_eight, at_others)
+    modifier_is(&rt, alloc, step, at_eight, at_others);
 }
 
 #[test]
-fn modifiers_of_classes(rt: HostRuntime) -> Result<(), Fail> {
+fn modifiers_of_classes(rt: HostRuntime) {
     let alloc = rt.alloc();
     let class = ReferenceTypeId(10);
     let only = Modifier::ClassOnly(class);
-    modifier_is(&rt, alloc, only, "04000000000000000a", "040000000a")?;
+    modifier_is(&rt, alloc, only, "04000000000000000a", "040000000a");
     let exception = Modifier::ExceptionOnly {
         class,
         caught: true,
         uncaught: false,
     };
     let (at_eight, at_others) = ("08000000000000000a0100", "080000000a0100");
-    modifier_is(&rt, alloc, exception, at_eight, at_others)?;
+    modifier_is(&rt, alloc, exception, at_eight, at_others);
     let field = Modifier::FieldOnly {
         class,
         field: FieldId(40),
     };
     let (at_eight, at_others) = ("09000000000000000a0000000000000028", "090000000a28");
-    modifier_is(&rt, alloc, field, at_eight, at_others)?;
+    modifier_is(&rt, alloc, field, at_eight, at_others);
     let place = Modifier::LocationOnly(PLACE);
     let (at_eight, at_others) = (
         "0701000000000000000a00000000000000140000000000000003",
         "07010000000a00140000000000000003",
     );
-    modifier_is(&rt, alloc, place, at_eight, at_others)
+    modifier_is(&rt, alloc, place, at_eight, at_others);
 }
 
 /// The value is written as these digits where ids have 8 bytes, and as those at the other widths.
@@ -162,45 +157,44 @@ fn is_written<R: Abort, T: Wire + std::fmt::Debug + Drop>(
     value: &T,
     at_eight: &str,
     at_others: &str,
-) -> Result<(), Fail> {
-    goes_there_and_back(rt, alloc, value, &wide()?, at_eight)?;
-    goes_there_and_back(rt, alloc, value, &narrow()?, at_others)
+) {
+    goes_there_and_back(rt, alloc, value, &wide(rt), at_eight);
+    goes_there_and_back(rt, alloc, value, &narrow(rt), at_others);
 }
 
 #[test]
-fn patterns_are_their_bytes(rt: HostRuntime) -> Result<(), Fail> {
+fn patterns_are_their_bytes(rt: HostRuntime) {
     let alloc = rt.alloc();
-    let class = Modifier::ClassMatch(String::from_str(alloc, "a.*")?);
-    modifier_is(&rt, alloc, class, "0500000003612e2a", "0500000003612e2a")?;
-    let others = Modifier::ClassExclude(String::from_str(alloc, "*")?);
-    modifier_is(&rt, alloc, others, "06000000012a", "06000000012a")?;
-    let source = Modifier::SourceNameMatch(String::from_str(alloc, "A.java")?);
+    let class = Modifier::ClassMatch(text(&rt, alloc, "a.*"));
+    modifier_is(&rt, alloc, class, "0500000003612e2a", "0500000003612e2a");
+    let others = Modifier::ClassExclude(text(&rt, alloc, "*"));
+    modifier_is(&rt, alloc, others, "06000000012a", "06000000012a");
+    let source = Modifier::SourceNameMatch(text(&rt, alloc, "A.java"));
     let digits = "0c00000006412e6a617661";
-    modifier_is(&rt, alloc, source, digits, digits)
+    modifier_is(&rt, alloc, source, digits, digits);
 }
 
 /// The fault of bytes that are no modifier.
-fn fault_of_modifier(alloc: Global, bytes: &[u8]) -> Result<Option<DataFault>, Fail> {
-    Ok(Modifier::take(alloc, bytes, &wide()?).err())
+fn fault_of_modifier(rt: &impl Abort, alloc: Global, bytes: &[u8]) -> Option<DataFault> {
+    Modifier::take(alloc, bytes, &wide(rt)).err()
 }
 
 #[test]
-fn what_is_no_modifier_is_refused(rt: HostRuntime) -> Result<(), Fail> {
+fn what_is_no_modifier_is_refused(rt: HostRuntime) {
     for kind in [0u8, 13, 255] {
-        let found = fault_of_modifier(rt.alloc(), &[kind])?;
+        let found = fault_of_modifier(&rt, rt.alloc(), &[kind]);
         expect_same(&rt, &found, &Some(DataFault::BadTag));
     }
-    Ok(())
 }
 
 /// The scalar of a letter of a row.
-fn scalar(alloc: Global, letter: char) -> Result<Scalar, Fail> {
-    Ok(match letter {
+fn scalar(rt: &impl Abort, alloc: Global, letter: char) -> Scalar {
+    match letter {
         'B' => Scalar::Byte(1),
         'Z' => Scalar::Boolean(true),
         'I' => Scalar::Int(11),
         'J' => Scalar::Long(-2),
-        'S' => Scalar::String(String::from_str(alloc, "LMain;")?),
+        'S' => Scalar::String(text(rt, alloc, "LMain;")),
         'O' => Scalar::ObjectId(ObjectId(7)),
         'R' => Scalar::ReferenceTypeId(ReferenceTypeId(10)),
         'F' => Scalar::FieldId(FieldId(40)),
@@ -210,7 +204,7 @@ fn scalar(alloc: Global, letter: char) -> Result<Scalar, Fail> {
             tag: ObjectTag::Object,
             id: ObjectId(9),
         }),
-    })
+    }
 }
 
 /// Its digits where ids have 8 bytes, and at the other widths.
@@ -255,88 +249,89 @@ static EVENTS: [(u8, &str); 18] = [
 ];
 
 #[test]
-fn events_are_their_bytes(rt: HostRuntime) -> Result<(), Fail> {
+fn events_are_their_bytes(rt: HostRuntime) {
     for &(kind, letters) in EVENTS.iter() {
-        event_is_written(&rt, rt.alloc(), kind, letters)?;
+        event_is_written(&rt, rt.alloc(), kind, letters);
     }
-    Ok(())
 }
 
 /// The event of this kind with fields of these letters is written as their digits.
-fn event_is_written<R: Abort>(rt: &R, alloc: Global, kind: u8, letters: &str) -> Result<(), Fail> {
-    let at_eight = digits_of(alloc, kind, letters, true)?;
-    let at_others = digits_of(alloc, kind, letters, false)?;
-    let event = event_of(alloc, kind, letters)?;
-    is_written(rt, alloc, &event, &at_eight, &at_others)
+fn event_is_written<R: Abort>(rt: &R, alloc: Global, kind: u8, letters: &str) {
+    let at_eight = digits_of(rt, alloc, kind, letters, true);
+    let at_others = digits_of(rt, alloc, kind, letters, false);
+    let event = event_of(rt, alloc, kind, letters);
+    is_written(rt, alloc, &event, &at_eight, &at_others);
 }
 
 /// The event of this kind with fields of these letters.
-fn event_of(alloc: Global, kind: u8, letters: &str) -> Result<Event, Fail> {
-    let mut fields = vec![in alloc; Scalar::Byte(kind)]?;
+fn event_of(rt: &impl Abort, alloc: Global, kind: u8, letters: &str) -> Event {
+    let mut fields = vec![in alloc; Scalar::Byte(kind)].expect(rt, "memory");
     for letter in letters.chars() {
-        fields.push(scalar(alloc, letter)?)?;
+        let field = scalar(rt, alloc, letter);
+        fields.push(field).expect(rt, "memory");
     }
-    Ok(Event::new(fields))
+    Event::new(fields)
 }
 
 /// The digits of a kind and of fields of these letters, where ids have 8 bytes or at the other widths.
-fn digits_of(alloc: Global, kind: u8, letters: &str, is_wide: bool) -> Result<String, Fail> {
-    let mut text = digits(alloc, &[kind])?;
+fn digits_of(rt: &impl Abort, alloc: Global, kind: u8, letters: &str, is_wide: bool) -> String {
+    let mut text = digits(rt, alloc, &[kind]);
     for letter in letters.chars() {
         let (at_eight, at_others) = scalar_digits(letter);
-        text.push_str(if is_wide { at_eight } else { at_others })?;
+        let more = if is_wide { at_eight } else { at_others };
+        text.push_str(more).expect(rt, "memory");
     }
-    Ok(text)
+    text
 }
 
 /// The fault of bytes that are no event.
-fn fault_of_event(alloc: Global, bytes: &[u8]) -> Result<Option<DataFault>, Fail> {
-    Ok(Event::take(alloc, bytes, &wide()?).err())
+fn fault_of_event(rt: &impl Abort, alloc: Global, bytes: &[u8]) -> Option<DataFault> {
+    Event::take(alloc, bytes, &wide(rt)).err()
 }
 
 #[test]
-fn what_is_no_event_is_refused(rt: HostRuntime) -> Result<(), Fail> {
+fn what_is_no_event_is_refused(rt: HostRuntime) {
     for kind in [0u8, 3, 5, 10, 30, 255] {
-        let found = fault_of_event(rt.alloc(), &[kind])?;
+        let found = fault_of_event(&rt, rt.alloc(), &[kind]);
         expect_same(&rt, &found, &Some(DataFault::BadTag));
     }
-    Ok(())
 }
 
 /// What comes of writing the event behind the byte 1, and what stands there then.
-fn put_behind(alloc: Global, event: Event) -> Result<(Result<(), DataFault>, Vec<u8>), Fail> {
-    let mut bytes = vec![in alloc; 1u8]?;
-    let put = event.put(&wide()?, &mut bytes);
-    Ok((put, bytes))
+fn put_behind(rt: &impl Abort, alloc: Global, event: Event) -> (Result<(), DataFault>, Vec<u8>) {
+    let mut bytes = vec![in alloc; 1u8].expect(rt, "memory");
+    let put = event.put(&wide(rt), &mut bytes);
+    (put, bytes)
 }
 
 #[test]
-fn an_event_with_other_fields_is_not_written(rt: HostRuntime) -> Result<(), Fail> {
+fn an_event_with_other_fields_is_not_written(rt: HostRuntime) {
     let alloc = rt.alloc();
-    let of_another = Event::new(vec![in alloc; Scalar::Byte(99), Scalar::Long(1)]?);
-    let (put, bytes) = put_behind(alloc, of_another)?;
+    let fields = vec![in alloc; Scalar::Byte(99), Scalar::Long(1)].expect(&rt, "memory");
+    let (put, bytes) = put_behind(&rt, alloc, Event::new(fields));
     expect_same(&rt, &put, &Err(DataFault::BadSize));
     expect_same(&rt, &bytes.as_slice(), &[1u8].as_slice());
-    Ok(())
 }
 
 /// An event of this kind at a place, under this request.
-fn event_at_place(alloc: Global, kind: u8, request: i32) -> Result<Event, Fail> {
-    Ok(Event::new(vec![in alloc;
+fn event_at_place(rt: &impl Abort, alloc: Global, kind: u8, request: i32) -> Event {
+    let fields = vec![in alloc;
         Scalar::Byte(kind),
         Scalar::Int(request),
         Scalar::ObjectId(ObjectId(1)),
         Scalar::Location(PLACE),
-    ]?))
+    ];
+    Event::new(fields.expect(rt, "memory"))
 }
 
 /// So many of a step and a breakpoint of one place, under the requests 1 and 2.
-fn events(alloc: Global, count: u8) -> Result<Vec<Event>, Fail> {
+fn events(rt: &impl Abort, alloc: Global, count: u8) -> Vec<Event> {
     let mut events = Vec::new(alloc);
     for kind in 1..=count {
-        events.push(event_at_place(alloc, kind, i32::from(kind))?)?;
+        let event = event_at_place(rt, alloc, kind, i32::from(kind));
+        events.push(event).expect(rt, "memory");
     }
-    Ok(events)
+    events
 }
 
 /// A composite of so many of these events is written as these digits.
@@ -346,88 +341,100 @@ fn composite_is<R: Abort>(
     (policy, count): (u8, u8),
     sizes: &IdSizes,
     hex: &str,
-) -> Result<(), Fail> {
-    let composite = Composite::new(policy, events(alloc, count)?);
-    goes_there_and_back(rt, alloc, &composite, sizes, hex)
+) {
+    let composite = Composite::new(policy, events(rt, alloc, count));
+    goes_there_and_back(rt, alloc, &composite, sizes, hex);
 }
 
 #[test]
-fn composites_are_their_bytes(rt: HostRuntime) -> Result<(), Fail> {
+fn composites_are_their_bytes(rt: HostRuntime) {
     let alloc = rt.alloc();
-    composite_is(&rt, alloc, (2, 0), &wide()?, "0200000000")?;
+    composite_is(&rt, alloc, (2, 0), &wide(&rt), "0200000000");
     composite_is(
         &rt,
         alloc,
         (0, 1),
-        &wide()?,
+        &wide(&rt),
         "0000000001\
          0100000001000000000000000101000000000000000a00000000000000140000000000000003",
-    )?;
+    );
     composite_is(
         &rt,
         alloc,
         (1, 2),
-        &wide()?,
+        &wide(&rt),
         "0100000002\
          0100000001000000000000000101000000000000000a00000000000000140000000000000003\
          0200000002000000000000000101000000000000000a00000000000000140000000000000003",
-    )?;
+    );
     composite_is(
         &rt,
         alloc,
         (1, 2),
-        &narrow()?,
+        &narrow(&rt),
         "0100000002\
          0100000001000001010000000a00140000000000000003\
          0200000002000001010000000a00140000000000000003",
-    )
+    );
 }
 
 /// The composite that the data of this one make, as text.
-fn made_again(alloc: Global, composite: Composite) -> Result<String, Fail> {
-    let data = composite.into_data(alloc)?;
-    let again = Composite::of_data(alloc, data)?.ok_or("no composite")?;
-    Ok(format!(in alloc; "{again:?}")?)
+fn made_again(rt: &impl Abort, alloc: Global, composite: Composite) -> String {
+    let data = composite.into_data(alloc).expect(rt, "memory");
+    let made = Composite::of_data(alloc, data).expect(rt, "memory");
+    let again = made.expect(rt, "a composite");
+    format!(in alloc; "{again:?}").expect(rt, "memory")
 }
 
-fn is_composite(alloc: Global, items: Vec<Datum>) -> Result<bool, Fail> {
-    Ok(Composite::of_data(alloc, Data::new(items))?.is_some())
+/// Whether these data make a composite.
+fn is_composite(rt: &impl Abort, alloc: Global, items: Vec<Datum>) -> bool {
+    let made = Composite::of_data(alloc, Data::new(items));
+    made.expect(rt, "memory").is_some()
 }
 
 #[test]
-fn a_composite_is_made_of_its_data(rt: HostRuntime) -> Result<(), Fail> {
-    let two = Composite::new(1, events(rt.alloc(), 2)?);
-    let wanted = format!(in rt.alloc(); "{two:?}")?;
-    let found = made_again(rt.alloc(), two)?;
+fn a_composite_is_made_of_its_data(rt: HostRuntime) {
+    let two = Composite::new(1, events(&rt, rt.alloc(), 2));
+    let wanted = format!(in rt.alloc(); "{two:?}").expect(&rt, "memory");
+    let found = made_again(&rt, rt.alloc(), two);
     expect_same(&rt, &found.as_str(), &wanted.as_str());
-    Ok(())
 }
 
 #[test]
-fn other_data_are_no_composite(rt: HostRuntime) -> Result<(), Fail> {
+fn other_data_are_no_composite(rt: HostRuntime) {
     let alloc = rt.alloc();
-    let one = vec![in alloc; Datum::One(Scalar::Byte(1))]?;
-    assert!(rt; !is_composite(alloc, one)?);
-    let int = vec![in alloc; Datum::One(Scalar::Int(1)), Datum::Many(Vec::new(alloc))]?;
-    assert!(rt; !is_composite(alloc, int)?);
-    Ok(())
+    let one = vec![in alloc; Datum::One(Scalar::Byte(1))].expect(&rt, "memory");
+    assert!(rt; !is_composite(&rt, alloc, one));
+    let int = vec![in alloc; Datum::One(Scalar::Int(1)), Datum::Many(Vec::new(alloc))];
+    assert!(rt; !is_composite(&rt, alloc, int.expect(&rt, "memory")));
 }
 
 /// A number, a list of an id and a text, and a region.
-fn data_of_each_form(alloc: Global) -> Result<Data, Fail> {
-    let text = Scalar::String(String::from_str(alloc, "main")?);
-    let entry = vec![in alloc; Scalar::ObjectId(ObjectId(5)), text]?;
-    let elements = vec![in alloc; Value::Int(7)]?;
-    let region = ArrayRegion::new(Tag::Int, elements).ok_or("no region")?;
+fn data_of_each_form(rt: &impl Abort, alloc: Global) -> Data {
     let number = Datum::One(Scalar::Byte(1));
-    let list = Datum::Many(vec![in alloc; entry]?);
-    Ok(Data::new(vec![in alloc; number, list, Datum::Region(region)]?))
+    let list = list_of_one(rt, alloc);
+    let region = region_of_one(rt, alloc);
+    let items = vec![in alloc; number, list, region];
+    Data::new(items.expect(rt, "memory"))
+}
+
+/// A list of an id and a text.
+fn list_of_one(rt: &impl Abort, alloc: Global) -> Datum {
+    let name = Scalar::String(text(rt, alloc, "main"));
+    let entry = vec![in alloc; Scalar::ObjectId(ObjectId(5)), name].expect(rt, "memory");
+    Datum::Many(vec![in alloc; entry].expect(rt, "memory"))
+}
+
+/// A region of one int.
+fn region_of_one(rt: &impl Abort, alloc: Global) -> Datum {
+    let elements = vec![in alloc; Value::Int(7)].expect(rt, "memory");
+    let region = ArrayRegion::new(Tag::Int, elements);
+    Datum::Region(region.expect(rt, "a region"))
 }
 
 #[test]
-fn copied_data_are_the_same(rt: HostRuntime) -> Result<(), Fail> {
-    let first = data_of_each_form(rt.alloc())?;
-    let copy = first.copied(rt.alloc())?;
+fn copied_data_are_the_same(rt: HostRuntime) {
+    let first = data_of_each_form(&rt, rt.alloc());
+    let copy = first.copied(rt.alloc()).expect(&rt, "memory");
     expect_same(&rt, &copy.items(), &first.items());
-    Ok(())
 }

@@ -4,7 +4,7 @@ use jdwp_wire::{
     ErrorCode, FrameFault, HANDSHAKE, Header, IdKind, IdSizes, Limits, Next, NextHello, PacketKind,
     Width, names_error_codes, next_hello, next_packet, next_packet_within,
 };
-use std::test::Fail;
+use std::process::Abort;
 
 #[test]
 fn the_handshake(rt: HostRuntime) {
@@ -50,14 +50,19 @@ static FAULTS: [(&[u8], FrameFault, u16); 6] = [
     (&[0, 1, 0, 0, 0, 0, 0, 1, 0x7f], FrameFault::BadFlags, 3),
 ];
 
+/// The bytes show this fault, and without the last of them none.
+fn shows_at_its_last(rt: &impl Abort, bytes: &[u8], wanted: FrameFault) {
+    expect_same(rt, &front(bytes), &Err(wanted));
+    if let Some((_, before)) = bytes.split_last() {
+        expect_same(rt, &front(before), &Ok(None));
+    }
+}
+
 #[test]
 fn faults_as_soon_as_they_show(rt: HostRuntime) {
     for &(bytes, wanted, number) in FAULTS.iter() {
-        expect_same(&rt, &front(bytes), &Err(wanted));
+        shows_at_its_last(&rt, bytes, wanted);
         expect_same(&rt, &wanted.number(), &number);
-        if let Some((_, before)) = bytes.split_last() {
-            expect_same(&rt, &front(before), &Ok(None));
-        }
     }
 }
 
@@ -90,8 +95,8 @@ fn a_reply_and_its_header(rt: HostRuntime) {
 }
 
 #[test]
-fn widths_of_ids(rt: HostRuntime) -> Result<(), Fail> {
-    let sizes = IdSizes::new(1, 2, 3, 4, 8)?;
+fn widths_of_ids(rt: HostRuntime) {
+    let sizes = IdSizes::new(1, 2, 3, 4, 8).expect(&rt, "widths");
     let widths = (
         sizes.field(),
         sizes.method(),
@@ -100,7 +105,6 @@ fn widths_of_ids(rt: HostRuntime) -> Result<(), Fail> {
         sizes.frame(),
     );
     expect_same(&rt, &widths, &(1, 2, 3, 4, 8));
-    Ok(())
 }
 
 #[test]
@@ -116,7 +120,7 @@ fn a_width_that_there_is_not(rt: HostRuntime) {
 }
 
 #[test]
-fn a_width_of_one_kind(rt: HostRuntime) -> Result<(), Fail> {
+fn a_width_of_one_kind(rt: HostRuntime) {
     for bytes in 1..=8u8 {
         expect_same(
             &rt,
@@ -127,10 +131,9 @@ fn a_width_of_one_kind(rt: HostRuntime) -> Result<(), Fail> {
     for bytes in [0, 9, 255] {
         assert!(rt; Width::new(bytes).is_none());
     }
-    let sizes = IdSizes::new(1, 2, 3, 4, 8)?;
+    let sizes = IdSizes::new(1, 2, 3, 4, 8).expect(&rt, "widths");
     expect_same(&rt, &sizes.width(IdKind::ReferenceType).bytes(), &4);
     expect_same(&rt, &sizes.width(IdKind::Frame).bytes(), &8);
-    Ok(())
 }
 
 #[test]
@@ -166,8 +169,8 @@ fn limits_of_sessions(rt: HostRuntime) {
 }
 
 #[test]
-fn packets_within_limits(rt: HostRuntime) -> Result<(), Fail> {
-    let limits = Limits::new(2048, 64, 3, 64).ok_or("no limits")?;
+fn packets_within_limits(rt: HostRuntime) {
+    let limits = Limits::new(2048, 64, 3, 64).expect(&rt, "limits");
     assert!(rt;
         matches!(
             next_packet_within(&[0, 0, 8, 1], &limits),
@@ -176,7 +179,6 @@ fn packets_within_limits(rt: HostRuntime) -> Result<(), Fail> {
     );
     assert!(rt; matches!(next_packet_within(&[0, 0, 8, 0], &limits), Next::More));
     assert!(rt; matches!(next_packet(&[0, 0, 8, 1]), Next::More));
-    Ok(())
 }
 
 /// Each named error, and its number.

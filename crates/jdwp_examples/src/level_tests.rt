@@ -1,10 +1,9 @@
 //! Moves of the counts of two threads, and how many threads each visits.
 use levels::Counts;
-use std::test::Fail;
 
 #[test]
-fn two_threads(rt: HostRuntime) -> Result<(), Fail> {
-    let mut counts = Counts::new(rt.alloc(), 2)?;
+fn two_threads(rt: HostRuntime) {
+    let mut counts = Counts::new(rt.alloc(), 2).expect(&rt, "memory");
     let begun = (counts.visits(), counts.count(0), counts.count(1));
     counts.raise_all();
     let both_stop = (counts.visits(), counts.count(0), counts.count(1));
@@ -27,15 +26,14 @@ fn two_threads(rt: HostRuntime) -> Result<(), Fail> {
     assert_eq!(rt; one_runs, (1, 1, 0));
     assert_eq!(rt; both_run, (1, 0, 0));
     assert_eq!(rt; both_ran, (0, 0, 0));
-    Ok(())
 }
 
 /// One is added while the other is suspended, rises alone, and the first is taken out.
 #[test]
-fn one_comes_and_one_goes(rt: HostRuntime) -> Result<(), Fail> {
-    let mut counts = Counts::new(rt.alloc(), 1)?;
+fn one_comes_and_one_goes(rt: HostRuntime) {
+    let mut counts = Counts::new(rt.alloc(), 1).expect(&rt, "memory");
     counts.raise_all();
-    counts.make_room()?;
+    counts.make_room().expect(&rt, "memory");
     counts.add();
     counts.raise_one(1);
     counts.raise_one(1);
@@ -47,5 +45,4 @@ fn one_comes_and_one_goes(rt: HostRuntime) -> Result<(), Fail> {
     assert_eq!(rt; both, (1, 2));
     assert_eq!(rt; left, 2);
     assert_eq!(rt; cleared, (0, 1));
-    Ok(())
 }

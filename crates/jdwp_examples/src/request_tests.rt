@@ -5,20 +5,20 @@ use jdwp_event::{
     Request, RequestId, Requests, StepOrigin, ThrownException, count_down, count_gathered, gather,
     matches,
 };
-use jdwp_layout::{layout_of, write};
+use jdwp_layout::{Datum, layout_of, write};
 use jdwp_value::{
     FieldId, Location, MethodId, ObjectId, ObjectTag, ReferenceTypeId, TaggedId, TypeTag, Value,
 };
 use jdwp_wire::IdSizes;
 use std::alloc::Global;
 use std::process::Abort;
-use std::test::Fail;
 
 const NOWHERE: StepOrigin = StepOrigin {
     frames: 0,
     line: None,
 };
 
+/// An index of a method of a class.
 fn at(class: u64, method: u64, index: u64) -> Location {
     Location::At {
         tag: TypeTag::Class,
@@ -28,144 +28,145 @@ fn at(class: u64, method: u64, index: u64) -> Location {
     }
 }
 
-fn seen(alloc: Global, signature: &str) -> Result<ClassSeen, Fail> {
-    Ok(ClassSeen {
-        signature: String::from_str(alloc, signature)?,
-        reaches: vec![in alloc; ReferenceTypeId(10), ReferenceTypeId(11)]?,
-    })
+/// A class of this signature, which reaches 10 and 11.
+fn seen(rt: &impl Abort, alloc: Global, signature: &str) -> ClassSeen {
+    ClassSeen {
+        signature: text(rt, alloc, signature),
+        reaches: ids(rt, alloc, [ReferenceTypeId(10), ReferenceTypeId(11)]),
+    }
+}
+
+/// The two ids as a `Vec`.
+fn ids(rt: &impl Abort, alloc: Global, ids: [ReferenceTypeId; 2]) -> Vec<ReferenceTypeId> {
+    ids.to_vec(alloc).expect(rt, "memory")
 }
 
 /// A place of class 10, which reaches 11.
-fn place(alloc: Global, index: u64, line: Option<u32>, frames: u32) -> Result<Place, Fail> {
-    Ok(Place {
+fn place(rt: &impl Abort, alloc: Global, index: u64, line: Option<u32>, frames: u32) -> Place {
+    Place {
         location: at(10, 20, index),
         line,
         frames,
-        class: seen(alloc, "Ljava/lang/Main;")?,
-    })
+        class: seen(rt, alloc, "Ljava/lang/Main;"),
+    }
 }
 
 /// A thread moves to this index and line, with so many frames.
 fn moved_to(
+    rt: &impl Abort,
     alloc: Global,
     thread: u64,
     index: u64,
     line: Option<u32>,
     frames: u32,
-) -> Result<Happening, Fail> {
-    let place = place(alloc, index, line, frames)?;
-    Ok(Happening::new(ObjectId(thread), Occurrence::Moved(place)))
+) -> Happening {
+    let place = place(rt, alloc, index, line, frames);
+    Happening::new(ObjectId(thread), Occurrence::Moved(place))
 }
 
 /// Thread 1 moves to index 3, line 2, with one frame.
-fn moved(alloc: Global) -> Result<Happening, Fail> {
-    moved_to(alloc, 1, 3, Some(2), 1)
+fn moved(rt: &impl Abort, alloc: Global) -> Happening {
+    moved_to(rt, alloc, 1, 3, Some(2), 1)
 }
 
 /// Thread 1 throws an exception of class 30, which reaches 31.
-fn thrown(alloc: Global, caught_at: Location) -> Result<Happening, Fail> {
+fn thrown(rt: &impl Abort, alloc: Global, caught_at: Location) -> Happening {
+    let place = place(rt, alloc, 3, Some(2), 1);
     let exception = ThrownException {
         exception: TaggedId {
             tag: ObjectTag::Object,
             id: ObjectId(7),
         },
         caught_at,
-        reaches: vec![in alloc; ReferenceTypeId(30), ReferenceTypeId(31)]?,
+        reaches: ids(rt, alloc, [ReferenceTypeId(30), ReferenceTypeId(31)]),
     };
-    Ok(Happening::new(
-        ObjectId(1),
-        Occurrence::Threw(place(alloc, 3, Some(2), 1)?, exception),
-    ))
+    Happening::new(ObjectId(1), Occurrence::Threw(place, exception))
 }
 
+/// A request of this kind under this id.
 fn request(
+    rt: &impl Abort,
     alloc: Global,
     id: u8,
     kind: EventKind,
     policy: Policy,
     modifiers: Vec<Modifier>,
     origin: StepOrigin,
-) -> Result<Request, Fail> {
-    Ok(Request::new(
-        alloc,
-        RequestId::new(u32::from(id)).ok_or("no id")?,
-        kind.byte(),
-        policy.byte(),
-        modifiers,
-        origin,
-    )?)
+) -> Request {
+    let id = RequestId::new(u32::from(id)).expect(rt, "an id");
+    let request = Request::new(alloc, id, kind.byte(), policy.byte(), modifiers, origin);
+    request.expect(rt, "memory")
 }
 
 /// Whether a request of the kind with this one modifier reports the happening.
 fn passes(
+    rt: &impl Abort,
     alloc: Global,
     kind: EventKind,
     modifier: Modifier,
     happening: &Happening,
-) -> Result<bool, Fail> {
-    let modifiers = vec![in alloc; modifier]?;
-    let request = request(alloc, 1, kind, Policy::None, modifiers, NOWHERE)?;
-    Ok(matches(&request, happening))
+) -> bool {
+    let modifiers = vec![in alloc; modifier].expect(rt, "memory");
+    let request = request(rt, alloc, 1, kind, Policy::None, modifiers, NOWHERE);
+    matches(&request, happening)
 }
 
-fn text(alloc: Global, text: &str) -> Result<String, Fail> {
-    Ok(String::from_str(alloc, text)?)
+/// The text as a `String`.
+fn text(rt: &impl Abort, alloc: Global, text: &str) -> String {
+    String::from_str(alloc, text).expect(rt, "memory")
 }
 
 /// Whether a breakpoint with this modifier reports a move of thread 1.
-fn filters(alloc: Global, modifier: Modifier) -> Result<bool, Fail> {
-    passes(alloc, EventKind::Breakpoint, modifier, &moved(alloc)?)
+fn filters(rt: &impl Abort, alloc: Global, modifier: Modifier) -> bool {
+    let happening = moved(rt, alloc);
+    passes(rt, alloc, EventKind::Breakpoint, modifier, &happening)
 }
 
 #[test]
-fn counts_and_conditions_are_filters(rt: HostRuntime) -> Result<(), Fail> {
-    assert!(rt; filters(rt.alloc(), Modifier::Count(1))?);
-    assert!(rt; !filters(rt.alloc(), Modifier::Count(2))?);
-    assert!(rt; !filters(rt.alloc(), Modifier::Count(0))?);
-    assert!(rt; !filters(rt.alloc(), Modifier::Count(-1))?);
-    assert!(rt; !filters(rt.alloc(), Modifier::Conditional(1))?);
-    Ok(())
+fn counts_and_conditions_are_filters(rt: HostRuntime) {
+    assert!(rt; filters(&rt, rt.alloc(), Modifier::Count(1)));
+    assert!(rt; !filters(&rt, rt.alloc(), Modifier::Count(2)));
+    assert!(rt; !filters(&rt, rt.alloc(), Modifier::Count(0)));
+    assert!(rt; !filters(&rt, rt.alloc(), Modifier::Count(-1)));
+    assert!(rt; !filters(&rt, rt.alloc(), Modifier::Conditional(1)));
 }
 
 #[test]
-fn threads_and_classes_are_filters(rt: HostRuntime) -> Result<(), Fail> {
-    assert!(rt; filters(rt.alloc(), Modifier::ThreadOnly(ObjectId(1)))?);
-    assert!(rt; !filters(rt.alloc(), Modifier::ThreadOnly(ObjectId(2)))?);
-    assert!(rt; filters(rt.alloc(), Modifier::ClassOnly(ReferenceTypeId(10)))?);
-    assert!(rt; filters(rt.alloc(), Modifier::ClassOnly(ReferenceTypeId(11)))?);
-    assert!(rt; !filters(rt.alloc(), Modifier::ClassOnly(ReferenceTypeId(12)))?);
-    Ok(())
+fn threads_and_classes_are_filters(rt: HostRuntime) {
+    assert!(rt; filters(&rt, rt.alloc(), Modifier::ThreadOnly(ObjectId(1))));
+    assert!(rt; !filters(&rt, rt.alloc(), Modifier::ThreadOnly(ObjectId(2))));
+    assert!(rt; filters(&rt, rt.alloc(), Modifier::ClassOnly(ReferenceTypeId(10))));
+    assert!(rt; filters(&rt, rt.alloc(), Modifier::ClassOnly(ReferenceTypeId(11))));
+    assert!(rt; !filters(&rt, rt.alloc(), Modifier::ClassOnly(ReferenceTypeId(12))));
 }
 
 #[test]
-fn locations_are_filters(rt: HostRuntime) -> Result<(), Fail> {
-    assert!(rt; filters(rt.alloc(), Modifier::LocationOnly(at(10, 20, 3)))?);
-    assert!(rt; !filters(rt.alloc(), Modifier::LocationOnly(at(10, 20, 4)))?);
-    assert!(rt; !filters(rt.alloc(), Modifier::LocationOnly(at(10, 21, 3)))?);
-    assert!(rt; !filters(rt.alloc(), Modifier::LocationOnly(at(11, 20, 3)))?);
-    assert!(rt; !filters(rt.alloc(), Modifier::LocationOnly(Location::Null))?);
-    Ok(())
+fn locations_are_filters(rt: HostRuntime) {
+    assert!(rt; filters(&rt, rt.alloc(), Modifier::LocationOnly(at(10, 20, 3))));
+    assert!(rt; !filters(&rt, rt.alloc(), Modifier::LocationOnly(at(10, 20, 4))));
+    assert!(rt; !filters(&rt, rt.alloc(), Modifier::LocationOnly(at(10, 21, 3))));
+    assert!(rt; !filters(&rt, rt.alloc(), Modifier::LocationOnly(at(11, 20, 3))));
+    assert!(rt; !filters(&rt, rt.alloc(), Modifier::LocationOnly(Location::Null)));
 }
 
 #[test]
-fn fields_and_instances_pass_nowhere(rt: HostRuntime) -> Result<(), Fail> {
+fn fields_and_instances_pass_nowhere(rt: HostRuntime) {
     let field = Modifier::FieldOnly {
         class: ReferenceTypeId(10),
         field: FieldId(1),
     };
-    assert!(rt; !filters(rt.alloc(), field)?);
-    assert!(rt; !filters(rt.alloc(), Modifier::InstanceOnly(ObjectId(0)))?);
-    Ok(())
+    assert!(rt; !filters(&rt, rt.alloc(), field));
+    assert!(rt; !filters(&rt, rt.alloc(), Modifier::InstanceOnly(ObjectId(0))));
 }
 
 /// Whether a class of this name in the dotted form passes, of class java.lang.Main.
-fn matches_class(alloc: Global, pattern: &str) -> Result<bool, Fail> {
-    filters(alloc, Modifier::ClassMatch(text(alloc, pattern)?))
+fn matches_class(rt: &impl Abort, alloc: Global, pattern: &str) -> bool {
+    filters(rt, alloc, Modifier::ClassMatch(text(rt, alloc, pattern)))
 }
 
 /// The same of a pattern that is to be excluded.
-fn excludes_class(alloc: Global, pattern: &str) -> Result<bool, Fail> {
-    filters(alloc, Modifier::ClassExclude(text(alloc, pattern)?))
+fn excludes_class(rt: &impl Abort, alloc: Global, pattern: &str) -> bool {
+    filters(rt, alloc, Modifier::ClassExclude(text(rt, alloc, pattern)))
 }
 
 /// Whether a pattern passes the class java.lang.Main.
@@ -181,22 +182,20 @@ static PATTERNS: [(bool, &str); 8] = [
 ];
 
 #[test]
-fn patterns_are_filters(rt: HostRuntime) -> Result<(), Fail> {
+fn patterns_are_filters(rt: HostRuntime) {
     for &(wanted, pattern) in PATTERNS.iter() {
-        expect_same(&rt, &matches_class(rt.alloc(), pattern)?, &wanted);
+        expect_same(&rt, &matches_class(&rt, rt.alloc(), pattern), &wanted);
     }
-    expect_same(&rt, &excludes_class(rt.alloc(), "javax.*")?, &true);
-    expect_same(&rt, &excludes_class(rt.alloc(), "java.*")?, &false);
-    Ok(())
+    expect_same(&rt, &excludes_class(&rt, rt.alloc(), "javax.*"), &true);
+    expect_same(&rt, &excludes_class(&rt, rt.alloc(), "java.*"), &false);
 }
 
 #[test]
-fn source_names_pass_nowhere(rt: HostRuntime) -> Result<(), Fail> {
+fn source_names_pass_nowhere(rt: HostRuntime) {
     let alloc = rt.alloc();
-    let modifier = Modifier::SourceNameMatch(text(alloc, "*")?);
-    let is_passed = passes(alloc, EventKind::Breakpoint, modifier, &moved(alloc)?)?;
+    let modifier = Modifier::SourceNameMatch(text(&rt, alloc, "*"));
+    let is_passed = filters(&rt, alloc, modifier);
     expect_same(&rt, &is_passed, &false);
-    Ok(())
 }
 
 /// The class, whether caught ones and uncaught ones are to pass; whether a caught one passes, and an uncaught one.
@@ -210,39 +209,35 @@ static EXCEPTIONS: [(u64, bool, bool, bool, bool); 6] = [
 ];
 
 #[test]
-fn exceptions_pass_by_class_and_by_whether_they_are_caught(rt: HostRuntime) -> Result<(), Fail> {
+fn exceptions_pass_by_class_and_by_whether_they_are_caught(rt: HostRuntime) {
     for &(class, caught, uncaught, wanted, other) in EXCEPTIONS.iter() {
-        let is_caught = passes_only(rt.alloc(), class, caught, uncaught, at(10, 20, 9))?;
+        let is_caught = passes_only(&rt, rt.alloc(), class, caught, uncaught, at(10, 20, 9));
         expect_same(&rt, &is_caught, &wanted);
-        let is_uncaught = passes_only(rt.alloc(), class, caught, uncaught, Location::Null)?;
+        let is_uncaught = passes_only(&rt, rt.alloc(), class, caught, uncaught, Location::Null);
         expect_same(&rt, &is_uncaught, &other);
     }
-    Ok(())
 }
 
 /// Whether an exception that is caught there passes, which has to be of this class, caught ones or not, uncaught ones or not.
 fn passes_only(
+    rt: &impl Abort,
     alloc: Global,
     class: u64,
     caught: bool,
     uncaught: bool,
     caught_at: Location,
-) -> Result<bool, Fail> {
+) -> bool {
     let only = Modifier::ExceptionOnly {
         class: ReferenceTypeId(class),
         caught,
         uncaught,
     };
-    passes(
-        alloc,
-        EventKind::Exception,
-        only,
-        &thrown(alloc, caught_at)?,
-    )
+    let happening = thrown(rt, alloc, caught_at);
+    passes(rt, alloc, EventKind::Exception, only, &happening)
 }
 
 /// A request of steps of this size and depth, from two frames at line 2.
-fn step_request(alloc: Global, size: i32, depth: i32) -> Result<Request, Fail> {
+fn step_request(rt: &impl Abort, alloc: Global, size: i32, depth: i32) -> Request {
     let step = Modifier::Step {
         thread: ObjectId(1),
         size,
@@ -252,21 +247,22 @@ fn step_request(alloc: Global, size: i32, depth: i32) -> Result<Request, Fail> {
         frames: 2,
         line: Some(2),
     };
-    let modifiers = vec![in alloc; step]?;
+    let modifiers = vec![in alloc; step].expect(rt, "memory");
     let kind = EventKind::SingleStep;
-    request(alloc, 1, kind, Policy::None, modifiers, origin)
+    request(rt, alloc, 1, kind, Policy::None, modifiers, origin)
 }
 
 /// Whether it reports a move to this line with so many frames.
 fn step_passes(
+    rt: &impl Abort,
     alloc: Global,
     size: i32,
     depth: i32,
     frames: u32,
     line: Option<u32>,
-) -> Result<bool, Fail> {
-    let request = step_request(alloc, size, depth)?;
-    Ok(matches(&request, &moved_to(alloc, 1, 4, line, frames)?))
+) -> bool {
+    let request = step_request(rt, alloc, size, depth);
+    matches(&request, &moved_to(rt, alloc, 1, 4, line, frames))
 }
 
 /// From two frames at line 2: the size, the depth, the frames now, the line now, and whether the step passes.
@@ -286,43 +282,49 @@ static STEPS: [(i32, i32, u32, Option<u32>, bool); 12] = [
 ];
 
 #[test]
-fn steps_pass_by_size_and_depth(rt: HostRuntime) -> Result<(), Fail> {
+fn steps_pass_by_size_and_depth(rt: HostRuntime) {
     for &(size, depth, frames, line, wanted) in STEPS.iter() {
-        let found = step_passes(rt.alloc(), size, depth, frames, line)?;
+        let found = step_passes(&rt, rt.alloc(), size, depth, frames, line);
         expect_same(&rt, &found, &wanted);
     }
-    Ok(())
+}
+
+/// This request alone.
+fn requests_of(rt: &impl Abort, alloc: Global, request: Request) -> Requests {
+    let mut requests = Requests::new(alloc);
+    requests.insert(request).expect(rt, "memory");
+    requests
 }
 
 /// Requests of steps over calls in lines of thread 1, from line 1 in its only frame.
-fn steps_over(alloc: Global) -> Result<Requests, Fail> {
+fn steps_over(rt: &impl Abort, alloc: Global) -> Requests {
     let step = Modifier::Step {
         thread: ObjectId(1),
         size: 1,
         depth: 1,
     };
-    let modifiers = vec![in alloc; step]?;
+    let modifiers = vec![in alloc; step].expect(rt, "memory");
     let origin = StepOrigin {
         frames: 1,
         line: Some(1),
     };
     let kind = EventKind::SingleStep;
-    let mut requests = Requests::new(alloc);
-    requests.insert(request(alloc, 1, kind, Policy::None, modifiers, origin)?)?;
-    Ok(requests)
+    let request = request(rt, alloc, 1, kind, Policy::None, modifiers, origin);
+    requests_of(rt, alloc, request)
 }
 
 /// Whether a move to this line with so many frames is reported; then it is counted.
 fn reports_move(
+    rt: &impl Abort,
     alloc: Global,
     requests: &mut Requests,
     line: u32,
     frames: u32,
-) -> Result<bool, Fail> {
-    let there = moved_to(alloc, 1, 4, Some(line), frames)?;
-    let is_reported = gather(alloc, requests, &there)?.is_some();
+) -> bool {
+    let there = moved_to(rt, alloc, 1, 4, Some(line), frames);
+    let found = gather(alloc, requests, &there).expect(rt, "memory");
     count_down(requests, &there);
-    Ok(is_reported)
+    found.is_some()
 }
 
 /// The line from which the steps of the first request are measured.
@@ -337,37 +339,52 @@ fn origin_line(requests: &Requests) -> Option<u32> {
 static MOVES: [(u32, u32, bool); 4] = [(2, 1, true), (7, 2, false), (2, 1, false), (3, 1, true)];
 
 #[test]
-fn a_step_over_a_call_begins_where_it_last_reported(rt: HostRuntime) -> Result<(), Fail> {
-    let mut requests = steps_over(rt.alloc())?;
+fn a_step_over_a_call_begins_where_it_last_reported(rt: HostRuntime) {
+    let mut requests = steps_over(&rt, rt.alloc());
     for &(line, frames, wanted) in MOVES.iter() {
-        let found = reports_move(rt.alloc(), &mut requests, line, frames)?;
+        let found = reports_move(&rt, rt.alloc(), &mut requests, line, frames);
         expect_same(&rt, &found, &wanted);
     }
     expect_same(&rt, &origin_line(&requests), &Some(3));
-    Ok(())
 }
 
 /// Breakpoints at a Count of 2: that of the request 1 stands before the thread, and that of the request 2 behind it.
-fn counted(alloc: Global) -> Result<Requests, Fail> {
+fn counted(rt: &impl Abort, alloc: Global) -> Requests {
     let mut requests = Requests::new(alloc);
-    let first = vec![in alloc; Modifier::Count(2), Modifier::ThreadOnly(ObjectId(1))]?;
-    insert_breakpoint(alloc, &mut requests, 1, Policy::None, first)?;
-    let second = vec![in alloc; Modifier::ThreadOnly(ObjectId(1)), Modifier::Count(2)]?;
-    insert_breakpoint(alloc, &mut requests, 2, Policy::None, second)?;
-    Ok(requests)
+    let first = both(
+        rt,
+        alloc,
+        Modifier::Count(2),
+        Modifier::ThreadOnly(ObjectId(1)),
+    );
+    insert_breakpoint(rt, alloc, &mut requests, 1, Policy::None, first);
+    let second = both(
+        rt,
+        alloc,
+        Modifier::ThreadOnly(ObjectId(1)),
+        Modifier::Count(2),
+    );
+    insert_breakpoint(rt, alloc, &mut requests, 2, Policy::None, second);
+    requests
+}
+
+/// The two modifiers, in this order.
+fn both(rt: &impl Abort, alloc: Global, first: Modifier, second: Modifier) -> Vec<Modifier> {
+    vec![in alloc; first, second].expect(rt, "memory")
 }
 
 /// Adds a breakpoint with these modifiers under this id.
 fn insert_breakpoint(
+    rt: &impl Abort,
     alloc: Global,
     requests: &mut Requests,
     id: u8,
     policy: Policy,
     modifiers: Vec<Modifier>,
-) -> Result<(), Fail> {
+) {
     let kind = EventKind::Breakpoint;
-    requests.insert(request(alloc, id, kind, policy, modifiers, NOWHERE)?)?;
-    Ok(())
+    let request = request(rt, alloc, id, kind, policy, modifiers, NOWHERE);
+    requests.insert(request).expect(rt, "memory");
 }
 
 /// A move of a thread is reported by this request alone, or by none; then it is counted.
@@ -377,187 +394,212 @@ fn is_reported_by(
     requests: &mut Requests,
     thread: u64,
     wanted: Option<u32>,
-) -> Result<(), Fail> {
-    let here = moved_to(alloc, thread, 3, Some(2), 1)?;
-    let found = gather(alloc, requests, &here)?;
+) {
+    let here = moved_to(rt, alloc, thread, 3, Some(2), 1);
+    let found = gather(alloc, requests, &here).expect(rt, "memory");
     expect_same(rt, &found.is_some(), &wanted.is_some());
+    passes_alone(rt, requests, &here, wanted);
+    count_gathered(requests, &here, &found);
+}
+
+/// Of these requests this one alone reports the happening, or none.
+fn passes_alone(rt: &impl Abort, requests: &Requests, happening: &Happening, wanted: Option<u32>) {
     for request in requests.as_slice() {
         let is_wanted = wanted == Some(request.id());
-        expect_same(rt, &matches(request, &here), &is_wanted);
+        expect_same(rt, &matches(request, happening), &is_wanted);
     }
-    count_gathered(requests, &here, &found);
-    Ok(())
 }
 
 /// The thread that moves, and the request that reports it.
 static COUNTED: [(u64, Option<u32>); 4] = [(2, None), (1, Some(1)), (1, Some(2)), (1, None)];
 
 #[test]
-fn a_count_that_was_reached_is_counted_though_a_later_modifier_fails(
-    rt: HostRuntime,
-) -> Result<(), Fail> {
-    let mut requests = counted(rt.alloc())?;
+fn a_count_that_was_reached_is_counted_though_a_later_modifier_fails(rt: HostRuntime) {
+    let mut requests = counted(&rt, rt.alloc());
     for &(thread, wanted) in COUNTED.iter() {
-        is_reported_by(&rt, rt.alloc(), &mut requests, thread, wanted)?;
+        is_reported_by(&rt, rt.alloc(), &mut requests, thread, wanted);
     }
     expect_same(&rt, &requests.len(), &2);
-    Ok(())
 }
 
 /// The composite that requests report of this.
-fn told(alloc: Global, requests: &Requests, what: &Happening) -> Result<Composite, Fail> {
-    Ok(gather(alloc, requests, what)?.ok_or("nothing")?)
+fn told(rt: &impl Abort, alloc: Global, requests: &Requests, what: &Happening) -> Composite {
+    let found = gather(alloc, requests, what).expect(rt, "memory");
+    found.expect(rt, "a composite")
 }
 
 /// One request of this kind under this id, without modifiers.
-fn one_request(alloc: Global, id: u8, kind: EventKind) -> Result<Requests, Fail> {
+fn one_request(rt: &impl Abort, alloc: Global, id: u8, kind: EventKind) -> Requests {
     let mut requests = Requests::new(alloc);
-    add_plain(alloc, &mut requests, id, kind)?;
-    Ok(requests)
+    add_plain(rt, alloc, &mut requests, id, kind);
+    requests
 }
 
 /// The data of a composite as hexadecimal digits.
-fn digits(alloc: Global, composite: Composite) -> Result<String, Fail> {
-    let row = layout_of(64, 100).ok_or("no row")?;
-    let layout = row.layouts.ok_or("a raw row")?.request;
-    let sizes = IdSizes::new(8, 8, 8, 8, 8)?;
-    let data = composite.into_data(alloc)?;
-    let mut bytes = Vec::new(alloc);
-    write(&layout, &sizes, data.items(), &mut bytes)?;
-    hexadecimal(alloc, &bytes)
+fn digits(rt: &impl Abort, alloc: Global, composite: Composite) -> String {
+    let data = composite.into_data(alloc).expect(rt, "memory");
+    let bytes = composite_bytes(rt, alloc, data.items());
+    hexadecimal(rt, alloc, &bytes)
 }
 
-fn hexadecimal(alloc: Global, bytes: &[u8]) -> Result<String, Fail> {
+/// The data of a composite as bytes, where ids have 8 bytes.
+fn composite_bytes(rt: &impl Abort, alloc: Global, items: &[Datum]) -> Vec<u8> {
+    let row = layout_of(64, 100).expect(rt, "a row");
+    let layouts = row.layouts.expect(rt, "layouts");
+    let sizes = IdSizes::new(8, 8, 8, 8, 8).expect(rt, "widths");
+    let mut bytes = Vec::new(alloc);
+    write(&layouts.request, &sizes, items, &mut bytes).expect(rt, "the data are written");
+    bytes
+}
+
+/// The bytes as hexadecimal digits.
+fn hexadecimal(rt: &impl Abort, alloc: Global, bytes: &[u8]) -> String {
     let mut text = String::new(alloc);
     for byte in bytes {
-        write!(text, "{byte:02x}")?;
+        write!(text, "{byte:02x}").expect(rt, "memory");
     }
-    Ok(text)
+    text
 }
 
 /// Adds a breakpoint of one place under this id.
-fn add_breakpoint(
-    alloc: Global,
-    requests: &mut Requests,
-    id: u8,
-    policy: Policy,
-) -> Result<(), Fail> {
-    let modifiers = vec![in alloc; Modifier::LocationOnly(at(10, 20, 3))]?;
-    insert_breakpoint(alloc, requests, id, policy, modifiers)
+fn add_breakpoint(rt: &impl Abort, alloc: Global, requests: &mut Requests, id: u8, policy: Policy) {
+    let modifiers = vec![in alloc; Modifier::LocationOnly(at(10, 20, 3))];
+    let modifiers = modifiers.expect(rt, "memory");
+    insert_breakpoint(rt, alloc, requests, id, policy, modifiers);
 }
 
 /// What breakpoints of one place under the requests 2 and 1 report.
-fn told_together(alloc: Global) -> Result<Composite, Fail> {
+fn told_together(rt: &impl Abort, alloc: Global) -> Composite {
     let mut requests = Requests::new(alloc);
-    add_breakpoint(alloc, &mut requests, 2, Policy::All)?;
-    add_breakpoint(alloc, &mut requests, 1, Policy::None)?;
-    told(alloc, &requests, &moved(alloc)?)
+    add_breakpoint(rt, alloc, &mut requests, 2, Policy::All);
+    add_breakpoint(rt, alloc, &mut requests, 1, Policy::None);
+    told(rt, alloc, &requests, &moved(rt, alloc))
 }
 
 #[test]
-fn two_requests_report_together(rt: HostRuntime) -> Result<(), Fail> {
+fn two_requests_report_together(rt: HostRuntime) {
     let alloc = rt.alloc();
-    let composite = told_together(alloc)?;
+    let composite = told_together(&rt, alloc);
     expect_same(&rt, &composite.policy(), &2);
     expect_same(&rt, &composite.events().len(), &2);
     expect_same(
         &rt,
-        &digits(alloc, composite)?.as_str(),
+        &digits(&rt, alloc, composite).as_str(),
         &"0200000002\
          0200000001000000000000000101000000000000000a00000000000000140000000000000003\
          0200000002000000000000000101000000000000000a00000000000000140000000000000003",
     );
-    Ok(())
 }
 
 /// Adds a request of this kind under this id, without modifiers.
-fn add_plain(alloc: Global, requests: &mut Requests, id: u8, kind: EventKind) -> Result<(), Fail> {
+fn add_plain(rt: &impl Abort, alloc: Global, requests: &mut Requests, id: u8, kind: EventKind) {
     let none = Vec::new(alloc);
-    requests.insert(request(alloc, id, kind, Policy::None, none, NOWHERE)?)?;
-    Ok(())
+    let request = request(rt, alloc, id, kind, Policy::None, none, NOWHERE);
+    requests.insert(request).expect(rt, "memory");
 }
 
 /// Requests under the ids 1 to 3, of which the last replaces another kind.
-fn three_requests(alloc: Global) -> Result<Requests, Fail> {
+fn three_requests(rt: &impl Abort, alloc: Global) -> Requests {
     let mut requests = Requests::new(alloc);
-    add_plain(alloc, &mut requests, 3, EventKind::Breakpoint)?;
-    add_plain(alloc, &mut requests, 1, EventKind::ThreadStart)?;
-    add_plain(alloc, &mut requests, 2, EventKind::Breakpoint)?;
-    add_plain(alloc, &mut requests, 3, EventKind::ThreadDeath)?;
-    Ok(requests)
+    add_plain(rt, alloc, &mut requests, 3, EventKind::Breakpoint);
+    add_plain(rt, alloc, &mut requests, 1, EventKind::ThreadStart);
+    add_plain(rt, alloc, &mut requests, 2, EventKind::Breakpoint);
+    add_plain(rt, alloc, &mut requests, 3, EventKind::ThreadDeath);
+    requests
 }
 
-#[test]
-fn requests_are_kept_by_rising_id(rt: HostRuntime) -> Result<(), Fail> {
-    let requests = three_requests(rt.alloc())?;
-    expect_same(&rt, &requests.len(), &3);
-    for (request, (id, kind)) in requests
-        .as_slice()
-        .iter()
-        .zip([(1, 6), (2, 2), (3, 7)].iter())
-    {
-        expect_same(&rt, &request.id(), &*id);
-        expect_same(&rt, &request.kind(), &*kind);
+/// The id and the kind of the request at a place.
+fn id_and_kind(requests: &Requests, place: usize) -> Option<(u32, u8)> {
+    match requests.as_slice().get(place) {
+        Some(request) => Some((request.id(), request.kind())),
+        None => None,
     }
-    Ok(())
 }
 
 #[test]
-fn requests_are_removed(rt: HostRuntime) -> Result<(), Fail> {
+fn requests_are_kept_by_rising_id(rt: HostRuntime) {
+    let requests = three_requests(&rt, rt.alloc());
+    expect_same(&rt, &requests.len(), &3);
+    expect_same(&rt, &id_and_kind(&requests, 0), &Some((1, 6)));
+    expect_same(&rt, &id_and_kind(&requests, 1), &Some((2, 2)));
+    expect_same(&rt, &id_and_kind(&requests, 2), &Some((3, 7)));
+}
+
+#[test]
+fn requests_are_removed(rt: HostRuntime) {
     assert!(rt; Requests::new(rt.alloc()).is_empty());
-    let mut requests = three_requests(rt.alloc())?;
+    let mut requests = three_requests(&rt, rt.alloc());
     requests.remove(2, 3);
     expect_same(&rt, &requests.len(), &3);
     requests.remove(7, 3);
     expect_same(&rt, &requests.len(), &2);
     requests.remove_breakpoints();
     expect_same(&rt, &requests.len(), &1);
-    let request = requests.as_slice().first().ok_or("no request")?;
-    expect_same(&rt, &request.id(), &1);
+    let first = requests.as_slice().first().map(Request::id);
+    expect_same(&rt, &first, &Some(1));
     requests.clear();
     assert!(rt; requests.is_empty());
-    Ok(())
 }
 
 /// A breakpoint of thread 1 at its second time.
-fn second_of_a_thread(alloc: Global) -> Result<Request, Fail> {
-    let modifiers = vec![in alloc; Modifier::ThreadOnly(ObjectId(1)), Modifier::Count(2)]?;
+fn second_of_a_thread(rt: &impl Abort, alloc: Global) -> Request {
+    let modifiers = both(
+        rt,
+        alloc,
+        Modifier::ThreadOnly(ObjectId(1)),
+        Modifier::Count(2),
+    );
     let kind = EventKind::Breakpoint;
-    request(alloc, 1, kind, Policy::None, modifiers, NOWHERE)
+    request(rt, alloc, 1, kind, Policy::None, modifiers, NOWHERE)
+}
+
+/// The thread that a modifier names.
+fn thread_of(modifier: Option<&Modifier>) -> Option<ObjectId> {
+    match modifier {
+        Some(Modifier::ThreadOnly(thread)) => Some(*thread),
+        _ => None,
+    }
+}
+
+/// The count that a modifier has.
+fn count_of(modifier: Option<&Modifier>) -> Option<i32> {
+    match modifier {
+        Some(Modifier::Count(count)) => Some(*count),
+        _ => None,
+    }
 }
 
 /// The request has these two modifiers, in the order sent.
 fn has_both(rt: &impl Abort, request: &Request) {
     expect_same(rt, &request.modifier_count(), &2);
-    assert!(rt; matches!(request.modifier(0), Some(Modifier::ThreadOnly(ObjectId(1)))));
-    assert!(rt; matches!(request.modifier(1), Some(Modifier::Count(2))));
-    assert!(rt; request.modifier(2).is_none());
+    expect_same(rt, &thread_of(request.modifier(0)), &Some(ObjectId(1)));
+    expect_same(rt, &count_of(request.modifier(1)), &Some(2));
+    expect_same(rt, &request.modifier(2).is_none(), &true);
 }
 
 #[test]
-fn modifiers_are_kept_in_the_order_sent(rt: HostRuntime) -> Result<(), Fail> {
-    has_both(&rt, &second_of_a_thread(rt.alloc())?);
-    Ok(())
+fn modifiers_are_kept_in_the_order_sent(rt: HostRuntime) {
+    has_both(&rt, &second_of_a_thread(&rt, rt.alloc()));
 }
 
 /// Something that thread 1 does, which a request of this kind reports.
-fn occurrence(alloc: Global, kind: u8) -> Result<Occurrence, Fail> {
+fn occurrence(rt: &impl Abort, alloc: Global, kind: u8) -> Occurrence {
     match kind {
-        6 => Ok(Occurrence::Started),
-        7 => Ok(Occurrence::RanOut),
-        8 => Ok(Occurrence::Prepared(interface(alloc)?)),
-        _ => Ok(there(kind, place(alloc, 3, None, 1)?)),
+        6 => Occurrence::Started,
+        7 => Occurrence::RanOut,
+        8 => Occurrence::Prepared(interface(rt, alloc)),
+        _ => there(kind, place(rt, alloc, 3, None, 1)),
     }
 }
 
 /// An interface that was prepared.
-fn interface(alloc: Global) -> Result<PreparedClass, Fail> {
-    Ok(PreparedClass {
+fn interface(rt: &impl Abort, alloc: Global) -> PreparedClass {
+    PreparedClass {
         tag: TypeTag::Interface,
         id: ReferenceTypeId(10),
         status: 3,
-        class: seen(alloc, "LA;")?,
-    })
+        class: seen(rt, alloc, "LA;"),
+    }
 }
 
 /// Something at a place, which a request of this kind reports.
@@ -570,18 +612,17 @@ fn there(kind: u8, place: Place) -> Occurrence {
 }
 
 /// The data of what one request of this kind byte under id 9, of policy EVENT_THREAD and without modifiers, reports.
-fn reported_by_byte(alloc: Global, kind: u8) -> Result<String, Fail> {
-    let requests = request_of_byte(alloc, kind)?;
-    let what = Happening::new(ObjectId(1), occurrence(alloc, kind)?);
-    digits(alloc, told(alloc, &requests, &what)?)
+fn reported_by_byte(rt: &impl Abort, alloc: Global, kind: u8) -> String {
+    let requests = request_of_byte(rt, alloc, kind);
+    let what = Happening::new(ObjectId(1), occurrence(rt, alloc, kind));
+    digits(rt, alloc, told(rt, alloc, &requests, &what))
 }
 
 /// The one request of this kind byte.
-fn request_of_byte(alloc: Global, kind: u8) -> Result<Requests, Fail> {
-    let mut requests = Requests::new(alloc);
-    let id = RequestId::new(9).ok_or("no id")?;
-    requests.insert(Request::new(alloc, id, kind, 1, Vec::new(alloc), NOWHERE)?)?;
-    Ok(requests)
+fn request_of_byte(rt: &impl Abort, alloc: Global, kind: u8) -> Requests {
+    let id = RequestId::new(9).expect(rt, "an id");
+    let request = Request::new(alloc, id, kind, 1, Vec::new(alloc), NOWHERE);
+    requests_of(rt, alloc, request.expect(rt, "memory"))
 }
 
 /// The byte of each kind, and its data behind the thread.
@@ -599,26 +640,30 @@ static KINDS: [(u8, &str); 8] = [
     (7, ""),
 ];
 
+/// What a request of this kind byte reports has these data behind the thread.
+fn has_data(rt: &impl Abort, alloc: Global, kind: u8, wanted: &str) {
+    let text = reported_by_byte(rt, alloc, kind);
+    let all = format!(in alloc; "0100000001{kind:02x}000000090000000000000001{wanted}");
+    expect_same(rt, &text, &all.expect(rt, "memory"));
+}
+
 #[test]
-fn each_kind_has_its_data(rt: HostRuntime) -> Result<(), Fail> {
+fn each_kind_has_its_data(rt: HostRuntime) {
     for (kind, wanted) in KINDS.iter() {
-        let text = reported_by_byte(rt.alloc(), *kind)?;
-        let all = format!(in rt.alloc(); "0100000001{kind:02x}000000090000000000000001{wanted}")?;
-        expect_same(&rt, &text.as_str(), &all.as_str());
+        has_data(&rt, rt.alloc(), *kind, wanted);
     }
-    Ok(())
 }
 
 /// The data of what one request of this kind under id 9, without modifiers, reports of this.
-fn reported(alloc: Global, kind: EventKind, what: Happening) -> Result<String, Fail> {
-    let requests = one_request(alloc, 9, kind)?;
-    digits(alloc, told(alloc, &requests, &what)?)
+fn reported(rt: &impl Abort, alloc: Global, kind: EventKind, what: Happening) -> String {
+    let requests = one_request(rt, alloc, 9, kind);
+    digits(rt, alloc, told(rt, alloc, &requests, &what))
 }
 
 #[test]
-fn an_exception_has_its_data(rt: HostRuntime) -> Result<(), Fail> {
-    let happening = thrown(rt.alloc(), Location::Null)?;
-    let text = reported(rt.alloc(), EventKind::Exception, happening)?;
+fn an_exception_has_its_data(rt: HostRuntime) {
+    let happening = thrown(&rt, rt.alloc(), Location::Null);
+    let text = reported(&rt, rt.alloc(), EventKind::Exception, happening);
     expect_same(
         &rt,
         &text.as_str(),
@@ -626,21 +671,22 @@ fn an_exception_has_its_data(rt: HostRuntime) -> Result<(), Fail> {
          01000000000000000a000000000000001400000000000000034c0000000000000007\
          00000000000000000000000000000000000000000000000000",
     );
-    Ok(())
 }
 
 #[test]
-fn the_machine_starts(rt: HostRuntime) -> Result<(), Fail> {
-    let start = Composite::vm_start(rt.alloc(), Policy::None, ObjectId(1))?;
-    let wanted = "00000000015a000000000000000000000001";
-    expect_same(&rt, &digits(rt.alloc(), start)?.as_str(), &wanted);
-    Ok(())
+fn the_machine_starts(rt: HostRuntime) {
+    let start = Composite::vm_start(rt.alloc(), Policy::None, ObjectId(1));
+    let found = digits(&rt, rt.alloc(), start.expect(&rt, "memory"));
+    expect_same(
+        &rt,
+        &found.as_str(),
+        &"00000000015a000000000000000000000001",
+    );
 }
 
 #[test]
-fn the_machine_dies(rt: HostRuntime) -> Result<(), Fail> {
-    let death = Composite::vm_death(rt.alloc())?;
-    let wanted = "00000000016300000000";
-    expect_same(&rt, &digits(rt.alloc(), death)?.as_str(), &wanted);
-    Ok(())
+fn the_machine_dies(rt: HostRuntime) {
+    let death = Composite::vm_death(rt.alloc()).expect(&rt, "memory");
+    let found = digits(&rt, rt.alloc(), death);
+    expect_same(&rt, &found.as_str(), &"00000000016300000000");
 }

@@ -6,18 +6,18 @@ use jdwp_wire::{
     next_packet_in, next_packet_in_within, standing_in,
 };
 use std::alloc::Global;
-use std::test::Fail;
+use std::process::Abort;
 
 /// IDSizes under the id 1.
 const ID_SIZES: [u8; 11] = [0, 0, 0, 11, 0, 0, 0, 1, 0, 1, 7];
 
 /// A ring of 16 bytes that has these: where they are more than 6, they wrap round its end.
-fn wrapped(alloc: Global, bytes: &[u8]) -> Result<HeapCircularBuffer<u8>, Fail> {
-    let mut ring = HeapCircularBuffer::with_capacity(alloc, 16)?;
+fn wrapped(rt: &impl Abort, alloc: Global, bytes: &[u8]) -> HeapCircularBuffer<u8> {
+    let mut ring = HeapCircularBuffer::with_capacity(alloc, 16).expect(rt, "memory");
     ring.fill_from_slice(&[0; 10]);
     ring.read_into(&mut [0; 10]);
     ring.fill_from_slice(bytes);
-    Ok(ring)
+    ring
 }
 
 /// The header of the packet in front of a ring, how many bytes of data it has, and how many bytes it takes.
@@ -30,8 +30,8 @@ fn front(next: Next<'_>) -> Result<Option<(Header, usize, usize)>, FrameFault> {
 }
 
 #[test]
-fn a_command_that_wraps(rt: HostRuntime) -> Result<(), Fail> {
-    let mut ring = wrapped(rt.alloc(), &ID_SIZES)?;
+fn a_command_that_wraps(rt: HostRuntime) {
+    let mut ring = wrapped(&rt, rt.alloc(), &ID_SIZES);
     let (first, second) = ring.as_slices();
     expect_same(&rt, &(first.len(), second.len()), &(6, 5));
     let standing = standing_in(&ring, &Limits::standard());
@@ -44,23 +44,18 @@ fn a_command_that_wraps(rt: HostRuntime) -> Result<(), Fail> {
     let wanted = Ok(Some((header, 0, 11)));
     expect_same(&rt, &front(next_packet_in(&mut ring)), &wanted);
     expect_same(&rt, &ring.capacity(), &16);
-    expect_same(
-        &rt,
-        &ring.to_vec(rt.alloc())?.as_slice(),
-        &ID_SIZES.as_slice(),
-    );
-    Ok(())
+    let bytes = ring.to_vec(rt.alloc()).expect(&rt, "memory");
+    expect_same(&rt, &bytes.as_slice(), &ID_SIZES.as_slice());
 }
 
 #[test]
-fn a_beginning_that_wraps(rt: HostRuntime) -> Result<(), Fail> {
+fn a_beginning_that_wraps(rt: HostRuntime) {
     for count in 0..11usize {
-        let mut ring = wrapped(rt.alloc(), &ID_SIZES[..count])?;
+        let mut ring = wrapped(&rt, rt.alloc(), &ID_SIZES[..count]);
         let standing = standing_in(&ring, &Limits::standard());
         expect_same(&rt, &standing, &Standing::More);
         expect_same(&rt, &front(next_packet_in(&mut ring)), &Ok(None));
     }
-    Ok(())
 }
 
 /// Bytes whose last shows a fault.
@@ -72,26 +67,24 @@ static FAULTS: [(&[u8], FrameFault); 4] = [
 ];
 
 #[test]
-fn faults_that_wrap(rt: HostRuntime) -> Result<(), Fail> {
-    let limits = Limits::new(2048, 1, 1, 1).ok_or("the limits are in range")?;
+fn faults_that_wrap(rt: HostRuntime) {
+    let limits = Limits::new(2048, 1, 1, 1).expect(&rt, "the limits are in range");
     for &(bytes, fault) in FAULTS.iter() {
-        let mut ring = wrapped(rt.alloc(), bytes)?;
+        let mut ring = wrapped(&rt, rt.alloc(), bytes);
         let standing = standing_in(&ring, &limits);
         expect_same(&rt, &standing, &Standing::Fault(fault));
         let next = front(next_packet_in_within(&mut ring, &limits));
         expect_same(&rt, &next, &Err(fault));
     }
-    Ok(())
 }
 
 #[test]
-fn a_handshake_that_wraps(rt: HostRuntime) -> Result<(), Fail> {
-    let whole = wrapped(rt.alloc(), &HANDSHAKE)?;
+fn a_handshake_that_wraps(rt: HostRuntime) {
+    let whole = wrapped(&rt, rt.alloc(), &HANDSHAKE);
     expect_same(&rt, &next_hello_in(&whole), &NextHello::Whole);
-    let beginning = wrapped(rt.alloc(), &HANDSHAKE[..13])?;
+    let beginning = wrapped(&rt, rt.alloc(), &HANDSHAKE[..13]);
     expect_same(&rt, &next_hello_in(&beginning), &NextHello::More);
-    let other = wrapped(rt.alloc(), b"JDWP-HandshakE")?;
+    let other = wrapped(&rt, rt.alloc(), b"JDWP-HandshakE");
     let fault = FrameFault::BadHandshake(13);
     expect_same(&rt, &next_hello_in(&other), &NextHello::Fault(fault));
-    Ok(())
 }

@@ -4,7 +4,6 @@ use jdwp_wire::{DataFault, IdSizes, Wire};
 use std::alloc::Global;
 use std::fmt::Debug;
 use std::process::Abort;
-use std::test::Fail;
 
 /// What a value is as bytes, which `size` counts and `pass_front` passes by.
 pub(crate) fn written<T: Wire>(
@@ -12,13 +11,20 @@ pub(crate) fn written<T: Wire>(
     alloc: Global,
     value: &T,
     sizes: &IdSizes,
-) -> Result<Vec<u8>, Fail> {
+) -> Vec<u8> {
     let mut bytes = Vec::new(alloc);
-    value.put(sizes, &mut bytes)?;
+    value
+        .put(sizes, &mut bytes)
+        .expect(rt, "the value is written");
     expect_same(rt, &value.size(sizes), &Some(bytes.len()));
-    let rest = T::pass_front(bytes.as_slice(), bytes.len(), sizes)?;
+    is_passed::<T>(rt, bytes.as_slice(), bytes.len(), sizes);
+    bytes
+}
+
+/// All of these bytes, the last of so many, are passed by.
+pub(crate) fn is_passed<T: Wire>(rt: &impl Abort, bytes: &[u8], whole: usize, sizes: &IdSizes) {
+    let rest = T::pass_front(bytes, whole, sizes).expect(rt, "the value is passed by");
     expect_same(rt, &rest.len(), &0);
-    Ok(bytes)
 }
 
 /// This value stands at the front of the bytes, and takes so many.
@@ -51,10 +57,9 @@ pub(crate) fn is_written<T: Wire>(
     value: &T,
     sizes: &IdSizes,
     bytes: &[u8],
-) -> Result<(), Fail> {
-    let put = written(rt, alloc, value, sizes)?;
+) {
+    let put = written(rt, alloc, value, sizes);
     expect_same(rt, &put.as_slice(), &bytes);
-    Ok(())
 }
 
 /// The same of a type that is not compared.
@@ -64,10 +69,9 @@ pub(crate) fn is_not_taken<T: Wire + Drop>(
     bytes: &[u8],
     sizes: &IdSizes,
     fault: DataFault,
-) -> Result<(), Fail> {
-    let found = T::take(alloc, bytes, sizes).err().ok_or("no fault")?;
+) {
+    let found = T::take(alloc, bytes, sizes).err().expect(rt, "a fault");
     expect_same(rt, &found, &fault);
-    Ok(())
 }
 
 /// The first fault of the bytes, as `pass_front` finds it too.
@@ -76,10 +80,9 @@ pub(crate) fn is_not_passed<T: Wire>(
     bytes: &[u8],
     sizes: &IdSizes,
     fault: DataFault,
-) -> Result<(), Fail> {
+) {
     let found = T::pass_front(bytes, bytes.len(), sizes)
         .err()
-        .ok_or("no fault")?;
+        .expect(rt, "a fault");
     expect_same(rt, &found, &fault);
-    Ok(())
 }

@@ -1,17 +1,22 @@
 -- Text that grows by one thing at a time.
-use Rattle.std.proofs.Common.{◌≡◌, String, Global, ℕ, suc, ◌+◌, ◌<◌, ◌≤◌, false, eqb, List, [], ◌∷◌, ◌++◌, length, take, get_or, map, true, true≢false, refl, sym, ap, ◌∙◌, append_assoc, append-nil, codes, arith}
-use Rattle.std.specs.List.{flat_map}
+use Rattle.std.proofs.Common.{◌≡◌, Bool, ◌&&◌, String, Global, ℕ, suc, ◌+◌, ◌<◌, ◌≤◌, false, eqb, List, [], ◌∷◌, ◌++◌, length, take, get_or, map, true, true≢false, refl, sym, ap, ◌∙◌, append_assoc, append-nil, codes, arith, not, nat_lt, ◌==◌, ◌||◌, if◌then◌else◌}
+use Rattle.std.specs.List.{flat_map, list_all}
+use Rattle.std.specs.Char.{encode_utf8}
 use Rattle.std.specs.String.{string_bytes}
-use Rattle.std.proofs.lemmas.Bool.{ne_eqb}
+use Rattle.std.proofs.lemmas.Bool.{ne_eqb, cases_order}
 use Rattle.std.proofs.lemmas.List.{take_more, length-take, take_all, map-append}
 use Rattle.std.proofs.lemmas.List.Concat.{flat_map-append}
 use Rattle.std.proofs.lemmas.List.Folds.{flat_map-map}
 use Rattle.hex.specs.Hex.{encode_lower}
-use Rattle.std.specs.Str.{chars}
+use Rattle.std.specs.Str.{IsUtf8, chars}
+use Rattle.std.proofs.lemmas.Str.{encode_ascii, encodes-chars}
+use Rattle.std.proofs.lemmas.List.Folds.{list_all-append}
+use lib.Utf8.{encodes}
+use mathlib.Core.Logic.{⊎_elim}
 use Rattle.jdwp_layout.specs.declared.datum.Datum.{Datum}
 use Rattle.jdwp_layout.specs.Meanings.{DatumMeaning, datum_meaning, meanings}
 use Rattle.jdwp_show.specs.declared.text.Text.{Text}
-use Rattle.jdwp_show.specs.DataText.{listed, separator, quoted, string_text, datum_text, data_text, raw_text}
+use Rattle.jdwp_show.specs.DataText.{listed, separator, is_plain, quoted, datum_text, data_text, raw_text}
 use Rattle.jdwp_show.specs.Telling.{Grows}
 
 abbrev later : {A : Type 0} → (A → List ℕ) → A → List ℕ
@@ -74,18 +79,50 @@ listed_end text view xs i past h = grows_as (ap (λ l. listed (λ x. text (view 
 
 -- ---- strings
 
-pub more_quoted : (cs : List ℕ) (c : ℕ) {start written whole : Text} → Grows start (codes "\"" ++ flat_map quoted cs) written → Grows written (quoted c) whole → Grows start (codes "\"" ++ flat_map quoted (cs ++ c ∷ [])) whole
-more_quoted cs c p q =
-    let same : (codes "\"" ++ flat_map quoted cs) ++ quoted c ≡ codes "\"" ++ flat_map quoted (cs ++ c ∷ []) =
-    append_assoc (codes "\"") (flat_map quoted cs) (quoted c)
-    ∙ ap (λ (l : List ℕ). codes "\"" ++ l) (sym (flat_map-append quoted cs (c ∷ []) ∙ ap (λ (l : List ℕ). flat_map quoted cs ++ l) (append-nil (quoted c)))) in
-    grows_as same (joined p q)
+-- a character more
+pub more_quoted : (cs : List ℕ) (c : ℕ) {start written whole : Text} → Grows start (flat_map quoted cs) written → Grows written (quoted c) whole → Grows start (flat_map quoted (cs ++ c ∷ [])) whole
+more_quoted cs c p q = grows_as (sym (flat_map-append quoted cs (c ∷ []) ∙ ap (λ (l : List ℕ). flat_map quoted cs ++ l) (append-nil (quoted c)))) (joined p q)
 
-pub all_quoted : (text cs : List ℕ) {start written whole : Text} → cs ≡ chars text → Grows start (codes "\"" ++ flat_map quoted cs) written → Grows written (codes "\"") whole → Grows start (string_text text) whole
-all_quoted text cs same p q =
-    let all : (codes "\"" ++ flat_map quoted cs) ++ codes "\"" ≡ string_text text =
-    append_assoc (codes "\"") (flat_map quoted cs) (codes "\"") ∙ ap (λ (l : List ℕ). codes "\"" ++ (flat_map quoted l ++ codes "\"")) same in
-    grows_as all (joined p q)
+pub all_quoted : (text cs : List ℕ) {start whole : Text} → cs ≡ chars text → Grows start (flat_map quoted cs) whole → Grows start (flat_map quoted (chars text)) whole
+all_quoted text cs same p = grows_as (ap (flat_map quoted) same) p
+
+both_of : (s t : Bool) → (s && t) ≡ true → (s ≡ true) × (t ≡ true)
+both_of true t h = (refl, h)
+both_of false t h = absurd (true≢false (sym h))
+
+-- the last of four, where none of the others is chosen
+last : (a b d : Bool) (x y z w : List ℕ) → not (a || (b || d)) ≡ true → (if a then x else (if b then y else (if d then z else w))) ≡ w
+last true b d x y z w h = absurd (true≢false (sym h))
+last false true d x y z w h = absurd (true≢false (sym h))
+last false false true x y z w h = absurd (true≢false (sym h))
+last false false false x y z w h = refl
+
+-- a character that stands for itself
+plain_quoted : (c : ℕ) → is_plain c ≡ true → quoted c ≡ encode_utf8 c
+plain_quoted c h = last (c == 34) (c == 92) (nat_lt c 32 || (c == 127)) _ _ _ _ h
+
+-- a character above 127 stands for itself
+above_ascii : (c : ℕ) → 127 < c → is_plain c ≡ true
+above_ascii c h = grind arith
+
+-- a character whose bytes stand for themselves
+plain_character : (c : ℕ) → list_all is_plain (encode_utf8 c) ≡ true → quoted c ≡ encode_utf8 c
+plain_character c h =
+    let alone : c < 128 → is_plain c ≡ true = λ lt. (both_of (is_plain c) true (ap (list_all is_plain) (sym (encode_ascii c lt)) ∙ h)).0 in
+    plain_quoted c (⊎_elim (λ e. alone (omega (arith, e))) (⊎_elim (λ lt. alone (omega (arith, lt))) (λ gt. above_ascii c gt)) (cases_order c 127))
+
+-- characters whose bytes stand for themselves
+plain_characters : (cs : List ℕ) → list_all is_plain (encodes cs) ≡ true → flat_map quoted cs ≡ encodes cs
+plain_characters [] h = refl
+plain_characters (c ∷ cs) h =
+    let both = both_of (list_all is_plain (encode_utf8 c)) (list_all is_plain (encodes cs)) (sym (list_all-append is_plain (encode_utf8 c) (encodes cs)) ∙ h) in
+    ap (λ (l : List ℕ). l ++ flat_map quoted cs) (plain_character c both.0) ∙ ap (λ (l : List ℕ). encode_utf8 c ++ l) (plain_characters cs both.1)
+
+-- a text whose bytes stand for themselves
+pub plain_text : (text : List ℕ) → IsUtf8 text → list_all is_plain text ≡ true → text ≡ flat_map quoted (chars text)
+plain_text text utf8 h =
+    let spelled = encodes-chars text utf8 in
+    sym (plain_characters (chars text) (ap (list_all is_plain) spelled ∙ h) ∙ spelled)
 
 -- ---- data as they are
 

@@ -1,5 +1,5 @@
 -- Data as text.
-use Rattle.std.specs.Prelude.{ℕ, ◌/◌, ◌%◌, ◌==◌, ◌||◌, nat_lt, List, [], ◌∷◌, ◌++◌, Bool, true, false, if◌then◌else◌, codes, decimal}
+use Rattle.std.specs.Prelude.{ℕ, ◌/◌, ◌%◌, ◌==◌, ◌||◌, nat_lt, List, [], ◌∷◌, ◌++◌, Bool, true, false, not, if◌then◌else◌, codes, decimal}
 use Rattle.std.specs.Char.{encode_utf8}
 use Rattle.std.specs.Fmt.{signed_decimal, digit_glyph}
 use Rattle.std.specs.List.{flat_map, join_by}
@@ -49,6 +49,10 @@ quoted c =
     if c == 92 then codes "\\\\" else (
     if nat_lt c 32 || (c == 127) then escaped c else
     encode_utf8 c))
+
+-- whether it stands for itself: so does each byte of a character above 127
+abbrev pub is_plain : ℕ → Bool
+is_plain c = not (c == 34 || ((c == 92) || (nat_lt c 32 || (c == 127))))
 
 abbrev pub string_text : List ℕ → List ℕ
 string_text text = codes "\"" ++ flat_map quoted (chars text) ++ codes "\""

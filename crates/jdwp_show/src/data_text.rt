@@ -1,10 +1,12 @@
 //! Data of packets in words.
-ghost use Rattle.std.specs.Prelude.{◌<◌, [], ◌∷◌, false};
+ghost use Rattle.std.specs.Prelude.{◌≡◌, ◌<◌, [], ◌∷◌, false};
 ghost use Rattle.std.specs.Fmt.{digit_glyph};
+ghost use Rattle.std.specs.List.{flat_map, list_all};
+ghost use Rattle.std.specs.Str.{chars};
 ghost use Rattle.hex.specs.Hex.{encode_lower};
 ghost use Rattle.jdwp_value.specs.Tags.{object_byte, tag_byte};
 ghost use Rattle.jdwp_layout.specs.Meanings.{scalar_meaning, scalar_meanings, entry_meaning, entry_meanings, datum_meaning, meanings};
-ghost use Rattle.jdwp_show.specs.DataText.{listed, boolean_text, id_text, tagged_text, separator, escaped, quoted, string_text, type_tag_text, location_text, bit, element_text, value_text, region_text, scalar_text, entry_text, list_text, datum_text, data_text, raw_text};
+ghost use Rattle.jdwp_show.specs.DataText.{listed, boolean_text, id_text, tagged_text, separator, escaped, is_plain, quoted, string_text, type_tag_text, location_text, bit, element_text, value_text, region_text, scalar_text, entry_text, list_text, datum_text, data_text, raw_text};
 ghost use Rattle.jdwp_show.specs.Telling.{Grows};
 
 use crate::text::Text;
@@ -262,10 +264,44 @@ fn push_quoted(text: &mut Text, string: &str)
     ensures { Grows text.old (string_text string.now) text.new }
 {
     text.push_str("\"");
+    push_characters(text, string);
+    text.push_str("\"");
+}
+
+/// The characters of a text as they stand between double quotes: all at once where each stands for itself.
+fn push_characters(text: &mut Text, string: &str)
+    ensures { Grows text.old (flat_map quoted (chars string.now)) text.new }
+{
+    if are_plain(string.as_bytes()) {
+        text.push_str(string)
+    } else {
+        push_each_character(text, string)
+    }
+}
+
+/// Whether each of these bytes stands for itself between double quotes. It looks at all of them, so that it can look at many at once.
+fn are_plain(bytes: &[u8]) -> bool
+    ensures { result ≡ list_all is_plain bytes.now }
+{
+    let mut plain = true;
+    for byte in bytes {
+        plain &= is_plain(*byte);
+    }
+    plain
+}
+
+fn is_plain(byte: u8) -> bool
+    ensures { result ≡ is_plain byte }
+{
+    byte >= 32 && byte != b'"' && byte != b'\\' && byte != 127
+}
+
+fn push_each_character(text: &mut Text, string: &str)
+    ensures { Grows text.old (flat_map quoted (chars string.now)) text.new }
+{
     for c in string.chars() {
         push_in_quotes(text, c);
     }
-    text.push_str("\"");
 }
 
 /// Appends a character by its code, in two hex digits.

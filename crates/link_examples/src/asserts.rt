@@ -6,3 +6,13 @@ use std::process::Abort;
 pub(crate) fn expect_same<A: PartialEq + Debug>(rt: &impl Abort, left: &A, right: &A) {
     assert_eq!(rt; *left, *right);
 }
+
+/// Fails unless both are equal, and tells what was compared.
+pub(crate) fn expect_same_for<A: PartialEq + Debug, N: Debug>(
+    rt: &impl Abort,
+    left: &A,
+    right: &A,
+    note: &N,
+) {
+    assert_eq!(rt; *left, *right, "{note:?}");
+}

@@ -8,119 +8,105 @@ use crate::deferred::{
 use crate::ends::{Move, goes_under_ids};
 use crate::loss_tests::is_lost_anywhere;
 use crate::losses::WAYS;
-use crate::machine_a::goes_on_a;
-use crate::sessions::goes_as_told;
+use crate::machine_a::go_on_a;
+use crate::sessions::{Session, goes_as_told};
 use crate::spinning::Spinning;
 use crate::told::Reply;
-use crate::worked_tests::is_the_same_cut;
+use crate::worked_tests::are_the_same_cut;
 use example_parts::{ALL_KINDS, MACHINE_A};
 use jdwp_layout::numbers::{ALL_THREADS, CLASS_STATUS, SIGNATURE};
 use jdwp_script_machine::ScriptMachine;
 use jdwp_target::Turn;
 use jdwp_wire::ErrorCode;
-use std::test::Fail;
 
-#[test]
-fn the_newest_is_answered_first(rt: HostRuntime) -> Result<(), Fail> {
-    goes_on_a(&rt, rt.alloc(), &NEWEST_FIRST)
+/// Sessions with deferred replies.
+fn deferred() -> [Session; 13] {
+    [
+        ("the newest is answered first", NEWEST_FIRST.as_slice()),
+        ("the oldest is answered first", OLDEST_FIRST.as_slice()),
+        (
+            "replies come in the order asked where none is deferred",
+            IN_THE_ORDER_ASKED.as_slice(),
+        ),
+        (
+            "what is deferred stays so where no more is",
+            CEASES.as_slice(),
+        ),
+        ("a loss at the target drops them", LOST_AT_TARGET.as_slice()),
+        (
+            "a loss at the debugger leaves them to the target",
+            LOST_AT_DEBUGGER.as_slice(),
+        ),
+        ("dispose drops them", DISPOSED_WHILE_DEFERRED.as_slice()),
+        ("exit drops them", EXITED_WHILE_DEFERRED.as_slice()),
+        (
+            "the end of the last thread drops them",
+            ENDED_WHILE_DEFERRED.as_slice(),
+        ),
+        (
+            "frames are the same around a release",
+            FRAMES_BETWEEN.as_slice(),
+        ),
+        (
+            "a held thread is suspended while replies are deferred",
+            HELD_WHILE_DEFERRED.as_slice(),
+        ),
+        ("the seventeenth is answered at once", SEVENTEEN.as_slice()),
+        (
+            "a release of nothing does nothing",
+            NO_SUCH_PLACE.as_slice(),
+        ),
+    ]
 }
 
 #[test]
-fn the_oldest_is_answered_first(rt: HostRuntime) -> Result<(), Fail> {
-    goes_on_a(&rt, rt.alloc(), &OLDEST_FIRST)
+fn sessions_that_defer_go_as_told(rt: HostRuntime) {
+    go_on_a(&rt, rt.alloc(), &deferred());
 }
 
 #[test]
-fn replies_come_in_the_order_asked_where_none_is_deferred(rt: HostRuntime) -> Result<(), Fail> {
-    goes_on_a(&rt, rt.alloc(), &IN_THE_ORDER_ASKED)
-}
-
-#[test]
-fn what_is_deferred_stays_so_where_no_more_is(rt: HostRuntime) -> Result<(), Fail> {
-    goes_on_a(&rt, rt.alloc(), &CEASES)
-}
-
-#[test]
-fn a_loss_at_the_target_drops_them(rt: HostRuntime) -> Result<(), Fail> {
-    goes_on_a(&rt, rt.alloc(), &LOST_AT_TARGET)
-}
-
-#[test]
-fn a_loss_at_the_debugger_leaves_them_to_the_target(rt: HostRuntime) -> Result<(), Fail> {
-    goes_on_a(&rt, rt.alloc(), &LOST_AT_DEBUGGER)
-}
-
-#[test]
-fn dispose_drops_them(rt: HostRuntime) -> Result<(), Fail> {
-    goes_on_a(&rt, rt.alloc(), &DISPOSED_WHILE_DEFERRED)
-}
-
-#[test]
-fn exit_drops_them(rt: HostRuntime) -> Result<(), Fail> {
-    goes_on_a(&rt, rt.alloc(), &EXITED_WHILE_DEFERRED)
-}
-
-#[test]
-fn the_end_of_the_last_thread_drops_them(rt: HostRuntime) -> Result<(), Fail> {
-    goes_on_a(&rt, rt.alloc(), &ENDED_WHILE_DEFERRED)
-}
-
-#[test]
-fn frames_are_the_same_around_a_release(rt: HostRuntime) -> Result<(), Fail> {
-    goes_on_a(&rt, rt.alloc(), &FRAMES_BETWEEN)
-}
-
-#[test]
-fn a_held_thread_is_suspended_while_replies_are_deferred(rt: HostRuntime) -> Result<(), Fail> {
-    goes_on_a(&rt, rt.alloc(), &HELD_WHILE_DEFERRED)
-}
-
-#[test]
-fn the_seventeenth_is_answered_at_once(rt: HostRuntime) -> Result<(), Fail> {
-    goes_on_a(&rt, rt.alloc(), &SEVENTEEN)
-}
-
-#[test]
-fn a_release_of_nothing_does_nothing(rt: HostRuntime) -> Result<(), Fail> {
-    goes_on_a(&rt, rt.alloc(), &NO_SUCH_PLACE)
-}
-
-#[test]
-fn a_command_is_answered_as_the_machine_is_then(rt: HostRuntime) -> Result<(), Fail> {
+fn a_command_is_answered_as_the_machine_is_then(rt: HostRuntime) {
     let alloc = rt.alloc();
-    let machine = ScriptMachine::read(alloc, ALL_KINDS)?;
-    goes_as_told(&rt, alloc, machine, &AS_IT_IS_THEN)
+    let machine = ScriptMachine::read(alloc, ALL_KINDS).expect(&rt, "the script is read");
+    goes_as_told(&rt, alloc, machine, &AS_IT_IS_THEN);
 }
 
 #[test]
-fn a_paused_target_releases_nothing(rt: HostRuntime) -> Result<(), Fail> {
+fn a_paused_target_releases_nothing(rt: HostRuntime) {
     let alloc = rt.alloc();
-    let machine = Spinning::new(alloc)?;
-    goes_as_told(&rt, alloc, machine, &PAUSED)
+    let machine = Spinning::new(alloc).expect(&rt, "memory");
+    goes_as_told(&rt, alloc, machine, &PAUSED);
+}
+
+/// Those of them that are cut in two.
+fn cut() -> [Session; 5] {
+    [
+        ("the newest is answered first", NEWEST_FIRST.as_slice()),
+        ("a loss at the target drops them", LOST_AT_TARGET.as_slice()),
+        (
+            "a loss at the debugger leaves them to the target",
+            LOST_AT_DEBUGGER.as_slice(),
+        ),
+        ("exit drops them", EXITED_WHILE_DEFERRED.as_slice()),
+        (
+            "a held thread is suspended while replies are deferred",
+            HELD_WHILE_DEFERRED.as_slice(),
+        ),
+    ]
 }
 
 /// One run of each of these sessions leaves what two runs leave, wherever they are cut.
 #[test]
-fn deferred_replies_in_two_runs(rt: HostRuntime) -> Result<(), Fail> {
-    for lines in [
-        NEWEST_FIRST.as_slice(),
-        LOST_AT_TARGET.as_slice(),
-        LOST_AT_DEBUGGER.as_slice(),
-        EXITED_WHILE_DEFERRED.as_slice(),
-        HELD_WHILE_DEFERRED.as_slice(),
-    ] {
-        is_the_same_cut(&rt, rt.alloc(), lines)?;
-    }
-    Ok(())
+fn deferred_replies_in_two_runs(rt: HostRuntime) {
+    are_the_same_cut(&rt, rt.alloc(), &cut());
 }
 
 /// A session that defers is lost after each byte, at either end first, and begun anew.
 #[test]
-fn a_session_that_defers_is_lost_anywhere(rt: HostRuntime) -> Result<(), Fail> {
+fn a_session_that_defers_is_lost_anywhere(rt: HostRuntime) {
     for way in WAYS.iter() {
-        is_lost_anywhere(&rt, rt.alloc(), &NEWEST_FIRST, way)?;
+        is_lost_anywhere(&rt, rt.alloc(), &NEWEST_FIRST, way);
     }
-    Ok(())
 }
 
 /// IDSizes has the id 2^32 - 2. Three commands are deferred under the ids behind it, which no other gets as long as they wait: the fourth has
@@ -153,8 +139,8 @@ static ACROSS_THE_WRAP: [Move; 16] = [
 ];
 
 #[test]
-fn ids_wrap_while_replies_are_deferred(rt: HostRuntime) -> Result<(), Fail> {
+fn ids_wrap_while_replies_are_deferred(rt: HostRuntime) {
     let alloc = rt.alloc();
-    let machine = ScriptMachine::read(alloc, MACHINE_A)?;
-    goes_under_ids(&rt, alloc, machine, 4_294_967_294, &ACROSS_THE_WRAP)
+    let machine = ScriptMachine::read(alloc, MACHINE_A).expect(&rt, "the script is read");
+    goes_under_ids(&rt, alloc, machine, 4_294_967_294, &ACROSS_THE_WRAP);
 }

@@ -12,7 +12,6 @@ use jdwp_target::{Target, TargetOptions, Turn};
 use jdwp_wire::ErrorCode;
 use std::alloc::Global;
 use std::process::Abort;
-use std::test::Fail;
 
 /// More bytes than are ever under way here.
 const MOST: usize = 512;
@@ -32,65 +31,70 @@ pub(crate) enum Move {
 
 /// What the debugger put comes to the target, which handles one message of it.
 fn handles<M: Machine + Drop>(
+    rt: &impl Abort,
     debugger: &mut Debugger,
     target: &mut Target<M>,
-) -> Result<Turn, Fail> {
+) -> Turn {
     let mut buffer = [0; MOST];
     deliver(debugger, target, &mut Memory, Side::Debugger, &mut buffer);
-    Ok(target.turn()?)
+    target.turn().expect(rt, "a turn")
 }
 
 /// What the target put comes to the debugger, which handles one message of it.
 fn reads<M: Machine + Drop>(
+    rt: &impl Abort,
     alloc: Global,
     debugger: &mut Debugger,
     target: &mut Target<M>,
-) -> Result<Read, Fail> {
+) -> Read {
     let mut buffer = [0; MOST];
     deliver(target, debugger, &mut Memory, Side::Target, &mut buffer);
-    Ok(debugger.turn(alloc)?)
+    debugger.turn(alloc).expect(rt, "a turn")
 }
 
 /// Whether a session begins: the handshakes, VM_START and the widths of ids are read.
 fn greets<M: Machine + Drop>(
+    rt: &impl Abort,
     alloc: Global,
     debugger: &mut Debugger,
     target: &mut Target<M>,
-) -> Result<bool, Fail> {
+) -> bool {
     if !target.accept() || !debugger.attach() {
-        return Ok(false);
+        return false;
     }
     for _ in 0..3u32 {
-        handles(debugger, target)?;
-        reads(alloc, debugger, target)?;
+        handles(rt, debugger, target);
+        reads(rt, alloc, debugger, target);
     }
-    Ok(debugger.sizes().is_some())
+    debugger.sizes().is_some()
 }
 
 /// Whether a command is asked under this ticket, and this comes of it at the target.
 fn asks<M: Machine + Drop>(
+    rt: &impl Abort,
     alloc: Global,
     debugger: &mut Debugger,
     target: &mut Target<M>,
     wanted: Wanted,
     ticket: u64,
     turn: Turn,
-) -> Result<bool, Fail> {
-    let command = command(alloc, wanted)?;
+) -> bool {
+    let command = command(rt, alloc, wanted);
     let is_given = debugger.ask(alloc, command) == Ok(Ticket(ticket));
-    Ok(is_given && handles(debugger, target)? == turn)
+    is_given && handles(rt, debugger, target) == turn
 }
 
 /// Whether the debugger reads a packet with this id, this answer under this ticket.
 fn reads_answer<M: Machine + Drop>(
+    rt: &impl Abort,
     alloc: Global,
     debugger: &mut Debugger,
     target: &mut Target<M>,
     id: u32,
     ticket: u64,
     reply: &Reply,
-) -> Result<bool, Fail> {
-    let is_answer = match reads(alloc, debugger, target)? {
+) -> bool {
+    let is_answer = match reads(rt, alloc, debugger, target) {
         Read::Answered(found, answer) => found.0 == ticket && is_reply(&answer, reply),
         _ => false,
     };
@@ -98,27 +102,30 @@ fn reads_answer<M: Machine + Drop>(
         [Head::Reply { header, .. }] => header.id == id,
         _ => false,
     };
-    Ok(is_answer && has_id)
+    is_answer && has_id
 }
 
 /// Whether this comes of it.
 fn comes<M: Machine + Drop>(
+    rt: &impl Abort,
     alloc: Global,
     debugger: &mut Debugger,
     target: &mut Target<M>,
     one: &Move,
-) -> Result<bool, Fail> {
+) -> bool {
     match one {
         Move::NextId(id) => {
             debugger.set_next_id(*id);
-            Ok(true)
+            true
         }
-        Move::Asks(wanted, ticket, turn) => asks(alloc, debugger, target, *wanted, *ticket, *turn),
+        Move::Asks(wanted, ticket, turn) => asks(
+            rt, alloc, debugger, target, *wanted, *ticket, *turn,
+        ),
         Move::Releases(place, id) => {
-            Ok(target.release(*place) == Ok(Turn::Replied(*id, ErrorCode::NONE)))
+            target.release(*place) == Ok(Turn::Replied(*id, ErrorCode::NONE))
         }
         Move::Reads(id, ticket, reply) => reads_answer(
-            alloc, debugger, target, *id, *ticket, reply,
+            rt, alloc, debugger, target, *id, *ticket, reply,
         ),
     }
 }
@@ -126,21 +133,22 @@ fn comes<M: Machine + Drop>(
 /// The place, from 0, of the first of these moves of which something else comes, in a session of these ends in which replies are deferred;
 /// None where all is as it is to be.
 fn first_wrong<M: Machine + Drop>(
+    rt: &impl Abort,
     alloc: Global,
     debugger: &mut Debugger,
     target: &mut Target<M>,
     moves: &[Move],
-) -> Result<Option<usize>, Fail> {
-    if !greets(alloc, debugger, target)? {
-        return Err(Fail::from("no session begins"));
+) -> Option<usize> {
+    if !greets(rt, alloc, debugger, target) {
+        panic!(rt; "no session begins");
     }
     target.set_deferring(true);
     for (place, one) in moves.iter().enumerate() {
-        if !comes(alloc, debugger, target, one)? {
-            return Ok(Some(place));
+        if !comes(rt, alloc, debugger, target, one) {
+            return Some(place);
         }
     }
-    Ok(None)
+    None
 }
 
 /// Of each of these moves comes what it says, with a debugger whose first packet has this id, and a target over this machine that defers.
@@ -150,15 +158,12 @@ pub(crate) fn goes_under_ids<M: Machine + Drop>(
     machine: M,
     first_id: u32,
     moves: &[Move],
-) -> Result<(), Fail>
+)
     requires { LivesWithin M.meaning standard_limits machine }
 {
-    let Some(options) = TargetOptions::new(false, 65_535) else {
-        return Err(Fail::from("the count limit is refused"));
-    };
-    let mut target = Target::new(alloc, machine, options)?;
-    let mut debugger = Debugger::with_first_id(alloc, first_id)?;
-    let found = first_wrong(alloc, &mut debugger, &mut target, moves)?;
+    let options = TargetOptions::new(false, 65_535).expect(rt, "the count limit is accepted");
+    let mut target = Target::new(alloc, machine, options).expect(rt, "memory");
+    let mut debugger = Debugger::with_first_id(alloc, first_id).expect(rt, "memory");
+    let found = first_wrong(rt, alloc, &mut debugger, &mut target, moves);
     expect_same(rt, &found, &None);
-    Ok(())
 }

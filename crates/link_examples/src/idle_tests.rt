@@ -1,11 +1,10 @@
 //! Events where they do nothing, and commands that are not asked.
 use crate::acts::{ALL, Act, Wanted};
-use crate::machine_a::goes_on_a;
-use crate::sessions::{Line, Shown};
+use crate::machine_a::go_on_a;
+use crate::sessions::{Line, Session, Shown};
 use crate::told::{BEGUN, Reply, Report, Told};
 use jdwp_debugger::Refused;
 use jdwp_layout::numbers::SUSPEND;
-use std::test::Fail;
 
 /// Before the first session nothing is done but that an `Ask` is refused, and an `Attach` begins one.
 static CLOSED: [Line; 22] = [
@@ -128,22 +127,17 @@ static DEAD: [Line; 14] = [
     Line::Did(false),
 ];
 
-#[test]
-fn a_closed_link_does_nothing(rt: HostRuntime) -> Result<(), Fail> {
-    goes_on_a(&rt, rt.alloc(), &CLOSED)
+/// What does nothing, each in a session.
+fn idle() -> [Session; 4] {
+    [
+        ("a closed link does nothing", CLOSED.as_slice()),
+        ("an open link does only what can be done", OPEN.as_slice()),
+        ("one closed end begins no session", HALF_CLOSED.as_slice()),
+        ("a dead machine begins no session", DEAD.as_slice()),
+    ]
 }
 
 #[test]
-fn an_open_link_does_only_what_can_be_done(rt: HostRuntime) -> Result<(), Fail> {
-    goes_on_a(&rt, rt.alloc(), &OPEN)
-}
-
-#[test]
-fn one_closed_end_begins_no_session(rt: HostRuntime) -> Result<(), Fail> {
-    goes_on_a(&rt, rt.alloc(), &HALF_CLOSED)
-}
-
-#[test]
-fn a_dead_machine_begins_no_session(rt: HostRuntime) -> Result<(), Fail> {
-    goes_on_a(&rt, rt.alloc(), &DEAD)
+fn events_do_nothing_where_they_cannot(rt: HostRuntime) {
+    go_on_a(&rt, rt.alloc(), &idle());
 }

@@ -10,11 +10,12 @@ use jdwp_layout::numbers::{SUSPEND, SUSPEND_COUNT};
 use jdwp_link::{Link, LinkEvent, Outcome};
 use jdwp_machine::Machine;
 use std::alloc::Global;
-use std::test::Fail;
+use std::process::Abort;
 
 /// How both ends come to notice that the connection is lost: what is done before the target does, and behind it.
 #[derive(Clone, Copy)]
 pub(crate) struct Way {
+    pub(crate) name: &'static str,
     before: &'static [Act],
     behind: &'static [Act],
     /// Whether the target handles what the debugger put, before it notices the loss.
@@ -24,11 +25,13 @@ pub(crate) struct Way {
 /// Each end first, and what is under way is dropped, or comes and is read or handled.
 pub(crate) static WAYS: [Way; 4] = [
     Way {
+        name: "the target loses first",
         before: &[],
         behind: &[Act::DebuggerLoses],
         handles: false,
     },
     Way {
+        name: "the target loses first, and what it put is read",
         before: &[],
         behind: &[
             Act::ToDebugger(ALL),
@@ -40,11 +43,13 @@ pub(crate) static WAYS: [Way; 4] = [
         handles: false,
     },
     Way {
+        name: "the debugger loses first",
         before: &[Act::DebuggerLoses],
         behind: &[],
         handles: false,
     },
     Way {
+        name: "the debugger loses first, and what it put is handled",
         before: &[
             Act::DebuggerLoses,
             Act::ToTarget(ALL),
@@ -81,35 +86,37 @@ static AGAIN: [Act; 3] = [
 
 /// Does these acts, and appends what is told of them.
 fn do_all<M: Machine + Drop>(
+    rt: &impl Abort,
     alloc: Global,
     link: &mut Link<M>,
     acts: &[Act],
     told: &mut Vec<Outcome>,
-) -> Result<(), Fail> {
+) {
     let mut events = Vec::new(alloc);
     for act in acts {
-        push_events(alloc, act, &mut events)?;
+        push_events(rt, alloc, act, &mut events);
     }
-    run_events(link, &events, told)
+    run_events(rt, link, &events, told);
 }
 
 /// A session goes on up to its loss, which only the target has still to notice.
 fn go_on<M: Machine + Drop>(
+    rt: &impl Abort,
     alloc: Global,
     link: &mut Link<M>,
     events: &[LinkEvent],
     loss: &Loss,
     told: &mut Vec<Outcome>,
-) -> Result<(), Fail> {
+) {
     let (front, behind) = events.split_at(loss.events.min(events.len()));
-    run_events(link, front, told)?;
+    run_events(rt, link, front, told);
     let delivery = match behind.first() {
         Some(LinkEvent::ToTarget(_)) => Act::ToTarget(loss.bytes),
         Some(LinkEvent::ToDebugger(_)) => Act::ToDebugger(loss.bytes),
-        _ => return Err(Fail::from("no delivery")),
+        _ => panic!(rt; "no delivery"),
     };
-    do_all(alloc, link, &[delivery], told)?;
-    do_all(alloc, link, loss.way.before, told)
+    do_all(rt, alloc, link, &[delivery], told);
+    do_all(rt, alloc, link, loss.way.before, told);
 }
 
 /// Both ends are closed, nobody is suspended, nothing is requested, known, under way, deferred or unanswered.
@@ -142,45 +149,49 @@ fn settled(told: &[Outcome]) -> Option<u64> {
 
 /// Whether both ends notice the loss, and nothing is left; how many requests there were before, and how many commands were asked.
 fn is_lost<M: Machine + Drop>(
+    rt: &impl Abort,
     alloc: Global,
     link: &mut Link<M>,
     events: &[LinkEvent],
     loss: &Loss,
-) -> Result<Option<(usize, u64)>, Fail> {
+) -> Option<(usize, u64)> {
     let mut told = Vec::new(alloc);
-    go_on(alloc, link, events, loss, &mut told)?;
+    go_on(rt, alloc, link, events, loss, &mut told);
     let requests = link.target().requests().len();
-    do_all(alloc, link, &[Act::TargetLoses], &mut told)?;
-    do_all(alloc, link, loss.way.behind, &mut told)?;
-    if !is_empty(&standing_of(link)) {
-        return Ok(None);
-    }
+    do_all(rt, alloc, link, &[Act::TargetLoses], &mut told);
+    do_all(rt, alloc, link, loss.way.behind, &mut told);
     match settled(&told) {
-        Some(asked) => Ok(Some((requests, asked))),
-        None => Ok(None),
+        Some(asked) if is_empty(&standing_of(link)) => Some((requests, asked)),
+        _ => None,
     }
 }
 
 /// Whether a new session begins, with VM_START where it did not come before.
-fn begins<M: Machine + Drop>(alloc: Global, link: &mut Link<M>, loss: &Loss) -> Result<bool, Fail> {
+fn begins<M: Machine + Drop>(
+    rt: &impl Abort,
+    alloc: Global,
+    link: &mut Link<M>,
+    loss: &Loss,
+) -> bool {
     let mut told = Vec::new(alloc);
-    do_all(alloc, link, &GREETING, &mut told)?;
-    Ok(if loss.begun {
+    do_all(rt, alloc, link, &GREETING, &mut told);
+    if loss.begun {
         told.is_empty()
     } else {
         are_told(&told, &[BEGUN])
-    })
+    }
 }
 
 /// Whether what is asked again is answered: under the next tickets, and the request under the next id.
 fn answers_again<M: Machine + Drop>(
+    rt: &impl Abort,
     alloc: Global,
     link: &mut Link<M>,
     requests: usize,
     asked: u64,
-) -> Result<bool, Fail> {
+) -> bool {
     let mut told = Vec::new(alloc);
-    do_all(alloc, link, &AGAIN, &mut told)?;
+    do_all(rt, alloc, link, &AGAIN, &mut told);
     let first = asked.saturating_add(1);
     let second = asked.saturating_add(2);
     let third = asked.saturating_add(3);
@@ -193,7 +204,7 @@ fn answers_again<M: Machine + Drop>(
         Told::Asked(third),
         Told::Answered(third, Reply::Done),
     ];
-    Ok(are_told(&told, &expected))
+    are_told(&told, &expected)
 }
 
 /// Whether a link stands as it is to stand when all was asked again: both threads are suspended, and the mirror knows of the first only
@@ -214,27 +225,29 @@ fn stands_again<M: Machine + Drop>(link: &Link<M>, loss: &Loss) -> bool {
 
 /// Whether a session that is lost so leaves nothing, and a new one goes as the first did.
 fn begins_anew<M: Machine + Drop>(
+    rt: &impl Abort,
     alloc: Global,
     link: &mut Link<M>,
     events: &[LinkEvent],
     loss: &Loss,
-) -> Result<bool, Fail> {
-    let Some((requests, asked)) = is_lost(alloc, link, events, loss)? else {
-        return Ok(false);
+) -> bool {
+    let Some((requests, asked)) = is_lost(rt, alloc, link, events, loss) else {
+        return false;
     };
-    let is = begins(alloc, link, loss)? && answers_again(alloc, link, requests, asked)?;
-    Ok(is && stands_again(link, loss))
+    let is = begins(rt, alloc, link, loss) && answers_again(rt, alloc, link, requests, asked);
+    is && stands_again(link, loss)
 }
 
 /// The same in a link over this machine.
 pub(crate) fn begins_anew_over<M: Machine + Drop>(
+    rt: &impl Abort,
     alloc: Global,
     machine: M,
     events: &[LinkEvent],
     loss: &Loss,
-) -> Result<bool, Fail>
+) -> bool
     requires { LivesWithin M.meaning standard_limits machine }
 {
-    let mut link = linked(alloc, machine)?;
-    begins_anew(alloc, &mut link, events, loss)
+    let mut link = linked(rt, alloc, machine);
+    begins_anew(rt, alloc, &mut link, events, loss)
 }

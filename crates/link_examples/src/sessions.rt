@@ -13,7 +13,6 @@ use jdwp_target::TargetOptions;
 use jdwp_value::ObjectId;
 use std::alloc::Global;
 use std::process::Abort;
-use std::test::Fail;
 
 /// What a mirror shows of a thread.
 #[derive(Clone, Copy, Debug, PartialEq, Eq)]
@@ -49,6 +48,9 @@ pub(crate) enum Line {
     Did(bool),
 }
 
+/// What a session shows, and its lines.
+pub(crate) type Session = (&'static str, &'static [Line]);
+
 /// All that can be asked of a link whose threads are 1 and 2, but the data of requests.
 #[derive(Clone, Copy, Debug, PartialEq, Eq)]
 pub(crate) struct Standing {
@@ -68,6 +70,7 @@ pub(crate) struct Standing {
     pub(crate) did: bool,
 }
 
+/// What a mirror shows of a thread.
 fn shown_of(mirror: &Mirror, thread: u64) -> Shown {
     match mirror.count(ObjectId(thread)) {
         None => Shown::Unknown,
@@ -76,38 +79,46 @@ fn shown_of(mirror: &Mirror, thread: u64) -> Shown {
     }
 }
 
+/// The suspend counts of threads 1 and 2 in the target.
 fn counts<M: Machine + Drop>(link: &Link<M>) -> (Option<u32>, Option<u32>) {
     let target = link.target();
     (target.count(ObjectId(1)), target.count(ObjectId(2)))
 }
 
+/// What the mirror shows of threads 1 and 2.
 fn both_shown<M: Machine + Drop>(link: &Link<M>) -> (Shown, Shown) {
     let mirror = link.debugger().mirror();
     (shown_of(mirror, 1), shown_of(mirror, 2))
 }
 
+/// How many event requests there are in the target, and in the mirror.
 fn requests<M: Machine + Drop>(link: &Link<M>) -> (usize, usize) {
     let kept = link.debugger().mirror().requests().len();
     (link.target().requests().len(), kept)
 }
 
+/// How many bytes wait to leave the debugger, and the target.
 fn waits<M: Machine + Drop>(link: &Link<M>) -> (usize, usize) {
     (link.debugger().waiting(), link.target().waiting())
 }
 
+/// Whether the target is open, and whether the debugger is.
 fn open<M: Machine + Drop>(link: &Link<M>) -> (bool, bool) {
     (link.target().is_open(), link.debugger().is_open())
 }
 
+/// How many bytes would fit into the target, and the debugger.
 fn room<M: Machine + Drop>(link: &Link<M>) -> (usize, usize) {
     (link.target().room(), link.debugger().room())
 }
 
+/// How many threads live, and how many are known.
 fn threads<M: Machine + Drop>(link: &Link<M>) -> (usize, usize) {
     let known = link.debugger().mirror().known().len();
     (link.target().live().len(), known)
 }
 
+/// The first ticket that is unanswered.
 fn unanswered<M: Machine + Drop>(link: &Link<M>) -> Option<u64> {
     match link.debugger().unanswered(0) {
         Some((ticket, _)) => Some(ticket.0),
@@ -132,64 +143,62 @@ pub(crate) fn standing_of<M: Machine + Drop>(link: &Link<M>) -> Standing {
 }
 
 /// A link over this machine, in which no thread is suspended as the first session begins.
-pub(crate) fn linked<M: Machine + Drop>(alloc: Global, machine: M) -> Result<Link<M>, Fail>
+pub(crate) fn linked<M: Machine + Drop>(rt: &impl Abort, alloc: Global, machine: M) -> Link<M>
     requires { LivesWithin M.meaning standard_limits machine }
 {
-    let Some(options) = TargetOptions::new(false, 65_535) else {
-        return Err(Fail::from("the count limit is refused"));
-    };
-    Ok(Link::new(alloc, machine, options)?)
+    let options = TargetOptions::new(false, 65_535).expect(rt, "the count limit is accepted");
+    Link::new(alloc, machine, options).expect(rt, "memory")
 }
 
 /// Does these events, and appends what is told of them.
 pub(crate) fn run_events<M: Machine + Drop>(
+    rt: &impl Abort,
     link: &mut Link<M>,
     events: &[LinkEvent],
     told: &mut Vec<Outcome>,
-) -> Result<(), Fail> {
-    let Ok(mut outcomes) = link.run(events) else {
-        return Err(Fail::from("no memory"));
-    };
-    told.append(&mut outcomes)?;
-    Ok(())
+) {
+    let mut outcomes = link.run(events).expect(rt, "memory");
+    told.append(&mut outcomes).expect(rt, "memory");
 }
 
 /// Does an act, and appends what is told of it.
 fn does<M: Machine + Drop>(
+    rt: &impl Abort,
     alloc: Global,
     link: &mut Link<M>,
     act: &Act,
     told: &mut Vec<Outcome>,
-) -> Result<(), Fail> {
+) {
     let mut events = Vec::new(alloc);
-    push_events(alloc, act, &mut events)?;
-    run_events(link, &events, told)
+    push_events(rt, alloc, act, &mut events);
+    run_events(rt, link, &events, told);
 }
 
 /// Whether a line holds: what is done comes to pass, and what is to hold does.
 fn holds<M: Machine + Drop>(
+    rt: &impl Abort,
     alloc: Global,
     link: &mut Link<M>,
     line: &Line,
     told: &mut Vec<Outcome>,
-) -> Result<bool, Fail> {
+) -> bool {
     match line {
         Line::Does(act) => {
-            does(alloc, link, act, told)?;
-            Ok(true)
+            does(rt, alloc, link, act, told);
+            true
         }
         Line::Repeats(times, act) => {
             for _ in 0..*times {
-                does(alloc, link, act, told)?;
+                does(rt, alloc, link, act, told);
             }
-            Ok(true)
+            true
         }
         Line::Tells(expected) => {
             let are = are_told(told, expected);
             told.clear();
-            Ok(are)
+            are
         }
-        _ => Ok(is_so(link, line)),
+        _ => is_so(link, line),
     }
 }
 
@@ -209,33 +218,36 @@ fn is_so<M: Machine + Drop>(link: &Link<M>, line: &Line) -> bool {
 
 /// The place, from 0, of the first line that does not hold; the number of lines where something is told that none has; None where all hold.
 pub(crate) fn first_wrong<M: Machine + Drop>(
+    rt: &impl Abort,
     alloc: Global,
     link: &mut Link<M>,
     lines: &[Line],
-) -> Result<Option<usize>, Fail> {
+) -> Option<usize> {
     let mut told = Vec::new(alloc);
+    let mut wrong = None;
     for (place, line) in lines.iter().enumerate() {
-        if !holds(alloc, link, line, &mut told)? {
-            return Ok(Some(place));
+        if !holds(rt, alloc, link, line, &mut told) {
+            wrong = Some(place);
+            break;
         }
     }
-    Ok(if told.is_empty() {
-        None
-    } else {
-        Some(lines.len())
-    })
+    if wrong.is_none() && !told.is_empty() {
+        wrong = Some(lines.len());
+    }
+    wrong
 }
 
-/// The same over this machine.
-fn first_wrong_over<M: Machine + Drop>(
+/// The same in a link over this machine, before its first session.
+pub(crate) fn first_wrong_over<M: Machine + Drop>(
+    rt: &impl Abort,
     alloc: Global,
     machine: M,
     lines: &[Line],
-) -> Result<Option<usize>, Fail>
+) -> Option<usize>
     requires { LivesWithin M.meaning standard_limits machine }
 {
-    let mut link = linked(alloc, machine)?;
-    first_wrong(alloc, &mut link, lines)
+    let mut link = linked(rt, alloc, machine);
+    first_wrong(rt, alloc, &mut link, lines)
 }
 
 /// Each line holds, in a link over this machine, before its first session.
@@ -244,95 +256,98 @@ pub(crate) fn goes_as_told<M: Machine + Drop>(
     alloc: Global,
     machine: M,
     lines: &[Line],
-) -> Result<(), Fail>
+)
     requires { LivesWithin M.meaning standard_limits machine }
 {
-    let found = first_wrong_over(alloc, machine, lines)?;
+    let found = first_wrong_over(rt, alloc, machine, lines);
     expect_same(rt, &found, &None);
-    Ok(())
 }
 
 /// The events of a session's acts.
-pub(crate) fn events_of(alloc: Global, lines: &[Line]) -> Result<Vec<LinkEvent>, Fail> {
+pub(crate) fn events_of(rt: &impl Abort, alloc: Global, lines: &[Line]) -> Vec<LinkEvent> {
     let mut events = Vec::new(alloc);
     for line in lines {
         match line {
-            Line::Does(act) => push_events(alloc, act, &mut events)?,
+            Line::Does(act) => push_events(rt, alloc, act, &mut events),
             Line::Repeats(times, act) => {
                 for _ in 0..*times {
-                    push_events(alloc, act, &mut events)?;
+                    push_events(rt, alloc, act, &mut events);
                 }
             }
             _ => {}
         }
     }
-    Ok(events)
+    events
 }
 
 /// All that is told in a session.
-pub(crate) fn told_in(alloc: Global, lines: &[Line]) -> Result<Vec<Told>, Fail> {
+pub(crate) fn told_in(rt: &impl Abort, alloc: Global, lines: &[Line]) -> Vec<Told> {
     let mut all = Vec::new(alloc);
     for line in lines {
         if let Line::Tells(told) = line {
-            all.extend_from_slice(told)?;
+            all.extend_from_slice(told).expect(rt, "memory");
         }
     }
-    Ok(all)
+    all
 }
 
 /// Does these events in two runs, of which the first has at most so many, and answers how the link stands then; None where something else
 /// is told of them.
 pub(crate) fn stands_after<M: Machine + Drop>(
+    rt: &impl Abort,
     alloc: Global,
     link: &mut Link<M>,
     events: &[LinkEvent],
     cut: usize,
     expected: &[Told],
-) -> Result<Option<Standing>, Fail> {
+) -> Option<Standing> {
     let (front, back) = events.split_at(cut.min(events.len()));
     let mut told = Vec::new(alloc);
-    run_events(link, front, &mut told)?;
-    run_events(link, back, &mut told)?;
-    Ok(if are_told(&told, expected) {
+    run_events(rt, link, front, &mut told);
+    run_events(rt, link, back, &mut told);
+    if are_told(&told, expected) {
         Some(standing_of(link))
     } else {
         None
-    })
+    }
 }
 
 /// The same in a link over this machine, before its first session.
 pub(crate) fn stands_after_over<M: Machine + Drop>(
+    rt: &impl Abort,
     alloc: Global,
     machine: M,
     events: &[LinkEvent],
     cut: usize,
     expected: &[Told],
-) -> Result<Option<Standing>, Fail>
+) -> Option<Standing>
     requires { LivesWithin M.meaning standard_limits machine }
 {
-    let mut link = linked(alloc, machine)?;
-    stands_after(alloc, &mut link, events, cut, expected)
+    let mut link = linked(rt, alloc, machine);
+    stands_after(rt, alloc, &mut link, events, cut, expected)
 }
 
 /// How many bytes wait to leave the debugger, and the target, after these events.
 fn waits_after<M: Machine + Drop>(
+    rt: &impl Abort,
     alloc: Global,
     link: &mut Link<M>,
     events: &[LinkEvent],
-) -> Result<(usize, usize), Fail> {
+) -> (usize, usize) {
     let mut told = Vec::new(alloc);
-    run_events(link, events, &mut told)?;
-    Ok(waits(link))
+    run_events(rt, link, events, &mut told);
+    waits(link)
 }
 
 /// The same in a link over this machine, before its first session.
 pub(crate) fn waits_after_over<M: Machine + Drop>(
+    rt: &impl Abort,
     alloc: Global,
     machine: M,
     events: &[LinkEvent],
-) -> Result<(usize, usize), Fail>
+) -> (usize, usize)
     requires { LivesWithin M.meaning standard_limits machine }
 {
-    let mut link = linked(alloc, machine)?;
-    waits_after(alloc, &mut link, events)
+    let mut link = linked(rt, alloc, machine);
+    waits_after(rt, alloc, &mut link, events)
 }

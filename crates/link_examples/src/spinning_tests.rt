@@ -4,7 +4,6 @@ use crate::sessions::{Line, Shown, goes_as_told};
 use crate::spinning::Spinning;
 use crate::told::{BEGUN, Reply, Report, Told};
 use jdwp_layout::numbers::{RESUME, RESUME_THREAD};
-use std::test::Fail;
 
 /// Each step of thread 1 is reported, and holds it until it is resumed. The session is lost with a report under way, and begins anew without
 /// the request; thread 2 ends in it.
@@ -58,8 +57,8 @@ static SPINS: [Line; 46] = [
 ];
 
 #[test]
-fn a_machine_of_its_own_steps_and_is_lost(rt: HostRuntime) -> Result<(), Fail> {
+fn a_machine_of_its_own_steps_and_is_lost(rt: HostRuntime) {
     let alloc = rt.alloc();
-    let machine = Spinning::new(alloc)?;
-    goes_as_told(&rt, alloc, machine, &SPINS)
+    let machine = Spinning::new(alloc).expect(&rt, "memory");
+    goes_as_told(&rt, alloc, machine, &SPINS);
 }

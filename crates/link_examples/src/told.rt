@@ -64,6 +64,7 @@ fn is_index(location: &Location, index: u64) -> bool {
         }
 }
 
+/// Whether these are the entries of a list of these threads.
 fn are_threads(entries: &[Vec<Scalar>], threads: &[u64]) -> bool {
     if entries.len() != threads.len() {
         return false;
@@ -77,6 +78,7 @@ fn are_threads(entries: &[Vec<Scalar>], threads: &[u64]) -> bool {
     true
 }
 
+/// Whether these are the entries of a list of one frame, at this index.
 fn is_one_frame(entries: &[Vec<Scalar>], index: u64) -> bool {
     let [entry] = entries else {
         return false;
@@ -87,6 +89,7 @@ fn is_one_frame(entries: &[Vec<Scalar>], index: u64) -> bool {
     }
 }
 
+/// Whether this is the data of such a reply.
 fn are_data(items: &[Datum], reply: &Reply) -> bool {
     match (items, reply) {
         ([], Reply::Done) => true,
@@ -133,6 +136,7 @@ fn are_fields(fields: &[Scalar], kind: u8, request: i32, thread: u64, at: Option
     }
 }
 
+/// Whether these are the fields of VM_DEATH.
 fn is_death(fields: &[Scalar]) -> bool {
     match fields {
         [Scalar::Byte(kind), Scalar::Int(0)] => *kind == EventKind::VmDeath.byte(),
@@ -140,6 +144,7 @@ fn is_death(fields: &[Scalar]) -> bool {
     }
 }
 
+/// Whether a composite is so reported.
 fn is_report(composite: &Composite, report: &Report) -> bool {
     let [event] = composite.events() else {
         return false;
@@ -169,6 +174,7 @@ fn is_report(composite: &Composite, report: &Report) -> bool {
     is && composite.policy() == policy
 }
 
+/// Whether this is told.
 fn is_told(outcome: &Outcome, told: &Told) -> bool {
     match (outcome, told) {
         (Outcome::Asked(found), Told::Asked(ticket)) => found.0 == *ticket,

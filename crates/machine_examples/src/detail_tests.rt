@@ -6,126 +6,64 @@ use jdwp_script::{Cause, Detail, IdKind, Path, Script};
 use jdwp_wire::Limits;
 use std::alloc::Global;
 use std::process::Abort;
-use std::test::Fail;
 
 /// The fault of a text in words with what is known beside it, where so many threads may live at the beginning.
-fn told_with(alloc: Global, text: &str, live: u32) -> Result<String, Fail> {
-    let limits = Limits::new(65_536, live, 64, 64).ok_or("limits")?;
+fn told_with(rt: &impl Abort, alloc: Global, text: &str, live: u32) -> String {
+    let limits = Limits::new(65_536, live, 64, 64).expect(rt, "limits");
     match Script::read_with(alloc, text, &limits) {
-        Ok(_) => Err(Fail::from("a script that reads")),
+        Ok(_) => panic!(rt; "a script that reads"),
         Err(fault) => {
             let detail = fault.detail(alloc, text, &limits);
-            Ok(format!(in alloc; "{fault}{detail}")?)
+            format!(in alloc; "{fault}{detail}").expect(rt, "memory")
         }
     }
 }
 
-fn is_told(rt: &impl Abort, alloc: Global, text: &str, words: &str) -> Result<(), Fail> {
-    let told = told_with(alloc, text, 64)?;
+/// The fault of the text is told in these words.
+fn is_told(rt: &impl Abort, alloc: Global, text: &str, words: &str) {
+    let told = told_with(rt, alloc, text, 64);
     expect_same_for(rt, &told.as_str(), &words, &words);
-    Ok(())
 }
 
 /// What gives way in a script, what comes for it, and what is told.
 pub(crate) type Edit = (&'static str, &'static str, &'static str);
 
-pub(crate) fn are_told(
-    rt: &impl Abort,
-    alloc: Global,
-    script: &str,
-    edits: &[Edit],
-) -> Result<(), Fail> {
+/// Each edit of the script is told in its words.
+pub(crate) fn are_told(rt: &impl Abort, alloc: Global, script: &str, edits: &[Edit]) {
     for (old, new, words) in edits {
-        is_told(rt, alloc, edited(alloc, script, old, new)?.as_str(), words)?;
+        let text = edited(rt, alloc, script, old, new);
+        is_told(rt, alloc, text.as_str(), words);
     }
-    Ok(())
 }
 
 #[test]
-fn texts_that_are_no_json(rt: HostRuntime) -> Result<(), Fail> {
+fn texts_that_are_no_json(rt: HostRuntime) {
     let mark = "fault 21: the text is not JSON: it begins with a byte order mark";
-    is_told(&rt, rt.alloc(), "\u{feff}{}", mark)?;
+    is_told(&rt, rt.alloc(), "\u{feff}{}", mark);
     let place = "fault 21: the text is not JSON: line 2, column 3";
-    is_told(&rt, rt.alloc(), "[1,\n2 3]", place)
+    is_told(&rt, rt.alloc(), "[1,\n2 3]", place);
 }
 
-/// Members that are missing or of another type.
-static MISSING: [Edit; 14] = [
-    (
-        "\"name\":\"B\"",
-        "\"name\":5",
-        "fault 22: the member name is missing or of another type",
-    ),
-    (
-        "\"threads\":",
-        "\"thread\":",
-        "fault 22: the member threads is missing or of another type",
-    ),
-    (
-        "\"name\":\"pool\",",
-        "",
-        "fault 22: the member name is missing or of another type, in groups[1]",
-    ),
-    (
-        "\"signature\":\"LJob;\",",
-        "",
-        "fault 22: the member signature is missing or of another type, in classes[0]",
-    ),
-    (
-        "\"interfaces\":[10]",
-        "\"interfaces\":[\"LJob;\"]",
-        "fault 22: the member interfaces is missing or of another type, in classes[1].interfaces[0]",
-    ),
-    (
-        "\"id\":41,",
-        "\"id\":\"41\",",
-        "fault 22: the member id is missing or of another type, in classes[1].fields[1]",
-    ),
-    (
-        "\"name\":\"run\",\"signature\":\"()V\"",
-        "\"name\":\"run\"",
-        "fault 22: the member signature is missing or of another type, in classes[1].methods[0]",
-    ),
-    (
-        "\"last\":9,",
-        "",
-        "fault 22: the member last is missing or of another type, in classes[1].methods[0]",
-    ),
-    (
-        "[3,2]]",
-        "[3]]",
-        "fault 22: the member lines is missing or of another type, in classes[1].methods[0].lines[1]",
-    ),
-    (
-        "\"slot\":0}",
-        "\"slot\":-1}",
-        "fault 22: the member slot is missing or of another type, in classes[1].methods[0].slots[0]",
-    ),
-    (
-        "[40,[\"I\",1]]",
-        "[40]",
-        "fault 22: the member fields is missing or of another type, in objects[0].fields[0]",
-    ),
-    (
-        "\"text\":\"hello\"",
-        "\"text\":1",
-        "fault 22: the member text is missing or of another type, in objects[1]",
-    ),
-    (
-        "\"group\":6,",
-        "",
-        "fault 22: the member group is missing or of another type, in threads[1]",
-    ),
-    (
-        "[\"go\",3]",
-        "[\"goes\",3]",
-        "fault 22: the member steps is missing or of another type, in threads[0].steps[3]",
-    ),
-];
+/// Members that are missing or of another type, a line each: what gives way, what comes for it, and
+/// what is told.
+const MISSING: &str = "\"name\":\"B\" => \"name\":5 => name is missing or of another type
+\"threads\": => \"thread\": => threads is missing or of another type
+\"name\":\"pool\", =>  => name is missing or of another type, in groups[1]
+\"signature\":\"LJob;\", =>  => signature is missing or of another type, in classes[0]
+\"interfaces\":[10] => \"interfaces\":[\"LJob;\"] => interfaces is missing or of another type, in classes[1].interfaces[0]
+\"id\":41, => \"id\":\"41\", => id is missing or of another type, in classes[1].fields[1]
+\"name\":\"run\",\"signature\":\"()V\" => \"name\":\"run\" => signature is missing or of another type, in classes[1].methods[0]
+\"last\":9, =>  => last is missing or of another type, in classes[1].methods[0]
+[3,2]] => [3]] => lines is missing or of another type, in classes[1].methods[0].lines[1]
+\"slot\":0} => \"slot\":-1} => slot is missing or of another type, in classes[1].methods[0].slots[0]
+[40,[\"I\",1]] => [40] => fields is missing or of another type, in objects[0].fields[0]
+\"text\":\"hello\" => \"text\":1 => text is missing or of another type, in objects[1]
+\"group\":6, =>  => group is missing or of another type, in threads[1]
+[\"go\",3] => [\"goes\",3] => steps is missing or of another type, in threads[0].steps[3]";
 
 #[test]
-fn missing_members_are_told_with_their_place(rt: HostRuntime) -> Result<(), Fail> {
-    are_told(&rt, rt.alloc(), MACHINE_B, &MISSING)
+fn missing_members_are_told_with_their_place(rt: HostRuntime) {
+    lines_are_told(&rt, rt.alloc(), "fault 22: the member ", MISSING);
 }
 
 /// Ids that stand twice.
@@ -158,8 +96,8 @@ static TWICE: [Edit; 5] = [
 ];
 
 #[test]
-fn ids_that_stand_twice_are_told(rt: HostRuntime) -> Result<(), Fail> {
-    are_told(&rt, rt.alloc(), MACHINE_B, &TWICE)
+fn ids_that_stand_twice_are_told(rt: HostRuntime) {
+    are_told(&rt, rt.alloc(), MACHINE_B, &TWICE);
 }
 
 /// Widths, ids that do not fit them, and where.
@@ -223,12 +161,11 @@ static WIDE: [(&str, Edit); 7] = [
 ];
 
 #[test]
-fn wide_ids_are_told_with_their_place(rt: HostRuntime) -> Result<(), Fail> {
+fn wide_ids_are_told_with_their_place(rt: HostRuntime) {
     for (sizes, edit) in WIDE.iter() {
-        let script = edited(rt.alloc(), MACHINE_B, "[8,8,8,8,8]", sizes)?;
-        are_told(&rt, rt.alloc(), script.as_str(), &[*edit])?;
+        let script = edited(&rt, rt.alloc(), MACHINE_B, "[8,8,8,8,8]", sizes);
+        are_told(&rt, rt.alloc(), script.as_str(), &[*edit]);
     }
-    Ok(())
 }
 
 /// Bad references, a line each: what gives way, what comes for it, and what is told.
@@ -269,34 +206,26 @@ const BAD: &str = "\"id\":6, => \"id\":0, => the group has id 0, in groups[1]
 [\"start\",2] => [\"start\",2],[\"start\",2] => the thread 2 begins a second time
 [\"start\",2] => [\"start\",2],[\"start\",1] => no thread lives at the beginning";
 
-/// Machine B with such an edit is told so.
-fn is_bad(rt: &impl Abort, alloc: Global, old: &str, new: &str, words: &str) -> Result<(), Fail> {
-    let script = edited(alloc, MACHINE_B, old, new)?;
-    let told = format!(in alloc; "fault 25: a bad reference: {words}")?;
-    is_told(rt, alloc, script.as_str(), told.as_str())
+/// The row says what gives way in machine B, what comes for it and what is told behind `front`, and
+/// that is told.
+fn row_is_told(rt: &impl Abort, alloc: Global, front: &str, row: &str) {
+    let (old, behind) = row.split_once(" => ").expect(rt, "an edit");
+    let (new, words) = behind.split_once(" => ").expect(rt, "words");
+    let script = edited(rt, alloc, MACHINE_B, old, new);
+    let told = format!(in alloc; "{front}{words}").expect(rt, "memory");
+    is_told(rt, alloc, script.as_str(), told.as_str());
 }
 
-fn row_is_bad(rt: &impl Abort, alloc: Global, row: &str) -> Result<(), Fail> {
-    let Some((old, behind)) = row.split_once(" => ") else {
-        return Err(Fail::from("no row"));
-    };
-    match behind.split_once(" => ") {
-        Some((new, words)) => is_bad(rt, alloc, old, new, words),
-        None => Err(Fail::from("no words")),
+/// Each line is a row that is told so.
+fn lines_are_told(rt: &impl Abort, alloc: Global, front: &str, lines: &str) {
+    for row in lines.lines() {
+        row_is_told(rt, alloc, front, row);
     }
 }
 
 #[test]
-fn bad_references_are_told_with_their_place(rt: HostRuntime) -> Result<(), Fail> {
-    for row in BAD.lines() {
-        row_is_bad(&rt, rt.alloc(), row)?;
-    }
-    Ok(())
-}
-
-/// A text of so many times this one.
-fn times(alloc: Global, text: &str, count: usize) -> Result<String, Fail> {
-    Ok(text.repeat(alloc, count)?)
+fn bad_references_are_told_with_their_place(rt: HostRuntime) {
+    lines_are_told(&rt, rt.alloc(), "fault 25: a bad reference: ", BAD);
 }
 
 /// Machine B with so many times `more` in place of `old`, between `front` and `back`, is told so.
@@ -306,38 +235,38 @@ fn is_told_of(
     old: &str,
     parts: (&str, &str, usize, &str),
     words: &str,
-) -> Result<(), Fail> {
+) {
     let (front, more, count, back) = parts;
-    let more = times(alloc, more, count)?;
-    let new = format!(in alloc; "{front}{more}{back}")?;
-    let script = edited(alloc, MACHINE_B, old, new.as_str())?;
-    let told = format!(in alloc; "fault 26: a limit is passed: {words}")?;
-    is_told(rt, alloc, script.as_str(), told.as_str())
+    let more = more.repeat(alloc, count).expect(rt, "memory");
+    let new = format!(in alloc; "{front}{more}{back}").expect(rt, "memory");
+    let script = edited(rt, alloc, MACHINE_B, old, new.as_str());
+    let told = format!(in alloc; "fault 26: a limit is passed: {words}").expect(rt, "memory");
+    is_told(rt, alloc, script.as_str(), told.as_str());
 }
 
 #[test]
-fn limits_of_texts_are_told(rt: HostRuntime) -> Result<(), Fail> {
+fn limits_of_texts_are_told(rt: HostRuntime) {
     let alloc = rt.alloc();
     let long = "a text of more than 512 bytes";
-    is_told_of(&rt, alloc, "\"B\"", ("\"", "x", 513, "\""), long)?;
+    is_told_of(&rt, alloc, "\"B\"", ("\"", "x", 513, "\""), long);
     let long = "a text of more than 512 bytes, in groups[1]";
-    is_told_of(&rt, alloc, "\"pool\"", ("\"", "x", 513, "\""), long)?;
+    is_told_of(&rt, alloc, "\"pool\"", ("\"", "x", 513, "\""), long);
     let long = "a text of more than 512 bytes, in classes[0]";
-    is_told_of(&rt, alloc, "\"LJob;\"", ("\"", "x", 513, "\""), long)?;
+    is_told_of(&rt, alloc, "\"LJob;\"", ("\"", "x", 513, "\""), long);
     let long = "a text of more than 512 bytes, in classes[1].fields[0]";
-    is_told_of(&rt, alloc, "\"count\"", ("\"", "x", 513, "\""), long)?;
+    is_told_of(&rt, alloc, "\"count\"", ("\"", "x", 513, "\""), long);
     let long = "a text of more than 512 bytes, in classes[1].methods[0]";
-    is_told_of(&rt, alloc, "\"run\"", ("\"", "x", 513, "\""), long)?;
+    is_told_of(&rt, alloc, "\"run\"", ("\"", "x", 513, "\""), long);
     let long = "a text of more than 512 bytes, in classes[1].methods[0].slots[0]";
-    is_told_of(&rt, alloc, "\"this\"", ("\"", "x", 513, "\""), long)?;
+    is_told_of(&rt, alloc, "\"this\"", ("\"", "x", 513, "\""), long);
     let long = "a text of more than 65000 bytes, in objects[1]";
-    is_told_of(&rt, alloc, "\"hello\"", ("\"", "x", 65_001, "\""), long)?;
+    is_told_of(&rt, alloc, "\"hello\"", ("\"", "x", 65_001, "\""), long);
     let long = "a text of more than 512 bytes, in threads[1]";
-    is_told_of(&rt, alloc, "\"work\"", ("\"", "x", 513, "\""), long)
+    is_told_of(&rt, alloc, "\"work\"", ("\"", "x", 513, "\""), long);
 }
 
 #[test]
-fn limits_of_lists_are_told(rt: HostRuntime) -> Result<(), Fail> {
+fn limits_of_lists_are_told(rt: HostRuntime) {
     let alloc = rt.alloc();
     let group = "{\"id\":7,\"name\":\"\",\"parent\":0},";
     let many = "more than 1024 entries of groups";
@@ -347,62 +276,59 @@ fn limits_of_lists_are_told(rt: HostRuntime) -> Result<(), Fail> {
         "\"groups\":[",
         ("\"groups\":[", group, 1_024, ""),
         many,
-    )?;
+    );
     let many = "more than 256 entries of interfaces, in classes[1]";
-    is_told_of(&rt, alloc, "[10]", ("[", "10,", 256, "10]"), many)?;
+    is_told_of(&rt, alloc, "[10]", ("[", "10,", 256, "10]"), many);
     let many = "more than 256 entries of lines, in classes[1].methods[0]";
-    is_told_of(&rt, alloc, "[[0,1],", ("[", "[0,1],", 256, ""), many)?;
+    is_told_of(&rt, alloc, "[[0,1],", ("[", "[0,1],", 256, ""), many);
     let many = "more than 256 entries of fields, in objects[0]";
     let field = "[40,[\"I\",1]],";
-    is_told_of(&rt, alloc, "[[40,", ("[", field, 255, "[40,"), many)?;
+    is_told_of(&rt, alloc, "[[40,", ("[", field, 255, "[40,"), many);
     let many = "more than 4096 entries of array, in objects[1]";
-    is_told_of(&rt, alloc, "[50,0]", ("[", "50,", 4_096, "0]"), many)?;
+    is_told_of(&rt, alloc, "[50,0]", ("[", "50,", 4_096, "0]"), many);
+    limits_of_steps_are_told(&rt, alloc);
+}
+
+/// The limits of the steps of a thread, of the slots of a step and of frames are told.
+fn limits_of_steps_are_told(rt: &impl Abort, alloc: Global) {
     let many = "more than 65536 entries of steps, in threads[0]";
     is_told_of(
-        &rt,
+        rt,
         alloc,
         "[\"go\",3]",
         ("", "[\"go\",3],", 65_536, "[\"go\",3]"),
         many,
-    )?;
+    );
     let many = "more than 256 entries of slots, in threads[0].steps[2]";
     let slot = "[0,[\"L\",50]],";
     is_told_of(
-        &rt,
+        rt,
         alloc,
         "[[0,[\"L\",50]]]",
         ("[", slot, 256, "[0,[\"L\",50]]]"),
         many,
-    )?;
+    );
     let deep = "more than 256 frames at once, in threads[0]";
     let call = "[\"call\",30,11,20,50,[]],";
-    is_told_of(
-        &rt,
-        alloc,
-        "[\"go\",3]",
-        ("", call, 256, "[\"go\",3]"),
-        deep,
-    )
+    is_told_of(rt, alloc, "[\"go\",3]", ("", call, 256, "[\"go\",3]"), deep);
 }
 
 #[test]
-fn too_many_threads_at_the_beginning_are_told(rt: HostRuntime) -> Result<(), Fail> {
-    let told = told_with(rt.alloc(), MACHINE_A, 1)?;
+fn too_many_threads_at_the_beginning_are_told(rt: HostRuntime) {
+    let told = told_with(&rt, rt.alloc(), MACHINE_A, 1);
     let words = "fault 26: a limit is passed: more than 1 threads at the beginning";
     expect_same_for(&rt, &told.as_str(), &words, &words);
-    Ok(())
 }
 
 /// Of a fault of which nothing is known, nothing is told.
 #[test]
-fn nothing_is_told_where_nothing_is_known(rt: HostRuntime) -> Result<(), Fail> {
-    let told = Detail::UNSAID.to_string(rt.alloc())?;
+fn nothing_is_told_where_nothing_is_known(rt: HostRuntime) {
+    let told = Detail::UNSAID.to_string(rt.alloc()).expect(&rt, "memory");
     expect_same_for(&rt, &told.as_str(), &"", &"unsaid");
     let twice = Detail {
         cause: Cause::Twice(IdKind::Class, 7),
         path: Path::ROOT,
     };
-    let told = twice.to_string(rt.alloc())?;
+    let told = twice.to_string(rt.alloc()).expect(&rt, "memory");
     expect_same_for(&rt, &told.as_str(), &": 7 of a class", &"twice");
-    Ok(())
 }

@@ -13,7 +13,6 @@ use jdwp_value::ObjectId;
 use jdwp_wire::{DataFault, IdSizes};
 use std::alloc::Global;
 use std::process::Abort;
-use std::test::Fail;
 
 /// The bytes are read and judged with this fault.
 fn has_fault(
@@ -36,13 +35,12 @@ fn written_as(
     sizes: &IdSizes,
     values: &[Datum],
     bytes: &[u8],
-) -> Result<(), Fail> {
-    let mut output = vec![in alloc; 7]?;
-    write(layout, sizes, values, &mut output)?;
+) {
+    let mut output = vec![in alloc; 7].expect(rt, "memory");
+    write(layout, sizes, values, &mut output).expect(rt, "the data are written");
     expect_same(rt, &output.get(1..), &Some(bytes));
     expect_same(rt, &data_size(values, sizes), &Some(bytes.len()));
     expect_same(rt, &refusal(layout, sizes, values), &None);
-    Ok(())
 }
 
 /// The slice is read as this text and written back as these bytes.
@@ -54,10 +52,10 @@ fn read_as(
     bytes: &[u8],
     canonical: &[u8],
     text: Option<&str>,
-) -> Result<(), Fail> {
+) {
     expect_same(rt, &validate(layout, sizes, bytes), &Ok(()));
-    let values = read(alloc, layout, sizes, bytes)?;
-    shown_and_written_as(rt, alloc, layout, sizes, &values, canonical, text)
+    let values = read(alloc, layout, sizes, bytes).expect(rt, "the bytes are read");
+    shown_and_written_as(rt, alloc, layout, sizes, &values, canonical, text);
 }
 
 /// The data are this text, and are written as these bytes.
@@ -69,42 +67,36 @@ fn shown_and_written_as(
     values: &[Datum],
     canonical: &[u8],
     text: Option<&str>,
-) -> Result<(), Fail> {
+) {
     if let Some(text) = text {
-        is_shown(rt, alloc, values, text)?;
+        is_shown(rt, alloc, values, text);
     }
-    written_as(rt, alloc, layout, sizes, values, canonical)
+    written_as(rt, alloc, layout, sizes, values, canonical);
 }
 
-fn is_shown(rt: &impl Abort, alloc: Global, values: &[Datum], text: &str) -> Result<(), Fail> {
-    let shown = text_of(alloc, values)?;
+/// The data are this text.
+fn is_shown(rt: &impl Abort, alloc: Global, values: &[Datum], text: &str) {
+    let shown = text_of(rt, alloc, values);
     expect_same(rt, &shown.as_str(), &text);
-    Ok(())
 }
 
 /// Each proper front of the slice is too short, and one byte more is too many.
-fn ends_there(
-    rt: &impl Abort,
-    alloc: Global,
-    layout: &Layout,
-    sizes: &IdSizes,
-    bytes: &[u8],
-) -> Result<(), Fail> {
+fn ends_there(rt: &impl Abort, alloc: Global, layout: &Layout, sizes: &IdSizes, bytes: &[u8]) {
     for length in 0..bytes.len() {
         let (front, _) = bytes.split_at(length);
         has_fault(rt, alloc, layout, sizes, front, DataFault::Short(length));
     }
-    let more = followed_by_zero(alloc, bytes)?;
+    let more = followed_by_zero(rt, alloc, bytes);
     let extra = DataFault::Extra(bytes.len());
     has_fault(rt, alloc, layout, sizes, &more, extra);
-    Ok(())
 }
 
-fn followed_by_zero(alloc: Global, bytes: &[u8]) -> Result<Vec<u8>, Fail> {
+/// The bytes, and a zero behind them.
+fn followed_by_zero(rt: &impl Abort, alloc: Global, bytes: &[u8]) -> Vec<u8> {
     let mut more = Vec::new(alloc);
-    more.extend_from_slice(bytes)?;
-    more.push(0)?;
-    Ok(more)
+    push_bytes(rt, bytes, &mut more);
+    push_bytes(rt, &[0], &mut more);
+    more
 }
 
 /// The slice is read as this text and written back as these bytes; each proper front is too short, and one byte more is
@@ -117,21 +109,31 @@ fn accepted(
     bytes: &[u8],
     canonical: &[u8],
     text: Option<&str>,
-) -> Result<(), Fail> {
-    read_as(rt, alloc, layout, sizes, bytes, canonical, text)?;
-    ends_there(rt, alloc, layout, sizes, bytes)
+) {
+    read_as(rt, alloc, layout, sizes, bytes, canonical, text);
+    ends_there(rt, alloc, layout, sizes, bytes);
 }
 
-pub(crate) fn request_of(set: u8, command: u8) -> Result<Layout, Fail> {
-    let row = layout_of(set, command).ok_or("no row")?;
-    let layouts = row.layouts.ok_or("a raw row")?;
-    Ok(layouts.request)
+/// The layout of a request.
+pub(crate) fn request_of(rt: &impl Abort, set: u8, command: u8) -> Layout {
+    let row = layout_of(set, command).expect(rt, "a row");
+    row.layouts.expect(rt, "a row with layouts").request
 }
 
-fn reply_of(set: u8, command: u8) -> Result<Layout, Fail> {
-    let row = layout_of(set, command).ok_or("no row")?;
-    let layouts = row.layouts.ok_or("a raw row")?;
-    Ok(layouts.reply)
+/// The layout of a reply.
+fn reply_of(rt: &impl Abort, set: u8, command: u8) -> Layout {
+    let row = layout_of(set, command).expect(rt, "a row");
+    row.layouts.expect(rt, "a row with layouts").reply
+}
+
+/// Ids of 8 bytes.
+fn eight(rt: &impl Abort) -> IdSizes {
+    IdSizes::new(8, 8, 8, 8, 8).expect(rt, "widths")
+}
+
+/// Ids of one byte.
+fn one(rt: &impl Abort) -> IdSizes {
+    IdSizes::new(1, 1, 1, 1, 1).expect(rt, "widths")
 }
 
 /// A request's data: its set and number, the bytes, as which bytes they are written, and as text.
@@ -203,20 +205,19 @@ fn is_accepted(
     hex: &str,
     canonical: &str,
     text: &str,
-) -> Result<(), Fail> {
-    let sizes = IdSizes::new(8, 8, 8, 8, 8)?;
-    let data = bytes(alloc, hex)?;
-    let canonical = bytes(alloc, canonical)?;
-    accepted(rt, alloc, layout, &sizes, &data, &canonical, Some(text))
+) {
+    let sizes = eight(rt);
+    let data = bytes(alloc, hex).expect(rt, "memory");
+    let canonical = bytes(alloc, canonical).expect(rt, "memory");
+    accepted(rt, alloc, layout, &sizes, &data, &canonical, Some(text));
 }
 
 #[test]
-fn examples(rt: HostRuntime) -> Result<(), Fail> {
+fn examples(rt: HostRuntime) {
     for &(set, command, hex, canonical, text) in EXAMPLES.iter() {
-        let layout = request_of(set, command)?;
-        is_accepted(&rt, rt.alloc(), &layout, hex, canonical, text)?;
+        let layout = request_of(&rt, set, command);
+        is_accepted(&rt, rt.alloc(), &layout, hex, canonical, text);
     }
-    Ok(())
 }
 
 /// A reply's data: its set and number, the bytes, and as text.
@@ -251,11 +252,11 @@ static REPLIES: [(u8, u8, &str, &str); 7] = [
 ];
 
 #[test]
-fn replies(rt: HostRuntime) -> Result<(), Fail> {
+fn replies(rt: HostRuntime) {
     for &(set, command, hex, text) in REPLIES.iter() {
-        is_accepted(&rt, rt.alloc(), &reply_of(set, command)?, hex, hex, text)?;
+        let layout = reply_of(&rt, set, command);
+        is_accepted(&rt, rt.alloc(), &layout, hex, hex, text);
     }
-    Ok(())
 }
 
 /// A request's data: its set and number, the bytes, and their first fault.
@@ -304,27 +305,19 @@ static REGION_FAULTS: [(&str, DataFault); 3] = [
 ];
 
 /// The bytes are read and judged with this fault.
-fn refused(
-    rt: &impl Abort,
-    alloc: Global,
-    layout: &Layout,
-    hex: &str,
-    fault: DataFault,
-) -> Result<(), Fail> {
-    let sizes = IdSizes::new(8, 8, 8, 8, 8)?;
-    has_fault(rt, alloc, layout, &sizes, &bytes(alloc, hex)?, fault);
-    Ok(())
+fn refused(rt: &impl Abort, alloc: Global, layout: &Layout, hex: &str, fault: DataFault) {
+    let bytes = bytes(alloc, hex).expect(rt, "memory");
+    has_fault(rt, alloc, layout, &eight(rt), &bytes, fault);
 }
 
 #[test]
-fn faults(rt: HostRuntime) -> Result<(), Fail> {
+fn faults(rt: HostRuntime) {
     for &(set, command, hex, fault) in FAULTS.iter() {
-        refused(&rt, rt.alloc(), &request_of(set, command)?, hex, fault)?;
+        refused(&rt, rt.alloc(), &request_of(&rt, set, command), hex, fault);
     }
     for &(hex, fault) in REGION_FAULTS.iter() {
-        refused(&rt, rt.alloc(), &reply_of(13, 2)?, hex, fault)?;
+        refused(&rt, rt.alloc(), &reply_of(&rt, 13, 2), hex, fault);
     }
-    Ok(())
 }
 
 /// The data can't be written at widths of one byte, for this reason, and nothing is.
@@ -334,127 +327,115 @@ fn not_written(
     layout: &Layout,
     values: &[Datum],
     fault: DataFault,
-) -> Result<(), Fail> {
-    let sizes = IdSizes::new(1, 1, 1, 1, 1)?;
-    let mut output = vec![in alloc; 7]?;
+) {
+    let sizes = one(rt);
+    let mut output = vec![in alloc; 7].expect(rt, "memory");
     let written = write(layout, &sizes, values, &mut output);
     expect_same(rt, &written, &Err(fault));
     expect_same(rt, &refusal(layout, &sizes, values), &Some(fault));
     expect_same(rt, &output.as_slice(), &[7].as_slice());
-    Ok(())
 }
 
 /// The same of the data of a request for a thread's suspend count.
-fn no_thread(
-    rt: &impl Abort,
-    alloc: Global,
-    values: &[Datum],
-    fault: DataFault,
-) -> Result<(), Fail> {
-    not_written(rt, alloc, &request_of(11, 12)?, values, fault)
+fn no_thread(rt: &impl Abort, alloc: Global, values: &[Datum], fault: DataFault) {
+    not_written(rt, alloc, &request_of(rt, 11, 12), values, fault);
 }
 
 #[test]
-fn refusals(rt: HostRuntime) -> Result<(), Fail> {
+fn refusals(rt: HostRuntime) {
     let alloc = rt.alloc();
     no_thread(
         &rt,
         alloc,
         &[Datum::One(Scalar::ObjectId(ObjectId(256)))],
         DataFault::IdTooWide,
-    )?;
+    );
     no_thread(
         &rt,
         alloc,
         &[Datum::One(Scalar::Int(1))],
         DataFault::BadSize,
-    )?;
-    no_thread(&rt, alloc, &[], DataFault::BadSize)?;
+    );
+    no_thread(&rt, alloc, &[], DataFault::BadSize);
     let one_more = [
         Datum::One(Scalar::ObjectId(ObjectId(1))),
         Datum::One(Scalar::Int(1)),
     ];
-    no_thread(&rt, alloc, &one_more, DataFault::BadSize)
+    no_thread(&rt, alloc, &one_more, DataFault::BadSize);
 }
 
 /// A list of one modifier of this kind, with no field.
-fn modifiers_of(alloc: Global, kind: u8) -> Result<Datum, Fail> {
-    let modifier = vec![in alloc; Scalar::Byte(kind)]?;
-    Ok(Datum::Many(vec![in alloc; modifier]?))
+fn modifiers_of(rt: &impl Abort, alloc: Global, kind: u8) -> Datum {
+    let modifier = vec![in alloc; Scalar::Byte(kind)].expect(rt, "memory");
+    Datum::Many(vec![in alloc; modifier].expect(rt, "memory"))
 }
 
 #[test]
-fn a_kind_of_modifier_that_there_is_not(rt: HostRuntime) -> Result<(), Fail> {
+fn a_kind_of_modifier_that_there_is_not(rt: HostRuntime) {
     let alloc = rt.alloc();
-    let set = request_of(15, 1)?;
-    let modifiers = modifiers_of(alloc, 13)?;
+    let set = request_of(&rt, 15, 1);
+    let modifiers = modifiers_of(&rt, alloc, 13);
     let unknown_kind = [
         Datum::One(Scalar::Byte(2)),
         Datum::One(Scalar::Byte(0)),
         modifiers,
     ];
-    not_written(&rt, alloc, &set, &unknown_kind, DataFault::BadSize)
+    not_written(&rt, alloc, &set, &unknown_kind, DataFault::BadSize);
 }
 
 #[test]
-fn the_greatest_id_of_one_byte(rt: HostRuntime) -> Result<(), Fail> {
+fn the_greatest_id_of_one_byte(rt: HostRuntime) {
     let fits = [Datum::One(Scalar::ObjectId(ObjectId(255)))];
-    let sizes = IdSizes::new(1, 1, 1, 1, 1)?;
-    written_as(&rt, rt.alloc(), &request_of(11, 12)?, &sizes, &fits, &[255])
+    let layout = request_of(&rt, 11, 12);
+    written_as(&rt, rt.alloc(), &layout, &one(&rt), &fits, &[255]);
 }
 
 /// The entry of these bytes, which `entry_size` counts.
-fn entry_of(
-    rt: &impl Abort,
-    alloc: Global,
-    entry: Entry,
-    bytes: &[u8],
-) -> Result<Vec<Scalar>, Fail> {
-    let sizes = IdSizes::new(8, 8, 8, 8, 8)?;
-    let (scalars, rest) = read_entry(alloc, entry, bytes, bytes.len(), &sizes)?;
+fn entry_of(rt: &impl Abort, alloc: Global, entry: Entry, bytes: &[u8]) -> Vec<Scalar> {
+    let sizes = eight(rt);
+    let read = read_entry(alloc, entry, bytes, bytes.len(), &sizes);
+    let (scalars, rest) = read.expect(rt, "an entry");
     expect_same(rt, &rest.len(), &0);
     expect_same(rt, &entry_size(&scalars, &sizes), &Some(bytes.len()));
-    Ok(scalars)
+    scalars
 }
 
 /// The bytes of the entry that these bytes are, twice.
-fn twice(rt: &impl Abort, alloc: Global, entry: Entry, bytes: &[u8]) -> Result<Vec<u8>, Fail> {
-    let scalars = entry_of(rt, alloc, entry, bytes)?;
-    written_twice(alloc, entry, &scalars)
+fn twice(rt: &impl Abort, alloc: Global, entry: Entry, bytes: &[u8]) -> Vec<u8> {
+    let scalars = entry_of(rt, alloc, entry, bytes);
+    written_twice(rt, alloc, entry, &scalars)
 }
 
-fn written_twice(alloc: Global, entry: Entry, scalars: &[Scalar]) -> Result<Vec<u8>, Fail> {
-    let sizes = IdSizes::new(8, 8, 8, 8, 8)?;
+/// The bytes of the entry, twice.
+fn written_twice(rt: &impl Abort, alloc: Global, entry: Entry, scalars: &[Scalar]) -> Vec<u8> {
+    let sizes = eight(rt);
     let mut twice = Vec::new(alloc);
-    write_entry(entry, scalars, &sizes, &mut twice)?;
-    write_entry(entry, scalars, &sizes, &mut twice)?;
-    Ok(twice)
+    write_entry(entry, scalars, &sizes, &mut twice).expect(rt, "the entry is written");
+    write_entry(entry, scalars, &sizes, &mut twice).expect(rt, "the entry is written");
+    twice
 }
 
 /// These bytes hold one entry, with these bytes behind it.
-fn is_passed(rt: &impl Abort, entry: Entry, bytes: &[u8], behind: &[u8]) -> Result<(), Fail> {
-    let sizes = IdSizes::new(8, 8, 8, 8, 8)?;
-    let rest = pass_entry(entry, bytes, bytes.len(), &sizes)?;
+fn is_passed(rt: &impl Abort, entry: Entry, bytes: &[u8], behind: &[u8]) {
+    let sizes = eight(rt);
+    let rest = pass_entry(entry, bytes, bytes.len(), &sizes).expect(rt, "an entry");
     expect_same(rt, &rest, &behind);
-    let rest = pass_entries(1, entry, bytes, bytes.len(), &sizes)?;
+    let rest = pass_entries(1, entry, bytes, bytes.len(), &sizes).expect(rt, "an entry");
     expect_same(rt, &rest, &behind);
-    Ok(())
 }
 
 /// The bytes are an entry, and twice the bytes are two.
-fn is_an_entry(rt: &impl Abort, alloc: Global, entry: Entry, bytes: &[u8]) -> Result<(), Fail> {
-    is_passed(rt, entry, bytes, &[])?;
-    let twice = twice(rt, alloc, entry, bytes)?;
-    are_two(rt, entry, &twice, bytes)
+fn is_an_entry(rt: &impl Abort, alloc: Global, entry: Entry, bytes: &[u8]) {
+    is_passed(rt, entry, bytes, &[]);
+    let twice = twice(rt, alloc, entry, bytes);
+    are_two(rt, entry, &twice, bytes);
 }
 
 /// These bytes are twice an entry of those bytes.
-fn are_two(rt: &impl Abort, entry: Entry, twice: &[u8], bytes: &[u8]) -> Result<(), Fail> {
-    is_passed(rt, entry, twice, bytes)?;
-    let sizes = IdSizes::new(8, 8, 8, 8, 8)?;
-    let rest = pass_entries(2, entry, twice, twice.len(), &sizes)?;
+fn are_two(rt: &impl Abort, entry: Entry, twice: &[u8], bytes: &[u8]) {
+    is_passed(rt, entry, twice, bytes);
+    let rest = pass_entries(2, entry, twice, twice.len(), &eight(rt)).expect(rt, "two entries");
     expect_same(rt, &rest.len(), &0);
-    Ok(())
 }
 
 /// An exception of any type, where it is caught and where it isn't; a place in a class; VM_DEATH.
@@ -468,38 +449,36 @@ static ENTRIES: [(Entry, &str); 3] = [
 ];
 
 #[test]
-fn entries_one_by_one(rt: HostRuntime) -> Result<(), Fail> {
+fn entries_one_by_one(rt: HostRuntime) {
     for (entry, hex) in ENTRIES.iter() {
-        is_an_entry(&rt, rt.alloc(), *entry, &bytes(rt.alloc(), hex)?)?;
+        let bytes = bytes(rt.alloc(), hex).expect(&rt, "memory");
+        is_an_entry(&rt, rt.alloc(), *entry, &bytes);
     }
-    Ok(())
 }
 
 /// The bytes end in the midst of an entry.
-fn is_cut_off(rt: &impl Abort, entry: Entry, bytes: &[u8]) -> Result<(), Fail> {
-    let sizes = IdSizes::new(8, 8, 8, 8, 8)?;
-    let found = pass_entry(entry, bytes, bytes.len(), &sizes).err();
+fn is_cut_off(rt: &impl Abort, entry: Entry, bytes: &[u8]) {
+    let found = pass_entry(entry, bytes, bytes.len(), &eight(rt)).err();
     expect_same(rt, &found, &Some(DataFault::Short(bytes.len())));
-    Ok(())
 }
 
 #[test]
-fn entries_that_are_cut_off(rt: HostRuntime) -> Result<(), Fail> {
+fn entries_that_are_cut_off(rt: HostRuntime) {
     // Two bytes of an exception's filter, and of a VM_DEATH.
-    is_cut_off(&rt, Entry::Modifier, &[8, 0])?;
-    is_cut_off(&rt, Entry::Event, &[99, 0])
+    is_cut_off(&rt, Entry::Modifier, &[8, 0]);
+    is_cut_off(&rt, Entry::Event, &[99, 0]);
 }
 
 /// The field in front of these bytes, and how many bytes are behind it.
-fn field_of(alloc: Global, field: Field, hex: &str) -> Result<(Scalar, usize), Fail> {
-    let sizes = IdSizes::new(8, 8, 8, 8, 8)?;
-    let bytes = bytes(alloc, hex)?;
-    let (scalar, rest) = read_field(alloc, field, &bytes, bytes.len(), &sizes)?;
-    Ok((scalar, rest.len()))
+fn field_of(rt: &impl Abort, alloc: Global, field: Field, hex: &str) -> (Scalar, usize) {
+    let bytes = bytes(alloc, hex).expect(rt, "memory");
+    let read = read_field(alloc, field, &bytes, bytes.len(), &eight(rt));
+    let (scalar, rest) = read.expect(rt, "a field");
+    (scalar, rest.len())
 }
 
 #[test]
-fn fields_one_by_one(rt: HostRuntime) -> Result<(), Fail> {
+fn fields_one_by_one(rt: HostRuntime) {
     let alloc = rt.alloc();
     is_field(
         &rt,
@@ -507,8 +486,8 @@ fn fields_one_by_one(rt: HostRuntime) -> Result<(), Fail> {
         Field::Boolean,
         "02 07",
         (Scalar::Boolean(true), 1),
-    )?;
-    is_field(&rt, alloc, Field::Int, "ffffffff", (Scalar::Int(-1), 0))?;
+    );
+    is_field(&rt, alloc, Field::Int, "ffffffff", (Scalar::Int(-1), 0));
     let thread = Scalar::ObjectId(ObjectId(9));
     is_field(
         &rt,
@@ -516,36 +495,27 @@ fn fields_one_by_one(rt: HostRuntime) -> Result<(), Fail> {
         Field::ObjectId,
         "0000000000000009 0000",
         (thread, 2),
-    )
+    );
 }
 
 /// The field in front of these bytes holds this, with so many bytes behind it.
-fn is_field(
-    rt: &impl Abort,
-    alloc: Global,
-    field: Field,
-    hex: &str,
-    want: (Scalar, usize),
-) -> Result<(), Fail> {
-    expect_same(rt, &field_of(alloc, field, hex)?, &want);
-    Ok(())
+fn is_field(rt: &impl Abort, alloc: Global, field: Field, hex: &str, want: (Scalar, usize)) {
+    expect_same(rt, &field_of(rt, alloc, field, hex), &want);
 }
 
 #[test]
-fn a_field_that_is_cut_off(rt: HostRuntime) -> Result<(), Fail> {
+fn a_field_that_is_cut_off(rt: HostRuntime) {
     // One byte of an int.
-    let sizes = IdSizes::new(8, 8, 8, 8, 8)?;
-    let found = read_field(rt.alloc(), Field::Int, &[0], 1, &sizes).err();
+    let found = read_field(rt.alloc(), Field::Int, &[0], 1, &eight(&rt)).err();
     expect_same(&rt, &found, &Some(DataFault::Short(1)));
-    Ok(())
 }
 
 #[test]
-fn data_are_kept_as_they_are(rt: HostRuntime) -> Result<(), Fail> {
-    let data = Data::new(vec![in rt.alloc(); Datum::One(Scalar::Int(1))]?);
+fn data_are_kept_as_they_are(rt: HostRuntime) {
+    let items = vec![in rt.alloc(); Datum::One(Scalar::Int(1))].expect(&rt, "memory");
+    let data = Data::new(items);
     assert!(rt; are_one(data.items()));
     assert!(rt; are_one(&data.into_items()));
-    Ok(())
 }
 
 /// Whether the data are the int 1.
@@ -563,62 +533,62 @@ fn laws(_rt: HostRuntime) {
     answers_first_fault();
 }
 
-/// An id of so many bytes.
-fn push_id(width: u8, id: u8, bytes: &mut Vec<u8>) -> Result<(), Fail> {
+/// Appends an id of so many bytes.
+fn push_id(rt: &impl Abort, width: u8, id: u8, bytes: &mut Vec<u8>) {
     for _ in 1..width {
-        bytes.push(0)?;
+        push_bytes(rt, &[0], bytes);
     }
-    bytes.push(id)?;
-    Ok(())
+    push_bytes(rt, &[id], bytes);
 }
 
-fn push_sample(field: Field, sizes: &IdSizes, bytes: &mut Vec<u8>) -> Result<(), Fail> {
+/// Appends bytes of the field.
+fn push_sample(rt: &impl Abort, field: Field, sizes: &IdSizes, bytes: &mut Vec<u8>) {
     match field {
-        Field::Byte => push_bytes(&[7], bytes),
-        Field::Boolean => push_bytes(&[1], bytes),
-        Field::Int => push_bytes(&[0xff, 0xff, 0xff, 0xfe], bytes),
-        Field::Long => push_bytes(&[0x80, 0, 0, 0, 0, 0, 0, 3], bytes),
-        Field::String => push_bytes(&[0, 0, 0, 3, 0x68, 0xc3, 0xa9], bytes),
-        Field::ObjectId => push_id(sizes.object(), 5, bytes),
-        Field::ReferenceTypeId => push_id(sizes.reference(), 10, bytes),
-        Field::MethodId => push_id(sizes.method(), 20, bytes),
-        Field::FieldId => push_id(sizes.field(), 30, bytes),
-        Field::FrameId => push_id(sizes.frame(), 40, bytes),
-        Field::Location => push_place(sizes, bytes),
-        Field::Value => push_bytes(&[0x49, 0, 0, 0, 9], bytes),
-        Field::TaggedId => push_object(sizes, bytes),
+        Field::Byte => push_bytes(rt, &[7], bytes),
+        Field::Boolean => push_bytes(rt, &[1], bytes),
+        Field::Int => push_bytes(rt, &[0xff, 0xff, 0xff, 0xfe], bytes),
+        Field::Long => push_bytes(rt, &[0x80, 0, 0, 0, 0, 0, 0, 3], bytes),
+        Field::String => push_bytes(rt, &[0, 0, 0, 3, 0x68, 0xc3, 0xa9], bytes),
+        Field::ObjectId => push_id(rt, sizes.object(), 5, bytes),
+        Field::ReferenceTypeId => push_id(rt, sizes.reference(), 10, bytes),
+        Field::MethodId => push_id(rt, sizes.method(), 20, bytes),
+        Field::FieldId => push_id(rt, sizes.field(), 30, bytes),
+        Field::FrameId => push_id(rt, sizes.frame(), 40, bytes),
+        Field::Location => push_place(rt, sizes, bytes),
+        Field::Value => push_bytes(rt, &[0x49, 0, 0, 0, 9], bytes),
+        Field::TaggedId => push_object(rt, sizes, bytes),
     }
 }
 
-fn push_bytes(more: &[u8], bytes: &mut Vec<u8>) -> Result<(), Fail> {
-    bytes.extend_from_slice(more)?;
-    Ok(())
+/// Appends these bytes.
+fn push_bytes(rt: &impl Abort, more: &[u8], bytes: &mut Vec<u8>) {
+    bytes.extend_from_slice(more).expect(rt, "memory");
 }
 
-/// A location in an interface.
-fn push_place(sizes: &IdSizes, bytes: &mut Vec<u8>) -> Result<(), Fail> {
-    push_bytes(&[2], bytes)?;
-    push_id(sizes.reference(), 10, bytes)?;
-    push_id(sizes.method(), 20, bytes)?;
-    push_id(8, 3, bytes)
+/// Appends a location in an interface.
+fn push_place(rt: &impl Abort, sizes: &IdSizes, bytes: &mut Vec<u8>) {
+    push_bytes(rt, &[2], bytes);
+    push_id(rt, sizes.reference(), 10, bytes);
+    push_id(rt, sizes.method(), 20, bytes);
+    push_id(rt, 8, 3, bytes);
 }
 
-/// An object behind its tag.
-fn push_object(sizes: &IdSizes, bytes: &mut Vec<u8>) -> Result<(), Fail> {
-    push_bytes(&[0x4c], bytes)?;
-    push_id(sizes.object(), 5, bytes)
+/// Appends an object behind its tag.
+fn push_object(rt: &impl Abort, sizes: &IdSizes, bytes: &mut Vec<u8>) {
+    push_bytes(rt, &[0x4c], bytes);
+    push_id(rt, sizes.object(), 5, bytes);
 }
 
-fn push_fields(fields: &[Field], sizes: &IdSizes, bytes: &mut Vec<u8>) -> Result<(), Fail> {
+/// Appends bytes of each field.
+fn push_fields(rt: &impl Abort, fields: &[Field], sizes: &IdSizes, bytes: &mut Vec<u8>) {
     for field in fields {
-        push_sample(*field, sizes, bytes)?;
+        push_sample(rt, *field, sizes, bytes);
     }
-    Ok(())
 }
 
-/// One entry of each kind.
-fn push_kinds(events: bool, sizes: &IdSizes, bytes: &mut Vec<u8>) -> Result<(), Fail> {
-    bytes.extend_from_slice(&[0, 0, 0, if events { 18 } else { 12 }])?;
+/// Appends one entry of each kind.
+fn push_kinds(rt: &impl Abort, events: bool, sizes: &IdSizes, bytes: &mut Vec<u8>) {
+    push_bytes(rt, &[0, 0, 0, if events { 18 } else { 12 }], bytes);
     for kind in 0..256u32 {
         let fields = if events {
             fields_of_event(kind as u8)
@@ -626,75 +596,68 @@ fn push_kinds(events: bool, sizes: &IdSizes, bytes: &mut Vec<u8>) -> Result<(), 
             fields_of_modifier(kind as u8)
         };
         if let Some(fields) = fields {
-            bytes.push(kind as u8)?;
-            push_fields(fields, sizes, bytes)?;
+            push_bytes(rt, &[kind as u8], bytes);
+            push_fields(rt, fields, sizes, bytes);
         }
     }
-    Ok(())
 }
 
-/// A list of two entries.
-fn push_two(fields: &[Field], sizes: &IdSizes, bytes: &mut Vec<u8>) -> Result<(), Fail> {
-    push_bytes(&[0, 0, 0, 2], bytes)?;
-    push_fields(fields, sizes, bytes)?;
-    push_fields(fields, sizes, bytes)
+/// Appends a list of two entries.
+fn push_two(rt: &impl Abort, fields: &[Field], sizes: &IdSizes, bytes: &mut Vec<u8>) {
+    push_bytes(rt, &[0, 0, 0, 2], bytes);
+    push_fields(rt, fields, sizes, bytes);
+    push_fields(rt, fields, sizes, bytes);
 }
 
-fn push_item(item: Item, sizes: &IdSizes, bytes: &mut Vec<u8>) -> Result<(), Fail> {
+/// Appends bytes of the item.
+fn push_item(rt: &impl Abort, item: Item, sizes: &IdSizes, bytes: &mut Vec<u8>) {
     match item {
-        Item::One(field) => push_sample(field, sizes, bytes),
-        Item::Many(Entry::Modifier) => push_kinds(false, sizes, bytes),
-        Item::Many(Entry::Event) => push_kinds(true, sizes, bytes),
-        Item::Many(Entry::Fields(fields)) => push_two(fields, sizes, bytes),
-        Item::Region => push_bytes(&[0x53, 0, 0, 0, 2, 0, 1, 0, 2], bytes),
+        Item::One(field) => push_sample(rt, field, sizes, bytes),
+        Item::Many(Entry::Modifier) => push_kinds(rt, false, sizes, bytes),
+        Item::Many(Entry::Event) => push_kinds(rt, true, sizes, bytes),
+        Item::Many(Entry::Fields(fields)) => push_two(rt, fields, sizes, bytes),
+        Item::Region => push_bytes(rt, &[0x53, 0, 0, 0, 2, 0, 1, 0, 2], bytes),
     }
 }
 
 /// Bytes of the layout: each list has two entries, and a list of modifiers or events one of each kind.
-fn sample(alloc: Global, layout: &Layout, sizes: &IdSizes) -> Result<Vec<u8>, Fail> {
+fn sample(rt: &impl Abort, alloc: Global, layout: &Layout, sizes: &IdSizes) -> Vec<u8> {
     let mut bytes = Vec::new(alloc);
     for item in layout.items {
-        push_item(*item, sizes, &mut bytes)?;
+        push_item(rt, *item, sizes, &mut bytes);
     }
-    Ok(bytes)
+    bytes
 }
 
 /// A sample of the layout is accepted.
-fn sample_is_accepted(
-    rt: &impl Abort,
-    alloc: Global,
-    layout: &Layout,
-    sizes: &IdSizes,
-) -> Result<(), Fail> {
-    let bytes = sample(alloc, layout, sizes)?;
-    accepted(rt, alloc, layout, sizes, &bytes, &bytes, None)
+fn sample_is_accepted(rt: &impl Abort, alloc: Global, layout: &Layout, sizes: &IdSizes) {
+    let bytes = sample(rt, alloc, layout, sizes);
+    accepted(rt, alloc, layout, sizes, &bytes, &bytes, None);
 }
 
 /// Every row, modifier and event at these widths.
-fn every_layout_at(rt: &impl Abort, alloc: Global, sizes: &IdSizes) -> Result<(), Fail> {
+fn every_layout_at(rt: &impl Abort, alloc: Global, sizes: &IdSizes) {
     for set in 0..65u32 {
         for command in 0..101u32 {
             if let Some(row) = layout_of(set as u8, command as u8) {
                 if let Some(layouts) = row.layouts {
-                    sample_is_accepted(rt, alloc, &layouts.request, sizes)?;
-                    sample_is_accepted(rt, alloc, &layouts.reply, sizes)?;
+                    sample_is_accepted(rt, alloc, &layouts.request, sizes);
+                    sample_is_accepted(rt, alloc, &layouts.reply, sizes);
                 }
             }
         }
     }
-    Ok(())
 }
 
 #[test]
-fn every_layout(rt: HostRuntime) -> Result<(), Fail> {
+fn every_layout(rt: HostRuntime) {
     for (field, method, object, reference, frame) in [
         row((1, 2, 3, 4, 5)),
         row((8, 7, 6, 5, 4)),
         row((1, 1, 1, 1, 1)),
         row((8, 8, 8, 8, 8)),
     ] {
-        let sizes = IdSizes::new(field, method, object, reference, frame)?;
-        every_layout_at(&rt, rt.alloc(), &sizes)?;
+        let sizes = IdSizes::new(field, method, object, reference, frame).expect(&rt, "widths");
+        every_layout_at(&rt, rt.alloc(), &sizes);
     }
-    Ok(())
 }

@@ -6,36 +6,37 @@ use jdwp_script::{Script, ScriptFault};
 use jdwp_wire::Limits;
 use std::alloc::Global;
 use std::process::Abort;
-use std::test::Fail;
 
 /// The front, so many of the piece, one after another, and the back.
 fn replacement(
+    rt: &impl Abort,
     alloc: Global,
     front: &str,
     piece: &str,
     count: usize,
     back: &str,
-) -> Result<String, Fail> {
-    let mut text = String::from_str(alloc, front)?;
+) -> String {
+    let mut text = String::from_str(alloc, front).expect(rt, "memory");
     for _ in 0..count {
-        text.push_str(piece)?;
+        text.push_str(piece).expect(rt, "memory");
     }
-    text.push_str(back)?;
-    Ok(text)
+    text.push_str(back).expect(rt, "memory");
+    text
 }
 
 /// What the script with something of each kind is, where `old` gives way to `front`, so many pieces and `back`.
 fn outcome(
+    rt: &impl Abort,
     alloc: Global,
     old: &str,
     front: &str,
     piece: &str,
     count: usize,
     back: &str,
-) -> Result<Option<ScriptFault>, Fail> {
-    let new = replacement(alloc, front, piece, count, back)?;
-    let text = edited(alloc, MACHINE_B, old, new.as_str())?;
-    Ok(fault(alloc, text.as_str()))
+) -> Option<ScriptFault> {
+    let new = replacement(rt, alloc, front, piece, count, back);
+    let text = edited(rt, alloc, MACHINE_B, old, new.as_str());
+    fault(alloc, text.as_str())
 }
 
 /// What gives way, what comes for it: the front, the piece, how many of them, and the back; and the outcome.
@@ -50,12 +51,12 @@ type Outcome = (
 
 const OVER: Option<ScriptFault> = Some(ScriptFault::OverLimit);
 
-fn are_outcomes(rt: &impl Abort, alloc: Global, rows: &[Outcome]) -> Result<(), Fail> {
+/// Each row has its outcome.
+fn are_outcomes(rt: &impl Abort, alloc: Global, rows: &[Outcome]) {
     for (old, front, piece, count, back, wanted) in rows {
-        let found = outcome(alloc, old, front, piece, *count, back)?;
+        let found = outcome(rt, alloc, old, front, piece, *count, back);
         expect_same_for(rt, &found, &*wanted, &(old, count));
     }
-    Ok(())
 }
 
 /// Texts at their limit, and past it.
@@ -113,8 +114,8 @@ static TEXTS: [Outcome; 15] = [
 ];
 
 #[test]
-fn limits_of_texts(rt: HostRuntime) -> Result<(), Fail> {
-    are_outcomes(&rt, rt.alloc(), &TEXTS)
+fn limits_of_texts(rt: HostRuntime) {
+    are_outcomes(&rt, rt.alloc(), &TEXTS);
 }
 
 /// Groups, classes, objects, modules, threads and live threads at their limit, and past it.
@@ -218,8 +219,8 @@ static PARTS: [Outcome; 12] = [
 ];
 
 #[test]
-fn limits_of_parts(rt: HostRuntime) -> Result<(), Fail> {
-    are_outcomes(&rt, rt.alloc(), &PARTS)
+fn limits_of_parts(rt: HostRuntime) {
+    are_outcomes(&rt, rt.alloc(), &PARTS);
 }
 
 /// Lists of a part at their limit, and past it.
@@ -332,8 +333,8 @@ static LISTS: [Outcome; 14] = [
 ];
 
 #[test]
-fn limits_of_lists(rt: HostRuntime) -> Result<(), Fail> {
-    are_outcomes(&rt, rt.alloc(), &LISTS)
+fn limits_of_lists(rt: HostRuntime) {
+    are_outcomes(&rt, rt.alloc(), &LISTS);
 }
 
 /// Frames, steps and elements at their limit, and past it.
@@ -369,19 +370,18 @@ static STEPS: [Outcome; 7] = [
 ];
 
 #[test]
-fn limits_of_steps(rt: HostRuntime) -> Result<(), Fail> {
-    are_outcomes(&rt, rt.alloc(), &STEPS)
+fn limits_of_steps(rt: HostRuntime) {
+    are_outcomes(&rt, rt.alloc(), &STEPS);
 }
 
 /// The fault of machine A where so many threads may live.
-fn fault_with(alloc: Global, live: u32) -> Result<Option<ScriptFault>, Fail> {
-    let limits = Limits::new(65_536, live, 64, 64).ok_or("no limits")?;
-    Ok(Script::read_with(alloc, MACHINE_A, &limits).err())
+fn fault_with(rt: &impl Abort, alloc: Global, live: u32) -> Option<ScriptFault> {
+    let limits = Limits::new(65_536, live, 64, 64).expect(rt, "limits");
+    Script::read_with(alloc, MACHINE_A, &limits).err()
 }
 
 #[test]
-fn live_threads_by_limits(rt: HostRuntime) -> Result<(), Fail> {
-    expect_same(&rt, &fault_with(rt.alloc(), 1)?, &OVER);
-    expect_same(&rt, &fault_with(rt.alloc(), 2)?, &None);
-    Ok(())
+fn live_threads_by_limits(rt: HostRuntime) {
+    expect_same(&rt, &fault_with(&rt, rt.alloc(), 1), &OVER);
+    expect_same(&rt, &fault_with(&rt, rt.alloc(), 2), &None);
 }

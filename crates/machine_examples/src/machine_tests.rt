@@ -13,7 +13,6 @@ use jdwp_value::{FrameId, ObjectId, ObjectTag, ReferenceTypeId, TaggedId, Value}
 use jdwp_wire::{IdSizes, Limits};
 use std::alloc::Global;
 use std::process::Abort;
-use std::test::Fail;
 
 /// A step of each kind, by thread 1 of a script whose lists fall.
 const EACH_KIND: &str = "{\"name\":\"B\",\"sizes\":[8,8,8,8,8],
@@ -111,192 +110,162 @@ pub(crate) enum Act {
     Writes(u64, u64, &'static [(i32, Value)], u16),
 }
 
-pub(crate) fn machine(alloc: Global, text: &str) -> Result<ScriptMachine, Fail> {
-    match ScriptMachine::read(alloc, text) {
-        Ok(machine) => Ok(machine),
-        Err(_) => Err(Fail::from("the script is refused")),
-    }
+/// The machine of the script in this text.
+pub(crate) fn machine(rt: &impl Abort, alloc: Global, text: &str) -> ScriptMachine {
+    ScriptMachine::read(alloc, text).expect(rt, "the script is read")
 }
 
-fn push_ids(ids: &[ReferenceTypeId], text: &mut String) -> Result<(), Fail> {
+/// Appends the ids, each behind a space.
+fn push_ids(rt: &impl Abort, ids: &[ReferenceTypeId], text: &mut String) {
     for id in ids {
-        write!(text, " {}", id.0)?;
+        write!(text, " {}", id.0).expect(rt, "memory");
     }
-    Ok(())
 }
 
-fn push_class(class: &ClassSeen, text: &mut String) -> Result<(), Fail> {
-    write!(text, " {}", class.signature)?;
-    push_ids(&class.reaches, text)
+/// Appends the signature of the class and the types that it reaches.
+fn push_class(rt: &impl Abort, class: &ClassSeen, text: &mut String) {
+    write!(text, " {}", class.signature).expect(rt, "memory");
+    push_ids(rt, &class.reaches, text);
 }
 
-/// The place behind these words.
-fn push_place(words: &str, place: &Place, text: &mut String) -> Result<(), Fail> {
-    text.push_str(words)?;
-    push_location(&place.location, text)?;
+/// Appends the place behind these words.
+fn push_place(rt: &impl Abort, words: &str, place: &Place, text: &mut String) {
+    text.push_str(words).expect(rt, "memory");
+    push_location(rt, &place.location, text);
     match place.line {
-        Some(line) => write!(text, " line {line}")?,
-        None => text.push_str(" no line")?,
+        Some(line) => write!(text, " line {line}").expect(rt, "memory"),
+        None => text.push_str(" no line").expect(rt, "memory"),
     }
-    write!(text, " frames {}", place.frames)?;
-    push_class(&place.class, text)
+    write!(text, " frames {}", place.frames).expect(rt, "memory");
+    push_class(rt, &place.class, text);
 }
 
-fn push_occurrence(occurrence: &Occurrence, text: &mut String) -> Result<(), Fail> {
+/// Appends what happens.
+fn push_occurrence(rt: &impl Abort, occurrence: &Occurrence, text: &mut String) {
     match occurrence {
-        Occurrence::Moved(place) => push_place(" moves to ", place, text),
-        Occurrence::Entered(place) => push_place(" enters ", place, text),
-        Occurrence::Left(place, value) => push_leaving(place, value, text),
-        Occurrence::Threw(place, thrown) => push_throw(place, thrown, text),
-        Occurrence::Prepared(class) => push_prepared(class, text),
-        Occurrence::Started => Ok(text.push_str(" starts")?),
-        Occurrence::RanOut => Ok(text.push_str(" has run out")?),
+        Occurrence::Moved(place) => push_place(rt, " moves to ", place, text),
+        Occurrence::Entered(place) => push_place(rt, " enters ", place, text),
+        Occurrence::Left(place, value) => push_leaving(rt, place, value, text),
+        Occurrence::Threw(place, thrown) => push_throw(rt, place, thrown, text),
+        Occurrence::Prepared(class) => push_prepared(rt, class, text),
+        Occurrence::Started => text.push_str(" starts").expect(rt, "memory"),
+        Occurrence::RanOut => text.push_str(" has run out").expect(rt, "memory"),
     }
 }
 
-fn push_leaving(place: &Place, value: &Value, text: &mut String) -> Result<(), Fail> {
-    push_place(" leaves ", place, text)?;
-    text.push_str(" with ")?;
-    push_value(value, text)
+/// Appends the place that is left, and with which value.
+fn push_leaving(rt: &impl Abort, place: &Place, value: &Value, text: &mut String) {
+    push_place(rt, " leaves ", place, text);
+    text.push_str(" with ").expect(rt, "memory");
+    push_value(rt, value, text);
 }
 
-fn push_throw(place: &Place, thrown: &ThrownException, text: &mut String) -> Result<(), Fail> {
-    write!(text, " throws {}", thrown.exception.id.0)?;
-    push_place(" at ", place, text)?;
-    text.push_str(" of")?;
-    push_ids(&thrown.reaches, text)?;
-    text.push_str(" caught at ")?;
-    push_location(&thrown.caught_at, text)
+/// Appends the exception, where it is thrown and where it is caught.
+fn push_throw(rt: &impl Abort, place: &Place, thrown: &ThrownException, text: &mut String) {
+    write!(text, " throws {}", thrown.exception.id.0).expect(rt, "memory");
+    push_place(rt, " at ", place, text);
+    text.push_str(" of").expect(rt, "memory");
+    push_ids(rt, &thrown.reaches, text);
+    text.push_str(" caught at ").expect(rt, "memory");
+    push_location(rt, &thrown.caught_at, text);
 }
 
-fn push_prepared(class: &PreparedClass, text: &mut String) -> Result<(), Fail> {
-    write!(text, " prepares {} {}", class.tag.byte(), class.id.0)?;
-    push_class(&class.class, text)?;
-    write!(text, " status {}", class.status)?;
-    Ok(())
+/// Appends the class that is prepared, and its status.
+fn push_prepared(rt: &impl Abort, class: &PreparedClass, text: &mut String) {
+    write!(text, " prepares {} {}", class.tag.byte(), class.id.0).expect(rt, "memory");
+    push_class(rt, &class.class, text);
+    write!(text, " status {}", class.status).expect(rt, "memory");
 }
 
-fn next_of(machine: &ScriptMachine, thread: u64) -> Result<Happening, Fail> {
+/// The next step of a thread that lives.
+fn next_of(rt: &impl Abort, machine: &ScriptMachine, thread: u64) -> Happening {
     if !is_among(ObjectId(thread), machine.live()) {
-        return Err(Fail::from("the thread does not live"));
+        panic!(rt; "the thread does not live");
     }
-    match machine.next(ObjectId(thread)) {
-        Ok(happening) => Ok(happening),
-        Err(_) => Err(Fail::from("no memory")),
-    }
+    machine.next(ObjectId(thread)).expect(rt, "memory")
 }
 
 /// The next step of a thread that lives, as text.
-fn shown(alloc: Global, machine: &ScriptMachine, thread: u64) -> Result<String, Fail> {
+fn shown(rt: &impl Abort, alloc: Global, machine: &ScriptMachine, thread: u64) -> String {
+    let happening = next_of(rt, machine, thread);
     let mut text = String::new(alloc);
-    push_next(machine, thread, &mut text)?;
-    Ok(text)
+    push_happening(rt, &happening, &mut text);
+    text
 }
 
-fn push_next(machine: &ScriptMachine, thread: u64, text: &mut String) -> Result<(), Fail> {
-    push_happening(&next_of(machine, thread)?, text)
-}
-
-fn push_happening(happening: &Happening, text: &mut String) -> Result<(), Fail> {
-    write!(text, "{}", happening.thread().0)?;
-    push_occurrence(happening.occurrence(), text)
+/// Appends the thread and what happens to it.
+fn push_happening(rt: &impl Abort, happening: &Happening, text: &mut String) {
+    write!(text, "{}", happening.thread().0).expect(rt, "memory");
+    push_occurrence(rt, happening.occurrence(), text);
 }
 
 /// A step of a thread that lives and has not run out.
-fn step(machine: &mut ScriptMachine, thread: u64) -> Result<(), Fail> {
+fn step(rt: &impl Abort, machine: &mut ScriptMachine, thread: u64) {
     if !is_among(ObjectId(thread), machine.live()) {
-        return Err(Fail::from("the thread does not live"));
+        panic!(rt; "the thread does not live");
     }
-    let Ok(happening) = machine.next(ObjectId(thread)) else {
-        return Err(Fail::from("no memory"));
-    };
+    let happening = machine.next(ObjectId(thread)).expect(rt, "memory");
     if has_run_out(&happening) {
-        return Err(Fail::from("the thread has run out"));
+        panic!(rt; "the thread has run out");
     }
-    match machine.step(ObjectId(thread)) {
-        Ok(()) => Ok(()),
-        Err(_) => Err(Fail::from("no memory")),
-    }
+    machine.step(ObjectId(thread)).expect(rt, "memory");
 }
 
 /// The end of a thread that lives.
-fn end(machine: &mut ScriptMachine, thread: u64) -> Result<(), Fail> {
+fn end(rt: &impl Abort, machine: &mut ScriptMachine, thread: u64) {
     if !is_among(ObjectId(thread), machine.live()) {
-        return Err(Fail::from("the thread does not live"));
+        panic!(rt; "the thread does not live");
     }
     machine.end(ObjectId(thread));
-    Ok(())
 }
 
+/// Whether the threads that live are these.
 fn live_are(machine: &ScriptMachine, ids: &[u64]) -> bool {
     let live = machine.live();
     live.len() == ids.len() && live.iter().zip(ids).all(|(live, id)| live.0 == *id)
 }
 
-fn is_shown(
-    rt: &impl Abort,
-    alloc: Global,
-    machine: &ScriptMachine,
-    thread: u64,
-    wanted: &str,
-) -> Result<(), Fail> {
-    let text = shown(alloc, machine, thread)?;
+/// The next step of the thread is shown so.
+fn is_shown(rt: &impl Abort, alloc: Global, machine: &ScriptMachine, thread: u64, wanted: &str) {
+    let text = shown(rt, alloc, machine, thread);
     expect_same(rt, &text.as_str(), &wanted);
-    Ok(())
 }
 
-fn carry_out(
-    rt: &impl Abort,
-    alloc: Global,
-    machine: &mut ScriptMachine,
-    act: &Act,
-) -> Result<(), Fail> {
+/// Of the act comes what it says.
+fn carry_out(rt: &impl Abort, alloc: Global, machine: &mut ScriptMachine, act: &Act) {
     match *act {
-        Act::Lives(ids) => {
-            assert!(rt; live_are(machine, ids));
-            Ok(())
-        }
+        Act::Lives(ids) => assert!(rt; live_are(machine, ids)),
         Act::Shows(thread, wanted) => is_shown(rt, alloc, machine, thread, wanted),
         Act::Steps(thread, wanted) => {
-            is_shown(rt, alloc, machine, thread, wanted)?;
-            step(machine, thread)
+            is_shown(rt, alloc, machine, thread, wanted);
+            step(rt, machine, thread);
         }
-        Act::Goes(thread) => step(machine, thread),
-        Act::Ends(thread) => end(machine, thread),
+        Act::Goes(thread) => step(rt, machine, thread),
+        Act::Ends(thread) => end(rt, machine, thread),
         Act::Answers(set, number, data, answer) => {
             let command = (set, number);
-            is_answered(rt, alloc, machine, command, data, command, answer)
+            is_answered(rt, alloc, machine, command, data, command, answer);
         }
         Act::AnswersAs(row, data, command, answer) => {
-            is_answered(rt, alloc, machine, row, data, command, answer)
+            is_answered(rt, alloc, machine, row, data, command, answer);
         }
         Act::Writes(thread, frame, slots, error) => {
-            is_written(rt, machine, thread, frame, slots, error)
+            is_written(rt, machine, thread, frame, slots, error);
         }
     }
 }
 
-fn run(
-    rt: &impl Abort,
-    alloc: Global,
-    machine: &mut ScriptMachine,
-    acts: &[Act],
-) -> Result<(), Fail> {
+/// Of each act comes what it says.
+fn run(rt: &impl Abort, alloc: Global, machine: &mut ScriptMachine, acts: &[Act]) {
     for act in acts {
-        carry_out(rt, alloc, machine, act)?;
+        carry_out(rt, alloc, machine, act);
     }
-    Ok(())
 }
 
 /// Of each act comes what it says, from the beginning of this machine on.
-pub(crate) fn goes_as_told(
-    rt: &impl Abort,
-    alloc: Global,
-    text: &str,
-    acts: &[Act],
-) -> Result<(), Fail> {
-    let mut machine = machine(alloc, text)?;
-    run(rt, alloc, &mut machine, acts)
+pub(crate) fn goes_as_told(rt: &impl Abort, alloc: Global, text: &str, acts: &[Act]) {
+    let mut machine = machine(rt, alloc, text);
+    run(rt, alloc, &mut machine, acts);
 }
 
 /// Machine A to its end.
@@ -318,8 +287,8 @@ static STEPS_OF_A: [Act; 14] = [
 ];
 
 #[test]
-fn machine_a_steps(rt: HostRuntime) -> Result<(), Fail> {
-    goes_as_told(&rt, rt.alloc(), MACHINE_A, &STEPS_OF_A)
+fn machine_a_steps(rt: HostRuntime) {
+    goes_as_told(&rt, rt.alloc(), MACHINE_A, &STEPS_OF_A);
 }
 
 /// A step of each kind.
@@ -345,8 +314,8 @@ static EACH_STEP: [Act; 9] = [
 ];
 
 #[test]
-fn steps_of_each_kind(rt: HostRuntime) -> Result<(), Fail> {
-    goes_as_told(&rt, rt.alloc(), EACH_KIND, &EACH_STEP)
+fn steps_of_each_kind(rt: HostRuntime) {
+    goes_as_told(&rt, rt.alloc(), EACH_KIND, &EACH_STEP);
 }
 
 /// The one step of the machine of the diamonds.
@@ -356,51 +325,52 @@ static A_CALL: [Act; 1] = [Act::Shows(
 )];
 
 #[test]
-fn classes_reached_by_many_ways(rt: HostRuntime) -> Result<(), Fail> {
-    goes_as_told(&rt, rt.alloc(), DIAMONDS, &A_CALL)
+fn classes_reached_by_many_ways(rt: HostRuntime) {
+    goes_as_told(&rt, rt.alloc(), DIAMONDS, &A_CALL);
 }
 
+/// The query of a command, whose data are read as those of the command of the row.
 pub(crate) fn query_of(
+    rt: &impl Abort,
     alloc: Global,
     row: (u8, u8),
     data: &str,
     command: (u8, u8),
-) -> Result<Query, Fail> {
-    let sizes = IdSizes::new(1, 1, 1, 1, 1)?;
-    let bytes = bytes(alloc, data)?;
-    let items = read(alloc, &request_of(row.0, row.1)?, &sizes, &bytes)?;
-    Ok(Query {
+) -> Query {
+    let sizes = IdSizes::new(1, 1, 1, 1, 1).expect(rt, "widths");
+    let bytes = bytes(alloc, data).expect(rt, "memory");
+    let layout = request_of(rt, row.0, row.1);
+    let items = read(alloc, &layout, &sizes, &bytes).expect(rt, "the data are read");
+    Query {
         set: command.0,
         number: command.1,
         content: Data::new(items),
-    })
-}
-
-fn answer_text(alloc: Global, answer: &Answer) -> Result<String, Fail> {
-    match answer {
-        Answer::Data(data) => text_of(alloc, data.items()),
-        Answer::Error(error) => {
-            let mut text = String::new(alloc);
-            write!(text, "error {}", error.0)?;
-            Ok(text)
-        }
     }
 }
 
+/// The answer as text.
+fn answer_text(rt: &impl Abort, alloc: Global, answer: &Answer) -> String {
+    match answer {
+        Answer::Data(data) => text_of(rt, alloc, data.items()),
+        Answer::Error(error) => format!(in alloc; "error {}", error.0).expect(rt, "memory"),
+    }
+}
+
+/// The answer to a command, as text.
 fn answer_of(
+    rt: &impl Abort,
     alloc: Global,
     machine: &ScriptMachine,
     row: (u8, u8),
     data: &str,
     command: (u8, u8),
-) -> Result<String, Fail> {
-    let query = query_of(alloc, row, data, command)?;
-    match machine.query(&query) {
-        Ok(answer) => answer_text(alloc, &answer),
-        Err(_) => Err(Fail::from("no memory")),
-    }
+) -> String {
+    let query = query_of(rt, alloc, row, data, command);
+    let answer = machine.query(&query).expect(rt, "memory");
+    answer_text(rt, alloc, &answer)
 }
 
+/// The command is answered by this text.
 fn is_answered(
     rt: &impl Abort,
     alloc: Global,
@@ -409,10 +379,9 @@ fn is_answered(
     data: &str,
     command: (u8, u8),
     answer: &str,
-) -> Result<(), Fail> {
-    let text = answer_of(alloc, machine, row, data, command)?;
+) {
+    let text = answer_of(rt, alloc, machine, row, data, command);
     expect_same_for(rt, &text.as_str(), &answer, &(row, command));
-    Ok(())
 }
 
 static THREADS: [Act; 19] = [
@@ -448,8 +417,8 @@ static THREADS: [Act; 19] = [
 ];
 
 #[test]
-fn answers_of_threads(rt: HostRuntime) -> Result<(), Fail> {
-    goes_as_told(&rt, rt.alloc(), OBJECTS, &THREADS)
+fn answers_of_threads(rt: HostRuntime) {
+    goes_as_told(&rt, rt.alloc(), OBJECTS, &THREADS);
 }
 
 static FRAMES: [Act; 16] = [
@@ -488,11 +457,12 @@ static FRAMES: [Act; 16] = [
 ];
 
 #[test]
-fn answers_of_frames(rt: HostRuntime) -> Result<(), Fail> {
-    goes_as_told(&rt, rt.alloc(), OBJECTS, &FRAMES)
+fn answers_of_frames(rt: HostRuntime) {
+    goes_as_told(&rt, rt.alloc(), OBJECTS, &FRAMES);
 }
 
-static OBJECTS_AND_GROUPS: [Act; 24] = [
+/// Of objects and strings.
+static ANSWERS_OF_OBJECTS: [Act; 12] = [
     Act::Goes(1),
     Act::Goes(1),
     Act::Goes(1),
@@ -505,6 +475,14 @@ static OBJECTS_AND_GROUPS: [Act; 24] = [
     Act::Answers(9, 9, "32", "false"),
     Act::Answers(10, 1, "33", "\"hello\""),
     Act::Answers(10, 1, "32", "error 506"),
+];
+
+/// Of arrays and of groups.
+static ANSWERS_OF_GROUPS: [Act; 16] = [
+    Act::Goes(1),
+    Act::Goes(1),
+    Act::Goes(1),
+    Act::Ends(2),
     Act::Answers(13, 1, "34", "3"),
     Act::Answers(13, 1, "32", "error 508"),
     Act::Answers(13, 2, "34 00000000 00000003", "L[L#50, s#51, L#0]"),
@@ -520,8 +498,9 @@ static OBJECTS_AND_GROUPS: [Act; 24] = [
 ];
 
 #[test]
-fn answers_of_objects_and_groups(rt: HostRuntime) -> Result<(), Fail> {
-    goes_as_told(&rt, rt.alloc(), OBJECTS, &OBJECTS_AND_GROUPS)
+fn answers_of_objects_and_groups(rt: HostRuntime) {
+    goes_as_told(&rt, rt.alloc(), OBJECTS, &ANSWERS_OF_OBJECTS);
+    goes_as_told(&rt, rt.alloc(), OBJECTS, &ANSWERS_OF_GROUPS);
 }
 
 const OBJECT_60: Value = Value::Object(TaggedId {
@@ -531,18 +510,20 @@ const OBJECT_60: Value = Value::Object(TaggedId {
 
 /// The error by which slots that are written are refused, or 0.
 fn written(
+    rt: &impl Abort,
     machine: &mut ScriptMachine,
     thread: u64,
     frame: u64,
     slots: &[(i32, Value)],
-) -> Result<u16, Fail> {
-    match machine.write_slots(ObjectId(thread), FrameId(frame), slots) {
-        Ok(Answer::Data(_)) => Ok(0),
-        Ok(Answer::Error(error)) => Ok(error.0),
-        Err(_) => Err(Fail::from("no memory")),
+) -> u16 {
+    let written = machine.write_slots(ObjectId(thread), FrameId(frame), slots);
+    match written.expect(rt, "memory") {
+        Answer::Data(_) => 0,
+        Answer::Error(error) => error.0,
     }
 }
 
+/// Slots of the frame are written with this error, or with 0.
 fn is_written(
     rt: &impl Abort,
     machine: &mut ScriptMachine,
@@ -550,10 +531,9 @@ fn is_written(
     frame: u64,
     slots: &[(i32, Value)],
     error: u16,
-) -> Result<(), Fail> {
-    let found = written(machine, thread, frame, slots)?;
+) {
+    let found = written(rt, machine, thread, frame, slots);
     expect_same_for(rt, &found, &error, &frame);
-    Ok(())
 }
 
 /// Slots of the newest frame, of others, and what slot 0 of the newest holds then.
@@ -574,8 +554,8 @@ static SLOTS: [Act; 13] = [
 ];
 
 #[test]
-fn slots_that_are_written(rt: HostRuntime) -> Result<(), Fail> {
-    goes_as_told(&rt, rt.alloc(), OBJECTS, &SLOTS)
+fn slots_that_are_written(rt: HostRuntime) {
+    goes_as_told(&rt, rt.alloc(), OBJECTS, &SLOTS);
 }
 
 static WHOLE: [Act; 14] = [
@@ -607,8 +587,8 @@ static WHOLE: [Act; 14] = [
 ];
 
 #[test]
-fn answers_of_the_machine(rt: HostRuntime) -> Result<(), Fail> {
-    goes_as_told(&rt, rt.alloc(), CLASSES, &WHOLE)
+fn answers_of_the_machine(rt: HostRuntime) {
+    goes_as_told(&rt, rt.alloc(), CLASSES, &WHOLE);
 }
 
 static ANSWERS_OF_CLASSES: [Act; 27] = [
@@ -652,8 +632,8 @@ static ANSWERS_OF_CLASSES: [Act; 27] = [
 ];
 
 #[test]
-fn answers_of_classes(rt: HostRuntime) -> Result<(), Fail> {
-    goes_as_told(&rt, rt.alloc(), CLASSES, &ANSWERS_OF_CLASSES)
+fn answers_of_classes(rt: HostRuntime) {
+    goes_as_told(&rt, rt.alloc(), CLASSES, &ANSWERS_OF_CLASSES);
 }
 
 static STATIC_FIELDS: [Act; 9] = [
@@ -669,8 +649,8 @@ static STATIC_FIELDS: [Act; 9] = [
 ];
 
 #[test]
-fn values_of_static_fields(rt: HostRuntime) -> Result<(), Fail> {
-    goes_as_told(&rt, rt.alloc(), CLASSES, &STATIC_FIELDS)
+fn values_of_static_fields(rt: HostRuntime) {
+    goes_as_told(&rt, rt.alloc(), CLASSES, &STATIC_FIELDS);
 }
 
 static METHODS: [Act; 11] = [
@@ -688,10 +668,11 @@ static METHODS: [Act; 11] = [
 ];
 
 #[test]
-fn answers_of_methods(rt: HostRuntime) -> Result<(), Fail> {
-    goes_as_told(&rt, rt.alloc(), CLASSES, &METHODS)
+fn answers_of_methods(rt: HostRuntime) {
+    goes_as_told(&rt, rt.alloc(), CLASSES, &METHODS);
 }
 
+/// The fault by which the text is refused, or none.
 fn fault(alloc: Global, text: &str) -> Option<ScriptFault> {
     match ScriptMachine::read(alloc, text) {
         Ok(_) => None,
@@ -700,9 +681,9 @@ fn fault(alloc: Global, text: &str) -> Option<ScriptFault> {
 }
 
 /// The fault of machine A with `new` in place of the first `old`.
-fn fault_with(alloc: Global, old: &str, new: &str) -> Result<Option<ScriptFault>, Fail> {
-    let text = edited(alloc, MACHINE_A, old, new)?;
-    Ok(fault(alloc, text.as_str()))
+fn fault_with(rt: &impl Abort, alloc: Global, old: &str, new: &str) -> Option<ScriptFault> {
+    let text = edited(rt, alloc, MACHINE_A, old, new);
+    fault(alloc, text.as_str())
 }
 
 /// What gives way in machine A, what comes for it, and the fault.
@@ -713,31 +694,28 @@ static EDITS: [(&str, &str, ScriptFault); 3] = [
 ];
 
 #[test]
-fn texts_that_are_refused(rt: HostRuntime) -> Result<(), Fail> {
+fn texts_that_are_refused(rt: HostRuntime) {
     let name = ScriptFault::Missing(Member::Name);
     let not_json = ScriptFault::NotJson;
     expect_same(&rt, &fault(rt.alloc(), "{"), &Some(not_json));
     expect_same(&rt, &fault(rt.alloc(), "{}"), &Some(name));
     for (old, new, wanted) in EDITS.iter() {
-        expect_same(&rt, &fault_with(rt.alloc(), old, new)?, &Some(*wanted));
+        expect_same(&rt, &fault_with(&rt, rt.alloc(), old, new), &Some(*wanted));
     }
-    Ok(())
 }
 
 #[test]
-fn one_thread_too_many(rt: HostRuntime) -> Result<(), Fail> {
-    let one = Limits::new(2048, 1, 1, 1).ok_or("no limits")?;
+fn one_thread_too_many(rt: HostRuntime) {
+    let one = Limits::new(2048, 1, 1, 1).expect(&rt, "limits");
     let read = ScriptMachine::read_with(rt.alloc(), MACHINE_A, &one);
     assert!(rt; matches!(read, Err(ScriptFault::OverLimit)));
-    Ok(())
 }
 
 #[test]
-fn threads_that_are_listed(rt: HostRuntime) -> Result<(), Fail> {
+fn threads_that_are_listed(rt: HostRuntime) {
     let live = [ObjectId(2), ObjectId(1)];
     assert!(rt; is_among(ObjectId(1), &live));
     assert!(rt; is_among(ObjectId(2), &live));
     assert!(rt; !is_among(ObjectId(3), &live));
     assert!(rt; !is_among(ObjectId(1), &live[..1]));
-    Ok(())
 }

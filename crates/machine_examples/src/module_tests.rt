@@ -8,7 +8,6 @@ use jdwp_script::{Member, Script, ScriptFault};
 use jdwp_wire::Limits;
 use std::alloc::Global;
 use std::process::Abort;
-use std::test::Fail;
 
 /// Machine A with an object, two modules whose ids fall, a class in one of them, and a class in none.
 const MODULES: &str = "{\"name\":\"A\",\"sizes\":[8,8,8,8,8],
@@ -25,36 +24,35 @@ const MODULES: &str = "{\"name\":\"A\",\"sizes\":[8,8,8,8,8],
  {\"id\":2,\"name\":\"work\",\"group\":5,\"steps\":[]}],
 \"modules\":[{\"id\":7,\"name\":\"base\"},{\"id\":6,\"name\":\"app\"}]}";
 
-/// The modules of a script in words, in the order of its text, and the module of each class.
-fn words(script: &Script, text: &mut String) -> Result<(), Fail> {
+/// Appends a script's modules in words, in the order of its text, and the module of each class.
+fn words(rt: &impl Abort, script: &Script, text: &mut String) {
     for module in &script.modules {
-        write!(text, "module {} {};", module.id.0, module.name)?;
+        write!(text, "module {} {};", module.id.0, module.name).expect(rt, "memory");
     }
     for class in &script.classes {
-        write!(text, "class {} in {};", class.id.0, class.module.0)?;
+        write!(text, "class {} in {};", class.id.0, class.module.0).expect(rt, "memory");
     }
-    Ok(())
 }
 
 /// The script is read, and its modules are these.
-fn has_modules(rt: &impl Abort, alloc: Global, script: &str, wanted: &str) -> Result<(), Fail> {
+fn has_modules(rt: &impl Abort, alloc: Global, script: &str, wanted: &str) {
+    let script = Script::read(alloc, script).expect(rt, "the script is read");
     let mut text = String::new(alloc);
-    words(&Script::read(alloc, script)?, &mut text)?;
+    words(rt, &script, &mut text);
     expect_same(rt, &text.as_str(), &wanted);
-    Ok(())
 }
 
 #[test]
-fn modules_are_read(rt: HostRuntime) -> Result<(), Fail> {
+fn modules_are_read(rt: HostRuntime) {
     let read = "module 7 base;module 6 app;class 10 in 6;class 11 in 0;";
-    has_modules(&rt, rt.alloc(), MODULES, read)
+    has_modules(&rt, rt.alloc(), MODULES, read);
 }
 
 /// Where the text has no `modules` there are none, and where a class has no `module` it is in none.
 #[test]
-fn scripts_without_modules_are_read(rt: HostRuntime) -> Result<(), Fail> {
-    has_modules(&rt, rt.alloc(), MACHINE_A, "class 10 in 0;")?;
-    has_modules(&rt, rt.alloc(), MACHINE_B, "class 10 in 0;class 11 in 0;")
+fn scripts_without_modules_are_read(rt: HostRuntime) {
+    has_modules(&rt, rt.alloc(), MACHINE_A, "class 10 in 0;");
+    has_modules(&rt, rt.alloc(), MACHINE_B, "class 10 in 0;class 11 in 0;");
 }
 
 const NO_MODULE: Option<ScriptFault> = Some(ScriptFault::Missing(Member::Module));
@@ -132,8 +130,8 @@ static MEMBERS: [Edit; 23] = [
 ];
 
 #[test]
-fn members_of_modules(rt: HostRuntime) -> Result<(), Fail> {
-    are_outcomes(&rt, rt.alloc(), MODULES, &MEMBERS)
+fn members_of_modules(rt: HostRuntime) {
+    are_outcomes(&rt, rt.alloc(), MODULES, &MEMBERS);
 }
 
 const NO_OBJECTS: Option<ScriptFault> = Some(ScriptFault::Missing(Member::Objects));
@@ -145,14 +143,15 @@ static AROUND_OBJECTS: [Edit; 2] = [
 ];
 
 #[test]
-fn the_first_member_that_is_missing(rt: HostRuntime) -> Result<(), Fail> {
+fn the_first_member_that_is_missing(rt: HostRuntime) {
     let text = edited(
+        &rt,
         rt.alloc(),
         MODULES,
         "\"objects\":[",
         "\"objects\":5,\"others\":[",
-    )?;
-    are_outcomes(&rt, rt.alloc(), text.as_str(), &AROUND_OBJECTS)
+    );
+    are_outcomes(&rt, rt.alloc(), text.as_str(), &AROUND_OBJECTS);
 }
 
 const TWICE: Option<ScriptFault> = Some(ScriptFault::IdTwice);
@@ -169,8 +168,8 @@ static IDS: [Edit; 5] = [
 ];
 
 #[test]
-fn ids_of_modules(rt: HostRuntime) -> Result<(), Fail> {
-    are_outcomes(&rt, rt.alloc(), MODULES, &IDS)
+fn ids_of_modules(rt: HostRuntime) {
+    are_outcomes(&rt, rt.alloc(), MODULES, &IDS);
 }
 
 /// What a class may name as its module, and who may not name a module.
@@ -193,8 +192,8 @@ static REFERENCES: [Edit; 11] = [
 ];
 
 #[test]
-fn references_to_modules(rt: HostRuntime) -> Result<(), Fail> {
-    are_outcomes(&rt, rt.alloc(), MODULES, &REFERENCES)
+fn references_to_modules(rt: HostRuntime) {
+    are_outcomes(&rt, rt.alloc(), MODULES, &REFERENCES);
 }
 
 const WIDE: Option<ScriptFault> = Some(ScriptFault::IdTooWide);
@@ -208,9 +207,9 @@ static WIDE_IDS: [Edit; 4] = [
 ];
 
 #[test]
-fn wide_ids_of_modules(rt: HostRuntime) -> Result<(), Fail> {
-    let narrow = edited(rt.alloc(), MODULES, "[8,8,8,8,8]", "[8,8,1,8,8]")?;
-    are_outcomes(&rt, rt.alloc(), narrow.as_str(), &WIDE_IDS)
+fn wide_ids_of_modules(rt: HostRuntime) {
+    let narrow = edited(&rt, rt.alloc(), MODULES, "[8,8,8,8,8]", "[8,8,1,8,8]");
+    are_outcomes(&rt, rt.alloc(), narrow.as_str(), &WIDE_IDS);
 }
 
 /// What is told of scripts with modules that are refused.
@@ -272,59 +271,70 @@ static TOLD_OF_WIDE: [Telling; 2] = [
 ];
 
 #[test]
-fn faults_of_modules_are_told(rt: HostRuntime) -> Result<(), Fail> {
-    are_told(&rt, rt.alloc(), MODULES, &TOLD)?;
-    let narrow = edited(rt.alloc(), MODULES, "[8,8,8,8,8]", "[8,8,1,8,8]")?;
-    are_told(&rt, rt.alloc(), narrow.as_str(), &TOLD_OF_WIDE)
+fn faults_of_modules_are_told(rt: HostRuntime) {
+    are_told(&rt, rt.alloc(), MODULES, &TOLD);
+    let narrow = edited(&rt, rt.alloc(), MODULES, "[8,8,8,8,8]", "[8,8,1,8,8]");
+    are_told(&rt, rt.alloc(), narrow.as_str(), &TOLD_OF_WIDE);
 }
 
-/// The script with its modules in place of which these come is told so.
-fn limit_is_told(
-    rt: &impl Abort,
-    alloc: Global,
-    piece: &str,
-    count: usize,
-    words: &str,
-) -> Result<(), Fail> {
-    let mut modules = String::from_str(alloc, "\"modules\":[{\"id\":6,\"name\":\"app\"},")?;
+/// The script with its modules, between which so many times this piece comes.
+fn with_modules(rt: &impl Abort, alloc: Global, piece: &str, count: usize) -> String {
+    let front = "\"modules\":[{\"id\":6,\"name\":\"app\"},";
+    let mut modules = String::from_str(alloc, front).expect(rt, "memory");
     for _ in 0..count {
-        modules.push_str(piece)?;
+        modules.push_str(piece).expect(rt, "memory");
     }
-    modules.push_str("{\"id\":7,\"name\":\"base\"}],\"others\":[")?;
-    let text = edited(alloc, MODULES, "\"modules\":[", modules.as_str())?;
+    let back = "{\"id\":7,\"name\":\"base\"}],\"others\":[";
+    modules.push_str(back).expect(rt, "memory");
+    edited(rt, alloc, MODULES, "\"modules\":[", modules.as_str())
+}
+
+/// The fault of the text in words, with what is known beside it.
+fn told(rt: &impl Abort, alloc: Global, text: &str) -> String {
     let limits = Limits::standard();
-    match Script::read(alloc, text.as_str()) {
-        Ok(_) => Err(Fail::from("a script that reads")),
+    match Script::read(alloc, text) {
+        Ok(_) => panic!(rt; "a script that reads"),
         Err(fault) => {
-            let detail = fault.detail(alloc, text.as_str(), &limits);
-            let told = format!(in alloc; "{fault}{detail}")?;
-            expect_same(rt, &told.as_str(), &words);
-            Ok(())
+            let detail = fault.detail(alloc, text, &limits);
+            format!(in alloc; "{fault}{detail}").expect(rt, "memory")
         }
     }
 }
 
+/// The script with its modules, between which so many times this piece comes, is told so.
+fn limit_is_told(rt: &impl Abort, alloc: Global, piece: &str, count: usize, words: &str) {
+    let text = with_modules(rt, alloc, piece, count);
+    let told = told(rt, alloc, text.as_str());
+    expect_same(rt, &told.as_str(), &words);
+}
+
+/// A module whose name has 513 letters.
+fn long_module(rt: &impl Abort, alloc: Global) -> String {
+    let mut long = String::from_str(alloc, "{\"id\":9,\"name\":\"").expect(rt, "memory");
+    for _ in 0..513 {
+        long.push_str("x").expect(rt, "memory");
+    }
+    long.push_str("\"},").expect(rt, "memory");
+    long
+}
+
 #[test]
-fn limits_of_modules_are_told(rt: HostRuntime) -> Result<(), Fail> {
+fn limits_of_modules_are_told(rt: HostRuntime) {
     limit_is_told(
         &rt,
         rt.alloc(),
         "{\"id\":9,\"name\":\"\"},",
         1023,
         "fault 26: a limit is passed: more than 1024 entries of modules",
-    )?;
-    let mut long = String::from_str(rt.alloc(), "{\"id\":9,\"name\":\"")?;
-    for _ in 0..513 {
-        long.push_str("x")?;
-    }
-    long.push_str("\"},")?;
+    );
+    let long = long_module(&rt, rt.alloc());
     limit_is_told(
         &rt,
         rt.alloc(),
         long.as_str(),
         1,
         "fault 26: a limit is passed: a text of more than 512 bytes, in modules[1]",
-    )
+    );
 }
 
 /// AllModules, Module, Name and ClassLoader: an id that is no module's, 0 too, is 42; a module is no group, object or thread.
@@ -356,8 +366,8 @@ static ANSWERS: [Act; 24] = [
 ];
 
 #[test]
-fn answers_of_modules(rt: HostRuntime) -> Result<(), Fail> {
-    goes_as_told(&rt, rt.alloc(), MODULES, &ANSWERS)
+fn answers_of_modules(rt: HostRuntime) {
+    goes_as_told(&rt, rt.alloc(), MODULES, &ANSWERS);
 }
 
 /// A script without modules has none.
@@ -369,6 +379,6 @@ static NO_ANSWERS: [Act; 4] = [
 ];
 
 #[test]
-fn answers_without_modules(rt: HostRuntime) -> Result<(), Fail> {
-    goes_as_told(&rt, rt.alloc(), MACHINE_A, &NO_ANSWERS)
+fn answers_without_modules(rt: HostRuntime) {
+    goes_as_told(&rt, rt.alloc(), MACHINE_A, &NO_ANSWERS);
 }

@@ -5,7 +5,6 @@ use jdwp_script::{Class, Literal, Member, Method, Script, ScriptFault, Step, Thr
 use jdwp_value::{ObjectTag, Tag, Value};
 use std::alloc::Global;
 use std::process::Abort;
-use std::test::Fail;
 
 /// A script with something of each kind.
 pub(crate) const MACHINE_B: &str = "{\"name\":\"B\",\"sizes\":[8,8,8,8,8],
@@ -27,11 +26,12 @@ pub(crate) const MACHINE_B: &str = "{\"name\":\"B\",\"sizes\":[8,8,8,8,8],
  {\"id\":2,\"name\":\"work\",\"group\":6,\"steps\":[]}]}";
 
 /// The script with `new` in place of the first `old`.
-pub(crate) fn edited(alloc: Global, script: &str, old: &str, new: &str) -> Result<String, Fail> {
-    let (front, back) = script.split_once(old).ok_or("the text is not there")?;
-    Ok(format!(in alloc; "{front}{new}{back}")?)
+pub(crate) fn edited(rt: &impl Abort, alloc: Global, script: &str, old: &str, new: &str) -> String {
+    let (front, back) = script.split_once(old).expect(rt, "the text is there");
+    format!(in alloc; "{front}{new}{back}").expect(rt, "memory")
 }
 
+/// The fault by which the text is refused, or none.
 pub(crate) fn fault(alloc: Global, text: &str) -> Option<ScriptFault> {
     match Script::read(alloc, text) {
         Ok(_) => None,
@@ -50,33 +50,26 @@ fn has_outcome(
     old: &str,
     new: &str,
     wanted: &Option<ScriptFault>,
-) -> Result<(), Fail> {
-    let text = edited(alloc, script, old, new)?;
+) {
+    let text = edited(rt, alloc, script, old, new);
     expect_same_for(rt, &fault(alloc, text.as_str()), wanted, &(old, new));
-    Ok(())
 }
 
-pub(crate) fn are_outcomes(
-    rt: &impl Abort,
-    alloc: Global,
-    script: &str,
-    edits: &[Edit],
-) -> Result<(), Fail> {
+/// Each edit of the script has its outcome.
+pub(crate) fn are_outcomes(rt: &impl Abort, alloc: Global, script: &str, edits: &[Edit]) {
     for (old, new, wanted) in edits {
-        has_outcome(rt, alloc, script, old, new, wanted)?;
+        has_outcome(rt, alloc, script, old, new, wanted);
     }
-    Ok(())
 }
 
 #[test]
-fn texts_that_are_no_scripts(rt: HostRuntime) -> Result<(), Fail> {
+fn texts_that_are_no_scripts(rt: HostRuntime) {
     let name = Some(ScriptFault::Missing(Member::Name));
     expect_same(&rt, &fault(rt.alloc(), "{"), &Some(ScriptFault::NotJson));
     expect_same(&rt, &fault(rt.alloc(), ""), &Some(ScriptFault::NotJson));
     expect_same(&rt, &fault(rt.alloc(), "{}"), &name);
     expect_same(&rt, &fault(rt.alloc(), "[]"), &name);
     expect_same(&rt, &fault(rt.alloc(), "{\"name\":null}"), &name);
-    Ok(())
 }
 
 /// Machine A with a small edit: what gives way, what comes for it, and the outcome.
@@ -98,8 +91,8 @@ static SMALL_EDITS: [Edit; 6] = [
 ];
 
 #[test]
-fn small_edits_of_machine_a(rt: HostRuntime) -> Result<(), Fail> {
-    are_outcomes(&rt, rt.alloc(), MACHINE_A, &SMALL_EDITS)
+fn small_edits_of_machine_a(rt: HostRuntime) {
+    are_outcomes(&rt, rt.alloc(), MACHINE_A, &SMALL_EDITS);
 }
 
 /// Edits of the script with something of each kind that make a bad reference, a line each: what gives way, and what comes
@@ -149,20 +142,19 @@ const BAD_REFERENCES: &str = "\"id\":6, => \"id\":0,
 [\"start\",2] => [\"start\",2],[\"start\",1]
 [\"V\",0]]] => [\"C\",65536]]]";
 
-fn is_bad(rt: &impl Abort, alloc: Global, row: &str) -> Result<(), Fail> {
-    let Some((old, new)) = row.split_once(" => ") else {
-        return Err(Fail::from("no row"));
-    };
-    let bad = Some(ScriptFault::BadReference);
-    has_outcome(rt, alloc, MACHINE_B, old, new, &bad)
+/// The script with something of each kind has this outcome with the edit of each line, which says
+/// what gives way and what comes for it.
+fn lines_have_outcome(rt: &impl Abort, alloc: Global, lines: &str, wanted: &Option<ScriptFault>) {
+    for line in lines.lines() {
+        let (old, new) = line.split_once(" => ").expect(rt, "an edit");
+        has_outcome(rt, alloc, MACHINE_B, old, new, wanted);
+    }
 }
 
 #[test]
-fn bad_references(rt: HostRuntime) -> Result<(), Fail> {
-    for row in BAD_REFERENCES.lines() {
-        is_bad(&rt, rt.alloc(), row)?;
-    }
-    Ok(())
+fn bad_references(rt: HostRuntime) {
+    let bad = Some(ScriptFault::BadReference);
+    lines_have_outcome(&rt, rt.alloc(), BAD_REFERENCES, &bad);
 }
 
 /// Edits by which an id stands twice.
@@ -182,212 +174,103 @@ static IDS_TWICE: [Edit; 4] = [
 ];
 
 #[test]
-fn ids_that_stand_twice(rt: HostRuntime) -> Result<(), Fail> {
-    are_outcomes(&rt, rt.alloc(), MACHINE_B, &IDS_TWICE)
+fn ids_that_stand_twice(rt: HostRuntime) {
+    are_outcomes(&rt, rt.alloc(), MACHINE_B, &IDS_TWICE);
 }
 
-/// Edits of members.
-static MISSING_MEMBERS: [Edit; 43] = [
+/// Members, and edits by each of which the member is missing, a line each: what gives way, and what
+/// comes for it.
+static MISSING_MEMBERS: [(Member, &str); 22] = [
     (
-        "\"last\":9",
-        "\"last\":9.0",
-        Some(ScriptFault::Missing(Member::Last)),
+        Member::Last,
+        "\"last\":9 => \"last\":9.0
+\"last\":9 => \"last\":1e3
+\"last\":9 => \"last\":-0
+\"last\":9 => \"last\":18446744073709551616",
     ),
     (
-        "\"last\":9",
-        "\"last\":1e3",
-        Some(ScriptFault::Missing(Member::Last)),
+        Member::Tag,
+        "\"tag\":2 => \"tag\":4
+\"tag\":2 => \"tag\":0",
     ),
     (
-        "\"last\":9",
-        "\"last\":-0",
-        Some(ScriptFault::Missing(Member::Last)),
+        Member::Source,
+        "\"source\":null => \"source\":5
+\"source\":null, => ",
     ),
     (
-        "\"last\":9",
-        "\"last\":18446744073709551616",
-        Some(ScriptFault::Missing(Member::Last)),
-    ),
-    ("\"last\":9", "\"last\":18446744073709551615", None),
-    (
-        "\"tag\":2",
-        "\"tag\":4",
-        Some(ScriptFault::Missing(Member::Tag)),
+        Member::Value,
+        "[\"I\",7] => [\"I\"]
+[\"I\",7] => [\"Q\",7]
+[\"I\",7] => [\"II\",7]
+[\"I\",7] => [\"I\",-7]",
     ),
     (
-        "\"tag\":2",
-        "\"tag\":0",
-        Some(ScriptFault::Missing(Member::Tag)),
+        Member::Lines,
+        "[3,2]] => [3]]
+[3,2]] => [3,2147483648]]",
     ),
-    ("\"tag\":2", "\"tag\":3", None),
+    (Member::Length, "\"length\":10 => \"length\":2147483648"),
     (
-        "\"source\":null",
-        "\"source\":5",
-        Some(ScriptFault::Missing(Member::Source)),
-    ),
-    (
-        "\"source\":null,",
-        "",
-        Some(ScriptFault::Missing(Member::Source)),
-    ),
-    (
-        "[\"I\",7]",
-        "[\"I\"]",
-        Some(ScriptFault::Missing(Member::Value)),
+        Member::Steps,
+        "[\"go\",3] => [\"go\"]
+[\"go\",3] => [\"jump\",3]
+[\"go\",3] => []
+[\"go\",3] => [\"go\",3,3]
+[11,20,9] => [11,20]
+[[0,[\"L\",50]]] => [[0]]",
     ),
     (
-        "[\"I\",7]",
-        "[\"Q\",7]",
-        Some(ScriptFault::Missing(Member::Value)),
+        Member::Array,
+        "[\"L\",[50,0]] => [\"V\",[]]
+[\"L\",[50,0]] => [\"I\",[-1]]",
+    ),
+    (Member::Text, "\"text\":\"hello\" => \"text\":5"),
+    (
+        Member::Fields,
+        "[41,[\"L\",51]] => [41]
+\"fields\":[],\"methods\" => \"fields\":{},\"methods\"",
     ),
     (
-        "[\"I\",7]",
-        "[\"II\",7]",
-        Some(ScriptFault::Missing(Member::Value)),
+        Member::Sizes,
+        "[8,8,8,8,8] => [8,8,8,8]
+[8,8,8,8,8] => [8,8,8,8,2147483648]",
+    ),
+    (Member::Parent, "\"parent\":0 => \"parent\":null"),
+    (Member::Group, "\"group\":6 => \"group\":\"6\""),
+    (Member::Slot, "\"slot\":0 => \"slots\":0"),
+    (Member::Id, "{\"id\":6,\"name\":\"pool\",\"parent\":5} => 6"),
+    (
+        Member::Interfaces,
+        "\"interfaces\":[10] => \"interfaces\":[\"10\"]",
+    ),
+    (Member::Args, "\"args\":1 => \"args\":true"),
+    (Member::From, "\"from\":0 => \"from\":[0]"),
+    (Member::Methods, "\"methods\":[] => \"methods\":null"),
+    (Member::Signature, "\"signature\":\"I\" => \"signature\":1"),
+    (
+        Member::Modifiers,
+        "\"modifiers\":8 => \"modifiers\":4294967296",
     ),
     (
-        "[\"I\",7]",
-        "[\"I\",-7]",
-        Some(ScriptFault::Missing(Member::Value)),
-    ),
-    ("[3,2]]", "[3]]", Some(ScriptFault::Missing(Member::Lines))),
-    (
-        "[3,2]]",
-        "[3,2147483648]]",
-        Some(ScriptFault::Missing(Member::Lines)),
-    ),
-    (
-        "\"length\":10",
-        "\"length\":2147483648",
-        Some(ScriptFault::Missing(Member::Length)),
-    ),
-    ("\"length\":10", "\"length\":2147483647", None),
-    (
-        "[\"go\",3]",
-        "[\"go\"]",
-        Some(ScriptFault::Missing(Member::Steps)),
-    ),
-    (
-        "[\"go\",3]",
-        "[\"jump\",3]",
-        Some(ScriptFault::Missing(Member::Steps)),
-    ),
-    (
-        "[\"go\",3]",
-        "[]",
-        Some(ScriptFault::Missing(Member::Steps)),
-    ),
-    (
-        "[\"go\",3]",
-        "[\"go\",3,3]",
-        Some(ScriptFault::Missing(Member::Steps)),
-    ),
-    (
-        "[11,20,9]",
-        "[11,20]",
-        Some(ScriptFault::Missing(Member::Steps)),
-    ),
-    (
-        "[[0,[\"L\",50]]]",
-        "[[0]]",
-        Some(ScriptFault::Missing(Member::Steps)),
-    ),
-    (
-        "[\"L\",[50,0]]",
-        "[\"V\",[]]",
-        Some(ScriptFault::Missing(Member::Array)),
-    ),
-    (
-        "[\"L\",[50,0]]",
-        "[\"I\",[-1]]",
-        Some(ScriptFault::Missing(Member::Array)),
-    ),
-    ("[\"L\",[50,0]]", "[\"I\",[]]", None),
-    (
-        "\"text\":\"hello\"",
-        "\"text\":5",
-        Some(ScriptFault::Missing(Member::Text)),
-    ),
-    (
-        "[41,[\"L\",51]]",
-        "[41]",
-        Some(ScriptFault::Missing(Member::Fields)),
-    ),
-    (
-        "[8,8,8,8,8]",
-        "[8,8,8,8]",
-        Some(ScriptFault::Missing(Member::Sizes)),
-    ),
-    (
-        "[8,8,8,8,8]",
-        "[8,8,8,8,2147483648]",
-        Some(ScriptFault::Missing(Member::Sizes)),
-    ),
-    (
-        "\"parent\":0",
-        "\"parent\":null",
-        Some(ScriptFault::Missing(Member::Parent)),
-    ),
-    (
-        "\"group\":6",
-        "\"group\":\"6\"",
-        Some(ScriptFault::Missing(Member::Group)),
-    ),
-    (
-        "\"slot\":0",
-        "\"slots\":0",
-        Some(ScriptFault::Missing(Member::Slot)),
-    ),
-    (
-        "{\"id\":6,\"name\":\"pool\",\"parent\":5}",
-        "6",
-        Some(ScriptFault::Missing(Member::Id)),
-    ),
-    (
-        "\"interfaces\":[10]",
-        "\"interfaces\":[\"10\"]",
-        Some(ScriptFault::Missing(Member::Interfaces)),
-    ),
-    (
-        "\"args\":1",
-        "\"args\":true",
-        Some(ScriptFault::Missing(Member::Args)),
-    ),
-    (
-        "\"from\":0",
-        "\"from\":[0]",
-        Some(ScriptFault::Missing(Member::From)),
-    ),
-    (
-        "\"fields\":[],\"methods\"",
-        "\"fields\":{},\"methods\"",
-        Some(ScriptFault::Missing(Member::Fields)),
-    ),
-    (
-        "\"methods\":[]",
-        "\"methods\":null",
-        Some(ScriptFault::Missing(Member::Methods)),
-    ),
-    (
-        "\"signature\":\"I\"",
-        "\"signature\":1",
-        Some(ScriptFault::Missing(Member::Signature)),
-    ),
-    (
-        "\"modifiers\":8",
-        "\"modifiers\":4294967296",
-        Some(ScriptFault::Missing(Member::Modifiers)),
-    ),
-    (
-        "\"super\":0,\"interfaces\":[10]",
-        "\"super\":-1,\"interfaces\":[10]",
-        Some(ScriptFault::Missing(Member::Super)),
+        Member::Super,
+        "\"super\":0,\"interfaces\":[10] => \"super\":-1,\"interfaces\":[10]",
     ),
 ];
 
+/// Edits of members by which none is missing, a line each.
+const MEMBERS_THAT_ARE_THERE: &str = "\"last\":9 => \"last\":18446744073709551615
+\"tag\":2 => \"tag\":3
+\"length\":10 => \"length\":2147483647
+[\"L\",[50,0]] => [\"I\",[]]";
+
 #[test]
-fn missing_members(rt: HostRuntime) -> Result<(), Fail> {
-    are_outcomes(&rt, rt.alloc(), MACHINE_B, &MISSING_MEMBERS)
+fn missing_members(rt: HostRuntime) {
+    for (member, lines) in MISSING_MEMBERS.iter() {
+        let missing = Some(ScriptFault::Missing(*member));
+        lines_have_outcome(&rt, rt.alloc(), lines, &missing);
+    }
+    lines_have_outcome(&rt, rt.alloc(), MEMBERS_THAT_ARE_THERE, &None);
 }
 
 /// Edits of the widths, and of what has none.
@@ -399,79 +282,26 @@ static WIDTHS: [Edit; 4] = [
 ];
 
 #[test]
-fn widths(rt: HostRuntime) -> Result<(), Fail> {
-    are_outcomes(&rt, rt.alloc(), MACHINE_B, &WIDTHS)
+fn widths(rt: HostRuntime) {
+    are_outcomes(&rt, rt.alloc(), MACHINE_B, &WIDTHS);
 }
 
-/// Widths, what gives way, what comes for it, and the outcome.
-static WIDE_IDS: [(&str, &str, &str, Option<ScriptFault>); 16] = [
-    (
-        "[1,8,8,8,8]",
-        "\"id\":40,",
-        "\"id\":256,",
-        Some(ScriptFault::IdTooWide),
-    ),
-    (
-        "[8,1,8,8,8]",
-        "30,11,20,50",
-        "30,11,256,50",
-        Some(ScriptFault::IdTooWide),
-    ),
-    (
-        "[8,8,1,8,8]",
-        "[\"I\",7]",
-        "[\"L\",256]",
-        Some(ScriptFault::IdTooWide),
-    ),
-    (
-        "[8,8,1,8,8]",
-        "[\"L\",[50,0]]",
-        "[\"L\",[256]]",
-        Some(ScriptFault::IdTooWide),
-    ),
+/// Ids that are too wide, a line each: the widths, what gives way, and what comes for it.
+const WIDE_IDS: &str = "[1,8,8,8,8] => \"id\":40, => \"id\":256,
+[8,1,8,8,8] => 30,11,20,50 => 30,11,256,50
+[8,8,1,8,8] => [\"I\",7] => [\"L\",256]
+[8,8,1,8,8] => [\"L\",[50,0]] => [\"L\",[256]]
+[8,8,8,1,8] => \"interfaces\":[10] => \"interfaces\":[256]
+[8,8,8,1,8] => [\"prepare\",11] => [\"prepare\",256]
+[8,8,8,8,1] => [\"call\",30 => [\"call\",256
+[8,8,1,8,8] => [\"start\",2] => [\"start\",256]
+[8,8,1,8,8] => [\"throw\",51 => [\"throw\",256
+[8,8,1,8,8] => \"group\":6 => \"group\":256
+[8,1,8,8,8] => [11,20,9] => [11,256,9]";
+
+/// Widths, what gives way, what comes for it, and the outcome: no fault, or the first of several.
+static FIRST_FAULTS: [(&str, &str, &str, Option<ScriptFault>); 5] = [
     ("[8,8,1,8,8]", "[\"L\",[50,0]]", "[\"J\",[256]]", None),
-    (
-        "[8,8,8,1,8]",
-        "\"interfaces\":[10]",
-        "\"interfaces\":[256]",
-        Some(ScriptFault::IdTooWide),
-    ),
-    (
-        "[8,8,8,1,8]",
-        "[\"prepare\",11]",
-        "[\"prepare\",256]",
-        Some(ScriptFault::IdTooWide),
-    ),
-    (
-        "[8,8,8,8,1]",
-        "[\"call\",30",
-        "[\"call\",256",
-        Some(ScriptFault::IdTooWide),
-    ),
-    (
-        "[8,8,1,8,8]",
-        "[\"start\",2]",
-        "[\"start\",256]",
-        Some(ScriptFault::IdTooWide),
-    ),
-    (
-        "[8,8,1,8,8]",
-        "[\"throw\",51",
-        "[\"throw\",256",
-        Some(ScriptFault::IdTooWide),
-    ),
-    (
-        "[8,8,1,8,8]",
-        "\"group\":6",
-        "\"group\":256",
-        Some(ScriptFault::IdTooWide),
-    ),
-    (
-        "[8,1,8,8,8]",
-        "[11,20,9]",
-        "[11,256,9]",
-        Some(ScriptFault::IdTooWide),
-    ),
     (
         "[0,8,8,8,8]",
         "\"last\":9",
@@ -498,12 +328,21 @@ static WIDE_IDS: [(&str, &str, &str, Option<ScriptFault>); 16] = [
     ),
 ];
 
+/// An id is too wide with the edit of the row: widths, what gives way, and what comes for it.
+fn is_too_wide(rt: &impl Abort, alloc: Global, row: &str) {
+    let (sizes, edit) = row.split_once(" => ").expect(rt, "widths");
+    let (old, new) = edit.split_once(" => ").expect(rt, "an edit");
+    has_outcome_at(rt, alloc, sizes, old, new, &Some(ScriptFault::IdTooWide));
+}
+
 #[test]
-fn wide_ids_and_the_order_of_faults(rt: HostRuntime) -> Result<(), Fail> {
-    for (sizes, old, new, wanted) in WIDE_IDS.iter() {
-        has_outcome_at(&rt, rt.alloc(), sizes, old, new, wanted)?;
+fn wide_ids_and_the_order_of_faults(rt: HostRuntime) {
+    for row in WIDE_IDS.lines() {
+        is_too_wide(&rt, rt.alloc(), row);
     }
-    Ok(())
+    for (sizes, old, new, wanted) in FIRST_FAULTS.iter() {
+        has_outcome_at(&rt, rt.alloc(), sizes, old, new, wanted);
+    }
 }
 
 /// The script with something of each kind has this outcome with these widths and this edit.
@@ -514,13 +353,13 @@ fn has_outcome_at(
     old: &str,
     new: &str,
     wanted: &Option<ScriptFault>,
-) -> Result<(), Fail> {
-    let text = edited(alloc, MACHINE_B, "[8,8,8,8,8]", sizes)?;
-    has_outcome(rt, alloc, text.as_str(), old, new, wanted)
+) {
+    let text = edited(rt, alloc, MACHINE_B, "[8,8,8,8,8]", sizes);
+    has_outcome(rt, alloc, text.as_str(), old, new, wanted);
 }
 
-/// A step in words.
-fn step_words(step: &Step, text: &mut String) -> Result<(), Fail> {
+/// Appends a step in words.
+fn step_words(rt: &impl Abort, step: &Step, text: &mut String) {
     let written = match step {
         Step::Call(call) => write!(
             text,
@@ -537,11 +376,11 @@ fn step_words(step: &Step, text: &mut String) -> Result<(), Fail> {
         Step::Prepare(class) => write!(text, "prepare {};", class.0),
         Step::Start(thread) => write!(text, "start {};", thread.0),
     };
-    Ok(written?)
+    written.expect(rt, "memory");
 }
 
-/// A class in words, with its methods.
-fn class_words(class: &Class, text: &mut String) -> Result<(), Fail> {
+/// Appends a class in words, with its methods.
+fn class_words(rt: &impl Abort, class: &Class, text: &mut String) {
     write!(
         text,
         "class {} {:?} {} {} {} {} {} {:?};",
@@ -553,15 +392,15 @@ fn class_words(class: &Class, text: &mut String) -> Result<(), Fail> {
         class.interfaces.len(),
         class.fields.len(),
         class.source
-    )?;
+    )
+    .expect(rt, "memory");
     for method in &class.methods {
-        method_words(method, text)?;
+        method_words(rt, method, text);
     }
-    Ok(())
 }
 
-/// A method in words, with its lines.
-fn method_words(method: &Method, text: &mut String) -> Result<(), Fail> {
+/// Appends a method in words, with its lines.
+fn method_words(rt: &impl Abort, method: &Method, text: &mut String) {
     write!(
         text,
         "method {} {} {} {} {} {} {};",
@@ -572,60 +411,60 @@ fn method_words(method: &Method, text: &mut String) -> Result<(), Fail> {
         method.args,
         method.last,
         method.slots.len()
-    )?;
+    )
+    .expect(rt, "memory");
     for line in &method.lines {
-        write!(text, "{} {};", line.index, line.line)?;
+        write!(text, "{} {};", line.index, line.line).expect(rt, "memory");
     }
-    Ok(())
 }
 
-/// A thread in words, with its steps.
-fn thread_words(thread: &Thread, text: &mut String) -> Result<(), Fail> {
+/// Appends a thread in words, with its steps.
+fn thread_words(rt: &impl Abort, thread: &Thread, text: &mut String) {
     write!(
         text,
         "thread {} {} {};",
         thread.id.0, thread.name, thread.group.0
-    )?;
+    )
+    .expect(rt, "memory");
     for step in &thread.steps {
-        step_words(step, text)?;
+        step_words(rt, step, text);
     }
-    Ok(())
 }
 
-/// A script's groups, classes and threads in words.
-fn words(script: &Script, text: &mut String) -> Result<(), Fail> {
+/// Appends a script's groups, classes and threads in words.
+fn words(rt: &impl Abort, script: &Script, text: &mut String) {
     for group in &script.groups {
         write!(
             text,
             "group {} {} {};",
             group.id.0, group.name, group.parent.0
-        )?;
+        )
+        .expect(rt, "memory");
     }
     for class in &script.classes {
-        class_words(class, text)?;
+        class_words(rt, class, text);
     }
     for thread in &script.threads {
-        thread_words(thread, text)?;
+        thread_words(rt, thread, text);
     }
-    Ok(())
 }
 
 /// The script in words.
-fn read_as_words(alloc: Global, script: &str) -> Result<String, Fail> {
+fn read_as_words(rt: &impl Abort, alloc: Global, script: &str) -> String {
+    let script = Script::read(alloc, script).expect(rt, "the script is read");
     let mut text = String::new(alloc);
-    words(&Script::read(alloc, script)?, &mut text)?;
-    Ok(text)
+    words(rt, &script, &mut text);
+    text
 }
 
 #[test]
-fn machine_a_in_words(rt: HostRuntime) -> Result<(), Fail> {
-    let text = read_as_words(rt.alloc(), MACHINE_A)?;
+fn machine_a_in_words(rt: HostRuntime) {
+    let text = read_as_words(&rt, rt.alloc(), MACHINE_A);
     expect_same(
         &rt,
         &text.as_str(),
         &"group 5 main 0;class 10 Class LMain; 1 0 0 0 Some(\"Main.java\");method 20 run ()V 1 0 9 0;0 1;3 2;4 3;thread 1 main 5;call 30 10 20 0 0;go 3;go 4;go 3;go 4;go 3;return Literal { tag: Void, bits: 0 };thread 2 work 5;",
     );
-    Ok(())
 }
 
 /// The name is A, each width 8, and the lists have these lengths.
@@ -656,13 +495,13 @@ fn is_machine_a(rt: &impl Abort, script: &Script) {
 }
 
 #[test]
-fn machine_a_in_numbers(rt: HostRuntime) -> Result<(), Fail> {
-    is_machine_a(&rt, &Script::read(rt.alloc(), MACHINE_A)?);
-    Ok(())
+fn machine_a_in_numbers(rt: HostRuntime) {
+    let script = Script::read(rt.alloc(), MACHINE_A).expect(&rt, "the script is read");
+    is_machine_a(&rt, &script);
 }
 
 #[test]
-fn literals(rt: HostRuntime) -> Result<(), Fail> {
+fn literals(rt: HostRuntime) {
     let literal = |tag, bits| Literal { tag, bits }.value();
     expect_same(&rt, &literal(Tag::Byte, 255), &Value::Byte(255));
     expect_same(&rt, &literal(Tag::Boolean, 1), &Value::Boolean(true));
@@ -677,7 +516,6 @@ fn literals(rt: HostRuntime) -> Result<(), Fail> {
         &literal(Tag::Object(ObjectTag::String), 7).tag(),
         &Tag::Object(ObjectTag::String),
     );
-    Ok(())
 }
 
 /// Each fault, its number, and its words.
@@ -696,10 +534,10 @@ static FAULTS: [(ScriptFault, u16, &str); 7] = [
 ];
 
 #[test]
-fn faults_in_words(rt: HostRuntime) -> Result<(), Fail> {
+fn faults_in_words(rt: HostRuntime) {
     for (fault, number, words) in FAULTS.iter() {
         expect_same(&rt, &fault.number(), number);
-        expect_same(&rt, &fault.to_string(rt.alloc())?.as_str(), words);
+        let told = fault.to_string(rt.alloc()).expect(&rt, "memory");
+        expect_same(&rt, &told.as_str(), words);
     }
-    Ok(())
 }

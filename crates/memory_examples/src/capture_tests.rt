@@ -77,11 +77,16 @@ fn read(alloc: Global, text: Text) -> Option<Came> {
             Ok(verdict) => Some(Came::Judged(verdict)),
             Err(NoMemory) => None,
         },
-        Text::Script(script) => match ScriptMachine::read(alloc, script) {
-            Ok(machine) => Some(Came::Machine(machine.sizes(), machine.live().len())),
-            Err(ScriptFault::NoMemory) => None,
-            Err(fault) => Some(Came::Fault(fault)),
-        },
+        Text::Script(script) => read_script(alloc, script),
+    }
+}
+
+/// What comes of reading this script; None where memory was refused.
+fn read_script(alloc: Global, script: &str) -> Option<Came> {
+    match ScriptMachine::read(alloc, script) {
+        Ok(machine) => Some(Came::Machine(machine.sizes(), machine.live().len())),
+        Err(ScriptFault::NoMemory) => None,
+        Err(fault) => Some(Came::Fault(fault)),
     }
 }
 
@@ -98,11 +103,17 @@ fn read_again(alloc: Global, text: Text, supply: &mut Supply) -> Result<Came, St
     Err(Stop::AlwaysRefused)
 }
 
+/// Appends what comes of a text, in words.
+fn push_read(alloc: Global, text: Text, supply: &mut Supply, log: &mut String) -> Result<(), Stop> {
+    let came = read_again(alloc, text, supply)?;
+    push_line(alloc, log, &came)
+}
+
 /// What comes of each text, in words.
 fn done(alloc: Global, supply: &mut Supply) -> Result<String, Stop> {
     let mut log = String::new(alloc);
     for text in &TEXTS {
-        push_line(alloc, &mut log, &read_again(alloc, *text, supply)?)?;
+        push_read(alloc, *text, supply, &mut log)?;
     }
     Ok(log)
 }
@@ -128,19 +139,17 @@ fn without_memory(alloc: Global) -> Result<(String, u32), Stop> {
 }
 
 #[test]
-fn captures_and_scripts_without_memory(rt: HostRuntime) -> Result<(), Stop> {
-    let expected = with_memory(rt.alloc())?;
-    let (found, refusals) = without_memory(rt.alloc())?;
+fn captures_and_scripts_without_memory(rt: HostRuntime) {
+    let expected = with_memory(rt.alloc()).expect(&rt, "a log");
+    let (found, refusals) = without_memory(rt.alloc()).expect(&rt, "a log without memory");
     expect_same(&rt, &found, &expected);
     expect_at_least(&rt, refusals, 8);
-    Ok(())
 }
 
 #[test]
-fn reading_bears_one_refusal(rt: HostRuntime) -> Result<(), Stop> {
+fn reading_bears_one_refusal(rt: HostRuntime) {
     let alloc = rt.alloc();
-    let first = once_more(alloc)?;
-    let second = once_more(alloc)?;
+    let first = once_more(alloc).expect(&rt, "a log");
+    let second = once_more(alloc).expect(&rt, "a second log");
     expect_same(&rt, &first, &second);
-    Ok(())
 }

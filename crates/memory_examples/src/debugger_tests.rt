@@ -89,59 +89,61 @@ fn once_more(alloc: Global, acts: &[Act]) -> Result<String, Stop> {
 /// What comes of a list whose calls find nothing at first, and how often they were refused.
 fn without_memory(alloc: Global, acts: &[Act]) -> Result<(String, u32), Stop> {
     let mut debugger = Debugger::new(alloc)?;
+    done_without_memory(alloc, &mut debugger, acts)
+}
+
+/// The same, done with this new debugger.
+fn done_without_memory(
+    alloc: Global,
+    debugger: &mut Debugger,
+    acts: &[Act],
+) -> Result<(String, u32), Stop> {
     let mut supply = Supply::scarce(alloc)?;
-    let log = done(alloc, &mut debugger, acts, &mut supply)?;
+    let log = done(alloc, debugger, acts, &mut supply)?;
     Ok((log, supply.refusals()))
 }
 
 /// Of a list comes the same with memory and without, and so often calls are refused at least.
-fn comes_without_memory(
-    rt: &impl Abort,
-    alloc: Global,
-    acts: &[Act],
-    least: u32,
-) -> Result<(), Stop> {
-    let expected = with_memory(alloc, acts)?;
-    let (found, refusals) = without_memory(alloc, acts)?;
+fn comes_without_memory(rt: &impl Abort, alloc: Global, acts: &[Act], least: u32) {
+    let expected = with_memory(alloc, acts).expect(rt, "a log");
+    let (found, refusals) = without_memory(alloc, acts).expect(rt, "a log without memory");
     expect_same(rt, &found, &expected);
     expect_at_least(rt, refusals, least);
-    Ok(())
 }
 
 /// Of a list comes the same twice, though one request for memory may be refused.
-fn bears_one_refusal(rt: &impl Abort, alloc: Global, acts: &[Act]) -> Result<(), Stop> {
-    let first = once_more(alloc, acts)?;
-    let second = once_more(alloc, acts)?;
+fn bears_one_refusal(rt: &impl Abort, alloc: Global, acts: &[Act]) {
+    let first = once_more(alloc, acts).expect(rt, "a log");
+    let second = once_more(alloc, acts).expect(rt, "a second log");
     expect_same(rt, &first, &second);
-    Ok(())
 }
 
 #[test]
-fn a_crossed_suspend_without_memory(rt: HostRuntime) -> Result<(), Stop> {
-    comes_without_memory(&rt, rt.alloc(), &CROSSED, 6)
+fn a_crossed_suspend_without_memory(rt: HostRuntime) {
+    comes_without_memory(&rt, rt.alloc(), &CROSSED, 6);
 }
 
 #[test]
-fn kept_requests_without_memory(rt: HostRuntime) -> Result<(), Stop> {
-    comes_without_memory(&rt, rt.alloc(), &REQUESTED, 12)
+fn kept_requests_without_memory(rt: HostRuntime) {
+    comes_without_memory(&rt, rt.alloc(), &REQUESTED, 12);
 }
 
 #[test]
-fn taught_threads_without_memory(rt: HostRuntime) -> Result<(), Stop> {
-    comes_without_memory(&rt, rt.alloc(), &TAUGHT, 10)
+fn taught_threads_without_memory(rt: HostRuntime) {
+    comes_without_memory(&rt, rt.alloc(), &TAUGHT, 10);
 }
 
 #[test]
-fn a_crossed_suspend_bears_one_refusal(rt: HostRuntime) -> Result<(), Stop> {
-    bears_one_refusal(&rt, rt.alloc(), &CROSSED)
+fn a_crossed_suspend_bears_one_refusal(rt: HostRuntime) {
+    bears_one_refusal(&rt, rt.alloc(), &CROSSED);
 }
 
 #[test]
-fn keeping_requests_bears_one_refusal(rt: HostRuntime) -> Result<(), Stop> {
-    bears_one_refusal(&rt, rt.alloc(), &REQUESTED)
+fn keeping_requests_bears_one_refusal(rt: HostRuntime) {
+    bears_one_refusal(&rt, rt.alloc(), &REQUESTED);
 }
 
 #[test]
-fn learning_threads_bears_one_refusal(rt: HostRuntime) -> Result<(), Stop> {
-    bears_one_refusal(&rt, rt.alloc(), &TAUGHT)
+fn learning_threads_bears_one_refusal(rt: HostRuntime) {
+    bears_one_refusal(&rt, rt.alloc(), &TAUGHT);
 }

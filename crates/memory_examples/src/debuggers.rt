@@ -175,6 +175,52 @@ fn push_sent(alloc: Global, debugger: &mut Debugger, log: &mut String) -> Result
     push_line(alloc, log, &&buffer[..count])
 }
 
+/// These bytes come, and a turn reads them; what it told, in a log.
+fn push_read(
+    alloc: Global,
+    debugger: &mut Debugger,
+    input: &str,
+    supply: &mut Supply,
+    log: &mut String,
+) -> Result<(), Stop> {
+    debugger.feed(&bytes(alloc, input)?);
+    let (told, same) = turned(alloc, debugger, supply)?;
+    push_same(log, same)?;
+    push_line(alloc, log, &told)
+}
+
+/// A command is asked; what that told, in a log.
+fn push_asked(
+    alloc: Global,
+    debugger: &mut Debugger,
+    wanted: Wanted,
+    supply: &mut Supply,
+    log: &mut String,
+) -> Result<(), Stop> {
+    let (told, same) = asked(alloc, debugger, wanted, supply)?;
+    push_same(log, same)?;
+    push_line(alloc, log, &told)
+}
+
+/// Does an act; what came of it, in a log.
+fn push_done(
+    alloc: Global,
+    debugger: &mut Debugger,
+    act: Act,
+    supply: &mut Supply,
+    log: &mut String,
+) -> Result<(), Stop> {
+    match act {
+        Act::Attaches => push_line(alloc, log, &debugger.attach()),
+        Act::Reads(input) => push_read(alloc, debugger, input, supply, log),
+        Act::Asks(wanted) => push_asked(alloc, debugger, wanted, supply, log),
+        Act::Loses => {
+            let lost = debugger.lose().as_slice().len();
+            push_line(alloc, log, &lost)
+        }
+    }
+}
+
 /// Does these acts with a new debugger, and answers what came of them, in words.
 pub(crate) fn done(
     alloc: Global,
@@ -184,21 +230,7 @@ pub(crate) fn done(
 ) -> Result<String, Stop> {
     let mut log = String::new(alloc);
     for act in acts {
-        match *act {
-            Act::Attaches => push_line(alloc, &mut log, &debugger.attach())?,
-            Act::Reads(input) => {
-                debugger.feed(&bytes(alloc, input)?);
-                let (told, same) = turned(alloc, debugger, supply)?;
-                push_same(&mut log, same)?;
-                push_line(alloc, &mut log, &told)?;
-            }
-            Act::Asks(wanted) => {
-                let (told, same) = asked(alloc, debugger, wanted, supply)?;
-                push_same(&mut log, same)?;
-                push_line(alloc, &mut log, &told)?;
-            }
-            Act::Loses => push_line(alloc, &mut log, &debugger.lose().as_slice().len())?,
-        }
+        push_done(alloc, debugger, *act, supply, &mut log)?;
         push_sent(alloc, debugger, &mut log)?;
         push_line(alloc, &mut log, &standing_of(debugger))?;
     }

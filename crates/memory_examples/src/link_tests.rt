@@ -7,6 +7,7 @@ use jdwp_layout::numbers::{
     ALL_THREADS, DISPOSE, HOLD_EVENTS, RELEASE_EVENTS, RESUME, RESUME_THREAD, SUSPEND,
     SUSPEND_COUNT,
 };
+use jdwp_link::LinkEvent;
 use std::alloc::Global;
 use std::process::Abort;
 
@@ -124,28 +125,29 @@ static DISPOSED: [Act; 8] = [
 
 /// Of a list comes the same in one run with memory and in runs that find nothing at first: of one event at a time, each done again until it
 /// is done, and of all that are left, each ended by the event that stopped it.
-fn comes_without_memory(
-    rt: &impl Abort,
-    alloc: Global,
-    acts: &[Act],
-    least: u32,
-) -> Result<(), Stop> {
-    let events = events_of(alloc, acts)?;
-    let standings = stands_on_a(alloc, &events)?;
-    let (expected, _) = run_on_a(alloc, &events, &standings, Ways::WithMemory)?;
+fn comes_without_memory(rt: &impl Abort, alloc: Global, acts: &[Act], least: u32) {
+    let events = events_of(alloc, acts).expect(rt, "events");
+    let standings = stands_on_a(alloc, &events).expect(rt, "standings");
+    let with_memory = run_on_a(alloc, &events, &standings, Ways::WithMemory);
+    let (expected, _) = with_memory.expect(rt, "a log");
     for ways in [Ways::EventByEvent, Ways::AllAtOnce] {
-        let (found, refusals) = run_on_a(alloc, &events, &standings, ways)?;
+        let without_memory = run_on_a(alloc, &events, &standings, ways);
+        let (found, refusals) = without_memory.expect(rt, "a log without memory");
         expect_same(rt, &found, &expected);
         expect_at_least(rt, refusals, least);
     }
-    Ok(())
 }
 
 /// What comes of a list with memory, in words.
 fn with_memory(alloc: Global, acts: &[Act]) -> Result<String, Stop> {
     let events = events_of(alloc, acts)?;
-    let standings = stands_on_a(alloc, &events)?;
-    let (log, _) = run_on_a(alloc, &events, &standings, Ways::WithMemory)?;
+    run_with_memory(alloc, &events)
+}
+
+/// What comes of these events with memory, in words.
+fn run_with_memory(alloc: Global, events: &[LinkEvent]) -> Result<String, Stop> {
+    let standings = stands_on_a(alloc, events)?;
+    let (log, _) = run_on_a(alloc, events, &standings, Ways::WithMemory)?;
     Ok(log)
 }
 
@@ -158,89 +160,88 @@ fn once_more(alloc: Global, acts: &[Act]) -> Result<String, Stop> {
 }
 
 /// Of a list comes the same twice, though one request for memory may be refused.
-fn bears_one_refusal(rt: &impl Abort, alloc: Global, acts: &[Act]) -> Result<(), Stop> {
-    let first = once_more(alloc, acts)?;
-    let second = once_more(alloc, acts)?;
+fn bears_one_refusal(rt: &impl Abort, alloc: Global, acts: &[Act]) {
+    let first = once_more(alloc, acts).expect(rt, "a log");
+    let second = once_more(alloc, acts).expect(rt, "a second log");
     expect_same(rt, &first, &second);
-    Ok(())
 }
 
 #[test]
-fn a_counted_breakpoint_without_memory(rt: HostRuntime) -> Result<(), Stop> {
-    comes_without_memory(&rt, rt.alloc(), &COUNTED, 12)
+fn a_counted_breakpoint_without_memory(rt: HostRuntime) {
+    comes_without_memory(&rt, rt.alloc(), &COUNTED, 12);
 }
 
 #[test]
-fn a_thread_that_ended_unseen_without_memory(rt: HostRuntime) -> Result<(), Stop> {
-    comes_without_memory(&rt, rt.alloc(), &ENDED_UNSEEN, 8)
+fn a_thread_that_ended_unseen_without_memory(rt: HostRuntime) {
+    comes_without_memory(&rt, rt.alloc(), &ENDED_UNSEEN, 8);
 }
 
 #[test]
-fn frames_read_again_without_memory(rt: HostRuntime) -> Result<(), Stop> {
-    comes_without_memory(&rt, rt.alloc(), &FRAMES_AGAIN, 16)
+fn frames_read_again_without_memory(rt: HostRuntime) {
+    comes_without_memory(&rt, rt.alloc(), &FRAMES_AGAIN, 16);
 }
 
 #[test]
-fn a_loss_with_replies_without_memory(rt: HostRuntime) -> Result<(), Stop> {
-    comes_without_memory(&rt, rt.alloc(), &LOST_WITH_REPLIES, 8)
+fn a_loss_with_replies_without_memory(rt: HostRuntime) {
+    comes_without_memory(&rt, rt.alloc(), &LOST_WITH_REPLIES, 8);
 }
 
 #[test]
-fn a_loss_with_counts_without_memory(rt: HostRuntime) -> Result<(), Stop> {
-    comes_without_memory(&rt, rt.alloc(), &LOST_WITH_COUNTS, 10)
+fn a_loss_with_counts_without_memory(rt: HostRuntime) {
+    comes_without_memory(&rt, rt.alloc(), &LOST_WITH_COUNTS, 10);
 }
 
 #[test]
-fn held_events_without_memory(rt: HostRuntime) -> Result<(), Stop> {
-    comes_without_memory(&rt, rt.alloc(), &HELD_EVENTS, 10)
+fn held_events_without_memory(rt: HostRuntime) {
+    comes_without_memory(&rt, rt.alloc(), &HELD_EVENTS, 10);
 }
 
 #[test]
-fn a_reported_death_without_memory(rt: HostRuntime) -> Result<(), Stop> {
-    comes_without_memory(&rt, rt.alloc(), &REPORTED_DEATH, 10)
+fn a_reported_death_without_memory(rt: HostRuntime) {
+    comes_without_memory(&rt, rt.alloc(), &REPORTED_DEATH, 10);
 }
 
 #[test]
-fn a_dispose_without_memory(rt: HostRuntime) -> Result<(), Stop> {
-    comes_without_memory(&rt, rt.alloc(), &DISPOSED, 6)
+fn a_dispose_without_memory(rt: HostRuntime) {
+    comes_without_memory(&rt, rt.alloc(), &DISPOSED, 6);
 }
 
 #[test]
-fn a_counted_breakpoint_bears_one_refusal(rt: HostRuntime) -> Result<(), Stop> {
-    bears_one_refusal(&rt, rt.alloc(), &COUNTED)
+fn a_counted_breakpoint_bears_one_refusal(rt: HostRuntime) {
+    bears_one_refusal(&rt, rt.alloc(), &COUNTED);
 }
 
 #[test]
-fn a_thread_that_ended_unseen_bears_one_refusal(rt: HostRuntime) -> Result<(), Stop> {
-    bears_one_refusal(&rt, rt.alloc(), &ENDED_UNSEEN)
+fn a_thread_that_ended_unseen_bears_one_refusal(rt: HostRuntime) {
+    bears_one_refusal(&rt, rt.alloc(), &ENDED_UNSEEN);
 }
 
 #[test]
-fn frames_read_again_bears_one_refusal(rt: HostRuntime) -> Result<(), Stop> {
-    bears_one_refusal(&rt, rt.alloc(), &FRAMES_AGAIN)
+fn frames_read_again_bears_one_refusal(rt: HostRuntime) {
+    bears_one_refusal(&rt, rt.alloc(), &FRAMES_AGAIN);
 }
 
 #[test]
-fn a_loss_with_replies_bears_one_refusal(rt: HostRuntime) -> Result<(), Stop> {
-    bears_one_refusal(&rt, rt.alloc(), &LOST_WITH_REPLIES)
+fn a_loss_with_replies_bears_one_refusal(rt: HostRuntime) {
+    bears_one_refusal(&rt, rt.alloc(), &LOST_WITH_REPLIES);
 }
 
 #[test]
-fn a_loss_with_counts_bears_one_refusal(rt: HostRuntime) -> Result<(), Stop> {
-    bears_one_refusal(&rt, rt.alloc(), &LOST_WITH_COUNTS)
+fn a_loss_with_counts_bears_one_refusal(rt: HostRuntime) {
+    bears_one_refusal(&rt, rt.alloc(), &LOST_WITH_COUNTS);
 }
 
 #[test]
-fn held_events_bears_one_refusal(rt: HostRuntime) -> Result<(), Stop> {
-    bears_one_refusal(&rt, rt.alloc(), &HELD_EVENTS)
+fn held_events_bears_one_refusal(rt: HostRuntime) {
+    bears_one_refusal(&rt, rt.alloc(), &HELD_EVENTS);
 }
 
 #[test]
-fn a_reported_death_bears_one_refusal(rt: HostRuntime) -> Result<(), Stop> {
-    bears_one_refusal(&rt, rt.alloc(), &REPORTED_DEATH)
+fn a_reported_death_bears_one_refusal(rt: HostRuntime) {
+    bears_one_refusal(&rt, rt.alloc(), &REPORTED_DEATH);
 }
 
 #[test]
-fn a_dispose_bears_one_refusal(rt: HostRuntime) -> Result<(), Stop> {
-    bears_one_refusal(&rt, rt.alloc(), &DISPOSED)
+fn a_dispose_bears_one_refusal(rt: HostRuntime) {
+    bears_one_refusal(&rt, rt.alloc(), &DISPOSED);
 }

@@ -111,6 +111,31 @@ fn part<M: Machine + Drop>(
     Err(Stop::AlwaysRefused)
 }
 
+/// Appends what was told of events, behind a line of its own where the link does not stand as it did with memory.
+fn push_told(alloc: Global, told: &[Outcome], stands: bool, log: &mut String) -> Result<(), Stop> {
+    push_same(log, stands)?;
+    for outcome in told {
+        push_line(alloc, log, outcome)?;
+    }
+    Ok(())
+}
+
+/// A run of the first of these events, and what was told of them in a log. The link stood as the first of these standings tells, and it has to
+/// stand behind each event as the next one tells. How many events were done.
+fn push_part<M: Machine + Drop>(
+    alloc: Global,
+    link: &mut Link<M>,
+    events: &[LinkEvent],
+    standings: &[Standing],
+    supply: &mut Supply,
+    log: &mut String,
+) -> Result<usize, Stop> {
+    let (count, told, same) = part(link, events, supply)?;
+    let stands = same && standings.get(count) == Some(&standing_of(link));
+    push_told(alloc, told.as_slice(), stands, log)?;
+    Ok(count)
+}
+
 /// All of these events, in runs of at most so many; what was told of them in words, with a line of its own where the link does not stand after
 /// a run as it stood there with memory.
 fn run_all<M: Machine + Drop>(
@@ -123,25 +148,36 @@ fn run_all<M: Machine + Drop>(
 ) -> Result<String, Stop> {
     let mut log = String::new(alloc);
     let mut left = events;
-    let mut done = 0usize;
+    let mut ahead = standings;
     for _ in 0..MOST_TIMES {
         if left.is_empty() {
             return Ok(log);
         }
         let (front, _) = left.split_at(most.min(left.len()));
-        let (count, told, same) = part(link, front, supply)?;
-        done = done.saturating_add(count);
-        push_same(
-            &mut log,
-            same && standings.get(done) == Some(&standing_of(link)),
-        )?;
-        for outcome in &told {
-            push_line(alloc, &mut log, outcome)?;
-        }
-        let (_, behind) = left.split_at(count.min(left.len()));
-        left = behind;
+        let count = push_part(alloc, link, front, ahead, supply, &mut log)?;
+        let (_, events_behind) = left.split_at(count.min(left.len()));
+        let (_, standings_behind) = ahead.split_at(count.min(ahead.len()));
+        left = events_behind;
+        ahead = standings_behind;
     }
     Err(Stop::Endless)
+}
+
+/// Appends how a link stands before these events and after each.
+fn push_standings<M: Machine + Drop>(
+    link: &mut Link<M>,
+    events: &[LinkEvent],
+    supply: &mut Supply,
+    standings: &mut Vec<Standing>,
+) -> Result<(), Stop> {
+    standings.push(standing_of(link))?;
+    for (place, _) in events.iter().enumerate() {
+        let (_, behind) = events.split_at(place.min(events.len()));
+        let (one, _) = behind.split_at(1.min(behind.len()));
+        part(link, one, supply)?;
+        standings.push(standing_of(link))?;
+    }
+    Ok(())
 }
 
 /// How a link stands before these events and after each, with memory.
@@ -151,14 +187,7 @@ fn stand<M: Machine + Drop>(
     events: &[LinkEvent],
 ) -> Result<Vec<Standing>, Stop> {
     let mut standings = Vec::new(alloc);
-    let mut supply = Supply::ample();
-    standings.push(standing_of(link))?;
-    for (place, _) in events.iter().enumerate() {
-        let (_, behind) = events.split_at(place.min(events.len()));
-        let (one, _) = behind.split_at(1.min(behind.len()));
-        part(link, one, &mut supply)?;
-        standings.push(standing_of(link))?;
-    }
+    push_standings(link, events, &mut Supply::ample(), &mut standings)?;
     Ok(standings)
 }
 
@@ -174,7 +203,24 @@ fn stands_over<M: Machine + Drop>(
     stand(alloc, &mut link, events)
 }
 
-/// All events in a link over this machine; what was told in words, and how many runs were stopped.
+/// All events in this link, which is new; what was told in words, and how many runs were stopped.
+fn run_in<M: Machine + Drop>(
+    alloc: Global,
+    link: &mut Link<M>,
+    events: &[LinkEvent],
+    standings: &[Standing],
+    ways: Ways,
+) -> Result<(String, u32), Stop> {
+    let (most, mut supply) = match ways {
+        Ways::WithMemory => (events.len(), Supply::ample()),
+        Ways::EventByEvent => (1, Supply::scarce(alloc)?),
+        Ways::AllAtOnce => (events.len(), Supply::scarce(alloc)?),
+    };
+    let log = run_all(alloc, link, events, standings, most, &mut supply)?;
+    Ok((log, supply.refusals()))
+}
+
+/// The same in a link over this machine.
 fn run_over<M: Machine + Drop>(
     alloc: Global,
     machine: M,
@@ -185,13 +231,7 @@ fn run_over<M: Machine + Drop>(
     requires { LivesWithin M.meaning standard_limits machine }
 {
     let mut link = linked(alloc, machine)?;
-    let (most, mut supply) = match ways {
-        Ways::WithMemory => (events.len(), Supply::ample()),
-        Ways::EventByEvent => (1, Supply::scarce(alloc)?),
-        Ways::AllAtOnce => (events.len(), Supply::scarce(alloc)?),
-    };
-    let log = run_all(alloc, &mut link, events, standings, most, &mut supply)?;
-    Ok((log, supply.refusals()))
+    run_in(alloc, &mut link, events, standings, ways)
 }
 
 /// How a link over machine A stands before these events and after each, with memory.

@@ -10,7 +10,6 @@ use jdwp_link::Link;
 use jdwp_machine::Machine;
 use jdwp_script_machine::ScriptMachine;
 use jdwp_target::{Target, TargetOptions};
-use jdwp_wire::NoMemory;
 use scarce::Scarce;
 use std::alloc::Global;
 use std::process::Abort;
@@ -29,27 +28,15 @@ enum Made {
     Link,
 }
 
-/// Makes it, a target or a link over this machine, and drops it.
-fn is_made<M: Machine + Drop>(
-    alloc: Global,
-    machine: M,
-    options: TargetOptions,
-    made: Made,
-) -> Result<(), NoMemory>
+/// Whether it is made, a target or a link over this machine; it is dropped.
+fn is_made<M: Machine + Drop>(alloc: Global, machine: M, options: TargetOptions, made: Made) -> bool
     requires { LivesWithin M.meaning standard_limits machine }
 {
     match made {
-        Made::Target => {
-            Target::new(alloc, machine, options)?;
-        }
-        Made::Debugger => {
-            Debugger::new(alloc)?;
-        }
-        Made::Link => {
-            Link::new(alloc, machine, options)?;
-        }
+        Made::Target => Target::new(alloc, machine, options).is_ok(),
+        Made::Debugger => Debugger::new(alloc).is_ok(),
+        Made::Link => Link::new(alloc, machine, options).is_ok(),
     }
-    Ok(())
 }
 
 /// Options with which no thread is suspended as the first session begins.
@@ -72,7 +59,7 @@ fn is_made_of(alloc: Global, scarce: &mut Scarce, crumbs: u32, made: Made) -> Re
     }
     let came = is_made(alloc, machine, options, made);
     scarce.relieve();
-    Ok(came.is_ok())
+    Ok(came)
 }
 
 /// How often it is refused to make this while more and more is given back.
@@ -86,34 +73,33 @@ fn refusals(alloc: Global, scarce: &mut Scarce, made: Made) -> Result<u32, Stop>
 }
 
 /// What is made with all memory taken is refused at each of its large requests, and made once there is enough.
-fn is_refused(rt: &impl Abort, alloc: Global, made: Made, least: u32) -> Result<(), Stop> {
-    let mut scarce = Scarce::take(alloc, PAGES)?;
-    let refused = refusals(alloc, &mut scarce, made)?;
+fn is_refused(rt: &impl Abort, alloc: Global, made: Made, least: u32) {
+    let mut scarce = Scarce::take(alloc, PAGES).expect(rt, "room for what is taken");
+    let refused = refusals(alloc, &mut scarce, made);
     drop(scarce);
-    expect_at_least(rt, refused, least);
-    Ok(())
+    expect_at_least(rt, refused.expect(rt, "it is made at last"), least);
 }
 
 #[test]
-fn a_target_is_not_made(rt: HostRuntime) -> Result<(), Stop> {
-    is_refused(&rt, rt.alloc(), Made::Target, 2)
+fn a_target_is_not_made(rt: HostRuntime) {
+    is_refused(&rt, rt.alloc(), Made::Target, 2);
 }
 
 #[test]
-fn a_debugger_is_not_made(rt: HostRuntime) -> Result<(), Stop> {
-    is_refused(&rt, rt.alloc(), Made::Debugger, 2)
+fn a_debugger_is_not_made(rt: HostRuntime) {
+    is_refused(&rt, rt.alloc(), Made::Debugger, 2);
 }
 
 #[test]
-fn a_link_is_not_made(rt: HostRuntime) -> Result<(), Stop> {
-    is_refused(&rt, rt.alloc(), Made::Link, 4)
+fn a_link_is_not_made(rt: HostRuntime) {
+    is_refused(&rt, rt.alloc(), Made::Link, 4);
 }
 
 /// Whether it is made with memory.
 fn is_made_once(alloc: Global, made: Made) -> Result<bool, Stop> {
     let options = options()?;
     let machine = ScriptMachine::read(alloc, MACHINE_A)?;
-    Ok(is_made(alloc, machine, options, made).is_ok())
+    Ok(is_made(alloc, machine, options, made))
 }
 
 /// Whether it is made, at most the second time.
@@ -125,9 +111,9 @@ fn is_made_again(alloc: Global, made: Made) -> Result<bool, Stop> {
 }
 
 #[test]
-fn making_ends_bears_one_refusal(rt: HostRuntime) -> Result<(), Stop> {
+fn making_ends_bears_one_refusal(rt: HostRuntime) {
     for made in [Made::Target, Made::Debugger, Made::Link] {
-        expect_same(&rt, &is_made_again(rt.alloc(), made)?, &true);
+        let is_made = is_made_again(rt.alloc(), made).expect(&rt, "it is made or refused");
+        expect_same(&rt, &is_made, &true);
     }
-    Ok(())
 }

@@ -8,7 +8,7 @@ use crate::target_lists::{
     REQUESTS_ARE_CLEARED_BY_KIND_AND_ID, SLOTS_ARE_WRITTEN_AND_READ, SUSPENDS_AND_RESUMES,
     THE_LAST_END_IS_THE_MACHINES, TWO_BREAKPOINTS_OF_ONE_PLACE_REPORT_TOGETHER,
 };
-use crate::targets::{Act, done, greet, target};
+use crate::targets::{Act, Target, done, greet, target};
 use example_parts::{ALL_KINDS, MACHINE_A, WITH_A_SLOT};
 use std::alloc::Global;
 use std::process::Abort;
@@ -48,30 +48,37 @@ fn once_more(alloc: Global, list: &Session) -> Result<String, Stop> {
 fn without_memory(alloc: Global, list: &Session) -> Result<(String, u32), Stop> {
     let mut target = target(alloc, list.script)?;
     greet(&mut target);
+    done_without_memory(alloc, &mut target, list.acts)
+}
+
+/// The same, done with this target that the handshake greeted.
+fn done_without_memory(
+    alloc: Global,
+    target: &mut Target,
+    acts: &[Act],
+) -> Result<(String, u32), Stop> {
     let mut supply = Supply::scarce(alloc)?;
-    let log = done(alloc, &mut target, list.acts, &mut supply)?;
+    let log = done(alloc, target, acts, &mut supply)?;
     Ok((log, supply.refusals()))
 }
 
 /// Of each list comes the same with memory and without.
-fn come_without_memory(rt: &impl Abort, alloc: Global, lists: &[Session]) -> Result<(), Stop> {
+fn come_without_memory(rt: &impl Abort, alloc: Global, lists: &[Session]) {
     for list in lists {
-        let expected = with_memory(alloc, list)?;
-        let (found, refusals) = without_memory(alloc, list)?;
+        let expected = with_memory(alloc, list).expect(rt, "a log");
+        let (found, refusals) = without_memory(alloc, list).expect(rt, "a log without memory");
         expect_same(rt, &found, &expected);
         expect_at_least(rt, refusals, list.refusals);
     }
-    Ok(())
 }
 
 /// Of each list comes the same twice, though one request for memory may be refused.
-fn bear_one_refusal(rt: &impl Abort, alloc: Global, lists: &[Session]) -> Result<(), Stop> {
+fn bear_one_refusal(rt: &impl Abort, alloc: Global, lists: &[Session]) {
     for list in lists {
-        let first = once_more(alloc, list)?;
-        let second = once_more(alloc, list)?;
+        let first = once_more(alloc, list).expect(rt, "a log");
+        let second = once_more(alloc, list).expect(rt, "a second log");
         expect_same(rt, &first, &second);
     }
-    Ok(())
 }
 
 fn queries() -> [Session; 4] {
@@ -113,51 +120,51 @@ fn requests() -> [Session; 2] {
 }
 
 #[test]
-fn queries_without_memory(rt: HostRuntime) -> Result<(), Stop> {
-    come_without_memory(&rt, rt.alloc(), &queries())
+fn queries_without_memory(rt: HostRuntime) {
+    come_without_memory(&rt, rt.alloc(), &queries());
 }
 
 #[test]
-fn a_list_of_queries_bears_one_refusal(rt: HostRuntime) -> Result<(), Stop> {
-    bear_one_refusal(&rt, rt.alloc(), &queries())
+fn a_list_of_queries_bears_one_refusal(rt: HostRuntime) {
+    bear_one_refusal(&rt, rt.alloc(), &queries());
 }
 
 #[test]
-fn breakpoints_without_memory(rt: HostRuntime) -> Result<(), Stop> {
-    come_without_memory(&rt, rt.alloc(), &breakpoints())
+fn breakpoints_without_memory(rt: HostRuntime) {
+    come_without_memory(&rt, rt.alloc(), &breakpoints());
 }
 
 #[test]
-fn a_list_of_breakpoints_bears_one_refusal(rt: HostRuntime) -> Result<(), Stop> {
-    bear_one_refusal(&rt, rt.alloc(), &breakpoints())
+fn a_list_of_breakpoints_bears_one_refusal(rt: HostRuntime) {
+    bear_one_refusal(&rt, rt.alloc(), &breakpoints());
 }
 
 #[test]
-fn steps_without_memory(rt: HostRuntime) -> Result<(), Stop> {
-    come_without_memory(&rt, rt.alloc(), &steps())
+fn steps_without_memory(rt: HostRuntime) {
+    come_without_memory(&rt, rt.alloc(), &steps());
 }
 
 #[test]
-fn a_list_of_steps_bears_one_refusal(rt: HostRuntime) -> Result<(), Stop> {
-    bear_one_refusal(&rt, rt.alloc(), &steps())
+fn a_list_of_steps_bears_one_refusal(rt: HostRuntime) {
+    bear_one_refusal(&rt, rt.alloc(), &steps());
 }
 
 #[test]
-fn ends_without_memory(rt: HostRuntime) -> Result<(), Stop> {
-    come_without_memory(&rt, rt.alloc(), &ends())
+fn ends_without_memory(rt: HostRuntime) {
+    come_without_memory(&rt, rt.alloc(), &ends());
 }
 
 #[test]
-fn a_list_of_ends_bears_one_refusal(rt: HostRuntime) -> Result<(), Stop> {
-    bear_one_refusal(&rt, rt.alloc(), &ends())
+fn a_list_of_ends_bears_one_refusal(rt: HostRuntime) {
+    bear_one_refusal(&rt, rt.alloc(), &ends());
 }
 
 #[test]
-fn requests_without_memory(rt: HostRuntime) -> Result<(), Stop> {
-    come_without_memory(&rt, rt.alloc(), &requests())
+fn requests_without_memory(rt: HostRuntime) {
+    come_without_memory(&rt, rt.alloc(), &requests());
 }
 
 #[test]
-fn a_list_of_requests_bears_one_refusal(rt: HostRuntime) -> Result<(), Stop> {
-    bear_one_refusal(&rt, rt.alloc(), &requests())
+fn a_list_of_requests_bears_one_refusal(rt: HostRuntime) {
+    bear_one_refusal(&rt, rt.alloc(), &requests());
 }

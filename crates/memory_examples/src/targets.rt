@@ -142,11 +142,37 @@ fn step(
 fn sends(alloc: Global, target: &mut Target, output: &str, log: &mut String) -> Result<(), Stop> {
     let mut buffer = [0; 256];
     let count = target.take(&mut buffer);
-    let expected = bytes(alloc, output)?;
-    if &buffer[..count] != expected.as_slice() {
+    let are_expected = &buffer[..count] == bytes(alloc, output)?.as_slice();
+    if !are_expected {
         log.push_str("other bytes were sent\n")?;
     }
     push_line(alloc, log, &count)
+}
+
+/// Does an act; what came of it, in a log.
+fn push_done(
+    alloc: Global,
+    target: &mut Target,
+    act: Act,
+    supply: &mut Supply,
+    log: &mut String,
+) -> Result<(), Stop> {
+    match act {
+        Act::Says(input, output) => {
+            target.feed(&bytes(alloc, input)?);
+            handle(alloc, target, supply, log)?;
+            sends(alloc, target, output, log)
+        }
+        Act::Steps(thread, times, told, output) => {
+            step(target, (thread, times, told), supply, log)?;
+            sends(alloc, target, output, log)
+        }
+        Act::Accepts => push_line(alloc, log, &target.accept()),
+        Act::Loses => {
+            target.lose();
+            Ok(())
+        }
+    }
 }
 
 /// Does these acts, and answers what came of them, in words. Begun with a target that the handshake greeted, whose answer was taken.
@@ -158,19 +184,7 @@ pub(crate) fn done(
 ) -> Result<String, Stop> {
     let mut log = String::new(alloc);
     for act in acts {
-        match *act {
-            Act::Says(input, output) => {
-                target.feed(&bytes(alloc, input)?);
-                handle(alloc, target, supply, &mut log)?;
-                sends(alloc, target, output, &mut log)?;
-            }
-            Act::Steps(thread, times, told, output) => {
-                step(target, (thread, times, told), supply, &mut log)?;
-                sends(alloc, target, output, &mut log)?;
-            }
-            Act::Accepts => push_line(alloc, &mut log, &target.accept())?,
-            Act::Loses => target.lose(),
-        }
+        push_done(alloc, target, *act, supply, &mut log)?;
         push_line(alloc, &mut log, &standing_of(target))?;
     }
     Ok(log)

@@ -3,14 +3,13 @@ use crate::asserts::{expect_same, expect_same_for};
 use crate::runs::{READY, Writer, run_script, run_text, standard};
 use jdwp_link::{Side, Way};
 use jdwp_pair::{Connection, Loopback, PairEnded};
-use jdwp_plan::read_plan;
+use jdwp_plan::{PlanLine, read_plan};
 use jdwp_port::PortFault;
 use std::alloc::Global;
 use std::io;
 use std::io::ErrorKind;
 use std::net::{Net, SocketAddr, TcpListener, TcpStream};
 use std::process::Abort;
-use std::test::Fail;
 
 /// A connection that fails at a piece, or as a session begins.
 #[derive(Clone, Copy)]
@@ -75,40 +74,33 @@ fn fails(
     plan: &str,
     want: PairEnded,
     told: &str,
-) -> Result<(), Fail> {
+) {
     let writer = Writer::failing(alloc, 0, 0);
-    let (ended, lines) = run_text(alloc, &mut connection, true, plan, writer, 1000)?;
+    let (ended, lines) = run_text(rt, alloc, &mut connection, true, plan, writer, 1000);
     expect_same_for(rt, &ended, &want, &connection.pieces);
     expect_same_for(rt, &lines.as_slice(), &told.as_bytes(), &connection.pieces);
-    Ok(())
 }
 
 /// The handshakes, IDSizes and its reply pass a connection in four pieces, and a command and its reply in two more.
 #[test]
-fn a_connection_that_fails_ends_a_run(rt: HostRuntime) -> Result<(), Fail> {
+fn a_connection_that_fails_ends_a_run(rt: HostRuntime) {
     let lost = PairEnded::LostConnection;
     let told = ["", "", "< hello\n", "< hello\n", READY, READY];
     for (place, told) in told.iter().enumerate() {
         let connection = Failing::at(place as u32 + 1, 0);
-        fails(&rt, rt.alloc(), connection, "ask 1 8\nmirror", lost, told)?;
+        fails(&rt, rt.alloc(), connection, "ask 1 8\nmirror", lost, told);
     }
-    fails(
-        &rt,
-        rt.alloc(),
-        Failing::at(5, 0),
-        "",
-        PairEnded::Done,
-        READY,
-    )
+    let (connection, done) = (Failing::at(5, 0), PairEnded::Done);
+    fails(&rt, rt.alloc(), connection, "", done, READY);
 }
 
 /// It may fail as a session begins, the first or another.
 #[test]
-fn a_connection_that_is_not_made_ends_a_run(rt: HostRuntime) -> Result<(), Fail> {
+fn a_connection_that_is_not_made_ends_a_run(rt: HostRuntime) {
     let lost = PairEnded::LostConnection;
     let plan = "lose target\nlose debugger\nmirror\nattach\nmirror";
-    fails(&rt, rt.alloc(), Failing::at(0, 1), plan, lost, "")?;
-    fails(&rt, rt.alloc(), Failing::at(0, 2), plan, lost, READY)
+    fails(&rt, rt.alloc(), Failing::at(0, 1), plan, lost, "");
+    fails(&rt, rt.alloc(), Failing::at(0, 2), plan, lost, READY);
 }
 
 /// A system that gives no ports.
@@ -129,61 +121,77 @@ impl Net for Closed {
 }
 
 #[test]
-fn a_system_without_ports_is_told(rt: HostRuntime) -> Result<(), Fail> {
+fn a_system_without_ports_is_told(rt: HostRuntime) {
     let mut loopback = Loopback::new(&Closed);
     let writer = Writer::failing(rt.alloc(), 0, 0);
-    let (ended, lines) = run_text(rt.alloc(), &mut loopback, true, "", writer, 1000)?;
+    let (ended, lines) = run_text(&rt, rt.alloc(), &mut loopback, true, "", writer, 1000);
     expect_same(&rt, &ended, &PairEnded::LostConnection);
     expect_same(&rt, &lines.as_slice(), &b"".as_slice());
-    let fault = loopback.failure().ok_or("a failure")?;
-    let told = format!(in rt.alloc(); "{fault}")?;
+    let fault = loopback.failure().expect(&rt, "a failure");
+    let told = format!(in rt.alloc(); "{fault}").expect(&rt, "memory");
     expect_same(&rt, &told.as_str(), &"port 0: not allowed");
-    Ok(())
 }
 
 /// How many letters the text of an object has.
 const LETTERS: usize = 9_000;
 
 /// So many letters.
-fn letters(alloc: Global, count: usize) -> Result<String, Fail> {
+fn letters(rt: &impl Abort, alloc: Global, count: usize) -> String {
     let mut text = String::new(alloc);
     for _ in 0..count {
-        text.push('m')?;
+        text.push('m').expect(rt, "memory");
     }
-    Ok(text)
+    text
 }
 
 /// The machine of one thread and one object, which has this text.
-fn machine_of(alloc: Global, text: &str) -> Result<String, Fail> {
-    Ok(format!(in alloc;
+fn machine_of(rt: &impl Abort, alloc: Global, text: &str) -> String {
+    format!(in alloc;
         "{{\"name\":\"B\",\"sizes\":[8,8,8,8,8],
 \"groups\":[{{\"id\":5,\"name\":\"main\",\"parent\":0}}],
 \"classes\":[{{\"id\":10,\"tag\":1,\"signature\":\"LText;\",\"modifiers\":1,
  \"super\":0,\"interfaces\":[],\"source\":null,\"fields\":[],\"methods\":[]}}],
 \"objects\":[{{\"id\":40,\"class\":10,\"fields\":[],\"text\":\"{text}\",\"array\":null}}],
 \"threads\":[{{\"id\":1,\"name\":\"main\",\"group\":5,\"steps\":[]}}]}}"
-    )?)
+    )
+    .expect(rt, "memory")
+}
+
+/// The commands that ask the text have the ids from 2 to below this one.
+const END_OF_IDS: u32 = 22;
+
+/// The plan that asks the text of the object once for each id.
+fn plan_of_texts(rt: &impl Abort, alloc: Global) -> Vec<PlanLine> {
+    let mut plan = String::new(alloc);
+    for _ in 2..END_OF_IDS {
+        plan.push_str("ask 10 1 0000000000000028\n")
+            .expect(rt, "memory");
+    }
+    read_plan(alloc, &plan).expect(rt, "a plan")
+}
+
+/// The lines of its run, where this is the text.
+fn lines_of_texts(rt: &impl Abort, alloc: Global, text: &str) -> String {
+    let mut lines = String::new(alloc);
+    lines.push_str(READY).expect(rt, "memory");
+    for id in 2..END_OF_IDS {
+        write!(lines, "< {id} reply StringReference.Value 0 \"{text}\"\n").expect(rt, "memory");
+    }
+    lines
 }
 
 /// A text is asked again and again; each answer passes in three pieces.
 #[test]
-fn long_answers_pass_a_connection(rt: HostRuntime) -> Result<(), Fail> {
+fn long_answers_pass_a_connection(rt: HostRuntime) {
     let alloc = rt.alloc();
-    let text = letters(alloc, LETTERS)?;
-    let script = machine_of(alloc, &text)?;
-    let mut plan = String::new(alloc);
-    let mut lines = String::new(alloc);
-    lines.push_str(READY)?;
-    for id in 2..22u32 {
-        plan.push_str("ask 10 1 0000000000000028\n")?;
-        let line = format!(in alloc; "< {id} reply StringReference.Value 0 \"{text}\"\n")?;
-        lines.push_str(&line)?;
-    }
-    let plan = read_plan(alloc, &plan)?;
+    let text = letters(&rt, alloc, LETTERS);
+    let script = machine_of(&rt, alloc, &text);
+    let plan = plan_of_texts(&rt, alloc);
     let writer = Writer::failing(alloc, 0, 0);
     let mut loopback = Loopback::new(&rt);
-    let settings = standard(true)?;
+    let settings = standard(&rt, true);
     let (ended, told) = run_script(
+        &rt,
         alloc,
         &mut loopback,
         &script,
@@ -192,8 +200,8 @@ fn long_answers_pass_a_connection(rt: HostRuntime) -> Result<(), Fail> {
         &plan,
         writer,
         100,
-    )?;
+    );
     expect_same(&rt, &ended, &PairEnded::Done);
+    let lines = lines_of_texts(&rt, alloc, &text);
     expect_same(&rt, &told.as_slice(), &lines.as_bytes());
-    Ok(())
 }

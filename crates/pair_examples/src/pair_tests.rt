@@ -9,7 +9,6 @@ use jdwp_plan::read_plan;
 use jdwp_wire::Limits;
 use std::alloc::Global;
 use std::process::Abort;
-use std::test::Fail;
 
 /// A breakpoint is set at index 3, and all threads are resumed.
 const BREAKPOINT: &str = "ask 15 1 0202000000010701000000000000000a00000000000000140000000000000003
@@ -34,9 +33,9 @@ request 1 2 2
 };
 
 #[test]
-fn a_breakpoint_is_reached(rt: HostRuntime) -> Result<(), Fail> {
-    passes(&rt, rt.alloc(), &WHOLE)?;
-    passes_over(&rt, rt.alloc(), &mut Loopback::new(&rt), &WHOLE)
+fn a_breakpoint_is_reached(rt: HostRuntime) {
+    passes(&rt, rt.alloc(), &WHOLE);
+    passes_over(&rt, rt.alloc(), &mut Loopback::new(&rt), &WHOLE);
 }
 
 /// Runs that are done.
@@ -252,40 +251,36 @@ static UNWRITTEN: [Case; 5] = [
 ];
 
 #[test]
-fn plans_are_run_to_their_end(rt: HostRuntime) -> Result<(), Fail> {
+fn plans_are_run_to_their_end(rt: HostRuntime) {
     for case in DONE.iter() {
-        passes(&rt, rt.alloc(), case)?;
+        passes(&rt, rt.alloc(), case);
     }
-    Ok(())
 }
 
 #[test]
-fn refused_commands_end_a_run(rt: HostRuntime) -> Result<(), Fail> {
+fn refused_commands_end_a_run(rt: HostRuntime) {
     for case in REFUSED.iter() {
-        passes(&rt, rt.alloc(), case)?;
+        passes(&rt, rt.alloc(), case);
     }
-    Ok(())
 }
 
 #[test]
-fn rounds_are_limited(rt: HostRuntime) -> Result<(), Fail> {
+fn rounds_are_limited(rt: HostRuntime) {
     for case in LIMITED.iter() {
-        passes(&rt, rt.alloc(), case)?;
+        passes(&rt, rt.alloc(), case);
     }
-    Ok(())
 }
 
 #[test]
-fn an_output_that_fails_ends_a_run(rt: HostRuntime) -> Result<(), Fail> {
+fn an_output_that_fails_ends_a_run(rt: HostRuntime) {
     for case in UNWRITTEN.iter() {
-        passes(&rt, rt.alloc(), case)?;
+        passes(&rt, rt.alloc(), case);
     }
-    Ok(())
 }
 
 /// Over a connection each of these runs ends and prints as over memory.
 #[test]
-fn a_connection_changes_nothing(rt: HostRuntime) -> Result<(), Fail> {
+fn a_connection_changes_nothing(rt: HostRuntime) {
     for cases in [
         DONE.as_slice(),
         REFUSED.as_slice(),
@@ -293,20 +288,19 @@ fn a_connection_changes_nothing(rt: HostRuntime) -> Result<(), Fail> {
         UNWRITTEN.as_slice(),
     ] {
         for case in cases {
-            passes_over(&rt, rt.alloc(), &mut Loopback::new(&rt), case)?;
+            passes_over(&rt, rt.alloc(), &mut Loopback::new(&rt), case);
         }
     }
-    Ok(())
 }
 
 /// A plan that asks RedefineClasses with so many bytes of data.
-fn long_plan(alloc: Global, count: usize) -> Result<String, Fail> {
+fn long_plan(rt: &impl Abort, alloc: Global, count: usize) -> String {
     let mut plan = String::new(alloc);
-    plan.push_str("ask 1 18 ")?;
+    plan.push_str("ask 1 18 ").expect(rt, "memory");
     for _ in 0..count {
-        plan.push_str("00")?;
+        plan.push_str("00").expect(rt, "memory");
     }
-    Ok(plan)
+    plan
 }
 
 /// A plan with a command of so many bytes of data ends so, and prints this.
@@ -317,13 +311,12 @@ fn is_run_long<C: Connection>(
     count: usize,
     want: PairEnded,
     told: &str,
-) -> Result<(), Fail> {
-    let plan = long_plan(alloc, count)?;
+) {
+    let plan = long_plan(rt, alloc, count);
     let writer = Writer::failing(alloc, 0, 0);
-    let (ended, lines) = run_text(alloc, connection, true, &plan, writer, 3)?;
+    let (ended, lines) = run_text(rt, alloc, connection, true, &plan, writer, 3);
     expect_same(rt, &ended, &want);
     expect_same(rt, &lines.as_slice(), &told.as_bytes());
-    Ok(())
 }
 
 /// What a target answers that redefines no classes.
@@ -335,30 +328,31 @@ const NOT_IMPLEMENTED: &str = "< hello
 
 /// Bytes come by at most 4,096 at once, and all of them in one round.
 #[test]
-fn long_commands_come_in_one_round(rt: HostRuntime) -> Result<(), Fail> {
+fn long_commands_come_in_one_round(rt: HostRuntime) {
     let (alloc, done) = (rt.alloc(), PairEnded::Done);
     for count in [4_085, 4_086, 65_525] {
-        is_run_long(&rt, alloc, &mut Memory, count, done, NOT_IMPLEMENTED)?;
+        is_run_long(&rt, alloc, &mut Memory, count, done, NOT_IMPLEMENTED);
         let mut loopback = Loopback::new(&rt);
-        is_run_long(&rt, alloc, &mut loopback, count, done, NOT_IMPLEMENTED)?;
+        is_run_long(&rt, alloc, &mut loopback, count, done, NOT_IMPLEMENTED);
     }
-    Ok(())
 }
 
 #[test]
-fn a_command_that_is_too_long_is_refused(rt: HostRuntime) -> Result<(), Fail> {
+fn a_command_that_is_too_long_is_refused(rt: HostRuntime) {
     let refused = PairEnded::RefusedLine {
         line: 1,
         number: 34,
     };
-    is_run_long(&rt, rt.alloc(), &mut Memory, 65_526, refused, READY)
+    is_run_long(&rt, rt.alloc(), &mut Memory, 65_526, refused, READY);
 }
 
 /// How the breakpoint's run ends within these limits, and what it prints.
-fn run_within(alloc: Global, limits: Limits) -> Result<(PairEnded, Vec<u8>), Fail> {
-    let settings = Settings::new(true, 65_535, limits).ok_or("a count limit")?;
-    let (plan, writer) = (read_plan(alloc, BREAKPOINT)?, Writer::failing(alloc, 0, 0));
+fn run_within(rt: &impl Abort, alloc: Global, limits: Limits) -> (PairEnded, Vec<u8>) {
+    let settings = Settings::new(true, 65_535, limits).expect(rt, "a count limit");
+    let plan = read_plan(alloc, BREAKPOINT).expect(rt, "a plan");
+    let writer = Writer::failing(alloc, 0, 0);
     run_script(
+        rt,
         alloc,
         &mut Memory,
         MACHINE_A,
@@ -372,10 +366,9 @@ fn run_within(alloc: Global, limits: Limits) -> Result<(PairEnded, Vec<u8>), Fai
 
 /// Within limits that are large enough the lines are the same.
 #[test]
-fn both_ends_keep_the_limits(rt: HostRuntime) -> Result<(), Fail> {
-    let limits = Limits::new(4096, 8, 2, 4).ok_or("no limits")?;
-    let (ended, lines) = run_within(rt.alloc(), limits)?;
+fn both_ends_keep_the_limits(rt: HostRuntime) {
+    let limits = Limits::new(4096, 8, 2, 4).expect(&rt, "limits");
+    let (ended, lines) = run_within(&rt, rt.alloc(), limits);
     expect_same(&rt, &ended, &PairEnded::Done);
     expect_same(&rt, &lines.as_slice(), &WHOLE.lines.as_bytes());
-    Ok(())
 }

@@ -11,7 +11,6 @@ use std::alloc::Global;
 use std::io;
 use std::io::{Empty, ErrorKind, Write};
 use std::process::Abort;
-use std::test::Fail;
 
 /// What is printed until the widths of ids are known.
 pub(crate) const READY: &str = "< hello
@@ -89,12 +88,13 @@ impl Write for Writer {
 }
 
 /// Settings within the standard limits.
-pub(crate) fn standard(start_all: bool) -> Result<Settings, Fail> {
-    Ok(Settings::new(start_all, 65_535, Limits::standard()).ok_or("a count limit")?)
+pub(crate) fn standard(rt: &impl Abort, start_all: bool) -> Settings {
+    Settings::new(start_all, 65_535, Limits::standard()).expect(rt, "a count limit")
 }
 
 /// How a run over the machine of this script ends, and what it prints.
 pub(crate) fn run_script<C: Connection>(
+    rt: &impl Abort,
     alloc: Global,
     connection: &mut C,
     script: &str,
@@ -103,33 +103,36 @@ pub(crate) fn run_script<C: Connection>(
     plan: &[PlanLine],
     writer: Writer,
     rounds: u32,
-) -> Result<(PairEnded, Vec<u8>), Fail> {
+) -> (PairEnded, Vec<u8>) {
     let mut out: Streams<Empty, Writer> = Streams::new(io::empty(), writer);
     let ended = pair_script(
         alloc, script, settings, defer, connection, plan, &mut out, rounds,
-    )?;
+    )
+    .expect(rt, "a script that is read");
     let (_, writer) = out.into_parts();
-    Ok((ended, writer.bytes))
+    (ended, writer.bytes)
 }
 
 /// The same over machine A, by a plan that a text is, where no reply is deferred.
 pub(crate) fn run_text<C: Connection>(
+    rt: &impl Abort,
     alloc: Global,
     connection: &mut C,
     start_all: bool,
     plan: &str,
     writer: Writer,
     rounds: u32,
-) -> Result<(PairEnded, Vec<u8>), Fail> {
-    let (plan, settings) = (read_plan(alloc, plan)?, standard(start_all)?);
+) -> (PairEnded, Vec<u8>) {
+    let settings = standard(rt, start_all);
+    let plan = read_plan(alloc, plan).expect(rt, "a plan");
     run_script(
-        alloc, connection, MACHINE_A, settings, false, &plan, writer, rounds,
+        rt, alloc, connection, MACHINE_A, settings, false, &plan, writer, rounds,
     )
 }
 
 /// A case comes to what it says over memory.
-pub(crate) fn passes(rt: &impl Abort, alloc: Global, case: &Case) -> Result<(), Fail> {
-    passes_over(rt, alloc, &mut Memory, case)
+pub(crate) fn passes(rt: &impl Abort, alloc: Global, case: &Case) {
+    passes_over(rt, alloc, &mut Memory, case);
 }
 
 /// A case comes to what it says over this connection.
@@ -138,14 +141,14 @@ pub(crate) fn passes_over<C: Connection>(
     alloc: Global,
     connection: &mut C,
     case: &Case,
-) -> Result<(), Fail> {
+) {
+    let settings = standard(rt, case.start_all);
+    let plan = read_plan(alloc, case.plan).expect(rt, "a plan");
     let writer = Writer::failing(alloc, case.write_fails, case.flush_fails);
-    let (plan, settings) = (read_plan(alloc, case.plan)?, standard(case.start_all)?);
     let (defer, rounds) = (case.defer, case.rounds);
     let (ended, lines) = run_script(
-        alloc, connection, MACHINE_A, settings, defer, &plan, writer, rounds,
-    )?;
+        rt, alloc, connection, MACHINE_A, settings, defer, &plan, writer, rounds,
+    );
     expect_same_for(rt, &ended, &case.ended, &case.plan);
     expect_same_for(rt, &lines.as_slice(), &case.lines.as_bytes(), &case.plan);
-    Ok(())
 }

@@ -1,12 +1,10 @@
 //! Ports that can't be used, and what is told of them.
 use crate::asserts::expect_same;
-use crate::peers::told;
 use jdwp_port::{PortFault, bind, connect};
 use std::io;
 use std::io::ErrorKind;
 use std::net::Net;
 use std::process::Abort;
-use std::test::Fail;
 
 /// A port's error, and what is told of it.
 static FAULTS: [(u16, ErrorKind, &str); 6] = [
@@ -27,52 +25,45 @@ static FAULTS: [(u16, ErrorKind, &str); 6] = [
 ];
 
 /// This is told of the fault.
-fn is_told<R: AllocGlobal + Abort>(rt: &R, fault: &PortFault, text: &str) -> Result<(), Fail> {
-    let found = format!(in rt.alloc(); "{fault}")?;
+fn is_told<R: AllocGlobal + Abort>(rt: &R, fault: &PortFault, text: &str) {
+    let found = format!(in rt.alloc(); "{fault}").expect(rt, "memory");
     expect_same(rt, &found.as_str(), &text);
-    Ok(())
 }
 
 #[test]
-fn faults_are_told_with_their_port(rt: HostRuntime) -> Result<(), Fail> {
+fn faults_are_told_with_their_port(rt: HostRuntime) {
     for &(port, kind, text) in FAULTS.iter() {
-        is_told(&rt, &PortFault::of_port(port, io::Error::from(kind)), text)?;
+        is_told(&rt, &PortFault::of_port(port, io::Error::from(kind)), text);
     }
-    Ok(())
 }
 
 /// This port can't be used, for this cause.
-fn is_unusable<R: AllocGlobal + Abort>(
-    rt: &R,
-    fault: &PortFault,
-    port: u16,
-    cause: &str,
-) -> Result<(), Fail> {
-    let text = format!(in rt.alloc(); "port {port}: {cause}")?;
-    is_told(rt, fault, text.as_str())
+fn is_unusable<R: AllocGlobal + Abort>(rt: &R, fault: &PortFault, port: u16, cause: &str) {
+    let text = format!(in rt.alloc(); "port {port}: {cause}").expect(rt, "memory");
+    is_told(rt, fault, text.as_str());
 }
 
 /// A port where somebody listens can't be taken.
-fn is_in_use<R: Net + AllocGlobal + Abort>(rt: &R) -> Result<u16, Fail> {
-    let listener = bind(rt, 0).map_err(|fault| told(&fault))?;
+fn is_in_use<R: Net + AllocGlobal + Abort>(rt: &R) -> u16 {
+    let listener = bind(rt, 0).expect(rt, "a port");
     let port = listener.port();
     match bind(rt, port) {
-        Ok(_) => return Err(Fail::from("a port is taken twice")),
-        Err(fault) => is_unusable(rt, &fault, port, "address in use")?,
+        Ok(_) => panic!(rt; "a port is taken twice"),
+        Err(fault) => is_unusable(rt, &fault, port, "address in use"),
     }
-    Ok(port)
+    port
 }
 
 /// A port where nobody listens can't be reached.
-fn is_refused<R: Net + AllocGlobal + Abort>(rt: &R, port: u16) -> Result<(), Fail> {
+fn is_refused<R: Net + AllocGlobal + Abort>(rt: &R, port: u16) {
     match connect(rt, port) {
-        Ok(_) => Err(Fail::from("a port is reached where nobody listens")),
+        Ok(_) => panic!(rt; "a port is reached where nobody listens"),
         Err(fault) => is_unusable(rt, &fault, port, "connection refused"),
     }
 }
 
 #[test]
-fn ports_that_are_taken_or_free_are_refused(rt: HostRuntime) -> Result<(), Fail> {
-    let port = is_in_use(&rt)?;
-    is_refused(&rt, port)
+fn ports_that_are_taken_or_free_are_refused(rt: HostRuntime) {
+    let port = is_in_use(&rt);
+    is_refused(&rt, port);
 }

@@ -8,7 +8,6 @@ use std::io;
 use std::io::ErrorKind;
 use std::net::{Ipv4Addr, OpenListener, SocketAddr, TcpListener, TcpStream};
 use std::process::Abort;
-use std::test::Fail;
 
 /// A listener whose calls fail so, one after the other; where there is no error for a call, it is made.
 #[derive(Drop)]
@@ -42,32 +41,22 @@ static ERRORS: [Option<ErrorKind>; 6] = [
 ];
 
 /// Sessions of a new target end with the listener's last error, behind one that was refused with fault 4.
-fn end_with_the_last_error<R: AllocGlobal + Abort>(
-    rt: &R,
-    port: u16,
-    listener: Failing,
-) -> Result<(), Fail> {
-    let mut target = target(rt.alloc())?;
+fn end_with_the_last_error<R: AllocGlobal + Abort>(rt: &R, port: u16, listener: Failing) {
+    let mut target = target(rt, rt.alloc());
     let listener = PortListener::new(listener, port);
-    let (ended, numbers) = serves_all(rt.alloc(), &mut target, &listener, 1000)?;
+    let (ended, numbers) = serves_all(rt, rt.alloc(), &mut target, &listener, 1000);
     expect_same(rt, &numbers.as_slice(), &[4].as_slice());
     match ended {
-        Ok(_) => Err(Fail::from("a listener that fails goes on")),
+        Ok(_) => panic!(rt; "a listener that fails goes on"),
         Err(fault) => is_told(rt, &fault, port, "resource busy"),
     }
 }
 
 /// This is told of the fault.
-fn is_told<R: AllocGlobal + Abort>(
-    rt: &R,
-    fault: &PortFault,
-    port: u16,
-    cause: &str,
-) -> Result<(), Fail> {
-    let found = format!(in rt.alloc(); "{fault}")?;
-    let want = format!(in rt.alloc(); "port {port}: {cause}")?;
+fn is_told<R: AllocGlobal + Abort>(rt: &R, fault: &PortFault, port: u16, cause: &str) {
+    let found = format!(in rt.alloc(); "{fault}").expect(rt, "memory");
+    let want = format!(in rt.alloc(); "port {port}: {cause}").expect(rt, "memory");
     expect_same(rt, &found.as_str(), &want.as_str());
-    Ok(())
 }
 
 /// A listener whose calls fail so.
@@ -80,12 +69,13 @@ fn listener_that_fails(listener: TcpListener) -> Failing {
 }
 
 #[test]
-fn the_next_debugger_is_awaited(rt: HostRuntime) -> Result<(), Fail> {
-    let listener = TcpListener::bind(&rt, SocketAddr::from((Ipv4Addr::LOCALHOST, 0)))?;
-    let port = listener.local_addr()?.port();
-    let refused = caller(&rt, port, &NO_HANDSHAKE, true)?;
-    let answered = caller(&rt, port, &SESSION, true)?;
-    end_with_the_last_error(&rt, port, listener_that_fails(listener))?;
-    reads(&rt, rt.alloc(), refused, &[])?;
-    reads(&rt, rt.alloc(), answered, &ANSWERS)
+fn the_next_debugger_is_awaited(rt: HostRuntime) {
+    let address = SocketAddr::from((Ipv4Addr::LOCALHOST, 0));
+    let listener = TcpListener::bind(&rt, address).expect(&rt, "a port");
+    let port = listener.local_addr().expect(&rt, "an address").port();
+    let refused = caller(&rt, port, &NO_HANDSHAKE, true);
+    let answered = caller(&rt, port, &SESSION, true);
+    end_with_the_last_error(&rt, port, listener_that_fails(listener));
+    reads(&rt, rt.alloc(), refused, &[]);
+    reads(&rt, rt.alloc(), answered, &ANSWERS);
 }

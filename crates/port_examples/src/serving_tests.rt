@@ -1,6 +1,6 @@
 //! Sessions of a target on a port.
 use crate::asserts::expect_same;
-use crate::peers::{caller, reads, told};
+use crate::peers::{caller, reads};
 use crate::sessions::{ANSWERS, NO_HANDSHAKE, SESSION, Target, serves_all, serves_one, target};
 use jdwp_pipe::Ended;
 use jdwp_port::{PortListener, bind};
@@ -8,7 +8,6 @@ use std::alloc::Global;
 use std::io::{Read, Write};
 use std::net::{Net, OpenListener, OpenStream};
 use std::process::Abort;
-use std::test::Fail;
 
 /// A session of a new target on this port ends so; one that used up its rounds is open still.
 fn ends_so<L: OpenListener>(
@@ -17,17 +16,14 @@ fn ends_so<L: OpenListener>(
     listener: &PortListener<L>,
     rounds: u64,
     want: Ended,
-) -> Result<(), Fail>
+)
 where
     L::Stream: Read + Write + OpenStream,
 {
-    let mut target = target(alloc)?;
-    match serves_one(alloc, &mut target, listener, rounds)? {
-        Ok(ended) => expect_same(rt, &ended, &want),
-        Err(fault) => return Err(told(&fault)),
-    }
+    let mut target = target(rt, alloc);
+    let ended = serves_one(rt, alloc, &mut target, listener, rounds).expect(rt, "a session");
+    expect_same(rt, &ended, &want);
     expect_same(rt, &target.is_open(), &(want == Ended::TurnLimit));
-    Ok(())
 }
 
 /// A session of a new target in at most so many rounds, in which these bytes come, ends so, and these bytes are read at the other end,
@@ -38,13 +34,13 @@ fn is_served<R: Net + AllocGlobal + Abort>(
     rounds: u64,
     want: Ended,
     answers: &[u8],
-) -> Result<(), Fail> {
+) {
     for ends in [true, false] {
-        is_served_so(rt, bytes, ends, rounds, want, answers)?;
+        is_served_so(rt, bytes, ends, rounds, want, answers);
     }
-    Ok(())
 }
 
+/// The same where that end says so, or does not.
 fn is_served_so<R: Net + AllocGlobal + Abort>(
     rt: &R,
     bytes: &[u8],
@@ -52,18 +48,18 @@ fn is_served_so<R: Net + AllocGlobal + Abort>(
     rounds: u64,
     want: Ended,
     answers: &[u8],
-) -> Result<(), Fail> {
-    let listener = bind(rt, 0).map_err(|fault| told(&fault))?;
-    let near = caller(rt, listener.port(), bytes, ends)?;
-    ends_so(rt, rt.alloc(), &listener, rounds, want)?;
-    reads(rt, rt.alloc(), near, answers)
+) {
+    let listener = bind(rt, 0).expect(rt, "a port");
+    let near = caller(rt, listener.port(), bytes, ends);
+    ends_so(rt, rt.alloc(), &listener, rounds, want);
+    reads(rt, rt.alloc(), near, answers);
 }
 
 #[test]
-fn a_session_is_served(rt: HostRuntime) -> Result<(), Fail> {
-    is_served(&rt, &SESSION, 6, Ended::Done, &ANSWERS)?;
-    is_served(&rt, &SESSION, 5, Ended::TurnLimit, &ANSWERS[..100])?;
-    is_served(&rt, &NO_HANDSHAKE, 6, Ended::Refused(4), &[])?;
+fn a_session_is_served(rt: HostRuntime) {
+    is_served(&rt, &SESSION, 6, Ended::Done, &ANSWERS);
+    is_served(&rt, &SESSION, 5, Ended::TurnLimit, &ANSWERS[..100]);
+    is_served(&rt, &NO_HANDSHAKE, 6, Ended::Refused(4), &[]);
     is_served_so(
         &rt,
         &SESSION[..65],
@@ -71,15 +67,15 @@ fn a_session_is_served(rt: HostRuntime) -> Result<(), Fail> {
         9,
         Ended::LostByRead,
         &ANSWERS[..100],
-    )
+    );
 }
 
 /// What the debugger says behind Dispose is not read by the session; the answers come whole all the same.
 #[test]
-fn answers_come_though_more_was_said(rt: HostRuntime) -> Result<(), Fail> {
-    let mut said = SESSION.to_vec(rt.alloc())?;
-    said.resize(50_066, 0)?;
-    is_served(&rt, &said, 1000, Ended::Done, &ANSWERS)
+fn answers_come_though_more_was_said(rt: HostRuntime) {
+    let mut said = SESSION.to_vec(rt.alloc()).expect(&rt, "memory");
+    said.resize(50_066, 0).expect(&rt, "memory");
+    is_served(&rt, &said, 1000, Ended::Done, &ANSWERS);
 }
 
 /// Sessions of the target on this port end so, those that were refused have these numbers, and the target is closed behind them.
@@ -91,18 +87,14 @@ fn end_so<L: OpenListener>(
     rounds: u64,
     want: Ended,
     refused: &[u16],
-) -> Result<(), Fail>
+)
 where
     L::Stream: Read + Write + OpenStream,
 {
-    let (ended, numbers) = serves_all(alloc, target, listener, rounds)?;
-    match ended {
-        Ok(ended) => expect_same(rt, &ended, &want),
-        Err(fault) => return Err(told(&fault)),
-    }
+    let (ended, numbers) = serves_all(rt, alloc, target, listener, rounds);
+    expect_same(rt, &ended.expect(rt, "sessions"), &want);
     expect_same(rt, &numbers.as_slice(), &refused);
     expect_same(rt, &target.is_open(), &false);
-    Ok(())
 }
 
 /// Those of a new target, which is served once more where its machine is dead: nobody is awaited then.
@@ -113,50 +105,49 @@ fn of_a_new_target_end_so<L: OpenListener>(
     rounds: u64,
     want: Ended,
     refused: &[u16],
-) -> Result<(), Fail>
+)
 where
     L::Stream: Read + Write + OpenStream,
 {
-    let mut target = target(alloc)?;
-    end_so(rt, alloc, &mut target, listener, rounds, want, refused)?;
+    let mut target = target(rt, alloc);
+    end_so(rt, alloc, &mut target, listener, rounds, want, refused);
     if want == Ended::Done {
-        end_so(rt, alloc, &mut target, listener, rounds, want, &[])?;
+        end_so(rt, alloc, &mut target, listener, rounds, want, &[]);
     }
-    Ok(())
 }
 
 /// On one port, with one target: a session that is refused, one in which nothing is said, one that is answered, and one of whose words none
 /// is read, since no thread is suspended any more: all run to their ends, and the machine dies.
-fn four_sessions<R: Net + AllocGlobal + Abort>(rt: &R) -> Result<(), Fail> {
-    let listener = bind(rt, 0).map_err(|fault| told(&fault))?;
+fn four_sessions<R: Net + AllocGlobal + Abort>(rt: &R) {
+    let listener = bind(rt, 0).expect(rt, "a port");
     let port = listener.port();
-    let refused = caller(rt, port, &NO_HANDSHAKE, true)?;
-    let silent = caller(rt, port, &[], true)?;
-    let answered = caller(rt, port, &SESSION, true)?;
-    let unread = caller(rt, port, &SESSION, false)?;
-    of_a_new_target_end_so(rt, rt.alloc(), &listener, 1000, Ended::Done, &[4])?;
-    reads(rt, rt.alloc(), refused, &[])?;
-    reads(rt, rt.alloc(), silent, &[])?;
-    reads(rt, rt.alloc(), answered, &ANSWERS)?;
-    reads(rt, rt.alloc(), unread, &[])
+    let refused = caller(rt, port, &NO_HANDSHAKE, true);
+    let silent = caller(rt, port, &[], true);
+    let answered = caller(rt, port, &SESSION, true);
+    let unread = caller(rt, port, &SESSION, false);
+    of_a_new_target_end_so(rt, rt.alloc(), &listener, 1000, Ended::Done, &[4]);
+    reads(rt, rt.alloc(), refused, &[]);
+    reads(rt, rt.alloc(), silent, &[]);
+    reads(rt, rt.alloc(), answered, &ANSWERS);
+    reads(rt, rt.alloc(), unread, &[]);
 }
 
 #[test]
-fn sessions_are_served_one_after_the_other(rt: HostRuntime) -> Result<(), Fail> {
-    four_sessions(&rt)
+fn sessions_are_served_one_after_the_other(rt: HostRuntime) {
+    four_sessions(&rt);
 }
 
 /// A session that uses up its rounds is the last one, and it is lost.
-fn a_session_is_cut<R: Net + AllocGlobal + Abort>(rt: &R) -> Result<(), Fail> {
-    let listener = bind(rt, 0).map_err(|fault| told(&fault))?;
-    let refused = caller(rt, listener.port(), &NO_HANDSHAKE, false)?;
-    let cut = caller(rt, listener.port(), &SESSION, true)?;
-    of_a_new_target_end_so(rt, rt.alloc(), &listener, 5, Ended::TurnLimit, &[4])?;
-    reads(rt, rt.alloc(), refused, &[])?;
-    reads(rt, rt.alloc(), cut, &ANSWERS[..100])
+fn a_session_is_cut<R: Net + AllocGlobal + Abort>(rt: &R) {
+    let listener = bind(rt, 0).expect(rt, "a port");
+    let refused = caller(rt, listener.port(), &NO_HANDSHAKE, false);
+    let cut = caller(rt, listener.port(), &SESSION, true);
+    of_a_new_target_end_so(rt, rt.alloc(), &listener, 5, Ended::TurnLimit, &[4]);
+    reads(rt, rt.alloc(), refused, &[]);
+    reads(rt, rt.alloc(), cut, &ANSWERS[..100]);
 }
 
 #[test]
-fn rounds_that_are_used_up_end_it(rt: HostRuntime) -> Result<(), Fail> {
-    a_session_is_cut(&rt)
+fn rounds_that_are_used_up_end_it(rt: HostRuntime) {
+    a_session_is_cut(&rt);
 }

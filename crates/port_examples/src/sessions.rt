@@ -8,23 +8,16 @@ use jdwp_wire::Limits;
 use std::alloc::Global;
 use std::io::{Read, Write};
 use std::net::{OpenListener, OpenStream};
-use std::test::Fail;
+use std::process::Abort;
 
 /// A target over the machine of a script.
 pub(crate) type Target = jdwp_target::Target<ScriptMachine>;
 
 /// A closed target over machine A, none of whose threads is suspended at the start.
-pub(crate) fn target(alloc: Global) -> Result<Target, Fail> {
-    let Some(settings) = Settings::new(false, 65535, Limits::standard()) else {
-        return Err(Fail::from("the count limit is refused"));
-    };
-    let Ok(machine) = ScriptMachine::read(alloc, MACHINE_A) else {
-        return Err(Fail::from("the script is refused"));
-    };
-    match Target::with_settings(alloc, machine, settings) {
-        Ok(target) => Ok(target),
-        Err(_) => Err(Fail::from("no memory")),
-    }
+pub(crate) fn target(rt: &impl Abort, alloc: Global) -> Target {
+    let settings = Settings::new(false, 65535, Limits::standard()).expect(rt, "a count limit");
+    let machine = ScriptMachine::read(alloc, MACHINE_A).expect(rt, "the script is read");
+    Target::with_settings(alloc, machine, settings).expect(rt, "memory")
 }
 
 /// The handshake, IDSizes with id 1, Suspend with id 2, SuspendCount of thread 1 with id 3, Dispose with id 4.
@@ -56,36 +49,38 @@ pub(crate) static NO_HANDSHAKE: [u8; 14] = [
 
 /// How sessions of a closed target on a port ended, and the numbers of those that were refused, in order.
 pub(crate) fn serves_all<L: OpenListener>(
+    rt: &impl Abort,
     alloc: Global,
     target: &mut Target,
     listener: &PortListener<L>,
     rounds: u64,
-) -> Result<(Result<Ended, PortFault>, Vec<u16>), Fail>
+) -> (Result<Ended, PortFault>, Vec<u16>)
 where
     L::Stream: Read + Write + OpenStream,
 {
     if target.is_open() {
-        return Err(Fail::from("the target is open"));
+        panic!(rt; "the target is open");
     }
     let mut refused = Vec::new(alloc);
     let ended = serve_sessions(alloc, target, listener, rounds, |number| {
         let _ = refused.push(number);
     });
-    Ok((ended, refused))
+    (ended, refused)
 }
 
 /// How the next session of a closed target on a port ended.
 pub(crate) fn serves_one<L: OpenListener>(
+    rt: &impl Abort,
     alloc: Global,
     target: &mut Target,
     listener: &PortListener<L>,
     rounds: u64,
-) -> Result<Result<Ended, PortFault>, Fail>
+) -> Result<Ended, PortFault>
 where
     L::Stream: Read + Write + OpenStream,
 {
     if target.is_open() {
-        return Err(Fail::from("the target is open"));
+        panic!(rt; "the target is open");
     }
-    Ok(serve_next(alloc, target, listener, rounds))
+    serve_next(alloc, target, listener, rounds)
 }

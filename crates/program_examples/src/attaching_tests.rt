@@ -9,7 +9,6 @@ use std::alloc::Global;
 use std::io;
 use std::io::Cursor;
 use std::process::Abort;
-use std::test::Fail;
 
 /// The handshake, VM_START of thread 1 that suspends nothing, and the replies to IDSizes, Suspend, SuspendCount of thread 1 and Dispose.
 const FROM: [u8; 111] = [
@@ -51,6 +50,7 @@ struct Ran {
     lines: Vec<u8>,
 }
 
+/// What came of this plan within the standard limits.
 fn run(alloc: Global, plan: &str, from: &[u8], turns: u32) -> Ran {
     run_within(alloc, Limits::standard(), plan, from, turns)
 }
@@ -148,18 +148,18 @@ fn ends_of_runs(rt: HostRuntime) {
 }
 
 /// So many lines that suspend all threads.
-fn suspends(alloc: Global, times: u32) -> Result<String, Fail> {
+fn suspends(rt: &impl Abort, alloc: Global, times: u32) -> String {
     let mut plan = String::new(alloc);
     for _ in 0..times {
-        plan.push_str("ask 1 8\n")?;
+        plan.push_str("ask 1 8\n").expect(rt, "memory");
     }
-    Ok(plan)
+    plan
 }
 
 /// 64 commands may wait for their answers: the 65th line is refused, and what the lines before it ask was sent.
 #[test]
-fn the_65th_command_is_refused(rt: HostRuntime) -> Result<(), Fail> {
-    let plan = suspends(rt.alloc(), 65)?;
+fn the_65th_command_is_refused(rt: HostRuntime) {
+    let plan = suspends(&rt, rt.alloc(), 65);
     let ran = run(rt.alloc(), &plan, &FROM, 1000);
     let how = Attached::RefusedLine {
         line: 65,
@@ -167,7 +167,6 @@ fn the_65th_command_is_refused(rt: HostRuntime) -> Result<(), Fail> {
     };
     expect_same(&rt, &ran.result, &Ok(how));
     expect_same(&rt, &ran.to.len(), &(14 + 11 + 64 * 11));
-    Ok(())
 }
 
 /// A reply with an error that has data, under the id 2.
@@ -182,13 +181,14 @@ const VM_START: [u8; 29] = [
 ];
 
 /// The first so many bytes of a session, and others as often.
-fn followed(alloc: Global, count: usize, bad: &[u8], times: u32) -> Result<Vec<u8>, Fail> {
+fn followed(rt: &impl Abort, alloc: Global, count: usize, bad: &[u8], times: u32) -> Vec<u8> {
     let mut from = Vec::new(alloc);
-    from.extend_from_slice(&FROM[..count.min(FROM.len())])?;
+    from.extend_from_slice(&FROM[..count.min(FROM.len())])
+        .expect(rt, "memory");
     for _ in 0..times {
-        from.extend_from_slice(bad)?;
+        from.extend_from_slice(bad).expect(rt, "memory");
     }
-    Ok(from)
+    from
 }
 
 /// An end that is refused is told by the status 1 and this text.
@@ -215,29 +215,26 @@ fn is_refused(
 }
 
 #[test]
-fn a_bad_reply_is_refused(rt: HostRuntime) -> Result<(), Fail> {
+fn a_bad_reply_is_refused(rt: HostRuntime) {
     // A bad reply, to Suspend.
-    let from = followed(rt.alloc(), 74, &BAD_REPLY, 1)?;
+    let from = followed(&rt, rt.alloc(), 74, &BAD_REPLY, 1);
     is_refused(&rt, rt.alloc(), "ask 1 8\nanswers", &from, 43, 36, 89);
     let told = "jdwp: fault 43: a reply whose data do not read, or an error reply with data\n";
     is_told(&rt, rt.alloc(), 43, told);
-    Ok(())
 }
 
 /// Four composites wait for the widths of ids, and a fifth comes, behind so many bytes of a session.
-fn is_one_too_many(rt: &impl Abort, alloc: Global, count: usize, times: u32) -> Result<(), Fail> {
-    let from = followed(alloc, count, &VM_START, times)?;
+fn is_one_too_many(rt: &impl Abort, alloc: Global, count: usize, times: u32) {
+    let from = followed(rt, alloc, count, &VM_START, times);
     is_refused(rt, alloc, PLAN, &from, 44, 25, 8);
-    Ok(())
 }
 
 #[test]
-fn composites_too_many_are_refused(rt: HostRuntime) -> Result<(), Fail> {
-    is_one_too_many(&rt, rt.alloc(), 14, 5)?;
-    is_one_too_many(&rt, rt.alloc(), 43, 4)?;
+fn composites_too_many_are_refused(rt: HostRuntime) {
+    is_one_too_many(&rt, rt.alloc(), 14, 5);
+    is_one_too_many(&rt, rt.alloc(), 43, 4);
     let told = "jdwp: fault 44: more composites than may wait for the widths of ids\n";
     is_told(&rt, rt.alloc(), 44, told);
-    Ok(())
 }
 
 #[test]
@@ -248,49 +245,55 @@ fn a_command_that_no_target_has_is_told(rt: HostRuntime) {
 }
 
 /// 5,000 bytes: 0 to 249, again and again.
-fn long_data(alloc: Global) -> Result<Vec<u8>, Fail> {
+fn long_data(rt: &impl Abort, alloc: Global) -> Vec<u8> {
     let mut bytes = Vec::new(alloc);
     for _ in 0..20u32 {
         for byte in 0..250u8 {
-            bytes.push(byte)?;
+            bytes.push(byte).expect(rt, "memory");
         }
     }
-    Ok(bytes)
+    bytes
 }
 
 /// The same in hex digits.
-fn digits_of(alloc: Global, bytes: &[u8]) -> Result<String, Fail> {
+fn digits_of(rt: &impl Abort, alloc: Global, bytes: &[u8]) -> String {
     let mut digits = String::new(alloc);
     for byte in bytes {
-        write!(digits, "{byte:02x}")?;
+        write!(digits, "{byte:02x}").expect(rt, "memory");
     }
-    Ok(digits)
+    digits
 }
 
 /// A packet under the id 2 with this kind and these 5,000 bytes.
-fn long_packet(alloc: Global, kind: [u8; 3], data: &[u8]) -> Result<Vec<u8>, Fail> {
-    let mut packet = Vec::from_slice(alloc, &[0, 0, 0x13, 0x93, 0, 0, 0, 2])?;
-    packet.extend_from_slice(&kind)?;
-    packet.extend_from_slice(data)?;
-    Ok(packet)
+fn long_packet(rt: &impl Abort, alloc: Global, kind: [u8; 3], data: &[u8]) -> Vec<u8> {
+    let start = [0, 0, 0x13, 0x93, 0, 0, 0, 2];
+    let mut packet = Vec::from_slice(alloc, &start).expect(rt, "memory");
+    packet.extend_from_slice(&kind).expect(rt, "memory");
+    packet.extend_from_slice(data).expect(rt, "memory");
+    packet
+}
+
+/// What came of VirtualMachine.ClassPaths, asked with these data and answered with the same.
+fn run_raw(rt: &impl Abort, alloc: Global, data: &[u8], digits: &str) -> Ran {
+    let plan = format!(in alloc; "ask 1 13 {digits}").expect(rt, "memory");
+    let reply = long_packet(rt, alloc, [0x80, 0, 0], data);
+    let from = followed(rt, alloc, 74, &reply, 1);
+    run(alloc, &plan, &from, 1000)
 }
 
 /// VirtualMachine.ClassPaths, whose data are not read: both ends send more than is written or read at once.
 #[test]
-fn raw_data_longer_than_a_read(rt: HostRuntime) -> Result<(), Fail> {
+fn raw_data_longer_than_a_read(rt: HostRuntime) {
     let alloc = rt.alloc();
-    let data = long_data(alloc)?;
-    let digits = digits_of(alloc, &data)?;
-    let plan = format!(in alloc; "ask 1 13 {digits}")?;
-    let reply = long_packet(alloc, [0x80, 0, 0], &data)?;
-    let from = followed(alloc, 74, &reply, 1)?;
-    let ran = run(alloc, &plan, &from, 1000);
+    let data = long_data(&rt, alloc);
+    let digits = digits_of(&rt, alloc, &data);
+    let ran = run_raw(&rt, alloc, &data, &digits);
     expect_same(&rt, &ran.result, &Ok(Attached::Ended(Ended::Done)));
-    let asked = long_packet(alloc, [0, 1, 13], &data)?;
+    let asked = long_packet(&rt, alloc, [0, 1, 13], &data);
     expect_same(&rt, &ran.to.get(25..), &Some(asked.as_slice()));
-    let line = format!(in alloc; "< 2 reply VirtualMachine.ClassPaths 0 raw {digits}\n")?;
+    let line = format!(in alloc; "< 2 reply VirtualMachine.ClassPaths 0 raw {digits}\n");
+    let line = line.expect(&rt, "memory");
     expect_same(&rt, &ran.lines.get(89..), &Some(line.as_bytes()));
-    Ok(())
 }
 
 /// Plans with a fault, the line and what is wrong with it, and what is told of the plan of the file p.
@@ -351,19 +354,19 @@ fn faults_of_plans_are_told(rt: HostRuntime) {
 }
 
 /// What came of the lines of a plan of `pair`.
-fn run_lines(alloc: Global, plan: &str, from: &[u8]) -> Result<Ran, Fail> {
-    let plan = read_plan(alloc, plan)?;
+fn run_lines(rt: &impl Abort, alloc: Global, plan: &str, from: &[u8]) -> Ran {
+    let plan = read_plan(alloc, plan).expect(rt, "a plan");
     let mut pipe = Streams::new(from, Cursor::new(Vec::new(alloc)));
     let mut out = Streams::new(io::empty(), Cursor::new(Vec::new(alloc)));
     let limits = Limits::standard();
-    let how = attach_session(alloc, limits, plan.as_slice(), &mut pipe, &mut out, 1000)?;
+    let ran = attach_session(alloc, limits, plan.as_slice(), &mut pipe, &mut out, 1000);
     let (_, to) = pipe.into_parts();
     let (_, lines) = out.into_parts();
-    Ok(Ran {
-        result: Ok(how),
+    Ran {
+        result: Ok(ran.expect(rt, "memory")),
         to: to.into_inner(),
         lines: lines.into_inner(),
-    })
+    }
 }
 
 /// A plan with a line of `pair` alone, this line, and how many bytes are sent and printed before it.
@@ -376,33 +379,26 @@ static OF_PAIR: [(&str, usize, usize, usize); 4] = [
 
 /// The engine refuses such a line by 0, and what the lines before it ask was sent.
 #[test]
-fn lines_of_pair_are_refused(rt: HostRuntime) -> Result<(), Fail> {
+fn lines_of_pair_are_refused(rt: HostRuntime) {
     for &(plan, line, sent, printed) in OF_PAIR.iter() {
         let how = Attached::RefusedLine { line, number: 0 };
-        has_run(
-            &rt,
-            &run_lines(rt.alloc(), plan, &FROM)?,
-            how,
-            sent,
-            printed,
-        );
+        let ran = run_lines(&rt, rt.alloc(), plan, &FROM);
+        has_run(&rt, &ran, how, sent, printed);
     }
-    Ok(())
 }
 
 /// Where one command may wait, the first line of this plan is asked and the second is refused; two may wait where the limits say so.
 #[test]
-fn as_many_wait_as_the_limits_let(rt: HostRuntime) -> Result<(), Fail> {
-    let one = Limits::new(2048, 2, 1, 1).ok_or("no limits")?;
+fn as_many_wait_as_the_limits_let(rt: HostRuntime) {
+    let one = Limits::new(2048, 2, 1, 1).expect(&rt, "limits");
     let ran = run_within(rt.alloc(), one, PLAN, &FROM, 100_000);
     let refused = Attached::RefusedLine {
         line: 2,
         number: 32,
     };
     expect_same(&rt, &ran.result, &Ok(refused));
-    let two = Limits::new(2048, 2, 1, 3).ok_or("no limits")?;
+    let two = Limits::new(2048, 2, 1, 3).expect(&rt, "limits");
     let ran = run_within(rt.alloc(), two, PLAN, &FROM, 100_000);
     expect_same(&rt, &ran.result, &Ok(Attached::Ended(Ended::Done)));
     expect_same(&rt, &ran.to.as_slice(), &TO.as_slice());
-    Ok(())
 }

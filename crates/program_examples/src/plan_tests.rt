@@ -3,7 +3,6 @@ use crate::asserts::{expect_same, expect_same_for};
 use jdwp_plan::{LineFault, PlanFault, PlanLine, read_attach_plan, read_plan};
 use std::alloc::Global;
 use std::process::Abort;
-use std::test::Fail;
 
 /// What a line is to say.
 #[derive(Clone, Copy)]
@@ -17,6 +16,7 @@ enum Form {
     Attach,
 }
 
+/// Whether the line says this.
 fn is_of_form(line: &PlanLine, form: &Form) -> bool {
     match (line, form) {
         (PlanLine::Ask { set, number, data }, Form::Ask(of_set, of_number, bytes)) => {
@@ -32,6 +32,7 @@ fn is_of_form(line: &PlanLine, form: &Form) -> bool {
     }
 }
 
+/// Whether these are all the lines of the plan.
 fn has_forms(plan: &[PlanLine], forms: &[Form]) -> bool {
     let same = plan
         .iter()
@@ -40,10 +41,12 @@ fn has_forms(plan: &[PlanLine], forms: &[Form]) -> bool {
     same && plan.len() == forms.len()
 }
 
-fn says(alloc: Global, text: &str, forms: &[Form]) -> Result<bool, Fail> {
-    Ok(has_forms(&read_plan(alloc, text)?, forms))
+/// Whether the text is a plan of these lines.
+fn says(rt: &impl Abort, alloc: Global, text: &str, forms: &[Form]) -> bool {
+    has_forms(&read_plan(alloc, text).expect(rt, "a plan"), forms)
 }
 
+/// What is wrong with the text as a plan.
 fn fault(alloc: Global, text: &str) -> Option<PlanFault> {
     read_plan(alloc, text).err()
 }
@@ -84,15 +87,21 @@ static PLANS: [(&str, &[Form]); 9] = [
 ];
 
 #[test]
-fn plans_are_read(rt: HostRuntime) -> Result<(), Fail> {
+fn plans_are_read(rt: HostRuntime) {
     for (text, forms) in PLANS.iter() {
-        expect_same_for(&rt, &says(rt.alloc(), text, forms)?, &true, text);
+        expect_same_for(&rt, &says(&rt, rt.alloc(), text, forms), &true, text);
     }
-    Ok(())
 }
 
-/// Plans with a fault: in which line, and which.
-static FAULTS: [(&str, usize, LineFault); 43] = [
+/// The text is no plan: this is wrong with this line of it.
+fn is_no_plan(rt: &impl Abort, alloc: Global, text: &str, line: usize, wanted: LineFault) {
+    let wanted = Some(PlanFault::Line(line, wanted));
+    expect_same_for(rt, &fault(alloc, text), &wanted, &text);
+}
+
+/// Plans with a fault, in which line, and which: of empty lines, of spaces, of first words, and of
+/// how many words there are.
+static FAULTS: [(&str, usize, LineFault); 20] = [
     ("\n", 1, LineFault::Blank),
     ("mirror\n\nmirror", 2, LineFault::Blank),
     (" ", 1, LineFault::Spacing),
@@ -113,6 +122,17 @@ static FAULTS: [(&str, usize, LineFault); 43] = [
     ("events", 1, LineFault::WordCount),
     ("events 1 2", 1, LineFault::WordCount),
     ("mirror now", 1, LineFault::WordCount),
+];
+
+#[test]
+fn faults_in_their_lines(rt: HostRuntime) {
+    for &(text, line, wanted) in FAULTS.iter() {
+        is_no_plan(&rt, rt.alloc(), text, line, wanted);
+    }
+}
+
+/// The same of words that are no numbers or no data.
+static FAULTS_OF_WORDS: [(&str, usize, LineFault); 11] = [
     ("ask 256 x", 1, LineFault::Set),
     ("ask +1 8", 1, LineFault::Set),
     ("ask 1 -8", 1, LineFault::Number),
@@ -124,6 +144,17 @@ static FAULTS: [(&str, usize, LineFault); 43] = [
     ("events 4294967296", 1, LineFault::Count),
     ("events +1", 1, LineFault::Count),
     ("answers\nmirror\nevents one\nask", 3, LineFault::Count),
+];
+
+#[test]
+fn faults_of_words_in_their_lines(rt: HostRuntime) {
+    for &(text, line, wanted) in FAULTS_OF_WORDS.iter() {
+        is_no_plan(&rt, rt.alloc(), text, line, wanted);
+    }
+}
+
+/// The same of lines of `pair` alone, and of lines that are almost such.
+static FAULTS_FOR_PAIR: [(&str, usize, LineFault); 12] = [
     ("lose", 1, LineFault::WordCount),
     ("lose ", 1, LineFault::Spacing),
     ("lose  target", 1, LineFault::Spacing),
@@ -139,10 +170,9 @@ static FAULTS: [(&str, usize, LineFault); 43] = [
 ];
 
 #[test]
-fn faults_in_their_lines(rt: HostRuntime) {
-    for &(text, line, wanted) in FAULTS.iter() {
-        let wanted = Some(PlanFault::Line(line, wanted));
-        expect_same_for(&rt, &fault(rt.alloc(), text), &wanted, &text);
+fn faults_in_lines_of_pair(rt: HostRuntime) {
+    for &(text, line, wanted) in FAULTS_FOR_PAIR.iter() {
+        is_no_plan(&rt, rt.alloc(), text, line, wanted);
     }
 }
 
@@ -172,10 +202,19 @@ fn faults_in_plans_of_attach(rt: HostRuntime) {
     }
 }
 
+/// The lines of a plan of `attach`.
+fn attach_plan(rt: &impl Abort, alloc: Global, text: &str) -> Vec<PlanLine> {
+    read_attach_plan(alloc, text).expect(rt, "a plan of `attach`")
+}
+
 /// Each line that `attach` carries out, in one plan.
 #[test]
-fn plans_of_attach_are_read(rt: HostRuntime) -> Result<(), Fail> {
-    let plan = read_attach_plan(rt.alloc(), "ask 0 255 aBc0\nanswers\nevents 2\nmirror\n")?;
+fn plans_of_attach_are_read(rt: HostRuntime) {
+    let plan = attach_plan(
+        &rt,
+        rt.alloc(),
+        "ask 0 255 aBc0\nanswers\nevents 2\nmirror\n",
+    );
     let forms = [
         Form::Ask(0, 255, &[0xab, 0xc0]),
         Form::Answers,
@@ -183,21 +222,19 @@ fn plans_of_attach_are_read(rt: HostRuntime) -> Result<(), Fail> {
         Form::Mirror,
     ];
     assert!(rt; has_forms(&plan, &forms));
-    expect_same(&rt, &read_attach_plan(rt.alloc(), "")?.len(), &0);
-    Ok(())
+    expect_same(&rt, &attach_plan(&rt, rt.alloc(), "").len(), &0);
 }
 
 /// The fault in words.
-fn is_told(rt: &impl Abort, alloc: Global, fault: PlanFault, words: &str) -> Result<(), Fail> {
-    let told = format!(in alloc; "{}", fault)?;
+fn is_told(rt: &impl Abort, alloc: Global, fault: PlanFault, words: &str) {
+    let told = format!(in alloc; "{}", fault).expect(rt, "memory");
     expect_same(rt, &told.as_str(), &words);
-    Ok(())
 }
 
 #[test]
-fn faults_in_words(rt: HostRuntime) -> Result<(), Fail> {
+fn faults_in_words(rt: HostRuntime) {
     let words = "line 3 of the plan: a number of events that is not a number below 4294967296";
     let count = PlanFault::Line(3, LineFault::Count);
-    is_told(&rt, rt.alloc(), count, words)?;
-    is_told(&rt, rt.alloc(), PlanFault::NoMemory, "no memory")
+    is_told(&rt, rt.alloc(), count, words);
+    is_told(&rt, rt.alloc(), PlanFault::NoMemory, "no memory");
 }

@@ -13,7 +13,6 @@ use std::alloc::Global;
 use std::io;
 use std::io::{ErrorKind, Write};
 use std::process::Abort;
-use std::test::Fail;
 
 /// Takes so many bytes a call at most. The call of this number, counted from 1, fails.
 #[derive(Drop)]
@@ -102,39 +101,28 @@ fn whole(alloc: Global) -> Output {
     Output::new(alloc, 1000, 0, ErrorKind::Other)
 }
 
-fn is_shown(
-    rt: &impl Abort,
-    alloc: Global,
-    capture: &str,
-    shown: &str,
-    told: &Told,
-) -> Result<(), Fail> {
+/// The capture is shown so.
+fn is_shown(rt: &impl Abort, alloc: Global, capture: &str, shown: &str, told: &Told) {
     let mut out = whole(alloc);
-    expect_same(rt, &show_capture(alloc, capture, &mut out)?, told);
+    let found = show_capture(alloc, capture, &mut out).expect(rt, "a capture that is shown");
+    expect_same(rt, &found, told);
     expect_same_for(rt, &out.bytes.as_slice(), &shown.as_bytes(), &capture);
-    Ok(())
 }
 
-fn is_judged(
-    rt: &impl Abort,
-    alloc: Global,
-    capture: &str,
-    judged: &str,
-    told: &Told,
-) -> Result<(), Fail> {
+/// The capture is judged so.
+fn is_judged(rt: &impl Abort, alloc: Global, capture: &str, judged: &str, told: &Told) {
     let mut out = whole(alloc);
-    expect_same(rt, &check_capture(alloc, capture, &mut out)?, told);
+    let found = check_capture(alloc, capture, &mut out).expect(rt, "a capture that is judged");
+    expect_same(rt, &found, told);
     expect_same_for(rt, &out.bytes.as_slice(), &judged.as_bytes(), &capture);
-    Ok(())
 }
 
 #[test]
-fn captures_are_told(rt: HostRuntime) -> Result<(), Fail> {
+fn captures_are_told(rt: HostRuntime) {
     for (capture, shown, judged, told) in CAPTURES.iter() {
-        is_shown(&rt, rt.alloc(), capture, shown, told)?;
-        is_judged(&rt, rt.alloc(), capture, judged, told)?;
+        is_shown(&rt, rt.alloc(), capture, shown, told);
+        is_judged(&rt, rt.alloc(), capture, judged, told);
     }
-    Ok(())
 }
 
 /// How the telling ends, as a name.
@@ -275,13 +263,14 @@ fn faults_of_plans_name_the_file(rt: HostRuntime) {
 }
 
 #[test]
-fn faults_of_words_are_told(rt: HostRuntime) -> Result<(), Fail> {
-    let words = "error: two\n\nlines".to_string(rt.alloc())?;
+fn faults_of_words_are_told(rt: HostRuntime) {
+    let words = "error: two\n\nlines"
+        .to_string(rt.alloc())
+        .expect(&rt, "memory");
     let text = "jdwp: error: two\n\nlines\n";
     is_told(&rt, rt.alloc(), Fault::Words(words), 1, text);
     let text = "jdwp: a word is not UTF-8\n";
     is_told(&rt, rt.alloc(), Fault::NotText, 1, text);
-    Ok(())
 }
 
 #[test]
@@ -397,6 +386,7 @@ static ENDS: [(Outcome<'static>, u8, &str); 25] = [
     (Outcome::Capture(Told::Unread), 2, ""),
 ];
 
+/// The end of a run is told by this status and this text.
 fn has_ended(rt: &impl Abort, alloc: Global, outcome: Outcome<'_>, status: u8, text: &str) {
     let mut err = whole(alloc);
     expect_same_for(rt, &report_outcome(outcome, &mut err), &status, &text);
@@ -433,14 +423,14 @@ fn ends_are_told(rt: HostRuntime) {
 }
 
 /// The error of a file is told so.
-fn is_cause(rt: &impl Abort, alloc: Global, kind: ErrorKind, text: &str) -> Result<(), Fail> {
+fn is_cause(rt: &impl Abort, alloc: Global, kind: ErrorKind, text: &str) {
     let fault = Fault::of_file("f", io::Error::from(kind));
-    expect_same(rt, &fault.to_string(alloc)?.as_str(), &text);
-    Ok(())
+    let told = fault.to_string(alloc).expect(rt, "memory");
+    expect_same(rt, &told.as_str(), &text);
 }
 
 #[test]
-fn causes_of_files(rt: HostRuntime) -> Result<(), Fail> {
+fn causes_of_files(rt: HostRuntime) {
     for (kind, text) in [
         (ErrorKind::NotFound, "f: no such file or folder"),
         (ErrorKind::PermissionDenied, "f: not allowed"),
@@ -448,28 +438,26 @@ fn causes_of_files(rt: HostRuntime) -> Result<(), Fail> {
         (ErrorKind::StorageFull, "f: no storage space"),
         (ErrorKind::OutOfMemory, "no memory"),
     ] {
-        is_cause(&rt, rt.alloc(), kind, text)?;
+        is_cause(&rt, rt.alloc(), kind, text);
     }
-    Ok(())
 }
 
 /// The text of bytes, or the place of the first that is of none.
-fn read_text(bytes: &[u8]) -> Result<Result<&str, usize>, Fail> {
+fn read_text<'a>(rt: &impl Abort, bytes: &'a [u8]) -> Result<&'a str, usize> {
     match text_of(bytes) {
-        Ok(text) => Ok(Ok(text)),
-        Err(FileCause::NotUtf8(place)) => Ok(Err(place)),
-        Err(_) => Err(Fail::from("another cause")),
+        Ok(text) => Ok(text),
+        Err(FileCause::NotUtf8(place)) => Err(place),
+        Err(_) => panic!(rt; "another cause"),
     }
 }
 
 #[test]
-fn texts_of_files(rt: HostRuntime) -> Result<(), Fail> {
-    expect_same(&rt, &read_text(b"")?, &Ok(""));
-    expect_same(&rt, &read_text(b"> 4a\n")?, &Ok("> 4a\n"));
-    expect_same(&rt, &read_text("\u{e9}".as_bytes())?, &Ok("\u{e9}"));
-    expect_same(&rt, &read_text(b"> \xff")?, &Err(2));
-    expect_same(&rt, &read_text(b"> 4a\n\xc3")?, &Err(5));
-    Ok(())
+fn texts_of_files(rt: HostRuntime) {
+    expect_same(&rt, &read_text(&rt, b""), &Ok(""));
+    expect_same(&rt, &read_text(&rt, b"> 4a\n"), &Ok("> 4a\n"));
+    expect_same(&rt, &read_text(&rt, "\u{e9}".as_bytes()), &Ok("\u{e9}"));
+    expect_same(&rt, &read_text(&rt, b"> \xff"), &Err(2));
+    expect_same(&rt, &read_text(&rt, b"> 4a\n\xc3"), &Err(5));
 }
 
 /// A word, and the number that it is, if it is one.
@@ -547,15 +535,14 @@ static NO_LIMITS: [&str; 19] = [
 ];
 
 #[test]
-fn limits_are_four_numbers(rt: HostRuntime) -> Result<(), Fail> {
+fn limits_are_four_numbers(rt: HostRuntime) {
     for &(text, (packet, live, requests, pending)) in LIMITS.iter() {
-        let wanted = Limits::new(packet, live, requests, pending).ok_or("no limits")?;
+        let wanted = Limits::new(packet, live, requests, pending).expect(&rt, "limits");
         expect_same_for(&rt, &limits(text), &Some(wanted), &text);
     }
     for text in NO_LIMITS.iter() {
         expect_same_for(&rt, &limits(text), &None, text);
     }
-    Ok(())
 }
 
 /// Gives no byte: its reads fail so, or it is at its end.
@@ -574,14 +561,14 @@ impl io::Read for Dry {
 }
 
 /// The file F that reads failed on so, if they did.
-fn read_side(kind: Option<ErrorKind>) -> Result<Side<'static>, Fail> {
+fn read_side(kind: Option<ErrorKind>) -> Side<'static> {
     let mut reader = Watched::new(Dry { kind });
     let mut buffer = [0u8; 4];
     let _ = io::Read::read(&mut reader, &mut buffer);
-    Ok(Side {
+    Side {
         path: "F",
         failure: reader.failure(),
-    })
+    }
 }
 
 /// The error of a writer to which three bytes were written one by one, where the call of this number failed so.
@@ -608,29 +595,28 @@ fn is_lost(
 
 /// A read at the end of the file is told apart from one that failed.
 #[test]
-fn losses_at_a_read_are_told(rt: HostRuntime) -> Result<(), Fail> {
+fn losses_at_a_read_are_told(rt: HostRuntime) {
     let to = Side {
         path: "T",
         failure: None,
     };
     let ended = "jdwp: F: the file ended before the session did\n";
-    let sides = (read_side(None)?, to);
+    let sides = (read_side(None), to);
     is_lost(&rt, rt.alloc(), Ended::LostByRead, sides, None, ended);
-    let interrupted = (read_side(Some(ErrorKind::Interrupted))?, to);
+    let interrupted = (read_side(Some(ErrorKind::Interrupted)), to);
     is_lost(&rt, rt.alloc(), Ended::LostByRead, interrupted, None, ended);
-    let failed = (read_side(Some(ErrorKind::PermissionDenied))?, to);
+    let failed = (read_side(Some(ErrorKind::PermissionDenied)), to);
     let text = "jdwp: F: can't be read: permission denied\n";
     is_lost(&rt, rt.alloc(), Ended::LostByRead, failed, None, text);
-    Ok(())
 }
 
 /// A write that failed is that to the file where it failed, and else that to the output.
 #[test]
-fn losses_at_a_write_are_told(rt: HostRuntime) -> Result<(), Fail> {
+fn losses_at_a_write_are_told(rt: HostRuntime) {
     let alloc = rt.alloc();
     let full = write_failure(alloc, 2, ErrorKind::StorageFull);
     let gone = write_failure(alloc, 1, ErrorKind::BrokenPipe);
-    let from = read_side(None)?;
+    let from = read_side(None);
     let kept = Side {
         path: "T",
         failure: write_failure(alloc, 2, ErrorKind::Interrupted),
@@ -650,7 +636,6 @@ fn losses_at_a_write_are_told(rt: HostRuntime) -> Result<(), Fail> {
     is_lost(&rt, alloc, by_write, (from, kept), None, text);
     let none_taken = write_failure(alloc, 3, ErrorKind::WriteZero);
     assert!(&rt; none_taken.is_some());
-    Ok(())
 }
 
 /// A line, the number of its refusal, and how it is told where so many commands may wait.
@@ -691,10 +676,9 @@ fn refused_lines_are_told(rt: HostRuntime) {
 
 /// Only a loss is told by the files.
 #[test]
-fn other_ends_are_told_without_files(rt: HostRuntime) -> Result<(), Fail> {
-    let from = read_side(Some(ErrorKind::PermissionDenied))?;
+fn other_ends_are_told_without_files(rt: HostRuntime) {
+    let from = read_side(Some(ErrorKind::PermissionDenied));
     let output = write_failure(rt.alloc(), 1, ErrorKind::StorageFull);
     let outcome = Outcome::of_session(Ended::Done, from, from, output);
     has_ended(&rt, rt.alloc(), outcome, 0, "");
-    Ok(())
 }

@@ -11,7 +11,6 @@ use std::alloc::Global;
 use std::io;
 use std::io::{ErrorKind, Read, Write};
 use std::process::Abort;
-use std::test::Fail;
 
 const HANDSHAKE: &str = "4a4457502d48616e647368616b65";
 
@@ -133,35 +132,38 @@ impl Write for Writer {
     }
 }
 
-fn hex(alloc: Global, texts: &[&str]) -> Result<Vec<u8>, Fail> {
+/// The bytes that these texts spell in hex, one after the other.
+fn hex(rt: &impl Abort, alloc: Global, texts: &[&str]) -> Vec<u8> {
     let mut bytes = Vec::new(alloc);
     for text in texts {
-        push_bytes(&mut bytes, text)?;
+        push_bytes(&mut bytes, text).expect(rt, "memory");
     }
-    Ok(bytes)
+    bytes
 }
 
-fn plan(alloc: Global, lines: &[Line]) -> Result<Vec<PlanLine>, Fail> {
+/// The plan of these lines.
+fn plan(rt: &impl Abort, alloc: Global, lines: &[Line]) -> Vec<PlanLine> {
     let mut plan = Vec::new(alloc);
     for line in lines {
-        plan.push(plan_line(alloc, line)?)?;
+        plan.push(plan_line(rt, alloc, line)).expect(rt, "memory");
     }
-    Ok(plan)
+    plan
 }
 
-fn plan_line(alloc: Global, line: &Line) -> Result<PlanLine, Fail> {
+/// The line as a plan has it.
+fn plan_line(rt: &impl Abort, alloc: Global, line: &Line) -> PlanLine {
     match *line {
-        Line::Ask(set, number, data) => Ok(PlanLine::Ask {
+        Line::Ask(set, number, data) => PlanLine::Ask {
             set,
             number,
-            data: hex(alloc, &[data])?,
-        }),
-        Line::Answers => Ok(PlanLine::Answers),
-        Line::Events(count) => Ok(PlanLine::Events(count)),
-        Line::Mirror => Ok(PlanLine::Mirror),
-        Line::LoseTarget => Ok(PlanLine::LoseTarget),
-        Line::LoseDebugger => Ok(PlanLine::LoseDebugger),
-        Line::Attach => Ok(PlanLine::Attach),
+            data: hex(rt, alloc, &[data]),
+        },
+        Line::Answers => PlanLine::Answers,
+        Line::Events(count) => PlanLine::Events(count),
+        Line::Mirror => PlanLine::Mirror,
+        Line::LoseTarget => PlanLine::LoseTarget,
+        Line::LoseDebugger => PlanLine::LoseDebugger,
+        Line::Attach => PlanLine::Attach,
     }
 }
 
@@ -176,14 +178,15 @@ struct Outcome {
 
 /// Runs a new debugger by a plan.
 fn run_on<'a, 'p>(
+    rt: &impl Abort,
     alloc: Global,
     input: Reader<'a>,
     target: Writer,
     plan: &'p [PlanLine],
     printer: Writer,
     turns: u64,
-) -> Result<Outcome, Fail> {
-    let mut debugger = Debugger::new(alloc)?;
+) -> Outcome {
+    let mut debugger = Debugger::new(alloc).expect(rt, "memory");
     let mut pipe = Streams::new(input, target);
     let mut out = Streams::new(
         Reader {
@@ -195,30 +198,31 @@ fn run_on<'a, 'p>(
     let ended = attach(alloc, &mut debugger, &mut pipe, plan, &mut out, turns);
     let (_, to) = pipe.into_parts();
     let (_, lines) = out.into_parts();
-    Ok(Outcome {
+    Outcome {
         ended,
         to: to.bytes,
         lines: lines.bytes,
         attaches_again: debugger.attach(),
-    })
+    }
 }
 
 /// Runs a case in which so many bytes are read and written at once at most.
-fn run(alloc: Global, case: &Case, most: usize) -> Result<Outcome, Fail> {
-    let from = hex(alloc, case.from)?;
-    let lines = plan(alloc, case.plan)?;
+fn run(rt: &impl Abort, alloc: Global, case: &Case, most: usize) -> Outcome {
+    let from = hex(rt, alloc, case.from);
+    let lines = plan(rt, alloc, case.plan);
     let input = Reader { bytes: &from, most };
     let target = Writer::failing(alloc, most, case.write_fails, case.write_flush_fails);
     let printer = Writer::failing(alloc, most, case.print_fails, case.print_flush_fails);
-    run_on(alloc, input, target, &lines, printer, case.turns)
+    run_on(rt, alloc, input, target, &lines, printer, case.turns)
 }
 
 /// Whether a case comes to what it says.
-fn passes(alloc: Global, case: &Case, most: usize) -> Result<bool, Fail> {
-    let to = hex(alloc, case.to)?;
-    Ok(is_as_said(&run(alloc, case, most)?, case, &to))
+fn passes(rt: &impl Abort, alloc: Global, case: &Case, most: usize) -> bool {
+    let to = hex(rt, alloc, case.to);
+    is_as_said(&run(rt, alloc, case, most), case, &to)
 }
 
+/// Whether what came of a run is what the case says, where the debugger sent these bytes.
 fn is_as_said(outcome: &Outcome, case: &Case, to: &[u8]) -> bool {
     let stays_open = case.ended == Ended::TurnLimit;
     outcome.ended == case.ended
@@ -266,11 +270,10 @@ static SESSION: Case = Case {
 };
 
 #[test]
-fn session_is_told_line_by_line(rt: HostRuntime) -> Result<(), Fail> {
-    assert!(rt; passes(rt.alloc(), &SESSION, 4096)?);
-    assert!(rt; passes(rt.alloc(), &SESSION, 1)?);
-    assert!(rt; passes(rt.alloc(), &SESSION, 7)?);
-    Ok(())
+fn session_is_told_line_by_line(rt: HostRuntime) {
+    assert!(rt; passes(&rt, rt.alloc(), &SESSION, 4096));
+    assert!(rt; passes(&rt, rt.alloc(), &SESSION, 1));
+    assert!(rt; passes(&rt, rt.alloc(), &SESSION, 7));
 }
 
 /// The widths are known, and nothing more comes.
@@ -656,31 +659,28 @@ static LOST: [Case; 11] = [
 ];
 
 #[test]
-fn plans_are_carried_out(rt: HostRuntime) -> Result<(), Fail> {
+fn plans_are_carried_out(rt: HostRuntime) {
     let alloc = rt.alloc();
     for case in FINISHED.iter() {
-        assert!(rt; passes(alloc, case, 4096)?);
-        assert!(rt; passes(alloc, case, 1)?);
+        assert!(rt; passes(&rt, alloc, case, 4096));
+        assert!(rt; passes(&rt, alloc, case, 1));
     }
-    Ok(())
 }
 
 #[test]
-fn faults_end_the_run(rt: HostRuntime) -> Result<(), Fail> {
+fn faults_end_the_run(rt: HostRuntime) {
     let alloc = rt.alloc();
     for case in REFUSED.iter() {
-        assert!(rt; passes(alloc, case, 4096)?);
+        assert!(rt; passes(&rt, alloc, case, 4096));
     }
-    Ok(())
 }
 
 #[test]
-fn losses_and_the_limit_end_the_run(rt: HostRuntime) -> Result<(), Fail> {
+fn losses_and_the_limit_end_the_run(rt: HostRuntime) {
     let alloc = rt.alloc();
     for case in LOST.iter() {
-        assert!(rt; passes(alloc, case, 4096)?);
+        assert!(rt; passes(&rt, alloc, case, 4096));
     }
-    Ok(())
 }
 
 /// A run that is refused at a line of `pair` alone: what the lines before it asked is written, and no more.
@@ -736,11 +736,10 @@ static OF_PAIR: [Case; 5] = [
 ];
 
 #[test]
-fn lines_of_pair_end_the_run(rt: HostRuntime) -> Result<(), Fail> {
+fn lines_of_pair_end_the_run(rt: HostRuntime) {
     for case in OF_PAIR.iter() {
-        assert!(rt; passes(rt.alloc(), case, 4096)?);
+        assert!(rt; passes(&rt, rt.alloc(), case, 4096));
     }
-    Ok(())
 }
 
 static TOO_MANY: Case = Case {
@@ -760,9 +759,8 @@ fn is_one_too_many(rt: &impl Abort, outcome: &Outcome) {
 
 /// 64 commands may wait for their answers: one more is refused, and what was asked before it is written.
 #[test]
-fn command_too_many_is_refused(rt: HostRuntime) -> Result<(), Fail> {
-    is_one_too_many(&rt, &run(rt.alloc(), &TOO_MANY, 4096)?);
-    Ok(())
+fn command_too_many_is_refused(rt: HostRuntime) {
+    is_one_too_many(&rt, &run(&rt, rt.alloc(), &TOO_MANY, 4096));
 }
 
 /// Nothing comes, and what is written is kept.
@@ -785,11 +783,10 @@ fn run_of_none(alloc: Global, debugger: &mut Debugger) -> (Ended, bool) {
 
 /// A debugger whose session is open is refused, and nothing is touched.
 #[test]
-fn open_debugger_is_refused(rt: HostRuntime) -> Result<(), Fail> {
-    let mut debugger = Debugger::new(rt.alloc())?;
+fn open_debugger_is_refused(rt: HostRuntime) {
+    let mut debugger = Debugger::new(rt.alloc()).expect(&rt, "memory");
     assert!(rt; debugger.attach());
     let ran = run_of_none(rt.alloc(), &mut debugger);
     expect_same(&rt, &ran, &(Ended::Refused(0), true));
     assert!(rt; debugger.is_open());
-    Ok(())
 }

@@ -4,7 +4,6 @@ use jdwp_debugger::{DebuggerFault, Refused};
 use jdwp_plan::{LineFault, PlanFault};
 use std::alloc::Global;
 use std::process::Abort;
-use std::test::Fail;
 
 /// What is wrong with a line, in words.
 static LINES: [(LineFault, &str); 11] = [
@@ -40,24 +39,19 @@ static LINES: [(LineFault, &str); 11] = [
 ];
 
 /// A fault of a line of a plan, in words behind the line's number.
-fn is_told_of_line(
-    rt: &impl Abort,
-    alloc: Global,
-    fault: LineFault,
-    words: &str,
-) -> Result<(), Fail> {
-    let told = PlanFault::Line(7, fault).to_string(alloc)?;
-    let wanted = format!(in alloc; "line 7 of the plan: {words}")?;
+fn is_told_of_line(rt: &impl Abort, alloc: Global, fault: LineFault, words: &str) {
+    let told = PlanFault::Line(7, fault)
+        .to_string(alloc)
+        .expect(rt, "memory");
+    let wanted = format!(in alloc; "line 7 of the plan: {words}").expect(rt, "memory");
     expect_same(rt, &told.as_str(), &wanted.as_str());
-    Ok(())
 }
 
 #[test]
-fn faults_of_lines_in_words(rt: HostRuntime) -> Result<(), Fail> {
+fn faults_of_lines_in_words(rt: HostRuntime) {
     for &(fault, words) in LINES.iter() {
-        is_told_of_line(&rt, rt.alloc(), fault, words)?;
+        is_told_of_line(&rt, rt.alloc(), fault, words);
     }
-    Ok(())
 }
 
 /// Why a debugger refuses a command, in words.
@@ -80,11 +74,11 @@ static REFUSALS: [(Refused, &str); 6] = [
 ];
 
 #[test]
-fn refusals_of_commands_in_words(rt: HostRuntime) -> Result<(), Fail> {
+fn refusals_of_commands_in_words(rt: HostRuntime) {
     for &(refused, words) in REFUSALS.iter() {
-        expect_same(&rt, &refused.to_string(rt.alloc())?.as_str(), &words);
+        let told = refused.to_string(rt.alloc()).expect(&rt, "memory");
+        expect_same(&rt, &told.as_str(), &words);
     }
-    Ok(())
 }
 
 /// Why a debugger's turn failed, in words.
@@ -109,9 +103,9 @@ static TURNS: [(DebuggerFault, &str); 5] = [
 ];
 
 #[test]
-fn faults_of_turns_in_words(rt: HostRuntime) -> Result<(), Fail> {
+fn faults_of_turns_in_words(rt: HostRuntime) {
     for &(fault, words) in TURNS.iter() {
-        expect_same(&rt, &fault.to_string(rt.alloc())?.as_str(), &words);
+        let told = fault.to_string(rt.alloc()).expect(&rt, "memory");
+        expect_same(&rt, &told.as_str(), &words);
     }
-    Ok(())
 }

@@ -3,7 +3,6 @@ use crate::sessions::{Act, HANDSHAKE, goes_as_told};
 use example_parts::{ALL_KINDS, MACHINE_A};
 use jdwp_target::{Stepped, Turn};
 use jdwp_wire::{ErrorCode, FrameFault};
-use std::test::Fail;
 
 /// Signature and Status of a class, and AllThreads.
 const THREE: &str =
@@ -42,14 +41,14 @@ static THE_NEWEST_IS_RELEASED_FIRST: [Act; 10] = [
 ];
 
 #[test]
-fn the_newest_is_released_first(rt: HostRuntime) -> Result<(), Fail> {
+fn the_newest_is_released_first(rt: HostRuntime) {
     goes_as_told(
         &rt,
         rt.alloc(),
         MACHINE_A,
         65535,
         &THE_NEWEST_IS_RELEASED_FIRST,
-    )
+    );
 }
 
 /// Those behind the one that is released move up, and the others stay.
@@ -76,8 +75,8 @@ static LATER_ONES_MOVE_UP: [Act; 7] = [
 ];
 
 #[test]
-fn later_ones_move_up(rt: HostRuntime) -> Result<(), Fail> {
-    goes_as_told(&rt, rt.alloc(), MACHINE_A, 65535, &LATER_ONES_MOVE_UP)
+fn later_ones_move_up(rt: HostRuntime) {
+    goes_as_told(&rt, rt.alloc(), MACHINE_A, 65535, &LATER_ONES_MOVE_UP);
 }
 
 /// Sixteen wait, and the next is answered at once.
@@ -94,14 +93,14 @@ static THE_SEVENTEENTH_IS_ANSWERED: [Act; 9] = [
 ];
 
 #[test]
-fn the_seventeenth_is_answered_at_once(rt: HostRuntime) -> Result<(), Fail> {
+fn the_seventeenth_is_answered_at_once(rt: HostRuntime) {
     goes_as_told(
         &rt,
         rt.alloc(),
         MACHINE_A,
         65535,
         &THE_SEVENTEENTH_IS_ANSWERED,
-    )
+    );
 }
 
 /// Any number and any data of the two sets: a command that there is none of, one with data missing, and one of Method.
@@ -134,8 +133,8 @@ static ANY_COMMAND_OF_THE_SETS: [Act; 9] = [
 ];
 
 #[test]
-fn any_command_of_the_sets_is_deferred(rt: HostRuntime) -> Result<(), Fail> {
-    goes_as_told(&rt, rt.alloc(), MACHINE_A, 65535, &ANY_COMMAND_OF_THE_SETS)
+fn any_command_of_the_sets_is_deferred(rt: HostRuntime) {
+    goes_as_told(&rt, rt.alloc(), MACHINE_A, 65535, &ANY_COMMAND_OF_THE_SETS);
 }
 
 /// The status of a class that is prepared while the command waits.
@@ -152,8 +151,8 @@ static ANSWERED_AS_IT_IS_THEN: [Act; 6] = [
 ];
 
 #[test]
-fn a_command_is_answered_as_it_is_then(rt: HostRuntime) -> Result<(), Fail> {
-    goes_as_told(&rt, rt.alloc(), ALL_KINDS, 65535, &ANSWERED_AS_IT_IS_THEN)
+fn a_command_is_answered_as_it_is_then(rt: HostRuntime) {
+    goes_as_told(&rt, rt.alloc(), ALL_KINDS, 65535, &ANSWERED_AS_IT_IS_THEN);
 }
 
 static DISPOSE_DROPS_THEM: [Act; 11] = [
@@ -171,8 +170,8 @@ static DISPOSE_DROPS_THEM: [Act; 11] = [
 ];
 
 #[test]
-fn dispose_drops_them(rt: HostRuntime) -> Result<(), Fail> {
-    goes_as_told(&rt, rt.alloc(), MACHINE_A, 65535, &DISPOSE_DROPS_THEM)
+fn dispose_drops_them(rt: HostRuntime) {
+    goes_as_told(&rt, rt.alloc(), MACHINE_A, 65535, &DISPOSE_DROPS_THEM);
 }
 
 static EXIT_DROPS_THEM: [Act; 6] = [
@@ -188,8 +187,8 @@ static EXIT_DROPS_THEM: [Act; 6] = [
 ];
 
 #[test]
-fn exit_drops_them(rt: HostRuntime) -> Result<(), Fail> {
-    goes_as_told(&rt, rt.alloc(), MACHINE_A, 65535, &EXIT_DROPS_THEM)
+fn exit_drops_them(rt: HostRuntime) {
+    goes_as_told(&rt, rt.alloc(), MACHINE_A, 65535, &EXIT_DROPS_THEM);
 }
 
 /// The machine's last thread ends.
@@ -209,8 +208,8 @@ static A_DEATH_DROPS_THEM: [Act; 7] = [
 ];
 
 #[test]
-fn a_death_drops_them(rt: HostRuntime) -> Result<(), Fail> {
-    goes_as_told(&rt, rt.alloc(), MACHINE_A, 65535, &A_DEATH_DROPS_THEM)
+fn a_death_drops_them(rt: HostRuntime) {
+    goes_as_told(&rt, rt.alloc(), MACHINE_A, 65535, &A_DEATH_DROPS_THEM);
 }
 
 /// It still defers in the session after the loss.
@@ -227,8 +226,8 @@ static A_LOSS_DROPS_THEM: [Act; 9] = [
 ];
 
 #[test]
-fn a_loss_drops_them(rt: HostRuntime) -> Result<(), Fail> {
-    goes_as_told(&rt, rt.alloc(), MACHINE_A, 65535, &A_LOSS_DROPS_THEM)
+fn a_loss_drops_them(rt: HostRuntime) {
+    goes_as_told(&rt, rt.alloc(), MACHINE_A, 65535, &A_LOSS_DROPS_THEM);
 }
 
 static A_FRAME_FAULT_DROPS_THEM: [Act; 6] = [
@@ -241,6 +240,6 @@ static A_FRAME_FAULT_DROPS_THEM: [Act; 6] = [
 ];
 
 #[test]
-fn a_frame_fault_drops_them(rt: HostRuntime) -> Result<(), Fail> {
-    goes_as_told(&rt, rt.alloc(), MACHINE_A, 65535, &A_FRAME_FAULT_DROPS_THEM)
+fn a_frame_fault_drops_them(rt: HostRuntime) {
+    goes_as_told(&rt, rt.alloc(), MACHINE_A, 65535, &A_FRAME_FAULT_DROPS_THEM);
 }

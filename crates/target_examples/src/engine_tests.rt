@@ -12,25 +12,25 @@ use jdwp_pipe::Ended;
 use std::alloc::Global;
 use std::io::BufWriter;
 use std::process::Abort;
-use std::test::Fail;
 
 /// Opens a target, and serves the session on it.
 fn serve_while_open(
+    rt: &impl Abort,
     alloc: Global,
     target: &mut Target,
-) -> Result<AfterServing<'static, Writer>, Fail> {
+) -> AfterServing<'static, Writer> {
     if !target.accept() {
-        return Err(Fail::from("no session begins"));
+        panic!(rt; "a session begins");
     }
     let reader = reading(&SESSION, 66, UNDISTURBED);
     let writer = writing(alloc, 5000, UNDISTURBED);
-    Ok(serve_on(target, reader, writer, ROUNDS))
+    serve_on(target, reader, writer, ROUNDS)
 }
 
 /// Serves the session on a target that is open already.
-fn served_while_open(alloc: Global) -> Result<AfterServing<'static, Writer>, Fail> {
-    let mut target = target(alloc, MACHINE_A, false, 65535)?;
-    serve_while_open(alloc, &mut target)
+fn served_while_open(rt: &impl Abort, alloc: Global) -> AfterServing<'static, Writer> {
+    let mut target = target(rt, alloc, MACHINE_A, false, 65535);
+    serve_while_open(rt, alloc, &mut target)
 }
 
 /// Serves the handshake for so many rounds, and the whole session behind it for none.
@@ -49,11 +49,12 @@ fn serve_twice(
 
 /// The same of a new target.
 fn served_twice(
+    rt: &impl Abort,
     alloc: Global,
     rounds: u64,
-) -> Result<(AfterServing<'static, Writer>, AfterServing<'static, Writer>), Fail> {
-    let mut target = target(alloc, MACHINE_A, false, 65535)?;
-    Ok(serve_twice(alloc, &mut target, rounds))
+) -> (AfterServing<'static, Writer>, AfterServing<'static, Writer>) {
+    let mut target = target(rt, alloc, MACHINE_A, false, 65535);
+    serve_twice(alloc, &mut target, rounds)
 }
 
 /// Whether every thread starts suspended, and how many bytes a call moves at most.
@@ -79,7 +80,7 @@ fn answers_of(start_all: bool) -> &'static [u8] {
 /// A target that starts every thread suspended answers however the session is cut. Where none is suspended the threads step once all
 /// that was read is handled, and so the session is read whole.
 #[test]
-fn a_session_is_answered(rt: HostRuntime) -> Result<(), Fail> {
+fn a_session_is_answered(rt: HostRuntime) {
     for (start_all, most) in CUTS.iter() {
         is_served(
             &rt,
@@ -91,9 +92,8 @@ fn a_session_is_answered(rt: HostRuntime) -> Result<(), Fail> {
             Ended::Done,
             answers_of(*start_all),
             most,
-        )?;
+        );
     }
-    Ok(())
 }
 
 /// How many bytes are written once so many of the session's were read.
@@ -116,7 +116,7 @@ fn written_after(read: u32) -> usize
 }
 
 /// The session where this comes at a call of the reader, which gives one byte a call.
-fn is_read_until(rt: &impl Abort, alloc: Global, call: u32, event: Event) -> Result<(), Fail> {
+fn is_read_until(rt: &impl Abort, alloc: Global, call: u32, event: Event) {
     let written = written_after(call.saturating_sub(1));
     let want = if call < 67 {
         Ended::LostByRead
@@ -133,26 +133,19 @@ fn is_read_until(rt: &impl Abort, alloc: Global, call: u32, event: Event) -> Res
         want,
         &ANSWERS_SUSPENDED[..written],
         &(event, call),
-    )
+    );
 }
 
 #[test]
-fn each_read_may_fail(rt: HostRuntime) -> Result<(), Fail> {
+fn each_read_may_fail(rt: HostRuntime) {
     for call in 1u32..68 {
-        is_read_until(&rt, rt.alloc(), call, Event::Fails)?;
-        is_read_until(&rt, rt.alloc(), call, Event::Stops)?;
+        is_read_until(&rt, rt.alloc(), call, Event::Fails);
+        is_read_until(&rt, rt.alloc(), call, Event::Stops);
     }
-    Ok(())
 }
 
 /// The session where this comes at a call of the writer; so many bytes are written before it.
-fn is_written_until(
-    rt: &impl Abort,
-    alloc: Global,
-    call: u32,
-    event: Event,
-    written: usize,
-) -> Result<(), Fail> {
+fn is_written_until(rt: &impl Abort, alloc: Global, call: u32, event: Event, written: usize) {
     let want = if call < 6 {
         Ended::LostByWrite
     } else {
@@ -168,23 +161,22 @@ fn is_written_until(
         want,
         &ANSWERS_SUSPENDED[..written.min(111)],
         &(event, call),
-    )
+    );
 }
 
 /// Calls of the writer, and how many bytes are written before each.
 static WRITES: [(u32, usize); 6] = [(1, 0), (2, 43), (3, 74), (4, 85), (5, 100), (6, 111)];
 
 #[test]
-fn each_write_may_fail(rt: HostRuntime) -> Result<(), Fail> {
+fn each_write_may_fail(rt: HostRuntime) {
     for (call, written) in WRITES.iter() {
-        is_written_until(&rt, rt.alloc(), *call, Event::Fails, *written)?;
-        is_written_until(&rt, rt.alloc(), *call, Event::Stops, *written)?;
+        is_written_until(&rt, rt.alloc(), *call, Event::Fails, *written);
+        is_written_until(&rt, rt.alloc(), *call, Event::Stops, *written);
     }
-    Ok(())
 }
 
 #[test]
-fn each_write_of_a_byte_may_fail(rt: HostRuntime) -> Result<(), Fail> {
+fn each_write_of_a_byte_may_fail(rt: HostRuntime) {
     for call in 1u32..113 {
         let event = Event::Fails;
         let want = if call < 112 {
@@ -192,7 +184,7 @@ fn each_write_of_a_byte_may_fail(rt: HostRuntime) -> Result<(), Fail> {
         } else {
             Ended::Done
         };
-        let written = usize::try_from(call)?.saturating_sub(1).min(111);
+        let written = (call as usize).saturating_sub(1).min(111);
         is_served(
             &rt,
             rt.alloc(),
@@ -203,13 +195,12 @@ fn each_write_of_a_byte_may_fail(rt: HostRuntime) -> Result<(), Fail> {
             want,
             &ANSWERS[..written],
             &call,
-        )?;
+        );
     }
-    Ok(())
 }
 
 #[test]
-fn an_interrupted_call_is_repeated(rt: HostRuntime) -> Result<(), Fail> {
+fn an_interrupted_call_is_repeated(rt: HostRuntime) {
     for call in [1u32, 2, 5] {
         let event = Event::Interrupted;
         is_served(
@@ -222,29 +213,26 @@ fn an_interrupted_call_is_repeated(rt: HostRuntime) -> Result<(), Fail> {
             Ended::Done,
             &ANSWERS_SUSPENDED,
             &call,
-        )?;
+        );
     }
-    Ok(())
 }
 
 /// The session where the reader would have to wait at this call, which is its last.
-fn would_block(rt: &impl Abort, alloc: Global, call: u32) -> Result<(), Fail> {
+fn would_block(rt: &impl Abort, alloc: Global, call: u32) {
     let event = Event::WouldBlock;
     let reader = reading(&SESSION, 20, Plan { call, event });
     let writer = writing(alloc, 5000, UNDISTURBED);
-    let session = served_on(alloc, true, reader, writer, ROUNDS)?;
+    let session = served_on(rt, alloc, true, reader, writer, ROUNDS);
     expect_same_for(rt, &session.ended, &Ended::LostByRead, &call);
     expect_same(rt, &session.reader.calls, &call);
-    Ok(())
 }
 
 /// Only a call that was interrupted is made again.
 #[test]
-fn a_read_that_would_block_is_a_failed_read(rt: HostRuntime) -> Result<(), Fail> {
+fn a_read_that_would_block_is_a_failed_read(rt: HostRuntime) {
     for call in [1u32, 2, 4] {
-        would_block(&rt, rt.alloc(), call)?;
+        would_block(&rt, rt.alloc(), call);
     }
-    Ok(())
 }
 
 /// A writer whose flush of this number fails.
@@ -257,20 +245,29 @@ fn flushing_until(alloc: Global, call: u32) -> Writer {
     writer
 }
 
-/// The flush before the first read.
+/// The number of the flush that fails, how the session ends, and how many bytes are written. The first flush stands before the one read,
+/// and the second at the end.
+static FLUSHES: [(u32, Ended, usize); 3] = [
+    (1, Ended::LostByWrite, 0),
+    (2, Ended::LostByWrite, 111),
+    (3, Ended::Done, 111),
+];
+
 #[test]
-fn a_failed_flush_is_a_failed_write(rt: HostRuntime) -> Result<(), Fail> {
-    is_served(
-        &rt,
-        rt.alloc(),
-        false,
-        reading(&SESSION, 66, UNDISTURBED),
-        flushing_until(rt.alloc(), 1),
-        ROUNDS,
-        Ended::LostByWrite,
-        &[],
-        &1,
-    )
+fn a_failed_flush_is_a_failed_write(rt: HostRuntime) {
+    for (call, want, written) in FLUSHES.iter() {
+        is_served(
+            &rt,
+            rt.alloc(),
+            false,
+            reading(&SESSION, 66, UNDISTURBED),
+            flushing_until(rt.alloc(), *call),
+            ROUNDS,
+            *want,
+            &ANSWERS[..(*written).min(111)],
+            call,
+        );
+    }
 }
 
 /// Serves a session whose writer keeps what it is given until it is flushed, and which these bytes leave.
@@ -282,16 +279,15 @@ fn leaves(
     want: Ended,
     answers: &[u8],
     calls: u32,
-) -> Result<(), Fail> {
-    let writer = BufWriter::new(alloc, writing(alloc, 5000, UNDISTURBED))?;
+) {
+    let writer = BufWriter::new(alloc, writing(alloc, 5000, UNDISTURBED)).expect(rt, "memory");
     has_left(
         rt,
-        &served_on(alloc, start_all, reader, writer, ROUNDS)?,
+        &served_on(rt, alloc, start_all, reader, writer, ROUNDS),
         want,
         answers,
         calls,
     );
-    Ok(())
 }
 
 /// The session ended so, and these bytes left the writer in so many calls.
@@ -325,7 +321,7 @@ fn writes_before(call: u32) -> u32 {
 
 /// Nothing waits in the writer's own buffer while the reader is asked for more.
 #[test]
-fn answers_leave_before_a_read(rt: HostRuntime) -> Result<(), Fail> {
+fn answers_leave_before_a_read(rt: HostRuntime) {
     for call in 1u32..67 {
         let event = Event::Fails;
         let written = written_after(call.saturating_sub(1));
@@ -337,47 +333,28 @@ fn answers_leave_before_a_read(rt: HostRuntime) -> Result<(), Fail> {
             Ended::LostByRead,
             &ANSWERS_SUSPENDED[..written],
             writes_before(call),
-        )?;
+        );
     }
-    Ok(())
 }
 
 /// What was written leaves the writer's own buffer at the end, and in few writes.
 #[test]
-fn answers_leave_at_the_end_in_one_write(rt: HostRuntime) -> Result<(), Fail> {
+fn answers_leave_at_the_end_in_one_write(rt: HostRuntime) {
     let reader = reading(&SESSION, 66, UNDISTURBED);
-    leaves(&rt, rt.alloc(), false, reader, Ended::Done, &ANSWERS, 1)
-}
-
-/// The first flush stands before the one read, and the second at the end.
-#[test]
-fn a_failed_last_flush_is_a_failed_write(rt: HostRuntime) -> Result<(), Fail> {
-    for (call, want) in [(2u32, Ended::LostByWrite), (3, Ended::Done)] {
-        is_served(
-            &rt,
-            rt.alloc(),
-            false,
-            reading(&SESSION, 66, UNDISTURBED),
-            flushing_until(rt.alloc(), call),
-            ROUNDS,
-            want,
-            &ANSWERS,
-            &call,
-        )?;
-    }
-    Ok(())
+    leaves(&rt, rt.alloc(), false, reader, Ended::Done, &ANSWERS, 1);
 }
 
 /// The handshake, and a packet of 65,536 bytes.
-fn greatest_packet(alloc: Global) -> Result<Vec<u8>, Fail> {
+fn greatest_packet(rt: &impl Abort, alloc: Global) -> Vec<u8> {
+    let head = b"JDWP-Handshake\x00\x01\x00\x00\x00\x00\x00\x05\x00\x40\x64";
     let mut input = Vec::new(alloc);
-    input.extend_from_slice(b"JDWP-Handshake\x00\x01\x00\x00\x00\x00\x00\x05\x00\x40\x64")?;
+    input.extend_from_slice(head).expect(rt, "memory");
     let block = [0; 4096];
     for _ in 0..16u32 {
-        input.extend_from_slice(&block)?;
+        input.extend_from_slice(&block).expect(rt, "memory");
     }
     input.truncate(65550);
-    Ok(input)
+    input
 }
 
 /// 4,096 bytes are asked for at once, and the last time 14, and the packet's command is not known.
@@ -391,13 +368,13 @@ fn asks_for_what_has_room(rt: &impl Abort, session: &AfterServing<'_, Writer>) {
 
 /// A packet of 65,536 bytes behind the handshake: 4,096 bytes are asked for at once, and at the end the 14 for which there is room.
 #[test]
-fn reads_are_of_what_there_is_room_for(rt: HostRuntime) -> Result<(), Fail> {
+fn reads_are_of_what_there_is_room_for(rt: HostRuntime) {
     let alloc = rt.alloc();
-    let input = greatest_packet(alloc)?;
+    let input = greatest_packet(&rt, alloc);
     let reader = reading(&input, 5000, UNDISTURBED);
-    let session = served_on(alloc, true, reader, writing(alloc, 5000, UNDISTURBED), 19)?;
+    let writer = writing(alloc, 5000, UNDISTURBED);
+    let session = served_on(&rt, alloc, true, reader, writer, 19);
     asks_for_what_has_room(&rt, &session);
-    Ok(())
 }
 
 /// The session is refused, and neither the reader nor the writer is called.
@@ -410,9 +387,8 @@ fn is_not_touched(rt: &impl Abort, session: &AfterServing<'_, Writer>) {
 }
 
 #[test]
-fn an_open_target_is_refused(rt: HostRuntime) -> Result<(), Fail> {
-    is_not_touched(&rt, &served_while_open(rt.alloc())?);
-    Ok(())
+fn an_open_target_is_refused(rt: HostRuntime) {
+    is_not_touched(&rt, &served_while_open(&rt, rt.alloc()));
 }
 
 /// What is read, the number of its fault, and how many bytes are written before.
@@ -424,7 +400,7 @@ static NO_MESSAGES: [(&[u8], u16, usize); 4] = [
 ];
 
 #[test]
-fn bytes_that_begin_no_message_are_refused(rt: HostRuntime) -> Result<(), Fail> {
+fn bytes_that_begin_no_message_are_refused(rt: HostRuntime) {
     for (input, number, written) in NO_MESSAGES.iter() {
         is_served(
             &rt,
@@ -436,9 +412,8 @@ fn bytes_that_begin_no_message_are_refused(rt: HostRuntime) -> Result<(), Fail> 
             Ended::Refused(*number),
             &ANSWERS[..(*written).min(111)],
             number,
-        )?;
+        );
     }
-    Ok(())
 }
 
 /// What is written is the answer to the handshake, and these bytes.
@@ -453,22 +428,21 @@ fn is_written(rt: &impl Abort, written: &[u8], greeting: &[u8], behind: &[u8]) {
 }
 
 #[test]
-fn unknown_commands_are_answered(rt: HostRuntime) -> Result<(), Fail> {
+fn unknown_commands_are_answered(rt: HostRuntime) {
     let input =
         b"JDWP-Handshake\x00\x00\x00\x0b\x00\x00\x00\x05\x00\x40\x64\x00\x00\x00\x0b\x00\x00\x00\x06\x00\x01\x63";
     let alloc = rt.alloc();
     let reader = reading(input, 5000, UNDISTURBED);
     let writer = writing(alloc, 5000, UNDISTURBED);
-    let (ended, bytes) = served(alloc, true, reader, writer, ROUNDS)?;
+    let (ended, bytes) = served(&rt, alloc, true, reader, writer, ROUNDS);
     expect_same(&rt, &ended, &Ended::LostByRead);
     let replies =
         b"\x00\x00\x00\x0b\x00\x00\x00\x05\x80\x00\x63\x00\x00\x00\x0b\x00\x00\x00\x06\x80\x00\x63";
     is_written(&rt, &bytes, &ANSWERS_SUSPENDED[..43], replies);
-    Ok(())
 }
 
 #[test]
-fn an_empty_input_is_lost(rt: HostRuntime) -> Result<(), Fail> {
+fn an_empty_input_is_lost(rt: HostRuntime) {
     is_served(
         &rt,
         rt.alloc(),
@@ -479,7 +453,7 @@ fn an_empty_input_is_lost(rt: HostRuntime) -> Result<(), Fail> {
         Ended::LostByRead,
         &[],
         &0,
-    )
+    );
 }
 
 /// The rounds, how the session ends behind them, and how many bytes are written.
@@ -495,7 +469,7 @@ static ROUND_LIMITS: [(u64, Ended, usize); 7] = [
 
 /// One read and five turns take six rounds.
 #[test]
-fn rounds_are_counted(rt: HostRuntime) -> Result<(), Fail> {
+fn rounds_are_counted(rt: HostRuntime) {
     for (rounds, want, written) in ROUND_LIMITS.iter() {
         is_served(
             &rt,
@@ -507,9 +481,8 @@ fn rounds_are_counted(rt: HostRuntime) -> Result<(), Fail> {
             *want,
             &ANSWERS[..(*written).min(111)],
             rounds,
-        )?;
+        );
     }
-    Ok(())
 }
 
 /// The session is lost, and no thread is suspended.
@@ -520,12 +493,11 @@ fn is_let_go(rt: &impl Abort, session: &AfterServing<'_, Writer>) {
 }
 
 #[test]
-fn a_loss_lowers_the_counts(rt: HostRuntime) -> Result<(), Fail> {
+fn a_loss_lowers_the_counts(rt: HostRuntime) {
     let alloc = rt.alloc();
     let reader = reading(&SESSION[..36], 66, UNDISTURBED);
     let writer = writing(alloc, 5000, UNDISTURBED);
-    is_let_go(&rt, &served_on(alloc, true, reader, writer, ROUNDS)?);
-    Ok(())
+    is_let_go(&rt, &served_on(&rt, alloc, true, reader, writer, ROUNDS));
 }
 
 /// VM_DEATH under the id 2.
@@ -550,28 +522,26 @@ fn is_done_at_once(rt: &impl Abort, second: &AfterServing<'_, Writer>) {
 /// of thread 2, and the end of thread 1, with which the machine dies. From then on a session is done at once. A flush stands before each
 /// read, before the steps of each round, and at the end.
 #[test]
-fn threads_step_until_the_machine_dies(rt: HostRuntime) -> Result<(), Fail> {
-    let (first, second) = served_twice(rt.alloc(), 10)?;
+fn threads_step_until_the_machine_dies(rt: HostRuntime) {
+    let (first, second) = served_twice(&rt, rt.alloc(), 10);
     ends_by_steps(&rt, &first, Ended::Done, VM_DEATH);
     expect_same(&rt, &first.lives, &0);
     expect_same(&rt, &first.writer.flushes, &10);
     is_done_at_once(&rt, &second);
-    Ok(())
 }
 
 /// One round fewer, and thread 1 still lives.
 #[test]
-fn threads_step_once_a_round(rt: HostRuntime) -> Result<(), Fail> {
-    let (first, _) = served_twice(rt.alloc(), 9)?;
+fn threads_step_once_a_round(rt: HostRuntime) {
+    let (first, _) = served_twice(&rt, rt.alloc(), 9);
     ends_by_steps(&rt, &first, Ended::TurnLimit, &[]);
     expect_same(&rt, &first.lives, &1);
-    Ok(())
 }
 
 /// Breakpoints at index 3 are requested twice, with the policies NONE and ALL. Both Sets are handled before a thread steps; then thread 1
 /// calls and comes there, both requests report it in one composite, and nobody steps any more.
 #[test]
-fn what_steps_report_is_written(rt: HostRuntime) -> Result<(), Fail> {
+fn what_steps_report_is_written(rt: HostRuntime) {
     let input = b"JDWP-Handshake\
         \x00\x00\x00\x2b\x00\x00\x00\x02\x00\x0f\x01\x02\x00\x00\x00\x00\x01\x07\x01\
         \x00\x00\x00\x00\x00\x00\x00\x0a\x00\x00\x00\x00\x00\x00\x00\x14\x00\x00\x00\x00\x00\x00\x00\x03\
@@ -587,8 +557,7 @@ fn what_steps_report_is_written(rt: HostRuntime) -> Result<(), Fail> {
     let alloc = rt.alloc();
     let reader = reading(input, 5000, UNDISTURBED);
     let writer = writing(alloc, 5000, UNDISTURBED);
-    let (ended, bytes) = served(alloc, false, reader, writer, ROUNDS)?;
+    let (ended, bytes) = served(&rt, alloc, false, reader, writer, ROUNDS);
     expect_same(&rt, &ended, &Ended::LostByRead);
     is_written(&rt, &bytes, &ANSWERS[..43], told);
-    Ok(())
 }

@@ -7,35 +7,24 @@ use jdwp_target::{SetupFault, Stepped, TargetOptions};
 use jdwp_wire::{FrameFault, Limits};
 use std::alloc::Global;
 use std::process::Abort;
-use std::test::Fail;
 
 /// The least packets, so many live threads, one event request and one command that waits.
-fn least(live: u32) -> Result<Limits, Fail> {
-    Ok(Limits::new(2048, live, 1, 1).ok_or("no limits")?)
+fn least(rt: &impl Abort, live: u32) -> Limits {
+    Limits::new(2048, live, 1, 1).expect(rt, "limits")
 }
 
 /// What comes of making a target of the machine of this script within the least limits, no thread suspended.
-fn made(alloc: Global, script: &str, live: u32) -> Result<Result<Target, SetupFault>, Fail> {
-    let Some(options) = TargetOptions::new(false, 65535) else {
-        return Err(Fail::from("the count limit is refused"));
-    };
-    let Ok(machine) = ScriptMachine::read(alloc, script) else {
-        return Err(Fail::from("the script is refused"));
-    };
-    Ok(Target::with_limits(alloc, machine, options, least(live)?))
+fn made(rt: &impl Abort, alloc: Global, script: &str, live: u32) -> Result<Target, SetupFault> {
+    let options = TargetOptions::new(false, 65535).expect(rt, "the count limit is taken");
+    let limits = least(rt, live);
+    let machine = ScriptMachine::read(alloc, script).expect(rt, "the script is read");
+    Target::with_limits(alloc, machine, options, limits)
 }
 
 /// Of each act of a session of a target of this script within the least limits comes what it says.
-fn goes_within(
-    rt: &impl Abort,
-    alloc: Global,
-    script: &str,
-    live: u32,
-    acts: &[Act],
-) -> Result<(), Fail> {
-    let mut target = made(alloc, script, live)??;
-    expect_same_for(rt, &first_wrong(alloc, &mut target, acts)?, &None, &live);
-    Ok(())
+fn goes_within(rt: &impl Abort, alloc: Global, script: &str, live: u32, acts: &[Act]) {
+    let mut target = made(rt, alloc, script, live).expect(rt, "a target");
+    expect_same_for(rt, &first_wrong(rt, alloc, &mut target, acts), &None, &live);
 }
 
 /// A second event request, and a packet that is longer than those may be.
@@ -54,10 +43,9 @@ static OF_ONE_REQUEST: [Act; 5] = [
 ];
 
 #[test]
-fn requests_and_packets_are_limited(rt: HostRuntime) -> Result<(), Fail> {
-    goes_within(&rt, rt.alloc(), MACHINE_A, 2, &OF_ONE_REQUEST)?;
+fn requests_and_packets_are_limited(rt: HostRuntime) {
+    goes_within(&rt, rt.alloc(), MACHINE_A, 2, &OF_ONE_REQUEST);
     expect_same(&rt, &FrameFault::TooLong.number(), &2);
-    Ok(())
 }
 
 /// Thread 1 starts thread 2 at its fifth step.
@@ -75,21 +63,20 @@ static STARTS_NO_OTHER: [Act; 3] = [
 ];
 
 #[test]
-fn live_threads_are_limited(rt: HostRuntime) -> Result<(), Fail> {
-    goes_within(&rt, rt.alloc(), ALL_KINDS, 2, &STARTS_ANOTHER)?;
-    goes_within(&rt, rt.alloc(), ALL_KINDS, 1, &STARTS_NO_OTHER)
+fn live_threads_are_limited(rt: HostRuntime) {
+    goes_within(&rt, rt.alloc(), ALL_KINDS, 2, &STARTS_ANOTHER);
+    goes_within(&rt, rt.alloc(), ALL_KINDS, 1, &STARTS_NO_OTHER);
 }
 
 /// No target is made where more threads live than may; the numbers of the faults.
 #[test]
-fn too_many_threads(rt: HostRuntime) -> Result<(), Fail> {
-    let fault = made(rt.alloc(), MACHINE_A, 1)?.err();
+fn too_many_threads(rt: HostRuntime) {
+    let fault = made(&rt, rt.alloc(), MACHINE_A, 1).err();
     expect_same(&rt, &fault, &Some(SetupFault::TooManyThreads));
-    expect_same(&rt, &made(rt.alloc(), MACHINE_A, 2)?.err(), &None);
+    expect_same(&rt, &made(&rt, rt.alloc(), MACHINE_A, 2).err(), &None);
     expect_same(&rt, &SetupFault::TooManyThreads.number(), &61);
     expect_same(&rt, &SetupFault::NoMemory.number(), &62);
-    let text = format!(in rt.alloc(); "{}", SetupFault::TooManyThreads)?;
+    let text = format!(in rt.alloc(); "{}", SetupFault::TooManyThreads).expect(&rt, "memory");
     let said = "fault 61: more live threads than the limits let live";
     expect_same(&rt, &text.as_str(), &said);
-    Ok(())
 }

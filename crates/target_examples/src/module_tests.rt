@@ -1,7 +1,6 @@
 //! The module commands, byte for byte.
 use crate::sessions::{Act, goes_as_told};
 use example_parts::MACHINE_A;
-use std::test::Fail;
 
 /// Machine A with a module named `app`, and its class in it.
 const WITH_A_MODULE: &str = "{\"name\":\"A\",\"sizes\":[8,8,8,8,8],
@@ -55,8 +54,8 @@ static MODULE_COMMANDS: [Act; 9] = [
 ];
 
 #[test]
-fn module_commands(rt: HostRuntime) -> Result<(), Fail> {
-    goes_as_told(&rt, rt.alloc(), WITH_A_MODULE, 65535, &MODULE_COMMANDS)
+fn module_commands(rt: HostRuntime) {
+    goes_as_told(&rt, rt.alloc(), WITH_A_MODULE, 65535, &MODULE_COMMANDS);
 }
 
 /// A script that says nothing of modules has none, and its class is in none.
@@ -76,6 +75,6 @@ static COMMANDS_WITHOUT_MODULES: [Act; 3] = [
 ];
 
 #[test]
-fn commands_without_modules(rt: HostRuntime) -> Result<(), Fail> {
-    goes_as_told(&rt, rt.alloc(), MACHINE_A, 65535, &COMMANDS_WITHOUT_MODULES)
+fn commands_without_modules(rt: HostRuntime) {
+    goes_as_told(&rt, rt.alloc(), MACHINE_A, 65535, &COMMANDS_WITHOUT_MODULES);
 }

@@ -2,7 +2,6 @@
 use crate::sessions::{Act, HANDSHAKE, goes_as_told};
 use example_parts::{ALL_KINDS, MACHINE_A};
 use jdwp_target::Stepped;
-use std::test::Fail;
 
 /// A machine whose thread 1 calls a second method from line 1 of the first, moves in it, returns and goes on.
 const A_CALL: &str = "{\"name\":\"call\",\"sizes\":[8,8,8,8,8],
@@ -45,14 +44,14 @@ static KINDS_AND_POLICIES_THAT_ARE_REFUSED: [Act; 21] = [
 
 /// A kind that there is not is 102, one that no request may have 99, and a policy that there is not 103, in this order.
 #[test]
-fn kinds_and_policies_that_are_refused(rt: HostRuntime) -> Result<(), Fail> {
+fn kinds_and_policies_that_are_refused(rt: HostRuntime) {
     goes_as_told(
         &rt,
         rt.alloc(),
         MACHINE_A,
         65535,
         &KINDS_AND_POLICIES_THAT_ARE_REFUSED,
-    )
+    );
 }
 
 static MODIFIERS_THAT_ARE_REFUSED: [Act; 19] = [
@@ -90,14 +89,14 @@ static MODIFIERS_THAT_ARE_REFUSED: [Act; 19] = [
 ];
 
 #[test]
-fn modifiers_that_are_refused(rt: HostRuntime) -> Result<(), Fail> {
+fn modifiers_that_are_refused(rt: HostRuntime) {
     goes_as_told(
         &rt,
         rt.alloc(),
         MACHINE_A,
         65535,
         &MODIFIERS_THAT_ARE_REFUSED,
-    )
+    );
 }
 
 static MODIFIERS_THAT_A_KIND_DOES_NOT_ALLOW: [Act; 21] = [
@@ -143,14 +142,14 @@ static MODIFIERS_THAT_A_KIND_DOES_NOT_ALLOW: [Act; 21] = [
 ];
 
 #[test]
-fn modifiers_that_a_kind_does_not_allow(rt: HostRuntime) -> Result<(), Fail> {
+fn modifiers_that_a_kind_does_not_allow(rt: HostRuntime) {
     goes_as_told(
         &rt,
         rt.alloc(),
         MACHINE_A,
         65535,
         &MODIFIERS_THAT_A_KIND_DOES_NOT_ALLOW,
-    )
+    );
 }
 
 static WHAT_A_KIND_MUST_HAVE: [Act; 6] = [
@@ -167,8 +166,8 @@ static WHAT_A_KIND_MUST_HAVE: [Act; 6] = [
 
 /// A BREAKPOINT has a LocationOnly, and a SINGLE_STEP exactly one Step.
 #[test]
-fn what_a_kind_must_have(rt: HostRuntime) -> Result<(), Fail> {
-    goes_as_told(&rt, rt.alloc(), MACHINE_A, 65535, &WHAT_A_KIND_MUST_HAVE)
+fn what_a_kind_must_have(rt: HostRuntime) {
+    goes_as_told(&rt, rt.alloc(), MACHINE_A, 65535, &WHAT_A_KIND_MUST_HAVE);
 }
 
 static THE_FIRST_REFUSAL_IS_TOLD: [Act; 14] = [
@@ -211,14 +210,14 @@ static THE_FIRST_REFUSAL_IS_TOLD: [Act; 14] = [
 
 /// The modifiers are tested in the order sent, each in the order of its rules, and what the kind must have comes last.
 #[test]
-fn the_first_refusal_is_told(rt: HostRuntime) -> Result<(), Fail> {
+fn the_first_refusal_is_told(rt: HostRuntime) {
     goes_as_told(
         &rt,
         rt.alloc(),
         MACHINE_A,
         65535,
         &THE_FIRST_REFUSAL_IS_TOLD,
-    )
+    );
 }
 
 static EACH_FILTER_OF_A_METHOD_ENTRY: [Act; 14] = [
@@ -245,14 +244,14 @@ static EACH_FILTER_OF_A_METHOD_ENTRY: [Act; 14] = [
 
 /// By thread, by class (also one that is reached), by patterns of the name, and by counting.
 #[test]
-fn each_filter_of_a_method_entry(rt: HostRuntime) -> Result<(), Fail> {
+fn each_filter_of_a_method_entry(rt: HostRuntime) {
     goes_as_told(
         &rt,
         rt.alloc(),
         ALL_KINDS,
         65535,
         &EACH_FILTER_OF_A_METHOD_ENTRY,
-    )
+    );
 }
 
 static EXCEPTIONS_BY_CLASS_AND_BY_WHETHER_THEY_ARE_CAUGHT: [Act; 9] = [
@@ -278,14 +277,14 @@ static EXCEPTIONS_BY_CLASS_AND_BY_WHETHER_THEY_ARE_CAUGHT: [Act; 9] = [
 ];
 
 #[test]
-fn exceptions_by_class_and_by_whether_they_are_caught(rt: HostRuntime) -> Result<(), Fail> {
+fn exceptions_by_class_and_by_whether_they_are_caught(rt: HostRuntime) {
     goes_as_told(
         &rt,
         rt.alloc(),
         ALL_KINDS,
         65535,
         &EXCEPTIONS_BY_CLASS_AND_BY_WHETHER_THEY_ARE_CAUGHT,
-    )
+    );
 }
 
 static EACH_KIND_IS_REPORTED_ONCE: [Act; 22] = [
@@ -360,14 +359,14 @@ static EACH_KIND_IS_REPORTED_ONCE: [Act; 22] = [
 
 /// Composites are numbered in the order sent, VM_START and VM_DEATH among them.
 #[test]
-fn each_kind_is_reported_once(rt: HostRuntime) -> Result<(), Fail> {
+fn each_kind_is_reported_once(rt: HostRuntime) {
     goes_as_told(
         &rt,
         rt.alloc(),
         ALL_KINDS,
         65535,
         &EACH_KIND_IS_REPORTED_ONCE,
-    )
+    );
 }
 
 static A_NEW_THREAD_IS_SUSPENDED_BY_ITS_START: [Act; 5] = [
@@ -385,14 +384,14 @@ static A_NEW_THREAD_IS_SUSPENDED_BY_ITS_START: [Act; 5] = [
 
 /// EVENT_THREAD suspends the thread that began, and not the one that began it.
 #[test]
-fn a_new_thread_is_suspended_by_its_start(rt: HostRuntime) -> Result<(), Fail> {
+fn a_new_thread_is_suspended_by_its_start(rt: HostRuntime) {
     goes_as_told(
         &rt,
         rt.alloc(),
         ALL_KINDS,
         65535,
         &A_NEW_THREAD_IS_SUSPENDED_BY_ITS_START,
-    )
+    );
 }
 
 static ALL_ARE_SUSPENDED_BY_A_START: [Act; 6] = [
@@ -411,14 +410,14 @@ static ALL_ARE_SUSPENDED_BY_A_START: [Act; 6] = [
 
 /// The new thread, too.
 #[test]
-fn all_are_suspended_by_a_start(rt: HostRuntime) -> Result<(), Fail> {
+fn all_are_suspended_by_a_start(rt: HostRuntime) {
     goes_as_told(
         &rt,
         rt.alloc(),
         ALL_KINDS,
         65535,
         &ALL_ARE_SUSPENDED_BY_A_START,
-    )
+    );
 }
 
 static A_COUNT_IS_COUNTED_THOUGH_A_LATER_MODIFIER_FAILS: [Act; 14] = [
@@ -476,14 +475,14 @@ static A_COUNT_IS_COUNTED_THOUGH_A_LATER_MODIFIER_FAILS: [Act; 14] = [
 
 /// Thread 1 goes to the indexes 3, 4, 3, 4 and 3. A Count is reached where the kind and the modifiers before it pass, and each counts for itself.
 #[test]
-fn a_count_is_counted_though_a_later_modifier_fails(rt: HostRuntime) -> Result<(), Fail> {
+fn a_count_is_counted_though_a_later_modifier_fails(rt: HostRuntime) {
     goes_as_told(
         &rt,
         rt.alloc(),
         MACHINE_A,
         65535,
         &A_COUNT_IS_COUNTED_THOUGH_A_LATER_MODIFIER_FAILS,
-    )
+    );
 }
 
 static A_STEP_OVER_A_CALL: [Act; 6] = [
@@ -507,8 +506,8 @@ static A_STEP_OVER_A_CALL: [Act; 6] = [
 
 /// Neither the call nor the way back to its line is reported; each report is where the next step begins.
 #[test]
-fn a_step_over_a_call(rt: HostRuntime) -> Result<(), Fail> {
-    goes_as_told(&rt, rt.alloc(), A_CALL, 65535, &A_STEP_OVER_A_CALL)
+fn a_step_over_a_call(rt: HostRuntime) {
+    goes_as_told(&rt, rt.alloc(), A_CALL, 65535, &A_STEP_OVER_A_CALL);
 }
 
 static A_STEP_OUT_OF_A_CALL: [Act; 8] = [
@@ -544,8 +543,8 @@ static A_STEP_OUT_OF_A_CALL: [Act; 8] = [
 
 /// The first place of a caller is reported, and then none, since it has no caller; a step by the least size reports each place.
 #[test]
-fn a_step_out_of_a_call(rt: HostRuntime) -> Result<(), Fail> {
-    goes_as_told(&rt, rt.alloc(), A_CALL, 65535, &A_STEP_OUT_OF_A_CALL)
+fn a_step_out_of_a_call(rt: HostRuntime) {
+    goes_as_told(&rt, rt.alloc(), A_CALL, 65535, &A_STEP_OUT_OF_A_CALL);
 }
 
 static REQUESTS_ARE_CLEARED_BY_KIND_AND_ID: [Act; 18] = [
@@ -594,14 +593,14 @@ static REQUESTS_ARE_CLEARED_BY_KIND_AND_ID: [Act; 18] = [
 
 /// No id is used again, not in a later session either; a Dispose ends all requests.
 #[test]
-fn requests_are_cleared_by_kind_and_id(rt: HostRuntime) -> Result<(), Fail> {
+fn requests_are_cleared_by_kind_and_id(rt: HostRuntime) {
     goes_as_told(
         &rt,
         rt.alloc(),
         MACHINE_A,
         65535,
         &REQUESTS_ARE_CLEARED_BY_KIND_AND_ID,
-    )
+    );
 }
 
 static A_REPORTED_DEATH_OUTLASTS_A_LOSS: [Act; 15] = [
@@ -629,14 +628,14 @@ static A_REPORTED_DEATH_OUTLASTS_A_LOSS: [Act; 15] = [
 
 /// The thread ends at its next step, though the session in which its death was reported is over; and events are held no longer.
 #[test]
-fn a_reported_death_outlasts_a_loss(rt: HostRuntime) -> Result<(), Fail> {
+fn a_reported_death_outlasts_a_loss(rt: HostRuntime) {
     goes_as_told(
         &rt,
         rt.alloc(),
         MACHINE_A,
         65535,
         &A_REPORTED_DEATH_OUTLASTS_A_LOSS,
-    )
+    );
 }
 
 static REQUESTS_UP_TO_THE_LIMIT: [Act; 10] = [
@@ -657,6 +656,6 @@ static REQUESTS_UP_TO_THE_LIMIT: [Act; 10] = [
 
 /// The 65th request is refused, and so is one that is wrong besides; a place that was cleared is free again, and no id is used twice.
 #[test]
-fn requests_up_to_the_limit(rt: HostRuntime) -> Result<(), Fail> {
-    goes_as_told(&rt, rt.alloc(), MACHINE_A, 65535, &REQUESTS_UP_TO_THE_LIMIT)
+fn requests_up_to_the_limit(rt: HostRuntime) {
+    goes_as_told(&rt, rt.alloc(), MACHINE_A, 65535, &REQUESTS_UP_TO_THE_LIMIT);
 }

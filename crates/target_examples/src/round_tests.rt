@@ -1,5 +1,5 @@
 //! Which threads a round steps, and in which order: seen by what is reported of them.
-use crate::asserts::expect_same;
+use crate::asserts::{expect_same, expect_same_for};
 use crate::falling::Falling;
 use jdwp_debuggee::Settings;
 use jdwp_pipe::{Ended, Streams};
@@ -7,7 +7,6 @@ use jdwp_serve::{serve_script, serve_session};
 use jdwp_wire::Limits;
 use std::alloc::Global;
 use std::process::Abort;
-use std::test::Fail;
 
 /// The handshake, and EventRequest.Set of THREAD_START and of THREAD_DEATH with the policy NONE, under the ids 2 and 3.
 const REQUESTS: [u8; 48] = [
@@ -33,51 +32,63 @@ enum Report {
 }
 
 /// Appends the composite of this id that reports it, with the policy NONE.
-fn push_report(bytes: &mut Vec<u8>, id: u8, report: Report) -> Result<(), Fail> {
+fn push_report(rt: &impl Abort, bytes: &mut Vec<u8>, id: u8, report: Report) {
     let (length, kind, request, thread) = match report {
         Report::Began(thread) => (29, 6, 1, Some(thread)),
         Report::Ended(thread) => (29, 7, 2, Some(thread)),
         Report::Died => (21, 99, 0, None),
     };
-    bytes.extend_from_slice(&[0, 0, 0, length, 0, 0, 0, id, 0, 64, 100, 0, 0, 0, 0, 1])?;
-    bytes.extend_from_slice(&[kind, 0, 0, 0, request])?;
+    let head = [0, 0, 0, length, 0, 0, 0, id, 0, 64, 100, 0, 0, 0, 0, 1];
+    bytes.extend_from_slice(&head).expect(rt, "memory");
+    bytes
+        .extend_from_slice(&[kind, 0, 0, 0, request])
+        .expect(rt, "memory");
     if let Some(thread) = thread {
-        bytes.extend_from_slice(&thread.to_be_bytes())?;
+        bytes
+            .extend_from_slice(&thread.to_be_bytes())
+            .expect(rt, "memory");
     }
-    Ok(())
 }
 
 /// The composites that report these, under the ids from 2 on.
-fn composites(alloc: Global, reports: &[Report]) -> Result<Vec<u8>, Fail> {
+fn composites(rt: &impl Abort, alloc: Global, reports: &[Report]) -> Vec<u8> {
     let mut bytes = Vec::new(alloc);
     let mut id = 2u8;
     for report in reports {
-        push_report(&mut bytes, id, *report)?;
+        push_report(rt, &mut bytes, id, *report);
         id = id.saturating_add(1);
     }
-    Ok(bytes)
+    bytes
 }
 
 /// Serves the requests over the machine of this script, where no thread is suspended at the start.
-fn served(alloc: Global, script: &str, rounds: u32) -> Result<(Ended, Vec<u8>), Fail> {
-    let settings = Settings::new(false, 65535, Limits::standard()).ok_or("a count limit")?;
+fn served(rt: &impl Abort, alloc: Global, script: &str, rounds: u32) -> (Ended, Vec<u8>) {
+    let settings = Settings::new(false, 65535, Limits::standard()).expect(rt, "a count limit");
     let mut pipe = Streams::new(REQUESTS.as_slice(), Vec::new(alloc));
-    let ended = serve_script(alloc, script, settings, false, &mut pipe, rounds)?;
+    let ended = serve_script(alloc, script, settings, false, &mut pipe, rounds);
     let (_, bytes) = pipe.into_parts();
-    Ok((ended, bytes))
+    (ended.expect(rt, "the script is read"), bytes)
 }
 
 /// These are reported behind what is answered, and nothing else.
-fn reports(
-    rt: &impl Abort,
-    alloc: Global,
-    written: &[u8],
-    expected: &[Report],
-) -> Result<(), Fail> {
-    let want = composites(alloc, expected)?;
+fn reports(rt: &impl Abort, alloc: Global, written: &[u8], expected: &[Report]) {
+    let want = composites(rt, alloc, expected);
     expect_same(rt, &Some(written.len()), &GREETED.checked_add(want.len()));
     assert!(rt; written.ends_with(&want));
-    Ok(())
+}
+
+/// The session of this script ends so behind so many rounds, and these are reported.
+fn ends_with_reports(
+    rt: &impl Abort,
+    alloc: Global,
+    script: &str,
+    rounds: u32,
+    want: Ended,
+    expected: &[Report],
+) {
+    let (ended, written) = served(rt, alloc, script, rounds);
+    expect_same_for(rt, &ended, &want, &rounds);
+    reports(rt, alloc, &written, expected);
 }
 
 /// Four threads that have run out. They do not stand by rising id, and two ids are 2^63 and above.
@@ -100,19 +111,16 @@ const HIGH_DEATHS: [Report; 5] = [
 /// Behind one read and three turns all four step in a round, by rising id, up to the greatest that there is: it reports their deaths. In
 /// the next they end, and with the last the machine dies.
 #[test]
-fn a_round_steps_every_id_in_order(rt: HostRuntime) -> Result<(), Fail> {
-    let alloc = rt.alloc();
+fn a_round_steps_every_id_in_order(rt: HostRuntime) {
     let rows: [(u32, Ended, usize); 3] = [
         (4, Ended::TurnLimit, 0),
         (5, Ended::TurnLimit, 4),
         (6, Ended::Done, 5),
     ];
     for (rounds, want, count) in rows {
-        let (ended, written) = served(alloc, HIGH_IDS, rounds)?;
-        expect_same(&rt, &ended, &want);
-        reports(&rt, alloc, &written, &HIGH_DEATHS[..count.min(5)])?;
+        let expected = &HIGH_DEATHS[..count.min(5)];
+        ends_with_reports(&rt, rt.alloc(), HIGH_IDS, rounds, want, expected);
     }
-    Ok(())
 }
 
 /// Thread 5 starts thread 9, then thread 2; both have run out where they begin.
@@ -134,8 +142,7 @@ const STARTED: [Report; 6] = [
 
 /// A thread that is started steps in the same round where its id is higher, else in the next.
 #[test]
-fn a_thread_that_starts_steps_behind_the_one_that_started_it(rt: HostRuntime) -> Result<(), Fail> {
-    let alloc = rt.alloc();
+fn a_thread_that_starts_steps_behind_the_one_that_started_it(rt: HostRuntime) {
     let rows: [(u32, Ended, usize); 5] = [
         (4, Ended::TurnLimit, 0),
         (5, Ended::TurnLimit, 2),
@@ -144,74 +151,72 @@ fn a_thread_that_starts_steps_behind_the_one_that_started_it(rt: HostRuntime) ->
         (8, Ended::Done, 6),
     ];
     for (rounds, want, count) in rows {
-        let (ended, written) = served(alloc, STARTING, rounds)?;
-        expect_same(&rt, &ended, &want);
-        reports(&rt, alloc, &written, &STARTED[..count.min(6)])?;
+        let expected = &STARTED[..count.min(6)];
+        ends_with_reports(&rt, rt.alloc(), STARTING, rounds, want, expected);
     }
-    Ok(())
 }
 
 /// A machine of the threads 101 to 164, which have run out.
-fn of_64_threads(alloc: Global) -> Result<String, Fail> {
+fn of_64_threads(rt: &impl Abort, alloc: Global) -> String {
     let mut text = String::from_str(
         alloc,
         "{\"name\":\"M\",\"sizes\":[8,8,8,8,8],\"groups\":[{\"id\":5,\"name\":\"main\",\"parent\":0}],\"classes\":[],\"objects\":[],\"threads\":[",
-    )?;
+    )
+    .expect(rt, "memory");
     for id in 101..165u32 {
         let separator = if id == 101 { "" } else { "," };
         write!(
             text,
             "{separator}{{\"id\":{id},\"name\":\"\",\"group\":5,\"steps\":[]}}"
-        )?;
+        )
+        .expect(rt, "memory");
     }
-    text.push_str("]}")?;
-    Ok(text)
+    text.push_str("]}").expect(rt, "memory");
+    text
 }
 
 /// Their deaths, by rising id, and that of the machine.
-fn all_deaths(alloc: Global) -> Result<Vec<Report>, Fail> {
+fn all_deaths(rt: &impl Abort, alloc: Global) -> Vec<Report> {
     let mut deaths = Vec::new(alloc);
     for id in 101..165u64 {
-        deaths.push(Report::Ended(id))?;
+        deaths.push(Report::Ended(id)).expect(rt, "memory");
     }
-    deaths.push(Report::Died)?;
-    Ok(deaths)
+    deaths.push(Report::Died).expect(rt, "memory");
+    deaths
 }
 
 /// As many threads as may live step in one round: it reports the deaths of all, and the next ends them.
 #[test]
-fn sixty_four_threads_step_in_a_round(rt: HostRuntime) -> Result<(), Fail> {
+fn sixty_four_threads_step_in_a_round(rt: HostRuntime) {
     let alloc = rt.alloc();
-    let script = of_64_threads(alloc)?;
-    let deaths = all_deaths(alloc)?;
+    let script = of_64_threads(&rt, alloc);
+    let deaths = all_deaths(&rt, alloc);
     let rows: [(u32, Ended, usize); 3] = [
         (4, Ended::TurnLimit, 0),
         (5, Ended::TurnLimit, 64),
         (6, Ended::Done, 65),
     ];
     for (rounds, want, count) in rows {
-        let (ended, written) = served(alloc, &script, rounds)?;
-        expect_same(&rt, &ended, &want);
-        reports(&rt, alloc, &written, &deaths[..count.min(deaths.len())])?;
+        let expected = &deaths[..count.min(deaths.len())];
+        ends_with_reports(&rt, alloc, &script, rounds, want, expected);
     }
-    Ok(())
 }
 
 /// Serves the requests over a machine whose list of threads falls, for so many rounds.
-fn served_falling(alloc: Global, prepares: bool, rounds: u32) -> Result<(Ended, Vec<u8>), Fail> {
-    let settings = Settings::new(false, 65535, Limits::standard()).ok_or("a count limit")?;
+fn served_falling(rt: &impl Abort, alloc: Global, prepares: bool, rounds: u32) -> (Ended, Vec<u8>) {
+    let settings = Settings::new(false, 65535, Limits::standard()).expect(rt, "a count limit");
     let mut pipe = Streams::new(REQUESTS.as_slice(), Vec::new(alloc));
-    let machine = Falling::new(alloc, prepares)?;
-    let ended = serve_session(alloc, machine, settings, false, &mut pipe, rounds)?;
+    let machine = Falling::new(alloc, prepares).expect(rt, "memory");
+    let ended = serve_session(alloc, machine, settings, false, &mut pipe, rounds);
     let (_, bytes) = pipe.into_parts();
-    Ok((ended, bytes))
+    (ended.expect(rt, "memory"), bytes)
 }
 
 /// The order is that of the ids, and not that of the machine's list.
 #[test]
-fn a_list_that_falls_is_stepped_by_rising_id(rt: HostRuntime) -> Result<(), Fail> {
+fn a_list_that_falls_is_stepped_by_rising_id(rt: HostRuntime) {
     let alloc = rt.alloc();
-    let (ended, written) = served_falling(alloc, false, 6)?;
+    let (ended, written) = served_falling(&rt, alloc, false, 6);
     expect_same(&rt, &ended, &Ended::Done);
     let expected = [
         Report::Ended(2),
@@ -219,14 +224,14 @@ fn a_list_that_falls_is_stepped_by_rising_id(rt: HostRuntime) -> Result<(), Fail
         Report::Ended(18_446_744_073_709_551_615),
         Report::Died,
     ];
-    reports(&rt, alloc, &written, &expected)
+    reports(&rt, alloc, &written, &expected);
 }
 
 /// The first thread that steps prepares the class, which no request asks for; so the others report their deaths before it.
 #[test]
-fn the_least_id_makes_the_first_step(rt: HostRuntime) -> Result<(), Fail> {
+fn the_least_id_makes_the_first_step(rt: HostRuntime) {
     let alloc = rt.alloc();
-    let (ended, written) = served_falling(alloc, true, 7)?;
+    let (ended, written) = served_falling(&rt, alloc, true, 7);
     expect_same(&rt, &ended, &Ended::Done);
     let expected = [
         Report::Ended(9_223_372_036_854_775_808),
@@ -234,5 +239,5 @@ fn the_least_id_makes_the_first_step(rt: HostRuntime) -> Result<(), Fail> {
         Report::Ended(2),
         Report::Died,
     ];
-    reports(&rt, alloc, &written, &expected)
+    reports(&rt, alloc, &written, &expected);
 }

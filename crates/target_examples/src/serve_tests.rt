@@ -10,7 +10,6 @@ use std::alloc::Global;
 use std::io;
 use std::io::{ErrorKind, Write};
 use std::process::Abort;
-use std::test::Fail;
 
 /// Keeps what is written. The flush of this number fails, counted from 1.
 #[derive(Drop)]
@@ -72,20 +71,21 @@ const ANSWERS: [u8; 111] = [
 
 /// How the session of machine A ends, and what is written.
 fn served(
+    rt: &impl Abort,
     alloc: Global,
     input: &[u8],
     writer: Output,
     rounds: u32,
-) -> Result<(Ended, Vec<u8>), Fail> {
-    let settings = Settings::new(false, 65535, Limits::standard()).ok_or("a count limit")?;
+) -> (Ended, Vec<u8>) {
+    let settings = Settings::new(false, 65535, Limits::standard()).expect(rt, "a count limit");
     let mut pipe = Streams::new(input, writer);
-    let ended = serve_script(alloc, MACHINE_A, settings, false, &mut pipe, rounds)?;
+    let ended = serve_script(alloc, MACHINE_A, settings, false, &mut pipe, rounds);
     let (_, writer) = pipe.into_parts();
-    Ok((ended, writer.bytes))
+    (ended.expect(rt, "the script is read"), writer.bytes)
 }
 
 #[test]
-fn a_session_is_served(rt: HostRuntime) -> Result<(), Fail> {
+fn a_session_is_served(rt: HostRuntime) {
     let rows: [(&[u8], u32, u32, Ended, usize); 8] = [
         (&SESSION, 6, 0, Ended::Done, 111),
         (&SESSION, 5, 0, Ended::TurnLimit, 100),
@@ -100,25 +100,23 @@ fn a_session_is_served(rt: HostRuntime) -> Result<(), Fail> {
     ];
     for (input, rounds, failing_flush, want, written) in rows {
         let writer = Output::new(rt.alloc(), failing_flush);
-        let (ended, bytes) = served(rt.alloc(), input, writer, rounds)?;
+        let (ended, bytes) = served(&rt, rt.alloc(), input, writer, rounds);
         expect_same(&rt, &ended, &want);
         expect_same(&rt, &bytes.as_slice(), &&ANSWERS[..written.min(111)]);
     }
-    Ok(())
 }
 
 /// A script that is refused is told by its fault, and nothing is read or written.
 #[test]
-fn a_script_is_refused(rt: HostRuntime) -> Result<(), Fail> {
+fn a_script_is_refused(rt: HostRuntime) {
     let alloc = rt.alloc();
-    let settings = Settings::new(false, 65535, Limits::standard()).ok_or("a count limit")?;
+    let settings = Settings::new(false, 65535, Limits::standard()).expect(&rt, "a count limit");
     let mut pipe = Streams::new(SESSION.as_slice(), Output::new(alloc, 0));
     let ended = serve_script(alloc, "A", settings, false, &mut pipe, 6);
     expect_same(&rt, &ended, &Err(ScriptFault::NotJson));
     let (rest, writer) = pipe.into_parts();
     expect_same(&rt, &rest.len(), &SESSION.len());
     expect_same(&rt, &writer.calls, &0);
-    Ok(())
 }
 
 /// The handshake, Signature of class 10 with id 2, its Status with id 3, and AllThreads with id 4.
@@ -149,37 +147,36 @@ fn serves(
     input: &[&str],
     want: Ended,
     replies: &[&str],
-) -> Result<(), Fail> {
-    let settings = Settings::new(true, 65535, Limits::standard()).ok_or("a count limit")?;
-    let input = joined(alloc, input)?;
+) {
+    let settings = Settings::new(true, 65535, Limits::standard()).expect(rt, "a count limit");
+    let input = joined(rt, alloc, input);
     let mut pipe = Streams::new(input.as_slice(), Vec::new(alloc));
-    let ended = serve_script(alloc, MACHINE_A, settings, defer, &mut pipe, 100)?;
+    let ended = serve_script(alloc, MACHINE_A, settings, defer, &mut pipe, 100);
     let (_, written) = pipe.into_parts();
-    expect_same(rt, &ended, &want);
-    expect_same(rt, &written, &joined(alloc, replies)?);
-    Ok(())
+    expect_same(rt, &ended.expect(rt, "the script is read"), &want);
+    expect_same(rt, &written, &joined(rt, alloc, replies));
 }
 
 /// The bytes of these, one behind the other.
-fn joined(alloc: Global, parts: &[&str]) -> Result<Vec<u8>, Fail> {
+fn joined(rt: &impl Abort, alloc: Global, parts: &[&str]) -> Vec<u8> {
     let mut all = Vec::new(alloc);
     for part in parts {
-        push_bytes(&mut all, part)?;
+        push_bytes(&mut all, part).expect(rt, "memory");
     }
-    Ok(all)
+    all
 }
 
 /// A target that defers replies answers the newest first, once there is nothing more to handle; a Dispose that came before drops them.
 #[test]
-fn replies_are_deferred(rt: HostRuntime) -> Result<(), Fail> {
+fn replies_are_deferred(rt: HostRuntime) {
     let alloc = rt.alloc();
     let lost = Ended::LostByRead;
     let replies = [BEGUN, THREADS, STATUS, SIGNATURE];
-    serves(&rt, alloc, true, &[THREE], lost, &replies)?;
+    serves(&rt, alloc, true, &[THREE], lost, &replies);
     let replies = [BEGUN, SIGNATURE, STATUS, THREADS];
-    serves(&rt, alloc, false, &[THREE], lost, &replies)?;
+    serves(&rt, alloc, false, &[THREE], lost, &replies);
     let replies = [BEGUN, THREADS, DISPOSED];
-    serves(&rt, alloc, true, &[THREE, DISPOSE], Ended::Done, &replies)?;
+    serves(&rt, alloc, true, &[THREE, DISPOSE], Ended::Done, &replies);
     let replies = [BEGUN, SIGNATURE, STATUS, THREADS, DISPOSED];
-    serves(&rt, alloc, false, &[THREE, DISPOSE], Ended::Done, &replies)
+    serves(&rt, alloc, false, &[THREE, DISPOSE], Ended::Done, &replies);
 }

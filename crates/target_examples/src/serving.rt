@@ -12,7 +12,6 @@ use std::fmt::Debug;
 use std::io;
 use std::io::{ErrorKind, Read, Write};
 use std::process::Abort;
-use std::test::Fail;
 
 /// What a stream does at one of its calls.
 #[derive(Clone, Copy, Debug, PartialEq, Eq)]
@@ -169,26 +168,28 @@ pub(crate) fn serve_on<'a, W: Write + Drop>(
 
 /// Serves the first session of a target.
 pub(crate) fn served_on<'a, W: Write + Drop>(
+    rt: &impl Abort,
     alloc: Global,
     start_all: bool,
     reader: Reader<'a>,
     writer: W,
     rounds: u64,
-) -> Result<AfterServing<'a, W>, Fail> {
-    let mut target = target(alloc, MACHINE_A, start_all, 65535)?;
-    Ok(serve_on(&mut target, reader, writer, rounds))
+) -> AfterServing<'a, W> {
+    let mut target = target(rt, alloc, MACHINE_A, start_all, 65535);
+    serve_on(&mut target, reader, writer, rounds)
 }
 
 /// Serves one session, and answers how it ended and what was written.
 pub(crate) fn served(
+    rt: &impl Abort,
     alloc: Global,
     start_all: bool,
     reader: Reader<'_>,
     writer: Writer,
     rounds: u64,
-) -> Result<(Ended, Vec<u8>), Fail> {
-    let served = served_on(alloc, start_all, reader, writer, rounds)?;
-    Ok((served.ended, served.writer.bytes))
+) -> (Ended, Vec<u8>) {
+    let served = served_on(rt, alloc, start_all, reader, writer, rounds);
+    (served.ended, served.writer.bytes)
 }
 
 /// A session that is served ends so, and these bytes are written.
@@ -202,11 +203,10 @@ pub(crate) fn is_served<N: Debug>(
     want: Ended,
     answers: &[u8],
     note: &N,
-) -> Result<(), Fail> {
-    let (ended, bytes) = served(alloc, start_all, reader, writer, rounds)?;
+) {
+    let (ended, bytes) = served(rt, alloc, start_all, reader, writer, rounds);
     expect_same_for(rt, &ended, &want, note);
     expect_same_for(rt, &bytes.as_slice(), &answers, note);
-    Ok(())
 }
 
 pub(crate) const ROUNDS: u64 = 1000;

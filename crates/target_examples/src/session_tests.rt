@@ -1,5 +1,5 @@
 //! Sessions of a target over machine scripts, byte for byte.
-use crate::asserts::{expect_same, expect_same_for};
+use crate::asserts::expect_same_for;
 use crate::sessions::{
     Act, GREETING, HANDSHAKE, Target, comes, goes_as_told, greet, sends, target,
 };
@@ -9,10 +9,9 @@ use jdwp_value::ObjectId;
 use jdwp_wire::{ErrorCode, FrameFault};
 use std::alloc::Global;
 use std::process::Abort;
-use std::test::Fail;
 
 /// What is tried of a target from its beginning on.
-#[derive(Clone, Copy)]
+#[derive(Clone, Copy, Debug)]
 enum Trial {
     /// It begins one session, whose handshake comes byte by byte.
     GreetsByteByByte,
@@ -33,30 +32,45 @@ enum Trial {
 }
 
 /// Whether it goes as it is to.
-fn goes(alloc: Global, target: &mut Target, trial: Trial) -> Result<bool, Fail> {
+fn goes(rt: &impl Abort, alloc: Global, target: &mut Target, trial: Trial) -> bool {
     match trial {
-        Trial::GreetsByteByByte => greets_byte_by_byte(alloc, target),
+        Trial::GreetsByteByByte => greets_byte_by_byte(rt, alloc, target),
         Trial::BeginsSuspended => begins_suspended(target),
-        Trial::TakesNothingAndTooMuch => takes_nothing_and_too_much(alloc, target),
-        Trial::Pauses => pauses(alloc, target),
-        Trial::TakesTheGreatestLength => takes_the_greatest_length(alloc, target),
+        Trial::TakesNothingAndTooMuch => takes_nothing_and_too_much(rt, alloc, target),
+        Trial::Pauses => pauses(rt, alloc, target),
+        Trial::TakesTheGreatestLength => takes_the_greatest_length(rt, alloc, target),
         Trial::TakesTheGreatestLengthInPieces => {
-            takes_the_greatest_length_in_pieces(alloc, target)
+            takes_the_greatest_length_in_pieces(rt, alloc, target)
         }
-        Trial::LeavesInPieces => leaves_in_pieces(alloc, target),
-        Trial::LeavesFromThere => leaves_from_there(alloc, target),
+        Trial::LeavesInPieces => leaves_in_pieces(rt, alloc, target),
+        Trial::LeavesFromThere => leaves_from_there(rt, alloc, target),
     }
 }
 
 /// The same of a target of machine A.
-fn goes_with_a(alloc: Global, start_all: bool, trial: Trial) -> Result<bool, Fail> {
-    let mut target = target(alloc, MACHINE_A, start_all, 65535)?;
-    goes(alloc, &mut target, trial)
+fn goes_with_a(rt: &impl Abort, alloc: Global, start_all: bool, trial: Trial) -> bool {
+    let mut target = target(rt, alloc, MACHINE_A, start_all, 65535);
+    goes(rt, alloc, &mut target, trial)
 }
 
-fn goes_well(rt: &impl Abort, alloc: Global, start_all: bool, trial: Trial) -> Result<(), Fail> {
-    expect_same(rt, &goes_with_a(alloc, start_all, trial)?, &true);
-    Ok(())
+/// Each trial, and whether all threads of its target begin suspended.
+const TRIALS: [(Trial, bool); 8] = [
+    (Trial::GreetsByteByByte, false),
+    (Trial::BeginsSuspended, true),
+    (Trial::TakesNothingAndTooMuch, false),
+    (Trial::Pauses, false),
+    (Trial::TakesTheGreatestLength, false),
+    (Trial::TakesTheGreatestLengthInPieces, false),
+    (Trial::LeavesInPieces, false),
+    (Trial::LeavesFromThere, false),
+];
+
+#[test]
+fn each_trial_goes_well(rt: HostRuntime) {
+    for (trial, start_all) in TRIALS {
+        let goes = goes_with_a(&rt, rt.alloc(), start_all, trial);
+        expect_same_for(&rt, &goes, &true, &trial);
+    }
 }
 
 /// A count limit is a positive int.
@@ -75,12 +89,12 @@ fn options_with_each_count_limit(rt: HostRuntime) {
 }
 
 /// Whether the handshake is answered once its last byte came, and followed by VM_START; no second session begins.
-fn greets_byte_by_byte(alloc: Global, target: &mut Target) -> Result<bool, Fail> {
+fn greets_byte_by_byte(rt: &impl Abort, alloc: Global, target: &mut Target) -> bool {
     let begins = !target.is_open() && target.accept() && !target.accept();
-    if !begins || !answers_the_last(target, b"JDWP-Handshake") || target.waiting() != 43 {
-        return Ok(false);
-    }
-    sends(alloc, target, GREETING)
+    begins
+        && answers_the_last(target, b"JDWP-Handshake")
+        && target.waiting() == 43
+        && sends(rt, alloc, target, GREETING)
 }
 
 /// Whether only the last of 14 bytes is answered.
@@ -98,27 +112,15 @@ fn answers_the_last(target: &mut Target, bytes: &[u8]) -> bool {
     true
 }
 
-#[test]
-fn handshake_byte_by_byte(rt: HostRuntime) -> Result<(), Fail> {
-    goes_well(&rt, rt.alloc(), false, Trial::GreetsByteByByte)
-}
-
 /// Whether both threads are suspended once behind the handshake, and none steps.
-fn begins_suspended(target: &mut Target) -> Result<bool, Fail> {
+fn begins_suspended(target: &mut Target) -> bool {
     target.accept();
     target.feed(b"JDWP-Handshake");
-    Ok(
-        target.turn() == Ok(Turn::Hello)
-            && target.count(ObjectId(1)) == Some(1)
-            && target.count(ObjectId(2)) == Some(1)
-            && target.step(ObjectId(1)) == Ok(Stepped::Frozen)
-            && target.waiting() == 43,
-    )
-}
-
-#[test]
-fn all_begin_suspended(rt: HostRuntime) -> Result<(), Fail> {
-    goes_well(&rt, rt.alloc(), true, Trial::BeginsSuspended)
+    target.turn() == Ok(Turn::Hello)
+        && target.count(ObjectId(1)) == Some(1)
+        && target.count(ObjectId(2)) == Some(1)
+        && target.step(ObjectId(1)) == Ok(Stepped::Frozen)
+        && target.waiting() == 43
 }
 
 static SHORT_COMMANDS: [Act; 12] = [
@@ -158,8 +160,8 @@ static SHORT_COMMANDS: [Act; 12] = [
 ];
 
 #[test]
-fn short_commands(rt: HostRuntime) -> Result<(), Fail> {
-    goes_as_told(&rt, rt.alloc(), MACHINE_A, 65535, &SHORT_COMMANDS)
+fn short_commands(rt: HostRuntime) {
+    goes_as_told(&rt, rt.alloc(), MACHINE_A, 65535, &SHORT_COMMANDS);
 }
 
 static SUSPENDS_AND_RESUMES: [Act; 8] = [
@@ -177,8 +179,8 @@ static SUSPENDS_AND_RESUMES: [Act; 8] = [
 ];
 
 #[test]
-fn suspends_and_resumes(rt: HostRuntime) -> Result<(), Fail> {
-    goes_as_told(&rt, rt.alloc(), MACHINE_A, 65535, &SUSPENDS_AND_RESUMES)
+fn suspends_and_resumes(rt: HostRuntime) {
+    goes_as_told(&rt, rt.alloc(), MACHINE_A, 65535, &SUSPENDS_AND_RESUMES);
 }
 
 static TWO_SUSPENDS_AND_THREE_RESUMES: [Act; 7] = [
@@ -199,14 +201,14 @@ static TWO_SUSPENDS_AND_THREE_RESUMES: [Act; 7] = [
 
 /// A Resume at a count of 0 leaves it.
 #[test]
-fn two_suspends_and_three_resumes(rt: HostRuntime) -> Result<(), Fail> {
+fn two_suspends_and_three_resumes(rt: HostRuntime) {
     goes_as_told(
         &rt,
         rt.alloc(),
         MACHINE_A,
         65535,
         &TWO_SUSPENDS_AND_THREE_RESUMES,
-    )
+    );
 }
 
 static A_SESSION_AFTER_A_LOSS: [Act; 7] = [
@@ -221,8 +223,8 @@ static A_SESSION_AFTER_A_LOSS: [Act; 7] = [
 
 /// The second handshake of the target's life is not followed by VM_START.
 #[test]
-fn a_session_after_a_loss(rt: HostRuntime) -> Result<(), Fail> {
-    goes_as_told(&rt, rt.alloc(), MACHINE_A, 65535, &A_SESSION_AFTER_A_LOSS)
+fn a_session_after_a_loss(rt: HostRuntime) {
+    goes_as_told(&rt, rt.alloc(), MACHINE_A, 65535, &A_SESSION_AFTER_A_LOSS);
 }
 
 static FRAME_FAULTS: [Act; 18] = [
@@ -247,8 +249,8 @@ static FRAME_FAULTS: [Act; 18] = [
 ];
 
 #[test]
-fn frame_faults(rt: HostRuntime) -> Result<(), Fail> {
-    goes_as_told(&rt, rt.alloc(), MACHINE_A, 65535, &FRAME_FAULTS)
+fn frame_faults(rt: HostRuntime) {
+    goes_as_told(&rt, rt.alloc(), MACHINE_A, 65535, &FRAME_FAULTS);
 }
 
 static FRAMES_OF_A_SUSPENDED_THREAD: [Act; 8] = [
@@ -281,14 +283,14 @@ static FRAMES_OF_A_SUSPENDED_THREAD: [Act; 8] = [
 ];
 
 #[test]
-fn frames_of_a_suspended_thread(rt: HostRuntime) -> Result<(), Fail> {
+fn frames_of_a_suspended_thread(rt: HostRuntime) {
     goes_as_told(
         &rt,
         rt.alloc(),
         MACHINE_A,
         65535,
         &FRAMES_OF_A_SUSPENDED_THREAD,
-    )
+    );
 }
 
 static SLOTS_ARE_WRITTEN_AND_READ: [Act; 4] = [
@@ -305,14 +307,14 @@ static SLOTS_ARE_WRITTEN_AND_READ: [Act; 4] = [
 ];
 
 #[test]
-fn slots_are_written_and_read(rt: HostRuntime) -> Result<(), Fail> {
+fn slots_are_written_and_read(rt: HostRuntime) {
     goes_as_told(
         &rt,
         rt.alloc(),
         WITH_A_SLOT,
         65535,
         &SLOTS_ARE_WRITTEN_AND_READ,
-    )
+    );
 }
 
 static EVENT_REQUESTS_THAT_ARE_REFUSED: [Act; 8] = [
@@ -348,14 +350,14 @@ static EVENT_REQUESTS_THAT_ARE_REFUSED: [Act; 8] = [
 ];
 
 #[test]
-fn event_requests_that_are_refused(rt: HostRuntime) -> Result<(), Fail> {
+fn event_requests_that_are_refused(rt: HostRuntime) {
     goes_as_told(
         &rt,
         rt.alloc(),
         MACHINE_A,
         65535,
         &EVENT_REQUESTS_THAT_ARE_REFUSED,
-    )
+    );
 }
 
 static TWO_BREAKPOINTS_OF_ONE_PLACE_REPORT_TOGETHER: [Act; 5] = [
@@ -378,14 +380,14 @@ static TWO_BREAKPOINTS_OF_ONE_PLACE_REPORT_TOGETHER: [Act; 5] = [
 ];
 
 #[test]
-fn two_breakpoints_of_one_place_report_together(rt: HostRuntime) -> Result<(), Fail> {
+fn two_breakpoints_of_one_place_report_together(rt: HostRuntime) {
     goes_as_told(
         &rt,
         rt.alloc(),
         MACHINE_A,
         65535,
         &TWO_BREAKPOINTS_OF_ONE_PLACE_REPORT_TOGETHER,
-    )
+    );
 }
 
 static A_BREAKPOINT_THAT_COUNTS_REPORTS_ONCE: [Act; 8] = [
@@ -414,14 +416,14 @@ static A_BREAKPOINT_THAT_COUNTS_REPORTS_ONCE: [Act; 8] = [
 ];
 
 #[test]
-fn a_breakpoint_that_counts_reports_once(rt: HostRuntime) -> Result<(), Fail> {
+fn a_breakpoint_that_counts_reports_once(rt: HostRuntime) {
     goes_as_told(
         &rt,
         rt.alloc(),
         MACHINE_A,
         65535,
         &A_BREAKPOINT_THAT_COUNTS_REPORTS_ONCE,
-    )
+    );
 }
 
 static A_STEP_INTO_BY_LINE: [Act; 3] = [
@@ -439,8 +441,8 @@ static A_STEP_INTO_BY_LINE: [Act; 3] = [
 ];
 
 #[test]
-fn a_step_into_by_line(rt: HostRuntime) -> Result<(), Fail> {
-    goes_as_told(&rt, rt.alloc(), MACHINE_A, 65535, &A_STEP_INTO_BY_LINE)
+fn a_step_into_by_line(rt: HostRuntime) {
+    goes_as_told(&rt, rt.alloc(), MACHINE_A, 65535, &A_STEP_INTO_BY_LINE);
 }
 
 static A_STEP_OVER_BY_LINE: [Act; 2] = [
@@ -452,8 +454,8 @@ static A_STEP_OVER_BY_LINE: [Act; 2] = [
 ];
 
 #[test]
-fn a_step_over_by_line(rt: HostRuntime) -> Result<(), Fail> {
-    goes_as_told(&rt, rt.alloc(), MACHINE_A, 65535, &A_STEP_OVER_BY_LINE)
+fn a_step_over_by_line(rt: HostRuntime) {
+    goes_as_told(&rt, rt.alloc(), MACHINE_A, 65535, &A_STEP_OVER_BY_LINE);
 }
 
 static A_STEP_AND_A_BREAKPOINT_REPORT_TOGETHER: [Act; 5] = [
@@ -476,14 +478,14 @@ static A_STEP_AND_A_BREAKPOINT_REPORT_TOGETHER: [Act; 5] = [
 ];
 
 #[test]
-fn a_step_and_a_breakpoint_report_together(rt: HostRuntime) -> Result<(), Fail> {
+fn a_step_and_a_breakpoint_report_together(rt: HostRuntime) {
     goes_as_told(
         &rt,
         rt.alloc(),
         MACHINE_A,
         65535,
         &A_STEP_AND_A_BREAKPOINT_REPORT_TOGETHER,
-    )
+    );
 }
 
 static A_COUNT_AT_ITS_LIMIT_FREEZES_ALL: [Act; 8] = [
@@ -504,14 +506,14 @@ static A_COUNT_AT_ITS_LIMIT_FREEZES_ALL: [Act; 8] = [
 ];
 
 #[test]
-fn a_count_at_its_limit_freezes_all(rt: HostRuntime) -> Result<(), Fail> {
+fn a_count_at_its_limit_freezes_all(rt: HostRuntime) {
     goes_as_told(
         &rt,
         rt.alloc(),
         MACHINE_A,
         2,
         &A_COUNT_AT_ITS_LIMIT_FREEZES_ALL,
-    )
+    );
 }
 
 static HELD_EVENTS_FREEZE_THREADS: [Act; 6] = [
@@ -532,14 +534,14 @@ static HELD_EVENTS_FREEZE_THREADS: [Act; 6] = [
 ];
 
 #[test]
-fn held_events_freeze_threads(rt: HostRuntime) -> Result<(), Fail> {
+fn held_events_freeze_threads(rt: HostRuntime) {
     goes_as_told(
         &rt,
         rt.alloc(),
         MACHINE_A,
         65535,
         &HELD_EVENTS_FREEZE_THREADS,
-    )
+    );
 }
 
 static AN_EXIT_ENDS_THE_MACHINE: [Act; 4] = [
@@ -553,8 +555,8 @@ static AN_EXIT_ENDS_THE_MACHINE: [Act; 4] = [
 ];
 
 #[test]
-fn an_exit_ends_the_machine(rt: HostRuntime) -> Result<(), Fail> {
-    goes_as_told(&rt, rt.alloc(), MACHINE_A, 65535, &AN_EXIT_ENDS_THE_MACHINE)
+fn an_exit_ends_the_machine(rt: HostRuntime) {
+    goes_as_told(&rt, rt.alloc(), MACHINE_A, 65535, &AN_EXIT_ENDS_THE_MACHINE);
 }
 
 static A_DEATH_IS_REPORTED_BEFORE_THE_END: [Act; 8] = [
@@ -583,14 +585,14 @@ static A_DEATH_IS_REPORTED_BEFORE_THE_END: [Act; 8] = [
 ];
 
 #[test]
-fn a_death_is_reported_before_the_end(rt: HostRuntime) -> Result<(), Fail> {
+fn a_death_is_reported_before_the_end(rt: HostRuntime) {
     goes_as_told(
         &rt,
         rt.alloc(),
         MACHINE_A,
         65535,
         &A_DEATH_IS_REPORTED_BEFORE_THE_END,
-    )
+    );
 }
 
 static THE_LAST_END_IS_THE_MACHINES: [Act; 6] = [
@@ -608,43 +610,38 @@ static THE_LAST_END_IS_THE_MACHINES: [Act; 6] = [
 ];
 
 #[test]
-fn the_last_end_is_the_machines(rt: HostRuntime) -> Result<(), Fail> {
+fn the_last_end_is_the_machines(rt: HostRuntime) {
     goes_as_told(
         &rt,
         rt.alloc(),
         MACHINE_A,
         65535,
         &THE_LAST_END_IS_THE_MACHINES,
-    )
+    );
 }
 
 /// Whether no byte is taken and given for none, and 65,536 fit.
-fn takes_nothing_and_too_much(alloc: Global, target: &mut Target) -> Result<bool, Fail> {
-    greet(alloc, target)?;
+fn takes_nothing_and_too_much(rt: &impl Abort, alloc: Global, target: &mut Target) -> bool {
+    greet(rt, alloc, target);
     if target.feed(&[]) != 0 || target.turn() != Ok(Turn::Nothing) || target.take(&mut []) != 0 {
-        return Ok(false);
+        return false;
     }
     let block = [0; 4096];
     for _ in 0..16u32 {
         if target.feed(&block) != 4096 {
-            return Ok(false);
+            return false;
         }
     }
-    Ok(target.room() == 0 && target.feed(&[0]) == 0)
-}
-
-#[test]
-fn nothing_and_too_much(rt: HostRuntime) -> Result<(), Fail> {
-    goes_well(&rt, rt.alloc(), false, Trial::TakesNothingAndTooMuch)
+    target.room() == 0 && target.feed(&[0]) == 0
 }
 
 /// Whether nothing is handled and no thread steps once 65,536 bytes and more wait to leave, and both go on where fewer do.
-fn pauses(alloc: Global, target: &mut Target) -> Result<bool, Fail> {
+fn pauses(rt: &impl Abort, alloc: Global, target: &mut Target) -> bool {
     target.accept();
     target.feed(b"JDWP-Handshake");
     let greets = target.turn() == Ok(Turn::Hello);
-    let count = bytes(alloc, "00000013 00000003 00 0b 0c 0000000000000001")?;
-    Ok(greets && answers_each(target, &count) && waits_for_room(target))
+    let count = bytes(alloc, "00000013 00000003 00 0b 0c 0000000000000001").expect(rt, "memory");
+    greets && answers_each(target, &count) && waits_for_room(target)
 }
 
 /// Whether this command is answered 4,367 times; it is sent once more.
@@ -669,64 +666,53 @@ fn waits_for_room(target: &mut Target) -> bool {
         && target.turn() == Ok(Turn::Replied(3, ErrorCode::NONE))
 }
 
-#[test]
-fn pauses_where_a_packet_waits(rt: HostRuntime) -> Result<(), Fail> {
-    goes_well(&rt, rt.alloc(), false, Trial::Pauses)
-}
-
 /// Whether a packet of 65,536 bytes is answered, and a length of one more refused.
-fn takes_the_greatest_length(alloc: Global, target: &mut Target) -> Result<bool, Fail> {
-    greet(alloc, target)?;
-    let fits = target.feed(&greatest(alloc)?) == 65536
+fn takes_the_greatest_length(rt: &impl Abort, alloc: Global, target: &mut Target) -> bool {
+    greet(rt, alloc, target);
+    let fits = target.feed(&greatest(rt, alloc)) == 65536
         && target.turn() == Ok(Turn::Replied(2, ErrorCode::NONE));
-    let answers = sends(alloc, target, "0000000f 00000002 80 0000 00000000")?;
-    target.feed(&bytes(alloc, "00010001")?);
-    Ok(fits && answers && target.turn() == Err(TargetFault::Frame(FrameFault::TooLong)))
+    let answers = sends(rt, alloc, target, "0000000f 00000002 80 0000 00000000");
+    target.feed(&bytes(alloc, "00010001").expect(rt, "memory"));
+    fits && answers && target.turn() == Err(TargetFault::Frame(FrameFault::TooLong))
 }
 
 /// ClassesBySignature with a signature of 65,521 bytes.
-fn greatest(alloc: Global) -> Result<Vec<u8>, Fail> {
-    let mut text = bytes(alloc, "00010000 00000002 00 01 02 0000fff1")?;
+fn greatest(rt: &impl Abort, alloc: Global) -> Vec<u8> {
+    let mut text = bytes(alloc, "00010000 00000002 00 01 02 0000fff1").expect(rt, "memory");
     for _ in 0..65521u32 {
-        text.push(b'x')?;
+        text.push(b'x').expect(rt, "memory");
     }
-    Ok(text)
-}
-
-#[test]
-fn a_packet_of_the_greatest_length(rt: HostRuntime) -> Result<(), Fail> {
-    goes_well(&rt, rt.alloc(), false, Trial::TakesTheGreatestLength)
+    text
 }
 
 /// Whether a packet of 65,536 bytes that comes behind others, in pieces of 4,096, is answered once all of it came. It wraps round the end
 /// of the room for what comes.
-fn takes_the_greatest_length_in_pieces(alloc: Global, target: &mut Target) -> Result<bool, Fail> {
-    greet(alloc, target)?;
+fn takes_the_greatest_length_in_pieces(
+    rt: &impl Abort,
+    alloc: Global,
+    target: &mut Target,
+) -> bool {
+    greet(rt, alloc, target);
     let sizes = Act::Says(
         "0000000b 00000001 00 01 07",
         "0000001f 00000001 80 0000 00000008 00000008 00000008 00000008 00000008",
     );
-    let behind = comes(alloc, target, &sizes)?;
-    let all = greatest(alloc)?;
-    for piece in all.chunks(4096) {
-        if target.turn() != Ok(Turn::Nothing) || target.feed(piece) != 4096 {
-            return Ok(false);
-        }
-    }
+    let behind = comes(rt, alloc, target, &sizes);
+    let taken = takes_pieces(target, &greatest(rt, alloc));
     let full = target.feed(&[0]) == 0;
     let handled = target.turn() == Ok(Turn::Replied(2, ErrorCode::NONE));
-    let answers = sends(alloc, target, "0000000f 00000002 80 0000 00000000")?;
-    Ok(behind && full && handled && answers)
+    let answers = sends(rt, alloc, target, "0000000f 00000002 80 0000 00000000");
+    behind && taken && full && handled && answers
 }
 
-#[test]
-fn a_packet_of_the_greatest_length_in_pieces(rt: HostRuntime) -> Result<(), Fail> {
-    goes_well(
-        &rt,
-        rt.alloc(),
-        false,
-        Trial::TakesTheGreatestLengthInPieces,
-    )
+/// Whether each piece of 4,096 bytes is taken, and nothing is to be handled before it.
+fn takes_pieces(target: &mut Target, all: &[u8]) -> bool {
+    for piece in all.chunks(4096) {
+        if target.turn() != Ok(Turn::Nothing) || target.feed(piece) != 4096 {
+            return false;
+        }
+    }
+    true
 }
 
 /// A session's commands: IDSizes, Suspend, SuspendCount of thread 1, Dispose.
@@ -739,43 +725,36 @@ const SENT: &str = "4a4457502d48616e647368616b65
  0000001f 00000001 80 0000 00000008 00000008 00000008 00000008 00000008
  0000000b 00000002 80 0000 0000000f 00000003 80 0000 00000001 0000000b 00000004 80 0000";
 
-/// Whether 111 bytes are the same in pieces of 7.
-fn leaves_in_pieces(alloc: Global, target: &mut Target) -> Result<bool, Fail> {
+/// A target is sent the handshake and them, and handles each in a turn.
+fn handles_commands(rt: &impl Abort, alloc: Global, target: &mut Target) {
     target.accept();
     target.feed(b"JDWP-Handshake");
-    target.feed(&bytes(alloc, COMMANDS)?);
+    target.feed(&bytes(alloc, COMMANDS).expect(rt, "memory"));
     for _ in 0..5u32 {
-        target.turn()?;
+        target.turn().expect(rt, "a turn");
     }
+}
+
+/// Whether 111 bytes are the same in pieces of 7.
+fn leaves_in_pieces(rt: &impl Abort, alloc: Global, target: &mut Target) -> bool {
+    handles_commands(rt, alloc, target);
     let mut left = Vec::new(alloc);
     let mut piece = [0; 7];
     for _ in 0..16u32 {
         let count = target.take(&mut piece);
-        left.extend_from_slice(&piece[..count.min(7)])?;
+        left.extend_from_slice(&piece[..count.min(7)])
+            .expect(rt, "memory");
     }
-    Ok(target.waiting() == 0 && left.as_slice() == bytes(alloc, SENT)?.as_slice())
-}
-
-#[test]
-fn what_waits_leaves_in_pieces(rt: HostRuntime) -> Result<(), Fail> {
-    goes_well(&rt, rt.alloc(), false, Trial::LeavesInPieces)
+    let sent = bytes(alloc, SENT).expect(rt, "memory");
+    target.waiting() == 0 && left.as_slice() == sent.as_slice()
 }
 
 /// Whether the same bytes leave from where they lie.
-fn leaves_from_there(alloc: Global, target: &mut Target) -> Result<bool, Fail> {
-    target.accept();
-    target.feed(b"JDWP-Handshake");
-    target.feed(&bytes(alloc, COMMANDS)?);
-    for _ in 0..5u32 {
-        target.turn()?;
-    }
-    let lies = target.waiting_in_front() == bytes(alloc, SENT)?.as_slice();
+fn leaves_from_there(rt: &impl Abort, alloc: Global, target: &mut Target) -> bool {
+    handles_commands(rt, alloc, target);
+    let sent = bytes(alloc, SENT).expect(rt, "memory");
+    let lies = target.waiting_in_front() == sent.as_slice();
     let count = target.waiting();
     target.leave(count);
-    Ok(lies && target.waiting() == 0 && target.waiting_in_front().is_empty())
-}
-
-#[test]
-fn what_waits_leaves_from_where_it_lies(rt: HostRuntime) -> Result<(), Fail> {
-    goes_well(&rt, rt.alloc(), false, Trial::LeavesFromThere)
+    lies && target.waiting() == 0 && target.waiting_in_front().is_empty()
 }

@@ -3,7 +3,6 @@ use crate::asserts::expect_same;
 use crate::sessions::{Act, HANDSHAKE, first_wrong, goes_as_told, target};
 use example_parts::MACHINE_A;
 use jdwp_target::Stepped;
-use std::test::Fail;
 
 static SUSPENDS_AND_RESUMES: [Act; 20] = [
     Act::Visits(0),
@@ -32,8 +31,8 @@ static SUSPENDS_AND_RESUMES: [Act; 20] = [
 ];
 
 #[test]
-fn suspends_and_resumes_visit(rt: HostRuntime) -> Result<(), Fail> {
-    goes_as_told(&rt, rt.alloc(), MACHINE_A, 65535, &SUSPENDS_AND_RESUMES)
+fn suspends_and_resumes_visit(rt: HostRuntime) {
+    goes_as_told(&rt, rt.alloc(), MACHINE_A, 65535, &SUSPENDS_AND_RESUMES);
 }
 
 static WHAT_LEAVES_THEM: [Act; 15] = [
@@ -59,8 +58,8 @@ static WHAT_LEAVES_THEM: [Act; 15] = [
 
 /// A refused Suspend, another command, Dispose, a session's begin and a loss leave the visits.
 #[test]
-fn what_leaves_visits(rt: HostRuntime) -> Result<(), Fail> {
-    goes_as_told(&rt, rt.alloc(), MACHINE_A, 1, &WHAT_LEAVES_THEM)
+fn what_leaves_visits(rt: HostRuntime) {
+    goes_as_told(&rt, rt.alloc(), MACHINE_A, 1, &WHAT_LEAVES_THEM);
 }
 
 static BEGUN_SUSPENDED: [Act; 6] = [
@@ -77,11 +76,10 @@ static BEGUN_SUSPENDED: [Act; 6] = [
 
 /// VM_START of policy ALL visits all that live.
 #[test]
-fn a_suspended_start_visits(rt: HostRuntime) -> Result<(), Fail> {
-    let mut target = target(rt.alloc(), MACHINE_A, true, 65535)?;
-    let wrong = first_wrong(rt.alloc(), &mut target, &BEGUN_SUSPENDED)?;
+fn a_suspended_start_visits(rt: HostRuntime) {
+    let mut target = target(&rt, rt.alloc(), MACHINE_A, true, 65535);
+    let wrong = first_wrong(&rt, rt.alloc(), &mut target, &BEGUN_SUSPENDED);
     expect_same(&rt, &wrong, &None);
-    Ok(())
 }
 
 static AN_EVENT_OF_POLICY_ALL: [Act; 7] = [
@@ -104,6 +102,6 @@ static AN_EVENT_OF_POLICY_ALL: [Act; 7] = [
 
 /// An event of policy ALL visits those that ran, and not the thread that was suspended before it.
 #[test]
-fn an_event_visits_those_that_ran(rt: HostRuntime) -> Result<(), Fail> {
-    goes_as_told(&rt, rt.alloc(), MACHINE_A, 65535, &AN_EVENT_OF_POLICY_ALL)
+fn an_event_visits_those_that_ran(rt: HostRuntime) {
+    goes_as_told(&rt, rt.alloc(), MACHINE_A, 65535, &AN_EVENT_OF_POLICY_ALL);
 }

@@ -1,8 +1,0 @@
-use Rattle.std.proofs.Common.{◌++◌, codes}
-use Rattle.std.specs.List.{flat_map}
-use Rattle.jdwp_show.specs.DataText.{quoted}
-use Rattle.jdwp_show.specs.Telling.{Grows}
-use Rattle.jdwp_show.proofs.data_text.push_quoted.Given as goal
-
-abbrev pub invariant-loop-c : goal.invariant-loop-c
-invariant-loop-c l = Grows l.fn.text (codes "\"" ++ flat_map quoted l.yielded) l.text
