@@ -5,9 +5,10 @@ Runs the program within three limits, the least, the standard and the greatest, 
 - memory: what `serve-script` and `attach` asked for and what they used at the peak, in a session at a port in which a message as long as a packet may be came, at each of the limits: the
   program's own, with that of the C library. To reach: in proportion to the packets (each end has room for a packet that came and for two that leave);
 - classes: AllClassesWithGeneric of a script of 1,024 classes with signatures of 500 bytes, half a megabyte a reply, within the greatest limits; beside it a script of 120 such classes, whose
-  reply fits a packet of 65,536 bytes, within the standard ones, asked so often that as many bytes are answered. All of the small script fits a processor's own cache, and the large one's doesn't.
+  reply fits a packet of 65,536 bytes, asked so often that as many bytes are answered. All of the small script fits a processor's own cache, and the large one's doesn't.
 - methods: MethodsWithGeneric of 1,024 methods, each of a name and a signature of 500 bytes, which are the same in both: of 4 classes with 256 each, a quarter of a megabyte a reply, within the
-  greatest limits; beside it of 18 classes with 57 each or fewer, whose replies fit a packet of 65,536 bytes, within the standard ones. So the same data are answered in large packets and in small ones.
+  greatest limits; beside it of 18 classes with 57 each or fewer, whose replies fit a packet of 65,536 bytes. So the same data are answered in large packets and in small ones.
+The small packets go within the standard limits and within the greatest ones.
 Of either it tells the bytes that `serve-script` answers a second, and those that `attach` reads a second and tells in lines, the best of some runs by the processor's time, one in turn with the
 other, less the best time of a session that ends at once. To reach: no fewer bytes a second in the large packets.
 
@@ -232,8 +233,12 @@ class Replies:
 
 
 def replies(program, folder, name, small, large):
-    """Prints what two scripts with their commands come to, one within the standard limits and one within the greatest."""
-    ways = [Replies(program, folder, f"{name}.standard", *small, LIMITS[1]), Replies(program, folder, f"{name}.greatest", *large, LIMITS[2])]
+    """Prints what two scripts with their commands come to: the small packets of one within the standard limits and the greatest, and the large ones of the other."""
+    ways = [
+        Replies(program, folder, f"{name}.standard", *small, LIMITS[1]),
+        Replies(program, folder, f"{name}.small", *small, LIMITS[2]),
+        Replies(program, folder, f"{name}.large", *large, LIMITS[2]),
+    ]
     for _ in range(RUNS):
         for way in ways:
             way.run()
@@ -243,7 +248,8 @@ def replies(program, folder, name, small, large):
             times, rate = way.rate(what)
             rates.append(rate)
             print(f"{name}, {way.limits}: {times * len(way.commands)} replies of {way.size // len(way.commands)} bytes, {rate / 1e6:.0f} MB {what} a second")
-        print(f"{name} {what}: the large packets reach {rates[1] / rates[0]:.2f} of the bytes a second of the standard ones")
+        standard, small_ones, large_ones = rates
+        print(f"{name} {what}: the large packets reach {large_ones / small_ones:.2f} of the bytes a second of the small ones, and {large_ones / standard:.2f} of those within the standard limits")
 
 
 def main():

@@ -40,7 +40,7 @@ fn answered_over<M: Machine + Drop>(
 ) -> anyhow::Result<u64>
     requires { LivesWithin M.meaning standard_limits machine }
 {
-    let mut target = Target::new(alloc, machine, options)?;
+    let mut target = Box::new(alloc, Target::new(alloc, machine, options)?)?;
     answered_by(alloc, &mut target, rounds)
 }
 
@@ -50,7 +50,7 @@ fn answered_by<M: Machine + Drop>(
     target: &mut Target<M>,
     rounds: u32,
 ) -> anyhow::Result<u64> {
-    let mut debugger = Debugger::new(alloc)?;
+    let mut debugger = Box::new(alloc, Debugger::new(alloc)?)?;
     ask_counts(alloc, &mut debugger, target, rounds)
 }
 

@@ -29,7 +29,7 @@ fn answered_over<M: Machine + Drop>(
 ) -> anyhow::Result<u64>
     requires { LivesWithin M.meaning standard_limits machine }
 {
-    let mut link = Link::new(alloc, machine, options)?;
+    let mut link = Box::new(alloc, Link::new(alloc, machine, options)?)?;
     ask_counts(alloc, &mut link, rounds)
 }
 

@@ -45,7 +45,7 @@ fn debug<M: Machine + Drop>(
 ) -> anyhow::Result<()>
     requires { LivesWithin M.meaning standard_limits machine }
 {
-    let mut link = Link::new(alloc, machine, options)?;
+    let mut link = Box::new(alloc, Link::new(alloc, machine, options)?)?;
     debug_over(rt, alloc, &mut link)
 }
 

@@ -1,5 +1,6 @@
 //! What asking does, why it is refused, and whether something stands in front.
 use crate::asserts::expect_same;
+use crate::debuggers::{debugger, debugger_within};
 use jdwp_debugger::{Command, Debugger, Refused, Ticket};
 use jdwp_layout::{Datum, Scalar};
 use jdwp_value::ObjectId;
@@ -200,7 +201,7 @@ fn first_wrong(
 
 /// Of each act comes what it says, with a debugger that knows the widths of ids, which are all this, or that is closed.
 fn goes_as_told(rt: &impl Abort, alloc: Global, width: Option<u8>, acts: &[Act]) {
-    let mut debugger = Debugger::new(alloc).expect(rt, "memory");
+    let mut debugger = debugger(rt, alloc, 1);
     let found = first_wrong(rt, alloc, &mut debugger, width, acts);
     expect_same(rt, &found, &None);
 }
@@ -280,7 +281,7 @@ static ONE_WAITS: [Act; 4] = [
 #[test]
 fn as_many_commands_wait_as_the_limits_let(rt: HostRuntime) {
     let limits = Limits::new(2048, 2, 1, 1).expect(&rt, "limits in range");
-    let mut debugger = Debugger::with_limits(rt.alloc(), 1, limits).expect(&rt, "memory");
+    let mut debugger = debugger_within(&rt, rt.alloc(), limits);
     let found = first_wrong(&rt, rt.alloc(), &mut debugger, Some(8), &ONE_WAITS);
     expect_same(&rt, &found, &None);
 }

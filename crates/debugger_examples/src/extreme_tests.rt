@@ -1,6 +1,7 @@
 //! A mirror of more threads than a byte counts, and of the thread of id 0; a debugger at the longest composite, at four that wait, and at
 //! the longest data that are not read.
 use crate::asserts::expect_same;
+use crate::debuggers::debugger;
 use crate::mirror_tests::event;
 use crate::turning_tests::{HELLO, SIZES, VM_START};
 use example_parts::bytes;
@@ -58,15 +59,15 @@ fn read(rt: &impl Abort, alloc: Global, debugger: &mut Debugger, hex: &str) -> R
 }
 
 /// A debugger that read the target's handshake.
-fn greeted(rt: &impl Abort, alloc: Global) -> Debugger {
-    let mut debugger = Debugger::new(alloc).expect(rt, "memory");
+fn greeted(rt: &impl Abort, alloc: Global) -> Box<Debugger> {
+    let mut debugger = debugger(rt, alloc, 1);
     debugger.attach();
     read(rt, alloc, &mut debugger, HELLO);
     debugger
 }
 
 /// A debugger that read the widths of ids, too.
-fn established(rt: &impl Abort, alloc: Global) -> Debugger {
+fn established(rt: &impl Abort, alloc: Global) -> Box<Debugger> {
     let mut debugger = greeted(rt, alloc);
     read(rt, alloc, &mut debugger, SIZES);
     debugger
@@ -196,7 +197,7 @@ fn longest_reply(rt: &impl Abort, alloc: Global) -> Vec<u8> {
 }
 
 /// A debugger that knows the widths of ids, and has asked VirtualMachine.ClassPaths.
-fn that_asked_class_paths(rt: &impl Abort, alloc: Global) -> Debugger {
+fn that_asked_class_paths(rt: &impl Abort, alloc: Global) -> Box<Debugger> {
     let mut debugger = established(rt, alloc);
     let asked = debugger.ask(alloc, Command::raw(1, 13, Vec::new(alloc)));
     expect_same(rt, &asked, &Ok(Ticket(1)));

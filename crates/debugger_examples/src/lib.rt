@@ -7,6 +7,8 @@ mod asking_tests;
 #[cfg(test)]
 mod asserts;
 #[cfg(test)]
+mod debuggers;
+#[cfg(test)]
 mod end_tests;
 #[cfg(test)]
 mod extreme_tests;

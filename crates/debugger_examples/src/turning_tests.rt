@@ -1,5 +1,6 @@
 //! What turns do with a target's bytes.
 use crate::asserts::expect_same;
+use crate::debuggers::debugger;
 use example_parts::bytes;
 use jdwp_debugger::{Command, Debugger, DebuggerFault, Head, KnownThreads, Read, Ticket};
 use jdwp_layout::{Datum, Scalar};
@@ -265,7 +266,7 @@ fn first_wrong(
 
 /// Of each of these acts comes what it says, with a debugger whose first packet has this id.
 fn goes_as_told(rt: &impl Abort, alloc: Global, first_id: u32, acts: &[Act]) {
-    let mut debugger = Debugger::with_first_id(alloc, first_id).expect(rt, "memory");
+    let mut debugger = debugger(rt, alloc, first_id);
     let found = first_wrong(rt, alloc, &mut debugger, acts);
     expect_same(rt, &found, &None);
 }
@@ -737,7 +738,7 @@ fn goes_in_pieces(rt: &impl Abort, alloc: Global, debugger: &mut Debugger, first
 
 /// The same of a new debugger.
 fn goes_in_pieces_from_new(rt: &impl Abort, alloc: Global, first: usize) -> bool {
-    let mut debugger = Debugger::new(alloc).expect(rt, "memory");
+    let mut debugger = debugger(rt, alloc, 1);
     goes_in_pieces(rt, alloc, &mut debugger, first)
 }
 

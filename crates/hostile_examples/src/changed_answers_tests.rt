@@ -1,6 +1,7 @@
 //! The recorded session with one byte of what the target sends changed, at each place and to each other value, in sessions of one debugger.
 use crate::asserts::expect_same;
 use crate::changed_answers::{Comes, expected};
+use crate::debuggers::debugger;
 use crate::recorded::{ANSWERED, ASKED};
 use jdwp_debugger::{Command, Debugger, DebuggerFault, Read, Ticket};
 use jdwp_layout::{Datum, Scalar};
@@ -156,7 +157,7 @@ fn is_undisturbed(rt: &impl Abort, alloc: Global, debugger: &mut Debugger) -> bo
 
 /// Each change comes to what it is to come to, between two undisturbed sessions.
 fn survives(rt: &impl Abort, alloc: Global) {
-    let mut debugger = Debugger::new(alloc).expect(rt, "memory");
+    let mut debugger = debugger(rt, alloc);
     expect_same(rt, &is_undisturbed(rt, alloc, &mut debugger), &true);
     expect_same(rt, &first_wrong(rt, alloc, &mut debugger), &None);
     expect_same(rt, &is_undisturbed(rt, alloc, &mut debugger), &true);

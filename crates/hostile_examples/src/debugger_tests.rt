@@ -1,5 +1,6 @@
 //! What a debugger answers to a target that keeps no rule, and how it stands then.
 use crate::asserts::expect_same_for;
+use crate::debuggers::debugger;
 use example_parts::bytes;
 use jdwp_debugger::{Command, Debugger, DebuggerFault, Read, Ticket};
 use jdwp_layout::{Datum, Scalar};
@@ -204,7 +205,7 @@ fn goes_late(
 
 /// Each row, in sessions of one debugger.
 fn all_go(rt: &impl Abort, alloc: Global) {
-    let mut debugger = Debugger::new(alloc).expect(rt, "memory");
+    let mut debugger = debugger(rt, alloc);
     for row in EARLY.iter() {
         let is = goes_early(rt, alloc, &mut debugger, row);
         expect_same_for(rt, &is, &true, row);
@@ -257,7 +258,7 @@ fn taken_behind(debugger: &mut Debugger, count: usize) -> usize {
 
 /// The same of each row, in sessions of one debugger.
 fn rooms_are_so(rt: &impl Abort, alloc: Global) {
-    let mut debugger = Debugger::new(alloc).expect(rt, "memory");
+    let mut debugger = debugger(rt, alloc);
     for &(count, want) in ROOMS.iter() {
         expect_same_for(rt, &taken_behind(&mut debugger, count), &want, &count);
     }

@@ -13,6 +13,8 @@ mod changed_commands_tests;
 #[cfg(test)]
 mod debugger_tests;
 #[cfg(test)]
+mod debuggers;
+#[cfg(test)]
 mod fronts_tests;
 #[cfg(test)]
 mod recorded;

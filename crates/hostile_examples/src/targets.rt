@@ -9,11 +9,13 @@ use std::process::Abort;
 /// A target over the machine of a script.
 pub(crate) type Target = jdwp_target::Target<ScriptMachine>;
 
-/// A closed target over that machine, no thread of which begins suspended.
-pub(crate) fn target(rt: &impl Abort, alloc: Global) -> Target {
+/// A closed target over that machine, no thread of which begins suspended, on the heap: where a function holds one itself, each part of it is
+/// proved to be let go there.
+pub(crate) fn target(rt: &impl Abort, alloc: Global) -> Box<Target> {
     let options = TargetOptions::new(false, 65_535).expect(rt, "a count limit");
     let machine = ScriptMachine::read(alloc, MACHINE_A).expect(rt, "the script is read");
-    Target::new(alloc, machine, options).expect(rt, "memory")
+    let target = Target::new(alloc, machine, options).expect(rt, "memory");
+    Box::new(alloc, target).expect(rt, "memory")
 }
 
 /// What a target answers to what came.

@@ -152,9 +152,23 @@ pub fn attach_files<'a, R: Files + AllocGlobal, O: Write>(
     keep(rt, files.to, words.plan)?;
     keep(rt, files.to, files.from)?;
     let bytes = read(rt, words.plan)?;
-    let mut pipe = streams(rt, files.from, files.to)?;
+    let pipe = streams(rt, files.from, files.to)?;
+    attach_over(rt.alloc(), words, files, &bytes, pipe, out)
+}
+
+/// Runs the plan of these bytes over the files that were opened.
+fn attach_over<'a, I: Read + Drop, W: Write + Drop, O: Write>(
+    alloc: Global,
+    words: &Attach<'a>,
+    files: &SessionFiles<'a>,
+    bytes: &[u8],
+    mut pipe: Streams<Watched<I>, Watched<W>>,
+    out: &mut O,
+) -> Result<Outcome<'a>, Fault<'a>>
+    ensures unprinted { OnErr result (Keeps (O.contents out.old) (O.contents out.new)) }
+{
     let mut printed = Streams::new(io::empty(), Watched::new(out));
-    let how = attach_bytes(rt.alloc(), words, &bytes, &mut pipe, &mut printed)?;
+    let how = attach_bytes(alloc, words, bytes, &mut pipe, &mut printed)?;
     let (from, to) = sides(files.from, files.to, pipe);
     let (_, output) = printed.into_parts();
     Ok(Outcome::of_plan(how, words.limits, from, to, output.failure()))

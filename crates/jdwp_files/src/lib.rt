@@ -2,6 +2,7 @@
 #![tactic(auto)]
 
 mod files;
+mod memory;
 mod running;
 mod sessions;
 

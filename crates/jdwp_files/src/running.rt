@@ -4,9 +4,10 @@ ghost use Rattle.jdwp_words.specs.Commands.{runs_plan};
 ghost use Rattle.jdwp_program.specs.Outputs.{Leaves, LeavesOutcome};
 
 use crate::files::{attach_files, check_file, serve_files, show_file};
+use crate::memory::keep_freed_memory;
 use crate::sessions::{attach_port, pair_files, serve_port};
 use jdwp_program::{Fault, Outcome, report_fault, report_outcome};
-use jdwp_words::{Peer, Words};
+use jdwp_words::{Attach, Pair, Peer, ServeScript, Words};
 use std::convert::AsStr;
 use std::io::Write;
 use std::net::Net;
@@ -52,16 +53,46 @@ where
         (O.contents out.new) }
 {
     match jdwp_words::read(rt.alloc(), words)? {
-        Words::ServeScript(words) => match words.peer {
-            Peer::Files(files) => serve_files(rt, &words, &files),
-            Peer::Port(port) => serve_port(rt, &words, port, err),
-        },
-        Words::Attach(words) => match words.peer {
-            Peer::Files(files) => attach_files(rt, &words, &files, out),
-            Peer::Port(port) => attach_port(rt, &words, port, out),
-        },
-        Words::Pair(words) => pair_files(rt, &words, out),
+        Words::ServeScript(words) => serve(rt, &words, err),
+        Words::Attach(words) => attach(rt, &words, out),
+        Words::Pair(words) => pair(rt, &words, out),
         Words::Show(file) => Ok(Outcome::Capture(show_file(rt, file, out)?)),
         Words::Check(file) => Ok(Outcome::Capture(check_file(rt, file, out)?)),
     }
+}
+
+/// Serves the session of a file, or those of a port.
+fn serve<'a, R: Files + AllocGlobal + Net, E: Write>(
+    rt: &R,
+    words: &ServeScript<'a>,
+    err: &mut E,
+) -> Result<Outcome<'a>, Fault<'a>> {
+    keep_freed_memory(rt.alloc(), &words.settings.limits());
+    match words.peer {
+        Peer::Files(files) => serve_files(rt, words, &files),
+        Peer::Port(port) => serve_port(rt, words, port, err),
+    }
+}
+
+/// Runs a plan as the debugger of the session of a file, or at a port.
+fn attach<'a, R: Files + AllocGlobal + Net, O: Write>(
+    rt: &R,
+    words: &Attach<'a>,
+    out: &mut O,
+) -> Result<Outcome<'a>, Fault<'a>> {
+    keep_freed_memory(rt.alloc(), &words.limits);
+    match words.peer {
+        Peer::Files(files) => attach_files(rt, words, &files, out),
+        Peer::Port(port) => attach_port(rt, words, port, out),
+    }
+}
+
+/// Runs a plan with both ends in this process.
+fn pair<'a, R: Files + AllocGlobal + Net, O: Write>(
+    rt: &R,
+    words: &Pair<'a>,
+    out: &mut O,
+) -> Result<Outcome<'a>, Fault<'a>> {
+    keep_freed_memory(rt.alloc(), &words.settings.limits());
+    pair_files(rt, words, out)
 }

@@ -7,6 +7,7 @@ ghost use Rattle.jdwp_script_machine.specs.Machines.{read_machine};
 ghost use Rattle.jdwp_script_machine.specs.ScriptMeaning.{script_meaning};
 ghost use Rattle.jdwp_script_machine.specs.States.{State};
 ghost use Rattle.jdwp_target.specs.Options.{LivesWithin};
+ghost use Rattle.jdwp_end.specs.Ends.{is_open};
 ghost use Rattle.jdwp_plan.specs.declared.plan_line.PlanLine as declared;
 ghost use Rattle.jdwp_plan.specs.PlanLines.{said_by};
 ghost use Rattle.jdwp_plan.specs.Plans.{Says, SaysForAttach};
@@ -17,21 +18,23 @@ ghost use Rattle.jdwp_files.specs.Refusals.{RefusesAttachPlan, RefusesPlan, Refu
 
 use crate::files::{read, text};
 use jdwp_attach::Attached;
+use jdwp_debuggee::Settings;
 use jdwp_debugger::Debugger;
 use jdwp_link::Memory;
+use jdwp_machine::Machine;
 use jdwp_pair::{Connection, Loopback, PairEnded, pair_session};
 use jdwp_pipe::{Ended, Pipe, Streams};
 use jdwp_plan::{PlanLine, read_attach_plan, read_plan};
-use jdwp_port::{attach_stream, bind, connect, serve_sessions};
+use jdwp_port::{PortFault, PortListener, attach_stream, bind, connect, serve_sessions};
 use jdwp_program::{Fault, Outcome, Watched, report_outcome};
 use jdwp_script_machine::ScriptMachine;
 use jdwp_target::Target;
-use jdwp_wire::Limits;
+use jdwp_wire::{Limits, NoMemory};
 use jdwp_words::{Attach, Between, Pair, ServeScript};
 use std::alloc::Global;
 use std::io;
-use std::io::Write;
-use std::net::Net;
+use std::io::{Read, Write};
+use std::net::{Net, OpenListener, OpenStream};
 use std::rt::Files;
 
 /// Serves sessions at a port over the machine of a script, one after the other, until the machine dies or a session uses up its rounds. The
@@ -46,17 +49,58 @@ pub fn serve_port<'a, R: Files + AllocGlobal + Net, E: Write>(
     port: u16,
     err: &mut E,
 ) -> Result<Outcome<'a>, Fault<'a>> {
+    let mut target = target_of(rt, words)?;
+    let listener = bind(rt, port)?;
+    let ended = serve_at(rt.alloc(), &mut target, &listener, words.turns, err)?;
+    Ok(Outcome::Session(ended))
+}
+
+/// A closed target over the machine of the script, on the heap.
+fn target_of<'a, R: Files + AllocGlobal>(
+    rt: &R,
+    words: &ServeScript<'a>,
+) -> Result<Box<Target<ScriptMachine>>, Fault<'a>>
+    ensures { IfOk result (λ target. is_open target.value.end ≡ false) }
+{
     let bytes = read(rt, words.machine)?;
     let machine = machine_of(rt.alloc(), words.machine, &bytes, &words.settings.limits())?;
-    let mut target = Target::with_settings(rt.alloc(), machine, words.settings)?;
-    target.set_deferring(words.defer);
-    let listener = bind(rt, port)?;
-    let rounds = u64::from(words.turns);
+    Ok(target_over(rt.alloc(), machine, words.settings, words.defer)?)
+}
+
+/// A closed target over this machine, on the heap.
+fn target_over<M: Machine + Drop>(
+    alloc: Global,
+    machine: M,
+    settings: Settings,
+    defer: bool,
+) -> Result<Box<Target<M>>, NoMemory>
+    requires { LivesWithin M.meaning settings.limits machine }
+    ensures { IfOk result (λ target. is_open target.value.end ≡ false) }
+{
+    let mut target = Target::with_settings(alloc, machine, settings)?;
+    target.set_deferring(defer);
+    Ok(Box::new(alloc, target)?)
+}
+
+/// Serves debuggers that come to a port, one after the other. The fault of a session that is refused is told on `err`.
+fn serve_at<M, L, E>(
+    alloc: Global,
+    target: &mut Target<M>,
+    listener: &PortListener<L>,
+    rounds: u32,
+    err: &mut E,
+) -> Result<Ended, PortFault>
+where
+    M: Machine + Drop,
+    L: OpenListener,
+    L::Stream: Read + Write + OpenStream,
+    E: Write,
+    requires { is_open target.old.end ≡ false }
+{
     let tell = |number| {
         let _ = report_outcome(Outcome::Session(Ended::Refused(number)), err);
     };
-    let ended = serve_sessions(rt.alloc(), &mut target, &listener, rounds, tell)?;
-    Ok(Outcome::Session(ended))
+    serve_sessions(alloc, target, listener, u64::from(rounds), tell)
 }
 
 /// Runs a plan as the debugger of the target that listens at a port, and prints what it reads.
@@ -74,7 +118,20 @@ pub fn attach_port<'a, R: Files + AllocGlobal + Net, O: Write>(
 {
     let bytes = read(rt, words.plan)?;
     let plan = attach_plan_of(rt.alloc(), words.plan, &bytes)?;
-    let mut debugger = Debugger::with_limits(rt.alloc(), 1, words.limits)?;
+    attach_by(rt, words, port, plan.as_slice(), out)
+}
+
+/// Runs this plan, and prints what is read.
+fn attach_by<'a, R: AllocGlobal + Net, O: Write>(
+    rt: &R,
+    words: &Attach<'a>,
+    port: u16,
+    plan: &[PlanLine],
+    out: &mut O,
+) -> Result<Outcome<'a>, Fault<'a>>
+    ensures unprinted { OnErr result (Keeps (O.contents out.old) (O.contents out.new)) }
+{
+    let mut debugger = debugger_within(rt.alloc(), words.limits)?;
     let stream = connect(rt, port)?;
     let mut printed = Streams::new(io::empty(), Watched::new(out));
     let turns = u64::from(words.turns);
@@ -83,12 +140,18 @@ pub fn attach_port<'a, R: Files + AllocGlobal + Net, O: Write>(
         &mut debugger,
         port,
         stream,
-        plan.as_slice(),
+        plan,
         &mut printed,
         turns,
     )?;
     let (_, output) = printed.into_parts();
     Ok(Outcome::without_files(how, words.limits, output.failure()))
+}
+
+/// A closed debugger within these limits, on the heap.
+fn debugger_within(alloc: Global, limits: Limits) -> Result<Box<Debugger>, NoMemory> {
+    let debugger = Debugger::with_limits(alloc, 1, limits)?;
+    Ok(Box::new(alloc, debugger)?)
 }
 
 /// Runs a plan as the debugger of the machine of a script, both ends in this process, and prints what the debugger reads. Bytes go from one

@@ -1,10 +1,13 @@
 //! A target and a debugger, and the bytes between them.
-ghost use Rattle.std.specs.Prelude.{◌≡◌, ◌≤◌, ◌<◌, ◌↔◌, Err, IfErr, IfOk, get_or, length, take};
+ghost use Rattle.std.specs.Prelude.{◌≡◌, ◌≤◌, ◌<◌, ◌↔◌, [], Err, IfErr, IfOk, get_or, length, take};
 ghost use Rattle.jdwp_debuggee.specs.State as state;
+ghost use Rattle.jdwp_debugger.specs.Debuggers.{new_debugger};
+ghost use Rattle.jdwp_end.specs.Ends.{most_outgoing};
 ghost use Rattle.jdwp_model.specs.Events.{Attach};
 ghost use Rattle.jdwp_model.specs.Headline.{MayBegin};
 ghost use Rattle.jdwp_model.specs.World.{World, opening};
 ghost use Rattle.jdwp_target.specs.Options.{Lives, LivesWithin, settings_at};
+ghost use Rattle.jdwp_target.specs.Targets.{new_target};
 ghost use Rattle.jdwp_target.specs.declared.setup.SetupFault.TheVariants as setup;
 ghost use Rattle.jdwp_wire.specs.Limits.{standard_limits};
 ghost use Rattle.jdwp_link.specs.Clauses.{CountsAtMost, HoldsSuspended, MayStop, MirrorsSeen, Ran, StaysTrue};
@@ -102,18 +105,15 @@ impl<M: Machine + Drop> Link<M> {
             })) }
         ensures stands { IfOk result (λ l. StandsFor M.meaning l (opening M.meaning machine)) }
     {
-        let most = settings.limits().packet() as usize * 2;
         begins(&machine, &settings);
-        let target = Target::with_settings(alloc, machine, settings)?;
-        let debugger = Debugger::with_limits(alloc, 1, settings.limits())?;
-        let to_target = ByteQueue::new(alloc, most)?;
-        let to_debugger = ByteQueue::new(alloc, most)?;
+        let kept = queues(alloc, settings.limits())?;
+        let ends = ends(alloc, machine, settings)?;
         Ok(Link {
             alloc,
-            target,
-            debugger,
-            to_target,
-            to_debugger,
+            target: ends.0,
+            debugger: ends.1,
+            to_target: kept.0,
+            to_debugger: kept.1,
             did: false,
         })
     }
@@ -212,6 +212,34 @@ impl<M: Machine + Drop> Link<M> {
     {
         self.did
     }
+}
+
+/// Two empty queues, each with room for as much as an end may have put.
+fn queues(alloc: Global, limits: Limits) -> Result<(ByteQueue, ByteQueue), NoMemory>
+    ensures { IfOk result (λ kept. (kept.0.bytes ≡ []) × (kept.1.bytes ≡ [])
+        × (kept.0.capacity ≡ most_outgoing limits) × (kept.1.capacity ≡ most_outgoing limits)) }
+{
+    let most = limits.packet() as usize * 2;
+    let to_target = ByteQueue::new(alloc, most)?;
+    let to_debugger = ByteQueue::new(alloc, most)?;
+    Ok((to_target, to_debugger))
+}
+
+/// A target over this machine and a debugger, both before their first session.
+fn ends<M: Machine + Drop>(
+    alloc: Global,
+    machine: M,
+    settings: Settings,
+) -> Result<(Target<M>, Debugger), NoMemory>
+    requires { LivesWithin M.meaning settings.limits machine }
+    ensures { IfOk result (λ ends. (ends.0 ≡ new_target settings (record {
+      state = state.new_state (M.meaning.live machine);
+      machine = machine;
+    })) × (ends.1 ≡ new_debugger settings.limits 1)) }
+{
+    let debugger = Debugger::with_limits(alloc, 1, settings.limits())?;
+    let target = Target::with_settings(alloc, machine, settings)?;
+    Ok((target, debugger))
 }
 
 /// A machine in which a thread lives may begin a session with these settings. It does nothing.

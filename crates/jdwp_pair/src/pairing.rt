@@ -7,8 +7,10 @@ ghost use Rattle.jdwp_target.specs.Options.{LivesWithin};
 ghost use Rattle.jdwp_model.specs.Events as events;
 ghost use Rattle.jdwp_link.specs.declared.events.Outcome as declared;
 ghost use Rattle.jdwp_link.specs.Clauses.{Ran};
+ghost use Rattle.jdwp_link.specs.Links.{new_link};
+ghost use Rattle.jdwp_debuggee.specs.State.{new_state};
 ghost use Rattle.jdwp_pair.specs.Connections.{disconnects, is_disconnected};
-ghost use Rattle.jdwp_pair.specs.Events.{Moves};
+ghost use Rattle.jdwp_pair.specs.Events.{Happens, Moves};
 ghost use Rattle.jdwp_pair.specs.PlanRuns.{EndsMoving, EndsSo, FinishesSo, GoesOn, Pairs, PairsNew, unflushed_end};
 
 use crate::connection::Connection;
@@ -83,9 +85,30 @@ pub fn pair_session<M: Machine + Drop, C: Connection, W: Pipe>(
         ≡ is_disconnected ended) }
     ensures unprinted { OnErr result (out.new ≡ out.old) }
 {
+    let mut link = link_over(alloc, machine, settings, defer)?;
+    Ok(pair(alloc, &mut link, connection, plan, out, u64::from(rounds)))
+}
+
+/// A new link over this machine, on the heap: where a function holds one itself, each part of it is proved to be let go there. It defers or not.
+///
+/// # Errors
+/// `NoMemory`.
+fn link_over<M: Machine + Drop>(
+    alloc: Global,
+    machine: M,
+    settings: Settings,
+    defer: bool,
+) -> Result<Box<Link<M>>, NoMemory>
+    requires { LivesWithin M.meaning settings.limits machine }
+    ensures { IfOk result (λ link. Happens M.meaning (events.Defer defer)
+        (new_link settings (record {
+          state = new_state (M.meaning.live machine);
+          machine = machine;
+        })) link.value) }
+{
     let mut link = Link::with_settings(alloc, machine, settings)?;
     set_deferring(&mut link, defer);
-    Ok(pair(alloc, &mut link, connection, plan, out, u64::from(rounds)))
+    Ok(Box::new(alloc, link)?)
 }
 
 /// Runs both ends of a link by the plan, for at most so many rounds. Bytes go from one end to the other over the connection: over `Memory`,

@@ -114,6 +114,17 @@ enum Name {
 }
 
 impl Name {
+    /// The name alone.
+    fn alone(self) -> &'static str {
+        match self {
+            Name::Show => "show",
+            Name::Check => "check",
+            Name::ServeScript => "serve-script",
+            Name::Attach => "attach",
+            Name::Pair => "pair",
+        }
+    }
+
     /// The name behind that of the program.
     fn in_full(self) -> &'static str {
         match self {
@@ -124,7 +135,84 @@ impl Name {
             Name::Pair => "jdwp pair",
         }
     }
+
+    /// What help tells of the command.
+    fn about(self) -> &'static str {
+        match self {
+            Name::Show => "Shows a capture of a session in words, a line for each message",
+            Name::Check => "Judges a capture of a session: yes, or its first fault",
+            Name::ServeScript => {
+                "Serves the session of one debugger, from a file of its bytes, or sessions at a port"
+            }
+            Name::Attach => {
+                "Runs a plan as the debugger of one session, from a file of the target's bytes, or at a port"
+            }
+            Name::Pair => {
+                "Runs a plan as the debugger of a script's machine, both ends in this process, over a connection at 127.0.0.1 or over memory"
+            }
+        }
+    }
+
+    /// What stands behind it, in the order in which help tells it.
+    fn parts(self) -> &'static [Part] {
+        match self {
+            Name::Show | Name::Check => &OF_A_CAPTURE,
+            Name::ServeScript => &OF_SERVE_SCRIPT,
+            Name::Attach => &OF_ATTACH,
+            Name::Pair => &OF_PAIR,
+        }
+    }
 }
+
+/// What may stand behind the name of a command, with what help tells of it where that is not the same in each.
+#[derive(Clone, Copy)]
+enum Part {
+    Machine,
+    Plan(&'static str),
+    Capture,
+    From(&'static str),
+    To(&'static str),
+    Port(&'static str),
+    Memory,
+    Start,
+    CountLimit,
+    Limits,
+    Defer,
+    Turns(&'static str),
+}
+
+static OF_A_CAPTURE: [Part; 1] = [Part::Capture];
+
+static OF_SERVE_SCRIPT: [Part; 9] = [
+    Part::Machine,
+    Part::From("What the debugger sent, in bytes"),
+    Part::To("Where the target's bytes are written"),
+    Part::Port("The port of 127.0.0.1 at which debuggers connect"),
+    Part::Start,
+    Part::CountLimit,
+    Part::Limits,
+    Part::Defer,
+    Part::Turns("How many rounds a session has at most"),
+];
+
+static OF_ATTACH: [Part; 6] = [
+    Part::Plan("A text of lines `ask SET NUMBER [HEX]`, `answers`, `events N` and `mirror`"),
+    Part::From("What the target sent, in bytes"),
+    Part::To("Where the debugger's bytes are written"),
+    Part::Port("The port of 127.0.0.1 at which the target listens"),
+    Part::Limits,
+    Part::Turns("How many turns the session has at most"),
+];
+
+static OF_PAIR: [Part; 7] = [
+    Part::Machine,
+    Part::Plan("As of `attach`, and lines `lose target`, `lose debugger` and `attach`"),
+    Part::Memory,
+    Part::Start,
+    Part::Limits,
+    Part::Defer,
+    Part::Turns("How many rounds the run has at most"),
+];
 
 /// Reads the words, the first of which is the program's name.
 ///
@@ -135,13 +223,20 @@ pub fn read<'a, S: AsStr>(alloc: Global, words: &'a [S]) -> Result<Words<'a>, Fa
     ensures runs { IfOk result (RunsPlanOnlyWhere (commands.runs_plan S.text words.now)) }
     ensures keeps { IfOk result KeepsFiles }
 {
-    let said = match command(alloc)?.try_get_matches_from(words) {
-        Ok(matches) => read_matches(alloc, &matches, words)?,
-        Err(error) => return Err(refused(alloc, &error)),
-    };
+    let said = say(alloc, words)?;
     match emptied(&said) {
         None => Ok(said),
         Some(file) => Err(emptying(alloc, file, name_of(&said))),
+    }
+}
+
+/// What the words say, whatever files they write to.
+fn say<'a, S: AsStr>(alloc: Global, words: &'a [S]) -> Result<Words<'a>, Fault<'a>>
+    ensures { IfOk result (RunsPlanOnlyWhere (commands.runs_plan S.text words.now)) }
+{
+    match command(alloc)?.try_get_matches_from(words) {
+        Ok(matches) => read_matches(alloc, &matches, words),
+        Err(error) => Err(refused(alloc, &error)),
     }
 }
 
@@ -417,13 +512,18 @@ fn without_line_end(mut text: String) -> String {
     text
 }
 
+/// The program's command, with those of its words behind it.
 fn command<'a>(alloc: Global) -> Result<Command<'a>, AllocError> {
     let commands = commands(alloc)?;
+    program(alloc)?.subcommands(commands)
+}
+
+/// The program's command alone.
+fn program<'a>(alloc: Global) -> Result<Command<'a>, AllocError> {
     Command::new(alloc, "jdwp")
-        .bin_name("jdwp")?
         .about("Ends of the Java Debug Wire Protocol (JDWP, Java SE 11)")
         .subcommand_required(true)
-        .subcommands(commands)
+        .bin_name("jdwp")
 }
 
 /// The commands of the program, in the order in which help tells them.
@@ -443,79 +543,36 @@ fn commands<'a>(alloc: Global) -> Result<Vec<Command<'a>>, AllocError> {
 
 /// The command of this name.
 fn named<'a>(alloc: Global, name: Name) -> Result<Command<'a>, AllocError> {
-    match name {
-        Name::Show => show(alloc),
-        Name::Check => check(alloc),
-        Name::ServeScript => serve_script(alloc),
-        Name::Attach => attach_command(alloc),
-        Name::Pair => pair_command(alloc),
+    let (alone, about): (&'a str, &'a str) = (name.alone(), name.about());
+    let arguments = arguments(alloc, name.parts())?;
+    Command::new(alloc, alone).about(about).args(arguments)
+}
+
+/// These parts as clap's arguments.
+fn arguments<'a>(alloc: Global, parts: &[Part]) -> Result<Vec<Arg<'a>>, AllocError> {
+    let mut arguments = Vec::new(alloc);
+    for part in parts {
+        arguments.push(argument_of(alloc, *part)?)?;
     }
+    Ok(arguments)
 }
 
-fn show<'a>(alloc: Global) -> Result<Command<'a>, AllocError> {
-    Command::new(alloc, "show")
-        .about("Shows a capture of a session in words, a line for each message")
-        .arg(capture(alloc))
-}
-
-fn check<'a>(alloc: Global) -> Result<Command<'a>, AllocError> {
-    Command::new(alloc, "check")
-        .about("Judges a capture of a session: yes, or its first fault")
-        .arg(capture(alloc))
-}
-
-fn serve_script<'a>(alloc: Global) -> Result<Command<'a>, AllocError> {
-    let arguments = vec![in alloc;
-        machine(alloc),
-        from(alloc, "What the debugger sent, in bytes")?,
-        to(alloc, "Where the target's bytes are written")?,
-        port(alloc, "The port of 127.0.0.1 at which debuggers connect")?,
-        start(alloc),
-        count_limit(alloc),
-        limits_option(alloc),
-        defer(alloc),
-        turns(alloc, "How many rounds a session has at most"),
-    ]?;
-    Command::new(alloc, "serve-script")
-        .about(
-            "Serves the session of one debugger, from a file of its bytes, or sessions at a port",
-        )
-        .args(arguments)
-}
-
-fn attach_command<'a>(alloc: Global) -> Result<Command<'a>, AllocError> {
-    let lines = "A text of lines `ask SET NUMBER [HEX]`, `answers`, `events N` and `mirror`";
-    let arguments = vec![in alloc;
-        plan(alloc, lines),
-        from(alloc, "What the target sent, in bytes")?,
-        to(alloc, "Where the debugger's bytes are written")?,
-        port(alloc, "The port of 127.0.0.1 at which the target listens")?,
-        limits_option(alloc),
-        turns(alloc, "How many turns the session has at most"),
-    ]?;
-    Command::new(alloc, "attach")
-        .about(
-            "Runs a plan as the debugger of one session, from a file of the target's bytes, or at a port",
-        )
-        .args(arguments)
-}
-
-fn pair_command<'a>(alloc: Global) -> Result<Command<'a>, AllocError> {
-    let lines = "As of `attach`, and lines `lose target`, `lose debugger` and `attach`";
-    let arguments = vec![in alloc;
-        machine(alloc),
-        plan(alloc, lines),
-        memory(alloc),
-        start(alloc),
-        limits_option(alloc),
-        defer(alloc),
-        turns(alloc, "How many rounds the run has at most"),
-    ]?;
-    Command::new(alloc, "pair")
-        .about(
-            "Runs a plan as the debugger of a script's machine, both ends in this process, over a connection at 127.0.0.1 or over memory",
-        )
-        .args(arguments)
+/// The part as clap's argument.
+fn argument_of<'a>(alloc: Global, part: Part) -> Result<Arg<'a>, AllocError> {
+    match part {
+        Part::From(help) => from(alloc, help),
+        Part::To(help) => to(alloc, help),
+        Part::Port(help) => port(alloc, help),
+        Part::Machine => Ok(machine(alloc)),
+        Part::Plan(help) => Ok(plan(alloc, help)),
+        Part::Capture => Ok(capture(alloc)),
+        Part::Memory => Ok(memory(alloc)),
+        Part::Start => Ok(start(alloc)),
+        Part::CountLimit => Ok(count_limit(alloc)),
+        Part::Limits => Ok(limits_option(alloc)),
+        Part::Defer => Ok(defer(alloc)),
+        Part::Turns(help) => Ok(turns(alloc, help)),
+    }
 }
 
 /// The file of a script.

@@ -9,7 +9,7 @@ use crate::ends::{Move, goes_under_ids};
 use crate::loss_tests::is_lost_anywhere;
 use crate::losses::WAYS;
 use crate::machine_a::go_on_a;
-use crate::sessions::{Session, goes_as_told};
+use crate::sessions::{Session, goes_as_told, session};
 use crate::spinning::Spinning;
 use crate::told::Reply;
 use crate::worked_tests::are_the_same_cut;
@@ -22,40 +22,31 @@ use jdwp_wire::ErrorCode;
 /// Sessions with deferred replies.
 fn deferred() -> [Session; 13] {
     [
-        ("the newest is answered first", NEWEST_FIRST.as_slice()),
-        ("the oldest is answered first", OLDEST_FIRST.as_slice()),
-        (
+        session("the newest is answered first", &NEWEST_FIRST),
+        session("the oldest is answered first", &OLDEST_FIRST),
+        session(
             "replies come in the order asked where none is deferred",
-            IN_THE_ORDER_ASKED.as_slice(),
+            &IN_THE_ORDER_ASKED,
         ),
-        (
-            "what is deferred stays so where no more is",
-            CEASES.as_slice(),
-        ),
-        ("a loss at the target drops them", LOST_AT_TARGET.as_slice()),
-        (
+        session("what is deferred stays so where no more is", &CEASES),
+        session("a loss at the target drops them", &LOST_AT_TARGET),
+        session(
             "a loss at the debugger leaves them to the target",
-            LOST_AT_DEBUGGER.as_slice(),
+            &LOST_AT_DEBUGGER,
         ),
-        ("dispose drops them", DISPOSED_WHILE_DEFERRED.as_slice()),
-        ("exit drops them", EXITED_WHILE_DEFERRED.as_slice()),
-        (
+        session("dispose drops them", &DISPOSED_WHILE_DEFERRED),
+        session("exit drops them", &EXITED_WHILE_DEFERRED),
+        session(
             "the end of the last thread drops them",
-            ENDED_WHILE_DEFERRED.as_slice(),
+            &ENDED_WHILE_DEFERRED,
         ),
-        (
-            "frames are the same around a release",
-            FRAMES_BETWEEN.as_slice(),
-        ),
-        (
+        session("frames are the same around a release", &FRAMES_BETWEEN),
+        session(
             "a held thread is suspended while replies are deferred",
-            HELD_WHILE_DEFERRED.as_slice(),
+            &HELD_WHILE_DEFERRED,
         ),
-        ("the seventeenth is answered at once", SEVENTEEN.as_slice()),
-        (
-            "a release of nothing does nothing",
-            NO_SUCH_PLACE.as_slice(),
-        ),
+        session("the seventeenth is answered at once", &SEVENTEEN),
+        session("a release of nothing does nothing", &NO_SUCH_PLACE),
     ]
 }
 

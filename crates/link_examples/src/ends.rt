@@ -151,6 +151,21 @@ fn first_wrong<M: Machine + Drop>(
     None
 }
 
+/// A closed target over this machine, on the heap. No thread begins suspended.
+fn target_over<M: Machine + Drop>(rt: &impl Abort, alloc: Global, machine: M) -> Box<Target<M>>
+    requires { LivesWithin M.meaning standard_limits machine }
+{
+    let options = TargetOptions::new(false, 65_535).expect(rt, "the count limit is accepted");
+    let target = Target::new(alloc, machine, options).expect(rt, "memory");
+    Box::new(alloc, target).expect(rt, "memory")
+}
+
+/// A closed debugger whose first packet has this id, on the heap.
+fn debugger_from(rt: &impl Abort, alloc: Global, first_id: u32) -> Box<Debugger> {
+    let debugger = Debugger::with_first_id(alloc, first_id).expect(rt, "memory");
+    Box::new(alloc, debugger).expect(rt, "memory")
+}
+
 /// Of each of these moves comes what it says, with a debugger whose first packet has this id, and a target over this machine that defers.
 pub(crate) fn goes_under_ids<M: Machine + Drop>(
     rt: &impl Abort,
@@ -161,9 +176,8 @@ pub(crate) fn goes_under_ids<M: Machine + Drop>(
 )
     requires { LivesWithin M.meaning standard_limits machine }
 {
-    let options = TargetOptions::new(false, 65_535).expect(rt, "the count limit is accepted");
-    let mut target = Target::new(alloc, machine, options).expect(rt, "memory");
-    let mut debugger = Debugger::with_first_id(alloc, first_id).expect(rt, "memory");
+    let mut target = target_over(rt, alloc, machine);
+    let mut debugger = debugger_from(rt, alloc, first_id);
     let found = first_wrong(rt, alloc, &mut debugger, &mut target, moves);
     expect_same(rt, &found, &None);
 }

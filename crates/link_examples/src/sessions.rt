@@ -51,6 +51,11 @@ pub(crate) enum Line {
 /// What a session shows, and its lines.
 pub(crate) type Session = (&'static str, &'static [Line]);
 
+/// The session of these lines, which shows this. A table whose rows go through a call is proved in a part of the time.
+pub(crate) fn session(shows: &'static str, lines: &'static [Line]) -> Session {
+    (shows, lines)
+}
+
 /// All that can be asked of a link whose threads are 1 and 2, but the data of requests.
 #[derive(Clone, Copy, Debug, PartialEq, Eq)]
 pub(crate) struct Standing {
@@ -143,11 +148,12 @@ pub(crate) fn standing_of<M: Machine + Drop>(link: &Link<M>) -> Standing {
 }
 
 /// A link over this machine, in which no thread is suspended as the first session begins.
-pub(crate) fn linked<M: Machine + Drop>(rt: &impl Abort, alloc: Global, machine: M) -> Link<M>
+pub(crate) fn linked<M: Machine + Drop>(rt: &impl Abort, alloc: Global, machine: M) -> Box<Link<M>>
     requires { LivesWithin M.meaning standard_limits machine }
 {
     let options = TargetOptions::new(false, 65_535).expect(rt, "the count limit is accepted");
-    Link::new(alloc, machine, options).expect(rt, "memory")
+    let link = Link::new(alloc, machine, options).expect(rt, "memory");
+    Box::new(alloc, link).expect(rt, "memory")
 }
 
 /// Does these events, and appends what is told of them.

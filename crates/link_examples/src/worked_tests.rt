@@ -1,7 +1,7 @@
 //! Worked sessions, line by line, and their events in one run and in two.
 use crate::asserts::expect_same_for;
 use crate::machine_a::{go_on_a, stands_on_a};
-use crate::sessions::{Session, Standing, events_of, told_in};
+use crate::sessions::{Session, Standing, events_of, session, told_in};
 use crate::told::Told;
 use crate::worked::{
     COUNTED, CROSSED, DISPOSED, ENDED_UNSEEN, FRAMES_AGAIN, HELD_EVENTS, LOST_TWICE,
@@ -14,38 +14,29 @@ use std::process::Abort;
 /// The worked sessions.
 fn worked() -> [Session; 11] {
     [
-        ("a counted breakpoint reports once", COUNTED.as_slice()),
-        ("a suspend alone holds nobody", ENDED_UNSEEN.as_slice()),
-        (
-            "an event counts before the suspend it crossed",
-            CROSSED.as_slice(),
-        ),
-        (
-            "frames of a suspended thread are read again",
-            FRAMES_AGAIN.as_slice(),
-        ),
-        (
+        session("a counted breakpoint reports once", &COUNTED),
+        session("a suspend alone holds nobody", &ENDED_UNSEEN),
+        session("an event counts before the suspend it crossed", &CROSSED),
+        session("frames of a suspended thread are read again", &FRAMES_AGAIN),
+        session(
             "replies under way are read behind a loss at the target",
-            LOST_WITH_REPLIES.as_slice(),
+            &LOST_WITH_REPLIES,
         ),
-        (
+        session(
             "commands under way are handled behind a loss at the debugger",
-            LOST_WITH_COUNTS.as_slice(),
+            &LOST_WITH_COUNTS,
         ),
-        (
-            "a second loss at the debugger drops nothing",
-            LOST_TWICE.as_slice(),
-        ),
-        (
+        session("a second loss at the debugger drops nothing", &LOST_TWICE),
+        session(
             "a second loss at the target drops nothing",
-            TARGET_LOST_TWICE.as_slice(),
+            &TARGET_LOST_TWICE,
         ),
-        ("held events stop threads", HELD_EVENTS.as_slice()),
-        (
+        session("held events stop threads", &HELD_EVENTS),
+        session(
             "a reported death holds until the thread is resumed",
-            REPORTED_DEATH.as_slice(),
+            &REPORTED_DEATH,
         ),
-        ("what waits behind dispose is lost", DISPOSED.as_slice()),
+        session("what waits behind dispose is lost", &DISPOSED),
     ]
 }
 

@@ -1,6 +1,6 @@
 //! Sessions of a debugger whose turns and commands are refused.
 use crate::asserts::{expect_at_least, expect_same};
-use crate::debuggers::{Act, Wanted, done};
+use crate::debuggers::{Act, Wanted, debugger, done};
 use crate::supply::{Stop, Supply};
 use jdwp_debugger::Debugger;
 use std::alloc::Global;
@@ -74,7 +74,7 @@ static TAUGHT: [Act; 18] = [
 
 /// What comes of a list with memory, in words.
 fn with_memory(alloc: Global, acts: &[Act]) -> Result<String, Stop> {
-    let mut debugger = Debugger::new(alloc)?;
+    let mut debugger = debugger(alloc)?;
     done(alloc, &mut debugger, acts, &mut Supply::ample())
 }
 
@@ -88,7 +88,7 @@ fn once_more(alloc: Global, acts: &[Act]) -> Result<String, Stop> {
 
 /// What comes of a list whose calls find nothing at first, and how often they were refused.
 fn without_memory(alloc: Global, acts: &[Act]) -> Result<(String, u32), Stop> {
-    let mut debugger = Debugger::new(alloc)?;
+    let mut debugger = debugger(alloc)?;
     done_without_memory(alloc, &mut debugger, acts)
 }
 

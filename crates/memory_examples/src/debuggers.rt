@@ -21,6 +21,12 @@ pub(crate) enum Wanted {
     Unfit,
 }
 
+/// A closed debugger, on the heap.
+pub(crate) fn debugger(alloc: Global) -> Result<Box<Debugger>, Stop> {
+    let debugger = Debugger::new(alloc)?;
+    Ok(Box::new(alloc, debugger)?)
+}
+
 /// What is done with a debugger.
 #[derive(Clone, Copy)]
 pub(crate) enum Act {

@@ -73,13 +73,14 @@ fn standing_of<M: Machine + Drop>(link: &Link<M>) -> Standing {
 }
 
 /// A link over this machine, in which no thread is suspended as the first session begins.
-fn linked<M: Machine + Drop>(alloc: Global, machine: M) -> Result<Link<M>, Stop>
+fn linked<M: Machine + Drop>(alloc: Global, machine: M) -> Result<Box<Link<M>>, Stop>
     requires { LivesWithin M.meaning standard_limits machine }
 {
     let Some(options) = TargetOptions::new(false, 65_535) else {
         return Err(Stop::CountLimit);
     };
-    Ok(Link::new(alloc, machine, options)?)
+    let link = Link::new(alloc, machine, options)?;
+    Ok(Box::new(alloc, link)?)
 }
 
 /// A run of the first of these events, done again until one is done: how many were done, and what was told of them; and whether no run that

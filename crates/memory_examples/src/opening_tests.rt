@@ -10,6 +10,7 @@ use jdwp_link::Link;
 use jdwp_machine::Machine;
 use jdwp_script_machine::ScriptMachine;
 use jdwp_target::{Target, TargetOptions};
+use jdwp_wire::NoMemory;
 use scarce::Scarce;
 use std::alloc::Global;
 use std::process::Abort;
@@ -33,10 +34,15 @@ fn is_made<M: Machine + Drop>(alloc: Global, machine: M, options: TargetOptions,
     requires { LivesWithin M.meaning standard_limits machine }
 {
     match made {
-        Made::Target => Target::new(alloc, machine, options).is_ok(),
-        Made::Debugger => Debugger::new(alloc).is_ok(),
-        Made::Link => Link::new(alloc, machine, options).is_ok(),
+        Made::Target => is_there(Target::new(alloc, machine, options)),
+        Made::Debugger => is_there(Debugger::new(alloc)),
+        Made::Link => is_there(Link::new(alloc, machine, options)),
     }
+}
+
+/// Whether something was made; it is dropped.
+fn is_there<T: Drop>(made: Result<T, NoMemory>) -> bool {
+    made.is_ok()
 }
 
 /// Options with which no thread is suspended as the first session begins.

@@ -56,12 +56,13 @@ fn standing_of(target: &Target) -> Standing {
 }
 
 /// A target over this script, in whose first session no thread is suspended as it begins.
-pub(crate) fn target(alloc: Global, script: &str) -> Result<Target, Stop> {
+pub(crate) fn target(alloc: Global, script: &str) -> Result<Box<Target>, Stop> {
     let Some(options) = TargetOptions::new(false, 65_535) else {
         return Err(Stop::CountLimit);
     };
     let machine = ScriptMachine::read(alloc, script)?;
-    Ok(Target::new(alloc, machine, options)?)
+    let target = Target::new(alloc, machine, options)?;
+    Ok(Box::new(alloc, target)?)
 }
 
 /// A turn, done again until it isn't refused; and whether none that was changed anything.

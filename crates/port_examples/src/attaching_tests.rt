@@ -23,6 +23,12 @@ const PRINTED: &str = "< hello
 < 4 reply VirtualMachine.Dispose 0
 ";
 
+/// A closed debugger, on the heap.
+fn debugger(rt: &impl Abort, alloc: Global) -> Box<Debugger> {
+    let debugger = Debugger::new(alloc).expect(rt, "memory");
+    Box::new(alloc, debugger).expect(rt, "memory")
+}
+
 /// How a session of a new debugger by the plan ended on a connection at this port, and what was printed.
 fn attaches<S: Read + Write + OpenStream + Drop>(
     rt: &impl Abort,
@@ -31,7 +37,7 @@ fn attaches<S: Read + Write + OpenStream + Drop>(
     stream: S,
 ) -> (Attached, Vec<u8>) {
     let plan = read_plan(alloc, PLAN).expect(rt, "the plan is read");
-    let mut debugger = Debugger::new(alloc).expect(rt, "memory");
+    let mut debugger = debugger(rt, alloc);
     let mut out = Streams::new(io::empty(), Vec::new(alloc));
     let how = attach_stream(
         alloc,

@@ -13,11 +13,13 @@ use std::process::Abort;
 /// A target over the machine of a script.
 pub(crate) type Target = jdwp_target::Target<ScriptMachine>;
 
-/// A closed target over machine A, none of whose threads is suspended at the start.
-pub(crate) fn target(rt: &impl Abort, alloc: Global) -> Target {
+/// A closed target over machine A, none of whose threads is suspended at the start, on the heap: where a function holds one itself, each part
+/// of it is proved to be let go there.
+pub(crate) fn target(rt: &impl Abort, alloc: Global) -> Box<Target> {
     let settings = Settings::new(false, 65535, Limits::standard()).expect(rt, "a count limit");
     let machine = ScriptMachine::read(alloc, MACHINE_A).expect(rt, "the script is read");
-    Target::with_settings(alloc, machine, settings).expect(rt, "memory")
+    let target = Target::with_settings(alloc, machine, settings).expect(rt, "memory");
+    Box::new(alloc, target).expect(rt, "memory")
 }
 
 /// The handshake, IDSizes with id 1, Suspend with id 2, SuspendCount of thread 1 with id 3, Dispose with id 4.

@@ -176,6 +176,12 @@ struct Outcome {
     attaches_again: bool,
 }
 
+/// A closed debugger, on the heap: where a function holds one itself, each part of it is proved to be let go there.
+fn debugger(rt: &impl Abort, alloc: Global) -> Box<Debugger> {
+    let debugger = Debugger::new(alloc).expect(rt, "memory");
+    Box::new(alloc, debugger).expect(rt, "memory")
+}
+
 /// Runs a new debugger by a plan.
 fn run_on<'a, 'p>(
     rt: &impl Abort,
@@ -186,7 +192,7 @@ fn run_on<'a, 'p>(
     printer: Writer,
     turns: u64,
 ) -> Outcome {
-    let mut debugger = Debugger::new(alloc).expect(rt, "memory");
+    let mut debugger = debugger(rt, alloc);
     let mut pipe = Streams::new(input, target);
     let mut out = Streams::new(
         Reader {
@@ -784,7 +790,7 @@ fn run_of_none(alloc: Global, debugger: &mut Debugger) -> (Ended, bool) {
 /// A debugger whose session is open is refused, and nothing is touched.
 #[test]
 fn open_debugger_is_refused(rt: HostRuntime) {
-    let mut debugger = Debugger::new(rt.alloc()).expect(&rt, "memory");
+    let mut debugger = debugger(&rt, rt.alloc());
     assert!(rt; debugger.attach());
     let ran = run_of_none(rt.alloc(), &mut debugger);
     expect_same(&rt, &ran, &(Ended::Refused(0), true));

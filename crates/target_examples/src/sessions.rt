@@ -31,17 +31,18 @@ fn taken(rt: &impl Abort, alloc: Global, target: &mut Target) -> Vec<u8> {
     all
 }
 
-/// A closed target over this script.
+/// A closed target over this script, on the heap: where a function holds one itself, each part of it is proved to be let go there.
 pub(crate) fn target(
     rt: &impl Abort,
     alloc: Global,
     script: &str,
     start_all: bool,
     count_limit: u32,
-) -> Target {
+) -> Box<Target> {
     let options = TargetOptions::new(start_all, count_limit).expect(rt, "the count limit is taken");
     let machine = ScriptMachine::read(alloc, script).expect(rt, "the script is read");
-    Target::new(alloc, machine, options).expect(rt, "memory")
+    let target = Target::new(alloc, machine, options).expect(rt, "memory");
+    Box::new(alloc, target).expect(rt, "memory")
 }
 
 /// Begins a session: the handshake, whose answer is taken.

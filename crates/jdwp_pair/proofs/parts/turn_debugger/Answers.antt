@@ -1,4 +1,4 @@
-use Rattle.std.proofs.Common.{◌≤◌, ◌+◌, List, refl, subst, sym, ◌∙◌, ap, rules}
+use Rattle.std.proofs.Common.{◌≤◌, ◌+◌, List, refl, subst, ◌∙◌, rules}
 use Rattle.std.proofs.lemmas.Result.{err_from_is_err_and}
 use Rattle.jdwp_link.specs.declared.events.Outcome.{Outcome}
 use Rattle.jdwp_pair.specs.Events.{seen_in}

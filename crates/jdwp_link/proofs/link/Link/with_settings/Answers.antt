@@ -8,28 +8,28 @@ use Rattle.jdwp_link.proofs.link.Link.with_settings.Goals as goal
 pub invariant_of-result : goal.invariant_of-result
 invariant_of-result g c =
     let m = g.M.Machine.meaning in
-    let target : c.in_ok-target.target ≡ new_target c.args.settings (first-moment m c.args.machine) = search rules in
-    let debugger : c.in_ok-debugger.debugger ≡ new_debugger c.args.settings.limits 1 = search rules in
-    let to_target : c.in_ok-to_target.to_target.bytes ≡ [] = search rules in
-    let to_debugger : c.in_ok-to_debugger.to_debugger.bytes ≡ [] = search rules in
-    let first : c.in_ok-to_target.to_target.capacity ≡ most_outgoing c.args.settings.limits = search rules in
-    let second : c.in_ok-to_debugger.to_debugger.capacity ≡ most_outgoing c.args.settings.limits = search rules in
+    let target : c.in_ok-ends.ends.0 ≡ new_target c.args.settings (first-moment m c.args.machine) = search rules in
+    let debugger : c.in_ok-ends.ends.1 ≡ new_debugger c.args.settings.limits 1 = search rules in
+    let to_target : c.in_ok-kept.kept.0.bytes ≡ [] = search rules in
+    let to_debugger : c.in_ok-kept.kept.1.bytes ≡ [] = search rules in
+    let first : c.in_ok-kept.kept.0.capacity ≡ most_outgoing c.args.settings.limits = search rules in
+    let second : c.in_ok-kept.kept.1.capacity ≡ most_outgoing c.args.settings.limits = search rules in
     rw (target, debugger, to_target, to_debugger) (opening-right m c.args.settings c.args.machine _ _ c.begins.ensures first second)
 
 pub returns-clause-link : goal.returns-clause-link
 returns-clause-link g c =
     let m = g.M.Machine.meaning in
-    let target : c.in_ok-target.target ≡ new_target c.args.settings (first-moment m c.args.machine) = search rules in
-    let debugger : c.in_ok-debugger.debugger ≡ new_debugger c.args.settings.limits 1 = search rules in
-    let to_target : c.in_ok-to_target.to_target.bytes ≡ [] = search rules in
-    let to_debugger : c.in_ok-to_debugger.to_debugger.bytes ≡ [] = search rules in
+    let target : c.in_ok-ends.ends.0 ≡ new_target c.args.settings (first-moment m c.args.machine) = search rules in
+    let debugger : c.in_ok-ends.ends.1 ≡ new_debugger c.args.settings.limits 1 = search rules in
+    let to_target : c.in_ok-kept.kept.0.bytes ≡ [] = search rules in
+    let to_debugger : c.in_ok-kept.kept.1.bytes ≡ [] = search rules in
     rw (target, debugger, to_target, to_debugger) refl
 
 pub returns-clause-stands : goal.returns-clause-stands
 returns-clause-stands g c =
     let m = g.M.Machine.meaning in
-    let target : c.in_ok-target.target ≡ new_target c.args.settings (first-moment m c.args.machine) = search rules in
-    let debugger : c.in_ok-debugger.debugger ≡ new_debugger c.args.settings.limits 1 = search rules in
-    let to_target : c.in_ok-to_target.to_target.bytes ≡ [] = search rules in
-    let to_debugger : c.in_ok-to_debugger.to_debugger.bytes ≡ [] = search rules in
+    let target : c.in_ok-ends.ends.0 ≡ new_target c.args.settings (first-moment m c.args.machine) = search rules in
+    let debugger : c.in_ok-ends.ends.1 ≡ new_debugger c.args.settings.limits 1 = search rules in
+    let to_target : c.in_ok-kept.kept.0.bytes ≡ [] = search rules in
+    let to_debugger : c.in_ok-kept.kept.1.bytes ≡ [] = search rules in
     rw (target, debugger, to_target, to_debugger) (opening-stands m c.args.settings c.args.machine c.begins.ensures)
