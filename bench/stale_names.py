@@ -29,7 +29,7 @@ def words_of_sources(files):
         if not str(file).startswith(SOURCES):
             continue
         for part in file.parts:
-            words.update((part, part.split(".")[0]))
+            words.update((part, *part.split(".")))
         try:
             words.update(re.findall(r"[A-Za-z_][A-Za-z0-9_]*", file.read_text(encoding="utf-8")))
         except UnicodeDecodeError:

@@ -1,6 +1,7 @@
 //! What asking does, why it is refused, and whether something stands in front.
 use crate::asserts::expect_same;
 use crate::debuggers::{debugger, debugger_within};
+use example_parts::commands;
 use jdwp_debugger::{Command, Debugger, Refused, Ticket};
 use jdwp_layout::{Datum, Scalar};
 use jdwp_value::ObjectId;
@@ -31,12 +32,12 @@ fn begin(rt: &impl Abort, alloc: Global, debugger: &mut Debugger, width: u8) {
 }
 
 /// A command without data.
-fn plain(alloc: Global, set: u8, number: u8) -> Command {
+fn plain(alloc: Global, (set, number): (u8, u8)) -> Command {
     Command::new(set, number, Vec::new(alloc))
 }
 
 /// A command with one item as its data.
-fn with_one(rt: &impl Abort, alloc: Global, set: u8, number: u8, scalar: Scalar) -> Command {
+fn with_one(rt: &impl Abort, alloc: Global, (set, number): (u8, u8), scalar: Scalar) -> Command {
     let items = vec![in alloc; Datum::One(scalar)].expect(rt, "memory");
     Command::new(set, number, items)
 }
@@ -47,11 +48,16 @@ fn class_of(rt: &impl Abort, alloc: Global, length: usize) -> Command {
     for _ in 0..length {
         signature.push('x').expect(rt, "memory");
     }
-    with_one(rt, alloc, 1, 2, Scalar::String(signature))
+    with_one(
+        rt,
+        alloc,
+        commands::CLASSES_BY_SIGNATURE,
+        Scalar::String(signature),
+    )
 }
 
 /// Bytes as the command's data.
-fn raw(rt: &impl Abort, alloc: Global, set: u8, number: u8, length: usize) -> Command {
+fn raw(rt: &impl Abort, alloc: Global, (set, number): (u8, u8), length: usize) -> Command {
     let mut bytes = Vec::new(alloc);
     for _ in 0..length {
         bytes.push(0).expect(rt, "memory");
@@ -63,13 +69,13 @@ fn raw(rt: &impl Abort, alloc: Global, set: u8, number: u8, length: usize) -> Co
 #[derive(Clone, Copy)]
 enum Asks {
     /// One without data, of a set and a number.
-    Plain(u8, u8),
+    Plain((u8, u8)),
     /// The suspend count of a thread.
     Count(u64),
     /// The classes of a signature of so many bytes.
     Class(usize),
     /// So many bytes as the data of a set and a number.
-    Raw(u8, u8, usize),
+    Raw((u8, u8), usize),
 }
 
 /// What is done with a debugger, and what comes of it.
@@ -106,10 +112,15 @@ enum Act {
 /// The command that is asked; the suspend count is ThreadReference.SuspendCount.
 fn command(rt: &impl Abort, alloc: Global, asks: Asks) -> Command {
     match asks {
-        Asks::Plain(set, number) => plain(alloc, set, number),
-        Asks::Count(thread) => with_one(rt, alloc, 11, 12, Scalar::ObjectId(ObjectId(thread))),
+        Asks::Plain(command) => plain(alloc, command),
+        Asks::Count(thread) => with_one(
+            rt,
+            alloc,
+            commands::SUSPEND_COUNT,
+            Scalar::ObjectId(ObjectId(thread)),
+        ),
         Asks::Class(length) => class_of(rt, alloc, length),
-        Asks::Raw(set, number, length) => raw(rt, alloc, set, number, length),
+        Asks::Raw(command, length) => raw(rt, alloc, command, length),
     }
 }
 
@@ -157,7 +168,7 @@ fn loses(debugger: &mut Debugger, tickets: &[Ticket]) -> bool {
 /// Whether 64 commands are asked under the tickets from 1 on.
 fn fills(alloc: Global, debugger: &mut Debugger) -> bool {
     for ticket in 1..65u64 {
-        if debugger.ask(alloc, plain(alloc, 1, 8)) != Ok(Ticket(ticket)) {
+        if debugger.ask(alloc, plain(alloc, commands::SUSPEND)) != Ok(Ticket(ticket)) {
             return false;
         }
     }
@@ -208,7 +219,7 @@ fn goes_as_told(rt: &impl Abort, alloc: Global, width: Option<u8>, acts: &[Act])
 
 static PACKETS: [Act; 8] = [
     Act::Next(2),
-    Act::Gives(Asks::Plain(1, 8), 1),
+    Act::Gives(Asks::Plain(commands::SUSPEND), 1),
     Act::Gives(Asks::Count(1), 2),
     Act::Leaves(&[
         0, 0, 0, 11, 0, 0, 0, 2, 0, 1, 8, 0, 0, 0, 19, 0, 0, 0, 3, 0, 11, 12, 0, 0, 0, 0, 0, 0, 0,
@@ -227,15 +238,15 @@ fn packets_leave_in_the_order_asked(rt: HostRuntime) {
 
 static IDS_WRAP_AND_SKIP_THOSE_THAT_WAIT: [Act; 8] = [
     Act::Next(4_294_967_295),
-    Act::Gives(Asks::Plain(1, 8), 1),
-    Act::Gives(Asks::Plain(1, 8), 2),
-    Act::Gives(Asks::Plain(1, 8), 3),
+    Act::Gives(Asks::Plain(commands::SUSPEND), 1),
+    Act::Gives(Asks::Plain(commands::SUSPEND), 2),
+    Act::Gives(Asks::Plain(commands::SUSPEND), 3),
     Act::Leaves(&[
         0, 0, 0, 11, 255, 255, 255, 255, 0, 1, 8, 0, 0, 0, 11, 0, 0, 0, 0, 0, 1, 8, 0, 0, 0, 11, 0,
         0, 0, 1, 0, 1, 8,
     ]),
     Act::Next(4_294_967_295),
-    Act::Gives(Asks::Plain(1, 8), 4),
+    Act::Gives(Asks::Plain(commands::SUSPEND), 4),
     Act::Leaves(&[0, 0, 0, 11, 0, 0, 0, 2, 0, 1, 8]),
 ];
 
@@ -245,12 +256,12 @@ fn ids_wrap_and_skip_those_that_wait(rt: HostRuntime) {
 }
 
 static CLOSED_AND_UNREADY: [Act; 6] = [
-    Act::Refuses(Asks::Plain(1, 8), Refused::Closed),
+    Act::Refuses(Asks::Plain(commands::SUSPEND), Refused::Closed),
     Act::Attaches(true),
-    Act::Refuses(Asks::Plain(1, 99), Refused::NotReady),
+    Act::Refuses(Asks::Plain((1, 99)), Refused::NotReady),
     Act::Waits(14),
     Act::Loses(&[]),
-    Act::Refuses(Asks::Plain(1, 99), Refused::Closed),
+    Act::Refuses(Asks::Plain((1, 99)), Refused::Closed),
 ];
 
 #[test]
@@ -260,7 +271,7 @@ fn closed_and_unready_ends_ask_nothing(rt: HostRuntime) {
 
 static FULL: [Act; 4] = [
     Act::Fills,
-    Act::Refuses(Asks::Plain(1, 99), Refused::Busy),
+    Act::Refuses(Asks::Plain((1, 99)), Refused::Busy),
     Act::Waits(64 * 11),
     Act::LosesSoMany(64),
 ];
@@ -272,8 +283,8 @@ fn only_so_many_commands_wait(rt: HostRuntime) {
 
 /// One command waits, and the one behind it is refused.
 static ONE_WAITS: [Act; 4] = [
-    Act::Gives(Asks::Plain(1, 8), 1),
-    Act::Refuses(Asks::Plain(1, 9), Refused::Busy),
+    Act::Gives(Asks::Plain(commands::SUSPEND), 1),
+    Act::Refuses(Asks::Plain(commands::RESUME), Refused::Busy),
     Act::Waits(11),
     Act::LosesSoMany(1),
 ];
@@ -291,7 +302,7 @@ static ONLY_SO_MANY_BYTES_WAIT: [Act; 5] = [
     Act::Waits(0),
     Act::Gives(Asks::Class(65_521), 1),
     Act::Waits(65_536),
-    Act::Refuses(Asks::Plain(1, 8), Refused::Busy),
+    Act::Refuses(Asks::Plain(commands::SUSPEND), Refused::Busy),
 ];
 
 #[test]
@@ -300,16 +311,19 @@ fn only_so_many_bytes_wait(rt: HostRuntime) {
 }
 
 static DATA_HAVE_TO_FIT_THE_COMMAND: [Act; 12] = [
-    Act::Refuses(Asks::Plain(1, 99), Refused::BadCommand),
-    Act::Refuses(Asks::Plain(64, 100), Refused::BadCommand),
-    Act::Refuses(Asks::Plain(11, 12), Refused::BadCommand),
+    Act::Refuses(Asks::Plain((1, 99)), Refused::BadCommand),
+    Act::Refuses(Asks::Plain(commands::COMPOSITE), Refused::BadCommand),
+    Act::Refuses(Asks::Plain(commands::SUSPEND_COUNT), Refused::BadCommand),
     Act::Refuses(Asks::Count(256), Refused::BadCommand),
-    Act::Refuses(Asks::Raw(1, 8, 0), Refused::BadCommand),
-    Act::Refuses(Asks::Raw(11, 12, 70_000), Refused::BadCommand),
-    Act::Refuses(Asks::Plain(3, 3), Refused::BadCommand),
+    Act::Refuses(Asks::Raw(commands::SUSPEND, 0), Refused::BadCommand),
+    Act::Refuses(
+        Asks::Raw(commands::SUSPEND_COUNT, 70_000),
+        Refused::BadCommand,
+    ),
+    Act::Refuses(Asks::Plain((3, 3)), Refused::BadCommand),
     Act::Waits(0),
-    Act::Refuses(Asks::Raw(3, 3, 65_526), Refused::TooLong),
-    Act::Gives(Asks::Raw(3, 3, 2), 1),
+    Act::Refuses(Asks::Raw((3, 3), 65_526), Refused::TooLong),
+    Act::Gives(Asks::Raw((3, 3), 2), 1),
     Act::Gives(Asks::Count(255), 2),
     Act::Leaves(&[
         0, 0, 0, 13, 0, 0, 0, 1, 0, 3, 3, 0, 0, 0, 0, 0, 12, 0, 0, 0, 2, 0, 11, 12, 255,

@@ -1,6 +1,7 @@
 //! What commands ask and packets tell, and which packets no target may send.
 use crate::asserts::expect_same;
 use crate::mirror_tests::{event, event_of_none, of_thread, plain, with_int};
+use example_parts::commands;
 use jdwp_event::{Composite, EventKind};
 use jdwp_layout::{Answer, Data, Datum, Scalar};
 use jdwp_mirror::{
@@ -12,7 +13,7 @@ use std::process::Abort;
 
 /// Whether a suspend count of thread 1 is bad.
 fn is_bad_count(rt: &impl Abort, alloc: Global, count: i32) -> bool {
-    let command = of_thread(rt, alloc, 12, 1);
+    let command = of_thread(rt, alloc, commands::SUSPEND_COUNT, 1);
     let answer = with_int(rt, alloc, count);
     is_bad_answer(&command, &answer)
 }
@@ -41,12 +42,16 @@ fn is_bad_then_again(rt: &impl Abort, alloc: Global, composite: &Composite) -> (
 
 #[test]
 fn what_is_asked(rt: HostRuntime) {
-    expect_same(&rt, &plain(rt.alloc(), 1, 6).kind(), &CommandKind::Dispose);
+    expect_same(
+        &rt,
+        &plain(rt.alloc(), commands::DISPOSE).kind(),
+        &CommandKind::Dispose,
+    );
 }
 
 #[test]
 fn a_copied_command_asks_the_same(rt: HostRuntime) {
-    let command = of_thread(&rt, rt.alloc(), 12, 5);
+    let command = of_thread(&rt, rt.alloc(), commands::SUSPEND_COUNT, 5);
     let copy = command.copied(rt.alloc()).expect(&rt, "memory");
     expect_same(&rt, &(copy.set(), copy.number()), &(11, 12));
     expect_same(&rt, &copy.kind(), &CommandKind::SuspendCount);

@@ -1,8 +1,9 @@
 //! What a mirror learns, packet by packet, and what it shows then.
 use crate::asserts::expect_same;
+use example_parts::commands;
 use jdwp_debugger::{Command, Mirror};
 use jdwp_event::{Composite, Event, Modifier};
-use jdwp_layout::{Answer, Data, Datum, Scalar};
+use jdwp_layout::{Answer, Data, Datum, Scalar, numbers};
 use jdwp_value::ObjectId;
 use jdwp_wire::ErrorCode;
 use std::alloc::Global;
@@ -21,13 +22,18 @@ const THREAD_DEATH: u8 = 7;
 const VM_DEATH: u8 = 99;
 
 /// A command of ThreadReference about a thread.
-pub(crate) fn of_thread(rt: &impl Abort, alloc: Global, number: u8, thread: u64) -> Command {
+pub(crate) fn of_thread(
+    rt: &impl Abort,
+    alloc: Global,
+    (set, number): (u8, u8),
+    thread: u64,
+) -> Command {
     let items = vec![in alloc; Datum::One(Scalar::ObjectId(ObjectId(thread)))];
-    Command::new(11, number, items.expect(rt, "memory"))
+    Command::new(set, number, items.expect(rt, "memory"))
 }
 
 /// A command without data.
-pub(crate) fn plain(alloc: Global, set: u8, number: u8) -> Command {
+pub(crate) fn plain(alloc: Global, (set, number): (u8, u8)) -> Command {
     Command::new(set, number, Vec::new(alloc))
 }
 
@@ -78,7 +84,11 @@ fn set_request(rt: &impl Abort, alloc: Global, kind: u8) -> Command {
         Datum::One(Scalar::Byte(ALL)),
         modifiers,
     ];
-    Command::new(15, 1, items.expect(rt, "memory"))
+    Command::new(
+        numbers::EVENT_REQUEST,
+        numbers::SET_REQUEST,
+        items.expect(rt, "memory"),
+    )
 }
 
 /// The modifiers, which are a Count of 3.
@@ -94,14 +104,14 @@ enum Act {
     Event(u8, u8, u64),
     /// The machine's death, which is of no thread.
     Death,
-    /// A reply without data to a command of a set and a number that has none.
-    Done(u8, u8),
+    /// A reply without data to a command that has none.
+    Done((u8, u8)),
     /// The same with an error.
-    Fails(u8, u8, ErrorCode),
+    Fails((u8, u8), ErrorCode),
     /// A reply without data to a command of ThreadReference about a thread.
-    ThreadDone(u8, u64),
+    ThreadDone((u8, u8), u64),
     /// The same with an error.
-    ThreadFails(u8, u64, ErrorCode),
+    ThreadFails((u8, u8), u64, ErrorCode),
     /// The suspend count of a thread.
     Count(u64, i32),
     /// All threads.
@@ -160,12 +170,12 @@ fn hears(rt: &impl Abort, alloc: Global, mirror: &mut Mirror, act: &Act) -> bool
 /// The command that is replied to.
 fn asked(rt: &impl Abort, alloc: Global, act: &Act) -> Command {
     match act {
-        Act::Done(set, number) | Act::Fails(set, number, _) => plain(alloc, *set, *number),
-        Act::ThreadDone(number, thread) | Act::ThreadFails(number, thread, _) => {
-            of_thread(rt, alloc, *number, *thread)
+        Act::Done(command) | Act::Fails(command, _) => plain(alloc, *command),
+        Act::ThreadDone(command, thread) | Act::ThreadFails(command, thread, _) => {
+            of_thread(rt, alloc, *command, *thread)
         }
-        Act::Count(thread, _) => of_thread(rt, alloc, 12, *thread),
-        Act::Lists(_, _) => plain(alloc, 1, 4),
+        Act::Count(thread, _) => of_thread(rt, alloc, commands::SUSPEND_COUNT, *thread),
+        Act::Lists(_, _) => plain(alloc, commands::ALL_THREADS),
         Act::Sets(kind, _) | Act::SetFails(kind, _) => set_request(rt, alloc, *kind),
         Act::Clears(kind, id) => clear(rt, alloc, *kind, *id),
         _ => panic!(rt; "no reply"),
@@ -175,7 +185,7 @@ fn asked(rt: &impl Abort, alloc: Global, act: &Act) -> Command {
 /// The answer in the reply.
 fn answered(rt: &impl Abort, alloc: Global, act: &Act) -> Answer {
     match act {
-        Act::Fails(_, _, error) | Act::ThreadFails(_, _, error) | Act::SetFails(_, error) => {
+        Act::Fails(_, error) | Act::ThreadFails(_, _, error) | Act::SetFails(_, error) => {
             Answer::Error(*error)
         }
         Act::Count(_, int) | Act::Sets(_, int) => with_int(rt, alloc, *int),
@@ -201,7 +211,11 @@ fn entry(rt: &impl Abort, alloc: Global, thread: u64) -> Vec<Scalar> {
 /// EventRequest.Clear of a kind and an id.
 fn clear(rt: &impl Abort, alloc: Global, kind: u8, id: i32) -> Command {
     let items = vec![in alloc; Datum::One(Scalar::Byte(kind)), Datum::One(Scalar::Int(id))];
-    Command::new(15, 2, items.expect(rt, "memory"))
+    Command::new(
+        numbers::EVENT_REQUEST,
+        numbers::CLEAR_REQUEST,
+        items.expect(rt, "memory"),
+    )
 }
 
 /// Whether these are the threads that it knows, each with its count, and whether it is held.
@@ -270,15 +284,15 @@ fn events_teach_their_thread(rt: HostRuntime) {
 static SUSPENDS_AND_RESUMES_CHANGE_COUNTS: [Act; 12] = [
     FIRST,
     SECOND,
-    Act::Done(1, 8),
+    Act::Done(commands::SUSPEND),
     Act::Knows(&[(1, 2, true), (2, 1, false)]),
-    Act::Done(1, 9),
+    Act::Done(commands::RESUME),
     Act::Knows(&[(1, 1, true), (2, 0, false)]),
-    Act::Done(1, 9),
+    Act::Done(commands::RESUME),
     Act::Knows(&[(1, 0, false), (2, 0, false)]),
-    Act::ThreadDone(2, 2),
-    Act::ThreadDone(2, 2),
-    Act::ThreadDone(3, 2),
+    Act::ThreadDone(commands::SUSPEND_THREAD, 2),
+    Act::ThreadDone(commands::SUSPEND_THREAD, 2),
+    Act::ThreadDone(commands::RESUME_THREAD, 2),
     Act::Knows(&[(1, 0, false), (2, 1, true)]),
 ];
 
@@ -290,9 +304,9 @@ fn suspends_and_resumes_change_counts(rt: HostRuntime) {
 static REPLIES_SHOW_THREADS_ALIVE: [Act; 12] = [
     FIRST,
     SECOND,
-    Act::Done(1, 8),
+    Act::Done(commands::SUSPEND),
     Act::Shows(2, Some(1), false),
-    Act::ThreadDone(4, 2),
+    Act::ThreadDone(commands::THREAD_STATUS, 2),
     Act::Shows(2, Some(1), true),
     Act::Count(3, 4),
     Act::Knows(&[(1, 2, true), (2, 1, true), (3, 4, true)]),
@@ -310,7 +324,7 @@ fn replies_show_threads_alive(rt: HostRuntime) {
 static LISTS_OF_ALL_THREADS_FORGET_THE_OTHERS: [Act; 5] = [
     FIRST,
     SECOND,
-    Act::Done(1, 8),
+    Act::Done(commands::SUSPEND),
     Act::Lists(2, 3),
     Act::Knows(&[(2, 1, true)]),
 ];
@@ -323,11 +337,11 @@ fn lists_of_all_threads_forget_the_others(rt: HostRuntime) {
 static THREADS_THAT_ARE_NOT_ALIVE_ARE_FORGOTTEN: [Act; 12] = [
     FIRST,
     SECOND,
-    Act::ThreadFails(6, 1, ErrorCode::THREAD_NOT_SUSPENDED),
-    Act::ThreadFails(6, 1, ErrorCode::INTERNAL),
-    Act::Fails(1, 8, ErrorCode::INVALID_THREAD),
+    Act::ThreadFails(commands::FRAMES, 1, ErrorCode::THREAD_NOT_SUSPENDED),
+    Act::ThreadFails(commands::FRAMES, 1, ErrorCode::INTERNAL),
+    Act::Fails(commands::SUSPEND, ErrorCode::INVALID_THREAD),
     Act::Knows(&[(1, 1, true), (2, 0, false)]),
-    Act::ThreadFails(6, 1, ErrorCode::INVALID_THREAD),
+    Act::ThreadFails(commands::FRAMES, 1, ErrorCode::INVALID_THREAD),
     Act::Knows(&[(2, 0, false)]),
     Act::Event(THREAD_DEATH, EVENT_THREAD, 2),
     Act::Knows(&[(2, 1, true)]),
@@ -348,7 +362,7 @@ static THREADS_BEHIND_A_FORGOTTEN_ONE_ARE_FOUND: [Act; 11] = [
     Act::Shows(1, None, false),
     Act::Shows(2, Some(0), false),
     Act::Shows(3, Some(1), true),
-    Act::ThreadDone(2, 2),
+    Act::ThreadDone(commands::SUSPEND_THREAD, 2),
     Act::Knows(&[(2, 1, true), (3, 1, true)]),
     FIRST,
     Act::Knows(&[(2, 1, true), (3, 1, true), (1, 1, true)]),
@@ -371,7 +385,7 @@ static REQUESTS_ARE_KEPT_AS_ASKED: [Act; 15] = [
     Act::Keeps(&[(-5, 1), (3, 2), (1, 1)]),
     Act::Clears(1, -5),
     Act::Keeps(&[(3, 2), (1, 1)]),
-    Act::Done(15, 3),
+    Act::Done(commands::CLEAR_ALL_BREAKPOINTS),
     Act::Keeps(&[(1, 1)]),
     Act::Event(1, ALL, 1),
     Act::Keeps(&[(1, 1)]),
@@ -383,14 +397,14 @@ fn requests_are_kept_as_asked(rt: HostRuntime) {
 }
 
 /// A command of VirtualMachine that ends the session, or the machine, empties a mirror once it is done.
-fn ends(rt: &impl Abort, alloc: Global, number: u8) {
+fn ends(rt: &impl Abort, alloc: Global, command: (u8, u8)) {
     let acts = [
         FIRST,
         SECOND,
         Act::Sets(2, 1),
-        Act::Fails(1, number, ErrorCode::INTERNAL),
+        Act::Fails(command, ErrorCode::INTERNAL),
         Act::Knows(&[(1, 1, true), (2, 0, false)]),
-        Act::Done(1, number),
+        Act::Done(command),
         Act::Knows(&[]),
         Act::Keeps(&[]),
     ];
@@ -399,8 +413,8 @@ fn ends(rt: &impl Abort, alloc: Global, number: u8) {
 
 #[test]
 fn ends_empty_the_mirror(rt: HostRuntime) {
-    ends(&rt, rt.alloc(), 6);
-    ends(&rt, rt.alloc(), 10);
+    ends(&rt, rt.alloc(), commands::DISPOSE);
+    ends(&rt, rt.alloc(), commands::EXIT);
 }
 
 static DEATH: [Act; 5] = [

@@ -1,6 +1,6 @@
 //! Commands that are read, by worked examples: ids have 8 bytes.
 use crate::asserts::expect_same;
-use example_parts::bytes;
+use example_parts::{bytes, commands};
 use jdwp_debuggee::{Action, ParsedCommand, read_command};
 use jdwp_event::Modifier;
 use jdwp_layout::{Scalar, layout_of, write};
@@ -16,7 +16,7 @@ fn sizes(rt: &impl Abort) -> IdSizes {
 }
 
 /// What is read of the command whose data are these bytes.
-fn asked(rt: &impl Abort, alloc: Global, set: u8, number: u8, hex: &str) -> ParsedCommand {
+fn asked(rt: &impl Abort, alloc: Global, (set, number): (u8, u8), hex: &str) -> ParsedCommand {
     let data = bytes(alloc, hex).expect(rt, "memory");
     let asked = read_command(alloc, set, number, &sizes(rt), &data);
     asked.expect(rt, "memory")
@@ -27,11 +27,10 @@ fn is_question(
     rt: &impl Abort,
     alloc: Global,
     query: &Query,
-    set: u8,
-    number: u8,
+    command: (u8, u8),
     hex: &str,
 ) -> bool {
-    query.set == set && query.number == number && is_written(rt, alloc, query, hex)
+    (query.set, query.number) == command && is_written(rt, alloc, query, hex)
 }
 
 /// Whether the data of a question are written as these bytes.
@@ -59,128 +58,166 @@ fn refused(asked: &ParsedCommand) -> Option<u16> {
     }
 }
 
-/// The name of the action, the thread that it names, and its question, where it has them.
-fn named(asked: &ParsedCommand) -> (&'static str, Option<ObjectId>, Option<&Query>) {
-    let ParsedCommand::Carries(action) = asked else {
-        return ("refused", None, None);
-    };
+/// The name of the action.
+fn name_of(action: &Action) -> &'static str {
     match action {
-        Action::Suspend => ("Suspend", None, None),
-        Action::Resume => ("Resume", None, None),
-        Action::Dispose => ("Dispose", None, None),
-        Action::Exit => ("Exit", None, None),
-        Action::HoldEvents => ("HoldEvents", None, None),
-        Action::ReleaseEvents => ("ReleaseEvents", None, None),
-        Action::SetRequest { .. } => ("SetRequest", None, None),
-        Action::ClearRequest { .. } => ("ClearRequest", None, None),
-        Action::ClearBreakpoints => ("ClearBreakpoints", None, None),
-        Action::SuspendThread(thread) => ("SuspendThread", Some(*thread), None),
-        Action::ResumeThread(thread) => ("ResumeThread", Some(*thread), None),
-        Action::SuspendCount(thread) => ("SuspendCount", Some(*thread), None),
-        Action::ThreadStatus(thread) => ("ThreadStatus", Some(*thread), None),
-        Action::SetSlots { thread, .. } => ("SetSlots", Some(*thread), None),
-        Action::AskFrames(thread, query) => ("AskFrames", Some(*thread), Some(query)),
-        Action::AskThread(thread, query) => ("AskThread", Some(*thread), Some(query)),
-        Action::AllThreads => ("AllThreads", None, None),
-        Action::IdSizes => ("IdSizes", None, None),
-        Action::Ask(query) => ("Ask", None, Some(query)),
+        Action::Suspend => "Suspend",
+        Action::Resume => "Resume",
+        Action::Dispose => "Dispose",
+        Action::Exit => "Exit",
+        Action::HoldEvents => "HoldEvents",
+        Action::ReleaseEvents => "ReleaseEvents",
+        Action::SetRequest { .. } => "SetRequest",
+        Action::ClearRequest { .. } => "ClearRequest",
+        Action::ClearBreakpoints => "ClearBreakpoints",
+        Action::SuspendThread(_) => "SuspendThread",
+        Action::ResumeThread(_) => "ResumeThread",
+        Action::SuspendCount(_) => "SuspendCount",
+        Action::ThreadStatus(_) => "ThreadStatus",
+        Action::SetSlots { .. } => "SetSlots",
+        Action::AskFrames(..) => "AskFrames",
+        Action::AskThread(..) => "AskThread",
+        Action::AllThreads => "AllThreads",
+        Action::IdSizes => "IdSizes",
+        Action::Ask(_) => "Ask",
     }
+}
+
+/// The thread that the action names, if it names one.
+fn thread_of(action: &Action) -> Option<ObjectId> {
+    match action {
+        Action::SuspendThread(thread)
+        | Action::ResumeThread(thread)
+        | Action::SuspendCount(thread)
+        | Action::ThreadStatus(thread)
+        | Action::SetSlots { thread, .. }
+        | Action::AskFrames(thread, _)
+        | Action::AskThread(thread, _) => Some(*thread),
+        _ => None,
+    }
+}
+
+/// The question of the action, if it has one.
+fn query_of(action: &Action) -> Option<&Query> {
+    match action {
+        Action::AskFrames(_, query) | Action::AskThread(_, query) | Action::Ask(query) => {
+            Some(query)
+        }
+        _ => None,
+    }
+}
+
+/// The action that a command is, which has this name and names this thread.
+fn action_of(
+    rt: &impl Abort,
+    alloc: Global,
+    command: (u8, u8),
+    hex: &str,
+    name: &str,
+    thread: Option<ObjectId>,
+) -> Action {
+    let ParsedCommand::Carries(action) = asked(rt, alloc, command, hex) else {
+        panic!(rt; "a command that is carried out");
+    };
+    expect_same(rt, &name_of(&action), &name);
+    expect_same(rt, &thread_of(&action), &thread);
+    action
 }
 
 /// The command is this action, which names this thread and has no question.
 fn is_named(
     rt: &impl Abort,
     alloc: Global,
-    set: u8,
-    number: u8,
+    command: (u8, u8),
     hex: &str,
     name: &str,
     thread: Option<ObjectId>,
 ) {
-    let asked = asked(rt, alloc, set, number, hex);
-    let (found, named_thread, query) = named(&asked);
-    expect_same(rt, &found, &name);
-    expect_same(rt, &named_thread, &thread);
-    assert!(rt; query.is_none());
+    let action = action_of(rt, alloc, command, hex, name, thread);
+    assert!(rt; query_of(&action).is_none());
 }
 
-static OF_NO_THREAD: [(u8, u8, &str, &str); 9] = [
-    (1, 8, "", "Suspend"),
-    (1, 9, "", "Resume"),
-    (1, 6, "", "Dispose"),
-    (1, 10, "00000005", "Exit"),
-    (1, 15, "", "HoldEvents"),
-    (1, 16, "", "ReleaseEvents"),
-    (1, 7, "", "IdSizes"),
-    (1, 4, "", "AllThreads"),
-    (15, 3, "", "ClearBreakpoints"),
+static OF_NO_THREAD: [((u8, u8), &str, &str); 9] = [
+    (commands::SUSPEND, "", "Suspend"),
+    (commands::RESUME, "", "Resume"),
+    (commands::DISPOSE, "", "Dispose"),
+    (commands::EXIT, "00000005", "Exit"),
+    (commands::HOLD_EVENTS, "", "HoldEvents"),
+    (commands::RELEASE_EVENTS, "", "ReleaseEvents"),
+    (commands::ID_SIZES, "", "IdSizes"),
+    (commands::ALL_THREADS, "", "AllThreads"),
+    (commands::CLEAR_ALL_BREAKPOINTS, "", "ClearBreakpoints"),
 ];
 
 #[test]
 fn commands_of_no_thread(rt: HostRuntime) {
-    for &(set, number, hex, name) in OF_NO_THREAD.iter() {
-        is_named(&rt, rt.alloc(), set, number, hex, name, None);
+    for &(command, hex, name) in OF_NO_THREAD.iter() {
+        is_named(&rt, rt.alloc(), command, hex, name, None);
     }
 }
 
 #[test]
 fn commands_of_a_thread(rt: HostRuntime) {
-    for (number, name) in [
-        (2, "SuspendThread"),
-        (3, "ResumeThread"),
-        (4, "ThreadStatus"),
-        (12, "SuspendCount"),
+    for (command, name) in [
+        (commands::SUSPEND_THREAD, "SuspendThread"),
+        (commands::RESUME_THREAD, "ResumeThread"),
+        (commands::THREAD_STATUS, "ThreadStatus"),
+        (commands::SUSPEND_COUNT, "SuspendCount"),
     ] {
         let hex = "0000000000000007";
         let thread = Some(ObjectId(7));
-        is_named(&rt, rt.alloc(), 11, number, hex, name, thread);
+        is_named(&rt, rt.alloc(), command, hex, name, thread);
     }
 }
 
-/// Questions: the set, the number, the data, the action, and the thread that it names.
-static QUESTIONS: [(u8, u8, &str, &str, Option<ObjectId>); 6] = [
+/// Questions: the command, the data, the action, and the thread that it names.
+static QUESTIONS: [((u8, u8), &str, &str, Option<ObjectId>); 6] = [
     (
-        11,
-        6,
+        commands::FRAMES,
         "0000000000000007 00000000 ffffffff",
         "AskFrames",
         Some(ObjectId(7)),
     ),
-    (11, 7, "0000000000000007", "AskFrames", Some(ObjectId(7))),
     (
-        16,
-        3,
+        commands::FRAME_COUNT,
+        "0000000000000007",
+        "AskFrames",
+        Some(ObjectId(7)),
+    ),
+    (
+        commands::THIS_OBJECT,
         "0000000000000007 0000000000000009",
         "AskFrames",
         Some(ObjectId(7)),
     ),
-    (11, 1, "0000000000000007", "AskThread", Some(ObjectId(7))),
-    (2, 1, "00000000000000aa", "Ask", None),
-    (1, 1, "", "Ask", None),
+    (
+        commands::THREAD_NAME,
+        "0000000000000007",
+        "AskThread",
+        Some(ObjectId(7)),
+    ),
+    (commands::SIGNATURE, "00000000000000aa", "Ask", None),
+    (commands::VERSION, "", "Ask", None),
 ];
 
 /// The command is this action, which names this thread and has the command as its question.
 fn asks(
     rt: &impl Abort,
     alloc: Global,
-    set: u8,
-    number: u8,
+    command: (u8, u8),
     hex: &str,
     name: &str,
     thread: Option<ObjectId>,
 ) {
-    let asked = asked(rt, alloc, set, number, hex);
-    let (found, named_thread, query) = named(&asked);
-    expect_same(rt, &found, &name);
-    expect_same(rt, &named_thread, &thread);
-    let query = query.expect(rt, "a question");
-    assert!(rt; is_question(rt, alloc, query, set, number, hex));
+    let action = action_of(rt, alloc, command, hex, name, thread);
+    let query = query_of(&action).expect(rt, "a question");
+    assert!(rt; is_question(rt, alloc, query, command, hex));
 }
 
 #[test]
 fn questions(rt: HostRuntime) {
-    for &(set, number, hex, name, thread) in QUESTIONS.iter() {
-        asks(&rt, rt.alloc(), set, number, hex, name, thread);
+    for &(command, hex, name, thread) in QUESTIONS.iter() {
+        asks(&rt, rt.alloc(), command, hex, name, thread);
     }
 }
 
@@ -194,13 +231,13 @@ fn cleared(asked: &ParsedCommand) -> Option<(u8, i32)> {
 
 #[test]
 fn a_request_that_is_cleared(rt: HostRuntime) {
-    let asked = asked(&rt, rt.alloc(), 15, 2, "02 00000003");
+    let asked = asked(&rt, rt.alloc(), commands::CLEAR_REQUEST, "02 00000003");
     expect_same(&rt, &cleared(&asked), &Some((2, 3)));
 }
 
 /// The kind, the policy and the entries of the modifiers of a Set.
 fn request(rt: &impl Abort, alloc: Global, hex: &str) -> (u8, u8, Vec<Vec<Scalar>>) {
-    match asked(rt, alloc, 15, 1, hex) {
+    match asked(rt, alloc, commands::SET_REQUEST, hex) {
         ParsedCommand::Carries(
             Action::SetRequest {
                 kind,
@@ -274,51 +311,55 @@ fn slots_of(asked: &ParsedCommand) -> Option<(ObjectId, FrameId, &[(i32, Value)]
 #[test]
 fn slots(rt: HostRuntime) {
     let data = "0000000000000007 0000000000000009 00000002 00000001 49 0000002a 00000002 5a 01";
-    let asked = asked(&rt, rt.alloc(), 16, 2, data);
+    let asked = asked(&rt, rt.alloc(), commands::SET_SLOTS, data);
     let (thread, frame, values) = slots_of(&asked).expect(&rt, "SetValues");
     expect_same(&rt, &(thread, frame), &(ObjectId(7), FrameId(9)));
     assert!(rt; are_two_slots(values));
 }
 
 /// NOT_IMPLEMENTED is 99, and ILLEGAL_ARGUMENT is 103.
-static REFUSALS: [(u8, u8, &str, u16); 23] = [
+static REFUSALS: [((u8, u8), &str, u16); 23] = [
     // no such set, no such command, commands of the other end, and those that targets do not implement
-    (7, 1, "", 99),
-    (128, 1, "", 99),
-    (1, 23, "", 99),
-    (1, 0, "00", 99),
-    (64, 100, "", 99),
-    (11, 10, "", 99),
-    (1, 13, "", 99),
-    (3, 3, "00", 99),
+    ((7, 1), "", 99),
+    ((128, 1), "", 99),
+    ((1, 23), "", 99),
+    ((1, 0), "00", 99),
+    (commands::COMPOSITE, "", 99),
+    ((11, 10), "", 99),
+    ((1, 13), "", 99),
+    ((3, 3), "00", 99),
     // bytes too few, or left over
-    (1, 8, "00", 103),
-    (1, 4, "00", 103),
-    (1, 10, "000000", 103),
-    (1, 10, "0000000000", 103),
-    (15, 3, "00", 103),
-    (15, 2, "02 000000", 103),
-    (15, 2, "02 00000003 00", 103),
-    (15, 2, "", 103),
-    (11, 2, "00000000000007", 103),
-    (11, 3, "000000000000000700", 103),
-    (11, 4, "", 103),
-    (11, 12, "00", 103),
-    (11, 6, "0000000000000007 00000000 ffffffff 00", 103),
+    (commands::SUSPEND, "00", 103),
+    (commands::ALL_THREADS, "00", 103),
+    (commands::EXIT, "000000", 103),
+    (commands::EXIT, "0000000000", 103),
+    (commands::CLEAR_ALL_BREAKPOINTS, "00", 103),
+    (commands::CLEAR_REQUEST, "02 000000", 103),
+    (commands::CLEAR_REQUEST, "02 00000003 00", 103),
+    (commands::CLEAR_REQUEST, "", 103),
+    (commands::SUSPEND_THREAD, "00000000000007", 103),
+    (commands::RESUME_THREAD, "000000000000000700", 103),
+    (commands::THREAD_STATUS, "", 103),
+    (commands::SUSPEND_COUNT, "00", 103),
+    (
+        commands::FRAMES,
+        "0000000000000007 00000000 ffffffff 00",
+        103,
+    ),
     // a modifier of no kind, and a negative count of modifiers
-    (15, 1, "06 01 00000001 0d", 103),
-    (15, 1, "06 01 ffffffff", 103),
+    (commands::SET_REQUEST, "06 01 00000001 0d", 103),
+    (commands::SET_REQUEST, "06 01 ffffffff", 103),
 ];
 
 /// The command is refused with this error.
-fn is_refused(rt: &impl Abort, alloc: Global, set: u8, number: u8, hex: &str, error: u16) {
-    let asked = asked(rt, alloc, set, number, hex);
+fn is_refused(rt: &impl Abort, alloc: Global, command: (u8, u8), hex: &str, error: u16) {
+    let asked = asked(rt, alloc, command, hex);
     expect_same(rt, &refused(&asked), &Some(error));
 }
 
 #[test]
 fn refusals(rt: HostRuntime) {
-    for &(set, number, hex, error) in REFUSALS.iter() {
-        is_refused(&rt, rt.alloc(), set, number, hex, error);
+    for &(command, hex, error) in REFUSALS.iter() {
+        is_refused(&rt, rt.alloc(), command, hex, error);
     }
 }

@@ -1,9 +1,9 @@
 //! What turns do with a target's bytes.
 use crate::asserts::expect_same;
 use crate::debuggers::debugger;
-use example_parts::bytes;
+use example_parts::{bytes, commands};
 use jdwp_debugger::{Command, Debugger, DebuggerFault, Head, KnownThreads, Read, Ticket};
-use jdwp_layout::{Datum, Scalar};
+use jdwp_layout::{Datum, Scalar, numbers};
 use jdwp_value::ObjectId;
 use std::alloc::Global;
 use std::process::Abort;
@@ -49,12 +49,12 @@ fn outcome(told: &Result<Read, DebuggerFault>) -> Tells {
 /// A command.
 #[derive(Clone, Copy)]
 enum Wanted {
-    /// Of a set and a number, without data.
-    Plain(u8, u8),
+    /// Without data.
+    Plain((u8, u8)),
     /// VirtualMachine.Exit with this status.
     Exit(i32),
-    /// ThreadReference's of a number, on a thread.
-    OfThread(u8, u64),
+    /// On a thread.
+    OfThread((u8, u8), u64),
     /// EventRequest.Set of a kind, with the policy ALL and no modifier.
     Request(u8),
     /// EventRequest.Clear of a kind and an id.
@@ -64,10 +64,10 @@ enum Wanted {
 /// The command that is wanted.
 fn command(rt: &impl Abort, alloc: Global, wanted: Wanted) -> Command {
     match wanted {
-        Wanted::Plain(set, number) => Command::new(set, number, Vec::new(alloc)),
-        Wanted::Exit(status) => with_one(rt, alloc, 1, 10, Scalar::Int(status)),
-        Wanted::OfThread(number, thread) => {
-            with_one(rt, alloc, 11, number, Scalar::ObjectId(ObjectId(thread)))
+        Wanted::Plain((set, number)) => Command::new(set, number, Vec::new(alloc)),
+        Wanted::Exit(status) => with_one(rt, alloc, commands::EXIT, Scalar::Int(status)),
+        Wanted::OfThread(command, thread) => {
+            with_one(rt, alloc, command, Scalar::ObjectId(ObjectId(thread)))
         }
         Wanted::Request(kind) => request(rt, alloc, kind),
         Wanted::Clear(kind, id) => clear(rt, alloc, kind, id),
@@ -75,7 +75,7 @@ fn command(rt: &impl Abort, alloc: Global, wanted: Wanted) -> Command {
 }
 
 /// A command with one item as its data.
-fn with_one(rt: &impl Abort, alloc: Global, set: u8, number: u8, scalar: Scalar) -> Command {
+fn with_one(rt: &impl Abort, alloc: Global, (set, number): (u8, u8), scalar: Scalar) -> Command {
     let items = vec![in alloc; Datum::One(scalar)];
     Command::new(set, number, items.expect(rt, "memory"))
 }
@@ -87,13 +87,21 @@ fn request(rt: &impl Abort, alloc: Global, kind: u8) -> Command {
         Datum::One(Scalar::Byte(2)),
         Datum::Many(Vec::new(alloc)),
     ];
-    Command::new(15, 1, items.expect(rt, "memory"))
+    Command::new(
+        numbers::EVENT_REQUEST,
+        numbers::SET_REQUEST,
+        items.expect(rt, "memory"),
+    )
 }
 
 /// EventRequest.Clear of a kind and an id.
 fn clear(rt: &impl Abort, alloc: Global, kind: u8, id: i32) -> Command {
     let items = vec![in alloc; Datum::One(Scalar::Byte(kind)), Datum::One(Scalar::Int(id))];
-    Command::new(15, 2, items.expect(rt, "memory"))
+    Command::new(
+        numbers::EVENT_REQUEST,
+        numbers::CLEAR_REQUEST,
+        items.expect(rt, "memory"),
+    )
 }
 
 /// What is done with a debugger, and what comes of it.
@@ -365,19 +373,19 @@ static EVENTS_AND_REPLIES_CHANGE_COUNTS: [Act; 25] = [
         &[4],
     ),
     Act::Knows(&[(1, 3, true), (2, 2, true)]),
-    Act::Asks(Wanted::Plain(1, 9), 1),
+    Act::Asks(Wanted::Plain(commands::RESUME), 1),
     Act::Knows(&[(1, 3, true), (2, 2, true)]),
     Act::Reads("0000000b 00000002 80 0000", Tells::Answered(1), &[2]),
     Act::Knows(&[(1, 2, true), (2, 1, true)]),
-    Act::Asks(Wanted::Plain(1, 8), 2),
+    Act::Asks(Wanted::Plain(commands::SUSPEND), 2),
     Act::Reads("0000000b 00000003 80 0000", Tells::Answered(2), &[3]),
     Act::Knows(&[(1, 3, true), (2, 2, true)]),
-    Act::Asks(Wanted::OfThread(3, 2), 3),
-    Act::Asks(Wanted::OfThread(3, 2), 4),
+    Act::Asks(Wanted::OfThread(commands::RESUME_THREAD, 2), 3),
+    Act::Asks(Wanted::OfThread(commands::RESUME_THREAD, 2), 4),
     Act::Reads("0000000b 00000005 80 0000", Tells::Answered(4), &[5]),
     Act::Reads("0000000b 00000004 80 0000", Tells::Answered(3), &[4]),
     Act::Knows(&[(1, 3, true), (2, 0, false)]),
-    Act::Asks(Wanted::OfThread(2, 2), 5),
+    Act::Asks(Wanted::OfThread(commands::SUSPEND_THREAD, 2), 5),
     Act::Reads("0000000b 00000006 80 0000", Tells::Answered(5), &[6]),
     Act::Knows(&[(1, 3, true), (2, 1, true)]),
 ];
@@ -393,26 +401,26 @@ static REPLIES_TEACH_AND_FORGET_THREADS: [Act; 21] = [
     Act::Reads(VM_START, Tells::Parked, &[]),
     Act::Reads(SIZES, Tells::Sizes(1), &[1, 1]),
     Act::Knows(&[(1, 0, false)]),
-    Act::Asks(Wanted::OfThread(12, 3), 1),
+    Act::Asks(Wanted::OfThread(commands::SUSPEND_COUNT, 3), 1),
     Act::Reads(
         "0000000f 00000002 80 0000 00000004",
         Tells::Answered(1),
         &[2],
     ),
     Act::Knows(&[(1, 0, false), (3, 4, true)]),
-    Act::Asks(Wanted::OfThread(1, 1), 2),
+    Act::Asks(Wanted::OfThread(commands::THREAD_NAME, 1), 2),
     Act::Reads("0000000b 00000003 80 0071", Tells::Answered(2), &[3]),
     Act::Knows(&[(1, 0, false), (3, 4, true)]),
-    Act::Asks(Wanted::OfThread(1, 1), 3),
+    Act::Asks(Wanted::OfThread(commands::THREAD_NAME, 1), 3),
     Act::Reads("0000000b 00000004 80 000a", Tells::Answered(3), &[4]),
     Act::Knows(&[(3, 4, true)]),
-    Act::Asks(Wanted::OfThread(12, 2), 4),
+    Act::Asks(Wanted::OfThread(commands::SUSPEND_COUNT, 2), 4),
     Act::Reads(
         "0000000f 00000005 80 0000 00000000",
         Tells::Answered(4),
         &[5],
     ),
-    Act::Asks(Wanted::Plain(1, 4), 5),
+    Act::Asks(Wanted::Plain(commands::ALL_THREADS), 5),
     Act::Reads(
         "00000017 00000006 80 0000 00000001 0000000000000002",
         Tells::Answered(5),
@@ -461,7 +469,7 @@ static REQUESTS_ARE_SET_AND_CLEARED: [Act; 20] = [
     Act::Asks(Wanted::Clear(7, 2), 4),
     Act::Reads("0000000b 00000005 80 0000", Tells::Answered(4), &[5]),
     Act::Requests(&[(1, 2)]),
-    Act::Asks(Wanted::Plain(15, 3), 5),
+    Act::Asks(Wanted::Plain(commands::CLEAR_ALL_BREAKPOINTS), 5),
     Act::Reads("0000000b 00000006 80 0000", Tells::Answered(5), &[6]),
     Act::Requests(&[]),
     Act::Knows(&[(1, 0, false)]),
@@ -492,8 +500,8 @@ static ENDS_EMPTY_THE_MIRROR: [Act; 25] = [
     Act::Reads(HELLO, Tells::Hello, &[]),
     Act::Reads(VM_START, Tells::Parked, &[]),
     Act::Reads(SIZES, Tells::Sizes(1), &[1, 1]),
-    Act::Asks(Wanted::Plain(1, 6), 2),
-    Act::Asks(Wanted::Plain(1, 8), 3),
+    Act::Asks(Wanted::Plain(commands::DISPOSE), 2),
+    Act::Asks(Wanted::Plain(commands::SUSPEND), 3),
     Act::Knows(&[(1, 0, false)]),
     Act::Reads("0000000b 00000002 80 0000", Tells::Answered(2), &[2]),
     Act::Knows(&[]),
@@ -514,13 +522,13 @@ static AN_EVENT_CROSSES_A_SUSPEND: [Act; 11] = [
     Act::Reads(HELLO, Tells::Hello, &[]),
     Act::Reads(VM_START, Tells::Parked, &[]),
     Act::Reads(SIZES, Tells::Sizes(1), &[1, 1]),
-    Act::Asks(Wanted::OfThread(12, 2), 1),
+    Act::Asks(Wanted::OfThread(commands::SUSPEND_COUNT, 2), 1),
     Act::Reads(
         "0000000f 00000002 80 0000 00000000",
         Tells::Answered(1),
         &[2],
     ),
-    Act::Asks(Wanted::Plain(1, 8), 2),
+    Act::Asks(Wanted::Plain(commands::SUSPEND), 2),
     Act::Reads(
         "00000036 00000002 00 40 64 01 00000001 02 00000001 0000000000000001
              01 000000000000000a 0000000000000014 0000000000000003",
@@ -548,10 +556,10 @@ static A_DEATH_HOLDS_ITS_THREAD: [Act; 11] = [
         &[2],
     ),
     Act::Knows(&[(2, 1, true)]),
-    Act::Asks(Wanted::OfThread(3, 2), 1),
+    Act::Asks(Wanted::OfThread(commands::RESUME_THREAD, 2), 1),
     Act::Reads("0000000b 00000002 80 0000", Tells::Answered(1), &[2]),
     Act::Knows(&[(2, 0, false)]),
-    Act::Asks(Wanted::OfThread(12, 2), 2),
+    Act::Asks(Wanted::OfThread(commands::SUSPEND_COUNT, 2), 2),
     Act::Reads("0000000b 00000003 80 000a", Tells::Answered(2), &[3]),
     Act::Knows(&[]),
 ];
@@ -571,11 +579,11 @@ static REPLIES_REACH_THEIR_TICKETS: [Act; 17] = [
         Tells::Sizes(0),
         &[4294967294],
     ),
-    Act::Asks(Wanted::Plain(1, 8), 1),
-    Act::Asks(Wanted::Plain(1, 9), 2),
-    Act::Asks(Wanted::Plain(1, 8), 3),
+    Act::Asks(Wanted::Plain(commands::SUSPEND), 1),
+    Act::Asks(Wanted::Plain(commands::RESUME), 2),
+    Act::Asks(Wanted::Plain(commands::SUSPEND), 3),
     Act::NextId(4294967295),
-    Act::Asks(Wanted::Plain(1, 9), 4),
+    Act::Asks(Wanted::Plain(commands::RESUME), 4),
     Act::Sends(
         "0000000b ffffffff 00 01 08 0000000b 00000000 00 01 09
              0000000b 00000001 00 01 08 0000000b 00000002 00 01 09",
@@ -676,7 +684,7 @@ fn fails_with(rt: &impl Abort, alloc: Global, input: &'static str, number: u16) 
             Tells::Seen,
             &[1],
         ),
-        Act::Asks(Wanted::OfThread(12, 1), 1),
+        Act::Asks(Wanted::OfThread(commands::SUSPEND_COUNT, 1), 1),
         Act::Reads(input, Tells::Fails(number), &[]),
         Act::Knows(&[]),
         Act::Stands(false, false),
@@ -730,8 +738,14 @@ fn goes_in_pieces(rt: &impl Abort, alloc: Global, debugger: &mut Debugger, first
     if turns(rt, alloc, debugger, OPENING, first) != 3 {
         return false;
     }
-    let asks = is_asked(rt, alloc, debugger, Wanted::Plain(1, 8), 1)
-        && is_asked(rt, alloc, debugger, Wanted::OfThread(12, 1), 2);
+    let asks = is_asked(rt, alloc, debugger, Wanted::Plain(commands::SUSPEND), 1)
+        && is_asked(
+            rt,
+            alloc,
+            debugger,
+            Wanted::OfThread(commands::SUSPEND_COUNT, 1),
+            2,
+        );
     let answered = turns(rt, alloc, debugger, REPLIES, first);
     asks && answered == 2 && are_known(debugger.mirror().known(), &[(1, 1, true)])
 }

@@ -1,5 +1,7 @@
-//! What examples share: bytes from hex digits, and the machine that most of them debug.
+//! What examples share: bytes from hex digits, the machine that most of them debug, and the names of commands.
 #![tactic(auto)]
+
+pub mod commands;
 
 use jdwp_wire::NoMemory;
 use std::alloc::Global;

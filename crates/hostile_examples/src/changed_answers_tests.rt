@@ -4,7 +4,7 @@ use crate::changed_answers::{Comes, expected};
 use crate::debuggers::debugger;
 use crate::recorded::{ANSWERED, ASKED};
 use jdwp_debugger::{Command, Debugger, DebuggerFault, Read, Ticket};
-use jdwp_layout::{Datum, Scalar};
+use jdwp_layout::{Datum, Scalar, numbers};
 use jdwp_value::ObjectId;
 use std::alloc::Global;
 use std::process::Abort;
@@ -22,14 +22,14 @@ struct Course {
 
 /// Suspend, SuspendCount of thread 1 and Dispose are asked; the ticket of the first.
 fn ask_all(rt: &impl Abort, alloc: Global, debugger: &mut Debugger) -> u64 {
-    let suspend = Command::new(1, 8, Vec::new(alloc));
+    let suspend = Command::new(numbers::VIRTUAL_MACHINE, numbers::SUSPEND, Vec::new(alloc));
     let first = debugger.ask(alloc, suspend).expect(rt, "Suspend is asked");
     let thread = vec![in alloc; Datum::One(Scalar::ObjectId(ObjectId(1)))].expect(rt, "memory");
-    let count = Command::new(11, 12, thread);
+    let count = Command::new(numbers::THREAD_REFERENCE, numbers::SUSPEND_COUNT, thread);
     debugger
         .ask(alloc, count)
         .expect(rt, "SuspendCount is asked");
-    let dispose = Command::new(1, 6, Vec::new(alloc));
+    let dispose = Command::new(numbers::VIRTUAL_MACHINE, numbers::DISPOSE, Vec::new(alloc));
     debugger.ask(alloc, dispose).expect(rt, "Dispose is asked");
     first.0
 }

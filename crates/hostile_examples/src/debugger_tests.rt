@@ -3,7 +3,7 @@ use crate::asserts::expect_same_for;
 use crate::debuggers::debugger;
 use example_parts::bytes;
 use jdwp_debugger::{Command, Debugger, DebuggerFault, Read, Ticket};
-use jdwp_layout::{Datum, Scalar};
+use jdwp_layout::{Datum, Scalar, numbers};
 use jdwp_value::ObjectId;
 use jdwp_wire::FrameFault;
 use std::alloc::Global;
@@ -128,13 +128,13 @@ fn measures(rt: &impl Abort, alloc: Global, debugger: &mut Debugger, first: u64)
     debugger.feed(&bytes(alloc, SIZES).expect(rt, "memory"));
     let is_measured = matches!(debugger.turn(alloc), Ok(Read::Sizes(_)));
     let thread = vec![in alloc; Datum::One(Scalar::ObjectId(ObjectId(1)))].expect(rt, "memory");
-    let count = Command::new(11, 12, thread);
+    let count = Command::new(numbers::THREAD_REFERENCE, numbers::SUSPEND_COUNT, thread);
     let ticket = debugger
         .ask(alloc, count)
         .expect(rt, "SuspendCount is asked");
-    let suspend = Command::new(1, 8, Vec::new(alloc));
+    let suspend = Command::new(numbers::VIRTUAL_MACHINE, numbers::SUSPEND, Vec::new(alloc));
     debugger.ask(alloc, suspend).expect(rt, "Suspend is asked");
-    let resume = Command::new(1, 9, Vec::new(alloc));
+    let resume = Command::new(numbers::VIRTUAL_MACHINE, numbers::RESUME, Vec::new(alloc));
     debugger.ask(alloc, resume).expect(rt, "Resume is asked");
     is_measured && ticket == Ticket(first)
 }

@@ -1,6 +1,6 @@
 //! Data that read, cut short at each byte: the codec answers that they are short, and where.
 use crate::asserts::{expect_same, expect_same_for};
-use example_parts::bytes;
+use example_parts::{bytes, commands};
 use jdwp_layout::{Field, Item, Layout, layout_of, read};
 use jdwp_wire::{DataFault, IdSizes};
 use std::alloc::Global;
@@ -9,10 +9,10 @@ use std::process::Abort;
 /// Whose data they are.
 #[derive(Clone, Copy, Debug)]
 enum Of {
-    /// A command of this set and number.
-    Command(u8, u8),
+    /// This command.
+    Command((u8, u8)),
     /// The reply to it.
-    Reply(u8, u8),
+    Reply((u8, u8)),
     /// A value alone.
     Value,
     /// A region of an array alone.
@@ -28,7 +28,7 @@ static REGION: [Item; 1] = [Item::Region];
 static LOCATION: [Item; 1] = [Item::One(Field::Location)];
 
 /// The layout of a command's data, or of its reply's.
-fn layout_in_row(rt: &impl Abort, set: u8, number: u8, is_reply: bool) -> Layout {
+fn layout_in_row(rt: &impl Abort, (set, number): (u8, u8), is_reply: bool) -> Layout {
     let row = layout_of(set, number).expect(rt, "a row");
     let layouts = row.layouts.expect(rt, "layouts in the row");
     if is_reply {
@@ -41,8 +41,8 @@ fn layout_in_row(rt: &impl Abort, set: u8, number: u8, is_reply: bool) -> Layout
 /// The layout of these data.
 fn layout(rt: &impl Abort, of: Of) -> Layout {
     match of {
-        Of::Command(set, number) => layout_in_row(rt, set, number, false),
-        Of::Reply(set, number) => layout_in_row(rt, set, number, true),
+        Of::Command(command) => layout_in_row(rt, command, false),
+        Of::Reply(command) => layout_in_row(rt, command, true),
         Of::Value => Layout { items: &VALUE },
         Of::Region => Layout { items: &REGION },
         Of::Location => Layout { items: &LOCATION },
@@ -54,73 +54,93 @@ type Vector = (Of, u32, &'static str);
 
 /// Data of commands.
 static COMMANDS: [Vector; 30] = [
-    (Of::Command(11, 12), 8, "0000000000000001"),
-    (Of::Command(11, 3), 8, "0000000000000002"),
-    (Of::Command(11, 1), 8, "0000000000000001"),
-    (Of::Command(11, 6), 8, "0000000000000001 00000000 ffffffff"),
-    (Of::Command(11, 6), 8, "0000000000000001 00000002 ffffffff"),
-    (Of::Command(11, 6), 8, "0000000000000001 00000001 00000001"),
-    (Of::Command(1, 2), 8, "00000006 4c4d61696e3b"),
-    (Of::Command(1, 10), 8, "00000000"),
-    (Of::Command(2, 1), 8, "000000000000000a"),
-    (Of::Command(2, 9), 8, "000000000000000a"),
-    (Of::Command(2, 19), 8, "000000000000000a"),
-    (Of::Command(18, 1), 8, "0000000000000006"),
-    (Of::Command(18, 1), 8, "0000000000000007"),
+    (Of::Command(commands::SUSPEND_COUNT), 8, "0000000000000001"),
+    (Of::Command(commands::RESUME_THREAD), 8, "0000000000000002"),
+    (Of::Command(commands::THREAD_NAME), 8, "0000000000000001"),
     (
-        Of::Command(16, 2),
+        Of::Command(commands::FRAMES),
+        8,
+        "0000000000000001 00000000 ffffffff",
+    ),
+    (
+        Of::Command(commands::FRAMES),
+        8,
+        "0000000000000001 00000002 ffffffff",
+    ),
+    (
+        Of::Command(commands::FRAMES),
+        8,
+        "0000000000000001 00000001 00000001",
+    ),
+    (
+        Of::Command(commands::CLASSES_BY_SIGNATURE),
+        8,
+        "00000006 4c4d61696e3b",
+    ),
+    (Of::Command(commands::EXIT), 8, "00000000"),
+    (Of::Command(commands::SIGNATURE), 8, "000000000000000a"),
+    (Of::Command(commands::CLASS_STATUS), 8, "000000000000000a"),
+    (Of::Command(commands::CLASS_MODULE), 8, "000000000000000a"),
+    (Of::Command(commands::MODULE_NAME), 8, "0000000000000006"),
+    (Of::Command(commands::MODULE_NAME), 8, "0000000000000007"),
+    (
+        Of::Command(commands::SET_SLOTS),
         8,
         "0000000000000001 000000000000001e 00000001 00000000 49 00000005",
     ),
     (
-        Of::Command(16, 1),
+        Of::Command(commands::GET_SLOTS),
         8,
         "0000000000000001 000000000000001e 00000001 00000000 49",
     ),
-    (Of::Command(15, 2), 8, "02 00000001"),
-    (Of::Command(15, 1), 8, "14 03 00000000"),
-    (Of::Command(15, 1), 8, "7f 00 00000000"),
-    (Of::Command(15, 1), 8, "02 03 00000000"),
-    (Of::Command(15, 1), 8, "02 00 00000000"),
-    (Of::Command(15, 1), 8, "07 01 00000000"),
-    (Of::Command(15, 1), 8, "06 00 00000001 05 00000001 2a"),
+    (Of::Command(commands::CLEAR_REQUEST), 8, "02 00000001"),
+    (Of::Command(commands::SET_REQUEST), 8, "14 03 00000000"),
+    (Of::Command(commands::SET_REQUEST), 8, "7f 00 00000000"),
+    (Of::Command(commands::SET_REQUEST), 8, "02 03 00000000"),
+    (Of::Command(commands::SET_REQUEST), 8, "02 00 00000000"),
+    (Of::Command(commands::SET_REQUEST), 8, "07 01 00000000"),
     (
-        Of::Command(15, 1),
+        Of::Command(commands::SET_REQUEST),
+        8,
+        "06 00 00000001 05 00000001 2a",
+    ),
+    (
+        Of::Command(commands::SET_REQUEST),
         8,
         "02 00 00000001 07 01 000000000000000a 0000000000000014 0000000000000003",
     ),
     (
-        Of::Command(15, 1),
+        Of::Command(commands::SET_REQUEST),
         8,
         "02 02 00000001 07 01 000000000000000a 0000000000000014 0000000000000003",
     ),
     (
-        Of::Command(15, 1),
+        Of::Command(commands::SET_REQUEST),
         8,
         "02 00 00000001 07 01 000000000000000a 0000000000000014 000000000000000a",
     ),
     (
-        Of::Command(15, 1),
+        Of::Command(commands::SET_REQUEST),
         8,
         "02 00 00000002 07 01 000000000000000a 0000000000000014 0000000000000003 01 00000002",
     ),
     (
-        Of::Command(15, 1),
+        Of::Command(commands::SET_REQUEST),
         8,
         "02 00 00000002 01 00000000 07 01 000000000000000a 0000000000000014 0000000000000003",
     ),
     (
-        Of::Command(15, 1),
+        Of::Command(commands::SET_REQUEST),
         8,
         "01 00 00000001 0a 0000000000000001 00000001 00000000",
     ),
     (
-        Of::Command(15, 1),
+        Of::Command(commands::SET_REQUEST),
         8,
         "04 00 00000001 08 0000000000000000 07 00",
     ),
     (
-        Of::Command(15, 1),
+        Of::Command(commands::SET_REQUEST),
         8,
         "04 00 00000001 08 0000000000000000 01 00",
     ),
@@ -129,88 +149,108 @@ static COMMANDS: [Vector; 30] = [
 /// Data of replies.
 static REPLIES: [Vector; 22] = [
     (
-        Of::Reply(1, 7),
+        Of::Reply(commands::ID_SIZES),
         8,
         "00000008 00000008 00000008 00000008 00000008",
     ),
     (
-        Of::Reply(1, 7),
+        Of::Reply(commands::ID_SIZES),
         1,
         "00000001 00000001 00000001 00000001 00000001",
     ),
     (
-        Of::Reply(1, 7),
+        Of::Reply(commands::ID_SIZES),
         8,
         "00000008 00000008 00000009 00000008 00000008",
     ),
-    (Of::Reply(11, 12), 8, "00000001"),
-    (Of::Reply(11, 12), 8, "00000000"),
-    (Of::Reply(11, 12), 8, "ffffffff"),
-    (Of::Reply(11, 1), 8, "00000004 6d61696e"),
+    (Of::Reply(commands::SUSPEND_COUNT), 8, "00000001"),
+    (Of::Reply(commands::SUSPEND_COUNT), 8, "00000000"),
+    (Of::Reply(commands::SUSPEND_COUNT), 8, "ffffffff"),
+    (Of::Reply(commands::THREAD_NAME), 8, "00000004 6d61696e"),
     (
-        Of::Reply(11, 6),
+        Of::Reply(commands::FRAMES),
         8,
         "00000001 000000000000001e 01 000000000000000a 0000000000000014 0000000000000000",
     ),
-    (Of::Reply(1, 2), 8, "00000001 01 000000000000000a 00000003"),
-    (Of::Reply(1, 2), 8, "00000000"),
-    (Of::Reply(1, 4), 8, "00000001 0000000000000001"),
     (
-        Of::Reply(1, 4),
+        Of::Reply(commands::CLASSES_BY_SIGNATURE),
+        8,
+        "00000001 01 000000000000000a 00000003",
+    ),
+    (Of::Reply(commands::CLASSES_BY_SIGNATURE), 8, "00000000"),
+    (
+        Of::Reply(commands::ALL_THREADS),
+        8,
+        "00000001 0000000000000001",
+    ),
+    (
+        Of::Reply(commands::ALL_THREADS),
         8,
         "00000002 0000000000000001 0000000000000002",
     ),
-    (Of::Reply(1, 22), 8, "00000001 0000000000000006"),
-    (Of::Reply(1, 22), 8, "00000000"),
-    (Of::Reply(2, 1), 8, "00000006 4c4d61696e3b"),
-    (Of::Reply(2, 9), 8, "00000003"),
-    (Of::Reply(2, 19), 8, "0000000000000006"),
-    (Of::Reply(2, 19), 8, "0000000000000000"),
-    (Of::Reply(15, 1), 8, "00000001"),
-    (Of::Reply(15, 1), 8, "00000002"),
-    (Of::Reply(16, 1), 8, "00000001 49 00000005"),
-    (Of::Reply(18, 1), 8, "00000003 617070"),
+    (
+        Of::Reply(commands::ALL_MODULES),
+        8,
+        "00000001 0000000000000006",
+    ),
+    (Of::Reply(commands::ALL_MODULES), 8, "00000000"),
+    (Of::Reply(commands::SIGNATURE), 8, "00000006 4c4d61696e3b"),
+    (Of::Reply(commands::CLASS_STATUS), 8, "00000003"),
+    (Of::Reply(commands::CLASS_MODULE), 8, "0000000000000006"),
+    (Of::Reply(commands::CLASS_MODULE), 8, "0000000000000000"),
+    (Of::Reply(commands::SET_REQUEST), 8, "00000001"),
+    (Of::Reply(commands::SET_REQUEST), 8, "00000002"),
+    (Of::Reply(commands::GET_SLOTS), 8, "00000001 49 00000005"),
+    (Of::Reply(commands::MODULE_NAME), 8, "00000003 617070"),
 ];
 
 /// Composites, and values, regions and locations alone.
 static OTHERS: [Vector; 18] = [
     (
-        Of::Command(64, 100),
+        Of::Command(commands::COMPOSITE),
         8,
         "00 00000001 5a 00000000 0000000000000001",
     ),
     (
-        Of::Command(64, 100),
+        Of::Command(commands::COMPOSITE),
         8,
         "02 00000001 5a 00000000 0000000000000001",
     ),
     (
-        Of::Command(64, 100),
+        Of::Command(commands::COMPOSITE),
         8,
         "03 00000001 5a 00000000 0000000000000001",
     ),
-    (Of::Command(64, 100), 1, "02 00000001 5a 00000000 01"),
-    (Of::Command(64, 100), 8, "00 00000001 63 00000000"),
-    (Of::Command(64, 100), 8, "00 00000000"),
     (
-        Of::Command(64, 100),
+        Of::Command(commands::COMPOSITE),
+        1,
+        "02 00000001 5a 00000000 01",
+    ),
+    (
+        Of::Command(commands::COMPOSITE),
+        8,
+        "00 00000001 63 00000000",
+    ),
+    (Of::Command(commands::COMPOSITE), 8, "00 00000000"),
+    (
+        Of::Command(commands::COMPOSITE),
         8,
         "01 00000001 07 00000001 0000000000000002",
     ),
     (
-        Of::Command(64, 100),
+        Of::Command(commands::COMPOSITE),
         8,
         "00 00000001 01 00000001 0000000000000001
              01 000000000000000a 0000000000000014 0000000000000003",
     ),
     (
-        Of::Command(64, 100),
+        Of::Command(commands::COMPOSITE),
         8,
         "00 00000001 02 00000001 0000000000000001
              01 000000000000000a 0000000000000014 0000000000000003",
     ),
     (
-        Of::Command(64, 100),
+        Of::Command(commands::COMPOSITE),
         8,
         "02 00000002 02 00000001 0000000000000001
              01 000000000000000a 0000000000000014 0000000000000003
@@ -218,7 +258,7 @@ static OTHERS: [Vector; 18] = [
              01 000000000000000a 0000000000000014 0000000000000003",
     ),
     (
-        Of::Command(64, 100),
+        Of::Command(commands::COMPOSITE),
         8,
         "01 00000002 01 00000001 0000000000000001
              01 000000000000000a 0000000000000014 0000000000000003
@@ -298,7 +338,7 @@ fn longest_signature(rt: &impl Abort, alloc: Global) -> Vec<u8> {
 fn the_longest_command_cut_short(rt: HostRuntime) {
     let data = longest_signature(&rt, rt.alloc());
     let sizes = IdSizes::new(8, 8, 8, 8, 8).expect(&rt, "widths of ids");
-    let layout = layout_in_row(&rt, 1, 2, false);
+    let layout = layout_in_row(&rt, commands::CLASSES_BY_SIGNATURE, false);
     is_short_at_each_front(&rt, rt.alloc(), &layout, &sizes, &data);
 }
 

@@ -2,7 +2,7 @@
 use crate::asserts::expect_same;
 use crate::data_words::text_of;
 use crate::rows::row;
-use example_parts::bytes;
+use example_parts::{bytes, commands};
 use jdwp_layout::{
     Data, Datum, Entry, Field, Item, Layout, Scalar, answers_first_fault, data_size,
     encodes_one_list, entry_size, fields_of_event, fields_of_modifier, layout_of, pass_entries,
@@ -115,14 +115,14 @@ fn accepted(
 }
 
 /// The layout of a request.
-pub(crate) fn request_of(rt: &impl Abort, set: u8, command: u8) -> Layout {
-    let row = layout_of(set, command).expect(rt, "a row");
+pub(crate) fn request_of(rt: &impl Abort, (set, number): (u8, u8)) -> Layout {
+    let row = layout_of(set, number).expect(rt, "a row");
     row.layouts.expect(rt, "a row with layouts").request
 }
 
 /// The layout of a reply.
-fn reply_of(rt: &impl Abort, set: u8, command: u8) -> Layout {
-    let row = layout_of(set, command).expect(rt, "a row");
+fn reply_of(rt: &impl Abort, (set, number): (u8, u8)) -> Layout {
+    let row = layout_of(set, number).expect(rt, "a row");
     row.layouts.expect(rt, "a row with layouts").reply
 }
 
@@ -137,60 +137,52 @@ fn one(rt: &impl Abort) -> IdSizes {
 }
 
 /// A request's data: its set and number, the bytes, as which bytes they are written, and as text.
-static EXAMPLES: [(u8, u8, &str, &str, &str); 8] = [
+static EXAMPLES: [((u8, u8), &str, &str, &str); 8] = [
     // Each byte but 0 is true, which is written as 1.
     (
-        15,
-        1,
+        commands::SET_REQUEST,
         "04 00 00000001 08 0000000000000000 07 00",
         "04 00 00000001 08 0000000000000000 01 00",
         "4 0 [(8, #0, true, false)]",
     ),
     (
-        15,
-        1,
+        commands::SET_REQUEST,
         "02 02 00000001 07 01 000000000000000a 0000000000000014 0000000000000003",
         "02 02 00000001 07 01 000000000000000a 0000000000000014 0000000000000003",
         "2 2 [(7, 1:#10:#20:3)]",
     ),
     (
-        64,
-        100,
+        commands::COMPOSITE,
         "02 00000002 02 00000001 0000000000000001 01 000000000000000a 0000000000000014 0000000000000003 02 00000002 0000000000000001 01 000000000000000a 0000000000000014 0000000000000003",
         "02 00000002 02 00000001 0000000000000001 01 000000000000000a 0000000000000014 0000000000000003 02 00000002 0000000000000001 01 000000000000000a 0000000000000014 0000000000000003",
         "2 [(2, 1, #1, 1:#10:#20:3), (2, 2, #1, 1:#10:#20:3)]",
     ),
     (
-        64,
-        100,
+        commands::COMPOSITE,
         "00 00000001 5a 00000000 0000000000000001",
         "00 00000001 5a 00000000 0000000000000001",
         "0 [(90, 0, #1)]",
     ),
     (
-        64,
-        100,
+        commands::COMPOSITE,
         "00 00000001 63 00000000",
         "00 00000001 63 00000000",
         "0 [(99, 0)]",
     ),
     (
-        1,
-        2,
+        commands::CLASSES_BY_SIGNATURE,
         "00000006 4c4d61696e3b",
         "00000006 4c4d61696e3b",
         "\"LMain;\"",
     ),
     (
-        16,
-        2,
+        commands::SET_SLOTS,
         "0000000000000001 000000000000001e 00000001 00000000 49 00000005",
         "0000000000000001 000000000000001e 00000001 00000000 49 00000005",
         "#1 #30 [(0, I:5)]",
     ),
     (
-        11,
-        6,
+        commands::FRAMES,
         "0000000000000001 00000000 ffffffff",
         "0000000000000001 00000000 ffffffff",
         "#1 0 -1",
@@ -214,87 +206,108 @@ fn is_accepted(
 
 #[test]
 fn examples(rt: HostRuntime) {
-    for &(set, command, hex, canonical, text) in EXAMPLES.iter() {
-        let layout = request_of(&rt, set, command);
+    for &(command, hex, canonical, text) in EXAMPLES.iter() {
+        let layout = request_of(&rt, command);
         is_accepted(&rt, rt.alloc(), &layout, hex, canonical, text);
     }
 }
 
 /// A reply's data: its set and number, the bytes, and as text.
-static REPLIES: [(u8, u8, &str, &str); 7] = [
+static REPLIES: [((u8, u8), &str, &str); 7] = [
     (
-        1,
-        7,
+        commands::ID_SIZES,
         "00000008 00000008 00000008 00000008 00000008",
         "8 8 8 8 8",
     ),
     (
-        1,
-        2,
+        commands::CLASSES_BY_SIGNATURE,
         "00000001 01 000000000000000a 00000003",
         "[(1, #10, 3)]",
     ),
     (
-        11,
-        6,
+        commands::FRAMES,
         "00000001 000000000000001e 01 000000000000000a 0000000000000014 0000000000000000",
         "[(#30, 1:#10:#20:0)]",
     ),
-    (13, 2, "49 00000002 00000001 00000002", "I[I:1, I:2]"),
     (
-        13,
-        2,
+        commands::GET_ELEMENTS,
+        "49 00000002 00000001 00000002",
+        "I[1, 2]",
+    ),
+    (
+        commands::GET_ELEMENTS,
         "4c 00000002 73 0000000000000005 4c 0000000000000000",
         "L[s#5, L#0]",
     ),
-    (16, 1, "00000001 49 00000005", "[(I:5)]"),
-    (11, 12, "00000001", "1"),
+    (commands::GET_SLOTS, "00000001 49 00000005", "[I:5]"),
+    (commands::SUSPEND_COUNT, "00000001", "1"),
 ];
 
 #[test]
 fn replies(rt: HostRuntime) {
-    for &(set, command, hex, text) in REPLIES.iter() {
-        let layout = reply_of(&rt, set, command);
+    for &(command, hex, text) in REPLIES.iter() {
+        let layout = reply_of(&rt, command);
         is_accepted(&rt, rt.alloc(), &layout, hex, hex, text);
     }
 }
 
 /// A request's data: its set and number, the bytes, and their first fault.
-static FAULTS: [(u8, u8, &str, DataFault); 16] = [
-    (1, 2, "ffffffff", DataFault::NegativeCount),
-    (1, 2, "00000001 ff", DataFault::NotUtf8),
-    // A count calls for its own bytes alone.
-    (15, 1, "04 00 7fffffff", DataFault::Short(6)),
-    (15, 1, "04 00 80000000", DataFault::NegativeCount),
-    // A kind is judged before what follows it.
-    (15, 1, "04 00 00000001 0d", DataFault::BadTag),
-    (15, 1, "04 00 00000001 00", DataFault::BadTag),
-    (64, 100, "00 00000001 03", DataFault::BadTag),
-    (64, 100, "00 00000001 05", DataFault::BadTag),
-    (64, 100, "00 00000001 0a", DataFault::BadTag),
-    (64, 100, "00 00000001 1e", DataFault::BadTag),
-    // A type tag is judged before what follows it, and the null location once it is whole.
-    (15, 1, "02 00 00000001 07 04", DataFault::BadTag),
+static FAULTS: [((u8, u8), &str, DataFault); 16] = [
     (
-        15,
-        1,
+        commands::CLASSES_BY_SIGNATURE,
+        "ffffffff",
+        DataFault::NegativeCount,
+    ),
+    (
+        commands::CLASSES_BY_SIGNATURE,
+        "00000001 ff",
+        DataFault::NotUtf8,
+    ),
+    // A count calls for its own bytes alone.
+    (commands::SET_REQUEST, "04 00 7fffffff", DataFault::Short(6)),
+    (
+        commands::SET_REQUEST,
+        "04 00 80000000",
+        DataFault::NegativeCount,
+    ),
+    // A kind is judged before what follows it.
+    (
+        commands::SET_REQUEST,
+        "04 00 00000001 0d",
+        DataFault::BadTag,
+    ),
+    (
+        commands::SET_REQUEST,
+        "04 00 00000001 00",
+        DataFault::BadTag,
+    ),
+    (commands::COMPOSITE, "00 00000001 03", DataFault::BadTag),
+    (commands::COMPOSITE, "00 00000001 05", DataFault::BadTag),
+    (commands::COMPOSITE, "00 00000001 0a", DataFault::BadTag),
+    (commands::COMPOSITE, "00 00000001 1e", DataFault::BadTag),
+    // A type tag is judged before what follows it, and the null location once it is whole.
+    (
+        commands::SET_REQUEST,
+        "02 00 00000001 07 04",
+        DataFault::BadTag,
+    ),
+    (
+        commands::SET_REQUEST,
         "02 00 00000001 07 00 0000000000000000 0000000000000000 0000000000000001",
         DataFault::BadTag,
     ),
     (
-        15,
-        1,
+        commands::SET_REQUEST,
         "02 00 00000001 07 00 0000000000000000 0000000000000001 00000000000000",
         DataFault::Short(31),
     ),
     (
-        16,
-        2,
+        commands::SET_SLOTS,
         "0000000000000001 000000000000001e 00000001 00000000 41 00000005",
         DataFault::BadTag,
     ),
-    (1, 10, "00000000 00", DataFault::Extra(4)),
-    (1, 8, "00", DataFault::Extra(0)),
+    (commands::EXIT, "00000000 00", DataFault::Extra(4)),
+    (commands::SUSPEND, "00", DataFault::Extra(0)),
 ];
 
 /// A region's data: the bytes, and their first fault.
@@ -312,11 +325,17 @@ fn refused(rt: &impl Abort, alloc: Global, layout: &Layout, hex: &str, fault: Da
 
 #[test]
 fn faults(rt: HostRuntime) {
-    for &(set, command, hex, fault) in FAULTS.iter() {
-        refused(&rt, rt.alloc(), &request_of(&rt, set, command), hex, fault);
+    for &(command, hex, fault) in FAULTS.iter() {
+        refused(&rt, rt.alloc(), &request_of(&rt, command), hex, fault);
     }
     for &(hex, fault) in REGION_FAULTS.iter() {
-        refused(&rt, rt.alloc(), &reply_of(&rt, 13, 2), hex, fault);
+        refused(
+            &rt,
+            rt.alloc(),
+            &reply_of(&rt, commands::GET_ELEMENTS),
+            hex,
+            fault,
+        );
     }
 }
 
@@ -338,7 +357,13 @@ fn not_written(
 
 /// The same of the data of a request for a thread's suspend count.
 fn no_thread(rt: &impl Abort, alloc: Global, values: &[Datum], fault: DataFault) {
-    not_written(rt, alloc, &request_of(rt, 11, 12), values, fault);
+    not_written(
+        rt,
+        alloc,
+        &request_of(rt, commands::SUSPEND_COUNT),
+        values,
+        fault,
+    );
 }
 
 #[test]
@@ -373,7 +398,7 @@ fn modifiers_of(rt: &impl Abort, alloc: Global, kind: u8) -> Datum {
 #[test]
 fn a_kind_of_modifier_that_there_is_not(rt: HostRuntime) {
     let alloc = rt.alloc();
-    let set = request_of(&rt, 15, 1);
+    let set = request_of(&rt, commands::SET_REQUEST);
     let modifiers = modifiers_of(&rt, alloc, 13);
     let unknown_kind = [
         Datum::One(Scalar::Byte(2)),
@@ -386,7 +411,7 @@ fn a_kind_of_modifier_that_there_is_not(rt: HostRuntime) {
 #[test]
 fn the_greatest_id_of_one_byte(rt: HostRuntime) {
     let fits = [Datum::One(Scalar::ObjectId(ObjectId(255)))];
-    let layout = request_of(&rt, 11, 12);
+    let layout = request_of(&rt, commands::SUSPEND_COUNT);
     written_as(&rt, rt.alloc(), &layout, &one(&rt), &fits, &[255]);
 }
 

@@ -3,6 +3,8 @@
 #![tactic(auto)]
 
 #[cfg(test)]
+mod answer_tests;
+#[cfg(test)]
 mod asserts;
 #[cfg(test)]
 mod data_words;

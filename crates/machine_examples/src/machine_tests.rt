@@ -1,11 +1,11 @@
-//! Machines of scripts: their threads, their steps, what they answer, and the faults of their texts.
+//! Machines of scripts: their threads, their steps, and the faults of their texts.
 use crate::asserts::{expect_same, expect_same_for};
-use crate::data_words::{push_location, push_value, text_of};
+use crate::data_words::{push_location, push_scalar, text_of};
 use crate::layout_tests::request_of;
 use crate::script_tests::edited;
-use example_parts::{MACHINE_A, bytes};
+use example_parts::{MACHINE_A, bytes, commands};
 use jdwp_event::{ClassSeen, Happening, Occurrence, Place, PreparedClass, ThrownException};
-use jdwp_layout::{Answer, Data, read};
+use jdwp_layout::{Answer, Data, Scalar, read};
 use jdwp_machine::{Machine, Query, has_run_out, is_among};
 use jdwp_script::{Member, ScriptFault};
 use jdwp_script_machine::ScriptMachine;
@@ -68,27 +68,6 @@ pub(crate) const OBJECTS: &str = "{\"name\":\"C\",\"sizes\":[1,1,1,1,1],
  [\"call\",31,10,20,51,[[0,[\"I\",7]],[2,[\"L\",50]]]],[\"go\",3]]},
  {\"id\":2,\"name\":\"work\",\"group\":5,\"steps\":[]}]}";
 
-/// Class 12 has the signature of class 11, and is not prepared at the beginning. Ids have one byte.
-const CLASSES: &str = "{\"name\":\"small\",\"sizes\":[1,1,1,1,1],
-\"groups\":[{\"id\":5,\"name\":\"main\",\"parent\":0},{\"id\":6,\"name\":\"pool\",\"parent\":5},
- {\"id\":7,\"name\":\"system\",\"parent\":0}],
-\"classes\":[{\"id\":10,\"tag\":2,\"signature\":\"LJob;\",\"modifiers\":1537,
- \"super\":0,\"interfaces\":[],\"source\":null,\"fields\":[],
- \"methods\":[{\"id\":20,\"name\":\"act\",\"signature\":\"(I)V\",\"modifiers\":1025,
-  \"args\":2,\"last\":0,\"lines\":[],\"slots\":[]}]},
- {\"id\":11,\"tag\":1,\"signature\":\"LMain;\",\"modifiers\":1,
- \"super\":0,\"interfaces\":[10],\"source\":\"Main.java\",
- \"fields\":[{\"id\":40,\"name\":\"count\",\"signature\":\"I\",\"modifiers\":8,\"value\":[\"I\",7]},
-  {\"id\":41,\"name\":\"next\",\"signature\":\"LMain;\",\"modifiers\":0,\"value\":null},
-  {\"id\":42,\"name\":\"done\",\"signature\":\"Z\",\"modifiers\":9,\"value\":[\"Z\",1]}],
- \"methods\":[{\"id\":21,\"name\":\"run\",\"signature\":\"()V\",\"modifiers\":1,
-  \"args\":1,\"last\":9,\"lines\":[[0,5],[3,6]],
-  \"slots\":[{\"from\":2,\"name\":\"this\",\"signature\":\"LMain;\",\"length\":8,\"slot\":0}]}]},
- {\"id\":12,\"tag\":1,\"signature\":\"LMain;\",\"modifiers\":0,
- \"super\":11,\"interfaces\":[],\"source\":null,\"fields\":[],\"methods\":[]}],
-\"objects\":[],
-\"threads\":[{\"id\":1,\"name\":\"main\",\"group\":5,\"steps\":[[\"prepare\",12]]}]}";
-
 /// What is tried of a machine.
 #[derive(Clone, Copy)]
 pub(crate) enum Act {
@@ -103,7 +82,7 @@ pub(crate) enum Act {
     /// The thread ends.
     Ends(u64),
     /// A command with its data is answered by this text.
-    Answers(u8, u8, &'static str, &'static str),
+    Answers((u8, u8), &'static str, &'static str),
     /// The data are read as those of one command, asked as those of another, and answered by this text.
     AnswersAs((u8, u8), &'static str, (u8, u8), &'static str),
     /// Slots of a frame of a thread are written, with this error, or with 0.
@@ -129,9 +108,9 @@ fn push_class(rt: &impl Abort, class: &ClassSeen, text: &mut String) {
 }
 
 /// Appends the place behind these words.
-fn push_place(rt: &impl Abort, words: &str, place: &Place, text: &mut String) {
+fn push_place(rt: &impl Abort, alloc: Global, words: &str, place: &Place, text: &mut String) {
     text.push_str(words).expect(rt, "memory");
-    push_location(rt, &place.location, text);
+    push_location(rt, alloc, place.location, text);
     match place.line {
         Some(line) => write!(text, " line {line}").expect(rt, "memory"),
         None => text.push_str(" no line").expect(rt, "memory"),
@@ -141,12 +120,12 @@ fn push_place(rt: &impl Abort, words: &str, place: &Place, text: &mut String) {
 }
 
 /// Appends what happens.
-fn push_occurrence(rt: &impl Abort, occurrence: &Occurrence, text: &mut String) {
+fn push_occurrence(rt: &impl Abort, alloc: Global, occurrence: &Occurrence, text: &mut String) {
     match occurrence {
-        Occurrence::Moved(place) => push_place(rt, " moves to ", place, text),
-        Occurrence::Entered(place) => push_place(rt, " enters ", place, text),
-        Occurrence::Left(place, value) => push_leaving(rt, place, value, text),
-        Occurrence::Threw(place, thrown) => push_throw(rt, place, thrown, text),
+        Occurrence::Moved(place) => push_place(rt, alloc, " moves to ", place, text),
+        Occurrence::Entered(place) => push_place(rt, alloc, " enters ", place, text),
+        Occurrence::Left(place, value) => push_leaving(rt, alloc, place, value, text),
+        Occurrence::Threw(place, thrown) => push_throw(rt, alloc, place, thrown, text),
         Occurrence::Prepared(class) => push_prepared(rt, class, text),
         Occurrence::Started => text.push_str(" starts").expect(rt, "memory"),
         Occurrence::RanOut => text.push_str(" has run out").expect(rt, "memory"),
@@ -154,20 +133,26 @@ fn push_occurrence(rt: &impl Abort, occurrence: &Occurrence, text: &mut String) 
 }
 
 /// Appends the place that is left, and with which value.
-fn push_leaving(rt: &impl Abort, place: &Place, value: &Value, text: &mut String) {
-    push_place(rt, " leaves ", place, text);
+fn push_leaving(rt: &impl Abort, alloc: Global, place: &Place, value: &Value, text: &mut String) {
+    push_place(rt, alloc, " leaves ", place, text);
     text.push_str(" with ").expect(rt, "memory");
-    push_value(rt, value, text);
+    push_scalar(rt, alloc, Scalar::Value(*value), text);
 }
 
 /// Appends the exception, where it is thrown and where it is caught.
-fn push_throw(rt: &impl Abort, place: &Place, thrown: &ThrownException, text: &mut String) {
+fn push_throw(
+    rt: &impl Abort,
+    alloc: Global,
+    place: &Place,
+    thrown: &ThrownException,
+    text: &mut String,
+) {
     write!(text, " throws {}", thrown.exception.id.0).expect(rt, "memory");
-    push_place(rt, " at ", place, text);
+    push_place(rt, alloc, " at ", place, text);
     text.push_str(" of").expect(rt, "memory");
     push_ids(rt, &thrown.reaches, text);
     text.push_str(" caught at ").expect(rt, "memory");
-    push_location(rt, &thrown.caught_at, text);
+    push_location(rt, alloc, thrown.caught_at, text);
 }
 
 /// Appends the class that is prepared, and its status.
@@ -189,14 +174,14 @@ fn next_of(rt: &impl Abort, machine: &ScriptMachine, thread: u64) -> Happening {
 fn shown(rt: &impl Abort, alloc: Global, machine: &ScriptMachine, thread: u64) -> String {
     let happening = next_of(rt, machine, thread);
     let mut text = String::new(alloc);
-    push_happening(rt, &happening, &mut text);
+    push_happening(rt, alloc, &happening, &mut text);
     text
 }
 
 /// Appends the thread and what happens to it.
-fn push_happening(rt: &impl Abort, happening: &Happening, text: &mut String) {
+fn push_happening(rt: &impl Abort, alloc: Global, happening: &Happening, text: &mut String) {
     write!(text, "{}", happening.thread().0).expect(rt, "memory");
-    push_occurrence(rt, happening.occurrence(), text);
+    push_occurrence(rt, alloc, happening.occurrence(), text);
 }
 
 /// A step of a thread that lives and has not run out.
@@ -242,8 +227,7 @@ fn carry_out(rt: &impl Abort, alloc: Global, machine: &mut ScriptMachine, act: &
         }
         Act::Goes(thread) => step(rt, machine, thread),
         Act::Ends(thread) => end(rt, machine, thread),
-        Act::Answers(set, number, data, answer) => {
-            let command = (set, number);
+        Act::Answers(command, data, answer) => {
             is_answered(rt, alloc, machine, command, data, command, answer);
         }
         Act::AnswersAs(row, data, command, answer) => {
@@ -304,7 +288,7 @@ static EACH_STEP: [Act; 9] = [
     ),
     Act::Steps(
         1,
-        "1 throws 50 at 1:#11:#20:0 no line frames 1 LMain; 11 12 of 11 12 caught at null",
+        "1 throws 50 at 1:#11:#20:0 no line frames 1 LMain; 11 12 of 11 12 caught at 0:#0:#0:0",
     ),
     Act::Steps(
         1,
@@ -339,7 +323,7 @@ pub(crate) fn query_of(
 ) -> Query {
     let sizes = IdSizes::new(1, 1, 1, 1, 1).expect(rt, "widths");
     let bytes = bytes(alloc, data).expect(rt, "memory");
-    let layout = request_of(rt, row.0, row.1);
+    let layout = request_of(rt, row);
     let items = read(alloc, &layout, &sizes, &bytes).expect(rt, "the data are read");
     Query {
         set: command.0,
@@ -382,125 +366,6 @@ fn is_answered(
 ) {
     let text = answer_of(rt, alloc, machine, row, data, command);
     expect_same_for(rt, &text.as_str(), &answer, &(row, command));
-}
-
-static THREADS: [Act; 19] = [
-    Act::Goes(1),
-    Act::Goes(1),
-    Act::Goes(1),
-    Act::Ends(2),
-    Act::Answers(11, 1, "01", "\"first\""),
-    Act::Answers(11, 5, "01", "#5"),
-    Act::Answers(11, 7, "01", "2"),
-    Act::Answers(11, 7, "03", "error 20"),
-    Act::Answers(
-        11,
-        6,
-        "01 00000000 ffffffff",
-        "[(#31, 1:#10:#20:3), (#30, 1:#10:#20:0)]",
-    ),
-    Act::Answers(
-        11,
-        6,
-        "01 00000000 00000002",
-        "[(#31, 1:#10:#20:3), (#30, 1:#10:#20:0)]",
-    ),
-    Act::Answers(11, 6, "01 00000001 00000001", "[(#30, 1:#10:#20:0)]"),
-    Act::Answers(11, 6, "01 00000002 ffffffff", "[]"),
-    Act::Answers(11, 6, "01 00000002 00000000", "[]"),
-    Act::Answers(11, 6, "01 00000003 00000000", "error 503"),
-    Act::Answers(11, 6, "01 ffffffff 00000001", "error 503"),
-    Act::Answers(11, 6, "01 00000001 00000002", "error 504"),
-    Act::Answers(11, 6, "01 00000000 fffffffe", "error 504"),
-    Act::AnswersAs((11, 6), "01 00000000 00000001", (11, 7), "error 103"),
-    Act::AnswersAs((11, 7), "01", (11, 8), "error 99"),
-];
-
-#[test]
-fn answers_of_threads(rt: HostRuntime) {
-    goes_as_told(&rt, rt.alloc(), OBJECTS, &THREADS);
-}
-
-static FRAMES: [Act; 16] = [
-    Act::Goes(1),
-    Act::Goes(1),
-    Act::Goes(1),
-    Act::Ends(2),
-    Act::Answers(16, 1, "01 1f 00000001 00000000 49", "[(I:7)]"),
-    Act::Answers(16, 1, "01 1f 00000001 00000001 4a", "error 35"),
-    Act::Answers(16, 1, "01 1f 00000001 00000000 4a", "error 34"),
-    Act::Answers(16, 1, "01 1f 00000001 00000000 56", "error 34"),
-    Act::Answers(16, 1, "01 1f 00000001 00000000 01", "error 34"),
-    Act::Answers(16, 3, "01 1f", "s#51"),
-    Act::Answers(16, 3, "01 1e", "L#0"),
-    Act::Answers(16, 3, "01 20", "error 30"),
-    // the test of a breakpoint's location: the last index, one more, the null location, a class that there is not
-    Act::Answers(15, 1, "02 00 00000001 07 01 0a 14 0000000000000009", "0"),
-    Act::Answers(
-        15,
-        1,
-        "02 00 00000001 07 01 0a 14 000000000000000a",
-        "error 24",
-    ),
-    Act::Answers(
-        15,
-        1,
-        "02 00 00000001 07 00 00 00 0000000000000000",
-        "error 24",
-    ),
-    Act::Answers(
-        15,
-        1,
-        "02 00 00000001 07 01 0b 14 0000000000000000",
-        "error 21",
-    ),
-];
-
-#[test]
-fn answers_of_frames(rt: HostRuntime) {
-    goes_as_told(&rt, rt.alloc(), OBJECTS, &FRAMES);
-}
-
-/// Of objects and strings.
-static ANSWERS_OF_OBJECTS: [Act; 12] = [
-    Act::Goes(1),
-    Act::Goes(1),
-    Act::Goes(1),
-    Act::Ends(2),
-    Act::Answers(9, 1, "32", "1 #10"),
-    Act::Answers(9, 2, "32 00000001 28", "[(I:7)]"),
-    Act::Answers(9, 2, "32 00000001 29", "error 25"),
-    Act::Answers(9, 7, "32", ""),
-    Act::Answers(9, 8, "01", "error 20"),
-    Act::Answers(9, 9, "32", "false"),
-    Act::Answers(10, 1, "33", "\"hello\""),
-    Act::Answers(10, 1, "32", "error 506"),
-];
-
-/// Of arrays and of groups.
-static ANSWERS_OF_GROUPS: [Act; 16] = [
-    Act::Goes(1),
-    Act::Goes(1),
-    Act::Goes(1),
-    Act::Ends(2),
-    Act::Answers(13, 1, "34", "3"),
-    Act::Answers(13, 1, "32", "error 508"),
-    Act::Answers(13, 2, "34 00000000 00000003", "L[L#50, s#51, L#0]"),
-    Act::Answers(13, 2, "34 00000003 00000000", "L[]"),
-    Act::Answers(13, 2, "34 00000004 00000000", "error 503"),
-    Act::Answers(13, 2, "34 ffffffff 00000001", "error 503"),
-    Act::Answers(13, 2, "34 00000001 00000003", "error 504"),
-    Act::Answers(13, 2, "34 00000000 ffffffff", "error 504"),
-    Act::Answers(12, 1, "06", "\"pool\""),
-    Act::Answers(12, 2, "06", "#5"),
-    Act::Answers(12, 2, "01", "error 11"),
-    Act::Answers(12, 3, "05", "[(#1)] [(#6)]"),
-];
-
-#[test]
-fn answers_of_objects_and_groups(rt: HostRuntime) {
-    goes_as_told(&rt, rt.alloc(), OBJECTS, &ANSWERS_OF_OBJECTS);
-    goes_as_told(&rt, rt.alloc(), OBJECTS, &ANSWERS_OF_GROUPS);
 }
 
 const OBJECT_60: Value = Value::Object(TaggedId {
@@ -548,128 +413,14 @@ static SLOTS: [Act; 13] = [
     Act::Writes(1, 31, &[(0, Value::Int(6)), (1, Value::Int(5))], 35),
     Act::Writes(1, 31, &[(0, Value::Int(6)), (0, Value::Long(5))], 34),
     Act::Writes(1, 31, &[(0, Value::Int(6)), (2, OBJECT_60)], 20),
-    Act::Answers(16, 1, "01 1f 00000001 00000000 49", "[(I:7)]"),
+    Act::Answers(commands::GET_SLOTS, "01 1f 00000001 00000000 49", "[I:7]"),
     Act::Writes(1, 31, &[(0, Value::Int(5)), (0, Value::Int(8))], 0),
-    Act::Answers(16, 1, "01 1f 00000001 00000000 49", "[(I:8)]"),
+    Act::Answers(commands::GET_SLOTS, "01 1f 00000001 00000000 49", "[I:8]"),
 ];
 
 #[test]
 fn slots_that_are_written(rt: HostRuntime) {
     goes_as_told(&rt, rt.alloc(), OBJECTS, &SLOTS);
-}
-
-static WHOLE: [Act; 14] = [
-    Act::Answers(1, 1, "", "\"scripted machine\" 11 0 \"11\" \"small\""),
-    Act::Answers(1, 2, "00000006 4c4d61696e3b", "[(1, #11, 3), (1, #12, 0)]"),
-    Act::Answers(1, 2, "00000005 4c4a6f623b", "[(2, #10, 3)]"),
-    Act::Answers(1, 2, "00000007 4c4f746865723b", "[]"),
-    Act::Answers(
-        1,
-        3,
-        "",
-        "[(2, #10, \"LJob;\", 3), (1, #11, \"LMain;\", 3), (1, #12, \"LMain;\", 0)]",
-    ),
-    Act::Answers(1, 5, "", "[(#5), (#7)]"),
-    Act::Answers(1, 12, "", "false false false false false false false"),
-    Act::Answers(1, 14, "00000000", ""),
-    Act::Answers(
-        1,
-        20,
-        "",
-        "[(2, #10, \"LJob;\", \"\", 3), (1, #11, \"LMain;\", \"\", 3), (1, #12, \"LMain;\", \"\", 0)]",
-    ),
-    Act::AnswersAs((1, 1), "", (1, 2), "error 103"),
-    Act::AnswersAs((1, 2), "00000005 4c4a6f623b", (1, 1), "error 103"),
-    Act::AnswersAs((1, 1), "", (1, 4), "error 99"),
-    Act::AnswersAs((1, 1), "", (1, 14), "error 103"),
-    // a set that the machine is not asked about
-    Act::AnswersAs((1, 1), "", (4, 1), "error 99"),
-];
-
-#[test]
-fn answers_of_the_machine(rt: HostRuntime) {
-    goes_as_told(&rt, rt.alloc(), CLASSES, &WHOLE);
-}
-
-static ANSWERS_OF_CLASSES: [Act; 27] = [
-    Act::Answers(2, 1, "0b", "\"LMain;\""),
-    Act::Answers(2, 1, "0d", "error 21"),
-    Act::Answers(2, 2, "0b", "#0"),
-    Act::Answers(2, 3, "0a", "1537"),
-    Act::Answers(
-        2,
-        4,
-        "0b",
-        "[(#40, \"count\", \"I\", 8), (#41, \"next\", \"LMain;\", 0), (#42, \"done\", \"Z\", 9)]",
-    ),
-    Act::Answers(2, 4, "0c", "error 22"),
-    Act::Answers(2, 4, "0d", "error 21"),
-    Act::Answers(2, 5, "0b", "[(#21, \"run\", \"()V\", 1)]"),
-    Act::Answers(2, 5, "0c", "error 22"),
-    Act::Answers(2, 7, "0b", "\"Main.java\""),
-    Act::Answers(2, 7, "0a", "error 101"),
-    Act::Answers(2, 9, "0b", "3"),
-    Act::Answers(2, 9, "0c", "0"),
-    Act::Answers(2, 10, "0b", "[(#10)]"),
-    Act::Answers(2, 10, "0c", "error 22"),
-    Act::Answers(2, 13, "0b", "\"LMain;\" \"\""),
-    Act::Answers(
-        2,
-        14,
-        "0b",
-        "[(#40, \"count\", \"I\", \"\", 8), (#41, \"next\", \"LMain;\", \"\", 0), (#42, \"done\", \"Z\", \"\", 9)]",
-    ),
-    Act::Answers(2, 14, "0c", "error 22"),
-    Act::Answers(2, 15, "0a", "[(#20, \"act\", \"(I)V\", \"\", 1025)]"),
-    Act::Answers(2, 15, "0c", "error 22"),
-    Act::Answers(3, 1, "0b", "#0"),
-    Act::Answers(3, 1, "0c", "#11"),
-    Act::Answers(3, 1, "0d", "error 21"),
-    Act::AnswersAs((1, 1), "", (2, 1), "error 103"),
-    Act::AnswersAs((2, 1), "0b", (2, 6), "error 103"),
-    Act::AnswersAs((2, 1), "0b", (2, 8), "error 99"),
-    Act::AnswersAs((3, 1), "0b", (3, 2), "error 99"),
-];
-
-#[test]
-fn answers_of_classes(rt: HostRuntime) {
-    goes_as_told(&rt, rt.alloc(), CLASSES, &ANSWERS_OF_CLASSES);
-}
-
-static STATIC_FIELDS: [Act; 9] = [
-    Act::Answers(2, 6, "0b 00000002 2a 28", "[(Z:true), (I:7)]"),
-    Act::Answers(2, 6, "0b 00000002 28 28", "[(I:7), (I:7)]"),
-    Act::Answers(2, 6, "0b 00000002 28 29", "error 25"),
-    Act::Answers(2, 6, "0b 00000002 2b 28", "error 25"),
-    Act::Answers(2, 6, "0a 00000002 28 28", "error 25"),
-    Act::Answers(2, 6, "0c 00000002 28 28", "error 22"),
-    Act::Answers(2, 6, "0d 00000002 28 28", "error 21"),
-    Act::AnswersAs((2, 6), "0b 00000001 28", (2, 9), "error 103"),
-    Act::AnswersAs((2, 6), "0d 00000001 28", (2, 9), "error 21"),
-];
-
-#[test]
-fn values_of_static_fields(rt: HostRuntime) {
-    goes_as_told(&rt, rt.alloc(), CLASSES, &STATIC_FIELDS);
-}
-
-static METHODS: [Act; 11] = [
-    Act::Answers(6, 1, "0b 15", "0 9 [(0, 5), (3, 6)]"),
-    Act::Answers(6, 1, "0a 14", "error 101"),
-    Act::Answers(6, 1, "0b 14", "error 23"),
-    Act::Answers(6, 1, "0d 15", "error 21"),
-    Act::Answers(6, 2, "0b 15", "1 [(2, \"this\", \"LMain;\", 8, 0)]"),
-    Act::Answers(6, 2, "0a 14", "2 []"),
-    Act::Answers(6, 4, "0b 15", "false"),
-    Act::Answers(6, 4, "0c 15", "error 23"),
-    Act::Answers(6, 5, "0b 15", "1 [(2, \"this\", \"LMain;\", \"\", 8, 0)]"),
-    Act::AnswersAs((2, 1), "0b", (6, 1), "error 103"),
-    Act::AnswersAs((6, 1), "0b 15", (6, 3), "error 99"),
-];
-
-#[test]
-fn answers_of_methods(rt: HostRuntime) {
-    goes_as_told(&rt, rt.alloc(), CLASSES, &METHODS);
 }
 
 /// The fault by which the text is refused, or none.

@@ -3,7 +3,7 @@ use crate::asserts::expect_same;
 use crate::detail_tests::{Edit as Telling, are_told};
 use crate::machine_tests::{Act, goes_as_told};
 use crate::script_tests::{Edit, MACHINE_B, are_outcomes, edited};
-use example_parts::MACHINE_A;
+use example_parts::{MACHINE_A, commands};
 use jdwp_script::{Member, Script, ScriptFault};
 use jdwp_wire::Limits;
 use std::alloc::Global;
@@ -339,30 +339,40 @@ fn limits_of_modules_are_told(rt: HostRuntime) {
 
 /// AllModules, Module, Name and ClassLoader: an id that is no module's, 0 too, is 42; a module is no group, object or thread.
 static ANSWERS: [Act; 24] = [
-    Act::Answers(1, 22, "", "[(#6), (#7)]"),
-    Act::Answers(2, 19, "0a", "#6"),
-    Act::Answers(2, 19, "0b", "#0"),
-    Act::Answers(2, 19, "0c", "error 21"),
-    Act::Answers(2, 19, "06", "error 21"),
-    Act::Answers(18, 1, "06", "\"app\""),
-    Act::Answers(18, 1, "07", "\"base\""),
-    Act::Answers(18, 1, "08", "error 42"),
-    Act::Answers(18, 1, "05", "error 42"),
-    Act::Answers(18, 1, "01", "error 42"),
-    Act::Answers(18, 1, "32", "error 42"),
-    Act::Answers(18, 1, "0a", "error 42"),
-    Act::Answers(18, 1, "00", "error 42"),
-    Act::Answers(18, 2, "06", "#0"),
-    Act::Answers(18, 2, "08", "error 42"),
-    Act::Answers(18, 2, "00", "error 42"),
-    Act::Answers(9, 1, "06", "error 20"),
-    Act::Answers(10, 1, "06", "error 20"),
-    Act::Answers(13, 1, "06", "error 20"),
-    Act::Answers(12, 1, "06", "error 11"),
-    Act::AnswersAs((2, 19), "0a", (1, 22), "error 103"),
-    Act::AnswersAs((2, 16), "0a 00000001", (2, 19), "error 103"),
-    Act::AnswersAs((1, 1), "", (18, 1), "error 103"),
-    Act::AnswersAs((18, 1), "06", (18, 3), "error 99"),
+    Act::Answers(commands::ALL_MODULES, "", "[#6, #7]"),
+    Act::Answers(commands::CLASS_MODULE, "0a", "#6"),
+    Act::Answers(commands::CLASS_MODULE, "0b", "#0"),
+    Act::Answers(commands::CLASS_MODULE, "0c", "error 21"),
+    Act::Answers(commands::CLASS_MODULE, "06", "error 21"),
+    Act::Answers(commands::MODULE_NAME, "06", "\"app\""),
+    Act::Answers(commands::MODULE_NAME, "07", "\"base\""),
+    Act::Answers(commands::MODULE_NAME, "08", "error 42"),
+    Act::Answers(commands::MODULE_NAME, "05", "error 42"),
+    Act::Answers(commands::MODULE_NAME, "01", "error 42"),
+    Act::Answers(commands::MODULE_NAME, "32", "error 42"),
+    Act::Answers(commands::MODULE_NAME, "0a", "error 42"),
+    Act::Answers(commands::MODULE_NAME, "00", "error 42"),
+    Act::Answers(commands::MODULE_CLASS_LOADER, "06", "#0"),
+    Act::Answers(commands::MODULE_CLASS_LOADER, "08", "error 42"),
+    Act::Answers(commands::MODULE_CLASS_LOADER, "00", "error 42"),
+    Act::Answers(commands::OBJECT_TYPE, "06", "error 20"),
+    Act::Answers(commands::STRING_VALUE, "06", "error 20"),
+    Act::Answers(commands::ARRAY_LENGTH, "06", "error 20"),
+    Act::Answers(commands::GROUP_NAME, "06", "error 11"),
+    Act::AnswersAs(
+        commands::CLASS_MODULE,
+        "0a",
+        commands::ALL_MODULES,
+        "error 103",
+    ),
+    Act::AnswersAs(
+        commands::INSTANCES,
+        "0a 00000001",
+        commands::CLASS_MODULE,
+        "error 103",
+    ),
+    Act::AnswersAs(commands::VERSION, "", commands::MODULE_NAME, "error 103"),
+    Act::AnswersAs(commands::MODULE_NAME, "06", (18, 3), "error 99"),
 ];
 
 #[test]
@@ -372,10 +382,10 @@ fn answers_of_modules(rt: HostRuntime) {
 
 /// A script without modules has none.
 static NO_ANSWERS: [Act; 4] = [
-    Act::Answers(1, 22, "", "[]"),
-    Act::Answers(2, 19, "0a", "#0"),
-    Act::Answers(18, 1, "06", "error 42"),
-    Act::Answers(18, 2, "00", "error 42"),
+    Act::Answers(commands::ALL_MODULES, "", "[]"),
+    Act::Answers(commands::CLASS_MODULE, "0a", "#0"),
+    Act::Answers(commands::MODULE_NAME, "06", "error 42"),
+    Act::Answers(commands::MODULE_CLASS_LOADER, "00", "error 42"),
 ];
 
 #[test]

@@ -2,6 +2,7 @@
 use crate::asserts::{expect_at_least, expect_same};
 use crate::debuggers::{Act, Wanted, debugger, done};
 use crate::supply::{Stop, Supply};
+use example_parts::commands;
 use jdwp_debugger::Debugger;
 use std::alloc::Global;
 use std::process::Abort;
@@ -20,9 +21,9 @@ static CROSSED: [Act; 9] = [
     Act::Reads(HELLO),
     Act::Reads(VM_START),
     Act::Reads(SIZES),
-    Act::Asks(Wanted::OfThread(12, 2)),
+    Act::Asks(Wanted::OfThread(commands::SUSPEND_COUNT, 2)),
     Act::Reads("0000000f 00000002 80 0000 00000000"),
-    Act::Asks(Wanted::Plain(1, 8)),
+    Act::Asks(Wanted::Plain(commands::SUSPEND)),
     Act::Reads(
         "00000036 00000002 00 40 64 01 00000001 02 00000001 0000000000000001
              01 000000000000000a 0000000000000014 0000000000000003",
@@ -44,7 +45,7 @@ static REQUESTED: [Act; 16] = [
     Act::Reads("0000000f 00000004 80 0000 00000002"),
     Act::Asks(Wanted::Clear(7, 2)),
     Act::Reads("0000000b 00000005 80 0000"),
-    Act::Asks(Wanted::Plain(15, 3)),
+    Act::Asks(Wanted::Plain(commands::CLEAR_ALL_BREAKPOINTS)),
     Act::Reads("0000000b 00000006 80 0000"),
     Act::Asks(Wanted::Unfit),
     Act::Loses,
@@ -55,20 +56,20 @@ static TAUGHT: [Act; 18] = [
     Act::Attaches,
     Act::Reads(HELLO),
     Act::Reads(SIZES),
-    Act::Asks(Wanted::OfThread(12, 3)),
-    Act::Asks(Wanted::OfThread(1, 1)),
-    Act::Asks(Wanted::Plain(1, 4)),
+    Act::Asks(Wanted::OfThread(commands::SUSPEND_COUNT, 3)),
+    Act::Asks(Wanted::OfThread(commands::THREAD_NAME, 1)),
+    Act::Asks(Wanted::Plain(commands::ALL_THREADS)),
     Act::Reads("0000000b 00000003 80 000a"),
     Act::Reads("0000000f 00000002 80 0000 00000004"),
     Act::Reads("00000017 00000004 80 0000 00000001 0000000000000002"),
     Act::Reads("0000001d 00000002 00 40 64 01 00000001 07 00000001 0000000000000002"),
-    Act::Asks(Wanted::OfThread(3, 2)),
+    Act::Asks(Wanted::OfThread(commands::RESUME_THREAD, 2)),
     Act::Reads("0000000b 00000005 80 0000"),
-    Act::Asks(Wanted::OfThread(12, 2)),
-    Act::Asks(Wanted::Plain(1, 8)),
+    Act::Asks(Wanted::OfThread(commands::SUSPEND_COUNT, 2)),
+    Act::Asks(Wanted::Plain(commands::SUSPEND)),
     Act::Reads("0000000b 00000006 80 000a"),
     Act::Reads("0000000b 00000009 80 0000"),
-    Act::Asks(Wanted::Plain(1, 8)),
+    Act::Asks(Wanted::Plain(commands::SUSPEND)),
     Act::Loses,
 ];
 

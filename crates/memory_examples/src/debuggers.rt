@@ -2,17 +2,17 @@
 use crate::supply::{MOST_TIMES, Stop, Supply, push_line, push_same};
 use example_parts::bytes;
 use jdwp_debugger::{Command, Debugger, DebuggerFault, Read, Refused, Ticket};
-use jdwp_layout::{Datum, Scalar};
+use jdwp_layout::{Datum, Scalar, numbers};
 use jdwp_value::ObjectId;
 use std::alloc::Global;
 
 /// A command.
 #[derive(Clone, Copy)]
 pub(crate) enum Wanted {
-    /// Of a set and a number, without data.
-    Plain(u8, u8),
-    /// ThreadReference's of a number, on a thread.
-    OfThread(u8, u64),
+    /// Without data.
+    Plain((u8, u8)),
+    /// On a thread.
+    OfThread((u8, u8), u64),
     /// EventRequest.Set of a kind, with the policy ALL and no modifier.
     Request(u8),
     /// EventRequest.Clear of a kind and an id.
@@ -98,7 +98,7 @@ fn standing_of(debugger: &Debugger) -> Standing {
     }
 }
 
-fn with_one(alloc: Global, set: u8, number: u8, scalar: Scalar) -> Result<Command, Stop> {
+fn with_one(alloc: Global, (set, number): (u8, u8), scalar: Scalar) -> Result<Command, Stop> {
     let items = vec![in alloc; Datum::One(scalar)]?;
     Ok(Command::new(set, number, items))
 }
@@ -109,23 +109,27 @@ fn request(alloc: Global, kind: u8) -> Result<Command, Stop> {
         Datum::One(Scalar::Byte(2)),
         Datum::Many(Vec::new(alloc)),
     ]?;
-    Ok(Command::new(15, 1, items))
+    Ok(Command::new(numbers::EVENT_REQUEST, numbers::SET_REQUEST, items))
 }
 
 fn clear(alloc: Global, kind: u8, id: i32) -> Result<Command, Stop> {
     let items = vec![in alloc; Datum::One(Scalar::Byte(kind)), Datum::One(Scalar::Int(id))]?;
-    Ok(Command::new(15, 2, items))
+    Ok(Command::new(numbers::EVENT_REQUEST, numbers::CLEAR_REQUEST, items))
 }
 
 fn command(alloc: Global, wanted: Wanted) -> Result<Command, Stop> {
     match wanted {
-        Wanted::Plain(set, number) => Ok(Command::new(set, number, Vec::new(alloc))),
-        Wanted::OfThread(number, thread) => {
-            with_one(alloc, 11, number, Scalar::ObjectId(ObjectId(thread)))
+        Wanted::Plain((set, number)) => Ok(Command::new(set, number, Vec::new(alloc))),
+        Wanted::OfThread(command, thread) => {
+            with_one(alloc, command, Scalar::ObjectId(ObjectId(thread)))
         }
         Wanted::Request(kind) => request(alloc, kind),
         Wanted::Clear(kind, id) => clear(alloc, kind, id),
-        Wanted::Unfit => Ok(Command::new(11, 12, Vec::new(alloc))),
+        Wanted::Unfit => Ok(Command::new(
+            numbers::THREAD_REFERENCE,
+            numbers::SUSPEND_COUNT,
+            Vec::new(alloc),
+        )),
     }
 }
 
