@@ -9,14 +9,17 @@ Runs the program within three limits, the least, the standard and the greatest, 
 - methods: MethodsWithGeneric of 1,024 methods, each of a name and a signature of 500 bytes, which are the same in both: of 4 classes with 256 each, a quarter of a megabyte a reply, within the
   greatest limits; beside it of 18 classes with 57 each or fewer, whose replies fit a packet of 65,536 bytes. So the same data are answered in large packets and in small ones.
 The small packets go within the standard limits and within the greatest ones.
-Of either it tells the bytes that `serve-script` answers a second, and those that `attach` reads a second and tells in lines, the best of some runs by the processor's time, one in turn with the
-other, less the best time of a session that ends at once. To reach: no fewer bytes a second in the large packets.
+Of either it tells, the best of some runs, one in turn with the other, less the best time of a session that ends at once,
+- the bytes that a session comes to a second, by the clock: `serve-script` and `attach`, two processes, over a port of this machine, where the one asks and tells and the other answers;
+- the bytes that `serve-script` answers a second, and those that `attach` reads a second and tells in lines, each by itself from files, by the processor's time.
+To reach: no fewer bytes a second in the large packets.
 
     bench/limits.py [PROGRAM]
 
 PROGRAM is crates/jdwp/out/jdwp where none is given; `rt run` in crates/jdwp builds it.
 """
 
+import contextlib
 import json
 import os
 import socket
@@ -33,7 +36,9 @@ SIGNATURE = 500
 METHODS = 1024
 ANSWERED = 200_000_000
 READ = 50_000_000
+BOTH = 100_000_000
 RUNS = 15
+WHAT = ("answered and read", "answered", "read")
 
 
 def command(number, command_set, command_number, data=b""):
@@ -112,6 +117,12 @@ def receive(connection, count):
             sys.exit("the connection was closed")
         came += part
     return came
+
+
+def is_listening(port):
+    """Whether somebody listens at a port of 127.0.0.1: no connection is made, which would be a session."""
+    with open("/proc/net/tcp", encoding="ascii") as table:
+        return any(line.split()[1:4:2] == [f"0100007F:{port:04X}", "0A"] for line in table)
 
 
 def connected(port):
@@ -206,8 +217,8 @@ class Replies:
         self.script = written(folder, name, json.dumps(script).encode())
         self.size = len(self.made(1)[1]) - len(self.made(0)[1])
         self.none = self.files(0)
-        self.answers, self.reads = self.files(ANSWERED // self.size), self.files(READ // self.size)
-        self.seconds = {"answered": ([], []), "read": ([], [])}
+        self.both, self.answers, self.reads = (self.files(count // self.size) for count in (BOTH, ANSWERED, READ))
+        self.seconds = {what: ([], []) for what in WHAT}
 
     def made(self, times):
         session = written(self.folder, f"{self.name}.asked", asked(self.commands, times))
@@ -219,15 +230,41 @@ class Replies:
         os.rename(session, kept)
         return times, kept, written(self.folder, f"{self.name}.came.{times}", came), written(self.folder, f"{self.name}.plan.{times}", plan(self.commands, times))
 
+    @contextlib.contextmanager
+    def target(self):
+        """A target that serves a session at a port."""
+        port = free_port()
+        words = [self.program, "serve-script", self.script, "--port", str(port), "--limits", self.limits, "--turns", "4000000000"]
+        process = subprocess.Popen(words, stdout=subprocess.DEVNULL, stderr=subprocess.DEVNULL)
+        try:
+            until = time.monotonic() + 10
+            while not is_listening(port):
+                if time.monotonic() > until:
+                    sys.exit("the target does not listen")
+                time.sleep(0.01)
+            yield port
+        finally:
+            process.kill()
+            process.wait()
+
+    def session(self, lines):
+        """A session at a port: the seconds by the clock until all is told."""
+        with self.target() as port:
+            begun = time.perf_counter()
+            run([self.program, "attach", lines, "--port", str(port), "--limits", self.limits, "--turns", "4000000000"])
+            return time.perf_counter() - begun
+
     def run(self):
         """Each session, and beside it the one that ends at once."""
+        for kept, files in zip(self.seconds["answered and read"], (self.both, self.none)):
+            kept.append(self.session(files[3]))
         for kept, files in zip(self.seconds["answered"], (self.answers, self.none)):
             kept.append(serve(self.program, self.folder, self.script, files[1], self.limits))
         for kept, files in zip(self.seconds["read"], (self.reads, self.none)):
             kept.append(attach(self.program, files[3], files[2], self.limits))
 
     def rate(self, what):
-        times = self.answers[0] if what == "answered" else self.reads[0]
+        times = {"answered and read": self.both, "answered": self.answers, "read": self.reads}[what][0]
         sessions, none = self.seconds[what]
         return times, times * self.size / (min(sessions) - min(none))
 
@@ -242,7 +279,7 @@ def replies(program, folder, name, small, large):
     for _ in range(RUNS):
         for way in ways:
             way.run()
-    for what in ("answered", "read"):
+    for what in WHAT:
         rates = []
         for way in ways:
             times, rate = way.rate(what)
