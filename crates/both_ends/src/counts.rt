@@ -1,16 +1,13 @@
 //! Suspend counts, asked in rounds (JDWP specification, "Protocol Details": ThreadReference.SuspendCount).
-ghost use Rattle.jdwp_target.specs.Options.{LivesWithin};
-ghost use Rattle.jdwp_wire.specs.Limits.{standard_limits};
+ghost use Rattle.milunovesk.specs.Target.Options.{LivesWithin};
+ghost use Rattle.milunovesk.specs.Wire.Limits.{standard_limits};
 
 use anyhow::Context;
-use jdwp_debugger::{Command, Debugger, Read};
-use jdwp_layout::numbers::{SUSPEND_COUNT, THREAD_REFERENCE};
-use jdwp_layout::{Datum, Scalar};
-use jdwp_link::{Memory, Side, deliver};
-use jdwp_machine::Machine;
-use jdwp_script_machine::ScriptMachine;
-use jdwp_target::{Target, TargetOptions, Turn};
-use jdwp_value::ObjectId;
+use milunovesk::commands::thread_reference::suspend_count;
+use milunovesk::{
+    Debugger, Machine, Memory, ObjectId, Read, ScriptMachine, Side, Target, TargetOptions, Turn,
+    deliver,
+};
 use std::alloc::Global;
 
 /// How many commands are asked at once, as many as may wait.
@@ -18,6 +15,9 @@ pub const AT_ONCE: u32 = 64;
 
 /// How many bytes are moved at once, more than 64 such commands or replies take.
 const CHUNK: usize = 4_096;
+
+/// The only thread.
+pub const THREAD: ObjectId = ObjectId(1);
 
 /// A machine of one thread that does nothing.
 pub const SCRIPT: &str = "{\"name\":\"one\",\"sizes\":[8,8,8,8,8],\
@@ -75,18 +75,12 @@ fn ask_counts<M: Machine + Drop>(
     let mut answered = 0u64;
     for _ in 0..rounds {
         for _ in 0..AT_ONCE {
-            debugger.ask(alloc, count_of_the_thread(alloc)?)?;
+            debugger.ask(alloc, suspend_count(alloc, THREAD)?)?;
         }
         let came = exchange(alloc, debugger, target, &mut buffer)?;
         answered = answered.saturating_add(u64::from(came));
     }
     Ok(answered)
-}
-
-/// SuspendCount of the only thread.
-pub fn count_of_the_thread(alloc: Global) -> anyhow::Result<Command> {
-    let items = vec![in alloc; Datum::One(Scalar::ObjectId(ObjectId(1)))]?;
-    Ok(Command::new(THREAD_REFERENCE, SUSPEND_COUNT, items))
 }
 
 /// The target handles what the debugger put, and the debugger what the target sent. How many answers came.

@@ -1,13 +1,11 @@
 //! The same suspend counts, asked through a link.
-ghost use Rattle.jdwp_target.specs.Options.{LivesWithin};
-ghost use Rattle.jdwp_wire.specs.Limits.{standard_limits};
+ghost use Rattle.milunovesk.specs.Target.Options.{LivesWithin};
+ghost use Rattle.milunovesk.specs.Wire.Limits.{standard_limits};
 
-use crate::counts::{AT_ONCE, SCRIPT, count_of_the_thread, options};
+use crate::counts::{AT_ONCE, SCRIPT, THREAD, options};
 use anyhow::bail;
-use jdwp_link::{Link, LinkEvent, Outcome, Stopped};
-use jdwp_machine::Machine;
-use jdwp_script_machine::ScriptMachine;
-use jdwp_target::TargetOptions;
+use milunovesk::commands::thread_reference::suspend_count;
+use milunovesk::{Link, LinkEvent, Machine, Outcome, ScriptMachine, Stopped, TargetOptions};
 use std::alloc::Global;
 
 /// How many bytes are delivered at once, more than 64 such commands or replies take.
@@ -57,7 +55,7 @@ fn ask_counts<M: Machine + Drop>(
 fn round_of(alloc: Global) -> anyhow::Result<Vec<LinkEvent>> {
     let mut events = Vec::new(alloc);
     for _ in 0..AT_ONCE {
-        events.push(LinkEvent::Ask(count_of_the_thread(alloc)?))?;
+        events.push(LinkEvent::Ask(suspend_count(alloc, THREAD)?))?;
     }
     push_exchange(&mut events)?;
     Ok(events)

@@ -1,9 +1,6 @@
 //! What a harness does with a link, a few events at a time.
 use anyhow::{Context, bail};
-use jdwp_debugger::Command;
-use jdwp_layout::Answer;
-use jdwp_link::{Link, LinkEvent, Outcome};
-use jdwp_machine::Machine;
+use milunovesk::{Answer, Command, Link, LinkEvent, Machine, Outcome};
 use std::alloc::Global;
 
 /// More bytes than are under way at any time.

@@ -2,20 +2,17 @@
 //! lost, and a new session begins.
 #![tactic(auto)]
 
-ghost use Rattle.jdwp_target.specs.Options.{LivesWithin};
-ghost use Rattle.jdwp_wire.specs.Limits.{standard_limits};
+ghost use Rattle.milunovesk.specs.Target.Options.{LivesWithin};
+ghost use Rattle.milunovesk.specs.Wire.Limits.{standard_limits};
 
 mod commands;
 mod events;
 
 use anyhow::Context;
-use commands::{breakpoint, frame_count, frames, resume};
+use commands::{breakpoint, frame_count};
 use events::{ask, exchange, run};
-use jdwp_link::{Link, LinkEvent};
-use jdwp_machine::Machine;
-use jdwp_script_machine::ScriptMachine;
-use jdwp_target::TargetOptions;
-use jdwp_value::ObjectId;
+use milunovesk::commands::{thread_reference, virtual_machine};
+use milunovesk::{Link, LinkEvent, Machine, ObjectId, ScriptMachine, TargetOptions};
 use std::alloc::Global;
 
 /// One thread, which calls a method, moves in it to index 3, and returns.
@@ -69,11 +66,11 @@ fn stop_at_breakpoint<M: Machine + Drop>(
     exchange(alloc, link)?;
     show(rt, "attached", link)?;
     ask(alloc, link, breakpoint(alloc)?)?;
-    ask(alloc, link, resume(alloc))?;
+    ask(alloc, link, virtual_machine::resume(alloc))?;
     show(rt, "resumed", link)?;
     step_until_held(alloc, link)?;
     show(rt, "breakpoint reached", link)?;
-    let answer = ask(alloc, link, frames(alloc, THREAD)?)?;
+    let answer = ask(alloc, link, thread_reference::frames(alloc, THREAD, 0, -1)?)?;
     let count = frame_count(&answer);
     println!(rt; "thread 1 has {count} frame")?;
     Ok(())

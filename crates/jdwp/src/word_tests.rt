@@ -2,9 +2,8 @@
 use crate::asserts::expect_same_for;
 use crate::tests::{MACHINE, SESSION, is_not_made, is_refused, remove, status_of, write};
 use jdwp_debuggee::Settings;
-use jdwp_program::Fault;
+use jdwp_program::{Attach, Between, Fault, Pair, Peer, ServeScript, SessionFiles, Words};
 use jdwp_wire::Limits;
-use jdwp_words::{Attach, Between, Pair, Peer, ServeScript, SessionFiles, Words};
 use std::alloc::Global;
 use std::net::Net;
 use std::process::Abort;

@@ -18,11 +18,10 @@ ghost use Rattle.jdwp_files.specs.Refusals.{IsFileNotText, RefusesAttachPlan, Re
 use jdwp_attach::Attached;
 use jdwp_pipe::{Ended, Pipe, Streams};
 use jdwp_program::{
-    Fault, FileCause, Outcome, Side, Told, Watched, attach_plan, check_capture, show_capture,
-    text_of,
+    Attach, Fault, FileCause, Outcome, ServeScript, SessionFiles, Side, Told, Watched, attach_plan,
+    check_capture, show_capture, text_of,
 };
 use jdwp_serve::serve_script;
-use jdwp_words::{Attach, ServeScript, SessionFiles};
 use std::alloc::Global;
 use std::fs::{Metadata, OpenFile};
 use std::io::{BufWriter, Read, Write};

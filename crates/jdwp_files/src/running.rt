@@ -6,8 +6,9 @@ ghost use Rattle.jdwp_program.specs.Outputs.{Leaves, LeavesOutcome};
 use crate::files::{attach_files, check_file, serve_files, show_file};
 use crate::memory::keep_freed_memory;
 use crate::sessions::{attach_port, pair_files, serve_port};
-use jdwp_program::{Fault, Outcome, report_fault, report_outcome};
-use jdwp_words::{Attach, Pair, Peer, ServeScript, Words};
+use jdwp_program::{
+    Attach, Fault, Outcome, Pair, Peer, ServeScript, Words, report_fault, report_outcome,
+};
 use std::convert::AsStr;
 use std::io::Write;
 use std::net::Net;

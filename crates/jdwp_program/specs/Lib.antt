@@ -7,3 +7,4 @@ pub mod Printing
 pub mod Statuses
 pub mod Values
 pub mod Watching
+pub mod Words

@@ -1,6 +1,6 @@
-//! What the program `jdwp` does, without the words of its command line and without opening files.
+//! What the program `jdwp` does, without reading the words of its command line and without opening files.
 //!
-//! Captures are told on any writer, plans are run over any reader and writer, and what goes wrong is told with the exit status.
+//! What the words say is `Words`. Captures are told on any writer, plans are run over any reader and writer, and what goes wrong is told with the exit status.
 #![tactic(auto)]
 
 mod attaching;
@@ -11,6 +11,7 @@ mod outcome;
 mod printing;
 mod values;
 mod watching;
+mod words;
 
 pub use attaching::{attach_plan, attach_session};
 pub use captures::{TellFault, Told, check_capture, show_capture};
@@ -19,3 +20,4 @@ pub use losing::{Loss, Side};
 pub use outcome::{Outcome, report_fault, report_outcome};
 pub use values::{decimal, is_all, limits};
 pub use watching::Watched;
+pub use words::{Attach, Between, Pair, Peer, ServeScript, SessionFiles, Words};

@@ -1,12 +1,15 @@
-//! What the words of the command line say.
+//! The words of the command line, read.
 ghost use Rattle.std.specs.Prelude.{◌≡◌, IfOk, true};
 ghost use Rattle.jdwp_words.specs.Commands as commands;
-ghost use Rattle.jdwp_words.specs.Commands.{KeepsFile, KeepsFiles, RunsPlanOnlyWhere};
+ghost use Rattle.jdwp_words.specs.Commands.{RunsPlanOnlyWhere};
+ghost use Rattle.jdwp_program.specs.Words.{KeepsFiles};
 
 use clap::error::ErrorKind;
 use clap::{Arg, ArgAction, ArgMatches, Command, Error, value_parser};
 use jdwp_debuggee::Settings;
-use jdwp_program::{Fault, decimal, is_all, limits};
+use jdwp_program::{
+    Attach, Between, Fault, Pair, Peer, ServeScript, SessionFiles, Words, decimal, is_all, limits,
+};
 use jdwp_wire::Limits;
 use jdwp_wire::number::GREATEST_INT;
 use std::alloc::{AllocError, Global};
@@ -14,94 +17,6 @@ use std::convert::AsStr;
 
 /// The greatest suspend count that a Suspend gives, where no option says another.
 const COUNT_LIMIT: u32 = 65_535;
-
-/// A command, with its files and options.
-#[derive(Clone, Copy, Debug, PartialEq, Eq)]
-pub enum Words<'a> {
-    /// `serve-script MACHINE`: a target serves the session of a file, or those of a port.
-    ServeScript(ServeScript<'a>),
-    /// `attach PLAN`: a debugger runs a plan in one session, over files or at a port.
-    Attach(Attach<'a>),
-    /// `pair MACHINE PLAN`: a debugger runs a plan in a session with a target, both in this process.
-    Pair(Pair<'a>),
-    /// `show FILE`: a capture is shown in words.
-    Show(&'a str),
-    /// `check FILE`: a capture is judged.
-    Check(&'a str),
-}
-
-/// Where the other end of a session is.
-#[derive(Clone, Copy, Debug, PartialEq, Eq)]
-pub enum Peer<'a> {
-    /// In files: its bytes are read from one, and this end's are written to the other.
-    Files(SessionFiles<'a>),
-    /// Behind a port of this machine, 1 to 65,535.
-    Port(u16),
-}
-
-/// `--from F --to F`.
-#[derive(Clone, Copy, Debug, PartialEq, Eq)]
-pub struct SessionFiles<'a> {
-    /// The file that the other end's bytes are read from.
-    pub from: &'a str,
-    /// The file that this end's bytes are written to.
-    pub to: &'a str,
-}
-
-/// `serve-script MACHINE (--from F --to F | --port N) [--start all|none] [--count-limit N] [--limits L] [--defer] [--turns N]`.
-#[derive(Clone, Copy, Debug, PartialEq, Eq)]
-pub struct ServeScript<'a> {
-    /// The file of the machine's script.
-    pub machine: &'a str,
-    /// Where the debugger is.
-    pub peer: Peer<'a>,
-    /// Whether every thread is suspended when the target starts, the greatest suspend count that a Suspend gives, and the limits of a
-    /// session.
-    pub settings: Settings,
-    /// Whether the target defers the replies to commands of the sets ReferenceType and Method.
-    pub defer: bool,
-    /// How many rounds a session has at most.
-    pub turns: u32,
-}
-
-/// `attach PLAN (--from F --to F | --port N) [--limits L] [--turns N]`.
-#[derive(Clone, Copy, Debug, PartialEq, Eq)]
-pub struct Attach<'a> {
-    /// The file of the plan.
-    pub plan: &'a str,
-    /// Where the target is.
-    pub peer: Peer<'a>,
-    /// The limits of the session.
-    pub limits: Limits,
-    /// How many turns the session has at most.
-    pub turns: u32,
-}
-
-/// `pair MACHINE PLAN [--memory] [--start all|none] [--limits L] [--defer] [--turns N]`.
-#[derive(Clone, Copy, Debug, PartialEq, Eq)]
-pub struct Pair<'a> {
-    /// The file of the machine's script.
-    pub machine: &'a str,
-    /// The file of the plan.
-    pub plan: &'a str,
-    /// What is between both ends.
-    pub between: Between,
-    /// Whether every thread is suspended when the target starts, and the limits of both ends.
-    pub settings: Settings,
-    /// Whether the target defers the replies to commands of the sets ReferenceType and Method.
-    pub defer: bool,
-    /// How many rounds the run has at most.
-    pub turns: u32,
-}
-
-/// What is between both ends of a session in this process.
-#[derive(Clone, Copy, Debug, PartialEq, Eq)]
-pub enum Between {
-    /// Memory alone: `--memory`.
-    Memory,
-    /// A connection of this machine to itself.
-    Loopback,
-}
 
 /// The name of a command.
 #[derive(Clone, Copy)]
@@ -224,7 +139,7 @@ pub fn read<'a, S: AsStr>(alloc: Global, words: &'a [S]) -> Result<Words<'a>, Fa
     ensures keeps { IfOk result KeepsFiles }
 {
     let said = say(alloc, words)?;
-    match emptied(&said) {
+    match said.emptied() {
         None => Ok(said),
         Some(file) => Err(emptying(alloc, file, name_of(&said))),
     }
@@ -237,28 +152,6 @@ fn say<'a, S: AsStr>(alloc: Global, words: &'a [S]) -> Result<Words<'a>, Fault<'
     match command(alloc)?.try_get_matches_from(words) {
         Ok(matches) => read_matches(alloc, &matches, words),
         Err(error) => Err(refused(alloc, &error)),
-    }
-}
-
-/// Which of the files that are read the words also write to, by the word that stands for it; None where they keep them all.
-fn emptied(words: &Words<'_>) -> Option<&'static str>
-    ensures { result ≡ None → KeepsFiles words.now }
-{
-    match words {
-        Words::ServeScript(words) => emptied_of(&words.peer, words.machine, "MACHINE"),
-        Words::Attach(words) => emptied_of(&words.peer, words.plan, "PLAN"),
-        Words::Pair(_) | Words::Show(_) | Words::Check(_) => None,
-    }
-}
-
-/// The same of one file, which the words of the command name so, and of what is read from the other end.
-fn emptied_of(peer: &Peer<'_>, read: &str, name: &'static str) -> Option<&'static str>
-    ensures { result ≡ None → KeepsFile peer.now read.now }
-{
-    match peer {
-        Peer::Files(files) if files.to == read => Some(name),
-        Peer::Files(files) if files.to == files.from => Some("--from"),
-        Peer::Files(_) | Peer::Port(_) => None,
     }
 }
 

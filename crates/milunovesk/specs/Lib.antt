@@ -1,9 +1,24 @@
--- What contracts of users cite.
-pub use Rattle.jdwp_show.specs.Sessions
-pub use Rattle.jdwp_debuggee.specs.State
-pub use Rattle.jdwp_debugger.specs.Debuggers
-pub use Rattle.jdwp_model.specs.Seen
-pub use Rattle.jdwp_link.specs.Clauses
-pub use Rattle.jdwp_command.specs.Asks
-pub use Rattle.jdwp_command.specs.Contents
-pub use Rattle.jdwp_command.specs.Answered
+-- What contracts cite, by the crate that it stands in.
+pub mod Wire
+pub mod Value
+pub mod Layout
+pub mod Event
+pub mod Machine
+pub mod Script
+pub mod ScriptMachine
+pub mod End
+pub mod Debuggee
+pub mod Target
+pub mod Action
+pub mod Mirror
+pub mod Debugger
+pub mod Model
+pub mod Link
+pub mod Show
+pub mod Engine
+pub mod Pipe
+pub mod Serve
+pub mod Plan
+pub mod Attach
+pub mod Command
+pub mod Port

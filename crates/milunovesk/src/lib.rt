@@ -1,14 +1,14 @@
 //! The Java Debug Wire Protocol (JDWP, Java SE 11), both ends: all that its users call, under one name.
 //!
-//! A program that stands on this crate names no other of this repository. docs/USING.md shows a target, a debugger, a link and a capture
-//! in use.
+//! A program that stands on this crate names no other of this repository. docs/USING.md shows a capture, a machine, a target, a debugger and
+//! a link in use.
 #![tactic(auto)]
 
 // Frames, items of data, and limits.
 pub use jdwp_wire::{
     BadSize, DataFault, ErrorCode, FrameFault, Header, IdKind, IdSizes, Limits, Next, NextHello,
-    NoMemory, PacketKind, PacketRef, Width, Wire, next_hello, next_packet, next_packet_within,
-    number,
+    NoMemory, PacketKind, PacketRef, Width, Wire, all_or_nothing, next_hello, next_packet,
+    next_packet_within, number,
 };
 
 // Ids, values and places.
@@ -19,20 +19,24 @@ pub use jdwp_value::{
 
 // The table of commands and their data.
 pub use jdwp_layout::{
-    Answer, CommandRow, Data, Datum, Item, Layout, Layouts, Scalar, layout_of, numbers, read,
-    validate, write,
+    Answer, CommandRow, Data, Datum, Entry, Field, Item, Layout, Layouts, Scalar, event_kinds,
+    layout_of, modifier_kinds, numbers, read, validate, write,
 };
 
 // Event requests, and what reports.
 pub use jdwp_event::{
-    Composite, Event, EventKind, Happening, Modifier, Occurrence, Policy, Request, RequestId,
-    Requests, count_down, gather, matches,
+    ClassSeen, Composite, Event, EventKind, Happening, Modifier, Occurrence, Place, Policy,
+    PreparedClass, Request, RequestId, Requests, StepDepth, StepOrigin, StepSize, ThrownException,
+    count_down, gather, matches,
 };
 
 // Machines that are debugged.
 pub use jdwp_machine::{Machine, Query};
-pub use jdwp_script::ScriptFault;
 pub use jdwp_script_machine::ScriptMachine;
+
+// The scripts that describe them, part by part, and their faults.
+pub use jdwp_script as scripts;
+pub use jdwp_script::ScriptFault;
 
 // What both ends have in common.
 pub use jdwp_end::SessionEnd;
@@ -46,6 +50,7 @@ pub use jdwp_debugger::{
     Carried, Command, Debugger, DebuggerFault, Head, KeptRequest, Known, KnownThreads, Lost,
     Mirror, Read, Refused, Ticket,
 };
+pub use jdwp_mirror::CommandKind;
 
 // The commands that a debugger asks, by name, and their answers.
 pub use jdwp_command as commands;
@@ -57,8 +62,11 @@ pub use jdwp_link::{Link, LinkEvent, Memory, Outcome, Side, Stopped, Way, delive
 pub use jdwp_show::{CaptureFault, Shown, Verdict, check, composite_line, reply_line, show};
 
 // Sessions over readers and writers.
-pub use jdwp_attach::attach;
+pub use jdwp_attach::{Attached, attach, attach_by_lines};
 pub use jdwp_engine::serve;
 pub use jdwp_pipe::{Ended, Pipe, Streams};
-pub use jdwp_plan::{PlanFault, PlanLine, read_plan};
+pub use jdwp_plan::{LineFault, PlanFault, PlanLine, read_plan};
 pub use jdwp_serve::{serve_script, serve_session};
+
+// Sessions at ports of this machine.
+pub use jdwp_port as ports;

@@ -1,6 +1,6 @@
 //! A capture judged.
 ghost use Rattle.std.specs.Prelude.{◌≡◌, ◌↔◌, None, IfOk};
-ghost use Rattle.milunovesk.specs.Sessions.{BeginsSession};
+ghost use Rattle.milunovesk.specs.Show.Sessions.{BeginsSession};
 
 use milunovesk::{NoMemory, Verdict, check};
 use std::alloc::Global;

@@ -1,12 +1,17 @@
-//! The library in use: a capture judged, a target served by hand, a debugger that asks, and a link that shows who is suspended.
+//! The library in use: a capture judged, a machine of one's own, a target served by hand, a debugger that asks, and a link that shows who is
+//! suspended.
 #![tactic(auto)]
 
 mod capture;
 mod debugger;
 mod link;
+mod machine;
 mod target;
+#[cfg(test)]
+mod tests;
 
 pub use capture::first_faulty_line;
 pub use debugger::ask_for_frames;
 pub use link::shows_suspended;
+pub use machine::{OneStep, one_step_target};
 pub use target::answer;

@@ -1,9 +1,9 @@
 //! A target and a debugger in one process.
 ghost use Rattle.std.specs.Prelude.{◌≡◌, ◌<◌, IfOk, true};
-ghost use Rattle.milunovesk.specs.State.{count_or_zero};
-ghost use Rattle.milunovesk.specs.Debuggers.{unanswered};
-ghost use Rattle.milunovesk.specs.Clauses.{IsUnbroken, unanswered_by};
-ghost use Rattle.milunovesk.specs.Seen.{lowers};
+ghost use Rattle.milunovesk.specs.Debuggee.State.{count_or_zero};
+ghost use Rattle.milunovesk.specs.Debugger.Debuggers.{unanswered};
+ghost use Rattle.milunovesk.specs.Link.Clauses.{IsUnbroken, unanswered_by};
+ghost use Rattle.milunovesk.specs.Model.Seen.{lowers};
 
 use milunovesk::{Link, LinkEvent, Machine, ObjectId, Stopped};
 

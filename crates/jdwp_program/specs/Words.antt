@@ -1,0 +1,19 @@
+-- Which files the words of the command line keep.
+use Rattle.std.specs.Prelude.{◌≢◌, ℕ, List, ⊤}
+use Rattle.jdwp_program.specs.declared.words.Words.{Words}
+use Rattle.jdwp_program.specs.declared.words.Words.TheVariants.{ServeScript, Attach, Pair, Show, Check}
+use Rattle.jdwp_program.specs.declared.words.Peer.{Peer}
+use Rattle.jdwp_program.specs.declared.words.Peer.TheVariants as peer
+
+-- the file that is written to is not this one, and not that which is read beside it
+abbrev pub KeepsFile : Peer → List ℕ → Type 0
+KeepsFile (peer.Files files) read = (files.to.now ≢ read) × (files.to.now ≢ files.from.now)
+KeepsFile (peer.Port number) read = ⊤
+
+-- the file that words write to is none of those that they read, by name
+abbrev pub KeepsFiles : Words → Type 0
+KeepsFiles (ServeScript words) = KeepsFile words.peer words.machine.now
+KeepsFiles (Attach words) = KeepsFile words.peer words.plan.now
+KeepsFiles (Pair words) = ⊤
+KeepsFiles (Show file) = ⊤
+KeepsFiles (Check file) = ⊤

@@ -1,0 +1,120 @@
+//! What the words of the command line say.
+ghost use Rattle.std.specs.Prelude.{◌≡◌, ◌↔◌, None};
+ghost use Rattle.jdwp_program.specs.Words.{KeepsFile, KeepsFiles};
+
+use jdwp_debuggee::Settings;
+use jdwp_wire::Limits;
+
+/// A command, with its files and options.
+#[derive(Clone, Copy, Debug, PartialEq, Eq)]
+pub enum Words<'a> {
+    /// `serve-script MACHINE`: a target serves the session of a file, or those of a port.
+    ServeScript(ServeScript<'a>),
+    /// `attach PLAN`: a debugger runs a plan in one session, over files or at a port.
+    Attach(Attach<'a>),
+    /// `pair MACHINE PLAN`: a debugger runs a plan in a session with a target, both in this process.
+    Pair(Pair<'a>),
+    /// `show FILE`: a capture is shown in words.
+    Show(&'a str),
+    /// `check FILE`: a capture is judged.
+    Check(&'a str),
+}
+
+/// Where the other end of a session is.
+#[derive(Clone, Copy, Debug, PartialEq, Eq)]
+pub enum Peer<'a> {
+    /// In files: its bytes are read from one, and this end's are written to the other.
+    Files(SessionFiles<'a>),
+    /// Behind a port of this machine, 1 to 65,535.
+    Port(u16),
+}
+
+/// `--from F --to F`.
+#[derive(Clone, Copy, Debug, PartialEq, Eq)]
+pub struct SessionFiles<'a> {
+    /// The file that the other end's bytes are read from.
+    pub from: &'a str,
+    /// The file that this end's bytes are written to.
+    pub to: &'a str,
+}
+
+/// `serve-script MACHINE (--from F --to F | --port N) [--start all|none] [--count-limit N] [--limits L] [--defer] [--turns N]`.
+#[derive(Clone, Copy, Debug, PartialEq, Eq)]
+pub struct ServeScript<'a> {
+    /// The file of the machine's script.
+    pub machine: &'a str,
+    /// Where the debugger is.
+    pub peer: Peer<'a>,
+    /// Whether every thread is suspended when the target starts, the greatest suspend count that a Suspend gives, and the limits of a
+    /// session.
+    pub settings: Settings,
+    /// Whether the target defers the replies to commands of the sets ReferenceType and Method.
+    pub defer: bool,
+    /// How many rounds a session has at most.
+    pub turns: u32,
+}
+
+/// `attach PLAN (--from F --to F | --port N) [--limits L] [--turns N]`.
+#[derive(Clone, Copy, Debug, PartialEq, Eq)]
+pub struct Attach<'a> {
+    /// The file of the plan.
+    pub plan: &'a str,
+    /// Where the target is.
+    pub peer: Peer<'a>,
+    /// The limits of the session.
+    pub limits: Limits,
+    /// How many turns the session has at most.
+    pub turns: u32,
+}
+
+/// `pair MACHINE PLAN [--memory] [--start all|none] [--limits L] [--defer] [--turns N]`.
+#[derive(Clone, Copy, Debug, PartialEq, Eq)]
+pub struct Pair<'a> {
+    /// The file of the machine's script.
+    pub machine: &'a str,
+    /// The file of the plan.
+    pub plan: &'a str,
+    /// What is between both ends.
+    pub between: Between,
+    /// Whether every thread is suspended when the target starts, and the limits of both ends.
+    pub settings: Settings,
+    /// Whether the target defers the replies to commands of the sets ReferenceType and Method.
+    pub defer: bool,
+    /// How many rounds the run has at most.
+    pub turns: u32,
+}
+
+/// What is between both ends of a session in this process.
+#[derive(Clone, Copy, Debug, PartialEq, Eq)]
+pub enum Between {
+    /// Memory alone: `--memory`.
+    Memory,
+    /// A connection of this machine to itself.
+    Loopback,
+}
+
+impl Words<'_> {
+    /// Which of the files that are read the words also write to, by the word that stands for it; None where they keep them all.
+    pub fn emptied(&self) -> Option<&'static str>
+        ensures { (result ≡ None) ↔ KeepsFiles self.now }
+    {
+        match self {
+            Words::ServeScript(words) => words.peer.emptied(words.machine, "MACHINE"),
+            Words::Attach(words) => words.peer.emptied(words.plan, "PLAN"),
+            Words::Pair(_) | Words::Show(_) | Words::Check(_) => None,
+        }
+    }
+}
+
+impl Peer<'_> {
+    /// The same of one file, which the words of the command name so, and of what is read from the other end.
+    fn emptied(&self, read: &str, name: &'static str) -> Option<&'static str>
+        ensures { (result ≡ None) ↔ KeepsFile self.now read.now }
+    {
+        match self {
+            Peer::Files(files) if files.to == read => Some(name),
+            Peer::Files(files) if files.to == files.from => Some("--from"),
+            Peer::Files(_) | Peer::Port(_) => None,
+        }
+    }
+}

@@ -1,0 +1,4 @@
+-- What contracts say of `serve`.
+pub use Rattle.jdwp_engine.specs.Outcome
+pub use Rattle.jdwp_engine.specs.Run
+pub use Rattle.jdwp_engine.specs.Sessions

@@ -1,0 +1,24 @@
+-- What contracts say of the table of commands and their data.
+pub use Rattle.jdwp_layout.specs.CommandNumbers
+pub use Rattle.jdwp_layout.specs.CommandTable
+pub use Rattle.jdwp_layout.specs.EventKindNumbers
+pub use Rattle.jdwp_layout.specs.Grammar
+pub use Rattle.jdwp_layout.specs.Keeping
+pub use Rattle.jdwp_layout.specs.Meanings
+pub use Rattle.jdwp_layout.specs.ModifierKindNumbers
+pub use Rattle.jdwp_layout.specs.ModifiersAndEvents
+pub use Rattle.jdwp_layout.specs.Reads
+pub use Rattle.jdwp_layout.specs.Rows
+pub use Rattle.jdwp_layout.specs.Shapes
+pub use Rattle.jdwp_layout.specs.Skips
+pub use Rattle.jdwp_layout.specs.Writes
+pub use Rattle.jdwp_layout.specs.declared.answer.Answer
+pub use Rattle.jdwp_layout.specs.declared.answer.Data
+pub use Rattle.jdwp_layout.specs.declared.command.CommandRow
+pub use Rattle.jdwp_layout.specs.declared.command.Layouts
+pub use Rattle.jdwp_layout.specs.declared.datum.Datum
+pub use Rattle.jdwp_layout.specs.declared.datum.Scalar
+pub use Rattle.jdwp_layout.specs.declared.item.Entry
+pub use Rattle.jdwp_layout.specs.declared.item.Field
+pub use Rattle.jdwp_layout.specs.declared.item.Item
+pub use Rattle.jdwp_layout.specs.declared.item.Layout

@@ -1,0 +1,22 @@
+-- What contracts say of ids, values and places.
+pub use Rattle.jdwp_value.specs.LocationLaws
+pub use Rattle.jdwp_value.specs.Locations
+pub use Rattle.jdwp_value.specs.RegionLaws
+pub use Rattle.jdwp_value.specs.Regions
+pub use Rattle.jdwp_value.specs.Rising
+pub use Rattle.jdwp_value.specs.TagLaws
+pub use Rattle.jdwp_value.specs.Tags
+pub use Rattle.jdwp_value.specs.ValueLaws
+pub use Rattle.jdwp_value.specs.Values
+pub use Rattle.jdwp_value.specs.declared.id.FieldId
+pub use Rattle.jdwp_value.specs.declared.id.FrameId
+pub use Rattle.jdwp_value.specs.declared.id.MethodId
+pub use Rattle.jdwp_value.specs.declared.id.ObjectId
+pub use Rattle.jdwp_value.specs.declared.id.ReferenceTypeId
+pub use Rattle.jdwp_value.specs.declared.location.Location
+pub use Rattle.jdwp_value.specs.declared.location.TypeTag
+pub use Rattle.jdwp_value.specs.declared.region.ArrayRegion
+pub use Rattle.jdwp_value.specs.declared.tag.ObjectTag
+pub use Rattle.jdwp_value.specs.declared.tag.Tag
+pub use Rattle.jdwp_value.specs.declared.value.TaggedId
+pub use Rattle.jdwp_value.specs.declared.value.Value
