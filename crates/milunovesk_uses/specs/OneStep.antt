@@ -12,6 +12,10 @@ pub record State : Type 0 where
   pub lives : Bool
   pub is_new : Bool
 
+-- before its step
+abbrev pub begun : State
+begun = record { lives = true; is_new = true }
+
 -- the threads that live
 abbrev pub live_where : Bool → List ℕ
 live_where true = 1 ∷ []

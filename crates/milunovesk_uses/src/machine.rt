@@ -1,7 +1,11 @@
 //! A machine of one's own.
-ghost use Rattle.std.specs.Prelude.{◌≡◌, IfOk, true};
+ghost use Rattle.std.specs.Prelude.{◌≡◌, IfOk};
+ghost use Rattle.milunovesk.specs.Debuggee.State.{new_state};
 ghost use Rattle.milunovesk.specs.Event.Occurrences.{prepared_meaning};
-ghost use Rattle.milunovesk_uses.specs.OneStep.{main_class, one_step};
+ghost use Rattle.milunovesk.specs.Target.Options.{settings_at};
+ghost use Rattle.milunovesk.specs.Target.Targets.{new_target};
+ghost use Rattle.milunovesk.specs.Wire.Limits.{standard_limits};
+ghost use Rattle.milunovesk_uses.specs.OneStep.{begun, main_class, one_step};
 ghost use Rattle.milunovesk_uses.specs.OneStepLaws.{one_step_lawful};
 
 use milunovesk::{
@@ -37,7 +41,7 @@ impl Model for OneStep {
 impl OneStep {
     /// The machine before its step. Each of its ids has eight bytes.
     pub fn new(alloc: Global) -> OneStep
-        ensures { result ≡ record { lives = true; is_new = true } }
+        ensures { result ≡ begun }
     {
         match IdSizes::new(8, 8, 8, 8, 8) {
             Ok(sizes) => OneStep {
@@ -115,6 +119,9 @@ impl Machine for OneStep {
 ///
 /// # Errors
 /// `NoMemory` where an allocation was refused.
-pub fn one_step_target(alloc: Global, options: TargetOptions) -> Result<Target<OneStep>, NoMemory> {
+pub fn one_step_target(alloc: Global, options: TargetOptions) -> Result<Target<OneStep>, NoMemory>
+    ensures { IfOk result (λ t. t ≡ new_target (settings_at standard_limits options)
+        (record { state = new_state (one_step.live begun); machine = begun })) }
+{
     Target::new(alloc, OneStep::new(alloc), options)
 }
