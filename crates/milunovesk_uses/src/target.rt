@@ -1,5 +1,6 @@
 //! A target over any machine, with bytes in and bytes out.
-ghost use Rattle.std.specs.Prelude.{◌≡◌, ◌≤◌, IfOk, length};
+ghost use Rattle.std.specs.Prelude.{◌≡◌, ◌≤◌, IfOk, length, min};
+ghost use Rattle.milunovesk.specs.End.Ends.{room_of};
 
 use milunovesk::{Machine, Target, TargetFault, Turn};
 
@@ -14,7 +15,8 @@ pub fn answer<M: Machine + Drop>(
     came: &[u8],
     out: &mut [u8],
 ) -> Result<(usize, usize), TargetFault>
-    ensures taken { IfOk result (λ counts. counts.0 ≤ length came.now) }
+    ensures taken { IfOk result (λ counts. counts.0
+        ≡ min (length came.now) (room_of target.old.end)) }
     ensures filled { IfOk result (λ counts. counts.1 ≤ length out.old) }
 {
     let taken = target.feed(came);
