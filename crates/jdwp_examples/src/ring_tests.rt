@@ -2,8 +2,8 @@
 use crate::asserts::expect_same;
 use circular_buffer::HeapCircularBuffer;
 use jdwp_wire::{
-    ErrorCode, FrameFault, HANDSHAKE, Header, Limits, Next, NextHello, PacketKind, Standing, next_hello_in,
-    next_packet_in, next_packet_in_within, standing_in,
+    ErrorCode, FrameFault, HANDSHAKE, Header, Limits, Next, NextHello, PacketKind, Standing,
+    next_hello_in, next_packet_in, next_packet_in_within, standing_in,
 };
 use std::alloc::Global;
 use std::process::Abort;

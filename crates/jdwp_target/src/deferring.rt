@@ -35,13 +35,14 @@ impl<M: Machine + Drop> Target<M> {
     {
         let id = header.id;
         let body = copy_front(self.alloc, &mut self.end, used)?;
-        self.end.take_off(used);
-        self.deferral.push(DeferredCommand {
+        let command = DeferredCommand {
             id,
             set,
             number,
             body,
-        });
+        };
+        self.end.take_off(used);
+        self.deferral.push(command);
         Ok(Turn::Deferred(id))
     }
 }

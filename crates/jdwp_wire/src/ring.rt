@@ -6,8 +6,8 @@ ghost use Rattle.jdwp_wire.specs.Frames.{Front, FrontOf, front, front_meaning, h
 ghost use Rattle.jdwp_wire.specs.Limits.{standard_limits};
 ghost use Rattle.jdwp_wire.specs.Standing.{TellsStanding};
 
-use crate::frame::{FrameFault, HANDSHAKE, HEADER_LENGTH, Next, NextHello, next_packet_within};
 use crate::error_code::ErrorCode;
+use crate::frame::{FrameFault, HANDSHAKE, HEADER_LENGTH, Next, NextHello, next_packet_within};
 use crate::limits::Limits;
 use crate::packet::{Header, PacketKind};
 use circular_buffer::HeapCircularBuffer;

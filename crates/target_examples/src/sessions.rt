@@ -108,13 +108,9 @@ pub(crate) fn comes(rt: &impl Abort, alloc: Global, target: &mut Target, act: &A
         }
         Act::Visits(visits) => target.visits() == *visits,
         Act::Requests(count) => target.requests().len() == *count,
-        Act::Lives(count) => {
-            target.live().len() == *count && target.is_alive() == (*count > 0)
-        }
+        Act::Lives(count) => { target.live().len() == *count && target.is_alive() == (*count > 0) }
         Act::Open(open) => target.is_open() == *open,
-        Act::Accepts(accepts) => {
-            target.accept() == *accepts && !(*accepts && target.has_lost())
-        }
+        Act::Accepts(accepts) => { target.accept() == *accepts && !(*accepts && target.has_lost()) }
         Act::Loses => {
             target.lose();
             target.has_lost() && target.room() == 0 && target.waiting() == 0
