@@ -3,7 +3,7 @@ ghost use Rattle.std.specs.Prelude.{◌≡◌, ℕ, List, IfOk};
 ghost use Rattle.jdwp_end.specs.Ends.{HasPacket, front_of};
 ghost use Rattle.jdwp_wire.specs.Bytes.{IsBytes};
 ghost use Rattle.jdwp_wire.specs.Streams.{Packet, Whole};
-ghost use Rattle.jdwp_wire.specs.declared.packet.Header as packet;
+ghost use Rattle.jdwp_wire.specs.declared.packet.Header.{Header};
 ghost use Rattle.jdwp_wire.specs.declared.packet.PacketKind.TheVariants as kind;
 ghost use Rattle.jdwp_target.specs.TurnParts.{HasDeferred};
 ghost use Rattle.jdwp_target.specs.Turns.{TurnsAt};
@@ -54,7 +54,7 @@ impl<M: Machine + Drop> Target<M> {
 /// `NoMemory` where an allocation was refused.
 fn copy_front(alloc: Global, end: &mut End, used: usize) -> Result<Vec<u8>, NoMemory>
     requires { HasPacket used end.old }
-    ensures copy { IfOk result (λ copy. (header : packet.Header) (body : List ℕ) → front_of end.old
+    ensures copy { IfOk result (λ copy. (header : Header) (body : List ℕ) → front_of end.old
         ≡ Whole (Packet header body) used → copy.items ≡ body) }
     ensures same { end.new ≡ end.old }
 {
