@@ -32,10 +32,6 @@ use Rattle.jdwp_target.specs.declared.turning.Came.{Came}
 use Rattle.jdwp_target.specs.declared.turning.Came.TheVariants as came
 use Rattle.jdwp_target.specs.declared.turning.Done.{Done}
 
--- a packet of this kind is a command
-abbrev pub IsCommand : PacketKind → Type 0
-IsCommand k = (set : ℕ) × (number : ℕ) × (k ≡ kind.Command set number)
-
 -- a packet with this header, of so many bytes, stands in front of a target, which puts it off
 abbrev pub HasDeferred : {S : Type 0} → Header → ℕ → Target S → Type 0
 HasDeferred header used t = (body : List ℕ) × (front_of t.end ≡ Whole (Packet header body) used) × (defers (full_standing t) (Packet header body) ≡ true)
