@@ -2,8 +2,8 @@
 """Whether what a stranger sends costs in proportion to its bytes: captures, scripts, plans, packets, events of many threads and event requests.
 
 Each row is an input of a size and one four times as long, run by the program: a line of very many digits, lines of a byte, commands that all wait, a script that is deep,
-or has a long number, many members, or long texts, a plan of many lines, packets that are no command or whose data do not read, events of threads whose ids are spread, and event
-requests, most of which are refused. Prints of each the processor's seconds of the best of three runs at both sizes, how often the shorter one's the longer one took, and the peaks
+or has a long number, many members, or long texts, a plan of many lines, packets that are no command or whose data do not read, events of threads whose ids are spread, what
+suspends and resumes all of them, and event requests, most of which are refused, or kept by a debugger. Prints of each the processor's seconds of the best of three runs at both sizes, how often the shorter one's the longer one took, and the peaks
 of memory. What a run answers is checked. To reach: at most six times as long where the input is four times as long, and for sessions memory that does not grow; the status is 1
 where a row takes longer.
 
@@ -158,6 +158,39 @@ def threads_that_suspend_all(count):
     return many_threads(count, policy=2)
 
 
+def moved_threads(count, commands):
+    """Events of many threads, and then these commands in turn, each answered: as many in all as there are threads. A quarter of the packets' bytes are the commands' replies."""
+    number = count // 40
+    events = b"".join(event(i, i * SPREAD % 2**64) for i in range(1, number + 1))
+    answered = b"".join(struct.pack(">IIBH", 11, i, 0x80, 0) for i in range(2, number + 3))
+    asked = "".join(f"ask 1 {commands[i % len(commands)]}\nanswers\n" for i in range(number))
+    return f"events {number}\n{asked}ask 1 6\n".encode(), HANDSHAKE + IDS_ARE_8_BYTES + events + answered, 0
+
+
+def resumes(count):
+    return moved_threads(count, [9])
+
+
+def suspends_and_resumes(count):
+    """Each thread begins or ceases to be suspended at each."""
+    return moved_threads(count, [8, 9])
+
+
+def kept_requests(count):
+    """Sets of METHOD_ENTRY, each granted under an id of its own."""
+    number = count // 15
+    answered = b"".join(struct.pack(">IIBHI", 15, i + 1, 0x80, 0, i) for i in range(1, number + 1))
+    return b"ask 15 1 280000000000\nanswers\n" * number + b"ask 1 6\n", HANDSHAKE + IDS_ARE_8_BYTES + answered + struct.pack(">IIBH", 11, number + 2, 0x80, 0), 0
+
+
+def requests_made_anew(count):
+    """The same, and then each once more under an id that was given, the oldest first."""
+    number = count // 30
+    ids = [*range(1, number + 1)] * 2
+    answered = b"".join(struct.pack(">IIBHI", 15, place + 2, 0x80, 0, it) for place, it in enumerate(ids))
+    return b"ask 15 1 280000000000\nanswers\n" * (2 * number) + b"ask 1 6\n", HANDSHAKE + IDS_ARE_8_BYTES + answered + struct.pack(">IIBH", 11, 2 * number + 2, 0x80, 0), 0
+
+
 def one_thread(count):
     number = count // 29
     events = b"".join(event(i, 1) for i in range(1, number + 1))
@@ -260,6 +293,10 @@ def main():
             ("wide requests", bench.target, wide_requests, 5_000_000),
             ("events of many threads", bench.debugger, many_threads, 1_000_000),
             ("threads that suspend all", bench.debugger, threads_that_suspend_all, 1_000_000),
+            ("Resumes of many threads", bench.debugger, resumes, 1_000_000),
+            ("Suspends and Resumes", bench.debugger, suspends_and_resumes, 1_000_000),
+            ("requests kept", bench.debugger, kept_requests, 500_000),
+            ("requests made anew", bench.debugger, requests_made_anew, 500_000),
             ("events of one thread", bench.debugger, one_thread, 1_000_000),
             ("a plan of many lines", bench.debugger, many_lines, 2_000_000),
             ("a plan that asks too much", bench.debugger, many_asks, 2_000_000),

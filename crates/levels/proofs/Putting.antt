@@ -342,7 +342,7 @@ cleared-counts b s v room es es1 rs l r =
     let no : ltb (entry_at es i).rank 0 ≡ false = sym (test-false (entry_at es i).rank 0 (omega arith)) in
     get_or-map (count_at b) es1 i no_entry 0 h2 ∙ ap (λ (c : Bool). cond c (above b (entry_at es1 i).level) 0) (new ∙ no)
     ∙ sym (get_or-map none (map (count_at b) es) i 0 0 (subst (λ (n : ℕ). i < n) (sym (length-map es (count_at b))) h))) in
-    ap (λ (ns : List ℕ). record { counts = ns; visits = v; capacity = room }) zeros
+    ap (λ (ns : List ℕ). record { counts = ns; visits = v; capacity = room; looks = 0; rank_looks = 0 }) zeros
 
 -- ---- what the calls leave
 
@@ -350,7 +350,7 @@ count-here : (b place : ℕ) (es : List Entry) → place < length es → get_or 
 count-here b place es h = get_or-map (count_at b) es place no_entry 0 h
 
 with-view : (b v r place n : ℕ) (es es1 : List Entry) → map (count_at b) es1 ≡ set (map (count_at b) es) place n → view_of b es1 v r ≡ with_count place n (view_of b es v r)
-with-view b v r place n es es1 e = ap (λ (ns : List ℕ). record { counts = ns; visits = v; capacity = r }) e
+with-view b v r place n es es1 e = ap (λ (ns : List ℕ). record { counts = ns; visits = v; capacity = r; looks = 0; rank_looks = 0 }) e
 
 pub raised-one : (b s v room place to : ℕ) (es es1 : List Entry) (rs rs1 : List Rank) → IsRight b es rs s → place < length es → (entry_at es place).is_suspended ≡ true
     → get_or (map (count_at b) es) place 0 < count_most → Splits b (above b (entry_at es place).level + 1) to s rs → Put place to (after (entry_at es place).level) true es rs es1 rs1
@@ -429,6 +429,11 @@ stopped-one b s v room place t es es1 rs rs1 i h is one sp u0 =
 -- there is room for as many where there is in both
 pub same-room : (e e1 o o1 : ℕ) → e1 ≡ e → o1 ≡ o → min e1 o1 ≡ min e o
 same-room e e1 o o1 h k = ap (λ (n : ℕ). min n o1) h ∙ ap (min e) k
+
+-- the same lists, by other names
+pub put-from : (place to level : ℕ) (is : Bool) (es es0 es1 : List Entry) (rs rs0 rs1 : List Rank) → es0 ≡ es → rs0 ≡ rs → Put place to level is es0 rs0 es1 rs1 → Put place to level is es rs es1 rs1
+put-from place to level is es es0 es1 rs rs0 rs1 e r u =
+    subst (λ (x : List Entry). Put place to level is x rs es1 rs1) e (subst (λ (y : List Rank). Put place to level is es0 y es1 rs1) r u)
 
 pub raised-call : (b s v room room1 place to more level : ℕ) (e : Entry) (es es1 : List Entry) (rs rs1 : List Rank) → room1 ≡ room → IsRight b es rs s → place < length (map (count_at b) es) → e ≡ entry_at es place → e.is_suspended ≡ true
     → get_or (map (count_at b) es) place 0 < count_most → more ≡ above b e.level → Splits b (more + 1) to s rs → level ≡ after e.level → Put place to level true es rs es1 rs1

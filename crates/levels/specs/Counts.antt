@@ -6,11 +6,22 @@ use Rattle.std.specs.List.{sum_by}
 abbrev pub count_most : ℕ
 count_most = 2 ^ 31
 
--- counts, how many threads the last move of all counts visited, and for how many counts there is room
+-- Counts, how many threads the last move of all counts visited, and for how many counts there is room. And how often the own entry of a
+-- thread was read or written since the counts were made, and how often a rank of the order in which threads stand.
 pub record Counts : Type 0 where
   pub counts : List ℕ
   pub visits : ℕ
   pub capacity : ℕ
+  pub looks : ℕ
+  pub rank_looks : ℕ
+
+-- the same counts, after so many looks at entries and at ranks
+abbrev pub after_looks : ℕ → ℕ → Counts → Counts
+after_looks looks rank_looks counts = record counts { looks = looks; rank_looks = rank_looks }
+
+-- all but the looks
+abbrev pub but_looks : Counts → Counts
+but_looks counts = after_looks 0 0 counts
 
 -- ---- one count
 

@@ -5,15 +5,24 @@ use Rattle.levels.specs.Counts.{Counts, count_most}
 use Rattle.levels.specs.declared.entries.Entry.{Entry}
 use Rattle.levels.specs.declared.order.Rank.{Rank}
 
--- entries by their places, and for how many there is room
+-- entries by their places, for how many there is room, and how often one was read or written
 pub record EntryList : Type 0 where
   pub list : List Entry
   pub capacity : ℕ
+  pub looks : ℕ
 
--- ranks in the order, and for how many there is room
+-- ranks in the order, for how many there is room, and how often one was read or written
 pub record RankList : Type 0 where
   pub list : List Rank
   pub capacity : ℕ
+  pub looks : ℕ
+
+-- one look more
+abbrev pub seen : EntryList → EntryList
+seen entries = record entries { looks = entries.looks + 1 }
+
+abbrev pub rank_seen : RankList → RankList
+rank_seen ranks = record ranks { looks = ranks.looks + 1 }
 
 -- how far a level stands above a base, modulo 2 ^ 64
 abbrev pub above : ℕ → ℕ → ℕ
@@ -32,7 +41,7 @@ abbrev pub count_at : ℕ → Entry → ℕ
 count_at base entry = if entry.is_suspended then above base entry.level else 0
 
 abbrev pub view_of : ℕ → List Entry → ℕ → ℕ → Counts
-view_of base entries visits capacity = record { counts = map (count_at base) entries; visits = visits; capacity = capacity }
+view_of base entries visits capacity = record { counts = map (count_at base) entries; visits = visits; capacity = capacity; looks = 0; rank_looks = 0 }
 
 abbrev pub no_entry : Entry
 no_entry = record { level = 0; rank = 0; is_suspended = false }
@@ -102,12 +111,15 @@ suspended_at level entry = record { level = level; rank = entry.rank; is_suspend
 abbrev pub runs : Entry → Entry
 runs entry = record { level = entry.level; rank = entry.rank; is_suspended = false }
 
+abbrev pub lifted : ℕ → Rank → Rank
+lifted level rank = record { place = rank.place; level = level }
+
 -- those whose rank is from `from` on and below `to` became suspended at a level
 abbrev pub risen : ℕ → ℕ → ℕ → Entry → Entry
 risen from level to entry = if between from to entry.rank then suspended_at level entry else entry
 
 abbrev pub risen_rank : ℕ → ℕ → ℕ → ℕ → Rank → Rank
-risen_rank from level to p rank = if between from to p then record { place = rank.place; level = level } else rank
+risen_rank from level to p rank = if between from to p then lifted level rank else rank
 
 pub record Risen (from level to : ℕ) (es : List Entry) (rs : List Rank) (es1 : List Entry) (rs1 : List Rank) : Type 0 where
   pub entries : length es1 ≡ length es
@@ -128,6 +140,10 @@ pub record StopsAt (base from to : ℕ) (rs : List Rank) : Type 0 where
   pub within : to ≤ from
   pub here : (p : ℕ) → to ≤ p → p < from → (rank_at rs p).level ≡ base
   pub next : 0 < to → (rank_at rs (to - 1)).level ≡ base → ⊥
+
+-- the one that stands before those, where there is one
+abbrev pub next_one : ℕ → ℕ
+next_one to = if to == 0 then 0 else 1
 
 -- ---- a move of one thread
 

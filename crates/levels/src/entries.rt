@@ -1,11 +1,13 @@
-//! What is kept of each thread. A move of the base reaches it only through a value that is lent, whose every access is counted.
-ghost use Rattle.std.specs.Prelude.{◌≡◌, ◌++◌, ◌∷◌, [], ◌<◌, ◌≤◌, ◌+◌, ◌-◌, ◌^◌, IfOk, OnErr, OnOk, length, set};
+//! What is kept of each thread. Each reading or writing of it is told in a history that only contracts see, but for the one call that reads
+//! behind a shared reference, `at_untold`. A move of the base reaches it through a value that is lent, which counts its accesses.
+ghost use Rattle.std.specs.Prelude.{◌≡◌, ◌++◌, ◌∷◌, [], ◌<◌, ◌≤◌, ◌+◌, ◌-◌, ◌^◌, IfErr, IfOk, OnErr, OnOk, length, set};
 ghost use Rattle.std.specs.List.{remove};
-ghost use Rattle.levels.specs.Levels.{AreLinked, ArePaired, AreRanksClosed, Fallen, Put, entry_at, last_entry, runs, suspended_at};
+ghost use Rattle.levels.specs.Levels.{AreLinked, ArePaired, AreRanksClosed, Fallen, Put, entry_at, last_entry, runs, seen, suspended_at};
 
 use crate::order::{Order, Rank};
 use std::alloc::{AllocError, Global};
 use std::marker::Model;
+use trace::Trace;
 
 /// What is kept of one thread.
 #[derive(Clone, Copy)]
@@ -42,15 +44,21 @@ impl Entry {
 #[derive(Drop)]
 pub(crate) struct Entries {
     list: Vec<Entry>,
+    /// The places of the entries that were read or written, one look after the other.
+    looks: Trace<usize>,
 }
 
 impl Model for Entries {
-    ghost use Rattle.std.specs.Prelude.{vec_capacity};
+    ghost use Rattle.std.specs.Prelude.{length, vec_capacity};
     ghost use Rattle.levels.specs.Levels.{EntryList};
 
     ghost Value = { EntryList };
 
-    ghost view = { λ e. record { list = e.list.items; capacity = vec_capacity e.list } };
+    ghost view = { λ e. record {
+      list = e.list.items;
+      capacity = vec_capacity e.list;
+      looks = length e.looks.items;
+    } };
 }
 
 /// Entries lent to one move of the base: each access adds one to the counter.
@@ -81,6 +89,7 @@ impl<'a> Lent<'a> {
         ensures entries { self.new.entries.now ≡ record self.old.entries.now {
           list = set self.old.entries.now.list place
               (suspended_at level (entry_at self.old.entries.now.list place));
+          looks = self.old.entries.now.looks + 1;
         } }
         ensures visits { self.new.visits.now ≡ self.old.visits.now + 1 }
     {
@@ -97,6 +106,7 @@ impl<'a> Lent<'a> {
         ensures entries { self.new.entries.now ≡ record self.old.entries.now {
           list = set self.old.entries.now.list place
               (runs (entry_at self.old.entries.now.list place));
+          looks = self.old.entries.now.looks + 1;
         } }
         ensures visits { self.new.visits.now ≡ self.old.visits.now + 1 }
     {
@@ -111,13 +121,29 @@ impl Entries {
         requires { capacity < 2 ^ 32 }
         ensures none { IfOk result (λ e. e.list ≡ []) }
         ensures room { IfOk result (λ e. capacity ≤ e.capacity) }
+        ensures memory { IfErr result (λ _. 0 < capacity) }
     {
-        let list = Vec::with_capacity(alloc, capacity)?;
-        Ok(Entries { list })
+        let mut list = Vec::new(alloc);
+        list.reserve_exact(capacity)?;
+        Ok(Entries {
+            list,
+            looks: Trace::new(),
+        })
     }
 
     /// What is kept of the thread at a place.
-    pub fn at(&self, place: usize) -> Entry
+    pub fn at(&mut self, place: usize) -> Entry
+        requires { place < length self.old.list }
+        ensures value { result ≡ entry_at self.old.list place }
+        ensures after { self.new ≡ seen self.old }
+    {
+        self.looks.push(&place);
+        self.list[place]
+    }
+
+    /// What is kept of the thread at a place. Behind a shared reference no look can be told: this is the one call that reads an entry
+    /// untold, and only `Counts::count` makes it.
+    pub fn at_untold(&self, place: usize) -> Entry
         requires { place < length self.now.list }
         ensures { result ≡ entry_at self.now.list place }
     {
@@ -127,11 +153,12 @@ impl Entries {
     /// Makes room for one more.
     ///
     /// # Errors
-    /// Where an allocation was refused.
+    /// Where an allocation was refused, and only where there was no room.
     pub fn make_room(&mut self) -> Result<(), AllocError>
         ensures same { self.new.list ≡ self.old.list }
         ensures kept { self.old.capacity ≤ self.new.capacity }
         ensures room { OnOk result (length self.new.list < self.new.capacity) }
+        ensures memory { OnErr result (self.old.capacity ≤ length self.old.list) }
     {
         self.list.reserve(1)?;
         Ok(())
@@ -140,8 +167,13 @@ impl Entries {
     /// Adds a thread that runs, at this rank of the order; there is room for it.
     pub fn add(&mut self, rank: usize)
         requires { length self.old.list < self.old.capacity }
-        ensures { self.new ≡ record self.old { list = self.old.list ++ last_entry rank ∷ [] } }
+        ensures { self.new ≡ record self.old {
+          list = self.old.list ++ last_entry rank ∷ [];
+          looks = self.old.looks + 1;
+        } }
     {
+        let place = self.list.len();
+        self.looks.push(&place);
         self.list.push_reserved(Entry {
             level: 0,
             rank,
@@ -149,7 +181,7 @@ impl Entries {
         });
     }
 
-    /// Puts a thread at a rank of the order, with a level, and who stands there at the thread's.
+    /// Puts a thread at a rank of the order, with a level, and who stands there at the thread's. It looks at both; how often is not told.
     pub fn put(
         &mut self,
         order: &mut Order,
@@ -168,6 +200,8 @@ impl Entries {
     {
         let from = self.list[place].rank;
         let other = order.at(to);
+        self.looks.push(&place);
+        self.looks.push(&other.place);
         order.set(from, other);
         order.set(to, Rank { place, level });
         self.list[other.place].rank = from;
@@ -178,16 +212,19 @@ impl Entries {
         };
     }
 
-    /// All run.
-    pub fn stop_all(&mut self, order: &Order, suspended: usize)
-        requires linked { AreLinked self.old.list order.now.list suspended }
+    /// All run. It looks at those that are suspended; how often is not told.
+    pub fn stop_all(&mut self, order: &mut Order, suspended: usize)
+        requires linked { AreLinked self.old.list order.old.list suspended }
         ensures fallen { Fallen suspended 0 self.old.list self.new.list }
         ensures capacity { self.new.capacity ≡ self.old.capacity }
+        ensures order { order.new.list ≡ order.old.list }
+        ensures room { order.new.capacity ≡ order.old.capacity }
     {
         let mut to = suspended;
         while to > 0 {
             to -= 1;
             let place = order.at(to).place;
+            self.looks.push(&place);
             self.list[place].is_suspended = false;
         }
     }
@@ -197,8 +234,10 @@ impl Entries {
         requires { place < length self.old.list }
         ensures { self.new ≡ record self.old {
           list = set self.old.list place (suspended_at level (entry_at self.old.list place));
+          looks = self.old.looks + 1;
         } }
     {
+        self.looks.push(&place);
         let entry = &mut self.list[place];
         entry.level = level;
         entry.is_suspended = true;
@@ -209,16 +248,22 @@ impl Entries {
         requires { place < length self.old.list }
         ensures { self.new ≡ record self.old {
           list = set self.old.list place (runs (entry_at self.old.list place));
+          looks = self.old.looks + 1;
         } }
     {
+        self.looks.push(&place);
         self.list[place].is_suspended = false;
     }
 
     /// Takes out the entry at a place.
     pub fn remove(&mut self, place: usize)
         requires { place < length self.old.list }
-        ensures { self.new ≡ record self.old { list = remove self.old.list place } }
+        ensures { self.new ≡ record self.old {
+          list = remove self.old.list place;
+          looks = self.old.looks + 1;
+        } }
     {
+        self.looks.push(&place);
         let _ = self.list.remove(place);
     }
 
@@ -229,12 +274,13 @@ impl Entries {
         self.list.clear();
     }
 
-    /// The ranks above one that is gone move down.
+    /// The ranks above one that is gone move down. It looks at all entries; how often is not told.
     pub fn close_ranks(&mut self, gone: usize)
         ensures closed { AreRanksClosed gone self.old.list self.new.list }
         ensures capacity { self.new.capacity ≡ self.old.capacity }
     {
         for place in 0..self.list.len() {
+            self.looks.push(&place);
             let rank = self.list[place].rank;
             if rank > gone {
                 self.list[place].rank = rank - 1;

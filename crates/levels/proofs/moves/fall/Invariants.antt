@@ -10,6 +10,10 @@ invariant-loop-to l = Fallen l.fn.from l.to l.fn.lent.entries.now.list l.lent.en
     × (l.lent.entries.now.capacity ≡ l.fn.lent.entries.now.capacity)
     × (l.lent.entries.ghost_name ≡ l.fn.lent.entries.ghost_name)
     × (l.lent.visits.ghost_name ≡ l.fn.lent.visits.ghost_name)
+    × (l.lent.entries.now.looks ≡ l.fn.lent.entries.now.looks + l.lent.visits.now)
+    × (l.order.looks ≡ l.fn.order.looks + l.lent.visits.now)
+    × (l.order.list ≡ l.fn.order.list)
+    × (l.order.capacity ≡ l.fn.order.capacity)
 
 abbrev pub decreases-loop-to : goal.decreases-loop-to
 decreases-loop-to l = l.to

@@ -11,3 +11,5 @@ invariant-loop-rank l = Risen l.fn.from l.fn.level l.rank l.fn.lent.entries.now.
     × (l.order.capacity ≡ l.fn.order.capacity)
     × (l.lent.entries.ghost_name ≡ l.fn.lent.entries.ghost_name)
     × (l.lent.visits.ghost_name ≡ l.fn.lent.visits.ghost_name)
+    × (l.lent.entries.now.looks ≡ l.fn.lent.entries.now.looks + l.lent.visits.now)
+    × (l.order.looks ≡ l.fn.order.looks + l.lent.visits.now)

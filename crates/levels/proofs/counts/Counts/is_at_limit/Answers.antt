@@ -10,7 +10,7 @@ pub returns-then-self-gt0 : goal.returns-then-self-gt0
 returns-then-self-gt0 c =
     let i = c.self.inside in
     let most : All (λ n. n ≤ c.args.limit) (map (count_at i.base) i.entries.list) = subst (λ (x : Counts). All (λ n. n ≤ c.args.limit) x.counts) (sym c.self.view_is) c.requires.most in
-    ap (λ n. n == c.args.limit) (c.above.ensures ∙ ap (λ (x : Rank). above i.base x.level) c.at.ensures)
+    ap (λ n. n == c.args.limit) (c.above.ensures ∙ ap (λ (x : Rank). above i.base x.level) c.first_untold.ensures)
     ∙ limit-first i.base i.suspended c.args.limit i.entries.list i.order.list c.self.invariant c.requires.positive most c.if-self-gt0.true
     ∙ ap (λ (x : Counts). list_any (λ n. n == c.args.limit) x.counts) c.self.view_is
 

@@ -1,4 +1,4 @@
-use Rattle.std.proofs.Common.{◌≡◌, ◌∙◌, ap, arith, map, refl, ◌+◌}
+use Rattle.std.proofs.Common.{◌≡◌, ◌∙◌, ap, arith, map, ◌+◌}
 use Rattle.levels.specs.Counts.{Counts, standing}
 use Rattle.levels.specs.Levels.{EntryList, Fallen, StopsAt, after, at_base, count_at}
 use Rattle.levels.proofs.Moving.{lowered-right, lowered-counts, at-base-old, at-base-new}
@@ -10,7 +10,7 @@ invariant_of-self c =
     let i = c.self.inside in
     let fallen : Fallen i.suspended c.fall-suspended.result i.entries.list c.fall-suspended.new.lent.entries.now.list = rw (← c.of-lent.ensures.entries) c.fall-suspended.ensures.fallen in
     let stops : StopsAt (after i.base) i.suspended c.fall-suspended.result i.order.list = rw (← c.after-base.ensures) c.fall-suspended.ensures.stops in
-    rw c.after-base.ensures (lowered-right i.base i.suspended c.fall-suspended.result i.entries.list c.fall-suspended.new.lent.entries.now.list i.order.list c.self.invariant stops fallen)
+    rw (c.after-base.ensures, c.fall-suspended.ensures.order) (lowered-right i.base i.suspended c.fall-suspended.result i.entries.list c.fall-suspended.new.lent.entries.now.list i.order.list c.self.invariant stops fallen)
 
 pub returns-clause-counts : goal.returns-clause-counts
 returns-clause-counts c =
@@ -36,4 +36,4 @@ pub returns-clause-capacity : goal.returns-clause-capacity
 returns-clause-capacity c =
     let i = c.self.inside in
     let entries = c.fall-suspended.ensures.capacity ∙ ap (λ (x : EntryList). x.capacity) c.of-lent.ensures.entries in
-    same-room i.entries.capacity c.fall-suspended.new.lent.entries.now.capacity i.order.capacity i.order.capacity entries refl ∙ ap (λ (x : Counts). x.capacity) c.self.view_is
+    same-room i.entries.capacity c.fall-suspended.new.lent.entries.now.capacity i.order.capacity c.fall-suspended.new.order.capacity entries c.fall-suspended.ensures.room ∙ ap (λ (x : Counts). x.capacity) c.self.view_is
