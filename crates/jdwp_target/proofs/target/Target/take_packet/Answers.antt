@@ -422,5 +422,5 @@ pub invariant_of-self : goal.invariant_of-self
 invariant_of-self g c =
     let t = c.self.inside in
     let packet : HasPacketWith c.args.header c.args.used t.end = rw (← c.self.view_is) at c.requires.packet in
-    let wanted = c.in_err-came.ensures.came packet.0 packet.1 packet.2 in
+    let wanted = c.in_err-came.ensures.came packet.0 packet.1 in
     rw (wanted.2, c.handle_front.ensures.same) c.self.invariant
