@@ -1,7 +1,7 @@
 //! An end with packets of at most 2,048 bytes.
 use crate::asserts::expect_same;
 use jdwp_end::{End, Front};
-use jdwp_wire::{FrameFault, HANDSHAKE, IdSizes, Limits, Next, next_packet_within};
+use jdwp_wire::{FrameFault, HANDSHAKE, IdSizes, Limits};
 use std::alloc::Global;
 use std::process::Abort;
 
@@ -12,26 +12,25 @@ fn end(rt: &impl Abort, alloc: Global) -> End {
 }
 
 /// What there is to handle, without the packet: its id and how many bytes it takes.
-fn front_of(end: &mut End) -> Result<Option<(u32, usize)>, FrameFault> {
-    let limits = end.limits();
+fn front_of(end: &End) -> Result<Option<(u32, usize)>, FrameFault> {
     match end.front() {
         Front::More => Ok(None),
         Front::Fault(fault) => Err(fault),
         Front::Handshake => Ok(Some((0, 14))),
-        Front::Packet(used) => match end.packet_in_place(used) {
-            Some(bytes) => packet_of(bytes, &limits),
-            None => packet_of(end.packet_joined(used), &limits),
-        },
+        Front::Packet(header, used) => Ok(Some((header.id, used))),
     }
 }
 
-/// The packet in front of these bytes: its id and how many bytes it takes.
-fn packet_of(bytes: &[u8], limits: &Limits) -> Result<Option<(u32, usize)>, FrameFault> {
-    match next_packet_within(bytes, limits) {
-        Next::Whole(packet, used) => Ok(Some((packet.header.id, used))),
-        Next::More => Ok(None),
-        Next::Fault(fault) => Err(fault),
+/// The data of the packet in front: whether they lie in one piece, how many bytes they have, and the last of them.
+fn data_of(end: &mut End) -> Option<(bool, usize, Option<u8>)> {
+    let Front::Packet(_, used) = end.front() else {
+        return None;
+    };
+    if let Some(data) = end.data_in_place(used) {
+        return Some((true, data.len(), data.last().copied()));
     }
+    let data = end.data_joined(used);
+    Some((false, data.len(), data.last().copied()))
 }
 
 #[test]
@@ -60,7 +59,7 @@ fn front_behind(
 ) -> Result<Option<(u32, usize)>, FrameFault> {
     let mut end = established(rt, alloc);
     end.feed(&length);
-    front_of(&mut end)
+    front_of(&end)
 }
 
 #[test]
@@ -81,10 +80,20 @@ fn a_packet_that_wraps(rt: HostRuntime) {
         &11,
     );
     expect_same(&rt, &end.feed(&[0; 2028]), &2028);
-    expect_same(&rt, &front_of(&mut end), &Ok(None));
-    expect_same(&rt, &end.feed(&[0; 100]), &9);
-    expect_same(&rt, &front_of(&mut end), &Ok(Some((7, 2040))));
-    expect_same(&rt, &front_of(&mut end), &Ok(Some((7, 2040))));
+    expect_same(&rt, &front_of(&end), &Ok(None));
+    expect_same(&rt, &end.feed(&[3; 100]), &9);
+    expect_same(&rt, &front_of(&end), &Ok(Some((7, 2040))));
+    expect_same(&rt, &data_of(&mut end), &Some((false, 2029, Some(3))));
+    expect_same(&rt, &front_of(&end), &Ok(Some((7, 2040))));
+}
+
+/// A packet that does not wrap is read where it lies, and what follows it is not looked at.
+#[test]
+fn a_packet_in_one_piece(rt: HostRuntime) {
+    let mut end = established(&rt, rt.alloc());
+    end.feed(&[0, 0, 0, 15, 0, 0, 0, 7, 0, 1, 7, 1, 2, 3, 4, 9]);
+    expect_same(&rt, &front_of(&end), &Ok(Some((7, 15))));
+    expect_same(&rt, &data_of(&mut end), &Some((true, 4, Some(4))));
 }
 
 /// An end at which the handshake was handled.

@@ -5,7 +5,6 @@ use Rattle.jdwp_wire.specs.ErrorCodes.{NONE}
 use Rattle.jdwp_wire.specs.declared.packet.Header.{Header}
 use Rattle.jdwp_wire.specs.declared.packet.PacketKind.{PacketKind}
 use Rattle.jdwp_wire.specs.declared.packet.PacketKind.TheVariants as kind
-use Rattle.jdwp_wire.specs.Frames as frames
 use Rattle.jdwp_wire.specs.Frames.{header_bytes}
 use Rattle.jdwp_wire.specs.Streams as streams
 use Rattle.jdwp_wire.specs.Streams.{NextMessage, Whole, More, Fault}
@@ -193,19 +192,12 @@ WantsMemory (Happens c) = Unit {0}
 WantsMemory (Answers place ticket answer) = IsData answer
 WantsMemory (Measures place answer w cs) = Unit {0}
 
-abbrev pub IsWhole : frames.Front → Type 0
-IsWhole (frames.Whole header body used) = Unit {0}
-IsWhole frames.More = ⊥
-IsWhole (frames.Fault fault) = ⊥
-
--- of a packet in front: its header and what it says, or why that fails
-abbrev pub ReadsFront : Reading → frames.Front → Result (Header × declared.News) DebuggerFault → Type 0
-ReadsFront r (frames.Whole header body used) result =
+-- of a packet with this header and these data: what it says, or why that fails
+abbrev pub ReadsPacket : Reading → Header → List ℕ → Result declared.News DebuggerFault → Type 0
+ReadsPacket r header body result =
     MatchResult result
-    (λ x. (x.0 ≡ header) × (says r header.id header.kind body ≡ Ok (news_meaning x.1)) × (WantsMemory (news_meaning x.1) → MayWantMemory header.kind))
+    (λ news. (says r header.id header.kind body ≡ Ok (news_meaning news)) × (WantsMemory (news_meaning news) → MayWantMemory header.kind))
     (λ fault. Fails fault (says r header.id header.kind body) × (fault ≡ code.NoMemory → MayWantMemory header.kind))
-ReadsFront r frames.More result = Unit {0}
-ReadsFront r (frames.Fault fault) result = Unit {0}
 
 -- a packet with this header, of so many bytes, is in front, and says this
 pub record IsSaid (d : Debugger) (header : Header) (used : ℕ) (news : News) : Type 0 where

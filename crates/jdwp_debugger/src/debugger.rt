@@ -276,7 +276,7 @@ impl Debugger {
     {
         match self.end.front() {
             Front::More => false,
-            Front::Fault(_) | Front::Handshake | Front::Packet(_) => true,
+            Front::Fault(_) | Front::Handshake | Front::Packet(..) => true,
         }
     }
 

@@ -2,15 +2,12 @@
 ghost use Rattle.std.specs.Prelude.{◌≡◌, ◌<◌, ℕ, IfOk, List, Some, length, slice_get};
 ghost use Rattle.std.specs.Result.{IsErrOf};
 ghost use Rattle.jdwp_wire.specs.ErrorCodes.{NONE};
-ghost use Rattle.jdwp_wire.specs.Frames as frames;
-ghost use Rattle.jdwp_wire.specs.Frames.{front};
 ghost use Rattle.jdwp_wire.specs.Streams.{Packet, Whole};
-ghost use Rattle.jdwp_wire.specs.declared.packet.Header.{Header};
-ghost use Rattle.jdwp_end.specs.Ends.{HasPacket, front_of};
+ghost use Rattle.jdwp_end.specs.Ends.{HasPacketWith, front_of};
 ghost use Rattle.jdwp_mirror.specs.FaultParts.{IsData};
 ghost use Rattle.jdwp_mirror.specs.Widths.{widths_in};
 ghost use Rattle.jdwp_debugger.specs.declared.faults.DebuggerFault.TheVariants as code;
-ghost use Rattle.jdwp_debugger.specs.DebuggerTurns.{IsWhole, MayWantMemory, ReadsFront, WantsMemory, news_meaning, reading};
+ghost use Rattle.jdwp_debugger.specs.DebuggerTurns.{MayWantMemory, ReadsPacket, WantsMemory, news_meaning, reading};
 ghost use Rattle.jdwp_debugger.specs.News.{Tells, answer_says, event_says, reply_to, says, sizes_say, widths_by};
 
 use crate::faults::DebuggerFault;
@@ -22,9 +19,7 @@ use jdwp_event::Composite;
 use jdwp_layout::Answer;
 use jdwp_layout::numbers::{COMPOSITE, EVENT};
 use jdwp_mirror::widths_in_answer;
-use jdwp_wire::{
-    ErrorCode, Header, IdSizes, Limits, Next, PacketKind, PacketRef, next_packet_within,
-};
+use jdwp_wire::{ErrorCode, Header, IdSizes, PacketKind, PacketRef};
 use std::alloc::Global;
 
 /// How many composites may wait for the widths of ids.
@@ -54,43 +49,26 @@ pub(crate) struct Known<'a> {
 }
 
 impl<'a> Known<'a> {
-    /// The header of the packet in front of an end, which takes so many bytes, and what it says. It is read where it lies, or joined where
-    /// it wraps, and the end is as it was.
+    /// What the packet in front of an end says, which has this header and takes so many bytes. Its data are read where they lie, or joined
+    /// where they wrap, and the end is as it was.
     pub fn read_front(
         &self,
         alloc: Global,
         end: &mut End,
+        header: Header,
         used: usize,
-    ) -> Result<(Header, News), DebuggerFault>
-        requires { HasPacket used end.old }
-        ensures read { (header : Header) (body : List ℕ) → front_of end.old
-            ≡ Whole (Packet header body) used
-            → ReadsFront (reading self.now) (frames.Whole header body used) result }
+    ) -> Result<News, DebuggerFault>
+        requires { HasPacketWith header used end.old }
+        ensures read { (body : List ℕ) → front_of end.old ≡ Whole (Packet header body) used
+            → ReadsPacket (reading self.now) header body result }
         ensures same { end.new ≡ end.old }
     {
-        let limits = end.limits();
-        match end.packet_in_place(used) {
-            Some(bytes) => self.read_bytes(alloc, bytes, &limits),
-            None => self.read_bytes(alloc, end.packet_joined(used), &limits),
-        }
-    }
-
-    /// The header of the packet in front of these bytes, and what it says.
-    fn read_bytes(
-        &self,
-        alloc: Global,
-        bytes: &[u8],
-        limits: &Limits,
-    ) -> Result<(Header, News), DebuggerFault>
-        requires { IsWhole (front limits.now.packet bytes.now) }
-        ensures { ReadsFront (reading self.now) (front limits.now.packet bytes.now) result }
-    {
-        match next_packet_within(bytes, limits) {
-            Next::Whole(packet, _) => {
-                let news = self.read_packet(alloc, &packet)?;
-                Ok((packet.header, news))
+        match end.data_in_place(used) {
+            Some(body) => self.read_packet(alloc, &PacketRef { header, body }),
+            None => {
+                let body = end.data_joined(used);
+                self.read_packet(alloc, &PacketRef { header, body })
             }
-            Next::More | Next::Fault(_) => unreachable!(),
         }
     }
 

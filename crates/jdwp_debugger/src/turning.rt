@@ -4,8 +4,7 @@ ghost use Rattle.std.specs.List.{list_any};
 ghost use Rattle.std.specs.Result.{IsErrOf};
 ghost use Rattle.jdwp_wire.specs.Bytes.{IsBytes};
 ghost use Rattle.jdwp_wire.specs.Streams.{Handshake, Packet, Whole};
-ghost use Rattle.jdwp_wire.specs.declared.packet.Header.{Header};
-ghost use Rattle.jdwp_end.specs.Ends.{HasPacket, front_of};
+ghost use Rattle.jdwp_end.specs.Ends.{HasPacketWith, front_of};
 ghost use Rattle.jdwp_debugger.specs.declared.faults.DebuggerFault.TheVariants as code;
 ghost use Rattle.jdwp_debugger.specs.DebuggerTurns as turns;
 ghost use Rattle.jdwp_debugger.specs.DebuggerTurns.{AreFew, Enters, EntersAt, FailsOnly, FailsTo, HandlesAt, IsSaid, LearnedAll, MayTakeMemory, TurnsAt, closed_debugger, closed_where, command_at, measured_where, news_meaning, none_known, refused, reports, read_meaning, with_sizes};
@@ -72,16 +71,20 @@ impl Debugger {
                 Err(DebuggerFault::Frame(fault))
             }
             Front::Handshake => self.greet(alloc),
-            Front::Packet(used) => self.handle_packet(alloc, used),
+            Front::Packet(header, used) => self.handle_packet(alloc, header, used),
         }
     }
 
-    /// Handles the packet in front, which takes so many bytes: it is read, and then taken in.
-    fn handle_packet(&mut self, alloc: Global, used: usize) -> Result<Read, DebuggerFault>
-        requires front { HasPacket used self.old.end }
+    /// Handles the packet in front, which has this header and takes so many bytes: it is read, and then taken in.
+    fn handle_packet(
+        &mut self,
+        alloc: Global,
+        header: Header,
+        used: usize,
+    ) -> Result<Read, DebuggerFault>
+        requires front { HasPacketWith header used self.old.end }
         requires bytes { IsBytes self.old.end.incoming }
-        ensures { (header : Header) (body : List ℕ) → front_of self.old.end
-            ≡ Whole (Packet header body) used
+        ensures { (body : List ℕ) → front_of self.old.end ≡ Whole (Packet header body) used
             → HandlesAt (Packet header body) used self.old result self.new }
     {
         let known = Known {
@@ -89,8 +92,8 @@ impl Debugger {
             parked: &self.parked,
             pending: &self.pending,
         };
-        match known.read_front(alloc, &mut self.end, used) {
-            Ok(read) => self.enter(alloc, read.0, used, read.1),
+        match known.read_front(alloc, &mut self.end, header, used) {
+            Ok(news) => self.enter(alloc, header, used, news),
             Err(fault) => self.fail(fault),
         }
     }

@@ -1,11 +1,12 @@
--- An end that calls for more has room, and the packet in front is found again.
-use Rattle.std.proofs.Common.{◌≡◌, ◌^◌, ◌∙◌, ℕ, ◌<◌, ◌+◌, ◌≤◌, List, [], length, take, Bool, true, false, cond, sym, ap, refl, arith, inl, inr}
+-- An end that calls for more has room, and the data of the packet in front lie behind its header.
+use Rattle.std.proofs.Common.{◌≡◌, ◌∙◌, ℕ, ◌<◌, ◌+◌, ◌-◌, ◌≤◌, ◌++◌, List, [], length, take, drop, Bool, true, false, cond, sym, ap, refl, arith, inl, inr}
 use Rattle.std.proofs.lemmas.Bool.{cases_lt, lt-leb}
-use Rattle.std.proofs.lemmas.List.{append-nil, length-append}
+use Rattle.std.proofs.lemmas.List.{drop-take, drop_at, length-append, length-take, take-append-le}
 use Rattle.jdwp_wire.specs.Bytes.{IsBytes}
-use Rattle.jdwp_wire.specs.Frames.{Front, front, packet_bytes}
+use Rattle.jdwp_wire.specs.Frames.{Front, front, header_bytes}
 use Rattle.jdwp_wire.specs.Frames as frames
-use Rattle.jdwp_wire.specs.FrameLaws.{front_again, front_found, front_is}
+use Rattle.jdwp_wire.specs.FrameLaws.{front_is}
+use Rattle.jdwp_wire.specs.StreamLaws.{packet_length}
 use Rattle.jdwp_wire.specs.Handshake.{handshake_front}
 use Rattle.jdwp_wire.specs.HandshakeLaws.{handshake_front_is}
 use Rattle.jdwp_wire.specs.Streams.{Packet, NextMessage, Whole, More, after_handshake, at_handshake}
@@ -16,7 +17,7 @@ use Rattle.jdwp_wire.specs.Limits.{least_packet_limit}
 use Rattle.jdwp_end.specs.declared.phase.Phase.{Phase}
 use Rattle.jdwp_end.specs.declared.phase.Phase.TheVariants.{Closed, AwaitingHandshake, Established}
 use Rattle.jdwp_end.specs.Ends.{End, is_open, is_open_phase, is_paused, front_of, next_at, next_of, room_of}
-use Rattle.jdwp_end.specs.FrontLaws.{front-whole, in-front}
+use Rattle.jdwp_end.specs.FrontLaws.{in-front}
 
 -- ---- where more bytes are called for, there are fewer than a packet may have
 
@@ -63,31 +64,24 @@ more-has-room end low fits e opened flows =
     let short = more-room end.limits.packet end.phase end.incoming (omega arith) fits opened next in
     rw opened (omega (arith, short))
 
--- ---- a packet that is lent
+-- ---- the data of a packet that are lent
 
-is-packet : {header : Header} {body : List ℕ} {used : ℕ} (found : Front) → after_handshake found ≡ Whole (Packet header body) used → found ≡ frames.Whole header body used
-is-packet (frames.Whole h b n) e = cc
-is-packet frames.More e = absurd cc
-is-packet (frames.Fault fault) e = absurd cc
+-- they lie behind its header
+pub body-lies : (end : End) (header : Header) (body : List ℕ) (used : ℕ) → IsBytes end.incoming → front_of end ≡ Whole (Packet header body) used
+    → (drop 11 (take used end.incoming) ≡ body) × (11 ≤ used)
+body-lies end header body used fits e =
+    let at = (in-front end (Packet header body) used fits e).0 in
+    let whole = packet_length header body in
+    let header-size : length (header_bytes header) ≡ 11 = omega (arith, packet_length header [], length-append (header_bytes header) []) in (
+      ap (λ (bytes : List ℕ). drop 11 bytes) at.bytes_are ∙ drop_at (header_bytes header) body 11 header-size,
+      omega (arith, at.there, whole, ap (λ (bytes : List ℕ). length bytes) at.bytes_are, length-take used end.incoming),
+    )
 
-no-packet : {A : Type 0} {header : Header} {body : List ℕ} {used : ℕ} (found : NextHello) → at_handshake found ≡ Whole (Packet header body) used → A
-no-packet hello.Whole e = absurd cc
-no-packet hello.More e = absurd cc
-no-packet (hello.Fault fault) e = absurd cc
-
-packet-at : (limit : ℕ) (phase : Phase) (bytes : List ℕ) (header : Header) (body : List ℕ) (used : ℕ) → next_at limit phase bytes ≡ Whole (Packet header body) used → IsBytes bytes
-    → front limit bytes ≡ frames.Whole header body used
-packet-at limit Closed bytes header body used e fits = absurd cc
-packet-at limit AwaitingHandshake bytes header body used e fits = no-packet (handshake_front bytes) e
-packet-at limit Established bytes header body used e fits = is-packet (front limit bytes) e
-
--- the bytes of the packet in front have the same packet in front
-pub packet-again : (end : End) (header : Header) (body : List ℕ) (used : ℕ) → end.limits.packet < 2 ^ 32 → IsBytes end.incoming → front_of end ≡ Whole (Packet header body) used
-    → front end.limits.packet (take used end.incoming) ≡ frames.Whole header body used
-packet-again end header body used small fits e =
-    let found = packet-at end.limits.packet end.phase end.incoming header body used (front-whole end (Packet header body) used e).1 fits in
-    let p = front_found end.limits.packet end.incoming header body used fits found in
-    let first = (in-front end (Packet header body) used fits e).0.bytes_are in
-    ap (λ (bytes : List ℕ). front end.limits.packet bytes) (first ∙ sym (append-nil (packet_bytes header body)))
-    ∙ front_again end.limits.packet header body [] small p.0
-    ∙ ap (λ (n : ℕ). frames.Whole header body n) (sym p.1)
+-- also where its first bytes alone are there
+pub body-lent : (end : End) (first rest : List ℕ) (header : Header) (body : List ℕ) (used : ℕ) → first ++ rest ≡ end.incoming → used ≤ length first → IsBytes end.incoming
+    → front_of end ≡ Whole (Packet header body) used → take (used - 11) (drop 11 first) ≡ body
+body-lent end first rest header body used joined there fits e =
+    let lies = body-lies end header body used fits e in
+    let lent : take used first ≡ take used end.incoming = sym (take-append-le used first rest there) ∙ ap (λ (zs : List ℕ). take used zs) joined in
+    let cut : 11 + (used - 11) ≡ used = omega (arith, lies.1) in
+    sym (drop-take 11 (used - 11) first) ∙ ap (λ (n : ℕ). drop 11 (take n first)) cut ∙ ap (λ (zs : List ℕ). drop 11 zs) lent ∙ lies.0

@@ -64,16 +64,20 @@ next_of end = next_at end.limits.packet end.phase end.incoming
 abbrev pub front_of : End → NextMessage
 front_of end = if is_paused end then More else next_of end
 
--- what an end tells of it, without the message: a handshake takes 14 bytes, and a packet so many
+-- what an end tells of it, without the data of a packet: a handshake takes 14 bytes, and a packet with this header so many
 abbrev pub TellsFront : Front → NextMessage → Type 0
 TellsFront found.More next = next ≡ More
 TellsFront (found.Fault fault) next = next ≡ Fault fault
 TellsFront found.Handshake next = next ≡ Whole Message.Handshake 14
-TellsFront (found.Packet used) next = (header : Header) × (body : List ℕ) × (next ≡ Whole (Message.Packet header body) used)
+TellsFront (found.Packet header used) next = (body : List ℕ) × (next ≡ Whole (Message.Packet header body) used)
 
 -- a packet of so many bytes stands in front of an end
 abbrev pub HasPacket : ℕ → End → Type 0
 HasPacket used end = (header : Header) × (body : List ℕ) × (front_of end ≡ Whole (Message.Packet header body) used)
+
+-- a packet with this header, of so many bytes, stands in front of an end
+abbrev pub HasPacketWith : Header → ℕ → End → Type 0
+HasPacketWith header used end = (body : List ℕ) × (front_of end ≡ Whole (Message.Packet header body) used)
 
 -- ---- what each call does
 

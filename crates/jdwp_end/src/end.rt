@@ -2,8 +2,6 @@
 ghost use Rattle.std.specs.Prelude.{◌≡◌, ◌≤◌, ◌<◌, ◌+◌, ◌-◌, ◌*◌, ◌++◌, [], List, None, true, false, ℕ, IfOk, IfSome, length, take, drop, min};
 ghost use Rattle.std.specs.Borrow.{sem};
 ghost use Rattle.jdwp_wire.specs.Bytes.{IsBytes};
-ghost use Rattle.jdwp_wire.specs.Frames as frames;
-ghost use Rattle.jdwp_wire.specs.Frames.{front};
 ghost use Rattle.jdwp_wire.specs.Streams.{Message, Packet, Whole, More};
 ghost use Rattle.jdwp_wire.specs.declared.packet.Header.{Header};
 ghost use Rattle.jdwp_wire.specs.Limits.{least_packet_limit, most_packet_limit};
@@ -11,11 +9,11 @@ ghost use Rattle.jdwp_end.specs.Ends as ends;
 ghost use Rattle.jdwp_end.specs.Ends.{HasPacket, TellsFront, closed_end, front_of, lost_end, most_outgoing, new_end, opened_end, room_of, with_enqueued, with_fed, with_handled, with_taken};
 
 use crate::front::Front;
-use crate::parts::{are_bytes, front_piece, join, packet_standing, shared, take_into};
+use crate::parts::{are_bytes, front_piece, join, packet_standing, shared_behind, take_into};
 use crate::phase::Phase;
 use crate::session::Session;
 use circular_buffer::HeapCircularBuffer;
-use jdwp_wire::{IdSizes, Limits, NextHello, Standing, Wire, next_hello_in};
+use jdwp_wire::{HEADER_LENGTH, IdSizes, Limits, NextHello, Standing, Wire, next_hello_in};
 use std::alloc::{AllocError, Global};
 use std::marker::Model;
 
@@ -83,6 +81,13 @@ impl End {
         ensures { result ≡ ends.is_established self.now }
     {
         self.phase == Phase::Established
+    }
+
+    /// Whether the end noticed in this session, or in the last one that was open, that the connection is lost. A new session begins without.
+    pub fn has_lost(&self) -> bool
+        ensures { result ≡ self.now.session.lost }
+    {
+        self.session.has_lost()
     }
 
     /// Whether so much waits to leave, `limits.packet()` bytes or more, that nothing is handled.
@@ -153,7 +158,7 @@ impl End {
         count
     }
 
-    /// What there is to handle. `packet_in_place` or `packet_joined` lends a packet.
+    /// What there is to handle. `data_in_place` or `data_joined` lends the data of a packet.
     ///
     /// An open end that is not paused and asks for more has room for a byte.
     pub fn front(&self) -> Front
@@ -178,45 +183,39 @@ impl End {
                 NextHello::Fault(fault) => Front::Fault(fault),
             },
             Phase::Established => match packet_standing(&self.incoming, &self.limits) {
-                Standing::Whole(used) => Front::Packet(used),
+                Standing::Whole(header, used) => Front::Packet(header, used),
                 Standing::More => Front::More,
                 Standing::Fault(fault) => Front::Fault(fault),
             },
         }
     }
 
-    /// The bytes of the packet in front, which takes so many, where they lie: in front of them stands the same packet. None where they
-    /// wrap round the end of the ring.
-    pub fn packet_in_place(&self, used: usize) -> Option<&[u8]>
+    /// The data of the packet in front, which takes so many bytes, where they lie. None where the packet wraps round the end of the ring.
+    pub fn data_in_place(&self, used: usize) -> Option<&[u8]>
         requires { HasPacket used self.now }
-        ensures bytes { IfSome result (λ bytes. bytes.now ≡ take used self.now.incoming) }
-        ensures packet { IfSome result (λ bytes. (header : Header) (body : List ℕ)
-            → front_of self.now ≡ Whole (Packet header body) used
-            → front self.now.limits.packet bytes.now ≡ frames.Whole header body used) }
+        ensures { IfSome result (λ lent. (header : Header) (body : List ℕ)
+            → front_of self.now ≡ Whole (Packet header body) used → lent.now ≡ body) }
     {
         let (first, second) = self.incoming.as_slices();
         are_bytes(first, second);
         if used <= first.len() {
-            Some(&first[..used])
+            Some(&first[HEADER_LENGTH..used])
         } else {
             None
         }
     }
 
-    /// The bytes of the packet in front, which takes so many, copied into one piece: in front of them stands the same packet. The end is
-    /// as it was. It takes no memory.
-    pub fn packet_joined(&mut self, used: usize) -> &[u8]
+    /// The data of the packet in front, which takes so many bytes, copied into one piece. The end is as it was. It takes no memory.
+    pub fn data_joined(&mut self, used: usize) -> &[u8]
         requires { HasPacket used self.old }
         ensures* stays { sem 𝓛 (EndStays self.entry) }
-        ensures bytes { result.now ≡ take used self.old.incoming }
-        ensures packet { (header : Header) (body : List ℕ)
-            → front_of self.old ≡ Whole (Packet header body) used
-            → front self.old.limits.packet result.now ≡ frames.Whole header body used }
+        ensures body { (header : Header) (body : List ℕ)
+            → front_of self.old ≡ Whole (Packet header body) used → result.now ≡ body }
     {
         let (first, second) = self.incoming.as_slices();
         are_bytes(first, second);
         join(&mut self.scratch, first, second, used);
-        shared(&mut self.scratch)
+        shared_behind(&mut self.scratch, HEADER_LENGTH)
     }
 
     /// What holds of every end: what came are bytes; one at which nothing waits is not paused; and one that is open, not paused and asks

@@ -1,5 +1,5 @@
 //! What there is to handle at an end.
-use jdwp_wire::FrameFault;
+use jdwp_wire::{FrameFault, Header};
 
 /// What stands in front of the bytes that came to an end.
 #[derive(Clone, Copy, Debug, PartialEq, Eq)]
@@ -10,6 +10,6 @@ pub enum Front {
     Fault(FrameFault),
     /// The handshake, 14 bytes.
     Handshake,
-    /// A packet, and how many bytes it takes.
-    Packet(usize),
+    /// A packet: its header, and how many bytes it takes.
+    Packet(Header, usize),
 }

@@ -28,7 +28,7 @@ fn standing_of(bytes: &[u8], limits: &Limits) -> Standing
     ensures { TellsStanding result (front limits.now.packet bytes.now) }
 {
     match next_packet_within(bytes, limits) {
-        Next::Whole(_, used) => Standing::Whole(used),
+        Next::Whole(packet, used) => Standing::Whole(packet.header, used),
         Next::More => Standing::More,
         Next::Fault(fault) => Standing::Fault(fault),
     }
@@ -83,12 +83,13 @@ pub(crate) fn join(joined: &mut Vec<u8>, first: &[u8], second: &[u8], used: usiz
     joined.extend_from_slice(&second[..used - count]).unwrap();
 }
 
-/// The bytes of a vector, lent to be read.
-pub(crate) fn shared(bytes: &mut Vec<u8>) -> &[u8]
+/// The bytes of a vector behind the first ones, lent to be read.
+pub(crate) fn shared_behind(bytes: &mut Vec<u8>, first: usize) -> &[u8]
+    requires { first ≤ length bytes.old.items }
     ensures* stays { sem 𝓛 (VecStays bytes.entry) }
-    ensures value { result.now ≡ bytes.old.items }
+    ensures value { result.now ≡ drop first bytes.old.items }
 {
-    bytes.as_slice()
+    &bytes.as_slice()[first..]
 }
 
 /// The first bytes of two parts happened.

@@ -48,6 +48,13 @@ impl Session {
         }
     }
 
+    /// Whether a loss was noticed.
+    pub fn has_lost(&self) -> bool
+        ensures { result ≡ self.now.lost }
+    {
+        self.lost
+    }
+
     /// These bytes were fed.
     pub fn feed(&mut self, bytes: &[u8])
         ensures { self.new ≡ record self.old { fed = self.old.fed ++ bytes.now } }

@@ -2,8 +2,8 @@
 use crate::asserts::expect_same;
 use circular_buffer::HeapCircularBuffer;
 use jdwp_wire::{
-    FrameFault, HANDSHAKE, Header, Limits, Next, NextHello, PacketKind, Standing, next_hello_in,
-    next_packet_in, next_packet_in_within, standing_in,
+    ErrorCode, FrameFault, HANDSHAKE, Header, Limits, Next, NextHello, PacketKind, Standing,
+    next_hello_in, next_packet_in, next_packet_in_within, standing_in,
 };
 use std::alloc::Global;
 use std::process::Abort;
@@ -34,18 +34,33 @@ fn a_command_that_wraps(rt: HostRuntime) {
     let mut ring = wrapped(&rt, rt.alloc(), &ID_SIZES);
     let (first, second) = ring.as_slices();
     expect_same(&rt, &(first.len(), second.len()), &(6, 5));
-    let standing = standing_in(&ring, &Limits::standard());
-    expect_same(&rt, &standing, &Standing::Whole(11));
     let header = Header {
         length: 11,
         id: 1,
         kind: PacketKind::Command { set: 1, number: 7 },
     };
+    let standing = standing_in(&ring, &Limits::standard());
+    expect_same(&rt, &standing, &Standing::Whole(header, 11));
     let wanted = Ok(Some((header, 0, 11)));
     expect_same(&rt, &front(next_packet_in(&mut ring)), &wanted);
     expect_same(&rt, &ring.capacity(), &16);
     let bytes = ring.to_vec(rt.alloc()).expect(&rt, "memory");
     expect_same(&rt, &bytes.as_slice(), &ID_SIZES.as_slice());
+}
+
+#[test]
+fn a_reply_that_wraps(rt: HostRuntime) {
+    let bytes = [0, 0, 0, 12, 1, 2, 3, 4, 0x80, 1, 13, 0xff];
+    let ring = wrapped(&rt, rt.alloc(), &bytes);
+    let header = Header {
+        length: 12,
+        id: 0x0102_0304,
+        kind: PacketKind::Reply {
+            error: ErrorCode(269),
+        },
+    };
+    let standing = standing_in(&ring, &Limits::standard());
+    expect_same(&rt, &standing, &Standing::Whole(header, 12));
 }
 
 #[test]

@@ -30,7 +30,7 @@ use Rattle.jdwp_target.specs.Standings.{Handles, handles, stands}
 use Rattle.jdwp_target.specs.Deeds.{Does, FullStanding, Releases, defers, defers_kind, perform}
 use Rattle.jdwp_target.specs.Insides.{Deferral, IsRightTarget, message_of, target_of}
 use Rattle.jdwp_target.specs.Targets.{Ran, Target, full_standing, with_handled, with_release}
-use Rattle.jdwp_target.specs.TurnParts.{IsCarriedOut, IsCommand, IsCopied, IsHandled, IsLong, IsRead, puts_off}
+use Rattle.jdwp_target.specs.TurnParts.{IsCarriedOut, IsCopied, IsHandled, IsLong, IsRead, puts_off}
 use Rattle.jdwp_target.specs.Turns.{EncodesFor, EncodesReleased, NeedsMemory, NeedsMemoryToHandle, ReleasesAt, SendsAt, SendsReleased, TurnsAt, at_place, deferred_at, kind_needs_memory, told_of, told_of_packet}
 use Rattle.jdwp_target.specs.ReleaseLaws.{none-found}
 use Rattle.jdwp_target.proofs.RightTurns.{deferral_handled, needs-at-once, nothing-put, packet-phase}
@@ -65,11 +65,6 @@ reply-apart told k error is = rw is refl
 
 pub told-ignored : {S : Type 0} (m : Meaning S) (old : Target S) (header : Header) (body : List ℕ) (error : ErrorCode) → header.kind ≡ kind.Reply error → turn.Ignored ≡ told_of_packet m old header.id header.kind body
 told-ignored m old header body error is = rw is refl
-
--- where a packet is put off it is a command, and there is a place left
-pub puts-off-command : {S : Type 0} (now : FullStanding S) (k : PacketKind) → defers_kind now k ≡ true → IsCommand k
-puts-off-command now (kind.Command set number) e = (set, number, refl)
-puts-off-command now (kind.Reply error) e = absurd (cc)
 
 room-by : (session on may less : Bool) → (session && (on && (may && less))) ≡ true → less ≡ true
 room-by true true true true e = refl

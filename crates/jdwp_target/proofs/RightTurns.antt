@@ -5,8 +5,7 @@ use Rattle.std.proofs.lemmas.List.{append-nil, length-append}
 use Rattle.byteorder.specs.Endian.{big_bytes}
 use Rattle.byteorder.specs.Numbers.{length-bytes_high_first}
 use Rattle.jdwp_wire.specs.Basic.{int_canonical}
-use Rattle.jdwp_wire.specs.Frames.{front, header_bytes}
-use Rattle.jdwp_wire.specs.Frames as frames
+use Rattle.jdwp_wire.specs.Frames.{header_bytes}
 use Rattle.jdwp_wire.specs.Bytes.{IsBytes}
 use Rattle.jdwp_wire.specs.Limits.{Limits, least_packet_limit}
 use Rattle.jdwp_wire.specs.Streams.{Message, Handshake, Packet, NextMessage, Whole, AreSendable, message_bytes, stream}
@@ -63,11 +62,6 @@ use Rattle.jdwp_target.specs.Turns.{NeedsMemory, NeedsMemoryToHandle, SendsAt, T
 use Rattle.jdwp_target.specs.Visits.{visits_hello, visits_read}
 use Rattle.jdwp_target.proofs.EnqueueLemmas.{two_enqueued}
 use Rattle.jdwp_target.proofs.TargetRuns.{ran-handled}
-
--- in front of the bytes that are lent stands the packet in front of the end
-pub packet-lent : (end : End) (limits : Limits) (bytes : List ℕ) (used : ℕ) (header : Header) (body : List ℕ) → front_of end ≡ Whole (Packet header body) used → limits ≡ end.limits
-    → ((h : Header) (b : List ℕ) → front_of end ≡ Whole (Packet h b) used → front end.limits.packet bytes ≡ frames.Whole h b used) → front limits.packet bytes ≡ frames.Whole header body used
-packet-lent end limits bytes used header body front-is same lent = ap (λ (l : Limits). front l.packet bytes) same ∙ lent header body front-is
 
 -- what is taken off an end that is as it was is taken off the end
 pub taken-off : (end read new : End) (message : Message) (used : ℕ) → read ≡ end → front_of end ≡ Whole message used

@@ -1,8 +1,6 @@
 -- Parts of a turn, as the code makes them one after the other.
 use Rattle.std.specs.Prelude.{◌≡◌, ◌≤◌, ℕ, ◌+◌, Bool, true, false, ◌||◌, ◌&&◌, List, [], ◌∷◌, length, Result, IsOk, MatchResult}
 use Rattle.jdwp_wire.specs.Streams.{Message, Packet, Whole, AreSendable}
-use Rattle.jdwp_wire.specs.Frames.{front}
-use Rattle.jdwp_wire.specs.Frames as frames
 use Rattle.jdwp_wire.specs.Widths.{Widths}
 use Rattle.jdwp_wire.specs.declared.error_code.ErrorCode.{ErrorCode}
 use Rattle.jdwp_wire.specs.declared.no_memory.NoMemory.{NoMemory}
@@ -34,25 +32,9 @@ use Rattle.jdwp_target.specs.declared.turning.Came.{Came}
 use Rattle.jdwp_target.specs.declared.turning.Came.TheVariants as came
 use Rattle.jdwp_target.specs.declared.turning.Done.{Done}
 
--- a packet stands in front of these bytes
-abbrev pub HoldsPacket : ℕ → List ℕ → Type 0
-HoldsPacket limit bytes = (header : Header) × (body : List ℕ) × (used : ℕ) × (front limit bytes ≡ frames.Whole header body used)
-
--- a packet of this kind is a command
-abbrev pub IsCommand : PacketKind → Type 0
-IsCommand k = (set : ℕ) × (number : ℕ) × (k ≡ kind.Command set number)
-
--- a command stands in front of these bytes
-abbrev pub HoldsCommand : ℕ → List ℕ → Type 0
-HoldsCommand limit bytes = (header : Header) × (body : List ℕ) × (used : ℕ) × (front limit bytes ≡ frames.Whole header body used) × IsCommand header.kind
-
--- a command stands in front of an end, in a packet of so many bytes
-abbrev pub HasCommand : ℕ → End → Type 0
-HasCommand used end = (header : Header) × (body : List ℕ) × (front_of end ≡ Whole (Packet header body) used) × IsCommand header.kind
-
--- a packet of so many bytes stands in front of a target, which puts it off
-abbrev pub HasDeferred : {S : Type 0} → ℕ → Target S → Type 0
-HasDeferred used t = (header : Header) × (body : List ℕ) × (front_of t.end ≡ Whole (Packet header body) used) × (defers (full_standing t) (Packet header body) ≡ true)
+-- a packet with this header, of so many bytes, stands in front of a target, which puts it off
+abbrev pub HasDeferred : {S : Type 0} → Header → ℕ → Target S → Type 0
+HasDeferred header used t = (body : List ℕ) × (front_of t.end ≡ Whole (Packet header body) used) × (defers (full_standing t) (Packet header body) ≡ true)
 
 -- what is kept of a command in a packet with this header and these data
 abbrev pub IsCopied : Header → List ℕ → DeferredCommand → Type 0
@@ -80,7 +62,7 @@ pub record IsCarriedOut {S : Type 0} (m : Meaning S) (old new : Debuggee S) (set
 abbrev pub IsRead : {S : Type 0} → Meaning S → Debuggee S → Debuggee S → ℕ → PacketKind → List ℕ → Came → Type 0
 IsRead m old new id k body (came.Command n done) =
     (set : ℕ) × (number : ℕ) × (k ≡ kind.Command set number) × (n ≡ id) × IsCarriedOut m old new set number body done
-IsRead m old new id k body came.Deferred = IsCommand k × (new ≡ old)
+IsRead m old new id k body (came.Deferred set number) = (k ≡ kind.Command set number) × (new ≡ old)
 IsRead m old new id k body came.Reply = (error : ErrorCode) × (k ≡ kind.Reply error) × (new ≡ old)
 
 -- whether a packet of this kind is put off, where those that may be are
@@ -90,7 +72,7 @@ puts_off defers (kind.Reply error) = false
 
 abbrev pub IsPutOff : Bool → PacketKind → Came → Type 0
 IsPutOff defers k (came.Command n done) = puts_off defers k ≡ false
-IsPutOff defers k came.Deferred = puts_off defers k ≡ true
+IsPutOff defers k (came.Deferred set number) = puts_off defers k ≡ true
 IsPutOff defers k came.Reply = Unit {0}
 
 -- commands whose data read, and that are no short ones

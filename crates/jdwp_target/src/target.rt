@@ -186,6 +186,21 @@ impl<M: Machine + Drop> Target<M> {
         self.end.is_open()
     }
 
+    /// Whether the machine lives: it does until a command or its last thread ends it.
+    pub fn is_alive(&self) -> bool
+        ensures { result ≡ self.now.moment.state.alive }
+    {
+        self.debuggee.is_alive()
+    }
+
+    /// Whether the target noticed that the connection is lost, in the session that is open, or else in the last one. `lose`, and bytes that
+    /// begin no message, make it so, and `accept` begins without.
+    pub fn has_lost(&self) -> bool
+        ensures { result ≡ self.now.end.session.lost }
+    {
+        self.end.has_lost()
+    }
+
     /// The suspend count of a thread, 0 to the count limit of the settings; None where it is not alive.
     pub fn count(&self, thread: ObjectId) -> Option<u32>
         ensures value { result ≡ spec.count_of self.now.moment.state thread.0 }

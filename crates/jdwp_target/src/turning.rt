@@ -1,15 +1,12 @@
 //! Messages as a target over any machine handles them.
 ghost use Rattle.std.specs.Prelude.{◌≡◌, ◌≤◌, ◌+◌, ◌∷◌, ℕ, List, Some, None, true, false, length, IfOk, IfErr, IsOk, OnErr};
-ghost use Rattle.jdwp_end.specs.Ends.{HasPacket, front_of, most_outgoing, with_enqueued};
+ghost use Rattle.jdwp_end.specs.Ends.{HasPacketWith, front_of, most_outgoing, with_enqueued};
 ghost use Rattle.jdwp_end.specs.declared.phase.Phase.TheVariants.{Established};
 ghost use Rattle.jdwp_event.specs.Composites.{vm_start};
 ghost use Rattle.jdwp_event.specs.Constants.{policy_byte};
 ghost use Rattle.jdwp_wire.specs.Bytes.{IsBytes};
-ghost use Rattle.jdwp_wire.specs.Frames as frames;
-ghost use Rattle.jdwp_wire.specs.Frames.{front};
 ghost use Rattle.jdwp_wire.specs.Numbers.{id_refusal};
 ghost use Rattle.jdwp_wire.specs.Streams.{AreSendable, Packet, Whole, message_bytes, stream};
-ghost use Rattle.jdwp_wire.specs.declared.packet.Header.{Header};
 ghost use Rattle.jdwp_wire.specs.Limits.{least_packet_limit, most_packet_limit};
 ghost use Rattle.jdwp_action.specs.CommandReads.{command_read};
 ghost use Rattle.jdwp_debuggee.specs.Askings.{asked_meaning, asks, is_short};
@@ -20,7 +17,7 @@ ghost use Rattle.jdwp_debuggee.specs.Steps.{start_event};
 ghost use Rattle.jdwp_target.specs.Sends.{IsEncoded, report_of};
 ghost use Rattle.jdwp_target.specs.Standings.{carried_out, greets_by, stands};
 ghost use Rattle.jdwp_target.specs.StepParts.{debuggee_after};
-ghost use Rattle.jdwp_target.specs.TurnParts.{HoldsPacket, IsCarriedOut, IsDone, ReadsPacket, after_deaths, closed_where, deaths, reply_of};
+ghost use Rattle.jdwp_target.specs.TurnParts.{IsCarriedOut, IsDone, ReadsPacket, after_deaths, closed_where, deaths, reply_of};
 ghost use Rattle.jdwp_target.specs.Turns.{EncodesNext, SendsAt, TurnsAt};
 ghost use Rattle.jdwp_target.specs.Visits.{visits_hello, visits_read};
 
@@ -32,10 +29,7 @@ use jdwp_debuggee::{Debuggee, ParsedCommand, Reply, Sent, Start, fits_vm_death, 
 use jdwp_end::{End, Front};
 use jdwp_event::EventKind;
 use jdwp_machine::Machine;
-use jdwp_wire::{
-    ErrorCode, HANDSHAKE, IdSizes, Limits, Next, NoMemory, PacketKind, PacketRef,
-    next_packet_within,
-};
+use jdwp_wire::{ErrorCode, HANDSHAKE, Header, IdSizes, NoMemory, PacketKind, PacketRef};
 use std::alloc::Global;
 
 /// What came in a packet.
@@ -43,8 +37,8 @@ use std::alloc::Global;
 pub(crate) enum Came {
     /// A command that was carried out or refused: its id, and what became of it.
     Command(u32, Done),
-    /// A command whose reply is to be deferred.
-    Deferred,
+    /// A command of this set and number, whose reply is to be deferred.
+    Deferred(u8, u8),
     /// A reply, which means nothing to a target.
     Reply,
 }
@@ -87,16 +81,16 @@ impl<M: Machine + Drop> Target<M> {
                 greet(&mut self.debuggee, &mut self.end);
                 Ok(Turn::Hello)
             }
-            Front::Packet(used) => self.take_packet(used),
+            Front::Packet(header, used) => self.take_packet(header, used),
         }
     }
 
-    /// Handles the packet in front, which takes so many bytes, or defers its reply.
+    /// Handles the packet in front, which has this header and takes so many bytes, or defers its reply.
     ///
     /// # Errors
     /// `NoMemory`, as a turn.
-    fn take_packet(&mut self, used: usize) -> Result<Turn, TargetFault>
-        requires packet { HasPacket used self.old.end }
+    fn take_packet(&mut self, header: Header, used: usize) -> Result<Turn, TargetFault>
+        requires packet { HasPacketWith header used self.old.end }
         requires bytes { IsBytes self.old.end.incoming }
         requires least { least_packet_limit ≤ self.old.end.limits.packet }
         requires most { self.old.end.limits.packet ≤ most_packet_limit }
@@ -111,7 +105,7 @@ impl<M: Machine + Drop> Target<M> {
             &mut self.debuggee,
             self.alloc,
             &mut self.end,
-            used,
+            (header, used),
             &sizes,
             defers,
         )?;
@@ -120,7 +114,7 @@ impl<M: Machine + Drop> Target<M> {
                 self.end.take_off(used);
                 Ok(Turn::Ignored)
             }
-            Came::Deferred => self.defer(used),
+            Came::Deferred(set, number) => self.defer(header, set, number, used),
             Came::Command(id, done) => {
                 fits_reply(id, &done, &sizes, &self.debuggee);
                 self.end.take_off(used);
@@ -132,8 +126,8 @@ impl<M: Machine + Drop> Target<M> {
     }
 }
 
-/// Carries out or refuses the command in the packet in front of an end, which takes so many bytes, where its reply is not deferred. The
-/// packet is read where it lies, or joined where it wraps, and the end is as it was.
+/// Carries out or refuses the command in the packet in front of an end, which has this header and takes so many bytes, where its reply is
+/// not deferred. Its data are read where they lie, or joined where they wrap, and the end is as it was.
 ///
 /// # Errors
 /// As those of `handle_packet`.
@@ -141,63 +135,37 @@ fn handle_front<M: Machine>(
     debuggee: &mut Debuggee<M>,
     alloc: Global,
     end: &mut End,
-    used: usize,
+    front: (Header, usize),
     sizes: &IdSizes,
     defers: bool,
 ) -> Result<Came, NoMemory>
-    requires packet { HasPacket used end.old }
+    requires packet { HasPacketWith front.0 front.1 end.old }
     requires shaken { debuggee.old.moment.state.handshaken ≡ true }
     requires widths { sizes.now ≡ M.meaning.sizes debuggee.old.moment.machine }
-    ensures came { (header : Header) (body : List ℕ) → front_of end.old
-        ≡ Whole (Packet header body) used
-        → ReadsPacket M.meaning debuggee.old debuggee.new header body defers result }
+    ensures came { (body : List ℕ) → front_of end.old ≡ Whole (Packet front.0 body) front.1
+        → ReadsPacket M.meaning debuggee.old debuggee.new front.0 body defers result }
     ensures same { end.new ≡ end.old }
 {
-    let limits = end.limits();
-    match end.packet_in_place(used) {
-        Some(bytes) => handle_packet(debuggee, alloc, bytes, &limits, sizes, defers),
-        None => handle_packet(
-            debuggee,
-            alloc,
-            end.packet_joined(used),
-            &limits,
-            sizes,
-            defers,
-        ),
-    }
-}
-
-/// Carries out or refuses the command in the packet in front of these bytes, where its reply is not deferred.
-///
-/// # Errors
-/// `NoMemory` where an allocation was refused, at a command that is not deferred, whose data read and that is none of the twelve short
-/// ones. Then nothing has changed.
-fn handle_packet<M: Machine>(
-    debuggee: &mut Debuggee<M>,
-    alloc: Global,
-    bytes: &[u8],
-    limits: &Limits,
-    sizes: &IdSizes,
-    defers: bool,
-) -> Result<Came, NoMemory>
-    requires packet { HoldsPacket limits.now.packet bytes.now }
-    requires shaken { debuggee.old.moment.state.handshaken ≡ true }
-    requires widths { sizes.now ≡ M.meaning.sizes debuggee.old.moment.machine }
-    ensures { (header : Header) (body : List ℕ) (used : ℕ) → front limits.now.packet bytes.now
-        ≡ frames.Whole header body used
-        → ReadsPacket M.meaning debuggee.old debuggee.new header body defers result }
-{
-    match next_packet_within(bytes, limits) {
-        Next::Whole(packet, _) => handle_came(debuggee, alloc, &packet, sizes, defers),
-        Next::More | Next::Fault(_) => unreachable!(),
+    let (header, used) = front;
+    match end.data_in_place(used) {
+        Some(body) => {
+            let packet = PacketRef { header, body };
+            handle_packet(debuggee, alloc, &packet, sizes, defers)
+        }
+        None => {
+            let body = end.data_joined(used);
+            let packet = PacketRef { header, body };
+            handle_packet(debuggee, alloc, &packet, sizes, defers)
+        }
     }
 }
 
 /// Carries out or refuses the command in this packet, where its reply is not deferred.
 ///
 /// # Errors
-/// As those of `handle_packet`.
-fn handle_came<M: Machine>(
+/// `NoMemory` where an allocation was refused, at a command that is not deferred, whose data read and that is none of the twelve short
+/// ones. Then nothing has changed.
+fn handle_packet<M: Machine>(
     debuggee: &mut Debuggee<M>,
     alloc: Global,
     packet: &PacketRef<'_>,
@@ -213,7 +181,7 @@ fn handle_came<M: Machine>(
     match packet.header.kind {
         PacketKind::Command { set, number } => {
             if defers && may_be_deferred(set) {
-                return Ok(Came::Deferred);
+                return Ok(Came::Deferred(set, number));
             }
             let done = handle_command(debuggee, alloc, set, number, sizes, packet.body)?;
             Ok(Came::Command(id, done))

@@ -18,7 +18,7 @@ pub const PACKET_LIMIT: usize = 65536;
 pub const HANDSHAKE: [u8; 14] = *b"JDWP-Handshake";
 
 /// The bytes of a packet's header.
-pub(crate) const HEADER_LENGTH: usize = 11;
+pub const HEADER_LENGTH: usize = 11;
 
 /// Why bytes are the beginning of no message.
 #[derive(Clone, Copy, Debug, PartialEq, Eq, Error)]

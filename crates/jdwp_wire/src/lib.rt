@@ -18,7 +18,7 @@ mod writing;
 pub use data_fault::DataFault;
 pub use error_code::{ErrorCode, names_error_codes};
 pub use frame::{
-    FrameFault, HANDSHAKE, Next, NextHello, PACKET_LIMIT, next_hello, next_packet,
+    FrameFault, HANDSHAKE, HEADER_LENGTH, Next, NextHello, PACKET_LIMIT, next_hello, next_packet,
     next_packet_within,
 };
 pub use id_sizes::{BadSize, IdKind, IdSizes, Width};

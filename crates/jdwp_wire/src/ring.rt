@@ -1,20 +1,22 @@
 //! What stands at the front of a byte stream whose bytes lie in a ring.
-ghost use Rattle.std.specs.Prelude.{◌≡◌, ◌<◌, ◌++◌, length, slice_index};
+ghost use Rattle.std.specs.Prelude.{◌≡◌, ◌<◌, ◌≤◌, ◌++◌, length, slice_index};
 ghost use Rattle.jdwp_wire.specs.Bytes.{IsBytes};
 ghost use Rattle.jdwp_wire.specs.Handshake.{HandshakeFrontOf, handshake_front};
-ghost use Rattle.jdwp_wire.specs.Frames.{Front, FrontOf, front, front_meaning};
+ghost use Rattle.jdwp_wire.specs.Frames.{Front, FrontOf, front, front_meaning, header_of, kind_of};
 ghost use Rattle.jdwp_wire.specs.Limits.{standard_limits};
 ghost use Rattle.jdwp_wire.specs.Standing.{TellsStanding};
 
+use crate::error_code::ErrorCode;
 use crate::frame::{FrameFault, HANDSHAKE, HEADER_LENGTH, Next, NextHello, next_packet_within};
 use crate::limits::Limits;
+use crate::packet::{Header, PacketKind};
 use circular_buffer::HeapCircularBuffer;
 
-/// What stands at the front of bytes that should begin with a packet, without the packet.
+/// What stands at the front of bytes that should begin with a packet, without the packet's data.
 #[derive(Clone, Copy, Debug, PartialEq, Eq)]
 pub enum Standing {
-    /// A packet, which takes so many bytes.
-    Whole(usize),
+    /// A packet: its header, and how many bytes it takes.
+    Whole(Header, usize),
     /// A beginning of one.
     More,
     /// The beginning of no packet.
@@ -73,7 +75,7 @@ pub fn standing_in(ring: &HeapCircularBuffer<u8>, limits: &Limits) -> Standing
     if there < used {
         return Standing::More;
     }
-    Standing::Whole(used)
+    Standing::Whole(header_at(ring, length), used)
 }
 
 /// The packet at the front of the ring, borrowed from it, within the standard limits. What follows it is not looked at.
@@ -106,9 +108,39 @@ fn find_packet_in<'a>(ring: &'a mut HeapCircularBuffer<u8>, limits: &Limits) -> 
     ensures { front_meaning result ≡ front limits.now.packet ring.old.items }
 {
     match standing_in(ring, limits) {
-        Standing::Whole(_) => next_packet_within(ring.make_contiguous(), limits),
+        Standing::Whole(..) => next_packet_within(ring.make_contiguous(), limits),
         Standing::More => Next::More,
         Standing::Fault(fault) => Next::Fault(fault),
+    }
+}
+
+/// The header in front of a ring, whose packet takes so many bytes.
+fn header_at(ring: &HeapCircularBuffer<u8>, total: u32) -> Header
+    requires { 11 ≤ length ring.now.items }
+    ensures { result ≡ header_of total ring.now.items }
+{
+    Header {
+        length: total,
+        id: u32::from_be_bytes([at(ring, 4), at(ring, 5), at(ring, 6), at(ring, 7)]),
+        kind: kind_at(ring),
+    }
+}
+
+/// What the packet in front of a ring is, by its flags and the two bytes behind them.
+fn kind_at(ring: &HeapCircularBuffer<u8>) -> PacketKind
+    requires { 11 ≤ length ring.now.items }
+    ensures { result ≡ kind_of ring.now.items }
+{
+    let (flags, first, second) = (at(ring, 8), at(ring, 9), at(ring, 10));
+    if flags == 0x00 {
+        PacketKind::Command {
+            set: first,
+            number: second,
+        }
+    } else {
+        PacketKind::Reply {
+            error: ErrorCode(u16::from_be_bytes([first, second])),
+        }
     }
 }
 

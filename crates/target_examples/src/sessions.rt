@@ -108,12 +108,12 @@ pub(crate) fn comes(rt: &impl Abort, alloc: Global, target: &mut Target, act: &A
         }
         Act::Visits(visits) => target.visits() == *visits,
         Act::Requests(count) => target.requests().len() == *count,
-        Act::Lives(count) => target.live().len() == *count,
+        Act::Lives(count) => { target.live().len() == *count && target.is_alive() == (*count > 0) }
         Act::Open(open) => target.is_open() == *open,
-        Act::Accepts(accepts) => target.accept() == *accepts,
+        Act::Accepts(accepts) => { target.accept() == *accepts && !(*accepts && target.has_lost()) }
         Act::Loses => {
             target.lose();
-            target.room() == 0 && target.waiting() == 0
+            target.has_lost() && target.room() == 0 && target.waiting() == 0
         }
         Act::Defers(deferring) => {
             target.set_deferring(*deferring);
@@ -193,7 +193,7 @@ fn fails(
     fault: FrameFault,
 ) -> bool {
     target.feed(&bytes(alloc, input).expect(rt, "memory"));
-    target.turn() == Err(TargetFault::Frame(fault))
+    !target.has_lost() && target.turn() == Err(TargetFault::Frame(fault)) && target.has_lost()
 }
 
 /// Whether each step of a thread tells this, and all send these bytes.

@@ -1,31 +1,20 @@
-use Rattle.jdwp_target.proofs.RightTurns.{packet-lent}
+use Rattle.std.proofs.Common.{ℕ, List, subst}
+use Rattle.jdwp_target.specs.TurnParts.{ReadsPacket}
 use Rattle.jdwp_target.proofs.turning.handle_front.Goals as goal
 
-pub handle_packet-requires-clause-packet : goal.handle_packet-requires-clause-packet
-handle_packet-requires-clause-packet g c = (
-  c.requires.packet.0,
-  c.requires.packet.1,
-  c.args.used,
-  packet-lent c.args.end.now c.limits-limits.result c.in-Some.bytes.now c.args.used c.requires.packet.0 c.requires.packet.1 c.requires.packet.2 c.limits-limits.ensures c.in-Some.ensures.packet,
-)
+pub data_in_place-requires : goal.data_in_place-requires
+data_in_place-requires g c = (c.args.front.0, c.requires.packet.0, c.requires.packet.1)
 
-pub handle_packet-requires-in-None-clause-packet : goal.handle_packet-requires-in-None-clause-packet
-handle_packet-requires-in-None-clause-packet g c = (
-  c.requires.packet.0,
-  c.requires.packet.1,
-  c.args.used,
-  packet-lent c.args.end.now c.limits-limits.result c.packet_joined.result.now c.args.used c.requires.packet.0 c.requires.packet.1 c.requires.packet.2 c.limits-limits.ensures c.packet_joined.ensures.packet,
-)
+pub data_joined-body-requires : goal.data_joined-body-requires
+data_joined-body-requires g c = (c.args.front.0, c.requires.packet.0, c.requires.packet.1)
 
 pub returns-in-Some-clause-came : goal.returns-in-Some-clause-came
-returns-in-Some-clause-came g c = λ header body front.
-    c.handle_packet.ensures header body c.args.used
-    (packet-lent c.args.end.now c.limits-limits.result c.in-Some.bytes.now c.args.used header body front c.limits-limits.ensures c.in-Some.ensures.packet)
+returns-in-Some-clause-came g c = λ body front.
+    subst (λ (bytes : List ℕ). ReadsPacket g.M.Machine.meaning c.args.debuggee.now c.handle_packet.new.debuggee c.args.front.0 bytes c.args.defers c.handle_packet.result) (c.in-Some.ensures c.args.front.0 body front) c.handle_packet.ensures
 
 pub returns-in-None-clause-came : goal.returns-in-None-clause-came
-returns-in-None-clause-came g c = λ header body front.
-    c.handle_packet-in-None.ensures header body c.args.used
-    (packet-lent c.args.end.now c.limits-limits.result c.packet_joined.result.now c.args.used header body front c.limits-limits.ensures c.packet_joined.ensures.packet)
+returns-in-None-clause-came g c = λ body front.
+    subst (λ (bytes : List ℕ). ReadsPacket g.M.Machine.meaning c.args.debuggee.now c.handle_packet-in-None.new.debuggee c.args.front.0 bytes c.args.defers c.handle_packet-in-None.result) (c.data_joined-body.ensures.body c.args.front.0 body front) c.handle_packet-in-None.ensures
 
 pub returns-in-None-clause-same : goal.returns-in-None-clause-same
-returns-in-None-clause-same g c = c.packet_joined.follows.holds-at-none
+returns-in-None-clause-same g c = c.data_joined-body.follows.holds-at-none

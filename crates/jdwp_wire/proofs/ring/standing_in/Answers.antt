@@ -1,9 +1,8 @@
 use Rattle.std.proofs.Common.{◌-◌, take, drop, rules}
-use Rattle.jdwp_wire.specs.Frames.{header_of}
 use Rattle.jdwp_wire.proofs.ring.standing_in.Goals as goal
 
 pub returns : goal.returns
 returns c =
     let used = c.from_be_bytes-length.result in
     let bytes = c.args.ring.now.items in
-    (header_of used bytes, take (used - 11) (drop 11 bytes), search rules)
+    (take (used - 11) (drop 11 bytes), search rules)

@@ -19,4 +19,4 @@ returns-in-More-packet_standing-clause-room c =
 pub returns-in-Whole-packet_standing-clause-front : goal.returns-in-Whole-packet_standing-clause-front
 returns-in-Whole-packet_standing-clause-front c =
     let found = c.in-Whole-packet_standing.ensures in
-    (found.0, found.1, search (rules, found.2))
+    (found.0, search (rules, found.1))

@@ -3,7 +3,7 @@ use Rattle.jdwp_wire.specs.Bytes.{IsBytes}
 use Rattle.jdwp_wire.specs.Limits.{least_packet_limit}
 use Rattle.jdwp_wire.specs.Streams.{Packet, Whole}
 use Rattle.jdwp_wire.specs.declared.packet.PacketKind.TheVariants as kind
-use Rattle.jdwp_end.specs.Ends.{End, HasPacket, front_of}
+use Rattle.jdwp_end.specs.Ends.{End, HasPacketWith, front_of}
 use Rattle.jdwp_target.specs.Deeds.{defers}
 use Rattle.jdwp_target.specs.Insides.{target_of}
 use Rattle.jdwp_target.specs.Targets.{full_standing}
@@ -23,17 +23,17 @@ pub invariant_of-self-in-Reply : goal.invariant_of-self-in-Reply
 invariant_of-self-in-Reply g c =
     let m = g.M.Machine.meaning in
     let t = c.self.inside in
-    let packet : HasPacket c.args.used t.end = rw (← c.self.view_is) at c.requires.packet in
+    let packet : HasPacketWith c.args.header c.args.used t.end = rw (← c.self.view_is) at c.requires.packet in
     let fits : IsBytes t.end.incoming = rw (← c.self.view_is) at c.requires.bytes in
-    let header = packet.0 in
-    let body = packet.1 in
+    let header = c.args.header in
+    let body = packet.0 in
     let used = c.args.used in
-    let front : front_of t.end ≡ Whole (Packet header body) used = packet.2 in
+    let front : front_of t.end ≡ Whole (Packet header body) used = packet.1 in
     let old = target_of t.debuggee t.deferral t.began.items t.phases.items (length t.steps.items) t.end in
     let w = c.sizes-sizes.result in
     let told = c.takes-defers.result in
     let shaken = packet-handshaken m t.debuggee t.deferral t.began.items t.phases.items (length t.steps.items) t.end header body used c.self.invariant fits front in
-    let read : IsRead m t.debuggee c.handle_front.new.debuggee header.id header.kind body came.Reply × IsPutOff told header.kind came.Reply = rw c.in-Reply.is at (c.in_ok-came.ensures.came header body front) in
+    let read : IsRead m t.debuggee c.handle_front.new.debuggee header.id header.kind body came.Reply × IsPutOff told header.kind came.Reply = rw c.in-Reply.is at (c.in_ok-came.ensures.came body front) in
     let error = read.0.0 in
     let is : header.kind ≡ kind.Reply error = read.0.1 in
     let at_once : defers (full_standing old) (Packet header body) ≡ false = as-told old header body used told false fits front c.takes-defers.ensures (reply-apart told header.kind error is) in
@@ -44,17 +44,17 @@ pub returns-in-Reply-clause-turns : goal.returns-in-Reply-clause-turns
 returns-in-Reply-clause-turns g c =
     let m = g.M.Machine.meaning in
     let t = c.self.inside in
-    let packet : HasPacket c.args.used t.end = rw (← c.self.view_is) at c.requires.packet in
+    let packet : HasPacketWith c.args.header c.args.used t.end = rw (← c.self.view_is) at c.requires.packet in
     let fits : IsBytes t.end.incoming = rw (← c.self.view_is) at c.requires.bytes in
-    let header = packet.0 in
-    let body = packet.1 in
+    let header = c.args.header in
+    let body = packet.0 in
     let used = c.args.used in
-    let front : front_of t.end ≡ Whole (Packet header body) used = packet.2 in
+    let front : front_of t.end ≡ Whole (Packet header body) used = packet.1 in
     let old = target_of t.debuggee t.deferral t.began.items t.phases.items (length t.steps.items) t.end in
     let w = c.sizes-sizes.result in
     let told = c.takes-defers.result in
     let shaken = packet-handshaken m t.debuggee t.deferral t.began.items t.phases.items (length t.steps.items) t.end header body used c.self.invariant fits front in
-    let read : IsRead m t.debuggee c.handle_front.new.debuggee header.id header.kind body came.Reply × IsPutOff told header.kind came.Reply = rw c.in-Reply.is at (c.in_ok-came.ensures.came header body front) in
+    let read : IsRead m t.debuggee c.handle_front.new.debuggee header.id header.kind body came.Reply × IsPutOff told header.kind came.Reply = rw c.in-Reply.is at (c.in_ok-came.ensures.came body front) in
     let error = read.0.0 in
     let is : header.kind ≡ kind.Reply error = read.0.1 in
     let at_once : defers (full_standing old) (Packet header body) ≡ false = as-told old header body used told false fits front c.takes-defers.ensures (reply-apart told header.kind error is) in
@@ -67,16 +67,16 @@ pub returns-in-Reply-clause-encoded : goal.returns-in-Reply-clause-encoded
 returns-in-Reply-clause-encoded g c =
     let m = g.M.Machine.meaning in
     let t = c.self.inside in
-    let packet : HasPacket c.args.used t.end = rw (← c.self.view_is) at c.requires.packet in
+    let packet : HasPacketWith c.args.header c.args.used t.end = rw (← c.self.view_is) at c.requires.packet in
     let fits : IsBytes t.end.incoming = rw (← c.self.view_is) at c.requires.bytes in
-    let header = packet.0 in
-    let body = packet.1 in
+    let header = c.args.header in
+    let body = packet.0 in
     let used = c.args.used in
-    let front : front_of t.end ≡ Whole (Packet header body) used = packet.2 in
+    let front : front_of t.end ≡ Whole (Packet header body) used = packet.1 in
     let old = target_of t.debuggee t.deferral t.began.items t.phases.items (length t.steps.items) t.end in
     let w = c.sizes-sizes.result in
     let told = c.takes-defers.result in
-    let read : IsRead m t.debuggee c.handle_front.new.debuggee header.id header.kind body came.Reply × IsPutOff told header.kind came.Reply = rw c.in-Reply.is at (c.in_ok-came.ensures.came header body front) in
+    let read : IsRead m t.debuggee c.handle_front.new.debuggee header.id header.kind body came.Reply × IsPutOff told header.kind came.Reply = rw c.in-Reply.is at (c.in_ok-came.ensures.came body front) in
     let error = read.0.0 in
     let is : header.kind ≡ kind.Reply error = read.0.1 in
     let at_once : defers (full_standing old) (Packet header body) ≡ false = as-told old header body used told false fits front c.takes-defers.ensures (reply-apart told header.kind error is) in
@@ -86,17 +86,17 @@ pub returns-in-Reply-clause-packets : goal.returns-in-Reply-clause-packets
 returns-in-Reply-clause-packets g c =
     let m = g.M.Machine.meaning in
     let t = c.self.inside in
-    let packet : HasPacket c.args.used t.end = rw (← c.self.view_is) at c.requires.packet in
+    let packet : HasPacketWith c.args.header c.args.used t.end = rw (← c.self.view_is) at c.requires.packet in
     let fits : IsBytes t.end.incoming = rw (← c.self.view_is) at c.requires.bytes in
-    let header = packet.0 in
-    let body = packet.1 in
+    let header = c.args.header in
+    let body = packet.0 in
     let used = c.args.used in
-    let front : front_of t.end ≡ Whole (Packet header body) used = packet.2 in
+    let front : front_of t.end ≡ Whole (Packet header body) used = packet.1 in
     let old = target_of t.debuggee t.deferral t.began.items t.phases.items (length t.steps.items) t.end in
     let w = c.sizes-sizes.result in
     let told = c.takes-defers.result in
     let shaken = packet-handshaken m t.debuggee t.deferral t.began.items t.phases.items (length t.steps.items) t.end header body used c.self.invariant fits front in
-    let read : IsRead m t.debuggee c.handle_front.new.debuggee header.id header.kind body came.Reply × IsPutOff told header.kind came.Reply = rw c.in-Reply.is at (c.in_ok-came.ensures.came header body front) in
+    let read : IsRead m t.debuggee c.handle_front.new.debuggee header.id header.kind body came.Reply × IsPutOff told header.kind came.Reply = rw c.in-Reply.is at (c.in_ok-came.ensures.came body front) in
     let error = read.0.0 in
     let is : header.kind ≡ kind.Reply error = read.0.1 in
     let at_once : defers (full_standing old) (Packet header body) ≡ false = as-told old header body used told false fits front c.takes-defers.ensures (reply-apart told header.kind error is) in
@@ -107,37 +107,49 @@ pub defer-requires-clause-deferred : goal.defer-requires-clause-deferred
 defer-requires-clause-deferred g c =
     let m = g.M.Machine.meaning in
     let t = c.self.inside in
-    let packet : HasPacket c.args.used t.end = rw (← c.self.view_is) at c.requires.packet in
+    let packet : HasPacketWith c.args.header c.args.used t.end = rw (← c.self.view_is) at c.requires.packet in
     let fits : IsBytes t.end.incoming = rw (← c.self.view_is) at c.requires.bytes in
-    let header = packet.0 in
-    let body = packet.1 in
+    let header = c.args.header in
+    let body = packet.0 in
     let used = c.args.used in
-    let front : front_of t.end ≡ Whole (Packet header body) used = packet.2 in
+    let front : front_of t.end ≡ Whole (Packet header body) used = packet.1 in
     let old = target_of t.debuggee t.deferral t.began.items t.phases.items (length t.steps.items) t.end in
     let w = c.sizes-sizes.result in
     let told = c.takes-defers.result in
-    let read : IsRead m t.debuggee c.handle_front.new.debuggee header.id header.kind body came.Deferred × IsPutOff told header.kind came.Deferred = rw c.in-Deferred.is at (c.in_ok-came.ensures.came header body front) in
+    let read : IsRead m t.debuggee c.handle_front.new.debuggee header.id header.kind body (came.Deferred c.in-Deferred.set c.in-Deferred.number) × IsPutOff told header.kind (came.Deferred c.in-Deferred.set c.in-Deferred.number) = rw c.in-Deferred.is at (c.in_ok-came.ensures.came body front) in
     let deferred : defers (full_standing old) (Packet header body) ≡ true = as-told old header body used told true fits front c.takes-defers.ensures read.1 in
-    rw (read.0.1, c.handle_front.ensures.same) (header, body, front, deferred)
+    rw (read.0.1, c.handle_front.ensures.same) (body, front, deferred)
 
 pub defer-requires-clause-bytes : goal.defer-requires-clause-bytes
 defer-requires-clause-bytes g c =
     let m = g.M.Machine.meaning in
     let t = c.self.inside in
-    let packet : HasPacket c.args.used t.end = rw (← c.self.view_is) at c.requires.packet in
+    let packet : HasPacketWith c.args.header c.args.used t.end = rw (← c.self.view_is) at c.requires.packet in
     let fits : IsBytes t.end.incoming = rw (← c.self.view_is) at c.requires.bytes in
     rw c.handle_front.ensures.same fits
+
+pub defer-requires-clause-command : goal.defer-requires-clause-command
+defer-requires-clause-command g c =
+    let m = g.M.Machine.meaning in
+    let t = c.self.inside in
+    let packet : HasPacketWith c.args.header c.args.used t.end = rw (← c.self.view_is) at c.requires.packet in
+    let header = c.args.header in
+    let body = packet.0 in
+    let front : front_of t.end ≡ Whole (Packet header body) c.args.used = packet.1 in
+    let told = c.takes-defers.result in
+    let read : IsRead m t.debuggee c.handle_front.new.debuggee header.id header.kind body (came.Deferred c.in-Deferred.set c.in-Deferred.number) × IsPutOff told header.kind (came.Deferred c.in-Deferred.set c.in-Deferred.number) = rw c.in-Deferred.is at (c.in_ok-came.ensures.came body front) in
+    read.0.0
 
 pub returns-in-Deferred-clause-turns : goal.returns-in-Deferred-clause-turns
 returns-in-Deferred-clause-turns g c =
     let m = g.M.Machine.meaning in
     let t = c.self.inside in
-    let packet : HasPacket c.args.used t.end = rw (← c.self.view_is) at c.requires.packet in
-    let header = packet.0 in
-    let body = packet.1 in
-    let front : front_of t.end ≡ Whole (Packet header body) c.args.used = packet.2 in
+    let packet : HasPacketWith c.args.header c.args.used t.end = rw (← c.self.view_is) at c.requires.packet in
+    let header = c.args.header in
+    let body = packet.0 in
+    let front : front_of t.end ≡ Whole (Packet header body) c.args.used = packet.1 in
     let told = c.takes-defers.result in
-    let read : IsRead m t.debuggee c.handle_front.new.debuggee header.id header.kind body came.Deferred × IsPutOff told header.kind came.Deferred = rw c.in-Deferred.is at (c.in_ok-came.ensures.came header body front) in
+    let read : IsRead m t.debuggee c.handle_front.new.debuggee header.id header.kind body (came.Deferred c.in-Deferred.set c.in-Deferred.number) × IsPutOff told header.kind (came.Deferred c.in-Deferred.set c.in-Deferred.number) = rw c.in-Deferred.is at (c.in_ok-came.ensures.came body front) in
     rw (← c.self.view_is)
     (turns-read m t.debuggee c.handle_front.new.debuggee t.deferral t.began.items t.phases.items (length t.steps.items) t.end c.handle_front.new.end _ _ read.0.1 c.handle_front.ensures.same c.defer.ensures)
 
@@ -145,16 +157,16 @@ pub returns-in-Deferred-clause-encoded : goal.returns-in-Deferred-clause-encoded
 returns-in-Deferred-clause-encoded g c =
     let m = g.M.Machine.meaning in
     let t = c.self.inside in
-    let packet : HasPacket c.args.used t.end = rw (← c.self.view_is) at c.requires.packet in
+    let packet : HasPacketWith c.args.header c.args.used t.end = rw (← c.self.view_is) at c.requires.packet in
     let fits : IsBytes t.end.incoming = rw (← c.self.view_is) at c.requires.bytes in
-    let header = packet.0 in
-    let body = packet.1 in
+    let header = c.args.header in
+    let body = packet.0 in
     let used = c.args.used in
-    let front : front_of t.end ≡ Whole (Packet header body) used = packet.2 in
+    let front : front_of t.end ≡ Whole (Packet header body) used = packet.1 in
     let old = target_of t.debuggee t.deferral t.began.items t.phases.items (length t.steps.items) t.end in
     let w = c.sizes-sizes.result in
     let told = c.takes-defers.result in
-    let read : IsRead m t.debuggee c.handle_front.new.debuggee header.id header.kind body came.Deferred × IsPutOff told header.kind came.Deferred = rw c.in-Deferred.is at (c.in_ok-came.ensures.came header body front) in
+    let read : IsRead m t.debuggee c.handle_front.new.debuggee header.id header.kind body (came.Deferred c.in-Deferred.set c.in-Deferred.number) × IsPutOff told header.kind (came.Deferred c.in-Deferred.set c.in-Deferred.number) = rw c.in-Deferred.is at (c.in_ok-came.ensures.came body front) in
     let deferred : defers (full_standing old) (Packet header body) ≡ true = as-told old header body used told true fits front c.takes-defers.ensures read.1 in
     rw (← c.self.view_is) (whatever-came c.defer.result _ (encodes-nothing m old (Packet header body) used front deferred))
 
@@ -162,16 +174,16 @@ pub returns-in-Deferred-clause-packets : goal.returns-in-Deferred-clause-packets
 returns-in-Deferred-clause-packets g c =
     let m = g.M.Machine.meaning in
     let t = c.self.inside in
-    let packet : HasPacket c.args.used t.end = rw (← c.self.view_is) at c.requires.packet in
+    let packet : HasPacketWith c.args.header c.args.used t.end = rw (← c.self.view_is) at c.requires.packet in
     let fits : IsBytes t.end.incoming = rw (← c.self.view_is) at c.requires.bytes in
-    let header = packet.0 in
-    let body = packet.1 in
+    let header = c.args.header in
+    let body = packet.0 in
     let used = c.args.used in
-    let front : front_of t.end ≡ Whole (Packet header body) used = packet.2 in
+    let front : front_of t.end ≡ Whole (Packet header body) used = packet.1 in
     let old = target_of t.debuggee t.deferral t.began.items t.phases.items (length t.steps.items) t.end in
     let w = c.sizes-sizes.result in
     let told = c.takes-defers.result in
-    let read : IsRead m t.debuggee c.handle_front.new.debuggee header.id header.kind body came.Deferred × IsPutOff told header.kind came.Deferred = rw c.in-Deferred.is at (c.in_ok-came.ensures.came header body front) in
+    let read : IsRead m t.debuggee c.handle_front.new.debuggee header.id header.kind body (came.Deferred c.in-Deferred.set c.in-Deferred.number) × IsPutOff told header.kind (came.Deferred c.in-Deferred.set c.in-Deferred.number) = rw c.in-Deferred.is at (c.in_ok-came.ensures.came body front) in
     let deferred : defers (full_standing old) (Packet header body) ≡ true = as-told old header body used told true fits front c.takes-defers.ensures read.1 in
     rw (← c.self.view_is) (whatever-came c.defer.result _ (sends-nothing m old (Packet header body) used front deferred))
 
@@ -179,19 +191,19 @@ pub invariant_of-self-in-Command : goal.invariant_of-self-in-Command
 invariant_of-self-in-Command g c =
     let m = g.M.Machine.meaning in
     let t = c.self.inside in
-    let packet : HasPacket c.args.used t.end = rw (← c.self.view_is) at c.requires.packet in
+    let packet : HasPacketWith c.args.header c.args.used t.end = rw (← c.self.view_is) at c.requires.packet in
     let fits : IsBytes t.end.incoming = rw (← c.self.view_is) at c.requires.bytes in
-    let header = packet.0 in
-    let body = packet.1 in
+    let header = c.args.header in
+    let body = packet.0 in
     let used = c.args.used in
-    let front : front_of t.end ≡ Whole (Packet header body) used = packet.2 in
+    let front : front_of t.end ≡ Whole (Packet header body) used = packet.1 in
     let old = target_of t.debuggee t.deferral t.began.items t.phases.items (length t.steps.items) t.end in
     let w = c.sizes-sizes.result in
     let told = c.takes-defers.result in
     let shaken = packet-handshaken m t.debuggee t.deferral t.began.items t.phases.items (length t.steps.items) t.end header body used c.self.invariant fits front in
     let id = c.in-Command.id in
     let done = c.in-Command.done in
-    let read : IsRead m t.debuggee c.handle_front.new.debuggee header.id header.kind body (came.Command id done) × IsPutOff told header.kind (came.Command id done) = rw c.in-Command.is at (c.in_ok-came.ensures.came header body front) in
+    let read : IsRead m t.debuggee c.handle_front.new.debuggee header.id header.kind body (came.Command id done) × IsPutOff told header.kind (came.Command id done) = rw c.in-Command.is at (c.in_ok-came.ensures.came body front) in
     let at_once : defers (full_standing old) (Packet header body) ≡ false = as-told old header body used told false fits front c.takes-defers.ensures read.1 in
     let off = taken-off t.end c.handle_front.new.end _ (Packet header body) used c.handle_front.ensures.same front c.take_off-in-Command.ensures in
     let least : least_packet_limit ≤ t.end.limits.packet = rw (← c.self.view_is) at c.requires.least in
@@ -205,19 +217,19 @@ pub invariant_of-self-in-Command-2 : goal.invariant_of-self-in-Command-2
 invariant_of-self-in-Command-2 g c =
     let m = g.M.Machine.meaning in
     let t = c.self.inside in
-    let packet : HasPacket c.args.used t.end = rw (← c.self.view_is) at c.requires.packet in
+    let packet : HasPacketWith c.args.header c.args.used t.end = rw (← c.self.view_is) at c.requires.packet in
     let fits : IsBytes t.end.incoming = rw (← c.self.view_is) at c.requires.bytes in
-    let header = packet.0 in
-    let body = packet.1 in
+    let header = c.args.header in
+    let body = packet.0 in
     let used = c.args.used in
-    let front : front_of t.end ≡ Whole (Packet header body) used = packet.2 in
+    let front : front_of t.end ≡ Whole (Packet header body) used = packet.1 in
     let old = target_of t.debuggee t.deferral t.began.items t.phases.items (length t.steps.items) t.end in
     let w = c.sizes-sizes.result in
     let told = c.takes-defers.result in
     let shaken = packet-handshaken m t.debuggee t.deferral t.began.items t.phases.items (length t.steps.items) t.end header body used c.self.invariant fits front in
     let id = c.in-Command.id in
     let done = c.in-Command.done in
-    let read : IsRead m t.debuggee c.handle_front.new.debuggee header.id header.kind body (came.Command id done) × IsPutOff told header.kind (came.Command id done) = rw c.in-Command.is at (c.in_ok-came.ensures.came header body front) in
+    let read : IsRead m t.debuggee c.handle_front.new.debuggee header.id header.kind body (came.Command id done) × IsPutOff told header.kind (came.Command id done) = rw c.in-Command.is at (c.in_ok-came.ensures.came body front) in
     let at_once : defers (full_standing old) (Packet header body) ≡ false = as-told old header body used told false fits front c.takes-defers.ensures read.1 in
     let off = taken-off t.end c.handle_front.new.end _ (Packet header body) used c.handle_front.ensures.same front c.take_off-in-Command.ensures in
     let least : least_packet_limit ≤ t.end.limits.packet = rw (← c.self.view_is) at c.requires.least in
@@ -231,19 +243,19 @@ pub returns-in-Command-clause-turns : goal.returns-in-Command-clause-turns
 returns-in-Command-clause-turns g c =
     let m = g.M.Machine.meaning in
     let t = c.self.inside in
-    let packet : HasPacket c.args.used t.end = rw (← c.self.view_is) at c.requires.packet in
+    let packet : HasPacketWith c.args.header c.args.used t.end = rw (← c.self.view_is) at c.requires.packet in
     let fits : IsBytes t.end.incoming = rw (← c.self.view_is) at c.requires.bytes in
-    let header = packet.0 in
-    let body = packet.1 in
+    let header = c.args.header in
+    let body = packet.0 in
     let used = c.args.used in
-    let front : front_of t.end ≡ Whole (Packet header body) used = packet.2 in
+    let front : front_of t.end ≡ Whole (Packet header body) used = packet.1 in
     let old = target_of t.debuggee t.deferral t.began.items t.phases.items (length t.steps.items) t.end in
     let w = c.sizes-sizes.result in
     let told = c.takes-defers.result in
     let shaken = packet-handshaken m t.debuggee t.deferral t.began.items t.phases.items (length t.steps.items) t.end header body used c.self.invariant fits front in
     let id = c.in-Command.id in
     let done = c.in-Command.done in
-    let read : IsRead m t.debuggee c.handle_front.new.debuggee header.id header.kind body (came.Command id done) × IsPutOff told header.kind (came.Command id done) = rw c.in-Command.is at (c.in_ok-came.ensures.came header body front) in
+    let read : IsRead m t.debuggee c.handle_front.new.debuggee header.id header.kind body (came.Command id done) × IsPutOff told header.kind (came.Command id done) = rw c.in-Command.is at (c.in_ok-came.ensures.came body front) in
     let at_once : defers (full_standing old) (Packet header body) ≡ false = as-told old header body used told false fits front c.takes-defers.ensures read.1 in
     let off = taken-off t.end c.handle_front.new.end _ (Packet header body) used c.handle_front.ensures.same front c.take_off-in-Command.ensures in
     let least : least_packet_limit ≤ t.end.limits.packet = rw (← c.self.view_is) at c.requires.least in
@@ -262,18 +274,18 @@ pub returns-in-Command-clause-encoded : goal.returns-in-Command-clause-encoded
 returns-in-Command-clause-encoded g c =
     let m = g.M.Machine.meaning in
     let t = c.self.inside in
-    let packet : HasPacket c.args.used t.end = rw (← c.self.view_is) at c.requires.packet in
+    let packet : HasPacketWith c.args.header c.args.used t.end = rw (← c.self.view_is) at c.requires.packet in
     let fits : IsBytes t.end.incoming = rw (← c.self.view_is) at c.requires.bytes in
-    let header = packet.0 in
-    let body = packet.1 in
+    let header = c.args.header in
+    let body = packet.0 in
     let used = c.args.used in
-    let front : front_of t.end ≡ Whole (Packet header body) used = packet.2 in
+    let front : front_of t.end ≡ Whole (Packet header body) used = packet.1 in
     let old = target_of t.debuggee t.deferral t.began.items t.phases.items (length t.steps.items) t.end in
     let w = c.sizes-sizes.result in
     let told = c.takes-defers.result in
     let id = c.in-Command.id in
     let done = c.in-Command.done in
-    let read : IsRead m t.debuggee c.handle_front.new.debuggee header.id header.kind body (came.Command id done) × IsPutOff told header.kind (came.Command id done) = rw c.in-Command.is at (c.in_ok-came.ensures.came header body front) in
+    let read : IsRead m t.debuggee c.handle_front.new.debuggee header.id header.kind body (came.Command id done) × IsPutOff told header.kind (came.Command id done) = rw c.in-Command.is at (c.in_ok-came.ensures.came body front) in
     let at_once : defers (full_standing old) (Packet header body) ≡ false = as-told old header body used told false fits front c.takes-defers.ensures read.1 in
     rw (← c.self.view_is) (encodes-whole m old (Packet header body) used front at_once (encodes-command m old header body read.0.0 read.0.1 read.0.2 read.0.4.encoded))
 
@@ -281,19 +293,19 @@ pub returns-in-Command-clause-packets : goal.returns-in-Command-clause-packets
 returns-in-Command-clause-packets g c =
     let m = g.M.Machine.meaning in
     let t = c.self.inside in
-    let packet : HasPacket c.args.used t.end = rw (← c.self.view_is) at c.requires.packet in
+    let packet : HasPacketWith c.args.header c.args.used t.end = rw (← c.self.view_is) at c.requires.packet in
     let fits : IsBytes t.end.incoming = rw (← c.self.view_is) at c.requires.bytes in
-    let header = packet.0 in
-    let body = packet.1 in
+    let header = c.args.header in
+    let body = packet.0 in
     let used = c.args.used in
-    let front : front_of t.end ≡ Whole (Packet header body) used = packet.2 in
+    let front : front_of t.end ≡ Whole (Packet header body) used = packet.1 in
     let old = target_of t.debuggee t.deferral t.began.items t.phases.items (length t.steps.items) t.end in
     let w = c.sizes-sizes.result in
     let told = c.takes-defers.result in
     let shaken = packet-handshaken m t.debuggee t.deferral t.began.items t.phases.items (length t.steps.items) t.end header body used c.self.invariant fits front in
     let id = c.in-Command.id in
     let done = c.in-Command.done in
-    let read : IsRead m t.debuggee c.handle_front.new.debuggee header.id header.kind body (came.Command id done) × IsPutOff told header.kind (came.Command id done) = rw c.in-Command.is at (c.in_ok-came.ensures.came header body front) in
+    let read : IsRead m t.debuggee c.handle_front.new.debuggee header.id header.kind body (came.Command id done) × IsPutOff told header.kind (came.Command id done) = rw c.in-Command.is at (c.in_ok-came.ensures.came body front) in
     let at_once : defers (full_standing old) (Packet header body) ≡ false = as-told old header body used told false fits front c.takes-defers.ensures read.1 in
     let off = taken-off t.end c.handle_front.new.end _ (Packet header body) used c.handle_front.ensures.same front c.take_off-in-Command.ensures in
     let least : least_packet_limit ≤ t.end.limits.packet = rw (← c.self.view_is) at c.requires.least in
@@ -306,12 +318,12 @@ pub handle_front-requires-clause-shaken : goal.handle_front-requires-clause-shak
 handle_front-requires-clause-shaken g c =
     let m = g.M.Machine.meaning in
     let t = c.self.inside in
-    let packet : HasPacket c.args.used t.end = rw (← c.self.view_is) at c.requires.packet in
+    let packet : HasPacketWith c.args.header c.args.used t.end = rw (← c.self.view_is) at c.requires.packet in
     let fits : IsBytes t.end.incoming = rw (← c.self.view_is) at c.requires.bytes in
-    let header = packet.0 in
-    let body = packet.1 in
+    let header = c.args.header in
+    let body = packet.0 in
     let used = c.args.used in
-    let front : front_of t.end ≡ Whole (Packet header body) used = packet.2 in
+    let front : front_of t.end ≡ Whole (Packet header body) used = packet.1 in
     let old = target_of t.debuggee t.deferral t.began.items t.phases.items (length t.steps.items) t.end in
     let w = c.sizes-sizes.result in
     let told = c.takes-defers.result in
@@ -322,16 +334,16 @@ pub returns-in_err-came-clause-turns : goal.returns-in_err-came-clause-turns
 returns-in_err-came-clause-turns g c =
     let m = g.M.Machine.meaning in
     let t = c.self.inside in
-    let packet : HasPacket c.args.used t.end = rw (← c.self.view_is) at c.requires.packet in
+    let packet : HasPacketWith c.args.header c.args.used t.end = rw (← c.self.view_is) at c.requires.packet in
     let fits : IsBytes t.end.incoming = rw (← c.self.view_is) at c.requires.bytes in
-    let header = packet.0 in
-    let body = packet.1 in
+    let header = c.args.header in
+    let body = packet.0 in
     let used = c.args.used in
-    let front : front_of t.end ≡ Whole (Packet header body) used = packet.2 in
+    let front : front_of t.end ≡ Whole (Packet header body) used = packet.1 in
     let old = target_of t.debuggee t.deferral t.began.items t.phases.items (length t.steps.items) t.end in
     let w = c.sizes-sizes.result in
     let told = c.takes-defers.result in
-    let wanted = c.in_err-came.ensures.came header body front in
+    let wanted = c.in_err-came.ensures.came body front in
     let needs = wants-to-read m old header body used told fits front c.takes-defers.ensures wanted.0 wanted.1 in
     let same : target_of c.handle_front.new.debuggee t.deferral t.began.items t.phases.items (length t.steps.items) c.handle_front.new.end ≡ old = rw (wanted.2, c.handle_front.ensures.same) refl in
     rw (← c.self.view_is) (turns-wanting m old _ (Packet header body) used _ front (search rules) needs same)
@@ -340,12 +352,12 @@ pub reply-requires-clause-short : goal.reply-requires-clause-short
 reply-requires-clause-short g c =
     let m = g.M.Machine.meaning in
     let t = c.self.inside in
-    let packet : HasPacket c.args.used t.end = rw (← c.self.view_is) at c.requires.packet in
+    let packet : HasPacketWith c.args.header c.args.used t.end = rw (← c.self.view_is) at c.requires.packet in
     let fits : IsBytes t.end.incoming = rw (← c.self.view_is) at c.requires.bytes in
-    let header = packet.0 in
-    let body = packet.1 in
+    let header = c.args.header in
+    let body = packet.0 in
     let used = c.args.used in
-    let front : front_of t.end ≡ Whole (Packet header body) used = packet.2 in
+    let front : front_of t.end ≡ Whole (Packet header body) used = packet.1 in
     let old = target_of t.debuggee t.deferral t.began.items t.phases.items (length t.steps.items) t.end in
     let w = c.sizes-sizes.result in
     let told = c.takes-defers.result in
@@ -358,18 +370,18 @@ pub reply-requires-clause-room : goal.reply-requires-clause-room
 reply-requires-clause-room g c =
     let m = g.M.Machine.meaning in
     let t = c.self.inside in
-    let packet : HasPacket c.args.used t.end = rw (← c.self.view_is) at c.requires.packet in
+    let packet : HasPacketWith c.args.header c.args.used t.end = rw (← c.self.view_is) at c.requires.packet in
     let fits : IsBytes t.end.incoming = rw (← c.self.view_is) at c.requires.bytes in
-    let header = packet.0 in
-    let body = packet.1 in
+    let header = c.args.header in
+    let body = packet.0 in
     let used = c.args.used in
-    let front : front_of t.end ≡ Whole (Packet header body) used = packet.2 in
+    let front : front_of t.end ≡ Whole (Packet header body) used = packet.1 in
     let old = target_of t.debuggee t.deferral t.began.items t.phases.items (length t.steps.items) t.end in
     let w = c.sizes-sizes.result in
     let told = c.takes-defers.result in
     let id = c.in-Command.id in
     let done = c.in-Command.done in
-    let read : IsRead m t.debuggee c.handle_front.new.debuggee header.id header.kind body (came.Command id done) × IsPutOff told header.kind (came.Command id done) = rw c.in-Command.is at (c.in_ok-came.ensures.came header body front) in
+    let read : IsRead m t.debuggee c.handle_front.new.debuggee header.id header.kind body (came.Command id done) × IsPutOff told header.kind (came.Command id done) = rw c.in-Command.is at (c.in_ok-came.ensures.came body front) in
     let at_once : defers (full_standing old) (Packet header body) ≡ false = as-told old header body used told false fits front c.takes-defers.ensures read.1 in
     let off = taken-off t.end c.handle_front.new.end _ (Packet header body) used c.handle_front.ensures.same front c.take_off-in-Command.ensures in
     let least : least_packet_limit ≤ t.end.limits.packet = rw (← c.self.view_is) at c.requires.least in
@@ -380,12 +392,12 @@ pub take_off-requires : goal.take_off-requires
 take_off-requires g c =
     let m = g.M.Machine.meaning in
     let t = c.self.inside in
-    let packet : HasPacket c.args.used t.end = rw (← c.self.view_is) at c.requires.packet in
+    let packet : HasPacketWith c.args.header c.args.used t.end = rw (← c.self.view_is) at c.requires.packet in
     let fits : IsBytes t.end.incoming = rw (← c.self.view_is) at c.requires.bytes in
-    let header = packet.0 in
-    let body = packet.1 in
+    let header = c.args.header in
+    let body = packet.0 in
     let used = c.args.used in
-    let front : front_of t.end ≡ Whole (Packet header body) used = packet.2 in
+    let front : front_of t.end ≡ Whole (Packet header body) used = packet.1 in
     let old = target_of t.debuggee t.deferral t.began.items t.phases.items (length t.steps.items) t.end in
     let w = c.sizes-sizes.result in
     let told = c.takes-defers.result in
@@ -395,12 +407,12 @@ pub take_off-requires-in-Command : goal.take_off-requires-in-Command
 take_off-requires-in-Command g c =
     let m = g.M.Machine.meaning in
     let t = c.self.inside in
-    let packet : HasPacket c.args.used t.end = rw (← c.self.view_is) at c.requires.packet in
+    let packet : HasPacketWith c.args.header c.args.used t.end = rw (← c.self.view_is) at c.requires.packet in
     let fits : IsBytes t.end.incoming = rw (← c.self.view_is) at c.requires.bytes in
-    let header = packet.0 in
-    let body = packet.1 in
+    let header = c.args.header in
+    let body = packet.0 in
     let used = c.args.used in
-    let front : front_of t.end ≡ Whole (Packet header body) used = packet.2 in
+    let front : front_of t.end ≡ Whole (Packet header body) used = packet.1 in
     let old = target_of t.debuggee t.deferral t.began.items t.phases.items (length t.steps.items) t.end in
     let w = c.sizes-sizes.result in
     let told = c.takes-defers.result in
@@ -409,6 +421,6 @@ take_off-requires-in-Command g c =
 pub invariant_of-self : goal.invariant_of-self
 invariant_of-self g c =
     let t = c.self.inside in
-    let packet : HasPacket c.args.used t.end = rw (← c.self.view_is) at c.requires.packet in
-    let wanted = c.in_err-came.ensures.came packet.0 packet.1 packet.2 in
+    let packet : HasPacketWith c.args.header c.args.used t.end = rw (← c.self.view_is) at c.requires.packet in
+    let wanted = c.in_err-came.ensures.came packet.0 packet.1 in
     rw (wanted.2, c.handle_front.ensures.same) c.self.invariant

@@ -1,13 +1,11 @@
-use Rattle.std.proofs.Common.{arith, rules, ◌≡◌, ◌∙◌, ◌<◌, ◌≤◌, ◌^◌, ◌+◌, ◌++◌, ℕ, List, length, take, ap, refl}
-use Rattle.std.proofs.lemmas.List.{length-append}
+use Rattle.std.proofs.Common.{arith, rules, ◌≡◌, ◌∙◌, ◌≤◌, ◌+◌, ◌++◌, ℕ, List, length, take, drop, ap, refl}
+use Rattle.std.proofs.lemmas.List.{length-append, length-take}
 use Rattle.jdwp_wire.specs.Bytes.{IsBytes}
-use Rattle.jdwp_wire.specs.Frames.{front}
 use Rattle.jdwp_wire.specs.Streams.{Packet}
-use Rattle.jdwp_wire.specs.Limits.{most_packet_limit}
 use Rattle.jdwp_end.specs.Ends.{End}
 use Rattle.jdwp_end.specs.FrontLaws.{in-front}
-use Rattle.jdwp_end.proofs.Fronts.{packet-again}
-use Rattle.jdwp_end.proofs.end.End.packet_joined.Goals as goal
+use Rattle.jdwp_end.proofs.Fronts.{body-lies}
+use Rattle.jdwp_end.proofs.end.End.data_joined.Goals as goal
 
 pub join-requires-clause-within : goal.join-requires-clause-within
 join-requires-clause-within c =
@@ -28,18 +26,25 @@ join-requires-clause-room c =
     let kept = c.self.invariant in
     omega (arith, there, size, kept.incoming_fits, kept.scratch_room)
 
+pub shared_behind-requires : goal.shared_behind-requires
+shared_behind-requires c =
+    let end = c.args.self.now in
+    let joined : c.as_slices.result.0.now ++ c.as_slices.result.1.now ≡ end.incoming = search rules in
+    let fits : IsBytes end.incoming = search rules in
+    let lent = c.join.ensures.joined ∙ ap (λ (zs : List ℕ). take c.args.used zs) joined in
+    let lies = body-lies end c.requires.0 c.requires.1 c.args.used fits c.requires.2 in
+    let there = (in-front end (Packet c.requires.0 c.requires.1) c.args.used fits c.requires.2).0.there in
+    omega (arith, lies.1, there, ap (λ (zs : List ℕ). length zs) lent, length-take c.args.used end.incoming)
+
 pub returns : goal.returns
 returns c =
     let end = c.args.self.now in
     let joined : c.as_slices.result.0.now ++ c.as_slices.result.1.now ≡ end.incoming = search rules in
-    let lent = c.shared.ensures.value ∙ c.join.ensures.joined ∙ ap (λ (zs : List ℕ). take c.args.used zs) joined in
     let fits : IsBytes end.incoming = search rules in
-    let most : end.limits.packet ≤ most_packet_limit = search rules in
-    let small : end.limits.packet < 2 ^ 32 = omega arith in (
+    let lent = c.join.ensures.joined ∙ ap (λ (zs : List ℕ). take c.args.used zs) joined in (
       (refl, (λ _. tt), c.self.view_is),
       record {
         stays = tt;
-        bytes = lent;
-        packet = λ header body e. ap (λ (bytes : List ℕ). front end.limits.packet bytes) lent ∙ packet-again end header body c.args.used small fits e;
+        body = λ header body e. c.shared_behind.ensures.value ∙ ap (λ (zs : List ℕ). drop 11 zs) lent ∙ (body-lies end header body c.args.used fits e).0;
       },
     )
