@@ -1,13 +1,22 @@
 //! Scripts at a limit, and one past it.
-use crate::asserts::{expect_same, expect_same_for};
-use crate::script_tests::{MACHINE_B, edited, fault};
-use example_parts::MACHINE_A;
+use crate::asserts::expect_same_for;
+use crate::script_tests::{MACHINE_B, edited};
+use jdwp_machine::Machine;
 use jdwp_script::{Script, ScriptFault};
+use jdwp_script_machine::ScriptMachine;
 use jdwp_wire::Limits;
 use std::alloc::Global;
 use std::process::Abort;
 
-/// The front, so many of the piece, one after another, and the back.
+/// The piece with this number in place of its `#`, if it has one, behind the text.
+fn push_piece(rt: &impl Abort, text: &mut String, piece: &str, number: usize) {
+    match piece.split_once("#") {
+        Some((front, back)) => write!(text, "{front}{number}{back}").expect(rt, "memory"),
+        None => text.push_str(piece).expect(rt, "memory"),
+    }
+}
+
+/// The front, so many of the piece, one after another, and the back. Each `#` of a piece is a number of its own, from 1000 on.
 fn replacement(
     rt: &impl Abort,
     alloc: Global,
@@ -17,371 +26,258 @@ fn replacement(
     back: &str,
 ) -> String {
     let mut text = String::from_str(alloc, front).expect(rt, "memory");
-    for _ in 0..count {
-        text.push_str(piece).expect(rt, "memory");
+    for place in 0..count {
+        push_piece(rt, &mut text, piece, place.saturating_add(1000));
     }
     text.push_str(back).expect(rt, "memory");
     text
 }
 
-/// What the script with something of each kind is, where `old` gives way to `front`, so many pieces and `back`.
-fn outcome(
-    rt: &impl Abort,
-    alloc: Global,
-    old: &str,
-    front: &str,
-    piece: &str,
-    count: usize,
-    back: &str,
-) -> Option<ScriptFault> {
-    let new = replacement(rt, alloc, front, piece, count, back);
-    let text = edited(rt, alloc, MACHINE_B, old, new.as_str());
-    fault(alloc, text.as_str())
-}
-
-/// What gives way, what comes for it: the front, the piece, how many of them, and the back; and the outcome.
-type Outcome = (
+/// What has a limit: what gives way in a script, and what comes for it at the limit: the front, the piece, how many of them, and the back.
+type Bound = (
     &'static str,
     &'static str,
     &'static str,
     usize,
     &'static str,
-    Option<ScriptFault>,
 );
+
+/// The script with so many of the bound's pieces.
+fn with_so_many(
+    rt: &impl Abort,
+    alloc: Global,
+    script: &str,
+    bound: &Bound,
+    count: usize,
+) -> String {
+    let (old, front, piece, _, back) = *bound;
+    let new = replacement(rt, alloc, front, piece, count, back);
+    edited(rt, alloc, script, old, new.as_str())
+}
+
+/// The script, and the machine of the script, with so many of the bound's pieces have this outcome.
+fn has_outcome(
+    rt: &impl Abort,
+    alloc: Global,
+    script: &str,
+    bound: &Bound,
+    count: usize,
+    wanted: &Option<ScriptFault>,
+) {
+    let text = with_so_many(rt, alloc, script, bound, count);
+    let found = Script::read(alloc, text.as_str()).err();
+    expect_same_for(rt, &found, wanted, &(bound.0, count));
+    let found = ScriptMachine::read(alloc, text.as_str()).err();
+    expect_same_for(rt, &found, wanted, &(bound.0, count));
+}
 
 const OVER: Option<ScriptFault> = Some(ScriptFault::OverLimit);
 
-/// Each row has its outcome.
-fn are_outcomes(rt: &impl Abort, alloc: Global, rows: &[Outcome]) {
-    for (old, front, piece, count, back, wanted) in rows {
-        let found = outcome(rt, alloc, old, front, piece, *count, back);
-        expect_same_for(rt, &found, &*wanted, &(old, count));
+/// The script is read at each bound, and refused one past it.
+fn are_bounds(rt: &impl Abort, alloc: Global, script: &str, bounds: &[Bound]) {
+    for bound in bounds {
+        let most = bound.3;
+        has_outcome(rt, alloc, script, bound, most, &None);
+        has_outcome(rt, alloc, script, bound, most.saturating_add(1), &OVER);
     }
 }
 
-/// Texts at their limit, and past it.
-static TEXTS: [Outcome; 15] = [
-    ("\"name\":\"B\"", "\"name\":\"", "x", 512, "\"", None),
-    ("\"name\":\"B\"", "\"name\":\"", "x", 513, "\"", OVER),
-    ("\"name\":\"pool\"", "\"name\":\"", "x", 513, "\"", OVER),
-    ("\"name\":\"count\"", "\"name\":\"", "x", 513, "\"", OVER),
-    (
-        "\"signature\":\"I\"",
-        "\"signature\":\"",
-        "x",
-        513,
-        "\"",
-        OVER,
-    ),
+/// Texts.
+static TEXTS: [Bound; 13] = [
+    ("\"name\":\"B\"", "\"name\":\"", "x", 512, "\""),
+    ("\"name\":\"pool\"", "\"name\":\"", "x", 512, "\""),
+    ("\"name\":\"count\"", "\"name\":\"", "x", 512, "\""),
+    ("\"signature\":\"I\"", "\"signature\":\"", "x", 512, "\""),
     (
         "\"signature\":\"LJob;\"",
         "\"signature\":\"",
         "x",
-        513,
+        512,
         "\"",
-        OVER,
     ),
-    ("\"source\":null", "\"source\":\"", "x", 513, "\"", OVER),
-    ("\"name\":\"run\"", "\"name\":\"", "x", 513, "\"", OVER),
+    ("\"source\":null", "\"source\":\"", "x", 512, "\""),
+    ("\"name\":\"run\"", "\"name\":\"", "x", 512, "\""),
+    ("\"signature\":\"()V\"", "\"signature\":\"", "x", 512, "\""),
+    ("\"name\":\"this\"", "\"name\":\"", "x", 512, "\""),
     (
-        "\"signature\":\"()V\"",
-        "\"signature\":\"",
+        "\"name\":\"this\",\"signature\":\"LMain;\"",
+        "\"name\":\"this\",\"signature\":\"",
         "x",
-        513,
+        512,
         "\"",
-        OVER,
     ),
-    ("\"name\":\"this\"", "\"name\":\"", "x", 513, "\"", OVER),
-    ("\"name\":\"work\"", "\"name\":\"", "x", 513, "\"", OVER),
+    ("\"name\":\"work\"", "\"name\":\"", "x", 512, "\""),
     (
         "\"threads\":[",
         "\"modules\":[{\"id\":7,\"name\":\"",
         "x",
         512,
         "\"}],\"threads\":[",
-        None,
     ),
-    (
-        "\"threads\":[",
-        "\"modules\":[{\"id\":7,\"name\":\"",
-        "x",
-        513,
-        "\"}],\"threads\":[",
-        OVER,
-    ),
-    ("\"text\":\"hello\"", "\"text\":\"", "x", 65000, "\"", None),
-    ("\"text\":\"hello\"", "\"text\":\"", "x", 65001, "\"", OVER),
+    ("\"text\":\"hello\"", "\"text\":\"", "x", 65000, "\""),
 ];
 
-#[test]
-fn limits_of_texts(rt: HostRuntime) {
-    are_outcomes(&rt, rt.alloc(), &TEXTS);
-}
-
-/// Groups, classes, objects, modules, threads and live threads at their limit, and past it.
-static PARTS: [Outcome; 12] = [
+/// Groups, classes, objects and modules.
+static PARTS: [Bound; 4] = [
     (
         "\"groups\":[",
         "\"groups\":[",
-        "{\"id\":7,\"name\":\"\",\"parent\":0},",
+        "{\"id\":#,\"name\":\"\",\"parent\":0},",
         1022,
         "",
-        Some(ScriptFault::IdTwice),
-    ),
-    (
-        "\"groups\":[",
-        "\"groups\":[",
-        "{\"id\":7,\"name\":\"\",\"parent\":0},",
-        1023,
-        "",
-        OVER,
     ),
     (
         "\"classes\":[",
         "\"classes\":[",
-        "{\"id\":12,\"tag\":1,\"signature\":\"\",\"modifiers\":0,\"super\":0,\"interfaces\":[],\"source\":null,\"fields\":[],\"methods\":[]},",
+        "{\"id\":#,\"tag\":1,\"signature\":\"\",\"modifiers\":0,\"super\":0,\"interfaces\":[],\"source\":null,\"fields\":[],\"methods\":[]},",
         1022,
         "",
-        Some(ScriptFault::IdTwice),
-    ),
-    (
-        "\"classes\":[",
-        "\"classes\":[",
-        "{\"id\":12,\"tag\":1,\"signature\":\"\",\"modifiers\":0,\"super\":0,\"interfaces\":[],\"source\":null,\"fields\":[],\"methods\":[]},",
-        1023,
-        "",
-        OVER,
     ),
     (
         "\"objects\":[",
         "\"objects\":[",
-        "{\"id\":52,\"class\":11,\"fields\":[],\"text\":null,\"array\":null},",
+        "{\"id\":#,\"class\":11,\"fields\":[],\"text\":null,\"array\":null},",
         1022,
         "",
-        Some(ScriptFault::IdTwice),
-    ),
-    (
-        "\"objects\":[",
-        "\"objects\":[",
-        "{\"id\":52,\"class\":11,\"fields\":[],\"text\":null,\"array\":null},",
-        1023,
-        "",
-        OVER,
     ),
     (
         "\"threads\":[",
         "\"modules\":[",
-        "{\"id\":7,\"name\":\"\"},",
+        "{\"id\":#,\"name\":\"\"},",
         1023,
         "{\"id\":7,\"name\":\"\"}],\"threads\":[",
-        Some(ScriptFault::IdTwice),
-    ),
-    (
-        "\"threads\":[",
-        "\"modules\":[",
-        "{\"id\":7,\"name\":\"\"},",
-        1024,
-        "{\"id\":7,\"name\":\"\"}],\"threads\":[",
-        OVER,
-    ),
-    (
-        "\"threads\":[",
-        "\"threads\":[",
-        "{\"id\":2,\"name\":\"\",\"group\":5,\"steps\":[]},",
-        1022,
-        "",
-        Some(ScriptFault::IdTwice),
-    ),
-    (
-        "\"threads\":[",
-        "\"threads\":[",
-        "{\"id\":2,\"name\":\"\",\"group\":5,\"steps\":[]},",
-        1023,
-        "",
-        OVER,
-    ),
-    (
-        "\"threads\":[",
-        "\"threads\":[",
-        "{\"id\":3,\"name\":\"\",\"group\":5,\"steps\":[]},",
-        63,
-        "",
-        Some(ScriptFault::IdTwice),
-    ),
-    (
-        "\"threads\":[",
-        "\"threads\":[",
-        "{\"id\":3,\"name\":\"\",\"group\":5,\"steps\":[]},",
-        64,
-        "",
-        OVER,
     ),
 ];
 
-#[test]
-fn limits_of_parts(rt: HostRuntime) {
-    are_outcomes(&rt, rt.alloc(), &PARTS);
-}
-
-/// Lists of a part at their limit, and past it.
-static LISTS: [Outcome; 14] = [
+/// Lists of a part.
+static LISTS: [Bound; 6] = [
     (
         "\"fields\":[{",
         "\"fields\":[",
-        "{\"id\":42,\"name\":\"\",\"signature\":\"\",\"modifiers\":0,\"value\":null},",
+        "{\"id\":#,\"name\":\"\",\"signature\":\"\",\"modifiers\":0,\"value\":null},",
         254,
         "{",
-        Some(ScriptFault::IdTwice),
-    ),
-    (
-        "\"fields\":[{",
-        "\"fields\":[",
-        "{\"id\":42,\"name\":\"\",\"signature\":\"\",\"modifiers\":0,\"value\":null},",
-        255,
-        "{",
-        OVER,
     ),
     (
         "\"methods\":[{",
         "\"methods\":[",
-        "{\"id\":21,\"name\":\"\",\"signature\":\"\",\"modifiers\":0,\"args\":0,\"last\":0,\"lines\":[],\"slots\":[]},",
+        "{\"id\":#,\"name\":\"\",\"signature\":\"\",\"modifiers\":0,\"args\":0,\"last\":0,\"lines\":[],\"slots\":[]},",
         255,
         "{",
-        Some(ScriptFault::IdTwice),
     ),
     (
-        "\"methods\":[{",
-        "\"methods\":[",
-        "{\"id\":21,\"name\":\"\",\"signature\":\"\",\"modifiers\":0,\"args\":0,\"last\":0,\"lines\":[],\"slots\":[]},",
-        256,
-        "{",
-        OVER,
+        "\"last\":9,\"lines\":[",
+        "\"last\":1500,\"lines\":[[0,1],[3,2],",
+        "[#,3],",
+        253,
+        "[1500,4]],\"unread\":[",
     ),
-    (
-        "\"lines\":[",
-        "\"lines\":[",
-        "[0,0],",
-        254,
-        "",
-        Some(ScriptFault::BadReference),
-    ),
-    ("\"lines\":[", "\"lines\":[", "[0,0],", 255, "", OVER),
     (
         "\"slots\":[",
         "\"slots\":[",
         "{\"from\":0,\"name\":\"\",\"signature\":\"\",\"length\":0,\"slot\":0},",
         255,
         "",
-        None,
     ),
-    (
-        "\"slots\":[",
-        "\"slots\":[",
-        "{\"from\":0,\"name\":\"\",\"signature\":\"\",\"length\":0,\"slot\":0},",
-        256,
-        "",
-        OVER,
-    ),
-    (
-        "\"interfaces\":[10]",
-        "\"interfaces\":[",
-        "10,",
-        255,
-        "10]",
-        None,
-    ),
-    (
-        "\"interfaces\":[10]",
-        "\"interfaces\":[",
-        "10,",
-        256,
-        "10]",
-        OVER,
-    ),
-    (
-        "[[40,[\"I\",1]]",
-        "[",
-        "[40,[\"I\",1]],",
-        254,
-        "[40,[\"I\",1]]",
-        Some(ScriptFault::BadReference),
-    ),
-    (
-        "[[40,[\"I\",1]]",
-        "[",
-        "[40,[\"I\",1]],",
-        255,
-        "[40,[\"I\",1]]",
-        OVER,
-    ),
+    ("\"interfaces\":[10]", "\"interfaces\":[", "10,", 255, "10]"),
     (
         "[[0,[\"L\",50]]]",
         "[",
-        "[0,[\"I\",1]],",
+        "[#,[\"I\",1]],",
         255,
         "[0,[\"L\",50]]]",
-        Some(ScriptFault::BadReference),
-    ),
-    (
-        "[[0,[\"L\",50]]]",
-        "[",
-        "[0,[\"I\",1]],",
-        256,
-        "[0,[\"L\",50]]]",
-        OVER,
     ),
 ];
 
-#[test]
-fn limits_of_lists(rt: HostRuntime) {
-    are_outcomes(&rt, rt.alloc(), &LISTS);
-}
-
-/// Frames, steps and elements at their limit, and past it.
-static STEPS: [Outcome; 7] = [
+/// Frames, steps and elements.
+static STEPS: [Bound; 3] = [
     (
         "[\"go\",3]",
         "",
-        "[\"call\",31,11,20,0,[]],",
+        "[\"call\",#,11,20,0,[]],",
         255,
         "[\"go\",3]",
-        Some(ScriptFault::IdTwice),
     ),
-    (
-        "[\"go\",3]",
-        "",
-        "[\"call\",31,11,20,0,[]],",
-        256,
-        "[\"go\",3]",
-        OVER,
-    ),
-    (
-        "[\"prepare\",11]",
-        "",
-        "[\"return\",[\"V\",0]],[\"return\",[\"V\",0]],",
-        1,
-        "[\"prepare\",11]",
-        Some(ScriptFault::BadReference),
-    ),
-    ("[\"go\",3]", "", "[\"go\",3],", 65529, "[\"go\",3]", None),
-    ("[\"go\",3]", "", "[\"go\",3],", 65530, "[\"go\",3]", OVER),
-    ("[50,0]", "[", "0,", 4095, "50]", None),
-    ("[50,0]", "[", "0,", 4096, "50]", OVER),
+    ("[\"go\",3]", "", "[\"go\",3],", 65529, "[\"go\",3]"),
+    ("[50,0]", "[", "0,", 4095, "50]"),
 ];
 
 #[test]
-fn limits_of_steps(rt: HostRuntime) {
-    are_outcomes(&rt, rt.alloc(), &STEPS);
+fn limits_of_texts_and_lists(rt: HostRuntime) {
+    for bounds in [
+        TEXTS.as_slice(),
+        PARTS.as_slice(),
+        LISTS.as_slice(),
+        STEPS.as_slice(),
+    ] {
+        are_bounds(&rt, rt.alloc(), MACHINE_B, bounds);
+    }
 }
 
-/// The fault of machine A where so many threads may live.
-fn fault_with(rt: &impl Abort, alloc: Global, live: u32) -> Option<ScriptFault> {
+/// Fields of an object: of the fields 40, 41, and those from 1000 on.
+static HELD: [Bound; 1] = [(
+    "[[40,[\"I\",1]],",
+    "[[40,[\"I\",1]],",
+    "[#,[\"I\",1]],",
+    254,
+    "",
+)];
+
+/// A class of 256 fields has room for an object that lists as many.
+#[test]
+fn limits_of_fields_of_objects(rt: HostRuntime) {
+    let script = with_so_many(&rt, rt.alloc(), MACHINE_B, &LISTS[0], 254);
+    are_bounds(&rt, rt.alloc(), script.as_str(), &HELD);
+}
+
+/// What makes more threads of machine B, and what starts them.
+static THREADS: Bound = (
+    "\"threads\":[",
+    "\"threads\":[",
+    "{\"id\":#,\"name\":\"\",\"group\":5,\"steps\":[]},",
+    1022,
+    "",
+);
+
+static STARTS: Bound = ("[\"start\",2],", "", "[\"start\",#],", 1022, "");
+
+/// How many threads there are beside the two of machine B, how many of them a step starts, how many may live, and how many do.
+type Living = (usize, usize, u32, Result<usize, ScriptFault>);
+
+const MANY: Result<usize, ScriptFault> = Err(ScriptFault::OverLimit);
+
+/// Threads that live at the beginning: all that no step starts. There may be 1,024 in all.
+static LIVING: [Living; 14] = [
+    (0, 0, 1, MANY),
+    (0, 0, 2, Ok(2)),
+    (62, 0, 64, Ok(64)),
+    (63, 0, 64, MANY),
+    (63, 1, 64, Ok(64)),
+    (63, 0, 65, Ok(65)),
+    (64, 0, 65, MANY),
+    (1022, 0, 1024, Ok(1024)),
+    (1022, 0, 1023, MANY),
+    (1022, 1, 1023, Ok(1023)),
+    (1022, 960, 64, Ok(64)),
+    (1022, 959, 64, MANY),
+    (1022, 1022, 64, Ok(2)),
+    (1023, 1023, 64, MANY),
+];
+
+/// How many threads of the machine live.
+fn living(rt: &impl Abort, alloc: Global, row: &Living) -> Result<usize, ScriptFault> {
+    let (more, started, live, _) = *row;
     let limits = Limits::new(65_536, live, 64, 64).expect(rt, "limits");
-    Script::read_with(alloc, MACHINE_A, &limits).err()
+    let script = with_so_many(rt, alloc, MACHINE_B, &STARTS, started);
+    let text = with_so_many(rt, alloc, script.as_str(), &THREADS, more);
+    let machine = ScriptMachine::read_with(alloc, text.as_str(), &limits)?;
+    Ok(machine.live().len())
 }
 
 #[test]
 fn live_threads_by_limits(rt: HostRuntime) {
-    expect_same(&rt, &fault_with(&rt, rt.alloc(), 1), &OVER);
-    expect_same(&rt, &fault_with(&rt, rt.alloc(), 2), &None);
+    for row in LIVING.iter() {
+        let found = living(&rt, rt.alloc(), row);
+        expect_same_for(&rt, &found, &row.3, row);
+    }
 }
