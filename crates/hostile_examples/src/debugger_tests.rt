@@ -3,7 +3,7 @@ use crate::asserts::expect_same_for;
 use crate::debuggers::debugger;
 use example_parts::bytes;
 use jdwp_debugger::{Command, Debugger, DebuggerFault, Read, Ticket};
-use jdwp_layout::{Datum, Scalar, numbers};
+use jdwp_layout::{Answer, Datum, Scalar, numbers};
 use jdwp_value::ObjectId;
 use jdwp_wire::FrameFault;
 use std::alloc::Global;
@@ -268,4 +268,79 @@ fn rooms_are_so(rt: &impl Abort, alloc: Global) {
 #[test]
 fn as_many_bytes_as_fit(rt: HostRuntime) {
     rooms_are_so(&rt, rt.alloc());
+}
+
+/// A reply under the id 2 that lists so many threads, from id 1 on: a header and a count, and 8 bytes for each.
+fn listing(rt: &impl Abort, alloc: Global, count: u32) -> Vec<u8> {
+    let length = count.saturating_mul(8).saturating_add(15);
+    let mut packet = Vec::from_slice(alloc, &length.to_be_bytes()).expect(rt, "memory");
+    let head = [0, 0, 0, 2, 0x80, 0, 0];
+    packet.extend_from_slice(&head).expect(rt, "memory");
+    packet
+        .extend_from_slice(&count.to_be_bytes())
+        .expect(rt, "memory");
+    for before in 0..u64::from(count) {
+        let id = before.saturating_add(1).to_be_bytes();
+        packet.extend_from_slice(&id).expect(rt, "memory");
+    }
+    packet
+}
+
+/// Whether this is a list of so many threads, from id 1 on.
+fn are_listed(items: &[Datum], count: u32) -> bool {
+    let [Datum::Many(entries)] = items else {
+        return false;
+    };
+    let mut next = 0u64;
+    for entry in entries {
+        next = next.saturating_add(1);
+        if !matches!(entry.as_slice(), [Scalar::ObjectId(id)] if id.0 == next) {
+            return false;
+        }
+    }
+    next == u64::from(count)
+}
+
+/// Whether the answer in front is this list, under this ticket.
+fn is_answered(alloc: Global, debugger: &mut Debugger, ticket: Ticket, count: u32) -> bool {
+    match debugger.turn(alloc) {
+        Ok(Read::Answered(told, Answer::Data(data))) => {
+            told == ticket && are_listed(data.items(), count)
+        }
+        _ => false,
+    }
+}
+
+/// Whether AllThreads, under this ticket, is answered with so many threads in a session in which thread 1 is known, and is known
+/// behind it only where it is listed.
+fn lists(rt: &impl Abort, alloc: Global, debugger: &mut Debugger, ticket: u64, count: u32) -> bool {
+    let begun = greets(alloc, debugger);
+    debugger.feed(&bytes(alloc, SIZES).expect(rt, "memory"));
+    let is_measured = matches!(debugger.turn(alloc), Ok(Read::Sizes(_)));
+    let is_seen = reads(rt, alloc, debugger, START_ALL, Tells::Seen);
+    let all = Command::new(
+        numbers::VIRTUAL_MACHINE,
+        numbers::ALL_THREADS,
+        Vec::new(alloc),
+    );
+    let is_asked = debugger.ask(alloc, all) == Ok(Ticket(ticket));
+    let reply = listing(rt, alloc, count);
+    let is_fed = debugger.feed(&reply) == reply.len();
+    let is_answered = is_answered(alloc, debugger, Ticket(ticket), count);
+    let known = if count == 0 { None } else { Some(1) };
+    let is_kept = debugger.mirror().count(ObjectId(1)) == known;
+    debugger.lose();
+    begun && is_measured && is_seen && is_asked && is_fed && is_answered && is_kept
+}
+
+/// The same of lists of each length, in sessions of one debugger: 8,190 threads fill the longest packet.
+#[test]
+fn lists_of_very_many_threads(rt: HostRuntime) {
+    let mut debugger = debugger(&rt, rt.alloc());
+    let mut ticket = 0u64;
+    for count in [0u32, 64, 65, 1_024, 1_025, 8_190] {
+        ticket = ticket.saturating_add(1);
+        let is = lists(&rt, rt.alloc(), &mut debugger, ticket, count);
+        expect_same_for(&rt, &is, &true, &count);
+    }
 }

@@ -1,14 +1,13 @@
 //! What is told of scripts that are refused, beside their faults.
 use crate::asserts::expect_same_for;
 use crate::script_tests::{MACHINE_B, edited};
-use example_parts::MACHINE_A;
 use jdwp_script::{Cause, Detail, IdKind, Path, Script};
 use jdwp_wire::Limits;
 use std::alloc::Global;
 use std::process::Abort;
 
 /// The fault of a text in words with what is known beside it, where so many threads may live at the beginning.
-fn told_with(rt: &impl Abort, alloc: Global, text: &str, live: u32) -> String {
+pub(crate) fn told_with(rt: &impl Abort, alloc: Global, text: &str, live: u32) -> String {
     let limits = Limits::new(65_536, live, 64, 64).expect(rt, "limits");
     match Script::read_with(alloc, text, &limits) {
         Ok(_) => panic!(rt; "a script that reads"),
@@ -66,42 +65,26 @@ fn missing_members_are_told_with_their_place(rt: HostRuntime) {
     lines_are_told(&rt, rt.alloc(), "fault 22: the member ", MISSING);
 }
 
-/// Ids that stand twice.
-static TWICE: [Edit; 5] = [
-    (
-        "\"id\":51,",
-        "\"id\":5,",
-        "fault 23: an id stands twice: 5 of a thread, group or object",
-    ),
-    (
-        "\"id\":11,\"tag\"",
-        "\"id\":10,\"tag\"",
-        "fault 23: an id stands twice: 10 of a class",
-    ),
-    (
-        "\"id\":41,",
-        "\"id\":40,",
-        "fault 23: an id stands twice: 40 of a field",
-    ),
-    (
-        "\"fields\":[],\"methods\":[]",
-        "\"fields\":[],\"methods\":[{\"id\":20,\"name\":\"run\",\"signature\":\"()V\",\"modifiers\":1,\"args\":0,\"last\":0,\"lines\":[],\"slots\":[]}]",
-        "fault 23: an id stands twice: 20 of a method",
-    ),
-    (
-        "[\"go\",3]",
-        "[\"call\",30,11,20,0,[]]",
-        "fault 23: an id stands twice: 30 of a frame",
-    ),
-];
+/// Ids that stand twice, the first of their lists and others, a line each: what gives way, what comes for it, and what is told.
+const TWICE: &str = "\"id\":51, => \"id\":5, => 5 of a thread, group or object
+\"id\":11,\"tag\" => \"id\":10,\"tag\" => 10 of a class
+\"id\":41, => \"id\":40, => 40 of a field
+\"fields\":[],\"methods\":[] => \"fields\":[],\"methods\":[{\"id\":20,\"name\":\"run\",\"signature\":\"()V\",\"modifiers\":1,\"args\":0,\"last\":0,\"lines\":[],\"slots\":[]}] => 20 of a method
+[\"go\",3] => [\"call\",30,11,20,0,[]] => 30 of a frame
+\"id\":51, => \"id\":6, => 6 of a thread, group or object
+\"fields\":[],\"methods\":[]} => \"fields\":[],\"methods\":[]},{\"id\":12,\"tag\":1,\"signature\":\"\",\"modifiers\":0,\"super\":0,\"interfaces\":[],\"source\":null,\"fields\":[],\"methods\":[]},{\"id\":12,\"tag\":1,\"signature\":\"\",\"modifiers\":0,\"super\":0,\"interfaces\":[],\"source\":null,\"fields\":[],\"methods\":[]} => 12 of a class
+\"fields\":[{ => \"fields\":[{\"id\":43,\"name\":\"\",\"signature\":\"\",\"modifiers\":0,\"value\":null},{\"id\":42,\"name\":\"\",\"signature\":\"\",\"modifiers\":0,\"value\":null},{\"id\":42,\"name\":\"\",\"signature\":\"\",\"modifiers\":0,\"value\":null},{ => 42 of a field
+\"methods\":[{ => \"methods\":[{\"id\":22,\"name\":\"\",\"signature\":\"\",\"modifiers\":0,\"args\":0,\"last\":0,\"lines\":[],\"slots\":[]},{\"id\":21,\"name\":\"\",\"signature\":\"\",\"modifiers\":0,\"args\":0,\"last\":0,\"lines\":[],\"slots\":[]},{\"id\":21,\"name\":\"\",\"signature\":\"\",\"modifiers\":0,\"args\":0,\"last\":0,\"lines\":[],\"slots\":[]},{ => 21 of a method
+[\"go\",3] => [\"call\",32,11,20,0,[]],[\"call\",31,11,20,0,[]],[\"call\",31,11,20,0,[]] => 31 of a frame
+\"threads\":[ => \"modules\":[{\"id\":7,\"name\":\"\"},{\"id\":8,\"name\":\"\"},{\"id\":8,\"name\":\"\"}],\"threads\":[ => 8 of a module";
 
 #[test]
 fn ids_that_stand_twice_are_told(rt: HostRuntime) {
-    are_told(&rt, rt.alloc(), MACHINE_B, &TWICE);
+    lines_are_told(&rt, rt.alloc(), "fault 23: an id stands twice: ", TWICE);
 }
 
 /// Widths, ids that do not fit them, and where.
-static WIDE: [(&str, Edit); 7] = [
+static WIDE: [(&str, Edit); 11] = [
     (
         "[8,0,8,9,8]",
         (
@@ -148,6 +131,38 @@ static WIDE: [(&str, Edit); 7] = [
             "[41,[\"L\",51]]",
             "[41,[\"L\",256]]",
             "fault 24: an id is too wide, in objects[0].fields[1]",
+        ),
+    ),
+    (
+        "[8,8,1,8,8]",
+        (
+            "\"id\":51,",
+            "\"id\":256,",
+            "fault 24: an id is too wide, in objects[1]",
+        ),
+    ),
+    (
+        "[8,8,1,8,8]",
+        (
+            "\"id\":2,\"name\":\"work\"",
+            "\"id\":256,\"name\":\"work\"",
+            "fault 24: an id is too wide, in threads[1]",
+        ),
+    ),
+    (
+        "[8,8,8,1,8]",
+        (
+            "\"interfaces\":[10]",
+            "\"interfaces\":[10,256]",
+            "fault 24: an id is too wide, in classes[1].interfaces[1]",
+        ),
+    ),
+    (
+        "[8,8,8,1,8]",
+        (
+            "\"id\":11,\"tag\"",
+            "\"id\":256,\"tag\"",
+            "fault 24: an id is too wide, in classes[1]",
         ),
     ),
     (
@@ -204,7 +219,19 @@ const BAD: &str = "\"id\":6, => \"id\":0, => the group has id 0, in groups[1]
 [\"prepare\",11] => [\"prepare\",12] => no class 12 is known here, in threads[0].steps[0]
 [\"prepare\",11] => [\"prepare\",11],[\"prepare\",11] => the class 11 begins a second time
 [\"start\",2] => [\"start\",2],[\"start\",2] => the thread 2 begins a second time
-[\"start\",2] => [\"start\",2],[\"start\",1] => no thread lives at the beginning";
+[\"start\",2] => [\"start\",2],[\"start\",1] => no thread lives at the beginning
+[[0,[\"L\",50]]] => [[0,[\"L\",50]],[3,[\"I\",1]],[5,[\"I\",1]],[3,[\"I\",2]]] => the slot 3 stands twice, in threads[0].steps[2]
+[[0,[\"L\",50]]] => [[0,[\"L\",50]],[7,[\"I\",1]],[7,[\"I\",1]]] => the slot 7 stands twice, in threads[0].steps[2]
+[[0,[\"L\",50]]] => [[0,[\"L\",50]],[1,[\"L\",99]]] => no thread, group or object 99 is known here, in threads[0].steps[2]
+[41,[\"L\",51]] => [41,[\"L\",51]],[41,[\"L\",0]] => 41 of a field, in objects[0]
+[41,[\"L\",51]] => [42,[\"L\",51]] => no field 42 is known here, in objects[0].fields[1]
+\"interfaces\":[10] => \"interfaces\":[10,9] => no class 9 is known here, in classes[1]
+[\"L\",[50,0]] => [\"B\",[1,256]] => bits 256 past the width of their tag, in objects[1]
+\"modifiers\":0,\"value\":null => \"modifiers\":0,\"value\":[\"L\",99] => no thread, group or object 99 is known here, in classes[1].fields[1]
+\"id\":41, => \"id\":0, => the field has id 0, in classes[1].fields[1]
+\"group\":6,\"steps\":[] => \"group\":6,\"steps\":[[\"go\",0]] => a step without a frame, in threads[1].steps[0]
+[\"prepare\",11] => [\"prepare\",10],[\"prepare\",11],[\"prepare\",11] => the class 11 begins a second time
+[\"start\",2] => [\"start\",1],[\"start\",2],[\"start\",2] => the thread 2 begins a second time";
 
 /// The row says what gives way in machine B, what comes for it and what is told behind `front`, and
 /// that is told.
@@ -226,98 +253,6 @@ fn lines_are_told(rt: &impl Abort, alloc: Global, front: &str, lines: &str) {
 #[test]
 fn bad_references_are_told_with_their_place(rt: HostRuntime) {
     lines_are_told(&rt, rt.alloc(), "fault 25: a bad reference: ", BAD);
-}
-
-/// Machine B with so many times `more` in place of `old`, between `front` and `back`, is told so.
-fn is_told_of(
-    rt: &impl Abort,
-    alloc: Global,
-    old: &str,
-    parts: (&str, &str, usize, &str),
-    words: &str,
-) {
-    let (front, more, count, back) = parts;
-    let more = more.repeat(alloc, count).expect(rt, "memory");
-    let new = format!(in alloc; "{front}{more}{back}").expect(rt, "memory");
-    let script = edited(rt, alloc, MACHINE_B, old, new.as_str());
-    let told = format!(in alloc; "fault 26: a limit is passed: {words}").expect(rt, "memory");
-    is_told(rt, alloc, script.as_str(), told.as_str());
-}
-
-#[test]
-fn limits_of_texts_are_told(rt: HostRuntime) {
-    let alloc = rt.alloc();
-    let long = "a text of more than 512 bytes";
-    is_told_of(&rt, alloc, "\"B\"", ("\"", "x", 513, "\""), long);
-    let long = "a text of more than 512 bytes, in groups[1]";
-    is_told_of(&rt, alloc, "\"pool\"", ("\"", "x", 513, "\""), long);
-    let long = "a text of more than 512 bytes, in classes[0]";
-    is_told_of(&rt, alloc, "\"LJob;\"", ("\"", "x", 513, "\""), long);
-    let long = "a text of more than 512 bytes, in classes[1].fields[0]";
-    is_told_of(&rt, alloc, "\"count\"", ("\"", "x", 513, "\""), long);
-    let long = "a text of more than 512 bytes, in classes[1].methods[0]";
-    is_told_of(&rt, alloc, "\"run\"", ("\"", "x", 513, "\""), long);
-    let long = "a text of more than 512 bytes, in classes[1].methods[0].slots[0]";
-    is_told_of(&rt, alloc, "\"this\"", ("\"", "x", 513, "\""), long);
-    let long = "a text of more than 65000 bytes, in objects[1]";
-    is_told_of(&rt, alloc, "\"hello\"", ("\"", "x", 65_001, "\""), long);
-    let long = "a text of more than 512 bytes, in threads[1]";
-    is_told_of(&rt, alloc, "\"work\"", ("\"", "x", 513, "\""), long);
-}
-
-#[test]
-fn limits_of_lists_are_told(rt: HostRuntime) {
-    let alloc = rt.alloc();
-    let group = "{\"id\":7,\"name\":\"\",\"parent\":0},";
-    let many = "more than 1024 entries of groups";
-    is_told_of(
-        &rt,
-        alloc,
-        "\"groups\":[",
-        ("\"groups\":[", group, 1_024, ""),
-        many,
-    );
-    let many = "more than 256 entries of interfaces, in classes[1]";
-    is_told_of(&rt, alloc, "[10]", ("[", "10,", 256, "10]"), many);
-    let many = "more than 256 entries of lines, in classes[1].methods[0]";
-    is_told_of(&rt, alloc, "[[0,1],", ("[", "[0,1],", 256, ""), many);
-    let many = "more than 256 entries of fields, in objects[0]";
-    let field = "[40,[\"I\",1]],";
-    is_told_of(&rt, alloc, "[[40,", ("[", field, 255, "[40,"), many);
-    let many = "more than 4096 entries of array, in objects[1]";
-    is_told_of(&rt, alloc, "[50,0]", ("[", "50,", 4_096, "0]"), many);
-    limits_of_steps_are_told(&rt, alloc);
-}
-
-/// The limits of the steps of a thread, of the slots of a step and of frames are told.
-fn limits_of_steps_are_told(rt: &impl Abort, alloc: Global) {
-    let many = "more than 65536 entries of steps, in threads[0]";
-    is_told_of(
-        rt,
-        alloc,
-        "[\"go\",3]",
-        ("", "[\"go\",3],", 65_536, "[\"go\",3]"),
-        many,
-    );
-    let many = "more than 256 entries of slots, in threads[0].steps[2]";
-    let slot = "[0,[\"L\",50]],";
-    is_told_of(
-        rt,
-        alloc,
-        "[[0,[\"L\",50]]]",
-        ("[", slot, 256, "[0,[\"L\",50]]]"),
-        many,
-    );
-    let deep = "more than 256 frames at once, in threads[0]";
-    let call = "[\"call\",30,11,20,50,[]],";
-    is_told_of(rt, alloc, "[\"go\",3]", ("", call, 256, "[\"go\",3]"), deep);
-}
-
-#[test]
-fn too_many_threads_at_the_beginning_are_told(rt: HostRuntime) {
-    let told = told_with(&rt, rt.alloc(), MACHINE_A, 1);
-    let words = "fault 26: a limit is passed: more than 1 threads at the beginning";
-    expect_same_for(&rt, &told.as_str(), &words, &words);
 }
 
 /// Of a fault of which nothing is known, nothing is told.

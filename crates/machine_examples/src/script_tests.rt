@@ -130,6 +130,7 @@ const BAD_REFERENCES: &str = "\"id\":6, => \"id\":0,
 [[0,[\"L\",50]]] => [[0,[\"L\",99]]]
 [\"go\",3] => [\"go\",10]
 [\"prepare\",11] => [\"go\",0]
+[\"prepare\",11] => [\"return\",[\"V\",0]],[\"return\",[\"V\",0]],[\"prepare\",11]
 [\"prepare\",11] => [\"return\",[\"V\",0]]
 [\"prepare\",11] => [\"throw\",50,null]
 [\"throw\",51 => [\"throw\",5

@@ -17,6 +17,8 @@ mod falling;
 #[cfg(test)]
 mod limit_tests;
 #[cfg(test)]
+mod many_tests;
+#[cfg(test)]
 mod module_tests;
 #[cfg(test)]
 mod release_tests;
