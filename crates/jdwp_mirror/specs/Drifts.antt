@@ -1,5 +1,5 @@
 -- Moves of all suspend counts: what they make of a count, one by one and in a row.
-use Rattle.std.specs.Prelude.{◌≡◌, ℕ, ◌^◌, zero, suc, ◌+◌, ◌-◌, ◌≤◌, ◌<◌, nat_le, nat_lt, min, Bool, true, false, ◌&&◌, List, [], ◌∷◌, ◌++◌, map, length, get_or, Option, Some, None, if◌then◌else◌}
+use Rattle.std.specs.Prelude.{◌≡◌, ℕ, zero, suc, ◌+◌, ◌-◌, ◌≤◌, ◌<◌, nat_le, nat_lt, min, ◌&&◌, List, map, length, get_or, Option, Some, None, if◌then◌else◌}
 use Rattle.jdwp_mirror.specs.declared.drift.Standing.{Standing}
 use Rattle.jdwp_mirror.specs.declared.drift.Drift.{Drift}
 use Rattle.jdwp_mirror.specs.declared.drift.Rise.{Rise}
