@@ -1,6 +1,7 @@
 pub mod KnownLemmas
 pub mod OrderLemmas
 pub mod NumberingLemmas
+pub mod Drifting
 pub mod SeenLemmas
 pub mod AlikeLemmas
 pub mod KeepingLemmas

@@ -3,6 +3,7 @@ pub mod Mirror
 pub mod Faults
 pub mod Laws
 pub mod KnownThreads
+pub mod Drifts
 pub mod Numbering
 pub mod CommandKinds
 pub mod Commands

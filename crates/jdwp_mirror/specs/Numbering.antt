@@ -1,57 +1,55 @@
 -- How the threads that a mirror knows are kept and found by their ids: each stands in a map under the number with which it became
--- known, these numbers rise, and a second map has the number of each id. Each is kept as it was when it was last written: how many
--- times all counts were raised is counted, and what a thread is now follows from that.
-use Rattle.std.specs.Prelude.{◌≡◌, ℕ, ◌==◌, ◌≤◌, ◌+◌, ◌-◌, min, Bool, true, false, ◌&&◌, not, List, [], ◌∷◌, map, Option, Some, None, if◌then◌else◌}
+-- known, these numbers rise, and a second map has the number of each id. Each is kept as it was when it was last written, after so many
+-- moves of all counts: what it is now follows from the moves since.
+use Rattle.std.specs.Prelude.{◌≡◌, ℕ, ◌==◌, ◌≤◌, List, [], ◌∷◌, ◌++◌, length, map, Option, Some, None, if◌then◌else◌}
 use Rattle.std.specs.Ordering.{nat_cmp}
 use Rattle.std.specs.BTreeMap.{BTreeMap, get}
 use Rattle.std.specs.List.Sorted.{IsStrictlySortedBy}
 use Rattle.std.specs.Map.{keys_of, values_of}
+use Rattle.std.specs.Option.{option_map}
 use Rattle.jdwp_value.specs.declared.id.ObjectId.{ObjectId}
+use Rattle.jdwp_mirror.specs.declared.drift.Drift.{Drift}
+use Rattle.jdwp_mirror.specs.declared.drift.Standing.{Standing}
 use Rattle.jdwp_mirror.specs.declared.met.Met.{Met}
 use Rattle.jdwp_mirror.specs.declared.threads.Change.{Change}
-use Rattle.jdwp_mirror.specs.declared.threads.Change.TheVariants.{Keep, Raise}
+use Rattle.jdwp_mirror.specs.declared.threads.Change.TheVariants.{Keep, Raise, Lower, Set}
 use Rattle.jdwp_mirror.specs.declared.threads.Known.{Known}
 use Rattle.jdwp_mirror.specs.declared.threads.Lesson.{Lesson}
-use Rattle.jdwp_mirror.specs.KnownThreads.{AreSound}
-use Rattle.jdwp_mirror.specs.Mirror.{COUNT_MOST}
+use Rattle.jdwp_mirror.specs.Drifts.{after, lowered, raised}
+use Rattle.jdwp_mirror.specs.KnownThreads.{AreSound, taught_by}
 
--- ---- threads that were raised since they were written
+-- ---- threads that moved since they were written
 
--- what a count becomes that is raised so often
-abbrev pub lifted : ℕ → ℕ → ℕ
-lifted times n = if times == 0 then n else min (n + times) COUNT_MOST
+abbrev pub standing_of : Known → Standing
+standing_of k = record { count = k.count; held = k.held }
 
--- a thread as it is, where all counts were raised so often by now
-abbrev pub seen : ℕ → Met → Known
-seen raises met = record { id = met.known.id; count = lifted (raises - met.raises) met.known.count; held = met.known.held }
+abbrev pub with_standing : Known → Standing → Known
+with_standing k s = record { id = k.id; count = s.count; held = s.held }
 
-abbrev pub entries_seen : ℕ → List (ℕ × Met) → List (ℕ × Known)
-entries_seen raises entries = map (λ (e : ℕ × Met). (e.0, seen raises e.1)) entries
+-- a thread as it is, where these moves of all counts were made by now
+abbrev pub seen : List Drift → Met → Known
+seen moves m = with_standing m.known (after moves m.time (length moves) (standing_of m.known))
 
--- a thread that is written where the raises are counted anew
+abbrev pub entries_seen : List Drift → List (ℕ × Met) → List (ℕ × Known)
+entries_seen moves entries = map (λ (e : ℕ × Met). (e.0, seen moves e.1)) entries
+
+-- a thread that is written where the moves are counted anew
 abbrev pub anew : Known → Met
-anew known = record { known = known; raises = 0 }
+anew known = record { known = known; time = 0 }
 
--- none was written after so many raises
+-- none was written after more moves than these
 abbrev pub AreBefore : ℕ → List (ℕ × Met) → Type 0
-AreBefore raises [] = Unit {0}
-AreBefore raises (e ∷ es) = (e.1.raises ≤ raises) × AreBefore raises es
+AreBefore moves [] = Unit {0}
+AreBefore moves (e ∷ es) = (e.1.time ≤ moves) × AreBefore moves es
 
 -- ---- what is changed without a walk over all
 
--- whether a lesson changes the others in a way that takes no walk over them
-abbrev pub is_kept_or_raised : Change → Bool
-is_kept_or_raised Keep = true
-is_kept_or_raised Raise = true
-is_kept_or_raised change = false
-
-abbrev pub moves_alike : Lesson → Bool
-moves_alike l = is_kept_or_raised l.others && not l.shows_all
-
--- how many times all counts are raised after such a change of the others
-abbrev pub raised_by : Change → ℕ → ℕ
-raised_by Raise raises = raises + 1
-raised_by change raises = raises
+-- a change of the others is one of the moves
+abbrev pub HasNoted : Change → List Drift → List Drift → Type 0
+HasNoted Keep old new = new ≡ old
+HasNoted Raise old new = new ≡ old ++ raised ∷ []
+HasNoted Lower old new = new ≡ old ++ lowered ∷ []
+HasNoted (Set n) old new = ⊥
 
 -- ---- threads under their numbers
 
@@ -70,12 +68,17 @@ abbrev pub own_number_in : BTreeMap ℕ ℕ → Option ObjectId → Option ℕ
 own_number_in numbers None = None
 own_number_in numbers (Some t) = get nat_cmp numbers t.0
 
+-- the thread under a number as a lesson leaves it, with the number
+abbrev pub taught_at : List Drift → BTreeMap ℕ Met → Lesson → Option ℕ → Option (ℕ × Known)
+taught_at moves entries l None = None
+taught_at moves entries l (Some n) = option_map (λ (m : Met). (n, taught_by l (seen moves m))) (get nat_cmp entries n)
+
 pub record AreNumbered (threads : List (ℕ × Known)) (numbers : BTreeMap ℕ ℕ) : Type 0 where
   pub ordered : IsStrictlySortedBy nat_cmp (keys_of threads)
   pub found : (t : ℕ) → get nat_cmp numbers t ≡ number_in threads t
 
 -- what holds of threads as they are kept
-pub record AreKept (raises : ℕ) (entries : List (ℕ × Met)) (numbers : BTreeMap ℕ ℕ) : Type 0 where
-  pub sound : AreSound (values_of (entries_seen raises entries))
-  pub numbered : AreNumbered (entries_seen raises entries) numbers
-  pub before : AreBefore raises entries
+pub record AreKept (moves : List Drift) (entries : List (ℕ × Met)) (numbers : BTreeMap ℕ ℕ) : Type 0 where
+  pub sound : AreSound (values_of (entries_seen moves entries))
+  pub numbered : AreNumbered (entries_seen moves entries) numbers
+  pub before : AreBefore (length moves) entries

@@ -154,7 +154,7 @@ impl Command {
     }
 
     /// The thread that a command of ThreadReference or StackFrame is about; None for any other command.
-    pub(crate) fn thread(&self) -> Option<ObjectId>
+    pub fn thread(&self) -> Option<ObjectId>
         ensures { result ≡ id_found (thread_of self.now) }
     {
         if self.set == THREAD_REFERENCE || self.set == STACK_FRAME {

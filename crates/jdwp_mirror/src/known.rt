@@ -8,6 +8,7 @@ ghost use Rattle.jdwp_mirror.specs.declared.threads.Known.{Known};
 ghost use Rattle.jdwp_mirror.specs.Numbering.{seen};
 
 use crate::met::Met;
+use crate::moves::Moves;
 use crate::threads::Known;
 use std::alloc::Global;
 use std::collections::BTreeMap;
@@ -18,8 +19,8 @@ use std::marker::Model;
 #[derive(Drop)]
 pub struct KnownThreads<'a> {
     rest: Values<'a, u64, Met>,
-    /// How many times all counts were raised.
-    raises: u64,
+    /// The moves of all counts.
+    moves: &'a Moves,
 }
 
 impl<'a> Model for KnownThreads<'a> {
@@ -29,7 +30,7 @@ impl<'a> Model for KnownThreads<'a> {
 
     ghost Value = { List Known };
 
-    ghost view = { λ k. map (seen k.raises) k.rest };
+    ghost view = { λ k. map (seen k.moves.now) k.rest };
 }
 
 impl<'a> Iterator for KnownThreads<'a> {
@@ -41,7 +42,7 @@ impl<'a> Iterator for KnownThreads<'a> {
 
     fn next(&mut self) -> Option<Known> {
         match self.rest.next() {
-            Some(met) => Some(met.seen(self.raises)),
+            Some(met) => Some(met.seen(self.moves)),
             None => None,
         }
     }
@@ -64,14 +65,15 @@ impl<'a> ExactSizeIterator for KnownThreads<'a> {
 }
 
 impl<'a> KnownThreads<'a> {
-    /// Those that stand in a map under the numbers with which they became known, where all counts were raised so often.
-    pub(crate) fn of(entries: &'a BTreeMap<u64, Met>, raises: u64) -> KnownThreads<'a>
-        ensures all { result ≡ map (seen raises) (values entries.now) }
+    /// Those that stand in a map under the numbers with which they became known, where these moves of all counts were
+    /// made.
+    pub(crate) fn of(entries: &'a BTreeMap<u64, Met>, moves: &'a Moves) -> KnownThreads<'a>
+        ensures all { result ≡ map (seen moves.now) (values entries.now) }
         ensures runs { GivesInOrder Known }
     {
         KnownThreads {
             rest: entries.values(),
-            raises,
+            moves,
         }
     }
 }

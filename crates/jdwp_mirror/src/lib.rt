@@ -4,11 +4,13 @@
 
 mod command;
 mod composite;
+mod drift;
 mod judging;
 mod known;
 mod laws;
 mod met;
 mod mirror;
+mod moves;
 mod reply;
 mod requests;
 mod threads;

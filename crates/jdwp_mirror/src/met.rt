@@ -1,24 +1,26 @@
-//! Known threads as they are kept, where all counts may have been raised since.
+//! Known threads as they are kept, where all counts may have moved since.
 ghost use Rattle.std.specs.Prelude.{◌≡◌};
 ghost use Rattle.jdwp_mirror.specs.Numbering as spec;
 
-use crate::threads::{COUNT_MOST, Known};
+use crate::drift::Standing;
+use crate::moves::Moves;
+use crate::threads::Known;
 use jdwp_value::ObjectId;
 
 /// A thread as it was when it was last written.
 #[derive(Clone, Copy)]
 pub(crate) struct Met {
     known: Known,
-    /// How many times all counts had been raised by then.
-    raises: u64,
+    /// How many moves of all counts had been made by then.
+    time: usize,
 }
 
 impl Met {
-    /// A thread that is written, where all counts were raised so often.
-    pub fn of(known: Known, raises: u64) -> Met
-        ensures { result ≡ record { known = known; raises = raises } }
+    /// A thread that is written after so many moves of all counts.
+    pub fn of(known: Known, time: usize) -> Met
+        ensures { result ≡ record { known = known; time = time } }
     {
-        Met { known, raises }
+        Met { known, time }
     }
 
     pub fn id(self) -> ObjectId
@@ -27,29 +29,19 @@ impl Met {
         self.known.id
     }
 
-    /// The thread as it is, where all counts were raised so often by now.
-    pub fn seen(self, raises: u64) -> Known
-        ensures { result ≡ spec.seen raises self }
+    /// The thread as it is, where these moves of all counts were made.
+    pub fn seen(self, moves: &Moves) -> Known
+        ensures { result ≡ spec.seen moves.now self }
     {
+        let written = Standing {
+            count: self.known.count,
+            held: self.known.held,
+        };
+        let now = moves.after(self.time, written);
         Known {
             id: self.known.id,
-            count: lifted(raises.saturating_sub(self.raises), self.known.count),
-            held: self.known.held,
+            count: now.count,
+            held: now.held,
         }
-    }
-}
-
-/// What a count becomes that is raised so often.
-fn lifted(times: u64, count: u32) -> u32
-    ensures { result ≡ spec.lifted times count }
-{
-    if times == 0 {
-        return count;
-    }
-    let room = COUNT_MOST.saturating_sub(count);
-    if times < room as u64 {
-        count + times as u32
-    } else {
-        COUNT_MOST
     }
 }

@@ -11,23 +11,22 @@ ghost use Rattle.jdwp_mirror.specs.declared.threads.Known.{Known};
 ghost use Rattle.jdwp_mirror.specs.CommandKinds.{lesson_of, lesson_of_event, own_change, others_change, ready_for, with_counted};
 ghost use Rattle.jdwp_mirror.specs.KnownThreads.{AreSound, all_taught, change_of, count_in, is_held_in, is_of_id, only, taught_by, with_thread, without};
 ghost use Rattle.jdwp_mirror.specs.Mirror.{counted, lists};
-ghost use Rattle.jdwp_mirror.specs.Numbering.{anew, known_in, moves_alike, own_number_in, raised_by, seen};
+ghost use Rattle.jdwp_mirror.specs.Numbering as spec;
+ghost use Rattle.jdwp_mirror.specs.Numbering.{anew, known_in, own_number_in, seen};
 
 use crate::command::CommandKind;
+use crate::drift::COUNT_MOST;
 use crate::known::KnownThreads;
 use crate::met::Met;
+use crate::moves::Moves;
 use crate::reply::{count_in_reply, listed_in};
 use jdwp_event::Policy;
 use jdwp_layout::Data;
 use jdwp_value::ObjectId;
 use jdwp_wire::NoMemory;
-use jdwp_wire::number::GREATEST_INT;
 use std::alloc::Global;
 use std::collections::{BTreeMap, BTreeSet};
 use std::marker::Model;
-
-/// Where a count stops.
-pub(crate) const COUNT_MOST: u32 = GREATEST_INT;
 
 /// A thread that a debugger knows.
 #[derive(Clone, Copy, Debug, PartialEq, Eq)]
@@ -158,30 +157,19 @@ impl Lesson {
             held: count != 0 && (self.shows_all || is_own || known.held),
         }
     }
-
-    /// How many times all counts are raised once this is learned, or None where that takes a walk over all threads.
-    fn raises_after(self, raises: u64) -> Option<u64>
-        ensures alike { IfSome result (λ _. moves_alike self ≡ true) }
-        ensures next { IfSome result (λ next. next ≡ raised_by self.others raises) }
-    {
-        match (self.others, self.shows_all) {
-            (Change::Keep, false) => Some(raises),
-            (Change::Raise, false) => raises.checked_add(1),
-            _ => None,
-        }
-    }
 }
 
-/// Known threads in the order in which they became known, each once, and found by their ids. To raise all counts takes no walk over
-/// them: how often that was done is counted, and each thread is kept as it was when it was last written.
+/// Known threads in the order in which they became known, each once, and found by their ids. To raise or lower all counts takes no walk
+/// over them: these moves are noted, and each thread is kept as it was when it was last written. Where more moves than threads are noted, the
+/// next takes a walk, which writes all threads and forgets the moves; so it costs no more than the moves before it did.
 #[derive(Drop)]
 pub(crate) struct Threads {
     /// Under the number with which each became known: these rise, so that the map has them in that order.
     entries: BTreeMap<u64, Met>,
     /// The number of each by its id.
     numbers: BTreeMap<u64, u64>,
-    /// How many times all counts were raised.
-    raises: u64,
+    /// How all counts moved, since the first of the threads was written.
+    moves: Moves,
 }
 
 impl Model for Threads {
@@ -192,9 +180,9 @@ impl Model for Threads {
 
     ghost Value = { List Known };
 
-    ghost view = { λ t. values_of (entries_seen t.raises t.entries.entries) };
+    ghost view = { λ t. values_of (entries_seen t.moves t.entries.entries) };
 
-    ghost invariant = { λ t. AreKept t.raises t.entries.entries t.numbers };
+    ghost invariant = { λ t. AreKept t.moves t.entries.entries t.numbers };
 }
 
 impl Threads {
@@ -205,7 +193,7 @@ impl Threads {
         Threads {
             entries: BTreeMap::new(alloc),
             numbers: BTreeMap::new(alloc),
-            raises: 0,
+            moves: Moves::new(alloc),
         }
     }
 
@@ -215,7 +203,7 @@ impl Threads {
         ensures runs { GivesInOrder Known }
         ensures sound { AreSound self.now }
     {
-        KnownThreads::of(&self.entries, self.raises)
+        KnownThreads::of(&self.entries, &self.moves)
     }
 
     /// The count of a thread, or None where it is not known.
@@ -243,7 +231,7 @@ impl Threads {
         ensures { result ≡ known_in self.now id.0 }
     {
         match self.numbers.get(&id.0) {
-            Some(number) => seen_at(&self.entries, *number, self.raises),
+            Some(number) => seen_at(&self.entries, *number, &self.moves),
             None => None,
         }
     }
@@ -278,7 +266,7 @@ impl Threads {
         ensures err { OnErr result (self.new ≡ self.old) }
     {
         let number = next_number(&self.entries)?;
-        let met = Met::of(known, self.raises);
+        let met = Met::of(known, self.moves.len());
         self.numbers.insert(known.id.0, number)?;
         match self.entries.insert(number, met) {
             Ok(_) => Ok(()),
@@ -290,7 +278,8 @@ impl Threads {
         }
     }
 
-    /// Changes counts, and holds what is shown alive. It goes over all threads only where it lowers the counts of others or shows all alive.
+    /// Changes counts, and holds what is shown alive. It goes over all threads only where it shows all alive, or where there is no room to
+    /// note one more move.
     pub fn learn(&mut self, lesson: Lesson)
         ensures { self.new ≡ all_taught lesson self.old }
     {
@@ -304,15 +293,19 @@ impl Threads {
         ensures done { OnTrue result (self.new ≡ all_taught lesson self.old) }
         ensures other { OnFalse result (self.new ≡ self.old) }
     {
-        let Some(raises) = lesson.raises_after(self.raises) else {
+        if lesson.shows_all || self.moves.len() > self.entries.len() {
             return false;
-        };
-        if let Some(number) = own_number(&self.numbers, lesson.thread) {
+        }
+        let number = own_number(&self.numbers, lesson.thread);
+        let own = taught_at(&self.entries, number, &self.moves, lesson);
+        if !self.moves.note(lesson.others) {
+            return false;
+        }
+        if let Some((number, taught)) = own {
             if let Some(met) = self.entries.get_mut(&number) {
-                *met = Met::of(lesson.teach(met.seen(self.raises)), raises);
+                *met = Met::of(taught, self.moves.len());
             }
         }
-        self.raises = raises;
         true
     }
 
@@ -320,8 +313,8 @@ impl Threads {
     fn teach_all(&mut self, lesson: Lesson)
         ensures { self.new ≡ all_taught lesson self.old }
     {
-        teach_entries(&mut self.entries, lesson, self.raises);
-        self.raises = 0;
+        teach_entries(&mut self.entries, lesson, &self.moves);
+        self.moves.clear();
     }
 
     /// What holds of all threads that are known. It does nothing.
@@ -398,7 +391,7 @@ impl Threads {
     {
         self.entries.clear();
         self.numbers.clear();
-        self.raises = 0;
+        self.moves.clear();
     }
 }
 
@@ -429,31 +422,47 @@ fn own_number(numbers: &BTreeMap<u64, u64>, thread: Option<ObjectId>) -> Option<
     }
 }
 
-/// The thread under a number, as it is where all counts were raised so often.
-fn seen_at(entries: &BTreeMap<u64, Met>, number: u64, raises: u64) -> Option<Known>
-    ensures { result ≡ option_map (seen raises) (get nat_cmp entries.now number) }
+/// The thread under a number, as it is where these moves of all counts were made.
+fn seen_at(entries: &BTreeMap<u64, Met>, number: u64, moves: &Moves) -> Option<Known>
+    ensures { result ≡ option_map (seen moves.now) (get nat_cmp entries.now number) }
 {
     match entries.get(&number) {
-        Some(met) => Some(met.seen(raises)),
+        Some(met) => Some(met.seen(moves)),
+        None => None,
+    }
+}
+
+/// The thread under a number as a lesson leaves it, with the number.
+fn taught_at(
+    entries: &BTreeMap<u64, Met>,
+    number: Option<u64>,
+    moves: &Moves,
+    lesson: Lesson,
+) -> Option<(u64, Known)>
+    ensures { result ≡ spec.taught_at moves.now entries.now lesson number }
+{
+    let number = number?;
+    match entries.get(&number) {
+        Some(met) => Some((number, lesson.teach(met.seen(moves)))),
         None => None,
     }
 }
 
 /// Writes all threads anew, each as a lesson leaves it.
-fn teach_entries(entries: &mut BTreeMap<u64, Met>, lesson: Lesson, raises: u64)
+fn teach_entries(entries: &mut BTreeMap<u64, Met>, lesson: Lesson, moves: &Moves)
     ensures entries { entries.new.entries ≡ map (λ e.
-        (e.0, anew (taught_by lesson (seen raises e.1)))) entries.old.entries }
+        (e.0, anew (taught_by lesson (seen moves.now e.1)))) entries.old.entries }
     ensures ordered { IsOrdered nat_cmp entries.new }
 {
     // All are retained: this says of each what it becomes.
     entries.retain(|_, met| {
-        *met = taught_anew(*met, lesson, raises);
+        *met = taught_anew(*met, lesson, moves);
         true
     });
 }
 
-fn taught_anew(met: Met, lesson: Lesson, raises: u64) -> Met
-    ensures { result ≡ anew (taught_by lesson (seen raises met)) }
+fn taught_anew(met: Met, lesson: Lesson, moves: &Moves) -> Met
+    ensures { result ≡ anew (taught_by lesson (seen moves.now met)) }
 {
-    Met::of(lesson.teach(met.seen(raises)), 0)
+    Met::of(lesson.teach(met.seen(moves)), 0)
 }

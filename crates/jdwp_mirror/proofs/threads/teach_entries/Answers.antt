@@ -5,4 +5,4 @@ use Rattle.jdwp_mirror.specs.Numbering.{anew, seen}
 use Rattle.jdwp_mirror.proofs.threads.teach_entries.Goals as goal
 
 pub returns-clause-entries : goal.returns-clause-entries
-returns-clause-entries c = map_same_pairs _ (λ m. anew (taught_by c.args.lesson (seen c.args.raises m))) _ (λ k v b w f' t. search rules) _ _ c.retain.ensures.filtered
+returns-clause-entries c = map_same_pairs _ (λ m. anew (taught_by c.args.lesson (seen c.args.moves.now m))) _ (λ k v b w f' t. search rules) _ _ c.retain.ensures.filtered

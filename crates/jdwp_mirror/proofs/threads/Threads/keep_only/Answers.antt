@@ -13,7 +13,7 @@ invariant_of-self c =
     let test = contains nat_cmp c.args.ids.now in
     let entries : c.retain.new.self.entries ≡ only_kept test i.entries.entries = filter_same_pairs _ (λ x. test x.1.known.id.0) _ (λ k v b w f' t. search rules) _ _ c.retain.ensures.filtered in
     let numbers = filter_same_pairs _ (λ x. test x.0) _ (λ k v b w f' t. search rules) _ _ c.retain-2.ensures.filtered in
-    let all = only-kept test i.raises i.entries.entries c.retain.new.self.entries i.numbers c.retain-2.new.self c.self.invariant entries c.retain.ensures.ordered numbers in
+    let all = only-kept test i.moves i.entries.entries c.retain.new.self.entries i.numbers c.retain-2.new.self c.self.invariant entries c.retain.ensures.ordered numbers in
     all.0
 
 pub returns : goal.returns
@@ -22,5 +22,5 @@ returns c =
     let test = contains nat_cmp c.args.ids.now in
     let entries : c.retain.new.self.entries ≡ only_kept test i.entries.entries = filter_same_pairs _ (λ x. test x.1.known.id.0) _ (λ k v b w f' t. search rules) _ _ c.retain.ensures.filtered in
     let numbers = filter_same_pairs _ (λ x. test x.0) _ (λ k v b w f' t. search rules) _ _ c.retain-2.ensures.filtered in
-    let all = only-kept test i.raises i.entries.entries c.retain.new.self.entries i.numbers c.retain-2.new.self c.self.invariant entries c.retain.ensures.ordered numbers in
+    let all = only-kept test i.moves i.entries.entries c.retain.new.self.entries i.numbers c.retain-2.new.self c.self.invariant entries c.retain.ensures.ordered numbers in
     all.1 ∙ ap (only test) c.self.view_is

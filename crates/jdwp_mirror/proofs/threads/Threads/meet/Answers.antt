@@ -9,21 +9,21 @@ pub returns-then-contains_key-clause-ok : goal.returns-then-contains_key-clause-
 returns-then-contains_key-clause-ok c =
     let i = c.self.inside in
     let ks = c.args.self.now in
-    let counts = numbered-count (entries_seen i.raises i.entries.entries) i.numbers ks c.args.id.0 c.self.invariant.numbered c.self.view_is in
+    let counts = numbered-count (entries_seen i.moves i.entries.entries) i.numbers ks c.args.id.0 c.self.invariant.numbered c.self.view_is in
     sym (ap (λ (known : Bool). if known then ks else ks ++ unseen_thread c.args.id ∷ []) (counts ∙ (sym c.contains_key.ensures ∙ c.if-contains_key.true)))
 
 pub add-requires-clause-unknown : goal.add-requires-clause-unknown
 add-requires-clause-unknown c =
     let i = c.self.inside in
     let ks = c.args.self.now in
-    let counts = numbered-count (entries_seen i.raises i.entries.entries) i.numbers ks c.args.id.0 c.self.invariant.numbered c.self.view_is in
+    let counts = numbered-count (entries_seen i.moves i.entries.entries) i.numbers ks c.args.id.0 c.self.invariant.numbered c.self.view_is in
     none-from (count_in ks c.args.id.0) (counts ∙ (sym c.contains_key.ensures ∙ c.if-contains_key.false))
 
 pub returns-clause-ok : goal.returns-clause-ok
 returns-clause-ok c =
     let i = c.self.inside in
     let ks = c.args.self.now in
-    let counts = numbered-count (entries_seen i.raises i.entries.entries) i.numbers ks c.args.id.0 c.self.invariant.numbered c.self.view_is in
+    let counts = numbered-count (entries_seen i.moves i.entries.entries) i.numbers ks c.args.id.0 c.self.invariant.numbered c.self.view_is in
     let new = ap (λ (known : Bool). if known then ks else ks ++ unseen_thread c.args.id ∷ []) (counts ∙ (sym c.contains_key.ensures ∙ c.if-contains_key.false)) in
     subst (λ (xs : List Known). OnOk c.add.result (c.add.new.self ≡ xs)) (sym new) c.add.ensures.ok
 
@@ -31,6 +31,6 @@ pub returns-clause-memory : goal.returns-clause-memory
 returns-clause-memory c =
     let i = c.self.inside in
     let ks = c.args.self.now in
-    let counts = numbered-count (entries_seen i.raises i.entries.entries) i.numbers ks c.args.id.0 c.self.invariant.numbered c.self.view_is in
+    let counts = numbered-count (entries_seen i.moves i.entries.entries) i.numbers ks c.args.id.0 c.self.invariant.numbered c.self.view_is in
     let unknown = none-from (count_in ks c.args.id.0) (counts ∙ (sym c.contains_key.ensures ∙ c.if-contains_key.false)) in
     search rules

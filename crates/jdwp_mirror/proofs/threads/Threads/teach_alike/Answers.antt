@@ -1,56 +1,35 @@
-use Rattle.std.proofs.Common.{◌≡◌, ℕ, Some, None, sym, ap, subst, ◌∙◌}
-use Rattle.std.specs.BTreeMap.{BTreeMap, is_at}
-use Rattle.std.specs.Map.{lookup}
-use Rattle.std.specs.Option.{option_copied_mut, option_map}
-use Rattle.std.specs.Ordering.{nat_cmp}
-use Rattle.jdwp_mirror.specs.declared.met.Met.{Met}
-use Rattle.jdwp_mirror.specs.declared.threads.Known.{Known}
-use Rattle.jdwp_mirror.specs.declared.threads.Threads.TheInside.{Inside}
-use Rattle.jdwp_mirror.specs.KnownThreads.{all_taught, taught_by}
-use Rattle.jdwp_mirror.specs.Numbering.{entries_seen, own_number_in, seen}
-use Rattle.jdwp_mirror.proofs.NumberingLemmas.{own-found, own-missing}
-use Rattle.jdwp_mirror.proofs.SeenLemmas.{lookup-seen}
-use Rattle.jdwp_mirror.proofs.KeepingLemmas.{AreTaught, others-kept, own-kept}
+use Rattle.std.proofs.Common.{◌≡◌, Some, None, sym, ap, ◌∙◌}
+use Rattle.jdwp_mirror.specs.KnownThreads.{all_taught}
+use Rattle.jdwp_mirror.specs.Numbering.{taught_at}
+use Rattle.jdwp_mirror.proofs.KeepingLemmas.{AreTaught, alike-found-kept, alike-missing-kept, written}
 use Rattle.jdwp_mirror.proofs.threads.Threads.teach_alike.Goals as goal
-use Rattle.jdwp_mirror.proofs.threads.Threads.teach_alike.Goals.{in-Some-own_number+in-Some-get_mut, in-Some-own_number+in_default-get_mut, in_default-own_number}
 
--- what the fields are before the raises are written
-abbrev IsTaught : goal.After-self-2-1 → Inside → Type 0
-IsTaught c s = AreTaught c.args.lesson c.self.inside.raises c.in-Some.raises c.self.inside.entries.entries s.entries.entries s.numbers
-
-taught : (c : goal.After-self-2-1) → IsTaught c c.match-own_number.self-inside
-taught c =
+-- where its own thread is known, which is written
+found : (c : goal.After-self-in-Some-get_mut-1) → AreTaught c.args.lesson c.self.inside.moves c.note.new.self c.self.inside.entries.entries (c.get_mut.follows.lender c.of.result).entries c.self.inside.numbers
+found c =
     let i = c.self.inside in
-    let es = i.entries.entries in
-    let l = c.args.lesson in
-    let r = c.in-Some.raises in
-    let threads = entries_seen i.raises es in
-    let alike = c.in-Some.ensures.alike in
-    let next = c.in-Some.ensures.next in
-    elim c.match-own_number.branch [
-      | in-Some-own_number+in-Some-get_mut w ↦
-          let n = w.in-Some-own_number.number in
-          let m = w.in-Some-get_mut.met.now in
-          let number : own_number_in i.numbers l.thread ≡ Some n = sym c.own_number.ensures ∙ w.in-Some-own_number.is in
-          let here : lookup (is_at (nat_cmp n)) es ≡ Some m = sym w.get_mut.ensures.value ∙ ap option_copied_mut w.in-Some-get_mut.is in
-          let writes = w.get_mut.follows.holds w.of.result in
-          let written : w.of.result ≡ record { known = taught_by l (seen i.raises m); raises = r } = w.of.ensures ∙ ap (λ (k : Known). record { known = k; raises = r }) (w.teach.ensures ∙ ap (taught_by l) w.seen.ensures) in
-          subst (IsTaught c) (sym w.self-inside-is) (own-kept l i.raises r es (w.get_mut.follows.lender w.of.result).entries i.numbers n m w.of.result alike next c.self.invariant number here written writes.0 writes.4)
-      | in-Some-own_number+in_default-get_mut w ↦
-          let n = w.in-Some-own_number.number in
-          let number : own_number_in i.numbers l.thread ≡ Some n = sym c.own_number.ensures ∙ w.in-Some-own_number.is in
-          let none : lookup (is_at (nat_cmp n)) es ≡ None = sym w.get_mut.ensures.value ∙ ap option_copied_mut w.in_default-get_mut.is in
-          let unknown = sym (own-found threads i.numbers l.thread n c.self.invariant.numbered number) ∙ (lookup-seen (is_at (nat_cmp n)) i.raises es ∙ ap (option_map (seen i.raises)) none) in
-          let all = others-kept l i.raises r es i.numbers alike next c.self.invariant unknown in
-          let same : w.get_mut.follows.lender-at-none ≡ i.entries = w.get_mut.follows.holds-at-none in
-          subst (IsTaught c) (sym w.self-inside-is) (subst (λ (m : BTreeMap ℕ Met). AreTaught l i.raises r es m.entries i.numbers) (sym same) all)
-      | in_default-own_number w ↦
-          let unknown = own-missing threads i.numbers l.thread c.self.invariant.numbered (sym c.own_number.ensures ∙ w.in_default-own_number.is) in
-          subst (IsTaught c) (sym w.self-inside-is) (others-kept l i.raises r es i.numbers alike next c.self.invariant unknown)
-    ]
+    let taught = c.in-Some.taught in
+    let writes = c.get_mut.follows.holds c.of.result in
+    let is : c.of.result ≡ written c.len-in-Some-get_mut.result taught = c.of.ensures in
+    let there : taught_at i.moves i.entries c.args.lesson c.own_number-number.result ≡ Some (c.in-Some.number, taught) = sym c.taught_at-own.ensures ∙ c.in-Some.is in
+    alike-found-kept c.args.lesson i.moves c.note.new.self i.entries (c.get_mut.follows.lender c.of.result) i.numbers c.own_number-number.result c.in-Some.number taught c.of.result c.if-lesson.false c.if-not-note.ensures.done
+    c.self.invariant c.own_number-number.ensures there (is ∙ ap (λ n. written n taught) c.len-in-Some-get_mut.ensures) writes.0 writes.4
 
-pub invariant_of-self : goal.invariant_of-self
-invariant_of-self c = let all = taught c in all.0
+-- where it is not known, or there is none
+missing : (c : goal.In_default) → AreTaught c.args.lesson c.self.inside.moves c.note.new.self c.self.inside.entries.entries c.self.inside.entries.entries c.self.inside.numbers
+missing c =
+    let i = c.self.inside in
+    let none : taught_at i.moves i.entries c.args.lesson c.own_number-number.result ≡ None = sym c.taught_at-own.ensures ∙ c.in_default.is in
+    alike-missing-kept c.args.lesson i.moves c.note.new.self i.entries i.numbers c.own_number-number.result c.if-lesson.false c.if-not-note.ensures.done c.self.invariant c.own_number-number.ensures none
 
-pub returns-clause-done : goal.returns-clause-done
-returns-clause-done c = let all = taught c in all.1 ∙ ap (all_taught c.args.lesson) c.self.view_is
+pub invariant_of-self-in-Some-get_mut : goal.invariant_of-self-in-Some-get_mut
+invariant_of-self-in-Some-get_mut c = let all = found c in all.0
+
+pub invariant_of-self-in_default : goal.invariant_of-self-in_default
+invariant_of-self-in_default c = let all = missing c in all.0
+
+pub returns-in-Some-get_mut-clause-done : goal.returns-in-Some-get_mut-clause-done
+returns-in-Some-get_mut-clause-done c = let all = found c in all.1 ∙ ap (all_taught c.args.lesson) c.self.view_is
+
+pub returns-in_default-clause-done : goal.returns-in_default-clause-done
+returns-in_default-clause-done c = let all = missing c in all.1 ∙ ap (all_taught c.args.lesson) c.self.view_is
