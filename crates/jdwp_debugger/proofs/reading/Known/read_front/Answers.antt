@@ -1,4 +1,4 @@
-use Rattle.std.proofs.Common.{◌≡◌, ℕ, List, Result, Ok, Err, subst}
+use Rattle.std.proofs.Common.{◌≡◌, ℕ, List, Result, Ok, Err, ap, subst}
 use Rattle.jdwp_wire.specs.declared.packet.Header.{Header}
 use Rattle.jdwp_debugger.specs.declared.faults.DebuggerFault.{DebuggerFault}
 use Rattle.jdwp_debugger.specs.declared.faults.DebuggerFault.TheVariants as code
@@ -13,7 +13,7 @@ use Rattle.jdwp_debugger.proofs.reading.Known.read_front.Goals as goal
 read-so : (r : Reading) (header : Header) (body : List ℕ) (result : Result declared.News DebuggerFault) → Tells news_meaning result (says r header.id header.kind body)
     → (IsErrOf result code.NoMemory → MayWantMemory header.kind) → IfOk result (λ n. WantsMemory (news_meaning n) → MayWantMemory header.kind) → ReadsPacket r header body result
 read-so r header body (Ok news) said memory wants = (said, wants)
-read-so r header body (Err fault) said memory wants = (said, memory)
+read-so r header body (Err fault) said memory wants = (said, λ e. memory (ap Err e))
 
 pub data_in_place-requires : goal.data_in_place-requires
 data_in_place-requires c = (c.args.header, c.requires.0, c.requires.1)
