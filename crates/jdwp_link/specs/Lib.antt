@@ -1,3 +1,4 @@
+pub mod Ways
 pub mod Links
 pub mod Wires
 pub mod Stands
