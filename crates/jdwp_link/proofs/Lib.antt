@@ -29,3 +29,4 @@ pub mod Carrying
 pub mod Running
 pub mod Done
 pub mod Tells
+pub mod Settled

@@ -8,3 +8,4 @@ pub mod Laws
 pub mod Insides
 pub mod EventParts
 pub mod Moving
+pub mod Outcomes

@@ -12,7 +12,8 @@ ghost use Rattle.jdwp_target.specs.declared.setup.SetupFault.TheVariants as setu
 ghost use Rattle.jdwp_wire.specs.Limits.{standard_limits};
 ghost use Rattle.jdwp_link.specs.Clauses.{CountsAtMost, HoldsSuspended, MayStop, MirrorsSeen, Ran, RanOver, StaysTrue};
 ghost use Rattle.jdwp_link.specs.Links.{new_link};
-ghost use Rattle.jdwp_link.specs.Stands.{StandsFor};
+ghost use Rattle.jdwp_link.specs.Outcomes.{MeetsNoFault};
+ghost use Rattle.jdwp_link.specs.Stands.{IsLink, StandsFor};
 ghost use Rattle.jdwp_link.specs.Told.{event_meanings};
 
 use crate::events::{LinkEvent, Outcome, Stopped};
@@ -175,24 +176,27 @@ impl<M: Machine + Drop> Link<M> {
         let mut outcomes = Vec::new(self.alloc);
         for (place, event) in events.iter().enumerate() {
             if let Err(NoMemory) = self.happen(way, event, &mut outcomes) {
-                self.shows();
+                self.session();
                 return Err(Stopped {
                     event: place,
                     outcomes,
                 });
             }
         }
-        self.shows();
+        self.session();
         Ok(outcomes)
     }
 
-    /// What a debugger may rely on now. It changes nothing.
-    fn shows(&self)
+    /// What holds of every link, whatever happened to it: it stands for a world that some list of events leads to, so that what is said of worlds
+    /// and runs is said of it; what a debugger may rely on; and that neither end would refuse what stands in front of it. It changes nothing.
+    pub fn session(&self)
+        ensures stands { IsLink M.meaning self.now }
         ensures mirror { (x : World M) → StandsFor M.meaning self.now x → MirrorsSeen self.now x }
         ensures held { HoldsSuspended self.now }
         ensures at_most { (x : World M) → StandsFor M.meaning self.now x → CountsAtMost self.now x }
         ensures stays { (x : World M) → StandsFor M.meaning self.now x
             → StaysTrue M.meaning self.now x }
+        ensures faultless { MeetsNoFault M.meaning self.now }
     {
         laws::<M>();
         keeps(&self.target, &self.debugger);
