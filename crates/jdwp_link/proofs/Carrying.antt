@@ -8,7 +8,7 @@ use Rattle.jdwp_link.specs.declared.events.Outcome.{Outcome}
 use Rattle.jdwp_link.specs.declared.way.Side.{Side}
 use Rattle.jdwp_link.specs.declared.way.Side.TheVariants as side
 use Rattle.jdwp_link.specs.Clauses.{Delivers, Goes, RanOver, carried_by}
-use Rattle.jdwp_link.specs.EventParts.{Stops, Tells}
+use Rattle.jdwp_link.specs.EventParts.{Tells}
 use Rattle.jdwp_link.specs.Links.{Link}
 use Rattle.jdwp_link.specs.Told.{event_meaning, event_meanings}
 use Rattle.jdwp_link.specs.Ways.{Carried, with_carried}
@@ -75,8 +75,3 @@ pub over-on : {S : Type 0} (m : Meaning S) (es : List declared.LinkEvent) (i : �
     → RanOver m (take (i + 1) (event_meanings es)) old new before after
 over-on m es i e old mid new told told_after before between after lt is r (os, more, goes) delivers carried =
     subst (λ l. RanOver m l old new before after) (sym (event-more es i e lt is)) (over-more m (take i (event_meanings es)) (event_meaning e) old mid new os before between after r goes delivers carried)
-
--- one wants memory
-pub over-stops : {S : Type 0} (m : Meaning S) (es : List LinkEvent) (e : LinkEvent) (old mid new : Link S) (told told_after : List Outcome) (before after : Carried)
-    → RanOver m es old mid before after → Stops m e mid new told told_after → RanOver m es old new before after
-over-stops m es e old mid new told told_after before after r (same, rest) = subst (λ l. RanOver m es old l before after) (sym same) r

@@ -1,5 +1,5 @@
 -- what is told of a run, from the beginning of the link on
-use Rattle.std.proofs.Common.{◌≡◌, ℕ, ◌+◌, ◌⊎◌, inl, inr, Some, None, List, [], ◌∷◌, ◌++◌, map, refl, sym, ◌∙◌, ap, subst, arith}
+use Rattle.std.proofs.Common.{◌≡◌, ℕ, ◌+◌, inr, Some, None, List, [], ◌∷◌, ◌++◌, map, refl, sym, ◌∙◌, ap, subst, arith}
 use Rattle.std.proofs.lemmas.List.{append_assoc}
 use Rattle.jdwp_wire.specs.Widths.{Widths}
 use Rattle.jdwp_layout.specs.declared.answer.Answer.{Answer}
@@ -11,12 +11,12 @@ use Rattle.jdwp_debugger.specs.Debuggers.{tickets_of}
 use Rattle.jdwp_debugger.specs.declared.pending.Ticket.{Ticket}
 use Rattle.jdwp_model.specs.Events as events
 use Rattle.jdwp_model.specs.Events.{LinkEvent}
-use Rattle.jdwp_model.specs.Given.{IsIn, TellsWhatWasGiven, given_answers, told_answers}
+use Rattle.jdwp_model.specs.Given.{IsIn, TellsWhatWasGiven, told_answers}
 use Rattle.jdwp_model.specs.Next.{lost_tickets, next, outcomes, run}
 use Rattle.jdwp_model.specs.Tickets.{SettlesOnce, settled, tickets, tickets_to, times}
 use Rattle.jdwp_model.specs.World.{Measure, World, opening}
 use Rattle.jdwp_link.specs.declared.events.Outcome.{Outcome}
-use Rattle.jdwp_link.specs.Clauses.{Ran, measure_of}
+use Rattle.jdwp_link.specs.Clauses.{measure_of}
 use Rattle.jdwp_link.specs.EventParts.{lost_of}
 use Rattle.jdwp_link.specs.Laws.{HoldsOfWorlds}
 use Rattle.jdwp_link.specs.Links.{Link}

@@ -1,4 +1,4 @@
-use Rattle.std.proofs.Common.{◌≡◌, ◌≤◌, ◌-◌, ◌∙◌, ◌++◌, ap, arith, length, refl, sym, take}
+use Rattle.std.proofs.Common.{◌≡◌, ◌≤◌, ◌-◌, ◌∙◌, ◌++◌, ap, arith, length, refl, take}
 use Rattle.std.proofs.lemmas.List.{length-take-le}
 use Rattle.jdwp_debugger.specs.Debuggers as debuggers
 use Rattle.jdwp_link.specs.Moving.{moved}

@@ -1,4 +1,4 @@
-use Rattle.jdwp_link.proofs.Carrying.{over-on, over-stops, stays-on, unfailed}
+use Rattle.jdwp_link.proofs.Carrying.{over-on, stays-on, unfailed}
 use Rattle.jdwp_link.proofs.Running.{ran-on, stops-at}
 use Rattle.jdwp_link.proofs.link.Link.run_over.Goals as goal
 
