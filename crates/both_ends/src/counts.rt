@@ -90,13 +90,13 @@ fn exchange<M: Machine + Drop>(
     target: &mut Target<M>,
     buffer: &mut [u8; CHUNK],
 ) -> anyhow::Result<u32> {
-    deliver(debugger, target, &mut Memory, Side::Debugger, buffer);
+    deliver(debugger, target, &mut Memory::new(), Side::Debugger, buffer);
     for _ in 0..=AT_ONCE {
         if let Turn::Nothing = target.turn()? {
             break;
         }
     }
-    deliver(target, debugger, &mut Memory, Side::Target, buffer);
+    deliver(target, debugger, &mut Memory::new(), Side::Target, buffer);
     let mut answered = 0u32;
     for _ in 0..=AT_ONCE {
         match debugger.turn(alloc)? {

@@ -168,7 +168,7 @@ pub fn pair_files<'a, R: Files + AllocGlobal + Net, O: Write>(
     let script = read(rt, words.machine)?;
     let plan = read(rt, words.plan)?;
     match words.between {
-        Between::Memory => pair_over(rt.alloc(), words, &mut Memory, &script, &plan, out),
+        Between::Memory => pair_over(rt.alloc(), words, &mut Memory::new(), &script, &plan, out),
         Between::Loopback => {
             let mut loopback = Loopback::new(rt);
             pair_over(rt.alloc(), words, &mut loopback, &script, &plan, out)

@@ -1,5 +1,5 @@
 -- events as the code does them: what a link is then, and what it keeps
-use Rattle.std.proofs.Common.{◌≡◌, ℕ, ◌-◌, min, Bool, true, false, not, [], ◌++◌, length, take, drop, Ok, refl, sym, ◌∙◌, ap, subst, arith}
+use Rattle.std.proofs.Common.{◌≡◌, ℕ, ◌-◌, min, Bool, true, false, not, List, [], ◌++◌, length, take, drop, Ok, refl, sym, ◌∙◌, ap, subst, arith}
 use Rattle.std.specs.Prelude.{if◌then◌else◌}
 use Rattle.std.proofs.lemmas.List.{length-take-le}
 use Rattle.byte_queue.specs.Queue.{Queue}
@@ -13,13 +13,13 @@ use Rattle.jdwp_target.specs.Turns.{EncodesNext, EncodesReleased, EncodesWhere, 
 use Rattle.jdwp_target.specs.declared.target.Stepped.{Stepped}
 use Rattle.jdwp_target.specs.declared.target.Turn.{Turn}
 use Rattle.jdwp_model.specs.Events
-use Rattle.jdwp_link.specs.Clauses.{Goes}
+use Rattle.jdwp_link.specs.Clauses.{Delivers, Goes}
 use Rattle.jdwp_link.specs.Insides.{DebuggerKeeps, IsRightLink, TargetKeeps, link_of}
 use Rattle.jdwp_link.specs.Laws.{FindsMessages, HoldsOfWorlds, Laws}
-use Rattle.jdwp_link.specs.Links.{Link, attaches, come_to_debugger, come_to_target, delivered_to_debugger, delivered_to_target, may_attach, target_lost}
+use Rattle.jdwp_link.specs.Links.{Link, attaches, carried_to_debugger, carried_to_target, come_to_debugger, come_to_target, delivered_to_debugger, delivered_to_target, may_attach, target_lost}
 use Rattle.jdwp_link.specs.Stands.{IsLink}
 use Rattle.jdwp_link.specs.Told.{step_did, turn_did}
-use Rattle.jdwp_link.proofs.Ending.{attached-is, to-debugger-is, to-target-is}
+use Rattle.jdwp_link.proofs.Ending.{attached-is, to-debugger-is, to-debugger-rest, to-target-is, to-target-rest}
 use Rattle.jdwp_link.proofs.Going.{goes-attach, goes-defer, goes-release, goes-stepped, goes-target-loses, goes-to-debugger, goes-to-target, goes-turn}
 use Rattle.jdwp_link.proofs.Keeping.{attach-right, small-limits, target-lost-right, target-right, to-debugger-right, to-target-right}
 
@@ -63,12 +63,17 @@ none-waits m l link o =
 
 -- ---- deliveries
 
-pub to-target-done : {S : Type 0} (m : Meaning S) (l : Link S) (q q_new : Queue) (t t_new : Target S) (d : Debugger) (n first second waiting room : ℕ) (from : ℕ) → FindsMessages → IsRightLink m l q.capacity from → q.bytes ≡ l.to_target
+-- how the bytes came to the target
+record CameToTarget {S : Type 0} (l new : Link S) (n second : ℕ) : Type 0 where
+  same : new ≡ delivered_to_target (come_to_target n l) l
+  rest : take second l.debugger.end.outgoing ≡ carried_to_target n l
+
+came-to-target : {S : Type 0} (l : Link S) (q q_new : Queue) (t t_new : Target S) (d : Debugger) (n first second waiting room : ℕ) → q.bytes ≡ l.to_target
     → first ≡ min n (min (length q.bytes) (room_of l.target.end)) → q_new ≡ record q { bytes = drop first q.bytes } → t ≡ targets.with_fed (take first q.bytes) l.target
     → waiting ≡ length l.debugger.end.outgoing → room ≡ room_of t.end → second ≡ min (min waiting room) (n - first)
-    → d ≡ debuggers.with_taken (take second l.debugger.end.outgoing) l.debugger → t_new ≡ targets.with_fed (take second l.debugger.end.outgoing) t → TargetKeeps t_new.end → DebuggerKeeps d
-    → Done m (Events.ToTarget n) l (link_of t_new d q_new.bytes l.to_debugger false) q_new.capacity from
-to-target-done {S} m l q q_new t t_new d n first second waiting room from finds right a count left fed waits roomy next taken more target debugger =
+    → d ≡ debuggers.with_taken (take second l.debugger.end.outgoing) l.debugger → t_new ≡ targets.with_fed (take second l.debugger.end.outgoing) t
+    → CameToTarget l (link_of t_new d q_new.bytes l.to_debugger false) n second
+came-to-target {S} l q q_new t t_new d n first second waiting room a count left fed waits roomy next taken more =
     let bytes : take first q.bytes ≡ take first l.to_target = ap (take first) a in
     let first-is : first ≡ min n (min (length l.to_target) (room_of l.target.end)) = count ∙ ap (λ b. min n (min (length b) (room_of l.target.end))) a in
     let fed-is : t ≡ targets.with_fed (take first l.to_target) l.target = fed ∙ ap (λ b. targets.with_fed b l.target) bytes in
@@ -76,22 +81,48 @@ to-target-done {S} m l q q_new t t_new d n first second waiting room from finds 
     let second-is : second ≡ min (min (length l.debugger.end.outgoing) (room_of (targets.with_fed (take first l.to_target) l.target).end)) (n - first) =
     next ∙ (ap (λ k. min (min k room) (n - first)) waits ∙ ap (λ k. min (min (length l.debugger.end.outgoing) k) (n - first)) room-is) in
     let size : length (take first l.to_target) ≡ first = length-take-le first l.to_target (omega (first-is, arith)) in
-    let is : link_of t_new d q_new.bytes l.to_debugger false ≡ delivered_to_target (come_to_target n l) l =
-    ap (λ x. link_of x d q_new.bytes l.to_debugger false) (more ∙ ap (λ x. targets.with_fed (take second l.debugger.end.outgoing) x) fed-is)
-    ∙ (ap (λ x. link_of (targets.with_fed (take second l.debugger.end.outgoing) (targets.with_fed (take first l.to_target) l.target)) x q_new.bytes l.to_debugger false) taken
-    ∙ (ap (λ x. link_of (targets.with_fed (take second l.debugger.end.outgoing) (targets.with_fed (take first l.to_target) l.target)) (debuggers.with_taken (take second l.debugger.end.outgoing) l.debugger) x l.to_debugger false) (ap (λ (x : Queue). x.bytes) left ∙ ap (drop first) a)
-    ∙ to-target-is l n first second first-is second-is size)) in
+    record {
+      same = ap (λ x. link_of x d q_new.bytes l.to_debugger false) (more ∙ ap (λ x. targets.with_fed (take second l.debugger.end.outgoing) x) fed-is)
+          ∙ (ap (λ x. link_of (targets.with_fed (take second l.debugger.end.outgoing) (targets.with_fed (take first l.to_target) l.target)) x q_new.bytes l.to_debugger false) taken
+          ∙ (ap (λ x. link_of (targets.with_fed (take second l.debugger.end.outgoing) (targets.with_fed (take first l.to_target) l.target)) (debuggers.with_taken (take second l.debugger.end.outgoing) l.debugger) x l.to_debugger false) (ap (λ (x : Queue). x.bytes) left ∙ ap (drop first) a)
+          ∙ to-target-is l n first second first-is second-is size));
+      rest = to-target-rest l n first second first-is second-is size;
+    }
+
+-- an event goes, and the link is right after it; what came over the way is this
+pub record DoneOver {S : Type 0} (m : Meaning S) (e : Events.LinkEvent) (old new : Link S) (to from : ℕ) (came over : List ℕ) : Type 0 where
+  pub done : Done m e old new to from
+  pub delivers : Delivers e old new
+  pub carried : came ≡ over
+
+pub to-target-done : {S : Type 0} (m : Meaning S) (l : Link S) (q q_new : Queue) (t t_new : Target S) (d : Debugger) (n first second waiting room : ℕ) (from : ℕ) → FindsMessages → IsRightLink m l q.capacity from → q.bytes ≡ l.to_target
+    → first ≡ min n (min (length q.bytes) (room_of l.target.end)) → q_new ≡ record q { bytes = drop first q.bytes } → t ≡ targets.with_fed (take first q.bytes) l.target
+    → waiting ≡ length l.debugger.end.outgoing → room ≡ room_of t.end → second ≡ min (min waiting room) (n - first)
+    → d ≡ debuggers.with_taken (take second l.debugger.end.outgoing) l.debugger → t_new ≡ targets.with_fed (take second l.debugger.end.outgoing) t → TargetKeeps t_new.end → DebuggerKeeps d
+    → DoneOver m (Events.ToTarget n) l (link_of t_new d q_new.bytes l.to_debugger false) q_new.capacity from (take second l.debugger.end.outgoing) (carried_to_target n l)
+to-target-done {S} m l q q_new t t_new d n first second waiting room from finds right a count left fed waits roomy next taken more target debugger =
+    let came = came-to-target l q q_new t t_new d n first second waiting room a count left fed waits roomy next taken more in
+    let is = came.same in
     let goes = goes-to-target m l n finds in
     let kept = to-target-right m l n q.capacity from (Events.ToTarget n) right goes (subst (λ (x : Link S). TargetKeeps x.target.end) is target) (subst (λ (x : Link S). DebuggerKeeps x.debugger) is debugger) in
-    done-at m (Events.ToTarget n) l (link_of t_new d q_new.bytes l.to_debugger false) q.capacity from q_new.capacity from (ap (λ (x : Queue). x.capacity) left) refl
-    (subst (λ x. Done m (Events.ToTarget n) l x q.capacity from) (sym is) (record { goes = goes; right = kept }))
+    record {
+      done = done-at m (Events.ToTarget n) l (link_of t_new d q_new.bytes l.to_debugger false) q.capacity from q_new.capacity from (ap (λ (x : Queue). x.capacity) left) refl
+          (subst (λ x. Done m (Events.ToTarget n) l x q.capacity from) (sym is) (record { goes = goes; right = kept }));
+      delivers = is;
+      carried = came.rest;
+    }
 
-pub to-debugger-done : {S : Type 0} (m : Meaning S) (l : Link S) (q q_new : Queue) (d d_new : Debugger) (t : Target S) (n first second waiting room : ℕ) (to : ℕ) → FindsMessages → IsRightLink m l to q.capacity → q.bytes ≡ l.to_debugger
+-- how the bytes came to the debugger
+record CameToDebugger {S : Type 0} (l new : Link S) (n second : ℕ) : Type 0 where
+  same : new ≡ delivered_to_debugger (come_to_debugger n l) l
+  rest : take second l.target.end.outgoing ≡ carried_to_debugger n l
+
+came-to-debugger : {S : Type 0} (l : Link S) (q q_new : Queue) (d d_new : Debugger) (t : Target S) (n first second waiting room : ℕ) → q.bytes ≡ l.to_debugger
     → first ≡ min n (min (length q.bytes) (room_of l.debugger.end)) → q_new ≡ record q { bytes = drop first q.bytes } → d ≡ debuggers.with_fed (take first q.bytes) l.debugger
     → waiting ≡ length l.target.end.outgoing → room ≡ room_of d.end → second ≡ min (min waiting room) (n - first)
-    → t ≡ targets.with_taken (take second l.target.end.outgoing) l.target → d_new ≡ debuggers.with_fed (take second l.target.end.outgoing) d → TargetKeeps t.end → DebuggerKeeps d_new
-    → Done m (Events.ToDebugger n) l (link_of t d_new l.to_target q_new.bytes false) to q_new.capacity
-to-debugger-done {S} m l q q_new d d_new t n first second waiting room to finds right a count left fed waits roomy next taken more target debugger =
+    → t ≡ targets.with_taken (take second l.target.end.outgoing) l.target → d_new ≡ debuggers.with_fed (take second l.target.end.outgoing) d
+    → CameToDebugger l (link_of t d_new l.to_target q_new.bytes false) n second
+came-to-debugger {S} l q q_new d d_new t n first second waiting room a count left fed waits roomy next taken more =
     let bytes : take first q.bytes ≡ take first l.to_debugger = ap (take first) a in
     let first-is : first ≡ min n (min (length l.to_debugger) (room_of l.debugger.end)) = count ∙ ap (λ b. min n (min (length b) (room_of l.debugger.end))) a in
     let fed-is : d ≡ debuggers.with_fed (take first l.to_debugger) l.debugger = fed ∙ ap (λ b. debuggers.with_fed b l.debugger) bytes in
@@ -99,15 +130,30 @@ to-debugger-done {S} m l q q_new d d_new t n first second waiting room to finds 
     let second-is : second ≡ min (min (length l.target.end.outgoing) (room_of (debuggers.with_fed (take first l.to_debugger) l.debugger).end)) (n - first) =
     next ∙ (ap (λ k. min (min k room) (n - first)) waits ∙ ap (λ k. min (min (length l.target.end.outgoing) k) (n - first)) room-is) in
     let size : length (take first l.to_debugger) ≡ first = length-take-le first l.to_debugger (omega (first-is, arith)) in
-    let is : link_of t d_new l.to_target q_new.bytes false ≡ delivered_to_debugger (come_to_debugger n l) l =
-    ap (λ x. link_of t x l.to_target q_new.bytes false) (more ∙ ap (λ x. debuggers.with_fed (take second l.target.end.outgoing) x) fed-is)
-    ∙ (ap (λ x. link_of x (debuggers.with_fed (take second l.target.end.outgoing) (debuggers.with_fed (take first l.to_debugger) l.debugger)) l.to_target q_new.bytes false) taken
-    ∙ (ap (λ x. link_of (targets.with_taken (take second l.target.end.outgoing) l.target) (debuggers.with_fed (take second l.target.end.outgoing) (debuggers.with_fed (take first l.to_debugger) l.debugger)) l.to_target x false) (ap (λ (x : Queue). x.bytes) left ∙ ap (drop first) a)
-    ∙ to-debugger-is l n first second first-is second-is size)) in
+    record {
+      same = ap (λ x. link_of t x l.to_target q_new.bytes false) (more ∙ ap (λ x. debuggers.with_fed (take second l.target.end.outgoing) x) fed-is)
+          ∙ (ap (λ x. link_of x (debuggers.with_fed (take second l.target.end.outgoing) (debuggers.with_fed (take first l.to_debugger) l.debugger)) l.to_target q_new.bytes false) taken
+          ∙ (ap (λ x. link_of (targets.with_taken (take second l.target.end.outgoing) l.target) (debuggers.with_fed (take second l.target.end.outgoing) (debuggers.with_fed (take first l.to_debugger) l.debugger)) l.to_target x false) (ap (λ (x : Queue). x.bytes) left ∙ ap (drop first) a)
+          ∙ to-debugger-is l n first second first-is second-is size));
+      rest = to-debugger-rest l n first second first-is second-is size;
+    }
+
+pub to-debugger-done : {S : Type 0} (m : Meaning S) (l : Link S) (q q_new : Queue) (d d_new : Debugger) (t : Target S) (n first second waiting room : ℕ) (to : ℕ) → FindsMessages → IsRightLink m l to q.capacity → q.bytes ≡ l.to_debugger
+    → first ≡ min n (min (length q.bytes) (room_of l.debugger.end)) → q_new ≡ record q { bytes = drop first q.bytes } → d ≡ debuggers.with_fed (take first q.bytes) l.debugger
+    → waiting ≡ length l.target.end.outgoing → room ≡ room_of d.end → second ≡ min (min waiting room) (n - first)
+    → t ≡ targets.with_taken (take second l.target.end.outgoing) l.target → d_new ≡ debuggers.with_fed (take second l.target.end.outgoing) d → TargetKeeps t.end → DebuggerKeeps d_new
+    → DoneOver m (Events.ToDebugger n) l (link_of t d_new l.to_target q_new.bytes false) to q_new.capacity (take second l.target.end.outgoing) (carried_to_debugger n l)
+to-debugger-done {S} m l q q_new d d_new t n first second waiting room to finds right a count left fed waits roomy next taken more target debugger =
+    let came = came-to-debugger l q q_new d d_new t n first second waiting room a count left fed waits roomy next taken more in
+    let is = came.same in
     let goes = goes-to-debugger m l n finds in
     let kept = to-debugger-right m l n to q.capacity (Events.ToDebugger n) right goes (subst (λ (x : Link S). TargetKeeps x.target.end) is target) (subst (λ (x : Link S). DebuggerKeeps x.debugger) is debugger) in
-    done-at m (Events.ToDebugger n) l (link_of t d_new l.to_target q_new.bytes false) to q.capacity to q_new.capacity refl (ap (λ (x : Queue). x.capacity) left)
-    (subst (λ x. Done m (Events.ToDebugger n) l x to q.capacity) (sym is) (record { goes = goes; right = kept }))
+    record {
+      done = done-at m (Events.ToDebugger n) l (link_of t d_new l.to_target q_new.bytes false) to q.capacity to q_new.capacity refl (ap (λ (x : Queue). x.capacity) left)
+          (subst (λ x. Done m (Events.ToDebugger n) l x to q.capacity) (sym is) (record { goes = goes; right = kept }));
+      delivers = is;
+      carried = came.rest;
+    }
 
 -- ---- a loss
 

@@ -7,7 +7,7 @@ use Rattle.jdwp_debugger.specs.Debuggers as debuggers
 use Rattle.jdwp_target.specs.Targets.{Target}
 use Rattle.jdwp_target.specs.Targets as targets
 use Rattle.jdwp_link.specs.Insides.{link_of}
-use Rattle.jdwp_link.specs.Links.{Link, attached, attaches, come_to_debugger, come_to_target, delivered_to_debugger, delivered_to_target, idle, may_attach}
+use Rattle.jdwp_link.specs.Links.{Link, attached, attaches, carried_to_debugger, carried_to_target, come_to_debugger, come_to_target, delivered_to_debugger, delivered_to_target, idle, may_attach}
 use Rattle.jdwp_link.proofs.Moves.{comes, fed-twice, room-after}
 
 -- ---- a session
@@ -52,3 +52,19 @@ to-debugger-is l n first second a b size =
     ap (λ e. link_of (targets.with_taken (take second l.target.end.outgoing) l.target) (record l.debugger { end = e }) l.to_target (drop first l.to_debugger) false) fed
     ∙ (ap (λ bytes. link_of (targets.with_taken bytes l.target) (debuggers.with_fed (come_to_debugger n l) l.debugger) l.to_target (drop first l.to_debugger) false) c.rest
     ∙ ap (λ bytes. link_of (targets.with_taken (drop (length l.to_debugger) (come_to_debugger n l)) l.target) (debuggers.with_fed (come_to_debugger n l) l.debugger) l.to_target bytes false) c.left)
+
+-- what comes behind the queue
+pub to-target-rest : {S : Type 0} (l : Link S) (n first second : ℕ) → first ≡ min n (min (length l.to_target) (room_of l.target.end))
+    → second ≡ min (min (length l.debugger.end.outgoing) (room_of (ends.with_fed (take first l.to_target) l.target.end))) (n - first)
+    → length (take first l.to_target) ≡ first → take second l.debugger.end.outgoing ≡ carried_to_target n l
+to-target-rest l n first second a b size =
+    let room = room-after (take first l.to_target) l.target.end ∙ ap (λ k. room_of l.target.end - k) size in
+    (comes n (room_of l.target.end) first second l.to_target l.debugger.end.outgoing a (b ∙ ap (λ r. min (min (length l.debugger.end.outgoing) r) (n - first)) room)).rest
+
+-- what comes behind the queue
+pub to-debugger-rest : {S : Type 0} (l : Link S) (n first second : ℕ) → first ≡ min n (min (length l.to_debugger) (room_of l.debugger.end))
+    → second ≡ min (min (length l.target.end.outgoing) (room_of (ends.with_fed (take first l.to_debugger) l.debugger.end))) (n - first)
+    → length (take first l.to_debugger) ≡ first → take second l.target.end.outgoing ≡ carried_to_debugger n l
+to-debugger-rest l n first second a b size =
+    let room = room-after (take first l.to_debugger) l.debugger.end ∙ ap (λ k. room_of l.debugger.end - k) size in
+    (comes n (room_of l.debugger.end) first second l.to_debugger l.target.end.outgoing a (b ∙ ap (λ r. min (min (length l.target.end.outgoing) r) (n - first)) room)).rest

@@ -25,6 +25,8 @@ pub mod Opening
 pub mod Ending
 pub mod Settling
 pub mod Pieces
+pub mod Carrying
 pub mod Running
 pub mod Done
 pub mod Tells
+pub mod Settled

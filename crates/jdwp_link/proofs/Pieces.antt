@@ -30,6 +30,18 @@ taken-more count left piece from from_now to to_now a b waits room e f =
           ∙ (fed-twice (take (count - left) from.outgoing) (take piece (drop (count - left) from.outgoing)) to ∙ ap (λ bytes. ends.with_fed bytes to) both))),
     )
 
+-- what was moved and then one piece more
+pub moved-more : (count left piece : ℕ) (from from_now to to_now : End) → piece ≤ left → left ≤ count → count ≤ length from.outgoing → count ≤ room_of to
+    → from_now ≡ ends.with_taken (take (count - left) from.outgoing) from → to_now ≡ ends.with_fed (take (count - left) from.outgoing) to
+    → take (count - left) from.outgoing ++ moved piece from_now to_now ≡ take (count - (left - piece)) from.outgoing
+moved-more count left piece from from_now to to_now a b waits room e f =
+    let next : (count - left) + piece ≡ count - (left - piece) = omega arith in
+    let is : moved piece (ends.with_taken (take (count - left) from.outgoing) from) (ends.with_fed (take (count - left) from.outgoing) to) ≡ take piece (drop (count - left) from.outgoing) =
+    piece-is (count - left) piece from to (omega arith) (omega arith) in
+    ap (λ x. take (count - left) from.outgoing ++ moved piece x to_now) e
+    ∙ (ap (λ y. take (count - left) from.outgoing ++ moved piece (ends.with_taken (take (count - left) from.outgoing) from) y) f
+    ∙ (ap (λ bytes. take (count - left) from.outgoing ++ bytes) is ∙ (pieces (count - left) piece from.outgoing ∙ ap (λ n. take n from.outgoing) next)))
+
 pub to-target-more : {S : Type 0} (count left piece : ℕ) (d d_now d_new : Debugger) (t t_now t_new : Target S) → piece ≤ left → left ≤ count → count ≤ length d.end.outgoing → count ≤ room_of t.end
     → d_now ≡ debuggers.with_taken (take (count - left) d.end.outgoing) d → t_now ≡ targets.with_fed (take (count - left) d.end.outgoing) t
     → d_new ≡ debuggers.with_taken (moved piece d_now.end t_now.end) d_now → t_new ≡ targets.with_fed (moved piece d_now.end t_now.end) t_now

@@ -3,7 +3,7 @@
 use Rattle.std.specs.Prelude.{◌≡◌, ◌≤◌, ◌<◌, ℕ, ◌+◌, Bool, true, false, ◌||◌, List, [], ◌∷◌, Some, is_some}
 use Rattle.jdwp_wire.specs.Streams as streams
 use Rattle.jdwp_wire.specs.Streams.{Whole}
-use Rattle.jdwp_end.specs.Ends.{front_of}
+use Rattle.jdwp_end.specs.Ends.{front_of, is_paused}
 use Rattle.jdwp_layout.specs.declared.answer.Answer.TheVariants.{Data}
 use Rattle.jdwp_layout.specs.Meanings.{DatumMeaning}
 use Rattle.jdwp_machine.specs.Meanings.{Meaning}
@@ -23,9 +23,11 @@ use Rattle.jdwp_model.specs.Seen.{mirror_count, seen_moment, is_known, is_held, 
 use Rattle.jdwp_model.specs.World.{Measure, World}
 use Rattle.jdwp_model.specs.Measures.{measured}
 use Rattle.jdwp_link.specs.declared.events.Outcome.{Outcome}
-use Rattle.jdwp_link.specs.Links.{Link}
+use Rattle.jdwp_link.specs.declared.way.Side.TheVariants as side
+use Rattle.jdwp_link.specs.Links.{Link, carried_to_debugger, carried_to_target, come_to_debugger, come_to_target, delivered_to_debugger, delivered_to_target}
 use Rattle.jdwp_link.specs.Stands.{StandsFor}
 use Rattle.jdwp_link.specs.Told.{told_outcomes}
+use Rattle.jdwp_link.specs.Ways.{Carried, with_carried}
 
 -- ---- events
 
@@ -50,13 +52,33 @@ pub record Ran {S : Type 0} (m : Meaning S) (es : List LinkEvent) (old new : Lin
   pub settings : (x : World S) → StandsFor m old x → new.target.settings ≡ old.target.settings
   pub sizes : (x : World S) → StandsFor m old x → m.sizes new.target.moment.machine ≡ m.sizes old.target.moment.machine
 
+-- A delivery moves just the first bytes under way, at most so many and as many as the end has room for.
+abbrev pub Delivers : {S : Type 0} → LinkEvent → Link S → Link S → Type 0
+Delivers (Events.ToTarget n) old new = new ≡ delivered_to_target (come_to_target n old) old
+Delivers (Events.ToDebugger n) old new = new ≡ delivered_to_debugger (come_to_debugger n old) old
+Delivers e old new = Unit {0}
+
+-- What a way has carried behind an event at this link, where it had carried that before: what comes to an end passes it, but for what an end
+-- had put that lost the connection.
+abbrev pub carried_by : {S : Type 0} → LinkEvent → Link S → Carried → Carried
+carried_by (Events.ToTarget n) l before = with_carried side.Debugger (carried_to_target n l) before
+carried_by (Events.ToDebugger n) l before = with_carried side.Target (carried_to_debugger n l) before
+carried_by e l before = before
+
+-- The events go, one after the other, and a way that had carried the one has then carried the other.
+abbrev pub RanOver : {S : Type 0} → Meaning S → List LinkEvent → Link S → Link S → Carried → Carried → Type 0
+RanOver m [] old new before after = (new ≡ old) × (after ≡ before)
+RanOver {S} m (e ∷ es) old new before after =
+    (mid : Link S) × (os : List Outcome) × Goes m e old mid os × Delivers e old mid × RanOver m es mid new (carried_by e old before) after
+
 -- Where an event may want memory: an Ask; a turn of the target at a whole message that calls for some; a release of a command that does; a
--- turn of the debugger at a whole message; a step that nothing but a thread too many forbids; and a loss at the debugger where tickets wait.
+-- turn of the debugger at a whole message; a step at a target that is not paused and that nothing but a thread too many forbids; and a loss at
+-- the debugger where tickets wait.
 abbrev pub MayStop : {S : Type 0} → Meaning S → Link S → LinkEvent → Type 0
 MayStop m l (Events.Ask c) = Unit {0}
 MayStop m l Events.TargetTurn = (message : streams.Message) × (used : ℕ) × (front_of l.target.end ≡ Whole message used) × NeedsMemory m l.target message
 MayStop m l Events.DebuggerTurn = is_front (front_of l.debugger.end) ≡ true
-MayStop m l (Events.Step t) = is_ready l.target.settings l.target.moment.state t ≡ true
+MayStop m l (Events.Step t) = (is_paused l.target.end ≡ false) × (is_ready l.target.settings l.target.moment.state t ≡ true)
 MayStop m l Events.DebuggerLoses = has_tickets l.debugger.pending ≡ true
 MayStop m l (Events.Release place) =
     (message : streams.Message) × (others : List streams.Message) × (deferred_at place l.target ≡ Some (message, others)) × NeedsMemoryToHandle m l.target message

@@ -1,3 +1,4 @@
+pub mod Ways
 pub mod Links
 pub mod Wires
 pub mod Stands
@@ -7,3 +8,4 @@ pub mod Laws
 pub mod Insides
 pub mod EventParts
 pub mod Moving
+pub mod Outcomes

@@ -75,6 +75,15 @@ delivered_to_debugger bytes l = record l {
   did = false;
 }
 
+-- ---- what a way carries of it
+
+-- what comes behind what an end had put that lost the connection
+abbrev pub carried_to_target : {S : Type 0} → ℕ → Link S → List ℕ
+carried_to_target n l = drop (length l.to_target) (come_to_target n l)
+
+abbrev pub carried_to_debugger : {S : Type 0} → ℕ → Link S → List ℕ
+carried_to_debugger n l = drop (length l.to_debugger) (come_to_debugger n l)
+
 -- ---- an end notices that the connection is lost
 
 -- what it had put stays under way

@@ -115,6 +115,11 @@ pub record Parts {S : Type 0} (m : Meaning S) (settings : Settings) (w : Widths)
   pub from : FromStands settings w l x deferred.wires to.wires
 
 -- A link stands for a world that is reached, where ids are so wide.
+--
+-- What it does not say, since a world has no ids of packets and no heads: under which ids commands and composites are under way (but that a
+-- reply has the id under which its command waits, `Awaits`), the id that the debugger gives next (`next_id`), and the heads of what the
+-- debugger's last turn told (`last`). Of these each end's own calls speak: an id that is given is free and no two commands wait under one, the
+-- k-th composite of a target's life has the id k, and `last` is what the turn read.
 pub record Stands {S : Type 0} (m : Meaning S) (settings : Settings) (w : Widths) (l : Link S) (x : World S) : Type 0 where
   pub reached : IsReached m settings w x
   pub parts : Parts m settings w l x

@@ -6,7 +6,7 @@ ghost use Rattle.jdwp_debugger.specs.Debuggers.{has_tickets, is_front};
 ghost use Rattle.jdwp_end.specs.Ends.{front_of, is_open};
 ghost use Rattle.jdwp_model.specs.Events as events;
 ghost use Rattle.jdwp_target.specs.Targets as targets;
-ghost use Rattle.jdwp_link.specs.Clauses.{Goes, MayStop};
+ghost use Rattle.jdwp_link.specs.Clauses.{Delivers, Goes, MayStop, carried_by};
 ghost use Rattle.jdwp_link.specs.EventParts.{Stops, Tells};
 ghost use Rattle.jdwp_link.specs.Insides.{DebuggerKeeps, TargetKeeps};
 ghost use Rattle.jdwp_link.specs.Told.{event_meaning, step_did, turn_did};
@@ -44,6 +44,11 @@ impl<M: Machine + Drop> Link<M> {
             outcomes.old.items outcomes.new.items) }
         ensures err { OnErr result (Stops M.meaning (event_meaning event.now) self.old self.new
             outcomes.old.items outcomes.new.items) }
+        ensures delivers { OnOk result (Delivers (event_meaning event.now) self.old self.new) }
+        ensures carried { OnOk result (W.has_failed way.new ≡ false → W.story way.new ≡ carried_by
+            (event_meaning event.now) self.old (W.story way.old)) }
+        ensures uncarried { OnErr result (way.new ≡ way.old) }
+        ensures failed { W.has_failed way.old ≡ true → way.new ≡ way.old }
     {
         match event {
             LinkEvent::Attach => self.attach(),
@@ -101,7 +106,11 @@ impl<M: Machine + Drop> Link<M> {
     /// At most so many of the bytes under way come to the target: first what a debugger that lost the connection had put, which is not
     /// carried, and then what waits at the debugger, carried by the way.
     pub(crate) fn deliver_to_target<W: Way>(&mut self, way: &mut W, most: usize)
-        ensures { Goes M.meaning (events.ToTarget most) self.old self.new [] }
+        ensures goes { Goes M.meaning (events.ToTarget most) self.old self.new [] }
+        ensures delivers { Delivers (events.ToTarget most) self.old self.new }
+        ensures carried { W.has_failed way.new ≡ false → W.story way.new ≡ carried_by
+            (events.ToTarget most) self.old (W.story way.old) }
+        ensures failed { W.has_failed way.old ≡ true → way.new ≡ way.old }
     {
         laws::<M>();
         let kept = queue_to_target(&mut self.to_target, &mut self.target, most);
@@ -118,7 +127,11 @@ impl<M: Machine + Drop> Link<M> {
     /// At most so many of the bytes under way come to the debugger: first what a target that lost the connection had put, which is not
     /// carried, and then what waits at the target, carried by the way.
     pub(crate) fn deliver_to_debugger<W: Way>(&mut self, way: &mut W, most: usize)
-        ensures { Goes M.meaning (events.ToDebugger most) self.old self.new [] }
+        ensures goes { Goes M.meaning (events.ToDebugger most) self.old self.new [] }
+        ensures delivers { Delivers (events.ToDebugger most) self.old self.new }
+        ensures carried { W.has_failed way.new ≡ false → W.story way.new ≡ carried_by
+            (events.ToDebugger most) self.old (W.story way.old) }
+        ensures failed { W.has_failed way.old ≡ true → way.new ≡ way.old }
     {
         laws::<M>();
         let kept = queue_to_debugger(&mut self.to_debugger, &mut self.debugger, most);

@@ -7,10 +7,12 @@ mod happening;
 mod laws;
 mod link;
 mod moving;
+mod outcomes;
 mod telling;
 mod way;
 
 pub use delivery::deliver;
 pub use events::{LinkEvent, Outcome, Stopped};
 pub use link::Link;
+pub use outcomes::{settles_each_ticket_once, tells_what_the_target_gave};
 pub use way::{Memory, Side, Way};

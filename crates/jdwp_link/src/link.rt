@@ -1,5 +1,5 @@
 //! A target and a debugger, and the bytes between them.
-ghost use Rattle.std.specs.Prelude.{◌≡◌, ◌≤◌, ◌<◌, ◌↔◌, [], Err, IfErr, IfOk, get_or, length, take};
+ghost use Rattle.std.specs.Prelude.{◌≡◌, ◌≤◌, ◌<◌, ◌↔◌, [], Err, IfErr, IfOk, OnOk, false, get_or, length, take, true};
 ghost use Rattle.jdwp_debuggee.specs.State as state;
 ghost use Rattle.jdwp_debugger.specs.Debuggers.{new_debugger};
 ghost use Rattle.jdwp_end.specs.Ends.{most_outgoing};
@@ -10,9 +10,10 @@ ghost use Rattle.jdwp_target.specs.Options.{Lives, LivesWithin, settings_at};
 ghost use Rattle.jdwp_target.specs.Targets.{new_target};
 ghost use Rattle.jdwp_target.specs.declared.setup.SetupFault.TheVariants as setup;
 ghost use Rattle.jdwp_wire.specs.Limits.{standard_limits};
-ghost use Rattle.jdwp_link.specs.Clauses.{CountsAtMost, HoldsSuspended, MayStop, MirrorsSeen, Ran, StaysTrue};
+ghost use Rattle.jdwp_link.specs.Clauses.{CountsAtMost, HoldsSuspended, MayStop, MirrorsSeen, Ran, RanOver, StaysTrue};
 ghost use Rattle.jdwp_link.specs.Links.{new_link};
-ghost use Rattle.jdwp_link.specs.Stands.{StandsFor};
+ghost use Rattle.jdwp_link.specs.Outcomes.{MeetsNoFault};
+ghost use Rattle.jdwp_link.specs.Stands.{IsLink, StandsFor};
 ghost use Rattle.jdwp_link.specs.Told.{event_meanings};
 
 use crate::events::{LinkEvent, Outcome, Stopped};
@@ -123,8 +124,8 @@ impl<M: Machine + Drop> Link<M> {
     /// # Errors
     /// `Stopped` where an event met want of memory; the link and what is told are those of the events before it. An `Ask` may stop a run;
     /// a turn of the target at a whole command that it defers, or whose data read and that is none of the twelve short ones; a release of
-    /// a deferred command whose data read; a turn of the debugger at a whole message; a step that nothing but a thread too many forbids;
-    /// and a loss at the debugger where tickets wait. No other event does.
+    /// a deferred command whose data read; a turn of the debugger at a whole message; a step at a target that is not paused and that nothing
+    /// but a thread too many forbids; and a loss at the debugger where tickets wait. No other event does.
     pub fn run(&mut self, events: &[LinkEvent]) -> Result<Vec<Outcome>, Stopped>
         ensures ok { IfOk result (λ told. Ran M.meaning (event_meanings events.now) self.old
             self.new told.items) }
@@ -139,14 +140,15 @@ impl<M: Machine + Drop> Link<M> {
         ensures stays { (x : World M) → StandsFor M.meaning self.new x
             → StaysTrue M.meaning self.new x }
     {
-        self.run_over(&mut Memory, events)
+        self.run_over(&mut Memory::new(), events)
     }
 
     /// The same, where the bytes that come to an end are carried there by a way, a piece of at most 4,096 bytes at a time: each is carried
-    /// whole before the end is fed with it. What an end had put that lost the connection is not carried. What the way does changes nothing.
+    /// whole before the end is fed with it, unless the way fails. What an end had put that lost the connection is not carried. What the way
+    /// does changes nothing. A way that had failed before stays as it is.
     ///
     /// # Errors
-    /// Those of `run`.
+    /// Those of `run`. Then the way carried what came to each end by the events before the one that met want of memory.
     pub fn run_over<W: Way>(
         &mut self,
         way: &mut W,
@@ -164,28 +166,37 @@ impl<M: Machine + Drop> Link<M> {
         ensures at_most { (x : World M) → StandsFor M.meaning self.new x → CountsAtMost self.new x }
         ensures stays { (x : World M) → StandsFor M.meaning self.new x
             → StaysTrue M.meaning self.new x }
+        ensures carried { OnOk result (W.has_failed way.new ≡ false → RanOver M.meaning
+            (event_meanings events.now) self.old self.new (W.story way.old) (W.story way.new)) }
+        ensures carried_before { IfErr result (λ stopped. W.has_failed way.new ≡ false
+            → RanOver M.meaning (take stopped.event (event_meanings events.now)) self.old self.new
+            (W.story way.old) (W.story way.new)) }
+        ensures failed { W.has_failed way.old ≡ true → way.new ≡ way.old }
     {
         let mut outcomes = Vec::new(self.alloc);
         for (place, event) in events.iter().enumerate() {
             if let Err(NoMemory) = self.happen(way, event, &mut outcomes) {
-                self.shows();
+                self.session();
                 return Err(Stopped {
                     event: place,
                     outcomes,
                 });
             }
         }
-        self.shows();
+        self.session();
         Ok(outcomes)
     }
 
-    /// What a debugger may rely on now. It changes nothing.
-    fn shows(&self)
+    /// What holds of every link, whatever happened to it: it stands for a world that some list of events leads to, so that what is said of worlds
+    /// and runs is said of it; what a debugger may rely on; and that neither end would refuse what stands in front of it. It changes nothing.
+    pub fn session(&self)
+        ensures stands { IsLink M.meaning self.now }
         ensures mirror { (x : World M) → StandsFor M.meaning self.now x → MirrorsSeen self.now x }
         ensures held { HoldsSuspended self.now }
         ensures at_most { (x : World M) → StandsFor M.meaning self.now x → CountsAtMost self.now x }
         ensures stays { (x : World M) → StandsFor M.meaning self.now x
             → StaysTrue M.meaning self.now x }
+        ensures faultless { MeetsNoFault M.meaning self.now }
     {
         laws::<M>();
         keeps(&self.target, &self.debugger);

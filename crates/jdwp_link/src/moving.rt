@@ -1,8 +1,9 @@
 //! Bytes that go from one end of a link to the other, and bytes that are kept for an end that loses the connection.
-ghost use Rattle.std.specs.Prelude.{◌≡◌, ◌≤◌, ◌+◌, ◌++◌, drop, length, min, take};
+ghost use Rattle.std.specs.Prelude.{◌≡◌, ◌≤◌, ◌+◌, ◌++◌, drop, false, length, min, take, true};
 ghost use Rattle.jdwp_debugger.specs.Debuggers as debuggers;
 ghost use Rattle.jdwp_end.specs.Ends.{room_of};
 ghost use Rattle.jdwp_target.specs.Targets as targets;
+ghost use Rattle.jdwp_link.specs.Ways.{with_carried};
 
 use crate::delivery::deliver;
 use crate::way::{Side, Way};
@@ -46,7 +47,7 @@ pub(crate) fn queue_to_debugger(
     count
 }
 
-/// Moves so many of the bytes that wait at the debugger to the target, which has room for them.
+/// Moves so many of the bytes that wait at the debugger to the target, which has room for them, over the way.
 pub(crate) fn pieces_to_target<M: Machine + Drop, W: Way>(
     debugger: &mut Debugger,
     target: &mut Target<M>,
@@ -58,6 +59,9 @@ pub(crate) fn pieces_to_target<M: Machine + Drop, W: Way>(
     ensures taken { debugger.new ≡ debuggers.with_taken (take count debugger.old.end.outgoing)
         debugger.old }
     ensures fed { target.new ≡ targets.with_fed (take count debugger.old.end.outgoing) target.old }
+    ensures carried { W.has_failed way.new ≡ false → W.story way.new ≡ with_carried Side.Debugger
+        (take count debugger.old.end.outgoing) (W.story way.old) }
+    ensures failed { W.has_failed way.old ≡ true → way.new ≡ way.old }
 {
     let mut buffer = [0; PIECE];
     let mut left = count;
@@ -81,6 +85,9 @@ pub(crate) fn pieces_to_debugger<M: Machine + Drop, W: Way>(
         (take count target.old.end.outgoing) target.old }
     ensures fed { debugger.new ≡ debuggers.with_fed (take count target.old.end.outgoing)
         debugger.old }
+    ensures carried { W.has_failed way.new ≡ false → W.story way.new ≡ with_carried Side.Target
+        (take count target.old.end.outgoing) (W.story way.old) }
+    ensures failed { W.has_failed way.old ≡ true → way.new ≡ way.old }
 {
     let mut buffer = [0; PIECE];
     let mut left = count;

@@ -36,7 +36,13 @@ fn handles<M: Machine + Drop>(
     target: &mut Target<M>,
 ) -> Turn {
     let mut buffer = [0; MOST];
-    deliver(debugger, target, &mut Memory, Side::Debugger, &mut buffer);
+    deliver(
+        debugger,
+        target,
+        &mut Memory::new(),
+        Side::Debugger,
+        &mut buffer,
+    );
     target.turn().expect(rt, "a turn")
 }
 
@@ -48,7 +54,13 @@ fn reads<M: Machine + Drop>(
     target: &mut Target<M>,
 ) -> Read {
     let mut buffer = [0; MOST];
-    deliver(target, debugger, &mut Memory, Side::Target, &mut buffer);
+    deliver(
+        target,
+        debugger,
+        &mut Memory::new(),
+        Side::Target,
+        &mut buffer,
+    );
     debugger.turn(alloc).expect(rt, "a turn")
 }
 

@@ -5,8 +5,11 @@ pub use Rattle.jdwp_target.specs.Lives
 pub use Rattle.jdwp_target.specs.Options
 pub use Rattle.jdwp_target.specs.Sends
 pub use Rattle.jdwp_target.specs.SetupNumbers
+pub use Rattle.jdwp_target.specs.Standings
 pub use Rattle.jdwp_target.specs.Targets
 pub use Rattle.jdwp_target.specs.Turns
+pub use Rattle.jdwp_target.specs.VisitLaws
+pub use Rattle.jdwp_target.specs.Visits
 pub use Rattle.jdwp_target.specs.declared.options.TargetOptions
 pub use Rattle.jdwp_target.specs.declared.setup.SetupFault
 pub use Rattle.jdwp_target.specs.declared.target.Stepped

@@ -12,6 +12,6 @@ mod tests;
 
 pub use capture::first_faulty_line;
 pub use debugger::ask_for_frames;
-pub use link::shows_suspended;
+pub use link::{settle, shown_count, shows_suspended};
 pub use machine::{OneStep, one_step_target};
 pub use target::answer;

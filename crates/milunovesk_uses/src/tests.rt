@@ -1,5 +1,8 @@
 //! Each of the callers, run once.
-use crate::{OneStep, answer, ask_for_frames, first_faulty_line, one_step_target, shows_suspended};
+use crate::{
+    OneStep, answer, ask_for_frames, first_faulty_line, one_step_target, settle, shown_count,
+    shows_suspended,
+};
 use milunovesk::{Debugger, Link, LinkEvent, ObjectId, Refused, TargetOptions};
 use std::process::Abort;
 
@@ -74,4 +77,16 @@ fn a_thread_of_ones_own_machine_is_shown_suspended(rt: HostRuntime) {
     let mut link = Box::new(rt.alloc(), link).expect(&rt, "memory");
     let shown = shows_suspended(&mut link, &UNTIL_SHOWN, THREAD);
     assert!(&rt; shown.expect(&rt, "memory"));
+}
+
+/// The thread is shown with the count that VM_START gave it; what is told is that event alone.
+#[test]
+fn a_link_that_one_was_given_settles_and_shows(rt: HostRuntime) {
+    let link = Link::new(rt.alloc(), OneStep::new(rt.alloc()), all_suspended(&rt)).expect(
+        &rt, "memory",
+    );
+    let mut link = Box::new(rt.alloc(), link).expect(&rt, "memory");
+    let told = settle(&mut link, &UNTIL_SHOWN).expect(&rt, "memory");
+    assert_eq!(&rt; told.len(), 1);
+    assert_eq!(&rt; shown_count(&link, THREAD), Some(1));
 }

@@ -1,13 +1,17 @@
-use Rattle.std.proofs.Common.{◌≡◌, ◌≤◌, ◌∙◌, ap, arith, length, take}
+use Rattle.std.proofs.Common.{◌≡◌, ◌≤◌, ◌-◌, ◌∙◌, ◌++◌, ap, arith, length, refl, take}
 use Rattle.std.proofs.lemmas.List.{length-take-le}
 use Rattle.jdwp_debugger.specs.Debuggers as debuggers
 use Rattle.jdwp_link.specs.Moving.{moved}
+use Rattle.jdwp_link.specs.declared.way.Side.TheVariants as side
 use Rattle.jdwp_target.specs.Targets as targets
-use Rattle.jdwp_link.proofs.Pieces.{all-left, to-debugger-more, to-debugger-start}
+use Rattle.jdwp_link.proofs.Carrying.{carry-all, carry-more, carry-start, stays-on}
+use Rattle.jdwp_link.proofs.Pieces.{all-left, moved-more, to-debugger-more, to-debugger-start}
 use Rattle.jdwp_link.proofs.moving.pieces_to_debugger.Goals as goal
 
 pub loop-left-init : goal.loop-left-init
-loop-left-init g c = to-debugger-start c.args.count c.args.target.now c.args.debugger.now
+loop-left-init g c =
+    let start = to-debugger-start c.args.count c.args.target.now c.args.debugger.now in
+    (start.0, start.1, start.2, (λ free. carry-start side.Target c.args.count c.args.target.now.end.outgoing (g.W.Way.story c.args.way.now)), (λ h. refl))
 
 pub loop-left-preserved : goal.loop-left-preserved
 loop-left-preserved g c =
@@ -16,10 +20,22 @@ loop-left-preserved g c =
     let size : length (take c.min-piece.result l.buffer) ≡ c.min-piece.result = length-take-le c.min-piece.result l.buffer (omega (arith, c.min-piece.ensures)) in
     let more = to-debugger-more c.args.count l.left c.min-piece.result c.args.target.now l.target c.deliver.new.from c.args.debugger.now l.debugger c.deliver.new.to piece l.invariant.0 c.requires.waiting c.requires.room l.invariant.1 l.invariant.2
     (c.deliver.ensures.taken ∙ ap (λ n. targets.with_taken (moved n l.target.end l.debugger.end) l.target) size) (c.deliver.ensures.fed ∙ ap (λ n. debuggers.with_fed (moved n l.target.end l.debugger.end) l.debugger) size) in
-    (omega (arith, l.invariant.0), more.0, more.1)
+    let moved_is : take (c.args.count - l.left) c.args.target.now.end.outgoing ++ moved (length (take c.min-piece.result l.buffer)) l.target.end l.debugger.end ≡ take (c.args.count - (l.left - c.min-piece.result)) c.args.target.now.end.outgoing =
+    ap (λ n. take (c.args.count - l.left) c.args.target.now.end.outgoing ++ moved n l.target.end l.debugger.end) size
+    ∙ moved-more c.args.count l.left c.min-piece.result c.args.target.now.end l.target.end c.args.debugger.now.end l.debugger.end piece l.invariant.0 c.requires.waiting c.requires.room (ap (λ x. x.end) l.invariant.1) (ap (λ x. x.end) l.invariant.2) in (
+      omega (arith, l.invariant.0),
+      more.0,
+      more.1,
+      carry-more g.W.Way.has_failed g.W.Way.story side.Target _ _ _ c.args.way.now l.way c.deliver.new.way l.invariant.3 c.deliver.ensures.carried c.deliver.ensures.failed moved_is,
+      stays-on g.W.Way.has_failed c.args.way.now l.way c.deliver.new.way l.invariant.4 c.deliver.ensures.failed,
+    )
 
 pub returns-clause-taken : goal.returns-clause-taken
 returns-clause-taken g c = c.loop-left.invariant.1 ∙ ap (λ b. targets.with_taken b c.args.target.now) (all-left c.args.count c.loop-left.left c.args.target.now.end.outgoing c.loop-left-test.false)
 
 pub returns-clause-fed : goal.returns-clause-fed
 returns-clause-fed g c = c.loop-left.invariant.2 ∙ ap (λ b. debuggers.with_fed b c.args.debugger.now) (all-left c.args.count c.loop-left.left c.args.target.now.end.outgoing c.loop-left-test.false)
+
+pub returns-clause-carried : goal.returns-clause-carried
+returns-clause-carried g c =
+    carry-all g.W.Way.has_failed g.W.Way.story side.Target c.args.count c.loop-left.left c.args.target.now.end.outgoing c.args.way.now c.loop-left.way (all-left c.args.count c.loop-left.left c.args.target.now.end.outgoing c.loop-left-test.false) c.loop-left.invariant.3

@@ -1,6 +1,12 @@
 use Rattle.jdwp_link.specs.Insides.{link_of}
+use Rattle.jdwp_link.proofs.Going.{turn-fails}
 use Rattle.jdwp_link.proofs.Holding.{counts-at-most, holds-suspended, mirrors-seen, stays-true}
-use Rattle.jdwp_link.proofs.link.Link.shows.Goals as goal
+use Rattle.jdwp_link.proofs.Keeping.{small-limits}
+use Rattle.jdwp_link.proofs.Settling.{read-fails}
+use Rattle.jdwp_link.proofs.link.Link.session.Goals as goal
+
+pub returns-clause-stands : goal.returns-clause-stands
+returns-clause-stands g c = rw (← c.self.view_is) c.self.invariant.is_link
 
 pub returns-clause-mirror : goal.returns-clause-mirror
 returns-clause-mirror g c =
@@ -26,3 +32,16 @@ returns-clause-stays g c =
     let s = c.self.inside in
     let l = link_of s.target s.debugger s.to_target.bytes s.to_debugger.bytes s.did in
     rw (← c.self.view_is) (λ x at. stays-true g.M.Machine.meaning c.laws.ensures.worlds _ _ l x c.keeps.ensures.debugger.own at)
+
+pub returns-clause-faultless : goal.returns-clause-faultless
+returns-clause-faultless g c =
+    let s = c.self.inside in
+    let m = g.M.Machine.meaning in
+    let l = link_of s.target s.debugger s.to_target.bytes s.to_debugger.bytes s.did in
+    let link = c.self.invariant.is_link in
+    let keeps = c.keeps.ensures.debugger in
+    let small = small-limits m l link keeps in
+    rw (← c.self.view_is) (record {
+      target = λ fault after turns. (turn-fails m c.laws.ensures.worlds l fault after c.laws.ensures small link turns).0;
+      debugger = λ fault after turns. (read-fails m c.laws.ensures.worlds l fault after c.laws.ensures small keeps link turns).0;
+    })
