@@ -1,5 +1,5 @@
 -- How many composites were handled, from call to call.
-use Rattle.std.proofs.Common.{◌≡◌, ◌≢◌, ◌∙◌, ℕ, ◌+◌, ◌≤◌, ◌++◌, List, [], ◌∷◌, length, Bool, true, false, cond, Option, Some, None, Ok, Err, if◌then◌else◌, slice_get, sym, ap, refl, subst, zero-add, arith}
+use Rattle.std.proofs.Common.{◌≡◌, ◌≢◌, ◌∙◌, ℕ, ◌+◌, ◌<◌, ◌≤◌, ◌^◌, ◌++◌, List, [], ◌∷◌, length, Bool, true, false, cond, Option, Some, None, is_some, Ok, Err, if◌then◌else◌, slice_get, sym, ap, refl, subst, zero-add, arith}
 use Rattle.std.specs.Prelude.{count_by}
 use Rattle.std.specs.List.{AllByRecursion, list_any}
 use Rattle.std.proofs.lemmas.Grind.{flat_map-append}
@@ -23,7 +23,7 @@ use Rattle.jdwp_layout.specs.declared.answer.Answer.{Answer}
 use Rattle.jdwp_event.specs.Composites.{CompositeMeaning}
 use Rattle.jdwp_end.specs.declared.phase.Phase.{Phase}
 use Rattle.jdwp_end.specs.declared.phase.Phase.TheVariants.{Closed, AwaitingHandshake, Established}
-use Rattle.jdwp_end.specs.Ends.{End, front_of, is_paused, next_at, next_of}
+use Rattle.jdwp_end.specs.Ends.{End, front_of, is_open, is_paused, next_at, next_of}
 use Rattle.jdwp_mirror.specs.Messages.{Reply, Report}
 use Rattle.jdwp_mirror.specs.Mirror.{ends}
 use Rattle.jdwp_mirror.specs.Widths.{widths_in}
@@ -36,15 +36,15 @@ use Rattle.jdwp_debugger.specs.Asking.{HasAsked}
 use Rattle.jdwp_debugger.specs.Debuggers.{Asked, Debugger, Parked as Waiting, attached, with_taken}
 use Rattle.jdwp_debugger.specs.DebuggerTurns.{Enters, HandlesAt, Told, TurnsAt, closed_where, command_at, measured_where, reading_of, reports, read_meaning}
 use Rattle.jdwp_debugger.specs.News.{News, Waits, Happens, Answers, Measures, Reading, answer_in, answer_says, composite_in, composites_in, event_says, event_says_by, place_of, reply_at, reply_to, says, sizes_say, unless_bad, widths_by, with_composites, with_first}
-use Rattle.jdwp_attach.specs.PlanWaits.{Counts, HandlesComposites, composites_of, is_composite, is_composite_kind}
+use Rattle.jdwp_attach.specs.PlanWaits.{Counts, HandlesComposites, HandlesFewer, composites_of, is_composite, is_composite_kind}
 
 -- ---- what packets say
 
--- a composite
-abbrev IsEvent : News → Type 0
-IsEvent (Waits bytes) = Unit {0}
-IsEvent (Happens c) = Unit {0}
-IsEvent other = ⊥
+-- a composite, which waits where the widths of ids are not known
+abbrev IsEvent : Option Widths → News → Type 0
+IsEvent sizes (Waits bytes) = sizes ≡ None
+IsEvent sizes (Happens c) = Unit {0}
+IsEvent sizes other = ⊥
 
 -- an answer; that with the widths of ids has all composites that waited for them
 abbrev IsAnswer : List Waiting → News → Type 0
@@ -53,28 +53,28 @@ IsAnswer parked (Measures place answer w cs) = length cs ≡ length parked
 IsAnswer parked other = ⊥
 
 -- what is said in a packet of this kind
-abbrev pub SaysIn : PacketKind → List Waiting → News → Type 0
-SaysIn (kind.Command set number) parked news = (is_command COMPOSITE set number ≡ true) × IsEvent news
-SaysIn (kind.Reply error) parked news = IsAnswer parked news
+abbrev pub SaysIn : PacketKind → Option Widths → List Waiting → News → Type 0
+SaysIn (kind.Command set number) sizes parked news = (is_command COMPOSITE set number ≡ true) × IsEvent sizes news
+SaysIn (kind.Reply error) sizes parked news = IsAnswer parked news
 
-waits-so : (b : Bool) (bytes : List ℕ) (news : News) → (if b then Err code.TooManyParked else Ok (Waits bytes)) ≡ Ok news → IsEvent news
+waits-so : (b : Bool) (bytes : List ℕ) (news : News) → (if b then Err code.TooManyParked else Ok (Waits bytes)) ≡ Ok news → IsEvent None news
 waits-so true bytes news e = absurd cc
 waits-so false bytes news e =
     let same : Waits bytes ≡ news = cc in
-    subst (λ (n : News). IsEvent n) same tt
+    subst (λ (n : News). IsEvent None n) same refl
 
-happens-so : (c : Option CompositeMeaning) (news : News) → event_says_by c ≡ Ok news → IsEvent news
-happens-so None news e = absurd cc
-happens-so (Some c) news e =
+happens-so : (w : Widths) (c : Option CompositeMeaning) (news : News) → event_says_by c ≡ Ok news → IsEvent (Some w) news
+happens-so w None news e = absurd cc
+happens-so w (Some c) news e =
     let same : Happens c ≡ news = cc in
-    subst (λ (n : News). IsEvent n) same tt
+    subst (λ (n : News). IsEvent (Some w) n) same tt
 
-event-so : (sizes : Option Widths) (parked : List Waiting) (bytes : List ℕ) (news : News) → event_says sizes parked bytes ≡ Ok news → IsEvent news
+event-so : (sizes : Option Widths) (parked : List Waiting) (bytes : List ℕ) (news : News) → event_says sizes parked bytes ≡ Ok news → IsEvent sizes news
 event-so None parked bytes news e = waits-so _ bytes news e
-event-so (Some w) parked bytes news e = happens-so _ news e
+event-so (Some w) parked bytes news e = happens-so w _ news e
 
 command-so : (b : Bool) (sizes : Option Widths) (parked : List Waiting) (bytes : List ℕ) (news : News) → (if b then event_says sizes parked bytes else Err code.BadEvent) ≡ Ok news
-    → (b ≡ true) × IsEvent news
+    → (b ≡ true) × IsEvent sizes news
 command-so true sizes parked bytes news e = (refl, event-so sizes parked bytes news e)
 command-so false sizes parked bytes news e = absurd cc
 
@@ -119,7 +119,7 @@ placed-so : (r : Reading) (e : ErrorCode) (bytes : List ℕ) (place : Option ℕ
 placed-so r e bytes None news h = absurd cc
 placed-so r e bytes (Some place) news h = reply-so r e bytes place (slice_get r.pending place) news h
 
-pub says-so : (r : Reading) (id : ℕ) (k : PacketKind) (bytes : List ℕ) (news : News) → says r id k bytes ≡ Ok news → SaysIn k r.parked news
+pub says-so : (r : Reading) (id : ℕ) (k : PacketKind) (bytes : List ℕ) (news : News) → says r id k bytes ≡ Ok news → SaysIn k r.sizes r.parked news
 says-so r id (kind.Command set number) bytes news e = command-so (is_command COMPOSITE set number) r.sizes r.parked bytes news e
 says-so r id (kind.Reply error) bytes news e = placed-so r error bytes (place_of id r.pending) news e
 
@@ -133,20 +133,25 @@ of_news (Measures place answer w cs) = 0
 abbrev one_if : Bool → ℕ
 one_if b = cond b 1 0
 
-kind-counts : (k : PacketKind) (parked : List Waiting) (news : News) → SaysIn k parked news → of_news news ≤ one_if (is_composite_kind k)
-kind-counts (kind.Command set number) parked (Waits bytes) said = rw said.0 (omega arith)
-kind-counts (kind.Command set number) parked (Happens c) said = rw said.0 (omega arith)
-kind-counts (kind.Command set number) parked (Answers place ticket answer) said = absurd said.1
-kind-counts (kind.Command set number) parked (Measures place answer w cs) said = absurd said.1
-kind-counts (kind.Reply error) parked (Waits bytes) said = absurd said
-kind-counts (kind.Reply error) parked (Happens c) said = absurd said
-kind-counts (kind.Reply error) parked (Answers place ticket answer) said = omega arith
-kind-counts (kind.Reply error) parked (Measures place answer w cs) said = omega arith
+kind-counts : (k : PacketKind) (sizes : Option Widths) (parked : List Waiting) (news : News) → SaysIn k sizes parked news → of_news news ≡ one_if (is_composite_kind k)
+kind-counts (kind.Command set number) sizes parked (Waits bytes) said = rw said.0 refl
+kind-counts (kind.Command set number) sizes parked (Happens c) said = rw said.0 refl
+kind-counts (kind.Command set number) sizes parked (Answers place ticket answer) said = absurd said.1
+kind-counts (kind.Command set number) sizes parked (Measures place answer w cs) said = absurd said.1
+kind-counts (kind.Reply error) sizes parked (Waits bytes) said = absurd said
+kind-counts (kind.Reply error) sizes parked (Happens c) said = absurd said
+kind-counts (kind.Reply error) sizes parked (Answers place ticket answer) said = refl
+kind-counts (kind.Reply error) sizes parked (Measures place answer w cs) said = refl
 
-pub measures-all : (k : PacketKind) (parked : List Waiting) (place : ℕ) (answer : Answer) (w : Widths) (cs : List CompositeMeaning) → SaysIn k parked (Measures place answer w cs)
-    → length cs ≡ length parked
-measures-all (kind.Command set number) parked place answer w cs said = absurd said.1
-measures-all (kind.Reply error) parked place answer w cs said = said
+pub measures-all : (k : PacketKind) (sizes : Option Widths) (parked : List Waiting) (place : ℕ) (answer : Answer) (w : Widths) (cs : List CompositeMeaning)
+    → SaysIn k sizes parked (Measures place answer w cs) → length cs ≡ length parked
+measures-all (kind.Command set number) sizes parked place answer w cs said = absurd said.1
+measures-all (kind.Reply error) sizes parked place answer w cs said = said
+
+-- what waits does so since the widths of ids are not known
+waits-unknown : (k : PacketKind) (sizes : Option Widths) (parked : List Waiting) (bytes : List ℕ) → SaysIn k sizes parked (Waits bytes) → sizes ≡ None
+waits-unknown (kind.Command set number) sizes parked bytes said = said.1
+waits-unknown (kind.Reply error) sizes parked bytes said = absurd said
 
 -- ---- what stands in front
 
@@ -220,36 +225,53 @@ pub record Keeps (old new : Debugger) : Type 0 where
   pub handled : new.end.session.handled ≡ old.end.session.handled
   pub phase : new.end.phase ≡ old.end.phase
   pub parked : new.parked ≡ old.parked
+  pub sizes : new.sizes ≡ old.sizes
 
-pub counts-kept : (n : ℕ) (old new : Debugger) → Keeps old new → Counts n old → Counts n new
-counts-kept n old new k c = record {
+pub counts-kept : (n left : ℕ) (old new : Debugger) → Keeps old new → Counts n left old → Counts n left new
+counts-kept n left old new k c = record {
   messages = c.messages;
   handled = (subst (λ (x : ℕ). IsConversation x c.messages) (sym k.limit) c.handled.0, k.handled ∙ c.handled.1);
   awaiting = λ e. c.awaiting (sym k.phase ∙ e);
   established = λ e. c.established (sym k.phase ∙ e);
   counted = omega (arith, c.counted, ap (λ (x : List Waiting). length x) k.parked);
+  none_wait = λ known. k.parked ∙ c.none_wait (ap (λ (o : Option Widths). is_some o) (sym k.sizes) ∙ known);
+  most = omega (arith, c.most, ap (λ (x : List Waiting). length x) k.parked);
 }
 
 -- a command was asked, and its packet left
 pub asked-keeps : (command : Command) (old mid : Debugger) → HasAsked command old mid → Keeps old (with_taken mid.end.outgoing mid)
-asked-keeps command old mid h = rw h.is (record { limit = refl; handled = refl; phase = refl; parked = refl })
+asked-keeps command old mid h = rw h.is (record { limit = refl; handled = refl; phase = refl; parked = refl; sizes = refl })
 
 -- as many composites as were counted were handled
-pub counts-handled : (n count : ℕ) (d : Debugger) → count ≤ n → Counts n d → HandlesComposites count d
-counts-handled n count d most c = (c.messages, c.handled, omega (arith, most, c.counted))
+pub counts-handled : (n left count : ℕ) (d : Debugger) → count ≤ n → Counts n left d → HandlesComposites count d
+counts-handled n left count d most c = (c.messages, c.handled, omega (arith, most, c.counted))
 
--- fewer are counted, too
-pub counts-fewer : (n m : ℕ) (d : Debugger) → m ≤ n → Counts n d → Counts m d
-counts-fewer n m d fewer c = record { messages = c.messages; handled = c.handled; awaiting = c.awaiting; established = c.established; counted = omega (arith, fewer, c.counted) }
+-- and no more
+pub counts-missing : (n left count : ℕ) (d : Debugger) → n < count → is_some d.sizes ≡ true → Counts n left d → HandlesFewer count d
+counts-missing n left count d fewer known c = (c.messages, c.handled, omega (arith, fewer, c.counted, ap (λ (x : List Waiting). length x) (c.none_wait known)))
+
+-- fewer turns are left
+pub counts-later : (n left left' : ℕ) (d : Debugger) → left' ≤ left → Counts n left d → Counts n left' d
+counts-later n left left' d fewer c = record {
+  messages = c.messages;
+  handled = c.handled;
+  awaiting = c.awaiting;
+  established = c.established;
+  counted = c.counted;
+  none_wait = c.none_wait;
+  most = omega (arith, fewer, c.most);
+}
 
 -- a session begins
-pub begun-counts : (d : Debugger) → d ≡ attached d → Counts 0 d
-begun-counts d begun = record {
+pub begun-counts : (left : ℕ) (d : Debugger) → left < 2 ^ 64 → d ≡ attached d → Counts 0 left d
+begun-counts left d most begun = record {
   messages = [];
   handled = (tt, ap (λ (x : Debugger). x.end.session.handled) begun);
   awaiting = λ e. refl;
   established = λ e. absurd (let f = sym (ap (λ (x : Debugger). x.end.phase) begun) ∙ e in cc);
   counted = omega (arith, ap (λ (x : Debugger). length x.parked) begun);
+  none_wait = λ known. ap (λ (x : Debugger). x.parked) begun;
+  most = omega (arith, most, ap (λ (x : Debugger). length x.parked) begun);
 }
 
 -- ---- a turn that read something
@@ -259,10 +281,13 @@ record Handled (message : Message) (more : ℕ) (old new : Debugger) : Type 0 wh
   limit : new.end.limits.packet ≡ old.end.limits.packet
   handled : new.end.session.handled ≡ old.end.session.handled ++ message_bytes message
   phase : new.end.phase ≢ AwaitingHandshake
-  counted : more + length new.parked ≤ length old.parked + one_if (is_composite message)
+  counted : more + length new.parked ≡ length old.parked + one_if (is_composite message)
+  none_wait : (is_some old.sizes ≡ true → old.parked ≡ []) → is_some new.sizes ≡ true → new.parked ≡ []
+  most : more + length new.parked ≤ length old.parked + 1
 
-counts-more : (n more : ℕ) (message : Message) (old new : Debugger) → IsDue old.end.limits.packet old.end.phase message → Handled message more old new → Counts n old → Counts (n + more) new
-counts-more n more message old new due h c =
+counts-more : (n more left : ℕ) (message : Message) (old new : Debugger) → IsDue old.end.limits.packet old.end.phase message → Handled message more old new → Counts n (left + 1) old
+    → Counts (n + more) left new
+counts-more n more left message old new due h c =
     let all = c.messages ++ message ∷ [] in
     record {
       messages = all;
@@ -273,43 +298,81 @@ counts-more n more message old new due h c =
       awaiting = λ e. absurd (h.phase e);
       established = λ e. not-empty c.messages message;
       counted = omega (arith, c.counted, h.counted, count-more c.messages message);
+      none_wait = h.none_wait c.none_wait;
+      most = omega (arith, c.most, h.most);
     }
 
--- a session that may be closed by it
-handled-where : (b : Bool) (message : Message) (more : ℕ) (old mid : Debugger) → Handled message more old mid → Handled message more old (closed_where b mid)
-handled-where true message more old mid h = record { limit = h.limit; handled = h.handled; phase = λ e. cc; counted = omega (arith, h.counted) }
-handled-where false message more old mid h = h
+-- the session was not closed by it
+handled-where : (b : Bool) (message : Message) (more : ℕ) (old mid : Debugger) → is_open (closed_where b mid).end ≡ true → Handled message more old mid → Handled message more old (closed_where b mid)
+handled-where true message more old mid opened h = absurd (let e = opened in cc)
+handled-where false message more old mid opened h = h
 
-handled-measured : (b : Bool) (w : Widths) (message : Message) (more : ℕ) (old mid : Debugger) → Handled message more old mid → Handled message more old (measured_where b w mid)
-handled-measured true w message more old mid h = record { limit = h.limit; handled = h.handled; phase = λ e. cc; counted = omega (arith, h.counted) }
-handled-measured false w message more old mid h = h
+handled-measured : (b : Bool) (w : Widths) (message : Message) (more : ℕ) (old mid : Debugger) → is_open (measured_where b w mid).end ≡ true → Handled message more old mid
+    → Handled message more old (measured_where b w mid)
+handled-measured true w message more old mid opened h = absurd (let e = opened in cc)
+handled-measured false w message more old mid opened h = h
 
-handles-packet : (header : Header) (body : List ℕ) (used : ℕ) (news : News) (old new : Debugger) (t : Told) → SaysIn header.kind old.parked news
-    → Enters (Packet header body) used header news old t new → Handled (Packet header body) (composites_of t) old new
-handles-packet header body used (Waits bytes) old new t said h =
-    let one = kind-counts header.kind old.parked (Waits bytes) said in
-    rw (h.0, h.1) (record { limit = refl; handled = refl; phase = λ e. cc; counted = omega (arith, one, length-append {A = Waiting}) })
-handles-packet header body used (Happens c) old new t said h =
-    let one = kind-counts header.kind old.parked (Happens c) said in
-    rw (h.0, h.1.2) (handled-where (ends (Report c)) (Packet header body) 1 old _ (record { limit = refl; handled = refl; phase = λ e. cc; counted = omega (arith, one) }))
-handles-packet header body used (Answers place ticket answer) old new t said h =
-    rw (h.0, h.1.2) (handled-where (ends (Reply (Some ticket) (command_at place old.pending) answer)) (Packet header body) 0 old _
-    (record { limit = refl; handled = refl; phase = λ e. cc; counted = omega arith }))
-handles-packet header body used (Measures place answer w cs) old new t said h =
-    let all = measures-all header.kind old.parked place answer w cs said in
-    rw (h.0, h.1.2) (handled-measured (list_any ends (reports cs)) w (Packet header body) (length cs) old _
-    (record { limit = refl; handled = refl; phase = λ e. cc; counted = omega (arith, all) }))
+handles-packet : (header : Header) (body : List ℕ) (used : ℕ) (news : News) (old new : Debugger) (t : Told) → SaysIn header.kind old.sizes old.parked news
+    → Enters (Packet header body) used header news old t new → is_open new.end ≡ true → Handled (Packet header body) (composites_of t) old new
+handles-packet header body used (Waits bytes) old new t said h opened =
+    let one = kind-counts header.kind old.sizes old.parked (Waits bytes) said in
+    let unknown = waits-unknown header.kind old.sizes old.parked bytes said in
+    rw (h.0, h.1) (record {
+      limit = refl;
+      handled = refl;
+      phase = λ e. cc;
+      counted = omega (arith, one, length-append {A = Waiting});
+      none_wait = λ none known. absurd (let e = ap (λ (o : Option Widths). is_some o) (sym unknown) ∙ known in cc);
+      most = omega (arith, length-append {A = Waiting});
+    })
+handles-packet header body used (Happens c) old new t said h opened =
+    let one = kind-counts header.kind old.sizes old.parked (Happens c) said in
+    let b = ends (Report c) in
+    rw (h.0, h.1.2) (handled-where b (Packet header body) 1 old _ (subst (λ (d : Debugger). is_open d.end ≡ true) h.1.2 opened)
+    (record { limit = refl; handled = refl; phase = λ e. cc; counted = omega (arith, one); none_wait = λ none known. none known; most = omega arith }))
+handles-packet header body used (Answers place ticket answer) old new t said h opened =
+    let one = kind-counts header.kind old.sizes old.parked (Answers place ticket answer) said in
+    let b = ends (Reply (Some ticket) (command_at place old.pending) answer) in
+    rw (h.0, h.1.2) (handled-where b (Packet header body) 0 old _ (subst (λ (d : Debugger). is_open d.end ≡ true) h.1.2 opened)
+    (record { limit = refl; handled = refl; phase = λ e. cc; counted = omega (arith, one); none_wait = λ none known. none known; most = omega arith }))
+handles-packet header body used (Measures place answer w cs) old new t said h opened =
+    let one = kind-counts header.kind old.sizes old.parked (Measures place answer w cs) said in
+    let all = measures-all header.kind old.sizes old.parked place answer w cs said in
+    let b = list_any ends (reports cs) in
+    rw (h.0, h.1.2) (handled-measured b w (Packet header body) (length cs) old _ (subst (λ (d : Debugger). is_open d.end ≡ true) h.1.2 opened)
+    (record { limit = refl; handled = refl; phase = λ e. cc; counted = omega (arith, one, all); none_wait = λ none known. refl; most = omega (arith, all) }))
 
-handles : (message : Message) (used : ℕ) (old new : Debugger) (r : Read) → HandlesAt message used old (Ok r) new → Handled message (composites_of (read_meaning r)) old new
-handles Handshake used old new r h = rw (h.0, h.2) (record { limit = refl; handled = refl; phase = λ e. cc; counted = omega arith })
-handles (Packet header body) used old new r h =
-    handles-packet header body used h.news old new (read_meaning r) (says-so (reading_of old) header.id header.kind body h.news h.said) h.entered
+handles : (message : Message) (used : ℕ) (old new : Debugger) (r : Read) → HandlesAt message used old (Ok r) new → is_open new.end ≡ true → Handled message (composites_of (read_meaning r)) old new
+handles Handshake used old new r h opened =
+    rw (h.0, h.2) (record { limit = refl; handled = refl; phase = λ e. cc; counted = omega arith; none_wait = λ none known. none known; most = omega arith })
+handles (Packet header body) used old new r h opened =
+    handles-packet header body used h.news old new (read_meaning r) (says-so (reading_of old) header.id header.kind body h.news h.said) h.entered opened
+
+-- no more composites are told of than waited, and one
+packet-few : (header : Header) (body : List ℕ) (used : ℕ) (news : News) (old new : Debugger) (t : Told) → SaysIn header.kind old.sizes old.parked news
+    → Enters (Packet header body) used header news old t new → composites_of t ≤ length old.parked + 1
+packet-few header body used (Waits bytes) old new t said h = rw h.0 (omega arith)
+packet-few header body used (Happens c) old new t said h = rw h.0 (omega arith)
+packet-few header body used (Answers place ticket answer) old new t said h = rw h.0 (omega arith)
+packet-few header body used (Measures place answer w cs) old new t said h = rw h.0 (omega (arith, measures-all header.kind old.sizes old.parked place answer w cs said))
+
+pub turned-few : (next : NextMessage) (old new : Debugger) (r : Read) → TurnsAt next old (Ok r) new → composites_of (read_meaning r) ≤ length old.parked + 1
+turned-few (Whole Handshake used) old new r h = rw h.0 (omega arith)
+turned-few (Whole (Packet header body) used) old new r h =
+    packet-few header body used h.news old new (read_meaning r) (says-so (reading_of old) header.id header.kind body h.news h.said) h.entered
+turned-few More old new r h =
+    let same : r ≡ read.Nothing = cc (h.0) in
+    rw same (omega arith)
+turned-few (Fault fault) old new r h = absurd (let e = h.0 in cc)
+
+-- so many can be counted
+pub counts-fit : (next : NextMessage) (n left : ℕ) (old new : Debugger) (r : Read) → 0 < left → TurnsAt next old (Ok r) new → Counts n left old → n + composites_of (read_meaning r) < 2 ^ 64
+counts-fit next n left old new r some h c = omega (arith, some, turned-few next old new r h, c.most)
 
 -- so many composites were told of
-pub counts-turned : (next : NextMessage) (n : ℕ) (old new : Debugger) (r : Read) → front_of old.end ≡ next → IsBytes old.end.incoming → TurnsAt next old (Ok r) new → Counts n old
-    → Counts (n + composites_of (read_meaning r)) new
-counts-turned (Whole message used) n old new r is fits h c = counts-more n (composites_of (read_meaning r)) message old new (front-due old.end message used fits is) (handles message used old new r h) c
-counts-turned More n old new r is fits h c =
-    let same : r ≡ read.Nothing = cc (h.0) in
-    rw (same, h.1) (counts-fewer n (n + 0) (record old { last = [] }) (omega arith) (counts-kept n old (record old { last = [] }) (record { limit = refl; handled = refl; phase = refl; parked = refl }) c))
-counts-turned (Fault fault) n old new r is fits h c = absurd (let e = h.0 in cc)
+pub counts-turned : (next : NextMessage) (n left : ℕ) (old new : Debugger) (r : Read) → front_of old.end ≡ next → IsBytes old.end.incoming → TurnsAt next old (Ok r) new → r ≢ read.Nothing
+    → is_open new.end ≡ true → Counts n (left + 1) old → Counts (n + composites_of (read_meaning r)) left new
+counts-turned (Whole message used) n left old new r is fits h some opened c =
+    counts-more n (composites_of (read_meaning r)) left message old new (front-due old.end message used fits is) (handles message used old new r h opened) c
+counts-turned More n left old new r is fits h some opened c = absurd (some (let e = h.0 in cc))
+counts-turned (Fault fault) n left old new r is fits h some opened c = absurd (let e = h.0 in cc)

@@ -26,11 +26,12 @@ use Rattle.jdwp_plan.specs.declared.plan_line.PlanLine.TheVariants as line
 use Rattle.jdwp_plan.specs.Lines.{is_of_pair}
 use Rattle.jdwp_plan.specs.PlanLines.{said_by}
 use Rattle.jdwp_attach.specs.PlanAsks.{AsksInOrder, IsBeginning, Stands, asks, command_asked}
-use Rattle.jdwp_attach.specs.PlanRuns.{Attaches, Leaves, Stays, EndsFailed, EndsRefused, EndsSo, HasLeft, HasLeftOrFails, IsAsk, IsFinished, LineEndsSo, MayEnd, ReadsEnd, RefusesBy, RefusesCommand, RefusesLineAt, Tells, TellsInOrder, TellsPart, told_number, unflushed_debugger}
-use Rattle.jdwp_attach.specs.Runs.{FailsLastFlush, Finishes, InOrder, IsGoing, LosesAtRead, LosesAtWrite, Reaches, Standing, at}
-use Rattle.jdwp_tell.specs.Telling.{TellsMirror}
+use Rattle.jdwp_attach.specs.PlanRuns.{Attaches, Leaves, Stays, EndsFailed, EndsRefused, EndsSo, HasLeft, HasLeftOrFails, IsAsk, IsFinished, LineEndsSo, MayEnd, ReadsEnd, RefusesBy, RefusesCommand, RefusesLineAt, TakesMemory, Tells, TellsInOrder, TellsPart, WantsMemory, WantsToTell, WantsTurn, told_number, unflushed_debugger}
+use Rattle.jdwp_attach.specs.PlanWaits.{Awaits}
+use Rattle.jdwp_attach.specs.Runs.{FailsLastFlush, Finishes, FlushesOrFails, InOrder, IsGoing, LosesAtRead, LosesAtWrite, Reaches, Standing, at}
+use Rattle.jdwp_tell.specs.Telling.{TellsMirror, lines_of}
 use Rattle.jdwp_attach.proofs.Moves.{asked-moves, begins-all, begins-behind, begins-line, begins-none, line-split, printed-again, written-none}
-use Rattle.jdwp_attach.proofs.Reached.{hello-reached, hello-reached-all, reach-all, reach-passed, reach-same, reach-taken, reach-untold}
+use Rattle.jdwp_attach.proofs.Reached.{hello-reached, hello-reached-all, reach-all, reach-passed, reach-same, reach-taken, reach-turned, reach-untold}
 use Rattle.jdwp_attach.proofs.Stages.{asks-append, one-asked, puts-same, stands-asked, stands-known, stands-puts}
 use Rattle.jdwp_attach.proofs.Turned.{Moves, fault-refused, memory-same}
 
@@ -58,12 +59,12 @@ same-by old new is =
 asks-same : (plan : List PlanLine) (base old new : Debugger) → new.tickets ≡ old.tickets → new.end.session.enqueued ≡ old.end.session.enqueued → AsksInOrder plan base old → AsksInOrder plan base new
 asks-same plan base old new same enqueued (done, begins, (tickets, puts)) = (done, begins, (same ∙ tickets, puts-same done base old new enqueued puts))
 
-pub going-asks : (plan done : List PlanLine) (base now : Standing) → IsBeginning done plan → IsGoing done base now → AsksInOrder plan base.debugger now.debugger
+pub going-asks : (plan done : List PlanLine) (base now : Standing) → IsBeginning done plan → IsGoing plan done base now → AsksInOrder plan base.debugger now.debugger
 going-asks plan done base now begins k = (done, begins, (k.asked, stands-puts done base.debugger now.debugger k.stands))
 
 -- nothing more went through the pipe to the target, nothing was printed, and what the debugger was fed and what it put stayed
 stays-in-order : (plan done : List PlanLine) (base : Standing) (s o : Story) (old : Debugger) (left : ℕ) (s' : Story) (new : Debugger)
-    → IsBeginning done plan → IsGoing done base (at s o old left) → s'.read ≡ s.read → s'.written ≡ s.written → s.failed_writes ≤ s'.failed_writes → s'.early ≡ s.early
+    → IsBeginning done plan → IsGoing plan done base (at s o old left) → s'.read ≡ s.read → s'.written ≡ s.written → s.failed_writes ≤ s'.failed_writes → s'.early ≡ s.early
     → Same old new → InOrder plan base s' o new
 stays-in-order plan done base s o old left s' new begins k read written failed early same =
     let all : s'.written ≡ base.pipe.written ++ new.end.session.enqueued = grind (arith, common_steps, written, k.written, same.enqueued) in
@@ -79,7 +80,7 @@ stays-in-order plan done base s o old left s' new begins k read written failed e
       failed_prints = omega (arith, ap (λ (x : Story). x.failed_writes) k.printed);
     }
 
-going-in-order : (plan done : List PlanLine) (base : Standing) (s o : Story) (d : Debugger) (left : ℕ) (new : Debugger) → IsBeginning done plan → IsGoing done base (at s o d left)
+going-in-order : (plan done : List PlanLine) (base : Standing) (s o : Story) (d : Debugger) (left : ℕ) (new : Debugger) → IsBeginning done plan → IsGoing plan done base (at s o d left)
     → Same d new → InOrder plan base s o new
 going-in-order plan done base s o d left new begins k same = stays-in-order plan done base s o d left s new begins k refl refl (omega arith) refl same
 
@@ -88,28 +89,28 @@ printed-same : (a b : Story) (text : List ℕ) → b ≡ with_written text a →
 printed-same a b text e = ap (λ (x : Story). x.failed_writes) e
 
 -- no write and no flush failed so far
-has-left : (done : List PlanLine) (base : Standing) (s o : Story) (d : Debugger) (left : ℕ) → IsGoing done base (at s o d left) → HasLeft base (flushed s) (flushed o)
-has-left done base s o d left k = (k.failed_writes, printed-same base.out o k.told k.printed, refl, refl)
+has-left : (plan done : List PlanLine) (base : Standing) (s o : Story) (d : Debugger) (left : ℕ) → IsGoing plan done base (at s o d left) → HasLeft base (flushed s) (flushed o)
+has-left plan done base s o d left k = (k.failed_writes, printed-same base.out o k.told k.printed, refl, refl)
 
 -- ---- what was told
 
-printed-so : (a b : Story) (text : List ℕ) → b ≡ with_written text a → b.written ≡ a.written ++ text
+pub printed-so : (a b : Story) (text : List ℕ) → b ≡ with_written text a → b.written ≡ a.written ++ text
 printed-so a b text e = ap (λ (x : Story). x.written) e
 
 -- all that was told so far was printed
-going-tells : (done : List PlanLine) (base : Standing) (s o : Story) (d : Debugger) (left : ℕ) → IsGoing done base (at s o d left) → Tells done base (flushed o) d
-going-tells done base s o d left k = (k.told, k.reached, printed-so base.out o k.told k.printed)
+going-tells : (plan done : List PlanLine) (base : Standing) (s o : Story) (d : Debugger) (left : ℕ) → IsGoing plan done base (at s o d left) → Tells plan done base (flushed o) d
+going-tells plan done base s o d left k = (k.told, k.reached, printed-so base.out o k.told k.printed)
 
-going-told : (plan done : List PlanLine) (base : Standing) (s o : Story) (d : Debugger) (left : ℕ) → IsBeginning done plan → IsGoing done base (at s o d left) → TellsInOrder plan base (flushed o) d
-going-told plan done base s o d left begins k = (done, begins, going-tells done base s o d left k)
+going-told : (plan done : List PlanLine) (base : Standing) (s o : Story) (d : Debugger) (left : ℕ) → IsBeginning done plan → IsGoing plan done base (at s o d left) → TellsInOrder plan base (flushed o) d
+going-told plan done base s o d left begins k = (done, begins, going-tells plan done base s o d left k)
 
 -- what was told is a part of what was told
 tells-part : (plan : List PlanLine) (base : Standing) (o : Story) (d : Debugger) → TellsInOrder plan base o d → TellsPart plan base o d
 tells-part plan base o d (done, begins, (text, r, is)) = (done, begins, (text, text, r, ([], sym (append-nil text)), is))
 
 -- what was told before, and a part of what was to be told
-part-told : (plan done : List PlanLine) (base : Standing) (s o o' : Story) (old d : Debugger) (left : ℕ) (text told some : List ℕ) → IsBeginning done plan → (k : IsGoing done base (at s o old left))
-    → Reaches base.debugger done told d → told ≡ k.told ++ text → IsFront some text → o'.written ≡ o.written ++ some → TellsPart plan base (flushed o') d
+part-told : (plan done : List PlanLine) (base : Standing) (s o o' : Story) (old d : Debugger) (left : ℕ) (text told some : List ℕ) → IsBeginning done plan → (k : IsGoing plan done base (at s o old left))
+    → Reaches plan base.debugger done told d → told ≡ k.told ++ text → IsFront some text → o'.written ≡ o.written ++ some → TellsPart plan base (flushed o') d
 part-told plan done base s o o' old d left text told some begins k r tells (rest, split) is = (
   done,
   begins,
@@ -123,39 +124,49 @@ part-told plan done base s o o' old d left text told some begins k r tells (rest
 )
 
 -- what was told before, and nothing more
-none-told : (plan done : List PlanLine) (base : Standing) (s o o' : Story) (old d : Debugger) (left : ℕ) (text told : List ℕ) → IsBeginning done plan → (k : IsGoing done base (at s o old left))
-    → Reaches base.debugger done told d → told ≡ k.told ++ text → o' ≡ o → TellsPart plan base (flushed o') d
+none-told : (plan done : List PlanLine) (base : Standing) (s o o' : Story) (old d : Debugger) (left : ℕ) (text told : List ℕ) → IsBeginning done plan → (k : IsGoing plan done base (at s o old left))
+    → Reaches plan base.debugger done told d → told ≡ k.told ++ text → o' ≡ o → TellsPart plan base (flushed o') d
 none-told plan done base s o o' old d left text told begins k r tells same =
     part-told plan done base s o o' old d left text told [] begins k r tells (text, refl) (ap (λ (x : Story). x.written) same ∙ sym (append-nil o.written))
 
 -- ---- the limit of turns
 
-pub limit-ends : (s o : Story) (d : Debugger) (left : ℕ) → left ≡ 0 → EndsSo (at s o d left) (at s o d left) TurnLimit
-limit-ends s o d left none plan done base begins k = (
+pub limit-ends : (s o : Story) (d : Debugger) (left : ℕ) → left ≡ 0 → EndsSo (λ plan done. Awaits plan done d) (at s o d left) (at s o d left) TurnLimit
+limit-ends s o d left none plan done base begins awaits k = (
   going-in-order plan done base s o d left d begins k (same-by d d refl),
-  (going-told plan done base s o d left begins k, k.ready.0, k.kept, has-left done base s o d left k, omega (arith, k.turns, none)),
+  ((done, begins, awaits, going-tells plan done base s o d left k), k.ready.0, k.kept, has-left plan done base s o d left k, omega (arith, k.turns, none)),
 )
 
 -- want of memory
-pub stays-memory : (plan done : List PlanLine) (base : Standing) (s o : Story) (d : Debugger) (left : ℕ) → IsBeginning done plan → IsGoing done base (at s o d left)
+stays-memory : (plan done : List PlanLine) (base : Standing) (s o : Story) (d : Debugger) (left : ℕ) → IsBeginning done plan → WantsMemory plan base (flushed o) d → IsGoing plan done base (at s o d left)
     → InOrder plan base s o d × MayEnd plan NoMemory base (flushed s) (flushed o) d
-stays-memory plan done base s o d left begins k = (
-  going-in-order plan done base s o d left d begins k (same-by d d refl),
-  (tells-part plan base (flushed o) d (going-told plan done base s o d left begins k), k.kept, has-left done base s o d left k),
-)
+stays-memory plan done base s o d left begins wants k =
+    (going-in-order plan done base s o d left d begins k (same-by d d refl), (wants, k.kept, has-left plan done base s o d left k))
+
+-- a turn that wants it
+turn-wants : (plan done : List PlanLine) (base : Standing) (s o : Story) (d : Debugger) (left : ℕ) → IsBeginning done plan → Awaits plan done d → TurnsAt (front_of d.end) d (Err code.NoMemory) d
+    → IsGoing plan done base (at s o d left) → WantsMemory plan base (flushed o) d
+turn-wants plan done base s o d left begins awaits turned k = inl ((done, begins, awaits, going-tells plan done base s o d left k), turned)
+
+-- a line that does
+line-wants : (done rest : List PlanLine) (line : PlanLine) (base : Standing) (s o : Story) (d : Debugger) (left : ℕ) → TakesMemory line d
+    → IsGoing (done ++ line ∷ rest) done base (at s o d left) → WantsMemory (done ++ line ∷ rest) base (flushed o) d
+line-wants done rest line base s o d left takes k = inr (inl (done, line, (rest, refl), takes, going-tells (done ++ line ∷ rest) done base s o d left k))
 
 -- ---- turns that failed
 
-turn-memory-ends : (s o : Story) (old new : Debugger) (left left' : ℕ) → TurnsAt (front_of old.end) old (Err code.NoMemory) new → EndsSo (at s o old left) (at s o new left') NoMemory
-turn-memory-ends s o old new left left' turned plan done base begins k =
-    rw (memory-same (front_of old.end) old new turned) (stays-memory plan done base s o old left begins k)
+turn-memory-ends : (s o : Story) (old new : Debugger) (left left' : ℕ) → TurnsAt (front_of old.end) old (Err code.NoMemory) new → EndsSo (λ plan done. Awaits plan done old) (at s o old left) (at s o new left') NoMemory
+turn-memory-ends s o old new left left' turned plan done base begins awaits k =
+    let same = memory-same (front_of old.end) old new turned in
+    let again : TurnsAt (front_of old.end) old (Err code.NoMemory) old = subst (λ (x : Debugger). TurnsAt (front_of old.end) old (Err code.NoMemory) x) same turned in
+    rw same (stays-memory plan done base s o old left begins (turn-wants plan done base s o old left begins awaits again k) k)
 
 turn-refused-ends : (s o : Story) (old mid new : Debugger) (left left' number : ℕ) (fault : DebuggerFault) → fault ≢ code.NoMemory → TurnsAt (front_of old.end) old (Err fault) mid → new ≡ lost_debugger mid
-    → number ≡ told_number fault → EndsSo (at s o old left) (at s o new left') (Refused number)
-turn-refused-ends s o old mid new left left' number fault some turned is number-is plan done base begins k =
+    → number ≡ told_number fault → EndsSo (λ plan done. Awaits plan done old) (at s o old left) (at s o new left') (Refused number)
+turn-refused-ends s o old mid new left left' number fault some turned is number-is plan done base begins awaits k =
     let same = fault-refused (front_of old.end) old mid fault some turned in
     let kept : mid.end.session.lost ≡ false = rw same k.kept in
-    let reached : Reaches base.debugger done k.told mid = reach-untold base.debugger done k.told old mid (Err fault) refl k.reached turned in
+    let reached : Reaches plan base.debugger done k.told mid = reach-untold plan base.debugger done k.told old mid (Err fault) refl k.reached awaits turned in
     rw is (
       going-in-order plan done base s o old left (lost_debugger mid) begins k (record { fed = rw same refl; enqueued = rw same refl; taken = rw same refl; tickets = rw same refl }),
       (
@@ -165,12 +176,12 @@ turn-refused-ends s o old mid new left left' number fault some turned is number-
           kept,
           refl,
         ),
-        inl (has-left done base s o old left k),
+        inl (has-left plan done base s o old left k),
       ),
     )
 
 pub turn-ends : (s o : Story) (old mid new : Debugger) (left left' : ℕ) (fault : DebuggerFault) (ended : Ended) → TurnsAt (front_of old.end) old (Err fault) mid → EndsFailed fault mid new ended
-    → EndsSo (at s o old left) (at s o new left') ended
+    → EndsSo (λ plan done. Awaits plan done old) (at s o old left) (at s o new left') ended
 turn-ends s o old mid new left left' code.NoMemory ended turned h = rw (h.0, h.1) (turn-memory-ends s o old mid left left' turned)
 turn-ends s o old mid new left left' (code.Frame fault) ended turned h = rw h.0 (turn-refused-ends s o old mid new left left' _ (code.Frame fault) (λ e. cc) turned h.1 refl)
 turn-ends s o old mid new left left' code.UnknownReply ended turned h = rw h.0 (turn-refused-ends s o old mid new left left' _ code.UnknownReply (λ e. cc) turned h.1 refl)
@@ -180,6 +191,21 @@ turn-ends s o old mid new left left' code.BadEvent ended turned h = rw h.0 (turn
 
 -- ---- commands that were refused
 
+-- the command of a line reads
+pub asks-takes : (line : PlanLine) (set number : ℕ) (bytes : List ℕ) (w : Widths) (command : Command) (d : Debugger) → IsAsk line set number bytes → d.sizes ≡ Some w
+    → command_asked w set number bytes ≡ Some command → TakesMemory line d
+asks-takes (line.Ask s n carried) set number bytes w command d h known is = (w, command, known, rw (h.0, h.1, h.2) is)
+asks-takes other set number bytes w command d h known is = absurd h
+
+-- its data read
+pub reads-takes : (line : PlanLine) (set number : ℕ) (bytes : List ℕ) (w : Widths) (d : Debugger) → IsAsk line set number bytes → d.sizes ≡ Some w
+    → is_some (command_asked w set number bytes) ≡ true → TakesMemory line d
+reads-takes line set number bytes w d asks-it known some =
+    elim (command_asked w set number bytes) as (λ (o : Option Command). command_asked w set number bytes ≡ o → is_some o ≡ true → TakesMemory line d) [
+      | None ↦ λ is some. absurd (cc)
+      | Some command ↦ λ is some. asks-takes line set number bytes w command d asks-it known is
+    ] refl some
+
 -- the debugger refuses the command of a line
 pub ask-refuses : (line : PlanLine) (d : Debugger) (set number refused : ℕ) (bytes : List ℕ) (w : Widths) → IsAsk line set number bytes → RefusesCommand d refused (command_asked w set number bytes)
     → RefusesBy line w d refused
@@ -187,7 +213,7 @@ ask-refuses (line.Ask s n carried) d set number refused bytes w h refuses = rw (
 ask-refuses other d set number refused bytes w h refuses = absurd h
 
 -- the line behind those that were carried out is refused
-pub line-refused : (done rest : List PlanLine) (line : PlanLine) (base : Standing) (s o : Story) (d : Debugger) (left refused : ℕ) (w : Widths) → IsGoing done base (at s o d left) → d.sizes ≡ Some w
+pub line-refused : (done rest : List PlanLine) (line : PlanLine) (base : Standing) (s o : Story) (d : Debugger) (left refused : ℕ) (w : Widths) → IsGoing (done ++ line ∷ rest) done base (at s o d left) → d.sizes ≡ Some w
     → RefusesBy line w d refused → RefusesLineAt (done ++ line ∷ rest) (length done + 1) base.debugger refused d
 line-refused done rest line base s o d left refused w k known refuses =
     let knows = stands-known done base.debugger d (ap (λ (x : Option Widths). is_some x) known) k.stands in
@@ -207,7 +233,7 @@ line-refused done rest line base s o d left refused w k known refuses =
       refused = refuses;
     }
 
-line-stops : (done rest : List PlanLine) (line : PlanLine) (base : Standing) (s o : Story) (d new : Debugger) (left refused : ℕ) (w : Widths) → IsGoing done base (at s o d left) → d.sizes ≡ Some w
+line-stops : (done rest : List PlanLine) (line : PlanLine) (base : Standing) (s o : Story) (d new : Debugger) (left refused : ℕ) (w : Widths) → IsGoing (done ++ line ∷ rest) done base (at s o d left) → d.sizes ≡ Some w
     → RefusesBy line w d refused → new ≡ lost_debugger d
     → InOrder (done ++ line ∷ rest) base s o new × MayEnd (done ++ line ∷ rest) (Refused refused) base (flushed s) (flushed o) new
 line-stops done rest line base s o d new left refused w k known refuses is =
@@ -223,7 +249,7 @@ line-stops done rest line base s o d new left refused w k known refuses is =
           k.kept,
           refl,
         ),
-        inl (has-left done base s o d left k),
+        inl (has-left (done ++ line ∷ rest) done base s o d left k),
       ),
     )
 
@@ -243,7 +269,8 @@ pub refused-ends : (line : PlanLine) (s o : Story) (old mid new : Debugger) (lef
     → IsAsk line set number bytes → old.sizes ≡ Some w → command_asked w set number bytes ≡ Some command → (mid ≡ old) × IsRefusal r (refusal_of_ask old command) → EndsRefused r mid new ended
     → LineEndsSo line (at s o old left) (at s o new left') ended
 refused-ends line s o old mid new left left' set number bytes w command refusal.NoMemory ended a known c h e =
-    λ done rest base k. rw (e.0, e.1, h.0) (stays-memory (done ++ line ∷ rest) done base s o old left (begins-line done rest line) k)
+    λ done rest base k. rw (e.0, e.1, h.0)
+    (stays-memory (done ++ line ∷ rest) done base s o old left (begins-line done rest line) (line-wants done rest line base s o old left (asks-takes line set number bytes w command old a known c) k) k)
 refused-ends line s o old mid new left left' set number bytes w command refusal.Closed ended a known c h e =
     rw e.0 (refuses-some line s o old new left left' set number bytes w command refusal.Closed a known c h.1 (e.1 ∙ ap (λ (x : Debugger). lost_debugger x) h.0))
 refused-ends line s o old mid new left left' set number bytes w command refusal.NotReady ended a known c h e =
@@ -278,7 +305,7 @@ pair-ends line s o d new left left' of-pair known is done rest base k =
 
 -- a command that was asked is that of the line behind those that were carried out
 pub asked-in-order : (done rest : List PlanLine) (line : PlanLine) (base : Standing) (s o : Story) (old mid : Debugger) (left set number : ℕ) (bytes : List ℕ) (w : Widths) (command : Command)
-    → IsAsk line set number bytes → old.sizes ≡ Some w → command_asked w set number bytes ≡ Some command → HasAsked command old mid → IsGoing done base (at s o old left)
+    → IsAsk line set number bytes → old.sizes ≡ Some w → command_asked w set number bytes ≡ Some command → HasAsked command old mid → IsGoing (done ++ line ∷ rest) done base (at s o old left)
     → AsksInOrder (done ++ line ∷ rest) base.debugger mid
 asked-in-order done rest line base s o old mid left set number bytes w command asks-it known is asked k =
     let one = one-asked line set number bytes asks-it in
@@ -292,9 +319,9 @@ asked-in-order done rest line base s o old mid left set number bytes w command a
 -- ---- a read that failed
 
 read-fails : (s s' o : Story) (old mid new : Debugger) (left left' : ℕ) → TurnsAt (front_of old.end) old (Ok read.Nothing) mid → front_of old.end ≡ More → mid ≡ record old { last = [] }
-    → new ≡ lost_debugger mid → FailsRead (flushed s) s' → EndsSo (at s o old left) (at s' o new left') LostByRead
-read-fails s s' o old mid new left left' turned front same is f plan done base begins k =
-    let reached : Reaches base.debugger done k.told (record old { last = [] }) = reach-same base.debugger done k.told old mid k.reached turned same in
+    → new ≡ lost_debugger mid → FailsRead (flushed s) s' → EndsSo (λ plan done. Awaits plan done old) (at s o old left) (at s' o new left') LostByRead
+read-fails s s' o old mid new left left' turned front same is f plan done base begins awaits k =
+    let reached : Reaches plan base.debugger done k.told (record old { last = [] }) = reach-same plan base.debugger done k.told old mid k.reached awaits turned same in
     rw (is, same) (
       stays-in-order plan done base s o old left s' (lost_debugger (record old { last = [] })) begins k f.read f.written (omega (arith, f.failed_writes)) f.early
           (record { fed = refl; enqueued = refl; taken = refl; tickets = refl }),
@@ -307,9 +334,9 @@ read-fails s s' o old mid new left left' turned front same is f plan done base b
 
 -- a flush before it failed
 flush-fails : (s s' o : Story) (old mid new : Debugger) (left left' : ℕ) → TurnsAt (front_of old.end) old (Ok read.Nothing) mid → mid ≡ record old { last = [] }
-    → new ≡ lost_debugger mid → FailsFlush s s' → EndsSo (at s o old left) (at s' o new left') LostByWrite
-flush-fails s s' o old mid new left left' turned same is f plan done base begins k =
-    let reached : Reaches base.debugger done k.told (record old { last = [] }) = reach-same base.debugger done k.told old mid k.reached turned same in
+    → new ≡ lost_debugger mid → FailsFlush s s' → EndsSo (λ plan done. Awaits plan done old) (at s o old left) (at s' o new left') LostByWrite
+flush-fails s s' o old mid new left left' turned same is f plan done base begins awaits k =
+    let reached : Reaches plan base.debugger done k.told (record old { last = [] }) = reach-same plan base.debugger done k.told old mid k.reached awaits turned same in
     rw (is, same, f) (
       stays-in-order plan done base s o old left (record s { failed_writes = s.failed_writes + 1 }) (lost_debugger (record old { last = [] })) begins k refl refl (omega arith) refl
           (record { fed = refl; enqueued = refl; taken = refl; tickets = refl }),
@@ -325,7 +352,7 @@ flush-fails s s' o old mid new left left' turned same is f plan done base begins
     )
 
 pub read-ends : (s s' o : Story) (old mid new : Debugger) (left left' : ℕ) (ended : Ended) → TurnsAt (front_of old.end) old (Ok read.Nothing) mid → front_of old.end ≡ More
-    → mid ≡ record old { last = [] } → LosesAtRead ended mid new s s' → EndsSo (at s o old left) (at s' o new left') ended
+    → mid ≡ record old { last = [] } → LosesAtRead ended mid new s s' → EndsSo (λ plan done. Awaits plan done old) (at s o old left) (at s' o new left') ended
 read-ends s s' o old mid new left left' LostByRead turned front same h = read-fails s s' o old mid new left left' turned front same h.0 h.1
 read-ends s s' o old mid new left left' LostByWrite turned front same h = flush-fails s s' o old mid new left left' turned same h.0 h.1
 read-ends s s' o old mid new left left' Done turned front same h = absurd h
@@ -357,7 +384,7 @@ grows-part a b c x y e f = record {
 
 -- all that was put was written
 written-in-order : (plan done : List PlanLine) (base : Standing) (s o : Story) (old mid : Debugger) (left turns tickets : ℕ) (s' o' : Story) (new : Debugger)
-    → IsGoing done base (at s o old left) → Moves old mid turns tickets → AsksInOrder plan base.debugger mid → s' ≡ with_written mid.end.outgoing s → Grows base.out o'
+    → IsGoing plan done base (at s o old left) → Moves old mid turns tickets → AsksInOrder plan base.debugger mid → s' ≡ with_written mid.end.outgoing s → Grows base.out o'
     → Same (with_taken mid.end.outgoing mid) new → InOrder plan base s' o' new
 written-in-order plan done base s o old mid left turns tickets s' o' new k p asked written grows same =
     let all : s'.written ≡ base.pipe.written ++ new.end.session.enqueued =
@@ -379,7 +406,7 @@ written-in-order plan done base s o old mid left turns tickets s' o' new k p ask
 
 -- some of it was taken, and some of that written
 part-in-order : (plan done : List PlanLine) (base : Standing) (s o : Story) (old mid : Debugger) (left turns tickets : ℕ) (s' o' : Story) (new : Debugger) (taken : List ℕ)
-    → IsGoing done base (at s o old left) → Moves old mid turns tickets → AsksInOrder plan base.debugger mid → IsFront taken mid.end.outgoing → FailsWrite s s' taken → Grows base.out o'
+    → IsGoing plan done base (at s o old left) → Moves old mid turns tickets → AsksInOrder plan base.debugger mid → IsFront taken mid.end.outgoing → FailsWrite s s' taken → Grows base.out o'
     → Same (with_taken taken mid) new → InOrder plan base s' o' new
 part-in-order plan done base s o old mid left turns tickets s' o' new taken k p asked front f grows same =
     let w = f.written in
@@ -405,7 +432,7 @@ lost-behind taken mid new is = rw is (same-lost (with_taken taken mid))
 
 -- a write failed
 pub loses-ends : (plan done : List PlanLine) (base : Standing) (s o : Story) (old mid : Debugger) (left l1 l2 turns tickets : ℕ) (s' o' : Story) (new : Debugger) (text told : List ℕ)
-    → IsBeginning done plan → (k : IsGoing done base (at s o old left)) → Moves old mid turns tickets → Reaches base.debugger done told mid → told ≡ k.told ++ text → AsksInOrder plan base.debugger mid
+    → IsBeginning done plan → (k : IsGoing plan done base (at s o old left)) → Moves old mid turns tickets → Reaches plan base.debugger done told mid → told ≡ k.told ++ text → AsksInOrder plan base.debugger mid
     → LosesAtWrite text (at s o mid l1) (at s' o' new l2) → InOrder plan base s' o' new × MayEnd plan LostByWrite base (flushed s') (flushed o') new
 loses-ends plan done base s o old mid left l1 l2 turns tickets s' o' new text told begins k p r tells asked f =
     elim f.fails [
@@ -415,7 +442,7 @@ loses-ends plan done base s o old mid left l1 l2 turns tickets s' o' new text to
           inl (omega (arith, w.failed_writes, k.failed_writes)),
           (
             with_taken f.taken mid,
-            none-told plan done base s o o' old (with_taken f.taken mid) left text told begins k (reach-taken base.debugger done told mid f.taken r front) tells same,
+            none-told plan done base s o o' old (with_taken f.taken mid) left text told begins k (reach-taken plan base.debugger done told mid f.taken r front) tells same,
             p.kept ∙ k.kept,
             f.is,
           ),
@@ -427,7 +454,7 @@ loses-ends plan done base s o old mid left l1 l2 turns tickets s' o' new text to
           inr (omega (arith, part.failed_writes, printed-same base.out o k.told k.printed)),
           (
             with_taken f.taken mid,
-            part-told plan done base s o o' old (with_taken f.taken mid) left text told part.written.0 begins k (reach-all base.debugger done told mid f.taken all r) tells part.written.2 part.written.1,
+            part-told plan done base s o o' old (with_taken f.taken mid) left text told part.written.0 begins k (reach-all plan base.debugger done told mid f.taken all r) tells part.written.2 part.written.1,
             p.kept ∙ k.kept,
             f.is,
           ),
@@ -436,10 +463,10 @@ loses-ends plan done base s o old mid left l1 l2 turns tickets s' o' new text to
     ]
 
 pub moved-ends : (plan done : List PlanLine) (base : Standing) (s o : Story) (old mid : Debugger) (left l1 l2 turns tickets : ℕ) (s' o' : Story) (new : Debugger) (ended : Ended) (text told : List ℕ)
-    → IsBeginning done plan → (k : IsGoing done base (at s o old left)) → Moves old mid turns tickets → Reaches base.debugger done told mid → told ≡ k.told ++ text → AsksInOrder plan base.debugger mid
-    → (is_open mid.end ≡ false → ReadsEnd base.debugger (with_taken mid.end.outgoing mid))
+    → IsBeginning done plan → (k : IsGoing plan done base (at s o old left)) → Moves old mid turns tickets → Reaches plan base.debugger done told mid → told ≡ k.told ++ text → AsksInOrder plan base.debugger mid
+    → (is_open mid.end ≡ false → ReadsEnd plan base.debugger (with_taken mid.end.outgoing mid)) → (text ≢ [] → WantsToTell plan base (flushed o) (with_taken mid.end.outgoing mid))
     → Finishes ended text (at s o mid l1) (at s' o' new l2) → InOrder plan base s' o' new × MayEnd plan ended base (flushed s') (flushed o') new
-moved-ends plan done base s o old mid left l1 l2 turns tickets s' o' new Done text told begins k p r tells asked why c = (
+moved-ends plan done base s o old mid left l1 l2 turns tickets s' o' new Done text told begins k p r tells asked why wants c = (
   written-in-order plan done base s o old mid left turns tickets s' o' new k p asked c.pipe (grows-again base.out o o' k.told text k.printed c.out) (lost-behind mid.end.outgoing mid new c.debugger),
   (
     (
@@ -451,7 +478,7 @@ moved-ends plan done base s o old mid left l1 l2 turns tickets s' o' new Done te
           begins,
           (
             told,
-            reach-all base.debugger done told mid mid.end.outgoing refl r,
+            reach-all plan base.debugger done told mid mid.end.outgoing refl r,
             printed-so base.out o' told (printed-again base.out o o' k.told text told k.printed c.out tells),
           ),
         ),
@@ -462,24 +489,25 @@ moved-ends plan done base s o old mid left l1 l2 turns tickets s' o' new Done te
     (ap (λ (x : Story). x.failed_writes) c.pipe ∙ k.failed_writes, printed-same o o' text c.out ∙ printed-same base.out o k.told k.printed, refl, refl),
   ),
 )
-moved-ends plan done base s o old mid left l1 l2 turns tickets s' o' new NoMemory text told begins k p r tells asked why t = (
+moved-ends plan done base s o old mid left l1 l2 turns tickets s' o' new NoMemory text told begins k p r tells asked why wants t = (
   written-in-order plan done base s o old mid left turns tickets s' o' new k p asked t.pipe (rw t.out (grows-told base.out o k.told k.printed)) (same-by (with_taken mid.end.outgoing mid) new t.debugger),
   (
-    subst (λ (x : Debugger). TellsPart plan base (flushed o') x) (sym t.debugger)
-        (none-told plan done base s o o' old (with_taken mid.end.outgoing mid) left text told begins k (reach-all base.debugger done told mid mid.end.outgoing refl r) tells t.out),
+    subst (λ (x : Story). WantsMemory plan base (flushed x) new) (sym t.out)
+        (subst (λ (x : Debugger). WantsMemory plan base (flushed o) x) (sym t.debugger) (inr (inr (wants t.some)))),
     ap (λ (x : Debugger). x.end.session.lost) t.debugger ∙ p.kept ∙ k.kept,
     (ap (λ (x : Story). x.failed_writes) t.pipe ∙ k.failed_writes, ap (λ (x : Story). x.failed_writes) t.out ∙ printed-same base.out o k.told k.printed, refl, refl),
   ),
 )
-moved-ends plan done base s o old mid left l1 l2 turns tickets s' o' new LostByWrite text told begins k p r tells asked why f =
+moved-ends plan done base s o old mid left l1 l2 turns tickets s' o' new LostByWrite text told begins k p r tells asked why wants f =
     loses-ends plan done base s o old mid left l1 l2 turns tickets s' o' new text told begins k p r tells asked f
-moved-ends plan done base s o old mid left l1 l2 turns tickets s' o' new LostByRead text told begins k p r tells asked why f = absurd f
-moved-ends plan done base s o old mid left l1 l2 turns tickets s' o' new (Refused number) text told begins k p r tells asked why f = absurd f
-moved-ends plan done base s o old mid left l1 l2 turns tickets s' o' new TurnLimit text told begins k p r tells asked why f = absurd f
+moved-ends plan done base s o old mid left l1 l2 turns tickets s' o' new LostByRead text told begins k p r tells asked why wants f = absurd f
+moved-ends plan done base s o old mid left l1 l2 turns tickets s' o' new (Refused number) text told begins k p r tells asked why wants f = absurd f
+moved-ends plan done base s o old mid left l1 l2 turns tickets s' o' new TurnLimit text told begins k p r tells asked why wants f = absurd f
 
 -- memory was wanting at a line
-pub line-memory : (line : PlanLine) (s o : Story) (d : Debugger) (left : ℕ) → LineEndsSo line (at s o d left) (at s o d left) NoMemory
-line-memory line s o d left done rest base k = stays-memory (done ++ line ∷ rest) done base s o d left (begins-line done rest line) k
+pub line-memory : (line : PlanLine) (s o : Story) (d : Debugger) (left : ℕ) → TakesMemory line d → LineEndsSo line (at s o d left) (at s o d left) NoMemory
+line-memory line s o d left takes done rest base k =
+    stays-memory (done ++ line ∷ rest) done base s o d left (begins-line done rest line) (line-wants done rest line base s o d left takes k) k
 
 -- a write of the lines of a mirror failed
 pub mirror-part : (s o o' : Story) (d new : Debugger) (left : ℕ) (text : List ℕ) → TellsMirror d.mirror text → FailsWrite o o' text → new ≡ lost_debugger d
@@ -510,7 +538,7 @@ mirror-part s o o' d new left text tells part is done rest base k =
             (
               k.told ++ text,
               k.told ++ part.written.0,
-              reach-passed base.debugger done k.told d line.Mirror text k.reached tickets tt tells,
+              reach-passed plan base.debugger done k.told d line.Mirror text k.reached tickets tt tells,
               (part.written.2.0, ap (λ (x : List ℕ). k.told ++ x) part.written.2.1 ∙ sym (append_assoc k.told part.written.0 part.written.2.0)),
               part.written.1 ∙ ap (λ (x : List ℕ). x ++ part.written.0) (printed-so base.out o k.told k.printed) ∙ append_assoc base.out.written k.told part.written.0,
             ),
@@ -525,22 +553,24 @@ mirror-part s o o' d new left text tells part is done rest base k =
 
 -- a line that ended the run
 pub line-ends : (plan : List PlanLine) (i : ℕ) (line : PlanLine) (old new : Standing) (ended : Ended) → i < length plan → line ≡ get_or plan i line → LineEndsSo line old new ended
-    → (base : Standing) → IsGoing (take i plan) base old → InOrder plan base new.pipe new.out new.debugger × MayEnd plan ended base (flushed new.pipe) (flushed new.out) new.debugger
+    → (base : Standing) → IsGoing plan (take i plan) base old → InOrder plan base new.pipe new.out new.debugger × MayEnd plan ended base (flushed new.pipe) (flushed new.out) new.debugger
 line-ends plan i line old new ended inside is f base k =
-    rw (line-split plan i line inside is) (f (take i plan) (drop (i + 1) plan) base k)
+    let split = line-split plan i line inside is in
+    subst (λ (p : List PlanLine). InOrder p base new.pipe new.out new.debugger × MayEnd p ended base (flushed new.pipe) (flushed new.out) new.debugger) (sym split)
+    (f (take i plan) (drop (i + 1) plan) base (subst (λ (p : List PlanLine). IsGoing p (take i plan) base old) split k))
 
 -- ---- the whole run
 
 -- all lines were carried out, and all that was asked was answered
-pub finished-ends : (plan : List PlanLine) (base : Standing) (s o : Story) (d new : Debugger) (left : ℕ) → IsGoing plan base (at s o d left) → is_some d.sizes ≡ true → has_tickets d.pending ≡ false
+pub finished-ends : (plan : List PlanLine) (base : Standing) (s o : Story) (d new : Debugger) (left : ℕ) → IsGoing plan plan base (at s o d left) → is_some d.sizes ≡ true → has_tickets d.pending ≡ false
     → new ≡ lost_debugger d → InOrder plan base s o new × MayEnd plan Done base (flushed s) (flushed o) new
 finished-ends plan base s o d new left k known answered is =
     let knows = stands-known plan base.debugger d known k.stands in
     rw is (
       going-in-order plan plan base s o d left (lost_debugger d) (begins-all plan) k (same-lost d),
       (
-        (d, inr ((k.asked, answered, (knows.0, knows.1, knows.2)), going-tells plan base s o d left k), k.kept, refl),
-        has-left plan base s o d left k,
+        (d, inr ((k.asked, answered, (knows.0, knows.1, knows.2)), going-tells plan plan base s o d left k), k.kept, refl),
+        has-left plan plan base s o d left k,
       ),
     )
 
@@ -590,25 +620,41 @@ record Flushes (s s' : Story) : Type 0 where
   failed_reads : s'.failed_reads ≡ s.failed_reads
   failed_writes : s.failed_writes ≤ s'.failed_writes
 
-flushes : (b : Bool) (s s' : Story) → (IsTrue b → s' ≡ flushed s) → (b ≡ false → FailsFlush s s') → Flushes s s'
-flushes true s s' all fails = rw (all refl) (record { read = refl; written = refl; rooms = refl; early = refl; ends = refl; failed_reads = refl; failed_writes = omega arith })
-flushes false s s' all fails = rw (fails refl) (record { read = refl; written = refl; rooms = refl; early = refl; ends = refl; failed_reads = refl; failed_writes = omega arith })
+flushes : (b : Bool) (s s' : Story) → FlushesOrFails b s s' → Flushes s s'
+flushes true s s' is = rw is (record { read = refl; written = refl; rooms = refl; early = refl; ends = refl; failed_reads = refl; failed_writes = omega arith })
+flushes false s s' is = rw is (record { read = refl; written = refl; rooms = refl; early = refl; ends = refl; failed_reads = refl; failed_writes = omega arith })
 
 flush-more : (s s' : Story) → FailsFlush s s' → s.failed_writes < s'.failed_writes
 flush-more s s' f = rw f (omega arith)
 
-one-failed : (a b : Bool) (s o s' o' : Story) → (a ≡ false → FailsFlush s s') → (b ≡ false → FailsFlush o o') → (a && b) ≡ false
+one-failed : (a b : Bool) (s o s' o' : Story) → FlushesOrFails a s s' → FlushesOrFails b o o' → (a && b) ≡ false
     → (s.failed_writes < s'.failed_writes) ⊎ (o.failed_writes < o'.failed_writes)
-one-failed false b s o s' o' f g e = inl (flush-more s s' (f refl))
-one-failed true false s o s' o' f g e = inr (flush-more o o' (g refl))
+one-failed false b s o s' o' f g e = inl (flush-more s s' f)
+one-failed true false s o s' o' f g e = inr (flush-more o o' g)
 one-failed true true s o s' o' f g e = absurd (let h = e in cc)
 
--- one of two flushes failed, or both
-pub flush-failed : (a b : Bool) (s o s' o' : Story) → (IsTrue a → s' ≡ flushed s) → (a ≡ false → FailsFlush s s') → (IsTrue b → o' ≡ flushed o) → (b ≡ false → FailsFlush o o') → (a && b) ≡ false
-    → FailsLastFlush s o s' o'
-flush-failed a b s o s' o' all fails all' fails' e =
-    let f = flushes a s s' all fails in
-    let g = flushes b o o' all' fails' in
+pub by-flush : (b : Bool) (s s' : Story) → (IsTrue b → s' ≡ flushed s) → (b ≡ false → FailsFlush s s') → FlushesOrFails b s s'
+by-flush true s s' all fails = all refl
+by-flush false s s' all fails = fails refl
+
+-- what is left of two stories then
+pub record LastFlush (s o s' o' : Story) : Type 0 where
+  pub read : s'.read ≡ s.read
+  pub written : s'.written ≡ s.written
+  pub rooms : s'.rooms ≡ s.rooms
+  pub early : s'.early ≡ s.early
+  pub ends : s'.ends ≡ s.ends
+  pub failed_reads : s'.failed_reads ≡ s.failed_reads
+  pub failed_writes : s.failed_writes ≤ s'.failed_writes
+  pub unread : o'.read ≡ o.read
+  pub printed : o'.written ≡ o.written
+  pub failed_prints : o.failed_writes ≤ o'.failed_writes
+  pub fails : (s.failed_writes < s'.failed_writes) ⊎ (o.failed_writes < o'.failed_writes)
+
+pub last-flush : (s o s' o' : Story) → FailsLastFlush s o s' o' → LastFlush s o s' o'
+last-flush s o s' o' h =
+    let f = flushes h.left s s' h.pipe_flushes in
+    let g = flushes h.printed o o' h.out_flushes in
     record {
       read = f.read;
       written = f.written;
@@ -620,10 +666,10 @@ flush-failed a b s o s' o' all fails all' fails' e =
       unread = g.read;
       printed = g.written;
       failed_prints = g.failed_writes;
-      fails = one-failed a b s o s' o' fails fails' e;
+      fails = one-failed h.left h.printed s o s' o' h.pipe_flushes h.out_flushes h.fails;
     }
 
-flush-in-order : (plan : List PlanLine) (base : Standing) (s o s' o' : Story) (d new : Debugger) → InOrder plan base s o d → FailsLastFlush s o s' o' → Same d new → InOrder plan base s' o' new
+flush-in-order : (plan : List PlanLine) (base : Standing) (s o s' o' : Story) (d new : Debugger) → InOrder plan base s o d → LastFlush s o s' o' → Same d new → InOrder plan base s' o' new
 flush-in-order plan base s o s' o' d new r f same =
     let w = r.written in
     record {
@@ -639,7 +685,7 @@ flush-in-order plan base s o s' o' d new r f same =
       failed_prints = omega (arith, r.failed_prints, f.failed_prints);
     }
 
-flush-fails-more : (plan : List PlanLine) (base : Standing) (s o s' o' : Story) (d : Debugger) → InOrder plan base s o d → FailsLastFlush s o s' o'
+flush-fails-more : (plan : List PlanLine) (base : Standing) (s o s' o' : Story) (d : Debugger) → InOrder plan base s o d → LastFlush s o s' o'
     → (base.pipe.failed_writes < s'.failed_writes) ⊎ (base.out.failed_writes < o'.failed_writes)
 flush-fails-more plan base s o s' o' d r f =
     elim f.fails [
@@ -660,8 +706,35 @@ still-in-order plan base o o' d same (done, begins, (text, r, is)) = tells-part 
 still-part : (plan : List PlanLine) (base : Standing) (o o' : Story) (d : Debugger) → o'.written ≡ o.written → TellsPart plan base (flushed o) d → TellsPart plan base o' d
 still-part plan base o o' d same (done, begins, (text, part, r, front, is)) = (done, begins, (text, part, r, front, told-still base o o' part same is))
 
+-- what was told before memory was wanting
+wants-told : (plan : List PlanLine) (base : Standing) (o : Story) (d : Debugger) → WantsTurn plan base o d → TellsInOrder plan base o d
+wants-told plan base o d (done, begins, awaits, tells) = (done, begins, tells)
+
+wants-part : (plan : List PlanLine) (base : Standing) (o : Story) (d : Debugger) → WantsMemory plan base o d → TellsPart plan base o d
+wants-part plan base o d how =
+    elim how [
+      | inl (wants, turned) ↦ tells-part plan base o d (wants-told plan base o d wants)
+      | inr (inl (done, line, next, takes, tells)) ↦ tells-part plan base o d (done, (line ∷ next.0, next.1), tells)
+      | inr (inr t) ↦ (
+        t.done,
+        t.begins,
+        (
+          t.told ++ lines_of (Ok t.read) t.new,
+          t.told,
+          subst (λ (x : Debugger). Reaches plan base.debugger t.done (t.told ++ lines_of (Ok t.read) t.new) x) (sym t.is)
+              (reach-all plan base.debugger t.done (t.told ++ lines_of (Ok t.read) t.new) t.new t.new.end.outgoing refl
+              (reach-turned plan base.debugger t.done t.told t.old t.new (Ok t.read) t.reached t.awaits t.turned)),
+          (lines_of (Ok t.read) t.new, refl),
+          t.printed,
+        ),
+      )
+    ]
+
+still-wants : (plan : List PlanLine) (base : Standing) (o o' : Story) (d : Debugger) → o'.written ≡ o.written → WantsMemory plan base (flushed o) d → TellsPart plan base o' d
+still-wants plan base o o' d same wants = still-part plan base o o' d same (wants-part plan base (flushed o) d wants)
+
 still-done : (plan : List PlanLine) (base : Standing) (o o' : Story) (d : Debugger) → o'.written ≡ o.written
-    → (ReadsEnd base.debugger d × TellsInOrder plan base (flushed o) d) ⊎ (IsFinished plan base.debugger d × Tells plan base (flushed o) d) → TellsPart plan base o' d
+    → (ReadsEnd plan base.debugger d × TellsInOrder plan base (flushed o) d) ⊎ (IsFinished plan base.debugger d × Tells plan plan base (flushed o) d) → TellsPart plan base o' d
 still-done plan base o o' d same how =
     elim how [
       | inl (reads, tells) ↦ still-in-order plan base o o' d same tells
@@ -671,7 +744,7 @@ still-done plan base o o' d same how =
 -- it failed where the connection was lost before
 pub flush-fails-lost : (plan : List PlanLine) (ended : Ended) (base : Standing) (s o s' o' : Story) (d : Debugger)
     → (ended ≡ Done) ⊎ ((ended ≡ LostByRead) ⊎ (ended ≡ LostByWrite)) → InOrder plan base s o d
-    → MayEnd plan ended base (flushed s) (flushed o) d → FailsLastFlush s o s' o' → InOrder plan base s' o' d × MayEnd plan LostByWrite base s' o' d
+    → MayEnd plan ended base (flushed s) (flushed o) d → LastFlush s o s' o' → InOrder plan base s' o' d × MayEnd plan LostByWrite base s' o' d
 flush-fails-lost plan Done base s o s' o' d which r m f = (
   flush-in-order plan base s o s' o' d d r f (same-by d d refl),
   (flush-fails-more plan base s o s' o' d r f, (m.0.0, still-done plan base o o' m.0.0 f.printed m.0.1, m.0.2, m.0.3)),
@@ -689,7 +762,7 @@ flush-fails-lost plan NoMemory base s o s' o' d which r m f = absurd (elim which
 flush-fails-lost plan TurnLimit base s o s' o' d which r m f = absurd (elim which [ inl e ↦ cc | inr (inl e) ↦ cc | inr (inr e) ↦ cc ])
 
 -- all that the debugger put was written, whether it left or not
-put-still : (plan : List PlanLine) (base : Standing) (s o s' o' : Story) (d : Debugger) → InOrder plan base s o d → HasLeftOrFails base (flushed s) (flushed o) d → FailsLastFlush s o s' o'
+put-still : (plan : List PlanLine) (base : Standing) (s o s' o' : Story) (d : Debugger) → InOrder plan base s o d → HasLeftOrFails base (flushed s) (flushed o) d → LastFlush s o s' o'
     → s'.written ≡ base.pipe.written ++ d.end.session.enqueued
 put-still plan base s o s' o' d r how f =
     elim how [
@@ -699,7 +772,7 @@ put-still plan base s o s' o' d r how f =
 
 -- it failed behind a refusal
 pub flush-fails-refused : (plan : List PlanLine) (number : ℕ) (base : Standing) (s o s' o' : Story) (d : Debugger) → InOrder plan base s o d
-    → MayEnd plan (Refused number) base (flushed s) (flushed o) d → FailsLastFlush s o s' o' → InOrder plan base s' o' d × MayEnd plan (Refused number) base s' o' d
+    → MayEnd plan (Refused number) base (flushed s) (flushed o) d → LastFlush s o s' o' → InOrder plan base s' o' d × MayEnd plan (Refused number) base s' o' d
 flush-fails-refused plan number base s o s' o' d r m f = (
   flush-in-order plan base s o s' o' d d r f (same-by d d refl),
   (
@@ -710,14 +783,14 @@ flush-fails-refused plan number base s o s' o' d r m f = (
 
 -- it failed where the debugger kept the connection, and loses it now
 flush-loses : (plan : List PlanLine) (base : Standing) (s o s' o' : Story) (d new : Debugger) → new ≡ lost_debugger d → TellsPart plan base o' d → d.end.session.lost ≡ false → InOrder plan base s o d
-    → FailsLastFlush s o s' o' → InOrder plan base s' o' new × MayEnd plan LostByWrite base s' o' new
+    → LastFlush s o s' o' → InOrder plan base s' o' new × MayEnd plan LostByWrite base s' o' new
 flush-loses plan base s o s' o' d new is tells kept r f =
     rw is (flush-in-order plan base s o s' o' d (lost_debugger d) r f (same-lost d), (flush-fails-more plan base s o s' o' d r f, (d, tells, kept, refl)))
 
 pub flush-fails-kept : (plan : List PlanLine) (ended : Ended) (base : Standing) (s o s' o' : Story) (d new : Debugger) → (ended ≡ NoMemory) ⊎ (ended ≡ TurnLimit) → new ≡ lost_debugger d → InOrder plan base s o d
-    → MayEnd plan ended base (flushed s) (flushed o) d → FailsLastFlush s o s' o' → InOrder plan base s' o' new × MayEnd plan LostByWrite base s' o' new
-flush-fails-kept plan NoMemory base s o s' o' d new which is r m f = flush-loses plan base s o s' o' d new is (still-part plan base o o' d f.printed m.0) m.1 r f
-flush-fails-kept plan TurnLimit base s o s' o' d new which is r m f = flush-loses plan base s o s' o' d new is (still-in-order plan base o o' d f.printed m.0) m.2 r f
+    → MayEnd plan ended base (flushed s) (flushed o) d → LastFlush s o s' o' → InOrder plan base s' o' new × MayEnd plan LostByWrite base s' o' new
+flush-fails-kept plan NoMemory base s o s' o' d new which is r m f = flush-loses plan base s o s' o' d new is (still-wants plan base o o' d f.printed m.0) m.1 r f
+flush-fails-kept plan TurnLimit base s o s' o' d new which is r m f = flush-loses plan base s o s' o' d new is (still-in-order plan base o o' d f.printed (wants-told plan base (flushed o) d m.0)) m.2 r f
 flush-fails-kept plan Done base s o s' o' d new which is r m f = absurd (elim which [ inl e ↦ cc | inr e ↦ cc ])
 flush-fails-kept plan LostByRead base s o s' o' d new which is r m f = absurd (elim which [ inl e ↦ cc | inr e ↦ cc ])
 flush-fails-kept plan LostByWrite base s o s' o' d new which is r m f = absurd (elim which [ inl e ↦ cc | inr e ↦ cc ])
@@ -736,9 +809,9 @@ hello-stands d begun =
     )
 
 -- all of it was written
-pub hello-goes : (s o : Story) (d new : Debugger) (left : ℕ) (s' : Story) → d ≡ attached d → new ≡ with_taken d.end.outgoing d → s' ≡ with_written d.end.outgoing s
-    → IsGoing [] (at s o d left) (at s' o new left)
-hello-goes s o d new left s' begun is written =
+pub hello-goes : (plan : List PlanLine) (s o : Story) (d new : Debugger) (left : ℕ) (s' : Story) → d ≡ attached d → new ≡ with_taken d.end.outgoing d → s' ≡ with_written d.end.outgoing s
+    → IsGoing plan [] (at s o d left) (at s' o new left)
+hello-goes plan s o d new left s' begun is written =
     let outgoing : d.end.outgoing ≡ handshake_bytes = ap (λ (x : Debugger). x.end.outgoing) begun in
     let enqueued : d.end.session.enqueued ≡ handshake_bytes = ap (λ (x : Debugger). x.end.session.enqueued) begun in
     let taken : d.end.session.taken ≡ [] = ap (λ (x : Debugger). x.end.session.taken) begun in
@@ -748,7 +821,7 @@ hello-goes s o d new left s' begun is written =
       ready = (ap (λ (x : Debugger). is_open x.end) begun, grind (arith, common_steps));
       kept = ap (λ (x : Debugger). x.end.session.lost) begun;
       told = [];
-      reached = hello-reached-all d;
+      reached = hello-reached-all plan d;
       asked = omega arith;
       stands = hello-stands d begun;
       read = grind (arith, common_steps, fed);
@@ -790,6 +863,6 @@ hello-ends plan s o d new left s' taken begun front f is =
       },
       (
         inl f.failed_writes,
-        (with_taken taken d, ([], begins-none plan, ([], [], hello-reached d taken front, ([], refl), sym (append-nil o.written))), kept, refl),
+        (with_taken taken d, ([], begins-none plan, ([], [], hello-reached plan d taken front, ([], refl), sym (append-nil o.written))), kept, refl),
       ),
     )

@@ -1,5 +1,5 @@
 -- How a run of a plan goes on from one call to the next.
-use Rattle.std.proofs.Common.{◌≡◌, ◌∙◌, ℕ, ◌<◌, ◌≤◌, ◌+◌, ◌++◌, List, [], ◌∷◌, length, Bool, true, false, Result, Ok, Err, OnOk, IfErr, Option, Some, None, is_some, ◌||◌, get_or, take, drop, sym, ap, refl, append_assoc, arith}
+use Rattle.std.proofs.Common.{◌≡◌, ◌∙◌, ℕ, ◌<◌, ◌≤◌, ◌+◌, ◌++◌, List, [], ◌∷◌, length, Bool, true, false, Result, Ok, Err, OnOk, IfErr, Option, Some, None, is_some, not, inl, inr, ◌||◌, get_or, take, drop, sym, ap, refl, subst, append_assoc, arith}
 use Rattle.std.proofs.lemmas.Grind.{common_steps}
 use Rattle.std.proofs.lemmas.List.{append-nil, drop_more, take-append-drop, take_all, take_more}
 use Rattle.jdwp_end.specs.Ends.{front_of, is_open}
@@ -15,8 +15,8 @@ use Rattle.jdwp_plan.specs.declared.plan_line.PlanLine.{PlanLine}
 use Rattle.jdwp_plan.specs.declared.plan_line.PlanLine.TheVariants as line
 use Rattle.jdwp_attach.specs.PlanAsks.{IsBeginning, Stands, asks, asks_of}
 use Rattle.jdwp_attach.specs.PlanRuns.{IsAsk, LineGoesOn}
-use Rattle.jdwp_attach.specs.PlanWaits.{IsThere}
-use Rattle.jdwp_attach.specs.Runs.{IsGoing, IsReady, Reaches, ReadsMore, Standing, TellsLine, at}
+use Rattle.jdwp_attach.specs.PlanWaits.{Awaits, HandlesFewer, IsNextLine, IsThere}
+use Rattle.jdwp_attach.specs.Runs.{IsAtAnswers, IsGoing, IsReady, Reaches, ReadsMore, Standing, TellsLine, at}
 use Rattle.jdwp_attach.proofs.Reached.{reach-all, reach-asked, reach-fed, reach-passed}
 use Rattle.jdwp_attach.proofs.Stages.{asks-append, one-asked, stands-line}
 use Rattle.jdwp_attach.proofs.Turned.{Moves}
@@ -43,14 +43,22 @@ begins-line done rest line = (line ∷ rest, refl)
 pub begins-behind : (done rest : List PlanLine) (line : PlanLine) → IsBeginning (done ++ line ∷ []) (done ++ line ∷ rest)
 begins-behind done rest line = (rest, sym (append_assoc done (line ∷ []) rest))
 
+-- the line behind those that were carried out
+pub next-is : (at line : PlanLine) (done rest : List PlanLine) → at ≡ line → IsNextLine line (done ++ at ∷ rest) done
+next-is at line done rest is = (rest, ap (λ (l : PlanLine). done ++ l ∷ rest) is)
+
 -- a line that was carried out
 pub line-goes-on : (plan : List PlanLine) (i : ℕ) (line : PlanLine) (old new : Standing) → i < length plan → line ≡ get_or plan i line → LineGoesOn line old new
-    → (base : Standing) → IsGoing (take i plan) base old → IsGoing (take (i + 1) plan) base new
-line-goes-on plan i line old new inside is f base k = rw (line-more plan i line inside is) (f (take i plan) base k)
+    → (base : Standing) → IsGoing plan (take i plan) base old → IsGoing plan (take (i + 1) plan) base new
+line-goes-on plan i line old new inside is f base k =
+    let split = line-split plan i line inside is in
+    subst (λ (done : List PlanLine). IsGoing plan done base new) (sym (line-more plan i line inside is))
+    (subst (λ (p : List PlanLine). IsGoing p (take i plan ++ line ∷ []) base new) (sym split)
+    (f (take i plan) (drop (i + 1) plan) base (subst (λ (p : List PlanLine). IsGoing p (take i plan) base old) split k)))
 
 -- all of them were
-pub all-go : (plan : List PlanLine) (i : ℕ) (base now : Standing) → length plan ≤ i → IsGoing (take i plan) base now → IsGoing plan base now
-all-go plan i base now past k = rw (take_all i plan past) at k
+pub all-go : (plan : List PlanLine) (i : ℕ) (base now : Standing) → length plan ≤ i → IsGoing plan (take i plan) base now → IsGoing plan plan base now
+all-go plan i base now past k = subst (λ (done : List PlanLine). IsGoing plan done base now) (take_all i plan past) k
 
 -- ---- what is printed
 
@@ -66,16 +74,16 @@ printed-again a b c x y z e f g = f ∙ ap (λ (s : Story). with_written y s) e 
 -- ---- what goes on
 
 -- all that was put was written, and this text was printed
-pub moved-goes : (done done' : List PlanLine) (base : Standing) (s o : Story) (old mid : Debugger) (left left' turns tickets : ℕ) (s' o' : Story) (new : Debugger) (text told : List ℕ)
-    → (k : IsGoing done base (at s o old left)) → Moves old mid turns tickets → Reaches base.debugger done' told mid → told ≡ k.told ++ text → Stands done' base.debugger mid → is_open mid.end ≡ true
+pub moved-goes : (plan done done' : List PlanLine) (base : Standing) (s o : Story) (old mid : Debugger) (left left' turns tickets : ℕ) (s' o' : Story) (new : Debugger) (text told : List ℕ)
+    → (k : IsGoing plan done base (at s o old left)) → Moves old mid turns tickets → Reaches plan base.debugger done' told mid → told ≡ k.told ++ text → Stands done' base.debugger mid → is_open mid.end ≡ true
     → asks done' ≡ asks done + tickets → left' + turns ≡ left → new ≡ with_taken mid.end.outgoing mid → s' ≡ with_written mid.end.outgoing s → o' ≡ with_written text o
-    → IsGoing done' base (at s' o' new left')
-moved-goes done done' base s o old mid left left' turns tickets s' o' new text told k p r tells stands opened counts spent is written printed =
+    → IsGoing plan done' base (at s' o' new left')
+moved-goes plan done done' base s o old mid left left' turns tickets s' o' new text told k p r tells stands opened counts spent is written printed =
     rw (is, written) (record {
       ready = (opened, grind (arith, common_steps));
       kept = p.kept ∙ k.kept;
       told = told;
-      reached = reach-all base.debugger done' told mid mid.end.outgoing refl r;
+      reached = reach-all plan base.debugger done' told mid mid.end.outgoing refl r;
       asked = omega (arith, p.tickets_are, k.asked, counts);
       stands = stands;
       read = grind (arith, common_steps, k.read, p.fed);
@@ -90,16 +98,17 @@ moved-goes done done' base s o old mid left left' turns tickets s' o' new text t
     })
 
 -- bytes were read and fed, behind a turn that handled nothing
-pub read-goes : (done : List PlanLine) (base : Standing) (s o : Story) (old mid new : Debugger) (left left' : ℕ) (s' : Story)
-    → IsGoing done base (at s o old left) → TurnsAt (front_of old.end) old (Ok read.Nothing) mid → mid ≡ record old { last = [] } → ReadsMore mid new (flushed s) s' → left' + 1 ≡ left → IsGoing done base (at s' o new left')
-read-goes done base s o old mid new left left' s' k turned same (more, fed, read, fits) spent =
+pub read-goes : (plan done : List PlanLine) (base : Standing) (s o : Story) (old mid new : Debugger) (left left' : ℕ) (s' : Story)
+    → IsGoing plan done base (at s o old left) → Awaits plan done old → TurnsAt (front_of old.end) old (Ok read.Nothing) mid → mid ≡ record old { last = [] } → ReadsMore mid new (flushed s) s' → left' + 1 ≡ left
+    → IsGoing plan done base (at s' o new left')
+read-goes plan done base s o old mid new left left' s' k awaits turned same (more, fed, read, fits) spent =
     let last : Debugger = with_fed more (record old { last = [] }) in
     let is : last ≡ with_fed more mid = ap (λ (x : Debugger). with_fed more x) (sym same) in
     rw (fed, read, same) (record {
       ready = k.ready;
       kept = k.kept;
       told = k.told;
-      reached = reach-fed base.debugger done k.told old mid last more k.reached turned fits is;
+      reached = reach-fed plan base.debugger done k.told old mid last more k.reached awaits turned fits is;
       asked = k.asked;
       stands = k.stands;
       read = grind (arith, common_steps, k.read, append_assoc);
@@ -134,15 +143,15 @@ if-err (Err e) f p = f e p
 -- ---- lines
 
 -- a line that asks nothing, of which this text was printed
-pub line-goes : (done : List PlanLine) (line : PlanLine) (base : Standing) (s o o' : Story) (d : Debugger) (left : ℕ) (text : List ℕ) → asks_of line ≡ 0 → is_some d.sizes ≡ true → IsThere line d
-    → TellsLine line d text → o' ≡ with_written text o → IsGoing done base (at s o d left) → IsGoing (done ++ line ∷ []) base (at s o' d left)
-line-goes done line base s o o' d left text none known there tells printed k =
+pub line-goes : (plan done : List PlanLine) (line : PlanLine) (base : Standing) (s o o' : Story) (d : Debugger) (left : ℕ) (text : List ℕ) → asks_of line ≡ 0 → is_some d.sizes ≡ true → IsThere line d
+    → TellsLine line d text → o' ≡ with_written text o → IsGoing plan done base (at s o d left) → IsGoing plan (done ++ line ∷ []) base (at s o' d left)
+line-goes plan done line base s o o' d left text none known there tells printed k =
     let asked : d.tickets ≡ base.debugger.tickets + asks (done ++ line ∷ []) = omega (arith, k.asked, none, asks-append done line) in
     record {
       ready = k.ready;
       kept = k.kept;
       told = k.told ++ text;
-      reached = reach-passed base.debugger done k.told d line text k.reached asked there tells;
+      reached = reach-passed plan base.debugger done k.told d line text k.reached asked there tells;
       asked = asked;
       stands = stands-line done line base.debugger d none known k.stands;
       read = k.read;
@@ -157,9 +166,9 @@ line-goes done line base s o o' d left text none known there tells printed k =
     }
 
 -- a line that asks nothing and tells nothing
-pub silent-goes : (done : List PlanLine) (line : PlanLine) (base : Standing) (s o : Story) (d : Debugger) (left : ℕ) → asks_of line ≡ 0 → is_some d.sizes ≡ true → IsThere line d
-    → TellsLine line d [] → IsGoing done base (at s o d left) → IsGoing (done ++ line ∷ []) base (at s o d left)
-silent-goes done line base s o d left none known there tells k = line-goes done line base s o o d left [] none known there tells (sym (written-none o)) k
+pub silent-goes : (plan done : List PlanLine) (line : PlanLine) (base : Standing) (s o : Story) (d : Debugger) (left : ℕ) → asks_of line ≡ 0 → is_some d.sizes ≡ true → IsThere line d
+    → TellsLine line d [] → IsGoing plan done base (at s o d left) → IsGoing plan (done ++ line ∷ []) base (at s o d left)
+silent-goes plan done line base s o d left none known there tells k = line-goes plan done line base s o o d left [] none known there tells (sym (written-none o)) k
 
 pub taken-ready : (mid new : Debugger) → is_open mid.end ≡ true → new ≡ with_taken mid.end.outgoing mid → IsReady new
 taken-ready mid new opened is = rw is (opened, grind (arith, common_steps))
@@ -188,15 +197,34 @@ asked-moves command old new h =
     })
 
 -- the line asks it
-pub asked-passes : (done : List PlanLine) (line : PlanLine) (base old mid : Debugger) (text : List ℕ) (command : Command) (set number : ℕ) (bytes : List ℕ) → IsAsk line set number bytes
-    → is_open old.end ≡ true → HasAsked command old mid → old.tickets ≡ base.tickets + asks done → Reaches base done text old → Reaches base (done ++ line ∷ []) (text ++ []) mid
-asked-passes done line base old mid text command set number bytes asks-it opened asked tickets r =
-    reach-passed base done text mid line [] (reach-asked base done text old mid command r opened asked)
+pub asked-passes : (plan done : List PlanLine) (line : PlanLine) (base old mid : Debugger) (text : List ℕ) (command : Command) (set number : ℕ) (bytes : List ℕ) → IsAsk line set number bytes
+    → is_open old.end ≡ true → HasAsked command old mid → old.tickets ≡ base.tickets + asks done → Reaches plan base done text old → Reaches plan base (done ++ line ∷ []) (text ++ []) mid
+asked-passes plan done line base old mid text command set number bytes asks-it opened asked tickets r =
+    reach-passed plan base done text mid line [] (reach-asked plan base done text old mid command r opened asked)
     (omega (arith, tickets, (asked-moves command old mid asked).tickets_are, asks-append done line, one-asked line set number bytes asks-it)) (ask-there line set number bytes mid asks-it)
     (ask-tells line set number bytes mid asks-it)
 
 pub asked-open : (command : Command) (old new : Debugger) → HasAsked command old new → is_open old.end ≡ true → is_open new.end ≡ true
 asked-open command old new h opened = rw h.is opened
+
+-- ---- what a turn is made for
+
+-- the widths of ids
+pub none-is : {A : Type 0} (r o : Option A) (b : Bool) → r ≡ o → is_some r ≡ not b → b ≡ true → o ≡ None
+none-is None o b is e test = sym is
+none-is (Some x) o b is e test = absurd (let f : true ≡ false = e ∙ ap not test in cc)
+
+-- answers
+pub answers-awaited : (plan done : List PlanLine) (d : Debugger) → IsAtAnswers plan done → has_tickets d.pending ≡ true → Awaits plan done d
+answers-awaited plan done d at waits =
+    elim at [
+      | inl next ↦ inr (inl (line.Answers, next, waits))
+      | inr all ↦ inr (inr (all, waits))
+    ]
+
+-- composites
+pub events-awaited : (plan done : List PlanLine) (d : Debugger) (count : ℕ) → IsNextLine (line.Events count) plan done → HandlesFewer count d → Awaits plan done d
+events-awaited plan done d count next fewer = inr (inl (line.Events count, next, fewer))
 
 -- ---- commands that wait
 
@@ -208,9 +236,31 @@ first-none : (ps : List Asked) → at_place (unanswered ps) 0 ≡ None → has_t
 first-none [] e = refl
 first-none (p ∷ ps) e = first-by p.ticket p.command (unanswered ps) (has_tickets ps) (first-none ps) e
 
+none-by : (k : Option Ticket) (c : Command) (us : List Unanswered) (b : Bool) → (b ≡ false → is_some (at_place us 0) ≡ true → ⊥) → (is_some k || b) ≡ false → is_some (at_place (and_then k c us) 0) ≡ true → ⊥
+none-by None c us b rest e some = rest e some
+none-by (Some k) c us b rest e some = cc
+
+none-first : (ps : List Asked) → has_tickets ps ≡ false → is_some (at_place (unanswered ps) 0) ≡ true → ⊥
+none-first [] e some = cc
+none-first (p ∷ ps) e some = none-by p.ticket p.command (unanswered ps) (has_tickets ps) (none-first ps) e some
+
+seen-some : (r : Option (Ticket × Bor Command)) (u : Option Unanswered) → is_some r ≡ true → seen_unanswered r ≡ u → is_some u ≡ true
+seen-some None u some e = absurd cc
+seen-some (Some x) u some e = ap (λ (o : Option Unanswered). is_some o) (sym e)
+
 seen-none : (r : Option (Ticket × Bor Command)) (u : Option Unanswered) → is_some r ≡ false → seen_unanswered r ≡ u → u ≡ None
 seen-none None u none e = sym e
 seen-none (Some x) u none e = absurd cc
+
+first-some : (ps : List Asked) → is_some (at_place (unanswered ps) 0) ≡ true → has_tickets ps ≡ true
+first-some ps e =
+    elim (has_tickets ps) as (λ (b : Bool). has_tickets ps ≡ b → b ≡ true) [
+      | true ↦ λ is. refl
+      | false ↦ λ is. absurd (none-first ps is e)
+    ] refl
+
+pub some-waits : (ps : List Asked) (r : Option (Ticket × Bor Command)) → is_some r ≡ true → seen_unanswered r ≡ at_place (unanswered ps) 0 → has_tickets ps ≡ true
+some-waits ps r some e = first-some ps (seen-some r _ some e)
 
 pub none-waits : (ps : List Asked) (r : Option (Ticket × Bor Command)) → is_some r ≡ false → seen_unanswered r ≡ at_place (unanswered ps) 0 → has_tickets ps ≡ false
 none-waits ps r none e = first-none ps (seen-none r _ none e)

@@ -78,7 +78,7 @@ turn-no-line fault line w d number is refuses =
 -- ---- no line
 
 -- a run that ended so where no line was refused
-pub no-line : (plan : List PlanLine) (ended : Ended) (base : Standing) (s o : Story) (d : Debugger) → IsByTurn ended → MayEnd plan ended base s o d → TellsNoLine ended base.debugger d
+pub no-line : (plan : List PlanLine) (ended : Ended) (base : Standing) (s o : Story) (d : Debugger) → IsByTurn ended → MayEnd plan ended base s o d → TellsNoLine plan ended base.debugger d
 no-line plan (Refused number) base s o d (fault, is) m =
     let how = m.0 in (
       how.0,
@@ -217,15 +217,17 @@ err-both (Err e) f p q = f e p q
 
 -- a line that ended the run, by its place
 line-tells : (plan : List PlanLine) (i : ℕ) (line : PlanLine) (old : Standing) (d : Debugger) (ended : Ended) → i < length plan → line ≡ get_or plan i line → LineTells line old d ended
-    → (base : Standing) → IsGoing (take i plan) base old → TellsRefused plan (ended_at line (i + 1) ended) base.debugger d
+    → (base : Standing) → IsGoing plan (take i plan) base old → TellsRefused plan (ended_at line (i + 1) ended) base.debugger d
 line-tells plan i line old d ended inside is f base k =
     let counts : length (take i plan) ≡ i = omega (arith, inside, length-take i plan) in
-    subst (λ (p : List PlanLine). TellsRefused p (ended_at line (i + 1) ended) base.debugger d) (sym (line-split plan i line inside is))
-    (subst (λ (n : ℕ). TellsRefused (take i plan ++ line ∷ drop (i + 1) plan) (ended_at line (n + 1) ended) base.debugger d) counts (f (take i plan) (drop (i + 1) plan) base k))
+    let split = line-split plan i line inside is in
+    subst (λ (p : List PlanLine). TellsRefused p (ended_at line (i + 1) ended) base.debugger d) (sym split)
+    (subst (λ (n : ℕ). TellsRefused (take i plan ++ line ∷ drop (i + 1) plan) (ended_at line (n + 1) ended) base.debugger d) counts
+    (f (take i plan) (drop (i + 1) plan) base (subst (λ (p : List PlanLine). IsGoing p (take i plan) base old) split k)))
 
 -- the same of what is told
 pub line-told : (plan : List PlanLine) (how : Attached) (i : ℕ) (line : PlanLine) (old : Standing) (d : Debugger) (ended : Ended) → how ≡ ended_at line (i + 1) ended → i < length plan
-    → line ≡ get_or plan i line → LineTells line old d ended → (base : Standing) → IsGoing (take i plan) base old → TellsRefused plan how base.debugger d
+    → line ≡ get_or plan i line → LineTells line old d ended → (base : Standing) → IsGoing plan (take i plan) base old → TellsRefused plan how base.debugger d
 line-told plan how i line old d ended is inside there f base k =
     subst (λ (h : Attached). TellsRefused plan h base.debugger d) (sym is) (line-tells plan i line old d ended inside there f base k)
 

@@ -29,30 +29,32 @@ use Rattle.jdwp_plan.specs.declared.plan_line.PlanLine.TheVariants as line
 use Rattle.jdwp_attach.specs.declared.attached.Attached.{Attached}
 use Rattle.jdwp_attach.specs.declared.attached.Attached.TheVariants as run
 use Rattle.jdwp_attach.specs.PlanAsks.{HasPut, IsBeginning, asks, command_asked}
+use Rattle.jdwp_attach.specs.PlanWaits.{Awaits, IsNextLine}
 use Rattle.jdwp_attach.specs.Runs.{Standing, FailsLastFlush, InOrder, IsGoing, Reaches}
+use Rattle.jdwp_tell.specs.Telling.{lines_of}
 
 -- ---- why a run ends
 
 -- Calls led from how the engine stood at first to this debugger along these lines, and what was told on the way, all of it, was printed.
-abbrev pub Tells : List PlanLine → Standing → Story → Debugger → Type 0
-Tells done base out d = (text : List ℕ) × Reaches base.debugger done text d × (out.written ≡ base.out.written ++ text)
+abbrev pub Tells : List PlanLine → List PlanLine → Standing → Story → Debugger → Type 0
+Tells plan done base out d = (text : List ℕ) × Reaches plan base.debugger done text d × (out.written ≡ base.out.written ++ text)
 
 -- the same along the plan's lines up to one of them
 abbrev pub TellsInOrder : List PlanLine → Standing → Story → Debugger → Type 0
-TellsInOrder plan base out d = (done : List PlanLine) × IsBeginning done plan × Tells done base out d
+TellsInOrder plan base out d = (done : List PlanLine) × IsBeginning done plan × Tells plan done base out d
 
 -- the same, where a part of what was told was printed, from its beginning on
 abbrev pub TellsPart : List PlanLine → Standing → Story → Debugger → Type 0
 TellsPart plan base out d =
-    (done : List PlanLine) × IsBeginning done plan × ((text : List ℕ) × (part : List ℕ) × Reaches base.debugger done text d × IsFront part text × (out.written ≡ base.out.written ++ part))
+    (done : List PlanLine) × IsBeginning done plan × ((text : List ℕ) × (part : List ℕ) × Reaches plan base.debugger done text d × IsFront part text × (out.written ≡ base.out.written ++ part))
 
 -- the debugger is as after a loss of one that was not lost, and of which this holds
 abbrev pub IsLostFrom : (Debugger → Type 0) → Debugger → Type 0
 IsLostFrom P d = (before : Debugger) × P before × (before.end.session.lost ≡ false) × (d ≡ lost_debugger before)
 
 -- calls led from the first debugger to the other
-abbrev pub LeadsTo : Debugger → Debugger → Type 0
-LeadsTo base d = (done : List PlanLine) × (text : List ℕ) × Reaches base done text d
+abbrev pub LeadsTo : List PlanLine → Debugger → Debugger → Type 0
+LeadsTo plan base d = (done : List PlanLine) × (text : List ℕ) × Reaches plan base done text d
 
 -- this answers the command at a place, which was asked under the ticket, and ends the session
 pub record AnswersEnd (d : Debugger) (ticket : ℕ) (answer : Answer) : Type 0 where
@@ -72,9 +74,9 @@ TellsEnd d Hello = ⊥
 TellsEnd d Parked = ⊥
 
 -- The last turn, of a debugger that calls lead to, read what ends the session, and what waited to leave left.
-abbrev pub ReadsEnd : Debugger → Debugger → Type 0
-ReadsEnd base d =
-    (old : Debugger) × (read : Read) × (new : Debugger) × LeadsTo base old × TurnsAt (front_of old.end) old (Ok read) new × TellsEnd old (read_meaning read) × (d ≡ with_taken new.end.outgoing new)
+abbrev pub ReadsEnd : List PlanLine → Debugger → Debugger → Type 0
+ReadsEnd plan base d =
+    (old : Debugger) × (read : Read) × (new : Debugger) × LeadsTo plan base old × TurnsAt (front_of old.end) old (Ok read) new × TellsEnd old (read_meaning read) × (d ≡ with_taken new.end.outgoing new)
 
 -- Every command of the plan was asked, in ids so wide as the debugger knows them, and answered.
 abbrev pub IsFinished : List PlanLine → Debugger → Debugger → Type 0
@@ -87,9 +89,9 @@ told_number (code.Frame fault) = frame.fault_number fault
 told_number fault = fault_number fault
 
 -- The last turn, of a debugger that calls lead to, refused what the target sent.
-abbrev pub RefusesTurn : Debugger → ℕ → Debugger → Type 0
-RefusesTurn base number d =
-    (old : Debugger) × (fault : DebuggerFault) × LeadsTo base old × TurnsAt (front_of old.end) old (Err fault) d × (fault ≢ code.NoMemory) × (number ≡ told_number fault)
+abbrev pub RefusesTurn : List PlanLine → Debugger → ℕ → Debugger → Type 0
+RefusesTurn plan base number d =
+    (old : Debugger) × (fault : DebuggerFault) × LeadsTo plan base old × TurnsAt (front_of old.end) old (Err fault) d × (fault ≢ code.NoMemory) × (number ≡ told_number fault)
 
 -- the debugger refuses a command by a refusal of this number, or there is none since the bytes do not read
 abbrev pub RefusesCommand : Debugger → ℕ → Option Command → Type 0
@@ -119,7 +121,7 @@ pub record RefusesLineAt (plan : List PlanLine) (place : ℕ) (base : Debugger) 
   pub plan_is : plan ≡ done ++ line ∷ rest
   pub place_is : place ≡ length done + 1
   pub told : List ℕ
-  pub reached : Reaches base done told d
+  pub reached : Reaches plan base done told d
   pub asked : d.tickets ≡ base.tickets + asks done
   pub widths : Widths
   pub known : d.sizes ≡ Some widths
@@ -143,22 +145,63 @@ HasFailed base pipe out = (base.pipe.failed_writes < pipe.failed_writes) ⊎ (ba
 abbrev pub HasLeftOrFails : Standing → Story → Story → Debugger → Type 0
 HasLeftOrFails base pipe out d = HasLeft base pipe out ⊎ (HasFailed base pipe out × (pipe.written ≡ base.pipe.written ++ d.end.session.enqueued))
 
+-- A turn is awaited behind lines of the plan, and all that was told so far was printed.
+abbrev pub WantsTurn : List PlanLine → Standing → Story → Debugger → Type 0
+WantsTurn plan base out d = (done : List PlanLine) × IsBeginning done plan × Awaits plan done d × Tells plan done base out d
+
+-- ---- want of memory
+
+-- A turn that is awaited wanted memory, and nothing changed.
+abbrev pub WantsToTurn : List PlanLine → Standing → Story → Debugger → Type 0
+WantsToTurn plan base out d = WantsTurn plan base out d × TurnsAt (front_of d.end) d (Err code.NoMemory) d
+
+-- a line that takes memory of its own: one whose data read as a command, and `mirror`
+abbrev pub TakesMemory : PlanLine → Debugger → Type 0
+TakesMemory (line.Ask set number bytes) d = (w : Widths) × (command : Command) × (d.sizes ≡ Some w) × (command_asked w set number bytes.items ≡ Some command)
+TakesMemory line.Mirror d = Unit {0}
+TakesMemory other d = ⊥
+
+-- Such a line, behind those that were carried out, wanted memory, and nothing changed.
+abbrev pub WantsAtLine : List PlanLine → Standing → Story → Debugger → Type 0
+WantsAtLine plan base out d = (done : List PlanLine) × (line : PlanLine) × IsNextLine line plan done × TakesMemory line d × Tells plan done base out d
+
+-- What the last turn read was to be told: it was taken, what it put left, and all that was told before was printed.
+pub record WantsToTell (plan : List PlanLine) (base : Standing) (out : Story) (d : Debugger) : Type 0 where
+  pub done : List PlanLine
+  pub begins : IsBeginning done plan
+  pub old : Debugger
+  pub read : Read
+  pub new : Debugger
+  pub told : List ℕ
+  pub reached : Reaches plan base.debugger done told old
+  pub awaits : Awaits plan done old
+  pub turned : TurnsAt (front_of old.end) old (Ok read) new
+  pub some : lines_of (Ok read) new ≢ []
+  pub is : d ≡ with_taken new.end.outgoing new
+  pub printed : out.written ≡ base.out.written ++ told
+
+-- why memory was wanting
+abbrev pub WantsMemory : List PlanLine → Standing → Story → Debugger → Type 0
+WantsMemory plan base out d = WantsToTurn plan base out d ⊎ (WantsAtLine plan base out d ⊎ WantsToTell plan base out d)
+
+-- ---- why a run ends so
+
 -- Why a run of a plan may end so, what went through the pipes then, and what the debugger is: for want of memory and at the limit of turns
 -- one that calls lead to from how it stood as the session began, and else as after a loss of such a one. All that was told on the way was
--- printed: along all lines of the plan where it is finished, else up to one of them; but a part of it where memory was wanting or a write
--- failed. A write or a flush failed where the run is lost by a write, and in no other end but behind a refusal.
+-- printed: along all lines of the plan where it is finished, else up to one of them; but not what the last turn read where memory was
+-- wanting to tell it, and a part where a write failed. A write or a flush failed where the run is lost by a write, and in no other end but behind a refusal.
 abbrev pub MayEnd : List PlanLine → Ended → Standing → Story → Story → Debugger → Type 0
 MayEnd plan Done base pipe out d =
-    IsLostFrom (λ before. (ReadsEnd base.debugger before × TellsInOrder plan base out before) ⊎ (IsFinished plan base.debugger before × Tells plan base out before)) d × HasLeft base pipe out
+    IsLostFrom (λ before. (ReadsEnd plan base.debugger before × TellsInOrder plan base out before) ⊎ (IsFinished plan base.debugger before × Tells plan plan base out before)) d × HasLeft base pipe out
 MayEnd plan LostByRead base pipe out d =
     (base.pipe.failed_reads + base.pipe.ends < pipe.failed_reads + pipe.ends)
     × IsLostFrom (λ before. (is_open before.end ≡ true) × (front_of before.end ≡ More) × TellsInOrder plan base out before) d × HasLeft base pipe out
 MayEnd plan LostByWrite base pipe out d = HasFailed base pipe out × IsLostFrom (TellsPart plan base out) d
 MayEnd plan (Refused number) base pipe out d =
-    IsLostFrom (λ before. (RefusesTurn base.debugger number before ⊎ RefusesLine plan base.debugger number before) × TellsInOrder plan base out before) d × HasLeftOrFails base pipe out d
-MayEnd plan NoMemory base pipe out d = TellsPart plan base out d × (d.end.session.lost ≡ false) × HasLeft base pipe out
+    IsLostFrom (λ before. (RefusesTurn plan base.debugger number before ⊎ RefusesLine plan base.debugger number before) × TellsInOrder plan base out before) d × HasLeftOrFails base pipe out d
+MayEnd plan NoMemory base pipe out d = WantsMemory plan base out d × (d.end.session.lost ≡ false) × HasLeft base pipe out
 MayEnd plan TurnLimit base pipe out d =
-    TellsInOrder plan base out d × (is_open d.end ≡ true) × (d.end.session.lost ≡ false) × HasLeft base pipe out × (d.end.session.turns + pipe.rooms ≡ base.pipe.rooms + base.left)
+    WantsTurn plan base out d × (is_open d.end ≡ true) × (d.end.session.lost ≡ false) × HasLeft base pipe out × (d.end.session.turns + pipe.rooms ≡ base.pipe.rooms + base.left)
 
 -- ---- the line that is told
 
@@ -168,13 +211,13 @@ ended_of (run.Ended ended) = ended
 ended_of (run.RefusedLine line number) = Refused number
 
 -- where no line is told, a session that was refused was refused at a turn
-abbrev pub TellsNoLine : Ended → Debugger → Debugger → Type 0
-TellsNoLine (Refused number) base d = IsLostFrom (RefusesTurn base number) d
-TellsNoLine ended base d = Unit {0}
+abbrev pub TellsNoLine : List PlanLine → Ended → Debugger → Debugger → Type 0
+TellsNoLine plan (Refused number) base d = IsLostFrom (RefusesTurn plan base number) d
+TellsNoLine plan ended base d = Unit {0}
 
 -- The line that is told is that which was refused.
 abbrev pub TellsRefused : List PlanLine → Attached → Debugger → Debugger → Type 0
-TellsRefused plan (run.Ended ended) base d = TellsNoLine ended base d
+TellsRefused plan (run.Ended ended) base d = TellsNoLine plan ended base d
 TellsRefused plan (run.RefusedLine line number) base d = IsLostFrom (RefusesLineAt plan line base number) d
 
 -- what is told where a run ended so at this line, counted from 1: the line where it was refused
@@ -192,27 +235,28 @@ IsByTurn ended = Unit {0}
 
 -- ---- calls of a run
 
--- A call that ends so, in every run of a plan that came to it, once all that was written has left.
-abbrev pub EndsSo : Standing → Standing → Ended → Type 0
-EndsSo old new ended =
-    (plan done : List PlanLine) (base : Standing) → IsBeginning done plan → IsGoing done base old
+-- A call that ends so, in every run of a plan that came to it at such lines, once all that was written has left.
+abbrev pub EndsSo : (List PlanLine → List PlanLine → Type 0) → Standing → Standing → Ended → Type 0
+EndsSo IsAt old new ended =
+    (plan done : List PlanLine) (base : Standing) → IsBeginning done plan → IsAt plan done → IsGoing plan done base old
     → InOrder plan base new.pipe new.out new.debugger × MayEnd plan ended base (flushed new.pipe) (flushed new.out) new.debugger
 
 -- The same of a line of the plan, behind those that were carried out.
 abbrev pub LineEndsSo : PlanLine → Standing → Standing → Ended → Type 0
 LineEndsSo line old new ended =
-    (done rest : List PlanLine) (base : Standing) → IsGoing done base old
+    (done rest : List PlanLine) (base : Standing) → IsGoing (done ++ line ∷ rest) done base old
     → InOrder (done ++ line ∷ rest) base new.pipe new.out new.debugger × MayEnd (done ++ line ∷ rest) ended base (flushed new.pipe) (flushed new.out) new.debugger
 
 -- What is told where a line ends so, behind those that were carried out.
 abbrev pub LineTells : PlanLine → Standing → Debugger → Ended → Type 0
 LineTells line old d ended =
-    (done rest : List PlanLine) (base : Standing) → IsGoing done base old
+    (done rest : List PlanLine) (base : Standing) → IsGoing (done ++ line ∷ rest) done base old
     → TellsRefused (done ++ line ∷ rest) (ended_at line (length done + 1) ended) base.debugger d
 
 -- A line that was carried out, in every run that came to it.
 abbrev pub LineGoesOn : PlanLine → Standing → Standing → Type 0
-LineGoesOn line old new = (done : List PlanLine) (base : Standing) → IsGoing done base old → IsGoing (done ++ line ∷ []) base new
+LineGoesOn line old new =
+    (done rest : List PlanLine) (base : Standing) → IsGoing (done ++ line ∷ rest) done base old → IsGoing (done ++ line ∷ rest) (done ++ line ∷ []) base new
 
 -- How a run ends at a turn that failed, and at a command that was refused: the debugger loses the connection, but for want of memory.
 abbrev pub EndsFailed : DebuggerFault → Debugger → Debugger → Ended → Type 0

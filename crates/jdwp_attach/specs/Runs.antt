@@ -1,5 +1,5 @@
 -- What an engine that runs a debugger did on its pipes.
-use Rattle.std.specs.Prelude.{◌≡◌, ◌⊎◌, ℕ, ◌<◌, ◌≤◌, ◌+◌, true, false, List, [], ◌∷◌, ◌++◌, length, Result, Ok}
+use Rattle.std.specs.Prelude.{◌≡◌, ◌≢◌, ◌⊎◌, ℕ, ◌≤◌, ◌+◌, ◌&&◌, Bool, true, false, List, [], ◌∷◌, ◌++◌, length, Result, Ok}
 use Rattle.jdwp_end.specs.Ends.{front_of, is_open, room_of}
 use Rattle.jdwp_end.specs.Runs.{IsFront}
 use Rattle.jdwp_action.specs.Actions.{Command}
@@ -16,7 +16,7 @@ use Rattle.jdwp_pipe.specs.Story.{FailsFlush, FailsRead, FailsWrite, Story, flus
 use Rattle.jdwp_plan.specs.declared.plan_line.PlanLine.{PlanLine}
 use Rattle.jdwp_plan.specs.declared.plan_line.PlanLine.TheVariants as line
 use Rattle.jdwp_attach.specs.PlanAsks.{AsksInOrder, Stands, asks}
-use Rattle.jdwp_attach.specs.PlanWaits.{IsThere}
+use Rattle.jdwp_attach.specs.PlanWaits.{Awaits, IsNextLine, IsThere}
 use Rattle.jdwp_tell.specs.Telling.{TellsMirror, lines_of}
 
 -- ---- how an engine stands
@@ -36,20 +36,20 @@ abbrev pub TellsLine : PlanLine → Debugger → List ℕ → Type 0
 TellsLine line.Mirror d text = TellsMirror d.mirror text
 TellsLine other d text = text ≡ []
 
--- The debuggers that calls lead to from one, along lines of a plan, and what is told on the way. Calls come in any order: turns, whatever
--- they answer; commands asked, where the session is open; bytes fed behind a turn that handled nothing, for which there is room; and bytes
--- taken, of those that wait to leave. A line is passed at a debugger that had asked what the lines up to it ask, and at which what it
--- waits for was there.
-pub data Reaches (base : Debugger) : List PlanLine → List ℕ → Debugger → Type 0 where
-  Begins : Reaches base [] [] base
-  Turns : (done : List PlanLine) (text : List ℕ) (old new : Debugger) (result : Result Read DebuggerFault) → Reaches base done text old → TurnsAt (front_of old.end) old result new
-      → Reaches base done (text ++ lines_of result new) new
-  Asks : (done : List PlanLine) (text : List ℕ) (old new : Debugger) (command : Command) → Reaches base done text old → is_open old.end ≡ true → HasAsked command old new → Reaches base done text new
-  Feeds : (done : List PlanLine) (text : List ℕ) (old new : Debugger) (bytes : List ℕ) → Reaches base done text old → TurnsAt (front_of old.end) old (Ok read.Nothing) new → length bytes ≤ room_of new.end
-      → Reaches base done text (with_fed bytes new)
-  Takes : (done : List PlanLine) (text : List ℕ) (old : Debugger) (bytes : List ℕ) → Reaches base done text old → IsFront bytes old.end.outgoing → Reaches base done text (with_taken bytes old)
-  Passes : (done : List PlanLine) (text : List ℕ) (d : Debugger) (line : PlanLine) (more : List ℕ) → Reaches base done text d → d.tickets ≡ base.tickets + asks (done ++ line ∷ [])
-      → IsThere line d → TellsLine line d more → Reaches base (done ++ line ∷ []) (text ++ more) d
+-- The debuggers that calls lead to from one, along lines of a plan, and what is told on the way. Turns are made where the plan awaits
+-- something, whatever they answer; commands asked, where the session is open; bytes fed behind a turn that handled nothing, for which there
+-- is room; and bytes taken, of those that wait to leave. A line is passed at a debugger that had asked what the lines up to it ask, and at
+-- which what it waits for was there.
+pub data Reaches (plan : List PlanLine) (base : Debugger) : List PlanLine → List ℕ → Debugger → Type 0 where
+  Begins : Reaches plan base [] [] base
+  Turns : (done : List PlanLine) (text : List ℕ) (old new : Debugger) (result : Result Read DebuggerFault) → Reaches plan base done text old → Awaits plan done old
+      → TurnsAt (front_of old.end) old result new → Reaches plan base done (text ++ lines_of result new) new
+  Asks : (done : List PlanLine) (text : List ℕ) (old new : Debugger) (command : Command) → Reaches plan base done text old → is_open old.end ≡ true → HasAsked command old new → Reaches plan base done text new
+  Feeds : (done : List PlanLine) (text : List ℕ) (old new : Debugger) (bytes : List ℕ) → Reaches plan base done text old → Awaits plan done old → TurnsAt (front_of old.end) old (Ok read.Nothing) new
+      → length bytes ≤ room_of new.end → Reaches plan base done text (with_fed bytes new)
+  Takes : (done : List PlanLine) (text : List ℕ) (old : Debugger) (bytes : List ℕ) → Reaches plan base done text old → IsFront bytes old.end.outgoing → Reaches plan base done text (with_taken bytes old)
+  Passes : (done : List PlanLine) (text : List ℕ) (d : Debugger) (line : PlanLine) (more : List ℕ) → Reaches plan base done text d → d.tickets ≡ base.tickets + asks (done ++ line ∷ [])
+      → IsThere line d → TellsLine line d more → Reaches plan base (done ++ line ∷ []) (text ++ more) d
 
 -- the session is open, and nothing waits to leave
 abbrev pub IsReady : Debugger → Type 0
@@ -71,11 +71,11 @@ pub record InOrder (plan : List PlanLine) (base : Standing) (pipe out : Story) (
 -- The same between two calls, where nothing failed, nothing waits, the session is open and was not lost, calls led to the debugger along
 -- these lines of the plan, whose commands were asked, what was told on the way was printed, and each turn that was made handled a message,
 -- or a read with room followed it.
-pub record IsGoing (done : List PlanLine) (base now : Standing) : Type 0 where
+pub record IsGoing (plan done : List PlanLine) (base now : Standing) : Type 0 where
   pub ready : IsReady now.debugger
   pub kept : now.debugger.end.session.lost ≡ false
   pub told : List ℕ
-  pub reached : Reaches base.debugger done told now.debugger
+  pub reached : Reaches plan base.debugger done told now.debugger
   pub asked : now.debugger.tickets ≡ base.debugger.tickets + asks done
   pub stands : Stands done base.debugger now.debugger
   pub read : now.pipe.read ≡ base.pipe.read ++ now.debugger.end.session.fed
@@ -90,9 +90,16 @@ pub record IsGoing (done : List PlanLine) (base now : Standing) : Type 0 where
 
 -- ---- what calls do
 
--- it went on so, whatever was done before
-abbrev pub GoesOn : Standing → Standing → Type 0
-GoesOn old new = (done : List PlanLine) (base : Standing) → IsGoing done base old → IsGoing done base new
+-- It went on so, whatever was done before, where a run of a plan is at such lines.
+abbrev pub GoesOn : (List PlanLine → List PlanLine → Type 0) → Standing → Standing → Type 0
+GoesOn IsAt old new = (plan done : List PlanLine) (base : Standing) → IsAt plan done → IsGoing plan done base old → IsGoing plan done base new
+
+-- anywhere; and where the next line waits for answers, or there is none
+abbrev pub IsAnywhere : List PlanLine → List PlanLine → Type 0
+IsAnywhere plan done = Unit {0}
+
+abbrev pub IsAtAnswers : List PlanLine → List PlanLine → Type 0
+IsAtAnswers plan done = IsNextLine line.Answers plan done ⊎ (plan ≡ done)
 
 -- bytes were read and fed, for which there was room
 abbrev pub ReadsMore : Debugger → Debugger → Story → Story → Type 0
@@ -128,8 +135,9 @@ pub record Closes (text : List ℕ) (old new : Standing) : Type 0 where
   pub out : new.out ≡ with_written text old.out
   pub left : new.left ≡ old.left
 
--- What it put was written, and nothing was printed.
-pub record Puts (old new : Standing) : Type 0 where
+-- What it put was written, and this text, which is not empty, was not printed.
+pub record Puts (text : List ℕ) (old new : Standing) : Type 0 where
+  pub some : text ≢ []
   pub debugger : new.debugger ≡ with_taken old.debugger.end.outgoing old.debugger
   pub pipe : new.pipe ≡ with_written old.debugger.end.outgoing old.pipe
   pub out : new.out ≡ old.out
@@ -138,22 +146,21 @@ pub record Puts (old new : Standing) : Type 0 where
 -- What is left where a turn or a question ends the run behind what it put, of which this text is to be printed.
 abbrev pub Finishes : Ended → List ℕ → Standing → Standing → Type 0
 Finishes ended.Done text old new = Closes text old new
-Finishes ended.NoMemory text old new = Puts old new
+Finishes ended.NoMemory text old new = Puts text old new
 Finishes ended.LostByWrite text old new = LosesAtWrite text old new
 Finishes ended text old new = ⊥
 
 -- ---- the last flush
 
--- One of two flushes at least failed, and nothing else happened.
+-- what a flush leaves, by whether it succeeded
+abbrev pub FlushesOrFails : Bool → Story → Story → Type 0
+FlushesOrFails true old new = new ≡ flushed old
+FlushesOrFails false old new = FailsFlush old new
+
+-- Both were flushed, whatever came of the first, and one at least of the flushes failed. Nothing else happened.
 pub record FailsLastFlush (pipe out pipe' out' : Story) : Type 0 where
-  pub read : pipe'.read ≡ pipe.read
-  pub written : pipe'.written ≡ pipe.written
-  pub rooms : pipe'.rooms ≡ pipe.rooms
-  pub early : pipe'.early ≡ pipe.early
-  pub ends : pipe'.ends ≡ pipe.ends
-  pub failed_reads : pipe'.failed_reads ≡ pipe.failed_reads
-  pub failed_writes : pipe.failed_writes ≤ pipe'.failed_writes
-  pub unread : out'.read ≡ out.read
-  pub printed : out'.written ≡ out.written
-  pub failed_prints : out.failed_writes ≤ out'.failed_writes
-  pub fails : (pipe.failed_writes < pipe'.failed_writes) ⊎ (out.failed_writes < out'.failed_writes)
+  pub left : Bool
+  pub printed : Bool
+  pub fails : (left && printed) ≡ false
+  pub pipe_flushes : FlushesOrFails left pipe pipe'
+  pub out_flushes : FlushesOrFails printed out out'

@@ -10,7 +10,7 @@ ghost use Rattle.jdwp_attach.specs.Runs.{IsReady, at};
 
 use crate::run::Run;
 use jdwp_debugger::{Command, Debugger, Refused};
-use jdwp_layout::{layout_of, read};
+use jdwp_layout::{layout_of, read, reads_what_is_encoded};
 use jdwp_pipe::{Ended, Pipe, write_out};
 use jdwp_wire::{DataFault, IdSizes};
 use std::alloc::{AllocError, Global};
@@ -35,7 +35,7 @@ impl From<AllocError> for Unread {
 /// The command of a line: its bytes are read by the layout of the request, or stay as they are where it has none.
 ///
 /// # Errors
-/// `BadData` where they do not read; `NoMemory` where an allocation was refused.
+/// `BadData` where they do not read; `NoMemory` where an allocation was refused, and only where they do.
 fn command_of(
     alloc: Global,
     sizes: &IdSizes,
@@ -47,7 +47,10 @@ fn command_of(
         ≡ Some command) }
     ensures err { IfErr result (λ e. e ≡ Unread.BadData
         → command_asked sizes.now set number bytes.now ≡ None) }
+    ensures memory { IfErr result (λ e. e ≡ Unread.NoMemory
+        → is_some (command_asked sizes.now set number bytes.now) ≡ true) }
 {
+    reads_what_is_encoded();
     let layouts = match layout_of(set, number) {
         Some(row) => row.layouts,
         None => None,
@@ -78,13 +81,13 @@ pub(crate) fn ask_line<P: Pipe>(
 ) -> Result<(), Ended>
     requires ready { IsReady debugger.old }
     requires known { is_some debugger.old.sizes ≡ true }
-    requires counts { Counts run.old.composites debugger.old }
+    requires counts { Counts run.old.composites run.old.left debugger.old }
     ensures goes { OnOk result ((out : Story) (line : PlanLine) → IsAsk line set number bytes.now
         → LineGoesOn line (at (P.story pipe.old) out debugger.old run.old.left)
         (at (P.story pipe.new) out debugger.new run.new.left)) }
     ensures ready { OnOk result (IsReady debugger.new) }
     ensures known { OnOk result (is_some debugger.new.sizes ≡ true) }
-    ensures counts { OnOk result (Counts run.new.composites debugger.new) }
+    ensures counts { OnOk result (Counts run.new.composites run.new.left debugger.new) }
     ensures tells { IfErr result (λ ended. (out : Story) (line : PlanLine)
         → IsAsk line set number bytes.now
         → LineTells line (at (P.story pipe.old) out debugger.old run.old.left) debugger.new ended) }

@@ -1,5 +1,5 @@
 //! The engine that runs a debugger on a pipe by a plan.
-ghost use Rattle.std.specs.Prelude.{◌≡◌, ◌||◌, [], ℕ, List, true, false, is_some, OnOk, IfErr, IsTrue};
+ghost use Rattle.std.specs.Prelude.{◌≡◌, ◌<◌, ◌^◌, ◌||◌, [], ℕ, List, true, false, is_some, OnOk, IfErr, IsTrue};
 ghost use Rattle.jdwp_end.specs.Ends.{is_open};
 ghost use Rattle.jdwp_debugger.specs.Debuggers as model;
 ghost use Rattle.jdwp_debugger.specs.Debuggers.{attached, has_tickets};
@@ -8,8 +8,8 @@ ghost use Rattle.jdwp_pipe.specs.Story.{Story, flushed, with_written};
 ghost use Rattle.jdwp_plan.specs.declared.plan_line.PlanLine as declared;
 ghost use Rattle.jdwp_plan.specs.declared.plan_line.PlanLine.TheVariants as line;
 ghost use Rattle.jdwp_attach.specs.PlanRuns.{Attaches, EndsSo, IsByTurn, LineEndsSo, LineGoesOn, LineTells, MayEnd, TellsRefused, ended_at, ended_of, unflushed_debugger};
-ghost use Rattle.jdwp_attach.specs.PlanWaits.{Counts, HandlesComposites};
-ghost use Rattle.jdwp_attach.specs.Runs.{FailsLastFlush, GoesOn, InOrder, IsGoing, IsReady, Standing, at};
+ghost use Rattle.jdwp_attach.specs.PlanWaits.{Counts, HandlesComposites, IsNextLine};
+ghost use Rattle.jdwp_attach.specs.Runs.{FailsLastFlush, GoesOn, InOrder, IsAnywhere, IsAtAnswers, IsGoing, IsReady, Standing, at};
 ghost use Rattle.jdwp_tell.specs.Telling.{TellsMirror};
 
 use crate::asking::ask_line;
@@ -177,9 +177,9 @@ fn run_plan<P: Pipe, W: Pipe>(
 ) -> Result<(), Attached>
     requires begun { debugger.old ≡ attached debugger.old }
     requires none { run.old.composites ≡ 0 }
-    ensures finished { OnOk result (IsGoing plan.now (at (P.story pipe.old)
-        (W.story out.old) debugger.old run.old.left) (at (P.story pipe.new)
-        (W.story out.new) debugger.new run.new.left)) }
+    ensures finished { OnOk result (IsGoing plan.now plan.now
+        (at (P.story pipe.old) (W.story out.old) debugger.old run.old.left)
+        (at (P.story pipe.new) (W.story out.new) debugger.new run.new.left)) }
     ensures known { OnOk result (is_some debugger.new.sizes ≡ true) }
     ensures answered { OnOk result (has_tickets debugger.new.pending ≡ false) }
     ensures line { IfErr result (λ how. TellsRefused plan.now how debugger.old debugger.new) }
@@ -228,11 +228,11 @@ fn ended_at(line: &PlanLine, place: usize, ended: Ended) -> Attached
 /// `LostByWrite` where a write failed.
 fn write_hello<P: Pipe>(debugger: &mut Debugger, pipe: &mut P) -> Result<(), Ended>
     requires { debugger.old ≡ attached debugger.old }
-    ensures goes { OnOk result ((out : Story) (left : ℕ)
-        → IsGoing [] (at (P.story pipe.old) out debugger.old left)
+    ensures goes { OnOk result ((plan : List declared.PlanLine) (out : Story) (left : ℕ)
+        → IsGoing plan [] (at (P.story pipe.old) out debugger.old left)
         (at (P.story pipe.new) out debugger.new left)) }
     ensures ready { OnOk result (IsReady debugger.new) }
-    ensures counts { OnOk result (Counts 0 debugger.new) }
+    ensures counts { OnOk result ((left : ℕ) → left < 2 ^ 64 → Counts 0 left debugger.new) }
     ensures by_turn { IfErr result IsByTurn }
     ensures ends { IfErr result (λ ended. (plan : List declared.PlanLine) (out : Story) (left : ℕ)
         → InOrder plan (at (P.story pipe.old) out debugger.old left) (P.story pipe.new) out
@@ -258,15 +258,17 @@ fn until_sizes<P: Pipe, W: Pipe>(
     run: &mut Run,
 ) -> Result<(), Ended>
     requires ready { IsReady debugger.old }
-    requires counts { Counts run.old.composites debugger.old }
-    ensures goes { OnOk result (GoesOn (at (P.story pipe.old) (W.story out.old) debugger.old
-        run.old.left) (at (P.story pipe.new) (W.story out.new) debugger.new run.new.left)) }
+    requires counts { Counts run.old.composites run.old.left debugger.old }
+    ensures goes { OnOk result (GoesOn IsAnywhere
+        (at (P.story pipe.old) (W.story out.old) debugger.old run.old.left)
+        (at (P.story pipe.new) (W.story out.new) debugger.new run.new.left)) }
     ensures ready { OnOk result (IsReady debugger.new) }
     ensures known { OnOk result (is_some debugger.new.sizes ≡ true) }
-    ensures counts { OnOk result (Counts run.new.composites debugger.new) }
+    ensures counts { OnOk result (Counts run.new.composites run.new.left debugger.new) }
     ensures by_turn { IfErr result IsByTurn }
-    ensures ends { IfErr result (EndsSo (at (P.story pipe.old) (W.story out.old) debugger.old
-        run.old.left) (at (P.story pipe.new) (W.story out.new) debugger.new run.new.left)) }
+    ensures ends { IfErr result (EndsSo IsAnywhere
+        (at (P.story pipe.old) (W.story out.old) debugger.old run.old.left)
+        (at (P.story pipe.new) (W.story out.new) debugger.new run.new.left)) }
 {
     while debugger.sizes().is_none() {
         if let Err(ended) = turn_once(alloc, debugger, pipe, out, run) {
@@ -290,13 +292,13 @@ fn carry_out<P: Pipe, W: Pipe>(
 ) -> Result<(), Ended>
     requires ready { IsReady debugger.old }
     requires known { is_some debugger.old.sizes ≡ true }
-    requires counts { Counts run.old.composites debugger.old }
+    requires counts { Counts run.old.composites run.old.left debugger.old }
     ensures goes { OnOk result (LineGoesOn line.now (at (P.story pipe.old)
         (W.story out.old) debugger.old run.old.left) (at (P.story pipe.new)
         (W.story out.new) debugger.new run.new.left)) }
     ensures ready { OnOk result (IsReady debugger.new) }
     ensures known { OnOk result (is_some debugger.new.sizes ≡ true) }
-    ensures counts { OnOk result (Counts run.new.composites debugger.new) }
+    ensures counts { OnOk result (Counts run.new.composites run.new.left debugger.new) }
     ensures tells { IfErr result (LineTells line.now (at (P.story pipe.old)
         (W.story out.old) debugger.old run.old.left) debugger.new) }
     ensures ends { IfErr result (LineEndsSo line.now (at (P.story pipe.old)
@@ -330,16 +332,18 @@ fn until_answered<P: Pipe, W: Pipe>(
 ) -> Result<(), Ended>
     requires ready { IsReady debugger.old }
     requires known { is_some debugger.old.sizes ≡ true }
-    requires counts { Counts run.old.composites debugger.old }
-    ensures goes { OnOk result (GoesOn (at (P.story pipe.old) (W.story out.old) debugger.old
-        run.old.left) (at (P.story pipe.new) (W.story out.new) debugger.new run.new.left)) }
+    requires counts { Counts run.old.composites run.old.left debugger.old }
+    ensures goes { OnOk result (GoesOn IsAtAnswers
+        (at (P.story pipe.old) (W.story out.old) debugger.old run.old.left)
+        (at (P.story pipe.new) (W.story out.new) debugger.new run.new.left)) }
     ensures ready { OnOk result (IsReady debugger.new) }
     ensures known { OnOk result (is_some debugger.new.sizes ≡ true) }
-    ensures counts { OnOk result (Counts run.new.composites debugger.new) }
+    ensures counts { OnOk result (Counts run.new.composites run.new.left debugger.new) }
     ensures answered { OnOk result (has_tickets debugger.new.pending ≡ false) }
     ensures by_turn { IfErr result IsByTurn }
-    ensures ends { IfErr result (EndsSo (at (P.story pipe.old) (W.story out.old) debugger.old
-        run.old.left) (at (P.story pipe.new) (W.story out.new) debugger.new run.new.left)) }
+    ensures ends { IfErr result (EndsSo IsAtAnswers
+        (at (P.story pipe.old) (W.story out.old) debugger.old run.old.left)
+        (at (P.story pipe.new) (W.story out.new) debugger.new run.new.left)) }
 {
     while debugger.unanswered(0).is_some() {
         if let Err(ended) = turn_once(alloc, debugger, pipe, out, run) {
@@ -363,16 +367,18 @@ fn until_events<P: Pipe, W: Pipe>(
 ) -> Result<(), Ended>
     requires ready { IsReady debugger.old }
     requires known { is_some debugger.old.sizes ≡ true }
-    requires counts { Counts run.old.composites debugger.old }
-    ensures goes { OnOk result (GoesOn (at (P.story pipe.old) (W.story out.old) debugger.old
-        run.old.left) (at (P.story pipe.new) (W.story out.new) debugger.new run.new.left)) }
+    requires counts { Counts run.old.composites run.old.left debugger.old }
+    ensures goes { OnOk result (GoesOn (IsNextLine (line.Events count))
+        (at (P.story pipe.old) (W.story out.old) debugger.old run.old.left)
+        (at (P.story pipe.new) (W.story out.new) debugger.new run.new.left)) }
     ensures ready { OnOk result (IsReady debugger.new) }
     ensures known { OnOk result (is_some debugger.new.sizes ≡ true) }
-    ensures counts { OnOk result (Counts run.new.composites debugger.new) }
+    ensures counts { OnOk result (Counts run.new.composites run.new.left debugger.new) }
     ensures handled { OnOk result (HandlesComposites count debugger.new) }
     ensures by_turn { IfErr result IsByTurn }
-    ensures ends { IfErr result (EndsSo (at (P.story pipe.old) (W.story out.old) debugger.old
-        run.old.left) (at (P.story pipe.new) (W.story out.new) debugger.new run.new.left)) }
+    ensures ends { IfErr result (EndsSo (IsNextLine (line.Events count))
+        (at (P.story pipe.old) (W.story out.old) debugger.old run.old.left)
+        (at (P.story pipe.new) (W.story out.new) debugger.new run.new.left)) }
 {
     while run.composites < u64::from(count) {
         if let Err(ended) = turn_once(alloc, debugger, pipe, out, run) {

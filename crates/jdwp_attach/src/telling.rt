@@ -1,5 +1,5 @@
 //! The texts that tell what a turn read.
-ghost use Rattle.std.specs.Prelude.{◌≡◌, IfOk};
+ghost use Rattle.std.specs.Prelude.{◌≡◌, ◌≢◌, [], IfOk, OnErr};
 ghost use Rattle.std.specs.String.{string_bytes};
 ghost use Rattle.jdwp_debugger.specs.DebuggerTurns.{read_meaning};
 ghost use Rattle.jdwp_tell.specs.Telling.{composite_lines, reply_lines, sizes_lines, turn_lines, widths_line};
@@ -16,8 +16,9 @@ use std::alloc::Global;
 /// # Errors
 /// `NoMemory` where an allocation was refused.
 pub(crate) fn turn_text(alloc: Global, debugger: &Debugger, read: &Read) -> Result<String, NoMemory>
-    ensures { IfOk result (λ text. string_bytes text
+    ensures text { IfOk result (λ text. string_bytes text
         ≡ turn_lines (read_meaning read.now) debugger.now.last debugger.now.sizes) }
+    ensures memory { OnErr result (turn_lines (read_meaning read.now) debugger.now.last debugger.now.sizes ≢ []) }
 {
     let heads = debugger.last();
     match read {
@@ -36,8 +37,9 @@ fn sizes_text(
     composites: &[Composite],
     sizes: Option<IdSizes>,
 ) -> Result<String, NoMemory>
-    ensures { IfOk result (λ text. string_bytes text
+    ensures text { IfOk result (λ text. string_bytes text
         ≡ sizes_lines composites.now heads.now sizes) }
+    ensures memory { OnErr result (sizes_lines composites.now heads.now sizes ≢ []) }
 {
     match composites {
         [] => match heads {
@@ -57,7 +59,8 @@ fn sizes_text(
 
 /// The line of the widths of ids, under the id of the reply that had them.
 fn widths_text(alloc: Global, id: u32, sizes: Option<IdSizes>) -> Result<String, NoMemory>
-    ensures { IfOk result (λ text. string_bytes text ≡ widths_line sizes id) }
+    ensures text { IfOk result (λ text. string_bytes text ≡ widths_line sizes id) }
+    ensures memory { OnErr result (widths_line sizes id ≢ []) }
 {
     match sizes {
         Some(sizes) => sizes_line(alloc, id, &sizes),
@@ -67,7 +70,8 @@ fn widths_text(alloc: Global, id: u32, sizes: Option<IdSizes>) -> Result<String,
 
 /// The line of an answer that came with this head.
 fn answer_text(alloc: Global, heads: &[Head], answer: &Answer) -> Result<String, NoMemory>
-    ensures { IfOk result (λ text. string_bytes text ≡ reply_lines answer.now heads.now) }
+    ensures text { IfOk result (λ text. string_bytes text ≡ reply_lines answer.now heads.now) }
+    ensures memory { OnErr result (reply_lines answer.now heads.now ≢ []) }
 {
     match heads {
         [
@@ -83,7 +87,8 @@ fn answer_text(alloc: Global, heads: &[Head], answer: &Answer) -> Result<String,
 
 /// The line of a composite that came with this head.
 fn composite_text(alloc: Global, heads: &[Head], composite: &Composite) -> Result<String, NoMemory>
-    ensures { IfOk result (λ text. string_bytes text ≡ composite_lines composite.now heads.now) }
+    ensures text { IfOk result (λ text. string_bytes text ≡ composite_lines composite.now heads.now) }
+    ensures memory { OnErr result (composite_lines composite.now heads.now ≢ []) }
 {
     match heads {
         [Head::Composite(header)] => seen_line(alloc, header.id, composite),

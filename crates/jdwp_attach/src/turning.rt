@@ -4,7 +4,7 @@ ghost use Rattle.jdwp_end.specs.Ends.{is_open, room_of};
 ghost use Rattle.jdwp_pipe.specs.Story.{flushed};
 ghost use Rattle.jdwp_debugger.specs.DebuggerTurns.{read_meaning};
 ghost use Rattle.jdwp_attach.specs.PlanRuns.{EndsFailed, EndsSo, IsByTurn, told_number};
-ghost use Rattle.jdwp_attach.specs.PlanWaits.{Counts, composites_of};
+ghost use Rattle.jdwp_attach.specs.PlanWaits.{Awaits, Counts, composites_of};
 ghost use Rattle.jdwp_attach.specs.Runs.{Finishes, GoesOn, IsReady, LosesAtRead, PutsAndTells, ReadsMore, at};
 ghost use Rattle.jdwp_tell.specs.Telling.{turn_lines};
 
@@ -26,17 +26,19 @@ pub(crate) fn turn_once<P: Pipe, W: Pipe>(
     run: &mut Run,
 ) -> Result<(), Ended>
     requires ready { IsReady debugger.old }
-    requires counts { Counts run.old.composites debugger.old }
-    ensures goes { OnOk result (GoesOn (at (P.story pipe.old) (W.story out.old) debugger.old
-        run.old.left) (at (P.story pipe.new) (W.story out.new) debugger.new run.new.left)) }
+    requires counts { Counts run.old.composites run.old.left debugger.old }
+    ensures goes { OnOk result (GoesOn (λ plan done. Awaits plan done debugger.old)
+        (at (P.story pipe.old) (W.story out.old) debugger.old run.old.left)
+        (at (P.story pipe.new) (W.story out.new) debugger.new run.new.left)) }
     ensures ready { OnOk result (IsReady debugger.new) }
     ensures known { OnOk result (is_some debugger.old.sizes ≡ true
         → is_some debugger.new.sizes ≡ true) }
     ensures left { OnOk result (run.new.left < run.old.left) }
-    ensures counts { OnOk result (Counts run.new.composites debugger.new) }
+    ensures counts { OnOk result (Counts run.new.composites run.new.left debugger.new) }
     ensures by_turn { IfErr result IsByTurn }
-    ensures ends { IfErr result (EndsSo (at (P.story pipe.old) (W.story out.old) debugger.old
-        run.old.left) (at (P.story pipe.new) (W.story out.new) debugger.new run.new.left)) }
+    ensures ends { IfErr result (EndsSo (λ plan done. Awaits plan done debugger.old)
+        (at (P.story pipe.old) (W.story out.old) debugger.old run.old.left)
+        (at (P.story pipe.new) (W.story out.new) debugger.new run.new.left)) }
 {
     debugger.session();
     if run.left == 0 {
@@ -50,7 +52,7 @@ pub(crate) fn turn_once<P: Pipe, W: Pipe>(
     match turn {
         Read::Nothing => flush_and_read(debugger, pipe, &mut run.buffer),
         _ => {
-            run.composites = run.composites.saturating_add(composites_in(&turn));
+            run.composites += composites_in(&turn);
             tell(alloc, debugger, pipe, out, run, &turn)
         }
     }

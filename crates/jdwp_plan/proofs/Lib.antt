@@ -1,3 +1,4 @@
+pub mod DataLaws
 pub mod FormLaws
 pub mod NumberLaws
 pub mod PlanLaws

@@ -3,7 +3,7 @@ use Rattle.std.proofs.lemmas.List.{append-nil}
 use Rattle.std.proofs.Common.{◌∙◌, ◌++◌, ◌∷◌, [], inl, sym, ap, refl, arith}
 use Rattle.jdwp_debugger.specs.Debuggers.{Debugger, lost_debugger, with_taken}
 use Rattle.jdwp_attach.proofs.Counting.{asked-keeps, counts-kept}
-use Rattle.jdwp_attach.proofs.Ending.{asked-in-order, line-memory, loses-ends, refused-ends, unread-ends}
+use Rattle.jdwp_attach.proofs.Ending.{asked-in-order, line-memory, loses-ends, reads-takes, refused-ends, unread-ends}
 use Rattle.jdwp_attach.proofs.Moves.{asked-moves, asked-open, asked-passes, begins-line, moved-goes, written-none}
 use Rattle.jdwp_attach.proofs.Reached.{reach-asked}
 use Rattle.jdwp_attach.proofs.RefusedLines.{lost-tells, memory-tells, refused-tells, unread-tells}
@@ -11,7 +11,9 @@ use Rattle.jdwp_attach.proofs.Stages.{asks-append, one-asked, stands-asked}
 use Rattle.jdwp_attach.proofs.asking.ask_line.Goals as goal
 
 pub returns-in-Err-NoMemory-clause-ends : goal.returns-in-Err-NoMemory-clause-ends
-returns-in-Err-NoMemory-clause-ends g c = λ out line asks-it. line-memory line (g.P.Pipe.story c.args.pipe.now) out c.args.debugger.now c.args.run.now.left
+returns-in-Err-NoMemory-clause-ends g c = λ out line asks-it.
+    line-memory line (g.P.Pipe.story c.args.pipe.now) out c.args.debugger.now c.args.run.now.left
+    (reads-takes line c.args.set c.args.number c.args.bytes.now c.in-Some.sizes c.args.debugger.now asks-it (sym c.sizes.ensures ∙ c.in-Some.is) (c.in-Err-NoMemory.ensures.memory c.in-Err-NoMemory.field-0-is))
 
 pub returns-in-Err-BadData-clause-ends : goal.returns-in-Err-BadData-clause-ends
 returns-in-Err-BadData-clause-ends g c = λ out line asks-it.
@@ -34,7 +36,7 @@ returns-then-not-write_out-clause-ends g c = λ out line asks-it done rest base 
     let in-order = asked-in-order done rest line base s out old mid c.args.run.now.left c.args.set c.args.number c.args.bytes.now c.in-Some.sizes c.in-Ok.command asks-it
     (sym c.sizes.ensures ∙ c.in-Some.is) c.in-Ok.ensures.ok asked k in
     loses-ends (done ++ line ∷ rest) done base s out old mid c.args.run.now.left c.args.run.now.left c.args.run.now.left 0 1 s' out c.lose.new.self [] k.told (begins-line done rest line) k
-    (asked-moves c.in-Ok.command old mid asked) (reach-asked base.debugger done k.told old mid c.in-Ok.command k.reached k.ready.0 asked) (sym (append-nil k.told)) in-order
+    (asked-moves c.in-Ok.command old mid asked) (reach-asked (done ++ line ∷ rest) base.debugger done k.told old mid c.in-Ok.command k.reached k.ready.0 asked) (sym (append-nil k.told)) in-order
     (record {
       taken = fails.0;
       is = c.lose.ensures.lost ∙ ap (λ (x : Debugger). lost_debugger x) fails.1;
@@ -43,7 +45,7 @@ returns-then-not-write_out-clause-ends g c = λ out line asks-it done rest base 
     })
 
 pub returns-clause-goes : goal.returns-clause-goes
-returns-clause-goes g c = λ out line asks-it done base k.
+returns-clause-goes g c = λ out line asks-it done rest base k.
     let old = c.args.debugger.now in
     let mid = c.ask.new.self in
     let s = g.P.Pipe.story c.args.pipe.now in
@@ -52,9 +54,9 @@ returns-clause-goes g c = λ out line asks-it done base k.
     let one = one-asked line c.args.set c.args.number c.args.bytes.now asks-it in
     let stands = stands-asked done line base.debugger old mid c.args.set c.args.number c.args.bytes.now c.in-Some.sizes c.in-Ok.command asks-it
     (sym c.sizes.ensures ∙ c.in-Some.is) c.in-Ok.ensures.ok asked k.stands in
-    moved-goes done (done ++ line ∷ []) base s out old mid c.args.run.now.left c.args.run.now.left 0 1 (g.P.Pipe.story c.write_out.new.pipe) out c.write_out.new.end [] (k.told ++ []) k
+    moved-goes (done ++ line ∷ rest) done (done ++ line ∷ []) base s out old mid c.args.run.now.left c.args.run.now.left 0 1 (g.P.Pipe.story c.write_out.new.pipe) out c.write_out.new.end [] (k.told ++ []) k
     (asked-moves c.in-Ok.command old mid asked)
-    (asked-passes done line base.debugger old mid k.told c.in-Ok.command c.args.set c.args.number c.args.bytes.now asks-it k.ready.0 asked k.asked k.reached) refl stands
+    (asked-passes (done ++ line ∷ rest) done line base.debugger old mid k.told c.in-Ok.command c.args.set c.args.number c.args.bytes.now asks-it k.ready.0 asked k.asked k.reached) refl stands
     (asked-open c.in-Ok.command old mid asked c.requires.ready.0) (omega (arith, asks-append done line, one)) (omega arith) w.0 w.1 (sym (written-none out))
 
 pub returns-clause-ready : goal.returns-clause-ready
@@ -64,7 +66,7 @@ returns-clause-ready g c =
 pub returns-clause-counts : goal.returns-clause-counts
 returns-clause-counts g c =
     let w = c.if-not-write_out.ensures.all refl in
-    rw w.0 (counts-kept c.args.run.now.composites c.args.debugger.now (with_taken c.ask.new.self.end.outgoing c.ask.new.self) (asked-keeps c.in-Ok.command c.args.debugger.now c.ask.new.self c.in_default-ask.ensures.ok.2)
+    rw w.0 (counts-kept c.args.run.now.composites c.args.run.now.left c.args.debugger.now (with_taken c.ask.new.self.end.outgoing c.ask.new.self) (asked-keeps c.in-Ok.command c.args.debugger.now c.ask.new.self c.in_default-ask.ensures.ok.2)
     c.requires.counts)
 
 pub returns-in-Err-NoMemory-clause-tells : goal.returns-in-Err-NoMemory-clause-tells

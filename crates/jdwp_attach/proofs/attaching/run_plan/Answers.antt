@@ -1,4 +1,4 @@
-use Rattle.std.proofs.Common.{◌+◌, [], arith}
+use Rattle.std.proofs.Common.{◌+◌, [], inr, refl, arith}
 use Rattle.jdwp_pipe.specs.Story.{flushed}
 use Rattle.jdwp_attach.specs.Runs.{at}
 use Rattle.jdwp_attach.proofs.Ending.{line-ends}
@@ -12,13 +12,13 @@ returns-in-Err-clause-ends g c = c.in-Err.ensures.ends c.args.plan.now (g.W.Pipe
 pub returns-in-Err-until_sizes-clause-ends : goal.returns-in-Err-until_sizes-clause-ends
 returns-in-Err-until_sizes-clause-ends g c =
     let base = at (g.P.Pipe.story c.args.pipe.now) (g.W.Pipe.story c.args.out.now) c.args.debugger.now c.args.run.now.left in
-    c.in-Err-until_sizes.ensures.ends c.args.plan.now [] base (begins-none c.args.plan.now) (c.in_default.ensures.goes (g.W.Pipe.story c.args.out.now) c.args.run.now.left)
+    c.in-Err-until_sizes.ensures.ends c.args.plan.now [] base (begins-none c.args.plan.now) tt (c.in_default.ensures.goes c.args.plan.now (g.W.Pipe.story c.args.out.now) c.args.run.now.left)
 
 pub loop-place-init : goal.loop-place-init
 loop-place-init g c =
     let base = at (g.P.Pipe.story c.args.pipe.now) (g.W.Pipe.story c.args.out.now) c.args.debugger.now c.args.run.now.left in
     record {
-      goes = c.in_default-until_sizes.ensures.goes [] base (c.in_default.ensures.goes (g.W.Pipe.story c.args.out.now) c.args.run.now.left);
+      goes = c.in_default-until_sizes.ensures.goes c.args.plan.now [] base tt (c.in_default.ensures.goes c.args.plan.now (g.W.Pipe.story c.args.out.now) c.args.run.now.left);
       ready = c.in_default-until_sizes.ensures.ready;
       counts = c.in_default-until_sizes.ensures.counts;
       known = c.in_default-until_sizes.ensures.known;
@@ -55,14 +55,14 @@ pub returns-in-Err-until_answered-clause-ends : goal.returns-in-Err-until_answer
 returns-in-Err-until_answered-clause-ends g c =
     let base = at (g.P.Pipe.story c.args.pipe.now) (g.W.Pipe.story c.args.out.now) c.args.debugger.now c.args.run.now.left in
     let now = at (g.P.Pipe.story c.loop-place.pipe) (g.W.Pipe.story c.loop-place.out) c.loop-place.debugger c.loop-place.run.left in
-    c.in-Err-until_answered.ensures.ends c.args.plan.now c.args.plan.now base (begins-all c.args.plan.now) (all-go c.args.plan.now c.loop-place.place base now (omega (arith, c.loop-place-test.false)) c.loop-place.invariant.goes)
+    c.in-Err-until_answered.ensures.ends c.args.plan.now c.args.plan.now base (begins-all c.args.plan.now) (inr refl) (all-go c.args.plan.now c.loop-place.place base now (omega (arith, c.loop-place-test.false)) c.loop-place.invariant.goes)
 
 pub returns-in-Err-until_answered-clause-line : goal.returns-in-Err-until_answered-clause-line
 returns-in-Err-until_answered-clause-line g c =
     let base = at (g.P.Pipe.story c.args.pipe.now) (g.W.Pipe.story c.args.out.now) c.args.debugger.now c.args.run.now.left in
     let now = at (g.P.Pipe.story c.loop-place.pipe) (g.W.Pipe.story c.loop-place.out) c.loop-place.debugger c.loop-place.run.left in
     no-line c.args.plan.now c.in-Err-until_answered.ended base (flushed (g.P.Pipe.story c.until_answered.new.pipe)) (flushed (g.W.Pipe.story c.until_answered.new.out)) c.until_answered.new.debugger c.in-Err-until_answered.ensures.by_turn
-    (c.in-Err-until_answered.ensures.ends c.args.plan.now c.args.plan.now base (begins-all c.args.plan.now) (all-go c.args.plan.now c.loop-place.place base now (omega (arith, c.loop-place-test.false)) c.loop-place.invariant.goes)).1
+    (c.in-Err-until_answered.ensures.ends c.args.plan.now c.args.plan.now base (begins-all c.args.plan.now) (inr refl) (all-go c.args.plan.now c.loop-place.place base now (omega (arith, c.loop-place-test.false)) c.loop-place.invariant.goes)).1
 
 pub returns-in-Err-clause-line : goal.returns-in-Err-clause-line
 returns-in-Err-clause-line g c =
@@ -74,4 +74,4 @@ pub returns-in-Err-until_sizes-clause-line : goal.returns-in-Err-until_sizes-cla
 returns-in-Err-until_sizes-clause-line g c =
     let base = at (g.P.Pipe.story c.args.pipe.now) (g.W.Pipe.story c.args.out.now) c.args.debugger.now c.args.run.now.left in
     no-line c.args.plan.now c.in-Err-until_sizes.ended base (flushed (g.P.Pipe.story c.until_sizes.new.pipe)) (flushed (g.W.Pipe.story c.until_sizes.new.out)) c.until_sizes.new.debugger c.in-Err-until_sizes.ensures.by_turn
-    (c.in-Err-until_sizes.ensures.ends c.args.plan.now [] base (begins-none c.args.plan.now) (c.in_default.ensures.goes (g.W.Pipe.story c.args.out.now) c.args.run.now.left)).1
+    (c.in-Err-until_sizes.ensures.ends c.args.plan.now [] base (begins-none c.args.plan.now) tt (c.in_default.ensures.goes c.args.plan.now (g.W.Pipe.story c.args.out.now) c.args.run.now.left)).1

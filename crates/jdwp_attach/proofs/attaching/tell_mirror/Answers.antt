@@ -11,4 +11,4 @@ returns-clause-ends g c = λ pipe left.
 
 pub returns-in_default-clause-ends : goal.returns-in_default-clause-ends
 returns-in_default-clause-ends g c = λ pipe left.
-    line-memory line.Mirror pipe (g.W.Pipe.story c.args.out.now) c.args.debugger.now left
+    line-memory line.Mirror pipe (g.W.Pipe.story c.args.out.now) c.args.debugger.now left tt

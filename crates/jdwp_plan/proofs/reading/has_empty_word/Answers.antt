@@ -1,0 +1,10 @@
+use Rattle.std.proofs.Common.{lit<, rules, tests}
+use Rattle.std.proofs.lemmas.Iterator.Search.{any_from_yields_List}
+use Rattle.std.proofs.lemmas.Iterator.Splits.{YieldsList-from_str_split}
+use Rattle.jdwp_plan.specs.Lines.{is_empty}
+use Rattle.jdwp_plan.proofs.reading.has_empty_word.Goals as goal
+
+pub returns : goal.returns
+returns c =
+    any_from_yields_List is_empty _ _ c.any.result c.any.ensures.ran (YieldsList-from_str_split 32 c.args.line.now (lit< tt) c.split.ensures.text c.split.ensures.has_more c.split.ensures.pattern)
+    (λ x b q k. search (rules, tests))
