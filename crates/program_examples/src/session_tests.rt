@@ -167,12 +167,14 @@ fn plan_line(rt: &impl Abort, alloc: Global, line: &Line) -> PlanLine {
     }
 }
 
-/// What came of a run: how it ended, what the debugger sent, what was printed, and whether it may attach again.
+/// What came of a run: how it ended, what the debugger sent, what was printed, how often what was printed was flushed, and whether it may
+/// attach again.
 #[derive(Drop)]
 struct Outcome {
     ended: Ended,
     to: Vec<u8>,
     lines: Vec<u8>,
+    print_flushes: u32,
     attaches_again: bool,
 }
 
@@ -208,6 +210,7 @@ fn run_on<'a, 'p>(
         ended,
         to: to.bytes,
         lines: lines.bytes,
+        print_flushes: lines.flushes,
         attaches_again: debugger.attach(),
     }
 }
@@ -228,12 +231,14 @@ fn passes(rt: &impl Abort, alloc: Global, case: &Case, most: usize) -> bool {
     is_as_said(&run(rt, alloc, case, most), case, &to)
 }
 
-/// Whether what came of a run is what the case says, where the debugger sent these bytes.
+/// Whether what came of a run is what the case says, where the debugger sent these bytes. What was printed is flushed at the end of each
+/// run, behind a flush of what was sent that failed, too.
 fn is_as_said(outcome: &Outcome, case: &Case, to: &[u8]) -> bool {
     let stays_open = case.ended == Ended::TurnLimit;
     outcome.ended == case.ended
         && outcome.to.as_slice() == to
         && outcome.lines.as_slice() == case.lines.as_bytes()
+        && outcome.print_flushes == 1
         && outcome.attaches_again != stays_open
 }
 

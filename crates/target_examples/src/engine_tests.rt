@@ -235,38 +235,42 @@ fn a_read_that_would_block_is_a_failed_read(rt: HostRuntime) {
     }
 }
 
-/// A writer whose flush of this number fails.
-fn flushing_until(alloc: Global, call: u32) -> Writer {
+/// A writer whose flush of this number does this.
+fn flushing_until(alloc: Global, call: u32, event: Event) -> Writer {
     let mut writer = writing(alloc, 5000, UNDISTURBED);
-    writer.flush_plan = Plan {
-        call,
-        event: Event::Fails,
-    };
+    writer.flush_plan = Plan { call, event };
     writer
 }
 
-/// The number of the flush that fails, how the session ends, and how many bytes are written. The first flush stands before the one read,
-/// and the second at the end.
-static FLUSHES: [(u32, Ended, usize); 3] = [
-    (1, Ended::LostByWrite, 0),
-    (2, Ended::LostByWrite, 111),
-    (3, Ended::Done, 111),
+/// The number of the flush that is disturbed, what it does, how the session ends, how many bytes are written, and how often the writer is
+/// flushed. The first flush stands before the one read, and the second at the end. One that was interrupted is made again.
+static FLUSHES: [(u32, Event, Ended, usize, u32); 5] = [
+    (1, Event::Fails, Ended::LostByWrite, 0, 2),
+    (2, Event::Fails, Ended::LostByWrite, 111, 2),
+    (3, Event::Fails, Ended::Done, 111, 2),
+    (1, Event::Interrupted, Ended::Done, 111, 3),
+    (2, Event::Interrupted, Ended::Done, 111, 3),
 ];
+
+/// The session where a flush is disturbed so.
+fn is_flushed_until(
+    rt: &impl Abort,
+    alloc: Global,
+    (call, event, want, written, flushes): (u32, Event, Ended, usize, u32),
+) {
+    let reader = reading(&SESSION, 66, UNDISTURBED);
+    let writer = flushing_until(alloc, call, event);
+    let session = served_on(rt, alloc, false, reader, writer, ROUNDS);
+    expect_same_for(rt, &session.ended, &want, &call);
+    let answers = &ANSWERS[..written.min(111)];
+    expect_same_for(rt, &session.writer.bytes.as_slice(), &answers, &call);
+    expect_same_for(rt, &session.writer.flushes, &flushes, &call);
+}
 
 #[test]
 fn a_failed_flush_is_a_failed_write(rt: HostRuntime) {
-    for (call, want, written) in FLUSHES.iter() {
-        is_served(
-            &rt,
-            rt.alloc(),
-            false,
-            reading(&SESSION, 66, UNDISTURBED),
-            flushing_until(rt.alloc(), *call),
-            ROUNDS,
-            *want,
-            &ANSWERS[..(*written).min(111)],
-            call,
-        );
+    for row in FLUSHES.iter() {
+        is_flushed_until(&rt, rt.alloc(), *row);
     }
 }
 
