@@ -1,5 +1,5 @@
 //! The engine that runs both ends by a plan.
-ghost use Rattle.std.specs.Prelude.{◌≡◌, ◌⊎◌, ◌∷◌, List, Err, IfErr, IfOk, Ok, OnErr, OnOk, false, is_some};
+ghost use Rattle.std.specs.Prelude.{◌≡◌, ◌+◌, ◌⊎◌, ◌∷◌, List, Err, IfErr, IfOk, Ok, OnErr, OnOk, false, is_some, length, take};
 ghost use Rattle.jdwp_script_machine.specs.Machines.{read_machine};
 ghost use Rattle.jdwp_script_machine.specs.ScriptMeaning.{script_meaning};
 ghost use Rattle.jdwp_script_machine.specs.States.{State};
@@ -220,9 +220,8 @@ fn run_rounds<M: Machine + Drop, C: Connection, W: Pipe>(
         match round(alloc, link, connection, plan, out, run) {
             Ok(true) => {}
             Ok(false) => {
-                return Err(PairEnded::Standstill {
-                    line: run.carried + 1,
-                });
+                let line = waiting_line(plan, run);
+                return Err(PairEnded::Standstill { line });
             }
             Err(ended) => return Err(ended),
         }
@@ -267,6 +266,13 @@ fn round<M: Machine + Drop, C: Connection, W: Pipe>(
         }
         Err(ended) => Err(ended),
     }
+}
+
+/// The line behind those that were carried out, counted from 1.
+fn waiting_line(plan: &[PlanLine], run: &Run) -> usize
+    ensures { result ≡ length (take run.now.carried plan.now) + 1 }
+{
+    run.carried.min(plan.len()) + 1
 }
 
 /// All bytes under way come to the target, and it handles them; where it handled nothing, the newest deferred command is released, or each
