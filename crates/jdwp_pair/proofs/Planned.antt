@@ -86,7 +86,7 @@ end-runs m plan ended.LostConnection done old new (inl (es, os, all, r)) = (es, 
 end-runs m plan ended.LostConnection done old new (inr (line, rest, is, h)) = does-run m line old new h
 end-runs m plan ended.NoMemory done old new (es, os, all, r) = (es, os, r)
 end-runs m plan ended.TurnLimit done old new e = runs-same m old new e
-end-runs m plan (ended.Standstill waits) done old new e = runs-same m old new e
+end-runs m plan (ended.Standstill waits) done old new e = runs-same m old new e.0
 
 -- a session begins, and events follow
 pub pairs-run : {S : Type 0} (m : Meaning S) (plan : List PlanLine) (how : PairEnded) (old new : Link S) → Pairs m plan how old new
@@ -309,7 +309,7 @@ unflushed-by m plan first ended.LostByWrite done read old new begins r h = recor
 unflushed-by m plan first ended.LostConnection done read old new begins r h = record { done = done; begins = begins; read = read; last = old; reached = r; ends = h }
 unflushed-by m plan first ended.NoMemory done read old new begins r h = record { done = done; begins = begins; read = read; last = old; reached = r; ends = h }
 unflushed-by m plan first ended.TurnLimit done read old new begins r e = record { done = done; begins = begins; read = read; last = old; reached = r; ends = same-lose m old new e }
-unflushed-by m plan first (ended.Standstill waits) done read old new begins r e = record { done = done; begins = begins; read = read; last = old; reached = r; ends = same-lose m old new e }
+unflushed-by m plan first (ended.Standstill waits) done read old new begins r e = record { done = done; begins = begins; read = read; last = old; reached = r; ends = same-lose m old new e.0 }
 
 pub unflushed-pairs : {S : Type 0} (m : Meaning S) (plan : List PlanLine) (how : PairEnded) (old new : Link S) → Pairs m plan how old new → Pairs m plan (unflushed_end how) old new
 unflushed-pairs m plan how old new (first, begins, e) = (first, begins, unflushed-by m plan first how e.done e.read e.last new e.begins e.reached e.ends)
