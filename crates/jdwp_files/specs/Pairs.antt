@@ -13,3 +13,4 @@ how_of pair.LostByWrite = Ended session.LostByWrite
 how_of pair.LostConnection = Ended session.LostByRead
 how_of pair.NoMemory = Ended session.NoMemory
 how_of pair.TurnLimit = Ended session.TurnLimit
+how_of (pair.Standstill line) = Ended session.TurnLimit

@@ -288,6 +288,6 @@ fn how_of(ended: PairEnded) -> Attached
         PairEnded::LostByWrite => Attached::Ended(Ended::LostByWrite),
         PairEnded::LostConnection => unreachable!(),
         PairEnded::NoMemory => Attached::Ended(Ended::NoMemory),
-        PairEnded::TurnLimit => Attached::Ended(Ended::TurnLimit),
+        PairEnded::TurnLimit | PairEnded::Standstill { .. } => Attached::Ended(Ended::TurnLimit),
     }
 }

@@ -86,6 +86,7 @@ end-runs m plan ended.LostConnection done old new (inl (es, os, all, r)) = (es, 
 end-runs m plan ended.LostConnection done old new (inr (line, rest, is, h)) = does-run m line old new h
 end-runs m plan ended.NoMemory done old new (es, os, all, r) = (es, os, r)
 end-runs m plan ended.TurnLimit done old new e = runs-same m old new e
+end-runs m plan (ended.Standstill waits) done old new e = runs-same m old new e.0
 
 -- a session begins, and events follow
 pub pairs-run : {S : Type 0} (m : Meaning S) (plan : List PlanLine) (how : PairEnded) (old new : Link S) → Pairs m plan how old new
@@ -153,6 +154,7 @@ ends-line m plan first i read line ended.LostConnection old new inside is (inr h
     ends-here m plan first i read ended.LostConnection old new s (inr (line, drop (i + 1) plan, line-split plan i line inside is, h))
 ends-line m plan first i read line ended.Done old new inside is h s = absurd h
 ends-line m plan first i read line ended.TurnLimit old new inside is h s = absurd h
+ends-line m plan first i read line (ended.Standstill waits) old new inside is h s = absurd h
 
 -- where a line's printing failed
 telling-ends-line : {S : Type 0} (m : Meaning S) (line : PlanLine) (place : ℕ) (how : PairEnded) (now : Link S) → EndsTelling how → EndsLine m line place how now now
@@ -162,6 +164,7 @@ telling-ends-line m line place ended.LostConnection now how = absurd how
 telling-ends-line m line place (ended.RefusedLine at number) now how = absurd how
 telling-ends-line m line place ended.Done now how = absurd how
 telling-ends-line m line place ended.TurnLimit now how = absurd how
+telling-ends-line m line place (ended.Standstill waits) now how = absurd how
 
 pub telling-ends : {S A : Type 0} (m : Meaning S) (line : PlanLine) (place : ℕ) (r : Result A PairEnded) (now : Link S) → IfErr r EndsTelling → IfErr r (λ how. EndsLine m line place how now now)
 telling-ends m line place (Ok done) now how = how
@@ -177,6 +180,7 @@ ends-moving m plan first i read ended.LostByWrite old new how moves s = absurd h
 ends-moving m plan first i read (ended.RefusedLine place number) old new how moves s = absurd how
 ends-moving m plan first i read ended.Done old new how moves s = absurd how
 ends-moving m plan first i read ended.TurnLimit old new how moves s = absurd how
+ends-moving m plan first i read (ended.Standstill waits) old new how moves s = absurd how
 
 -- as the debugger reads
 pub ends-reading : {S : Type 0} (m : Meaning S) (plan : List PlanLine) (first : Link S) (i read : ℕ) (how : PairEnded) (old new : Link S) → EndsReading m how old new → Stands m plan first i read old → Ends m plan first how new
@@ -188,6 +192,7 @@ ends-reading m plan first i read ended.LostConnection old new moves s = ends-mov
 ends-reading m plan first i read ended.NoMemory old new moves s = ends-moving m plan first i read ended.NoMemory old new tt moves s
 ends-reading m plan first i read (ended.RefusedLine place number) old new h s = absurd h
 ends-reading m plan first i read ended.TurnLimit old new h s = absurd h
+ends-reading m plan first i read (ended.Standstill waits) old new h s = absurd h
 
 -- events that failed, and printing that did, as the debugger reads
 pub moving-reads : {S : Type 0} (m : Meaning S) (how : PairEnded) (old new : Link S) → EndsMoving how → Moves m old new → EndsReading m how old new
@@ -197,6 +202,7 @@ moving-reads m ended.LostByWrite old new how moves = absurd how
 moving-reads m (ended.RefusedLine place number) old new how moves = absurd how
 moving-reads m ended.Done old new how moves = absurd how
 moving-reads m ended.TurnLimit old new how moves = absurd how
+moving-reads m (ended.Standstill waits) old new how moves = absurd how
 
 pub telling-reads : {S : Type 0} (m : Meaning S) (how : PairEnded) (old new : Link S) → EndsTelling how → Moves m old new → EndsReading m how old new
 telling-reads m ended.NoMemory old new how moves = moves
@@ -205,6 +211,7 @@ telling-reads m ended.LostConnection old new how moves = absurd how
 telling-reads m (ended.RefusedLine place number) old new how moves = absurd how
 telling-reads m ended.Done old new how moves = absurd how
 telling-reads m ended.TurnLimit old new how moves = absurd how
+telling-reads m (ended.Standstill waits) old new how moves = absurd how
 
 -- reading that ended so behind other events
 pub reading-on : {S : Type 0} (m : Meaning S) (how : PairEnded) (old mid new : Link S) → Moves m old mid → EndsReading m how mid new → EndsReading m how old new
@@ -214,6 +221,7 @@ reading-on m ended.LostConnection old mid new moves more = moves-on m old mid ne
 reading-on m ended.NoMemory old mid new moves more = moves-on m old mid new moves more
 reading-on m (ended.RefusedLine place number) old mid new moves h = absurd h
 reading-on m ended.TurnLimit old mid new moves h = absurd h
+reading-on m (ended.Standstill waits) old mid new moves h = absurd h
 
 -- before the first round
 pub ends-first : {S : Type 0} (m : Meaning S) (plan : List PlanLine) (first : Link S) → Ends m plan first ended.LostConnection first
@@ -222,6 +230,10 @@ ends-first m plan first = ends-here m plan first 0 0 ended.LostConnection first 
 -- at the limit
 pub ends-limit : {S : Type 0} (m : Meaning S) (plan : List PlanLine) (first : Link S) (i read : ℕ) (now : Link S) → Stands m plan first i read now → Ends m plan first ended.TurnLimit now
 ends-limit m plan first i read now s = ends-here m plan first i read ended.TurnLimit now now s refl
+
+-- where nothing happened
+pub ends-still : {S : Type 0} (m : Meaning S) (plan : List PlanLine) (first : Link S) (i read waits : ℕ) (now : Link S) → Stands m plan first i read now → waits ≡ length (take i plan) + 1 → Ends m plan first (ended.Standstill waits) now
+ends-still m plan first i read waits now s is = ends-here m plan first i read (ended.Standstill waits) now now s (refl, is)
 
 -- where the plan is finished
 whole : (plan : List PlanLine) → IsBeginning plan plan
@@ -237,6 +249,7 @@ ends-losing m plan first old new ended.NoMemory (read, r, none) how l = record {
 ends-losing m plan first old new ended.Done f how l = absurd how
 ends-losing m plan first old new (ended.RefusedLine place number) f how l = absurd how
 ends-losing m plan first old new ended.TurnLimit f how l = absurd how
+ends-losing m plan first old new (ended.Standstill waits) f how l = absurd how
 
 -- the losses of both ends
 pub loses-both : {S : Type 0} (m : Meaning S) (old mid new : Link S) → Happens m events.DebuggerLoses old mid → Happens m events.TargetLoses mid new → LosesBoth m old new
@@ -258,6 +271,7 @@ target-lost m ended.LostByWrite old new h = absurd h
 target-lost m (ended.RefusedLine place number) old new h = absurd h
 target-lost m ended.Done old new h = absurd h
 target-lost m ended.TurnLimit old new h = absurd h
+target-lost m (ended.Standstill waits) old new h = absurd h
 
 pub debugger-lost : {S : Type 0} (m : Meaning S) (how : PairEnded) (old new : Link S) → EndsAt m events.DebuggerLoses how old new → MayLose m old new
 debugger-lost m ended.NoMemory old new h = stays-lose m old new h
@@ -267,6 +281,7 @@ debugger-lost m ended.LostByWrite old new h = absurd h
 debugger-lost m (ended.RefusedLine place number) old new h = absurd h
 debugger-lost m ended.Done old new h = absurd h
 debugger-lost m ended.TurnLimit old new h = absurd h
+debugger-lost m (ended.Standstill waits) old new h = absurd h
 
 -- one of them
 pub loses-target : {S : Type 0} (m : Meaning S) (old new : Link S) → Happens m events.TargetLoses old new → MayLose m old new
@@ -294,6 +309,7 @@ unflushed-by m plan first ended.LostByWrite done read old new begins r h = recor
 unflushed-by m plan first ended.LostConnection done read old new begins r h = record { done = done; begins = begins; read = read; last = old; reached = r; ends = h }
 unflushed-by m plan first ended.NoMemory done read old new begins r h = record { done = done; begins = begins; read = read; last = old; reached = r; ends = h }
 unflushed-by m plan first ended.TurnLimit done read old new begins r e = record { done = done; begins = begins; read = read; last = old; reached = r; ends = same-lose m old new e }
+unflushed-by m plan first (ended.Standstill waits) done read old new begins r e = record { done = done; begins = begins; read = read; last = old; reached = r; ends = same-lose m old new e.0 }
 
 pub unflushed-pairs : {S : Type 0} (m : Meaning S) (plan : List PlanLine) (how : PairEnded) (old new : Link S) → Pairs m plan how old new → Pairs m plan (unflushed_end how) old new
 unflushed-pairs m plan how old new (first, begins, e) = (first, begins, unflushed-by m plan first how e.done e.read e.last new e.begins e.reached e.ends)
@@ -306,6 +322,7 @@ still-disconnected ended.LostByWrite = refl
 still-disconnected ended.LostConnection = refl
 still-disconnected ended.NoMemory = refl
 still-disconnected ended.TurnLimit = refl
+still-disconnected (ended.Standstill waits) = refl
 
 -- ---- commands that wait
 

@@ -10,6 +10,7 @@ is_disconnected (ended.RefusedLine place number) = false
 is_disconnected ended.LostByWrite = false
 is_disconnected ended.NoMemory = false
 is_disconnected ended.TurnLimit = false
+is_disconnected (ended.Standstill waits) = false
 
 -- the same of a part of a run
 abbrev pub disconnects : {A : Type 0} → Result A PairEnded → Bool

@@ -137,6 +137,7 @@ EndsBy m plan ended.LostByWrite done old new = MayLose m old new
 EndsBy m plan ended.LostConnection done old new = MayLose m old new ⊎ DoesNext m plan done old new
 EndsBy m plan ended.NoMemory done old new = MayLose m old new
 EndsBy m plan ended.TurnLimit done old new = new ≡ old
+EndsBy m plan (ended.Standstill line) done old new = (new ≡ old) × (line ≡ length done + 1)
 
 -- From this link the plan led along its first lines to another, at which the run ended so.
 pub record Ends {S : Type 0} (m : Meaning S) (plan : List PlanLine) (first : Link S) (ended : PairEnded) (new : Link S) : Type 0 where
@@ -164,6 +165,7 @@ unflushed_end ended.Done = ended.LostByWrite
 unflushed_end ended.LostByWrite = ended.LostByWrite
 unflushed_end ended.NoMemory = ended.LostByWrite
 unflushed_end ended.TurnLimit = ended.LostByWrite
+unflushed_end (ended.Standstill waits) = ended.LostByWrite
 
 -- ---- calls of a run
 
@@ -187,6 +189,7 @@ EndsAt m event ended.LostByWrite old new = ⊥
 EndsAt m event (ended.RefusedLine place number) old new = ⊥
 EndsAt m event ended.Done old new = ⊥
 EndsAt m event ended.TurnLimit old new = ⊥
+EndsAt m event (ended.Standstill waits) old new = ⊥
 
 -- how asking the command of a line at this place may
 abbrev pub EndsAsking : {S : Type 0} → Meaning S → Option Command → ℕ → PairEnded → Link S → Link S → Type 0
@@ -196,6 +199,7 @@ EndsAsking m command place ended.LostConnection old new = Stays m old new ⊎ As
 EndsAsking m command place ended.LostByWrite old new = ⊥
 EndsAsking m command place ended.Done old new = ⊥
 EndsAsking m command place ended.TurnLimit old new = ⊥
+EndsAsking m command place (ended.Standstill waits) old new = ⊥
 
 -- how a line may
 abbrev pub EndsLine : {S : Type 0} → Meaning S → PlanLine → ℕ → PairEnded → Link S → Link S → Type 0
@@ -205,6 +209,7 @@ EndsLine m line place ended.LostConnection old new = MayLose m old new ⊎ Does 
 EndsLine m line place ended.LostByWrite old new = MayLose m old new
 EndsLine m line place ended.Done old new = ⊥
 EndsLine m line place ended.TurnLimit old new = ⊥
+EndsLine m line place (ended.Standstill waits) old new = ⊥
 
 -- how the events of a round may
 abbrev pub EndsMoving : PairEnded → Type 0
@@ -214,6 +219,7 @@ EndsMoving ended.LostByWrite = ⊥
 EndsMoving (ended.RefusedLine place number) = ⊥
 EndsMoving ended.Done = ⊥
 EndsMoving ended.TurnLimit = ⊥
+EndsMoving (ended.Standstill waits) = ⊥
 
 -- how reading may
 abbrev pub EndsReading : {S : Type 0} → Meaning S → PairEnded → Link S → Link S → Type 0
@@ -223,6 +229,7 @@ EndsReading m ended.LostConnection old new = Moves m old new
 EndsReading m ended.NoMemory old new = Moves m old new
 EndsReading m (ended.RefusedLine place number) old new = ⊥
 EndsReading m ended.TurnLimit old new = ⊥
+EndsReading m (ended.Standstill waits) old new = ⊥
 
 -- how printing may
 abbrev pub EndsTelling : PairEnded → Type 0
@@ -232,6 +239,7 @@ EndsTelling ended.LostConnection = ⊥
 EndsTelling ended.Done = ⊥
 EndsTelling (ended.RefusedLine place number) = ⊥
 EndsTelling ended.TurnLimit = ⊥
+EndsTelling (ended.Standstill waits) = ⊥
 
 -- how a loss may, which is told
 abbrev pub EndsLosing : PairEnded → Type 0
@@ -241,6 +249,7 @@ EndsLosing ended.NoMemory = Unit {0}
 EndsLosing ended.Done = ⊥
 EndsLosing (ended.RefusedLine place number) = ⊥
 EndsLosing ended.TurnLimit = ⊥
+EndsLosing (ended.Standstill waits) = ⊥
 
 -- all lines were carried out, and no command waits for its answer
 abbrev pub HasFinished : {S : Type 0} → Meaning S → List PlanLine → Link S → Link S → Type 0

@@ -19,6 +19,12 @@ pub enum PairEnded {
     LostConnection,
     /// An allocation was refused.
     NoMemory,
-    /// All rounds were used, or nothing happened in one.
+    /// All rounds were used, and something happened in each of them.
     TurnLimit,
+    /// Nothing happened in a round, so nothing will in any other.
+    Standstill {
+        /// The line of the plan that waits, counted from 1; one more than there are lines where all were carried out, and a command waits for
+        /// its answer.
+        line: usize,
+    },
 }

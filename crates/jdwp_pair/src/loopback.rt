@@ -4,17 +4,21 @@ ghost use Rattle.jdwp_pair.specs.Loopbacks.{failure_of};
 
 use crate::connection::Connection;
 use jdwp_link::{Side, Way};
-use jdwp_port::{PortFault, bind, connect};
+use jdwp_port::{PortFault, PortListener, bind, connect};
 use std::io;
 use std::io::{ErrorKind, Read, Write};
-use std::net::{Net, OpenStream};
+use std::net::{Net, OpenListener, OpenStream};
 
 /// How many bytes are under way at most.
 const PIECE: usize = 4_096;
 
+/// How many connections are taken at most until the one that was made is among them.
+const MOST_TAKEN: u32 = 16;
+
 /// A connection of this machine to itself, 127.0.0.1: a new one for each session, at a port that the system chooses.
 ///
 /// A piece is written at one end and read at the other before the next one is, so no call waits for another process, and none needs a thread.
+/// Both ends are of one connection: where a stranger comes to the port first it is let go, and the next one is taken.
 #[derive(Drop)]
 pub struct Loopback<'a, R: Net> {
     net: &'a R,
@@ -48,12 +52,12 @@ impl<'a, R: Net> Loopback<'a, R> {
     /// Makes a new connection.
     ///
     /// # Errors
-    /// `Port` where the system gives none; `NoMemory`.
+    /// `Port` where the system gives none, or where strangers alone come to its port; `NoMemory`.
     fn join(&mut self) -> Result<(), PortFault> {
         let listener = bind(self.net, 0)?;
         self.port = listener.port();
         let debugger = connect(self.net, self.port)?;
-        let target = listener.accept()?;
+        let target = accept_own(&listener, &debugger)?;
         for stream in [&debugger, &target] {
             // Where the system refuses this, what is written leaves later, and nothing else is different.
             let _ = stream.set_nodelay(true);
@@ -107,6 +111,32 @@ impl<'a, R: Net> Connection for Loopback<'a, R> {
             self.fail(fault);
         }
     }
+}
+
+/// The listener's end of the connection that was made to it. A stranger that came before is let go.
+///
+/// # Errors
+/// `Port` where the system tells no address or takes no connection, or where strangers alone came; `NoMemory`.
+fn accept_own<L: OpenListener>(
+    listener: &PortListener<L>,
+    own: &L::Stream,
+) -> Result<L::Stream, PortFault>
+where
+    L::Stream: OpenStream,
+{
+    let address = match own.local_addr() {
+        Ok(address) => address,
+        Err(error) => return Err(PortFault::of_port(listener.port(), error)),
+    };
+    for _ in 0..MOST_TAKEN {
+        let stream = listener.accept()?;
+        match stream.peer_addr() {
+            Ok(peer) if peer == address => return Ok(stream),
+            _ => {}
+        }
+    }
+    let error = io::Error::from(ErrorKind::TimedOut);
+    Err(PortFault::of_port(listener.port(), error))
 }
 
 /// Writes a piece at one end and reads as many bytes at the other.

@@ -1,5 +1,5 @@
 //! The engine that runs both ends by a plan.
-ghost use Rattle.std.specs.Prelude.{◌≡◌, ◌⊎◌, ◌∷◌, List, Err, IfErr, IfOk, Ok, OnErr, OnOk, false, is_some};
+ghost use Rattle.std.specs.Prelude.{◌≡◌, ◌+◌, ◌⊎◌, ◌∷◌, List, Err, IfErr, IfOk, Ok, OnErr, OnOk, false, is_some, length, take};
 ghost use Rattle.jdwp_script_machine.specs.Machines.{read_machine};
 ghost use Rattle.jdwp_script_machine.specs.ScriptMeaning.{script_meaning};
 ghost use Rattle.jdwp_script_machine.specs.States.{State};
@@ -129,7 +129,7 @@ fn link_over<M: Machine + Drop>(
 ///
 /// The run is done where all lines were carried out and no command waits, and then both ends lose the connection; and at the turn that reads
 /// an answer without an error to Dispose or the death of the machine, whatever lines are left. A round in which nothing happened ends it as
-/// `TurnLimit`; a line that was carried out is something. Where the connection failed the run ends as `LostConnection`, behind the event.
+/// `Standstill`; a line that was carried out is something. Where the connection failed the run ends as `LostConnection`, behind the event.
 /// `out` is flushed at the end, whatever ends the run; where that fails it is `LostByWrite`, but for a command that was refused and a
 /// connection that failed.
 pub fn pair<M: Machine + Drop, C: Connection, W: Pipe>(
@@ -159,9 +159,11 @@ fn unflushed(ended: PairEnded) -> PairEnded
 {
     match ended {
         PairEnded::RefusedLine { .. } | PairEnded::LostConnection => ended,
-        PairEnded::Done | PairEnded::LostByWrite | PairEnded::NoMemory | PairEnded::TurnLimit => {
-            PairEnded::LostByWrite
-        }
+        PairEnded::Done
+        | PairEnded::LostByWrite
+        | PairEnded::NoMemory
+        | PairEnded::TurnLimit
+        | PairEnded::Standstill { .. } => PairEnded::LostByWrite,
     }
 }
 
@@ -217,7 +219,10 @@ fn run_rounds<M: Machine + Drop, C: Connection, W: Pipe>(
     for _ in 0..rounds {
         match round(alloc, link, connection, plan, out, run) {
             Ok(true) => {}
-            Ok(false) => return Err(PairEnded::TurnLimit),
+            Ok(false) => {
+                let line = waiting_line(plan, run);
+                return Err(PairEnded::Standstill { line });
+            }
             Err(ended) => return Err(ended),
         }
         if is_finished(link.debugger(), plan, run) {
@@ -261,6 +266,13 @@ fn round<M: Machine + Drop, C: Connection, W: Pipe>(
         }
         Err(ended) => Err(ended),
     }
+}
+
+/// The line behind those that were carried out, counted from 1.
+fn waiting_line(plan: &[PlanLine], run: &Run) -> usize
+    ensures { result ≡ length (take run.now.carried plan.now) + 1 }
+{
+    run.carried.min(plan.len()) + 1
 }
 
 /// All bytes under way come to the target, and it handles them; where it handled nothing, the newest deferred command is released, or each

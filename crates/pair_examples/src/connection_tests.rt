@@ -132,6 +132,49 @@ fn a_system_without_ports_is_told(rt: HostRuntime) {
     expect_same(&rt, &told.as_str(), &"port 0: not allowed");
 }
 
+/// A system on which so many strangers come to a port before whoever connects to it.
+#[derive(Drop)]
+struct Visited<'a, R: Net> {
+    net: &'a R,
+    strangers: u32,
+}
+
+impl<'a, R: Net> Net for Visited<'a, R> {
+    type Stream = R::Stream;
+
+    type Listener = R::Listener;
+
+    fn bind(&self, address: SocketAddr) -> io::Result<R::Listener> {
+        self.net.bind(address)
+    }
+
+    fn connect(&self, address: SocketAddr) -> io::Result<R::Stream> {
+        for _ in 0..self.strangers {
+            self.net.connect(address)?;
+        }
+        self.net.connect(address)
+    }
+}
+
+/// A run over a system with so many strangers ends and prints so.
+fn is_visited<R: AllocGlobal + Abort + Net>(rt: &R, strangers: u32, want: PairEnded, told: &str) {
+    let visited = Visited { net: rt, strangers };
+    let mut loopback = Loopback::new(&visited);
+    let writer = Writer::failing(rt.alloc(), 0, 0);
+    let (ended, lines) = run_text(rt, rt.alloc(), &mut loopback, true, "", writer, 1000);
+    expect_same_for(rt, &ended, &want, &strangers);
+    expect_same_for(rt, &lines.as_slice(), &told.as_bytes(), &strangers);
+}
+
+/// A stranger that came first is let go; sixteen of them end a run.
+#[test]
+fn a_stranger_is_let_go(rt: HostRuntime) {
+    for strangers in [0, 1, 15] {
+        is_visited(&rt, strangers, PairEnded::Done, READY);
+    }
+    is_visited(&rt, 16, PairEnded::LostConnection, "");
+}
+
 /// How many letters the text of an object has.
 const LETTERS: usize = 9_000;
 

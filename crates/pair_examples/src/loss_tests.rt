@@ -138,26 +138,26 @@ static UNDONE: [Case; 6] = [
     // Nobody will answer.
     Case {
         plan: "lose target\nask 1 8\nanswers",
-        ended: PairEnded::TurnLimit,
+        ended: PairEnded::Standstill { line: 3 },
         lines: READY,
         ..CASE
     },
     // No session begins while an end is open, or once the machine is dead.
     Case {
         plan: "lose debugger\nattach",
-        ended: PairEnded::TurnLimit,
+        ended: PairEnded::Standstill { line: 2 },
         lines: READY,
         ..CASE
     },
     Case {
         plan: "lose target\nattach",
-        ended: PairEnded::TurnLimit,
+        ended: PairEnded::Standstill { line: 2 },
         lines: READY,
         ..CASE
     },
     Case {
         plan: "lose target\nlose debugger\nevents 2\nattach",
-        ended: PairEnded::TurnLimit,
+        ended: PairEnded::Standstill { line: 3 },
         lines: READY,
         ..CASE
     },

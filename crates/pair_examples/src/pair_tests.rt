@@ -208,7 +208,7 @@ static LIMITED: [Case; 6] = [
     // All threads are suspended, and no event comes.
     Case {
         plan: "events 2",
-        ended: PairEnded::TurnLimit,
+        ended: PairEnded::Standstill { line: 1 },
         lines: READY,
         ..CASE
     },

@@ -1,6 +1,6 @@
 use Rattle.std.proofs.Common.{◌≡◌, false, subst, rules}
 use Rattle.jdwp_debugger.specs.Debuggers.{Debugger, has_tickets}
-use Rattle.jdwp_pair.proofs.Planned.{ends-limit, stands-all}
+use Rattle.jdwp_pair.proofs.Planned.{ends-limit, ends-still, stands-all}
 use Rattle.jdwp_pair.proofs.pairing.run_rounds.Goals as goal
 
 pub loop-init : goal.loop-init
@@ -11,7 +11,7 @@ loop-preserved g c = record { goes = λ first s. c.in-Ok-true.ensures.goes first
 
 pub returns-in-Ok-false-clause-ends : goal.returns-in-Ok-false-clause-ends
 returns-in-Ok-false-clause-ends g c = λ first s.
-    ends-limit g.M.Machine.meaning c.args.plan.now first c.round.new.run.carried c.round.new.run.composites c.round.new.link (c.in-Ok-false.ensures.goes first (c.loop.invariant.goes first s))
+    ends-still g.M.Machine.meaning c.args.plan.now first c.round.new.run.carried c.round.new.run.composites c.waiting_line-line.result c.round.new.link (c.in-Ok-false.ensures.goes first (c.loop.invariant.goes first s)) c.waiting_line-line.ensures
 
 pub returns-in-Err-clause-ends : goal.returns-in-Err-clause-ends
 returns-in-Err-clause-ends g c = λ first s. c.in-Err.ensures.ends first (c.loop.invariant.goes first s)
