@@ -8,7 +8,7 @@ What a fence is stands in a comment right above it, which a reader of the page d
 - `<!-- prints -->`: what the command above it prints, to the letter. A line `..` stands for any lines; an id in a fence of an example with a JVM for any id, and a list for any list.
 - `<!-- file NAME -->`: what follows lies in a file of that name, beside the copy's README.md. `<!-- file NAME, java -->`: a class that is compiled.
 - `<!-- is FILE -->`: what follows is that file of the repository, but for white space.
-- `<!-- in FOLDER -->`: each line stands in this order in one source file below that folder, among others (contracts, say).
+- `<!-- in FOLDER -->`: this code stands in a source file below that folder, where it has contracts, too.
 - `<!-- form -->`: no example.
 A fence without such a comment fails, and so does a command whose output stands nowhere.
 
@@ -154,21 +154,34 @@ def compare(said, wanted, is_java):
         raise Wrong(f"it printed\n{said}where the page has\n{wanted}")
 
 
+def without_clauses(text):
+    """The text of a source file without contracts: each `requires` and `ensures` with what stands in its braces."""
+    kept, at = [], 0
+    for it in re.finditer(r"\b(?:requires|ensures)\*?\s*\w*\s*\{", text):
+        if it.start() < at:
+            continue
+        kept.append(text[at : it.start()])
+        at, depth = it.end(), 1
+        while depth:
+            depth += {"{": 1, "}": -1}.get(text[at], 0)
+            at += 1
+    return "".join(kept) + text[at:]
+
+
+def squeezed(text):
+    """The text without white space, and without a comma that stands last in a list."""
+    return re.sub(r",(?=[)}\]>])", "", re.sub(r"\s+", "", text))
+
+
 def stands_in(folder, text):
-    """Fails where the lines stand in this order in no source file below the folder."""
-    wanted = [it.strip() for it in text.splitlines() if it.strip()]
+    """Fails where the text stands in no source file below the folder, but for contracts and white space."""
     for at, _, names in os.walk(f"{ROOT}/{folder}"):
         for name in names:
             if name.endswith(".rt"):
                 with open(os.path.join(at, name), encoding="utf-8") as it:
-                    lines = iter([line.strip() for line in it])
-                if all(line in lines for line in wanted):
-                    return
+                    if squeezed(text) in squeezed(without_clauses(it.read())):
+                        return
     raise Wrong(f"it does not stand so in {folder}")
-
-
-def squeezed(text):
-    return re.sub(r"\s+", "", text)
 
 
 def judge(room, role, text, before):
