@@ -1,4 +1,3 @@
-pub mod DataLaws
 pub mod FormLaws
 pub mod NumberLaws
 pub mod PlanLaws

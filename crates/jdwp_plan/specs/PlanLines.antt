@@ -1,5 +1,5 @@
 -- What lines in memory say, and what a call answers of a line.
-use Rattle.std.specs.Prelude.{◌≡◌, ℕ, true, List, map, Result, Ok, Err, is_ok}
+use Rattle.std.specs.Prelude.{◌≡◌, ℕ, List, map, Result, Ok, Err}
 use Rattle.std.specs.Borrow.{Bor}
 use Rattle.std.specs.Global.{Vec}
 use Rattle.jdwp_plan.specs.declared.plan_fault.LineFault.{LineFault}
@@ -9,7 +9,7 @@ use Rattle.jdwp_plan.specs.declared.plan_line.PlanLine.{PlanLine}
 use Rattle.jdwp_plan.specs.declared.plan_line.PlanLine.TheVariants as line
 use Rattle.jdwp_plan.specs.declared.reading.ProgramCommand.{ProgramCommand}
 use Rattle.jdwp_plan.specs.declared.reading.ProgramCommand.TheVariants as command
-use Rattle.jdwp_plan.specs.Lines.{Said, attach_line_of, for_attach, line_of}
+use Rattle.jdwp_plan.specs.Lines.{Said, attach_line_of, line_of}
 use Rattle.jdwp_plan.specs.Lines.Said.{Ask, Answers, Events, Mirror, LoseTarget, LoseDebugger, Attach}
 
 abbrev pub said_by : PlanLine → Said
@@ -32,14 +32,8 @@ bytes_of bytes = bytes.items
 abbrev pub texts : List (Bor (List ℕ)) → List (List ℕ)
 texts words = map (λ word. word.now) words
 
--- A call answered what is to be read, or why nothing is; memory is wanted only of what reads.
+-- A call answered what is to be read, or why nothing is; want of memory says nothing.
 abbrev pub Gives : {X Y : Type 0} → (X → Y) → Result X Refusal → Result Y LineFault → Type 0
 Gives meaning (Ok x) read = read ≡ Ok (meaning x)
 Gives meaning (Err (refusal.Fault fault)) read = read ≡ Err fault
-Gives meaning (Err refusal.NoMemory) read = is_ok read ≡ true
-
--- The same of a line; memory is wanted only of one that reads in a plan of `attach`, too.
-abbrev pub GivesLine : Result PlanLine Refusal → Result Said LineFault → Type 0
-GivesLine (Ok line) read = read ≡ Ok (said_by line)
-GivesLine (Err (refusal.Fault fault)) read = read ≡ Err fault
-GivesLine (Err refusal.NoMemory) read = is_ok (for_attach read) ≡ true
+Gives meaning (Err refusal.NoMemory) read = Unit {0}

