@@ -1,5 +1,5 @@
 //! What joins both ends of a run.
-ghost use Rattle.std.specs.Prelude.{◌≡◌, None, Option};
+ghost use Rattle.std.specs.Prelude.{◌≡◌, None, Option, is_some, refl};
 ghost use Rattle.jdwp_port.specs.declared.faults.PortFault.{PortFault};
 
 use jdwp_link::{Memory, Side, Way};
@@ -20,6 +20,10 @@ pub trait Connection: Way {
 
     /// A session began: both ends are joined anew, and what joined them before is closed.
     fn attach(&mut self);
+
+    /// It failed as a way exactly where there is a failure.
+    ghost fails_so: { (connection : Self) → Self.Way.has_failed connection
+        ≡ is_some (failed_by connection) };
 }
 
 impl Connection for Memory {
@@ -32,4 +36,6 @@ impl Connection for Memory {
     fn lose(&mut self, _side: Side) {}
 
     fn attach(&mut self) {}
+
+    ghost fails_so = { λ memory. refl };
 }

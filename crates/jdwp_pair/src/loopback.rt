@@ -1,9 +1,10 @@
 //! A connection of this machine to itself.
-ghost use Rattle.std.specs.Prelude.{◌≡◌, ◌≤◌, length};
-ghost use Rattle.jdwp_pair.specs.Loopbacks.{failure_of};
+ghost use Rattle.std.specs.Prelude.{◌≡◌, ◌≤◌, IfOk, None, false, length, take, refl};
+ghost use Rattle.jdwp_link.specs.Ways.{nothing_carried, with_carried};
+ghost use Rattle.jdwp_pair.specs.Loopbacks.{carried_by, failure_of, has_failed};
 
 use crate::connection::Connection;
-use jdwp_link::{Side, Way};
+use jdwp_link::{Memory, Side, Way};
 use jdwp_port::{PortFault, PortListener, bind, connect};
 use std::io;
 use std::io::{ErrorKind, Read, Write};
@@ -30,6 +31,8 @@ pub struct Loopback<'a, R: Net> {
     debugger: Option<R::Stream>,
     /// What was read of a piece.
     read: [u8; PIECE],
+    /// What was read at each end; only contracts see it.
+    carried: Memory,
     /// The first failure.
     failure: Option<PortFault>,
 }
@@ -37,7 +40,8 @@ pub struct Loopback<'a, R: Net> {
 impl<'a, R: Net> Loopback<'a, R> {
     /// Before the first connection, which `attach` makes.
     pub fn new(net: &'a R) -> Loopback<'a, R>
-        ensures { failure_of result ≡ None }
+        ensures failure { failure_of result ≡ None }
+        ensures carried { carried_by result ≡ nothing_carried }
     {
         Loopback {
             net,
@@ -45,6 +49,7 @@ impl<'a, R: Net> Loopback<'a, R> {
             target: None,
             debugger: None,
             read: [0; PIECE],
+            carried: Memory::new(),
             failure: None,
         }
     }
@@ -67,6 +72,20 @@ impl<'a, R: Net> Loopback<'a, R> {
         Ok(())
     }
 
+    /// Carries nothing where an end lost its half; a piece that has bytes is a failure.
+    fn carry_nowhere(&mut self, from: Side, piece: &[u8])
+        requires { length piece.now ≤ 4096 }
+        ensures { has_failed self.new ≡ false → carried_by self.new
+            ≡ with_carried from piece.now (carried_by self.old) }
+    {
+        if piece.is_empty() {
+            self.carried.carry(from, piece);
+        } else {
+            let error = io::Error::from(ErrorKind::NotConnected);
+            self.failure = Some(PortFault::of_port(self.port, error));
+        }
+    }
+
     /// Keeps the first failure.
     fn fail(&mut self, fault: PortFault) {
         if self.failure.is_none() {
@@ -76,16 +95,25 @@ impl<'a, R: Net> Loopback<'a, R> {
 }
 
 impl<'a, R: Net> Way for Loopback<'a, R> {
+    ghost story = { carried_by };
+
+    ghost has_failed = { has_failed };
+
     fn carry(&mut self, from: Side, piece: &[u8]) {
+        if self.failure.is_some() {
+            return;
+        }
         let (Some(target), Some(debugger)) = (&mut self.target, &mut self.debugger) else {
+            self.carry_nowhere(from, piece);
             return;
         };
-        let carried = match from {
-            Side::Target => carry(target, debugger, piece, &mut self.read),
-            Side::Debugger => carry(debugger, target, piece, &mut self.read),
+        let passed = match from {
+            Side::Target => pass(target, debugger, piece, &mut self.read),
+            Side::Debugger => pass(debugger, target, piece, &mut self.read),
         };
-        if let Err(error) = carried {
-            self.fail(PortFault::of_port(self.port, error));
+        match passed {
+            Ok(()) => self.carried.carry(from, &self.read[..piece.len()]),
+            Err(error) => self.failure = Some(PortFault::of_port(self.port, error)),
         }
     }
 }
@@ -111,6 +139,8 @@ impl<'a, R: Net> Connection for Loopback<'a, R> {
             self.fail(fault);
         }
     }
+
+    ghost fails_so = { λ loopback. refl };
 }
 
 /// The listener's end of the connection that was made to it. A stranger that came before is let go.
@@ -139,17 +169,18 @@ where
     Err(PortFault::of_port(listener.port(), error))
 }
 
-/// Writes a piece at one end and reads as many bytes at the other.
+/// Writes a piece at one end and reads as many bytes at the other, which are the same then.
 ///
 /// # Errors
 /// The system's; `InvalidData` where other bytes were read.
-fn carry<S: Read + Write>(
+fn pass<S: Read + Write>(
     from: &mut S,
     to: &mut S,
     piece: &[u8],
     buffer: &mut [u8; PIECE],
 ) -> io::Result<()>
     requires { length piece.now ≤ 4096 }
+    ensures { IfOk result (λ _. take (length piece.now) buffer.new ≡ piece.now) }
 {
     from.write_all(piece)?;
     from.flush()?;

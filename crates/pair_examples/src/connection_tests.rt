@@ -1,7 +1,8 @@
 //! Runs over connections that fail, and over one whose answers are long.
+ghost use Rattle.std.specs.Prelude.{◌≡◌, is_some, true, refl};
 use crate::asserts::{expect_same, expect_same_for};
 use crate::runs::{READY, Writer, run_script, run_text, standard};
-use jdwp_link::{Side, Way};
+use jdwp_link::{Memory, Side, Way};
 use jdwp_pair::{Connection, Loopback, PairEnded};
 use jdwp_plan::{PlanLine, read_plan};
 use jdwp_port::PortFault;
@@ -12,8 +13,9 @@ use std::net::{Net, SocketAddr, TcpListener, TcpStream};
 use std::process::Abort;
 
 /// A connection that fails at a piece, or as a session begins.
-#[derive(Clone, Copy)]
+#[derive(Drop)]
 struct Failing {
+    carried: Memory,
     pieces: u32,
     /// At which piece it fails, from 1; 0 for none.
     fails_at: u32,
@@ -26,6 +28,7 @@ struct Failing {
 impl Failing {
     fn at(fails_at: u32, ends_at: u32) -> Failing {
         Failing {
+            carried: Memory::new(),
             pieces: 0,
             fails_at,
             sessions: 0,
@@ -34,17 +37,28 @@ impl Failing {
         }
     }
 
-    fn fail(&mut self) {
+    fn fail(&mut self)
+        ensures { is_some self.new.failure ≡ true }
+    {
         let error = io::Error::from(ErrorKind::ConnectionReset);
         self.failure = Some(PortFault::of_port(7, error));
     }
 }
 
 impl Way for Failing {
-    fn carry(&mut self, _from: Side, _piece: &[u8]) {
+    ghost story = { λ f. f.carried };
+
+    ghost has_failed = { λ f. is_some f.failure };
+
+    fn carry(&mut self, from: Side, piece: &[u8]) {
+        if self.failure.is_some() {
+            return;
+        }
         self.pieces = self.pieces.saturating_add(1);
         if self.pieces == self.fails_at {
             self.fail();
+        } else {
+            self.carried.carry(from, piece);
         }
     }
 }
@@ -64,6 +78,8 @@ impl Connection for Failing {
             self.fail();
         }
     }
+
+    ghost fails_so = { λ f. refl };
 }
 
 /// A run of the plan over a connection that fails so ends as this, and prints this.

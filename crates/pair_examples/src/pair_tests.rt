@@ -331,7 +331,7 @@ const NOT_IMPLEMENTED: &str = "< hello
 fn long_commands_come_in_one_round(rt: HostRuntime) {
     let (alloc, done) = (rt.alloc(), PairEnded::Done);
     for count in [4_085, 4_086, 65_525] {
-        is_run_long(&rt, alloc, &mut Memory, count, done, NOT_IMPLEMENTED);
+        is_run_long(&rt, alloc, &mut Memory::new(), count, done, NOT_IMPLEMENTED);
         let mut loopback = Loopback::new(&rt);
         is_run_long(&rt, alloc, &mut loopback, count, done, NOT_IMPLEMENTED);
     }
@@ -343,7 +343,7 @@ fn a_command_that_is_too_long_is_refused(rt: HostRuntime) {
         line: 1,
         number: 34,
     };
-    is_run_long(&rt, rt.alloc(), &mut Memory, 65_526, refused, READY);
+    is_run_long(&rt, rt.alloc(), &mut Memory::new(), 65_526, refused, READY);
 }
 
 /// How the breakpoint's run ends within these limits, and what it prints.
@@ -354,7 +354,7 @@ fn run_within(rt: &impl Abort, alloc: Global, limits: Limits) -> (PairEnded, Vec
     run_script(
         rt,
         alloc,
-        &mut Memory,
+        &mut Memory::new(),
         MACHINE_A,
         settings,
         false,

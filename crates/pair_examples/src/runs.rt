@@ -132,7 +132,7 @@ pub(crate) fn run_text<C: Connection>(
 
 /// A case comes to what it says over memory.
 pub(crate) fn passes(rt: &impl Abort, alloc: Global, case: &Case) {
-    passes_over(rt, alloc, &mut Memory, case);
+    passes_over(rt, alloc, &mut Memory::new(), case);
 }
 
 /// A case comes to what it says over this connection.
