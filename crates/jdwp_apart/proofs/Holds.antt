@@ -1,15 +1,15 @@
 -- what holds after each event, and what follows
-use Rattle.std.proofs.Common.{◌≡◌, ℕ, suc, ◌+◌, ◌-◌, ◌==◌, ◌<◌, ◌≤◌, inl, inr, Bool, true, false, ◌||◌, ◌&&◌, not, cond, List, [], ◌∷◌, ◌++◌, length, refl, sym, ◌∙◌, ap, subst, arith, length-append, append_assoc}
-use Rattle.std.specs.Prelude.{nat_le, nat_lt}
+use Rattle.std.proofs.Common.{◌≡◌, ℕ, ◌+◌, ◌-◌, ◌==◌, ◌<◌, ◌≤◌, inl, inr, Bool, true, false, ◌||◌, ◌&&◌, not, cond, List, [], ◌∷◌, ◌++◌, length, refl, sym, ◌∙◌, ap, subst, arith, length-append, append_assoc}
+use Rattle.std.specs.Prelude.{nat_le}
 use Rattle.std.proofs.lemmas.Bool.{eq-eqb}
 use Rattle.jdwp_layout.specs.declared.answer.Answer.{Answer}
 use Rattle.jdwp_event.specs.Told.{composite_thread}
 use Rattle.jdwp_action.specs.Actions
-use Rattle.jdwp_action.specs.Actions.{Command, Action, action_of}
+use Rattle.jdwp_action.specs.Actions.{Command, action_of}
 use Rattle.jdwp_apart.specs.Messages.{Composite, Reply, Invocation, is_invocation, is_refused, may_ask, answered_count, counted, counted_by}
-use Rattle.jdwp_apart.specs.Watch.{Watch, Bound, later, recount, answered_to, surely_gives, all_lower, rest, sure}
+use Rattle.jdwp_apart.specs.Watch.{Bound, later, recount, answered_to, surely_gives, all_lower, rest, sure}
 use Rattle.jdwp_apart.specs.World.{Life, Alive, Ended, is_unborn, is_alive, is_ended, Reported, Given, Packet, Answers, Reports, World, Event, Asks, CarriesOut, Stops, Begins, Ends, Invokes, Enters, Declines, Leaves, Returns, SendsReply, SendsComposite, Reads, opening, living, asked, may_answer, reply_of, carried_out, carries_out, stopped, lives_one, is_none_unsent, may_stop, becomes, front, back, invoked, enters, declines, leaves, returns_to, on_one, Invoked, Phase, Waits, Runs, Over, sends_reply, sends_composite, reads, next, run}
-use Rattle.jdwp_apart.specs.Headline.{Always, SureIsSuspended, SureIsCovered, CountIsAtMost, SettlesExactly, IsToldNext, ShownOnceAsked, unread_replies, unread_composites, answers_in, reports_in}
+use Rattle.jdwp_apart.specs.Headline.{Always, SureIsSuspended, SureIsCovered, CountIsAtMost, SettlesExactly, ShownOnceAsked, unread_replies, unread_composites, answers_in, reports_in}
 use Rattle.jdwp_apart.proofs.Sums.{commands, all_stop, all_give, all_raise, all_take, all_take_most, all_running, all_running_most, all_invoked, later_most, front_back, stops_after}
 use Rattle.jdwp_apart.proofs.Bounds.{at_least, below}
 use Rattle.jdwp_apart.proofs.Keeps.{Inv, full, waits, both, opening_inv, asked_inv, carried_inv, stopped_inv, begun_inv, ended_inv, replied_inv, told_inv, invoked_inv, enters_inv, declines_inv, leaves_inv, returns_inv}
