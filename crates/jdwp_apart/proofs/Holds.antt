@@ -9,7 +9,7 @@ use Rattle.jdwp_action.specs.Actions.{Command, action_of}
 use Rattle.jdwp_apart.specs.Messages.{Composite, Reply, Invocation, is_invocation, is_refused, may_ask, answered_count, counted, counted_by}
 use Rattle.jdwp_apart.specs.Watch.{Bound, later, recount, answered_to, surely_gives, all_lower, rest, sure}
 use Rattle.jdwp_apart.specs.World.{Life, Alive, Ended, is_unborn, is_alive, is_ended, Reported, Given, Packet, Answers, Reports, World, Event, Asks, CarriesOut, Stops, Begins, Ends, Invokes, Enters, Declines, Leaves, Returns, SendsReply, SendsComposite, Reads, opening, living, asked, may_answer, reply_of, carried_out, carries_out, stopped, lives_one, is_none_unsent, may_stop, becomes, front, back, invoked, enters, declines, leaves, returns_to, on_one, Invoked, Phase, Waits, Runs, Over, sends_reply, sends_composite, reads, next, run}
-use Rattle.jdwp_apart.specs.Headline.{Always, SureIsSuspended, SureIsCovered, CountIsAtMost, SettlesExactly, ShownOnceAsked, unread_replies, unread_composites, answers_in, reports_in}
+use Rattle.jdwp_apart.specs.Headline.{Always, SureIsSuspended, SureIsCovered, CountIsAtMost, SettlesExactly, ShownOnceAsked, Throughout, IsSurelySuspended, StaysSuspended, unread_replies, unread_composites, answers_in, reports_in}
 use Rattle.jdwp_apart.proofs.Sums.{commands, all_stop, all_give, all_raise, all_take, all_take_most, all_running, all_running_most, all_invoked, later_most, front_back, stops_after}
 use Rattle.jdwp_apart.proofs.Bounds.{at_least, below}
 use Rattle.jdwp_apart.proofs.Keeps.{Inv, full, waits, both, opening_inv, asked_inv, carried_inv, stopped_inv, begun_inv, ended_inv, replied_inv, told_inv, invoked_inv, enters_inv, declines_inv, leaves_inv, returns_inv}
@@ -259,6 +259,15 @@ asked_once first w h t r ps a s =
         let l = later_second (v.told t).value (v.recounted t).value in
         omega arith
 
+-- ---- all the while
+
+suspended_now : (first : ℕ → Bool) (w : World) (t : ℕ) → Holds first w → IsSurelySuspended t w → 0 < w.counts t
+suspended_now first w t h s = let c = covered first w h t s.lives in let k : 0 < sure w.watch t = s.sure in omega arith
+
+stays : (first : ℕ → Bool) (w : World) (t : ℕ) (es : List Event) → Holds first w → Throughout (IsSurelySuspended t) w es → Throughout (λ v. 0 < v.counts t) w es
+stays first w t [] h s = suspended_now first w t h s
+stays first w t (e ∷ es) h s = (suspended_now first w t h s.0, stays first (next w e) t es (by_event first w e h) s.1)
+
 -- ---- always
 
 pub always_covered : Always SureIsCovered
@@ -275,3 +284,6 @@ always_exact b first events = exactly first (run (opening b first) events) (at_a
 
 pub always_once_asked : Always ShownOnceAsked
 always_once_asked b first events = asked_once first (run (opening b first) events) (at_all b first events)
+
+pub always_stays : Always StaysSuspended
+always_stays b first events t later_events s = stays first (run (opening b first) events) t later_events (at_all b first events) s
