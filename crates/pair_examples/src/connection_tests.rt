@@ -1,5 +1,6 @@
 //! Runs over connections that fail, and over one whose answers are long.
 ghost use Rattle.std.specs.Prelude.{◌≡◌, is_some, true, refl};
+
 use crate::asserts::{expect_same, expect_same_for};
 use crate::runs::{READY, Writer, run_script, run_text, standard};
 use jdwp_link::{Memory, Side, Way};
