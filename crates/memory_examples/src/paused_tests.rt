@@ -36,7 +36,11 @@ enum Came {
 }
 
 /// What comes of the step that reaches the breakpoint, where no memory is left and so many lists are under way.
-fn came<M: Machine + Drop>(link: &mut Link<M>, alloc: Global, lists: u32) -> Result<Came, Stop> {
+fn what_comes<M: Machine + Drop>(
+    link: &mut Link<M>,
+    alloc: Global,
+    lists: u32,
+) -> Result<Came, Stop> {
     let before = events_of(alloc, &BEFORE_BREAKPOINT)?;
     let list = events_of(alloc, &LIST_UNDER_WAY)?;
     let Ok(_) = link.run(&before) else {
@@ -59,11 +63,11 @@ fn came<M: Machine + Drop>(link: &mut Link<M>, alloc: Global, lists: u32) -> Res
 }
 
 /// The same in a link over this machine, in which a packet has 2,048 bytes at most.
-fn came_over<M: Machine + Drop>(alloc: Global, machine: M, lists: u32) -> Result<Came, Stop>
+fn what_comes_over<M: Machine + Drop>(alloc: Global, machine: M, lists: u32) -> Result<Came, Stop>
     requires { Lives M.meaning machine }
 {
     let (Some(limits), Some(options)) = (
-        Limits::new(2048, 64, 64, 256),
+        Limits::new(2048, 64, 3, 256),
         TargetOptions::new(false, 65_535),
     ) else {
         return Err(Stop::CountLimit);
@@ -71,22 +75,22 @@ fn came_over<M: Machine + Drop>(alloc: Global, machine: M, lists: u32) -> Result
     match Link::with_limits(alloc, machine, options, limits) {
         Ok(link) => {
             let mut link = Box::new(alloc, link)?;
-            came(&mut link, alloc, lists)
+            what_comes(&mut link, alloc, lists)
         }
         Err(_) => Err(Stop::NoMemory),
     }
 }
 
-fn came_on_a(alloc: Global, lists: u32) -> Result<Came, Stop> {
+fn what_comes_on_a(alloc: Global, lists: u32) -> Result<Came, Stop> {
     let machine = ScriptMachine::read(alloc, MACHINE_A)?;
-    came_over(alloc, machine, lists)
+    what_comes_over(alloc, machine, lists)
 }
 
 /// 66 lists are 2,046 bytes, and the target is not paused: the step wants memory. 67 are 2,077, and it asks for none.
 #[test]
 fn a_step_at_a_paused_target_never_stops_a_run(rt: HostRuntime) {
     for (lists, want) in [(66, Came::Stopped), (67, Came::Frozen)] {
-        let found = came_on_a(rt.alloc(), lists).ok();
+        let found = what_comes_on_a(rt.alloc(), lists).ok();
         expect_same(&rt, &found, &Some(want));
     }
 }
