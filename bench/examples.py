@@ -84,6 +84,7 @@ class Room:
         os.makedirs(f"{self.at}/crates/jdwp/out")
         os.makedirs(f"{self.at}/bin")
         shutil.copy(program, f"{self.at}/crates/jdwp/out/jdwp")
+        os.chmod(f"{self.at}/crates/jdwp/out/jdwp", 0o755)
         with open(f"{self.at}/bin/rt", "w", encoding="ascii") as it:
             it.write(RT.format(program=f"{self.at}/crates/jdwp/out/jdwp"))
         os.chmod(f"{self.at}/bin/rt", 0o755)
