@@ -23,6 +23,8 @@ mod links;
 #[cfg(test)]
 mod opening_tests;
 #[cfg(test)]
+mod paused_tests;
+#[cfg(test)]
 mod supply;
 #[cfg(test)]
 mod target_lists;
