@@ -3,7 +3,7 @@
 
 Each row is an input of a size and one four times as long, run by the program: a line of very many digits, lines of a byte, commands that all wait, a script that is deep,
 or has a long number, many members, or long texts, a plan of many lines, packets that are no command or whose data do not read, events of threads whose ids are spread, what
-suspends and resumes all of them, and event requests, most of which are refused, or kept by a debugger. Prints of each the processor's seconds of the best of three runs at both sizes, how often the shorter one's the longer one took, and the peaks
+suspends and resumes all of them, and event requests, most of which are refused, or that a debugger keeps, makes anew or clears. Prints of each the processor's seconds of the best of three runs at both sizes, how often the shorter one's the longer one took, and the peaks
 of memory. What a run answers is checked. To reach: at most six times as long where the input is four times as long, and for sessions memory that does not grow; the status is 1
 where a row takes longer.
 
@@ -176,19 +176,58 @@ def suspends_and_resumes(count):
     return moved_threads(count, [8, 9])
 
 
+def asked(asks):
+    """Commands that are asked one after the other, each once the one before it is answered: its words in the plan, and the data that answer it."""
+    plan = "".join(f"ask {words}\nanswers\n" for words, _ in asks)
+    answered = b"".join(struct.pack(">IIBH", 11 + len(data), place + 2, 0x80, 0) + data for place, (_, data) in enumerate(asks))
+    return f"{plan}ask 1 6\n".encode(), HANDSHAKE + IDS_ARE_8_BYTES + answered + struct.pack(">IIBH", 11, len(asks) + 2, 0x80, 0), 0
+
+
+METHOD_ENTRY = 40
+BREAKPOINT = 2
+
+
+def set_as(it, kind=METHOD_ENTRY):
+    """A Set of a kind, without modifiers, that is granted under an id."""
+    return f"15 1 {kind:02x}0000000000", struct.pack(">I", it)
+
+
+def clear_of(it):
+    return f"15 2 {METHOD_ENTRY:02x}{it:08x}", b""
+
+
+CLEAR_ALL_BREAKPOINTS = ("15 3", b"")
+
+
 def kept_requests(count):
     """Sets of METHOD_ENTRY, each granted under an id of its own."""
-    number = count // 15
-    answered = b"".join(struct.pack(">IIBHI", 15, i + 1, 0x80, 0, i) for i in range(1, number + 1))
-    return b"ask 15 1 280000000000\nanswers\n" * number + b"ask 1 6\n", HANDSHAKE + IDS_ARE_8_BYTES + answered + struct.pack(">IIBH", 11, number + 2, 0x80, 0), 0
+    return asked([set_as(it) for it in range(1, count // 15 + 1)])
 
 
 def requests_made_anew(count):
     """The same, and then each once more under an id that was given, the oldest first."""
+    ids = range(1, count // 30 + 1)
+    return asked([set_as(it) for it in [*ids, *ids]])
+
+
+def one_id_again(count):
+    """Sets that are granted under ids of their own, and then as many, each of which is granted under one and the same of these ids."""
     number = count // 30
-    ids = [*range(1, number + 1)] * 2
-    answered = b"".join(struct.pack(">IIBHI", 15, place + 2, 0x80, 0, it) for place, it in enumerate(ids))
-    return b"ask 15 1 280000000000\nanswers\n" * (2 * number) + b"ask 1 6\n", HANDSHAKE + IDS_ARE_8_BYTES + answered + struct.pack(">IIBH", 11, 2 * number + 2, 0x80, 0), 0
+    return asked([set_as(it) for it in [*range(1, number + 1), *[number // 2 + 1] * number]])
+
+
+def cleared_requests(count):
+    """Sets that are granted under ids of their own, and then, for each, a Clear of an id that was never given and one of its own, the newest first."""
+    number = count // 37
+    clears = [clear_of(it) for kept in range(number, 0, -1) for it in (number + kept, kept)]
+    return asked([set_as(it) for it in range(1, number + 1)] + clears)
+
+
+def cleared_breakpoints(count):
+    """Sets that are granted under ids of their own, and then, as often, a breakpoint and ClearAllBreakpoints twice, of which the second finds none."""
+    number = count // 52
+    again = [set_as(number + 1, BREAKPOINT), CLEAR_ALL_BREAKPOINTS, CLEAR_ALL_BREAKPOINTS]
+    return asked([set_as(it) for it in range(1, number + 1)] + again * number)
 
 
 def one_thread(count):
@@ -297,6 +336,9 @@ def main():
             ("Suspends and Resumes", bench.debugger, suspends_and_resumes, 1_000_000),
             ("requests kept", bench.debugger, kept_requests, 500_000),
             ("requests made anew", bench.debugger, requests_made_anew, 500_000),
+            ("an id again and again", bench.debugger, one_id_again, 500_000),
+            ("requests cleared", bench.debugger, cleared_requests, 500_000),
+            ("breakpoints cleared", bench.debugger, cleared_breakpoints, 500_000),
             ("events of one thread", bench.debugger, one_thread, 1_000_000),
             ("a plan of many lines", bench.debugger, many_lines, 2_000_000),
             ("a plan that asks too much", bench.debugger, many_asks, 2_000_000),

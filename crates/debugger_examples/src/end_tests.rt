@@ -156,6 +156,16 @@ fn leaves_in_two_pieces(rt: &impl Abort, end: &mut End) {
     assert!(rt; end.waiting_in_front().is_empty());
 }
 
+/// What lies in one piece is lent whole, whether it begins the ring or not: the handshake and an int behind it, and then what is left of
+/// them.
+#[test]
+fn one_piece_is_lent_whole(rt: HostRuntime) {
+    let mut end = end_with_two(&rt, rt.alloc());
+    assert!(rt; end.waiting_in_front() == b"JDWP-Handshake\0\0\0\x07".as_slice());
+    end.leave(13);
+    assert!(rt; end.waiting_in_front() == b"e\0\0\0\x07".as_slice());
+}
+
 /// The ring goes on where it was, so what is enqueued next wraps round its end: it leaves in two pieces.
 #[test]
 fn what_wraps_leaves_in_two_pieces(rt: HostRuntime) {

@@ -67,7 +67,7 @@ fn greeted(rt: &impl Abort, alloc: Global) -> Box<Debugger> {
 }
 
 /// A debugger that read the widths of ids, too.
-fn established(rt: &impl Abort, alloc: Global) -> Box<Debugger> {
+pub(crate) fn established(rt: &impl Abort, alloc: Global) -> Box<Debugger> {
     let mut debugger = greeted(rt, alloc);
     read(rt, alloc, &mut debugger, SIZES);
     debugger

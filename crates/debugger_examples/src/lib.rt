@@ -20,3 +20,7 @@ mod mirror_tests;
 mod reading_tests;
 #[cfg(test)]
 mod turning_tests;
+#[cfg(test)]
+mod waiting_tests;
+#[cfg(test)]
+mod watch_tests;

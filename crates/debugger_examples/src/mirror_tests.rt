@@ -230,7 +230,7 @@ fn knows(mirror: &Mirror, wanted: &[(u64, u32, bool)]) -> bool {
 
 /// Whether these are the ids and kinds of the requests that it keeps, each with the policy ALL and a Count of 3.
 fn keeps(mirror: &Mirror, wanted: &[(i32, u8)]) -> bool {
-    for (request, (id, kind)) in mirror.requests().iter().zip(wanted) {
+    for (request, (id, kind)) in mirror.requests().zip(wanted) {
         if request.id() != *id
             || request.kind() != *kind
             || request.policy() != ALL
@@ -394,6 +394,71 @@ static REQUESTS_ARE_KEPT_AS_ASKED: [Act; 15] = [
 #[test]
 fn requests_are_kept_as_asked(rt: HostRuntime) {
     goes_as_told(&rt, rt.alloc(), &REQUESTS_ARE_KEPT_AS_ASKED);
+}
+
+static A_REQUEST_IS_ASKED_AGAIN_AMONG_MANY: [Act; 12] = [
+    Act::Sets(1, 10),
+    Act::Sets(2, 20),
+    Act::Sets(1, 30),
+    Act::Sets(2, 40),
+    Act::Sets(1, 50),
+    Act::Keeps(&[(10, 1), (20, 2), (30, 1), (40, 2), (50, 1)]),
+    Act::Sets(2, 30),
+    Act::Keeps(&[(10, 1), (20, 2), (40, 2), (50, 1), (30, 2)]),
+    Act::Sets(2, 30),
+    Act::Keeps(&[(10, 1), (20, 2), (40, 2), (50, 1), (30, 2)]),
+    Act::Sets(1, 10),
+    Act::Keeps(&[(20, 2), (40, 2), (50, 1), (30, 2), (10, 1)]),
+];
+
+#[test]
+fn a_request_is_asked_again_among_many(rt: HostRuntime) {
+    goes_as_told(&rt, rt.alloc(), &A_REQUEST_IS_ASKED_AGAIN_AMONG_MANY);
+}
+
+static A_REQUEST_IN_THE_MIDST_IS_CLEARED: [Act; 13] = [
+    Act::Sets(1, 10),
+    Act::Sets(2, 20),
+    Act::Sets(1, 30),
+    Act::Clears(1, 20),
+    Act::Clears(2, 40),
+    Act::Keeps(&[(10, 1), (20, 2), (30, 1)]),
+    Act::Clears(2, 20),
+    Act::Keeps(&[(10, 1), (30, 1)]),
+    Act::Clears(2, 20),
+    Act::Keeps(&[(10, 1), (30, 1)]),
+    Act::Sets(2, 20),
+    Act::Clears(1, 10),
+    Act::Keeps(&[(30, 1), (20, 2)]),
+];
+
+#[test]
+fn a_request_in_the_midst_is_cleared(rt: HostRuntime) {
+    goes_as_told(&rt, rt.alloc(), &A_REQUEST_IN_THE_MIDST_IS_CLEARED);
+}
+
+static BREAKPOINTS_ARE_CLEARED_FROM_AMONG_OTHERS: [Act; 15] = [
+    Act::Sets(2, 1),
+    Act::Sets(1, 2),
+    Act::Sets(2, 3),
+    Act::Sets(2, 4),
+    Act::Sets(40, 5),
+    Act::Done(commands::CLEAR_ALL_BREAKPOINTS),
+    Act::Keeps(&[(2, 1), (5, 40)]),
+    Act::Done(commands::CLEAR_ALL_BREAKPOINTS),
+    Act::Keeps(&[(2, 1), (5, 40)]),
+    // An id of a breakpoint that is gone, one that is no breakpoint any more, and one that is one now.
+    Act::Sets(1, 3),
+    Act::Sets(2, 6),
+    Act::Sets(1, 6),
+    Act::Sets(2, 2),
+    Act::Done(commands::CLEAR_ALL_BREAKPOINTS),
+    Act::Keeps(&[(5, 40), (3, 1), (6, 1)]),
+];
+
+#[test]
+fn breakpoints_are_cleared_from_among_others(rt: HostRuntime) {
+    goes_as_told(&rt, rt.alloc(), &BREAKPOINTS_ARE_CLEARED_FROM_AMONG_OTHERS);
 }
 
 /// A command of VirtualMachine that ends the session, or the machine, empties a mirror once it is done.

@@ -225,7 +225,7 @@ fn are_requested(debugger: &Debugger, requests: &[(i32, u8)]) -> bool {
     if kept.len() != requests.len() {
         return false;
     }
-    for (request, (id, kind)) in kept.iter().zip(requests) {
+    for (request, (id, kind)) in kept.zip(requests) {
         if request.id() != *id || request.kind() != *kind || request.policy() != 2 {
             return false;
         }

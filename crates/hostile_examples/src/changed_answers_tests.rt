@@ -90,7 +90,7 @@ fn is_closed(debugger: &mut Debugger) -> bool {
         && debugger.room() == 0
         && !debugger.has_front()
         && debugger.mirror().known().len() == 0
-        && debugger.mirror().requests().is_empty()
+        && debugger.mirror().requests().len() == 0
         && debugger.sizes().is_none()
 }
 

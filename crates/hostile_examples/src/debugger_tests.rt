@@ -143,7 +143,7 @@ fn measures(rt: &impl Abort, alloc: Global, debugger: &mut Debugger, first: u64)
 fn is_left(debugger: &mut Debugger, lost: &[Ticket]) -> bool {
     let is = !debugger.is_open()
         && debugger.mirror().known().len() == 0
-        && debugger.mirror().requests().is_empty()
+        && debugger.mirror().requests().len() == 0
         && debugger.sizes().is_none()
         && debugger.room() == 0
         && debugger.feed(&[0]) == 0

@@ -1,5 +1,9 @@
 //! Runs of the program without files between its ends.
-use crate::tests::{MACHINE, is_refused, is_run, remove, write};
+use crate::asserts::expect_same_for;
+use crate::tests::{MACHINE, is_refused, is_run, is_told, remove, write};
+use std::net::Net;
+use std::process::Abort;
+use std::rt::{Clock, Files};
 
 /// A breakpoint that suspends all threads, then Resume; and the mirror once it was reached.
 const PLAN: &str = "ask 15 1 0202000000010701000000000000000a00000000000000140000000000000003
@@ -122,6 +126,48 @@ fn files_of_both_ends_are_judged(rt: HostRuntime) {
     write(&rt, machine, MACHINE.as_bytes());
     assert!(rt; is_refused(&rt, &words, &["pair_bad_plan: line 1 of the plan: "]));
     remove(&rt, &[machine, plan]);
+}
+
+/// Plans that stand still, and what is told of each.
+static STANDSTILLS: [(&str, &str); 4] = [
+    (
+        "events 9\n",
+        "jdwp: nothing more can happen: line 1 of the plan waits for 9 composites of the session\n",
+    ),
+    (
+        "lose target\nask 1 4\nanswers\n",
+        "jdwp: nothing more can happen: line 3 of the plan waits for the answers to what was asked\n",
+    ),
+    (
+        "lose target\nattach\n",
+        "jdwp: nothing more can happen: line 2 of the plan waits for both ends to be closed, with no command that waits, in a machine that lives\n",
+    ),
+    (
+        "lose target\nask 1 4\n",
+        "jdwp: nothing more can happen: behind its last line the plan waits for the answers to what was asked\n",
+    ),
+];
+
+/// The plan stands still, and this is told.
+fn stands_still<R: Files + Clock + Net + AllocGlobal + Abort>(rt: &R, plan: &str, told: &str) {
+    let (machine, file) = ("still_machine", "still_plan");
+    write(rt, machine, MACHINE.as_bytes());
+    write(rt, file, plan.as_bytes());
+    for between in [
+        &["pair", machine, file][..],
+        &["pair", machine, file, "--memory"],
+    ] {
+        expect_same_for(rt, &is_told(rt, between, 4, told), &true, &plan);
+    }
+    remove(rt, &[machine, file]);
+}
+
+/// Where nothing more can happen, the line of the plan that waits is told, and for what.
+#[test]
+fn a_plan_that_stands_still_is_told(rt: HostRuntime) {
+    for &(plan, told) in STANDSTILLS.iter() {
+        stands_still(&rt, plan, told);
+    }
 }
 
 /// At a port where nobody listens there is no session: the first one is the system's own, which no test takes.

@@ -4,7 +4,7 @@ use jdwp_files::run;
 use std::io::{Cursor, ErrorKind, Write};
 use std::net::Net;
 use std::process::Abort;
-use std::rt::Files;
+use std::rt::{Clock, Files};
 use std::{fs, io};
 
 /// The handshake, IDSizes with id 1, Suspend with id 2, SuspendCount of thread 1 with id 3, Dispose with id 4.
@@ -62,7 +62,7 @@ impl Run {
 }
 
 /// Runs the words, which stand behind the program's name.
-fn run_words<R: Files + Net + AllocGlobal + Abort>(rt: &R, words: &[&str]) -> Run {
+fn run_words<R: Files + Clock + Net + AllocGlobal + Abort>(rt: &R, words: &[&str]) -> Run {
     let mut all = Vec::new(rt.alloc());
     all.push("jdwp").expect(rt, "memory");
     all.extend_from_slice(words).expect(rt, "memory");
@@ -77,7 +77,10 @@ fn run_words<R: Files + Net + AllocGlobal + Abort>(rt: &R, words: &[&str]) -> Ru
 }
 
 /// The exit status of the words, where what is told is told on standard error behind `jdwp: `.
-pub(crate) fn status_of<R: Files + Net + AllocGlobal + Abort>(rt: &R, words: &[&str]) -> u8 {
+pub(crate) fn status_of<R: Files + Clock + Net + AllocGlobal + Abort>(
+    rt: &R,
+    words: &[&str],
+) -> u8 {
     let ran = run_words(rt, words);
     if !ran.is_told() {
         panic!(rt; "words behind `jdwp: ` for each status but 0");
@@ -86,7 +89,7 @@ pub(crate) fn status_of<R: Files + Net + AllocGlobal + Abort>(rt: &R, words: &[&
 }
 
 /// Whether the words are refused with status 1, and all of these texts stand on standard error, the first behind `jdwp: `.
-pub(crate) fn is_refused<R: Files + Net + AllocGlobal + Abort>(
+pub(crate) fn is_refused<R: Files + Clock + Net + AllocGlobal + Abort>(
     rt: &R,
     words: &[&str],
     texts: &[&str],
@@ -107,7 +110,7 @@ pub(crate) fn is_refused<R: Files + Net + AllocGlobal + Abort>(
 }
 
 /// The words are run with this status, and these are printed.
-pub(crate) fn is_run<R: Files + Net + AllocGlobal + Abort>(
+pub(crate) fn is_run<R: Files + Clock + Net + AllocGlobal + Abort>(
     rt: &R,
     words: &[&str],
     status: u8,
@@ -120,8 +123,19 @@ pub(crate) fn is_run<R: Files + Net + AllocGlobal + Abort>(
     expect_same_for(rt, &ran.err.as_slice(), &err.as_bytes(), &err);
 }
 
+/// Whether the words have this status, and this is told on standard error, whatever is printed.
+pub(crate) fn is_told<R: Files + Clock + Net + AllocGlobal + Abort>(
+    rt: &R,
+    words: &[&str],
+    status: u8,
+    err: &str,
+) -> bool {
+    let ran = run_words(rt, words);
+    ran.status == status && ran.err.as_slice() == err.as_bytes()
+}
+
 /// The file holds these bytes.
-fn holds<R: Files + Net + AllocGlobal + Abort>(rt: &R, file: &str, bytes: &[u8]) {
+fn holds<R: Files + Clock + Net + AllocGlobal + Abort>(rt: &R, file: &str, bytes: &[u8]) {
     let found = fs::read(rt, file).expect(rt, "the file is read");
     expect_same(rt, &found.as_slice(), &bytes);
 }
@@ -275,7 +289,7 @@ static ENDS: [(&[u8], &str, u8, &str, usize); 10] = [
 ];
 
 /// A session to which this comes ends so.
-fn ends_so<R: Files + Net + AllocGlobal + Abort>(
+fn ends_so<R: Files + Clock + Net + AllocGlobal + Abort>(
     rt: &R,
     input: &[u8],
     turns: &str,
@@ -311,7 +325,7 @@ fn each_end_has_its_status(rt: HostRuntime) {
 }
 
 /// Refused words make no file.
-pub(crate) fn is_not_made<R: Files + Net + AllocGlobal + Abort>(rt: &R, file: &str) {
+pub(crate) fn is_not_made<R: Files + Clock + Net + AllocGlobal + Abort>(rt: &R, file: &str) {
     assert!(rt; fs::read(rt, file).is_err());
 }
 
@@ -332,7 +346,7 @@ const SHOWN: &str = "> hello
 ";
 
 /// The capture is shown and judged so.
-fn is_told_of<R: Files + Net + AllocGlobal + Abort>(
+fn is_told_of<R: Files + Clock + Net + AllocGlobal + Abort>(
     rt: &R,
     capture: &str,
     status: u8,
@@ -385,7 +399,7 @@ impl Write for Output {
 
 /// The words are run on an output that has so much room, and then fails so: as much of the text is
 /// printed, and this is told.
-fn breaks_at<R: Files + Net + AllocGlobal + Abort>(
+fn breaks_at<R: Files + Clock + Net + AllocGlobal + Abort>(
     rt: &R,
     words: &[&str],
     text: &str,
@@ -406,7 +420,7 @@ fn breaks_at<R: Files + Net + AllocGlobal + Abort>(
 }
 
 /// The words are run on outputs that break, with less room than the text needs.
-fn breaks<R: Files + Net + AllocGlobal + Abort>(rt: &R, words: &[&str], text: &str) {
+fn breaks<R: Files + Clock + Net + AllocGlobal + Abort>(rt: &R, words: &[&str], text: &str) {
     let full = "jdwp: the output can't be written: no storage space\n";
     for room in [0, 1, 8, 100] {
         breaks_at(rt, words, text, room, ErrorKind::BrokenPipe, "");
@@ -422,7 +436,7 @@ fn an_output_that_breaks_is_status_2(rt: HostRuntime) {
 }
 
 /// A capture in this file can't be used, for this reason.
-fn is_no_capture<R: Files + Net + AllocGlobal + Abort>(rt: &R, file: &str, text: &str) {
+fn is_no_capture<R: Files + Clock + Net + AllocGlobal + Abort>(rt: &R, file: &str, text: &str) {
     assert!(rt; is_refused(rt, &["show", file], &[text]));
     assert!(rt; is_refused(rt, &["check", file], &[text]));
 }
@@ -437,6 +451,26 @@ fn a_capture_that_can_not_be_used_is_named(rt: HostRuntime) {
     is_no_capture(&rt, "no_text", not_text);
     remove(&rt, &["no_text"]);
     fs::remove_dir(&rt, "no_folder").expect(&rt, "the folder is removed");
+}
+
+/// Beginnings of recordings of the network: pcap in both orders of bytes, with times in microseconds and in nanoseconds, and pcapng.
+static RECORDINGS: [[u8; 4]; 5] = [
+    [0xd4, 0xc3, 0xb2, 0xa1],
+    [0xa1, 0xb2, 0xc3, 0xd4],
+    [0x4d, 0x3c, 0xb2, 0xa1],
+    [0xa1, 0xb2, 0x3c, 0x4d],
+    [0x0a, 0x0d, 0x0d, 0x0a],
+];
+
+#[test]
+fn a_recording_is_no_capture(rt: HostRuntime) {
+    let text =
+        "recording: a recording of the network, as tcpdump writes it, and no capture: docs/CAPTURES.md says how to make one from it\n";
+    for bytes in RECORDINGS.iter() {
+        write(&rt, "recording", bytes);
+        is_no_capture(&rt, "recording", text);
+    }
+    remove(&rt, &["recording"]);
 }
 
 /// The machine, what comes, where what is sent goes, and what is told.
@@ -549,7 +583,12 @@ static SCRIPTS: [(&str, &str, &str); 7] = [
 ];
 
 /// Machine A with another text in place of a part is refused, and told so.
-fn is_no_script<R: Files + Net + AllocGlobal + Abort>(rt: &R, part: &str, other: &str, text: &str) {
+fn is_no_script<R: Files + Clock + Net + AllocGlobal + Abort>(
+    rt: &R,
+    part: &str,
+    other: &str,
+    text: &str,
+) {
     let (machine, from, to) = ("refused_machine", "refused_from", "refused_to");
     let script = MACHINE
         .replacen(rt.alloc(), part, other, 1)
@@ -654,7 +693,12 @@ static TOLD_OF_PLANS: [(&str, u8, &str); 5] = [
 ];
 
 /// A plan of this text ends with this status, and this is told, whatever is printed.
-fn text_ends<R: Files + Net + AllocGlobal + Abort>(rt: &R, text: &str, status: u8, told: &str) {
+fn text_ends<R: Files + Clock + Net + AllocGlobal + Abort>(
+    rt: &R,
+    text: &str,
+    status: u8,
+    told: &str,
+) {
     let (plan, from, to) = ("told_plan", "told_from", "told_to");
     write(rt, plan, text.as_bytes());
     let ran = run_words(rt, &["attach", plan, "--from", from, "--to", to]);
@@ -705,7 +749,7 @@ fn lines_of_pair_are_refused_by_attach(rt: HostRuntime) {
 }
 
 /// The plan of the file `by_lines_plan`, over these bytes of a target, ends so: it is told by this status and this text.
-fn plan_ends<R: Files + Net + AllocGlobal + Abort>(rt: &R, bytes: &[u8], told: &str) {
+fn plan_ends<R: Files + Clock + Net + AllocGlobal + Abort>(rt: &R, bytes: &[u8], told: &str) {
     let (plan, from, to) = ("by_lines_plan", "by_lines_from", "by_lines_to");
     write(rt, from, bytes);
     let ran = run_words(rt, &["attach", plan, "--from", from, "--to", to]);

@@ -1,21 +1,22 @@
 //! Words that the program takes, and words that it refuses.
 use crate::asserts::expect_same_for;
-use crate::tests::{MACHINE, SESSION, is_not_made, is_refused, remove, status_of, write};
+use crate::tests::{MACHINE, SESSION, is_not_made, is_refused, is_run, remove, status_of, write};
 use jdwp_debuggee::Settings;
 use jdwp_program::{Attach, Between, Fault, Pair, Peer, ServeScript, SessionFiles, Words};
 use jdwp_wire::Limits;
 use std::alloc::Global;
 use std::net::Net;
 use std::process::Abort;
-use std::rt::Files;
+use std::rt::{Clock, Files};
 
 /// Words that are refused.
-static REFUSED: [&[&str]; 16] = [
+static REFUSED: [&[&str]; 17] = [
     &[],
     &["--help"],
     &["help"],
     &["-h"],
-    &["--version"],
+    &["--versions"],
+    &["show", "--version"],
     &["serve"],
     &["serve-script"],
     &["serve-script", "--help"],
@@ -117,7 +118,7 @@ const WORDS: [&str; 6] = [
 ];
 
 /// The words, and this option behind them, have this status.
-fn has_status<R: Files + Net + AllocGlobal + Abort>(rt: &R, option: &str, status: u8) {
+fn has_status<R: Files + Clock + Net + AllocGlobal + Abort>(rt: &R, option: &str, status: u8) {
     let mut words = Vec::new(rt.alloc());
     words.extend_from_slice(&WORDS).expect(rt, "memory");
     for word in option.split('|') {
@@ -144,7 +145,7 @@ fn other_words_are_refused(rt: HostRuntime) {
 }
 
 /// Words that are refused, with a space between them, and the texts that are told, with a `|`.
-static HELP: [(&str, &str); 16] = [
+static HELP: [(&str, &str); 20] = [
     (
         "",
         "error: 'jdwp' requires a subcommand but one was not provided|show, check, serve-script, attach|Usage: jdwp ",
@@ -179,6 +180,22 @@ static HELP: [(&str, &str); 16] = [
     ),
     ("serve-script m --from f", "error: |--to <FILE>|Usage: "),
     (
+        "serve-script m",
+        "error: the following required arguments were not provided: --from <FILE> and --to <FILE>, or --port <N>\n|Usage: jdwp serve-script ",
+    ),
+    (
+        "attach p",
+        "error: the following required arguments were not provided: --from <FILE> and --to <FILE>, or --port <N>\n|Usage: jdwp attach ",
+    ),
+    (
+        "attach p --to t",
+        "error: the following required arguments were not provided: --from <FILE>\n|Usage: jdwp attach ",
+    ),
+    (
+        "attach p --port 80 --limits 65536,64,64",
+        "error: invalid value '65536,64,64' for '--limits <PACKET,LIVE,REQUESTS,PENDING>': PACKET is 2048 to 1048576, the others are 1 to 1024, and 16 + 542 * REQUESTS is at most PACKET|Usage: jdwp attach ",
+    ),
+    (
         "serve-script m --from f --to t --start some",
         "error: invalid value 'some' for '--start <WHICH>'|all, none",
     ),
@@ -197,7 +214,7 @@ static HELP: [(&str, &str); 16] = [
 ];
 
 /// The words of a row are refused, and each of its texts is told.
-fn is_helped<R: Files + Net + AllocGlobal + Abort>(rt: &R, words: &str, texts: &str) {
+fn is_helped<R: Files + Clock + Net + AllocGlobal + Abort>(rt: &R, words: &str, texts: &str) {
     let alloc = rt.alloc();
     let all: Vec<&str> = words.split_whitespace().collect(alloc).expect(rt, "memory");
     let told: Vec<&str> = texts.split('|').collect(alloc).expect(rt, "memory");
@@ -209,6 +226,14 @@ fn is_helped<R: Files + Net + AllocGlobal + Abort>(rt: &R, words: &str, texts: &
 fn words_help(rt: HostRuntime) {
     for &(words, texts) in HELP.iter() {
         is_helped(&rt, words, texts);
+    }
+}
+
+/// The program's name and version are printed.
+#[test]
+fn the_version_is_printed(rt: HostRuntime) {
+    for word in ["--version", "-V"] {
+        is_run(&rt, &[word], 0, "jdwp 0.1.0\n", "");
     }
 }
 

@@ -1,5 +1,5 @@
 -- what holds after each event, and what follows
-use Rattle.std.proofs.Common.{◌≡◌, ℕ, ◌+◌, ◌-◌, ◌==◌, ◌<◌, ◌≤◌, inl, inr, Bool, true, false, ◌||◌, ◌&&◌, not, cond, List, [], ◌∷◌, ◌++◌, length, refl, sym, ◌∙◌, ap, subst, arith, length-append, append_assoc}
+use Rattle.std.proofs.Common.{◌≡◌, ℕ, ◌+◌, ◌==◌, ◌<◌, ◌≤◌, inl, inr, Bool, true, false, ◌||◌, ◌&&◌, not, cond, List, [], ◌∷◌, ◌++◌, length, refl, sym, ◌∙◌, ap, subst, arith, length-append, append_assoc}
 use Rattle.std.specs.Prelude.{nat_le}
 use Rattle.std.proofs.lemmas.Bool.{eq-eqb}
 use Rattle.jdwp_layout.specs.declared.answer.Answer.{Answer}
@@ -136,7 +136,7 @@ on_one_holds : (first : ℕ → Bool) (f : World → List Invoked → Invocation
 on_one_holds first f w before [] h e i = i
 on_one_holds first f w before (x ∷ after) h e i = h x.0 x.1 after e i
 
-by_event : (first : ℕ → Bool) (w : World) (e : Event) → Holds first w → Holds first (next w e)
+pub by_event : (first : ℕ → Bool) (w : World) (e : Event) → Holds first w → Holds first (next w e)
 by_event first w (Asks c) i =
     if_true (may_ask c) (λ b. Holds first (cond b (asked w c) w))
     (λ _. record { inv = asked_inv first w (unread_composites w) (unread_replies w) c i.inv; spaced = i.spaced }) i
@@ -163,8 +163,11 @@ by_events : (first : ℕ → Bool) (w : World) (es : List Event) → Holds first
 by_events first w [] i = i
 by_events first w (e ∷ es) i = by_events first (next w e) es (by_event first w e i)
 
+pub opening_holds : (b : Bool) (first : ℕ → Bool) → Holds first (opening b first)
+opening_holds b first = record { inv = opening_inv b first; spaced = λ _. refl }
+
 at_all : (b : Bool) (first : ℕ → Bool) (events : List Event) → Holds first (run (opening b first) events)
-at_all b first events = by_events first (opening b first) events (record { inv = opening_inv b first; spaced = λ _. refl })
+at_all b first events = by_events first (opening b first) events (opening_holds b first)
 
 -- ---- what follows
 
@@ -261,7 +264,7 @@ asked_once first w h t r ps a s =
 
 -- ---- all the while
 
-suspended_now : (first : ℕ → Bool) (w : World) (t : ℕ) → Holds first w → IsSurelySuspended t w → 0 < w.counts t
+pub suspended_now : (first : ℕ → Bool) (w : World) (t : ℕ) → Holds first w → IsSurelySuspended t w → 0 < w.counts t
 suspended_now first w t h s = let c = covered first w h t s.lives in let k : 0 < sure w.watch t = s.sure in omega arith
 
 stays : (first : ℕ → Bool) (w : World) (t : ℕ) (es : List Event) → Holds first w → Throughout (IsSurelySuspended t) w es → Throughout (λ v. 0 < v.counts t) w es

@@ -1,6 +1,6 @@
 -- what is sent in one order: where composites are sent one by one, a reply is read before each composite whose events took effect after it
 -- was sent
-use Rattle.std.proofs.Common.{◌≡◌, ℕ, suc, ◌+◌, ◌≤◌, Bool, true, false, List, [], ◌∷◌, ◌++◌, length, refl, sym, ◌∙◌, ap, subst, arith, append_assoc}
+use Rattle.std.proofs.Common.{◌≡◌, ℕ, suc, ◌+◌, ◌≤◌, Bool, true, false, List, [], ◌∷◌, ◌++◌, length, refl, sym, ap, subst, arith, append_assoc}
 use Rattle.jdwp_apart.specs.World.{Reported, Given, Packet, Answers, Reports}
 use Rattle.jdwp_apart.specs.Headline.{answers_in, reports_in}
 use Rattle.jdwp_apart.proofs.Sums.{Paced}

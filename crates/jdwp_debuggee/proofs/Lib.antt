@@ -23,3 +23,4 @@ pub mod OwnAnswers
 pub mod SetAnswers
 pub mod Encoded
 pub mod Wanting
+pub mod OwnRefusals

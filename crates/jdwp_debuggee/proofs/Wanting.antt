@@ -1,11 +1,12 @@
 -- When memory may be wanted.
-use Rattle.std.proofs.Common.{◌≡◌, ℕ, List, Some, Result, Ok, Err, refl}
-use Rattle.std.specs.Prelude.{IfErr, IsOk}
+use Rattle.std.proofs.Common.{◌≡◌, ℕ, List, [], ◌∷◌, Some, Result, Ok, Err, refl}
+use Rattle.std.specs.Prelude.{IfErr}
 use Rattle.jdwp_wire.specs.declared.data_fault.DataFault.{DataFault}
 use Rattle.jdwp_wire.specs.declared.data_fault.DataFault.TheVariants as fault
 use Rattle.jdwp_wire.specs.declared.no_memory.NoMemory.{NoMemory}
 use Rattle.jdwp_wire.specs.Widths.{Widths}
 use Rattle.jdwp_layout.specs.Grammar.{EncodesData}
+use Rattle.jdwp_layout.specs.Keeping.{DataAreKept}
 use Rattle.jdwp_layout.specs.Meanings.{DatumMeaning}
 use Rattle.jdwp_layout.specs.Reads.{data_at}
 use Rattle.jdwp_layout.specs.Shapes.{ItemShape}
@@ -13,25 +14,32 @@ use Rattle.jdwp_layout.proofs.GrammarLaws.{data_again}
 use Rattle.jdwp_action.specs.CommandReads.{command_read}
 use Rattle.jdwp_debuggee.specs.ReadParts.{implemented_request}
 use Rattle.jdwp_debuggee.specs.Sending.{sent_short}
+use Rattle.jdwp_debuggee.specs.Wants.{ReadsData}
 use Rattle.jdwp_debuggee.specs.declared.command.ParsedCommand.{ParsedCommand}
 use Rattle.jdwp_debuggee.specs.declared.reply.Reply.{Reply}
 use Rattle.jdwp_debuggee.proofs.Read.{read_is}
 
 -- ---- reading
 
--- a command whose data read
+-- a command whose data read, and are some
 pub read-whole : (w : Widths) (set number : ℕ) (bytes : List ℕ) (items : List ItemShape) (content : List DatumMeaning) → implemented_request set number ≡ Some items
-    → data_at w items bytes ≡ Ok content → IsOk (command_read w set number bytes)
-read-whole w set number bytes items content e found = rw (read_is w set number bytes items e, found) refl
+    → data_at w items bytes ≡ Ok content → (content ≡ [] → ⊥) → ReadsData (command_read w set number bytes)
+read-whole w set number bytes items content e found some = rw (read_is w set number bytes items e, found) some
+
+-- where something has to be kept, there are data
+kept-some : (w : Widths) (items : List ItemShape) (xs : List DatumMeaning) (bytes : List ℕ) → EncodesData w items xs bytes → DataAreKept w items bytes → xs ≡ [] → ⊥
+kept-some w [] xs bytes encoded kept none = kept
+kept-some w (item ∷ items) [] bytes encoded kept none = encoded
+kept-some w (item ∷ items) (x ∷ xs) bytes encoded kept none = absurd cc
 
 -- memory is wanted only for data that are encoded
 pub read-encoded : (w : Widths) (set number : ℕ) (bytes : List ℕ) (items : List ItemShape) (found : DataFault) (answer : Result ParsedCommand NoMemory) → implemented_request set number ≡ Some items
-    → (found ≡ fault.NoMemory → (xs : List DatumMeaning) × EncodesData w items xs bytes)
-    → IfErr answer (λ _. found ≡ fault.NoMemory) → IfErr answer (λ _. IsOk (command_read w set number bytes))
-read-encoded w set number bytes items found (Ok asked) e hides is = tt
-read-encoded w set number bytes items found (Err error) e hides is =
+    → (found ≡ fault.NoMemory → (xs : List DatumMeaning) × EncodesData w items xs bytes) → (found ≡ fault.NoMemory → DataAreKept w items bytes)
+    → IfErr answer (λ _. found ≡ fault.NoMemory) → IfErr answer (λ _. ReadsData (command_read w set number bytes))
+read-encoded w set number bytes items found (Ok asked) e hides keeps is = tt
+read-encoded w set number bytes items found (Err error) e hides keeps is =
     let encoded = hides is in
-    read-whole w set number bytes items encoded.0 e (data_again w items bytes encoded.0 encoded.1)
+    read-whole w set number bytes items encoded.0 e (data_again w items bytes encoded.0 encoded.1) (kept-some w items encoded.0 bytes encoded.1 (keeps is))
 
 -- ---- what is answered
 

@@ -1,14 +1,15 @@
 -- Parts of reading commands.
-use Rattle.std.specs.Prelude.{◌≡◌, ℕ, ℤ, ◌==◌, true, List, [], length, Option, Some, None, Result, Ok, Err, if◌then◌else◌}
+use Rattle.std.specs.Prelude.{◌≡◌, ℕ, ℤ, ◌==◌, Bool, true, false, List, [], ◌∷◌, length, Option, Some, None, Result, Ok, Err, if◌then◌else◌}
 use Rattle.byteorder.specs.Endian.{big_number}
 use Rattle.jdwp_wire.specs.declared.data_fault.DataFault.{DataFault}
 use Rattle.jdwp_wire.specs.declared.error_code.ErrorCode.{ErrorCode}
 use Rattle.jdwp_wire.specs.ErrorCodes.{ILLEGAL_ARGUMENT}
 use Rattle.jdwp_layout.specs.CommandTable.{row_at}
-use Rattle.jdwp_layout.specs.Meanings.{DatumMeaning}
-use Rattle.jdwp_layout.specs.Shapes.{ItemShape}
+use Rattle.jdwp_layout.specs.Meanings.{DatumMeaning, ScalarMeaning}
+use Rattle.jdwp_layout.specs.Shapes.{ItemShape, OneOf}
+use Rattle.jdwp_layout.specs.declared.item.Field.TheVariants as field
 use Rattle.jdwp_action.specs.Actions
-use Rattle.jdwp_action.specs.Actions.{Command, Raw, is_implemented}
+use Rattle.jdwp_action.specs.Actions.{Action, Command, Raw, is_implemented}
 use Rattle.jdwp_action.specs.CommandReads.{with_content}
 use Rattle.jdwp_action.specs.RowLayouts.{row_request}
 use Rattle.jdwp_debuggee.specs.Askings.{Asking, asking_of}
@@ -35,3 +36,15 @@ clear_asks (Err fault) = Err ILLEGAL_ARGUMENT
 
 abbrev pub implemented_request : ℕ → ℕ → Option (List ItemShape)
 implemented_request set number = if is_implemented (unread set number) then Some (row_request (row_at set number)) else None
+
+-- ---- what data begin with
+
+-- data of these items begin with an object
+abbrev pub begin_with_object : List ItemShape → Bool
+begin_with_object (OneOf field.ObjectId ∷ items) = true
+begin_with_object items = false
+
+-- the kind and the policy that the data of a Set begin with, as it asks for them
+abbrev pub AsksFor : Option (ℕ × ℕ) → Action → Type 0
+AsksFor None action = ⊥
+AsksFor (Some (kind, policy)) action = (entries : List (List ScalarMeaning)) × (action ≡ Actions.SetRequest kind policy entries)

@@ -1,5 +1,5 @@
 //! What a command asks the debuggee to do (JDWP specification, "Protocol Details").
-ghost use Rattle.std.specs.Prelude.{◌≡◌, ◌==◌, ◌||◌, ◌∷◌, [], ◌++◌, List, IfOk, OnOk, Some, None, true, false};
+ghost use Rattle.std.specs.Prelude.{◌≡◌, ◌==◌, ◌||◌, ◌∷◌, [], ◌++◌, List, IfOk, IfErr, OnOk, Some, None, true, false};
 ghost use Rattle.std.specs.List.{filter_map};
 ghost use Rattle.jdwp_layout.specs.Meanings.{entry_meanings, scalar_meanings};
 ghost use Rattle.jdwp_action.specs.Actions.{first_object};
@@ -223,10 +223,11 @@ impl Action {
     /// What a command of this set and number asks for that carries these data. Most actions move the data, and take no memory.
     ///
     /// # Errors
-    /// `NoMemory` where an allocation was refused.
+    /// `NoMemory` where an allocation was refused, and only where there are data.
     pub fn of_command(alloc: Global, set: u8, number: u8, content: Data) -> Result<Action, NoMemory>
-        ensures { IfOk result (λ action. asking action
+        ensures value { IfOk result (λ action. asking action
             ≡ asking_of (with_content set number content)) }
+        ensures memory { IfErr result (λ _. content ≡ [] → ⊥) }
     {
         let thread = if set == THREAD_REFERENCE || set == STACK_FRAME {
             object_in_front(&content)

@@ -11,6 +11,7 @@ mod origins;
 mod questions;
 mod reading;
 mod refusals;
+mod refusing;
 mod reply;
 mod requesting;
 mod settings;

@@ -1,6 +1,6 @@
 //! Reading commands: those that carry little without memory, and all others by the table of commands
 //! (JDWP specification, "Protocol Details").
-ghost use Rattle.std.specs.Prelude.{◌≡◌, ℕ, Result, ◌∷◌, [], true, false, List, IfOk, IfErr, IfSome, IsOk, MatchOption, Some, None};
+ghost use Rattle.std.specs.Prelude.{◌≡◌, ℕ, Result, ◌∷◌, [], true, false, List, IfOk, IfErr, IfSome, MatchOption, Some, None};
 ghost use Rattle.jdwp_wire.specs.Widths.{Widths};
 ghost use Rattle.jdwp_wire.specs.declared.data_fault.DataFault.{DataFault};
 ghost use Rattle.jdwp_wire.specs.declared.data_fault.DataFault.TheVariants.{NoMemory as WantOfMemory};
@@ -12,6 +12,7 @@ ghost use Rattle.jdwp_action.specs.RowLayouts.{found_layout};
 ghost use Rattle.jdwp_debuggee.specs.ReadParts.{IsBare, clear_asks, implemented_request, object_alone};
 ghost use Rattle.jdwp_debuggee.specs.RefusalParts.{found_thread};
 ghost use Rattle.jdwp_debuggee.specs.Sending.{is_short_action, is_short_asked};
+ghost use Rattle.jdwp_debuggee.specs.Wants.{ReadsData};
 
 use crate::command::{Action, ParsedCommand};
 use jdwp_layout::numbers::{
@@ -160,7 +161,7 @@ fn refused(fault: DataFault) -> Result<ParsedCommand, NoMemory>
 }
 
 /// The layout of a command's data, where the command is implemented.
-fn request_of(set: u8, number: u8) -> Option<Layout>
+pub(crate) fn request_of(set: u8, number: u8) -> Option<Layout>
     ensures { found_layout result ≡ implemented_request set number }
 {
     let row = layout_of(set, number)?;
@@ -179,8 +180,8 @@ fn request_of(set: u8, number: u8) -> Option<Layout>
 /// these ask for is carried out without memory, too.
 ///
 /// # Errors
-/// `NoMemory` where an allocation was refused, and only where the command is none of these and its data read: one that is refused
-/// takes no memory.
+/// `NoMemory` where an allocation was refused, and only where the command is none of these, its data read, and there are any: one that
+/// is refused takes no memory.
 pub fn read_command(
     alloc: Global,
     set: u8,
@@ -193,7 +194,7 @@ pub fn read_command(
     ensures short { IfOk result (λ asked. is_short set number ≡ true
         → is_short_asked (asked_meaning asked) ≡ true) }
     ensures memory { IfErr result (λ _. is_short set number ≡ false) }
-    ensures reads { IfErr result (λ _. IsOk (command_read sizes.now set number bytes.now)) }
+    ensures reads { IfErr result (λ _. ReadsData (command_read sizes.now set number bytes.now)) }
 {
     if let Some(asked) = read_short(alloc, set, number, sizes, bytes) {
         return Ok(asked);

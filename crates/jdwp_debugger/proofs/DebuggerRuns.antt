@@ -25,12 +25,16 @@ use Rattle.jdwp_debugger.specs.declared.faults.DebuggerFault.TheVariants as code
 use Rattle.jdwp_debugger.specs.declared.heads.Head.TheVariants as head
 use Rattle.jdwp_debugger.specs.declared.turning.Read.{Read}
 use Rattle.jdwp_debugger.specs.Debuggers.{Asked, Debugger}
-use Rattle.jdwp_debugger.specs.DebuggerTurns.{Enters, FailsAt, Told, TurnsAt, closed_where, command_at, greeted, measured_where, reading_of, refused, reply_head, reports, sizes_header, read_meaning, with_read, with_sizes}
+use Rattle.jdwp_debugger.specs.DebuggerTurns.{Enters, FailsAt, LearnedAll, Told, TurnsAt, closed_debugger, closed_where, command_at, greeted, measured_where, news_refusal, reading_of, refused, reply_head, reports, sizes_header, read_meaning, with_read, with_sizes}
+use Rattle.jdwp_debugger.specs.Histories.{Knowledge, heard, messages_of, nothing, reading_after, with_news, with_said}
+use Rattle.jdwp_mirror.specs.Messages as heards
 use Rattle.jdwp_mirror.specs.Messages.{Reply, Report, id_sizes}
 use Rattle.jdwp_mirror.specs.Mirror.{ends}
-use Rattle.jdwp_debugger.specs.News.{News, Waits, Happens, Answers, Measures, says}
-use Rattle.jdwp_debugger.specs.Runs.{Act, Attaches, Greets, Reads, Asks, Ends, GoesOn, HasRun, InOrder, IsAwaited, MayCome, Ran, ids_of, is_among, outstanding, outstanding_after, phase_after, phase_of, put, put_by, read, read_by}
-use Rattle.jdwp_debugger.proofs.Saying.{backs, left_by, settles-by}
+use Rattle.jdwp_mirror.specs.Mirrors.{Mirror, empty_mirror}
+use Rattle.jdwp_debugger.specs.News.{News, Waits, Happens, Answers, Measures, Reading, says}
+use Rattle.jdwp_debugger.specs.Runs.{Act, Attaches, Greets, Reads, Asks, Ends, GoesOn, HasRun, InOrder, IsAwaited, MayCome, MayDo, MayDoAll, Ran, ids_of, is_among, known, known_after, outstanding, outstanding_after, phase_after, phase_of, put, put_by, read, read_by}
+use Rattle.jdwp_debugger.proofs.Knowing.{heard-more, heard-put, known-more, learned-onto, may-more, measures-first}
+use Rattle.jdwp_debugger.proofs.Saying.{Backs, backs, left_by, settles-by}
 
 -- ---- one act more
 
@@ -48,24 +52,63 @@ more : (by : Act → List Message) (acts : List Act) (act : Act) → flat_map by
 more by acts act = flat_map-append by acts (act ∷ []) ∙ ap (λ (x : List Message). flat_map by acts ++ x) (append-nil (by act))
 
 -- a session goes on
-goes-on : (old new : End) (before after : List Asked) (act : Act) → (r : HasRun old before) → MayCome old.phase (outstanding r.acts) act → new.phase ≡ phase_after old.phase act
-    → (is_open new ≡ true → ids_of after ≡ outstanding_after (outstanding r.acts) act) → Carries new (read r.acts ++ read_by act)
-    → new.session.enqueued ≡ old.session.enqueued ++ stream (put_by act) → HasRun new after
-goes-on old new before after act r may phased waits carries enqueued = record {
-  acts = r.acts ++ act ∷ [];
-  in_order = order-more phase.Closed [] r.acts act r.in_order (subst (λ (p : Phase). MayCome p (outstanding r.acts) act) r.phase may);
-  phase = phased ∙ ap (λ (p : Phase). phase_after p act) r.phase ∙ sym (phase-more r.acts act);
-  waits = λ opened. waits opened ∙ sym (waits-more r.acts act);
-  carries = subst (Carries new) (sym (more read_by r.acts act)) carries;
-  enqueued =
-      enqueued
-      ∙ (ap (λ (x : List ℕ). x ++ stream (put_by act)) r.enqueued ∙ sym (ap stream (more put_by r.acts act) ∙ stream-append (put r.acts) (put_by act)));
-}
+goes-on : (old new : End) (t u : ℕ) (before after : Reading) (m n : Mirror) (act : Act) → (r : HasRun old t before m) → MayCome old.phase (outstanding r.acts) act → MayDo (known r.before r.acts) act
+    → new.phase ≡ phase_after old.phase act → (is_open new ≡ true → ids_of after.pending ≡ outstanding_after (outstanding r.acts) act) → Carries new (read r.acts ++ read_by act)
+    → new.session.enqueued ≡ old.session.enqueued ++ stream (put_by act) → u ≡ (known_after (known r.before r.acts) act).tickets
+    → (is_open new ≡ true → after ≡ (known_after (known r.before r.acts) act).reading) → LearnedAll empty_mirror (heard (known_after (known r.before r.acts) act).history) n → HasRun new u after n
+goes-on old new t u before after m n act r may does phased waits carries enqueued given knows learned =
+    let next = sym (known-more r.before r.acts act) in
+    record {
+      acts = r.acts ++ act ∷ [];
+      in_order = order-more phase.Closed [] r.acts act r.in_order (subst (λ (p : Phase). MayCome p (outstanding r.acts) act) r.phase may);
+      phase = phased ∙ ap (λ (p : Phase). phase_after p act) r.phase ∙ sym (phase-more r.acts act);
+      waits = λ opened. waits opened ∙ sym (waits-more r.acts act);
+      carries = subst (Carries new) (sym (more read_by r.acts act)) carries;
+      enqueued =
+          enqueued
+          ∙ (ap (λ (x : List ℕ). x ++ stream (put_by act)) r.enqueued ∙ sym (ap stream (more put_by r.acts act) ∙ stream-append (put r.acts) (put_by act)));
+      before = r.before;
+      taken = may-more (nothing r.before) r.acts act r.taken does;
+      given = given ∙ ap (λ (k : Knowledge). k.tickets) next;
+      knows = λ opened. knows opened ∙ ap (λ (k : Knowledge). k.reading) next;
+      learned = subst (λ (k : Knowledge). LearnedAll empty_mirror (heard k.history) n) next learned;
+    }
 
 -- ---- calls by which nothing is read or put
 
-pub ran-new : (limits : Limits) (pending : List Asked) → HasRun (new_end limits) pending
-ran-new limits pending = record { acts = []; in_order = tt; phase = refl; waits = λ e. absurd cc; carries = carries-new limits; enqueued = refl }
+-- before the first session
+pub ran-new : (limits : Limits) (tickets : ℕ) (reading : Reading) (mirror : Mirror) → mirror ≡ empty_mirror → HasRun (new_end limits) tickets reading mirror
+ran-new limits tickets reading mirror none = record {
+  acts = [];
+  in_order = tt;
+  phase = refl;
+  waits = λ e. absurd cc;
+  carries = carries-new limits;
+  enqueued = refl;
+  before = tickets;
+  taken = tt;
+  given = refl;
+  knows = λ e. absurd cc;
+  learned = none;
+}
+
+-- an end at which bytes came or left
+moved : (old new : End) (t : ℕ) (reading : Reading) (m : Mirror) → (r : HasRun old t reading m) → new.phase ≡ old.phase → new.session.enqueued ≡ old.session.enqueued → Carries new (read r.acts) → HasRun new t reading m
+moved old new t reading m r phased enqueued carries =
+    let opened : is_open new ≡ is_open old = ap is_open_phase phased in
+    record {
+      acts = r.acts;
+      in_order = r.in_order;
+      phase = phased ∙ r.phase;
+      waits = λ e. r.waits (sym opened ∙ e);
+      carries = carries;
+      enqueued = enqueued ∙ r.enqueued;
+      before = r.before;
+      taken = r.taken;
+      given = r.given;
+      knows = λ e. r.knows (sym opened ∙ e);
+      learned = r.learned;
+    }
 
 with-nothing : (end : End) (messages : List Message) → Carries end messages → Carries (with_fed [] end) messages
 with-nothing end messages c = rw (append-nil end.incoming, append-nil end.session.fed) c
@@ -75,40 +118,39 @@ fed-so true end bytes messages is none c = carries-fed end messages bytes is c
 fed-so false end bytes messages is none c = subst (λ (x : List ℕ). Carries (with_fed x end) messages) (sym (none refl)) (with-nothing end messages c)
 
 -- a closed end takes nothing
-pub ran-fed : (end : End) (pending : List Asked) (bytes : List ℕ) → (is_open end ≡ false → bytes ≡ []) → HasRun end pending → HasRun (with_fed bytes end) pending
-ran-fed end pending bytes none r = record {
-  acts = r.acts;
-  in_order = r.in_order;
-  phase = r.phase;
-  waits = r.waits;
-  carries = fed-so (is_open end) end bytes (read r.acts) refl none r.carries;
-  enqueued = r.enqueued;
-}
+pub ran-fed : (end : End) (t : ℕ) (reading : Reading) (m : Mirror) (bytes : List ℕ) → (is_open end ≡ false → bytes ≡ []) → HasRun end t reading m → HasRun (with_fed bytes end) t reading m
+ran-fed end t reading m bytes none r = moved end (with_fed bytes end) t reading m r refl refl (fed-so (is_open end) end bytes (read r.acts) refl none r.carries)
 
-pub ran-taken : (end : End) (pending : List Asked) (n : ℕ) → n ≤ length end.outgoing → HasRun end pending → HasRun (with_taken (take n end.outgoing) end) pending
-ran-taken end pending n le r =
-    record { acts = r.acts; in_order = r.in_order; phase = r.phase; waits = r.waits; carries = carries-taken end (read r.acts) n le r.carries; enqueued = r.enqueued }
+pub ran-taken : (end : End) (t : ℕ) (reading : Reading) (m : Mirror) (n : ℕ) → n ≤ length end.outgoing → HasRun end t reading m → HasRun (with_taken (take n end.outgoing) end) t reading m
+ran-taken end t reading m n le r = moved end (with_taken (take n end.outgoing) end) t reading m r refl refl (carries-taken end (read r.acts) n le r.carries)
 
 -- ---- a session begins, and ends
 
-pub ran-attached : (end : End) → HasRun (with_enqueued handshake_bytes (opened_end end)) []
-ran-attached end = record {
+pub ran-attached : (end : End) (t : ℕ) (reading : Reading) (m : Mirror) → reading ≡ (nothing t).reading → m ≡ empty_mirror → HasRun (with_enqueued handshake_bytes (opened_end end)) t reading m
+ran-attached end t reading m unread unlearned = record {
   acts = Attaches ∷ [];
   in_order = (refl, tt);
   phase = refl;
-  waits = λ e. refl;
+  waits = λ e. ap (λ (r : Reading). ids_of r.pending) unread;
   carries = carries-enqueued (opened_end end) [] handshake_bytes refl (carries-opened end);
   enqueued = refl;
+  before = t;
+  taken = (tt, tt);
+  given = refl;
+  knows = λ e. unread;
+  learned = unlearned;
 }
 
--- which commands wait at a closed end is nothing to its run
-pub ran-closed : (end : End) (before after : List Asked) → HasRun end before → HasRun (closed_end end) after
-ran-closed end before after r =
-    goes-on end (closed_end end) before after Ends r tt refl (λ e. absurd cc) (rw (append-nil (read r.acts)) (carries-closed end (read r.acts) r.carries)) (sym (append-nil end.session.enqueued))
+-- what is known at a closed end is nothing to its run
+pub ran-closed : (end : End) (t : ℕ) (before after : Reading) (m n : Mirror) → n ≡ empty_mirror → HasRun end t before m → HasRun (closed_end end) t after n
+ran-closed end t before after m n none r =
+    goes-on end (closed_end end) t t before after m n Ends r tt tt refl (λ e. absurd cc) (rw (append-nil (read r.acts)) (carries-closed end (read r.acts) r.carries)) (sym (append-nil end.session.enqueued)) r.given
+    (λ e. absurd cc) none
 
-pub ran-lost : (end : End) (before after : List Asked) → HasRun end before → HasRun (lost_end end) after
-ran-lost end before after r =
-    goes-on end (lost_end end) before after Ends r tt refl (λ e. absurd cc) (rw (append-nil (read r.acts)) (carries-lost end (read r.acts) r.carries)) (sym (append-nil end.session.enqueued))
+pub ran-lost : (end : End) (t : ℕ) (before after : Reading) (m n : Mirror) → n ≡ empty_mirror → HasRun end t before m → HasRun (lost_end end) t after n
+ran-lost end t before after m n none r =
+    goes-on end (lost_end end) t t before after m n Ends r tt tt refl (λ e. absurd cc) (rw (append-nil (read r.acts)) (carries-lost end (read r.acts) r.carries)) (sym (append-nil end.session.enqueued)) r.given
+    (λ e. absurd cc) none
 
 -- ---- messages
 
@@ -129,97 +171,148 @@ handshake-due limit phase.Closed due = absurd due
 handshake-due limit phase.AwaitingHandshake due = refl
 handshake-due limit phase.Established due = absurd due
 
-pub ran-read : (end : End) (before after : List Asked) (header : Header) (body : List ℕ) (used : ℕ) → IsBytes end.incoming → front_of end ≡ Whole (Packet header body) used
-    → ((ids : List ℕ) → ids_of before ≡ ids → (ids_of after ≡ outstanding_after ids (Reads header body)) × IsAwaited header.kind header.id ids) → HasRun end before
-    → HasRun (with_handled (Packet header body) used end) after
-ran-read end before after header body used fits front settled r =
-    let opened = front-open end (Packet header body) used fits front in
-    let s = settled (outstanding r.acts) (r.waits opened) in
-    goes-on end (with_handled (Packet header body) used end) before after (Reads header body) r
-    (packet-due end.limits.packet end.phase header body (front-due end (Packet header body) used fits front), s.1) refl (λ e. s.0)
-    (carries-handled end (read r.acts) (Packet header body) used fits front r.carries) (sym (append-nil end.session.enqueued))
+-- the mirror to which what a packet says is added: what waited for the widths of ids is learned from nothing
+abbrev pub learned_from : News → Mirror → Mirror
+learned_from (Waits bytes) m = m
+learned_from (Happens c) m = m
+learned_from (Answers place ticket answer) m = m
+learned_from (Measures place answer w cs) m = empty_mirror
 
--- what a packet says settles the command that it answers
-pub ran-said : (d : Debugger) (header : Header) (body : List ℕ) (used : ℕ) (n : News) → IsBytes d.end.incoming → front_of d.end ≡ Whole (Packet header body) used → says (reading_of d) header.id header.kind body ≡ Ok n
-    → Ran d → HasRun (with_handled (Packet header body) used d.end) (left_by n d.pending)
-ran-said d header body used n fits front said r =
+-- what is heard is added to what was heard, and of the widths of ids nothing was heard before
+heard-onto : (n : News) (header : Header) (pending : List Asked) (before : ℕ) (acts : List Act) (old new : Mirror) → InOrder phase.Closed [] acts → MayDoAll (nothing before) acts → phase_of acts ≡ phase.Established
+    → Backs (known before acts).reading header.id header.kind n → LearnedAll empty_mirror (heard (known before acts).history) old → LearnedAll (learned_from n old) (messages_of n pending) new
+    → LearnedAll empty_mirror (heard (known before acts).history ++ messages_of n pending) new
+heard-onto (Waits bytes) header pending before acts old new order may phased b was now = learned-onto (heard (known before acts).history) [] empty_mirror old new was now
+heard-onto (Happens c) header pending before acts old new order may phased b was now = learned-onto (heard (known before acts).history) (Report c ∷ []) empty_mirror old new was now
+heard-onto (Answers place ticket answer) header pending before acts old new order may phased b was now =
+    learned-onto (heard (known before acts).history) (messages_of (Answers place ticket answer) pending) empty_mirror old new was now
+heard-onto (Measures place answer w cs) header pending before acts old new order may phased b was now =
+    let first = measures-first before acts header place answer w cs order may phased b in
+    subst (λ (ms : List heards.Message). LearnedAll empty_mirror (ms ++ messages_of (Measures place answer w cs) pending) new) (sym first) now
+
+left-is : (header : Header) (n : News) (r : Reading) → (reading_after header n r).pending ≡ left_by n r.pending
+left-is header (Waits bytes) r = refl
+left-is header (Happens c) r = refl
+left-is header (Answers place ticket answer) r = refl
+left-is header (Measures place answer w cs) r = refl
+
+-- what a packet says settles the command that it answers, and is heard
+pub ran-said : (d : Debugger) (header : Header) (body : List ℕ) (used : ℕ) (n : News) (m : Mirror) → IsBytes d.end.incoming → front_of d.end ≡ Whole (Packet header body) used → says (reading_of d) header.id header.kind body ≡ Ok n
+    → news_refusal d.mirror n ≡ None → LearnedAll (learned_from n d.mirror) (messages_of n d.pending) m → Ran d
+    → HasRun (with_handled (Packet header body) used d.end) d.tickets (reading_after header n (reading_of d)) m
+ran-said d header body used n m fits front said fair learned r =
+    let k = known r.before r.acts in
+    let opened = front-open d.end (Packet header body) used fits front in
+    let established = packet-due d.end.limits.packet d.end.phase header body (front-due d.end (Packet header body) used fits front) in
+    let same = r.knows opened in
+    let said_so : says k.reading header.id header.kind body ≡ Ok n = subst (λ (x : Reading). says x header.id header.kind body ≡ Ok n) same said in
+    let b = backs k.reading header.id header.kind body n said_so in
     let s = settles-by (reading_of d) header.id header.kind n (backs (reading_of d) header.id header.kind body n said) in
-    ran-read d.end d.pending (left_by n d.pending) header body used fits front
-    (λ ids is. subst (λ (x : List ℕ). (ids_of (left_by n d.pending) ≡ outstanding_after x (Reads header body)) × IsAwaited header.kind header.id x) is s) r
+    let settled =
+    subst (λ (x : List ℕ). (ids_of (left_by n d.pending) ≡ outstanding_after x (Reads header body)) × IsAwaited header.kind header.id x) (r.waits opened) s in
+    let entered : known_after k (Reads header body) ≡ with_news header n k = ap (λ (x : Result News DebuggerFault). with_said header x k) said_so in
+    let told = subst (λ (x : Reading). LearnedAll (learned_from n d.mirror) (messages_of n x.pending) m) same learned in
+    let all = heard-onto n header k.reading.pending r.before r.acts d.mirror m r.in_order r.taken (sym r.phase ∙ established) b r.learned told in
+    let once = subst (λ (ms : List heards.Message). LearnedAll empty_mirror ms m) (sym (heard-more k.history (messages_of n k.reading.pending))) all in
+    goes-on d.end (with_handled (Packet header body) used d.end) d.tickets d.tickets (reading_of d) (reading_after header n (reading_of d)) d.mirror m (Reads header body) r (established, settled.1)
+    (record { news = n; said = said_so; mirror = d.mirror; learned = r.learned; unrefused = fair }) refl (λ e. ap ids_of (left-is header n (reading_of d)) ∙ settled.0)
+    (carries-handled d.end (read r.acts) (Packet header body) used fits front r.carries) (sym (append-nil d.end.session.enqueued)) (r.given ∙ ap (λ (x : Knowledge). x.tickets) (sym entered))
+    (λ e. ap (reading_after header n) same ∙ ap (λ (x : Knowledge). x.reading) (sym entered)) (subst (λ (x : Knowledge). LearnedAll empty_mirror (heard x.history) m) (sym entered) once)
 
 -- one command more waits
 one-more : (pending : List Asked) (p : Asked) (ids : List ℕ) → ids_of pending ≡ ids → ids_of (pending ++ p ∷ []) ≡ ids ++ p.id ∷ []
 one-more pending p ids is = map-append (λ (q : Asked). q.id) pending (p ∷ []) ∙ ap (λ (x : List ℕ). x ++ p.id ∷ []) is
 
-pub ran-greeted : (end : End) (pending : List Asked) (used : ℕ) (p : Asked) → IsBytes end.incoming → front_of end ≡ Whole Handshake used → HasRun end pending
-    → HasRun (with_enqueued (header_bytes (sizes_header p.id)) (with_handled Handshake used end)) (pending ++ p ∷ [])
-ran-greeted end pending used p fits front r =
+-- IDSizes waits
+abbrev pub with_sizes_asked : ℕ → Reading → Reading
+with_sizes_asked id r = record r { pending = r.pending ++ record { id = id; ticket = None; command = id_sizes } ∷ [] }
+
+pub ran-greeted : (end : End) (t : ℕ) (reading : Reading) (m : Mirror) (used id : ℕ) → IsBytes end.incoming → front_of end ≡ Whole Handshake used → HasRun end t reading m
+    → HasRun (with_enqueued (header_bytes (sizes_header id)) (with_handled Handshake used end)) t (with_sizes_asked id reading) m
+ran-greeted end t reading m used id fits front r =
+    let k = known r.before r.acts in
     let read_it = with_handled Handshake used end in
-    let bytes = header_bytes (sizes_header p.id) in
-    let bare : stream (Packet (sizes_header p.id) [] ∷ []) ≡ bytes = stream-one (Packet (sizes_header p.id) []) ∙ append-nil bytes in
+    let bytes = header_bytes (sizes_header id) in
+    let bare : stream (Packet (sizes_header id) [] ∷ []) ≡ bytes = stream-one (Packet (sizes_header id) []) ∙ append-nil bytes in
     let opened = front-open end Handshake used fits front in
-    goes-on end (with_enqueued bytes read_it) pending (pending ++ p ∷ []) (Greets p.id) r (handshake-due end.limits.packet end.phase (front-due end Handshake used fits front)) refl
-    (λ e. one-more pending p (outstanding r.acts) (r.waits opened))
+    goes-on end (with_enqueued bytes read_it) t t reading (with_sizes_asked id reading) m m (Greets id) r (handshake-due end.limits.packet end.phase (front-due end Handshake used fits front)) tt refl
+    (λ e. one-more reading.pending (record { id = id; ticket = None; command = id_sizes }) (outstanding r.acts) (r.waits opened))
     (carries-enqueued read_it (read r.acts ++ Handshake ∷ []) bytes refl (carries-handled end (read r.acts) Handshake used fits front r.carries))
-    (ap (λ (x : List ℕ). end.session.enqueued ++ x) (sym bare))
+    (ap (λ (x : List ℕ). end.session.enqueued ++ x) (sym bare)) r.given (λ e. ap (with_sizes_asked id) (r.knows opened))
+    (subst (λ (ms : List heards.Message). LearnedAll empty_mirror ms m) (sym (heard-put k.history None id_sizes)) r.learned)
 
 among : (id : ℕ) (pending : List Asked) → is_among id (ids_of pending) ≡ is_outstanding pending id
 among id [] = refl
 among id (p ∷ ps) = ap (λ (b : Bool). (p.id == id) || b) (among id ps)
 
-pub ran-asked : (end : End) (pending : List Asked) (w : Widths) (p : Asked) → end.phase ≡ phase.Established → is_outstanding pending p.id ≡ false → EncodesCommand w p.command → HasRun end pending
-    → HasRun (with_enqueued (command_bytes w p.id p.command) end) (pending ++ p ∷ [])
-ran-asked end pending w p phased free encoded r =
+-- a command waits under the ticket behind so many
+abbrev pub with_command : ℕ → ℕ → Command → Reading → Reading
+with_command id t c r = record r { pending = r.pending ++ record { id = id; ticket = Some (record { 0 = t + 1 }); command = c } ∷ [] }
+
+pub ran-asked : (end : End) (t : ℕ) (reading : Reading) (m : Mirror) (w : Widths) (id : ℕ) (c : Command) → end.phase ≡ phase.Established → reading.sizes ≡ Some w → is_outstanding reading.pending id ≡ false → EncodesCommand w c
+    → HasRun end t reading m → HasRun (with_enqueued (command_bytes w id c) end) (t + 1) (with_command id t c reading) m
+ran-asked end t reading m w id c phased wide free encoded r =
+    let k = known r.before r.acts in
     let opened : is_open end ≡ true = ap is_open_phase phased in
-    let bytes = command_bytes w p.id p.command in
-    let free_id : is_among p.id (outstanding r.acts) ≡ false = ap (is_among p.id) (sym (r.waits opened)) ∙ among p.id pending ∙ free in
-    goes-on end (with_enqueued bytes end) pending (pending ++ p ∷ []) (Asks w p.id p.command) r (phased, free_id, encoded) phased
-    (λ e. one-more pending p (outstanding r.acts) (r.waits opened))
+    let same = r.knows opened in
+    let bytes = command_bytes w id c in
+    let free_id : is_among id (outstanding r.acts) ≡ false = ap (is_among id) (sym (r.waits opened)) ∙ among id reading.pending ∙ free in
+    goes-on end (with_enqueued bytes end) t (t + 1) reading (with_command id t c reading) m m (Asks w id c) r (phased, free_id, encoded) (sym (ap (λ (x : Reading). x.sizes) same) ∙ wide) phased
+    (λ e. one-more reading.pending (record { id = id; ticket = Some (record { 0 = t + 1 }); command = c }) (outstanding r.acts) (r.waits opened))
     (subst (Carries (with_enqueued bytes end)) (sym (append-nil (read r.acts))) (carries-enqueued end (read r.acts) bytes opened r.carries))
-    (ap (λ (x : List ℕ). end.session.enqueued ++ x) (sym (append-nil bytes)))
+    (ap (λ (x : List ℕ). end.session.enqueued ++ x) (sym (append-nil bytes))) (ap (λ (n : ℕ). n + 1) r.given) (λ e. (λ j. with_command id (r.given j) c (same j)))
+    (subst (λ (ms : List heards.Message). LearnedAll empty_mirror ms m) (sym (heard-put k.history (Some (k.tickets + 1)) c)) r.learned)
 
 -- ---- turns
 
 so : (old new : Debugger) → new ≡ old → Ran old → Ran new
 so old new is r = subst Ran (sym is) r
 
+pub ran-closing : (d : Debugger) → Ran d → Ran (closed_debugger d)
+ran-closing d r = ran-closed d.end d.tickets (reading_of d) (reading_of (closed_debugger d)) d.mirror empty_mirror refl r
+
 ran-closed-where : (b : Bool) (d : Debugger) → Ran d → Ran (closed_where b d)
-ran-closed-where true d r = ran-closed d.end d.pending d.pending r
+ran-closed-where true d r = ran-closing d r
 ran-closed-where false d r = r
 
 ran-measured-where : (b : Bool) (w : Widths) (d : Debugger) → Ran d → Ran (measured_where b w d)
-ran-measured-where true w d r = ran-closed d.end d.pending d.pending r
+ran-measured-where true w d r = ran-closed d.end d.tickets (reading_of d) (reading_of (measured_where true w d)) d.mirror empty_mirror refl r
 ran-measured-where false w d r = r
 
-ran-entered : (header : Header) (body : List ℕ) (used : ℕ) (news : News) (old new : Debugger) (told : Told) → HasRun (with_handled (Packet header body) used old.end) (left_by news old.pending)
+ran-entered : (header : Header) (body : List ℕ) (used : ℕ) (news : News) (old new : Debugger) (told : Told)
+    → ((m : Mirror) → LearnedAll (learned_from news old.mirror) (messages_of news old.pending) m → HasRun (with_handled (Packet header body) used old.end) old.tickets (reading_after header news (reading_of old)) m)
     → Enters (Packet header body) used header news old told new → Ran new
-ran-entered header body used (Waits bytes) old new told r (tells, is) = subst Ran (sym is) r
+ran-entered header body used (Waits bytes) old new told r (tells, is) = subst Ran (sym is) (r old.mirror refl)
 ran-entered header body used (Happens c) old new told r (tells, (m, learned, is)) =
-    subst Ran (sym is) (ran-closed-where (ends (Report c)) (record (with_read (Packet header body) used (head.Composite header ∷ []) old) { mirror = m }) r)
+    subst Ran (sym is) (ran-closed-where (ends (Report c)) (record (with_read (Packet header body) used (head.Composite header ∷ []) old) { mirror = m }) (r m (m, learned, refl)))
 ran-entered header body used (Answers place ticket answer) old new told r (tells, (m, learned, is)) =
     subst Ran (sym is)
     (ran-closed-where (ends (Reply (Some ticket) (command_at place old.pending) answer))
-    (record (with_read (Packet header body) used (reply_head header (command_at place old.pending) ∷ []) old) { mirror = m; pending = remove old.pending place }) r)
+    (record (with_read (Packet header body) used (reply_head header (command_at place old.pending) ∷ []) old) { mirror = m; pending = remove old.pending place }) (r m (m, learned, refl)))
 ran-entered header body used (Measures place answer w cs) old new told r (tells, (m, learned, is)) =
-    subst Ran (sym is) (ran-measured-where (list_any ends (reports cs)) w (with_sizes (Packet header body) used header place m w old) r)
+    subst Ran (sym is) (ran-measured-where (list_any ends (reports cs)) w (with_sizes (Packet header body) used header place m w old) (r m learned))
+
+pub ran-refused : (d : Debugger) → Ran d → Ran (refused d)
+ran-refused d r = ran-closing d r
 
 ran-failed : (header : Header) (body : List ℕ) (old new : Debugger) (f : DebuggerFault) → FailsAt header body old f new → Ran old → Ran new
 ran-failed header body old new code.NoMemory h r = so old new h.1 r
-ran-failed header body old new (code.Frame f) h r = so (refused old) new h.1 (ran-closed old.end old.pending old.pending r)
-ran-failed header body old new code.UnknownReply h r = so (refused old) new h.1 (ran-closed old.end old.pending old.pending r)
-ran-failed header body old new code.BadReply h r = so (refused old) new h.1 (ran-closed old.end old.pending old.pending r)
-ran-failed header body old new code.TooManyParked h r = so (refused old) new h.1 (ran-closed old.end old.pending old.pending r)
-ran-failed header body old new code.BadEvent h r = so (refused old) new h.1 (ran-closed old.end old.pending old.pending r)
+ran-failed header body old new (code.Frame f) h r = so (refused old) new h.1 (ran-refused old r)
+ran-failed header body old new code.UnknownReply h r = so (refused old) new h.1 (ran-refused old r)
+ran-failed header body old new code.BadReply h r = so (refused old) new h.1 (ran-refused old r)
+ran-failed header body old new code.TooManyParked h r = so (refused old) new h.1 (ran-refused old r)
+ran-failed header body old new code.BadEvent h r = so (refused old) new h.1 (ran-refused old r)
 
 ran-turn-at : (front : NextMessage) (old new : Debugger) (result : Result Read DebuggerFault) → front_of old.end ≡ front → IsBytes old.end.incoming → Ran old
     → TurnsAt front old result new → Ran new
 ran-turn-at (Whole Handshake used) old new (Ok x) at fits r (tells, none, is) =
-    so (greeted used old) new is (ran-greeted old.end old.pending used (record { id = old.next_id; ticket = None; command = id_sizes }) fits at r)
+    so (greeted used old) new is (ran-greeted old.end old.tickets (reading_of old) old.mirror used old.next_id fits at r)
 ran-turn-at (Whole Handshake used) old new (Err f) at fits r t = so old new t.1 r
-ran-turn-at (Whole (Packet header body) used) old new (Ok x) at fits r t = ran-entered header body used t.news old new (read_meaning x) (ran-said old header body used t.news fits at t.said r) t.entered
+ran-turn-at (Whole (Packet header body) used) old new (Ok x) at fits r t =
+    ran-entered header body used t.news old new (read_meaning x) (λ m learned. ran-said old header body used t.news m fits at t.said t.unrefused learned r) t.entered
 ran-turn-at (Whole (Packet header body) used) old new (Err f) at fits r t = ran-failed header body old new f t r
 ran-turn-at More old new result at fits r t = so (record old { last = [] }) new t.1 r
-ran-turn-at (Fault f) old new result at fits r t = so (refused old) new t.1 (ran-closed old.end old.pending old.pending r)
+ran-turn-at (Fault f) old new result at fits r t = so (refused old) new t.1 (ran-refused old r)
 
 pub ran-turn : (old new : Debugger) (result : Result Read DebuggerFault) → IsBytes old.end.incoming → Ran old → TurnsAt (front_of old.end) old result new → Ran new
 ran-turn old new result fits r t = ran-turn-at (front_of old.end) old new result refl fits r t
@@ -227,17 +320,17 @@ ran-turn old new result fits r t = ran-turn-at (front_of old.end) old new result
 pub ran-ask : (command : Command) (old new : Debugger) → Ran old → HasAsked command old new → Ran new
 ran-ask command old new r h =
     so (asked h.widths h.id command old) new h.is
-    (ran-asked old.end old.pending h.widths (record { id = h.id; ticket = Some (record { 0 = old.tickets + 1 }); command = command }) h.established h.next.free h.encoded r)
+    (ran-asked old.end old.tickets (reading_of old) old.mirror h.widths h.id command h.established h.known h.next.free h.encoded r)
 
 -- ---- all of it
 
 pub each-goes-on : GoesOn
 each-goes-on = record {
-  new = λ limits id. ran-new limits [];
-  attached = λ d. ran-attached d.end;
+  new = λ limits id. ran-new limits 0 (nothing 0).reading empty_mirror refl;
+  attached = λ d. ran-attached d.end d.tickets (nothing 0).reading empty_mirror refl refl;
   asked = ran-ask;
   turned = ran-turn;
-  fed = λ d bytes none r. ran-fed d.end d.pending bytes none r;
-  taken = λ d n le r. ran-taken d.end d.pending n le r;
-  lost = λ d r. ran-lost d.end d.pending [] r;
+  fed = λ d bytes none r. ran-fed d.end d.tickets (reading_of d) d.mirror bytes none r;
+  taken = λ d n le r. ran-taken d.end d.tickets (reading_of d) d.mirror n le r;
+  lost = λ d r. ran-lost d.end d.tickets (reading_of d) (nothing 0).reading d.mirror empty_mirror refl r;
 }

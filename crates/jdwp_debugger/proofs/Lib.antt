@@ -7,6 +7,7 @@ pub mod Admitting
 pub mod NewsLemmas
 pub mod Saying
 pub mod TurningLemmas
+pub mod Knowing
 pub mod DebuggerRuns
 pub mod SaidPackets
 pub mod EncodedReads

@@ -11,18 +11,21 @@ use Rattle.jdwp_layout.specs.declared.answer.Answer.{Answer}
 use Rattle.jdwp_event.specs.Composites.{CompositeMeaning}
 use Rattle.jdwp_end.specs.Ends.{End, is_open, with_handled}
 use Rattle.jdwp_debugger.specs.Debuggers.{Debugger, IsSizesAlone}
-use Rattle.jdwp_debugger.specs.DebuggerTurns.{IsSaid, reading_of}
+use Rattle.jdwp_debugger.specs.DebuggerTurns.{IsSaid, LearnedAll, news_refusal, reading_of}
+use Rattle.jdwp_debugger.specs.Histories.{messages_of, reading_after}
 use Rattle.jdwp_debugger.specs.News.{News, Waits, Happens, Answers, Measures}
 use Rattle.jdwp_debugger.specs.Runs.{HasRun, Ran}
 use Rattle.jdwp_mirror.specs.Faults.{PARKED_MOST}
-use Rattle.jdwp_debugger.proofs.DebuggerRuns.{front-open, ran-said}
-use Rattle.jdwp_debugger.proofs.Saying.{Backs, backs, left_by, unanswerable}
+use Rattle.jdwp_mirror.specs.Mirrors.{Mirror}
+use Rattle.jdwp_debugger.proofs.DebuggerRuns.{front-open, learned_from, ran-said}
+use Rattle.jdwp_debugger.proofs.Saying.{Backs, backs, unanswerable}
 
 pub said-open : (d : Debugger) (header : Header) (used : ℕ) (n : News) → IsBytes d.end.incoming → IsSaid d header used n → is_open d.end ≡ true
 said-open d header used n fits s = front-open d.end (Packet header s.body) used fits s.front
 
-pub said-ran : (d : Debugger) (header : Header) (used : ℕ) (n : News) → IsBytes d.end.incoming → (s : IsSaid d header used n) → Ran d → HasRun (with_handled (Packet header s.body) used d.end) (left_by n d.pending)
-said-ran d header used n fits s r = ran-said d header s.body used n fits s.front s.said r
+pub said-ran : (d : Debugger) (header : Header) (used : ℕ) (n : News) (m : Mirror) → IsBytes d.end.incoming → (s : IsSaid d header used n) → news_refusal d.mirror n ≡ None
+    → LearnedAll (learned_from n d.mirror) (messages_of n d.pending) m → Ran d → HasRun (with_handled (Packet header s.body) used d.end) d.tickets (reading_after header n (reading_of d)) m
+said-ran d header used n m fits s fair learned r = ran-said d header s.body used n m fits s.front s.said fair learned r
 
 pub said-backs : (d : Debugger) (header : Header) (used : ℕ) (n : News) → IsSaid d header used n → Backs (reading_of d) header.id header.kind n
 said-backs d header used n s = backs (reading_of d) header.id header.kind s.body n s.said

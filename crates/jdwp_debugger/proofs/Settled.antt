@@ -1,20 +1,23 @@
 -- Commands that were settled while they were the oldest: they stand in front of those that wait.
-use Rattle.std.proofs.Common.{◌≡◌, ◌∙◌, ℕ, zero, suc, ◌+◌, ◌-◌, ◌≤◌, Bool, true, false, cond, ◌++◌, List, [], ◌∷◌, length, Option, Some, None, drop, remove, is_some, slice_get, sym, ap, subst, refl, eqb, eqb-true, leb, leb-true, leb-false, le-leb, inl, inr, arith}
+use Rattle.std.proofs.Common.{◌≡◌, ◌∙◌, ℕ, zero, suc, ◌+◌, ◌-◌, ◌≤◌, ◌<◌, Bool, true, false, cond, ◌++◌, List, [], ◌∷◌, length, Option, Some, None, drop, take, remove, is_some, slice_get, sym, ap, subst, refl, eqb, eqb-true, leb, leb-true, leb-false, le-leb, inl, inr, arith}
 use Rattle.std.proofs.lemmas.Bool.{cases_Bool, lt-leb}
 use Rattle.std.proofs.lemmas.Iterator.Adapters.{position_from-zero}
-use Rattle.std.proofs.lemmas.List.{drop-append-le, drop-drop, drop-map}
+use Rattle.std.proofs.lemmas.List.{drop-append-le, drop-drop, drop-map, length-append, take-append-le}
+use Rattle.std.proofs.lemmas.List.Edits.{length-remove}
 use Rattle.std.proofs.lemmas.Option.{slice_get-map}
+use Rattle.std.specs.Prelude.{OnErr, OnOk, Result, Ok, Err}
 use Rattle.std.specs.List.{AllByRecursion, IsDistinct, position, position_from}
 use Rattle.std.specs.Map.{lookup, keys_of}
 use Rattle.std.specs.Option.{SomeIff, option_map}
 use Rattle.indexmap.proofs.CallerLemmas.{insert_entry-new}
 use Rattle.indexmap.proofs.SetLemmas.{map-remove}
-use Rattle.indexmap.specs.IndexMap.{IndexMap, insert_entry}
+use Rattle.indexmap.specs.IndexMap.{IndexMap, insert_entry, set_value_at}
+use Rattle.indexmap.specs.Layout.{length-set_value_at}
 use Rattle.jdwp_debugger.specs.declared.pending.Asked as kept
 use Rattle.jdwp_debugger.specs.Asking.{is_outstanding}
 use Rattle.jdwp_debugger.specs.Debuggers.{Asked}
 use Rattle.jdwp_debugger.specs.News.{has_id, place_of}
-use Rattle.jdwp_debugger.specs.PendingKept.{asked_in, asked_of, waiting_in}
+use Rattle.jdwp_debugger.specs.PendingKept.{IsBare, KeepsNoSettled, asked_in, asked_of, bare, waiting_in}
 use Rattle.jdwp_debugger.proofs.Entries.{any_step, asked_behind, none_of, outstanding_is, place_is}
 
 -- ---- places behind the first so many
@@ -151,3 +154,67 @@ behind_from s p None past = elim (cases_Bool (leb s p)) [
   | inr f ↦ sym (ap (λ (b : Bool). cond b (Some (p - s)) None) f)
 ]
 behind_from s p (Some x) is = ap Some is.1 ∙ sym (ap (λ (b : Bool). cond b (Some (p - s)) None) (le-leb s p is.0))
+
+-- ---- what is kept of those that are settled
+
+-- one that is settled leaves those behind it and those in front of it as they are
+behind_set : (s : ℕ) (es : List (ℕ × kept.Asked)) (w : kept.Asked) → drop (suc s) (set_value_at es s w) ≡ drop (suc s) es
+behind_set s [] w = refl
+behind_set zero (e ∷ es) w = refl
+behind_set (suc s) (e ∷ es) w = behind_set s es w
+
+pub waits_behind : (s : ℕ) (es : List (ℕ × kept.Asked)) (w : kept.Asked) → waiting_in (s + 1) (set_value_at es s w) ≡ waiting_in (s + 1) es
+waits_behind s es w =
+    let next : suc s ≡ s + 1 = omega arith in
+    subst (λ (n : ℕ). waiting_in n (set_value_at es s w) ≡ waiting_in n es) next (ap asked_in (behind_set s es w))
+
+bare_next : (s : ℕ) (es : List (ℕ × kept.Asked)) → AllByRecursion IsBare (take s es) → AllByRecursion IsBare (take (suc s) (set_value_at es s bare))
+bare_next zero [] all = tt
+bare_next zero (e ∷ es) all = (refl, tt)
+bare_next (suc s) [] all = tt
+bare_next (suc s) (e ∷ es) all = (all.0, bare_next s es all.1)
+
+-- one more is settled
+pub bare_more : (s : ℕ) (es : List (ℕ × kept.Asked)) → s < length es → KeepsNoSettled s es → KeepsNoSettled (s + 1) (set_value_at es s bare)
+bare_more s es more keeps =
+    let next : suc s ≡ s + 1 = omega arith in
+    let long : length (set_value_at es s bare) ≡ length es = length-set_value_at es s bare in
+    (omega (arith, long, more), subst (λ (n : ℕ). AllByRecursion IsBare (take n (set_value_at es s bare))) next (bare_next s es keeps.1))
+
+-- where one waits, not all are settled
+pub some_wait : (s : ℕ) (es : List (ℕ × kept.Asked)) → 0 < length (waiting_in s es) → s < length es
+some_wait zero [] some = absurd (omega (arith, some))
+some_wait zero (e ∷ es) some = omega arith
+some_wait (suc s) [] some = absurd (omega (arith, some))
+some_wait (suc s) (e ∷ es) some = let more = some_wait s es some in omega (arith, more)
+
+-- none is settled
+pub bare_none : (n : ℕ) (es : List (ℕ × kept.Asked)) → n ≡ 0 → KeepsNoSettled n es
+bare_none n es none = subst (λ (k : ℕ). KeepsNoSettled k es) (sym none) (omega arith, tt)
+
+-- one more waits
+pub bare_pushed : (s : ℕ) (es : List (ℕ × kept.Asked)) (e : ℕ × kept.Asked) → KeepsNoSettled s es → KeepsNoSettled s (es ++ e ∷ [])
+bare_pushed s es e keeps =
+    let long : length (es ++ e ∷ []) ≡ length es + 1 = length-append es (e ∷ []) in
+    (omega (arith, long, keeps.0), subst (AllByRecursion IsBare) (sym (take-append-le s es (e ∷ []) keeps.0)) keeps.1)
+
+in_front_removed : (s i : ℕ) (es : List (ℕ × kept.Asked)) → take s (remove es (s + i)) ≡ take s es
+in_front_removed zero i es = refl
+in_front_removed (suc s) i [] =
+    let on : suc s + i ≡ suc (s + i) = omega arith in
+    ap (λ (k : ℕ). take (suc s) (remove {X = ℕ × kept.Asked} [] k)) on
+in_front_removed (suc s) i (e ∷ es) =
+    let on : suc s + i ≡ suc (s + i) = omega arith in
+    ap (λ (k : ℕ). take (suc s) (remove (e ∷ es) k)) on ∙ ap (λ (rest : List (ℕ × kept.Asked)). e ∷ rest) (in_front_removed s i es)
+
+-- one that waits is removed
+pub bare_left : (s i : ℕ) (es : List (ℕ × kept.Asked)) → s + i < length es → KeepsNoSettled s es → KeepsNoSettled s (remove es (s + i))
+bare_left s i es within keeps =
+    let long = length-remove es (s + i) within in
+    (omega (arith, long, within), subst (AllByRecursion IsBare) (sym (in_front_removed s i es)) keeps.1)
+
+-- one that is inserted under a new id is behind them, and where it is not, nothing has changed
+pub bare_inserted : {V E S : Type 0} (r : Result V E) (m : IndexMap ℕ kept.Asked S) (new : List (ℕ × kept.Asked)) (s id : ℕ) (asked : kept.Asked) → KeepsNoSettled s m.entries → lookup (eqb id) m.entries ≡ None
+    → OnOk r (new ≡ insert_entry eqb m.entries id asked) → OnErr r (new ≡ m.entries) → KeepsNoSettled s new
+bare_inserted (Ok v) m new s id asked keeps none ok err = subst (KeepsNoSettled s) (sym (ok ∙ insert_entry-new eqb m id asked none)) (bare_pushed s m.entries (id, asked) keeps)
+bare_inserted (Err e) m new s id asked keeps none ok err = subst (KeepsNoSettled s) (sym err) keeps

@@ -205,6 +205,14 @@ pub record IsSaid (d : Debugger) (header : Header) (used : ℕ) (news : News) : 
   pub front : ends.front_of d.end ≡ Whole (streams.Packet header body) used
   pub said : says (reading_of d) header.id header.kind body ≡ Ok news
 
+-- a reply to IDSizes is in front that tells these widths, nothing that waited for them is bad, and this was learned of all of it, from nothing
+pub record TellsSizes (d : Debugger) (header : Header) (used place : ℕ) (w : Widths) (mirror : Mirror) : Type 0 where
+  pub answer : Answer
+  pub composites : List CompositeMeaning
+  pub said : IsSaid d header used (Measures place answer w composites)
+  pub unrefused : news_refusal d.mirror (Measures place answer w composites) ≡ None
+  pub learned : LearnedAll empty_mirror (reports composites ++ Reply None (command_at place d.pending) answer ∷ []) mirror
+
 -- what a failure leaves
 abbrev pub FailsTo : DebuggerFault → Debugger → Debugger → Type 0
 FailsTo code.NoMemory old new = new ≡ old

@@ -6,7 +6,7 @@ use Rattle.jdwp_end.specs.declared.phase.Phase.TheVariants.{AwaitingHandshake}
 use Rattle.jdwp_end.specs.Ends.{is_open}
 use Rattle.jdwp_debugger.specs.declared.debugger.Debugger.TheInside.{Inside}
 use Rattle.jdwp_debugger.specs.Debuggers.{AreDistinct, AreOwn, Begins, Debugger, IsSizesAlone}
-use Rattle.jdwp_debugger.specs.Runs.{HasRun}
+use Rattle.jdwp_debugger.specs.Runs.{Ran}
 use Rattle.jdwp_mirror.specs.Faults.{PARKED_MOST}
 use Rattle.jdwp_mirror.specs.Mirrors.{empty_mirror}
 
@@ -28,4 +28,4 @@ pub record IsRightDebugger (d : Inside) : Type 0 where
   pub alone : is_open d.end ≡ true → d.sizes ≡ None → IsSizesAlone d.pending
   pub unlearned : d.sizes ≡ None → d.mirror ≡ empty_mirror
   pub unparked : (w : Widths) → d.sizes ≡ Some w → d.parked.items ≡ []
-  pub ran : HasRun d.end d.pending
+  pub ran : Ran (view_of d)

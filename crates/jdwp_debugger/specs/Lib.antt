@@ -7,6 +7,7 @@ pub mod FaultNumbers
 pub mod News
 pub mod DebuggerTurns
 pub mod TellsHeads
-pub mod Runs
 pub mod Judging
+pub mod Histories
+pub mod Runs
 pub mod TakingLaws

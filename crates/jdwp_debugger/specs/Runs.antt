@@ -1,6 +1,6 @@
 -- What holds of a debugger over a whole session, from bytes to bytes, whatever bytes come (JDWP specification, "JDWP overview": the
 -- handshake; "Packets": commands and replies, and that ids are unique among the outstanding commands of one source).
-use Rattle.std.specs.Prelude.{◌≡◌, ℕ, ◌==◌, ◌≤◌, Bool, true, false, List, [], ◌∷◌, ◌++◌, fold, length, map, take, Result}
+use Rattle.std.specs.Prelude.{◌≡◌, ℕ, ◌==◌, ◌≤◌, Bool, true, false, List, [], ◌∷◌, ◌++◌, fold, length, map, take, Some, None, Result, Ok}
 use Rattle.std.specs.List.{flat_map, list_any}
 use Rattle.std.specs.Set.{remove_key}
 use Rattle.jdwp_wire.specs.Streams.{Message, Handshake, Packet, stream}
@@ -20,7 +20,12 @@ use Rattle.jdwp_debugger.specs.declared.turning.Read.{Read}
 use Rattle.jdwp_action.specs.CommandPackets.{carried_bytes}
 use Rattle.jdwp_debugger.specs.Asking.{EncodesCommand, HasAsked, command_header}
 use Rattle.jdwp_debugger.specs.Debuggers.{Asked, Debugger, attached, lost_debugger, new_debugger, with_fed, with_taken}
-use Rattle.jdwp_debugger.specs.DebuggerTurns.{TurnsAt, sizes_header}
+use Rattle.jdwp_debugger.specs.DebuggerTurns.{LearnedAll, TurnsAt, news_refusal, reading_of, sizes_header}
+use Rattle.jdwp_debugger.specs.Histories.{Knowledge, heard, nothing, with_asked, with_put, with_said}
+use Rattle.jdwp_debugger.specs.News.{News, Reading, says}
+use Rattle.jdwp_mirror.specs.Messages as heards
+use Rattle.jdwp_mirror.specs.Messages.{id_sizes}
+use Rattle.jdwp_mirror.specs.Mirrors.{Mirror, empty_mirror}
 
 -- What a debugger does in a session: it begins, with a handshake; it reads the target's handshake, and puts IDSizes under an id; it reads
 -- a packet, or lets it wait for the widths of ids; it puts a command under an id, in ids so wide; and the session ends, by what was
@@ -108,24 +113,71 @@ abbrev pub InOrder : Phase → List ℕ → List Act → Type 0
 InOrder phase ids [] = Unit {0}
 InOrder phase ids (act ∷ acts) = MayCome phase ids act × InOrder (phase_after phase act) (outstanding_after ids act) acts
 
+-- ---- what is known
+
+abbrev pub known_after : Knowledge → Act → Knowledge
+known_after k Attaches = nothing k.tickets
+known_after k (Greets id) = with_put id None id_sizes k
+known_after k (Reads header body) = with_said header (says k.reading header.id header.kind body) k
+known_after k (Asks w id c) = with_asked id c k
+known_after k Ends = nothing k.tickets
+
+-- after these acts, where so many tickets were given before them
+abbrev pub known : ℕ → List Act → Knowledge
+known before acts = fold known_after (nothing before) acts
+
+-- A packet is read where it is not refused: it says something, and of what it says nothing is bad by a mirror that learned all that was
+-- heard before it, in order, and nothing else.
+pub record IsTaken (k : Knowledge) (header : Header) (body : List ℕ) : Type 0 where
+  pub news : News
+  pub said : says k.reading header.id header.kind body ≡ Ok news
+  pub mirror : Mirror
+  pub learned : LearnedAll empty_mirror (heard k.history) mirror
+  pub unrefused : news_refusal mirror news ≡ None
+
+-- What may be done by what is known: a packet is read that is not refused, and a command put in ids as wide as the target told.
+abbrev pub MayDo : Knowledge → Act → Type 0
+MayDo k Attaches = Unit {0}
+MayDo k (Greets id) = Unit {0}
+MayDo k (Reads header body) = IsTaken k header body
+MayDo k (Asks w id c) = k.reading.sizes ≡ Some w
+MayDo k Ends = Unit {0}
+
+abbrev pub MayDoAll : Knowledge → List Act → Type 0
+MayDoAll k [] = Unit {0}
+MayDoAll k (act ∷ acts) = MayDo k act × MayDoAll (known_after k act) acts
+
 -- ---- the whole session
 
 abbrev pub ids_of : List Asked → List ℕ
 ids_of pending = map (λ (p : Asked). p.id) pending
 
--- What a debugger whose end is this, and with which these commands wait, did in a session, in order: nothing is read or put behind its
--- end, as which the first refused message counts, until the next begins; the commands that wait are those that were put and not yet
--- replied to; what its end carries are the messages read; and what was enqueued to leave are the bytes of the messages put.
-pub record HasRun (end : End) (pending : List Asked) : Type 0 where
+-- What a debugger with this end did in a session, in order, where so many tickets were given, packets are read by this, and this was
+-- learned. Nothing is read or put behind its end, as which the first refused message counts, until the next begins; the commands that
+-- wait are those that were put and not yet replied to; what its end carries are the messages read; and what was enqueued to leave are the
+-- bytes of the messages put. Each packet that was read was not refused; by what was put and read the debugger knows which commands wait and
+-- under which tickets, which composites wait for the widths of ids, and these; and the mirror is what the messages that were heard, each
+-- once and in order, leave of the empty one.
+pub record HasRun (end : End) (tickets : ℕ) (reading : Reading) (mirror : Mirror) : Type 0 where
   pub acts : List Act
   pub in_order : InOrder Closed [] acts
   pub phase : end.phase ≡ phase_of acts
-  pub waits : is_open end ≡ true → ids_of pending ≡ outstanding acts
+  pub waits : is_open end ≡ true → ids_of reading.pending ≡ outstanding acts
   pub carries : Carries end (read acts)
   pub enqueued : end.session.enqueued ≡ stream (put acts)
+  -- how many tickets were given before the session
+  pub before : ℕ
+  pub taken : MayDoAll (nothing before) acts
+  pub given : tickets ≡ (known before acts).tickets
+  pub knows : is_open end ≡ true → reading ≡ (known before acts).reading
+  pub learned : LearnedAll empty_mirror (heard (known before acts).history) mirror
 
 abbrev pub Ran : Debugger → Type 0
-Ran d = HasRun d.end d.pending
+Ran d = HasRun d.end d.tickets (reading_of d) d.mirror
+
+-- the messages that were heard in a run, in order
+abbrev pub heard_by : {end : End} {tickets : ℕ} {reading : Reading} {mirror : Mirror} → HasRun end tickets reading mirror → List heards.Message
+heard_by run = heard (known run.before run.acts).history
 
 -- What each call leaves of a run, whatever it answers.
 pub record GoesOn : Type 0 where

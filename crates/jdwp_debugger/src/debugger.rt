@@ -9,7 +9,8 @@ ghost use Rattle.jdwp_wire.specs.Streams.{More};
 ghost use Rattle.jdwp_wire.specs.Widths.{Widths};
 ghost use Rattle.jdwp_debugger.specs.Asking.{HasAsked, IsAdmitted, IsRefusal, MayLeave, is_busy, refusal_of_ask};
 ghost use Rattle.jdwp_debugger.specs.Debuggers.{AreDistinct, AreOwn, Begins, IsSizesAlone, at_place, attached, has_tickets, is_front, lost_debugger, new_debugger, seen_unanswered, tickets_of, unanswered, with_fed, with_taken};
-ghost use Rattle.jdwp_debugger.specs.Runs.{Ran};
+ghost use Rattle.jdwp_debugger.specs.Histories.{IsMirrorOf};
+ghost use Rattle.jdwp_debugger.specs.Runs.{Ran, heard_by};
 ghost use Rattle.jdwp_mirror.specs.Faults.{PARKED_MOST};
 ghost use Rattle.jdwp_mirror.specs.Mirrors.{empty_mirror};
 
@@ -309,13 +310,15 @@ impl Debugger {
         self.pending.unanswered_at(place)
     }
 
-    /// What holds after every list of calls in a session, whatever bytes came: the whole run; that what came are bytes; that an end at
-    /// which nothing waits is not paused; that an open end that is not paused and asks for more has room for a byte; that no more
-    /// commands and composites wait than may, no two commands under one id, and without a ticket only IDSizes; that nothing waits before the
-    /// target's handshake, and IDSizes alone until the widths of ids are known, up to when nothing is learned, and from when on no
-    /// composite waits; and that the next id has four bytes. It changes nothing.
+    /// What holds after every list of calls in a session, whatever bytes came: the whole run, by which the mirror is what the packets that
+    /// were read in it say, each once and in order, with the commands that they answer, and so of each thread and of the requests; that
+    /// what came are bytes; that an end at which nothing waits is not paused; that an open end that is not paused and asks for more has
+    /// room for a byte; that no more commands and composites wait than may, no two commands under one id, and without a ticket only
+    /// IDSizes; that nothing waits before the target's handshake, and IDSizes alone until the widths of ids are known, up to when nothing
+    /// is learned, and from when on no composite waits; and that the next id has four bytes. It changes nothing.
     pub fn session(&self)
         ensures ran { Ran self.now }
+        ensures mirror { (run : Ran self.now) → IsMirrorOf (heard_by run) self.now.mirror }
         ensures pending { length self.now.pending ≤ self.now.end.limits.pending }
         ensures limits { AreLimits self.now.end.limits.packet self.now.end.limits.live
             self.now.end.limits.requests self.now.end.limits.pending }

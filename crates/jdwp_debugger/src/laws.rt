@@ -24,8 +24,9 @@ ghost use Rattle.jdwp_mirror.specs.Widths.{widths_in};
 use jdwp_layout::reads_what_is_encoded;
 
 /// Whatever bytes come, the packets that were read or that wait are the first whole ones of the bytes fed, none is read behind the first
-/// fault, and what was taken and what waits to leave are the bytes of the messages put, or where the connection was lost a beginning of
-/// them: this holds before the first session, and each call keeps it. It does nothing.
+/// fault, what was taken and what waits to leave are the bytes of the messages put, or where the connection was lost a beginning of them,
+/// and the mirror is what the packets that were read in the session say, each once and in order: this holds before the first session, and
+/// each call keeps it. It does nothing.
 pub fn goes_on_at_each_call()
     ensures { GoesOn }
 {}

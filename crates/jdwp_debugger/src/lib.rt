@@ -18,7 +18,7 @@ pub use asking::Refused;
 pub use debugger::Debugger;
 pub use faults::DebuggerFault;
 pub use heads::Head;
-pub use jdwp_mirror::{Carried, Command, KeptRequest, Known, KnownThreads, Mirror};
+pub use jdwp_mirror::{Carried, Command, KeptRequest, KeptRequests, Known, KnownThreads, Mirror};
 pub use laws::{
     goes_on_at_each_call, puts_id_sizes, reads_id_sizes_at_any_widths, reads_what_was_answered,
     reads_what_was_asked, reads_what_was_reported, reads_widths, refuses_what_is_refused,

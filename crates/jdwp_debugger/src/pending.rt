@@ -3,9 +3,11 @@ ghost use Rattle.std.specs.Prelude.{◌≡◌, ◌<◌, ◌≤◌, ◌^◌, ◌+
 ghost use Rattle.jdwp_debugger.specs.Asking.{IsNextFree, is_outstanding};
 ghost use Rattle.jdwp_debugger.specs.Debuggers.{at_place, has_tickets, seen_unanswered, unanswered};
 ghost use Rattle.jdwp_debugger.specs.News.{place_of};
-ghost use Rattle.jdwp_debugger.specs.PendingKept.{asked_of};
+ghost use Rattle.jdwp_debugger.specs.PendingKept.{asked_of, bare};
+ghost use Rattle.indexmap.specs.IndexMap.{set_value_at};
 
 use indexmap::IndexMap;
+use jdwp_layout::numbers::{ID_SIZES, VIRTUAL_MACHINE};
 use jdwp_mirror::Command;
 use jdwp_wire::NoMemory;
 use std::alloc::Global;
@@ -26,28 +28,42 @@ pub(crate) struct Asked {
 /// So many settled commands stay in front, where others wait.
 const MOST_SETTLED: usize = 256;
 
-/// The commands that wait for replies, in the order asked, and by the ids of their packets. One that is settled while it is the oldest stays
-/// in front until none waits, or until 256 are settled and as many as wait, and then they go together: to settle the oldest takes no walk
-/// over the others.
+/// The commands that wait for replies, in the order asked, and by the ids of their packets. One that is settled while it is the oldest leaves
+/// its place in front, without its ticket and what it carried, until none waits, or until 256 are settled and as many as wait, and then
+/// the places go together: to settle the oldest takes no walk over the others.
 #[derive(Drop)]
 pub(crate) struct Pending {
-    /// Those that were settled as the oldest, and behind them those that wait.
+    alloc: Global,
+    /// The places of those that were settled as the oldest, and behind them those that wait.
     commands: IndexMap<u32, Asked>,
     /// How many of them are settled.
     settled: usize,
 }
 
 impl Model for Pending {
-    ghost use Rattle.std.specs.Prelude.{◌≤◌, List, length};
+    ghost use Rattle.std.specs.Prelude.{List};
     ghost use Rattle.jdwp_debugger.specs.Debuggers as debuggers;
 
     ghost Value = { List debuggers.Asked };
 
-    ghost use Rattle.jdwp_debugger.specs.PendingKept.{waiting_in};
+    ghost use Rattle.jdwp_debugger.specs.PendingKept.{KeepsNoSettled, waiting_in};
 
     ghost view = { λ p. waiting_in p.settled p.commands.entries };
 
-    ghost invariant = { λ p. p.settled ≤ length p.commands.entries };
+    ghost invariant = { λ p. KeepsNoSettled p.settled p.commands.entries };
+}
+
+/// The command at this place is settled: its ticket and what it carried go, and IDSizes, which carries nothing, stands there.
+fn settle(commands: &mut IndexMap<u32, Asked>, place: usize, alloc: Global)
+    requires { place < length commands.old.entries }
+    ensures { commands.new.entries ≡ set_value_at commands.old.entries place bare }
+{
+    if let Some(asked) = commands.get_index_mut(place) {
+        *asked = Asked {
+            ticket: None,
+            command: Command::new(VIRTUAL_MACHINE, ID_SIZES, Vec::new(alloc)),
+        };
+    }
 }
 
 /// The settled ones, which stand in front, are taken out.
@@ -66,6 +82,7 @@ impl Pending {
         ensures { result ≡ [] }
     {
         Pending {
+            alloc,
             commands: IndexMap::new(alloc),
             settled: 0,
         }
@@ -149,6 +166,7 @@ impl Pending {
         ensures { self.new ≡ remove self.old 0 }
     {
         let kept = self.commands.len();
+        settle(&mut self.commands, self.settled, self.alloc);
         self.settled += 1;
         if self.settled == kept {
             self.commands.clear();

@@ -7,7 +7,7 @@ ghost use Rattle.jdwp_wire.specs.Streams.{Handshake, Packet, Whole};
 ghost use Rattle.jdwp_end.specs.Ends.{HasPacketWith, front_of};
 ghost use Rattle.jdwp_debugger.specs.declared.faults.DebuggerFault.TheVariants as code;
 ghost use Rattle.jdwp_debugger.specs.DebuggerTurns as turns;
-ghost use Rattle.jdwp_debugger.specs.DebuggerTurns.{AreFew, Enters, EntersAt, FailsOnly, FailsTo, HandlesAt, IsSaid, LearnedAll, MayTakeMemory, TurnsAt, closed_debugger, closed_where, command_at, measured_where, news_meaning, none_known, refused, reports, read_meaning, with_sizes};
+ghost use Rattle.jdwp_debugger.specs.DebuggerTurns.{AreFew, Enters, EntersAt, FailsOnly, FailsTo, HandlesAt, IsSaid, LearnedAll, MayTakeMemory, TellsSizes, TurnsAt, closed_debugger, closed_where, command_at, measured_where, news_meaning, none_known, refused, reports, read_meaning, with_sizes};
 ghost use Rattle.jdwp_mirror.specs.Faults.{has_bad_event};
 ghost use Rattle.jdwp_mirror.specs.FaultParts.{is_dispose_kind};
 ghost use Rattle.jdwp_mirror.specs.KnownThreads.{count_in};
@@ -246,8 +246,7 @@ impl Debugger {
         sizes: IdSizes,
         closes: bool,
     )
-        requires said { (answer : Answer) × (composites : List CompositeMeaning)
-            × IsSaid self.old header used (news.Measures place answer sizes composites) }
+        requires told { TellsSizes self.old header used place sizes mirror }
         requires bytes { IsBytes self.old.end.incoming }
         ensures { (content : List ℕ) → front_of self.old.end ≡ Whole (Packet header content) used
             → self.new ≡ measured_where closes sizes (with_sizes (Packet header content) used header

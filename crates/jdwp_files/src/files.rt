@@ -1,5 +1,5 @@
 //! The commands on their files.
-ghost use Rattle.std.specs.Prelude.{◌≡◌, List, map, Ok, IfOk, IfErr, OnErr, MatchResult};
+ghost use Rattle.std.specs.Prelude.{◌≡◌, List, map, Err, Ok, IfOk, IfErr, OnErr, MatchResult, true};
 ghost use Rattle.std.specs.Io.KnownBytes.{Keeps};
 ghost use Rattle.std.specs.Str.{IsUtf8};
 ghost use Rattle.std.specs.Str.Lines.{lines};
@@ -12,6 +12,9 @@ ghost use Rattle.jdwp_plan.specs.declared.plan_line.PlanLine.{PlanLine};
 ghost use Rattle.jdwp_plan.specs.PlanLines.{said_by};
 ghost use Rattle.jdwp_plan.specs.Plans.{SaysForAttach};
 ghost use Rattle.jdwp_program.specs.Attaching.{AttachesNew, begun};
+ghost use Rattle.jdwp_program.specs.declared.fault.Fault.TheVariants as fault;
+ghost use Rattle.jdwp_program.specs.declared.fault.FileCause.TheVariants as cause;
+ghost use Rattle.jdwp_program.specs.Files.{begins_as_recording};
 ghost use Rattle.jdwp_program.specs.Outputs.{LeavesCaptureTold};
 ghost use Rattle.jdwp_files.specs.Refusals.{IsFileNotText, RefusesAttachPlan, RefusesScript};
 
@@ -19,7 +22,7 @@ use jdwp_attach::Attached;
 use jdwp_pipe::{Ended, Pipe, Streams};
 use jdwp_program::{
     Attach, Fault, FileCause, Outcome, ServeScript, SessionFiles, Side, Told, Watched, attach_plan,
-    check_capture, show_capture, text_of,
+    check_capture, is_recording, show_capture, text_of,
 };
 use jdwp_serve::serve_script;
 use std::alloc::Global;
@@ -35,7 +38,7 @@ type FileStreams<F> = Streams<Watched<F>, Watched<BufWriter<F>>>;
 /// Shows the capture of a file.
 ///
 /// # Errors
-/// `File` where it can't be read or is not UTF-8; `Output` where the output can't be written; `NoMemory`.
+/// `File` where it can't be read, is a recording of the network or is not UTF-8; `Output` where the output can't be written; `NoMemory`.
 pub fn show_file<'a, R: Files + AllocGlobal, O: Write>(
     rt: &R,
     file: &'a str,
@@ -54,9 +57,11 @@ fn show_bytes<'a, O: Write>(
     bytes: &[u8],
     out: &mut O,
 ) -> Result<Told, Fault<'a>>
-    ensures { LeavesCaptureTold result (O.contents out.old) (O.contents out.new) }
+    ensures leaves { LeavesCaptureTold result (O.contents out.old) (O.contents out.new) }
+    ensures recording { begins_as_recording bytes.now ≡ true
+        → result ≡ Err (fault.File file.entry cause.Recording) }
 {
-    let capture = text(file, bytes)?;
+    let capture = capture(file, bytes)?;
     Ok(show_capture(alloc, capture, out)?)
 }
 
@@ -82,9 +87,11 @@ fn check_bytes<'a, O: Write>(
     bytes: &[u8],
     out: &mut O,
 ) -> Result<Told, Fault<'a>>
-    ensures { LeavesCaptureTold result (O.contents out.old) (O.contents out.new) }
+    ensures leaves { LeavesCaptureTold result (O.contents out.old) (O.contents out.new) }
+    ensures recording { begins_as_recording bytes.now ≡ true
+        → result ≡ Err (fault.File file.entry cause.Recording) }
 {
-    let capture = text(file, bytes)?;
+    let capture = capture(file, bytes)?;
     Ok(check_capture(alloc, capture, out)?)
 }
 
@@ -253,6 +260,18 @@ fn writer<'a, R: Files + AllocGlobal>(
         Ok(writer) => Ok(writer),
         Err(_) => Err(Fault::NoMemory),
     }
+}
+
+/// The bytes of the file of a capture as text.
+fn capture<'a, 'b>(file: &'a str, bytes: &'b [u8]) -> Result<&'b str, Fault<'a>>
+    ensures recording { begins_as_recording bytes.now ≡ true
+        → result ≡ Err (fault.File file.entry cause.Recording) }
+    ensures text { IfOk result (λ text. text.now ≡ bytes.now) }
+{
+    if is_recording(bytes) {
+        return Err(Fault::File(file, FileCause::Recording));
+    }
+    text(file, bytes)
 }
 
 /// The bytes of a file as text.

@@ -8,28 +8,29 @@ use crate::memory::keep_freed_memory;
 use crate::sessions::{attach_port, pair_files, serve_port};
 use jdwp_program::{
     Attach, Fault, Outcome, Pair, Peer, ServeScript, Words, report_fault, report_outcome,
+    tell_version,
 };
 use std::convert::AsStr;
 use std::io::Write;
 use std::net::Net;
-use std::rt::Files;
+use std::rt::{Clock, Files};
 
 /// Runs the words, the first of which is the program's name, and answers the exit status.
 ///
-/// 0: done, by Dispose, the machine's death or a plan that is finished, or a capture without a fault. 1: words that are refused or ask for
+/// 0: done, by Dispose, the machine's death or a plan that is finished, a capture without a fault, or the version. 1: words that are refused or ask for
 /// help, a file that can't be opened or made or is not UTF-8, a script, a plan, a command of it or bytes that are refused, or a capture with
 /// a fault. 2: a file ended before its session did, or it or the output can't be read or written. 3: no memory. 4: all rounds or turns were
-/// used. Each of 1 to 4 is told on `err` behind `jdwp: `, but for the fault of a capture, which `out` tells, and where who reads `out` went
+/// used, or nothing more can happen. Each of 1 to 4 is told on `err` behind `jdwp: `, but for the fault of a capture, which `out` tells, and where who reads `out` went
 /// away.
 pub fn run<R, S, O, E>(rt: &R, words: &[S], out: &mut O, err: &mut E) -> u8
 where
-    R: Files + AllocGlobal + Net,
+    R: Files + Clock + AllocGlobal + Net,
     S: AsStr,
     O: Write,
     E: Write,
     ensures bound { result ≤ 4 }
     // Unless the command runs a plan, on `out` is nothing, or what is told of a capture: all of it, the status saying whether it has a
-    // fault, or a beginning.
+    // fault, or a beginning; or the program's version, or a beginning of it.
     ensures leaves { runs_plan S.text words.now ≡ false
         → Leaves result (O.contents out.old) (O.contents out.new) }
 {
@@ -46,7 +47,7 @@ fn execute<'a, R, S, O, E>(
     err: &mut E,
 ) -> Result<Outcome<'a>, Fault<'a>>
 where
-    R: Files + AllocGlobal + Net,
+    R: Files + Clock + AllocGlobal + Net,
     S: AsStr,
     O: Write,
     E: Write,
@@ -59,11 +60,12 @@ where
         Words::Pair(words) => pair(rt, &words, out),
         Words::Show(file) => Ok(Outcome::Capture(show_file(rt, file, out)?)),
         Words::Check(file) => Ok(Outcome::Capture(check_file(rt, file, out)?)),
+        Words::Version => Ok(Outcome::Version(tell_version(out)?)),
     }
 }
 
 /// Serves the session of a file, or those of a port.
-fn serve<'a, R: Files + AllocGlobal + Net, E: Write>(
+fn serve<'a, R: Files + Clock + AllocGlobal + Net, E: Write>(
     rt: &R,
     words: &ServeScript<'a>,
     err: &mut E,
@@ -76,7 +78,7 @@ fn serve<'a, R: Files + AllocGlobal + Net, E: Write>(
 }
 
 /// Runs a plan as the debugger of the session of a file, or at a port.
-fn attach<'a, R: Files + AllocGlobal + Net, O: Write>(
+fn attach<'a, R: Files + Clock + AllocGlobal + Net, O: Write>(
     rt: &R,
     words: &Attach<'a>,
     out: &mut O,
@@ -89,7 +91,7 @@ fn attach<'a, R: Files + AllocGlobal + Net, O: Write>(
 }
 
 /// Runs a plan with both ends in this process.
-fn pair<'a, R: Files + AllocGlobal + Net, O: Write>(
+fn pair<'a, R: Files + Clock + AllocGlobal + Net, O: Write>(
     rt: &R,
     words: &Pair<'a>,
     out: &mut O,

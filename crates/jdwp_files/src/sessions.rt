@@ -1,5 +1,5 @@
 //! Sessions without files: at a port, and with both ends in this process.
-ghost use Rattle.std.specs.Prelude.{◌≡◌, List, map, Ok, IfErr, IfOk, OnErr, false, is_some};
+ghost use Rattle.std.specs.Prelude.{◌≡◌, map, Ok, IfErr, IfOk, OnErr, false, is_some};
 ghost use Rattle.std.specs.Io.KnownBytes.{Keeps};
 ghost use Rattle.std.specs.Str.{IsUtf8};
 ghost use Rattle.std.specs.Str.Lines.{lines};
@@ -8,12 +8,11 @@ ghost use Rattle.jdwp_script_machine.specs.ScriptMeaning.{script_meaning};
 ghost use Rattle.jdwp_script_machine.specs.States.{State};
 ghost use Rattle.jdwp_target.specs.Options.{LivesWithin};
 ghost use Rattle.jdwp_end.specs.Ends.{is_open};
-ghost use Rattle.jdwp_plan.specs.declared.plan_line.PlanLine as declared;
 ghost use Rattle.jdwp_plan.specs.PlanLines.{said_by};
 ghost use Rattle.jdwp_plan.specs.Plans.{Says, SaysForAttach};
 ghost use Rattle.jdwp_pair.specs.Connections.{is_disconnected};
 ghost use Rattle.jdwp_pair.specs.PlanRuns.{PairsNew};
-ghost use Rattle.jdwp_files.specs.Pairs.{how_of};
+ghost use Rattle.jdwp_files.specs.Pairs.{IsEndOfPair};
 ghost use Rattle.jdwp_files.specs.Refusals.{RefusesAttachPlan, RefusesPlan, RefusesScript};
 
 use crate::files::{read, text};
@@ -26,7 +25,7 @@ use jdwp_pair::{Connection, Loopback, PairEnded, pair_session};
 use jdwp_pipe::{Ended, Pipe, Streams};
 use jdwp_plan::{PlanLine, read_attach_plan, read_plan};
 use jdwp_port::{PortFault, PortListener, attach_stream, bind, connect, serve_sessions};
-use jdwp_program::{Attach, Between, Fault, Outcome, Pair, ServeScript, Watched, report_outcome};
+use jdwp_program::{Attach, Awaited, Between, Fault, Lines, Outcome, Pair, ServeScript, Watched};
 use jdwp_script_machine::ScriptMachine;
 use jdwp_target::Target;
 use jdwp_wire::{Limits, NoMemory};
@@ -34,15 +33,16 @@ use std::alloc::Global;
 use std::io;
 use std::io::{Read, Write};
 use std::net::{Net, OpenListener, OpenStream};
-use std::rt::Files;
+use std::rt::{Clock, Files};
 
 /// Serves sessions at a port over the machine of a script, one after the other, until the machine dies or a session uses up its rounds. The
-/// fault of a session that is refused is told on `err`, and the next debugger is awaited.
+/// fault of a session that is refused, why a connection failed, and that none could be taken is told on `err`, and the next debugger is
+/// awaited.
 ///
 /// # Errors
 /// `File` where the script's can't be read or is not UTF-8; `Script` where it is refused; `Port` where the port can't be taken or gives no
 /// connection; `NoMemory`.
-pub fn serve_port<'a, R: Files + AllocGlobal + Net, E: Write>(
+pub fn serve_port<'a, R: Files + Clock + AllocGlobal + Net, E: Write>(
     rt: &R,
     words: &ServeScript<'a>,
     port: u16,
@@ -50,7 +50,9 @@ pub fn serve_port<'a, R: Files + AllocGlobal + Net, E: Write>(
 ) -> Result<Outcome<'a>, Fault<'a>> {
     let mut target = target_of(rt, words)?;
     let listener = bind(rt, port)?;
-    let ended = serve_at(rt.alloc(), &mut target, &listener, words.turns, err)?;
+    let mut lines = Lines::new(rt.alloc(), err, port);
+    let ended = serve_at(rt, &mut target, &listener, words.turns, &mut lines)?;
+    lines.end();
     Ok(Outcome::Session(ended))
 }
 
@@ -81,25 +83,26 @@ fn target_over<M: Machine + Drop>(
     Ok(Box::new(alloc, target)?)
 }
 
-/// Serves debuggers that come to a port, one after the other. The fault of a session that is refused is told on `err`.
-fn serve_at<M, L, E>(
-    alloc: Global,
+/// Serves debuggers that come to a port, one after the other, and tells what goes wrong in these lines.
+fn serve_at<R, M, L, E>(
+    rt: &R,
     target: &mut Target<M>,
     listener: &PortListener<L>,
     rounds: u32,
-    err: &mut E,
+    lines: &mut Lines<'_, E>,
 ) -> Result<Ended, PortFault>
 where
+    R: Clock + AllocGlobal,
     M: Machine + Drop,
     L: OpenListener,
     L::Stream: Read + Write + OpenStream,
     E: Write,
     requires { is_open target.old.end ≡ false }
 {
-    let tell = |number| {
-        let _ = report_outcome(Outcome::Session(Ended::Refused(number)), err);
-    };
-    serve_sessions(alloc, target, listener, u64::from(rounds), tell)
+    let rounds = u64::from(rounds);
+    serve_sessions(rt.alloc(), rt, target, listener, rounds, |notice| {
+        lines.tell(notice);
+    })
 }
 
 /// Runs a plan as the debugger of the target that listens at a port, and prints what it reads.
@@ -107,7 +110,7 @@ where
 /// # Errors
 /// `File` where the plan's can't be read or is not UTF-8; `Plan` where it is refused; `Port` where the port can't be reached; `NoMemory`.
 /// Then nothing was printed.
-pub fn attach_port<'a, R: Files + AllocGlobal + Net, O: Write>(
+pub fn attach_port<'a, R: Files + Clock + AllocGlobal + Net, O: Write>(
     rt: &R,
     words: &Attach<'a>,
     port: u16,
@@ -121,7 +124,7 @@ pub fn attach_port<'a, R: Files + AllocGlobal + Net, O: Write>(
 }
 
 /// Runs this plan, and prints what is read.
-fn attach_by<'a, R: AllocGlobal + Net, O: Write>(
+fn attach_by<'a, R: Clock + AllocGlobal + Net, O: Write>(
     rt: &R,
     words: &Attach<'a>,
     port: u16,
@@ -134,8 +137,9 @@ fn attach_by<'a, R: AllocGlobal + Net, O: Write>(
     let stream = connect(rt, port)?;
     let mut printed = Streams::new(io::empty(), Watched::new(out));
     let turns = u64::from(words.turns);
-    let how = attach_stream(
+    let session = attach_stream(
         rt.alloc(),
+        rt,
         &mut debugger,
         port,
         stream,
@@ -144,7 +148,7 @@ fn attach_by<'a, R: AllocGlobal + Net, O: Write>(
         turns,
     )?;
     let (_, output) = printed.into_parts();
-    Ok(Outcome::without_files(how, words.limits, output.failure()))
+    Ok(Outcome::at_port(session, port, words.limits, output.failure()))
 }
 
 /// A closed debugger within these limits, on the heap.
@@ -188,15 +192,22 @@ fn pair_over<'a, C: Connection, O: Write>(
     ensures unprinted { OnErr result (Keeps (O.contents out.old) (O.contents out.new)) }
 {
     let mut printed = Streams::new(io::empty(), Watched::new(out));
-    let ended = pair_bytes(alloc, words, connection, script, plan, &mut printed)?;
+    let paired = pair_bytes(alloc, words, connection, script, plan, &mut printed)?;
     let (_, output) = printed.into_parts();
     match connection.failure() {
         Some(fault) => Ok(Outcome::lost_port(fault)),
         None => {
             let limits = words.settings.limits();
-            Ok(Outcome::without_files(how_of(ended), limits, output.failure()))
+            Ok(outcome_of(paired.ended, &paired.plan, limits, output.failure()))
         }
     }
+}
+
+/// A run of both ends by a plan, and how it ended.
+#[derive(Drop)]
+struct Paired {
+    plan: Vec<PlanLine>,
+    ended: PairEnded,
 }
 
 /// Runs the plan of these bytes with the machine of the script of those.
@@ -207,22 +218,23 @@ fn pair_bytes<'a, C: Connection, O: Pipe>(
     script: &[u8],
     plan: &[u8],
     out: &mut O,
-) -> Result<PairEnded, Fault<'a>>
-    ensures paired { IfOk result (λ ended. (machine : State) × (said : List declared.PlanLine)
+) -> Result<Paired, Fault<'a>>
+    ensures paired { IfOk result (λ run. (machine : State)
         × (read_machine words.now.settings.limits.live script.now ≡ Ok machine)
-        × Says (lines plan.now) (map said_by said)
-        × PairsNew script_meaning words.now.settings words.now.defer machine said ended) }
-    ensures failed { IfOk result (λ ended. is_some (C.failed_by connection.new)
-        ≡ is_disconnected ended) }
+        × Says (lines plan.now) (map said_by run.plan.items)
+        × PairsNew script_meaning words.now.settings words.now.defer machine run.plan.items
+        run.ended) }
+    ensures failed { IfOk result (λ run. is_some (C.failed_by connection.new)
+        ≡ is_disconnected run.ended) }
     ensures unprinted { OnErr result (out.new ≡ out.old) }
 {
     let machine = machine_of(alloc, words.machine, script, &words.settings.limits())?;
-    let lines = plan_of(alloc, words.plan, plan)?;
+    let plan = plan_of(alloc, words.plan, plan)?;
     let (settings, defer, turns) = (words.settings, words.defer, words.turns);
     let ended = pair_session(
-        alloc, machine, settings, defer, connection, &lines, out, turns,
+        alloc, machine, settings, defer, connection, &plan, out, turns,
     )?;
-    Ok(ended)
+    Ok(Paired { plan, ended })
 }
 
 /// The machine of the script of these bytes of a file.
@@ -277,17 +289,27 @@ fn attach_plan_of<'a>(
     }
 }
 
-/// How a run of both ends ended whose connection did not fail, as that of a plan.
-fn how_of(ended: PairEnded) -> Attached
+/// What is told of a run of both ends by this plan within these limits, whose connection did not fail, and which printed on an output that
+/// failed with `output`, if it did.
+fn outcome_of<'a>(
+    ended: PairEnded,
+    plan: &[PlanLine],
+    limits: Limits,
+    output: Option<io::Error>,
+) -> Outcome<'a>
     requires { is_disconnected ended ≡ false }
-    ensures { result ≡ how_of ended }
+    ensures { IsEndOfPair ended plan.now limits output result }
 {
-    match ended {
+    let how = match ended {
         PairEnded::Done => Attached::Ended(Ended::Done),
         PairEnded::RefusedLine { line, number } => Attached::RefusedLine { line, number },
         PairEnded::LostByWrite => Attached::Ended(Ended::LostByWrite),
         PairEnded::LostConnection => unreachable!(),
         PairEnded::NoMemory => Attached::Ended(Ended::NoMemory),
-        PairEnded::TurnLimit | PairEnded::Standstill { .. } => Attached::Ended(Ended::TurnLimit),
-    }
+        PairEnded::TurnLimit => Attached::Ended(Ended::TurnLimit),
+        PairEnded::Standstill { line } => {
+            return Outcome::Standstill(line, Awaited::at(plan, line));
+        }
+    };
+    Outcome::without_files(how, limits, output)
 }

@@ -5,5 +5,7 @@ pub mod Drifting
 pub mod SeenLemmas
 pub mod AlikeLemmas
 pub mod KeepingLemmas
+pub mod RowLemmas
+pub mod NamedLemmas
 pub mod Learning
 pub mod JudgingLemmas

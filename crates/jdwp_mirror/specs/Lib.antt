@@ -5,6 +5,7 @@ pub mod Laws
 pub mod KnownThreads
 pub mod Drifts
 pub mod Numbering
+pub mod Rows
 pub mod CommandKinds
 pub mod Commands
 pub mod Mirrors

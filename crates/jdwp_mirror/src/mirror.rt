@@ -1,20 +1,22 @@
 //! What a debugger knows of a target by what it read.
 ghost use Rattle.std.specs.Prelude.{◌≡◌, OnErr, OnOk};
-ghost use Rattle.std.specs.Map.Iter.{GivesInOrder};
+ghost use Rattle.std.specs.Map.Iter.{GivesInOrder, ShowsInOrder, deref};
 ghost use Rattle.jdwp_action.specs.Actions.{action_of, thread_of};
 ghost use Rattle.jdwp_event.specs.Told.{composite_thread};
 ghost use Rattle.jdwp_mirror.specs.CommandKinds.{kind_of, id_found, requests_after_kind, requests_after_others, threads_after_data, threads_after_error, threads_after_event, threads_after_others};
 ghost use Rattle.jdwp_mirror.specs.FaultParts.{IsData};
 ghost use Rattle.jdwp_mirror.specs.declared.threads.Known.{Known};
 ghost use Rattle.jdwp_mirror.specs.KnownThreads.{AreDistinct, IsOfUnknown, count_in, is_held_in};
+ghost use Rattle.jdwp_mirror.specs.Mirror.{Kept};
 ghost use Rattle.jdwp_mirror.specs.Messages.{Reply, Report, Ticket};
 ghost use Rattle.jdwp_mirror.specs.Mirrors as mirrors;
 ghost use Rattle.jdwp_mirror.specs.Mirrors.{Learned, empty_mirror};
 
 use crate::command::{Command, CommandKind};
 use crate::composite::{has_event_of, thread_in};
+use crate::kept::KeptRequests;
 use crate::known::KnownThreads;
-use crate::requests::{KeptRequest, KeptRequests};
+use crate::requests::Requests;
 use crate::threads::{Lesson, Threads};
 use jdwp_event::{Composite, EventKind, Policy};
 use jdwp_layout::{Answer, Data};
@@ -28,7 +30,7 @@ use std::marker::Model;
 #[derive(Drop)]
 pub struct Mirror {
     threads: Threads,
-    requests: KeptRequests,
+    requests: Requests,
 }
 
 impl Model for Mirror {
@@ -46,7 +48,7 @@ impl Mirror {
     {
         Mirror {
             threads: Threads::new(alloc),
-            requests: KeptRequests::new(alloc),
+            requests: Requests::new(alloc),
         }
     }
 
@@ -74,10 +76,11 @@ impl Mirror {
     }
 
     /// The event requests, the last one asked last.
-    pub fn requests(&self) -> &[KeptRequest]
-        ensures { result.now ≡ self.now.requests }
+    pub fn requests(&self) -> KeptRequests<'_>
+        ensures all { result ≡ self.now.requests }
+        ensures runs { ShowsInOrder (deref {X = Kept}) }
     {
-        self.requests.as_slice()
+        self.requests.iter()
     }
 
     /// Forgets everything.

@@ -1,6 +1,7 @@
 //! The event requests that a debugger knows.
 ghost use Rattle.std.specs.Prelude.{◌≡◌, ◌++◌, ◌∷◌, [], IfOk, List, OnErr, OnOk, map};
 ghost use Rattle.std.specs.List.{filter};
+ghost use Rattle.std.specs.Map.Iter.{ShowsInOrder, deref};
 ghost use Rattle.jdwp_event.specs.ModifierMeanings.{modifier_meaning};
 ghost use Rattle.jdwp_event.specs.Modifiers.{modifiers_of};
 ghost use Rattle.jdwp_event.specs.RequestParts.{modifiers_meaning};
@@ -9,14 +10,18 @@ ghost use Rattle.jdwp_action.specs.Actions as actions;
 ghost use Rattle.jdwp_action.specs.Actions.{clear_action, set_action};
 ghost use Rattle.jdwp_mirror.specs.CommandKinds.{requests_after_others};
 ghost use Rattle.jdwp_mirror.specs.Commands.{carried_meaning};
-ghost use Rattle.jdwp_mirror.specs.Mirror.{given_id, has_other_id, is_no_kept_breakpoint, is_not_kept, requests_after_data};
+ghost use Rattle.jdwp_mirror.specs.Mirror.{Kept, given_id, has_other_id, is_no_kept_breakpoint, is_not_kept, requests_after_data};
+ghost use Rattle.jdwp_mirror.specs.Rows.{number_in, without_first};
 
 use crate::command::{Carried, CommandKind};
+use crate::kept::KeptRequests;
 use crate::reply::id_in_reply;
-use jdwp_event::{EventKind, Modifier};
+use crate::row::Row;
+use jdwp_event::Modifier;
 use jdwp_layout::{Data, Datum, Scalar, copy_entry};
 use jdwp_wire::NoMemory;
 use std::alloc::Global;
+use std::collections::BTreeMap;
 use std::marker::Model;
 
 /// An event request that a target accepted: as asked, under the id in the reply.
@@ -86,36 +91,44 @@ impl KeptRequest {
     }
 }
 
-/// Event requests, the last one asked last, each id once.
+/// Event requests, the last one asked last, each id once, and found by their ids. None of the calls takes a walk over those that it leaves.
 #[derive(Drop)]
-pub(crate) struct KeptRequests {
-    entries: Vec<KeptRequest>,
+pub(crate) struct Requests {
+    row: Row,
+    /// The number of each in the row, by its id.
+    numbers: BTreeMap<i32, u64>,
 }
 
-impl Model for KeptRequests {
+impl Model for Requests {
     ghost use Rattle.std.specs.Prelude.{List};
+    ghost use Rattle.std.specs.Map.{values_of};
     ghost use Rattle.jdwp_mirror.specs.Mirror.{Kept};
+    ghost use Rattle.jdwp_mirror.specs.Rows.{AreNamed, number_in};
 
     ghost Value = { List Kept };
 
-    ghost view = { λ r. r.entries.items };
+    ghost view = { λ r. values_of r.row };
+
+    ghost invariant = { λ r. AreNamed r.row (number_in r.numbers) };
 }
 
-impl KeptRequests {
+impl Requests {
     /// No requests.
-    pub fn new(alloc: Global) -> KeptRequests
+    pub fn new(alloc: Global) -> Requests
         ensures { result ≡ [] }
     {
-        KeptRequests {
-            entries: Vec::new(alloc),
+        Requests {
+            row: Row::new(alloc),
+            numbers: BTreeMap::new(alloc),
         }
     }
 
     /// All of them, the last one asked last.
-    pub fn as_slice(&self) -> &[KeptRequest]
-        ensures { result.now ≡ self.now }
+    pub fn iter(&self) -> KeptRequests<'_>
+        ensures all { result ≡ self.now }
+        ensures runs { ShowsInOrder (deref {X = Kept}) }
     {
-        self.entries.as_slice()
+        self.row.iter()
     }
 
     /// Adds what a Set asked, under the id in its reply.
@@ -201,35 +214,67 @@ impl KeptRequests {
             ≡ filter (has_other_id request.id) self.old ++ request ∷ []) }
         ensures err { OnErr result (self.new ≡ self.old) }
     {
-        self.entries.reserve(1)?;
         let id = request.id();
-        self.entries.retain(|kept| kept.id() != id);
-        self.entries.push_reserved(request);
-        Ok(())
+        let number = self.row.push(request)?;
+        match self.numbers.insert(id, number) {
+            Ok(Some(older)) => {
+                self.row.remove(older);
+                Ok(())
+            }
+            Ok(None) => Ok(()),
+            Err(_) => {
+                // It is taken back, so that nothing has changed.
+                self.row.remove(number);
+                Err(NoMemory)
+            }
+        }
     }
 
     /// Removes the request of this kind and id, if there is one.
     pub fn remove(&mut self, kind: u8, id: i32)
         ensures { self.new ≡ filter (is_not_kept kind id) self.old }
     {
-        self.entries
-            .retain(|kept| !(kept.kind() == kind && kept.id() == id));
+        let Some(number) = number_of(&self.numbers, id) else {
+            return;
+        };
+        if self.row.has_kind(number, kind) {
+            self.row.remove(number);
+            let _ = self.numbers.remove(&id);
+        }
     }
 
     /// Removes all requests of the kind BREAKPOINT.
     pub fn remove_breakpoints(&mut self)
         ensures { self.new ≡ filter is_no_kept_breakpoint self.old }
     {
-        self.entries
-            .retain(|kept| kept.kind() != EventKind::Breakpoint.byte());
+        for _ in 0..self.row.breakpoints() {
+            self.remove_breakpoint();
+        }
+    }
+
+    /// Removes the first request of the kind BREAKPOINT, if there is one.
+    fn remove_breakpoint(&mut self)
+        ensures { self.new ≡ without_first is_no_kept_breakpoint self.old }
+    {
+        if let Some(request) = self.row.take_breakpoint() {
+            let _ = self.numbers.remove(&request.id());
+        }
     }
 
     /// Removes all of them.
     pub fn clear(&mut self)
         ensures { self.new ≡ [] }
     {
-        self.entries.clear();
+        self.row.clear();
+        self.numbers.clear();
     }
+}
+
+/// The number of the request of this id, or None where there is none.
+fn number_of(numbers: &BTreeMap<i32, u64>, id: i32) -> Option<u64>
+    ensures { result ≡ number_in numbers.now id }
+{
+    numbers.get(&id).copied()
 }
 
 /// The modifiers of the entries of a Set's list, in the order sent. An entry that is none is left out.

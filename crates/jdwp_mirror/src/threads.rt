@@ -19,6 +19,7 @@ use crate::drift::COUNT_MOST;
 use crate::known::KnownThreads;
 use crate::met::Met;
 use crate::moves::Moves;
+use crate::numbers::next_number;
 use crate::reply::{count_in_reply, listed_in};
 use jdwp_event::Policy;
 use jdwp_layout::Data;
@@ -392,23 +393,6 @@ impl Threads {
         self.entries.clear();
         self.numbers.clear();
         self.moves.clear();
-    }
-}
-
-/// A number above these.
-///
-/// # Errors
-/// `NoMemory` where one of them is the greatest that there is, and only there.
-fn next_number(entries: &BTreeMap<u64, Met>) -> Result<u64, NoMemory>
-    ensures above { IfOk result (λ number. All (λ n. n < number) (keys entries.now)) }
-    ensures last { OnErr result (IsSome (get nat_cmp entries.now u64.MAX)) }
-{
-    let Some((last, _)) = entries.last_key_value() else {
-        return Ok(0);
-    };
-    match last.checked_add(1) {
-        Some(number) => Ok(number),
-        None => Err(NoMemory),
     }
 }
 

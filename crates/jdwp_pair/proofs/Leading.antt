@@ -1,8 +1,9 @@
 -- events one after the other, and what they lead to together
-use Rattle.std.proofs.Common.{◌≡◌, ◌≤◌, ℕ, ◌+◌, Bool, cond, List, [], ◌∷◌, ◌++◌, refl, sym, ◌∙◌, ap, subst, arith}
+use Rattle.std.proofs.Common.{◌≡◌, ◌≤◌, inl, inr, ℕ, ◌+◌, ◌-◌, nat_lt, Bool, true, false, ◌||◌, List, [], ◌∷◌, ◌++◌, length, Option, Some, None, Result, Ok, Err, IfOk, IfErr, OnOk, refl, sym, ◌∙◌, ap, subst, arith}
+use Rattle.std.proofs.lemmas.Grind.{common_steps}
 use Rattle.std.proofs.lemmas.List.{append_assoc}
-use Rattle.std.proofs.lemmas.List.Sums.{sum_by-append}
 use Rattle.std.specs.List.{AllByRecursion}
+use Rattle.jdwp_wire.specs.Streams as streams
 use Rattle.jdwp_machine.specs.Meanings.{Meaning}
 use Rattle.jdwp_debuggee.specs.Settings.{Settings}
 use Rattle.jdwp_model.specs.Events as events
@@ -13,9 +14,15 @@ use Rattle.jdwp_model.specs.Measures.{measured}
 use Rattle.jdwp_link.specs.declared.events.Outcome.{Outcome}
 use Rattle.jdwp_link.specs.Clauses.{Ran, measure_of}
 use Rattle.jdwp_link.specs.Links.{Link}
-use Rattle.jdwp_link.specs.Stands.{StandsFor}
+use Rattle.jdwp_link.specs.Stands.{IsLink, StandsFor}
 use Rattle.jdwp_link.specs.Told.{told_outcomes}
-use Rattle.jdwp_pair.specs.Events.{IsOfRound, Leads, Moves, Stays, is_seen, seen_in}
+use Rattle.jdwp_engine.specs.Rounds.{IsNext}
+use Rattle.jdwp_pipe.specs.Story.{Story, with_written}
+use Rattle.jdwp_pair.specs.declared.ended.PairEnded.{PairEnded}
+use Rattle.jdwp_pair.specs.declared.ended.PairEnded.TheVariants as ended
+use Rattle.jdwp_pair.specs.Events.{Happens, IsQuiet, Leads, Rests, Moved, Turned, Moves, Quietly, Standing, Stays, counted, piece, read_by, seen_in}
+use Rattle.jdwp_pair.specs.Rounds.{ComesToDebugger, ComesToTarget, EndsAt, EndsMoving, EndsQuietly, MovesOn, PieceToDebugger, PieceToTarget, ReleasesOrSteps, Repeats, NotYet, OneMore, RunsMachine, StepsEach, Over, Steps, StepsUntil, TurnsDebugger, TurnsTarget, Until, most_times}
+use Rattle.jdwp_pair.specs.Telling.{FailsToTell, turn_text}
 
 run-append : {S : Type 0} (m : Meaning S) (settings : Settings) (measure : Measure) (x : World S) (es fs : List LinkEvent) → run m settings measure x (es ++ fs) ≡ run m settings measure (run m settings measure x es) fs
 run-append m settings measure x [] fs = refl
@@ -64,57 +71,236 @@ ran-both {S} m es fs old mid new os more r g =
       sizes = λ x s. g.sizes (at x) (r.stands x s) ∙ r.sizes x s;
     }
 
--- ---- events of rounds
+-- ---- events of which nothing is told
 
 pub all-append : (P : LinkEvent → Type 0) (es fs : List LinkEvent) → AllByRecursion P es → AllByRecursion P fs → AllByRecursion P (es ++ fs)
 all-append P [] fs a b = b
 all-append P (e ∷ es) fs a b = (a.0, all-append P es fs a.1 b)
 
-seen-append : (xs ys : List Outcome) → seen_in (xs ++ ys) ≡ seen_in xs + seen_in ys
-seen-append xs ys = sum_by-append (λ x. cond (is_seen x) 1 0) xs ys
+-- of no event nothing is told
+stays-told : {S : Type 0} (m : Meaning S) (old new : Link S) (os : List Outcome) → IsLink m old → Ran m [] old new os → os ≡ []
+stays-told m old new os l r = r.tells l.world l.stands
 
--- none
-pub leads-none : {S : Type 0} (m : Meaning S) (l : Link S) (n : ℕ) → Leads m l l n n
-leads-none m l n = record { events = []; outcomes = []; of_round = tt; ran = ran-none m l; counted = omega arith }
+-- nor is of these
+quiet-told : {S : Type 0} (m : Meaning S) (e : LinkEvent) (old new : Link S) (os : List Outcome) → IsLink m old → IsQuiet e → Ran m (e ∷ []) old new os → os ≡ []
+quiet-told m (events.ToTarget n) old new os l q r = r.tells l.world l.stands
+quiet-told m (events.ToDebugger n) old new os l q r = r.tells l.world l.stands
+quiet-told m events.TargetTurn old new os l q r = r.tells l.world l.stands
+quiet-told m (events.Step t) old new os l q r = r.tells l.world l.stands
+quiet-told m (events.Release place) old new os l q r = r.tells l.world l.stands
+quiet-told m events.DebuggerTurn old new os l q r = absurd q
+quiet-told m events.Attach old new os l q r = absurd q
+quiet-told m (events.Ask c) old new os l q r = absurd q
+quiet-told m events.TargetLoses old new os l q r = absurd q
+quiet-told m events.DebuggerLoses old new os l q r = absurd q
+quiet-told m (events.Defer d) old new os l q r = absurd q
 
--- one
-pub leads-one : {S : Type 0} (m : Meaning S) (e : LinkEvent) (old new : Link S) (os : List Outcome) → IsOfRound e → Ran m (e ∷ []) old new os → Leads m old new 0 (seen_in os)
-leads-one m e old new os of r = record { events = e ∷ []; outcomes = os; of_round = (of, tt); ran = r; counted = omega arith }
+pub quietly : {S : Type 0} (m : Meaning S) (e : LinkEvent) (old new : Link S) (os : List Outcome) → IsLink m old → IsQuiet e → Ran m (e ∷ []) old new os → Quietly m e old new
+quietly m e old new os l q r = subst (λ (told : List Outcome). Ran m (e ∷ []) old new told) (quiet-told m e old new os l q r) r
 
--- some, and then others
-pub leads-on : {S : Type 0} (m : Meaning S) (old mid new : Link S) (x y z : ℕ) → Leads m old mid x y → Leads m mid new y z → Leads m old new x z
-leads-on m old mid new x y z a b = record {
-  events = a.events ++ b.events;
-  outcomes = a.outcomes ++ b.outcomes;
-  of_round = all-append IsOfRound a.events b.events a.of_round b.of_round;
-  ran = ran-both m a.events b.events old mid new a.outcomes b.outcomes a.ran b.ran;
-  counted = omega (arith, a.counted, b.counted, seen-append a.outcomes b.outcomes);
-}
-
--- of what is told so many at most are counted
-pub leads-counted : {S : Type 0} (m : Meaning S) (old new : Link S) (k x y : ℕ) → Leads m old new 0 k → y ≤ x + k → Leads m old new x y
-leads-counted m old new k x y a le = record { events = a.events; outcomes = a.outcomes; of_round = a.of_round; ran = a.ran; counted = omega (arith, a.counted, le) }
-
-pub moves-stay : {S : Type 0} (m : Meaning S) (old new : Link S) → Stays m old new → Moves m old new
-moves-stay m old new (os, r) = record { events = []; outcomes = os; of_round = tt; ran = r; counted = omega arith }
-
--- where none is counted
-pub moves-as : {S : Type 0} (m : Meaning S) (old new : Link S) (k : ℕ) → Leads m old new 0 k → Moves m old new
-moves-as m old new k a = leads-counted m old new k 0 0 a (omega arith)
-
-pub moves-lead : {S : Type 0} (m : Meaning S) (old new : Link S) (x : ℕ) → Moves m old new → Leads m old new x x
-moves-lead m old new x a = leads-counted m old new 0 x x a (omega arith)
-
--- what was counted is left out
-pub leads-move : {S : Type 0} (m : Meaning S) (old new : Link S) (x y : ℕ) → Leads m old new x y → Moves m old new
-leads-move m old new x y a = record { events = a.events; outcomes = a.outcomes; of_round = a.of_round; ran = a.ran; counted = omega arith }
+pub moves-none : {S : Type 0} (m : Meaning S) (l : Link S) → Moves m l l
+moves-none m l = ([], tt, ran-none m l)
 
 pub moves-on : {S : Type 0} (m : Meaning S) (old mid new : Link S) → Moves m old mid → Moves m mid new → Moves m old new
-moves-on m old mid new a b = leads-on m old mid new 0 0 0 a b
+moves-on m old mid new (es, a, r) (fs, b, g) = (es ++ fs, all-append IsQuiet es fs a b, ran-both m es fs old mid new [] [] r g)
 
-pub moves-then : {S : Type 0} (m : Meaning S) (old mid late new : Link S) → Moves m old mid → Moves m mid late → Moves m late new → Moves m old new
-moves-then m old mid late new a b c = moves-on m old late new (moves-on m old mid late a b) c
+pub moves-one : {S : Type 0} (m : Meaning S) (e : LinkEvent) (old new : Link S) → IsQuiet e → Quietly m e old new → Moves m old new
+moves-one m e old new q r = (e ∷ [], (q, tt), r)
 
--- events of which none was counted, and others behind them
-pub leads-then : {S : Type 0} (m : Meaning S) (old mid late new : Link S) (x y z : ℕ) → Leads m old mid x y → Moves m mid late → Leads m late new y z → Leads m old new x z
-leads-then m old mid late new x y z a b c = leads-on m old late new x y z (leads-on m old mid late x y y a (moves-lead m mid late y b)) c
+stays-moves : {S : Type 0} (m : Meaning S) (old new : Link S) → IsLink m old → Stays m old new → Moves m old new
+stays-moves m old new l (os, r) = ([], tt, subst (λ (told : List Outcome). Ran m [] old new told) (stays-told m old new os l r) r)
+
+happened-moves : {S : Type 0} (m : Meaning S) (e : LinkEvent) (old new : Link S) → IsLink m old → IsQuiet e → Happens m e old new → Moves m old new
+happened-moves m e old new l q (os, r) = moves-one m e old new q (quietly m e old new os l q r)
+
+-- one of them that ended the run
+pub quiet-ends : {S : Type 0} (m : Meaning S) (e : LinkEvent) (how : PairEnded) (old new : Link S) → IsLink m old → IsQuiet e → EndsAt m e how old new → EndsQuietly m how old new
+quiet-ends m e ended.NoMemory old new l q h = (tt, stays-moves m old new l h)
+quiet-ends m e ended.LostConnection old new l q (inl h) = (tt, stays-moves m old new l h)
+quiet-ends m e ended.LostConnection old new l q (inr h) = (tt, happened-moves m e old new l q h)
+quiet-ends m e ended.LostByWrite old new l q h = absurd h
+quiet-ends m e (ended.RefusedLine place number) old new l q h = absurd h
+quiet-ends m e ended.Done old new l q h = absurd h
+quiet-ends m e ended.TurnLimit old new l q h = absurd h
+quiet-ends m e (ended.Standstill waits) old new l q h = absurd h
+
+-- behind others
+pub quietly-ends : {S : Type 0} (m : Meaning S) (how : PairEnded) (old mid new : Link S) → Moves m old mid → EndsQuietly m how mid new → EndsQuietly m how old new
+quietly-ends m how old mid new moves (fails, more) = (fails, moves-on m old mid new moves more)
+
+-- ---- again and again
+
+pub repeats-move : {S : Type 0} (m : Meaning S) (Does : Link S → Bool → Link S → Type 0) (each : (a b : Link S) (did : Bool) → Does a did b → Moves m a b) (old : Link S) (n : ℕ) (new : Link S) → Repeats Does old n new → Moves m old new
+repeats-move m Does each old _ _ NotYet = moves-none m old
+repeats-move m Does each old _ _ (OneMore n mid new r d) = moves-on m old mid new (repeats-move m Does each old n mid r) (each mid new true d)
+
+until-moves : {S : Type 0} (m : Meaning S) (Does : Link S → Bool → Link S → Type 0) (each : (a b : Link S) (did : Bool) → Does a did b → Moves m a b) (old new : Link S) (did : Bool) → Until Does old did new → Moves m old new
+until-moves m Does each old new did u =
+    let before = repeats-move m Does each old u.times u.last u.repeats in
+    elim u.ends [
+      | inl d ↦ moves-on m old u.last new before (each u.last new false d)
+      | inr e ↦ subst (λ l. Moves m old l) (sym e.1) before
+    ]
+
+-- it stopped, or was done as often as it may be
+pub until-stops : {A : Type 0} (Does : A → Bool → A → Type 0) (old last new : A) (n : ℕ) (did : Bool) → Repeats Does old n last → Does last false new → did ≡ nat_lt 0 n → Until Does old did new
+until-stops Does old last new n did r d e = record { times = n; last = last; repeats = r; ends = inl d; whether = e }
+
+pub until-used : {A : Type 0} (Does : A → Bool → A → Type 0) (old new : A) (n : ℕ) (did : Bool) → Repeats Does old n new → n ≡ most_times → did ≡ nat_lt 0 n → Until Does old did new
+until-used Does old new n did r all e = record { times = n; last = new; repeats = r; ends = inr (all, refl); whether = e }
+
+pub once-more : (n : ℕ) → true ≡ nat_lt 0 (n + 1)
+once-more n = grind (arith, common_steps)
+
+-- ---- bytes come to an end, and it handles them
+
+pub piece-to-target-moves : {S : Type 0} (m : Meaning S) (old new : Link S) (whole : Bool) → PieceToTarget m old whole new → Moves m old new
+piece-to-target-moves m old new whole (r, e) = moves-one m (events.ToTarget piece) old new (omega arith) r
+
+pub piece-to-debugger-moves : {S : Type 0} (m : Meaning S) (old new : Link S) (whole : Bool) → PieceToDebugger m old whole new → Moves m old new
+piece-to-debugger-moves m old new whole (r, e) = moves-one m (events.ToDebugger piece) old new (omega arith) r
+
+pub come-to-target-moves : {S : Type 0} (m : Meaning S) (old new : Link S) → ComesToTarget m old new → Moves m old new
+come-to-target-moves m old new (some, u) = until-moves m (PieceToTarget m) (λ a b did d. piece-to-target-moves m a b did d) old new some u
+
+pub come-to-debugger-moves : {S : Type 0} (m : Meaning S) (old new : Link S) → ComesToDebugger m old new → Moves m old new
+come-to-debugger-moves m old new (some, u) = until-moves m (PieceToDebugger m) (λ a b did d. piece-to-debugger-moves m a b did d) old new some u
+
+pub turns-target-moves : {S : Type 0} (m : Meaning S) (old new : Link S) (handled : Bool) → TurnsTarget m old handled new → Moves m old new
+turns-target-moves m old new handled (fed, comes, r, e) = moves-on m old fed new (come-to-target-moves m old fed comes) (moves-one m events.TargetTurn fed new tt r)
+
+pub target-moves : {S : Type 0} (m : Meaning S) (old new : Link S) (handled : Bool) → Until (TurnsTarget m) old handled new → Moves m old new
+target-moves m old new handled u = until-moves m (TurnsTarget m) (λ a b did d. turns-target-moves m a b did d) old new handled u
+
+-- ---- the machine
+
+or-assoc : (a b c : Bool) → (a || (b || c)) ≡ ((a || b) || c)
+or-assoc true b c = refl
+or-assoc false b c = refl
+
+or-false : (a : Bool) → (a || false) ≡ a
+or-false true = refl
+or-false false = refl
+
+-- nothing was stepped yet; a thread stepped; and there is no other
+pub steps-begin : {S : Type 0} (m : Meaning S) (first : Link S) → StepsUntil m first false None first
+steps-begin m first more new rest = rest
+
+pub steps-on : {S : Type 0} (m : Meaning S) (first now mid : Link S) (made after : Bool) (last : Option ℕ) (t : ℕ) → StepsUntil m first made last now → IsNext (m.live now.target.moment.machine) last (Some t) → Quietly m (events.Step t) now mid
+    → after ≡ (made || mid.did) → StepsUntil m first after (Some t) mid
+steps-on m first now mid made after last t u next r e = λ more new rest.
+    subst (λ (b : Bool). StepsEach m None first b new) (or-assoc made mid.did more ∙ ap (λ (b : Bool). b || more) (sym e)) (u (mid.did || more) new (Steps last now mid new t more next r rest))
+
+pub steps-over : {S : Type 0} (m : Meaning S) (first now : Link S) (made : Bool) (last : Option ℕ) → StepsUntil m first made last now → IsNext (m.live now.target.moment.machine) last None → StepsEach m None first made now
+steps-over m first now made last u over = subst (λ (b : Bool). StepsEach m None first b now) (or-false made) (u false now (Over last now over))
+
+pub steps-move : {S : Type 0} (m : Meaning S) (last : Option ℕ) (old : Link S) (did : Bool) (new : Link S) → StepsEach m last old did new → Moves m old new
+steps-move m _ _ _ _ (Over last l over) = moves-none m l
+steps-move m _ _ _ _ (Steps last old mid new t more next r rest) = moves-on m old mid new (moves-one m (events.Step t) old mid tt r) (steps-move m (Some t) mid more new rest)
+
+-- the newest of some
+pub releases-newest : {S : Type 0} (m : Meaning S) (deferred : List streams.Message) (n : ℕ) (old new : Link S) → n ≡ length deferred → (n ≡ 0 → ⊥) → Quietly m (events.Release (n - 1)) old new → ReleasesOrSteps m deferred old new.did new
+releases-newest m [] n old new e some r = absurd (some e)
+releases-newest m (oldest ∷ later) n old new e some r =
+    let place : n - 1 ≡ length later = grind (arith, common_steps, e) in
+    (subst (λ (k : ℕ). Quietly m (events.Release k) old new) place r, refl)
+
+pub steps-none : {S : Type 0} (m : Meaning S) (deferred : List streams.Message) (n : ℕ) (old new : Link S) (did : Bool) → n ≡ length deferred → n ≡ 0 → StepsEach m None old did new → ReleasesOrSteps m deferred old did new
+steps-none m [] n old new did e none s = s
+steps-none m (oldest ∷ later) n old new did e none s = absurd (grind (arith, common_steps, e, none))
+
+releases-or-steps-move : {S : Type 0} (m : Meaning S) (deferred : List streams.Message) (old new : Link S) (did : Bool) → ReleasesOrSteps m deferred old did new → Moves m old new
+releases-or-steps-move m [] old new did s = steps-move m None old did new s
+releases-or-steps-move m (oldest ∷ later) old new did (r, e) = moves-one m (events.Release (length later)) old new tt r
+
+moves-on-moves : {S : Type 0} (m : Meaning S) (handled : Bool) (old new : Link S) (did : Bool) → MovesOn m handled old did new → Moves m old new
+moves-on-moves m true old new did (e, same) = subst (λ l. Moves m old l) (sym same) (moves-none m old)
+moves-on-moves m false old new did r = releases-or-steps-move m old.target.deferred old new did r
+
+pub machine-moves : {S : Type 0} (m : Meaning S) (old new : Link S) (did : Bool) → RunsMachine m old did new → Moves m old new
+machine-moves m old new did (handled, mid, u, r) = moves-on m old mid new (target-moves m old mid handled u) (moves-on-moves m handled mid new did r)
+
+-- ---- the debugger
+
+pub leads-on : {S : Type 0} (m : Meaning S) (a b c : Standing S) → Leads m a b → Leads m b c → Leads m a c
+leads-on m a b _ x Rests = x
+leads-on m a b _ x (Moved old new l moves) = Moved old new (leads-on m a b old x l) moves
+leads-on m a b _ x (Turned old new handled l r) = Turned old new handled (leads-on m a b old x l) r
+
+pub leads-moved : {S : Type 0} (m : Meaning S) (old : Standing S) (new : Link S) → Moves m old.link new → Leads m old (record old { link = new })
+leads-moved m old new moves = Moved old new Rests moves
+
+turns-debugger-lead : {S : Type 0} (m : Meaning S) (old new : Standing S) (handled : Bool) → TurnsDebugger m old handled new → Leads m old new
+turns-debugger-lead m old new handled (fed, comes, r) = Turned (record old { link = fed }) new handled (leads-moved m old fed (come-to-debugger-moves m old.link fed comes)) r
+
+pub repeats-lead : {S : Type 0} (m : Meaning S) (old : Standing S) (n : ℕ) (new : Standing S) → Repeats (TurnsDebugger m) old n new → Leads m old new
+repeats-lead m old _ _ NotYet = Rests
+repeats-lead m old _ _ (OneMore n mid new r d) = leads-on m old mid new (repeats-lead m old n mid r) (turns-debugger-lead m mid new true d)
+
+pub debugger-leads : {S : Type 0} (m : Meaning S) (old new : Standing S) (handled : Bool) → Until (TurnsDebugger m) old handled new → Leads m old new
+debugger-leads m old new handled u =
+    let before = repeats-lead m old u.times u.last u.repeats in
+    elim u.ends [
+      | inl d ↦ leads-on m old u.last new before (turns-debugger-lead m u.last new false d)
+      | inr e ↦ subst (λ s. Leads m old s) (sym e.1) before
+    ]
+
+-- ---- ends of a round
+
+-- an event of which nothing is told ended it
+pub moving-ends : {S : Type 0} (m : Meaning S) (how : PairEnded) (old : Standing S) (new : Link S) → EndsQuietly m how old.link new → EndsMoving m how old new old.out
+moving-ends m ended.NoMemory old new (fails, moves) = (record old { link = new }, leads-moved m old new moves, (inl ([], ran-none m new), refl))
+moving-ends m ended.LostConnection old new (fails, moves) = (record old { link = new }, leads-moved m old new moves, (inl ([], ran-none m new), refl))
+moving-ends m ended.LostByWrite old new (fails, moves) = absurd fails
+moving-ends m (ended.RefusedLine place number) old new (fails, moves) = absurd fails
+moving-ends m ended.Done old new (fails, moves) = absurd fails
+moving-ends m ended.TurnLimit old new (fails, moves) = absurd fails
+moving-ends m (ended.Standstill waits) old new (fails, moves) = absurd fails
+
+-- a turn of the debugger did, behind bytes that came
+pub turning-ends : {S : Type 0} (m : Meaning S) (how : PairEnded) (old : Standing S) (fed new : Link S) → Moves m old.link fed → EndsAt m events.DebuggerTurn how fed new → EndsMoving m how old new old.out
+turning-ends m ended.NoMemory old fed new moves h = (record old { link = fed }, leads-moved m old fed moves, (inl h, refl))
+turning-ends m ended.LostConnection old fed new moves h = (record old { link = fed }, leads-moved m old fed moves, (h, refl))
+turning-ends m ended.LostByWrite old fed new moves h = absurd h
+turning-ends m (ended.RefusedLine place number) old fed new moves h = absurd h
+turning-ends m ended.Done old fed new moves h = absurd h
+turning-ends m ended.TurnLimit old fed new moves h = absurd h
+turning-ends m (ended.Standstill waits) old fed new moves h = absurd h
+
+-- telling what it read did
+pub telling-ends : {S : Type 0} (m : Meaning S) (how : PairEnded) (old : Standing S) (fed new : Link S) (told : List Outcome) (after : Story) → Moves m old.link fed → Ran m (events.DebuggerTurn ∷ []) fed new told
+    → FailsToTell (turn_text new.debugger told) how old.out after → EndsMoving m how old new after
+telling-ends m ended.NoMemory old fed new told after moves r e = (record old { link = fed }, leads-moved m old fed moves, (inr (told, r), e))
+telling-ends m ended.LostByWrite old fed new told after moves r f = (record old { link = fed }, leads-moved m old fed moves, (told, r, f))
+telling-ends m ended.LostConnection old fed new told after moves r f = absurd f
+telling-ends m (ended.RefusedLine place number) old fed new told after moves r f = absurd f
+telling-ends m ended.Done old fed new told after moves r f = absurd f
+telling-ends m ended.TurnLimit old fed new told after moves r f = absurd f
+telling-ends m (ended.Standstill waits) old fed new told after moves r f = absurd f
+
+-- behind other events
+pub ends-behind : {S : Type 0} (m : Meaning S) (how : PairEnded) (a b : Standing S) (new : Link S) (after : Story) → Leads m a b → EndsMoving m how b new after → EndsMoving m how a new after
+ends-behind m how a b new after l (last, more, e) = (last, leads-on m a b last l more, e)
+
+-- ---- where a call succeeded, or failed
+
+pub on-ok : {A E P Q : Type 0} (r : Result A E) → (P → Q) → OnOk r P → OnOk r Q
+on-ok (Ok a) f p = f p
+on-ok (Err e) f p = p
+
+pub if-ok : {A E : Type 0} {P Q : A → Type 0} (r : Result A E) → ((a : A) → P a → Q a) → IfOk r P → IfOk r Q
+if-ok (Ok a) f p = f a p
+if-ok (Err e) f p = p
+
+pub if-err : {A E : Type 0} {P Q : E → Type 0} (r : Result A E) → ((e : E) → P e → Q e) → IfErr r P → IfErr r Q
+if-err (Ok a) f p = p
+if-err (Err e) f p = f e p
+
+-- ---- what a turn of the debugger leaves
+
+pub read-so : {S : Type 0} (told : List Outcome) (new : Link S) (old : Standing S) (read : ℕ) (out : Story) → read ≡ counted (old.read + seen_in told) → out ≡ with_written (turn_text new.debugger told) old.out
+    → record old { link = new; read = read; out = out } ≡ read_by told new old
+read-so told new old read out e f = ap (λ (n : ℕ). record old { link = new; read = n; out = out }) e ∙ ap (λ (s : Story). record old { link = new; read = counted (old.read + seen_in told); out = s }) f
+
+pub release-else : {S A : Type 0} (m : Meaning S) (r : Result Bool A) (deferred : List streams.Message) (n : ℕ) (old new : Link S) → n ≡ length deferred → n ≡ 0 → IfOk r (λ did. StepsEach m None old did new) → IfOk r (λ did. ReleasesOrSteps m deferred old did new)
+release-else m r deferred n old new e none h = if-ok r (λ did s. steps-none m deferred n old new did e none s) h

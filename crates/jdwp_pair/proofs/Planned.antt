@@ -1,25 +1,29 @@
--- the lines of a plan, one after the other, and how a run of it ends
-use Rattle.std.proofs.Common.{◌≡◌, ◌≤◌, ◌<◌, inl, inr, ℕ, ◌+◌, List, [], ◌∷◌, ◌++◌, length, take, drop, get_or, Option, Some, None, is_some, Result, Ok, Err, IfErr, OnOk, ◌||◌, refl, sym, ◌∙◌, ap, subst, arith}
-use Rattle.std.proofs.lemmas.List.{append-nil, drop_more, length-take, take-append-drop, take_all, take_more}
+-- the lines of a plan, and how a run of it ends
+use Rattle.std.proofs.Common.{◌≡◌, ◌≤◌, ◌⊎◌, inl, inr, ℕ, ◌+◌, Bool, true, false, ◌&&◌, List, [], ◌∷◌, ◌++◌, length, get_or, slice_get, Option, Some, None, is_some, Result, Ok, Err, IfErr, ◌||◌, refl, sym, ◌∙◌, ap, subst, arith}
+use Rattle.std.proofs.lemmas.Grind.{common_steps}
 use Rattle.std.specs.Borrow.{Bor}
+use Rattle.std.specs.Global.{Vec}
 use Rattle.jdwp_machine.specs.Meanings.{Meaning}
 use Rattle.jdwp_action.specs.Actions.{Command}
 use Rattle.jdwp_debugger.specs.declared.pending.Ticket.{Ticket}
-use Rattle.jdwp_debugger.specs.Debuggers.{Asked, Unanswered, at_place, has_tickets, seen_unanswered, unanswered}
+use Rattle.jdwp_debugger.specs.Debuggers.{Asked, Debugger, Unanswered, at_place, has_tickets, seen_unanswered, unanswered}
 use Rattle.jdwp_model.specs.Events as events
 use Rattle.jdwp_model.specs.Events.{LinkEvent}
 use Rattle.jdwp_link.specs.declared.events.Outcome.{Outcome}
 use Rattle.jdwp_link.specs.Clauses.{Ran}
 use Rattle.jdwp_link.specs.Links.{Link}
+use Rattle.jdwp_pipe.specs.Story.{Story}
 use Rattle.jdwp_plan.specs.declared.plan_line.PlanLine.{PlanLine}
 use Rattle.jdwp_plan.specs.declared.plan_line.PlanLine.TheVariants as line
-use Rattle.jdwp_attach.specs.PlanAsks.{IsBeginning}
 use Rattle.jdwp_pair.specs.declared.ended.PairEnded.{PairEnded}
 use Rattle.jdwp_pair.specs.declared.ended.PairEnded.TheVariants as ended
 use Rattle.jdwp_pair.specs.Connections.{is_disconnected}
-use Rattle.jdwp_pair.specs.Events.{Happens, IsLoss, Leads, LosesBoth, MayLose, Moves, Stays, seen_in}
-use Rattle.jdwp_pair.specs.PlanRuns.{Asks, AsksFor, CarriesOut, Does, Ends, EndsAt, EndsBy, EndsLine, EndsLosing, EndsMoving, EndsReading, EndsTelling, HasFinished, IsDue, Pairs, Reaches, Begins, Goes, Carries, RefusesCommand, RefusesLine, Stands, command_by, counted_behind, unflushed_end}
-use Rattle.jdwp_pair.proofs.Leading.{all-append, leads-counted, leads-one, moves-lead, moves-on, ran-both, ran-none}
+use Rattle.jdwp_pair.specs.Events.{Happens, Leads, Rests, Moved, Turned, MayLose, Moves, Reads, Standing, Stays}
+use Rattle.jdwp_pair.specs.Lines.{Asks, AsksFor, CarriesOut, Does, EndsAsking, EndsAtNext, EndsLine, EndsLosing, EndsLosingTarget, FailsLine, FailsToTellMirror, LosesDebugger, RefusesCommand, RefusesLine, TakesLine, command_by, is_due, is_due_at, next_is_due}
+use Rattle.jdwp_pair.specs.PlanRuns.{Ends, EndsBehind, Finishes, LosesBoth, Rounds, NoRound, Another, RunsPlan, beginning, is_finished, unflushed_end}
+use Rattle.jdwp_pair.specs.Rounds.{EndsAt, EndsMoving, EndsRound, EndsTurn, IsRound, begun_where}
+use Rattle.jdwp_pair.specs.Telling.{FailsToTell, lost_text}
+use Rattle.jdwp_pair.proofs.Leading.{debugger-leads, machine-moves, ran-both, ran-none}
 
 -- ---- runs of a plan
 
@@ -27,29 +31,66 @@ use Rattle.jdwp_pair.proofs.Leading.{all-append, leads-counted, leads-one, moves
 abbrev pub Runs : {S : Type 0} → Meaning S → Link S → Link S → Type 0
 Runs m old new = (es : List LinkEvent) × (os : List Outcome) × Ran m es old new os
 
+runs-none : {S : Type 0} (m : Meaning S) (l : Link S) → Runs m l l
+runs-none m l = ([], [], ran-none m l)
+
 runs-same : {S : Type 0} (m : Meaning S) (old new : Link S) → new ≡ old → Runs m old new
-runs-same m old new e = subst (λ l. Runs m old l) (sym e) ([], [], ran-none m old)
+runs-same m old new e = subst (λ l. Runs m old l) (sym e) (runs-none m old)
 
 runs-both : {S : Type 0} (m : Meaning S) (old mid new : Link S) → Runs m old mid → Runs m mid new → Runs m old new
 runs-both m old mid new (es, os, r) (fs, more, g) = (es ++ fs, os ++ more, ran-both m es fs old mid new os more r g)
+
+happens-run : {S : Type 0} (m : Meaning S) (e : LinkEvent) (old new : Link S) → Happens m e old new → Runs m old new
+happens-run m e old new (os, r) = (e ∷ [], os, r)
+
+stays-run : {S : Type 0} (m : Meaning S) (old new : Link S) → Stays m old new → Runs m old new
+stays-run m old new (os, r) = ([], os, r)
+
+may-lose-run : {S : Type 0} (m : Meaning S) (old new : Link S) → MayLose m old new → Runs m old new
+may-lose-run m old new (es, os, all, r) = (es, os, r)
+
+moves-run : {S : Type 0} (m : Meaning S) (old new : Link S) → Moves m old new → Runs m old new
+moves-run m old new (es, all, r) = (es, [], r)
+
+reads-run : {S : Type 0} (m : Meaning S) (old : Standing S) (handled : Bool) (new : Standing S) → Reads m old handled new → Runs m old.link new.link
+reads-run m old true new (told, r, did, e) = (events.DebuggerTurn ∷ [], told, r)
+reads-run m old false new ((told, r), did, e) = (events.DebuggerTurn ∷ [], told, r)
+
+leads-run : {S : Type 0} (m : Meaning S) (first new : Standing S) → Leads m first new → Runs m first.link new.link
+leads-run m first _ Rests = runs-none m first.link
+leads-run m first _ (Moved old new l moves) = runs-both m first.link old.link new (leads-run m first old l) (moves-run m old.link new moves)
+leads-run m first _ (Turned old new handled l r) = runs-both m first.link old.link new.link (leads-run m first old l) (reads-run m old handled new r)
 
 asks-run : {S : Type 0} (m : Meaning S) (c : Option Command) (old new : Link S) → AsksFor m c old new → Runs m old new
 asks-run m None old new h = absurd h
 asks-run m (Some c) old new (os, r, none) = (events.Ask c ∷ [], os, r)
 
-line-runs : {S : Type 0} (m : Meaning S) (line : PlanLine) (old new : Link S) → CarriesOut m line old new → Runs m old new
-line-runs m (line.Ask set number bytes) old new h = asks-run m (command_by old.debugger.sizes set number bytes.items) old new h
-line-runs m line.Answers old new e = runs-same m old new e
-line-runs m (line.Events count) old new e = runs-same m old new e
-line-runs m line.Mirror old new e = runs-same m old new e
-line-runs m line.LoseTarget old new (os, r) = (events.TargetLoses ∷ [], os, r)
-line-runs m line.LoseDebugger old new (os, r) = (events.DebuggerLoses ∷ [], os, r)
-line-runs m line.Attach old new (os, r) = (events.Attach ∷ [], os, r)
+carries-run : {S : Type 0} (m : Meaning S) (line : PlanLine) (old : Link S) (before : Story) (new : Link S) (after : Story) → CarriesOut m line old before new after → Runs m old new
+carries-run m (line.Ask set number bytes) old before new after h = asks-run m (command_by old.debugger.sizes set number bytes.items) old new h.0
+carries-run m line.Answers old before new after h = runs-same m old new h.0
+carries-run m (line.Events count) old before new after h = runs-same m old new h.0
+carries-run m line.Mirror old before new after h = runs-same m old new h.0
+carries-run m line.LoseTarget old before new after h = happens-run m events.TargetLoses old new h.0
+carries-run m line.LoseDebugger old before new after (told, r, e) = (events.DebuggerLoses ∷ [], told, r)
+carries-run m line.Attach old before new after h = happens-run m events.Attach old new h.0
 
-reach-runs : {S : Type 0} (m : Meaning S) (first : Link S) (done : List PlanLine) (read : ℕ) (now : Link S) → Reaches m first done read now → Runs m first now
-reach-runs m first _ _ _ Begins = ([], [], ran-none m first)
-reach-runs m first _ _ _ (Goes done read more old new r l) = runs-both m first old new (reach-runs m first done read old r) (l.events, l.outcomes, l.ran)
-reach-runs m first _ _ _ (Carries done read old new line r due h) = runs-both m first old new (reach-runs m first done read old r) (line-runs m line old new h)
+takes-run : {S : Type 0} (m : Meaning S) (plan : List PlanLine) (old : Standing S) (taken : Bool) (new : Standing S) → TakesLine m plan old taken new → Runs m old.link new.link
+takes-run {S} m plan old true new (due, (line, there, h, e)) = carries-run m line old.link old.out new.link new.out h
+takes-run {S} m plan old false new (due, e) = runs-same m old.link new.link (ap (λ (s : Standing S). s.link) e)
+
+round-run : {S : Type 0} (m : Meaning S) (plan : List PlanLine) (old : Standing S) (happened : Bool) (new : Standing S) → IsRound m plan old happened new → Runs m old.link new.link
+round-run {S} m plan old happened new r =
+    let link-is : new.link ≡ r.last.link = ap (λ (s : Standing S). s.link) r.left in
+    let line = takes-run m plan old r.taken r.named r.takes in
+    let machine = moves-run m r.named.link r.stepped (machine-moves m r.named.link r.stepped r.moved r.machine) in
+    let debugger = leads-run m (record r.named { link = r.stepped }) r.last (debugger-leads m (record r.named { link = r.stepped }) r.last r.handled r.debugger) in
+    subst (λ (l : Link S). Runs m old.link l) (sym link-is) (runs-both m old.link r.named.link r.last.link line (runs-both m r.named.link r.stepped r.last.link machine debugger))
+
+rounds-run : {S : Type 0} (m : Meaning S) (plan : List PlanLine) (first : Standing S) (n : ℕ) (now : Standing S) → Rounds m plan first n now → Runs m first.link now.link
+rounds-run m plan first _ _ NoRound = runs-none m first.link
+rounds-run m plan first _ _ (Another n old new rs r left) = runs-both m first.link old.link new.link (rounds-run m plan first n old rs) (round-run m plan old true new r)
+
+-- ---- ends of a run
 
 refusal-runs : {S : Type 0} (m : Meaning S) (c : Option Command) (number : ℕ) (old new : Link S) → RefusesCommand m c number old new → Runs m old new
 refusal-runs m None number old new h = runs-same m old new h.1
@@ -66,204 +107,205 @@ refused-runs m line.Attach number old new h = absurd h
 
 asked-runs : {S : Type 0} (m : Meaning S) (c : Option Command) (old new : Link S) → Asks m c old new → Runs m old new
 asked-runs m None old new h = absurd h
-asked-runs m (Some c) old new (os, r) = (events.Ask c ∷ [], os, r)
+asked-runs m (Some c) old new h = happens-run m (events.Ask c) old new h
 
 does-run : {S : Type 0} (m : Meaning S) (line : PlanLine) (old new : Link S) → Does m line old new → Runs m old new
 does-run m (line.Ask set number bytes) old new h = asked-runs m (command_by old.debugger.sizes set number bytes.items) old new h
 does-run m line.Answers old new h = absurd h
 does-run m (line.Events count) old new h = absurd h
 does-run m line.Mirror old new h = absurd h
-does-run m line.LoseTarget old new (os, r) = (events.TargetLoses ∷ [], os, r)
-does-run m line.LoseDebugger old new (os, r) = (events.DebuggerLoses ∷ [], os, r)
-does-run m line.Attach old new (os, r) = (events.Attach ∷ [], os, r)
+does-run m line.LoseTarget old new h = happens-run m events.TargetLoses old new h
+does-run m line.LoseDebugger old new h = happens-run m events.DebuggerLoses old new h
+does-run m line.Attach old new h = happens-run m events.Attach old new h
 
-end-runs : {S : Type 0} (m : Meaning S) (plan : List PlanLine) (how : PairEnded) (done : List PlanLine) (old new : Link S) → EndsBy m plan how done old new → Runs m old new
-end-runs m plan ended.Done done old new (inl (begun, (os, r), shut)) = (events.DebuggerTurn ∷ [], os, r)
-end-runs m plan ended.Done done old new (inr (all, none, (os, r))) = (events.DebuggerLoses ∷ events.TargetLoses ∷ [], os, r)
-end-runs m plan (ended.RefusedLine place number) done old new (line, rest, is, at, h) = refused-runs m line number old new h
-end-runs m plan ended.LostByWrite done old new (es, os, all, r) = (es, os, r)
-end-runs m plan ended.LostConnection done old new (inl (es, os, all, r)) = (es, os, r)
-end-runs m plan ended.LostConnection done old new (inr (line, rest, is, h)) = does-run m line old new h
-end-runs m plan ended.NoMemory done old new (es, os, all, r) = (es, os, r)
-end-runs m plan ended.TurnLimit done old new e = runs-same m old new e
-end-runs m plan (ended.Standstill waits) done old new e = runs-same m old new e.0
+fails-line-run : {S : Type 0} (m : Meaning S) (line : PlanLine) (old : Link S) (before : Story) (new : Link S) (after : Story) → FailsLine m line old before new after → Runs m old new
+fails-line-run m line.Mirror old before new after h = runs-same m old new h.0
+fails-line-run m line.LoseDebugger old before new after (told, r, f) = (events.DebuggerLoses ∷ [], told, r)
+fails-line-run m (line.Ask set number bytes) old before new after h = absurd h
+fails-line-run m line.Answers old before new after h = absurd h
+fails-line-run m (line.Events count) old before new after h = absurd h
+fails-line-run m line.LoseTarget old before new after h = absurd h
+fails-line-run m line.Attach old before new after h = absurd h
+
+ends-line-run : {S : Type 0} (m : Meaning S) (line : PlanLine) (place : ℕ) (how : PairEnded) (old : Link S) (before : Story) (new : Link S) (after : Story) → EndsLine m line place how old before new after → Runs m old new
+ends-line-run m line place (ended.RefusedLine at number) old before new after (is, h, e) = refused-runs m line number old new h
+ends-line-run m line place ended.NoMemory old before new after (h, e) = may-lose-run m old new h
+ends-line-run m line place ended.LostConnection old before new after (inl h, e) = may-lose-run m old new h
+ends-line-run m line place ended.LostConnection old before new after (inr h, e) = does-run m line old new h
+ends-line-run m line place ended.LostByWrite old before new after h = fails-line-run m line old before new after h
+ends-line-run m line place ended.Done old before new after h = absurd h
+ends-line-run m line place ended.TurnLimit old before new after h = absurd h
+ends-line-run m line place (ended.Standstill waits) old before new after h = absurd h
+
+ends-turn-run : {S : Type 0} (m : Meaning S) (how : PairEnded) (old : Standing S) (new : Link S) (after : Story) → EndsTurn m how old new after → Runs m old.link new
+ends-turn-run m ended.Done old new after (opened, (told, r, shut, e)) = (events.DebuggerTurn ∷ [], told, r)
+ends-turn-run m ended.LostByWrite old new after (told, r, f) = (events.DebuggerTurn ∷ [], told, r)
+ends-turn-run m ended.NoMemory old new after (inl h, e) = stays-run m old.link new h
+ends-turn-run m ended.NoMemory old new after (inr h, e) = happens-run m events.DebuggerTurn old.link new h
+ends-turn-run m ended.LostConnection old new after (inl h, e) = stays-run m old.link new h
+ends-turn-run m ended.LostConnection old new after (inr h, e) = happens-run m events.DebuggerTurn old.link new h
+ends-turn-run m (ended.RefusedLine place number) old new after h = absurd h
+ends-turn-run m ended.TurnLimit old new after h = absurd h
+ends-turn-run m (ended.Standstill waits) old new after h = absurd h
+
+ends-round-run : {S : Type 0} (m : Meaning S) (plan : List PlanLine) (how : PairEnded) (old : Standing S) (new : Link S) (after : Story) → EndsRound m plan how old new after → Runs m old.link new
+ends-round-run m plan how old new after (inl (due, (line, there, h))) = ends-line-run m line (old.carried + 1) how old.link old.out new after h
+ends-round-run m plan how old new after (inr (taken, named, takes, (last, l, h))) =
+    runs-both m old.link named.link new (takes-run m plan old taken named takes) (runs-both m named.link last.link new (leads-run m named last l) (ends-turn-run m how last new after h))
+
+loses-debugger-run : {S : Type 0} (m : Meaning S) (old : Link S) (before : Story) (new : Link S) (after : Story) → LosesDebugger m old before new after → Runs m old new
+loses-debugger-run m old before new after (told, r, e) = (events.DebuggerLoses ∷ [], told, r)
+
+loses-both-run : {S : Type 0} (m : Meaning S) (how : PairEnded) (old : Link S) (before : Story) (new : Link S) (after : Story) → LosesBoth m how old before new after → Runs m old new
+loses-both-run m ended.Done old before new after (mid, l, h) = runs-both m old mid new (loses-debugger-run m old before mid after l) (happens-run m events.TargetLoses mid new h)
+loses-both-run m ended.NoMemory old before new after (inl (h, e)) = may-lose-run m old new h
+loses-both-run m ended.NoMemory old before new after (inr (mid, l, h)) = runs-both m old mid new (loses-debugger-run m old before mid after l) (may-lose-run m mid new h)
+loses-both-run m ended.LostConnection old before new after (inl (h, e)) = may-lose-run m old new h
+loses-both-run m ended.LostConnection old before new after (inr (mid, l, h)) = runs-both m old mid new (loses-debugger-run m old before mid after l) (may-lose-run m mid new h)
+loses-both-run m ended.LostByWrite old before new after (told, r, f) = (events.DebuggerLoses ∷ [], told, r)
+loses-both-run m (ended.RefusedLine place number) old before new after h = absurd h
+loses-both-run m ended.TurnLimit old before new after h = absurd h
+loses-both-run m (ended.Standstill waits) old before new after h = absurd h
+
+finishes-run : {S : Type 0} (m : Meaning S) (plan : List PlanLine) (how : PairEnded) (old : Standing S) (new : Link S) (after : Story) → Finishes m plan how old new after → Runs m old.link new
+finishes-run m plan how old new after (last, r, done, l) = runs-both m old.link last.link new (round-run m plan old true last r) (loses-both-run m how last.link last.out new after l)
+
+-- a round that ends the run, or the losses behind one that finished the plan
+either-run : {S : Type 0} (m : Meaning S) (plan : List PlanLine) (how : PairEnded) (old : Standing S) (new : Link S) (after : Story) → EndsRound m plan how old new after ⊎ Finishes m plan how old new after → Runs m old.link new
+either-run m plan how old new after (inl h) = ends-round-run m plan how old new after h
+either-run m plan how old new after (inr h) = finishes-run m plan how old new after h
+
+behind-run : {S : Type 0} (m : Meaning S) (plan : List PlanLine) (limit rounds : ℕ) (how : PairEnded) (old : Standing S) (new : Link S) (after : Story) → EndsBehind m plan limit rounds how old new after → Runs m old.link new
+behind-run m plan limit rounds ended.TurnLimit old new after (all, e, same) = runs-same m old.link new e
+behind-run m plan limit rounds (ended.Standstill waits) old new after (last, r, e, same, is) = subst (λ l. Runs m old.link l) (sym e) (round-run m plan old false last r)
+behind-run m plan limit rounds ended.Done old new after h = either-run m plan ended.Done old new after h
+behind-run m plan limit rounds (ended.RefusedLine place number) old new after h = either-run m plan (ended.RefusedLine place number) old new after h
+behind-run m plan limit rounds ended.LostByWrite old new after h = either-run m plan ended.LostByWrite old new after h
+behind-run m plan limit rounds ended.LostConnection old new after h = either-run m plan ended.LostConnection old new after h
+behind-run m plan limit rounds ended.NoMemory old new after h = either-run m plan ended.NoMemory old new after h
 
 -- a session begins, and events follow
-pub pairs-run : {S : Type 0} (m : Meaning S) (plan : List PlanLine) (how : PairEnded) (old new : Link S) → Pairs m plan how old new
+pub plan-run : {S : Type 0} (m : Meaning S) (plan : List PlanLine) (limit : ℕ) (how : PairEnded) (old : Link S) (before : Story) (new : Link S) (after : Story) → RunsPlan m plan limit how old before new after
     → (later : List LinkEvent) × (os : List Outcome) × Ran m (events.Attach ∷ later) old new os
-pairs-run m plan how old new (first, (os, begins), e) =
-    let (later, more, r) = runs-both m first e.last new (reach-runs m first e.done e.read e.last e.reached) (end-runs m plan how e.done e.last new e.ends) in
+plan-run m plan limit how old before new after (first, (os, begins), e) =
+    let (later, more, r) = runs-both m first e.last.link new (rounds-run m plan (beginning first before) e.rounds e.last e.reached) (behind-run m plan limit e.rounds how e.last new after e.ends) in
     (later, os ++ more, ran-both m (events.Attach ∷ []) later old first new os more begins r)
+
+-- ---- calls
+
+-- no round ends a run so
+no-limit : {S : Type 0} (m : Meaning S) (plan : List PlanLine) (old : Standing S) (new : Link S) (after : Story) → EndsRound m plan ended.TurnLimit old new after → ⊥
+no-limit m plan old new after (inl (due, (line, there, h))) = h
+no-limit m plan old new after (inr (taken, named, takes, (last, l, h))) = h
+
+no-standstill : {S : Type 0} (m : Meaning S) (plan : List PlanLine) (waits : ℕ) (old : Standing S) (new : Link S) (after : Story) → EndsRound m plan (ended.Standstill waits) old new after → ⊥
+no-standstill m plan waits old new after (inl (due, (line, there, h))) = h
+no-standstill m plan waits old new after (inr (taken, named, takes, (last, l, h))) = h
+
+pub ends-round : {S : Type 0} (m : Meaning S) (plan : List PlanLine) (limit : ℕ) (how : PairEnded) (first old : Standing S) (n : ℕ) (new : Link S) (after : Story) → n ≤ limit → Rounds m plan first n old → EndsRound m plan how old new after
+    → Ends m plan limit how first new after
+ends-round m plan limit ended.TurnLimit first old n new after le rs h = absurd (no-limit m plan old new after h)
+ends-round m plan limit (ended.Standstill waits) first old n new after le rs h = absurd (no-standstill m plan waits old new after h)
+ends-round m plan limit ended.Done first old n new after le rs h = record { rounds = n; within = le; last = old; reached = rs; ends = inl h }
+ends-round m plan limit (ended.RefusedLine place number) first old n new after le rs h = record { rounds = n; within = le; last = old; reached = rs; ends = inl h }
+ends-round m plan limit ended.LostByWrite first old n new after le rs h = record { rounds = n; within = le; last = old; reached = rs; ends = inl h }
+ends-round m plan limit ended.LostConnection first old n new after le rs h = record { rounds = n; within = le; last = old; reached = rs; ends = inl h }
+ends-round m plan limit ended.NoMemory first old n new after le rs h = record { rounds = n; within = le; last = old; reached = rs; ends = inl h }
+
+-- the plan is finished
+pub ends-finished : {S : Type 0} (m : Meaning S) (plan : List PlanLine) (limit : ℕ) (how : PairEnded) (first old last : Standing S) (n : ℕ) (new : Link S) (after : Story) → n ≤ limit → Rounds m plan first n old → IsRound m plan old true last
+    → is_finished plan last ≡ true → LosesBoth m how last.link last.out new after → Ends m plan limit how first new after
+ends-finished m plan limit ended.TurnLimit first old last n new after le rs r done l = absurd l
+ends-finished m plan limit (ended.Standstill waits) first old last n new after le rs r done l = absurd l
+ends-finished m plan limit (ended.RefusedLine place number) first old last n new after le rs r done l = absurd l
+ends-finished m plan limit ended.Done first old last n new after le rs r done l = record { rounds = n; within = le; last = old; reached = rs; ends = inr (last, r, done, l) }
+ends-finished m plan limit ended.LostByWrite first old last n new after le rs r done l = record { rounds = n; within = le; last = old; reached = rs; ends = inr (last, r, done, l) }
+ends-finished m plan limit ended.LostConnection first old last n new after le rs r done l = record { rounds = n; within = le; last = old; reached = rs; ends = inr (last, r, done, l) }
+ends-finished m plan limit ended.NoMemory first old last n new after le rs r done l = record { rounds = n; within = le; last = old; reached = rs; ends = inr (last, r, done, l) }
+
+-- before the first round
+pub ends-first : {S : Type 0} (m : Meaning S) (plan : List PlanLine) (limit : ℕ) (first : Link S) (before : Story) → Ends m plan limit ended.LostConnection (beginning first before) first before
+ends-first m plan limit first before = record {
+  rounds = 0;
+  within = omega arith;
+  last = beginning first before;
+  reached = NoRound;
+  ends = inl (inr (false, beginning first before, (refl, refl), (beginning first before, Rests, (inl ([], ran-none m first), refl))));
+}
 
 -- ---- lines
 
-line-more : (plan : List PlanLine) (i : ℕ) (line : PlanLine) → i < length plan → line ≡ get_or plan i line → take (i + 1) plan ≡ take i plan ++ line ∷ []
-line-more plan i line inside is = take_more plan i line inside ∙ ap (λ (x : PlanLine). take i plan ++ x ∷ []) (sym is)
+pub next-due : {S : Type 0} (m : Meaning S) (plan : List PlanLine) (s : Standing S) (line : PlanLine) (due : Bool) → s.begun ≡ true → slice_get plan s.carried ≡ Some line → due ≡ is_due m line s.read s.link → next_is_due m plan s ≡ due
+next-due m plan s line due begun there is = ap (λ (b : Bool). b && is_due_at m (slice_get plan s.carried) s) begun ∙ (ap (λ (o : Option PlanLine). is_due_at m o s) there ∙ sym is)
 
-line-split : (plan : List PlanLine) (i : ℕ) (line : PlanLine) → i < length plan → line ≡ get_or plan i line → plan ≡ take i plan ++ line ∷ drop (i + 1) plan
-line-split plan i line inside is =
-    sym (take-append-drop i plan) ∙ ap (λ (x : List PlanLine). take i plan ++ x) (drop_more plan i line inside ∙ ap (λ (x : PlanLine). x ∷ drop (i + 1) plan) (sym is))
+and-false : (b : Bool) → (b && false) ≡ false
+and-false true = refl
+and-false false = refl
 
--- before the first line
-pub stands-first : {S : Type 0} (m : Meaning S) (plan : List PlanLine) (first : Link S) → Stands m plan first 0 0 first
-stands-first m plan first = Begins
+pub none-due : {S : Type 0} (m : Meaning S) (plan : List PlanLine) (s : Standing S) → slice_get plan s.carried ≡ None → next_is_due m plan s ≡ false
+none-due m plan s none = ap (λ (o : Option PlanLine). s.begun && is_due_at m o s) none ∙ and-false s.begun
 
--- a line was carried out
-pub stands-line : {S : Type 0} (m : Meaning S) (plan : List PlanLine) (first : Link S) (i read : ℕ) (line : PlanLine) (old new : Link S) → i < length plan → line ≡ get_or plan i line → IsDue m line read old
-    → CarriesOut m line old new → Stands m plan first i read old → Stands m plan first (i + 1) (counted_behind line read) new
-stands-line m plan first i read line old new inside is due h s = rw (line-more plan i line inside is) (Carries (take i plan) read old new line s due h)
-
--- events followed
-pub stands-on : {S : Type 0} (m : Meaning S) (plan : List PlanLine) (first : Link S) (i read more : ℕ) (old new : Link S) → Leads m old new read more → Stands m plan first i read old → Stands m plan first i more new
-stands-on m plan first i read more old new l s = Goes (take i plan) read more old new s l
-
-pub stands-moved : {S : Type 0} (m : Meaning S) (plan : List PlanLine) (first : Link S) (i read : ℕ) (old new : Link S) → Moves m old new → Stands m plan first i read old → Stands m plan first i read new
-stands-moved m plan first i read old new moves s = stands-on m plan first i read read old new (moves-lead m old new read moves) s
-
--- a round's events
-pub stands-round : {S : Type 0} (m : Meaning S) (plan : List PlanLine) (first : Link S) (i j read more : ℕ) (old mid new : Link S) → Moves m old mid → Leads m mid new read more → j ≡ i → Stands m plan first i read old
-    → Stands m plan first j more new
-stands-round m plan first i j read more old mid new a b same s =
-    subst (λ (k : ℕ). Stands m plan first k more new) (sym same) (stands-on m plan first i read more mid new b (stands-on m plan first i read read old mid (moves-lead m old mid read a) s))
-
--- all lines were
-pub stands-all : {S : Type 0} (m : Meaning S) (plan : List PlanLine) (first : Link S) (i read : ℕ) (now : Link S) → length plan ≤ i → Stands m plan first i read now → Reaches m first plan read now
-stands-all m plan first i read now past s = rw (take_all i plan past) at s
-
--- ---- ends
-
-ends-here : {S : Type 0} (m : Meaning S) (plan : List PlanLine) (first : Link S) (i read : ℕ) (how : PairEnded) (old new : Link S) → Stands m plan first i read old → EndsBy m plan how (take i plan) old new → Ends m plan first how new
-ends-here m plan first i read how old new s e = record { done = take i plan; begins = (drop i plan, sym (take-append-drop i plan)); read = read; last = old; reached = s; ends = e }
+pub unbegun-due : {S : Type 0} (m : Meaning S) (plan : List PlanLine) (s : Standing S) → s.begun ≡ false → next_is_due m plan s ≡ false
+unbegun-due m plan s none = ap (λ (b : Bool). b && is_due_at m (slice_get plan s.carried) s) none
 
 stays-lose : {S : Type 0} (m : Meaning S) (old new : Link S) → Stays m old new → MayLose m old new
 stays-lose m old new (os, r) = ([], os, tt, r)
 
-same-lose : {S : Type 0} (m : Meaning S) (old new : Link S) → new ≡ old → MayLose m old new
-same-lose m old new e = stays-lose m old new (subst (λ l. Stays m old l) (sym e) ([], ran-none m old))
+same-lose : {S : Type 0} (m : Meaning S) (l : Link S) → MayLose m l l
+same-lose m l = ([], [], tt, ran-none m l)
 
--- at a line
-pub ends-line : {S : Type 0} (m : Meaning S) (plan : List PlanLine) (first : Link S) (i read : ℕ) (line : PlanLine) (how : PairEnded) (old new : Link S) → i < length plan → line ≡ get_or plan i line
-    → EndsLine m line (i + 1) how old new → Stands m plan first i read old → Ends m plan first how new
-ends-line m plan first i read line (ended.RefusedLine place number) old new inside is (at, h) s =
-    let long : length (take i plan) ≡ i = omega (arith, length-take i plan) in
-    ends-here m plan first i read (ended.RefusedLine place number) old new s (line, drop (i + 1) plan, line-split plan i line inside is, omega (arith, at, long), h)
-ends-line m plan first i read line ended.NoMemory old new inside is h s = ends-here m plan first i read ended.NoMemory old new s h
-ends-line m plan first i read line ended.LostByWrite old new inside is h s = ends-here m plan first i read ended.LostByWrite old new s h
-ends-line m plan first i read line ended.LostConnection old new inside is (inl h) s = ends-here m plan first i read ended.LostConnection old new s (inl h)
-ends-line m plan first i read line ended.LostConnection old new inside is (inr h) s =
-    ends-here m plan first i read ended.LostConnection old new s (inr (line, drop (i + 1) plan, line-split plan i line inside is, h))
-ends-line m plan first i read line ended.Done old new inside is h s = absurd h
-ends-line m plan first i read line ended.TurnLimit old new inside is h s = absurd h
-ends-line m plan first i read line (ended.Standstill waits) old new inside is h s = absurd h
+pub mirror-ends : {S A : Type 0} (m : Meaning S) (place : ℕ) (r : Result A PairEnded) (l : Link S) (before after : Story) → IfErr r (λ how. FailsToTellMirror l.debugger how before after)
+    → IfErr r (λ how. EndsLine m line.Mirror place how l before l after)
+mirror-ends m place (Ok done) l before after h = h
+mirror-ends m place (Err ended.NoMemory) l before after h = (same-lose m l, h)
+mirror-ends m place (Err ended.LostByWrite) l before after h = (refl, h)
+mirror-ends m place (Err ended.LostConnection) l before after h = absurd h
+mirror-ends m place (Err (ended.RefusedLine at number)) l before after h = absurd h
+mirror-ends m place (Err ended.Done) l before after h = absurd h
+mirror-ends m place (Err ended.TurnLimit) l before after h = absurd h
+mirror-ends m place (Err (ended.Standstill waits)) l before after h = absurd h
 
--- where a line's printing failed
-telling-ends-line : {S : Type 0} (m : Meaning S) (line : PlanLine) (place : ℕ) (how : PairEnded) (now : Link S) → EndsTelling how → EndsLine m line place how now now
-telling-ends-line m line place ended.LostByWrite now how = same-lose m now now refl
-telling-ends-line m line place ended.NoMemory now how = same-lose m now now refl
-telling-ends-line m line place ended.LostConnection now how = absurd how
-telling-ends-line m line place (ended.RefusedLine at number) now how = absurd how
-telling-ends-line m line place ended.Done now how = absurd how
-telling-ends-line m line place ended.TurnLimit now how = absurd how
-telling-ends-line m line place (ended.Standstill waits) now how = absurd how
+pub losing-target-ends : {S A : Type 0} (m : Meaning S) (place : ℕ) (r : Result A PairEnded) (old new : Link S) (out : Story) → IfErr r (λ how. EndsLosingTarget m how old new) → IfErr r (λ how. EndsLine m line.LoseTarget place how old out new out)
+losing-target-ends m place (Ok done) old new out h = h
+losing-target-ends m place (Err ended.NoMemory) old new out h = (h, refl)
+losing-target-ends m place (Err ended.LostConnection) old new out h = (inl h, refl)
+losing-target-ends m place (Err ended.LostByWrite) old new out h = absurd h
+losing-target-ends m place (Err (ended.RefusedLine at number)) old new out h = absurd h
+losing-target-ends m place (Err ended.Done) old new out h = absurd h
+losing-target-ends m place (Err ended.TurnLimit) old new out h = absurd h
+losing-target-ends m place (Err (ended.Standstill waits)) old new out h = absurd h
 
-pub telling-ends : {S A : Type 0} (m : Meaning S) (line : PlanLine) (place : ℕ) (r : Result A PairEnded) (now : Link S) → IfErr r EndsTelling → IfErr r (λ how. EndsLine m line place how now now)
-telling-ends m line place (Ok done) now how = how
-telling-ends m line place (Err e) now how = telling-ends-line m line place e now how
+pub losing-debugger-ends : {S A : Type 0} (m : Meaning S) (place : ℕ) (r : Result A PairEnded) (old : Link S) (before : Story) (new : Link S) (after : Story) → IfErr r (λ how. EndsLosing m how old before new after)
+    → IfErr r (λ how. EndsLine m line.LoseDebugger place how old before new after)
+losing-debugger-ends m place (Ok done) old before new after h = h
+losing-debugger-ends m place (Err ended.NoMemory) old before new after h = h
+losing-debugger-ends m place (Err ended.LostConnection) old before new after h = (inl h.0, h.1)
+losing-debugger-ends m place (Err ended.LostByWrite) old before new after h = h
+losing-debugger-ends m place (Err (ended.RefusedLine at number)) old before new after h = absurd h
+losing-debugger-ends m place (Err ended.Done) old before new after h = absurd h
+losing-debugger-ends m place (Err ended.TurnLimit) old before new after h = absurd h
+losing-debugger-ends m place (Err (ended.Standstill waits)) old before new after h = absurd h
 
--- behind events that failed
-pub ends-moving : {S : Type 0} (m : Meaning S) (plan : List PlanLine) (first : Link S) (i read : ℕ) (how : PairEnded) (old new : Link S) → EndsMoving how → Moves m old new → Stands m plan first i read old → Ends m plan first how new
-ends-moving m plan first i read ended.NoMemory old new how moves s =
-    ends-here m plan first i read ended.NoMemory new new (stands-moved m plan first i read old new moves s) (same-lose m new new refl)
-ends-moving m plan first i read ended.LostConnection old new how moves s =
-    ends-here m plan first i read ended.LostConnection new new (stands-moved m plan first i read old new moves s) (inl (same-lose m new new refl))
-ends-moving m plan first i read ended.LostByWrite old new how moves s = absurd how
-ends-moving m plan first i read (ended.RefusedLine place number) old new how moves s = absurd how
-ends-moving m plan first i read ended.Done old new how moves s = absurd how
-ends-moving m plan first i read ended.TurnLimit old new how moves s = absurd how
-ends-moving m plan first i read (ended.Standstill waits) old new how moves s = absurd how
+stays-or-asks : {S : Type 0} (m : Meaning S) (c : Option Command) (line : PlanLine) (old new : Link S) → (Asks m c old new → Does m line old new) → Stays m old new ⊎ Asks m c old new → MayLose m old new ⊎ Does m line old new
+stays-or-asks m c line old new does (inl h) = inl (stays-lose m old new h)
+stays-or-asks m c line old new does (inr h) = inr (does h)
 
--- as the debugger reads
-pub ends-reading : {S : Type 0} (m : Meaning S) (plan : List PlanLine) (first : Link S) (i read : ℕ) (how : PairEnded) (old new : Link S) → EndsReading m how old new → Stands m plan first i read old → Ends m plan first how new
-ends-reading m plan first i read ended.Done old new (mid, moves, h) s =
-    ends-here m plan first i read ended.Done mid new (stands-moved m plan first i read old mid moves s) (inl h)
-ends-reading m plan first i read ended.LostByWrite old new moves s =
-    ends-here m plan first i read ended.LostByWrite new new (stands-moved m plan first i read old new moves s) (same-lose m new new refl)
-ends-reading m plan first i read ended.LostConnection old new moves s = ends-moving m plan first i read ended.LostConnection old new tt moves s
-ends-reading m plan first i read ended.NoMemory old new moves s = ends-moving m plan first i read ended.NoMemory old new tt moves s
-ends-reading m plan first i read (ended.RefusedLine place number) old new h s = absurd h
-ends-reading m plan first i read ended.TurnLimit old new h s = absurd h
-ends-reading m plan first i read (ended.Standstill waits) old new h s = absurd h
+pub asking-ends : {S A : Type 0} (m : Meaning S) (set number : ℕ) (bytes : Vec ℕ) (place : ℕ) (r : Result A PairEnded) (old new : Link S) (out : Story)
+    → IfErr r (λ how. EndsAsking m (command_by old.debugger.sizes set number bytes.items) place how old new) → IfErr r (λ how. EndsLine m (line.Ask set number bytes) place how old out new out)
+asking-ends m set number bytes place (Ok done) old new out h = h
+asking-ends m set number bytes place (Err (ended.RefusedLine at refused)) old new out h = (h.0, h.1, refl)
+asking-ends m set number bytes place (Err ended.NoMemory) old new out h = (stays-lose m old new h, refl)
+asking-ends m set number bytes place (Err ended.LostConnection) old new out h =
+    (stays-or-asks m (command_by old.debugger.sizes set number bytes.items) (line.Ask set number bytes) old new (λ a. a) h, refl)
+asking-ends m set number bytes place (Err ended.LostByWrite) old new out h = absurd h
+asking-ends m set number bytes place (Err ended.Done) old new out h = absurd h
+asking-ends m set number bytes place (Err ended.TurnLimit) old new out h = absurd h
+asking-ends m set number bytes place (Err (ended.Standstill waits)) old new out h = absurd h
 
--- events that failed, and printing that did, as the debugger reads
-pub moving-reads : {S : Type 0} (m : Meaning S) (how : PairEnded) (old new : Link S) → EndsMoving how → Moves m old new → EndsReading m how old new
-moving-reads m ended.NoMemory old new how moves = moves
-moving-reads m ended.LostConnection old new how moves = moves
-moving-reads m ended.LostByWrite old new how moves = absurd how
-moving-reads m (ended.RefusedLine place number) old new how moves = absurd how
-moving-reads m ended.Done old new how moves = absurd how
-moving-reads m ended.TurnLimit old new how moves = absurd how
-moving-reads m (ended.Standstill waits) old new how moves = absurd how
+-- ---- losses
 
-pub telling-reads : {S : Type 0} (m : Meaning S) (how : PairEnded) (old new : Link S) → EndsTelling how → Moves m old new → EndsReading m how old new
-telling-reads m ended.NoMemory old new how moves = moves
-telling-reads m ended.LostByWrite old new how moves = moves
-telling-reads m ended.LostConnection old new how moves = absurd how
-telling-reads m (ended.RefusedLine place number) old new how moves = absurd how
-telling-reads m ended.Done old new how moves = absurd how
-telling-reads m ended.TurnLimit old new how moves = absurd how
-telling-reads m (ended.Standstill waits) old new how moves = absurd how
-
--- reading that ended so behind other events
-pub reading-on : {S : Type 0} (m : Meaning S) (how : PairEnded) (old mid new : Link S) → Moves m old mid → EndsReading m how mid new → EndsReading m how old new
-reading-on m ended.Done old mid new moves (last, more, h) = (last, moves-on m old mid last moves more, h)
-reading-on m ended.LostByWrite old mid new moves more = moves-on m old mid new moves more
-reading-on m ended.LostConnection old mid new moves more = moves-on m old mid new moves more
-reading-on m ended.NoMemory old mid new moves more = moves-on m old mid new moves more
-reading-on m (ended.RefusedLine place number) old mid new moves h = absurd h
-reading-on m ended.TurnLimit old mid new moves h = absurd h
-reading-on m (ended.Standstill waits) old mid new moves h = absurd h
-
--- before the first round
-pub ends-first : {S : Type 0} (m : Meaning S) (plan : List PlanLine) (first : Link S) → Ends m plan first ended.LostConnection first
-ends-first m plan first = ends-here m plan first 0 0 ended.LostConnection first first Begins (inl (same-lose m first first refl))
-
--- at the limit
-pub ends-limit : {S : Type 0} (m : Meaning S) (plan : List PlanLine) (first : Link S) (i read : ℕ) (now : Link S) → Stands m plan first i read now → Ends m plan first ended.TurnLimit now
-ends-limit m plan first i read now s = ends-here m plan first i read ended.TurnLimit now now s refl
-
--- where nothing happened
-pub ends-still : {S : Type 0} (m : Meaning S) (plan : List PlanLine) (first : Link S) (i read waits : ℕ) (now : Link S) → Stands m plan first i read now → waits ≡ length (take i plan) + 1 → Ends m plan first (ended.Standstill waits) now
-ends-still m plan first i read waits now s is = ends-here m plan first i read (ended.Standstill waits) now now s (refl, is)
-
--- where the plan is finished
-whole : (plan : List PlanLine) → IsBeginning plan plan
-whole plan = ([], sym (append-nil plan))
-
-pub ends-finished : {S : Type 0} (m : Meaning S) (plan : List PlanLine) (first old new : Link S) → HasFinished m plan first old → LosesBoth m old new → Ends m plan first ended.Done new
-ends-finished m plan first old new (read, r, none) l = record { done = plan; begins = whole plan; read = read; last = old; reached = r; ends = inr (refl, none, l) }
-
-pub ends-losing : {S : Type 0} (m : Meaning S) (plan : List PlanLine) (first old new : Link S) (how : PairEnded) → HasFinished m plan first old → EndsLosing how → MayLose m old new → Ends m plan first how new
-ends-losing m plan first old new ended.LostByWrite (read, r, none) how l = record { done = plan; begins = whole plan; read = read; last = old; reached = r; ends = l }
-ends-losing m plan first old new ended.LostConnection (read, r, none) how l = record { done = plan; begins = whole plan; read = read; last = old; reached = r; ends = inl l }
-ends-losing m plan first old new ended.NoMemory (read, r, none) how l = record { done = plan; begins = whole plan; read = read; last = old; reached = r; ends = l }
-ends-losing m plan first old new ended.Done f how l = absurd how
-ends-losing m plan first old new (ended.RefusedLine place number) f how l = absurd how
-ends-losing m plan first old new ended.TurnLimit f how l = absurd how
-ends-losing m plan first old new (ended.Standstill waits) f how l = absurd how
-
--- the losses of both ends
-pub loses-both : {S : Type 0} (m : Meaning S) (old mid new : Link S) → Happens m events.DebuggerLoses old mid → Happens m events.TargetLoses mid new → LosesBoth m old new
-loses-both m old mid new (os, r) (more, g) = (os ++ more, ran-both m (events.DebuggerLoses ∷ []) (events.TargetLoses ∷ []) old mid new os more r g)
-
-pub loses-both-where : {S A : Type 0} (m : Meaning S) (old mid new : Link S) (r : Result A PairEnded) → Happens m events.DebuggerLoses old mid → OnOk r (Happens m events.TargetLoses mid new) → OnOk r (LosesBoth m old new)
-loses-both-where m old mid new (Ok done) first then = loses-both m old mid new first then
-loses-both-where m old mid new (Err how) first then = then
-
-pub lose-on : {S : Type 0} (m : Meaning S) (old mid new : Link S) → MayLose m old mid → MayLose m mid new → MayLose m old new
-lose-on m old mid new (es, os, a, r) (fs, more, b, g) = (es ++ fs, os ++ more, all-append IsLoss es fs a b, ran-both m es fs old mid new os more r g)
-
--- a loss that may have ended the run
-pub target-lost : {S : Type 0} (m : Meaning S) (how : PairEnded) (old new : Link S) → EndsAt m events.TargetLoses how old new → MayLose m old new
+-- the event did not happen, or the connection failed behind it
+pub target-lost : {S : Type 0} (m : Meaning S) (how : PairEnded) (old new : Link S) → EndsAt m events.TargetLoses how old new → EndsLosingTarget m how old new
 target-lost m ended.NoMemory old new h = stays-lose m old new h
 target-lost m ended.LostConnection old new (inl h) = stays-lose m old new h
 target-lost m ended.LostConnection old new (inr (os, r)) = (events.TargetLoses ∷ [], os, (tt, tt), r)
@@ -273,46 +315,46 @@ target-lost m ended.Done old new h = absurd h
 target-lost m ended.TurnLimit old new h = absurd h
 target-lost m (ended.Standstill waits) old new h = absurd h
 
-pub debugger-lost : {S : Type 0} (m : Meaning S) (how : PairEnded) (old new : Link S) → EndsAt m events.DebuggerLoses how old new → MayLose m old new
-debugger-lost m ended.NoMemory old new h = stays-lose m old new h
-debugger-lost m ended.LostConnection old new (inl h) = stays-lose m old new h
-debugger-lost m ended.LostConnection old new (inr (os, r)) = (events.DebuggerLoses ∷ [], os, (tt, tt), r)
-debugger-lost m ended.LostByWrite old new h = absurd h
-debugger-lost m (ended.RefusedLine place number) old new h = absurd h
-debugger-lost m ended.Done old new h = absurd h
-debugger-lost m ended.TurnLimit old new h = absurd h
-debugger-lost m (ended.Standstill waits) old new h = absurd h
+pub debugger-lost : {S : Type 0} (m : Meaning S) (how : PairEnded) (old new : Link S) (out : Story) → EndsAt m events.DebuggerLoses how old new → EndsLosing m how old out new out
+debugger-lost m ended.NoMemory old new out h = (stays-lose m old new h, refl)
+debugger-lost m ended.LostConnection old new out (inl h) = (stays-lose m old new h, refl)
+debugger-lost m ended.LostConnection old new out (inr (os, r)) = ((events.DebuggerLoses ∷ [], os, (tt, tt), r), refl)
+debugger-lost m ended.LostByWrite old new out h = absurd h
+debugger-lost m (ended.RefusedLine place number) old new out h = absurd h
+debugger-lost m ended.Done old new out h = absurd h
+debugger-lost m ended.TurnLimit old new out h = absurd h
+debugger-lost m (ended.Standstill waits) old new out h = absurd h
 
--- one of them
-pub loses-target : {S : Type 0} (m : Meaning S) (old new : Link S) → Happens m events.TargetLoses old new → MayLose m old new
-loses-target m old new (os, r) = (events.TargetLoses ∷ [], os, (tt, tt), r)
+-- the tickets that are lost were not told
+pub tickets-untold : {S A : Type 0} (m : Meaning S) (r : Result A PairEnded) (old : Link S) (before : Story) (new : Link S) (after : Story) (told : List Outcome) → Ran m (events.DebuggerLoses ∷ []) old new told
+    → IfErr r (λ how. FailsToTell (lost_text told) how before after) → IfErr r (λ how. EndsLosing m how old before new after)
+tickets-untold m (Ok done) old before new after told ran h = h
+tickets-untold m (Err ended.NoMemory) old before new after told ran e = ((events.DebuggerLoses ∷ [], told, (tt, tt), ran), e)
+tickets-untold m (Err ended.LostByWrite) old before new after told ran f = (told, ran, f)
+tickets-untold m (Err ended.LostConnection) old before new after told ran h = absurd h
+tickets-untold m (Err (ended.RefusedLine place number)) old before new after told ran h = absurd h
+tickets-untold m (Err ended.Done) old before new after told ran h = absurd h
+tickets-untold m (Err ended.TurnLimit) old before new after told ran h = absurd h
+tickets-untold m (Err (ended.Standstill waits)) old before new after told ran h = absurd h
 
-pub loses-debugger : {S : Type 0} (m : Meaning S) (old new : Link S) → Happens m events.DebuggerLoses old new → MayLose m old new
-loses-debugger m old new (os, r) = (events.DebuggerLoses ∷ [], os, (tt, tt), r)
+-- the debugger's loss ended the run; and the target's, behind it
+pub first-loss : {S : Type 0} (m : Meaning S) (how : PairEnded) (old : Link S) (before : Story) (new : Link S) (after : Story) → EndsLosing m how old before new after → LosesBoth m how old before new after
+first-loss m ended.NoMemory old before new after h = inl h
+first-loss m ended.LostConnection old before new after h = inl h
+first-loss m ended.LostByWrite old before new after h = h
+first-loss m (ended.RefusedLine place number) old before new after h = absurd h
+first-loss m ended.Done old before new after h = absurd h
+first-loss m ended.TurnLimit old before new after h = absurd h
+first-loss m (ended.Standstill waits) old before new after h = absurd h
 
--- the last flush failed
-unflushed-by : {S : Type 0} (m : Meaning S) (plan : List PlanLine) (first : Link S) (how : PairEnded) (done : List PlanLine) (read : ℕ) (old new : Link S) → IsBeginning done plan → Reaches m first done read old
-    → EndsBy m plan how done old new → Ends m plan first (unflushed_end how) new
-unflushed-by m plan first ended.Done done read old new begins r (inl (begun, (os, ran), shut)) =
-    record {
-      done = done;
-      begins = begins;
-      read = read;
-      last = new;
-      reached = Goes done read read old new r (leads-counted m old new (seen_in os) read read (leads-one m events.DebuggerTurn old new os tt ran) (omega arith));
-      ends = same-lose m new new refl;
-    }
-unflushed-by m plan first ended.Done done read old new begins r (inr (all, none, (os, ran))) =
-    record { done = done; begins = begins; read = read; last = old; reached = r; ends = (events.DebuggerLoses ∷ events.TargetLoses ∷ [], os, (tt, (tt, tt)), ran) }
-unflushed-by m plan first (ended.RefusedLine place number) done read old new begins r h = record { done = done; begins = begins; read = read; last = old; reached = r; ends = h }
-unflushed-by m plan first ended.LostByWrite done read old new begins r h = record { done = done; begins = begins; read = read; last = old; reached = r; ends = h }
-unflushed-by m plan first ended.LostConnection done read old new begins r h = record { done = done; begins = begins; read = read; last = old; reached = r; ends = h }
-unflushed-by m plan first ended.NoMemory done read old new begins r h = record { done = done; begins = begins; read = read; last = old; reached = r; ends = h }
-unflushed-by m plan first ended.TurnLimit done read old new begins r e = record { done = done; begins = begins; read = read; last = old; reached = r; ends = same-lose m old new e }
-unflushed-by m plan first (ended.Standstill waits) done read old new begins r e = record { done = done; begins = begins; read = read; last = old; reached = r; ends = same-lose m old new e.0 }
-
-pub unflushed-pairs : {S : Type 0} (m : Meaning S) (plan : List PlanLine) (how : PairEnded) (old new : Link S) → Pairs m plan how old new → Pairs m plan (unflushed_end how) old new
-unflushed-pairs m plan how old new (first, begins, e) = (first, begins, unflushed-by m plan first how e.done e.read e.last new e.begins e.reached e.ends)
+pub second-loss : {S : Type 0} (m : Meaning S) (how : PairEnded) (old mid : Link S) (before : Story) (new : Link S) (after : Story) → LosesDebugger m old before mid after → EndsLosingTarget m how mid new → LosesBoth m how old before new after
+second-loss m ended.NoMemory old mid before new after l h = inr (mid, l, h)
+second-loss m ended.LostConnection old mid before new after l h = inr (mid, l, h)
+second-loss m ended.LostByWrite old mid before new after l h = absurd h
+second-loss m (ended.RefusedLine place number) old mid before new after l h = absurd h
+second-loss m ended.Done old mid before new after l h = absurd h
+second-loss m ended.TurnLimit old mid before new after l h = absurd h
+second-loss m (ended.Standstill waits) old mid before new after l h = absurd h
 
 -- a connection that failed is told whatever the flush does
 pub still-disconnected : (how : PairEnded) → is_disconnected (unflushed_end how) ≡ is_disconnected how

@@ -1,5 +1,5 @@
 -- The events that a run of both ends is made of, and what they tell.
-use Rattle.std.specs.Prelude.{ℕ, ◌≤◌, ◌+◌, Bool, true, false, List, [], ◌∷◌, Option, Some, None, count_by}
+use Rattle.std.specs.Prelude.{◌≡◌, ℕ, ◌≤◌, ◌+◌, ◌-◌, ◌^◌, min, Bool, true, false, List, [], ◌∷◌, Option, Some, None, count_by}
 use Rattle.std.specs.List.{AllByRecursion}
 use Rattle.jdwp_debugger.specs.declared.asking.Refused.{Refused}
 use Rattle.jdwp_machine.specs.Meanings.{Meaning}
@@ -9,6 +9,8 @@ use Rattle.jdwp_link.specs.declared.events.Outcome.{Outcome}
 use Rattle.jdwp_link.specs.declared.events.Outcome.TheVariants as outcome
 use Rattle.jdwp_link.specs.Clauses.{Ran}
 use Rattle.jdwp_link.specs.Links.{Link}
+use Rattle.jdwp_pipe.specs.Story.{Story, with_written}
+use Rattle.jdwp_pair.specs.Telling.{turn_text}
 
 -- ---- what is told
 
@@ -38,20 +40,20 @@ refusal_in (outcome.Seen composite ∷ outcomes) = refusal_in outcomes
 abbrev pub piece : ℕ
 piece = 4096
 
--- What happens in a round beside its line: bytes come to an end, an end handles what is in front of it, a deferred command is answered, a
--- thread makes a step.
-abbrev pub IsOfRound : LinkEvent → Type 0
-IsOfRound (Events.ToTarget count) = count ≤ piece
-IsOfRound (Events.ToDebugger count) = count ≤ piece
-IsOfRound Events.TargetTurn = Unit {0}
-IsOfRound Events.DebuggerTurn = Unit {0}
-IsOfRound (Events.Step thread) = Unit {0}
-IsOfRound (Events.Release place) = Unit {0}
-IsOfRound Events.Attach = ⊥
-IsOfRound (Events.Ask command) = ⊥
-IsOfRound Events.TargetLoses = ⊥
-IsOfRound Events.DebuggerLoses = ⊥
-IsOfRound (Events.Defer deferring) = ⊥
+-- What happens in a round beside its line and the turns of the debugger: bytes come to an end, the target handles what is in front of it, a
+-- deferred command is answered, a thread makes a step. Nothing is told of it.
+abbrev pub IsQuiet : LinkEvent → Type 0
+IsQuiet (Events.ToTarget count) = count ≤ piece
+IsQuiet (Events.ToDebugger count) = count ≤ piece
+IsQuiet Events.TargetTurn = Unit {0}
+IsQuiet (Events.Step thread) = Unit {0}
+IsQuiet (Events.Release place) = Unit {0}
+IsQuiet Events.DebuggerTurn = ⊥
+IsQuiet Events.Attach = ⊥
+IsQuiet (Events.Ask command) = ⊥
+IsQuiet Events.TargetLoses = ⊥
+IsQuiet Events.DebuggerLoses = ⊥
+IsQuiet (Events.Defer deferring) = ⊥
 
 -- an end notices that the connection is lost
 abbrev pub IsLoss : LinkEvent → Type 0
@@ -67,19 +69,15 @@ IsLoss (Events.Step thread) = ⊥
 IsLoss (Events.Release place) = ⊥
 IsLoss (Events.Defer deferring) = ⊥
 
--- ---- what events lead to
+-- ---- events one at a time
 
--- Events of rounds lead from one link to the other, and of the composites that they tell of so many at most were counted.
-pub record Leads {S : Type 0} (m : Meaning S) (old new : Link S) (before after : ℕ) : Type 0 where
-  pub events : List LinkEvent
-  pub outcomes : List Outcome
-  pub of_round : AllByRecursion IsOfRound events
-  pub ran : Ran m events old new outcomes
-  pub counted : after ≤ before + seen_in outcomes
+-- this event happened, and nothing is told of it
+abbrev pub Quietly : {S : Type 0} → Meaning S → LinkEvent → Link S → Link S → Type 0
+Quietly m e old new = Ran m (e ∷ []) old new []
 
--- the same where none was counted
+-- such events lead from one link to the other
 abbrev pub Moves : {S : Type 0} → Meaning S → Link S → Link S → Type 0
-Moves m old new = Leads m old new 0 0
+Moves m old new = (events : List LinkEvent) × AllByRecursion IsQuiet events × Ran m events old new []
 
 -- no event happened
 abbrev pub Stays : {S : Type 0} → Meaning S → Link S → Link S → Type 0
@@ -89,10 +87,36 @@ Stays m old new = (outcomes : List Outcome) × Ran m [] old new outcomes
 abbrev pub Happens : {S : Type 0} → Meaning S → LinkEvent → Link S → Link S → Type 0
 Happens m e old new = (outcomes : List Outcome) × Ran m (e ∷ []) old new outcomes
 
--- the debugger noticed that the connection is lost, and then the target
-abbrev pub LosesBoth : {S : Type 0} → Meaning S → Link S → Link S → Type 0
-LosesBoth m old new = (outcomes : List Outcome) × Ran m (Events.DebuggerLoses ∷ Events.TargetLoses ∷ []) old new outcomes
-
 -- losses happened, or none
 abbrev pub MayLose : {S : Type 0} → Meaning S → Link S → Link S → Type 0
 MayLose m old new = (events : List LinkEvent) × (outcomes : List Outcome) × AllByRecursion IsLoss events × Ran m events old new outcomes
+
+-- ---- how a run stands
+
+-- The link; how many lines of the plan were carried out; whether the widths of ids were known once, so that lines may be; how many composites
+-- were read in the session, as far as they are counted; and what was printed.
+pub record Standing (S : Type 0) : Type 0 where
+  pub link : Link S
+  pub carried : ℕ
+  pub begun : Bool
+  pub read : ℕ
+  pub out : Story
+
+-- so many are counted at most
+abbrev pub counted : ℕ → ℕ
+counted n = min n (2 ^ 64 - 1)
+
+-- A turn of the debugger that told this: each composite of it counts, and each message has its line, and each ticket that is lost with it.
+abbrev pub read_by : {S : Type 0} → List Outcome → Link S → Standing S → Standing S
+read_by told new old = record old { link = new; read = counted (old.read + seen_in told); out = with_written (turn_text new.debugger told) old.out }
+
+-- The debugger handles what is in front of it: whether it read a message. Where it read none, nothing is told.
+abbrev pub Reads : {S : Type 0} → Meaning S → Standing S → Bool → Standing S → Type 0
+Reads m old true new = (told : List Outcome) × Ran m (Events.DebuggerTurn ∷ []) old.link new.link told × (new.link.did ≡ true) × (new ≡ read_by told new.link old)
+Reads m old false new = Happens m Events.DebuggerTurn old.link new.link × (new.link.did ≡ false) × (new ≡ record old { link = new.link })
+
+-- Events of rounds lead from where one run stands to the other: those of which nothing is told, and turns of the debugger.
+pub data Leads {S : Type 0} (m : Meaning S) (first : Standing S) : Standing S → Type 0 where
+  Rests : Leads m first first
+  Moved : (old : Standing S) (new : Link S) → Leads m first old → Moves m old.link new → Leads m first (record old { link = new })
+  Turned : (old new : Standing S) (handled : Bool) → Leads m first old → Reads m old handled new → Leads m first new

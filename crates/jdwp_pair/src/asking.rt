@@ -4,7 +4,7 @@ ghost use Rattle.jdwp_debugger.specs.RefusedNumbers.{refused_number};
 ghost use Rattle.jdwp_pair.specs.declared.asking.Unread.TheVariants as unread;
 ghost use Rattle.jdwp_pair.specs.Connections.{disconnects};
 ghost use Rattle.jdwp_pair.specs.Events.{refusal_in};
-ghost use Rattle.jdwp_pair.specs.PlanRuns.{AsksFor, EndsAsking, command_by};
+ghost use Rattle.jdwp_pair.specs.Lines.{AsksFor, EndsAsking, command_by};
 
 use crate::connection::Connection;
 use crate::ended::PairEnded;

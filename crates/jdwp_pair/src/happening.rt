@@ -4,8 +4,8 @@ ghost use Rattle.jdwp_model.specs.Events as events;
 ghost use Rattle.jdwp_link.specs.Clauses.{Ran};
 ghost use Rattle.jdwp_link.specs.Told.{event_meaning};
 ghost use Rattle.jdwp_pair.specs.Connections.{disconnects};
-ghost use Rattle.jdwp_pair.specs.Events.{Happens, IsOfRound, Leads, Moves, seen_in};
-ghost use Rattle.jdwp_pair.specs.PlanRuns.{EndsAt, EndsMoving};
+ghost use Rattle.jdwp_pair.specs.Events.{Happens, IsQuiet, Quietly};
+ghost use Rattle.jdwp_pair.specs.Rounds.{EndsAt, EndsQuietly};
 
 use crate::connection::Connection;
 use crate::ended::PairEnded;
@@ -39,7 +39,7 @@ pub(crate) fn happen<M: Machine + Drop, C: Connection>(
     }
 }
 
-/// The same of an event of a round.
+/// The same of an event of which nothing is told.
 ///
 /// # Errors
 /// Those of `happen`.
@@ -47,15 +47,18 @@ pub(crate) fn act<M: Machine + Drop, C: Connection>(
     link: &mut Link<M>,
     connection: &mut C,
     event: LinkEvent,
-) -> Result<Vec<Outcome>, PairEnded>
-    requires { IsOfRound (event_meaning event) }
-    ensures happens { OnOk result (Happens M.meaning (event_meaning event) link.old link.new) }
-    ensures leads { IfOk result (λ told. Leads M.meaning link.old link.new 0 (seen_in told.items)) }
-    ensures moves { Moves M.meaning link.old link.new }
-    ensures ends { IfErr result EndsMoving }
+) -> Result<(), PairEnded>
+    requires { IsQuiet (event_meaning event) }
+    ensures acts { OnOk result (Quietly M.meaning (event_meaning event) link.old link.new) }
+    ensures ends { IfErr result (λ ended. EndsQuietly M.meaning ended link.old link.new) }
     ensures failed { is_some (C.failed_by connection.new) ≡ disconnects result }
 {
-    happen(link, connection, event)
+    link.session();
+    let _told = match happen(link, connection, event) {
+        Ok(told) => told,
+        Err(ended) => return Err(ended),
+    };
+    Ok(())
 }
 
 /// From now on the target defers the replies that may come later, or it defers none.

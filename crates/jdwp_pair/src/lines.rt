@@ -1,8 +1,9 @@
 //! The lines of a plan.
-ghost use Rattle.std.specs.Prelude.{◌≡◌, ◌≤◌, false, IfErr, IsTrue, OnOk, is_some, length};
+ghost use Rattle.std.specs.Prelude.{◌≡◌, ◌&&◌, false, IfErr, IfOk, OnOk, is_some, length, nat_le, not};
 ghost use Rattle.jdwp_debugger.specs.Debuggers.{has_tickets};
+ghost use Rattle.jdwp_pair.specs.Calls.{at};
 ghost use Rattle.jdwp_pair.specs.Connections.{disconnects};
-ghost use Rattle.jdwp_pair.specs.PlanRuns.{CarriesOut, EndsLine, EndsSo, GoesOn, IsDue, counted_behind};
+ghost use Rattle.jdwp_pair.specs.Lines.{CarriesOut, EndsAtNext, EndsLine, TakesLine, counted_behind, is_due};
 
 use crate::asking::{Asked, ask_line};
 use crate::connection::Connection;
@@ -33,10 +34,10 @@ pub(crate) fn next_line<M: Machine + Drop, C: Connection, W: Pipe>(
     run: &mut Run,
 ) -> Result<bool, PairEnded>
     requires { is_some (C.failed_by connection.old) ≡ false }
-    ensures goes { OnOk result (GoesOn M.meaning plan.now run.old.carried run.old.composites
-        link.old run.new.carried run.new.composites link.new) }
-    ensures ends { IfErr result (λ ended.
-        EndsSo M.meaning plan.now run.old.carried run.old.composites link.old ended link.new) }
+    ensures takes { IfOk result (λ taken. TakesLine M.meaning plan.now
+        (at link.old run.old (W.story out.old)) taken (at link.new run.new (W.story out.new))) }
+    ensures ends { IfErr result (λ ended. EndsAtNext M.meaning plan.now ended
+        (at link.old run.old (W.story out.old)) link.new (W.story out.new)) }
     ensures failed { is_some (C.failed_by connection.new) ≡ disconnects result }
 {
     if !run.begun || run.carried >= plan.len() {
@@ -58,7 +59,7 @@ pub(crate) fn next_line<M: Machine + Drop, C: Connection, W: Pipe>(
 
 /// Whether a line can be carried out now, so many composites having been read in the session.
 fn is_due<M: Machine + Drop>(link: &Link<M>, line: &PlanLine, composites: u64) -> bool
-    ensures { IsTrue result → IsDue M.meaning line.now composites link.now }
+    ensures { result ≡ is_due M.meaning line.now composites link.now }
 {
     let debugger = link.debugger();
     match line {
@@ -84,12 +85,14 @@ fn carry_out<M: Machine + Drop, C: Connection, W: Pipe>(
     place: usize,
 ) -> Result<(), PairEnded>
     requires { is_some (C.failed_by connection.old) ≡ false }
-    ensures carries { OnOk result (CarriesOut M.meaning line.now link.old link.new) }
-    ensures ends { IfErr result (λ ended.
-        EndsLine M.meaning line.now place ended link.old link.new) }
-    ensures carried { run.new.carried ≡ run.old.carried }
-    ensures composites { OnOk result (run.new.composites
-        ≡ counted_behind line.now run.old.composites) }
+    ensures carries { OnOk result (CarriesOut M.meaning line.now link.old (W.story out.old) link.new
+        (W.story out.new)) }
+    ensures ends { IfErr result (λ ended. EndsLine M.meaning line.now place ended link.old
+        (W.story out.old) link.new (W.story out.new)) }
+    ensures counts { OnOk result (run.new ≡ record run.old {
+      composites = counted_behind line.now
+          run.old.composites;
+    }) }
     ensures failed { is_some (C.failed_by connection.new) ≡ disconnects result }
 {
     match line {
@@ -105,18 +108,20 @@ fn carry_out<M: Machine + Drop, C: Connection, W: Pipe>(
         PlanLine::Mirror => tell_mirror(alloc, link.debugger(), out),
         PlanLine::LoseTarget => lose_target(link, connection),
         PlanLine::LoseDebugger => lose_debugger(alloc, link, connection, out),
-        PlanLine::Attach => {
-            attach(link, connection)?;
-            run.composites = 0;
-            Ok(())
-        }
+        PlanLine::Attach => match attach(link, connection) {
+            Ok(()) => {
+                run.composites = 0;
+                Ok(())
+            }
+            Err(ended) => Err(ended),
+        },
     }
 }
 
 /// Whether the plan is finished: all of its lines were carried out, and no command waits for its answer.
 pub(crate) fn is_finished(debugger: &Debugger, plan: &[PlanLine], run: &Run) -> bool
-    ensures { IsTrue result → (length plan.now ≤ run.now.carried)
-        × (has_tickets debugger.now.pending ≡ false) }
+    ensures { result ≡ (run.now.begun && (nat_le (length plan.now) run.now.carried
+        && not (has_tickets debugger.now.pending))) }
 {
     if !run.begun || run.carried < plan.len() {
         return false;

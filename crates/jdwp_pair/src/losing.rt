@@ -1,9 +1,10 @@
 //! Losses of the connection.
 ghost use Rattle.std.specs.Prelude.{◌≡◌, IfErr, OnOk, is_some};
 ghost use Rattle.jdwp_model.specs.Events as events;
-ghost use Rattle.jdwp_pair.specs.Connections.{disconnects};
-ghost use Rattle.jdwp_pair.specs.Events.{Happens, LosesBoth, MayLose};
-ghost use Rattle.jdwp_pair.specs.PlanRuns.{EndsLosing};
+ghost use Rattle.jdwp_pair.specs.Connections.{disconnects, is_disconnected};
+ghost use Rattle.jdwp_pair.specs.Events.{Happens};
+ghost use Rattle.jdwp_pair.specs.Lines.{EndsLosing, EndsLosingTarget, LosesDebugger};
+ghost use Rattle.jdwp_pair.specs.PlanRuns.{LosesBoth};
 
 use crate::connection::Connection;
 use crate::ended::PairEnded;
@@ -23,11 +24,13 @@ pub(crate) fn lose_target<M: Machine + Drop, C: Connection>(
     connection: &mut C,
 ) -> Result<(), PairEnded>
     ensures loses { OnOk result (Happens M.meaning events.TargetLoses link.old link.new) }
-    ensures ends { IfErr result EndsLosing }
-    ensures lost { MayLose M.meaning link.old link.new }
+    ensures ends { IfErr result (λ ended. EndsLosingTarget M.meaning ended link.old link.new) }
     ensures failed { is_some (C.failed_by connection.new) ≡ disconnects result }
 {
-    happen(link, connection, LinkEvent::TargetLoses)?;
+    let _told = match happen(link, connection, LinkEvent::TargetLoses) {
+        Ok(told) => told,
+        Err(ended) => return Err(ended),
+    };
     connection.lose(Side::Target);
     Ok(())
 }
@@ -42,31 +45,37 @@ pub(crate) fn lose_debugger<M: Machine + Drop, C: Connection, W: Pipe>(
     connection: &mut C,
     out: &mut W,
 ) -> Result<(), PairEnded>
-    ensures loses { OnOk result (Happens M.meaning events.DebuggerLoses link.old link.new) }
-    ensures ends { IfErr result EndsLosing }
-    ensures lost { MayLose M.meaning link.old link.new }
+    ensures loses { OnOk result (LosesDebugger M.meaning link.old (W.story out.old) link.new
+        (W.story out.new)) }
+    ensures ends { IfErr result (λ ended. EndsLosing M.meaning ended link.old (W.story out.old)
+        link.new (W.story out.new)) }
     ensures failed { is_some (C.failed_by connection.new) ≡ disconnects result }
 {
-    let outcomes = happen(link, connection, LinkEvent::DebuggerLoses)?;
+    let outcomes = match happen(link, connection, LinkEvent::DebuggerLoses) {
+        Ok(outcomes) => outcomes,
+        Err(ended) => return Err(ended),
+    };
     connection.lose(Side::Debugger);
     tell_lost(alloc, &outcomes, out)
 }
 
-/// The debugger notices that the connection is lost, and then the target.
-///
-/// # Errors
-/// Those of `lose_debugger`.
+/// The debugger notices that the connection is lost, and then the target. How the run ends.
 pub(crate) fn lose_both<M: Machine + Drop, C: Connection, W: Pipe>(
     alloc: Global,
     link: &mut Link<M>,
     connection: &mut C,
     out: &mut W,
-) -> Result<(), PairEnded>
-    ensures loses { OnOk result (LosesBoth M.meaning link.old link.new) }
-    ensures ends { IfErr result EndsLosing }
-    ensures lost { MayLose M.meaning link.old link.new }
-    ensures failed { is_some (C.failed_by connection.new) ≡ disconnects result }
+) -> PairEnded
+    ensures loses { LosesBoth M.meaning result link.old (W.story out.old) link.new
+        (W.story out.new) }
+    ensures failed { is_some (C.failed_by connection.new) ≡ is_disconnected result }
 {
-    lose_debugger(alloc, link, connection, out)?;
-    lose_target(link, connection)
+    match lose_debugger(alloc, link, connection, out) {
+        Ok(()) => {}
+        Err(ended) => return ended,
+    }
+    match lose_target(link, connection) {
+        Ok(()) => PairEnded::Done,
+        Err(ended) => ended,
+    }
 }

@@ -1,17 +1,20 @@
 //! The engine that runs both ends by a plan.
-ghost use Rattle.std.specs.Prelude.{◌≡◌, ◌+◌, ◌⊎◌, ◌∷◌, List, Err, IfErr, IfOk, Ok, OnErr, OnOk, false, is_some, length, take};
+ghost use Rattle.std.specs.Prelude.{◌≡◌, ◌+◌, ◌⊎◌, ◌∷◌, ◌||◌, List, Err, IfErr, IfOk, Ok, OnErr, OnOk, false, is_some, length, min};
 ghost use Rattle.jdwp_script_machine.specs.Machines.{read_machine};
 ghost use Rattle.jdwp_script_machine.specs.ScriptMeaning.{script_meaning};
 ghost use Rattle.jdwp_script_machine.specs.States.{State};
 ghost use Rattle.jdwp_target.specs.Options.{LivesWithin};
 ghost use Rattle.jdwp_model.specs.Events as events;
 ghost use Rattle.jdwp_link.specs.declared.events.Outcome as declared;
-ghost use Rattle.jdwp_link.specs.Clauses.{Ran};
+ghost use Rattle.jdwp_link.specs.Clauses.{HoldsSuspended, Ran};
 ghost use Rattle.jdwp_link.specs.Links.{new_link};
 ghost use Rattle.jdwp_debuggee.specs.State.{new_state};
+ghost use Rattle.jdwp_pipe.specs.Story.{Story};
+ghost use Rattle.jdwp_pair.specs.Calls.{at};
 ghost use Rattle.jdwp_pair.specs.Connections.{disconnects, is_disconnected};
-ghost use Rattle.jdwp_pair.specs.Events.{Happens, Moves};
-ghost use Rattle.jdwp_pair.specs.PlanRuns.{EndsMoving, EndsSo, FinishesSo, GoesOn, Pairs, PairsNew, unflushed_end};
+ghost use Rattle.jdwp_pair.specs.Events.{Happens};
+ghost use Rattle.jdwp_pair.specs.PlanRuns.{Ends, PairsBy, PairsNew, PairsNewBy, RunsPlan, unflushed_end};
+ghost use Rattle.jdwp_pair.specs.Rounds.{EndsQuietly, EndsRound, IsRound, RunsMachine};
 
 use crate::connection::Connection;
 use crate::ended::PairEnded;
@@ -22,6 +25,7 @@ use crate::parts::{run_debugger, run_target};
 use crate::run::Run;
 use crate::stepping::release_or_step;
 use jdwp_debuggee::Settings;
+use jdwp_debugger::Debugger;
 use jdwp_link::Link;
 use jdwp_machine::Machine;
 use jdwp_pipe::{Pipe, flush_all};
@@ -49,7 +53,8 @@ pub fn pair_script<C: Connection, W: Pipe>(
 ) -> Result<PairEnded, ScriptFault>
     ensures paired { IfOk result (λ ended. (machine : State)
         × (read_machine settings.limits.live script.now ≡ Ok machine)
-        × PairsNew script_meaning settings defer machine plan.now ended) }
+        × PairsNewBy script_meaning settings defer machine plan.now rounds ended (W.story out.old)
+        (W.story out.new)) }
     ensures failed { IfOk result (λ ended. is_some (C.failed_by connection.new)
         ≡ is_disconnected ended) }
     ensures fault { IfErr result (λ fault. (fault ≡ ScriptFault.NoMemory)
@@ -81,6 +86,8 @@ pub fn pair_session<M: Machine + Drop, C: Connection, W: Pipe>(
 ) -> Result<PairEnded, NoMemory>
     requires { LivesWithin M.meaning settings.limits machine }
     ensures paired { IfOk result (PairsNew M.meaning settings defer machine plan.now) }
+    ensures by_rounds { IfOk result (λ ended. PairsNewBy M.meaning settings defer machine plan.now
+        rounds ended (W.story out.old) (W.story out.new)) }
     ensures failed { IfOk result (λ ended. is_some (C.failed_by connection.new)
         ≡ is_disconnected ended) }
     ensures unprinted { OnErr result (out.new ≡ out.old) }
@@ -140,12 +147,15 @@ pub fn pair<M: Machine + Drop, C: Connection, W: Pipe>(
     out: &mut W,
     rounds: u64,
 ) -> PairEnded
-    ensures by_plan { Pairs M.meaning plan.now result link.old link.new }
+    ensures by_plan { PairsBy M.meaning plan.now rounds link.old (W.story out.old) link.new result
+        (W.story out.new) }
+    ensures held { HoldsSuspended link.new }
     ensures ran { (later : List events.LinkEvent) × (outcomes : List declared.Outcome)
         × Ran M.meaning (events.Attach ∷ later) link.old link.new outcomes }
     ensures failed { is_some (C.failed_by connection.new) ≡ is_disconnected result }
 {
     let ended = run_plan(alloc, link, connection, plan, out, rounds);
+    link.session();
     if flush_all(out) {
         ended
     } else {
@@ -176,7 +186,8 @@ fn run_plan<M: Machine + Drop, C: Connection, W: Pipe>(
     out: &mut W,
     rounds: u64,
 ) -> PairEnded
-    ensures pairs { Pairs M.meaning plan.now result link.old link.new }
+    ensures runs { RunsPlan M.meaning plan.now rounds result link.old (W.story out.old) link.new
+        (W.story out.new) }
     ensures failed { is_some (C.failed_by connection.new) ≡ is_disconnected result }
 {
     let mut run = Run {
@@ -184,22 +195,13 @@ fn run_plan<M: Machine + Drop, C: Connection, W: Pipe>(
         begun: false,
         composites: 0,
     };
-    if let Err(ended) = attach(link, connection) {
-        return ended;
-    }
-    if let Err(ended) = run_rounds(alloc, link, connection, plan, out, &mut run, rounds) {
-        return ended;
-    }
-    match lose_both(alloc, link, connection, out) {
-        Ok(()) => PairEnded::Done,
+    match attach(link, connection) {
+        Ok(()) => run_rounds(alloc, link, connection, plan, out, &mut run, rounds),
         Err(ended) => ended,
     }
 }
 
-/// Runs rounds until the plan is finished.
-///
-/// # Errors
-/// Why the run ends before.
+/// Runs rounds until one ends the run, or the plan is finished, and then both ends lose the connection. How the run ends.
 fn run_rounds<M: Machine + Drop, C: Connection, W: Pipe>(
     alloc: Global,
     link: &mut Link<M>,
@@ -208,28 +210,26 @@ fn run_rounds<M: Machine + Drop, C: Connection, W: Pipe>(
     out: &mut W,
     run: &mut Run,
     rounds: u64,
-) -> Result<(), PairEnded>
+) -> PairEnded
     requires { is_some (C.failed_by connection.old) ≡ false }
-    ensures finished { OnOk result (FinishesSo M.meaning plan.now run.old.carried run.old.composites
-        link.old link.new) }
-    ensures ends { IfErr result (λ ended.
-        EndsSo M.meaning plan.now run.old.carried run.old.composites link.old ended link.new) }
-    ensures failed { is_some (C.failed_by connection.new) ≡ disconnects result }
+    ensures ends { Ends M.meaning plan.now rounds result (at link.old run.old (W.story out.old))
+        link.new (W.story out.new) }
+    ensures failed { is_some (C.failed_by connection.new) ≡ is_disconnected result }
 {
-    for _ in 0..rounds {
+    for _done in 0..rounds {
         match round(alloc, link, connection, plan, out, run) {
             Ok(true) => {}
             Ok(false) => {
                 let line = waiting_line(plan, run);
-                return Err(PairEnded::Standstill { line });
+                return PairEnded::Standstill { line };
             }
-            Err(ended) => return Err(ended),
+            Err(ended) => return ended,
         }
         if is_finished(link.debugger(), plan, run) {
-            return Ok(());
+            return lose_both(alloc, link, connection, out);
         }
     }
-    Err(PairEnded::TurnLimit)
+    PairEnded::TurnLimit
 }
 
 /// One round. Whether something happened: a line was carried out, an end handled a message, a command was released, or a thread made a step.
@@ -245,10 +245,10 @@ fn round<M: Machine + Drop, C: Connection, W: Pipe>(
     run: &mut Run,
 ) -> Result<bool, PairEnded>
     requires { is_some (C.failed_by connection.old) ≡ false }
-    ensures goes { OnOk result (GoesOn M.meaning plan.now run.old.carried run.old.composites
-        link.old run.new.carried run.new.composites link.new) }
-    ensures ends { IfErr result (λ ended.
-        EndsSo M.meaning plan.now run.old.carried run.old.composites link.old ended link.new) }
+    ensures round { IfOk result (λ happened. IsRound M.meaning plan.now
+        (at link.old run.old (W.story out.old)) happened (at link.new run.new (W.story out.new))) }
+    ensures ends { IfErr result (λ ended. EndsRound M.meaning plan.now ended
+        (at link.old run.old (W.story out.old)) link.new (W.story out.new)) }
     ensures failed { is_some (C.failed_by connection.new) ≡ disconnects result }
 {
     let carried = match next_line(alloc, link, connection, plan, out, run) {
@@ -261,22 +261,31 @@ fn round<M: Machine + Drop, C: Connection, W: Pipe>(
     };
     match run_debugger(alloc, link, connection, out, run) {
         Ok(read) => {
-            run.begun = run.begun || link.debugger().sizes().is_some();
+            begin_where_known(link.debugger(), run);
             Ok(carried || moved || read)
         }
         Err(ended) => Err(ended),
     }
 }
 
+/// From now on lines may be carried out, where the widths of ids are known.
+fn begin_where_known(debugger: &Debugger, run: &mut Run)
+    ensures { run.new ≡ record run.old { begun = run.old.begun || is_some debugger.now.sizes } }
+{
+    if debugger.sizes().is_some() {
+        run.begun = true;
+    }
+}
+
 /// The line behind those that were carried out, counted from 1.
 fn waiting_line(plan: &[PlanLine], run: &Run) -> usize
-    ensures { result ≡ length (take run.now.carried plan.now) + 1 }
+    ensures { result ≡ min run.now.carried (length plan.now) + 1 }
 {
     run.carried.min(plan.len()) + 1
 }
 
-/// All bytes under way come to the target, and it handles them; where it handled nothing, the newest deferred command is released, or each
-/// live thread makes a step. Whether something was done.
+/// The target handles what comes to it; where it handled nothing, the newest deferred command is released, or each live thread makes a step.
+/// Whether something was done.
 ///
 /// # Errors
 /// `NoMemory` where an allocation was refused; `LostConnection`.
@@ -285,12 +294,13 @@ fn run_machine<M: Machine + Drop, C: Connection>(
     connection: &mut C,
 ) -> Result<bool, PairEnded>
     requires { is_some (C.failed_by connection.old) ≡ false }
-    ensures moves { Moves M.meaning link.old link.new }
-    ensures ends { IfErr result EndsMoving }
+    ensures runs { IfOk result (λ did. RunsMachine M.meaning link.old did link.new) }
+    ensures ends { IfErr result (λ ended. EndsQuietly M.meaning ended link.old link.new) }
     ensures failed { is_some (C.failed_by connection.new) ≡ disconnects result }
 {
-    if run_target(link, connection)? {
-        return Ok(true);
+    match run_target(link, connection) {
+        Ok(true) => Ok(true),
+        Ok(false) => release_or_step(link, connection),
+        Err(ended) => Err(ended),
     }
-    release_or_step(link, connection)
 }

@@ -1,14 +1,14 @@
 //! The parts of a round in which bytes come to an end, and it handles them.
-ghost use Rattle.std.specs.Prelude.{◌≡◌, false, IfErr, OnOk, is_some};
+ghost use Rattle.std.specs.Prelude.{◌≡◌, false, IfErr, IfOk, OnOk, is_some};
+ghost use Rattle.jdwp_pair.specs.Calls.{at};
 ghost use Rattle.jdwp_pair.specs.Connections.{disconnects};
-ghost use Rattle.jdwp_pair.specs.Events.{Leads, Moves, piece};
-ghost use Rattle.jdwp_pair.specs.PlanRuns.{EndsMoving, EndsReading};
+ghost use Rattle.jdwp_pair.specs.Rounds.{ComesToDebugger, ComesToTarget, EndsMoving, EndsQuietly, PieceToDebugger, PieceToTarget, TurnsDebugger, TurnsTarget, Until};
 
 use crate::connection::Connection;
 use crate::ended::PairEnded;
-use crate::happening::act;
+use crate::happening::{act, happen};
 use crate::run::Run;
-use crate::telling::tell_turn;
+use crate::telling::{seen_in, tell_turn};
 use jdwp_link::{Link, LinkEvent};
 use jdwp_machine::Machine;
 use jdwp_pipe::Pipe;
@@ -17,7 +17,7 @@ use std::alloc::Global;
 /// How many bytes come to an end at once at most.
 const PIECE: usize = 4_096;
 
-/// All bytes under way come to the target, and it handles them. Whether it handled a message.
+/// The target handles what comes to it, until there is nothing. Whether it handled a message.
 ///
 /// # Errors
 /// `NoMemory` where an allocation was refused; `LostConnection`.
@@ -26,21 +26,42 @@ pub(crate) fn run_target<M: Machine + Drop, C: Connection>(
     connection: &mut C,
 ) -> Result<bool, PairEnded>
     requires { is_some (C.failed_by connection.old) ≡ false }
-    ensures moves { Moves M.meaning link.old link.new }
-    ensures ends { IfErr result EndsMoving }
+    ensures runs { IfOk result (λ handled. Until (TurnsTarget M.meaning) link.old handled link.new) }
+    ensures ends { IfErr result (λ ended. EndsQuietly M.meaning ended link.old link.new) }
     ensures failed { is_some (C.failed_by connection.new) ≡ disconnects result }
 {
     let mut handled = false;
-    for _ in 0..u64::MAX {
-        deliver_to_target(link, connection)?;
-        let is_full = link.target().room() == 0;
-        let turned = turn_target(link, connection)?;
-        handled = handled || turned;
-        if !is_full || !turned {
-            break;
+    for _done in 0..u64::MAX {
+        match turn_target(link, connection) {
+            Ok(true) => handled = true,
+            Ok(false) => return Ok(handled),
+            Err(ended) => return Err(ended),
         }
     }
     Ok(handled)
+}
+
+/// All bytes under way come to the target, or as many as it has room for, and it handles what is in front of it. Whether it handled a message.
+///
+/// # Errors
+/// Those of `run_target`.
+fn turn_target<M: Machine + Drop, C: Connection>(
+    link: &mut Link<M>,
+    connection: &mut C,
+) -> Result<bool, PairEnded>
+    requires { is_some (C.failed_by connection.old) ≡ false }
+    ensures turns { IfOk result (λ handled. TurnsTarget M.meaning link.old handled link.new) }
+    ensures ends { IfErr result (λ ended. EndsQuietly M.meaning ended link.old link.new) }
+    ensures failed { is_some (C.failed_by connection.new) ≡ disconnects result }
+{
+    match deliver_to_target(link, connection) {
+        Ok(()) => {}
+        Err(ended) => return Err(ended),
+    }
+    match act(link, connection, LinkEvent::TargetTurn) {
+        Ok(()) => Ok(link.did()),
+        Err(ended) => Err(ended),
+    }
 }
 
 /// All bytes under way come to the target, or as many as it has room for.
@@ -49,42 +70,37 @@ fn deliver_to_target<M: Machine + Drop, C: Connection>(
     connection: &mut C,
 ) -> Result<(), PairEnded>
     requires { is_some (C.failed_by connection.old) ≡ false }
-    ensures moves { Moves M.meaning link.old link.new }
-    ensures ends { IfErr result EndsMoving }
+    ensures comes { OnOk result (ComesToTarget M.meaning link.old link.new) }
+    ensures ends { IfErr result (λ ended. EndsQuietly M.meaning ended link.old link.new) }
     ensures failed { is_some (C.failed_by connection.new) ≡ disconnects result }
 {
-    for _ in 0..u64::MAX {
-        let room = link.target().room();
-        act(link, connection, LinkEvent::ToTarget(PIECE))?;
-        if room.saturating_sub(link.target().room()) < PIECE {
-            break;
+    for _done in 0..u64::MAX {
+        match piece_to_target(link, connection) {
+            Ok(true) => {}
+            Ok(false) => return Ok(()),
+            Err(ended) => return Err(ended),
         }
     }
     Ok(())
 }
 
-/// Turns of the target until one handles nothing. Whether one handled a message.
-fn turn_target<M: Machine + Drop, C: Connection>(
+/// A piece of the bytes under way comes to the target. Whether it was whole, so that more may be under way.
+fn piece_to_target<M: Machine + Drop, C: Connection>(
     link: &mut Link<M>,
     connection: &mut C,
 ) -> Result<bool, PairEnded>
-    requires { is_some (C.failed_by connection.old) ≡ false }
-    ensures moves { Moves M.meaning link.old link.new }
-    ensures ends { IfErr result EndsMoving }
+    ensures comes { IfOk result (λ whole. PieceToTarget M.meaning link.old whole link.new) }
+    ensures ends { IfErr result (λ ended. EndsQuietly M.meaning ended link.old link.new) }
     ensures failed { is_some (C.failed_by connection.new) ≡ disconnects result }
 {
-    let mut turned = false;
-    for _ in 0..u64::MAX {
-        act(link, connection, LinkEvent::TargetTurn)?;
-        if !link.did() {
-            break;
-        }
-        turned = true;
+    let room = link.target().room();
+    match act(link, connection, LinkEvent::ToTarget(PIECE)) {
+        Ok(()) => Ok(room.saturating_sub(link.target().room()) >= PIECE),
+        Err(ended) => Err(ended),
     }
-    Ok(turned)
 }
 
-/// All bytes under way come to the debugger, and it handles them; what it reads is printed. Whether it handled a message.
+/// The debugger handles what comes to it, until there is nothing, and what it reads is printed. Whether it handled a message.
 ///
 /// # Errors
 /// Why the run ends: `Done` where the debugger read that the session is over; `LostByWrite` where a write failed; `NoMemory` where an
@@ -97,48 +113,25 @@ pub(crate) fn run_debugger<M: Machine + Drop, C: Connection, W: Pipe>(
     run: &mut Run,
 ) -> Result<bool, PairEnded>
     requires { is_some (C.failed_by connection.old) ≡ false }
-    ensures leads { OnOk result (Leads M.meaning link.old link.new run.old.composites
-        run.new.composites) }
-    ensures carried { run.new.carried ≡ run.old.carried }
-    ensures ends { IfErr result (λ ended. EndsReading M.meaning ended link.old link.new) }
+    ensures runs { IfOk result (λ handled. Until (TurnsDebugger M.meaning)
+        (at link.old run.old (W.story out.old)) handled (at link.new run.new (W.story out.new))) }
+    ensures ends { IfErr result (λ ended. EndsMoving M.meaning ended
+        (at link.old run.old (W.story out.old)) link.new (W.story out.new)) }
     ensures failed { is_some (C.failed_by connection.new) ≡ disconnects result }
 {
     let mut handled = false;
-    for _ in 0..u64::MAX {
-        deliver_to_debugger(link, connection)?;
-        let is_full = link.debugger().room() == 0;
-        if !turn_debugger(alloc, link, connection, out, run)? {
-            break;
-        }
-        handled = true;
-        if !is_full {
-            break;
+    for _done in 0..u64::MAX {
+        match turn_debugger(alloc, link, connection, out, run) {
+            Ok(true) => handled = true,
+            Ok(false) => return Ok(handled),
+            Err(ended) => return Err(ended),
         }
     }
     Ok(handled)
 }
 
-/// All bytes under way come to the debugger, or as many as it has room for.
-fn deliver_to_debugger<M: Machine + Drop, C: Connection>(
-    link: &mut Link<M>,
-    connection: &mut C,
-) -> Result<(), PairEnded>
-    requires { is_some (C.failed_by connection.old) ≡ false }
-    ensures moves { Moves M.meaning link.old link.new }
-    ensures ends { IfErr result EndsMoving }
-    ensures failed { is_some (C.failed_by connection.new) ≡ disconnects result }
-{
-    for _ in 0..u64::MAX {
-        let room = link.debugger().room();
-        act(link, connection, LinkEvent::ToDebugger(PIECE))?;
-        if room.saturating_sub(link.debugger().room()) < PIECE {
-            break;
-        }
-    }
-    Ok(())
-}
-
-/// Turns of the debugger until one handles nothing; what they read is printed. Whether one handled a message.
+/// All bytes under way come to the debugger, or as many as it has room for, it handles what is in front of it, and what it reads is printed
+/// and counted. Whether it handled a message.
 ///
 /// # Errors
 /// Those of `run_debugger`.
@@ -150,24 +143,67 @@ fn turn_debugger<M: Machine + Drop, C: Connection, W: Pipe>(
     run: &mut Run,
 ) -> Result<bool, PairEnded>
     requires { is_some (C.failed_by connection.old) ≡ false }
-    ensures leads { OnOk result (Leads M.meaning link.old link.new run.old.composites
-        run.new.composites) }
-    ensures carried { run.new.carried ≡ run.old.carried }
-    ensures ends { IfErr result (λ ended. EndsReading M.meaning ended link.old link.new) }
+    ensures turns { IfOk result (λ handled. TurnsDebugger M.meaning
+        (at link.old run.old (W.story out.old)) handled (at link.new run.new (W.story out.new))) }
+    ensures ends { IfErr result (λ ended. EndsMoving M.meaning ended
+        (at link.old run.old (W.story out.old)) link.new (W.story out.new)) }
     ensures failed { is_some (C.failed_by connection.new) ≡ disconnects result }
 {
-    let mut turned = false;
-    for _ in 0..u64::MAX {
-        let was_open = link.debugger().is_open();
-        let outcomes = act(link, connection, LinkEvent::DebuggerTurn)?;
-        if !link.did() {
-            break;
-        }
-        turned = true;
-        tell_turn(alloc, link.debugger(), &outcomes, out, run)?;
-        if was_open && !link.debugger().is_open() {
-            return Err(PairEnded::Done);
+    match deliver_to_debugger(link, connection) {
+        Ok(()) => {}
+        Err(ended) => return Err(ended),
+    }
+    let was_open = link.debugger().is_open();
+    let outcomes = match happen(link, connection, LinkEvent::DebuggerTurn) {
+        Ok(outcomes) => outcomes,
+        Err(ended) => return Err(ended),
+    };
+    if !link.did() {
+        return Ok(false);
+    }
+    match tell_turn(alloc, link.debugger(), &outcomes, out) {
+        Ok(()) => {}
+        Err(ended) => return Err(ended),
+    }
+    if was_open && !link.debugger().is_open() {
+        return Err(PairEnded::Done);
+    }
+    run.composites = run.composites.saturating_add(seen_in(&outcomes));
+    Ok(true)
+}
+
+/// All bytes under way come to the debugger, or as many as it has room for.
+fn deliver_to_debugger<M: Machine + Drop, C: Connection>(
+    link: &mut Link<M>,
+    connection: &mut C,
+) -> Result<(), PairEnded>
+    requires { is_some (C.failed_by connection.old) ≡ false }
+    ensures comes { OnOk result (ComesToDebugger M.meaning link.old link.new) }
+    ensures ends { IfErr result (λ ended. EndsQuietly M.meaning ended link.old link.new) }
+    ensures failed { is_some (C.failed_by connection.new) ≡ disconnects result }
+{
+    for _done in 0..u64::MAX {
+        match piece_to_debugger(link, connection) {
+            Ok(true) => {}
+            Ok(false) => return Ok(()),
+            Err(ended) => return Err(ended),
         }
     }
-    Ok(turned)
+    Ok(())
+}
+
+/// A piece of the bytes under way comes to the debugger. Whether it was whole, so that more may be under way.
+fn piece_to_debugger<M: Machine + Drop, C: Connection>(
+    link: &mut Link<M>,
+    connection: &mut C,
+) -> Result<bool, PairEnded>
+    ensures comes { IfOk result (λ whole. PieceToDebugger M.meaning link.old whole link.new) }
+    ensures ends { IfErr result (λ ended. EndsQuietly M.meaning ended link.old link.new) }
+    ensures failed { is_some (C.failed_by connection.new) ≡ disconnects result }
+{
+    let room = link.debugger().room();
+    match act(link, connection, LinkEvent::ToDebugger(PIECE)) {
+        Ok(()) => Ok(room.saturating_sub(link.debugger().room()) >= PIECE),
+        Err(ended) => Err(ended),
+    }
 }

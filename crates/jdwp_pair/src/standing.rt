@@ -2,7 +2,7 @@
 ghost use Rattle.std.specs.Prelude.{◌≡◌};
 ghost use Rattle.jdwp_debugger.specs.Debuggers.{has_tickets};
 ghost use Rattle.jdwp_port.specs.Served.{lives};
-ghost use Rattle.jdwp_pair.specs.PlanRuns.{may_begin};
+ghost use Rattle.jdwp_pair.specs.Lines.{may_begin};
 
 use jdwp_debugger::Debugger;
 use jdwp_link::Link;

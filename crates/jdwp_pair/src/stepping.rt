@@ -1,9 +1,9 @@
 //! Releases of deferred commands, and steps of threads.
-ghost use Rattle.std.specs.Prelude.{◌≡◌, true, false, IfErr, IfSome, is_some};
-ghost use Rattle.jdwp_engine.specs.Rounds.{id_in, is_above};
+ghost use Rattle.std.specs.Prelude.{◌≡◌, ◌++◌, ◌∷◌, [], ℕ, List, None, false, IfErr, IfOk, is_some};
+ghost use Rattle.jdwp_engine.specs.Rounds.{IsNext, id_in, is_above};
+ghost use Rattle.jdwp_machine.specs.Meanings.{numbers};
 ghost use Rattle.jdwp_pair.specs.Connections.{disconnects};
-ghost use Rattle.jdwp_pair.specs.Events.{Moves};
-ghost use Rattle.jdwp_pair.specs.PlanRuns.{EndsMoving};
+ghost use Rattle.jdwp_pair.specs.Rounds.{EndsQuietly, ReleasesOrSteps, StepsEach};
 
 use crate::connection::Connection;
 use crate::ended::PairEnded;
@@ -22,16 +22,19 @@ pub(crate) fn release_or_step<M: Machine + Drop, C: Connection>(
     connection: &mut C,
 ) -> Result<bool, PairEnded>
     requires { is_some (C.failed_by connection.old) ≡ false }
-    ensures moves { Moves M.meaning link.old link.new }
-    ensures ends { IfErr result EndsMoving }
+    ensures moves { IfOk result (λ did. ReleasesOrSteps M.meaning link.old.target.deferred link.old
+        did link.new) }
+    ensures ends { IfErr result (λ ended. EndsQuietly M.meaning ended link.old link.new) }
     ensures failed { is_some (C.failed_by connection.new) ≡ disconnects result }
 {
     let deferred = link.target().deferred();
     if deferred == 0 {
         return step_each(link, connection);
     }
-    act(link, connection, LinkEvent::Release(deferred - 1))?;
-    Ok(link.did())
+    match act(link, connection, LinkEvent::Release(deferred - 1)) {
+        Ok(()) => Ok(link.did()),
+        Err(ended) => Err(ended),
+    }
 }
 
 /// One step of each live thread, by rising id, and whether one of them stepped. Threads that a step starts are among them where their
@@ -44,15 +47,17 @@ fn step_each<M: Machine + Drop, C: Connection>(
     connection: &mut C,
 ) -> Result<bool, PairEnded>
     requires { is_some (C.failed_by connection.old) ≡ false }
-    ensures moves { Moves M.meaning link.old link.new }
-    ensures ends { IfErr result EndsMoving }
+    ensures each { IfOk result (λ did. StepsEach M.meaning None link.old did link.new) }
+    ensures ends { IfErr result (λ ended. EndsQuietly M.meaning ended link.old link.new) }
     ensures failed { is_some (C.failed_by connection.new) ≡ disconnects result }
 {
     let mut has_stepped = false;
     let mut last: Option<ObjectId> = None;
     while let Some(thread) = least_above(link.target().live(), last) {
-        act(link, connection, LinkEvent::Step(thread))?;
-        has_stepped = has_stepped || link.did();
+        match act(link, connection, LinkEvent::Step(thread)) {
+            Ok(()) => has_stepped = has_stepped || link.did(),
+            Err(ended) => return Err(ended),
+        }
         last = Some(thread);
     }
     Ok(has_stepped)
@@ -60,7 +65,7 @@ fn step_each<M: Machine + Drop, C: Connection>(
 
 /// The least of these ids that is above `last`, or of all.
 fn least_above(threads: &[ObjectId], last: Option<ObjectId>) -> Option<ObjectId>
-    ensures { IfSome result (λ thread. is_above (id_in last) thread.0 ≡ true) }
+    ensures { IsNext (numbers threads.now) (id_in last) (id_in result) }
 {
     let mut found: Option<ObjectId> = None;
     for thread in threads {
@@ -71,8 +76,8 @@ fn least_above(threads: &[ObjectId], last: Option<ObjectId>) -> Option<ObjectId>
 
 /// The least above `last` of those of which `found` is, and this one.
 fn nearer(found: Option<ObjectId>, thread: ObjectId, last: Option<ObjectId>) -> Option<ObjectId>
-    requires { IfSome found (λ other. is_above (id_in last) other.0 ≡ true) }
-    ensures { IfSome result (λ one. is_above (id_in last) one.0 ≡ true) }
+    ensures { (ids : List ℕ) → IsNext ids (id_in last) (id_in found)
+        → IsNext (ids ++ thread.0 ∷ []) (id_in last) (id_in result) }
 {
     if !is_above(last, thread) {
         return found;

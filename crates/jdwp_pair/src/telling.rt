@@ -1,46 +1,43 @@
 //! What is told of what the debugger read.
-ghost use Rattle.std.specs.Prelude.{◌≡◌, ◌≤◌, ◌+◌, IfErr};
+ghost use Rattle.std.specs.Prelude.{◌≡◌, ◌++◌, IfErr, IfOk, OnOk};
+ghost use Rattle.std.specs.String.{string_bytes};
+ghost use Rattle.jdwp_pipe.specs.Story.{with_written};
+ghost use Rattle.jdwp_tell.specs.Telling.{TellsMirror, widths_line};
 ghost use Rattle.jdwp_pair.specs.Events.{is_seen, seen_in};
-ghost use Rattle.jdwp_pair.specs.PlanRuns.{EndsTelling};
+ghost use Rattle.jdwp_pair.specs.Lines.{FailsToTellMirror, PrintsMirror};
+ghost use Rattle.jdwp_pair.specs.Telling.{FailsToTell, heads_text, lost_line, lost_text, told_line, turn_text, untold_line};
 
 use crate::ended::PairEnded;
-use crate::run::Run;
-use jdwp_debugger::{Debugger, Head, Ticket};
+use jdwp_debugger::{Debugger, Head};
 use jdwp_link::Outcome;
 use jdwp_pipe::{Pipe, write_all};
 use jdwp_tell::{answered_line, hello_line, mirror_text, seen_line, sizes_line};
 use jdwp_wire::{IdSizes, NoMemory};
 use std::alloc::Global;
 
-/// Prints what is told of a turn of the debugger, and of the tickets that are lost with it, and counts the composites that were read.
+/// Prints what is told of a turn of the debugger, and of the tickets that are lost with it.
 ///
 /// # Errors
-/// `LostByWrite` where a write failed; `NoMemory` where an allocation was refused.
+/// `LostByWrite` where a write failed; `NoMemory` where an allocation was refused, and then nothing was printed.
 pub(crate) fn tell_turn<W: Pipe>(
     alloc: Global,
     debugger: &Debugger,
     outcomes: &[Outcome],
     out: &mut W,
-    run: &mut Run,
 ) -> Result<(), PairEnded>
-    ensures counts { run.new.composites ≤ run.old.composites + seen_in outcomes.now }
-    ensures carried { run.new.carried ≡ run.old.carried }
-    ensures ends { IfErr result EndsTelling }
+    ensures tells { OnOk result (W.story out.new
+        ≡ with_written (turn_text debugger.now outcomes.now) (W.story out.old)) }
+    ensures ends { IfErr result (λ ended. FailsToTell (turn_text debugger.now outcomes.now) ended
+        (W.story out.old) (W.story out.new)) }
 {
     match turn_text(alloc, debugger, outcomes) {
-        Ok(text) => {
-            if let Err(ended) = print(out, &text) {
-                return Err(ended);
-            }
-        }
-        Err(NoMemory) => return Err(PairEnded::NoMemory),
+        Ok(text) => print(out, &text),
+        Err(NoMemory) => Err(PairEnded::NoMemory),
     }
-    run.composites = run.composites.saturating_add(seen_in(outcomes));
-    tell_lost(alloc, outcomes, out)
 }
 
 /// How many composites are told of.
-fn seen_in(outcomes: &[Outcome]) -> u64
+pub(crate) fn seen_in(outcomes: &[Outcome]) -> u64
     ensures { result ≡ seen_in outcomes.now }
 {
     let mut seen: usize = 0;
@@ -65,37 +62,35 @@ fn is_seen(outcome: &Outcome) -> bool
 /// Prints the tickets that are lost.
 ///
 /// # Errors
-/// `LostByWrite` where a write failed; `NoMemory` where an allocation was refused.
+/// `LostByWrite` where a write failed; `NoMemory` where an allocation was refused, and then nothing was printed.
 pub(crate) fn tell_lost<W: Pipe>(
     alloc: Global,
     outcomes: &[Outcome],
     out: &mut W,
 ) -> Result<(), PairEnded>
-    ensures { IfErr result EndsTelling }
+    ensures tells { OnOk result (W.story out.new
+        ≡ with_written (lost_text outcomes.now) (W.story out.old)) }
+    ensures ends { IfErr result (λ ended. FailsToTell (lost_text outcomes.now) ended
+        (W.story out.old) (W.story out.new)) }
 {
-    for outcome in outcomes {
-        match outcome {
-            Outcome::Lost(ticket) => {
-                if let Err(ended) = print_lost(alloc, *ticket, out) {
-                    return Err(ended);
-                }
-            }
-            Outcome::Asked(_) | Outcome::Refused(_) | Outcome::Answered(..) | Outcome::Seen(_) => {}
-        }
+    match tickets_text(alloc, outcomes) {
+        Ok(text) => print(out, &text),
+        Err(NoMemory) => Err(PairEnded::NoMemory),
     }
-    Ok(())
 }
 
 /// Prints what the debugger knows.
 ///
 /// # Errors
-/// `LostByWrite` where a write failed; `NoMemory` where an allocation was refused.
+/// `LostByWrite` where a write failed; `NoMemory` where an allocation was refused, and then nothing was printed.
 pub(crate) fn tell_mirror<W: Pipe>(
     alloc: Global,
     debugger: &Debugger,
     out: &mut W,
 ) -> Result<(), PairEnded>
-    ensures { IfErr result EndsTelling }
+    ensures tells { OnOk result (PrintsMirror debugger.now (W.story out.old) (W.story out.new)) }
+    ensures ends { IfErr result (λ ended. FailsToTellMirror debugger.now ended
+        (W.story out.old) (W.story out.new)) }
 {
     match mirror_text(alloc, debugger.mirror()) {
         Ok(text) => print(out, &text),
@@ -103,19 +98,14 @@ pub(crate) fn tell_mirror<W: Pipe>(
     }
 }
 
-/// Prints that a ticket is lost: `lost TICKET`.
-fn print_lost<W: Pipe>(alloc: Global, ticket: Ticket, out: &mut W) -> Result<(), PairEnded>
-    ensures { IfErr result EndsTelling }
-{
-    match lost_line(alloc, ticket) {
-        Ok(line) => print(out, &line),
-        Err(NoMemory) => Err(PairEnded::NoMemory),
-    }
-}
-
 /// Prints a text.
+///
+/// # Errors
+/// `LostByWrite` where a write failed.
 fn print<W: Pipe>(out: &mut W, text: &str) -> Result<(), PairEnded>
-    ensures { IfErr result EndsTelling }
+    ensures tells { OnOk result (W.story out.new ≡ with_written text.now (W.story out.old)) }
+    ensures ends { IfErr result (λ ended. FailsToTell text.now ended (W.story out.old)
+        (W.story out.new)) }
 {
     if write_all(out, text.as_bytes()) {
         Ok(())
@@ -124,27 +114,57 @@ fn print<W: Pipe>(out: &mut W, text: &str) -> Result<(), PairEnded>
     }
 }
 
-/// What is told of a turn that read these messages: each with what is told of it, one after the other.
-fn turn_text(alloc: Global, debugger: &Debugger, outcomes: &[Outcome]) -> Result<String, NoMemory> {
-    let mut text = String::new(alloc);
-    for (place, head) in debugger.last().iter().enumerate() {
-        let line = head_text(alloc, debugger.sizes(), head, outcomes.get(place))?;
-        text.push_str(&line)?;
+/// What is told of a turn: the messages that it read, each with what is told of it, and the tickets that are lost with them.
+fn turn_text(alloc: Global, debugger: &Debugger, outcomes: &[Outcome]) -> Result<String, NoMemory>
+    ensures { IfOk result (λ text. string_bytes text ≡ turn_text debugger.now outcomes.now) }
+{
+    let text = heads_text(alloc, debugger.sizes(), debugger.last(), outcomes)?;
+    joined(text, &tickets_text(alloc, outcomes)?)
+}
+
+/// The lines of messages, each with what is told of it, one after the other.
+fn heads_text(
+    alloc: Global,
+    sizes: Option<IdSizes>,
+    heads: &[Head],
+    outcomes: &[Outcome],
+) -> Result<String, NoMemory>
+    ensures { IfOk result (λ text. string_bytes text ≡ heads_text sizes heads.now outcomes.now) }
+{
+    match heads {
+        [] => Ok(String::new(alloc)),
+        [head, later @ ..] => match outcomes {
+            [] => {
+                let line = untold_line(alloc, sizes, head)?;
+                joined(line, &heads_text(alloc, sizes, later, &[])?)
+            }
+            [told, others @ ..] => {
+                let line = told_line(alloc, sizes, head, told)?;
+                joined(line, &heads_text(alloc, sizes, later, others)?)
+            }
+        },
     }
+}
+
+/// A text, and another behind it.
+fn joined(mut text: String, more: &str) -> Result<String, NoMemory>
+    ensures { IfOk result (λ both. string_bytes both ≡ string_bytes text ++ more.now) }
+{
+    text.push_str(more)?;
     Ok(text)
 }
 
-/// The line of a message with what is told of it. Nothing is told of a composite that waits for the widths of ids, nor of the reply that
-/// has them.
-fn head_text(
+/// The line of a message with what is told of it.
+fn told_line(
     alloc: Global,
     sizes: Option<IdSizes>,
     head: &Head,
-    outcome: Option<&Outcome>,
-) -> Result<String, NoMemory> {
-    match (head, outcome) {
-        (Head::Hello, _) => hello_line(alloc),
-        (Head::Composite(header), Some(Outcome::Seen(composite))) => {
+    told: &Outcome,
+) -> Result<String, NoMemory>
+    ensures { IfOk result (λ line. string_bytes line ≡ told_line sizes head.now told.now) }
+{
+    match (head, told) {
+        (Head::Composite(header), Outcome::Seen(composite)) => {
             seen_line(alloc, header.id, composite)
         }
         (
@@ -153,19 +173,56 @@ fn head_text(
                 set,
                 number,
             },
-            Some(Outcome::Answered(_, answer)),
+            Outcome::Answered(_, answer),
         ) => answered_line(alloc, header.id, *set, *number, answer),
-        (Head::Reply { header, .. }, _) => match sizes {
-            Some(sizes) => sizes_line(alloc, header.id, &sizes),
-            None => Ok(String::new(alloc)),
-        },
-        (Head::Composite(_), _) => Ok(String::new(alloc)),
+        _ => untold_line(alloc, sizes, head),
     }
 }
 
-/// The line of a ticket that is lost.
-fn lost_line(alloc: Global, ticket: Ticket) -> Result<String, NoMemory> {
-    let number = ticket.0;
-    let line = format!(in alloc; "lost {number}\n")?;
-    Ok(line)
+/// The line of a message of which nothing is told: a composite that waits for the widths of ids has none, and the reply to IDSizes has them.
+fn untold_line(alloc: Global, sizes: Option<IdSizes>, head: &Head) -> Result<String, NoMemory>
+    ensures { IfOk result (λ line. string_bytes line ≡ untold_line sizes head.now) }
+{
+    match head {
+        Head::Hello => hello_line(alloc),
+        Head::Composite(_) => Ok(String::new(alloc)),
+        Head::Reply { header, .. } => widths_line(alloc, header.id, sizes),
+    }
+}
+
+/// The line of the widths of ids, under the id of the reply that had them.
+fn widths_line(alloc: Global, id: u32, sizes: Option<IdSizes>) -> Result<String, NoMemory>
+    ensures { IfOk result (λ line. string_bytes line ≡ widths_line sizes id) }
+{
+    match sizes {
+        Some(sizes) => sizes_line(alloc, id, &sizes),
+        None => Ok(String::new(alloc)),
+    }
+}
+
+/// The lines of the tickets that are lost.
+fn tickets_text(alloc: Global, outcomes: &[Outcome]) -> Result<String, NoMemory>
+    ensures { IfOk result (λ text. string_bytes text ≡ lost_text outcomes.now) }
+{
+    let mut text = String::new(alloc);
+    for outcome in outcomes {
+        text.push_str(&lost_line(alloc, outcome)?)?;
+    }
+    Ok(text)
+}
+
+/// The line of a ticket that is lost: `lost TICKET`; of anything else there is none.
+fn lost_line(alloc: Global, outcome: &Outcome) -> Result<String, NoMemory>
+    ensures { IfOk result (λ line. string_bytes line ≡ lost_line outcome.now) }
+{
+    match outcome {
+        Outcome::Lost(ticket) => {
+            let number = ticket.0;
+            let line = format!(in alloc; "lost {number}\n")?;
+            Ok(line)
+        }
+        Outcome::Asked(_) | Outcome::Refused(_) | Outcome::Answered(..) | Outcome::Seen(_) => {
+            Ok(String::new(alloc))
+        }
+    }
 }

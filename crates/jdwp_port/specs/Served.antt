@@ -1,5 +1,5 @@
 -- Sessions of one target, one after the other, each on a connection of its own.
-use Rattle.std.specs.Prelude.{◌≡◌, ℕ, ◌≤◌, ◌+◌, Bool, true, false, List, [], ◌∷◌, ◌++◌, Result, Ok, Err}
+use Rattle.std.specs.Prelude.{◌≡◌, ℕ, ◌≤◌, ◌+◌, Bool, true, false, List, [], ◌∷◌, ◌++◌, Option, None, Some, Result, Ok, Err}
 use Rattle.std.specs.List.{FoldsTo}
 use Rattle.jdwp_end.specs.Ends.{is_open}
 use Rattle.jdwp_machine.specs.Meanings.{Meaning}
@@ -10,7 +10,14 @@ use Rattle.jdwp_engine.specs.Outcome.{MayEnd}
 use Rattle.jdwp_engine.specs.Run.{InOrder, cost}
 use Rattle.jdwp_engine.specs.Sessions as engine
 use Rattle.jdwp_pipe.specs.Story.{Story, empty_story}
+use Rattle.jdwp_port.specs.declared.connection.AtPort.{AtPort}
+use Rattle.jdwp_port.specs.declared.faults.PortCause.{PortCause}
 use Rattle.jdwp_port.specs.declared.faults.PortFault.{PortFault}
+use Rattle.jdwp_port.specs.declared.notices.Notice.{Notice}
+use Rattle.jdwp_port.specs.declared.notices.Notice.TheVariants.{Again}
+use Rattle.jdwp_port.specs.declared.serving.Happening.{Happening}
+use Rattle.jdwp_port.specs.declared.serving.Happening.TheVariants as happening
+use Rattle.jdwp_port.specs.Notices.{notice_of, with_notice}
 
 -- ---- one session
 
@@ -50,28 +57,20 @@ goes_on (Refused number) = true
 goes_on NoMemory = false
 goes_on TurnLimit = false
 
--- the faults of sessions that were refused, and of one behind them that ended so
-abbrev pub with_fault : Ended → List ℕ → List ℕ
-with_fault (Refused number) refused = refused ++ number ∷ []
-with_fault Done refused = refused
-with_fault LostByRead refused = refused
-with_fault LostByWrite refused = refused
-with_fault NoMemory refused = refused
-with_fault TurnLimit refused = refused
-
 -- Sessions one behind the other, each of the closed target over a living machine as the one before it left it, none of which used up its
--- rounds or wanted memory; and the faults of those that were refused, in order.
-pub data Sessions {S : Type 0} (m : Meaning S) (rounds : ℕ) (base : Target S) : List ℕ → Target S → Type 0 where
+-- rounds or wanted memory; and what is told of them and of connections that were awaited in vain, in order.
+pub data Sessions {S : Type 0} (m : Meaning S) (rounds : ℕ) (base : Target S) : List Notice → Target S → Type 0 where
   NoSession : Sessions m rounds base [] base
-  OneMore : (refused : List ℕ) (old new : Target S) (how : Ended) → Sessions m rounds base refused old → lives m old ≡ true → is_open old.end ≡ false
-      → IsSession m rounds old how new → goes_on how ≡ true → Sessions m rounds base (with_fault how refused) new
+  InVain : (notices : List Notice) (cause : PortCause) (now : Target S) → Sessions m rounds base notices now → Sessions m rounds base (notices ++ Again cause ∷ []) now
+  OneMore : (notices : List Notice) (old new : Target S) (how : Ended) (failure : Option PortCause) → Sessions m rounds base notices old → lives m old ≡ true → is_open old.end ≡ false
+      → IsSession m rounds old how new → goes_on how ≡ true → Sessions m rounds base (with_notice notices (notice_of how failure)) new
 
--- Such sessions led from the first target to this one, and each fault of theirs was told, in order, by a call that does this step.
-abbrev pub HasServed : {S F : Type 0} → Meaning S → ℕ → Target S → (F → ℕ → F → Type 0) → F → Target S → F → Type 0
-HasServed m rounds base step first now told = (refused : List ℕ) × FoldsTo step first refused told × Sessions m rounds base refused now
+-- Such sessions led from the first target to this one, and what is told of them was told, in order, each by a call that does this step.
+abbrev pub HasServed : {S F : Type 0} → Meaning S → ℕ → Target S → (F → Notice → F → Type 0) → F → Target S → F → Type 0
+HasServed m rounds base step first now told = (notices : List Notice) × FoldsTo step first notices told × Sessions m rounds base notices now
 
 -- The last session behind them ended so, and its connection is lost.
-pub record IsLast {S F : Type 0} (m : Meaning S) (rounds : ℕ) (base : Target S) (step : F → ℕ → F → Type 0) (first : F) (how : Ended) (new : Target S) (told : F) : Type 0 where
+pub record IsLast {S F : Type 0} (m : Meaning S) (rounds : ℕ) (base : Target S) (step : F → Notice → F → Type 0) (first : F) (how : Ended) (new : Target S) (told : F) : Type 0 where
   pub old : Target S
   pub mid : Target S
   pub before : HasServed m rounds base step first old told
@@ -81,7 +80,7 @@ pub record IsLast {S F : Type 0} (m : Meaning S) (rounds : ℕ) (base : Target S
   pub is_lost : new ≡ lost_target mid
 
 -- How sessions end: the machine is dead; or the last one used up its rounds or wanted memory; or the port failed while the machine lived.
-abbrev pub Serves : {S F : Type 0} → Meaning S → ℕ → Target S → (F → ℕ → F → Type 0) → F → Result Ended PortFault → Target S → F → Type 0
+abbrev pub Serves : {S F : Type 0} → Meaning S → ℕ → Target S → (F → Notice → F → Type 0) → F → Result Ended PortFault → Target S → F → Type 0
 Serves m rounds base step first (Ok Done) new told = HasServed m rounds base step first new told × (lives m new ≡ false)
 Serves m rounds base step first (Ok NoMemory) new told = IsLast m rounds base step first NoMemory new told
 Serves m rounds base step first (Ok TurnLimit) new told = IsLast m rounds base step first TurnLimit new told
@@ -89,3 +88,31 @@ Serves m rounds base step first (Ok LostByRead) new told = ⊥
 Serves m rounds base step first (Ok LostByWrite) new told = ⊥
 Serves m rounds base step first (Ok (Refused number)) new told = ⊥
 Serves m rounds base step first (Err fault) new told = HasServed m rounds base step first new told × (lives m new ≡ true)
+
+-- ---- what happens at a port
+
+-- a connection was awaited in vain, and nothing is touched; or a session ended so
+abbrev pub Happens : {S : Type 0} → Meaning S → ℕ → Target S → Happening → Target S → Type 0
+Happens m rounds old (happening.InVain cause) new = new ≡ old
+Happens m rounds old (happening.Session session) new = IsSession m rounds old session.how new
+
+abbrev pub notice_in : Happening → Option Notice
+notice_in (happening.InVain cause) = Some (Again cause)
+notice_in (happening.Session session) = notice_of session.how session.failure
+
+-- how a session ended behind which none is served
+abbrev pub last_end : Ended → Option Ended
+last_end NoMemory = Some NoMemory
+last_end TurnLimit = Some TurnLimit
+last_end Done = None
+last_end LostByRead = None
+last_end LostByWrite = None
+last_end (Refused number) = None
+
+abbrev pub end_in : Happening → Option Ended
+end_in (happening.InVain cause) = None
+end_in (happening.Session session) = last_end session.how
+
+abbrev pub goes_on_behind : Happening → Bool
+goes_on_behind (happening.InVain cause) = true
+goes_on_behind (happening.Session session) = goes_on session.how

@@ -1,5 +1,5 @@
 //! Why a port can't be used.
-ghost use Rattle.jdwp_port.specs.Faults.{IsFaultOf};
+ghost use Rattle.jdwp_port.specs.Faults.{IsCauseOf, IsFaultOf};
 
 use std::io;
 use std::io::ErrorKind;
@@ -38,13 +38,23 @@ impl PortFault {
     pub fn of_port(port: u16, error: io::Error) -> PortFault
         ensures { IsFaultOf port error result }
     {
-        let cause = match error.kind() {
-            ErrorKind::OutOfMemory => return PortFault::NoMemory,
+        match error.kind() {
+            ErrorKind::OutOfMemory => PortFault::NoMemory,
+            _ => PortFault::Port(port, PortCause::of(error)),
+        }
+    }
+}
+
+impl PortCause {
+    /// The cause that this error of the system is.
+    pub fn of(error: io::Error) -> PortCause
+        ensures { IsCauseOf error result }
+    {
+        match error.kind() {
             ErrorKind::ConnectionRefused => PortCause::Refused,
             ErrorKind::AddrInUse => PortCause::InUse,
             ErrorKind::PermissionDenied => PortCause::NotAllowed,
             _ => PortCause::Other(error),
-        };
-        PortFault::Port(port, cause)
+        }
     }
 }

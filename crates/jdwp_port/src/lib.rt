@@ -8,9 +8,14 @@ mod attaching;
 mod connection;
 mod faults;
 mod listening;
+mod notices;
 mod serving;
+mod watching;
 
 pub use attaching::{attach_stream, connect};
+pub use connection::AtPort;
 pub use faults::{PortCause, PortFault};
 pub use listening::{PortListener, bind};
+pub use notices::Notice;
 pub use serving::{serve_next, serve_sessions, serve_stream};
+pub use watching::Watched;

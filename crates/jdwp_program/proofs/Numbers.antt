@@ -1,9 +1,9 @@
 -- Numbers that texts are.
-use Rattle.std.proofs.Common.{rules, arith, ◌≡◌, ◌≢◌, ◌↔◌, ◌<◌, [], ◌∷◌, ◌++◌, ℕ, List, Some, None, IsSome, IfSome, MatchOption, Option, zero, suc, Bor, refl, ap, subst, sym, ◌∙◌, length, get_or}
+use Rattle.std.proofs.Common.{arith, ◌≡◌, ◌↔◌, ◌<◌, [], ◌∷◌, ◌++◌, ℕ, List, Some, None, IsSome, IfSome, MatchOption, Option, zero, suc, Bor, refl, ap, subst, sym, ◌∙◌}
 use Rattle.std.specs.Char.{digit_value}
 use Rattle.std.specs.Str.Parse.{AllDigits}
 use Rattle.jdwp_wire.specs.Limits.{AreLimits, Limits}
-use Rattle.jdwp_program.specs.Values.{AreNumbers, HasNoComma, IsDecimal, IsPartedByComma, IsSaidBy, comma}
+use Rattle.jdwp_program.specs.Values.{AreNumbers, HasNoComma, IsDecimal, IsPartedByComma, comma}
 
 -- a text that reads as no number is none
 pub no-number : (r : Option ℕ) (text : List ℕ) → ((number : ℕ) → (r ≡ Some number) ↔ IsDecimal text number) → r ≡ None

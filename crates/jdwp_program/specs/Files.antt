@@ -1,5 +1,5 @@
 -- Files that can't be used.
-use Rattle.std.specs.Prelude.{◌≡◌, ◌≢◌, ℕ, List, [], ◌∷◌, Bool, take, if◌then◌else◌}
+use Rattle.std.specs.Prelude.{◌≡◌, ◌≢◌, ◌||◌, ℕ, List, [], ◌∷◌, Bool, take, if◌then◌else◌}
 use Rattle.std.specs.Str.{IsUtf8, IsValidUpTo, bytes_eq}
 use Rattle.std.specs.Borrow.{Bor}
 use Rattle.std.specs.IoError.{error_kind}
@@ -17,7 +17,7 @@ use Rattle.jdwp_program.specs.declared.captures.TellFault.TheVariants as telling
 use Rattle.jdwp_program.specs.declared.fault.Fault.{Fault}
 use Rattle.jdwp_program.specs.declared.fault.Fault.TheVariants as fault
 use Rattle.jdwp_program.specs.declared.fault.FileCause.{FileCause}
-use Rattle.jdwp_program.specs.declared.fault.FileCause.TheVariants.{Absent, NotAllowed, Folder, NotUtf8, ByteOrderMark, AlsoRead, Other}
+use Rattle.jdwp_program.specs.declared.fault.FileCause.TheVariants.{Absent, NotAllowed, Folder, NotUtf8, Recording, ByteOrderMark, AlsoRead, Other}
 
 -- the cause that this error of the system is
 abbrev pub IsCauseOf : Error → FileCause → Type 0
@@ -25,6 +25,7 @@ IsCauseOf error Absent = error_kind error ≡ kind.NotFound
 IsCauseOf error NotAllowed = error_kind error ≡ kind.PermissionDenied
 IsCauseOf error Folder = error_kind error ≡ kind.IsADirectory
 IsCauseOf error (NotUtf8 place) = ⊥
+IsCauseOf error Recording = ⊥
 IsCauseOf error ByteOrderMark = ⊥
 IsCauseOf error AlsoRead = ⊥
 IsCauseOf error (Other other) = (other ≡ error) × (error_kind error ≢ kind.NotFound) × (error_kind error ≢ kind.PermissionDenied) × (error_kind error ≢ kind.IsADirectory)
@@ -54,6 +55,16 @@ fault_of_port port.NoMemory = fault.NoMemory
 abbrev pub fault_of_script : Bor (List ℕ) → ScriptFault → Detail → Fault
 fault_of_script path script.NoMemory detail = fault.NoMemory
 fault_of_script path other detail = fault.Script path other detail
+
+-- The first four bytes of a recording of the network: of pcap, written by a machine of either order of bytes, with times in microseconds or in
+-- nanoseconds, and of pcapng.
+abbrev pub begins_as_recording : List ℕ → Bool
+begins_as_recording bytes =
+    bytes_eq (take 4 bytes) (0xd4 ∷ 0xc3 ∷ 0xb2 ∷ 0xa1 ∷ [])
+    || bytes_eq (take 4 bytes) (0xa1 ∷ 0xb2 ∷ 0xc3 ∷ 0xd4 ∷ [])
+    || bytes_eq (take 4 bytes) (0x4d ∷ 0x3c ∷ 0xb2 ∷ 0xa1 ∷ [])
+    || bytes_eq (take 4 bytes) (0xa1 ∷ 0xb2 ∷ 0x3c ∷ 0x4d ∷ [])
+    || bytes_eq (take 4 bytes) (0x0a ∷ 0x0d ∷ 0x0d ∷ 0x0a ∷ [])
 
 -- a text begins with U+FEFF, as EF BB BF in UTF-8
 abbrev pub begins_with_mark : List ℕ → Bool

@@ -1,10 +1,12 @@
 pub mod Attaching
+pub mod Awaiting
 pub mod Captures
 pub mod Files
 pub mod Losses
+pub mod Notices
 pub mod Outputs
 pub mod Printing
 pub mod Statuses
 pub mod Values
-pub mod Watching
+pub mod Version
 pub mod Words

@@ -1,5 +1,5 @@
 -- How a session ended, and where it was lost.
-use Rattle.std.specs.Prelude.{◌≡◌, ◌≢◌, Option, None, Some}
+use Rattle.std.specs.Prelude.{◌≡◌, ◌≢◌, ℕ, Option, None, Some}
 use Rattle.std.specs.IoError.{error_kind}
 use Rattle.std.specs.declared.io.Error.{Error}
 use Rattle.std.specs.declared.io.ErrorKind.TheVariants.{BrokenPipe}
@@ -8,12 +8,14 @@ use Rattle.jdwp_pipe.specs.declared.ended.Ended.{Ended}
 use Rattle.jdwp_pipe.specs.declared.ended.Ended.TheVariants.{LostByRead, LostByWrite, NoMemory}
 use Rattle.jdwp_attach.specs.declared.attached.Attached.{Attached}
 use Rattle.jdwp_attach.specs.declared.attached.Attached.TheVariants as run
+use Rattle.jdwp_port.specs.declared.connection.AtPort.{AtPort}
+use Rattle.jdwp_port.specs.declared.faults.PortCause.{PortCause}
 use Rattle.jdwp_port.specs.declared.faults.PortFault.{PortFault}
 use Rattle.jdwp_port.specs.declared.faults.PortFault.TheVariants as port
 use Rattle.jdwp_program.specs.declared.losing.Side.{Side}
-use Rattle.jdwp_program.specs.declared.losing.Loss.TheVariants.{FileEnded, Unread, Unwritten, Port, Output, ReaderGone}
+use Rattle.jdwp_program.specs.declared.losing.Loss.TheVariants.{FileEnded, Unread, Unwritten, PortEnded, Port, Output, ReaderGone}
 use Rattle.jdwp_program.specs.declared.outcome.Outcome.{Outcome}
-use Rattle.jdwp_program.specs.declared.outcome.Outcome.TheVariants.{Session, Lost, RefusedLine, Capture}
+use Rattle.jdwp_program.specs.declared.outcome.Outcome.TheVariants.{Session, Lost, RefusedLine, Standstill, Capture, Version}
 
 -- What is told of a session that ended so, which read from the first file, wrote to the second and printed on an output that failed so, if
 -- it did. A read that failed without an error found the file's end. Of a write that failed the file's error is told, and that of the output
@@ -23,11 +25,14 @@ IsEndOf ended from to output (Lost (FileEnded path)) = (ended ≡ LostByRead) ×
 IsEndOf ended from to output (Lost (Unread path error)) = (ended ≡ LostByRead) × (path ≡ from.path) × (from.failure ≡ Some error)
 IsEndOf ended from to output (Lost (Unwritten path error)) = (ended ≡ LostByWrite) × (path ≡ to.path) × (to.failure ≡ Some error)
 IsEndOf ended from to output (Lost (Output error)) = (ended ≡ LostByWrite) × (to.failure ≡ None) × (output ≡ Some error) × (error_kind error ≢ BrokenPipe)
+IsEndOf ended from to output (Lost (PortEnded number)) = ⊥
 IsEndOf ended from to output (Lost (Port number cause)) = ⊥
 IsEndOf ended from to output (Lost ReaderGone) = (ended ≡ LostByWrite) × (to.failure ≡ None) × (error : Error) × (output ≡ Some error) × (error_kind error ≡ BrokenPipe)
 IsEndOf ended from to output (Session told) = (told ≡ ended) × (ended ≢ LostByRead) × (ended ≡ LostByWrite → (to.failure ≡ None) × (output ≡ None))
 IsEndOf ended from to output (RefusedLine line number most) = ⊥
+IsEndOf ended from to output (Standstill line awaited) = ⊥
 IsEndOf ended from to output (Capture told) = ⊥
+IsEndOf ended from to output (Version told) = ⊥
 
 -- What is told of the session of a plan within these limits: where the command of a line was refused, this line and the number of the
 -- refusal; else the same.
@@ -43,6 +48,18 @@ IsEndWithoutFiles (run.Ended ended) limits output (Lost (Output error)) = (ended
 IsEndWithoutFiles (run.Ended ended) limits output (Lost ReaderGone) = (ended ≡ LostByWrite) × (error : Error) × (output ≡ Some error) × (error_kind error ≡ BrokenPipe)
 IsEndWithoutFiles (run.Ended ended) limits output (Session told) = (told ≡ ended) × (ended ≡ LostByWrite → output ≡ None)
 IsEndWithoutFiles (run.Ended ended) limits output other = ⊥
+
+-- What is told of the session of a plan within these limits at this port, which printed on an output that failed so, if it did: where it was
+-- lost and the connection failed, why; where it was lost at a read and did not fail, that the other end closed it; else the same.
+abbrev pub IsEndAt : Attached → Option PortCause → ℕ → Limits → Option Error → Outcome → Type 0
+IsEndAt (run.Ended LostByRead) (Some cause) port limits output outcome = outcome ≡ Lost (Port port cause)
+IsEndAt (run.Ended LostByRead) None port limits output outcome = outcome ≡ Lost (PortEnded port)
+IsEndAt (run.Ended LostByWrite) (Some cause) port limits output outcome = outcome ≡ Lost (Port port cause)
+IsEndAt (run.Ended LostByWrite) None port limits output outcome = IsEndWithoutFiles (run.Ended LostByWrite) limits output outcome
+IsEndAt how failure port limits output outcome = IsEndWithoutFiles how limits output outcome
+
+abbrev pub IsEndAtPort : AtPort Attached → ℕ → Limits → Option Error → Outcome → Type 0
+IsEndAtPort session port limits output outcome = IsEndAt session.how session.failure port limits output outcome
 
 -- what is told of a session whose connection at a port failed so: want of memory alone, or that it was lost, and where
 abbrev pub lost_port : PortFault → Outcome

@@ -10,6 +10,7 @@ use Rattle.jdwp_program.specs.declared.outcome.Outcome.{Outcome}
 use Rattle.jdwp_program.specs.Captures.{shown_text, verdict_text}
 use Rattle.jdwp_program.specs.Files.{fault_of_telling}
 use Rattle.jdwp_program.specs.Printing.{AppendsPart}
+use Rattle.jdwp_program.specs.Version.{version_line}
 use Rattle.jdwp_program.specs.Statuses.{status_of_told, status_of_fault, status_of_outcome}
 
 -- what is printed of a capture: it in words, or the verdict
@@ -26,11 +27,15 @@ abbrev pub LeavesCapture : ℕ → Option (List ℕ) → Option (List ℕ) → T
 LeavesCapture status old new =
     (capture : List ℕ) × (text : List ℕ) × IsTextOf capture text × (((status ≡ status_of_capture (first_fault capture)) × Appends old new text) ⊎ ((status ≡ 2) × AppendsPart old new text))
 
--- what a run with this status leaves: nothing, or what it told of a capture
-abbrev pub Leaves : ℕ → Option (List ℕ) → Option (List ℕ) → Type 0
-Leaves status old new = Keeps old new ⊎ LeavesCapture status old new
+-- a run with this status told the program's version: all of it, and the status is 0, or a beginning, and 2
+abbrev pub LeavesVersion : ℕ → Option (List ℕ) → Option (List ℕ) → Type 0
+LeavesVersion status old new = ((status ≡ 0) × Appends old new version_line) ⊎ ((status ≡ 2) × AppendsPart old new version_line)
 
--- the same by what was answered of a capture
+-- what a run with this status leaves: nothing, what it told of a capture, or the program's version
+abbrev pub Leaves : ℕ → Option (List ℕ) → Option (List ℕ) → Type 0
+Leaves status old new = Keeps old new ⊎ (LeavesCapture status old new ⊎ LeavesVersion status old new)
+
+-- the same by what was answered of a capture or the version
 abbrev pub LeavesTold : Result Told TellFault → Option (List ℕ) → Option (List ℕ) → Type 0
 LeavesTold result old new = MatchResult result (λ told. Leaves (status_of_told told) old new) (λ fault. Leaves (status_of_fault (fault_of_telling fault)) old new)
 

@@ -5,9 +5,9 @@ use Rattle.jdwp_pipe.specs.declared.ended.Ended.TheVariants as ended
 use Rattle.jdwp_program.specs.declared.captures.Told.{Told}
 use Rattle.jdwp_program.specs.declared.captures.Told.TheVariants.{Faultless, Faulty, Unread}
 use Rattle.jdwp_program.specs.declared.fault.Fault.{Fault}
-use Rattle.jdwp_program.specs.declared.fault.Fault.TheVariants.{Words, NotText, File, Script, Plan, Port, Output, NoMemory}
+use Rattle.jdwp_program.specs.declared.fault.Fault.TheVariants.{Words, NotText, File, Script, Plan, Port, Output, Closed, NoMemory}
 use Rattle.jdwp_program.specs.declared.outcome.Outcome.{Outcome}
-use Rattle.jdwp_program.specs.declared.outcome.Outcome.TheVariants.{Session, Lost, RefusedLine, Capture}
+use Rattle.jdwp_program.specs.declared.outcome.Outcome.TheVariants.{Session, Lost, RefusedLine, Standstill, Capture, Version}
 
 -- of a session, by how it ended
 abbrev pub status_of_end : Ended → ℕ
@@ -29,7 +29,9 @@ abbrev pub status_of_outcome : Outcome → ℕ
 status_of_outcome (Session e) = status_of_end e
 status_of_outcome (Lost loss) = 2
 status_of_outcome (RefusedLine line number most) = 1
+status_of_outcome (Standstill line awaited) = 4
 status_of_outcome (Capture told) = status_of_told told
+status_of_outcome (Version told) = status_of_told told
 
 -- where no session began and no capture was told
 abbrev pub status_of_fault : Fault → ℕ
@@ -40,4 +42,5 @@ status_of_fault (Script path fault detail) = 1
 status_of_fault (Plan path fault) = 1
 status_of_fault (Port number cause) = 2
 status_of_fault (Output error) = 2
+status_of_fault (Closed error) = 2
 status_of_fault NoMemory = 3

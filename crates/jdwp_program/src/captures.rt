@@ -14,10 +14,10 @@ use std::io;
 use std::io::{ErrorKind, Write};
 use thiserror::Error;
 
-/// What was told of a capture.
+/// What was told of a capture, or of the program's version, which has no fault.
 #[derive(Clone, Copy, Debug, PartialEq, Eq)]
 pub enum Told {
-    /// The capture has no fault, and all was printed.
+    /// There is no fault, and all was printed.
     Faultless,
     /// The capture has a fault, and all was printed, the fault with it.
     Faulty,
@@ -25,7 +25,7 @@ pub enum Told {
     Unread,
 }
 
-/// Why a capture was not told.
+/// Why nothing was told, or not all.
 #[derive(Clone, Copy, Debug, Error)]
 pub enum TellFault {
     /// The output didn't take all of the text, for another cause than that its reader went away.
@@ -62,7 +62,8 @@ pub fn show_capture<O: Write>(alloc: Global, capture: &str, out: &mut O) -> Resu
     // The same by the exit status.
     ensures leaves { LeavesTold result (O.contents out.old) (O.contents out.new) }
 {
-    tell(out, &shown(alloc, capture)?)
+    let shown = shown(alloc, capture)?;
+    tell(out, shown.text.as_str(), shown.fault)
 }
 
 /// Judges a capture: `yes`, or `no: line N: fault K`.
@@ -74,7 +75,8 @@ pub fn check_capture<O: Write>(alloc: Global, capture: &str, out: &mut O) -> Res
         (O.contents out.old) (O.contents out.new) result }
     ensures leaves { LeavesTold result (O.contents out.old) (O.contents out.new) }
 {
-    tell(out, &judged(alloc, capture)?)
+    let judged = judged(alloc, capture)?;
+    tell(out, judged.text.as_str(), judged.fault)
 }
 
 /// What is to be printed of a capture, and its first fault.
@@ -127,13 +129,16 @@ fn push_fault(text: &mut String, line: usize, fault: CaptureFault) -> Result<(),
     writeln!(text, "line {line}: fault {number}")
 }
 
-/// Prints the text of a capture, in one piece where the output takes it so.
-fn tell<O: Write>(out: &mut O, told: &Text) -> Result<Told, TellFault>
-    ensures { Tells told.now.fault (string_bytes told.now.text) (O.contents out.old)
-        (O.contents out.new) result }
+/// Prints the text of a capture with this first fault or without one, in one piece where the output takes it so.
+pub(crate) fn tell<O: Write>(
+    out: &mut O,
+    text: &str,
+    fault: Option<(usize, CaptureFault)>,
+) -> Result<Told, TellFault>
+    ensures { Tells fault text.now (O.contents out.old) (O.contents out.new) result }
 {
-    match print(out, told.text.as_bytes()).1 {
-        Ok(()) if told.fault.is_none() => Ok(Told::Faultless),
+    match print(out, text.as_bytes()).1 {
+        Ok(()) if fault.is_none() => Ok(Told::Faultless),
         Ok(()) => Ok(Told::Faulty),
         Err(error) if error.kind() == ErrorKind::BrokenPipe => Ok(Told::Unread),
         Err(error) => Err(TellFault::Output(error)),

@@ -1,7 +1,7 @@
 //! What goes wrong before a session begins or a capture is told.
 ghost use Rattle.std.specs.Prelude.{◌≡◌, ◌≤◌, MatchResult};
 ghost use Rattle.std.specs.Str.{IsUtf8};
-ghost use Rattle.jdwp_program.specs.Files.{IsNotText, begins_with_mark};
+ghost use Rattle.jdwp_program.specs.Files.{IsNotText, begins_as_recording, begins_with_mark};
 ghost use Rattle.jdwp_program.specs.declared.fault.Fault.TheVariants as fault;
 
 use crate::captures::TellFault;
@@ -38,6 +38,9 @@ pub enum Fault<'a> {
     /// The output can't be written.
     #[error("the output can't be written: {0}")]
     Output(io::Error),
+    /// A standard stream is closed, and nothing can be opened in its place.
+    #[error("a standard stream is closed, and the null device can't be opened in its place: {0}")]
+    Closed(io::Error),
     /// An allocation was refused.
     #[error("no memory")]
     NoMemory,
@@ -58,6 +61,9 @@ pub enum FileCause {
     /// It is not UTF-8. This is the place, counted from 0, of the first byte that begins no character.
     #[error("not UTF-8 at byte {0}, counted from 0")]
     NotUtf8(usize),
+    /// It is no capture but a recording of the network.
+    #[error("a recording of the network, as tcpdump writes it, and no capture: docs/CAPTURES.md says how to make one from it")]
+    Recording,
     /// It is no plan, since a byte order mark stands before its first line.
     #[error("a byte order mark stands before the first line of the plan")]
     ByteOrderMark,
@@ -111,7 +117,7 @@ impl<'a> Fault<'a> {
         }
     }
 
-    /// The exit status: 2 for a port that can't be used and output that can't be written, 3 for want of memory, else 1.
+    /// The exit status: 2 for a port that can't be used, output that can't be written and a standard stream that is closed, 3 for want of memory, else 1.
     pub fn status(&self) -> u8
         ensures status { result ≡ status_of_fault self.now }
         ensures bound { result ≤ 4 }
@@ -122,7 +128,7 @@ impl<'a> Fault<'a> {
             | Fault::File(_, _)
             | Fault::Script(_, _, _)
             | Fault::Plan(_, _) => 1,
-            Fault::Port(_, _) | Fault::Output(_) => 2,
+            Fault::Port(_, _) | Fault::Output(_) | Fault::Closed(_) => 2,
             Fault::NoMemory => 3,
         }
     }
@@ -181,6 +187,19 @@ pub fn text_of(bytes: &[u8]) -> Result<&str, FileCause>
     match std::str::from_utf8(bytes) {
         Ok(text) => Ok(text),
         Err(error) => Err(FileCause::NotUtf8(error.valid_up_to())),
+    }
+}
+
+/// Whether a file of these bytes begins as a recording of the network does: pcap in either order of bytes, with times in microseconds or
+/// nanoseconds, or pcapng.
+pub fn is_recording(bytes: &[u8]) -> bool
+    ensures { result ≡ begins_as_recording bytes.now }
+{
+    match bytes {
+        [0xd4, 0xc3, 0xb2, 0xa1, ..] | [0xa1, 0xb2, 0xc3, 0xd4, ..] => true,
+        [0x4d, 0x3c, 0xb2, 0xa1, ..] | [0xa1, 0xb2, 0x3c, 0x4d, ..] => true,
+        [0x0a, 0x0d, 0x0d, 0x0a, ..] => true,
+        _ => false,
     }
 }
 

@@ -4,20 +4,25 @@
 #![tactic(auto)]
 
 mod attaching;
+mod awaiting;
 mod captures;
 mod fault;
 mod losing;
+mod notices;
 mod outcome;
 mod printing;
 mod values;
-mod watching;
+mod version;
 mod words;
 
 pub use attaching::{attach_plan, attach_session};
+pub use awaiting::Awaited;
 pub use captures::{TellFault, Told, check_capture, show_capture};
-pub use fault::{Fault, FileCause, text_of};
+pub use fault::{Fault, FileCause, is_recording, text_of};
+pub use jdwp_port::Watched;
 pub use losing::{Loss, Side};
+pub use notices::Lines;
 pub use outcome::{Outcome, report_fault, report_outcome};
 pub use values::{decimal, is_all, limits};
-pub use watching::Watched;
+pub use version::{VERSION, tell_version};
 pub use words::{Attach, Between, Pair, Peer, ServeScript, SessionFiles, Words};

@@ -22,6 +22,9 @@ pub enum Loss<'a> {
     /// The file can't be written.
     #[error("{0}: can't be written: {1}")]
     Unwritten(&'a str, io::Error),
+    /// The other end closed the connection at this port.
+    #[error("port {0}: the connection ended before the session did")]
+    PortEnded(u16),
     /// The connection at this port failed, and why.
     #[error("port {0}: {1}")]
     Port(u16, PortCause),

@@ -1,8 +1,9 @@
 //! What the words led to, and the exit status.
 ghost use Rattle.std.specs.Prelude.{◌≡◌, ◌≤◌};
-ghost use Rattle.jdwp_program.specs.Losses.{IsEndOf, IsEndOfPlan, IsEndWithoutFiles, lost_port};
+ghost use Rattle.jdwp_program.specs.Losses.{IsEndAtPort, IsEndOf, IsEndOfPlan, IsEndWithoutFiles, lost_port};
 ghost use Rattle.jdwp_program.specs.Statuses.{status_of_end, status_of_fault, status_of_told, status_of_outcome};
 
+use crate::awaiting::Awaited;
 use crate::captures::Told;
 use crate::fault::Fault;
 use crate::losing::{Loss, Side};
@@ -10,7 +11,7 @@ use jdwp_attach::Attached;
 use jdwp_debugger::{DebuggerFault, Refused};
 use jdwp_pipe::Ended;
 use jdwp_plan::LineFault;
-use jdwp_port::PortFault;
+use jdwp_port::{AtPort, PortFault};
 use jdwp_wire::{FrameFault, Limits};
 use std::io::{ErrorKind, Write};
 use std::{fmt, io};
@@ -25,8 +26,13 @@ pub enum Outcome<'a> {
     /// The command of a line of a plan was refused: the number of the line, counted from 1, that of the refusal, and how many commands may
     /// wait.
     RefusedLine(usize, u16, u32),
+    /// Nothing more can happen: the line of a plan waits, counted from 1, one more than there are lines where all were carried out; and for
+    /// what.
+    Standstill(usize, Awaited),
     /// This was told of a capture.
     Capture(Told),
+    /// This was told of the program's version.
+    Version(Told),
 }
 
 impl<'a> Outcome<'a> {
@@ -99,6 +105,39 @@ impl<'a> Outcome<'a> {
         }
     }
 
+    /// Of the session of a plan within these limits at this port, which printed on an output that failed with `output`, if it did. Where the
+    /// command of a line was refused, this line is told; where the connection failed, why; and where the other end closed it, that it did.
+    /// Where the session was lost at a write and the output failed, and no connection did, the output is told.
+    pub fn at_port(
+        session: AtPort<Attached>,
+        port: u16,
+        limits: Limits,
+        output: Option<io::Error>,
+    ) -> Outcome<'a>
+        ensures { IsEndAtPort session port limits output result }
+    {
+        match session.how {
+            Attached::Ended(Ended::LostByRead) => match session.failure {
+                Some(cause) => Outcome::Lost(Loss::Port(port, cause)),
+                None => Outcome::Lost(Loss::PortEnded(port)),
+            },
+            Attached::Ended(Ended::LostByWrite) => match session.failure {
+                Some(cause) => Outcome::Lost(Loss::Port(port, cause)),
+                None => {
+                    let how = Attached::Ended(Ended::LostByWrite);
+                    Outcome::without_files(how, limits, output)
+                }
+            },
+            Attached::Ended(ended) => {
+                Outcome::without_files(Attached::Ended(ended), limits, output)
+            }
+            Attached::RefusedLine { line, number } => {
+                let how = Attached::RefusedLine { line, number };
+                Outcome::without_files(how, limits, output)
+            }
+        }
+    }
+
     /// Of a session that was lost since its connection at a port failed so. Want of memory is told alone.
     pub fn lost_port(fault: PortFault) -> Outcome<'a>
         ensures { result ≡ lost_port fault }
@@ -139,9 +178,23 @@ pub fn report_outcome<E: Write>(outcome: Outcome<'_>, err: &mut E) -> u8
             report_line(line, number, most, err);
             1
         }
-        Outcome::Capture(Told::Faultless) => 0,
-        Outcome::Capture(Told::Faulty) => 1,
-        Outcome::Capture(Told::Unread) => 2,
+        Outcome::Standstill(line, awaited) => {
+            report_standstill(line, awaited, err);
+            4
+        }
+        Outcome::Capture(told) | Outcome::Version(told) => status_of_told(told),
+    }
+}
+
+/// The exit status of what was told of a capture or of the program's version.
+fn status_of_told(told: Told) -> u8
+    ensures status { result ≡ status_of_told told }
+    ensures bound { result ≤ 4 }
+{
+    match told {
+        Told::Faultless => 0,
+        Told::Faulty => 1,
+        Told::Unread => 2,
     }
 }
 
@@ -188,6 +241,20 @@ fn report_line<E: Write>(line: usize, number: u16, most: u32, err: &mut E) {
         )
     } else {
         writeln!(err, "jdwp: line {line} of the plan: {}", Refusal(number))
+    };
+}
+
+/// Tells that nothing more can happen, and what waits for what. What standard error doesn't take is lost.
+fn report_standstill<E: Write>(line: usize, awaited: Awaited, err: &mut E) {
+    let _ = match awaited {
+        Awaited::LastAnswers => writeln!(
+            err,
+            "jdwp: nothing more can happen: behind its last line the plan waits for {awaited}"
+        ),
+        awaited => writeln!(
+            err,
+            "jdwp: nothing more can happen: line {line} of the plan waits for {awaited}"
+        ),
     };
 }
 

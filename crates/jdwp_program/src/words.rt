@@ -18,6 +18,8 @@ pub enum Words<'a> {
     Show(&'a str),
     /// `check FILE`: a capture is judged.
     Check(&'a str),
+    /// `--version`: the program's name and version are told.
+    Version,
 }
 
 /// Where the other end of a session is.
@@ -101,7 +103,7 @@ impl Words<'_> {
         match self {
             Words::ServeScript(words) => words.peer.emptied(words.machine, "MACHINE"),
             Words::Attach(words) => words.peer.emptied(words.plan, "PLAN"),
-            Words::Pair(_) | Words::Show(_) | Words::Check(_) => None,
+            Words::Pair(_) | Words::Show(_) | Words::Check(_) | Words::Version => None,
         }
     }
 }

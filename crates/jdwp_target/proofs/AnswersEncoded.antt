@@ -113,9 +113,9 @@ carried-out m old new set number body asked (Ok done) value did encoded = record
 carried-out m old new set number body asked (Err e) value did encoded = tt
 
 -- what holds where memory is wanted
-pub wants-as : (result : Result Done NoMemory) (P Q : Type 0) → IfErr result (λ _. P) → (P → Q) → IfErr result (λ _. Q)
-wants-as (Ok done) P Q p h = tt
-wants-as (Err e) P Q p h = h p
+pub wants-both : (result : Result Done NoMemory) (P Q R : Type 0) → IfErr result (λ _. P) → IfErr result (λ _. Q) → (P → Q → R) → IfErr result (λ _. R)
+wants-both (Ok done) P Q R p q h = tt
+wants-both (Err e) P Q R p q h = h p q
 
 -- ---- by what there is to handle
 

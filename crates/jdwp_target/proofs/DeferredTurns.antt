@@ -1,6 +1,6 @@
 -- Turns that put a command off, and releases.
 use Rattle.std.proofs.Common.{◌≡◌, ◌∙◌, ℕ, ◌+◌, ◌<◌, ◌≤◌, List, [], ◌∷◌, ◌++◌, length, Bool, true, false, not, ◌&&◌, Option, Some, None, Result, Ok, Err, sym, ap, refl, subst, arith}
-use Rattle.std.specs.Prelude.{IfOk, IsOk, nat_lt}
+use Rattle.std.specs.Prelude.{IfOk, nat_lt}
 use Rattle.std.proofs.lemmas.Bool.{leb-false, ltb-true}
 use Rattle.jdwp_wire.specs.Bytes.{IsBytes}
 use Rattle.jdwp_wire.specs.Streams.{Message, Packet, NextMessage, Whole, AreSendable}
@@ -16,8 +16,8 @@ use Rattle.jdwp_end.specs.Ends as ends
 use Rattle.jdwp_end.specs.FrontLaws.{IsDue, in-front}
 use Rattle.jdwp_machine.specs.Meanings.{Meaning}
 use Rattle.jdwp_action.specs.CommandReads.{command_read}
-use Rattle.jdwp_debuggee.specs.Askings.{is_short}
 use Rattle.jdwp_debuggee.specs.Debuggees.{Debuggee}
+use Rattle.jdwp_debuggee.specs.Wants.{MayWantAsRead}
 use Rattle.jdwp_target.specs.declared.deferral.DeferredCommand.{DeferredCommand}
 use Rattle.jdwp_target.specs.declared.target.TargetFault.{TargetFault}
 use Rattle.jdwp_target.specs.declared.target.TargetFault.TheVariants as fault
@@ -30,7 +30,7 @@ use Rattle.jdwp_target.specs.Standings.{Handles, handles, stands}
 use Rattle.jdwp_target.specs.Deeds.{Does, FullStanding, Releases, defers, defers_kind, perform}
 use Rattle.jdwp_target.specs.Insides.{Deferral, IsRightTarget, message_of, target_of}
 use Rattle.jdwp_target.specs.Targets.{Ran, Target, full_standing, with_handled, with_release}
-use Rattle.jdwp_target.specs.TurnParts.{IsCarriedOut, IsCopied, IsHandled, IsLong, IsRead, puts_off}
+use Rattle.jdwp_target.specs.TurnParts.{IsCarriedOut, IsCopied, IsHandled, IsRead, IsWanting, puts_off}
 use Rattle.jdwp_target.specs.Turns.{EncodesFor, EncodesReleased, NeedsMemory, NeedsMemoryToHandle, ReleasesAt, SendsAt, SendsReleased, TurnsAt, at_place, deferred_at, kind_needs_memory, told_of, told_of_packet}
 use Rattle.jdwp_target.specs.ReleaseLaws.{none-found}
 use Rattle.jdwp_target.proofs.RightTurns.{deferral_handled, needs-at-once, nothing-put, packet-phase}
@@ -79,13 +79,15 @@ room-left now (kind.Command set number) e =
 room-left now (kind.Reply error) e = absurd (cc)
 
 -- what may want memory: a command that is not put off
-reads-kind : {S : Type 0} (m : Meaning S) (old : Target S) (k : PacketKind) (body : List ℕ) → IsLong (m.sizes old.moment.machine) k body → kind_needs_memory m old k body
-reads-kind m old k body (set, number, is, long, reads) = subst (λ (x : PacketKind). kind_needs_memory m old x body) (sym is) (long, reads)
+reads-kind : {S : Type 0} (m : Meaning S) (d : Debuggee S) (old : Target S) (k : PacketKind) (body : List ℕ) → d.settings ≡ old.settings → d.moment ≡ old.moment → IsWanting m d k body → kind_needs_memory m old k body
+reads-kind m d old k body settings moment (set, number, is, wants) =
+    let here : MayWantAsRead m old.settings old.moment (command_read (m.sizes old.moment.machine) set number body) = rw (settings, moment) at wants in
+    subst (λ (x : PacketKind). kind_needs_memory m old x body) (sym is) here
 
-pub wants-to-read : {S : Type 0} (m : Meaning S) (old : Target S) (header : Header) (body : List ℕ) (used : ℕ) (told : Bool) → IsBytes old.end.incoming → front_of old.end ≡ Whole (Packet header body) used
-    → told ≡ takes old.deferring (length old.deferred) → puts_off told header.kind ≡ false → IsLong (m.sizes old.moment.machine) header.kind body → NeedsMemory m old (Packet header body)
-wants-to-read m old header body used told fits front same off long =
-    needs-at-once m old (Packet header body) (as-told old header body used told false fits front same off) (reads-kind m old header.kind body long)
+pub wants-to-read : {S : Type 0} (m : Meaning S) (d : Debuggee S) (old : Target S) (header : Header) (body : List ℕ) (used : ℕ) (told : Bool) → IsBytes old.end.incoming → front_of old.end ≡ Whole (Packet header body) used
+    → told ≡ takes old.deferring (length old.deferred) → puts_off told header.kind ≡ false → d.settings ≡ old.settings → d.moment ≡ old.moment → IsWanting m d header.kind body → NeedsMemory m old (Packet header body)
+wants-to-read m d old header body used told fits front same off settings moment wants =
+    needs-at-once m old (Packet header body) (as-told old header body used told false fits front same off) (reads-kind m d old header.kind body settings moment wants)
 
 -- ---- what was put off
 
@@ -232,9 +234,9 @@ pub deferred-read : {S : Type 0} (m : Meaning S) (d new : Debuggee S) (c : Defer
     → IsRead m d new c.id (kind.Command c.set c.number) c.body.items (came.Command c.id done)
 deferred-read m d new c done did = (c.set, c.number, refl, refl, did)
 
-pub deferred-needs : {S : Type 0} (m : Meaning S) (old : Target S) (w : Widths) (c : DeferredCommand) → w ≡ m.sizes old.moment.machine → is_short c.set c.number ≡ false → IsOk (command_read w c.set c.number c.body.items)
-    → NeedsMemoryToHandle m old (message_of c)
-deferred-needs m old w c w-is long reads = (long, subst (λ (x : Widths). IsOk (command_read x c.set c.number c.body.items)) w-is reads)
+pub deferred-needs : {S : Type 0} (m : Meaning S) (old : Target S) (w : Widths) (c : DeferredCommand) → w ≡ m.sizes old.moment.machine
+    → MayWantAsRead m old.settings old.moment (command_read w c.set c.number c.body.items) → NeedsMemoryToHandle m old (message_of c)
+deferred-needs m old w c w-is wants = subst (λ (x : Widths). MayWantAsRead m old.settings old.moment (command_read x c.set c.number c.body.items)) w-is wants
 
 established-is : (p : Phase) → is_established_phase p ≡ true → p ≡ Established
 established-is Closed h = absurd (cc)

@@ -13,3 +13,4 @@ pub mod Encoded
 pub mod AnswersEncoded
 pub mod DeferredTurns
 pub mod Visited
+pub mod RefusedUnread

@@ -58,7 +58,7 @@ use Rattle.jdwp_target.specs.Standings.{Handles, Standing, carried_out, greets_b
 use Rattle.jdwp_target.specs.Targets.{Ran, Target, full_standing, in_phase, with_handled}
 use Rattle.jdwp_target.specs.StepParts.{debuggee_after, end_after}
 use Rattle.jdwp_target.specs.TurnParts.{IsDone, IsHandled, IsRead, after_deaths, closed_where, deaths, reply_of}
-use Rattle.jdwp_target.specs.Turns.{NeedsMemory, NeedsMemoryToHandle, SendsAt, TurnsAt, told_of_packet, told_where}
+use Rattle.jdwp_target.specs.Turns.{HasData, NeedsMemory, NeedsMemoryToHandle, SendsAt, TurnsAt, told_of_packet, told_where}
 use Rattle.jdwp_target.specs.Visits.{visits_hello, visits_read}
 use Rattle.jdwp_target.proofs.EnqueueLemmas.{two_enqueued}
 use Rattle.jdwp_target.proofs.TargetRuns.{ran-handled}
@@ -489,30 +489,22 @@ command-room m d mid header body end done w id (set, number, is, same, did) w-is
     let small : 11 + length (sent_bytes w done.sent) ≤ end.limits.packet = rw (w-is, limits) (did.becomes.fits (subst (λ (x : Limits). least_packet_limit ≤ x.packet) limits least)) in
     omega (arith, room, small)
 
-reads-long : (r : Result Command ErrorCode) → is_short_asked (asks r) ≡ false → IsOk r
-reads-long (Ok c) long = refl
-reads-long (Err e) long = absurd (cc)
-
 not-short : (a b : Bool) → (a ≡ true → b ≡ true) → b ≡ false → a ≡ false
 not-short true b short long = absurd (let same = short refl in cc)
 not-short false b short long = refl
 
--- what wants memory is no short command, and its data read
+-- what wants memory is no short command
 pub wants-long : (set number : ℕ) (asked : code.ParsedCommand.ParsedCommand) → (is_short set number ≡ true → is_short_asked (asked_meaning asked) ≡ true) → is_short_asked (asked_meaning asked) ≡ false
     → is_short set number ≡ false
 wants-long set number asked short long = not-short (is_short set number) (is_short_asked (asked_meaning asked)) short long
-
-pub wants-read : (w : Widths) (set number : ℕ) (body : List ℕ) (asked : code.ParsedCommand.ParsedCommand) → asked_meaning asked ≡ asks (command_read w set number body) → is_short_asked (asked_meaning asked) ≡ false
-    → IsOk (command_read w set number body)
-wants-read w set number body asked value long = reads-long (command_read w set number body) (subst (λ (x : Result Asking ErrorCode). is_short_asked x ≡ false) value long)
 
 -- at a turn, where it is handled at once
 pub needs-at-once : {S : Type 0} (m : Meaning S) (old : Target S) (message : Message) → defers (full_standing old) message ≡ false → NeedsMemoryToHandle m old message → NeedsMemory m old message
 needs-at-once m old message at_once needs = rw at_once needs
 
 -- and where it is put off
-pub needs-to-defer : {S : Type 0} (m : Meaning S) (old : Target S) (message : Message) → defers (full_standing old) message ≡ true → NeedsMemory m old message
-needs-to-defer m old message deferred = rw deferred tt
+pub needs-to-defer : {S : Type 0} (m : Meaning S) (old : Target S) (message : Message) → defers (full_standing old) message ≡ true → HasData message → NeedsMemory m old message
+needs-to-defer m old message deferred some = rw deferred some
 
 pub turns-wanting : {S : Type 0} (m : Meaning S) (old new : Target S) (message : Message) (used : ℕ) (result : Result Turn TargetFault) → front_of old.end ≡ Whole message used
     → result ≡ Err fault.NoMemory → NeedsMemory m old message → new ≡ old → TurnsAt m (front_of old.end) old result new

@@ -1,5 +1,5 @@
 -- Parts of a turn, as the code makes them one after the other.
-use Rattle.std.specs.Prelude.{◌≡◌, ◌≤◌, ℕ, ◌+◌, Bool, true, false, ◌||◌, ◌&&◌, List, [], ◌∷◌, length, Result, IsOk, MatchResult}
+use Rattle.std.specs.Prelude.{◌≡◌, ◌≤◌, ℕ, ◌+◌, Bool, true, false, ◌||◌, ◌&&◌, List, [], ◌∷◌, length, Result, MatchResult}
 use Rattle.jdwp_wire.specs.Streams.{Message, Packet, Whole, AreSendable}
 use Rattle.jdwp_wire.specs.Widths.{Widths}
 use Rattle.jdwp_wire.specs.declared.error_code.ErrorCode.{ErrorCode}
@@ -14,11 +14,11 @@ use Rattle.jdwp_event.specs.Composites.{vm_death}
 use Rattle.jdwp_machine.specs.Meanings.{Meaning}
 use Rattle.jdwp_action.specs.AnswerPackets.{EncodesAnswer}
 use Rattle.jdwp_action.specs.CommandReads.{command_read}
-use Rattle.jdwp_debuggee.specs.Askings.{is_short}
 use Rattle.jdwp_debuggee.specs.Debuggees.{Debuggee, at_moment, visiting, with_state}
 use Rattle.jdwp_debuggee.specs.Effects.{Effect}
 use Rattle.jdwp_debuggee.specs.Sending.{IsSent, sent_bytes, sent_error}
 use Rattle.jdwp_debuggee.specs.State.{with_packet}
+use Rattle.jdwp_debuggee.specs.Wants.{MayWantAsRead}
 use Rattle.jdwp_debuggee.specs.declared.reply.Sent.{Sent}
 use Rattle.jdwp_debuggee.specs.Deferring.{is_deferrable}
 use Rattle.jdwp_target.specs.Deeds.{defers}
@@ -75,17 +75,18 @@ IsPutOff defers k (came.Command n done) = puts_off defers k ≡ false
 IsPutOff defers k (came.Deferred set number) = puts_off defers k ≡ true
 IsPutOff defers k came.Reply = Unit {0}
 
--- commands whose data read, and that are no short ones
-abbrev pub IsLong : Widths → PacketKind → List ℕ → Type 0
-IsLong w k body = (set : ℕ) × (number : ℕ) × (k ≡ kind.Command set number) × (is_short set number ≡ false) × IsOk (command_read w set number body)
+-- a command for which memory may be wanted, as the debuggee stands
+abbrev pub IsWanting : {S : Type 0} → Meaning S → Debuggee S → PacketKind → List ℕ → Type 0
+IsWanting m d k body =
+    (set : ℕ) × (number : ℕ) × (k ≡ kind.Command set number) × MayWantAsRead m d.settings d.moment (command_read (m.sizes d.moment.machine) set number body)
 
--- what was made of a packet with this header and these data, where memory may have been wanted: it is not where the packet is put off, and then
--- the debuggee is as it was
+-- what was made of a packet with this header and these data, where memory may have been wanted: it is not where the packet is put off, only where
+-- the debuggee may want it, and then the debuggee is as it was
 abbrev pub ReadsPacket : {S : Type 0} → Meaning S → Debuggee S → Debuggee S → Header → List ℕ → Bool → Result Came NoMemory → Type 0
 ReadsPacket m old new header body defers result =
     MatchResult result
     (λ c. IsRead m old new header.id header.kind body c × IsPutOff defers header.kind c)
-    (λ wanted. (puts_off defers header.kind ≡ false) × IsLong (m.sizes old.moment.machine) header.kind body × (new ≡ old))
+    (λ wanted. (puts_off defers header.kind ≡ false) × IsWanting m old header.kind body × (new ≡ old))
 
 -- what is sent for a command, as the reply to the command of this id
 abbrev pub reply_of : Widths → ℕ → Sent → Message

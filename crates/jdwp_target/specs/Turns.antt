@@ -1,5 +1,5 @@
 -- What turns and steps of a target over any machine answer, and what they leave.
-use Rattle.std.specs.Prelude.{◌≡◌, ℕ, ⊤, Bool, true, false, ◌||◌, ◌&&◌, not, List, Option, Some, None, Result, Ok, Err, IsOk, MatchResult}
+use Rattle.std.specs.Prelude.{◌≡◌, ℕ, ⊤, Bool, true, false, ◌||◌, ◌&&◌, not, List, [], Option, Some, None, Result, Ok, Err, MatchResult}
 use Rattle.jdwp_wire.specs.Streams.{Message, Handshake, Packet, NextMessage, Whole, More, Fault, AreSendable}
 use Rattle.jdwp_wire.specs.declared.packet.PacketKind.{PacketKind}
 use Rattle.jdwp_wire.specs.declared.packet.PacketKind.TheVariants as kind
@@ -7,10 +7,10 @@ use Rattle.jdwp_end.specs.Ends.{is_established, is_paused}
 use Rattle.jdwp_event.specs.Composites.{CompositeMeaning}
 use Rattle.jdwp_machine.specs.Meanings.{Meaning}
 use Rattle.jdwp_action.specs.CommandReads.{command_read}
-use Rattle.jdwp_debuggee.specs.Askings.{is_short}
 use Rattle.jdwp_action.specs.AnswerPackets.{EncodesAnswer, error_of}
 use Rattle.jdwp_debuggee.specs.StepParts.{is_ready}
 use Rattle.jdwp_debuggee.specs.Steps.{Step, may_step, occurs, start_event}
+use Rattle.jdwp_debuggee.specs.Wants.{MayWantAsRead}
 use Rattle.jdwp_target.specs.declared.target.Stepped.{Stepped}
 use Rattle.jdwp_target.specs.declared.target.Stepped.TheVariants.{Frozen, Quiet, Reported, Ended}
 use Rattle.jdwp_target.specs.declared.target.TargetFault.{TargetFault}
@@ -41,18 +41,23 @@ told_where m old Handshake deferred = Hello
 told_where m old (Packet header body) true = Deferred header.id
 told_where m old (Packet header body) false = told_of_packet m old header.id header.kind body
 
--- the messages that may call for memory where they are handled: commands whose data read, but for the twelve that are short
+-- the messages that may call for memory where they are handled: the commands for which the debuggee may want it, as it stands
 abbrev pub kind_needs_memory : {S : Type 0} → Meaning S → Target S → PacketKind → List ℕ → Type 0
-kind_needs_memory m old (kind.Command set number) body = (is_short set number ≡ false) × IsOk (command_read (m.sizes old.moment.machine) set number body)
+kind_needs_memory m old (kind.Command set number) body = MayWantAsRead m old.settings old.moment (command_read (m.sizes old.moment.machine) set number body)
 kind_needs_memory m old (kind.Reply error) body = ⊥
 
 abbrev pub NeedsMemoryToHandle : {S : Type 0} → Meaning S → Target S → Message → Type 0
 NeedsMemoryToHandle m old Handshake = ⊥
 NeedsMemoryToHandle m old (Packet header body) = kind_needs_memory m old header.kind body
 
--- and at a turn: one that puts a command off keeps its data
+-- the data of a packet are some
+abbrev pub HasData : Message → Type 0
+HasData Handshake = ⊥
+HasData (Packet header body) = body ≡ [] → ⊥
+
+-- and at a turn: one that puts a command off keeps its data, if there are any
 abbrev pub NeedsMemoryWhere : {S : Type 0} → Meaning S → Target S → Message → Bool → Type 0
-NeedsMemoryWhere m old message true = ⊤
+NeedsMemoryWhere m old message true = HasData message
 NeedsMemoryWhere m old message false = NeedsMemoryToHandle m old message
 
 abbrev pub NeedsMemory : {S : Type 0} → Meaning S → Target S → Message → Type 0

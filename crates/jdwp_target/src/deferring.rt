@@ -1,5 +1,5 @@
 //! Commands as a turn defers them.
-ghost use Rattle.std.specs.Prelude.{◌≡◌, ℕ, List, IfOk};
+ghost use Rattle.std.specs.Prelude.{◌≡◌, ℕ, List, [], IfOk, IfErr};
 ghost use Rattle.jdwp_end.specs.Ends.{HasPacket, front_of};
 ghost use Rattle.jdwp_wire.specs.Bytes.{IsBytes};
 ghost use Rattle.jdwp_wire.specs.Streams.{Packet, Whole};
@@ -20,7 +20,7 @@ impl<M: Machine + Drop> Target<M> {
     /// taken off and kept.
     ///
     /// # Errors
-    /// `NoMemory` where an allocation was refused; then nothing has changed.
+    /// `NoMemory` where an allocation was refused, and only where the command has data; then nothing has changed.
     pub(crate) fn defer(
         &mut self,
         header: Header,
@@ -51,15 +51,31 @@ impl<M: Machine + Drop> Target<M> {
 /// wrap, and the end is as it was.
 ///
 /// # Errors
-/// `NoMemory` where an allocation was refused.
+/// `NoMemory` where an allocation was refused, and only where there are data.
 fn copy_front(alloc: Global, end: &mut End, used: usize) -> Result<Vec<u8>, NoMemory>
     requires { HasPacket used end.old }
     ensures copy { IfOk result (λ copy. (header : Header) (body : List ℕ) → front_of end.old
         ≡ Whole (Packet header body) used → copy.items ≡ body) }
+    ensures memory { IfErr result (λ _. (header : Header) (body : List ℕ) → front_of end.old
+        ≡ Whole (Packet header body) used → body ≡ [] → ⊥) }
     ensures same { end.new ≡ end.old }
 {
     match end.data_in_place(used) {
-        Some(body) => Ok(Vec::from_slice(alloc, body)?),
-        None => Ok(Vec::from_slice(alloc, end.data_joined(used))?),
+        Some(body) => copy(alloc, body),
+        None => copy(alloc, end.data_joined(used)),
     }
+}
+
+/// A copy of these bytes.
+///
+/// # Errors
+/// `NoMemory` where an allocation was refused, and only where there are any.
+fn copy(alloc: Global, bytes: &[u8]) -> Result<Vec<u8>, NoMemory>
+    ensures copy { IfOk result (λ copy. copy.items ≡ bytes.now) }
+    ensures memory { IfErr result (λ _. bytes.now ≡ [] → ⊥) }
+{
+    if bytes.is_empty() {
+        return Ok(Vec::new(alloc));
+    }
+    Ok(Vec::from_slice(alloc, bytes)?)
 }

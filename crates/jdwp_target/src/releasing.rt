@@ -31,7 +31,8 @@ impl<M: Machine + Drop> Target<M> {
     /// place. What it is answered is encoded by the bytes that are sent, and each packet that is sent is within the limit.
     ///
     /// # Errors
-    /// `NoMemory` where an allocation was refused, which only commands call for whose data read. Then nothing has changed.
+    /// `NoMemory` where an allocation was refused, which only commands call for where the debuggee may want memory as it stands, as at a
+    /// turn. Then nothing has changed.
     pub fn release(&mut self, place: usize) -> Result<Turn, TargetFault>
         ensures releases { ReleasesAt M.meaning place (deferred_at place self.old) self.old result
             self.new }

@@ -1,5 +1,5 @@
 //! Messages as a target over any machine handles them.
-ghost use Rattle.std.specs.Prelude.{◌≡◌, ◌≤◌, ◌+◌, ◌∷◌, ℕ, List, Some, None, true, false, length, IfOk, IfErr, IsOk, OnErr};
+ghost use Rattle.std.specs.Prelude.{◌≡◌, ◌≤◌, ◌+◌, ◌∷◌, ℕ, List, Some, None, true, false, length, IfOk, IfErr, OnErr};
 ghost use Rattle.jdwp_end.specs.Ends.{HasPacketWith, front_of, most_outgoing, with_enqueued};
 ghost use Rattle.jdwp_end.specs.declared.phase.Phase.TheVariants.{Established};
 ghost use Rattle.jdwp_event.specs.Composites.{vm_start};
@@ -12,7 +12,10 @@ ghost use Rattle.jdwp_action.specs.CommandReads.{command_read};
 ghost use Rattle.jdwp_debuggee.specs.Askings.{asked_meaning, asks, is_short};
 ghost use Rattle.jdwp_action.specs.AnswerPackets.{EncodesAnswer};
 ghost use Rattle.jdwp_debuggee.specs.Sending.{is_short_asked, sent_bytes, sent_error};
+ghost use Rattle.jdwp_debuggee.specs.declared.reply.Reply.TheVariants as reply;
+ghost use Rattle.jdwp_debuggee.specs.declared.reply.Sent.TheVariants as sent;
 ghost use Rattle.jdwp_debuggee.specs.Debuggees.{visiting};
+ghost use Rattle.jdwp_debuggee.specs.Wants.{MayWantAsRead, MayWantAsked, ReadsData};
 ghost use Rattle.jdwp_debuggee.specs.Steps.{start_event};
 ghost use Rattle.jdwp_target.specs.Sends.{IsEncoded, report_of};
 ghost use Rattle.jdwp_target.specs.Standings.{carried_out, greets_by, stands};
@@ -51,6 +54,23 @@ pub struct Done {
     closes: bool,
 }
 
+impl Done {
+    /// A command was refused, and nothing changed.
+    fn refused(error: ErrorCode) -> Done
+        ensures { result ≡ record {
+          sent = sent.Short (reply.Refused error);
+          dies = false;
+          closes = false;
+        } }
+    {
+        Done {
+            sent: Sent::Short(Reply::Refused(error)),
+            dies: false,
+            closes: false,
+        }
+    }
+}
+
 impl<M: Machine + Drop> Target<M> {
     /// Handles the message in front, if one is whole and the end is neither closed nor paused. An open end that is not paused and
     /// asks for more has room for a byte. VM_START and what a command is answered are encoded by the bytes that are sent, so they can
@@ -61,9 +81,12 @@ impl<M: Machine + Drop> Target<M> {
     ///
     /// # Errors
     /// `Frame` exactly where the bytes in front begin no message; the end is then as after `lose`. `NoMemory` where an allocation
-    /// was refused, which only commands call for that are deferred, or whose data read and that are none of these: VirtualMachine's
+    /// was refused, which only commands call for that are deferred and have data, or that are handled at once and for which the debuggee
+    /// may want memory as it stands. For these it wants none: a command that is not implemented, or whose data do not read; VirtualMachine's
     /// Suspend, Resume, HoldEvents, ReleaseEvents, IDSizes and Dispose; ThreadReference's Suspend, Resume, Status and SuspendCount;
-    /// EventRequest's Clear and ClearAllBreakpoints. Then nothing has changed.
+    /// EventRequest's Clear and ClearAllBreakpoints; a question about a thread that is not alive, or about the frames of one that runs; an
+    /// EventRequest.Set whose kind or policy is refused, or for which there is no room; and a question without data that its machine
+    /// refuses. Then nothing has changed.
     pub fn turn(&mut self) -> Result<Turn, TargetFault>
         ensures turns { TurnsAt M.meaning (front_of self.old.end) self.old result self.new }
         ensures encoded { IfOk result (λ _.
@@ -163,8 +186,8 @@ fn handle_front<M: Machine>(
 /// Carries out or refuses the command in this packet, where its reply is not deferred.
 ///
 /// # Errors
-/// `NoMemory` where an allocation was refused, at a command that is not deferred, whose data read and that is none of the twelve short
-/// ones. Then nothing has changed.
+/// `NoMemory` where an allocation was refused, at a command that is not deferred and for which the debuggee may want memory. Then nothing
+/// has changed.
 fn handle_packet<M: Machine>(
     debuggee: &mut Debuggee<M>,
     alloc: Global,
@@ -193,8 +216,7 @@ fn handle_packet<M: Machine>(
 /// Reads a command of this set and number with these data, and carries it out or refuses it.
 ///
 /// # Errors
-/// `NoMemory` where an allocation was refused, at a command whose data read and that is none of the twelve short ones. Then nothing has
-/// changed.
+/// `NoMemory` where an allocation was refused, and only where the debuggee may want memory for the command. Then nothing has changed.
 pub(crate) fn handle_command<M: Machine>(
     debuggee: &mut Debuggee<M>,
     alloc: Global,
@@ -207,11 +229,41 @@ pub(crate) fn handle_command<M: Machine>(
     requires widths { sizes.now ≡ M.meaning.sizes debuggee.old.moment.machine }
     ensures ok { IfOk result (IsCarriedOut M.meaning debuggee.old debuggee.new set number body.now) }
     ensures err { OnErr result (debuggee.new ≡ debuggee.old) }
-    ensures long { IfErr result (λ _. is_short set number ≡ false) }
-    ensures reads { IfErr result (λ _. IsOk (command_read sizes.now set number body.now)) }
+    ensures wants { IfErr result (λ _. MayWantAsRead M.meaning debuggee.old.settings
+        debuggee.old.moment (command_read sizes.now set number body.now)) }
 {
-    let asked = read_command(alloc, set, number, sizes, body)?;
+    let asked = match read_command(alloc, set, number, sizes, body) {
+        Ok(asked) => asked,
+        Err(NoMemory) => return refuse_unread(debuggee, alloc, set, number, sizes, body),
+    };
     handle(debuggee, alloc, asked)
+}
+
+/// What becomes of a command of this set and number whose data read, and for which there was no memory: it is refused where the debuggee
+/// does that by itself.
+///
+/// # Errors
+/// `NoMemory` exactly where it does not.
+fn refuse_unread<M: Machine>(
+    debuggee: &Debuggee<M>,
+    alloc: Global,
+    set: u8,
+    number: u8,
+    sizes: &IdSizes,
+    body: &[u8],
+) -> Result<Done, NoMemory>
+    requires long { is_short set number ≡ false }
+    requires reads { ReadsData (command_read sizes.now set number body.now) }
+    requires widths { sizes.now ≡ M.meaning.sizes debuggee.now.moment.machine }
+    ensures ok { IfOk result (IsCarriedOut M.meaning debuggee.now debuggee.now set number
+        body.now) }
+    ensures wants { IfErr result (λ _. MayWantAsRead M.meaning debuggee.now.settings
+        debuggee.now.moment (command_read sizes.now set number body.now)) }
+{
+    match debuggee.own_refusal(alloc, set, number, sizes, body) {
+        Some(error) => Ok(Done::refused(error)),
+        None => Err(NoMemory),
+    }
 }
 
 /// Answers the handshake; behind the first of the target's life follows VM_START. It takes no memory.
@@ -279,13 +331,11 @@ fn handle<M: Machine>(
         (command_read (M.meaning.sizes debuggee.old.moment.machine) set number body)).answer) }
     ensures err { OnErr result (debuggee.new ≡ debuggee.old) }
     ensures memory { IfErr result (λ _. is_short_asked (asked_meaning asked) ≡ false) }
+    ensures wants { IfErr result (λ _. MayWantAsked M.meaning debuggee.old.settings
+        debuggee.old.moment (asked_meaning asked)) }
 {
     match asked {
-        ParsedCommand::Refuses(error) => Ok(Done {
-            sent: Sent::Short(Reply::Refused(error)),
-            dies: false,
-            closes: false,
-        }),
+        ParsedCommand::Refuses(error) => Ok(Done::refused(error)),
         ParsedCommand::Carries(action) => {
             let dies = action.kills();
             let closes = action.closes();

@@ -6,7 +6,7 @@ ghost use Rattle.jdwp_mirror.specs.Mirror.{Kept};
 ghost use Rattle.jdwp_tell.specs.Telling.{TellsMirror, request_line, summary, thread_line};
 
 use crate::lines::{request_line, thread_line};
-use jdwp_debugger::{KeptRequest, Known, Mirror};
+use jdwp_debugger::{Known, Mirror};
 use jdwp_wire::NoMemory;
 use std::alloc::Global;
 
@@ -19,7 +19,7 @@ pub fn mirror_text(alloc: Global, mirror: &Mirror) -> Result<String, NoMemory>
 {
     let mut threads = known_threads(alloc, mirror)?;
     threads.sort_by_key(|thread| thread.id.0)?;
-    let mut requests = summaries(alloc, mirror.requests())?;
+    let mut requests = summaries(alloc, mirror)?;
     requests.sort_by_key(|request| request.0)?;
     let mut text = String::new(alloc);
     put_threads(alloc, &threads, &mut text)?;
@@ -36,11 +36,11 @@ fn known_threads(alloc: Global, mirror: &Mirror) -> Result<Vec<Known>, NoMemory>
 }
 
 /// The id, the kind and the policy of each event request.
-fn summaries(alloc: Global, requests: &[KeptRequest]) -> Result<Vec<(i32, u8, u8)>, NoMemory>
-    ensures { IfOk result (λ summaries. summaries.items ≡ map summary requests.now) }
+fn summaries(alloc: Global, mirror: &Mirror) -> Result<Vec<(i32, u8, u8)>, NoMemory>
+    ensures { IfOk result (λ summaries. summaries.items ≡ map summary mirror.now.requests) }
 {
     let mut summaries = Vec::new(alloc);
-    for request in requests {
+    for request in mirror.requests() {
         summaries.push((request.id(), request.kind(), request.policy()))?;
     }
     Ok(summaries)

@@ -9,6 +9,7 @@ pub mod ErrorCodes
 pub mod Frames
 pub mod FrameLaws
 pub mod Standing
+pub mod RingLends
 pub mod Streams
 pub mod StreamLaws
 pub mod DataFaultNumbers

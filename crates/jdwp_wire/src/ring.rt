@@ -1,9 +1,11 @@
 //! What stands at the front of a byte stream whose bytes lie in a ring.
 ghost use Rattle.std.specs.Prelude.{◌≡◌, ◌<◌, ◌≤◌, ◌++◌, length, slice_index};
+ghost use Rattle.std.specs.Borrow.{sem};
 ghost use Rattle.jdwp_wire.specs.Bytes.{IsBytes};
 ghost use Rattle.jdwp_wire.specs.Handshake.{HandshakeFrontOf, handshake_front};
 ghost use Rattle.jdwp_wire.specs.Frames.{Front, FrontOf, front, front_meaning, header_of, kind_of};
 ghost use Rattle.jdwp_wire.specs.Limits.{standard_limits};
+ghost use Rattle.jdwp_wire.specs.RingLends.{LendsPiece, RingStays};
 ghost use Rattle.jdwp_wire.specs.Standing.{TellsStanding};
 
 use crate::error_code::ErrorCode;
@@ -80,8 +82,10 @@ pub fn standing_in(ring: &HeapCircularBuffer<u8>, limits: &Limits) -> Standing
 
 /// The packet at the front of the ring, borrowed from it, within the standard limits. What follows it is not looked at.
 ///
-/// Where a packet is whole and the ring wraps, its bytes are moved into one piece. It takes no memory.
+/// Where a packet is whole and the ring wraps, its bytes are moved into one piece. The ring then has the bytes and the room that it had,
+/// whatever stands at its front. It takes no memory.
 pub fn next_packet_in(ring: &mut HeapCircularBuffer<u8>) -> Next<'_>
+    ensures* stays { sem 𝓛 (RingStays ring.entry) }
     ensures front { FrontOf standard_limits.packet ring.old.items (front_meaning result) }
     ensures only { (f : Front) → FrontOf standard_limits.packet ring.old.items f
         → front_meaning result ≡ f }
@@ -93,8 +97,10 @@ pub fn next_packet_in(ring: &mut HeapCircularBuffer<u8>) -> Next<'_>
 /// The packet at the front of the ring, borrowed from it, of at most `limits.packet()` bytes. What follows it is not
 /// looked at.
 ///
-/// Where a packet is whole and the ring wraps, its bytes are moved into one piece. It takes no memory.
+/// Where a packet is whole and the ring wraps, its bytes are moved into one piece. The ring then has the bytes and the room that it had,
+/// whatever stands at its front. It takes no memory.
 pub fn next_packet_in_within<'a>(ring: &'a mut HeapCircularBuffer<u8>, limits: &Limits) -> Next<'a>
+    ensures* stays { sem 𝓛 (RingStays ring.entry) }
     ensures front { FrontOf limits.now.packet ring.old.items (front_meaning result) }
     ensures only { (f : Front) → FrontOf limits.now.packet ring.old.items f → front_meaning result ≡ f }
     ensures exact { front_meaning result ≡ front limits.now.packet ring.old.items }
@@ -105,13 +111,30 @@ pub fn next_packet_in_within<'a>(ring: &'a mut HeapCircularBuffer<u8>, limits: &
 }
 
 fn find_packet_in<'a>(ring: &'a mut HeapCircularBuffer<u8>, limits: &Limits) -> Next<'a>
-    ensures { front_meaning result ≡ front limits.now.packet ring.old.items }
+    ensures* stays { sem 𝓛 (RingStays ring.entry) }
+    ensures exact { front_meaning result ≡ front limits.now.packet ring.old.items }
 {
     match standing_in(ring, limits) {
-        Standing::Whole(..) => next_packet_within(ring.make_contiguous(), limits),
+        Standing::Whole(..) => next_packet_within(in_one_piece(ring), limits),
         Standing::More => Next::More,
         Standing::Fault(fault) => Next::Fault(fault),
     }
+}
+
+/// The bytes of a ring, moved into one piece and lent to be read.
+fn in_one_piece(ring: &mut HeapCircularBuffer<u8>) -> &[u8]
+    ensures* stays { sem 𝓛 (RingStays ring.entry) }
+    ensures value { result.now ≡ ring.old.items }
+{
+    piece_of(ring)
+}
+
+/// The bytes of a ring, moved into one piece and lent.
+fn piece_of(ring: &mut HeapCircularBuffer<u8>) -> &mut [u8]
+    ensures* writes_back { sem 𝓛 (LendsPiece ring.entry result) }
+    ensures value { result.now ≡ ring.old.items }
+{
+    ring.make_contiguous()
 }
 
 /// The header in front of a ring, whose packet takes so many bytes.

@@ -2,7 +2,7 @@
 use Rattle.std.specs.Prelude.{◌≡◌, ℕ, List, [], ◌∷◌, Bool, true, false, ◌||◌, ⊤, codes}
 use Rattle.std.specs.Str.{bytes_eq}
 use Rattle.jdwp_program.specs.declared.words.Words.{Words}
-use Rattle.jdwp_program.specs.declared.words.Words.TheVariants.{ServeScript, Attach, Pair, Show, Check}
+use Rattle.jdwp_program.specs.declared.words.Words.TheVariants.{ServeScript, Attach, Pair, Show, Check, Version}
 
 -- whether the word behind the program's name is that of a command that runs a plan: `attach` or `pair`
 abbrev pub runs_plan : {S : Type 0} → (S → List ℕ) → List S → Bool
@@ -17,3 +17,4 @@ RunsPlanOnlyWhere named (Pair words) = named ≡ true
 RunsPlanOnlyWhere named (ServeScript words) = ⊤
 RunsPlanOnlyWhere named (Show file) = ⊤
 RunsPlanOnlyWhere named (Check file) = ⊤
+RunsPlanOnlyWhere named Version = ⊤

@@ -8,7 +8,8 @@ use clap::error::ErrorKind;
 use clap::{Arg, ArgAction, ArgMatches, Command, Error, value_parser};
 use jdwp_debuggee::Settings;
 use jdwp_program::{
-    Attach, Between, Fault, Pair, Peer, ServeScript, SessionFiles, Words, decimal, is_all, limits,
+    Attach, Between, Fault, Pair, Peer, ServeScript, SessionFiles, VERSION, Words, decimal, is_all,
+    limits,
 };
 use jdwp_wire::Limits;
 use jdwp_wire::number::GREATEST_INT;
@@ -151,18 +152,19 @@ fn say<'a, S: AsStr>(alloc: Global, words: &'a [S]) -> Result<Words<'a>, Fault<'
 {
     match command(alloc)?.try_get_matches_from(words) {
         Ok(matches) => read_matches(alloc, &matches, words),
+        Err(error) if error.kind() == ErrorKind::DisplayVersion => Ok(Words::Version),
         Err(error) => Err(refused(alloc, &error)),
     }
 }
 
-/// The name of the command that the words say.
+/// The name of the command that the words say. (No file is written to by the version, which has none.)
 fn name_of(words: &Words<'_>) -> Name {
     match words {
         Words::ServeScript(_) => Name::ServeScript,
         Words::Attach(_) => Name::Attach,
         Words::Pair(_) => Name::Pair,
         Words::Show(_) => Name::Show,
-        Words::Check(_) => Name::Check,
+        Words::Check(_) | Words::Version => Name::Check,
     }
 }
 
@@ -314,10 +316,25 @@ fn read_peer<'a>(alloc: Global, found: &ArgMatches<'a>, of: Name) -> Result<Peer
     if found.contains_id("port") {
         return Ok(Peer::Port(port_number(alloc, found, of)?));
     }
-    Ok(Peer::Files(SessionFiles {
-        from: value(alloc, found, "from")?,
-        to: value(alloc, found, "to")?,
-    }))
+    match (found.get_str("from"), found.get_str("to")) {
+        (Some(from), Some(to)) => Ok(Peer::Files(SessionFiles { from, to })),
+        (None, None) => Err(missing(alloc, of, "--from <FILE> and --to <FILE>, or --port <N>")),
+        (None, Some(_)) => Err(missing(alloc, of, "--from <FILE>")),
+        (Some(_), None) => Err(missing(alloc, of, "--to <FILE>")),
+    }
+}
+
+/// Words of this command in which these options are missing.
+fn missing<'a>(alloc: Global, of: Name, options: &str) -> Fault<'a> {
+    match missing_message(alloc, options) {
+        Ok(message) => bad_words(alloc, named_in_full(alloc, of), message.as_str()),
+        Err(_) => Fault::NoMemory,
+    }
+}
+
+/// That these options are missing.
+fn missing_message(alloc: Global, options: &str) -> Result<String, AllocError> {
+    format!(in alloc; "the following required arguments were not provided: {options}")
 }
 
 /// The number of a port.
@@ -415,6 +432,7 @@ fn command<'a>(alloc: Global) -> Result<Command<'a>, AllocError> {
 fn program<'a>(alloc: Global) -> Result<Command<'a>, AllocError> {
     Command::new(alloc, "jdwp")
         .about("Ends of the Java Debug Wire Protocol (JDWP, Java SE 11)")
+        .version(VERSION)
         .subcommand_required(true)
         .bin_name("jdwp")
 }
@@ -453,8 +471,8 @@ fn arguments<'a>(alloc: Global, parts: &[Part]) -> Result<Vec<Arg<'a>>, AllocErr
 /// The part as clap's argument.
 fn argument_of<'a>(alloc: Global, part: Part) -> Result<Arg<'a>, AllocError> {
     match part {
-        Part::From(help) => from(alloc, help),
-        Part::To(help) => to(alloc, help),
+        Part::From(help) => Ok(from(alloc, help)),
+        Part::To(help) => Ok(to(alloc, help)),
         Part::Port(help) => port(alloc, help),
         Part::Machine => Ok(machine(alloc)),
         Part::Plan(help) => Ok(plan(alloc, help)),
@@ -479,14 +497,14 @@ fn plan<'a>(alloc: Global, help: &'a str) -> Arg<'a> {
     file(alloc, "plan", "PLAN", help)
 }
 
-/// The file that a session's bytes are read from.
-fn from<'a>(alloc: Global, help: &'a str) -> Result<Arg<'a>, AllocError> {
-    option(alloc, "from", "FILE", help).required_unless_present("port")
+/// The file that a session's bytes are read from. With that of `to` it stands where no port does.
+fn from<'a>(alloc: Global, help: &'a str) -> Arg<'a> {
+    option(alloc, "from", "FILE", help)
 }
 
 /// The file that a session's bytes are written to.
-fn to<'a>(alloc: Global, help: &'a str) -> Result<Arg<'a>, AllocError> {
-    option(alloc, "to", "FILE", help).required_unless_present("port")
+fn to<'a>(alloc: Global, help: &'a str) -> Arg<'a> {
+    option(alloc, "to", "FILE", help)
 }
 
 /// The port that a session is at, in place of files.

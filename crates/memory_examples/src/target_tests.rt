@@ -84,9 +84,9 @@ fn bear_one_refusal(rt: &impl Abort, alloc: Global, lists: &[Session]) {
 fn queries() -> [Session; 4] {
     [
         over(MACHINE_A, &SUSPENDS_AND_RESUMES, 0),
-        over(MACHINE_A, &FRAMES_OF_A_SUSPENDED_THREAD, 6),
+        over(MACHINE_A, &FRAMES_OF_A_SUSPENDED_THREAD, 5),
         over(WITH_A_SLOT, &SLOTS_ARE_WRITTEN_AND_READ, 2),
-        over(MACHINE_A, &EVENT_REQUESTS_THAT_ARE_REFUSED, 7),
+        over(MACHINE_A, &EVENT_REQUESTS_THAT_ARE_REFUSED, 4),
     ]
 }
 

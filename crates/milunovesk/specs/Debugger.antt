@@ -3,6 +3,7 @@ pub use Rattle.jdwp_debugger.specs.Asking
 pub use Rattle.jdwp_debugger.specs.DebuggerTurns
 pub use Rattle.jdwp_debugger.specs.Debuggers
 pub use Rattle.jdwp_debugger.specs.FaultNumbers
+pub use Rattle.jdwp_debugger.specs.Histories
 pub use Rattle.jdwp_debugger.specs.Judging
 pub use Rattle.jdwp_debugger.specs.News
 pub use Rattle.jdwp_debugger.specs.PendingKept

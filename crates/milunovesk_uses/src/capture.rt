@@ -1,6 +1,7 @@
 //! A capture judged.
-ghost use Rattle.std.specs.Prelude.{◌≡◌, ◌↔◌, None, IfOk};
-ghost use Rattle.milunovesk.specs.Show.Sessions.{BeginsSession};
+ghost use Rattle.std.specs.Prelude.{◌≡◌, ◌↔◌, ℕ, None, Some, IfOk};
+ghost use Rattle.milunovesk.specs.Show.CaptureFault.{CaptureFault};
+ghost use Rattle.milunovesk.specs.Show.Sessions.{BeginsSession, IsFirstFault};
 
 use milunovesk::{NoMemory, Verdict, check};
 use std::alloc::Global;
@@ -10,7 +11,9 @@ use std::alloc::Global;
 /// # Errors
 /// `NoMemory` where an allocation was refused.
 pub fn first_faulty_line(alloc: Global, capture: &str) -> Result<Option<usize>, NoMemory>
-    ensures { IfOk result (λ line. (line ≡ None) ↔ BeginsSession capture.now) }
+    ensures keeps { IfOk result (λ line. (line ≡ None) ↔ BeginsSession capture.now) }
+    ensures line { IfOk result (λ line. (place : ℕ)
+        → (line ≡ Some place) ↔ ((fault : CaptureFault) × IsFirstFault capture.now place fault)) }
 {
     match check(alloc, capture)? {
         Verdict::Yes => Ok(None),

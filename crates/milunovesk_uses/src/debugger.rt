@@ -1,5 +1,9 @@
 //! A debugger that asks.
-ghost use Rattle.std.specs.Prelude.{◌≡◌, OnErr};
+ghost use Rattle.std.specs.Prelude.{◌≡◌, ◌+◌, pos, negsuc, IfOk, OnErr};
+ghost use Rattle.milunovesk.specs.Command.Asks.{command_with};
+ghost use Rattle.milunovesk.specs.Command.Contents.{of_range};
+ghost use Rattle.milunovesk.specs.Debugger.Asking.{HasAsked};
+ghost use Rattle.milunovesk.specs.Layout.CommandNumbers.{FRAMES};
 
 use milunovesk::commands::thread_reference;
 use milunovesk::{Debugger, ObjectId, Refused, Ticket};
@@ -15,7 +19,9 @@ pub fn ask_for_frames(
     debugger: &mut Debugger,
     thread: ObjectId,
 ) -> Result<Ticket, Refused>
-    ensures { OnErr result (debugger.new ≡ debugger.old) }
+    ensures asked { IfOk result (λ ticket. (ticket.0 ≡ debugger.old.tickets + 1)
+        × HasAsked (command_with FRAMES (of_range thread (pos 0) (negsuc 0))) debugger.old debugger.new) }
+    ensures refused { OnErr result (debugger.new ≡ debugger.old) }
 {
     let command = thread_reference::frames(alloc, thread, 0, -1)?;
     debugger.ask(alloc, command)

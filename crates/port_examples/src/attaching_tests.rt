@@ -12,6 +12,7 @@ use std::io;
 use std::io::{Read, Write};
 use std::net::{Net, OpenStream};
 use std::process::Abort;
+use std::rt::Clock;
 
 const PLAN: &str = "ask 1 8\nask 11 12 0000000000000001\nask 1 6\nanswers\n";
 
@@ -30,8 +31,8 @@ fn debugger(rt: &impl Abort, alloc: Global) -> Box<Debugger> {
 }
 
 /// How a session of a new debugger by the plan ended on a connection at this port, and what was printed.
-fn attaches<S: Read + Write + OpenStream + Drop>(
-    rt: &impl Abort,
+fn attaches<S: Read + Write + OpenStream + Drop, C: Clock + Abort>(
+    rt: &C,
     alloc: Global,
     port: u16,
     stream: S,
@@ -39,8 +40,9 @@ fn attaches<S: Read + Write + OpenStream + Drop>(
     let plan = read_plan(alloc, PLAN).expect(rt, "the plan is read");
     let mut debugger = debugger(rt, alloc);
     let mut out = Streams::new(io::empty(), Vec::new(alloc));
-    let how = attach_stream(
+    let session = attach_stream(
         alloc,
+        rt,
         &mut debugger,
         port,
         stream,
@@ -50,12 +52,13 @@ fn attaches<S: Read + Write + OpenStream + Drop>(
     )
     .expect(rt, "a session");
     let (_, printed) = out.into_parts();
-    (how, printed)
+    expect_same(rt, &session.failure.is_some(), &false);
+    (session.how, printed)
 }
 
 /// The target's bytes come first, and then a debugger asks by the plan: what it sends is read at the other end, and what it reads is printed.
 /// What the target says is ended or not.
-fn is_attached<R: Net + AllocGlobal + Abort>(rt: &R, ends: bool) {
+fn is_attached<R: Net + Clock + AllocGlobal + Abort>(rt: &R, ends: bool) {
     let listener = bind(rt, 0).expect(rt, "a port");
     let port = listener.port();
     let near = connect(rt, port).expect(rt, "a connection");

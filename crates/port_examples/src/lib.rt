@@ -7,6 +7,8 @@ mod asserts;
 #[cfg(test)]
 mod attaching_tests;
 #[cfg(test)]
+mod fakes;
+#[cfg(test)]
 mod fault_tests;
 #[cfg(test)]
 mod passing_tests;
@@ -16,3 +18,5 @@ mod peers;
 mod serving_tests;
 #[cfg(test)]
 mod sessions;
+#[cfg(test)]
+mod socket_tests;

@@ -1,17 +1,20 @@
 //! Sessions of a target on a port.
 use crate::asserts::expect_same;
 use crate::peers::{caller, reads};
-use crate::sessions::{ANSWERS, NO_HANDSHAKE, SESSION, Target, serves_all, serves_one, target};
+use crate::sessions::{
+    ANSWERS, NO_HANDSHAKE, SESSION, Target, refused, serves_all, serves_one, target,
+};
 use jdwp_pipe::Ended;
 use jdwp_port::{PortListener, bind};
 use std::alloc::Global;
 use std::io::{Read, Write};
 use std::net::{Net, OpenListener, OpenStream};
 use std::process::Abort;
+use std::rt::Clock;
 
 /// A session of a new target on this port ends so; one that used up its rounds is open still.
-fn ends_so<L: OpenListener>(
-    rt: &impl Abort,
+fn ends_so<L: OpenListener, C: Clock + Abort>(
+    rt: &C,
     alloc: Global,
     listener: &PortListener<L>,
     rounds: u64,
@@ -21,14 +24,15 @@ where
     L::Stream: Read + Write + OpenStream,
 {
     let mut target = target(rt, alloc);
-    let ended = serves_one(rt, alloc, &mut target, listener, rounds).expect(rt, "a session");
-    expect_same(rt, &ended, &want);
+    let session = serves_one(rt, alloc, &mut target, listener, rounds).expect(rt, "a session");
+    expect_same(rt, &session.how, &want);
+    expect_same(rt, &session.failure.is_some(), &false);
     expect_same(rt, &target.is_open(), &(want == Ended::TurnLimit));
 }
 
 /// A session of a new target in at most so many rounds, in which these bytes come, ends so, and these bytes are read at the other end,
 /// whether that end says behind its bytes that no more come or not.
-fn is_served<R: Net + AllocGlobal + Abort>(
+fn is_served<R: Net + Clock + AllocGlobal + Abort>(
     rt: &R,
     bytes: &[u8],
     rounds: u64,
@@ -41,7 +45,7 @@ fn is_served<R: Net + AllocGlobal + Abort>(
 }
 
 /// The same where that end says so, or does not.
-fn is_served_so<R: Net + AllocGlobal + Abort>(
+fn is_served_so<R: Net + Clock + AllocGlobal + Abort>(
     rt: &R,
     bytes: &[u8],
     ends: bool,
@@ -79,38 +83,38 @@ fn answers_come_though_more_was_said(rt: HostRuntime) {
 }
 
 /// Sessions of the target on this port end so, those that were refused have these numbers, and the target is closed behind them.
-fn end_so<L: OpenListener>(
-    rt: &impl Abort,
+fn end_so<L: OpenListener, C: Clock + Abort>(
+    rt: &C,
     alloc: Global,
     target: &mut Target,
     listener: &PortListener<L>,
     rounds: u64,
     want: Ended,
-    refused: &[u16],
+    faults: &[u16],
 )
 where
     L::Stream: Read + Write + OpenStream,
 {
-    let (ended, numbers) = serves_all(rt, alloc, target, listener, rounds);
+    let (ended, told) = serves_all(rt, alloc, target, listener, rounds);
     expect_same(rt, &ended.expect(rt, "sessions"), &want);
-    expect_same(rt, &numbers.as_slice(), &refused);
+    expect_same(rt, &refused(rt, alloc, told.as_slice()).as_slice(), &faults);
     expect_same(rt, &target.is_open(), &false);
 }
 
 /// Those of a new target, which is served once more where its machine is dead: nobody is awaited then.
-fn of_a_new_target_end_so<L: OpenListener>(
-    rt: &impl Abort,
+fn of_a_new_target_end_so<L: OpenListener, C: Clock + Abort>(
+    rt: &C,
     alloc: Global,
     listener: &PortListener<L>,
     rounds: u64,
     want: Ended,
-    refused: &[u16],
+    faults: &[u16],
 )
 where
     L::Stream: Read + Write + OpenStream,
 {
     let mut target = target(rt, alloc);
-    end_so(rt, alloc, &mut target, listener, rounds, want, refused);
+    end_so(rt, alloc, &mut target, listener, rounds, want, faults);
     if want == Ended::Done {
         end_so(rt, alloc, &mut target, listener, rounds, want, &[]);
     }
@@ -118,15 +122,15 @@ where
 
 /// On one port, with one target: a session that is refused, one in which nothing is said, one that is answered, and one of whose words none
 /// is read, since no thread is suspended any more: all run to their ends, and the machine dies.
-fn four_sessions<R: Net + AllocGlobal + Abort>(rt: &R) {
+fn four_sessions<R: Net + Clock + AllocGlobal + Abort>(rt: &R) {
     let listener = bind(rt, 0).expect(rt, "a port");
     let port = listener.port();
-    let refused = caller(rt, port, &NO_HANDSHAKE, true);
+    let wrong = caller(rt, port, &NO_HANDSHAKE, true);
     let silent = caller(rt, port, &[], true);
     let answered = caller(rt, port, &SESSION, true);
     let unread = caller(rt, port, &SESSION, false);
     of_a_new_target_end_so(rt, rt.alloc(), &listener, 1000, Ended::Done, &[4]);
-    reads(rt, rt.alloc(), refused, &[]);
+    reads(rt, rt.alloc(), wrong, &[]);
     reads(rt, rt.alloc(), silent, &[]);
     reads(rt, rt.alloc(), answered, &ANSWERS);
     reads(rt, rt.alloc(), unread, &[]);
@@ -138,12 +142,12 @@ fn sessions_are_served_one_after_the_other(rt: HostRuntime) {
 }
 
 /// A session that uses up its rounds is the last one, and it is lost.
-fn a_session_is_cut<R: Net + AllocGlobal + Abort>(rt: &R) {
+fn a_session_is_cut<R: Net + Clock + AllocGlobal + Abort>(rt: &R) {
     let listener = bind(rt, 0).expect(rt, "a port");
-    let refused = caller(rt, listener.port(), &NO_HANDSHAKE, false);
+    let wrong = caller(rt, listener.port(), &NO_HANDSHAKE, false);
     let cut = caller(rt, listener.port(), &SESSION, true);
     of_a_new_target_end_so(rt, rt.alloc(), &listener, 5, Ended::TurnLimit, &[4]);
-    reads(rt, rt.alloc(), refused, &[]);
+    reads(rt, rt.alloc(), wrong, &[]);
     reads(rt, rt.alloc(), cut, &ANSWERS[..100]);
 }
 

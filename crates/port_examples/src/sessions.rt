@@ -2,13 +2,14 @@
 use example_parts::MACHINE_A;
 use jdwp_debuggee::Settings;
 use jdwp_pipe::Ended;
-use jdwp_port::{PortFault, PortListener, serve_next, serve_sessions};
+use jdwp_port::{AtPort, Notice, PortFault, PortListener, serve_next, serve_sessions};
 use jdwp_script_machine::ScriptMachine;
 use jdwp_wire::Limits;
 use std::alloc::Global;
 use std::io::{Read, Write};
 use std::net::{OpenListener, OpenStream};
 use std::process::Abort;
+use std::rt::Clock;
 
 /// A target over the machine of a script.
 pub(crate) type Target = jdwp_target::Target<ScriptMachine>;
@@ -49,40 +50,67 @@ pub(crate) static NO_HANDSHAKE: [u8; 14] = [
     0x4a, 0x44, 0x57, 0x50, 0x2d, 0x48, 0x61, 0x6e, 0x64, 0x73, 0x68, 0x61, 0x6b, 0x66,
 ];
 
-/// How sessions of a closed target on a port ended, and the numbers of those that were refused, in order.
-pub(crate) fn serves_all<L: OpenListener>(
-    rt: &impl Abort,
+/// How sessions of a closed target on a port ended, and what was told on the way.
+pub(crate) fn serves_all<L: OpenListener, C: Clock + Abort>(
+    rt: &C,
     alloc: Global,
     target: &mut Target,
     listener: &PortListener<L>,
     rounds: u64,
-) -> (Result<Ended, PortFault>, Vec<u16>)
+) -> (Result<Ended, PortFault>, Vec<Notice>)
+where
+    L::Stream: Read + Write + OpenStream,
+{
+    serves_by(rt, alloc, rt, target, listener, rounds)
+}
+
+/// The same by another clock.
+pub(crate) fn serves_by<L: OpenListener, C: Clock>(
+    rt: &impl Abort,
+    alloc: Global,
+    clock: &C,
+    target: &mut Target,
+    listener: &PortListener<L>,
+    rounds: u64,
+) -> (Result<Ended, PortFault>, Vec<Notice>)
 where
     L::Stream: Read + Write + OpenStream,
 {
     if target.is_open() {
         panic!(rt; "the target is open");
     }
-    let mut refused = Vec::new(alloc);
-    let ended = serve_sessions(alloc, target, listener, rounds, |number| {
-        let _ = refused.push(number);
+    let mut told = Vec::new(alloc);
+    let ended = serve_sessions(alloc, clock, target, listener, rounds, |notice| {
+        let _ = told.push(notice);
     });
-    (ended, refused)
+    (ended, told)
+}
+
+/// The numbers of the sessions that were refused, if nothing else was told.
+pub(crate) fn refused(rt: &impl Abort, alloc: Global, told: &[Notice]) -> Vec<u16> {
+    let mut numbers = Vec::new(alloc);
+    for notice in told {
+        match notice {
+            Notice::Refused(number) => numbers.push(*number).expect(rt, "memory"),
+            Notice::Lost(_) | Notice::Again(_) => panic!(rt; "another notice"),
+        }
+    }
+    numbers
 }
 
 /// How the next session of a closed target on a port ended.
-pub(crate) fn serves_one<L: OpenListener>(
-    rt: &impl Abort,
+pub(crate) fn serves_one<L: OpenListener, C: Clock + Abort>(
+    rt: &C,
     alloc: Global,
     target: &mut Target,
     listener: &PortListener<L>,
     rounds: u64,
-) -> Result<Ended, PortFault>
+) -> Result<AtPort<Ended>, PortFault>
 where
     L::Stream: Read + Write + OpenStream,
 {
     if target.is_open() {
         panic!(rt; "the target is open");
     }
-    serve_next(alloc, target, listener, rounds)
+    serve_next(alloc, rt, target, listener, rounds)
 }

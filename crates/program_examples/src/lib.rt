@@ -9,6 +9,8 @@ mod attaching_tests;
 #[cfg(test)]
 mod plan_tests;
 #[cfg(test)]
+mod port_tests;
+#[cfg(test)]
 mod program_tests;
 #[cfg(test)]
 mod session_tests;

@@ -10,7 +10,7 @@ use Rattle.jdwp_debuggee.proofs.reading.read_command.Goals as goal
 pub returns-in_ok-action-in-Ok-clause-value : goal.returns-in_ok-action-in-Ok-clause-value
 returns-in_ok-action-in-Ok-clause-value c =
     let layout : implemented_request c.args.set c.args.number ≡ Some (shape c.in-Some-request_of.layout) = search rules in
-    asks_content c.args.sizes.now c.args.set c.args.number c.args.bytes.now _ _ (asking c.in_ok-action-in-Ok.action) layout c.in-Ok.ensures.value (rw c.new.ensures at c.in_ok-action-in-Ok.ensures)
+    asks_content c.args.sizes.now c.args.set c.args.number c.args.bytes.now _ _ (asking c.in_ok-action-in-Ok.action) layout c.in-Ok.ensures.value (rw c.new.ensures at c.in_ok-action-in-Ok.ensures.value)
 
 pub returns-in-Err-clause-value : goal.returns-in-Err-clause-value
 returns-in-Err-clause-value c =
@@ -21,9 +21,9 @@ returns-in-Err-clause-value c =
 pub returns-in_err-action-in-Ok-clause-reads : goal.returns-in_err-action-in-Ok-clause-reads
 returns-in_err-action-in-Ok-clause-reads c =
     let layout : implemented_request c.args.set c.args.number ≡ Some (shape c.in-Some-request_of.layout) = search rules in
-    if-err _ c.from_residual.result (read-whole c.args.sizes.now c.args.set c.args.number c.args.bytes.now _ _ layout c.in-Ok.ensures.value)
+    if-err _ c.from_residual.result (read-whole c.args.sizes.now c.args.set c.args.number c.args.bytes.now _ _ layout c.in-Ok.ensures.value (rw c.new.ensures at c.in_err-action-in-Ok.ensures.memory))
 
 pub returns-in-Err-clause-reads : goal.returns-in-Err-clause-reads
 returns-in-Err-clause-reads c =
     let layout : implemented_request c.args.set c.args.number ≡ Some (shape c.in-Some-request_of.layout) = search rules in
-    read-encoded c.args.sizes.now c.args.set c.args.number c.args.bytes.now _ c.in-Err.fault c.refused.result layout (λ is. c.in-Err.ensures.hides (ap Err is)) c.refused.ensures.memory
+    read-encoded c.args.sizes.now c.args.set c.args.number c.args.bytes.now _ c.in-Err.fault c.refused.result layout (λ is. c.in-Err.ensures.hides (ap Err is)) (λ is. c.in-Err.ensures.memory (ap Err is)) c.refused.ensures.memory

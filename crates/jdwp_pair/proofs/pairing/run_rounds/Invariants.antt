@@ -1,10 +1,11 @@
 use Rattle.std.proofs.Common.{◌≡◌, false, is_some}
-use Rattle.jdwp_pair.specs.PlanRuns.{GoesOn}
+use Rattle.jdwp_pair.specs.Calls.{at}
+use Rattle.jdwp_pair.specs.PlanRuns.{Rounds}
 use Rattle.jdwp_pair.proofs.pairing.run_rounds.Given as goal
 
--- it went on so far, over a connection that did not fail
-abbrev pub invariant-loop : goal.invariant-loop
-invariant-loop g l = record {
-  goes : GoesOn g.M.Machine.meaning l.plan l.fn.run.carried l.fn.run.composites l.fn.link l.run.carried l.run.composites l.link;
+-- the rounds so far, over a connection that did not fail
+abbrev pub invariant-loop-done : goal.invariant-loop-done
+invariant-loop-done g l = record {
+  rounds : Rounds g.M.Machine.meaning l.plan (at l.fn.link l.fn.run (g.W.Pipe.story l.fn.out)) l._done (at l.link l.run (g.W.Pipe.story l.out));
   works : is_some (g.C.Connection.failed_by l.connection) ≡ false;
 }

@@ -1,20 +1,33 @@
-use Rattle.std.proofs.Common.{rules}
-use Rattle.jdwp_pair.proofs.Leading.{leads-none, leads-on}
+use Rattle.std.proofs.Common.{nat_lt, Bool, subst, refl, rules, arith}
+use Rattle.jdwp_pair.specs.Rounds.{NotYet, OneMore, PieceToDebugger}
+use Rattle.jdwp_pair.proofs.Leading.{piece-to-debugger-moves, quietly-ends, repeats-move, until-stops, until-used}
 use Rattle.jdwp_pair.proofs.parts.deliver_to_debugger.Goals as goal
 
-pub loop-init : goal.loop-init
-loop-init g c = record { moves = leads-none g.M.Machine.meaning c.args.link.now 0; works = c.requires }
+pub loop-done-init : goal.loop-done-init
+loop-done-init g c = record { repeats = NotYet; works = c.requires }
 
-pub returns-in_err-act-clause-moves : goal.returns-in_err-act-clause-moves
-returns-in_err-act-clause-moves g c =
-    leads-on g.M.Machine.meaning c.args.link.now c.loop.link c.act.new.link 0 0 0 c.loop.invariant.moves c.act.ensures.moves
-
-pub loop-preserved : goal.loop-preserved
-loop-preserved g c = record {
-  moves = leads-on g.M.Machine.meaning c.args.link.now c.loop.link c.act.new.link 0 0 0 c.loop.invariant.moves c.act.ensures.moves;
+pub loop-done-preserved : goal.loop-done-preserved
+loop-done-preserved g c = record {
+  repeats = OneMore c.loop-done._done c.loop-done.link c.piece_to_debugger.new.link c.loop-done.invariant.repeats
+      (subst (λ (b : Bool). PieceToDebugger g.M.Machine.meaning c.loop-done.link b c.piece_to_debugger.new.link) c.in-Ok-true.field-0-test c.in-Ok-true.ensures.comes);
   works = search rules;
 }
 
-pub returns-then-saturating_sub-lt-PIECE-clause-moves : goal.returns-then-saturating_sub-lt-PIECE-clause-moves
-returns-then-saturating_sub-lt-PIECE-clause-moves g c =
-    leads-on g.M.Machine.meaning c.args.link.now c.loop.link c.act.new.link 0 0 0 c.loop.invariant.moves c.act.ensures.moves
+pub returns-in-Ok-false-clause-comes : goal.returns-in-Ok-false-clause-comes
+returns-in-Ok-false-clause-comes g c = (
+  nat_lt 0 c.loop-done._done,
+  until-stops (PieceToDebugger g.M.Machine.meaning) c.args.link.now c.loop-done.link c.piece_to_debugger.new.link c.loop-done._done (nat_lt 0 c.loop-done._done) c.loop-done.invariant.repeats
+      (subst (λ (b : Bool). PieceToDebugger g.M.Machine.meaning c.loop-done.link b c.piece_to_debugger.new.link) c.in-Ok-false.field-0-test c.in-Ok-false.ensures.comes) refl,
+)
+
+pub returns-in-Err-clause-ends : goal.returns-in-Err-clause-ends
+returns-in-Err-clause-ends g c =
+    let m = g.M.Machine.meaning in
+    quietly-ends m c.in-Err.ended c.args.link.now c.loop-done.link c.piece_to_debugger.new.link
+    (repeats-move m (PieceToDebugger m) (λ a b did d. piece-to-debugger-moves m a b did d) c.args.link.now c.loop-done._done c.loop-done.link c.loop-done.invariant.repeats) c.in-Err.ensures.ends
+
+pub returns-clause-comes : goal.returns-clause-comes
+returns-clause-comes g c = (
+  nat_lt 0 c.loop-done._done,
+  until-used (PieceToDebugger g.M.Machine.meaning) c.args.link.now c.loop-done.link c.loop-done._done (nat_lt 0 c.loop-done._done) c.loop-done.invariant.repeats (omega (arith, c.loop-done-test.false)) refl,
+)

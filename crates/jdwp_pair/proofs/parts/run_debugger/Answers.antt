@@ -1,43 +1,40 @@
-use Rattle.std.proofs.Common.{refl, ◌∙◌, rules}
-use Rattle.std.proofs.lemmas.Result.{err_from_is_err_and}
-use Rattle.jdwp_pair.proofs.Leading.{leads-move, leads-none, leads-then, moves-on}
-use Rattle.jdwp_pair.proofs.Planned.{moving-reads, reading-on}
+use Rattle.std.proofs.Common.{Bool, subst, refl, rules, arith}
+use Rattle.jdwp_pair.specs.Calls.{at}
+use Rattle.jdwp_pair.specs.Rounds.{NotYet, OneMore, TurnsDebugger}
+use Rattle.jdwp_pair.proofs.Leading.{ends-behind, once-more, repeats-lead, until-stops, until-used}
 use Rattle.jdwp_pair.proofs.parts.run_debugger.Goals as goal
 
-pub loop-init : goal.loop-init
-loop-init g c = record { leads = leads-none g.M.Machine.meaning c.args.link.now c.args.run.now.composites; carried = refl; works = c.requires }
+pub loop-done-init : goal.loop-done-init
+loop-done-init g c = record { repeats = NotYet; handled = refl; works = c.requires }
 
-pub returns-in_err-deliver_to_debugger-clause-ends : goal.returns-in_err-deliver_to_debugger-clause-ends
-returns-in_err-deliver_to_debugger-clause-ends g c =
-    let p = err_from_is_err_and c.from_residual.result c.from_residual.ensures.1 in
-    rw (p.1, p.2)
-    (moving-reads g.M.Machine.meaning c.in_err-deliver_to_debugger.field-0.0 c.args.link.now c.deliver_to_debugger.new.link c.in_err-deliver_to_debugger.ensures.ends
-    (moves-on g.M.Machine.meaning c.args.link.now c.loop.link c.deliver_to_debugger.new.link
-    (leads-move g.M.Machine.meaning c.args.link.now c.loop.link c.args.run.now.composites c.loop.run.composites c.loop.invariant.leads) c.deliver_to_debugger.ensures.moves))
+pub loop-done-preserved : goal.loop-done-preserved
+loop-done-preserved g c =
+    let story = g.W.Pipe.story in
+    record {
+      repeats =
+          OneMore c.loop-done._done (at c.loop-done.link c.loop-done.run (story c.loop-done.out)) (at c.turn_debugger.new.link c.turn_debugger.new.run (story c.turn_debugger.new.out)) c.loop-done.invariant.repeats
+          (subst (λ (b : Bool). TurnsDebugger g.M.Machine.meaning (at c.loop-done.link c.loop-done.run (story c.loop-done.out)) b (at c.turn_debugger.new.link c.turn_debugger.new.run (story c.turn_debugger.new.out))) c.in-Ok-true.field-0-test c.in-Ok-true.ensures.turns);
+      handled = once-more c.loop-done._done;
+      works = search rules;
+    }
 
-pub returns-in_err-turn_debugger-clause-ends : goal.returns-in_err-turn_debugger-clause-ends
-returns-in_err-turn_debugger-clause-ends g c =
-    let p = err_from_is_err_and c.from_residual-in_err-turn_debugger.result c.from_residual-in_err-turn_debugger.ensures.1 in
-    rw (p.1, p.2)
-    (reading-on g.M.Machine.meaning c.in_err-turn_debugger.field-0.0 c.args.link.now c.deliver_to_debugger.new.link c.turn_debugger.new.link
-    (moves-on g.M.Machine.meaning c.args.link.now c.loop.link c.deliver_to_debugger.new.link
-    (leads-move g.M.Machine.meaning c.args.link.now c.loop.link c.args.run.now.composites c.loop.run.composites c.loop.invariant.leads) c.deliver_to_debugger.ensures.moves) c.in_err-turn_debugger.ensures.ends)
+pub returns-in-Ok-false-clause-runs : goal.returns-in-Ok-false-clause-runs
+returns-in-Ok-false-clause-runs g c =
+    let story = g.W.Pipe.story in
+    until-stops (TurnsDebugger g.M.Machine.meaning) (at c.args.link.now c.args.run.now (story c.args.out.now)) (at c.loop-done.link c.loop-done.run (story c.loop-done.out))
+    (at c.turn_debugger.new.link c.turn_debugger.new.run (story c.turn_debugger.new.out)) c.loop-done._done c.loop-done.handled c.loop-done.invariant.repeats
+    (subst (λ (b : Bool). TurnsDebugger g.M.Machine.meaning (at c.loop-done.link c.loop-done.run (story c.loop-done.out)) b (at c.turn_debugger.new.link c.turn_debugger.new.run (story c.turn_debugger.new.out))) c.in-Ok-false.field-0-test c.in-Ok-false.ensures.turns) c.loop-done.invariant.handled
 
-pub returns-then-not-branch-clause-leads : goal.returns-then-not-branch-clause-leads
-returns-then-not-branch-clause-leads g c =
-    leads-then g.M.Machine.meaning c.args.link.now c.loop.link c.deliver_to_debugger.new.link c.turn_debugger.new.link c.args.run.now.composites c.loop.run.composites c.turn_debugger.new.run.composites
-    c.loop.invariant.leads c.deliver_to_debugger.ensures.moves c.in_ok-turn_debugger.ensures.leads
+pub returns-in-Err-clause-ends : goal.returns-in-Err-clause-ends
+returns-in-Err-clause-ends g c =
+    let m = g.M.Machine.meaning in
+    let story = g.W.Pipe.story in
+    let first = at c.args.link.now c.args.run.now (story c.args.out.now) in
+    let now = at c.loop-done.link c.loop-done.run (story c.loop-done.out) in
+    ends-behind m c.in-Err.ended first now c.turn_debugger.new.link (story c.turn_debugger.new.out) (repeats-lead m first c.loop-done._done now c.loop-done.invariant.repeats) c.in-Err.ensures.ends
 
-pub returns-then-not-is_full-clause-leads : goal.returns-then-not-is_full-clause-leads
-returns-then-not-is_full-clause-leads g c =
-    leads-then g.M.Machine.meaning c.args.link.now c.loop.link c.deliver_to_debugger.new.link c.turn_debugger.new.link c.args.run.now.composites c.loop.run.composites c.turn_debugger.new.run.composites
-    c.loop.invariant.leads c.deliver_to_debugger.ensures.moves c.in_ok-turn_debugger.ensures.leads
-
-pub loop-preserved : goal.loop-preserved
-loop-preserved g c = record {
-  leads =
-      leads-then g.M.Machine.meaning c.args.link.now c.loop.link c.deliver_to_debugger.new.link c.turn_debugger.new.link c.args.run.now.composites c.loop.run.composites c.turn_debugger.new.run.composites
-      c.loop.invariant.leads c.deliver_to_debugger.ensures.moves c.in_ok-turn_debugger.ensures.leads;
-  carried = c.turn_debugger.ensures.carried ∙ c.loop.invariant.carried;
-  works = search rules;
-}
+pub returns-clause-runs : goal.returns-clause-runs
+returns-clause-runs g c =
+    let story = g.W.Pipe.story in
+    until-used (TurnsDebugger g.M.Machine.meaning) (at c.args.link.now c.args.run.now (story c.args.out.now)) (at c.loop-done.link c.loop-done.run (story c.loop-done.out)) c.loop-done._done c.loop-done.handled
+    c.loop-done.invariant.repeats (omega (arith, c.loop-done-test.false)) c.loop-done.invariant.handled

@@ -1,11 +1,12 @@
-use Rattle.std.proofs.Common.{◌≡◌, false, is_some}
-use Rattle.jdwp_pair.specs.Events.{Leads}
+use Rattle.std.proofs.Common.{◌≡◌, false, is_some, nat_lt}
+use Rattle.jdwp_pair.specs.Calls.{at}
+use Rattle.jdwp_pair.specs.Rounds.{Repeats, TurnsDebugger}
 use Rattle.jdwp_pair.proofs.parts.run_debugger.Given as goal
 
--- the events so far, over a connection that did not fail
-abbrev pub invariant-loop : goal.invariant-loop
-invariant-loop g l = record {
-  leads : Leads g.M.Machine.meaning l.fn.link l.link l.fn.run.composites l.run.composites;
-  carried : l.run.carried ≡ l.fn.run.carried;
+-- the turns so far, each of which handled a message, over a connection that did not fail
+abbrev pub invariant-loop-done : goal.invariant-loop-done
+invariant-loop-done g l = record {
+  repeats : Repeats (TurnsDebugger g.M.Machine.meaning) (at l.fn.link l.fn.run (g.W.Pipe.story l.fn.out)) l._done (at l.link l.run (g.W.Pipe.story l.out));
+  handled : l.handled ≡ nat_lt 0 l._done;
   works : is_some (g.C.Connection.failed_by l.connection) ≡ false;
 }

@@ -1,43 +1,73 @@
-use Rattle.std.proofs.Common.{◌≤◌, ◌+◌, List, refl, subst, ◌∙◌, rules}
-use Rattle.std.proofs.lemmas.Result.{err_from_is_err_and}
+use Rattle.std.proofs.Common.{◌≡◌, ◌+◌, true, false, List, refl, subst, sym, ap, ◌∙◌, rules}
+use Rattle.jdwp_debugger.specs.Debuggers.{Debugger}
 use Rattle.jdwp_link.specs.declared.events.Outcome.{Outcome}
-use Rattle.jdwp_pair.specs.Events.{seen_in}
-use Rattle.jdwp_pair.proofs.Leading.{leads-counted, leads-move, leads-none, leads-on, moves-lead, moves-on}
-use Rattle.jdwp_pair.proofs.Planned.{moving-reads, telling-reads}
+use Rattle.jdwp_pipe.specs.Story.{with_written}
+use Rattle.jdwp_pair.specs.Calls.{at}
+use Rattle.jdwp_pair.specs.Events.{counted, seen_in}
+use Rattle.jdwp_pair.specs.Telling.{FailsToTell, turn_text}
+use Rattle.jdwp_pair.proofs.Leading.{come-to-debugger-moves, leads-moved, moving-ends, read-so, telling-ends, turning-ends}
 use Rattle.jdwp_pair.proofs.parts.turn_debugger.Goals as goal
 
-pub loop-init : goal.loop-init
-loop-init g c = record { leads = leads-none g.M.Machine.meaning c.args.link.now c.args.run.now.composites; carried = refl; works = c.requires }
+pub returns-in-Err-clause-ends : goal.returns-in-Err-clause-ends
+returns-in-Err-clause-ends g c =
+    moving-ends g.M.Machine.meaning c.in-Err.ended (at c.args.link.now c.args.run.now (g.W.Pipe.story c.args.out.now)) c.deliver_to_debugger.new.link c.in-Err.ensures.ends
 
-pub returns-in_err-outcomes-clause-ends : goal.returns-in_err-outcomes-clause-ends
-returns-in_err-outcomes-clause-ends g c =
-    let p = err_from_is_err_and c.from_residual.result c.from_residual.ensures.1 in
-    rw (p.1, p.2)
-    (moving-reads g.M.Machine.meaning c.in_err-outcomes.field-0.0 c.args.link.now c.act.new.link c.in_err-outcomes.ensures.ends
-    (moves-on g.M.Machine.meaning c.args.link.now c.loop.link c.act.new.link (leads-move g.M.Machine.meaning c.args.link.now c.loop.link c.args.run.now.composites c.loop.run.composites c.loop.invariant.leads) c.act.ensures.moves))
+pub returns-in-Err-happen-clause-ends : goal.returns-in-Err-happen-clause-ends
+returns-in-Err-happen-clause-ends g c =
+    let m = g.M.Machine.meaning in
+    let fed = c.deliver_to_debugger.new.link in
+    turning-ends m c.in-Err-happen.ended (at c.args.link.now c.args.run.now (g.W.Pipe.story c.args.out.now)) fed c.happen.new.link (come-to-debugger-moves m c.args.link.now fed c.in-Ok.ensures.comes) c.in-Err-happen.ensures.ends
 
-pub returns-then-not-did-clause-leads : goal.returns-then-not-did-clause-leads
-returns-then-not-did-clause-leads g c =
-    leads-on g.M.Machine.meaning c.args.link.now c.loop.link c.act.new.link c.args.run.now.composites c.loop.run.composites c.loop.run.composites c.loop.invariant.leads
-    (moves-lead g.M.Machine.meaning c.loop.link c.act.new.link c.loop.run.composites c.act.ensures.moves)
+pub returns-then-not-did-clause-turns : goal.returns-then-not-did-clause-turns
+returns-then-not-did-clause-turns g c = (c.deliver_to_debugger.new.link, c.in-Ok.ensures.comes, ((c.in-Ok-happen.outcomes.items, c.in-Ok-happen.ensures.ok), search rules, refl))
 
-pub returns-in_err-tell_turn-clause-ends : goal.returns-in_err-tell_turn-clause-ends
-returns-in_err-tell_turn-clause-ends g c =
-    let p = err_from_is_err_and c.from_residual-in_err-tell_turn.result c.from_residual-in_err-tell_turn.ensures.1 in
-    rw (p.1, p.2)
-    (telling-reads g.M.Machine.meaning c.in_err-tell_turn.field-0.0 c.args.link.now c.act.new.link c.in_err-tell_turn.ensures.ends
-    (moves-on g.M.Machine.meaning c.args.link.now c.loop.link c.act.new.link (leads-move g.M.Machine.meaning c.args.link.now c.loop.link c.args.run.now.composites c.loop.run.composites c.loop.invariant.leads) c.act.ensures.moves))
+pub returns-in-Err-tell_turn-clause-ends : goal.returns-in-Err-tell_turn-clause-ends
+returns-in-Err-tell_turn-clause-ends g c =
+    let m = g.M.Machine.meaning in
+    let fed = c.deliver_to_debugger.new.link in
+    let before = g.W.Pipe.story c.args.out.now in
+    let after = g.W.Pipe.story c.tell_turn.new.out in
+    let told = c.in-Ok-happen.outcomes.items in
+    telling-ends m c.in-Err-tell_turn.ended (at c.args.link.now c.args.run.now before) fed c.happen.new.link told after (come-to-debugger-moves m c.args.link.now fed c.in-Ok.ensures.comes) c.in-Ok-happen.ensures.ok
+    (subst (λ (d : Debugger). FailsToTell (turn_text d told) c.in-Err-tell_turn.ended before after) c.debugger-2.ensures
+    (subst (λ (os : List Outcome). FailsToTell (turn_text c.debugger-2.result.now os) c.in-Err-tell_turn.ended before after) c.deref.ensures.value c.in-Err-tell_turn.ensures.ends))
 
 pub returns-then-not-is_open-clause-ends : goal.returns-then-not-is_open-clause-ends
 returns-then-not-is_open-clause-ends g c =
-    (c.loop.link, leads-move g.M.Machine.meaning c.args.link.now c.loop.link c.args.run.now.composites c.loop.run.composites c.loop.invariant.leads, (search rules, c.in_ok-outcomes.ensures.happens, search rules))
+    let m = g.M.Machine.meaning in
+    let fed = c.deliver_to_debugger.new.link in
+    let before = g.W.Pipe.story c.args.out.now in
+    let after = g.W.Pipe.story c.tell_turn.new.out in
+    let told = c.in-Ok-happen.outcomes.items in (
+      at fed c.args.run.now before,
+      leads-moved m (at c.args.link.now c.args.run.now before) fed (come-to-debugger-moves m c.args.link.now fed c.in-Ok.ensures.comes),
+      (
+        search rules,
+        (
+          told,
+          c.in-Ok-happen.ensures.ok,
+          search rules,
+          subst (λ (d : Debugger). after ≡ with_written (turn_text d told) before) c.debugger-2.ensures
+              (subst (λ (os : List Outcome). after ≡ with_written (turn_text c.debugger-2.result.now os) before) c.deref.ensures.value c.in-Ok-tell_turn.ensures.tells),
+        ),
+      ),
+    )
 
-pub loop-preserved : goal.loop-preserved
-loop-preserved g c = record {
-  leads =
-      leads-on g.M.Machine.meaning c.args.link.now c.loop.link c.act.new.link c.args.run.now.composites c.loop.run.composites c.tell_turn.new.run.composites c.loop.invariant.leads
-      (leads-counted g.M.Machine.meaning c.loop.link c.act.new.link (seen_in c.in_ok-outcomes.outcomes.items) c.loop.run.composites c.tell_turn.new.run.composites c.in_ok-outcomes.ensures.leads
-      (subst (λ (os : List Outcome). c.tell_turn.new.run.composites ≤ c.loop.run.composites + seen_in os) c.deref.ensures.value c.tell_turn.ensures.counts));
-  carried = c.tell_turn.ensures.carried ∙ c.loop.invariant.carried;
-  works = search rules;
-}
+pub returns-clause-turns : goal.returns-clause-turns
+returns-clause-turns g c =
+    let fed = c.deliver_to_debugger.new.link in
+    let before = g.W.Pipe.story c.args.out.now in
+    let after = g.W.Pipe.story c.tell_turn.new.out in
+    let told = c.in-Ok-happen.outcomes.items in (
+      fed,
+      c.in-Ok.ensures.comes,
+      (
+        told,
+        c.in-Ok-happen.ensures.ok,
+        search rules,
+        read-so told c.happen.new.link (at fed c.args.run.now before) c.saturating_add-run.result after
+            (c.saturating_add-run.ensures ∙ ap (λ n. counted (c.args.run.now.composites + n)) (subst (λ (os : List Outcome). c.seen_in.result ≡ seen_in os) c.deref-2.ensures.value c.seen_in.ensures))
+            (subst (λ (d : Debugger). after ≡ with_written (turn_text d told) before) c.debugger-2.ensures
+            (subst (λ (os : List Outcome). after ≡ with_written (turn_text c.debugger-2.result.now os) before) c.deref.ensures.value c.in-Ok-tell_turn.ensures.tells)),
+      ),
+    )

@@ -1,20 +1,10 @@
-use Rattle.std.proofs.Common.{rules}
-use Rattle.jdwp_pair.proofs.Leading.{leads-none, leads-on}
+use Rattle.jdwp_pair.proofs.Leading.{come-to-target-moves, quietly-ends}
 use Rattle.jdwp_pair.proofs.parts.turn_target.Goals as goal
 
-pub loop-init : goal.loop-init
-loop-init g c = record { moves = leads-none g.M.Machine.meaning c.args.link.now 0; works = c.requires }
+pub returns-in-Ok-act-clause-turns : goal.returns-in-Ok-act-clause-turns
+returns-in-Ok-act-clause-turns g c = (c.deliver_to_target.new.link, c.in-Ok.ensures.comes, c.in-Ok-act.ensures.acts, c.did.ensures)
 
-pub returns-in_err-act-clause-moves : goal.returns-in_err-act-clause-moves
-returns-in_err-act-clause-moves g c =
-    leads-on g.M.Machine.meaning c.args.link.now c.loop.link c.act.new.link 0 0 0 c.loop.invariant.moves c.act.ensures.moves
-
-pub loop-preserved : goal.loop-preserved
-loop-preserved g c = record {
-  moves = leads-on g.M.Machine.meaning c.args.link.now c.loop.link c.act.new.link 0 0 0 c.loop.invariant.moves c.act.ensures.moves;
-  works = search rules;
-}
-
-pub returns-then-not-did-clause-moves : goal.returns-then-not-did-clause-moves
-returns-then-not-did-clause-moves g c =
-    leads-on g.M.Machine.meaning c.args.link.now c.loop.link c.act.new.link 0 0 0 c.loop.invariant.moves c.act.ensures.moves
+pub returns-in-Err-act-clause-ends : goal.returns-in-Err-act-clause-ends
+returns-in-Err-act-clause-ends g c =
+    let m = g.M.Machine.meaning in
+    quietly-ends m c.in-Err-act.ended c.args.link.now c.deliver_to_target.new.link c.act.new.link (come-to-target-moves m c.args.link.now c.deliver_to_target.new.link c.in-Ok.ensures.comes) c.in-Err-act.ensures.ends

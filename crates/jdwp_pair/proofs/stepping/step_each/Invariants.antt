@@ -1,6 +1,7 @@
 use Rattle.std.proofs.Common.{◌≡◌, ◌-◌, ◌^◌, ◌+◌, ℕ, false, Option, Some, None, is_some}
 use Rattle.jdwp_engine.specs.Rounds.{id_in}
 use Rattle.jdwp_pair.specs.Events.{Moves}
+use Rattle.jdwp_pair.specs.Rounds.{StepsUntil}
 use Rattle.jdwp_pair.proofs.stepping.step_each.Given as goal
 
 -- above all that were stepped
@@ -11,6 +12,7 @@ above (Some last) = last + 1
 -- the steps so far, over a connection that did not fail
 abbrev pub invariant-loop-thread : goal.invariant-loop-thread
 invariant-loop-thread g l = record {
+  each : StepsUntil g.M.Machine.meaning l.fn.link l.has_stepped (id_in l.last) l.link;
   moves : Moves g.M.Machine.meaning l.fn.link l.link;
   works : is_some (g.C.Connection.failed_by l.connection) ≡ false;
 }

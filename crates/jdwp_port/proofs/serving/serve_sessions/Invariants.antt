@@ -6,7 +6,7 @@ use Rattle.jdwp_port.proofs.serving.serve_sessions.Given as goal
 abbrev pub invariant-loop : goal.invariant-loop
 invariant-loop g l = record {
   callable : goal.F-IsAlwaysCallable g l.tell;
-  served : HasServed g.M.Machine.meaning l.rounds l.initial.target (λ f number h. goal.F-step g f number tt h) l.initial.tell l.target l.tell;
+  served : HasServed g.M.Machine.meaning l.rounds l.initial.target (λ f notice h. goal.F-step g f notice tt h) l.initial.tell l.target l.tell;
   lives : lives g.M.Machine.meaning l.target ≡ true;
   closed : is_open l.target.end ≡ false;
 }

@@ -1,4 +1,4 @@
-use Rattle.std.proofs.Common.{rules, arith, ◌∷◌, ◌++◌, ap, sym, ◌∙◌}
+use Rattle.std.proofs.Common.{rules, ◌∷◌, ◌++◌, ap, ◌∙◌}
 use Rattle.jdwp_program.specs.Values.{comma}
 use Rattle.jdwp_program.proofs.Numbers.{no-comma}
 use Rattle.jdwp_program.proofs.values.limits.Goals as goal

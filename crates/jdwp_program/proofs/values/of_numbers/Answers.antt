@@ -1,5 +1,3 @@
-use Rattle.std.proofs.Common.{rules, sym, ◌∙◌}
-use Rattle.std.proofs.lemmas.Grind.{common_steps}
 use Rattle.jdwp_program.proofs.Numbers.{made-of, no-number}
 use Rattle.jdwp_program.proofs.values.of_numbers.Goals as goal
 

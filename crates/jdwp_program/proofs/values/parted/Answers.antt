@@ -1,5 +1,5 @@
 use Rattle.std.proofs.lemmas.Str.Pattern.{split_after, split_parts}
-use Rattle.std.proofs.Common.{rules, arith}
+use Rattle.std.proofs.Common.{arith}
 use Rattle.jdwp_program.proofs.Numbers.{first-comma}
 use Rattle.jdwp_program.proofs.values.parted.Goals as goal
 

@@ -6,7 +6,7 @@ use Rattle.jdwp_target.proofs.turning.handle.Goals as goal
 
 pub returns-in-Refuses-clause-ok : goal.returns-in-Refuses-clause-ok
 returns-in-Refuses-clause-ok g c = λ set number body read.
-    done-refused g.M.Machine.meaning c.args.debuggee.now _ set number body c.in-Refuses.error (rw c.in-Refuses.is at read)
+    rw c.refused.ensures (done-refused g.M.Machine.meaning c.args.debuggee.now _ set number body c.in-Refuses.error (rw c.in-Refuses.is at read))
 
 pub returns-in_ok-sent-in-Carries-clause-ok : goal.returns-in_ok-sent-in-Carries-clause-ok
 returns-in_ok-sent-in-Carries-clause-ok g c = λ set number body read.

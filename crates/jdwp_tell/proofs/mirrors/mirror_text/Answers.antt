@@ -12,7 +12,7 @@ returns c =
       all_threads = subst (λ (xs : List Known). IsPermutation xs c.sort_by_key.new.self.items) c.in_ok-threads.ensures c.sort_by_key.ensures.permutation;
       rising_threads = c.in_ok-sort_by_key.ensures.sorted (λ (t : Known). t.id.0) (answers_always _ _ _ (λ f a r g h. search rules));
       requests = c.sort_by_key-2.new.self.items;
-      all_requests = subst (λ (xs : List (ℤ × ℕ × ℕ)). IsPermutation xs c.sort_by_key-2.new.self.items) (rw c.requests.ensures at c.in_ok-requests.ensures) c.sort_by_key-2.ensures.permutation;
+      all_requests = subst (λ (xs : List (ℤ × ℕ × ℕ)). IsPermutation xs c.sort_by_key-2.new.self.items) c.in_ok-requests.ensures c.sort_by_key-2.ensures.permutation;
       rising_requests = c.in_ok-sort_by_key-2.ensures.sorted (λ (r : ℤ × ℕ × ℕ). r.0) (answers_always _ _ _ (λ f a r g h. search rules));
       is = grind (arith, common_steps);
     }

@@ -5,6 +5,7 @@ use Rattle.jdwp_end.specs.Ends.{End, with_enqueued}
 use Rattle.jdwp_debugger.specs.Asking.{command_bytes, is_outstanding, refusal_of_ask}
 use Rattle.jdwp_debugger.specs.Debuggers.{AreDistinct, AreOwn, Asked, Begins, Debugger}
 use Rattle.jdwp_debugger.specs.DebuggersKept.{view_of}
+use Rattle.jdwp_debugger.specs.DebuggerTurns.{reading_of}
 use Rattle.jdwp_debugger.specs.Runs.{HasRun}
 use Rattle.jdwp_debugger.proofs.DebuggerRuns.{ran-asked}
 use Rattle.jdwp_debugger.proofs.Admitting.{asked-established}
@@ -39,7 +40,8 @@ invariant_of-self-2 c =
       alone = λ opened none. absurd cc;
       unlearned = λ none. absurd cc;
       unparked = kept.unparked;
-      ran = subst (HasRun end) (sym pushed) (ran-asked s.end ps leaves.widths p phase free leaves.encoded kept.ran);
+      ran = subst (λ (qs : List Asked). HasRun end (s.tickets + 1) (record { sizes = s.sizes; parked = s.parked.items; pending = qs }) s.mirror) (sym pushed)
+          (ran-asked s.end s.tickets (reading_of (view_of s)) s.mirror leaves.widths id c.args.command phase known free leaves.encoded kept.ran);
     })
 
 pub push-requires : goal.push-requires

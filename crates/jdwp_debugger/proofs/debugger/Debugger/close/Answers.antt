@@ -1,5 +1,7 @@
 use Rattle.std.proofs.Common.{◌≤◌, rules, arith, length}
 use Rattle.jdwp_mirror.specs.Faults.{PARKED_MOST}
+use Rattle.jdwp_debugger.specs.DebuggersKept.{view_of}
+use Rattle.jdwp_debugger.specs.DebuggerTurns.{reading_of}
 use Rattle.jdwp_debugger.proofs.DebuggerRuns.{ran-closed}
 use Rattle.jdwp_debugger.proofs.debugger.Debugger.close.Goals as goal
 
@@ -19,7 +21,7 @@ invariant_of-self c =
       alone = λ opened none. absurd cc;
       unlearned = λ none. c.clear.ensures;
       unparked = λ w known. absurd cc;
-      ran = ran-closed s.end s.pending s.pending kept.ran;
+      ran = ran-closed s.end s.tickets (reading_of (view_of s)) _ s.mirror c.clear.new.self c.clear.ensures kept.ran;
     })
 
 pub returns : goal.returns

@@ -1,10 +1,12 @@
-use Rattle.std.proofs.Common.{List, Result, Err, subst, sym, rules}
+use Rattle.std.proofs.Common.{◌≡◌, ◌++◌, List, [], ◌∷◌, None, false, Result, Err, ap, subst, sym, rules}
 use Rattle.jdwp_event.specs.Composites.{CompositeMeaning}
 use Rattle.jdwp_debugger.specs.declared.faults.DebuggerFault.{DebuggerFault}
 use Rattle.jdwp_debugger.specs.declared.reading.News as declared
 use Rattle.jdwp_debugger.specs.declared.turning.Read.{Read}
-use Rattle.jdwp_debugger.specs.DebuggerTurns.{EntersAt, FailsOnly, IsSaid, news_meaning, none_known, reports}
+use Rattle.jdwp_debugger.specs.DebuggerTurns.{EntersAt, FailsOnly, IsSaid, LearnedAll, bad_where, command_at, news_meaning, none_known, reports}
 use Rattle.jdwp_mirror.specs.Faults.{has_bad_event}
+use Rattle.jdwp_mirror.specs.Messages.{Reply}
+use Rattle.jdwp_mirror.specs.Mirrors.{empty_mirror}
 use Rattle.jdwp_debugger.proofs.SaidPackets.{measures-within}
 use Rattle.jdwp_debugger.proofs.TurningLemmas.{fails-measuring}
 use Rattle.jdwp_debugger.proofs.debugger.Debugger.enter.Goals as goal
@@ -28,3 +30,14 @@ learn_waited-requires c =
     let m = c.in-Measures in
     let said = subst (λ (n : declared.News). IsSaid c.args.self.now c.args.header c.args.used (news_meaning n)) m.is c.requires.said in
     measures-within c.args.self.now c.args.header c.args.used m.place m.answer m.sizes m.composites.items said
+
+pub take_sizes-requires-clause-told : goal.take_sizes-requires-clause-told
+take_sizes-requires-clause-told c =
+    let old = c.args.self.now in
+    let m = c.in-Measures in
+    let mirror = c.in-Ok.mirror in
+    let said = subst (λ (n : declared.News). IsSaid old c.args.header c.args.used (news_meaning n)) m.is c.requires.said in
+    let learned =
+    subst (λ (cs : List CompositeMeaning). (has_bad_event none_known (reports cs) ≡ false) × LearnedAll empty_mirror (reports cs ++ Reply None (command_at m.place old.pending) m.answer ∷ []) mirror) c.deref.ensures.value
+    c.in-Ok.ensures.ok in
+    record { answer = m.answer; composites = m.composites.items; said = said; unrefused = ap bad_where learned.0; learned = learned.1 }

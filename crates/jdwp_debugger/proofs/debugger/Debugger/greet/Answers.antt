@@ -6,7 +6,8 @@ use Rattle.jdwp_end.specs.Ends.{End, front_of, with_enqueued, with_handled}
 use Rattle.jdwp_mirror.specs.Messages.{id_sizes}
 use Rattle.jdwp_debugger.specs.Asking.{is_outstanding}
 use Rattle.jdwp_debugger.specs.Debuggers.{AreDistinct, AreOwn, Asked, Debugger, IsSizesAlone}
-use Rattle.jdwp_debugger.specs.DebuggerTurns.{sizes_header}
+use Rattle.jdwp_debugger.specs.DebuggersKept.{view_of}
+use Rattle.jdwp_debugger.specs.DebuggerTurns.{reading_of, sizes_header}
 use Rattle.jdwp_debugger.specs.Runs.{HasRun}
 use Rattle.jdwp_debugger.proofs.DebuggerRuns.{ran-greeted}
 use Rattle.jdwp_debugger.proofs.Keeping.{distinct-more, own-more}
@@ -48,7 +49,8 @@ invariant_of-self-2 c =
       alone = λ opened none. alone;
       unlearned = kept.unlearned;
       unparked = kept.unparked;
-      ran = subst (HasRun end) (sym pushed) (ran-greeted s.end ps 14 p bytes front kept.ran);
+      ran = subst (λ (qs : List Asked). HasRun end s.tickets (record { sizes = s.sizes; parked = s.parked.items; pending = qs }) s.mirror) (sym pushed)
+          (ran-greeted s.end s.tickets (reading_of (view_of s)) s.mirror 14 s.next_id bytes front kept.ran);
     })
 
 pub returns : goal.returns

@@ -1,6 +1,8 @@
 use Rattle.std.proofs.Common.{◌≤◌, ℕ, List, length, take, min, ap, subst, arith}
 use Rattle.std.proofs.lemmas.List.{take_min}
 use Rattle.jdwp_end.specs.Ends.{End, with_taken}
+use Rattle.jdwp_debugger.specs.DebuggersKept.{view_of}
+use Rattle.jdwp_debugger.specs.DebuggerTurns.{reading_of}
 use Rattle.jdwp_debugger.specs.Runs.{HasRun}
 use Rattle.jdwp_debugger.proofs.DebuggerRuns.{ran-taken}
 use Rattle.jdwp_debugger.proofs.debugger.Debugger.leave.Goals as goal
@@ -23,5 +25,6 @@ invariant_of-self c =
       alone = kept.alone;
       unlearned = kept.unlearned;
       unparked = kept.unparked;
-      ran = subst (λ (e : End). HasRun e s.pending) (ap (λ (bytes : List ℕ). with_taken bytes s.end) (take_min c.args.count out)) (ran-taken s.end s.pending count within kept.ran);
+      ran = subst (λ (e : End). HasRun e s.tickets (reading_of (view_of s)) s.mirror) (ap (λ (bytes : List ℕ). with_taken bytes s.end) (take_min c.args.count out))
+          (ran-taken s.end s.tickets (reading_of (view_of s)) s.mirror count within kept.ran);
     })

@@ -2,6 +2,8 @@ use Rattle.std.proofs.Common.{◌≡◌, ◌≤◌, ◌∙◌, List, ap, rules, 
 use Rattle.jdwp_mirror.specs.Faults.{PARKED_MOST}
 use Rattle.jdwp_debugger.specs.declared.pending.Ticket.{Ticket}
 use Rattle.jdwp_debugger.specs.Debuggers.{AreDistinct, AreOwn, Debugger, tickets_of}
+use Rattle.jdwp_debugger.specs.DebuggersKept.{view_of}
+use Rattle.jdwp_debugger.specs.DebuggerTurns.{reading_of}
 use Rattle.jdwp_debugger.proofs.DebuggerRuns.{ran-lost}
 use Rattle.jdwp_debugger.proofs.Keeping.{distinct-none, few-tickets}
 use Rattle.jdwp_debugger.proofs.debugger.Debugger.lose.Goals as goal
@@ -23,7 +25,7 @@ invariant_of-self c =
       alone = λ opened none. absurd cc;
       unlearned = λ none. c.clear.ensures;
       unparked = λ w known. absurd cc;
-      ran = ran-lost s.end s.pending c.clear-3.new.self kept.ran;
+      ran = ran-lost s.end s.tickets (reading_of (view_of s)) _ s.mirror c.clear.new.self c.clear.ensures kept.ran;
     })
 
 pub returns-clause-tickets : goal.returns-clause-tickets

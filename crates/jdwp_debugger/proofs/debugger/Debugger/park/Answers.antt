@@ -1,12 +1,13 @@
-use Rattle.std.proofs.Common.{◌≡◌, ◌∙◌, ◌≤◌, ap, subst, sym, rules, arith, length}
+use Rattle.std.proofs.Common.{◌≡◌, ◌∙◌, ◌≤◌, ◌++◌, List, [], ◌∷◌, refl, ap, subst, sym, rules, arith, length}
 use Rattle.jdwp_wire.specs.Bytes.{IsBytes}
 use Rattle.jdwp_wire.specs.Streams.{Packet}
 use Rattle.jdwp_end.specs.Ends.{End, front_of, with_handled}
 use Rattle.jdwp_mirror.specs.Faults.{PARKED_MOST}
-use Rattle.jdwp_debugger.specs.Debuggers.{Debugger}
+use Rattle.jdwp_debugger.specs.Debuggers.{Debugger, Parked}
 use Rattle.jdwp_debugger.specs.DebuggersKept.{view_of}
 use Rattle.jdwp_debugger.specs.DebuggerTurns.{IsSaid}
 use Rattle.jdwp_debugger.specs.News.{Waits}
+use Rattle.jdwp_debugger.specs.Runs.{HasRun}
 use Rattle.jdwp_debugger.proofs.SaidPackets.{may-park, parks-unknown, said-open, said-ran}
 use Rattle.jdwp_debugger.proofs.debugger.Debugger.park.Goals as goal
 
@@ -24,6 +25,7 @@ invariant_of-self-2 c =
     let bytes : IsBytes s.end.incoming = subst (λ (d : Debugger). IsBytes d.end.incoming) (sym c.self.view_is) c.requires.bytes in
     let end : End = with_handled (Packet header said.body) used s.end in
     let read : c.take_off.new.self ≡ end = c.take_off.ensures (Packet header said.body) said.front in
+    let pushed : c.push.new.self.items ≡ s.parked.items ++ record { header = header; body = c.args.body.items } ∷ [] = search rules in
     let less = may-park (view_of s) header used c.args.body.items said kept.few_parked in
     let few : length c.push.new.self.items ≤ PARKED_MOST = search (rules, arith, less) in
     rw read
@@ -37,5 +39,6 @@ invariant_of-self-2 c =
       alone = λ opened none. kept.alone (said-open (view_of s) header used news bytes said) none;
       unlearned = kept.unlearned;
       unparked = λ w known. absurd (let none = parks-unknown (view_of s) header used c.args.body.items said in cc);
-      ran = said-ran (view_of s) header used news bytes said kept.ran;
+      ran = subst (λ (ps : List Parked). HasRun end s.tickets (record { sizes = s.sizes; parked = ps; pending = s.pending }) s.mirror) (sym pushed)
+          (said-ran (view_of s) header used news s.mirror bytes said refl refl kept.ran);
     })

@@ -30,6 +30,7 @@ invariant_of-self-2 c =
     let said : IsSaid (view_of s) header used news = subst (λ (d : Debugger). IsSaid d header used news) (sym c.self.view_is) c.requires.said in
     let bytes : IsBytes s.end.incoming = subst (λ (d : Debugger). IsBytes d.end.incoming) (sym c.self.view_is) c.requires.bytes in
     let end : End = with_handled (Packet header said.body) used s.end in
+    let good : is_bad_event (count_in s.mirror.threads) composite ≡ false = sym c.is_bad_composite.ensures ∙ c.if-is_bad_composite.false in
     let read : c.take_off.new.self ≡ end = c.take_off.ensures (Packet header said.body) said.front in
     rw read
     (record {
@@ -42,7 +43,7 @@ invariant_of-self-2 c =
       alone = λ opened none. absurd (knows (view_of s) header used composite said none);
       unlearned = λ none. absurd (knows (view_of s) header used composite said none);
       unparked = kept.unparked;
-      ran = said-ran (view_of s) header used news bytes said kept.ran;
+      ran = said-ran (view_of s) header used news c.learn_composite.new.self bytes said (ap bad_where good) (c.learn_composite.new.self, c.in_ok-learn_composite.ensures.ok, refl) kept.ran;
     })
 
 pub returns : goal.returns

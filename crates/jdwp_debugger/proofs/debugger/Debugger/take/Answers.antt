@@ -1,4 +1,6 @@
 use Rattle.std.proofs.Common.{◌≤◌, arith, length}
+use Rattle.jdwp_debugger.specs.DebuggersKept.{view_of}
+use Rattle.jdwp_debugger.specs.DebuggerTurns.{reading_of}
 use Rattle.jdwp_debugger.proofs.DebuggerRuns.{ran-taken}
 use Rattle.jdwp_debugger.proofs.debugger.Debugger.take.Goals as goal
 
@@ -18,5 +20,5 @@ invariant_of-self c =
       alone = kept.alone;
       unlearned = kept.unlearned;
       unparked = kept.unparked;
-      ran = ran-taken s.end s.pending c.take.result le kept.ran;
+      ran = ran-taken s.end s.tickets (reading_of (view_of s)) s.mirror c.take.result le kept.ran;
     })

@@ -51,6 +51,9 @@ invariant_of-self-2 c =
     let read : c.take_off.new.self ≡ end = c.take_off.ensures (Packet header said.body) said.front in
     let left : c.remove.new.self ≡ remove ps place = c.remove.ensures in
     let within : place < length ps = answers-within (view_of s) header used place ticket answer said in
+    let m = c.learn_reply.new.self in
+    let seen : c.at.result.1.now.command ≡ command_at place ps = sym (ap command_of c.at.ensures) in
+    let learned = subst (λ (q : Command). Learned s.mirror (Reply (Some ticket) q answer) m) seen (c.in_ok-learn_reply.ensures.ok (Some ticket)) in
     let opened = said-open (view_of s) header used news bytes said in
     rw read
     (record {
@@ -63,7 +66,8 @@ invariant_of-self-2 c =
       alone = λ opens none. absurd (known-before (view_of s) header used place ticket answer said (kept.alone opened none));
       unlearned = λ none. absurd (known-before (view_of s) header used place ticket answer said (kept.alone opened none));
       unparked = kept.unparked;
-      ran = subst (HasRun end) (sym left) (said-ran (view_of s) header used news bytes said kept.ran);
+      ran = subst (λ (qs : List Asked). HasRun end s.tickets (record { sizes = s.sizes; parked = s.parked.items; pending = qs }) m) (sym left)
+          (said-ran (view_of s) header used news m bytes said refl (m, learned, refl) kept.ran);
     })
 
 pub returns : goal.returns

@@ -20,5 +20,5 @@ invariant_of-result c =
       alone = λ opened none. absurd cc;
       unlearned = λ none. search rules;
       unparked = λ w known. absurd cc;
-      ran = ran-new c.args.limits _;
+      ran = ran-new c.args.limits 0 _ _ (search rules);
     })

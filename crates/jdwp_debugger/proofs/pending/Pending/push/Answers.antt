@@ -3,9 +3,9 @@ use Rattle.std.specs.Map.{lookup}
 use Rattle.jdwp_debugger.specs.declared.pending.Asked as kept
 use Rattle.jdwp_debugger.specs.Asking.{is_outstanding}
 use Rattle.jdwp_debugger.specs.Debuggers.{Asked}
-use Rattle.jdwp_debugger.specs.PendingKept.{asked_of, waiting_in}
+use Rattle.jdwp_debugger.specs.PendingKept.{KeepsNoSettled, asked_of, waiting_in}
 use Rattle.jdwp_debugger.proofs.Entries.{none_of}
-use Rattle.jdwp_debugger.proofs.Settled.{none_waits, one_more}
+use Rattle.jdwp_debugger.proofs.Settled.{bare_inserted, bare_none, none_waits, one_more}
 use Rattle.jdwp_debugger.proofs.pending.Pending.push.Goals as goal
 use Rattle.jdwp_debugger.proofs.pending.Pending.push.Goals.{then-contains_key, else-contains_key}
 
@@ -22,7 +22,7 @@ returns-in-Ok-clause-ok c =
     ] in
     let within : ready.settled ≤ length ready.commands.entries = elim c.if-contains_key.branch [
       | then-contains_key w ↦ rw (w.self-inside-is, w.take_out.ensures.none) (omega arith)
-      | else-contains_key w ↦ rw w.self-inside-is c.self.invariant
+      | else-contains_key w ↦ rw w.self-inside-is c.self.invariant.0
     ] in
     let same : waiting_in ready.settled ready.commands.entries ≡ waiting_in before.settled before.commands.entries = elim c.if-contains_key.branch [
       | then-contains_key w ↦ rw w.self-inside-is (λ j. waiting_in (w.take_out.ensures.none j) (w.take_out.ensures.others j))
@@ -33,3 +33,20 @@ returns-in-Ok-clause-ok c =
     ∙ one_more ready.commands ready.settled id asked within none
     ∙ ap (λ (ps : List Asked). ps ++ asked_of (id, asked) ∷ []) same
     )
+
+pub invariant_of-self : goal.invariant_of-self
+invariant_of-self c =
+    let before = c.self.inside in
+    let ready = c.if-contains_key.self-inside in
+    let id = c.args.id in
+    let asked : kept.Asked = record { ticket = c.args.ticket; command = c.args.command } in
+    let free : is_outstanding (waiting_in before.settled before.commands.entries) id ≡ false = search rules in
+    let none : lookup (eqb id) ready.commands.entries ≡ None = elim c.if-contains_key.branch [
+      | then-contains_key w ↦ rw (w.self-inside-is, w.take_out.ensures.others) (none_waits before.settled id before.commands.entries free)
+      | else-contains_key w ↦ rw w.self-inside-is (none_of (lookup (eqb id) before.commands.entries) (sym c.contains_key.ensures ∙ w.if-contains_key.false))
+    ] in
+    let keeps : KeepsNoSettled ready.settled ready.commands.entries = elim c.if-contains_key.branch [
+      | then-contains_key w ↦ rw w.self-inside-is (bare_none w.take_out.new.settled w.take_out.new.commands.entries w.take_out.ensures.none)
+      | else-contains_key w ↦ rw w.self-inside-is c.self.invariant
+    ] in
+    bare_inserted c.insert.result ready.commands c.insert.new.self.entries ready.settled id asked keeps none c.insert.ensures.entries c.insert.ensures.err

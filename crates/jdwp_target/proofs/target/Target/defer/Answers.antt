@@ -101,4 +101,4 @@ returns-in_err-body g c =
     let used = c.args.used in
     let front : front_of t.end ≡ Whole (Packet header body) used = packet.1 in
     let deferred : defers (full_standing old) (Packet header body) ≡ true = packet.2 in
-    rw (← c.self.view_is) (turns-wanting m old _ (Packet header body) used _ front (search rules) (needs-to-defer m old (Packet header body) deferred) (search rules))
+    rw (← c.self.view_is) (turns-wanting m old _ (Packet header body) used _ front (search rules) (needs-to-defer m old (Packet header body) deferred (c.in_err-body.ensures.memory header body front)) (search rules))

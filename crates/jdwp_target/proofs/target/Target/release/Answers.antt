@@ -211,6 +211,6 @@ returns-in_err-done-clause-releases g c =
     let others = c.command-command.ensures.0 in
     let found : released_at place t.deferral.commands ≡ Some (message_of command, others) = c.command-command.ensures.1 in
     let at = there old place (message_of command) others session flows found in
-    let reads = rw c.deref.ensures.value at c.in_err-done.ensures.reads in
-    let needs = deferred-needs m old c.sizes-sizes.result command c.sizes-sizes.ensures c.in_err-done.ensures.long reads in
+    let wants = rw c.deref.ensures.value at c.in_err-done.ensures.wants in
+    let needs = deferred-needs m old c.sizes-sizes.result command c.sizes-sizes.ensures wants in
     rw (← c.self.view_is) (releases-wanting m old _ place (message_of command) others _ at (search rules) needs (search rules))

@@ -344,7 +344,7 @@ returns-in_err-came-clause-turns g c =
     let w = c.sizes-sizes.result in
     let told = c.takes-defers.result in
     let wanted = c.in_err-came.ensures.came body front in
-    let needs = wants-to-read m old header body used told fits front c.takes-defers.ensures wanted.0 wanted.1 in
+    let needs = wants-to-read m t.debuggee old header body used told fits front c.takes-defers.ensures wanted.0 refl refl wanted.1 in
     let same : target_of c.handle_front.new.debuggee t.deferral t.began.items t.phases.items (length t.steps.items) c.handle_front.new.end ≡ old = rw (wanted.2, c.handle_front.ensures.same) refl in
     rw (← c.self.view_is) (turns-wanting m old _ (Packet header body) used _ front (search rules) needs same)
 

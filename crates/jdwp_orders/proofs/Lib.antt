@@ -1,0 +1,9 @@
+mod Acting
+mod People
+mod Moving
+mod Following
+mod Catching
+mod Joined
+mod Greetings
+mod Turning
+mod Theorems

@@ -1,0 +1,4 @@
+pub mod Acts
+pub mod Watched
+pub mod Headline
+pub mod Worked

@@ -1,0 +1,40 @@
+-- What is left of what was told.
+use Rattle.std.proofs.Common.{◌≡◌, ℕ, List, Option, Some, None, Result, Ok, Err, inl, inr, refl}
+use Rattle.jdwp_show.specs.declared.capture_fault.CaptureFault.{CaptureFault}
+use Rattle.jdwp_show.specs.Sessions.{first_fault}
+use Rattle.jdwp_program.specs.Captures.{Tells, shown_text, verdict_text}
+use Rattle.jdwp_program.specs.Outputs.{IsTextOf, LeavesTold}
+use Rattle.jdwp_program.specs.Version.{version_line}
+use Rattle.jdwp_program.specs.declared.captures.Told.{Told}
+use Rattle.jdwp_program.specs.declared.captures.Told.TheVariants.{Faultless, Faulty, Unread}
+use Rattle.jdwp_program.specs.declared.captures.TellFault.{TellFault}
+use Rattle.jdwp_program.specs.declared.captures.TellFault.TheVariants.{Output, NoMemory}
+
+-- of a capture
+leaves_capture : (capture text : List ℕ) (fault : Option (ℕ × CaptureFault)) (old new : Option (List ℕ)) (result : Result Told TellFault)
+    → first_fault capture ≡ fault → IsTextOf capture text → Tells fault text old new result → LeavesTold result old new
+leaves_capture capture text None old new (Ok Faultless) is of tells = inr (inl (capture, text, of, inl (rw is refl, tells.1)))
+leaves_capture capture text (Some fault) old new (Ok Faultless) is of tells = absurd cc
+leaves_capture capture text None old new (Ok Faulty) is of tells = absurd cc
+leaves_capture capture text (Some fault) old new (Ok Faulty) is of tells = inr (inl (capture, text, of, inl (rw is refl, tells.1)))
+leaves_capture capture text fault old new (Ok Unread) is of tells = inr (inl (capture, text, of, inr (refl, tells)))
+leaves_capture capture text fault old new (Err (Output error)) is of tells = inr (inl (capture, text, of, inr (refl, tells.1)))
+leaves_capture capture text fault old new (Err NoMemory) is of tells = inl tells
+
+-- of a capture in words
+pub leaves_shown : (capture : List ℕ) (old new : Option (List ℕ)) (result : Result Told TellFault)
+    → Tells (first_fault capture) (shown_text capture) old new result → LeavesTold result old new
+leaves_shown capture old new result tells = leaves_capture capture (shown_text capture) (first_fault capture) old new result refl (inl refl) tells
+
+-- of the verdict on a capture
+pub leaves_judged : (capture : List ℕ) (old new : Option (List ℕ)) (result : Result Told TellFault)
+    → Tells (first_fault capture) (verdict_text (first_fault capture)) old new result → LeavesTold result old new
+leaves_judged capture old new result tells = leaves_capture capture (verdict_text (first_fault capture)) (first_fault capture) old new result refl (inr refl) tells
+
+-- of the program's version
+pub leaves_version : (old new : Option (List ℕ)) (result : Result Told TellFault) → Tells None version_line old new result → LeavesTold result old new
+leaves_version old new (Ok Faultless) tells = inr (inr (inl (refl, tells.1)))
+leaves_version old new (Ok Faulty) tells = absurd cc
+leaves_version old new (Ok Unread) tells = inr (inr (inr (refl, tells)))
+leaves_version old new (Err (Output error)) tells = inr (inr (inr (refl, tells.1)))
+leaves_version old new (Err NoMemory) tells = inl tells

@@ -1,0 +1,27 @@
+-- What a plan waits for that stands still.
+use Rattle.std.specs.Prelude.{ℕ, zero, suc, List, Option, None, Some}
+use Rattle.std.specs.List.{slice_get}
+use Rattle.jdwp_plan.specs.Lines.{Said}
+use Rattle.jdwp_plan.specs.Lines.Said.{Ask, Answers, Events, Mirror, LoseTarget, LoseDebugger, Attach}
+use Rattle.jdwp_program.specs.declared.awaiting.Awaited.{Awaited}
+use Rattle.jdwp_program.specs.declared.awaiting.Awaited.TheVariants as awaited
+
+-- what a line waits for; one that waits for nothing of its own still waits for the session to begin
+abbrev pub awaited_by : Said → Awaited
+awaited_by (Ask set number bytes) = awaited.Widths
+awaited_by Answers = awaited.Answers
+awaited_by (Events count) = awaited.Composites count
+awaited_by Mirror = awaited.Widths
+awaited_by LoseTarget = awaited.Widths
+awaited_by LoseDebugger = awaited.Widths
+awaited_by Attach = awaited.Ends
+
+-- what this line waits for; behind the last one the answers are waited for
+abbrev pub awaited_of : Option Said → Awaited
+awaited_of None = awaited.LastAnswers
+awaited_of (Some line) = awaited_by line
+
+-- what the line at this place waits for, counted from 1; no line is the one before the first
+abbrev pub awaited_at : List Said → ℕ → Awaited
+awaited_at plan zero = awaited.LastAnswers
+awaited_at plan (suc place) = awaited_of (slice_get plan place)

@@ -1,0 +1,68 @@
+//! What a plan waits for that stands still.
+ghost use Rattle.std.specs.Prelude.{◌≡◌, map};
+ghost use Rattle.jdwp_plan.specs.PlanLines.{said_by};
+ghost use Rattle.jdwp_program.specs.Awaiting.{awaited_at, awaited_by};
+
+use jdwp_plan::PlanLine;
+use std::fmt;
+
+/// What a line of a plan waits for, or a plan behind its last line.
+#[derive(Clone, Copy, Debug, PartialEq, Eq)]
+pub enum Awaited {
+    /// The widths of ids, for which each line waits at the beginning of a session.
+    Widths,
+    /// `answers`: the answers to what was asked.
+    Answers,
+    /// `events N`: so many composites, read in the session.
+    Composites(u32),
+    /// `attach`: both ends closed, no command that waits, and a thread that lives.
+    Ends,
+    /// Behind the last line: the answers to what was asked.
+    LastAnswers,
+}
+
+impl Awaited {
+    /// What the line at this place of a plan waits for, counted from 1.
+    pub fn at(plan: &[PlanLine], line: usize) -> Awaited
+        ensures { result ≡ awaited_at (map said_by plan.now) line }
+    {
+        let Some(place) = line.checked_sub(1) else {
+            return Awaited::LastAnswers;
+        };
+        match plan.get(place) {
+            Some(line) => Awaited::by(line),
+            None => Awaited::LastAnswers,
+        }
+    }
+
+    /// What this line waits for.
+    fn by(line: &PlanLine) -> Awaited
+        ensures { result ≡ awaited_by (said_by line.now) }
+    {
+        match line {
+            PlanLine::Answers => Awaited::Answers,
+            PlanLine::Events(count) => Awaited::Composites(*count),
+            PlanLine::Attach => Awaited::Ends,
+            PlanLine::Ask { .. }
+            | PlanLine::Mirror
+            | PlanLine::LoseTarget
+            | PlanLine::LoseDebugger => Awaited::Widths,
+        }
+    }
+}
+
+impl fmt::Display for Awaited {
+    fn fmt<W: fmt::Write>(&self, f: &mut fmt::Formatter<W>) -> fmt::Result {
+        match self {
+            Awaited::Widths => f.write_str("the widths of ids"),
+            Awaited::Answers | Awaited::LastAnswers => {
+                f.write_str("the answers to what was asked")
+            }
+            Awaited::Composites(1) => f.write_str("1 composite of the session"),
+            Awaited::Composites(count) => write!(f, "{count} composites of the session"),
+            Awaited::Ends => f.write_str(
+                "both ends to be closed, with no command that waits, in a machine that lives",
+            ),
+        }
+    }
+}

@@ -1,0 +1,6 @@
+mod Exact
+mod Within
+mod Tells
+mod Watched
+mod Tabled
+mod Lowered

@@ -1,0 +1,10 @@
+use Rattle.std.proofs.Common.{ℕ, List, map, sym, ap, ◌∙◌}
+use Rattle.jdwp_mirror.specs.CommandKinds.{object_id}
+use Rattle.jdwp_watch.specs.Tables.{Table, named}
+use Rattle.jdwp_watch.proofs.Tabled.{keys-seen}
+use Rattle.jdwp_watch.proofs.standings.Standings.threads.Goals as goal
+
+pub returns-clause-all : goal.returns-clause-all
+returns-clause-all c =
+    let i = c.self.inside in
+    c.of.ensures.all ∙ (ap (λ (ks : List ℕ). map object_id ks) (sym (keys-seen i.moves.items i.entries.entries)) ∙ ap (λ (table : Table). named table) c.self.view_is)

@@ -1,0 +1,5 @@
+pub mod Standings
+pub mod Tables
+pub mod Lowerings
+pub mod Tellings
+pub mod Watching

@@ -1,0 +1,185 @@
+//! What is known of each thread: of those that were named, one by one, and of all others at once.
+ghost use Rattle.std.specs.Prelude.{◌≡◌, ℕ, [], map, OnErr, OnOk};
+ghost use Rattle.std.specs.Map.Iter.{GivesInOrder};
+ghost use Rattle.jdwp_value.specs.declared.id.ObjectId.{ObjectId};
+ghost use Rattle.jdwp_watch.specs.declared.standing.Change.TheVariants.{Keep};
+ghost use Rattle.jdwp_watch.specs.Standings.{changed, first_standing};
+ghost use Rattle.jdwp_watch.specs.Tables.{at, change_for, named};
+ghost use Rattle.jdwp_watch.specs.Tables as spec;
+
+use crate::named::NamedThreads;
+use crate::standing::{Change, Standing};
+use jdwp_value::ObjectId;
+use jdwp_wire::NoMemory;
+use std::alloc::Global;
+use std::collections::BTreeMap;
+use std::marker::Model;
+
+/// A thread that was named, as it was when it was last written.
+#[derive(Clone, Copy)]
+pub(crate) struct Met {
+    pub standing: Standing,
+    /// How many moves of all threads had been made by then.
+    pub time: usize,
+}
+
+/// What is known of each thread. A move of all threads takes no walk over those that were named: it is noted, and each of them is brought
+/// up to it where it is looked at. Where more moves than named threads are noted, the next takes a walk, which writes all of them and forgets
+/// the moves; so together it and the moves before it cost no more than if each had taken a walk.
+#[derive(Drop)]
+pub(crate) struct Standings {
+    /// The threads that were named, by their ids.
+    entries: BTreeMap<u64, Met>,
+    /// What is known of each other thread.
+    others: Standing,
+    /// What became of all threads.
+    moves: Vec<Change>,
+}
+
+impl Model for Standings {
+    ghost use Rattle.jdwp_watch.specs.Tables.{AreBefore, Table, threads_seen};
+
+    ghost Value = { Table };
+
+    ghost view = { λ s. record { threads = threads_seen s.moves.items s.entries.entries; others = s.others } };
+
+    ghost invariant = { λ s. AreBefore s.moves.items s.entries };
+}
+
+impl Standings {
+    /// No thread was named.
+    pub fn new(alloc: Global) -> Standings
+        ensures { result ≡ record { threads = []; others = first_standing } }
+    {
+        Standings {
+            entries: BTreeMap::new(alloc),
+            others: Standing::new(),
+            moves: Vec::new(alloc),
+        }
+    }
+
+    /// The threads that were named, in the order of their ids.
+    pub fn threads(&self) -> NamedThreads<'_>
+        ensures all { result ≡ named self.now }
+        ensures runs { GivesInOrder ObjectId }
+    {
+        NamedThreads::of(&self.entries)
+    }
+
+    /// What is known of a thread.
+    pub fn of(&self, thread: ObjectId) -> Standing
+        ensures { result ≡ at self.now thread.0 }
+    {
+        match self.entries.get(&thread.0) {
+            Some(met) => met.seen(self.moves.as_slice()),
+            None => self.others,
+        }
+    }
+
+    /// Changes what is known of a thread, which is named by that, and of all others.
+    ///
+    /// # Errors
+    /// `NoMemory` where an allocation was refused; nothing has changed.
+    pub fn change(
+        &mut self,
+        thread: Option<ObjectId>,
+        own: Change,
+        others: Change,
+    ) -> Result<(), NoMemory>
+        ensures ok { OnOk result ((t : ℕ) → at self.new t ≡ changed (change_for thread own others t) (at self.old t)) }
+        ensures err { OnErr result (self.new ≡ self.old) }
+    {
+        self.keep_few();
+        match (thread, others) {
+            (None, Change::Keep) => Ok(()),
+            (Some(one), Change::Keep) => self.change_one(one, own),
+            (None, _) => self.change_all(others),
+            (Some(one), _) => self.change_both(one, own, others),
+        }
+    }
+
+    /// Changes what is known of a thread.
+    fn change_one(&mut self, thread: ObjectId, own: Change) -> Result<(), NoMemory>
+        ensures ok { OnOk result ((t : ℕ) → at self.new t ≡ changed (change_for (Some thread) own Keep t) (at self.old t)) }
+        ensures err { OnErr result (self.new ≡ self.old) }
+    {
+        let standing = self.of(thread).changed(own);
+        let time = self.moves.as_slice().len();
+        self.entries.insert(thread.0, Met { standing, time })?;
+        Ok(())
+    }
+
+    /// Changes what is known of all threads.
+    fn change_all(&mut self, others: Change) -> Result<(), NoMemory>
+        ensures ok { OnOk result ((t : ℕ) → at self.new t ≡ changed others (at self.old t)) }
+        ensures err { OnErr result (self.new ≡ self.old) }
+    {
+        self.moves.push(others)?;
+        self.others = self.others.changed(others);
+        Ok(())
+    }
+
+    /// Changes what is known of a thread, and of all others.
+    fn change_both(&mut self, thread: ObjectId, own: Change, others: Change) -> Result<(), NoMemory>
+        ensures ok { OnOk result ((t : ℕ) → at self.new t ≡ changed (change_for (Some thread) own others t) (at self.old t)) }
+        ensures err { OnErr result (self.new ≡ self.old) }
+    {
+        let standing = self.of(thread).changed(own);
+        self.moves.reserve(1)?;
+        let time = self.moves.as_slice().len() + 1;
+        self.entries.insert(thread.0, Met { standing, time })?;
+        self.moves.push_reserved(others);
+        self.others = self.others.changed(others);
+        Ok(())
+    }
+
+    /// Where more moves than named threads are noted, writes all of those.
+    fn keep_few(&mut self)
+        ensures { self.new ≡ self.old }
+    {
+        if self.moves.len() > self.entries.len() {
+            self.write_all();
+        }
+    }
+
+    /// Writes each thread that was named as it is, and forgets the moves.
+    fn write_all(&mut self)
+        ensures { self.new ≡ self.old }
+    {
+        write_entries(&mut self.entries, self.moves.as_slice());
+        self.moves.clear();
+    }
+}
+
+/// Writes all threads anew, each as it is where these moves were made.
+fn write_entries(entries: &mut BTreeMap<u64, Met>, moves: &[Change])
+    ensures { entries.new.entries ≡ map (λ e. (e.0, spec.anew moves.now e.1)) entries.old.entries }
+{
+    // All are retained: this says of each what it becomes.
+    entries.retain(|_, met| {
+        *met = met.anew(moves);
+        true
+    });
+}
+
+impl Met {
+    /// The thread as it is, where these moves of all threads were made.
+    fn seen(self, moves: &[Change]) -> Standing
+        ensures { result ≡ spec.seen moves.now self }
+    {
+        moves.iter().skip(self.time).fold(
+            self.standing,
+            |standing, change| standing.changed(*change),
+        )
+    }
+
+    /// The same thread, as it is, where the moves are counted anew.
+    fn anew(self, moves: &[Change]) -> Met
+        ensures { result ≡ spec.anew moves.now self }
+    {
+        Met {
+            standing: self.seen(moves),
+            time: 0,
+        }
+    }
+}
