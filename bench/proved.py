@@ -23,9 +23,9 @@ HEAD = """\
 
 This page is made by `bench/proved.py`, which fails where a contract that it names is gone. It holds with the kit `rattle-kit-13b logic dac8208d650f15bf`.
 
-Every function of every crate is safe (no index out of range, no sum that wraps, no cast that loses bits) and returns, whatever bytes come. Beyond that you may rely on what follows. A contract is a function, and behind the colon the clauses (`ensures NAME`) that say it; [DEFINITIONS.md](DEFINITIONS.md) leads through their words.
+Every function of every crate is safe (no index out of range, no sum that wraps, no cast that loses bits) and returns, whatever bytes come. Beyond that you may rely on what follows. Behind a function's colon stand the clauses (`ensures NAME`) that say it; [DEFINITIONS.md](DEFINITIONS.md) leads through their words.
 
-Some words mean more than in JDI. The *mirror* is what the debugger worked out of threads, suspend counts and event requests, from the packets read in this session; it *holds* a thread that it takes as suspended. To *defer* a command is to answer it later. *Visits* are the threads that a move of all suspend counts looked up.
+The *mirror* is what the debugger worked out of threads, suspend counts and event requests, from the packets read in this session; it *holds* a thread that it takes as suspended. To *defer* a command is to answer it later. *Visits* are the threads that a move of all suspend counts looked up.
 """
 
 ROWS = """\
@@ -41,7 +41,7 @@ jdwp_link | settles_each_ticket_once; tells_what_the_target_gave told once | Eac
 jdwp_link | Link::session stands faultless | All of this holds of a link that one was given; a turn of either end at what stands in front fails by want of memory alone
 jdwp_link | Link::with_limits threads | A new link asks for 1 to 64 live threads; `with_limits` for one, and answers `TooManyThreads` exactly where more live than the limits let live
 jdwp_link | deliver taken fed | What leaves one end comes to the other, as much as it has room for, and nothing else changes
-jdwp_pair | pair by_plan held ran failed; pair_session by_rounds | `pair` carries a plan out round by round, each line as soon as it is due; what is printed is what was told, or a beginning where the output failed; it ends for its reason only; whom it prints as held is suspended, as above
+jdwp_pair | pair by_plan held ran failed; pair_session by_rounds | `pair` carries a plan out round by round, each line as soon as it is due; what is printed is what was told, or a beginning where the output failed; it ends for its reason only, and whom the debugger then holds is suspended, as above
 
 ## The model of both ends, for every lawful machine and any list of events
 
@@ -67,14 +67,14 @@ jdwp_orders | acts_in_one_order; is_sure_of_suspended_threads_only | While no re
 ## The target, over any lawful machine
 
 jdwp_target | Target::turn turns | A turn handles the message in front, by what it means, and does nothing exactly where none is whole or the end is closed or paused; bytes that begin no message are told by their fault and end the session as a loss does
-jdwp_debuggee | read_command short reads; Debuggee::carry_out memory wants err; Debuggee::own_refusal | Twelve commands want no memory (VirtualMachine's Suspend, Resume, HoldEvents, ReleaseEvents, IDSizes, Dispose; ThreadReference's Suspend, Resume, Status, SuspendCount; Clear, ClearAllBreakpoints), nor does one that is unknown, whose data don't read or that is refused; where memory is refused nothing has changed
+jdwp_debuggee | read_command short reads; Debuggee::carry_out memory wants err; Debuggee::own_refusal | Twelve commands want no memory (VirtualMachine's Suspend, Resume, HoldEvents, ReleaseEvents, IDSizes, Dispose; ThreadReference's Suspend, Resume, Status, SuspendCount; Clear, ClearAllBreakpoints), nor does one that is unknown, whose data don't read or that the debuggee itself refuses; where memory is refused nothing has changed
 jdwp_debuggee | Debuggee::suspend; Debuggee::set_request; Debuggee::exit | Each command leaves and answers what its definition says; before the first handshake a Suspend is refused with INTERNAL
 jdwp_target | Target::turn encoded packets; Target::release encoded; Target::step encoded | What is sent can be read by its layout, in packets within the limit
 jdwp_target | Target::step steps; closes_for_a_reason | A step is made exactly where the end is not paused and the thread may step, and is reported in an established session alone; only Dispose, the machine's death and a loss close a session
 jdwp_debuggee | Debuggee::step fits unmarked; Debuggee::handshake fits; fits_vm_death | What a step reports, VM_START and VM_DEATH fit a packet; a thread whose death was reported starts nobody
 jdwp_target | Target::set_deferring; Target::release releases; answers_what_came | Where it is told to, a target defers up to 16 commands of ReferenceType and Method; each is answered once, as the machine is then, or dropped as the session ends
 jdwp_target | visits_what_turns | A Suspend or Resume of all and an event of policy ALL visit exactly the threads that they turn from running to suspended or back; all else leaves the number
-levels | Counts::raise_all counts looks; Counts::lower_all counts looks | A move of all counts looks at as many entries as it visits; a reading behind a shared reference is not told
+levels | Counts::raise_all counts looks; Counts::lower_all counts looks | A move of all counts looks at as many entries as it visits; a reading behind a shared reference is not counted
 jdwp_target | Target::session ran; goes_on_at_each_call | After any calls a session is a list of messages handled or deferred, releases, steps and at most one loss, and the bytes in and out are theirs, however cut
 jdwp_target | numbers_composites_in_order |
 jdwp_target | Target::count bound; Target::accept when; Target::feed fed; Target::lose | Each other call is one equation on the whole target; a count is at most the limit
@@ -94,8 +94,7 @@ jdwp_debugger | reads_what_was_asked; reads_what_was_answered; reads_what_was_re
 jdwp_debugger | tells_what_it_read; refuses_what_is_refused | What a turn tells has its packets' headers (`last`); bytes that encode a message are refused for what the message is
 jdwp_mirror | Mirror::learn_reply ok; Mirror::learn_composite ok; Mirror::count; Mirror::is_held | A packet leaves of counts, of who is held and of requests what the definitions say
 jdwp_mirror | counts_by_commands; counts_by_events; forgets_ended_threads; refuses_packets | The same in the standard's numbers: an OK reply to a Suspend of all raises all counts and holds nobody
-jdwp_command | thread_reference::suspend; event_request::set; stack_frame::set_values | Each of the 62 calls makes exactly its command, or answers `NoMemory` (never without data); a target here carries it out, and a debugger finds it bad exactly where an id is too wide, or a text or list too long
-jdwp_command | answers::one_int; answers::frame_in | Answers are read exactly by their shape, None where they have another
+jdwp_command | thread_reference::suspend; event_request::set; answers::one_int | Each of the 62 calls makes exactly its command, or answers `NoMemory` (never without data); a target here carries it out, and a debugger finds it bad exactly where an id is too wide, or a text or list too long. Answers are read by their shape
 
 ## Bytes, data and captures
 
@@ -103,7 +102,7 @@ jdwp_wire | next_hello; next_packet; next_packet_in stays; standing_in | A packe
 jdwp_wire | finds_first_message; Limits::new; IdSizes::new | A stream cut anywhere gives its first message once all of it came; limits and widths exactly in their ranges
 jdwp_wire | Wire::take found only fault memory; Wire again; begins_with_one_value | What is written is read again whatever follows, what is read was written, no two values stand at one front, a fault is the first from the left, and want of memory never hides one
 jdwp_wire | Wire::put ok err | A writing appends the canonical bytes, or leaves the bytes as they were
-jdwp_value | Tag::of_byte; ArrayRegion::new; rises_by_id | Each type of value keeps those laws at every width of ids
+jdwp_value | Tag::of_byte; ArrayRegion::new | Each type of value keeps those laws at every width of ids
 jdwp_layout | layout_of | A command's row is that of the definitions' table of 94, or None
 jdwp_layout | read found only fault hides; write ok err; validate accepted fault memory; encodes_one_list | Data of any layout are read, written and judged exactly, the first fault told; want of memory hides no fault, and judging takes none
 jdwp_show | check yes no; show begins fault lines | `check` and `show` name the first fault of a capture and its line, exactly; the lines are those of the definitions, functions by cases beside which no relation stands
@@ -122,14 +121,13 @@ jdwp_engine | serve in_order ended rounds limit at_most | What was read is fed, 
 jdwp_attach | attach_by_lines in_order ended last_flush line | The same of a debugger by a plan: the commands of its lines, in order; what is printed is what was told, or a beginning. That the calls were those of this run, in order, is not said
 jdwp_tell | mirror_text; answered_line; seen_line | Lines are those of `show`; a mirror is told thread by thread, then request by request
 jdwp_serve | serve_session served; serve_script fault untouched | A new target's session, from what was read to what was written; a script's first fault with nothing touched
-jdwp_port | serve_sessions serves closed; serve_stream served; attach_stream ran | Sessions at a port are those of `serve` and `attach`, one after the other with one target, until no thread lives or one used up its rounds or wanted memory
+jdwp_port | serve_sessions serves closed; serve_stream served; attach_stream ran | Sessions at a port are those of `serve` and `attach`, one after the other with one target, until no thread lives, one used up its rounds or wanted memory, or the port fails
 jdwp_program | check_capture tells leaves; show_capture tells leaves | What the writer took is the verdict, or the lines and the fault; a beginning where a write failed
 jdwp_program | attach_session ran; Outcome::of_session; Fault::status status; limits | A plan's session as `attach` says it; how its end is told, and with which status; numbers of the command line
 jdwp_words | read runs keeps | Words run a plan only where they name `attach` or `pair`, and write to no file that they read, by name
 jdwp_files | run bound leaves | The status, 4 at most, says what is on standard output, but for `attach` and `pair`
 jdwp_pipe | write_out; read_and_feed | All that waits is written, in order, or the failure told; one read feeds exactly what came
 jdwp_end | End::front front; End::take_off; finds_first_message; SessionEnd taken_twice | One end, of either kind: each call is one equation on the bytes and the phase
-byte_queue | ByteQueue::append; ByteQueue::drop_front | Bytes under way, in order; room that is there takes no memory
 """
 
 TAIL = """\
@@ -142,8 +140,7 @@ TAIL = """\
 - Peers that keep no rule: each fault at both ends; a recorded session with each byte changed to each other value; data cut at each byte; texts a million deep or wide.
 - Refused memory: each request of a call (`memory_examples`) and of a command (`bench/refused_memory.py`) refused in turn; and that want of memory comes only where one was refused, which no contract can say.
 - Sockets and files: what goes through them, 127.0.0.1 alone, options, closing, which errors pass; that a `Loopback` prints as memory does and lets a stranger go (that an end closes its half is read from the code); that no file that is read is emptied under another name, and that the error told of one is that at which the session was lost.
-- That `serve` flushes before a round releases or steps; that `attach` writes its handshake alone before the target's was read; how much is read at once.
-- Speed and memory, by the scripts in `bench/`.
+- That `serve` flushes before a round releases or steps; that `attach` writes its handshake alone before the target's was read; how much is read at once. Speed and memory, by the scripts in `bench/`.
 
 No contract says that a delivery or an answer ever happens or that a wait ends, that a file or a socket gives what was written, that the tables agree with Oracle's pages, or any time.
 
