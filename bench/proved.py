@@ -39,7 +39,6 @@ jdwp_link | Link::run memory | Only an Ask, a turn at a whole message (of the ta
 jdwp_link | Link::run_over carried carried_before failed | A way, as a connection, changes nothing: it carried what came to each end (but from an end that had lost the connection), or it failed
 jdwp_link | settles_each_ticket_once; tells_what_the_target_gave told once | Each command asked is answered, lost or waits, once; the answer told is the one that the target gave to it, and it gave no other
 jdwp_link | Link::session stands faultless | All of this holds of a link that one was given; a turn of either end at what stands in front fails by want of memory alone
-jdwp_link | Link::with_limits threads | A new link asks for 1 to 64 live threads; `with_limits` for one, and answers `TooManyThreads` exactly where more live than the limits let live
 jdwp_link | deliver taken fed | What leaves one end comes to the other, as much as it has room for, and nothing else changes
 jdwp_pair | pair by_plan held ran failed; pair_session by_rounds | `pair` carries a plan out round by round, each line as soon as it is due; what is printed is what was told, or a beginning where the output failed; it ends for its reason only, and whom the debugger then holds is suspended, as above
 
@@ -78,7 +77,7 @@ levels | Counts::raise_all counts looks; Counts::lower_all counts looks | A move
 jdwp_target | Target::session ran; goes_on_at_each_call | After any calls a session is a list of messages handled or deferred, releases, steps and at most one loss, and the bytes in and out are theirs, however cut
 jdwp_target | numbers_composites_in_order |
 jdwp_target | Target::count bound; Target::accept when; Target::feed fed; Target::lose | Each other call is one equation on the whole target; a count is at most the limit
-jdwp_target | Target::with_limits threads; TargetOptions::new some | `TooManyThreads` exactly where more live than may; `new` asks its caller for 1 to 64; a count limit is 1 to 2,147,483,647
+jdwp_target | Target::with_limits threads; TargetOptions::new some | `TooManyThreads` exactly where more threads live than may, of a link, too; `new` asks its caller for 1 to 64; a count limit is 1 to 2,147,483,647
 jdwp_event | matches; gather gathers memory | A request reports a happening exactly where its kind and each modifier in turn let it, a Count at its n-th reaching; a composite has exactly those that report, by rising id, with the most suspending policy
 jdwp_event | count_down; Requests::insert; Requests::remove | Each Count reached is counted, whether or not a later modifier passes; requests come and go exactly as named
 jdwp_event | composites_have_their_layout; Modifier::of_entry; Composite::of_data value | Modifiers, events and composites are read and written by the one table of layouts
