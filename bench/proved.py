@@ -7,7 +7,7 @@
 A row is `crate | contracts | words`. Contracts are parted by `;`, each a function and those of its clauses that say it: `Link::run held` is
 the clause `ensures held` of the method `run` of `Link`, `next_packet` all that `next_packet` ensures, and `thread_reference::frames` a
 function in a file of that name. A law of a trait stands there as a clause of the trait (`Wire again`). Where a row has no words, they are the
-first sentence of the comment above its first function. Each name between backticks has to stand somewhere in the crates.
+comment above its first clause, or else the first sentence of that above its first function. Each name between backticks has to stand somewhere in the crates.
 """
 
 import glob
@@ -45,15 +45,16 @@ jdwp_pair | pair by_plan held ran failed; pair_session by_rounds | `pair` carrie
 ## The model of both ends, for every lawful machine and any list of events
 
 jdwp_model | holds_only_suspended_threads; mirrors_what_was_seen; counts_at_most; frames_read_stay_true; settles_each_command_once; tells_what_was_given | What the rows above say of a link
-jdwp_model | meets_no_fault | Neither end ever refuses what the other sent; at most two composites wait for the widths of ids
+jdwp_model | meets_no_fault |
 jdwp_model | settles_in_order | As long as no target begins to defer replies, commands are settled in the order asked
 jdwp_model | answers_one_that_waits | A reply read is to one command that waits, which no other is taken for
 jdwp_model | defers_few_commands |
 jdwp_model | turns_close_at_ends_alone; idle_turns_change_nothing | No message is a loss; the debugger's end closes at VM_DEATH and an OK reply to Dispose alone; what does nothing changes nothing
 jdwp_model | stands_soundly | There are no event requests but in an established session, and nothing waits at a debugger that is closed
 jdwp_model | worked_machine_is_lawful; counted_breakpoint_reports_once | Sessions over a lawful machine come out as worked out by hand (nine, in `src/worked.rt`)
-jdwp_debuggee | moves_counts_and_requests; steps_where_it_runs; reports_one_thread | What commands and steps do to counts and requests, and which change nothing; where a thread may step; that a composite tells of one thread
-jdwp_debuggee | starts_with_least_thread; answers_id_sizes | VM_START names the live thread of least id; IDSizes is never refused
+jdwp_debuggee | moves_counts_and_requests; leaves_state_at_plain_commands | What commands and steps do to counts and requests, and which change nothing
+jdwp_debuggee | steps_where_it_runs |
+jdwp_debuggee | starts_with_least_thread |
 
 ## A target that sends replies and events by threads of their own
 
@@ -69,16 +70,18 @@ jdwp_target | Target::turn turns | A turn handles the message in front, by what 
 jdwp_debuggee | read_command short reads; Debuggee::carry_out memory wants err; Debuggee::own_refusal | Twelve commands want no memory (VirtualMachine's Suspend, Resume, HoldEvents, ReleaseEvents, IDSizes, Dispose; ThreadReference's Suspend, Resume, Status, SuspendCount; Clear, ClearAllBreakpoints), nor does one that is unknown, whose data don't read or that the debuggee itself refuses; where memory is refused nothing has changed
 jdwp_debuggee | Debuggee::suspend; Debuggee::set_request; Debuggee::exit | Each command leaves and answers what its definition says; before the first handshake a Suspend is refused with INTERNAL
 jdwp_target | Target::turn encoded packets; Target::release encoded; Target::step encoded | What is sent can be read by its layout, in packets within the limit
-jdwp_target | Target::step steps; closes_for_a_reason | A step is made exactly where the end is not paused and the thread may step, and is reported in an established session alone; only Dispose, the machine's death and a loss close a session
+jdwp_target | Target::step steps | A step is made exactly where the end is not paused and the thread may step, and is reported in an established session alone
+jdwp_target | closes_for_a_reason |
 jdwp_debuggee | Debuggee::step fits unmarked; Debuggee::handshake fits; fits_vm_death | What a step reports, VM_START and VM_DEATH fit a packet; a thread whose death was reported starts nobody
-jdwp_target | Target::set_deferring; Target::release releases; answers_what_came | Where it is told to, a target defers up to 16 commands of ReferenceType and Method; each is answered once, as the machine is then, or dropped as the session ends
-jdwp_target | visits_what_turns | A Suspend or Resume of all and an event of policy ALL visit exactly the threads that they turn from running to suspended or back; all else leaves the number
+jdwp_target | Target::set_deferring; Target::release releases; answers_what_came | Where it is told to, a target defers up to 16 commands of ReferenceType and Method; each is answered once, as the machine is then, or waits, or is dropped as the session ends
+jdwp_target | visits_what_turns |
 levels | Counts::raise_all counts looks; Counts::lower_all counts looks | A move of all counts looks at as many entries as it visits; a reading behind a shared reference is not counted
 jdwp_target | Target::session ran; goes_on_at_each_call | After any calls a session is a list of messages handled or deferred, releases, steps and at most one loss, and the bytes in and out are theirs, however cut
 jdwp_target | numbers_composites_in_order |
 jdwp_target | Target::count bound; Target::accept when; Target::feed fed; Target::lose | Each other call is one equation on the whole target; a count is at most the limit
 jdwp_target | Target::with_limits threads; TargetOptions::new some | `TooManyThreads` exactly where more threads live than may, of a link, too; `new` asks its caller for 1 to 64; a count limit is 1 to 2,147,483,647
-jdwp_event | matches; gather gathers memory | A request reports a happening exactly where its kind and each modifier in turn let it, a Count at its n-th reaching; a composite has exactly those that report, by rising id, with the most suspending policy
+jdwp_event | matches | A request reports a happening exactly where its kind and each modifier in turn let it, a Count at its n-th reaching
+jdwp_event | gather gathers memory |
 jdwp_event | count_down; Requests::insert; Requests::remove | Each Count reached is counted, whether or not a later modifier passes; requests come and go exactly as named
 jdwp_event | composites_have_their_layout; Modifier::of_entry; Composite::of_data value | Modifiers, events and composites are read and written by the one table of layouts
 
@@ -162,13 +165,13 @@ class Contracts:
     """The functions of a crate with the clauses that each ensures, and the comment above it."""
 
     def __init__(self, crate):
-        self.crate, self.clauses, self.comments = crate, {}, {}
+        self.crate, self.clauses, self.comments, self.remarks = crate, {}, {}, {}
         for file in sorted(glob.glob(f"{ROOT}/crates/{crate}/src/**/*.rt", recursive=True)):
             with open(file, encoding="utf-8") as lines:
                 self.read(os.path.splitext(os.path.basename(file))[0], lines)
 
     def read(self, module, lines):
-        block, names, comment = None, [], []
+        block, names, comment, remark = None, [], [], []
         for line in lines:
             begun = BLOCK.match(line)
             if begun and not line.startswith(" "):
@@ -183,12 +186,15 @@ class Contracts:
             elif found := CLAUSE.match(line):
                 for name in names:
                     self.clauses[name].append(found[1])
+                    self.remarks.setdefault((name, found[1]), " ".join(remark))
             elif block and (found := LAW.match(line)):
                 self.clauses.setdefault(block, []).append(found[1])
             if found := re.match(r"\s*/// ?(.*)", line):
                 comment.append(found[1])
             elif not line.lstrip().startswith("#["):
                 comment = []
+            found = re.match(r"\s*// (.*)", line)
+            remark = [*remark, found[1]] if found else []
 
     def check(self, contract):
         """How a contract is shown, which the crate has."""
@@ -201,8 +207,10 @@ class Contracts:
         return f"`{name}`" + (f": {', '.join(clauses)}" if clauses else "")
 
     def sentence(self, contract):
-        """The first sentence of the comment above a function, without the full stop."""
-        return re.split(r"\.(?: |$)", self.comments[contract.split()[0]])[0]
+        """The comment above the first clause of a contract, or the first sentence of that above its function, without the full stop."""
+        name, *clauses = contract.split()
+        remark = self.remarks.get((name, clauses[0])) if clauses else None
+        return remark.rstrip(".") if remark else re.split(r"\.(?: |$)", self.comments[name])[0]
 
 
 def names_in_crates():
