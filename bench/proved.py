@@ -152,7 +152,7 @@ The toolchain of the kit (its prover, its compilers, LLVM), the C library, and t
 """
 
 BLOCK = re.compile(r"(?:pub(?:\([^)]*\))? )?(trait|impl)\b(?:<.*?>(?= ))?\s*(.*)")
-FUNCTION = re.compile(r"\s*(?:pub(?:\([^)]*\))? )?(?:final )?fn (\w+)")
+FUNCTION = re.compile(r"\s*(pub )?(?:pub\([^)]*\) )?(?:final )?fn (\w+)")
 CLAUSE = re.compile(r"\s*ensures\*?(?: (\w+))? \{")
 LAW = re.compile(r"\s+ghost (\w+):")
 
@@ -162,7 +162,7 @@ class Gone(Exception):
 
 
 class Contracts:
-    """The functions of a crate with the clauses that each ensures, and the comment above it."""
+    """The public functions of a crate with the clauses that each ensures, and the comments above it and them."""
 
     def __init__(self, crate):
         self.crate, self.clauses, self.comments, self.remarks = crate, {}, {}, {}
@@ -171,15 +171,16 @@ class Contracts:
                 self.read(os.path.splitext(os.path.basename(file))[0], lines)
 
     def read(self, module, lines):
-        block, names, comment, remark = None, [], [], []
+        block, is_trait, names, comment, remark = None, False, [], [], []
         for line in lines:
             begun = BLOCK.match(line)
             if begun and not line.startswith(" "):
-                block = re.match(r"(?:.* for )?&?(?:mut )?(\w+)", begun[2])[1]
+                block, is_trait = re.match(r"(?:.* for )?&?(?:mut )?(\w+)", begun[2])[1], begun[1] == "trait"
             elif line.startswith("}"):
                 block = None
             elif found := FUNCTION.match(line):
-                names = [f"{block}::{found[1]}"] if block and line.startswith(" ") else [found[1], f"{module}::{found[1]}"]
+                names = [f"{block}::{found[2]}"] if block and line.startswith(" ") else [found[2], f"{module}::{found[2]}"]
+                names = names if found[1] or is_trait else []
                 for name in names:
                     self.clauses.setdefault(name, [])
                     self.comments.setdefault(name, " ".join(comment))
