@@ -115,7 +115,7 @@ jdwp_show | finds_each_message; stands_in_its_line; tells_widths_first; waits_wh
 jdwp_machine | Machine::next; Machine::step; Machine::query memory; Machine lawful | A machine does what its meaning says, and that keeps the laws; a refusal takes no memory
 jdwp_script | Script::read value; Script::read_with value | A script is exactly the JSON value that the text is, or its first fault is told; want of memory may hide that, and of `detail`, what is told beside it, nothing is proved
 jdwp_script_machine | ScriptMachine::read value live; scripts_are_lawful; scripts_begin_soundly; scripts_go_on | The machine of a script is lawful, has a live thread, and can make each step that is left
-jdwp_plan | read_plan; read_attach_plan; reads_each_form | Each line of a plan is read as exactly what it says, or the first that says nothing is told
+jdwp_plan | read_plan; read_attach_plan; reads_each_form | Each line of a plan is read as exactly what it says, or the first that says nothing is told; want of memory comes at a line that is not empty, and hides no fault before it
 
 ## Sessions over readers and writers, the program
 
