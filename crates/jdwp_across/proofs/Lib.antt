@@ -1,0 +1,11 @@
+mod Unmeasured
+mod Reached
+mod Cutting
+mod Standing
+mod TargetActs
+mod DebuggerActs
+mod Refusals
+mod Holding
+mod Settling
+mod Theorems
+mod WorkedMerges
