@@ -2,7 +2,6 @@
 use Rattle.std.proofs.Common.{◌≡◌, ◌⊎◌, ◌≤◌, ◌<◌, ◌^◌, ℕ, ◌+◌, ◌*◌, ◌==◌, pos, Bool, true, false, Option, Some, None, List, [], ◌∷◌, ◌++◌, length, take, drop, inl, inr, refl, sym, ap, subst, arith}
 use Rattle.std.specs.Prelude.{nat_le, nat_lt, remove}
 use Rattle.std.proofs.lemmas.Bool.{eqb-true, leb-true, ltb-true}
-use Rattle.byteorder.specs.Endian.{big_bytes}
 use Rattle.jdwp_wire.specs.ErrorCodes.{NONE}
 use Rattle.jdwp_wire.specs.Basic.{int_canonical}
 use Rattle.jdwp_wire.specs.Frames.{IsPacket, KindFits}
@@ -14,17 +13,20 @@ use Rattle.jdwp_wire.specs.declared.packet.Header.{Header}
 use Rattle.jdwp_wire.specs.declared.packet.PacketKind.TheVariants as kind
 use Rattle.jdwp_end.specs.declared.phase.Phase.TheVariants.{AwaitingHandshake, Closed, Established}
 use Rattle.jdwp_end.specs.Ends.{is_open, most_outgoing}
+use Rattle.jdwp_wire.specs.Listed.{list_canonical}
+use Rattle.jdwp_wire.specs.Numbers.{greatest_int}
+use Rattle.jdwp_value.specs.Locations.{EncodesLocation, location_canonical}
 use Rattle.jdwp_layout.specs.CommandNumbers.{COMPOSITE, EVENT, RESUME}
 use Rattle.jdwp_layout.specs.declared.item.Field.TheVariants as field
 use Rattle.jdwp_layout.specs.Grammar.{EncodesEntry, EncodesItem}
 use Rattle.jdwp_layout.specs.Meanings.{Byte, DatumMeaning, Int, Located, Many, Object, One, ScalarMeaning}
 use Rattle.jdwp_layout.specs.Shapes.{Events, Modifiers, OneOf}
-use Rattle.jdwp_layout.specs.Writes.{data_canonical, entry_canonical}
-use Rattle.jdwp_event.specs.CompositeBytes.{EncodesComposite}
+use Rattle.jdwp_layout.specs.Writes.{data_canonical, entry_canonical, scalar_canonical}
+use Rattle.jdwp_event.specs.CompositeBytes.{EncodesComposite, composite_canonical}
 use Rattle.jdwp_event.specs.Composites.{composite_data, vm_start}
 use Rattle.jdwp_action.specs.Actions.{Command}
 use Rattle.jdwp_action.specs.AnswerPackets.{EncodesAnswer, answer_bytes, sizes_answer}
-use Rattle.jdwp_action.specs.CommandPackets.{carried_bytes}
+use Rattle.jdwp_action.specs.CommandPackets.{carried_bytes, packet_length}
 use Rattle.jdwp_debuggee.specs.Answers.{int_answer}
 use Rattle.jdwp_mirror.specs.KnownThreads.{count_in, is_held_in}
 use Rattle.jdwp_mirror.specs.Messages.{Asks, Reply, Report, id_sizes}
@@ -52,7 +54,7 @@ use Rattle.jdwp_link.specs.Insides.{DebuggerKeeps}
 use Rattle.jdwp_link.specs.Wires.{call_sent}
 use Rattle.jdwp_across.specs.Programs.{Act, ComesToDebugger, ComesToTarget, Connects, DebuggerAsks, DebuggerLoses, DebuggerTurns, Does, LeavesDebugger, LeavesTarget, Programs, TargetLoses, TargetSteps, TargetTurns, new_programs}
 use Rattle.jdwp_across.specs.Merges.{Agrees, Merged, More, Start}
-use Rattle.jdwp_across.specs.Worked.{MergesAsWorked, breakpoint, first_ticket, greeted, greets, second_ticket}
+use Rattle.jdwp_across.specs.Worked.{MergesAsWorked, begun_again, breakpoint, first_ticket, greeted, greets, lost, second_ticket, stopped}
 
 -- ---- what every debugger keeps
 
@@ -311,9 +313,303 @@ merged15 sizes h =
     then (acts12 ++ LeavesTarget (stream tells_sizes) ∷ ComesToDebugger (stream tells_sizes) ∷ []) (DebuggerTurns sizes []) p14 p15 merged14
     (p15.debugger, record { news = Measures 0 (sizes_answer widths) widths (vm_start 0 1 ∷ []); said = refl; unrefused = refl; entered = (h, (knows, (knows, learns-start, (knows, learns-sizes, refl)), refl)) }, refl, refl) keeps15 refl refl
 
+-- ---- a breakpoint
+
+abbrev pub asks_breakpoint : List Message
+asks_breakpoint = call_sent widths 2 (Asks (Some 1) breakpoint) ∷ []
+
+abbrev pub p16 : Programs Small
+p16 = record p15 { debugger = asked widths 2 breakpoint p15.debugger }
+
+keeps16 : DebuggerKeeps p16.debugger
+keeps16 = kept p16.debugger refl refl refl (λ h. absurd (cc)) (λ h. absurd (cc)) (λ o e. absurd (cc)) (λ h. absurd (cc)) (λ w h. refl)
+
+abbrev pub p17 : Programs Small
+p17 = record p16 { debugger = debuggers.with_taken (stream asks_breakpoint) p16.debugger }
+
+keeps17 : DebuggerKeeps p17.debugger
+keeps17 = kept p17.debugger refl refl refl (λ h. absurd (cc)) (λ h. absurd (cc)) (λ o e. absurd (cc)) (λ h. absurd (cc)) (λ w h. refl)
+
+abbrev pub p18 : Programs Small
+p18 = record p17 { target = targets.with_fed (stream asks_breakpoint) p17.target }
+
+abbrev pub p19 : Programs Small
+p19 = record p18 { target = targets.with_handled small (call_sent widths 2 (Asks (Some 1) breakpoint)) (packet_length widths breakpoint) p18.target }
+
+-- what the command carries
+abbrev place : List ℕ
+place = location_canonical widths (location 3)
+
+place-encoded : EncodesLocation widths (location 3) place
+place-encoded = (ltb-true 10 (256 ^ 8) refl, ltb-true 20 (256 ^ 8) refl, ltb-true 3 (256 ^ 8) refl, refl)
+
+abbrev modifier : List ℕ
+modifier = 7 ∷ (place ++ [])
+
+modifier-encoded : EncodesEntry widths Modifiers at_three modifier
+modifier-encoded = (7, ltb-true 7 256 refl, (field.Location ∷ [], Located (location 3) ∷ [], place ++ [], refl, (place, [], (refl, place-encoded), refl, refl), refl, refl))
+
+abbrev modifiers : List ℕ
+modifiers = list_canonical (entry_canonical widths) (at_three ∷ [])
+
+breakpoint-encoded : EncodesCommand widths breakpoint
+breakpoint-encoded =
+    (2 ∷ [], 2 ∷ (modifiers ++ []), (refl, (ltb-true 2 256 refl, refl)), (2 ∷ [], modifiers ++ [], (refl, (ltb-true 2 256 refl, refl)), (modifiers, [], (leb-true 1 greatest_int refl, modifier ++ [], (modifier, [], modifier-encoded, refl, refl), refl), refl, refl), refl), refl)
+
+breakpoint-sendable : IsPacket 65536 (command_header widths 2 breakpoint) (carried_bytes widths breakpoint.carried)
+breakpoint-sendable = is-packet (command_header widths 2 breakpoint) (carried_bytes widths breakpoint.carried) refl refl refl (leb-true 16 256 refl, leb-true 2 256 refl)
+
+one-encoded : EncodesAnswer widths breakpoint.set breakpoint.number (int_answer 1)
+one-encoded = (int_canonical (pos 1), [], (refl, (1, refl, (ltb-true 1 (256 ^ 4) refl, refl))), refl, refl)
+
+abbrev pub one_header : Header
+one_header = record { length = 15; id = 2; kind = kind.Reply NONE }
+
+abbrev pub one_body : List ℕ
+one_body = answer_bytes widths (int_answer 1)
+
+one-sendable : IsPacket 65536 one_header one_body
+one-sendable = is-packet one_header one_body refl refl refl (ltb-true 0 (2 ^ 16) refl)
+
+abbrev pub acts16 : Read → List Act
+acts16 sizes = greeted sizes ++ DebuggerAsks breakpoint first_ticket ∷ []
+
+abbrev pub acts19 : Read → List Act
+acts19 sizes = acts16 sizes ++ LeavesDebugger (stream asks_breakpoint) ∷ ComesToTarget (stream asks_breakpoint) ∷ TargetTurns (turning.Replied 2 NONE) ∷ []
+
+merged19 : (sizes : Read) → read_meaning sizes ≡ Sizes (vm_start 0 1 ∷ []) → Merged small first (acts19 sizes) p19
+merged19 sizes h =
+    let m16 = then (greeted sizes) (DebuggerAsks breakpoint first_ticket) p15 p16 (merged15 sizes h)
+    (refl, refl, record { established = refl; widths = widths; known = refl; id = 2; next = record { passed = 0; is = refl; free = refl; others = λ n less. absurd (omega (less, arith)) }; encoded = breakpoint-encoded; sendable = breakpoint-sendable; is = refl }, refl) keeps16 refl refl in
+    let m17 = then (acts16 sizes) (LeavesDebugger (stream asks_breakpoint)) p16 p17 m16 refl keeps17 refl refl in
+    let m18 = then (acts16 sizes ++ LeavesDebugger (stream asks_breakpoint) ∷ []) (ComesToTarget (stream asks_breakpoint)) p17 p18 m17 refl keeps17 refl refl in
+    then (acts16 sizes ++ LeavesDebugger (stream asks_breakpoint) ∷ ComesToTarget (stream asks_breakpoint) ∷ []) (TargetTurns (turning.Replied 2 NONE)) p18 p19 m18
+    ((refl, refl), one-encoded, (one-sendable, tt), refl) keeps17 refl refl
+
+abbrev pub tells_one : List Message
+tells_one = Packet one_header one_body ∷ []
+
+abbrev pub p20 : Programs Small
+p20 = record p19 { target = targets.with_taken (stream tells_one) p19.target }
+
+abbrev pub p21 : Programs Small
+p21 = record p20 { debugger = debuggers.with_fed (stream tells_one) p20.debugger }
+
+keeps21 : DebuggerKeeps p21.debugger
+keeps21 = kept p21.debugger refl refl refl (λ h. absurd (cc)) (λ h. absurd (cc)) (λ o e. absurd (cc)) (λ h. absurd (cc)) (λ w h. refl)
+
+-- it knows the request, too
+abbrev pub requests : List Kept
+requests = requests_after (Reply (Some 1) breakpoint (int_answer 1)) []
+
+abbrev pub knows_request : Mirror
+knows_request = record { threads = runs; requests = requests }
+
+learns-request : Learned knows (Reply (Some 1) breakpoint (int_answer 1)) knows_request
+learns-request = record {
+  counts = λ t. refl;
+  held = λ t. first-or-not t (λ u. is_held_in runs u ≡ held_after (Reply (Some 1) breakpoint (int_answer 1)) u (is_held_in runs u) (count_in runs u)) refl (λ h. rw h refl);
+  order = record { met = None; ids = refl; unknown = tt };
+  requests = refl;
+}
+
+abbrev pub p22 : Programs Small
+p22 = record p21 { debugger = record (turns.with_read (Packet one_header one_body) 15 (turns.reply_head one_header breakpoint ∷ []) p21.debugger) { mirror = knows_request; pending = [] } }
+
+keeps22 : DebuggerKeeps p22.debugger
+keeps22 = kept p22.debugger refl refl refl tt (λ h. absurd (cc)) (λ o e. absurd (cc)) (λ h. absurd (cc)) (λ w h. refl)
+
+abbrev pub acts22 : Read → List Act
+acts22 sizes = acts19 sizes ++ LeavesTarget (stream tells_one) ∷ ComesToDebugger (stream tells_one) ∷ DebuggerTurns (reading.Answered first_ticket (int_answer 1)) [] ∷ []
+
+merged22 : (sizes : Read) → read_meaning sizes ≡ Sizes (vm_start 0 1 ∷ []) → Merged small first (acts22 sizes) p22
+merged22 sizes h =
+    let m20 = then (acts19 sizes) (LeavesTarget (stream tells_one)) p19 p20 (merged19 sizes h) refl keeps17 refl refl in
+    let m21 = then (acts19 sizes ++ LeavesTarget (stream tells_one) ∷ []) (ComesToDebugger (stream tells_one)) p20 p21 m20 refl keeps21 refl refl in
+    then (acts19 sizes ++ LeavesTarget (stream tells_one) ∷ ComesToDebugger (stream tells_one) ∷ []) (DebuggerTurns (reading.Answered first_ticket (int_answer 1)) []) p21 p22 m21
+    (p22.debugger, record { news = Answers 0 1 (int_answer 1); said = refl; unrefused = refl; entered = (refl, (knows_request, learns-request, refl)) }, refl, refl) keeps22 refl refl
+
+-- the first thread enters a method, and steps to the breakpoint
+abbrev pub p23 : Programs Small
+p23 = record p22 { target = targets.with_step small 1 p22.target }
+
+abbrev pub p24 : Programs Small
+p24 = record p23 { target = targets.with_step small 1 p23.target }
+
+abbrev event : List ℕ
+event = entry_canonical widths (Byte 2 ∷ Int (pos 1) ∷ Object 1 ∷ Located (location 3) ∷ [])
+
+event-encoded : EncodesEntry widths Events (Byte 2 ∷ Int (pos 1) ∷ Object 1 ∷ Located (location 3) ∷ []) event
+event-encoded =
+    let id = scalar_canonical widths (Object 1) in
+    (2, ltb-true 2 256 refl, (
+      field.Int ∷ field.ObjectId ∷ field.Location ∷ [],
+      Int (pos 1) ∷ Object 1 ∷ Located (location 3) ∷ [],
+      int_canonical (pos 1) ++ (id ++ (place ++ [])),
+      refl,
+      (int_canonical (pos 1), id ++ (place ++ []), (refl, (1, refl, (ltb-true 1 (256 ^ 4) refl, refl))), (id, place ++ [], (refl, (ltb-true 1 (256 ^ 8) refl, refl)), (place, [], (refl, place-encoded), refl, refl), refl), refl),
+      refl,
+      refl,
+    ))
+
+reached-encoded : EncodesComposite widths (reached 2) (composite_canonical widths (reached 2))
+reached-encoded = (list_canonical (entry_canonical widths) (reached 2).events, ltb-true 2 256 refl, (leb-true 1 greatest_int refl, event ++ [], (event, [], event-encoded, refl, refl), refl), refl)
+
+abbrev pub reached_body : List ℕ
+reached_body = data_canonical widths (composite_data (reached 2))
+
+abbrev pub reached_header : Header
+reached_header = record { length = 11 + length reached_body; id = 2; kind = kind.Command EVENT COMPOSITE.number }
+
+reached-sendable : IsPacket 65536 reached_header reached_body
+reached-sendable = is-packet reached_header reached_body refl refl refl (leb-true 65 256 refl, leb-true 101 256 refl)
+
+abbrev pub acts24 : Read → List Act
+acts24 sizes = acts22 sizes ++ TargetSteps 1 stepping.Quiet ∷ TargetSteps 1 stepping.Reported ∷ []
+
+merged24 : (sizes : Read) → read_meaning sizes ≡ Sizes (vm_start 0 1 ∷ []) → Merged small first (acts24 sizes) p24
+merged24 sizes h =
+    let m23 = then (acts22 sizes) (TargetSteps 1 stepping.Quiet) p22 p23 (merged22 sizes h) ((refl, refl), tt, tt, refl) keeps22 refl refl in
+    then (acts22 sizes ++ TargetSteps 1 stepping.Quiet ∷ []) (TargetSteps 1 stepping.Reported) p23 p24 m23 ((refl, refl), reached-encoded, (reached-sendable, tt), refl) keeps22 refl refl
+
+abbrev pub tells_event : List Message
+tells_event = Packet reached_header reached_body ∷ []
+
+abbrev pub p25 : Programs Small
+p25 = record p24 { target = targets.with_taken (stream tells_event) p24.target }
+
+abbrev pub p26 : Programs Small
+p26 = record p25 { debugger = debuggers.with_fed (stream tells_event) p25.debugger }
+
+keeps26 : DebuggerKeeps p26.debugger
+keeps26 = kept p26.debugger refl refl refl tt (λ h. absurd (cc)) (λ o e. absurd (cc)) (λ h. absurd (cc)) (λ w h. refl)
+
+-- it holds the thread
+abbrev pub stands : List Known
+stands = record { id = record { 0 = 1 }; count = 1; held = true } ∷ []
+
+abbrev pub holds : Mirror
+holds = record { threads = stands; requests = requests }
+
+learns-event : Learned knows_request (Report (reached 2)) holds
+learns-event = record {
+  counts = λ t. first-or-not t (λ u. count_in stands u ≡ learned (Report (reached 2)) u (count_in runs u)) refl (λ h. rw h refl);
+  held = λ t. first-or-not t (λ u. is_held_in stands u ≡ held_after (Report (reached 2)) u (is_held_in runs u) (count_in stands u)) refl (λ h. rw h refl);
+  order = record { met = None; ids = refl; unknown = tt };
+  requests = refl;
+}
+
+abbrev pub p27 : Programs Small
+p27 = record p26 { debugger = record (turns.with_read (Packet reached_header reached_body) (11 + length reached_body) (head.Composite reached_header ∷ []) p26.debugger) { mirror = holds } }
+
+keeps27 : DebuggerKeeps p27.debugger
+keeps27 = kept p27.debugger refl refl refl tt (λ h. absurd (cc)) (λ o e. absurd (cc)) (λ h. absurd (cc)) (λ w h. refl)
+
+pub merged27 : (sizes : Read) → read_meaning sizes ≡ Sizes (vm_start 0 1 ∷ []) → Merged small first (stopped sizes) p27
+merged27 sizes h =
+    let m25 = then (acts24 sizes) (LeavesTarget (stream tells_event)) p24 p25 (merged24 sizes h) refl keeps22 refl refl in
+    let m26 = then (acts24 sizes ++ LeavesTarget (stream tells_event) ∷ []) (ComesToDebugger (stream tells_event)) p25 p26 m25 refl keeps26 refl refl in
+    then (acts24 sizes ++ LeavesTarget (stream tells_event) ∷ ComesToDebugger (stream tells_event) ∷ []) (DebuggerTurns (reading.Seen (reached 2)) []) p26 p27 m26
+    (p27.debugger, record { news = Happens (reached 2); said = refl; unrefused = refl; entered = (refl, (holds, learns-event, refl)) }, refl, refl) keeps27 refl refl
+
+-- ---- a loss
+
+abbrev pub resume : Command
+resume = command RESUME []
+
+abbrev pub p28 : Programs Small
+p28 = record p27 { debugger = asked widths 3 resume p27.debugger }
+
+keeps28 : DebuggerKeeps p28.debugger
+keeps28 = kept p28.debugger refl refl refl (λ h. absurd (cc)) (λ h. absurd (cc)) (λ o e. absurd (cc)) (λ h. absurd (cc)) (λ w h. refl)
+
+resume-sendable : IsPacket 65536 (command_header widths 3 resume) (carried_bytes widths resume.carried)
+resume-sendable = is-packet (command_header widths 3 resume) (carried_bytes widths resume.carried) refl refl refl (leb-true 2 256 refl, leb-true 10 256 refl)
+
+abbrev pub p29 : Programs Small
+p29 = record p28 { target = targets.lost_target p28.target }
+
+abbrev pub p30 : Programs Small
+p30 = record p29 { debugger = debuggers.lost_debugger p29.debugger }
+
+keeps30 : DebuggerKeeps p30.debugger
+keeps30 = kept p30.debugger refl refl refl tt (λ h. absurd (cc)) (λ o e. absurd (cc)) (λ h. refl) (λ w h. refl)
+
+pub merged30 : (sizes : Read) → read_meaning sizes ≡ Sizes (vm_start 0 1 ∷ []) → Merged small first (lost sizes) p30
+merged30 sizes h =
+    let m28 = then (stopped sizes) (DebuggerAsks resume second_ticket) p27 p28 (merged27 sizes h)
+    (refl, refl, record { established = refl; widths = widths; known = refl; id = 3; next = record { passed = 0; is = refl; free = refl; others = λ n less. absurd (omega (less, arith)) }; encoded = refl; sendable = resume-sendable; is = refl }, refl) keeps28 refl refl in
+    let m29 = then (stopped sizes ++ DebuggerAsks resume second_ticket ∷ []) TargetLoses p28 p29 m28 refl keeps28 refl refl in
+    then (stopped sizes ++ DebuggerAsks resume second_ticket ∷ TargetLoses ∷ []) (DebuggerLoses (second_ticket ∷ [])) p29 p30 m29 (refl, refl) keeps30 refl refl
+
+-- ---- a session anew
+
+abbrev pub p31 : Programs Small
+p31 = record { target = targets.opened_target p30.target; debugger = debuggers.attached p30.debugger }
+
+keeps31 : DebuggerKeeps p31.debugger
+keeps31 = kept p31.debugger refl refl refl tt (λ h. (refl, refl, refl)) (λ o e. tt) (λ h. refl) (λ w h. refl)
+
+abbrev pub p32 : Programs Small
+p32 = record p31 { debugger = debuggers.with_taken handshake_bytes p31.debugger }
+
+keeps32 : DebuggerKeeps p32.debugger
+keeps32 = kept p32.debugger refl refl refl tt (λ h. (refl, refl, refl)) (λ o e. tt) (λ h. refl) (λ w h. refl)
+
+abbrev pub p33 : Programs Small
+p33 = record p32 { target = targets.with_fed (take 5 handshake_bytes) p32.target }
+
+abbrev pub p34 : Programs Small
+p34 = record p33 { target = targets.with_fed (drop 5 handshake_bytes) p33.target }
+
+abbrev pub p35 : Programs Small
+p35 = record p34 { target = targets.with_handled small Handshake 14 p34.target }
+
+abbrev pub acts35 : Read → List Act
+acts35 sizes = lost sizes ++ greets
+
+merged35 : (sizes : Read) → read_meaning sizes ≡ Sizes (vm_start 0 1 ∷ []) → Merged small first (acts35 sizes) p35
+merged35 sizes h =
+    let m31 = then (lost sizes) Connects p30 p31 (merged30 sizes h) (refl, refl, refl, refl) keeps31 refl refl in
+    let m32 = then (lost sizes ++ Connects ∷ []) (LeavesDebugger handshake_bytes) p31 p32 m31 refl keeps32 refl refl in
+    let m33 = then (lost sizes ++ Connects ∷ LeavesDebugger handshake_bytes ∷ []) (ComesToTarget (take 5 handshake_bytes)) p32 p33 m32 refl keeps32 refl refl in
+    let m34 = then (lost sizes ++ Connects ∷ LeavesDebugger handshake_bytes ∷ ComesToTarget (take 5 handshake_bytes) ∷ []) (ComesToTarget (drop 5 handshake_bytes)) p33 p34 m33 refl keeps32 refl refl in
+    then (lost sizes ++ Connects ∷ LeavesDebugger handshake_bytes ∷ ComesToTarget (take 5 handshake_bytes) ∷ ComesToTarget (drop 5 handshake_bytes) ∷ []) (TargetTurns turning.Hello) p34 p35 m34
+    ((refl, refl), tt, (tt, tt), refl) keeps32 refl refl
+
+abbrev pub greeting : List Message
+greeting = Handshake ∷ []
+
+abbrev pub p36 : Programs Small
+p36 = record p35 { target = targets.with_taken (stream greeting) p35.target }
+
+abbrev pub p37 : Programs Small
+p37 = record p36 { debugger = debuggers.with_fed (stream greeting) p36.debugger }
+
+keeps37 : DebuggerKeeps p37.debugger
+keeps37 = kept p37.debugger refl refl refl tt (λ h. (refl, refl, refl)) (λ o e. tt) (λ h. refl) (λ w h. refl)
+
+abbrev pub p38 : Programs Small
+p38 = record p37 { debugger = turns.greeted 14 p37.debugger }
+
+keeps38 : DebuggerKeeps p38.debugger
+keeps38 = kept p38.debugger refl refl refl (λ h. refl) (λ h. absurd (cc)) (λ o e. (refl, refl)) (λ h. refl) (λ w h. absurd (cc))
+
+pub merged38 : (sizes : Read) → read_meaning sizes ≡ Sizes (vm_start 0 1 ∷ []) → Merged small first (begun_again sizes) p38
+merged38 sizes h =
+    let m36 = then (acts35 sizes) (LeavesTarget (stream greeting)) p35 p36 (merged35 sizes h) refl keeps32 refl refl in
+    let m37 = then (acts35 sizes ++ LeavesTarget (stream greeting) ∷ []) (ComesToDebugger (stream greeting)) p36 p37 m36 refl keeps37 refl refl in
+    then (acts35 sizes ++ LeavesTarget (stream greeting) ∷ ComesToDebugger (stream greeting) ∷ []) (DebuggerTurns reading.Hello []) p37 p38 m37
+    (p38.debugger, (refl, refl, refl), refl, refl) keeps38 refl refl
+
+-- ---- all of them
+
 pub worked : MergesAsWorked
 worked = record {
   nothing = (first, merged0, refl);
   connects = (p1, merged1, refl);
   handles = (p5, merged5, refl);
+  stops = λ sizes h. (p27, merged27 sizes h, (refl, refl, refl));
+  loses = λ sizes h. (p30, merged30 sizes h, (refl, refl));
+  begins_again = λ sizes h. (p38, merged38 sizes h, refl);
 }
