@@ -93,7 +93,7 @@ pub all-comes : {S : Type 0} (m : Meaning S) (settings : Settings) (w : Widths) 
     → (is_closed x.target ≡ false → t_in ≡ l.target.end.incoming ++ way_to_target l)
     → (is_closed x.debugger ≡ false → d_in ≡ l.debugger.end.incoming ++ way_to_debugger l)
     → Parts m settings w (link_with l.target l.debugger t_in [] t_told d_in [] d_told)
-      (record x { at_target = length (stream (calls_sent w s.to.wires)); at_debugger = length (stream (packets_sent w s.from.wires)) })
+    (record x { at_target = length (stream (calls_sent w s.to.wires)); at_debugger = length (stream (packets_sent w s.from.wires)) })
 all-comes m settings w l x t_in t_told d_in d_told s lost to from =
     cut-again m settings w l x _ _ t_in [] t_told d_in [] d_told s lost
     (cut-all x.at_target (stream (calls_sent w s.to.wires)) (way_to_target l) l.target.end _ (is_closed x.target) to s.to.cut)

@@ -351,7 +351,7 @@ read-open m settings w s acts old new r lost after z h parts gone is =
     stands-by m settings w s acts old new (act.DebuggerTurns r lost) (Events.DebuggerTurn ∷ []) z t after b
     (goes-one m settings w (act.DebuggerTurns r lost) Events.DebuggerTurn b.world z os (ap (λ q. where_did q Events.DebuggerTurn) h.did) h.goes told)
     (debugger-after m settings w t d v after (t.end.incoming ++ far_from_target t d) (far_from_debugger t d) [] true z parts (λ come. refl)
-      (λ q. ap (λ k. after.end.incoming ++ drop (length k) t.end.session.enqueued) twin.fed) twin.put refl b.agrees.to_target)
+    (λ q. ap (λ k. after.end.incoming ++ drop (length k) t.end.session.enqueued) twin.fed) twin.put refl b.agrees.to_target)
     (ap (λ q. q.target) is) (ap (λ q. q.debugger) is ∙ left)
 
 -- it closes, and tickets that wait are lost
@@ -376,7 +376,7 @@ read-shut m settings w s acts old new r lost after unshut z true h waits shut pa
     stands-by m settings w s acts old new (act.DebuggerTurns r lost) (Events.DebuggerTurn ∷ []) (model.debugger_closed z) t (debuggers.lost_debugger after) b
     (goes-one m settings w (act.DebuggerTurns r lost) Events.DebuggerTurn b.world (model.debugger_closed z) (os ++ model.lost_tickets z.pending) (ap (λ q. where_did q Events.DebuggerTurn) h.did) h.goes (told-with os (model.lost_tickets z.pending) (lost_of lost) more))
     (debugger-after m settings w t d (debuggers.lost_debugger (debuggers.with_taken v.end.outgoing v)) (debuggers.lost_debugger after) t_in far twin.more true (model.debugger_closed z) (shut-lost m settings w l z unshut v true shut parts) (λ come. refl)
-      (λ o. absurd (cc)) (twin.put ∙ ap (λ k. d.end.session.enqueued ++ k) (sym (append-nil twin.more))) refl b.agrees.to_target)
+    (λ o. absurd (cc)) (twin.put ∙ ap (λ k. d.end.session.enqueued ++ k) (sym (append-nil twin.more))) refl b.agrees.to_target)
     (ap (λ q. q.target) is) (ap (λ q. q.debugger) is ∙ left)
 read-shut m settings w s acts old new r lost after unshut z false h waits shut parts gone is =
     let t = old.target in
@@ -397,7 +397,7 @@ read-shut m settings w s acts old new r lost after unshut z false h waits shut p
     stands-by m settings w s acts old new (act.DebuggerTurns r lost) (Events.DebuggerTurn ∷ []) (model.debugger_closed z) t after b
     (goes-one m settings w (act.DebuggerTurns r lost) Events.DebuggerTurn b.world (model.debugger_closed z) (os ++ model.lost_tickets z.pending) (ap (λ q. where_did q Events.DebuggerTurn) h.did) h.goes (told-with os (model.lost_tickets z.pending) (lost_of lost) more))
     (debugger-after m settings w t d v after t_in far [] true (model.debugger_closed z) (shut-parts m settings w l z unshut v true shut (ap has_tickets (sym shut.pending) ∙ waits) parts) (λ come. refl)
-      (λ o. absurd (cc)) twin.put refl b.agrees.to_target)
+    (λ o. absurd (cc)) twin.put refl b.agrees.to_target)
     (ap (λ q. q.target) is) (ap (λ q. q.debugger) is ∙ left)
 
 -- by whether it closes
@@ -445,5 +445,5 @@ turns-debugger m settings w s acts old new r lost after laws b so gone is =
     either (is_closed b.world.debugger) (Stands m settings w s (acts ++ act.DebuggerTurns r lost ∷ []) new)
     (λ c. read-none m settings w s acts old new r lost after b (front-closed old.debugger.end b.world.debugger b.stands.parts.debugger.phase c) so gone is)
     (λ o. either (is_paused old.debugger.end) (Stands m settings w s (acts ++ act.DebuggerTurns r lost ∷ []) new)
-        (λ q. read-none m settings w s acts old new r lost after b (front-paused old.debugger.end q) so gone is)
-        (λ p. reads-open m settings w s acts old new r lost after laws b o p so gone is))
+    (λ q. read-none m settings w s acts old new r lost after b (front-paused old.debugger.end q) so gone is)
+    (λ p. reads-open m settings w s acts old new r lost after laws b o p so gone is))

@@ -60,8 +60,8 @@ target-fails m settings w s acts v f after laws b so =
     either (is_closed b.world.target) ((f ≡ target_fault.NoMemory) × (after ≡ v.target))
     (λ c. idle-fails m v.target after f (front-closed v.target.end b.world.target b.stands.parts.target.phase c) so)
     (λ o. either (is_paused v.target.end) ((f ≡ target_fault.NoMemory) × (after ≡ v.target))
-        (λ q. idle-fails m v.target after f (front-paused v.target.end q) so)
-        (λ p. target-open m settings w s acts v f after laws b o p so))
+    (λ q. idle-fails m v.target after f (front-paused v.target.end q) so)
+    (λ p. target-open m settings w s acts v f after laws b o p so))
 
 -- ---- the debugger
 
@@ -102,5 +102,5 @@ debugger-fails m settings w s acts v f after laws b so =
     either (is_closed b.world.debugger) ((f ≡ fault.NoMemory) × (after ≡ v.debugger))
     (λ c. still-fails v.debugger after f (front-closed v.debugger.end b.world.debugger b.stands.parts.debugger.phase c) so)
     (λ o. either (is_paused v.debugger.end) ((f ≡ fault.NoMemory) × (after ≡ v.debugger))
-        (λ q. still-fails v.debugger after f (front-paused v.debugger.end q) so)
-        (λ p. debugger-open m settings w s acts v f after laws b o p so))
+    (λ q. still-fails v.debugger after f (front-paused v.debugger.end q) so)
+    (λ p. debugger-open m settings w s acts v f after laws b o p so))

@@ -155,7 +155,7 @@ turn-open m settings w s acts old new turn laws b o p so encoded sends same_d =
           let did : turn_did turn ≡ true = ap turn_did told ∙ told-where-did m t message (defers (full_standing t) message) in
           stands-by m settings w s acts old new (act.TargetTurns turn) (Events.TargetTurn ∷ []) z (with_handled m message used t) d b
           (goes-one m settings w (act.TargetTurns turn) Events.TargetTurn x z [] (ap (λ q. where_did q Events.TargetTurn) did)
-            (ap (λ q. (q, [])) (turn-uncounted m settings (measured w settings.limits) w y h.call (without_ids h.rest) size.some o (sym parts.to.calls ∙ ap without_ids h.first) h.some)) refl)
+          (ap (λ q. (q, [])) (turn-uncounted m settings (measured w settings.limits) w y h.call (without_ids h.rest) size.some o (sym parts.to.calls ∙ ap without_ids h.first) h.some)) refl)
           (target-after m settings w t (with_handled m message used l.target) (with_handled m message used t) d all far [] true z after (λ come. refl) refl (λ q. refl) refl refl b.agrees.to_debugger)
           same same_d
     ]
@@ -167,8 +167,8 @@ turns-target m settings w s acts old new turn laws b so encoded sends same_d =
     either (is_closed b.world.target) (Stands m settings w s (acts ++ act.TargetTurns turn ∷ []) new)
     (λ c. turn-none m settings w s acts old new turn b (front-closed old.target.end b.world.target b.stands.parts.target.phase c) so same_d)
     (λ o. either (is_paused old.target.end) (Stands m settings w s (acts ++ act.TargetTurns turn ∷ []) new)
-        (λ q. turn-none m settings w s acts old new turn b (front-paused old.target.end q) so same_d)
-        (λ p. turn-open m settings w s acts old new turn laws b o p so encoded sends same_d))
+    (λ q. turn-none m settings w s acts old new turn b (front-paused old.target.end q) so same_d)
+    (λ p. turn-open m settings w s acts old new turn laws b o p so encoded sends same_d))
 
 -- ---- a step
 
@@ -191,7 +191,7 @@ step-made m settings w s acts old new t stepped laws b free did same encoded sen
     let z = model.steps m settings (measured w settings.limits) x t in
     stands-by m settings w s acts old new (act.TargetSteps t stepped) (Events.Step t ∷ []) z (with_step m t old.target) old.debugger b
     (goes-one m settings w (act.TargetSteps t stepped) (Events.Step t) x z [] (ap (λ q. where_did q (Events.Step t)) did)
-      (ap (λ q. (q, [])) (step-uncounted m settings (measured w settings.limits) w x t size.some (way-none m settings w old.target old.debugger x laws.finds size b.stands.parts))) refl)
+    (ap (λ q. (q, [])) (step-uncounted m settings (measured w settings.limits) w x t size.some (way-none m settings w old.target old.debugger x laws.finds size b.stands.parts))) refl)
     (target-after m settings w old.target (with_step m t l.target) (with_step m t old.target) old.debugger l.debugger.end.incoming [] [] true z after (λ come. refl) refl (λ q. sym (append-nil l.target.end.incoming)) refl refl b.agrees.to_debugger)
     same same_d
 
@@ -234,7 +234,7 @@ release-found m settings w s acts old new place turn (Some (message, others)) la
     let did : turn_did turn ≡ true = ap turn_did told ∙ told-did m old.target message in
     stands-by m settings w s acts old new (act.TargetReleases place turn) (Events.Release place ∷ []) z (with_release m place old.target) old.debugger b
     (goes-one m settings w (act.TargetReleases place turn) (Events.Release place) x z [] (ap (λ q. where_did q (Events.Release place)) did)
-      (ap (λ q. (q, [])) (release-uncounted m settings (measured w settings.limits) w x place size.some (way-none m settings w old.target old.debugger x laws.finds size b.stands.parts))) refl)
+    (ap (λ q. (q, [])) (release-uncounted m settings (measured w settings.limits) w x place size.some (way-none m settings w old.target old.debugger x laws.finds size b.stands.parts))) refl)
     (target-after m settings w old.target (with_release m place l.target) (with_release m place old.target) old.debugger l.debugger.end.incoming [] [] _ z after.parts (λ come. refl) refl (λ q. sym (append-nil l.target.end.incoming)) refl refl b.agrees.to_debugger)
     same same_d
 
@@ -248,12 +248,12 @@ releases-target m settings w s acts old new place turn laws b so encoded sends s
     let found = released_at place t.deferred in
     either (is_paused t.end) (Stands m settings w s (acts ++ act.TargetReleases place turn ∷ []) new)
     (λ q.
-        let none : deferred_at place t ≡ None = ap (λ c. at_place t found (is_established t.end && not c)) q ∙ ap (at_place t found) (and-never (is_established t.end)) in
-        release-none m settings w s acts old new place turn b (subst (λ f. ReleasesAt m place f t (Ok turn) new.target) none so) same_d)
+    let none : deferred_at place t ≡ None = ap (λ c. at_place t found (is_established t.end && not c)) q ∙ ap (at_place t found) (and-never (is_established t.end)) in
+    release-none m settings w s acts old new place turn b (subst (λ f. ReleasesAt m place f t (Ok turn) new.target) none so) same_d)
     (λ p.
-        let e : deferred_at place (joined t old.debugger).target ≡ deferred_at place t =
-        sym (place-at t (t.end.incoming ++ far_from_target t old.debugger) [] found (is_established t.end && not (nat_le t.end.limits.packet 0))) ∙ ap (λ c. at_place t found (is_established t.end && not c)) (unpaused t.end.limits.packet some ∙ sym p) in
-        release-found m settings w s acts old new place turn (deferred_at place t) laws b e so encoded sends same_d)
+    let e : deferred_at place (joined t old.debugger).target ≡ deferred_at place t =
+    sym (place-at t (t.end.incoming ++ far_from_target t old.debugger) [] found (is_established t.end && not (nat_le t.end.limits.packet 0))) ∙ ap (λ c. at_place t found (is_established t.end && not c)) (unpaused t.end.limits.packet some ∙ sym p) in
+    release-found m settings w s acts old new place turn (deferred_at place t) laws b e so encoded sends same_d)
 
 -- ---- it defers, or loses the connection
 

@@ -122,7 +122,7 @@ pub same-asks : {S : Type 0} (settings : Settings) (w : Widths) (x : World S) (c
     → ask_refusal settings (unmeasured w settings.limits) (uncounted x) c ≡ ask_refusal settings (measured w settings.limits) x c
 same-asks settings w x c flows way =
     ap (λ b. cond (is_closed x.debugger) (Some events.Closed) (cond (not (is_established_phase x.debugger && x.ready)) (Some events.NotReady)
-        (cond (not (nat_lt (length x.pending) settings.limits.pending) || (not b || not (nat_lt x.asked LAST_TICKET))) (Some events.Busy) (unfit w settings.limits c))))
+    (cond (not (nat_lt (length x.pending) settings.limits.pending) || (not b || not (nat_lt x.asked LAST_TICKET))) (Some events.Busy) (unfit w settings.limits c))))
     (flows-to-target w settings.limits x settings.limits.packet flows ∙ sym way)
 
 -- what an event leaves, and what is told of it

@@ -441,16 +441,19 @@ event = entry_canonical widths (Byte 2 ∷ Int (pos 1) ∷ Object 1 ∷ Located 
 
 event-encoded : EncodesEntry widths Events (Byte 2 ∷ Int (pos 1) ∷ Object 1 ∷ Located (location 3) ∷ []) event
 event-encoded =
-    let id = scalar_canonical widths (Object 1) in
-    (2, ltb-true 2 256 refl, (
-      field.Int ∷ field.ObjectId ∷ field.Location ∷ [],
-      Int (pos 1) ∷ Object 1 ∷ Located (location 3) ∷ [],
-      int_canonical (pos 1) ++ (id ++ (place ++ [])),
-      refl,
-      (int_canonical (pos 1), id ++ (place ++ []), (refl, (1, refl, (ltb-true 1 (256 ^ 4) refl, refl))), (id, place ++ [], (refl, (ltb-true 1 (256 ^ 8) refl, refl)), (place, [], (refl, place-encoded), refl, refl), refl), refl),
-      refl,
-      refl,
-    ))
+    let id = scalar_canonical widths (Object 1) in (
+      2,
+      ltb-true 2 256 refl,
+      (
+        field.Int ∷ field.ObjectId ∷ field.Location ∷ [],
+        Int (pos 1) ∷ Object 1 ∷ Located (location 3) ∷ [],
+        int_canonical (pos 1) ++ (id ++ (place ++ [])),
+        refl,
+        (int_canonical (pos 1), id ++ (place ++ []), (refl, (1, refl, (ltb-true 1 (256 ^ 4) refl, refl))), (id, place ++ [], (refl, (ltb-true 1 (256 ^ 8) refl, refl)), (place, [], (refl, place-encoded), refl, refl), refl), refl),
+        refl,
+        refl,
+      ),
+    )
 
 reached-encoded : EncodesComposite widths (reached 2) (composite_canonical widths (reached 2))
 reached-encoded = (list_canonical (entry_canonical widths) (reached 2).events, ltb-true 2 256 refl, (leb-true 1 greatest_int refl, event ++ [], (event, [], event-encoded, refl, refl), refl), refl)
