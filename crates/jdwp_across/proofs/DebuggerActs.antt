@@ -1,5 +1,5 @@
 -- what each act of the debugger leaves
-use Rattle.std.proofs.Common.{◌≡◌, ◌≤◌, ◌<◌, ℕ, ◌+◌, inl, inr, Bool, true, false, ◌||◌, ◌&&◌, not, cond, Option, Some, None, List, [], ◌∷◌, ◌++◌, length, drop, Ok, Result, refl, sym, ◌∙◌, ap, subst}
+use Rattle.std.proofs.Common.{◌≡◌, ℕ, ◌+◌, inl, inr, Bool, true, false, ◌||◌, ◌&&◌, not, cond, Option, Some, None, List, [], ◌∷◌, ◌++◌, length, drop, Ok, Result, refl, sym, ◌∙◌, ap, subst}
 use Rattle.std.specs.Prelude.{nat_le, remove}
 use Rattle.std.specs.List.{list_any}
 use Rattle.std.specs.Option.{option_map}
@@ -9,7 +9,7 @@ use Rattle.jdwp_wire.specs.Streams.{More, stream}
 use Rattle.jdwp_wire.specs.Frames.{header_bytes}
 use Rattle.jdwp_wire.specs.Widths.{Widths}
 use Rattle.jdwp_wire.specs.declared.packet.Header.{Header}
-use Rattle.jdwp_end.specs.Ends.{front_of, is_open, is_open_phase, is_paused, next_of}
+use Rattle.jdwp_end.specs.Ends.{front_of, is_open, is_paused, next_of}
 use Rattle.jdwp_end.specs.Runs.{IsFront}
 use Rattle.jdwp_machine.specs.Meanings.{Meaning}
 use Rattle.jdwp_action.specs.Actions.{Command}
@@ -42,7 +42,7 @@ use Rattle.jdwp_link.specs.Laws.{Laws}
 use Rattle.jdwp_link.specs.Links.{Link}
 use Rattle.jdwp_link.specs.Stands.{Parts}
 use Rattle.jdwp_link.specs.Told.{outcome_told, refusal_told, told_outcomes}
-use Rattle.jdwp_link.specs.Wires.{calls_sent, message_sent, packets_sent, without_ids}
+use Rattle.jdwp_link.specs.Wires.{message_sent, packets_sent, without_ids}
 use Rattle.jdwp_link.proofs.Asking.{ask-parts, same-refusal}
 use Rattle.jdwp_link.proofs.Finding.{debugger-has}
 use Rattle.jdwp_link.proofs.Losing.{loses-debugger, loses-tells, lost-told, none-lost}
@@ -53,7 +53,7 @@ use Rattle.jdwp_link.proofs.Turning.{front-closed, front-paused}
 use Rattle.jdwp_across.specs.Programs as act
 use Rattle.jdwp_across.specs.Programs.{Act, Programs, events_of, lost_with, settled, told_by, where_did}
 use Rattle.jdwp_across.specs.Merges.{Agrees}
-use Rattle.jdwp_across.specs.Standing.{debugger_at, far_from_debugger, far_from_target, joined, link_at, target_at, uncounted, unmeasured}
+use Rattle.jdwp_across.specs.Standing.{debugger_at, far_from_debugger, far_from_target, joined, link_at, uncounted, unmeasured}
 use Rattle.jdwp_across.proofs.Cutting.{cut-again, cut-some, debugger-after, far-less}
 use Rattle.jdwp_across.proofs.Reached.{goes-idle, goes-one, known-across, reached-same}
 use Rattle.jdwp_across.proofs.Standing.{Standing, Stands, debugger-keeps, debugger-sized, either, sized, stands-by, unpaused, way-none-target}
@@ -409,6 +409,9 @@ read-by m settings w s acts old new r lost after unshut z false h shuts parts go
 read-by m settings w s acts old new r lost after unshut z true h shuts parts gone is =
     read-shut m settings w s acts old new r lost after unshut z (has_tickets after.pending) h refl shuts parts gone is
 
+goes-by : {S : Type 0} (freely turn left : World S × List Events.Outcome) → freely ≡ uncounted_first turn → turn ≡ left → freely ≡ uncounted_first left
+goes-by freely turn left a b = a ∙ ap uncounted_first b
+
 reads-open : {S : Type 0} (m : Meaning S) (settings : Settings) (w : Widths) (s : S) (acts : List Act) (old new : Programs S) (r : Read) (lost : List Ticket) (after : Debugger) → Laws m → (b : Standing m settings w s acts old)
     → is_closed b.world.debugger ≡ false → is_paused old.debugger.end ≡ false
     → turns.TurnsAt (front_of old.debugger.end) old.debugger (Ok r) after → lost ≡ lost_with (is_left after) after → new ≡ record old { debugger = settled (is_left after) after } → Stands m settings w s (acts ++ act.DebuggerTurns r lost ∷ []) new
@@ -434,8 +437,11 @@ reads-open m settings w s acts old new r lost after laws b o p so gone is =
           let u = debugger_at after.end.incoming does.twin.more after in
           let turned = read-turn m settings w l y (read_meaning r) u laws known keeps parts h does.so in
           let goes = read-uncounted settings (measured w settings.limits) w y h.packet (without_ids h.rest) size.some o (sym parts.from.packets ∙ ap without_ids h.first) h.some h.fair in
+          let freely = model.debugger_turn settings (unmeasured w settings.limits) (uncounted x) in
+          let turn = model.debugger_turn settings (measured w settings.limits) y in
+          let left = model.closes_by turned.world (outcomes_of (read_meaning r)) turned.closes in
           read-by m settings w s acts old new r lost after turned.unshut turned.world turned.closes
-          (record { standing = b; twin = does.twin; did = does.did; opened = turned.opened; goes = goes ∙ ap uncounted_first turned.is })
+          (record { standing = b; twin = does.twin; did = does.did; opened = turned.opened; goes = goes-by freely turn left goes turned.is })
           turned.shuts (turned.parts true) gone is
     ]
 

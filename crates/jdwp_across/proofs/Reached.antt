@@ -1,5 +1,5 @@
 -- what is known of a world that two programs stand for
-use Rattle.std.proofs.Common.{◌≡◌, ℕ, Bool, true, false, List, [], ◌∷◌, ◌++◌, map, refl, sym, ◌∙◌, ap, subst}
+use Rattle.std.proofs.Common.{◌≡◌, List, [], ◌∷◌, ◌++◌, refl, sym, ◌∙◌, ap, subst}
 use Rattle.std.proofs.lemmas.List.{append-nil, append_assoc, map-append}
 use Rattle.jdwp_wire.specs.Widths.{Widths}
 use Rattle.jdwp_machine.specs.Meanings.{Meaning}
@@ -13,7 +13,6 @@ use Rattle.jdwp_model.specs.Next.{next, outcomes, run}
 use Rattle.jdwp_model.specs.Places.{EachAtOnePlace}
 use Rattle.jdwp_model.specs.Soundness.{StandsSoundly}
 use Rattle.jdwp_model.specs.World.{Measure, World, opening}
-use Rattle.jdwp_link.specs.declared.events.Outcome.{Outcome}
 use Rattle.jdwp_link.specs.Laws.{HoldsOfWorlds}
 use Rattle.jdwp_link.specs.Told.{outcome_told, told_outcomes}
 use Rattle.jdwp_link.proofs.Reached.{Known}

@@ -1,5 +1,5 @@
 -- neither end refuses what the other sent: a turn that fails wants memory
-use Rattle.std.proofs.Common.{◌≡◌, ◌<◌, ℕ, inl, inr, Option, None, Bool, true, false, not, cond, List, [], ◌∷◌, ◌++◌, length, Ok, Err, refl, sym, ◌∙◌, ap, subst}
+use Rattle.std.proofs.Common.{◌≡◌, ℕ, inl, inr, None, false, cond, List, [], ◌++◌, length, Err, refl, sym, ◌∙◌, ap, subst}
 use Rattle.jdwp_wire.specs.Streams as streams
 use Rattle.jdwp_wire.specs.Streams.{More, Whole}
 use Rattle.jdwp_wire.specs.Widths.{Widths}
@@ -16,10 +16,10 @@ use Rattle.jdwp_debugger.specs.DebuggerTurns as turns
 use Rattle.jdwp_debugger.specs.DebuggerTurns.{FailsAt, HandlesAt}
 use Rattle.jdwp_debugger.specs.declared.faults.DebuggerFault.{DebuggerFault}
 use Rattle.jdwp_debugger.specs.declared.faults.DebuggerFault.TheVariants as fault
-use Rattle.jdwp_model.specs.Measures.{call_size, message_size}
-use Rattle.jdwp_model.specs.World.{World, is_closed}
+use Rattle.jdwp_model.specs.Measures.{message_size}
+use Rattle.jdwp_model.specs.World.{is_closed}
 use Rattle.jdwp_link.specs.Laws.{Laws}
-use Rattle.jdwp_link.specs.Wires.{call_sent, message_sent}
+use Rattle.jdwp_link.specs.Wires.{message_sent}
 use Rattle.jdwp_link.proofs.Finding.{debugger-has}
 use Rattle.jdwp_link.proofs.Turning.{front-closed, front-paused, target-has}
 use Rattle.jdwp_link.proofs.Unrefused.{IsUnrefused, unrefused}

@@ -1,5 +1,5 @@
 -- what each act of the target leaves
-use Rattle.std.proofs.Common.{◌≡◌, ◌≤◌, ◌<◌, ℕ, inl, inr, Bool, true, false, ◌||◌, ◌&&◌, not, cond, Option, Some, None, List, [], ◌∷◌, ◌++◌, length, drop, Ok, Result, refl, sym, ◌∙◌, ap, subst}
+use Rattle.std.proofs.Common.{◌≡◌, ℕ, inl, inr, Bool, true, false, ◌||◌, ◌&&◌, not, cond, Option, Some, None, List, [], ◌∷◌, ◌++◌, length, Ok, Result, refl, sym, ◌∙◌, ap, subst}
 use Rattle.std.specs.Prelude.{nat_le}
 use Rattle.std.proofs.lemmas.List.{append-nil, append_assoc}
 use Rattle.jdwp_wire.specs.Streams as streams
@@ -20,7 +20,6 @@ use Rattle.jdwp_target.specs.Targets.{Target, full_standing, with_deferring, wit
 use Rattle.jdwp_target.specs.Turns as turns
 use Rattle.jdwp_target.specs.Turns.{EncodesByKind, EncodesFor, EncodesNext, EncodesReleased, EncodesStart, EncodesUnless, EncodesWhere, ReleasesAt, SendsAt, SendsReleased, SendsWhere, StepsWhere, at_place, deferred_at, is_frozen, told_by_end, told_of, told_of_packet, told_where}
 use Rattle.jdwp_target.specs.declared.target.Stepped.{Stepped}
-use Rattle.jdwp_target.specs.declared.target.Stepped.TheVariants as stepping
 use Rattle.jdwp_target.specs.declared.target.TargetFault.{TargetFault}
 use Rattle.jdwp_target.specs.declared.target.Turn.{Turn}
 use Rattle.jdwp_target.specs.declared.target.Turn.TheVariants as turning
@@ -46,7 +45,7 @@ use Rattle.jdwp_across.specs.Merges.{Agrees}
 use Rattle.jdwp_across.specs.Standing.{far_from_debugger, far_from_target, joined, link_at, target_at, uncounted}
 use Rattle.jdwp_across.proofs.Cutting.{all-comes, cut-again, cut-some, far-less, target-after}
 use Rattle.jdwp_across.proofs.Reached.{goes-idle, goes-one, known-across, reached-same}
-use Rattle.jdwp_across.proofs.Standing.{Sized, Standing, Stands, either, sized, stands-by, stands-still, target-keeps, target-sized, unpaused, way-none}
+use Rattle.jdwp_across.proofs.Standing.{Standing, Stands, either, sized, stands-by, stands-still, target-keeps, target-sized, unpaused, way-none}
 use Rattle.jdwp_across.proofs.Unmeasured.{release-uncounted, step-uncounted, turn-uncounted}
 
 -- ---- what is told

@@ -1,5 +1,5 @@
 -- the theorems: each act leads on, and what holds of the world holds of the two programs
-use Rattle.std.proofs.Common.{◌≡◌, ◌<◌, ℕ, true, false, List, [], ◌∷◌, ◌++◌, refl, arith}
+use Rattle.std.proofs.Common.{ℕ, List, [], ◌∷◌, ◌++◌, refl, arith}
 use Rattle.jdwp_wire.specs.Widths.{Widths}
 use Rattle.jdwp_machine.specs.Meanings.{Meaning}
 use Rattle.jdwp_debuggee.specs.Settings.{Settings}
@@ -8,7 +8,6 @@ use Rattle.jdwp_model.specs.Given.{TellsWhatWasGiven}
 use Rattle.jdwp_model.specs.Headline.{MayBegin}
 use Rattle.jdwp_model.specs.Tickets.{SettlesOnce}
 use Rattle.jdwp_model.specs.World.{opening}
-use Rattle.jdwp_link.specs.Insides.{DebuggerKeeps}
 use Rattle.jdwp_link.specs.Laws.{Laws}
 use Rattle.jdwp_link.specs.Stands.{Parts}
 use Rattle.jdwp_across.specs.Headline.{HoldsAcross, SuspendsWhatIsHeld}

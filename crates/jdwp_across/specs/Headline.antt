@@ -1,6 +1,5 @@
 -- What a debugger may rely on where the target is in another program: a thread shown as suspended is suspended.
 use Rattle.std.specs.Prelude.{◌≡◌, ◌<◌, ℕ, true, false, List, ◌++◌, Err}
-use Rattle.jdwp_wire.specs.Widths.{Widths}
 use Rattle.jdwp_layout.specs.declared.answer.Answer.{Answer}
 use Rattle.jdwp_end.specs.Ends.{front_of}
 use Rattle.jdwp_machine.specs.Meanings.{Meaning}

@@ -40,8 +40,9 @@ far_from_target t d = drop (length t.end.session.fed) d.end.session.enqueued
 abbrev pub far_from_debugger : {S : Type 0} → Target S → Debugger → List ℕ
 far_from_debugger t d = drop (length d.end.session.fed) t.end.session.enqueued
 
--- The two as they are but for their buffers: all that was put and not handled has come to the other end. What holds of a link of them is said
--- of the moment, the mirror and the commands that wait, and of no buffer.
+-- The two as they are but for their buffers: all that was put and not handled has come to the other end. What is said of a link of them
+-- (`MirrorsSeen`, `HoldsSuspended`, `CountsAtMost`, `StaysTrue`) speaks of the target's settings and moment, of whether it noticed a loss, and of
+-- the debugger's mirror and the commands that wait, which are the two programs' own, and of no buffer.
 abbrev pub joined : {S : Type 0} → Target S → Debugger → Link S
 joined t d = link_at t d (t.end.incoming ++ far_from_target t d) [] (d.end.incoming ++ far_from_debugger t d) []
 

@@ -1,6 +1,6 @@
 -- Merges that were worked out by hand, over the machine of two threads of the model's worked sessions: so there are merges, and this is what
 -- holds where they lead.
-use Rattle.std.specs.Prelude.{◌≡◌, ℕ, true, false, List, [], ◌∷◌, ◌++◌, take, drop, Some, None}
+use Rattle.std.specs.Prelude.{◌≡◌, ℕ, true, List, [], ◌∷◌, ◌++◌, take, drop, Some, None}
 use Rattle.jdwp_wire.specs.ErrorCodes.{NONE}
 use Rattle.jdwp_wire.specs.Handshake.{handshake_bytes}
 use Rattle.jdwp_wire.specs.Streams.{Message, Handshake, stream}
@@ -20,10 +20,14 @@ use Rattle.jdwp_debugger.specs.DebuggerTurns.{Sizes, read_meaning}
 use Rattle.jdwp_debugger.specs.declared.pending.Ticket.{Ticket}
 use Rattle.jdwp_debugger.specs.declared.turning.Read.{Read}
 use Rattle.jdwp_debugger.specs.declared.turning.Read.TheVariants as reading
+use Rattle.jdwp_model.specs.Events
+use Rattle.jdwp_model.specs.Events.{LinkEvent}
 use Rattle.jdwp_model.specs.Worked.{at_three, command, reached, set_breakpoint}
 use Rattle.jdwp_model.specs.WorkedMachine.{Small, settings, small, small_opening, widths}
+use Rattle.jdwp_link.specs.declared.events.Outcome.{Outcome}
+use Rattle.jdwp_link.specs.declared.events.Outcome.TheVariants as outcome
 use Rattle.jdwp_link.specs.Wires.{call_sent}
-use Rattle.jdwp_across.specs.Programs.{Act, ComesToDebugger, ComesToTarget, Connects, DebuggerAsks, DebuggerLoses, DebuggerTurns, LeavesDebugger, LeavesTarget, Programs, TargetLoses, TargetSteps, TargetTurns, new_programs}
+use Rattle.jdwp_across.specs.Programs.{Act, ComesToDebugger, ComesToTarget, Connects, DebuggerAsks, DebuggerLoses, DebuggerTurns, LeavesDebugger, LeavesTarget, Programs, TargetLoses, TargetSteps, TargetTurns, events_in, new_programs, told_in}
 use Rattle.jdwp_across.specs.Merges.{Merged}
 
 -- These acts are a merge of two programs over the machine, before their first session, and this holds where they lead.
@@ -93,6 +97,19 @@ abbrev pub IsStopped : ℕ → ℕ → Programs Small → Type 0
 IsStopped t n programs =
     (is_held_in programs.debugger.mirror.threads t ≡ true) × (count_in programs.debugger.mirror.threads t ≡ Some n) × (count_of programs.target.moment.state t ≡ Some n)
 
+-- what is told up to the loss
+abbrev pub until_loss : List Outcome
+until_loss =
+    outcome.Seen (vm_start 0 1) ∷ outcome.Asked first_ticket ∷ outcome.Answered first_ticket (int_answer 1) ∷ outcome.Seen (reached 2)
+    ∷ outcome.Asked second_ticket ∷ outcome.Lost second_ticket ∷ []
+
+-- and the events of the model that these acts are
+abbrev pub events_until_loss : List LinkEvent
+events_until_loss =
+    Events.Attach ∷ Events.TargetTurn ∷ Events.DebuggerTurn ∷ Events.DebuggerTurn ∷ Events.TargetTurn ∷ Events.DebuggerTurn
+    ∷ Events.Ask breakpoint ∷ Events.TargetTurn ∷ Events.DebuggerTurn ∷ Events.Step 1 ∷ Events.Step 1 ∷ Events.DebuggerTurn
+    ∷ Events.Ask (command RESUME []) ∷ Events.TargetLoses ∷ Events.DebuggerLoses ∷ []
+
 -- the mirror knows nobody, and a thread runs
 abbrev pub IsForgotten : ℕ → Programs Small → Type 0
 IsForgotten t programs = (programs.debugger.mirror.threads ≡ []) × (count_of programs.target.moment.state t ≡ Some 0)
@@ -103,4 +120,6 @@ pub record MergesAsWorked : Type 0 where
   pub handles : Leads greets (λ programs. programs.target.end.phase ≡ Established)
   pub stops : (sizes : Read) → read_meaning sizes ≡ Sizes (vm_start 0 1 ∷ []) → Leads (stopped sizes) (IsStopped 1 1)
   pub loses : (sizes : Read) → read_meaning sizes ≡ Sizes (vm_start 0 1 ∷ []) → Leads (lost sizes) (IsForgotten 1)
+  pub told : (sizes : Read) → read_meaning sizes ≡ Sizes (vm_start 0 1 ∷ []) → told_in (lost sizes) ≡ until_loss
+  pub events : (sizes : Read) → read_meaning sizes ≡ Sizes (vm_start 0 1 ∷ []) → events_in (lost sizes) ≡ events_until_loss
   pub begins_again : (sizes : Read) → read_meaning sizes ≡ Sizes (vm_start 0 1 ∷ []) → Leads (begun_again sizes) (λ programs. programs.debugger.end.phase ≡ Established)
