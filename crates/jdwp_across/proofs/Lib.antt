@@ -1,6 +1,7 @@
 mod Unmeasured
 mod Reached
 mod Cutting
+mod Keeping
 mod Standing
 mod TargetActs
 mod DebuggerActs

@@ -20,6 +20,7 @@ use Rattle.jdwp_across.specs.Programs.{Act, Programs, events_of, told_by}
 use Rattle.jdwp_across.specs.Merges.{Agrees}
 use Rattle.jdwp_across.specs.Standing.{StandsAcross, buffered, debugger_at, joined}
 use Rattle.jdwp_across.proofs.Cutting.{After}
+use Rattle.jdwp_across.proofs.Keeping.{Keeps}
 use Rattle.jdwp_across.proofs.Reached.{GoesBy, goes-idle, reached-more, reached-same}
 
 pub either : (b : Bool) (P : Type 0) → (b ≡ true → P) → (b ≡ false → P) → P
@@ -28,11 +29,11 @@ either false P f g = g refl
 
 -- ---- before an act
 
--- they stand for a world after these acts, the debugger is one that its calls can leave, and the connection agrees
+-- they stand for a world after these acts, the debugger keeps what every debugger does, and the connection agrees
 pub record Standing {S : Type 0} (m : Meaning S) (settings : Settings) (w : Widths) (s : S) (acts : List Act) (programs : Programs S) : Type 0 where
   pub world : World S
   pub stands : StandsAcross m settings w s acts programs world
-  pub keeps : DebuggerKeeps programs.debugger
+  pub keeps : Keeps programs.debugger
   pub agrees : Agrees programs
 
 -- a packet may have some bytes, and not too many
@@ -60,7 +61,7 @@ unpaused packet h = lt-leb packet 0 h
 pub target-keeps : (come : List ℕ) (e : End) → 0 < e.limits.packet → TargetKeeps (buffered come [] e)
 target-keeps come e h = record { most = omega arith; emptied = λ lost. refl; flows = λ none. unpaused e.limits.packet h }
 
-pub debugger-keeps : (come : List ℕ) (d : Debugger) → DebuggerKeeps d → DebuggerKeeps (debugger_at come [] d)
+pub debugger-keeps : (come : List ℕ) (d : Debugger) → Keeps d → DebuggerKeeps (debugger_at come [] d)
 debugger-keeps come d k = record {
   most = omega arith;
   limits = k.limits;

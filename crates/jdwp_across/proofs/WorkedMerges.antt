@@ -1,19 +1,15 @@
--- The merges that were worked out by hand: one act after the other. `atN` are both programs after N acts, `keepsN` what its debugger keeps,
--- and `mergedN` that these acts lead there.
-use Rattle.std.proofs.Common.{◌≡◌, ◌⊎◌, ◌≤◌, ◌^◌, ℕ, ◌+◌, ◌==◌, pos, Bool, true, false, Some, None, List, [], ◌∷◌, ◌++◌, length, take, drop, inl, inr, refl, sym, ap, subst, arith}
+-- The merges that were worked out by hand: one act after the other. `atN` are both programs after N acts, and `mergedN` that these acts
+-- lead there.
+use Rattle.std.proofs.Common.{◌≡◌, ◌⊎◌, ◌^◌, ℕ, ◌+◌, ◌==◌, pos, Bool, true, false, Some, None, List, [], ◌∷◌, ◌++◌, length, take, drop, inl, inr, refl, ap, subst, arith}
 use Rattle.std.specs.Prelude.{nat_le, nat_lt}
 use Rattle.std.proofs.lemmas.Bool.{eqb-true, leb-true, ltb-true}
 use Rattle.jdwp_wire.specs.ErrorCodes.{NONE}
 use Rattle.jdwp_wire.specs.Basic.{int_canonical}
 use Rattle.jdwp_wire.specs.Frames.{IsPacket, KindFits}
 use Rattle.jdwp_wire.specs.Handshake.{handshake_bytes}
-use Rattle.jdwp_wire.specs.Limits.{AreLimits, standard_limits}
 use Rattle.jdwp_wire.specs.Streams.{Message, Handshake, Packet, stream}
-use Rattle.jdwp_wire.specs.Widths.{Widths}
 use Rattle.jdwp_wire.specs.declared.packet.Header.{Header}
 use Rattle.jdwp_wire.specs.declared.packet.PacketKind.TheVariants as kind
-use Rattle.jdwp_end.specs.declared.phase.Phase.TheVariants.{AwaitingHandshake}
-use Rattle.jdwp_end.specs.Ends.{is_open, most_outgoing}
 use Rattle.jdwp_wire.specs.Listed.{list_canonical}
 use Rattle.jdwp_wire.specs.Numbers.{greatest_int}
 use Rattle.jdwp_value.specs.Locations.{EncodesLocation, location_canonical}
@@ -49,72 +45,31 @@ use Rattle.jdwp_debugger.specs.declared.heads.Head.TheVariants as head
 use Rattle.jdwp_debugger.specs.declared.turning.Read.{Read}
 use Rattle.jdwp_debugger.specs.declared.turning.Read.TheVariants as reading
 use Rattle.jdwp_model.specs.Events
+use Rattle.jdwp_model.specs.Headline.{MayBegin}
 use Rattle.jdwp_model.specs.Worked.{at_three, command, reached}
 use Rattle.jdwp_model.specs.WorkedMachine.{Small, location, settings, small, small_opening, widths}
 use Rattle.jdwp_link.specs.EventParts.{outcomes_of, told_did}
-use Rattle.jdwp_link.specs.Insides.{DebuggerKeeps}
 use Rattle.jdwp_link.specs.Told.{told_outcomes}
 use Rattle.jdwp_link.specs.Wires.{call_sent}
 use Rattle.jdwp_across.specs.Programs.{Act, ComesToDebugger, ComesToTarget, Connects, DebuggerAsks, DebuggerLoses, DebuggerTurns, Does, LeavesDebugger, LeavesTarget, Programs, TargetLoses, TargetSteps, TargetTurns, events_in, new_programs, told_in, where_did}
+use Rattle.jdwp_across.specs.Headline.{MayStart}
 use Rattle.jdwp_across.specs.Merges.{Merged, More, Start}
 use Rattle.jdwp_across.specs.Worked.{MergesAsWorked, begun_again, breakpoint, events_until_loss, first_ticket, greeted, greets, lost, second_ticket, stopped, until_loss}
 
--- ---- what every debugger keeps
-
-standard : AreLimits 65536 64 64 64
-standard = record {
-  packet_least = leb-true _ _ refl;
-  packet_most = leb-true _ _ refl;
-  live_is = (leb-true _ _ refl, leb-true _ _ refl);
-  requests_is = (leb-true _ _ refl, leb-true _ _ refl);
-  pending_is = (leb-true _ _ refl, leb-true _ _ refl);
-  composite_fits = leb-true _ _ refl;
-}
-
--- at most one command waits
-abbrev pub OneAtMost : List Asked → Type 0
-OneAtMost [] = Unit {0}
-OneAtMost (p ∷ []) = p.ticket ≡ None → p.command ≡ id_sizes
-OneAtMost (p ∷ q ∷ ps) = ⊥
-
-one-distinct : (ps : List Asked) → OneAtMost ps → AreDistinct ps
-one-distinct [] h = λ i j d a b same. absurd (omega (b, arith))
-one-distinct (p ∷ []) h = λ i j d a b same. absurd (omega (a, b, arith))
-one-distinct (p ∷ q ∷ ps) h = absurd h
-
-one-own : (ps : List Asked) → OneAtMost ps → AreOwn ps
-one-own [] h = tt
-one-own (p ∷ []) h = (h, tt)
-one-own (p ∷ q ∷ ps) h = absurd h
-
-kept : (d : Debugger) → d.end.limits ≡ standard_limits → nat_le (length d.end.outgoing) 131072 ≡ true → nat_lt d.next_id (2 ^ 32) ≡ true → OneAtMost d.pending
-    → (d.end.phase ≡ AwaitingHandshake → Begins d) → (is_open d.end ≡ true → d.sizes ≡ None → IsSizesAlone d.pending) → (d.sizes ≡ None → d.mirror ≡ empty_mirror) → ((w : Widths) → d.sizes ≡ Some w → d.parked ≡ []) → DebuggerKeeps d
-kept d limits room id one begins alone unlearned unparked = record {
-  most = subst (λ l. length d.end.outgoing ≤ most_outgoing l) (sym limits) (leb-true (length d.end.outgoing) 131072 room);
-  limits = subst (λ l. AreLimits l.packet l.live l.requests l.pending) (sym limits) standard;
-  distinct = one-distinct d.pending one;
-  own = one-own d.pending one;
-  begins = begins;
-  alone = alone;
-  unlearned = unlearned;
-  unparked = unparked;
-  id = ltb-true d.next_id (2 ^ 32) id;
-}
+-- ---- an act more
 
 either : (b : Bool) → (b ≡ true) ⊎ (b ≡ false)
 either true = inl refl
 either false = inr refl
 
--- ---- an act more
-
 abbrev pub first : Programs Small
 first = new_programs small settings small_opening 1
 
-then : (acts : List Act) (act : Act) (old new : Programs Small) → Merged small first acts old → Does small act old new → DebuggerKeeps new.debugger
+then : (acts : List Act) (act : Act) (old new : Programs Small) → Merged small first acts old → Does small act old new
     → new.debugger.end.session.enqueued ≡ new.target.end.session.fed ++ drop (length new.target.end.session.fed) new.debugger.end.session.enqueued
     → new.target.end.session.enqueued ≡ new.debugger.end.session.fed ++ drop (length new.debugger.end.session.fed) new.target.end.session.enqueued
     → Merged small first (acts ++ act ∷ []) new
-then acts act old new merged does keeps a b = More acts act old new merged does keeps (record { to_target = (_, a); to_debugger = (_, b) })
+then acts act old new merged does a b = More acts act old new merged does (record { to_target = (_, a); to_debugger = (_, b) })
 
 -- ---- what is sent can be read, and is within the limit
 
@@ -124,22 +79,16 @@ is-packet header body is most id fits = record { length_counts_all = is; within_
 -- ---- a session begins
 
 merged0 : Merged small first [] first
-merged0 = Start (kept first.debugger refl refl refl tt (λ h. absurd (cc)) (λ o e. absurd (cc)) (λ h. refl) (λ w h. refl)) (record { to_target = ([], refl); to_debugger = ([], refl) })
+merged0 = Start
 
 abbrev pub at1 : Programs Small
 at1 = record { target = targets.opened_target first.target; debugger = debuggers.attached first.debugger }
 
-keeps1 : DebuggerKeeps at1.debugger
-keeps1 = kept at1.debugger refl refl refl tt (λ h. (refl, refl, refl)) (λ o e. tt) (λ h. refl) (λ w h. refl)
-
 pub merged1 : Merged small first (Connects ∷ []) at1
-merged1 = then [] Connects first at1 merged0 (refl, refl, refl, refl) keeps1 refl refl
+merged1 = then [] Connects first at1 merged0 (refl, refl, refl, refl) refl refl
 
 abbrev pub at2 : Programs Small
 at2 = record at1 { debugger = debuggers.with_taken handshake_bytes at1.debugger }
-
-keeps2 : DebuggerKeeps at2.debugger
-keeps2 = kept at2.debugger refl refl refl tt (λ h. (refl, refl, refl)) (λ o e. tt) (λ h. refl) (λ w h. refl)
 
 abbrev pub at3 : Programs Small
 at3 = record at2 { target = targets.with_fed (take 5 handshake_bytes) at2.target }
@@ -152,9 +101,9 @@ at5 = record at4 { target = targets.with_handled small Handshake 14 at4.target }
 
 merged4 : Merged small first (Connects ∷ LeavesDebugger handshake_bytes ∷ ComesToTarget (take 5 handshake_bytes) ∷ ComesToTarget (drop 5 handshake_bytes) ∷ []) at4
 merged4 =
-    let m2 = then (Connects ∷ []) (LeavesDebugger handshake_bytes) at1 at2 merged1 refl keeps2 refl refl in
-    let m3 = then (Connects ∷ LeavesDebugger handshake_bytes ∷ []) (ComesToTarget (take 5 handshake_bytes)) at2 at3 m2 refl keeps2 refl refl in
-    then (Connects ∷ LeavesDebugger handshake_bytes ∷ ComesToTarget (take 5 handshake_bytes) ∷ []) (ComesToTarget (drop 5 handshake_bytes)) at3 at4 m3 refl keeps2 refl refl
+    let m2 = then (Connects ∷ []) (LeavesDebugger handshake_bytes) at1 at2 merged1 refl refl refl in
+    let m3 = then (Connects ∷ LeavesDebugger handshake_bytes ∷ []) (ComesToTarget (take 5 handshake_bytes)) at2 at3 m2 refl refl refl in
+    then (Connects ∷ LeavesDebugger handshake_bytes ∷ ComesToTarget (take 5 handshake_bytes) ∷ []) (ComesToTarget (drop 5 handshake_bytes)) at3 at4 m3 refl refl refl
 
 abbrev pub start_body : List ℕ
 start_body = data_canonical widths (composite_data (vm_start 0 1))
@@ -168,7 +117,7 @@ start-sendable = is-packet start_header start_body refl refl refl (leb-true 65 2
 pub merged5 : Merged small first greets at5
 merged5 =
     then (Connects ∷ LeavesDebugger handshake_bytes ∷ ComesToTarget (take 5 handshake_bytes) ∷ ComesToTarget (drop 5 handshake_bytes) ∷ []) (TargetTurns turning.Hello) at4 at5 merged4
-    ((refl, refl), start-encoded widths 0 1 (leb-true 1 256 refl) refl, (tt, (start-sendable, tt)), refl) keeps2 refl refl
+    ((refl, refl), start-encoded widths 0 1 (leb-true 1 256 refl) refl, (tt, (start-sendable, tt)), refl) refl refl
 
 -- ---- the widths of ids
 
@@ -181,46 +130,34 @@ at6 = record at5 { target = targets.with_taken (stream started) at5.target }
 abbrev pub at7 : Programs Small
 at7 = record at6 { debugger = debuggers.with_fed (stream started) at6.debugger }
 
-keeps7 : DebuggerKeeps at7.debugger
-keeps7 = kept at7.debugger refl refl refl tt (λ h. (refl, refl, refl)) (λ o e. tt) (λ h. refl) (λ w h. refl)
-
 abbrev pub at8 : Programs Small
 at8 = record at7 { debugger = turns.greeted 14 at7.debugger }
 
-keeps8 : DebuggerKeeps at8.debugger
-keeps8 = kept at8.debugger refl refl refl (λ h. refl) (λ h. absurd (cc)) (λ o e. (refl, refl)) (λ h. refl) (λ w h. absurd (cc))
-
 abbrev pub at9 : Programs Small
 at9 = record at8 { debugger = record (turns.with_read (Packet start_header start_body) 29 [] at8.debugger) { parked = record { header = start_header; body = start_body } ∷ [] } }
-
-keeps9 : DebuggerKeeps at9.debugger
-keeps9 = kept at9.debugger refl refl refl (λ h. refl) (λ h. absurd (cc)) (λ o e. (refl, refl)) (λ h. refl) (λ w h. absurd (cc))
 
 abbrev pub acts7 : List Act
 acts7 = greets ++ LeavesTarget (stream started) ∷ ComesToDebugger (stream started) ∷ []
 
 merged7 : Merged small first acts7 at7
 merged7 =
-    let m6 = then greets (LeavesTarget (stream started)) at5 at6 merged5 refl keeps2 refl refl in
-    then (greets ++ LeavesTarget (stream started) ∷ []) (ComesToDebugger (stream started)) at6 at7 m6 refl keeps7 refl refl
+    let m6 = then greets (LeavesTarget (stream started)) at5 at6 merged5 refl refl refl in
+    then (greets ++ LeavesTarget (stream started) ∷ []) (ComesToDebugger (stream started)) at6 at7 m6 refl refl refl
 
 abbrev pub acts9 : List Act
 acts9 = acts7 ++ DebuggerTurns reading.Hello [] ∷ DebuggerTurns reading.Parked [] ∷ []
 
 merged9 : Merged small first acts9 at9
 merged9 =
-    let m8 = then acts7 (DebuggerTurns reading.Hello []) at7 at8 merged7 (at8.debugger, (refl, refl, refl), refl, refl) keeps8 refl refl in
+    let m8 = then acts7 (DebuggerTurns reading.Hello []) at7 at8 merged7 (at8.debugger, (refl, refl, refl), refl, refl) refl refl in
     then (acts7 ++ DebuggerTurns reading.Hello [] ∷ []) (DebuggerTurns reading.Parked []) at8 at9 m8
-    (at9.debugger, record { news = Waits start_body; said = refl; unrefused = refl; entered = (refl, refl) }, refl, refl) keeps9 refl refl
+    (at9.debugger, record { news = Waits start_body; said = refl; unrefused = refl; entered = (refl, refl) }, refl, refl) refl refl
 
 abbrev pub asks_sizes : List Message
 asks_sizes = call_sent widths 1 (Asks None id_sizes) ∷ []
 
 abbrev pub at10 : Programs Small
 at10 = record at9 { debugger = debuggers.with_taken (stream asks_sizes) at9.debugger }
-
-keeps10 : DebuggerKeeps at10.debugger
-keeps10 = kept at10.debugger refl refl refl (λ h. refl) (λ h. absurd (cc)) (λ o e. (refl, refl)) (λ h. refl) (λ w h. absurd (cc))
 
 abbrev pub at11 : Programs Small
 at11 = record at10 { target = targets.with_fed (stream asks_sizes) at10.target }
@@ -257,10 +194,10 @@ sizes-sendable = is-packet sizes_header sizes_body refl refl refl (ltb-true 0 (2
 
 merged12 : Merged small first acts12 at12
 merged12 =
-    let m10 = then acts9 (LeavesDebugger (stream asks_sizes)) at9 at10 merged9 refl keeps10 refl refl in
-    let m11 = then (acts9 ++ LeavesDebugger (stream asks_sizes) ∷ []) (ComesToTarget (stream asks_sizes)) at10 at11 m10 refl keeps10 refl refl in
+    let m10 = then acts9 (LeavesDebugger (stream asks_sizes)) at9 at10 merged9 refl refl refl in
+    let m11 = then (acts9 ++ LeavesDebugger (stream asks_sizes) ∷ []) (ComesToTarget (stream asks_sizes)) at10 at11 m10 refl refl refl in
     then (acts9 ++ LeavesDebugger (stream asks_sizes) ∷ ComesToTarget (stream asks_sizes) ∷ []) (TargetTurns (turning.Replied 1 NONE)) at11 at12 m11
-    ((refl, refl), sizes-encoded, (sizes-sendable, tt), refl) keeps10 refl refl
+    ((refl, refl), sizes-encoded, (sizes-sendable, tt), refl) refl refl
 
 abbrev pub tells_sizes : List Message
 tells_sizes = Packet sizes_header sizes_body ∷ []
@@ -270,9 +207,6 @@ at13 = record at12 { target = targets.with_taken (stream tells_sizes) at12.targe
 
 abbrev pub at14 : Programs Small
 at14 = record at13 { debugger = debuggers.with_fed (stream tells_sizes) at13.debugger }
-
-keeps14 : DebuggerKeeps at14.debugger
-keeps14 = kept at14.debugger refl refl refl (λ h. refl) (λ h. absurd (cc)) (λ o e. (refl, refl)) (λ h. refl) (λ w h. absurd (cc))
 
 -- the mirror that knows the first thread, which runs
 abbrev pub runs : List Known
@@ -303,18 +237,15 @@ learns-sizes = record {
 abbrev pub at15 : Programs Small
 at15 = record at14 { debugger = turns.with_sizes (Packet sizes_header sizes_body) 31 sizes_header 0 knows widths at14.debugger }
 
-keeps15 : DebuggerKeeps at15.debugger
-keeps15 = kept at15.debugger refl refl refl tt (λ h. absurd (cc)) (λ o e. absurd (cc)) (λ h. absurd (cc)) (λ w h. refl)
-
 merged14 : Merged small first (acts12 ++ LeavesTarget (stream tells_sizes) ∷ ComesToDebugger (stream tells_sizes) ∷ []) at14
 merged14 =
-    let m13 = then acts12 (LeavesTarget (stream tells_sizes)) at12 at13 merged12 refl keeps10 refl refl in
-    then (acts12 ++ LeavesTarget (stream tells_sizes) ∷ []) (ComesToDebugger (stream tells_sizes)) at13 at14 m13 refl keeps14 refl refl
+    let m13 = then acts12 (LeavesTarget (stream tells_sizes)) at12 at13 merged12 refl refl refl in
+    then (acts12 ++ LeavesTarget (stream tells_sizes) ∷ []) (ComesToDebugger (stream tells_sizes)) at13 at14 m13 refl refl refl
 
 pub merged15 : (sizes : Read) → read_meaning sizes ≡ Sizes (vm_start 0 1 ∷ []) → Merged small first (greeted sizes) at15
 merged15 sizes h =
     then (acts12 ++ LeavesTarget (stream tells_sizes) ∷ ComesToDebugger (stream tells_sizes) ∷ []) (DebuggerTurns sizes []) at14 at15 merged14
-    (at15.debugger, record { news = Measures 0 (sizes_answer widths) widths (vm_start 0 1 ∷ []); said = refl; unrefused = refl; entered = (h, (knows, (knows, learns-start, (knows, learns-sizes, refl)), refl)) }, refl, refl) keeps15 refl refl
+    (at15.debugger, record { news = Measures 0 (sizes_answer widths) widths (vm_start 0 1 ∷ []); said = refl; unrefused = refl; entered = (h, (knows, (knows, learns-start, (knows, learns-sizes, refl)), refl)) }, refl, refl) refl refl
 
 -- ---- a breakpoint
 
@@ -324,14 +255,8 @@ asks_breakpoint = call_sent widths 2 (Asks (Some 1) breakpoint) ∷ []
 abbrev pub at16 : Programs Small
 at16 = record at15 { debugger = asked widths 2 breakpoint at15.debugger }
 
-keeps16 : DebuggerKeeps at16.debugger
-keeps16 = kept at16.debugger refl refl refl (λ h. absurd (cc)) (λ h. absurd (cc)) (λ o e. absurd (cc)) (λ h. absurd (cc)) (λ w h. refl)
-
 abbrev pub at17 : Programs Small
 at17 = record at16 { debugger = debuggers.with_taken (stream asks_breakpoint) at16.debugger }
-
-keeps17 : DebuggerKeeps at17.debugger
-keeps17 = kept at17.debugger refl refl refl (λ h. absurd (cc)) (λ h. absurd (cc)) (λ o e. absurd (cc)) (λ h. absurd (cc)) (λ w h. refl)
 
 abbrev pub at18 : Programs Small
 at18 = record at17 { target = targets.with_fed (stream asks_breakpoint) at17.target }
@@ -383,11 +308,11 @@ acts19 sizes = acts16 sizes ++ LeavesDebugger (stream asks_breakpoint) ∷ Comes
 merged19 : (sizes : Read) → read_meaning sizes ≡ Sizes (vm_start 0 1 ∷ []) → Merged small first (acts19 sizes) at19
 merged19 sizes h =
     let m16 = then (greeted sizes) (DebuggerAsks breakpoint first_ticket) at15 at16 (merged15 sizes h)
-    (refl, refl, record { established = refl; widths = widths; known = refl; id = 2; next = record { passed = 0; is = refl; free = refl; others = λ n less. absurd (omega (less, arith)) }; encoded = breakpoint-encoded; sendable = breakpoint-sendable; is = refl }, refl) keeps16 refl refl in
-    let m17 = then (acts16 sizes) (LeavesDebugger (stream asks_breakpoint)) at16 at17 m16 refl keeps17 refl refl in
-    let m18 = then (acts16 sizes ++ LeavesDebugger (stream asks_breakpoint) ∷ []) (ComesToTarget (stream asks_breakpoint)) at17 at18 m17 refl keeps17 refl refl in
+    (refl, refl, record { established = refl; widths = widths; known = refl; id = 2; next = record { passed = 0; is = refl; free = refl; others = λ n less. absurd (omega (less, arith)) }; encoded = breakpoint-encoded; sendable = breakpoint-sendable; is = refl }, refl) refl refl in
+    let m17 = then (acts16 sizes) (LeavesDebugger (stream asks_breakpoint)) at16 at17 m16 refl refl refl in
+    let m18 = then (acts16 sizes ++ LeavesDebugger (stream asks_breakpoint) ∷ []) (ComesToTarget (stream asks_breakpoint)) at17 at18 m17 refl refl refl in
     then (acts16 sizes ++ LeavesDebugger (stream asks_breakpoint) ∷ ComesToTarget (stream asks_breakpoint) ∷ []) (TargetTurns (turning.Replied 2 NONE)) at18 at19 m18
-    ((refl, refl), one-encoded, (one-sendable, tt), refl) keeps17 refl refl
+    ((refl, refl), one-encoded, (one-sendable, tt), refl) refl refl
 
 abbrev pub tells_one : List Message
 tells_one = Packet one_header one_body ∷ []
@@ -397,9 +322,6 @@ at20 = record at19 { target = targets.with_taken (stream tells_one) at19.target 
 
 abbrev pub at21 : Programs Small
 at21 = record at20 { debugger = debuggers.with_fed (stream tells_one) at20.debugger }
-
-keeps21 : DebuggerKeeps at21.debugger
-keeps21 = kept at21.debugger refl refl refl (λ h. absurd (cc)) (λ h. absurd (cc)) (λ o e. absurd (cc)) (λ h. absurd (cc)) (λ w h. refl)
 
 -- it knows the request, too
 abbrev pub requests : List Kept
@@ -419,18 +341,15 @@ learns-request = record {
 abbrev pub at22 : Programs Small
 at22 = record at21 { debugger = record (turns.with_read (Packet one_header one_body) 15 (turns.reply_head one_header breakpoint ∷ []) at21.debugger) { mirror = knows_request; pending = [] } }
 
-keeps22 : DebuggerKeeps at22.debugger
-keeps22 = kept at22.debugger refl refl refl tt (λ h. absurd (cc)) (λ o e. absurd (cc)) (λ h. absurd (cc)) (λ w h. refl)
-
 abbrev pub acts22 : Read → List Act
 acts22 sizes = acts19 sizes ++ LeavesTarget (stream tells_one) ∷ ComesToDebugger (stream tells_one) ∷ DebuggerTurns (reading.Answered first_ticket (int_answer 1)) [] ∷ []
 
 merged22 : (sizes : Read) → read_meaning sizes ≡ Sizes (vm_start 0 1 ∷ []) → Merged small first (acts22 sizes) at22
 merged22 sizes h =
-    let m20 = then (acts19 sizes) (LeavesTarget (stream tells_one)) at19 at20 (merged19 sizes h) refl keeps17 refl refl in
-    let m21 = then (acts19 sizes ++ LeavesTarget (stream tells_one) ∷ []) (ComesToDebugger (stream tells_one)) at20 at21 m20 refl keeps21 refl refl in
+    let m20 = then (acts19 sizes) (LeavesTarget (stream tells_one)) at19 at20 (merged19 sizes h) refl refl refl in
+    let m21 = then (acts19 sizes ++ LeavesTarget (stream tells_one) ∷ []) (ComesToDebugger (stream tells_one)) at20 at21 m20 refl refl refl in
     then (acts19 sizes ++ LeavesTarget (stream tells_one) ∷ ComesToDebugger (stream tells_one) ∷ []) (DebuggerTurns (reading.Answered first_ticket (int_answer 1)) []) at21 at22 m21
-    (at22.debugger, record { news = Answers 0 1 (int_answer 1); said = refl; unrefused = refl; entered = (refl, (knows_request, learns-request, refl)) }, refl, refl) keeps22 refl refl
+    (at22.debugger, record { news = Answers 0 1 (int_answer 1); said = refl; unrefused = refl; entered = (refl, (knows_request, learns-request, refl)) }, refl, refl) refl refl
 
 -- the first thread enters a method, and steps to the breakpoint
 abbrev pub at23 : Programs Small
@@ -475,8 +394,8 @@ acts24 sizes = acts22 sizes ++ TargetSteps 1 stepping.Quiet ∷ TargetSteps 1 st
 
 merged24 : (sizes : Read) → read_meaning sizes ≡ Sizes (vm_start 0 1 ∷ []) → Merged small first (acts24 sizes) at24
 merged24 sizes h =
-    let m23 = then (acts22 sizes) (TargetSteps 1 stepping.Quiet) at22 at23 (merged22 sizes h) ((refl, refl), tt, tt, refl) keeps22 refl refl in
-    then (acts22 sizes ++ TargetSteps 1 stepping.Quiet ∷ []) (TargetSteps 1 stepping.Reported) at23 at24 m23 ((refl, refl), reached-encoded, (reached-sendable, tt), refl) keeps22 refl refl
+    let m23 = then (acts22 sizes) (TargetSteps 1 stepping.Quiet) at22 at23 (merged22 sizes h) ((refl, refl), tt, tt, refl) refl refl in
+    then (acts22 sizes ++ TargetSteps 1 stepping.Quiet ∷ []) (TargetSteps 1 stepping.Reported) at23 at24 m23 ((refl, refl), reached-encoded, (reached-sendable, tt), refl) refl refl
 
 abbrev pub tells_event : List Message
 tells_event = Packet reached_header reached_body ∷ []
@@ -486,9 +405,6 @@ at25 = record at24 { target = targets.with_taken (stream tells_event) at24.targe
 
 abbrev pub at26 : Programs Small
 at26 = record at25 { debugger = debuggers.with_fed (stream tells_event) at25.debugger }
-
-keeps26 : DebuggerKeeps at26.debugger
-keeps26 = kept at26.debugger refl refl refl tt (λ h. absurd (cc)) (λ o e. absurd (cc)) (λ h. absurd (cc)) (λ w h. refl)
 
 -- it holds the thread
 abbrev pub stands : List Known
@@ -508,15 +424,12 @@ learns-event = record {
 abbrev pub at27 : Programs Small
 at27 = record at26 { debugger = record (turns.with_read (Packet reached_header reached_body) (11 + length reached_body) (head.Composite reached_header ∷ []) at26.debugger) { mirror = holds } }
 
-keeps27 : DebuggerKeeps at27.debugger
-keeps27 = kept at27.debugger refl refl refl tt (λ h. absurd (cc)) (λ o e. absurd (cc)) (λ h. absurd (cc)) (λ w h. refl)
-
 pub merged27 : (sizes : Read) → read_meaning sizes ≡ Sizes (vm_start 0 1 ∷ []) → Merged small first (stopped sizes) at27
 merged27 sizes h =
-    let m25 = then (acts24 sizes) (LeavesTarget (stream tells_event)) at24 at25 (merged24 sizes h) refl keeps22 refl refl in
-    let m26 = then (acts24 sizes ++ LeavesTarget (stream tells_event) ∷ []) (ComesToDebugger (stream tells_event)) at25 at26 m25 refl keeps26 refl refl in
+    let m25 = then (acts24 sizes) (LeavesTarget (stream tells_event)) at24 at25 (merged24 sizes h) refl refl refl in
+    let m26 = then (acts24 sizes ++ LeavesTarget (stream tells_event) ∷ []) (ComesToDebugger (stream tells_event)) at25 at26 m25 refl refl refl in
     then (acts24 sizes ++ LeavesTarget (stream tells_event) ∷ ComesToDebugger (stream tells_event) ∷ []) (DebuggerTurns (reading.Seen (reached 2)) []) at26 at27 m26
-    (at27.debugger, record { news = Happens (reached 2); said = refl; unrefused = refl; entered = (refl, (holds, learns-event, refl)) }, refl, refl) keeps27 refl refl
+    (at27.debugger, record { news = Happens (reached 2); said = refl; unrefused = refl; entered = (refl, (holds, learns-event, refl)) }, refl, refl) refl refl
 
 -- ---- a loss
 
@@ -525,9 +438,6 @@ resume = command RESUME []
 
 abbrev pub at28 : Programs Small
 at28 = record at27 { debugger = asked widths 3 resume at27.debugger }
-
-keeps28 : DebuggerKeeps at28.debugger
-keeps28 = kept at28.debugger refl refl refl (λ h. absurd (cc)) (λ h. absurd (cc)) (λ o e. absurd (cc)) (λ h. absurd (cc)) (λ w h. refl)
 
 resume-sendable : IsPacket 65536 (command_header widths 3 resume) (carried_bytes widths resume.carried)
 resume-sendable = is-packet (command_header widths 3 resume) (carried_bytes widths resume.carried) refl refl refl (leb-true 2 256 refl, leb-true 10 256 refl)
@@ -538,29 +448,20 @@ at29 = record at28 { target = targets.lost_target at28.target }
 abbrev pub at30 : Programs Small
 at30 = record at29 { debugger = debuggers.lost_debugger at29.debugger }
 
-keeps30 : DebuggerKeeps at30.debugger
-keeps30 = kept at30.debugger refl refl refl tt (λ h. absurd (cc)) (λ o e. absurd (cc)) (λ h. refl) (λ w h. refl)
-
 pub merged30 : (sizes : Read) → read_meaning sizes ≡ Sizes (vm_start 0 1 ∷ []) → Merged small first (lost sizes) at30
 merged30 sizes h =
     let m28 = then (stopped sizes) (DebuggerAsks resume second_ticket) at27 at28 (merged27 sizes h)
-    (refl, refl, record { established = refl; widths = widths; known = refl; id = 3; next = record { passed = 0; is = refl; free = refl; others = λ n less. absurd (omega (less, arith)) }; encoded = refl; sendable = resume-sendable; is = refl }, refl) keeps28 refl refl in
-    let m29 = then (stopped sizes ++ DebuggerAsks resume second_ticket ∷ []) TargetLoses at28 at29 m28 refl keeps28 refl refl in
-    then (stopped sizes ++ DebuggerAsks resume second_ticket ∷ TargetLoses ∷ []) (DebuggerLoses (second_ticket ∷ [])) at29 at30 m29 (refl, refl) keeps30 refl refl
+    (refl, refl, record { established = refl; widths = widths; known = refl; id = 3; next = record { passed = 0; is = refl; free = refl; others = λ n less. absurd (omega (less, arith)) }; encoded = refl; sendable = resume-sendable; is = refl }, refl) refl refl in
+    let m29 = then (stopped sizes ++ DebuggerAsks resume second_ticket ∷ []) TargetLoses at28 at29 m28 refl refl refl in
+    then (stopped sizes ++ DebuggerAsks resume second_ticket ∷ TargetLoses ∷ []) (DebuggerLoses (second_ticket ∷ [])) at29 at30 m29 (refl, refl) refl refl
 
 -- ---- a session anew
 
 abbrev pub at31 : Programs Small
 at31 = record { target = targets.opened_target at30.target; debugger = debuggers.attached at30.debugger }
 
-keeps31 : DebuggerKeeps at31.debugger
-keeps31 = kept at31.debugger refl refl refl tt (λ h. (refl, refl, refl)) (λ o e. tt) (λ h. refl) (λ w h. refl)
-
 abbrev pub at32 : Programs Small
 at32 = record at31 { debugger = debuggers.with_taken handshake_bytes at31.debugger }
-
-keeps32 : DebuggerKeeps at32.debugger
-keeps32 = kept at32.debugger refl refl refl tt (λ h. (refl, refl, refl)) (λ o e. tt) (λ h. refl) (λ w h. refl)
 
 abbrev pub at33 : Programs Small
 at33 = record at32 { target = targets.with_fed (take 5 handshake_bytes) at32.target }
@@ -576,12 +477,12 @@ acts35 sizes = lost sizes ++ greets
 
 merged35 : (sizes : Read) → read_meaning sizes ≡ Sizes (vm_start 0 1 ∷ []) → Merged small first (acts35 sizes) at35
 merged35 sizes h =
-    let m31 = then (lost sizes) Connects at30 at31 (merged30 sizes h) (refl, refl, refl, refl) keeps31 refl refl in
-    let m32 = then (lost sizes ++ Connects ∷ []) (LeavesDebugger handshake_bytes) at31 at32 m31 refl keeps32 refl refl in
-    let m33 = then (lost sizes ++ Connects ∷ LeavesDebugger handshake_bytes ∷ []) (ComesToTarget (take 5 handshake_bytes)) at32 at33 m32 refl keeps32 refl refl in
-    let m34 = then (lost sizes ++ Connects ∷ LeavesDebugger handshake_bytes ∷ ComesToTarget (take 5 handshake_bytes) ∷ []) (ComesToTarget (drop 5 handshake_bytes)) at33 at34 m33 refl keeps32 refl refl in
+    let m31 = then (lost sizes) Connects at30 at31 (merged30 sizes h) (refl, refl, refl, refl) refl refl in
+    let m32 = then (lost sizes ++ Connects ∷ []) (LeavesDebugger handshake_bytes) at31 at32 m31 refl refl refl in
+    let m33 = then (lost sizes ++ Connects ∷ LeavesDebugger handshake_bytes ∷ []) (ComesToTarget (take 5 handshake_bytes)) at32 at33 m32 refl refl refl in
+    let m34 = then (lost sizes ++ Connects ∷ LeavesDebugger handshake_bytes ∷ ComesToTarget (take 5 handshake_bytes) ∷ []) (ComesToTarget (drop 5 handshake_bytes)) at33 at34 m33 refl refl refl in
     then (lost sizes ++ Connects ∷ LeavesDebugger handshake_bytes ∷ ComesToTarget (take 5 handshake_bytes) ∷ ComesToTarget (drop 5 handshake_bytes) ∷ []) (TargetTurns turning.Hello) at34 at35 m34
-    ((refl, refl), tt, (tt, tt), refl) keeps32 refl refl
+    ((refl, refl), tt, (tt, tt), refl) refl refl
 
 abbrev pub greeting : List Message
 greeting = Handshake ∷ []
@@ -592,21 +493,15 @@ at36 = record at35 { target = targets.with_taken (stream greeting) at35.target }
 abbrev pub at37 : Programs Small
 at37 = record at36 { debugger = debuggers.with_fed (stream greeting) at36.debugger }
 
-keeps37 : DebuggerKeeps at37.debugger
-keeps37 = kept at37.debugger refl refl refl tt (λ h. (refl, refl, refl)) (λ o e. tt) (λ h. refl) (λ w h. refl)
-
 abbrev pub at38 : Programs Small
 at38 = record at37 { debugger = turns.greeted 14 at37.debugger }
 
-keeps38 : DebuggerKeeps at38.debugger
-keeps38 = kept at38.debugger refl refl refl (λ h. refl) (λ h. absurd (cc)) (λ o e. (refl, refl)) (λ h. refl) (λ w h. absurd (cc))
-
 pub merged38 : (sizes : Read) → read_meaning sizes ≡ Sizes (vm_start 0 1 ∷ []) → Merged small first (begun_again sizes) at38
 merged38 sizes h =
-    let m36 = then (acts35 sizes) (LeavesTarget (stream greeting)) at35 at36 (merged35 sizes h) refl keeps32 refl refl in
-    let m37 = then (acts35 sizes ++ LeavesTarget (stream greeting) ∷ []) (ComesToDebugger (stream greeting)) at36 at37 m36 refl keeps37 refl refl in
+    let m36 = then (acts35 sizes) (LeavesTarget (stream greeting)) at35 at36 (merged35 sizes h) refl refl refl in
+    let m37 = then (acts35 sizes ++ LeavesTarget (stream greeting) ∷ []) (ComesToDebugger (stream greeting)) at36 at37 m36 refl refl refl in
     then (acts35 sizes ++ LeavesTarget (stream greeting) ∷ ComesToDebugger (stream greeting) ∷ []) (DebuggerTurns reading.Hello []) at37 at38 m37
-    (at38.debugger, (refl, refl, refl), refl, refl) keeps38 refl refl
+    (at38.debugger, (refl, refl, refl), refl, refl) refl refl
 
 -- ---- what is told of them
 
@@ -615,6 +510,22 @@ told-so sizes h = ap (λ q. (told_outcomes (outcomes_of q) ++ []) ++ drop 1 unti
 
 events-so : (sizes : Read) → read_meaning sizes ≡ Sizes (vm_start 0 1 ∷ []) → events_in (lost sizes) ≡ events_until_loss
 events-so sizes h = ap (λ q. take 5 events_until_loss ++ (where_did (told_did q) Events.DebuggerTurn ++ drop 6 events_until_loss)) h
+
+-- ---- how they start
+
+pub starts : MayBegin small settings small_opening → MayStart small settings small_opening 1
+starts begins = record {
+  begins = begins;
+  limits = record {
+    packet_least = leb-true _ _ refl;
+    packet_most = leb-true _ _ refl;
+    live_is = (leb-true _ _ refl, leb-true _ _ refl);
+    requests_is = (leb-true _ _ refl, leb-true _ _ refl);
+    pending_is = (leb-true _ _ refl, leb-true _ _ refl);
+    composite_fits = leb-true _ _ refl;
+  };
+  id_fits = ltb-true 1 (2 ^ 32) refl;
+}
 
 -- ---- all of them
 

@@ -1,5 +1,6 @@
 -- What a debugger may rely on where the target is in another program: a thread shown as suspended is suspended.
-use Rattle.std.specs.Prelude.{◌≡◌, ◌<◌, ℕ, true, false, List, ◌++◌, Err}
+use Rattle.std.specs.Prelude.{◌≡◌, ◌<◌, ◌^◌, ℕ, true, false, List, ◌++◌, Err}
+use Rattle.jdwp_wire.specs.Limits.{AreLimits}
 use Rattle.jdwp_layout.specs.declared.answer.Answer.{Answer}
 use Rattle.jdwp_end.specs.Ends.{front_of}
 use Rattle.jdwp_machine.specs.Meanings.{Meaning}
@@ -24,6 +25,12 @@ use Rattle.jdwp_link.specs.Outcomes.{answers_in, settled_in, waiting_at}
 use Rattle.jdwp_across.specs.Programs.{Act, Programs, events_in, new_programs, told_in}
 use Rattle.jdwp_across.specs.Merges.{Merged}
 use Rattle.jdwp_across.specs.Standing.{StandsAcross, joined, unmeasured}
+
+-- Programs that there may be: a debuggee that there may be, limits that there may be, and an id that a packet may have.
+pub record MayStart {S : Type 0} (m : Meaning S) (settings : Settings) (s : S) (id : ℕ) : Type 0 where
+  pub begins : MayBegin m settings s
+  pub limits : AreLimits settings.limits.packet settings.limits.live settings.limits.requests settings.limits.pending
+  pub id_fits : id < 2 ^ 32
 
 -- ---- all that holds
 
@@ -54,7 +61,7 @@ pub record MayRelyOn {S : Type 0} (m : Meaning S) (settings : Settings) (s : S) 
 abbrev pub HoldsAcross : {S : Type 0} → Meaning S → Type 0
 HoldsAcross {S} m =
     (settings : Settings) (s : S) (id : ℕ) (acts : List Act) (programs : Programs S) →
-    MayBegin m settings s → Merged m (new_programs m settings s id) acts programs → MayRelyOn m settings s acts programs
+    MayStart m settings s id → Merged m (new_programs m settings s id) acts programs → MayRelyOn m settings s acts programs
 
 -- ---- one thread
 
@@ -63,7 +70,7 @@ HoldsAcross {S} m =
 abbrev pub SuspendsWhatIsHeld : {S : Type 0} → Meaning S → Type 0
 SuspendsWhatIsHeld {S} m =
     (settings : Settings) (s : S) (id : ℕ) (acts : List Act) (target : Target S) (debugger : Debugger) (t : ℕ) →
-    MayBegin m settings s → Merged m (new_programs m settings s id) acts (record { target = target; debugger = debugger }) →
+    MayStart m settings s id → Merged m (new_programs m settings s id) acts (record { target = target; debugger = debugger }) →
     is_held_in debugger.mirror.threads t ≡ true → target.moment.state.alive ≡ true → target.end.session.lost ≡ false →
     has_dispose (unanswered debugger.pending) ≡ false → unanswered_by lowers (unanswered debugger.pending) t ≡ 0 →
     0 < count_or_zero target.moment.state t

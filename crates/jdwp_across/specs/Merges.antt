@@ -2,7 +2,6 @@
 use Rattle.std.specs.Prelude.{List, [], ◌∷◌, ◌++◌}
 use Rattle.jdwp_end.specs.Runs.{IsFront}
 use Rattle.jdwp_machine.specs.Meanings.{Meaning}
-use Rattle.jdwp_link.specs.Insides.{DebuggerKeeps}
 use Rattle.jdwp_across.specs.Programs.{Act, Does, Programs}
 
 -- The one premise on the connection: what an end was fed in the session is a beginning of what the other had put by then. So bytes come in
@@ -12,12 +11,10 @@ pub record Agrees {S : Type 0} (programs : Programs S) : Type 0 where
   pub to_debugger : IsFront programs.debugger.end.session.fed programs.target.end.session.enqueued
 
 -- The acts of both, in an order in which each comes after all that it rests on: what one program does in its own order, and bytes after they
--- were put. At each moment the connection agrees, and the debugger is one that its calls can leave (`Debugger::session` and
--- `Debugger::waiting` say it of every debugger).
+-- were put; behind each act the connection agrees.
 --
 -- What such an order takes for granted beside that: a session begins at both ends together (`Connects`). No act of either end lies between
 -- the target's `accept` and the debugger's `attach`, and no byte of a session before comes after them.
 pub data Merged {S : Type 0} (m : Meaning S) (first : Programs S) : List Act → Programs S → Type 0 where
-  Start : DebuggerKeeps first.debugger → Agrees first → Merged m first [] first
-  More : (acts : List Act) (act : Act) (old new : Programs S) → Merged m first acts old → Does m act old new → DebuggerKeeps new.debugger → Agrees new
-      → Merged m first (acts ++ act ∷ []) new
+  Start : Merged m first [] first
+  More : (acts : List Act) (act : Act) (old new : Programs S) → Merged m first acts old → Does m act old new → Agrees new → Merged m first (acts ++ act ∷ []) new

@@ -1,6 +1,6 @@
 -- A target in one program and a debugger in another, and what the calls of each do (JDWP specification, "JDWP overview": the debuggee and the
 -- debugger, one connection between them).
-use Rattle.std.specs.Prelude.{◌≡◌, ℕ, ◌+◌, Bool, true, false, List, [], ◌∷◌, ◌++◌, None, Ok}
+use Rattle.std.specs.Prelude.{◌≡◌, ℕ, ◌+◌, ◌<◌, ◌^◌, Bool, true, false, List, [], ◌∷◌, ◌++◌, None, Ok}
 use Rattle.jdwp_end.specs.Ends.{front_of, is_open}
 use Rattle.jdwp_machine.specs.Meanings.{Meaning}
 use Rattle.jdwp_action.specs.Actions.{Command}
@@ -96,7 +96,7 @@ Does m (ComesToDebugger bytes) old new = new ≡ record old { debugger = debugge
 Does m (LeavesDebugger bytes) old new = new ≡ record old { debugger = debuggers.with_taken bytes old.debugger }
 Does m (DebuggerAsks c ticket) old new =
     (refusal_of_ask old.debugger c ≡ None) × (ticket.0 ≡ old.debugger.tickets + 1) × HasAsked c old.debugger new.debugger × (new.target ≡ old.target)
-Does m (DebuggerNumbers id) old new = new ≡ record old { debugger = record old.debugger { next_id = id } }
+Does m (DebuggerNumbers id) old new = (id < 2 ^ 32) × (new ≡ record old { debugger = record old.debugger { next_id = id } })
 Does m (DebuggerTurns read lost) old new =
     (after : Debugger) × reads.TurnsAt (front_of old.debugger.end) old.debugger (Ok read) after × (lost ≡ lost_with (is_left after) after)
     × (new ≡ record old { debugger = settled (is_left after) after })
