@@ -42,7 +42,7 @@ new_programs m settings s id = record {
 -- ---- acts
 
 -- What one of the programs does, whatever the other does: a call, with what it was given and what it answered. A call that is refused, or
--- that wants memory, changes nothing and is no act.
+-- that wants memory, changes nothing and is no act; and no turn fails for another reason (`RefusesNothing`).
 pub data Act : Type 0 where
   -- a session begins, at both ends together: nothing of the session before comes to either of them any more
   Connects : Act
@@ -65,7 +65,8 @@ pub data Act : Type 0 where
   DebuggerTurns : Read → List Ticket → Act
   DebuggerLoses : List Ticket → Act
 
--- where a turn closed the debugger's end and tickets wait, they are lost before anything else is asked of it
+-- Where a turn closed the debugger's end, at VM_DEATH or an OK reply to Dispose, and tickets wait, they are lost: that turn and the loss are
+-- one act. Bytes that leave in between may as well leave behind it.
 abbrev pub settled : Bool → Debugger → Debugger
 settled true d = debuggers.lost_debugger d
 settled false d = d
