@@ -37,7 +37,7 @@ returns-in_err-push-in-Ok-clause-fault c =
     let all = one_behind (line_for c.args.command) (lines c.args.text.now) (length c.loop-line.yielded) c.in-Some.line.now before t.0 t.1 c.loop-line.invariant in
     let full = read_is_not_empty c.args.command c.in-Some.line.now (said_by c.in-Ok.line) c.in-Ok.ensures.value in
     fails_so (IsFirstFaultBy (line_for c.args.command) (lines c.args.text.now)) c.from_residual.result c.from_residual.ensures.1
-        (before, c.in-Some.line.now, map (line_for c.args.command) (drop (length c.loop-line.yielded + 1) (lines c.args.text.now)), all, full)
+    (before, c.in-Some.line.now, map (line_for c.args.command) (drop (length c.loop-line.yielded + 1) (lines c.args.text.now)), all, full)
 
 pub returns-clause-read : goal.returns-clause-read
 returns-clause-read c =
