@@ -1,10 +1,11 @@
 -- What a debugger knows in a session by the commands that it put and the packets that it read, one by one and in order.
 use Rattle.std.specs.Prelude.{◌≡◌, ℕ, ◌+◌, Bool, false, List, [], ◌∷◌, ◌++◌, fold, map, remove, Option, Some, None, Result, Ok, Err}
 use Rattle.std.specs.List.{flat_map}
-use Rattle.jdwp_wire.specs.Widths.{Widths}
 use Rattle.jdwp_wire.specs.declared.packet.Header.{Header}
 use Rattle.jdwp_action.specs.Actions.{Command}
 use Rattle.jdwp_debugger.specs.declared.faults.DebuggerFault.{DebuggerFault}
+use Rattle.jdwp_debugger.specs.declared.order.Order.{Order}
+use Rattle.jdwp_debugger.specs.declared.order.Order.TheVariants.{One, Apart}
 use Rattle.jdwp_debugger.specs.declared.pending.Ticket as code
 use Rattle.jdwp_debugger.specs.Debuggers.{Asked}
 use Rattle.jdwp_debugger.specs.DebuggerTurns.{command_at, reports}
@@ -97,3 +98,12 @@ pub record IsMirrorOf (messages : List Message) (m : Mirror) : Type 0 where
   pub counts : (t : ℕ) → count_in m.threads t ≡ (standing messages t).0
   pub held : (t : ℕ) → is_held_in m.threads t ≡ (standing messages t).1
   pub requests : m.requests ≡ fold requests_by [] messages
+
+-- where counts are not known, it has of the requests what they say, and knows no thread
+pub record IsMirrorApart (messages : List Message) (m : Mirror) : Type 0 where
+  pub threads : m.threads ≡ []
+  pub requests : m.requests ≡ fold requests_by [] messages
+
+abbrev pub IsMirrorIn : Order → List Message → Mirror → Type 0
+IsMirrorIn One messages m = IsMirrorOf messages m
+IsMirrorIn Apart messages m = IsMirrorApart messages m

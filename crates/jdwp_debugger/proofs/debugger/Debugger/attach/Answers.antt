@@ -1,8 +1,8 @@
-use Rattle.std.proofs.Common.{◌≡◌, ◌≤◌, [], List, None, rules, refl, arith, length, subst, sym}
+use Rattle.std.proofs.Common.{◌≡◌, ◌≤◌, None, rules, refl, arith, length, subst, sym}
 use Rattle.jdwp_wire.specs.Handshake.{handshake_bytes}
 use Rattle.jdwp_end.specs.Ends.{opened_end, with_enqueued}
 use Rattle.jdwp_mirror.specs.Faults.{PARKED_MOST}
-use Rattle.jdwp_debugger.specs.Debuggers.{AreDistinct, AreOwn, Asked, IsSizesAlone}
+use Rattle.jdwp_debugger.specs.Debuggers.{AreDistinct, AreOwn, IsSizesAlone}
 use Rattle.jdwp_debugger.specs.Histories.{nothing}
 use Rattle.jdwp_debugger.specs.News.{Reading}
 use Rattle.jdwp_debugger.proofs.DebuggerRuns.{ran-attached}

@@ -11,7 +11,7 @@ use Rattle.jdwp_debugger.specs.declared.turning.Read.{Read}
 use Rattle.jdwp_debugger.specs.Debuggers.{Asked, Debugger, Parked}
 use Rattle.jdwp_debugger.specs.DebuggersKept.{view_of}
 use Rattle.jdwp_debugger.specs.DebuggerTurns.{EntersAt, FailsTo, HandlesAt, IsSaid, ReadsPacket, news_meaning, reading_of}
-use Rattle.jdwp_debugger.specs.News.{News, Reading}
+use Rattle.jdwp_debugger.specs.News.{Reading}
 use Rattle.jdwp_debugger.proofs.TurningLemmas.{fails, handles}
 use Rattle.jdwp_debugger.proofs.debugger.Debugger.handle_packet.Goals as goal
 

@@ -59,5 +59,5 @@ invariant_of-self c =
       alone = λ opened none. absurd cc;
       unlearned = λ none. absurd cc;
       unparked = λ v known. c.clear-2.ensures.items;
-      ran = subst (λ (r : Reading). HasRun end s.tickets r c.args.mirror) (sym settled) (said-ran (view_of s) header used news c.args.mirror bytes said told.unrefused told.learned kept.ran);
+      ran = subst (λ (r : Reading). HasRun s.order end s.tickets r c.args.mirror) (sym settled) (said-ran (view_of s) header used news c.args.mirror bytes said told.unrefused told.learned kept.ran);
     })

@@ -1,9 +1,9 @@
-use Rattle.std.proofs.Common.{◌≡◌, [], refl, subst, sym, rules, arith}
+use Rattle.std.proofs.Common.{◌≡◌, subst, sym, rules, arith}
 use Rattle.jdwp_end.specs.Ends.{new_end}
 use Rattle.jdwp_debugger.specs.Debuggers.{AreDistinct, AreOwn}
 use Rattle.jdwp_debugger.proofs.DebuggerRuns.{ran-new}
 use Rattle.jdwp_debugger.proofs.Keeping.{distinct-none}
-use Rattle.jdwp_debugger.proofs.debugger.Debugger.with_limits.Goals as goal
+use Rattle.jdwp_debugger.proofs.debugger.Debugger.with_order.Goals as goal
 
 pub invariant_of-result : goal.invariant_of-result
 invariant_of-result c =
