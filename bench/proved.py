@@ -42,6 +42,11 @@ jdwp_link | Link::session stands faultless | All of this holds of a link that on
 jdwp_link | deliver taken fed | What leaves one end comes to the other, as much as it has room for, and nothing else changes
 jdwp_pair | pair by_plan held ran failed; pair_session by_rounds | `pair` carries a plan out round by round, each line as soon as it is due; what is printed is what was told, or a beginning where the output failed; it ends for its reason only, and whom the debugger then holds is suspended, as above
 
+## Both ends in two programs
+
+jdwp_across | holds_in_two_programs; merges_as_worked_out | The first three rows above and that of commands, of every merge of the calls of both, over a connection that brings the bytes in order; with equal limits and sessions that begin at both together
+jdwp_across | suspends_what_is_held | A thread that the debugger holds is suspended in the other program's target now, unless as above
+
 ## The model of both ends, for every lawful machine and any list of events
 
 jdwp_model | holds_only_suspended_threads; mirrors_what_was_seen; counts_at_most; frames_read_stay_true; settles_each_command_once; tells_what_was_given | What the rows above say of a link
