@@ -66,7 +66,7 @@ jdwp_debuggee | starts_with_least_thread |
 jdwp_apart | shows_only_suspended_threads; shows_what_stays_suspended | A live thread of which the debugger is sure is suspended now, its count no less than is sure, whatever is under way in whatever order; and without a break
 jdwp_apart | shows_each_suspended_thread; nobody_is_sure_after_a_resume_in_vain | When what is sure is the very count; after a Resume in vain and one event no rule can tell
 jdwp_apart | shows_frames_that_stay_true | What was answered of a thread's stack frames since stays true while it is surely suspended without a break and no slot of it is written
-jdwp_watch | Watch::on_ask; Watch::on_answer; Watch::sure | `Watch` is that rule in code, exact up to 2^62 packets, where it answers `NoMemory` and has changed nothing. The debugger does not use it, and no clause says that each thread that is surely suspended is among `threads`
+jdwp_watch | Watch::on_ask; Watch::on_answer; Watch::on_composite; Watch::sure value covered; Watch::is_sure suspended; Watch::threads sure | `Watch` is that rule in code, exact up to 2^62 packets, where it answers `NoMemory` and has changed nothing: a live thread that it is sure of is suspended in each target whose debugger asked and read what it was told, its count no less, and is among `threads`. It keeps nothing of how threads end, and the debugger does not use it
 jdwp_orders | acts_in_one_order; is_sure_of_suspended_threads_only | While no reply is deferred the model of both ends is such a target: what is sure is so, while the machine lives, no loss was noticed and only what a target here carries out was asked, Dispose and Exit apart
 
 ## The target, over any lawful machine
