@@ -5,11 +5,15 @@
 mod asserts;
 #[cfg(test)]
 mod peer_tests;
+mod prompt;
+mod streams;
 #[cfg(test)]
 mod tests;
 #[cfg(test)]
 mod word_tests;
 
+use crate::prompt::Prompt;
+use crate::streams::fill_standard_streams;
 use jdwp_files::run;
 use jdwp_program::{Fault, report_fault};
 use std::env;
@@ -18,7 +22,11 @@ use std::process::ExitCode;
 
 fn main(rt: HostRuntime) -> ExitCode {
     let mut out = rt.stdout();
-    let mut err = rt.stderr();
+    let mut err = Prompt::new(rt.stderr());
+    let _standard_streams = match fill_standard_streams(&rt) {
+        Ok(files) => files,
+        Err(error) => return ExitCode::from(report_fault(&Fault::Closed(error), &mut err)),
+    };
     let arguments = match env::args(&rt) {
         Ok(arguments) => arguments,
         Err(error) if error.kind() == ErrorKind::OutOfMemory => {

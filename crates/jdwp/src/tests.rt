@@ -1,7 +1,8 @@
 //! Runs of the program.
 use crate::asserts::{expect_same, expect_same_for};
+use crate::streams::fill_standard_streams;
 use jdwp_files::run;
-use std::io::{Cursor, ErrorKind, Write};
+use std::io::{Cursor, ErrorKind, Read, Write};
 use std::net::Net;
 use std::process::Abort;
 use std::rt::{Clock, Files};
@@ -162,6 +163,15 @@ const PRINTED: &str = "< hello
 < 3 reply ThreadReference.SuspendCount 0 1
 < 4 reply VirtualMachine.Dispose 0
 ";
+
+#[test]
+fn closed_streams_have_the_null_device(rt: HostRuntime) {
+    let [first, second, third] = fill_standard_streams(&rt).expect(&rt, "the null device");
+    for mut file in [first, second, third] {
+        expect_same(&rt, &file.write(b"lost").expect(&rt, "what is written"), &4);
+        expect_same(&rt, &file.read(&mut [0; 4]).expect(&rt, "the end"), &0);
+    }
+}
 
 #[test]
 fn a_plan_of_a_file_is_run(rt: HostRuntime) {

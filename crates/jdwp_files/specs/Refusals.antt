@@ -8,7 +8,7 @@ use Rattle.jdwp_script.specs.declared.fault.ScriptFault.{ScriptFault}
 use Rattle.jdwp_script.specs.declared.fault.ScriptFault.TheVariants as script
 use Rattle.jdwp_script_machine.specs.Machines.{read_machine}
 use Rattle.jdwp_plan.specs.declared.plan_fault.PlanFault.{PlanFault}
-use Rattle.jdwp_plan.specs.Plans.{IsFirstFault, IsFirstFaultForAttach}
+use Rattle.jdwp_plan.specs.Plans.{BeginsNoSession, IsFirstFault}
 use Rattle.jdwp_program.specs.declared.fault.Fault.{Fault}
 use Rattle.jdwp_program.specs.declared.fault.Fault.TheVariants as fault
 use Rattle.jdwp_program.specs.declared.fault.FileCause.{FileCause}
@@ -29,8 +29,8 @@ abbrev pub RefusesPlan : Bor (List ℕ) → List ℕ → Fault → Type 0
 RefusesPlan file bytes told =
     IsFileNotText file bytes told ⊎ ((refused : PlanFault) × (told ≡ fault_of_plan file bytes refused) × IsFirstFault (lines bytes) refused)
 
--- the same of a plan of `attach`, of which no line is of `pair` alone
+-- the same of a plan of `attach`, of which no line is of `pair` alone; memory may be wanting for the session, too
 abbrev pub RefusesAttachPlan : Bor (List ℕ) → List ℕ → Fault → Type 0
 RefusesAttachPlan file bytes told =
     IsFileNotText file bytes told
-    ⊎ ((refused : PlanFault) × (told ≡ fault_of_plan file bytes refused) × IsFirstFaultForAttach (lines bytes) refused)
+    ⊎ ((refused : PlanFault) × (told ≡ fault_of_plan file bytes refused) × BeginsNoSession (lines bytes) refused)

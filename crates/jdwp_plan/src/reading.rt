@@ -1,7 +1,9 @@
 //! The text of a plan, read line by line.
-ghost use Rattle.std.specs.Prelude.{◌≡◌, IfOk, IfErr, map};
+ghost use Rattle.std.specs.Prelude.{◌≡◌, IfOk, IfErr, false, map};
 ghost use Rattle.std.specs.List.{list_any};
+ghost use Rattle.std.specs.Result.{IsErrOf};
 ghost use Rattle.std.specs.Str.Lines.{lines};
+ghost use Rattle.jdwp_plan.specs.declared.plan_fault.Refusal.TheVariants as refusal;
 ghost use Rattle.jdwp_plan.specs.Lines.{alone, ask_by, events_by, is_empty, line_by, line_of, lose_by, words_of};
 ghost use Rattle.jdwp_plan.specs.Lines.Said.{Answers, Mirror};
 ghost use Rattle.jdwp_plan.specs.PlanLines.{Gives, line_for, said_by, texts};
@@ -22,7 +24,8 @@ enum ProgramCommand {
 /// Reads the plan that a text is, line by line as `str::lines` parts them. A text without a line is a plan without a line.
 ///
 /// # Errors
-/// `Line` with the number and the fault of the first line that is none of a plan; `NoMemory` where an allocation was refused.
+/// `Line` with the number and the fault of the first line that is none of a plan; `NoMemory` where an allocation was refused, behind lines
+/// that have no fault.
 pub fn read_plan(alloc: Global, text: &str) -> Result<Vec<PlanLine>, PlanFault>
     ensures read { IfOk result (λ plan. Says (lines text.now) (map said_by plan.items)) }
     ensures fault { IfErr result (IsFirstFault (lines text.now)) }
@@ -33,7 +36,8 @@ pub fn read_plan(alloc: Global, text: &str) -> Result<Vec<PlanLine>, PlanFault>
 /// Reads the plan of `attach` that a text is, as `read_plan` does, but a line of `pair` alone is none of it.
 ///
 /// # Errors
-/// `Line` with the number and the fault of the first line that is none of a plan of `attach`; `NoMemory` where an allocation was refused.
+/// `Line` with the number and the fault of the first line that is none of a plan of `attach`; `NoMemory` where an allocation was refused,
+/// behind lines that have no fault.
 pub fn read_attach_plan(alloc: Global, text: &str) -> Result<Vec<PlanLine>, PlanFault>
     ensures read { IfOk result (λ plan. SaysForAttach (lines text.now) (map said_by plan.items)) }
     ensures fault { IfErr result (IsFirstFaultForAttach (lines text.now)) }
@@ -64,7 +68,8 @@ fn read_lines(
 
 /// Reads one line of a plan for the command.
 fn read_line_for(alloc: Global, line: &str, command: ProgramCommand) -> Result<PlanLine, Refusal>
-    ensures { Gives said_by result (line_for command line.now) }
+    ensures value { Gives said_by result (line_for command line.now) }
+    ensures memory { IsErrOf result refusal.NoMemory → is_empty line.now ≡ false }
 {
     let line = read_line(alloc, line)?;
     match command {
@@ -75,7 +80,8 @@ fn read_line_for(alloc: Global, line: &str, command: ProgramCommand) -> Result<P
 
 /// Reads one line.
 fn read_line(alloc: Global, line: &str) -> Result<PlanLine, Refusal>
-    ensures { Gives said_by result (line_of line.now) }
+    ensures value { Gives said_by result (line_of line.now) }
+    ensures memory { IsErrOf result refusal.NoMemory → is_empty line.now ≡ false }
 {
     if line.is_empty() {
         return Err(Refusal::Fault(LineFault::Blank));

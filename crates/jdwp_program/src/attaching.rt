@@ -4,7 +4,7 @@ ghost use Rattle.std.specs.Str.Lines.{lines};
 ghost use Rattle.jdwp_pipe.specs.Streams.{story_of};
 ghost use Rattle.jdwp_plan.specs.declared.plan_line.PlanLine as declared;
 ghost use Rattle.jdwp_plan.specs.PlanLines.{said_by};
-ghost use Rattle.jdwp_plan.specs.Plans.{IsFirstFaultForAttach, SaysForAttach};
+ghost use Rattle.jdwp_plan.specs.Plans.{BeginsNoSession, SaysForAttach};
 ghost use Rattle.jdwp_program.specs.Attaching.{AttachesNew, begun};
 
 use jdwp_attach::{Attached, attach_by_lines};
@@ -33,7 +33,7 @@ pub fn attach_plan<R: Read, W: Write, O: Pipe>(
         × SaysForAttach (lines plan.now) (map said_by lines_of)
         × AttachesNew lines_of (begun limits turns (story_of pipe.old) (O.story out.old))
         (story_of pipe.new) (O.story out.new) how) }
-    ensures fault { IfErr result (IsFirstFaultForAttach (lines plan.now)) }
+    ensures fault { IfErr result (BeginsNoSession (lines plan.now)) }
     ensures untouched { OnErr result (pipe.new ≡ pipe.old) }
     ensures unprinted { OnErr result (out.new ≡ out.old) }
 {

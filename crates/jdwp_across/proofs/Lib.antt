@@ -1,0 +1,12 @@
+mod Unmeasured
+mod Reached
+mod Cutting
+mod Keeping
+mod Standing
+mod TargetActs
+mod DebuggerActs
+mod Refusals
+mod Holding
+mod Settling
+mod Theorems
+mod WorkedMerges

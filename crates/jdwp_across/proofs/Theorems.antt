@@ -1,0 +1,103 @@
+-- the theorems: each act leads on, and what holds of the world holds of the two programs
+use Rattle.std.proofs.Common.{ℕ, List, [], ◌∷◌, ◌++◌, refl, arith}
+use Rattle.jdwp_wire.specs.Widths.{Widths}
+use Rattle.jdwp_machine.specs.Meanings.{Meaning}
+use Rattle.jdwp_debuggee.specs.Settings.{Settings}
+use Rattle.jdwp_target.specs.Turns.{is_frozen}
+use Rattle.jdwp_model.specs.Given.{TellsWhatWasGiven}
+use Rattle.jdwp_model.specs.Tickets.{SettlesOnce}
+use Rattle.jdwp_model.specs.World.{opening}
+use Rattle.jdwp_link.specs.Laws.{Laws}
+use Rattle.jdwp_link.specs.Stands.{Parts}
+use Rattle.jdwp_across.specs.Headline.{HoldsAcross, MayStart, SuspendsWhatIsHeld}
+use Rattle.jdwp_across.specs.Merges.{Agrees, Merged, More, Start}
+use Rattle.jdwp_across.specs.Programs.{Act, ComesToDebugger, ComesToTarget, Connects, DebuggerAsks, DebuggerLoses, DebuggerNumbers, DebuggerTurns, Does, LeavesDebugger, LeavesTarget, Programs, TargetDefers, TargetLoses, TargetReleases, TargetSteps, TargetTurns, new_programs}
+use Rattle.jdwp_across.specs.Standing.{joined}
+use Rattle.jdwp_across.proofs.DebuggerActs.{asks-debugger, comes-to-debugger, leaves-debugger, loses-at-debugger, numbers-debugger, turns-debugger}
+use Rattle.jdwp_across.proofs.Holding.{LinkStands, counts-at-most, holds-suspended, mirrors-seen, stays-true}
+use Rattle.jdwp_across.proofs.Keeping.{act-keeps, new-keeps}
+use Rattle.jdwp_across.proofs.Reached.{known-across}
+use Rattle.jdwp_across.proofs.Refusals.{debugger-fails, target-fails}
+use Rattle.jdwp_across.proofs.Settling.{settles-once, tells-given}
+use Rattle.jdwp_across.proofs.Standing.{Standing, Stands}
+use Rattle.jdwp_across.proofs.TargetActs.{comes-to-target, connects, defers-target, leaves-target, loses-at-target, releases-target, steps-target, turns-target}
+
+-- ---- before the first session
+
+opening-parts : {S : Type 0} (m : Meaning S) (settings : Settings) (s : S) (id : ℕ) → Parts m settings (m.sizes s) (joined (new_programs m settings s id).target (new_programs m settings s id).debugger) (opening m s)
+opening-parts m settings s id = record {
+  target = record { same_settings = refl; limits = refl; sizes = refl; now = refl; phase = refl; lost = refl; deferring = refl };
+  debugger = record {
+    limits = refl;
+    phase = refl;
+    tickets = refl;
+    mirror = record { counts = λ t. refl; held = λ t. refl; requests = refl };
+    opened = λ o. absurd (cc);
+    none_waits = λ c. refl;
+  };
+  to = record { wires = []; calls = refl; sent = tt; cut = record { number = omega arith; there = λ o. refl; left = refl }; kept = λ o. refl };
+  deferred = record { wires = []; commands = refl; messages = refl; sent = tt };
+  from = record { wires = []; packets = refl; sent = tt; cut = record { number = omega arith; there = λ o. refl; left = refl }; kept = λ o. refl; awaits = λ o. absurd (cc) };
+}
+
+opening-stands : {S : Type 0} (m : Meaning S) (settings : Settings) (s : S) (id : ℕ) → MayStart m settings s id → Standing m settings (m.sizes s) s [] (new_programs m settings s id)
+opening-stands m settings s id start = record {
+  world = opening m s;
+  stands = record { reached = record { begins = start.begins; is = refl; tells = refl }; parts = opening-parts m settings s id };
+  keeps = new-keeps settings.limits id start.limits start.id_fits;
+  agrees = record { to_target = ([], refl); to_debugger = ([], refl) };
+}
+
+-- ---- an act
+
+leads-on : {S : Type 0} (m : Meaning S) (settings : Settings) (w : Widths) (s : S) (acts : List Act) (act : Act) (old new : Programs S) → Laws m → Standing m settings w s acts old → Agrees new → Does m act old new → Stands m settings w s (acts ++ act ∷ []) new
+leads-on m settings w s acts Connects old new laws b then (shut, unheard, lives, is) = connects m settings w s acts old new laws b shut unheard lives is
+leads-on m settings w s acts (ComesToTarget bytes) old new laws b then is = comes-to-target m settings w s acts old new bytes b then is
+leads-on m settings w s acts (LeavesTarget bytes) old new laws b then is = leaves-target m settings w s acts old new bytes b is
+leads-on m settings w s acts (TargetTurns turn) old new laws b then (so, encoded, sends, same) = turns-target m settings w s acts old new turn laws b so encoded sends same
+leads-on m settings w s acts (TargetReleases place turn) old new laws b then (so, encoded, sends, same) = releases-target m settings w s acts old new place turn laws b so encoded sends same
+leads-on m settings w s acts (TargetSteps t stepped) old new laws b then (so, encoded, sends, same) = steps-target m settings w s acts old new t stepped (is_frozen m t old.target) refl laws b so encoded sends same
+leads-on m settings w s acts (TargetDefers deferring) old new laws b then is = defers-target m settings w s acts old new deferring b is
+leads-on m settings w s acts TargetLoses old new laws b then is = loses-at-target m settings w s acts old new b is
+leads-on m settings w s acts (ComesToDebugger bytes) old new laws b then is = comes-to-debugger m settings w s acts old new bytes b then is
+leads-on m settings w s acts (LeavesDebugger bytes) old new laws b then is = leaves-debugger m settings w s acts old new bytes b is
+leads-on m settings w s acts (DebuggerAsks c ticket) old new laws b then (free-to-ask, given, asked, same) = asks-debugger m settings w s acts old new c ticket laws b free-to-ask given asked same
+leads-on m settings w s acts (DebuggerNumbers id) old new laws b then (small, is) = numbers-debugger m settings w s acts old new id b is
+leads-on m settings w s acts (DebuggerTurns r lost) old new laws b then (after, so, gone, is) = turns-debugger m settings w s acts old new r lost after laws b so gone is
+leads-on m settings w s acts (DebuggerLoses lost) old new laws b then (gone, is) = loses-at-debugger m settings w s acts old new lost laws b gone is
+
+-- ---- every merge
+
+standing : {S : Type 0} (m : Meaning S) (settings : Settings) (w : Widths) (s : S) (first : Programs S) (acts : List Act) (v : Programs S) → Laws m → Standing m settings w s [] first → Merged m first acts v → Standing m settings w s acts v
+standing m settings w s first acts v laws b Start = b
+standing m settings w s first acts v laws b (More before act old new merged does agrees) =
+    let h = standing m settings w s first before old laws b merged in
+    let after = leads-on m settings w s before act old new laws h agrees does in
+    record { world = after.world; stands = after.stands; keeps = act-keeps m act old new does h.keeps; agrees = agrees }
+
+pub holds-across : {S : Type 0} (m : Meaning S) → Laws m → SettlesOnce m → TellsWhatWasGiven m → HoldsAcross m
+holds-across m laws once given settings s id acts v start merged =
+    let w = m.sizes s in
+    let h = standing m settings w s (new_programs m settings s id) acts v laws (opening-stands m settings s id start) merged in
+    let x = h.world in
+    let l = joined v.target v.debugger in
+    let r = h.stands.reached in
+    let stands : LinkStands m settings w s acts l x = record { reached = r; parts = h.stands.parts; own = h.keeps.own } in
+    record {
+      world = x;
+      stands = h.stands;
+      mirror = mirrors-seen m laws.worlds settings w s acts l x stands;
+      held = holds-suspended m laws.worlds settings w s acts l x stands;
+      at_most = counts-at-most m laws.worlds settings w s acts l x stands;
+      stays = stays-true m laws.worlds settings w s acts l x stands;
+      settles = λ k. settles-once m once settings w s acts l x k (known-across m laws.worlds settings w s acts x r) r h.stands.parts;
+      tells = λ p. tells-given m given settings w s acts x p r;
+      reads = record {
+        target = λ f after so. target-fails m settings w s acts v f after laws h so;
+        debugger = λ f after so. debugger-fails m settings w s acts v f after laws h so;
+      };
+    }
+
+pub suspends-what-is-held : {S : Type 0} (m : Meaning S) → HoldsAcross m → SuspendsWhatIsHeld m
+suspends-what-is-held m holds settings s id acts target debugger t start merged held alive unlost none unresumed =
+    (holds settings s id acts (record { target = target; debugger = debugger }) start merged).held.suspended t held (record { alive = alive; not_lost = unlost; no_dispose = none }) unresumed

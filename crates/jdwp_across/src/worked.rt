@@ -1,0 +1,15 @@
+//! Merges that were worked out by hand. The theorems don't rest on them.
+ghost use Rattle.jdwp_across.specs.Headline.{MayStart};
+ghost use Rattle.jdwp_across.specs.Worked.{MergesAsWorked};
+ghost use Rattle.jdwp_model.specs.WorkedMachine.{settings, small, small_opening};
+
+/// There are merges: of no acts, and of a session that begins at both ends; the target handles the debugger's handshake, which came in two
+/// pieces, and is asked for the widths of ids; a breakpoint is asked for and reached, and its thread is held and suspended; a loss is
+/// noticed at both ends, with a command under way whose ticket is lost; and a session begins anew. They start as the theorems ask, over a
+/// machine that is lawful (`jdwp_model::worked_machine_is_lawful`).
+pub fn merges_as_worked_out()
+    ensures start { MayStart small settings small_opening 1 }
+    ensures merges { MergesAsWorked }
+{
+    jdwp_model::worked_machine_is_lawful();
+}
