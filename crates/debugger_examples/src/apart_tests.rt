@@ -78,11 +78,10 @@ fn requests_are_kept(rt: HostRuntime) {
 }
 
 /// What a target may send in neither order, and the number of the fault that it is.
-static FAULTY: [(&str, u16); 13] = [
+static FAULTY: [(&str, u16); 12] = [
     ("0000000b 00000009 80 0000", 42),
     ("0000000f 00000002 80 0000 ffffffff", 43),
     ("0000000b 00000002 80 0000", 43),
-    ("0000000c 00000002 80 000a 00", 43),
     ("0000000b 00000002 00 40 64", 45),
     ("00000010 00000002 00 40 64 00 00000000", 45),
     (
@@ -107,15 +106,24 @@ static FAULTY: [(&str, u16); 13] = [
     ("0000000b 00000002 01 0000", 41),
 ];
 
-/// What a target may send by threads of their own alone: a composite of a thread that was suspended, and VM_DEATH as it was asked for.
-static TAKEN_APART: [&str; 2] = [
-    "0000001d 00000002 00 40 64 00 00000001 06 00000000 0000000000000001",
-    DEATHS,
+/// What a target may send by threads of their own alone, and the number of the fault that it is where each packet is sent as it acts: a reply
+/// with an error and data, a composite of a thread that was suspended, and VM_DEATH as it was asked for.
+static TAKEN_APART: [(&str, u16, Tells); 3] = [
+    ("0000000c 00000002 80 000a 00", 43, Tells::Answered(1)),
+    (
+        "0000001d 00000002 00 40 64 00 00000001 06 00000000 0000000000000001",
+        45,
+        Tells::Seen,
+    ),
+    (DEATHS, 45, Tells::Seen),
 ];
 
 /// A session in which thread 1 was suspended, to which these bytes come, tells this of them.
 fn tells(rt: &impl Abort, alloc: Global, order: Order, input: &'static str, told: Tells) {
-    let ids: &'static [u32] = if told == Tells::Seen { &[2] } else { &[] };
+    let ids: &'static [u32] = match told {
+        Tells::Fails(_) => &[],
+        _ => &[2],
+    };
     let acts = [
         Act::Attaches(true),
         Act::Reads(HELLO, Tells::Hello, &[]),
@@ -143,8 +151,8 @@ fn faults_in_either_order(rt: HostRuntime) {
 
 #[test]
 fn faults_in_one_order(rt: HostRuntime) {
-    for input in TAKEN_APART.iter() {
-        tells(&rt, rt.alloc(), Order::One, input, Tells::Fails(45));
-        tells(&rt, rt.alloc(), Order::Apart, input, Tells::Seen);
+    for &(input, number, told) in TAKEN_APART.iter() {
+        tells(&rt, rt.alloc(), Order::One, input, Tells::Fails(number));
+        tells(&rt, rt.alloc(), Order::Apart, input, told);
     }
 }

@@ -53,12 +53,12 @@ more : (by : Act → List Message) (acts : List Act) (act : Act) → flat_map by
 more by acts act = flat_map-append by acts (act ∷ []) ∙ ap (λ (x : List Message). flat_map by acts ++ x) (append-nil (by act))
 
 -- a session goes on
-goes-on : {o : Order} (old new : End) (t u : ℕ) (before after : Reading) (m n : Mirror) (act : Act) → (r : HasRun o old t before m) → MayCome old.phase (outstanding r.acts) act → MayDo o (known r.before r.acts) act
+goes-on : {o : Order} (old new : End) (t u : ℕ) (before after : Reading) (m n : Mirror) (act : Act) → (r : HasRun o old t before m) → MayCome old.phase (outstanding r.acts) act → MayDo o (known o r.before r.acts) act
     → new.phase ≡ phase_after old.phase act → (is_open new ≡ true → ids_of after.pending ≡ outstanding_after (outstanding r.acts) act) → Carries new (read r.acts ++ read_by act)
-    → new.session.enqueued ≡ old.session.enqueued ++ stream (put_by act) → u ≡ (known_after (known r.before r.acts) act).tickets
-    → (is_open new ≡ true → after ≡ (known_after (known r.before r.acts) act).reading) → LearnedAll o empty_mirror (heard (known_after (known r.before r.acts) act).history) n → HasRun o new u after n
+    → new.session.enqueued ≡ old.session.enqueued ++ stream (put_by act) → u ≡ (known_after (known o r.before r.acts) act).tickets
+    → (is_open new ≡ true → after ≡ (known_after (known o r.before r.acts) act).reading) → LearnedAll o empty_mirror (heard (known_after (known o r.before r.acts) act).history) n → HasRun o new u after n
 goes-on {o = o} old new t u before after m n act r may does phased waits carries enqueued given knows learned =
-    let next = sym (known-more r.before r.acts act) in
+    let next = sym (known-more o r.before r.acts act) in
     record {
       acts = r.acts ++ act ∷ [];
       in_order = order-more phase.Closed [] r.acts act r.in_order (subst (λ (p : Phase). MayCome p (outstanding r.acts) act) r.phase may);
@@ -69,7 +69,7 @@ goes-on {o = o} old new t u before after m n act r may does phased waits carries
           enqueued
           ∙ (ap (λ (x : List ℕ). x ++ stream (put_by act)) r.enqueued ∙ sym (ap stream (more put_by r.acts act) ∙ stream-append (put r.acts) (put_by act)));
       before = r.before;
-      taken = may-more o (nothing r.before) r.acts act r.taken does;
+      taken = may-more o (nothing o r.before) r.acts act r.taken does;
       given = given ∙ ap (λ (k : Knowledge). k.tickets) next;
       knows = λ opened. knows opened ∙ ap (λ (k : Knowledge). k.reading) next;
       learned = subst (λ (k : Knowledge). LearnedAll o empty_mirror (heard k.history) n) next learned;
@@ -127,7 +127,7 @@ ran-taken end t reading m n le r = moved end (with_taken (take n end.outgoing) e
 
 -- ---- a session begins, and ends
 
-pub ran-attached : {o : Order} (end : End) (t : ℕ) (reading : Reading) (m : Mirror) → reading ≡ (nothing t).reading → m ≡ empty_mirror → HasRun o (with_enqueued handshake_bytes (opened_end end)) t reading m
+pub ran-attached : {o : Order} (end : End) (t : ℕ) (reading : Reading) (m : Mirror) → reading ≡ (nothing o t).reading → m ≡ empty_mirror → HasRun o (with_enqueued handshake_bytes (opened_end end)) t reading m
 ran-attached end t reading m unread unlearned = record {
   acts = Attaches ∷ [];
   in_order = (refl, tt);
@@ -180,13 +180,13 @@ learned_from (Answers place ticket answer) m = m
 learned_from (Measures place answer w cs) m = empty_mirror
 
 -- what is heard is added to what was heard, and of the widths of ids nothing was heard before
-heard-onto : (o : Order) (n : News) (header : Header) (pending : List Asked) (before : ℕ) (acts : List Act) (old new : Mirror) → InOrder phase.Closed [] acts → MayDoAll o (nothing before) acts → phase_of acts ≡ phase.Established
-    → Backs (known before acts).reading header.id header.kind n → LearnedAll o empty_mirror (heard (known before acts).history) old → LearnedAll o (learned_from n old) (messages_of n pending) new
-    → LearnedAll o empty_mirror (heard (known before acts).history ++ messages_of n pending) new
-heard-onto o (Waits bytes) header pending before acts old new order may phased b was now = learned-onto o (heard (known before acts).history) [] empty_mirror old new was now
-heard-onto o (Happens c) header pending before acts old new order may phased b was now = learned-onto o (heard (known before acts).history) (Report c ∷ []) empty_mirror old new was now
+heard-onto : (o : Order) (n : News) (header : Header) (pending : List Asked) (before : ℕ) (acts : List Act) (old new : Mirror) → InOrder phase.Closed [] acts → MayDoAll o (nothing o before) acts → phase_of acts ≡ phase.Established
+    → Backs (known o before acts).reading header.id header.kind n → LearnedAll o empty_mirror (heard (known o before acts).history) old → LearnedAll o (learned_from n old) (messages_of n pending) new
+    → LearnedAll o empty_mirror (heard (known o before acts).history ++ messages_of n pending) new
+heard-onto o (Waits bytes) header pending before acts old new order may phased b was now = learned-onto o (heard (known o before acts).history) [] empty_mirror old new was now
+heard-onto o (Happens c) header pending before acts old new order may phased b was now = learned-onto o (heard (known o before acts).history) (Report c ∷ []) empty_mirror old new was now
 heard-onto o (Answers place ticket answer) header pending before acts old new order may phased b was now =
-    learned-onto o (heard (known before acts).history) (messages_of (Answers place ticket answer) pending) empty_mirror old new was now
+    learned-onto o (heard (known o before acts).history) (messages_of (Answers place ticket answer) pending) empty_mirror old new was now
 heard-onto o (Measures place answer w cs) header pending before acts old new order may phased b was now =
     let first = measures-first o before acts header place answer w cs order may phased b in
     subst (λ (ms : List heards.Message). LearnedAll o empty_mirror (ms ++ messages_of (Measures place answer w cs) pending) new) (sym first) now
@@ -202,7 +202,7 @@ pub ran-said : (d : Debugger) (header : Header) (body : List ℕ) (used : ℕ) (
     → news_refusal d.order d.mirror n ≡ None → LearnedAll d.order (learned_from n d.mirror) (messages_of n d.pending) m → Ran d
     → HasRun d.order (with_handled (Packet header body) used d.end) d.tickets (reading_after header n (reading_of d)) m
 ran-said d header body used n m fits front said fair learned r =
-    let k = known r.before r.acts in
+    let k = known d.order r.before r.acts in
     let opened = front-open d.end (Packet header body) used fits front in
     let established = packet-due d.end.limits.packet d.end.phase header body (front-due d.end (Packet header body) used fits front) in
     let same = r.knows opened in
@@ -231,7 +231,7 @@ with_sizes_asked id r = record r { pending = r.pending ++ record { id = id; tick
 pub ran-greeted : {o : Order} (end : End) (t : ℕ) (reading : Reading) (m : Mirror) (used id : ℕ) → IsBytes end.incoming → front_of end ≡ Whole Handshake used → HasRun o end t reading m
     → HasRun o (with_enqueued (header_bytes (sizes_header id)) (with_handled Handshake used end)) t (with_sizes_asked id reading) m
 ran-greeted {o = o} end t reading m used id fits front r =
-    let k = known r.before r.acts in
+    let k = known o r.before r.acts in
     let read_it = with_handled Handshake used end in
     let bytes = header_bytes (sizes_header id) in
     let bare : stream (Packet (sizes_header id) [] ∷ []) ≡ bytes = stream-one (Packet (sizes_header id) []) ∙ append-nil bytes in
@@ -253,7 +253,7 @@ with_command id t c r = record r { pending = r.pending ++ record { id = id; tick
 pub ran-asked : {o : Order} (end : End) (t : ℕ) (reading : Reading) (m : Mirror) (w : Widths) (id : ℕ) (c : Command) → end.phase ≡ phase.Established → reading.sizes ≡ Some w → is_outstanding reading.pending id ≡ false → EncodesCommand w c
     → HasRun o end t reading m → HasRun o (with_enqueued (command_bytes w id c) end) (t + 1) (with_command id t c reading) m
 ran-asked {o = o} end t reading m w id c phased wide free encoded r =
-    let k = known r.before r.acts in
+    let k = known o r.before r.acts in
     let opened : is_open end ≡ true = ap is_open_phase phased in
     let same = r.knows opened in
     let bytes = command_bytes w id c in
@@ -327,11 +327,11 @@ ran-ask command old new r h =
 
 pub each-goes-on : GoesOn
 each-goes-on = record {
-  new = λ order limits id. ran-new limits 0 (nothing 0).reading empty_mirror refl;
-  attached = λ d. ran-attached d.end d.tickets (nothing 0).reading empty_mirror refl refl;
+  new = λ order limits id. ran-new limits 0 (nothing order 0).reading empty_mirror refl;
+  attached = λ d. ran-attached d.end d.tickets (nothing d.order 0).reading empty_mirror refl refl;
   asked = ran-ask;
   turned = ran-turn;
   fed = λ d bytes none r. ran-fed d.end d.tickets (reading_of d) d.mirror bytes none r;
   taken = λ d n le r. ran-taken d.end d.tickets (reading_of d) d.mirror n le r;
-  lost = λ d r. ran-lost d.end d.tickets (reading_of d) (nothing 0).reading d.mirror empty_mirror refl r;
+  lost = λ d r. ran-lost d.end d.tickets (reading_of d) (nothing d.order 0).reading d.mirror empty_mirror refl r;
 }

@@ -21,7 +21,7 @@ use Rattle.jdwp_debugger.specs.Debuggers.{AreOwn, Asked, Debugger, Parked}
 use Rattle.jdwp_debugger.specs.DebuggerTurns.{bad_where, reading_of, refusal_by, reports}
 use Rattle.jdwp_debugger.specs.FaultNumbers.{fault_number, packet_fault_number}
 use Rattle.jdwp_debugger.specs.Judging.{AreMaybe, Answers, EncodesMessage, EncodesReport, IsJudgedAs, Stands, reader_of, ticket_meaning, waiting_meaning}
-use Rattle.jdwp_debugger.specs.News.{answer_in, answer_says, composites_in, event_says, reply_at, reply_to, says, sizes_say, unless_bad, widths_by}
+use Rattle.jdwp_debugger.specs.News.{answer_by, answer_in, answer_says, composites_in, event_says, reply_at, reply_to, says, sizes_say, unless_bad, widths_by}
 use Rattle.jdwp_debugger.specs.Orders.{fault_in, has_bad_in, is_bad_in, none_known}
 use Rattle.jdwp_mirror.specs.Faults.{BadEvent, BadReply, TooManyParked, UnknownReply, PARKED_MOST, are_widths, is_bad_reply, is_waited_for, or_else, when}
 use Rattle.jdwp_mirror.specs.Faults as faults
@@ -31,6 +31,7 @@ use Rattle.jdwp_mirror.specs.Mirrors.{Mirror}
 use Rattle.jdwp_mirror.specs.Widths.{widths_in, widths_said}
 use Rattle.jdwp_debugger.proofs.AnsweredReads.{reads-as-answered}
 use Rattle.jdwp_debugger.proofs.EncodedReads.{ReadsEncoded}
+use Rattle.jdwp_debugger.proofs.NewsLemmas.{read-either}
 use Rattle.jdwp_debugger.proofs.ReportedReads.{reads-as-reported}
 use Rattle.jdwp_debugger.proofs.Saying.{alone-at}
 use Rattle.jdwp_debugger.proofs.SizesReads.{reads-sizes}
@@ -186,7 +187,9 @@ reply-judged again d waiting id ticket c answer body s a =
     let own : asked.ticket ≡ None → asked.command ≡ id_sizes = own-at d.pending a.place asked s.own a.at in
     let unknown : d.sizes ≡ None → asked.command ≡ id_sizes = λ none. own (alone-at d.pending a.place asked (s.alone none) a.at) in
     let encoded : EncodesAnswer a.widths asked.command.set asked.command.number answer = subst (λ (x : Command). EncodesAnswer a.widths x.set x.number answer) (sym a.command_is) a.encoded in
-    let read : answer_in (widths_by d.sizes) asked.command (error_of answer) body ≡ Some answer = ap (answer_in (widths_by d.sizes) asked.command (error_of answer)) a.data_are ∙ read-answer again d.sizes asked.command a.widths answer a.known unknown encoded in
+    let read : answer_by d.order (widths_by d.sizes) asked.command (error_of answer) body ≡ Some answer =
+    read-either d.order (widths_by d.sizes) asked.command (error_of answer) body answer
+    (ap (answer_in (widths_by d.sizes) asked.command (error_of answer)) a.data_are ∙ read-answer again d.sizes asked.command a.widths answer a.known unknown encoded) in
     let waited : is_waited_for (ticket_meaning asked.ticket) (waiting_meaning d.pending) ≡ true = waits-for d.pending a.place asked a.at in
     let judged =
     answered d.order d.mirror a.place asked.ticket asked.command answer d.parked waiting (is_bad_reply asked.command answer) refl own (λ k ticketed. none-behind d waiting d.sizes a.place asked k refl s a.at ticketed) (fresh-by d waiting d.sizes refl s) a.told in

@@ -54,8 +54,8 @@ learned-onto o (message ∷ messages) then old middle new (next, one, others) l 
 
 -- ---- an act more
 
-pub known-more : (before : ℕ) (acts : List Act) (act : Act) → known before (acts ++ act ∷ []) ≡ known_after (known before acts) act
-known-more before acts act = fold-append known_after (nothing before) acts (act ∷ [])
+pub known-more : (o : Order) (before : ℕ) (acts : List Act) (act : Act) → known o before (acts ++ act ∷ []) ≡ known_after (known o before acts) act
+known-more o before acts act = fold-append known_after (nothing o before) acts (act ∷ [])
 
 pub may-more : (o : Order) (k : Knowledge) (acts : List Act) (act : Act) → MayDoAll o k acts → MayDo o (fold known_after k acts) act → MayDoAll o k (acts ++ act ∷ [])
 may-more o k [] act all may = (may, tt)
@@ -146,11 +146,11 @@ told-first r id kind None k place answer w cs is s b = s.1
 told-first r id kind (Some v) k place answer w cs is s b = absurd (untold r id place (subst (λ (x : Reading). AllTicketed x.pending) is s) b.1)
 
 -- as the widths of ids are told nothing was heard before
-pub measures-first : (o : Order) (before : ℕ) (acts : List Act) (header : Header) (place : ℕ) (answer : Answer) (w : Widths) (cs : List CompositeMeaning) → InOrder Closed [] acts → MayDoAll o (nothing before) acts
-    → phase_of acts ≡ Established → Backs (known before acts).reading header.id header.kind (Measures place answer w cs) → heard (known before acts).history ≡ []
+pub measures-first : (o : Order) (before : ℕ) (acts : List Act) (header : Header) (place : ℕ) (answer : Answer) (w : Widths) (cs : List CompositeMeaning) → InOrder Closed [] acts → MayDoAll o (nothing o before) acts
+    → phase_of acts ≡ Established → Backs (known o before acts).reading header.id header.kind (Measures place answer w cs) → heard (known o before acts).history ≡ []
 measures-first o before acts header place answer w cs order may phase b =
-    let k = known before acts in
-    let sound = subst (λ (p : Phase). IsSound p k) phase (sound-all o Closed [] (nothing before) acts order may tt) in
+    let k = known o before acts in
+    let sound = subst (λ (p : Phase). IsSound p k) phase (sound-all o Closed [] (nothing o before) acts order may tt) in
     told-first k.reading header.id header.kind k.reading.sizes k place answer w cs refl sound b
 
 -- ---- the mirror, look-up by look-up

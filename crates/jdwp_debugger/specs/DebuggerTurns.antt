@@ -148,11 +148,11 @@ Enters message used header (Measures place answer w cs) old told new =
 -- ---- what is refused
 
 abbrev pub reading_of : Debugger → Reading
-reading_of d = record { sizes = d.sizes; parked = d.parked; pending = d.pending }
+reading_of d = record { order = d.order; sizes = d.sizes; parked = d.parked; pending = d.pending }
 
 -- the same of what the code reads by
 abbrev pub reading : Known → Reading
-reading known = record { sizes = known.sizes; parked = known.parked.now; pending = known.pending.now }
+reading known = record { order = known.order; sizes = known.sizes; parked = known.parked.now; pending = known.pending.now }
 
 abbrev pub bad_where : Bool → Option DebuggerFault
 bad_where true = Some code.BadEvent

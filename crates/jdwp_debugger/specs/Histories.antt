@@ -39,9 +39,9 @@ pub record Knowledge : Type 0 where
   pub tickets : ℕ
   pub history : List Exchange
 
--- before a session, and behind its end, where so many tickets were given
-abbrev pub nothing : ℕ → Knowledge
-nothing tickets = record { reading = record { sizes = None; parked = []; pending = [] }; tickets = tickets; history = [] }
+-- before a session, and behind its end, with a target of this order, where so many tickets were given
+abbrev pub nothing : Order → ℕ → Knowledge
+nothing order tickets = record { reading = record { order = order; sizes = None; parked = []; pending = [] }; tickets = tickets; history = [] }
 
 -- a command is put under an id, and waits for its reply
 abbrev pub with_put : ℕ → Option code.Ticket → Command → Knowledge → Knowledge
@@ -69,7 +69,7 @@ abbrev pub reading_after : Header → News → Reading → Reading
 reading_after header (Waits bytes) r = record r { parked = r.parked ++ record { header = header; body = bytes } ∷ [] }
 reading_after header (Happens c) r = r
 reading_after header (Answers place ticket answer) r = record r { pending = remove r.pending place }
-reading_after header (Measures place answer w cs) r = record { sizes = Some w; parked = []; pending = remove r.pending place }
+reading_after header (Measures place answer w cs) r = record { order = r.order; sizes = Some w; parked = []; pending = remove r.pending place }
 
 abbrev pub with_news : Header → News → Knowledge → Knowledge
 with_news header news k =

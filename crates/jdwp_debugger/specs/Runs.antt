@@ -117,15 +117,15 @@ InOrder phase ids (act ∷ acts) = MayCome phase ids act × InOrder (phase_after
 -- ---- what is known
 
 abbrev pub known_after : Knowledge → Act → Knowledge
-known_after k Attaches = nothing k.tickets
+known_after k Attaches = nothing k.reading.order k.tickets
 known_after k (Greets id) = with_put id None id_sizes k
 known_after k (Reads header body) = with_said header (says k.reading header.id header.kind body) k
 known_after k (Asks w id c) = with_asked id c k
-known_after k Ends = nothing k.tickets
+known_after k Ends = nothing k.reading.order k.tickets
 
 -- after these acts, where so many tickets were given before them
-abbrev pub known : ℕ → List Act → Knowledge
-known before acts = fold known_after (nothing before) acts
+abbrev pub known : Order → ℕ → List Act → Knowledge
+known order before acts = fold known_after (nothing order before) acts
 
 -- A packet is read where it is not refused: it says something, and of what it says nothing is bad by a mirror that learned all that was
 -- heard before it, in order, and nothing else.
@@ -168,17 +168,17 @@ pub record HasRun (order : Order) (end : End) (tickets : ℕ) (reading : Reading
   pub enqueued : end.session.enqueued ≡ stream (put acts)
   -- how many tickets were given before the session
   pub before : ℕ
-  pub taken : MayDoAll order (nothing before) acts
-  pub given : tickets ≡ (known before acts).tickets
-  pub knows : is_open end ≡ true → reading ≡ (known before acts).reading
-  pub learned : LearnedAll order empty_mirror (heard (known before acts).history) mirror
+  pub taken : MayDoAll order (nothing order before) acts
+  pub given : tickets ≡ (known order before acts).tickets
+  pub knows : is_open end ≡ true → reading ≡ (known order before acts).reading
+  pub learned : LearnedAll order empty_mirror (heard (known order before acts).history) mirror
 
 abbrev pub Ran : Debugger → Type 0
 Ran d = HasRun d.order d.end d.tickets (reading_of d) d.mirror
 
 -- the messages that were heard in a run, in order
 abbrev pub heard_by : {order : Order} {end : End} {tickets : ℕ} {reading : Reading} {mirror : Mirror} → HasRun order end tickets reading mirror → List heards.Message
-heard_by run = heard (known run.before run.acts).history
+heard_by {order = order} run = heard (known order run.before run.acts).history
 
 -- What each call leaves of a run, whatever it answers.
 pub record GoesOn : Type 0 where

@@ -87,8 +87,9 @@ impl Debugger {
         Debugger::with_order(alloc, first_id, limits, Order::One)
     }
 
-    /// The same of a target that sends its replies and composites in this order: in another than `One` a composite is not refused for the
-    /// suspend count of its thread, and the mirror knows no thread, only the event requests.
+    /// The same of a target that sends its replies and composites in this order. In `Apart` no composite is refused for the suspend count of
+    /// its thread, VM_DEATH may come as it was asked for beside the one that the target sends by itself, a reply with an error may have data,
+    /// and the mirror knows no thread, only the event requests.
     ///
     /// # Errors
     /// `NoMemory` where an allocation was refused.

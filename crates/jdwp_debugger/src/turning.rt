@@ -89,6 +89,7 @@ impl Debugger {
             → HandlesAt (Packet header body) used self.old result self.new }
     {
         let known = Known {
+            order: self.order,
             sizes: self.sizes,
             parked: &self.parked,
             pending: &self.pending,

@@ -70,7 +70,7 @@ invariant_of-self-2 c =
       alone = λ opens none. absurd (known-before (view_of s) header used place ticket answer said (kept.alone opened none));
       unlearned = λ none. absurd (known-before (view_of s) header used place ticket answer said (kept.alone opened none));
       unparked = kept.unparked;
-      ran = subst (λ (qs : List Asked). HasRun s.order end s.tickets (record { sizes = s.sizes; parked = s.parked.items; pending = qs }) m) (sym left)
+      ran = subst (λ (qs : List Asked). HasRun s.order end s.tickets (record { order = s.order; sizes = s.sizes; parked = s.parked.items; pending = qs }) m) (sym left)
           (said-ran (view_of s) header used news m bytes said refl (m, learned, refl) kept.ran);
     })
 
