@@ -30,7 +30,8 @@ typedef struct {
 } end;
 
 static end ends[2]; /* the debugger, the target */
-static bool waits[8]; /* by the id of a command */
+static uint32_t waiting[MOST]; /* the ids of the commands that wait for replies */
+static size_t waiting_count;
 
 static const uint8_t handshake[15] = "JDWP-Handshake";
 
@@ -41,19 +42,27 @@ static void drop(end *from, size_t count) {
     memmove(from->bytes, from->bytes + count, from->length);
 }
 
+/* The place of an id among those that wait; their count where it is none of them. */
+static size_t place_of(uint32_t id) {
+    size_t place = 0;
+    while (place < waiting_count && waiting[place] != id) place++;
+    return place;
+}
+
 /* The fault of a whole packet, 0 for none. */
 static uint16_t judge_packet(int sender, const uint8_t *packet, size_t length) {
     uint32_t id = four(packet + 4);
     bool is_reply = packet[8] == 0x80;
     if (sender == 0) {
         if (is_reply || packet[9] >= 64) return 56;
-        if (waits[id]) return 53;
-        waits[id] = true;
+        if (place_of(id) < waiting_count) return 53;
+        waiting[waiting_count++] = id;
         return 0;
     }
     if (!is_reply) return packet[9] == 64 && packet[10] == 100 ? 0 : 56;
-    if (!waits[id]) return 54;
-    waits[id] = false;
+    size_t place = place_of(id);
+    if (place == waiting_count) return 54;
+    waiting[place] = waiting[--waiting_count];
     return (packet[9] != 0 || packet[10] != 0) && length > 11 ? 55 : 0;
 }
 
@@ -103,7 +112,7 @@ static mv_judged read_capture(const char *text, size_t size) {
     uint8_t bytes[MOST];
     mv_judged first = {true, 0, 0};
     memset(ends, 0, sizeof ends);
-    memset(waits, 0, sizeof waits);
+    waiting_count = 0;
     size_t number = 0;
     for (size_t at = 0; at < size;) {
         const char *stop = memchr(text + at, '\n', size - at);
@@ -129,6 +138,8 @@ static mv_judged read_capture(const char *text, size_t size) {
 /* ---- random captures */
 
 static char text[2 * MOST];
+static uint8_t asked[64]; /* ids under which the debugger asked, with which replies mostly come */
+static uint32_t asked_count;
 static size_t size;
 
 static void put_line(int sender, const uint8_t *bytes, size_t count) {
@@ -151,9 +162,11 @@ static void put_packet(int sender) {
     uint8_t bytes[32] = {0};
     size_t data = below(3) ? 0 : below(12);
     bytes[3] = (uint8_t)(11 + data);
-    bytes[7] = (uint8_t)below(8);
+    bytes[7] = (uint8_t)below(64);
     bool is_reply = sender == 1 ? below(5) > 0 : below(40) == 0;
     bytes[8] = is_reply ? 0x80 : 0;
+    if (is_reply && asked_count > 0 && below(8)) bytes[7] = asked[--asked_count];
+    else if (!is_reply && sender == 0) asked[asked_count++] = bytes[7];
     if (is_reply) bytes[10] = data > 0 && below(8) ? 0 : (uint8_t)below(3);
     else if (sender == 1) bytes[9] = 64, bytes[10] = 100;
     else bytes[9] = below(40) == 0 ? (uint8_t)(64 + below(3)) : (uint8_t)(20 + below(44)), bytes[10] = (uint8_t)below(256);
@@ -164,18 +177,19 @@ static void put_packet(int sender) {
 static void make_capture(void) {
     uint8_t hello[14];
     size = 0;
+    asked_count = 0;
     int first = below(30) == 0;
     for (int turn = 0; turn < 2; turn++) {
         memcpy(hello, handshake, 14);
         put_message(first ^ turn, hello, below(20) ? 14 : 1 + below(14));
     }
-    for (uint32_t left = below(30); left > 0; left--) put_packet((int)below(2));
+    for (uint32_t left = below(30); left > 0; left--) put_packet(asked_count == 0 && below(20) ? 0 : (int)below(2));
     if (below(20) == 0) text[below((uint32_t)size)] = "x>< \n0"[below(6)];
 }
 
 int main(void) {
     long found[64] = {0};
-    for (long round = 0; round < 200000; round++) {
+    for (long round = 0; round < 50000; round++) {
         mv_judged judged = {0};
         make_capture();
         mv_judged expected = read_capture(text, size);
@@ -185,7 +199,7 @@ int main(void) {
         }
         found[expected.fault]++;
     }
-    printf("C: 200,000 random captures are judged alike:");
+    printf("C: 50,000 random captures are judged alike:");
     for (int fault = 0; fault < 64; fault++)
         if (found[fault] > 0) printf(" %ld with fault %d", found[fault], fault);
     puts("");

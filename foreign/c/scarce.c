@@ -55,7 +55,7 @@ static void run(const uint8_t *json, size_t json_length, const uint8_t *capture,
     DO(mv_check(capture, capture_length, &judged));
     assert(judged.yes);
     DO(mv_show(capture, capture_length, out, sizeof out, &needed, &judged));
-    assert(judged.yes && needed == 155);
+    assert(judged.yes && needed == 167);
     DO(mv_debugger_new(&d, 1));
     DO(mv_target_new(&t, json, json_length, true, 1000, &judged));
     DO(mv_target_accept(&t, &opened));
