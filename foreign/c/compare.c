@@ -1,6 +1,6 @@
-/* A reader of captures in plain C, written from the specification of JDWP and docs/CAPTURES.md alone, against mv_check: on random captures, most
- * of which go wrong somewhere, both have to name the same first fault in the same line. No widths of ids are told in these captures, and the commands
- * are of sets that JDWP does not have, so data are not judged. */
+/* A reader of packets and of captures in plain C, written from the specification of JDWP and docs/CAPTURES.md alone, against mv_next_packet and
+ * mv_check: on random bytes both have to read the same packet, and of random captures, most of which go wrong somewhere, to name the same first fault in
+ * the same line. No widths of ids are told in these captures, and the commands are of sets that JDWP does not have, so data are not judged. */
 #include "milunovesk.h"
 
 #include <stdio.h>
@@ -187,7 +187,35 @@ static void make_capture(void) {
     if (below(20) == 0) text[below((uint32_t)size)] = "x>< \n0"[below(6)];
 }
 
+/* The packet in front of random bytes, read twice. */
+static bool same_front(void) {
+    uint8_t bytes[24];
+    mv_framed out = {0};
+    uint32_t size_of = below(sizeof bytes + 1);
+    for (size_t at = 0; at < sizeof bytes; at++) bytes[at] = (uint8_t)below(256);
+    for (size_t at = 0; at < 3; at++) if (below(50)) bytes[at] = 0;
+    if (below(2)) bytes[3] = (uint8_t)(8 + below(20));
+    if (below(4)) bytes[8] = (uint8_t)(below(2) * 128);
+    if (mv_next_packet(bytes, size_of, &out) != MV_DONE) return false;
+    uint32_t length = four(bytes);
+    if (size_of < 4) return out.kind == MV_FRONT_MORE;
+    if (length < 11) return out.kind == MV_FRONT_FAULT && out.fault == 1;
+    if (length > 65536) return out.kind == MV_FRONT_FAULT && out.fault == 2;
+    if (size_of < 9) return out.kind == MV_FRONT_MORE;
+    if (bytes[8] != 0 && bytes[8] != 0x80) return out.kind == MV_FRONT_FAULT && out.fault == 3;
+    if (size_of < length) return out.kind == MV_FRONT_MORE;
+    if (out.length != length || out.id != four(bytes + 4)) return false;
+    if (bytes[8] == 0) return out.kind == MV_FRONT_COMMAND && out.set == bytes[9] && out.number == bytes[10];
+    return out.kind == MV_FRONT_REPLY && out.error == (bytes[9] << 8 | bytes[10]);
+}
+
 int main(void) {
+    for (long round = 0; round < 1000000; round++) {
+        if (!same_front()) {
+            puts("a packet is read otherwise");
+            return 1;
+        }
+    }
     long found[64] = {0};
     for (long round = 0; round < 50000; round++) {
         mv_judged judged = {0};

@@ -87,6 +87,19 @@ static void test_kinds(void) {
     mv_free(&d);
 }
 
+/* The packets of the specification's "Packets": length, id, flags, and a command's set and number or a reply's error code. */
+static void test_packets(void) {
+    const uint8_t command[] = {0, 0, 0, 12, 1, 2, 3, 4, 0, 11, 6, 99, 7};
+    const uint8_t reply[] = {0, 0, 0, 11, 0, 0, 0, 5, 0x80, 0, 20};
+    const uint8_t flags[] = {0, 0, 0, 11, 0, 0, 0, 5, 1};
+    mv_framed out = {0};
+    assert(mv_next_packet(command, sizeof command, &out) == MV_DONE && out.kind == MV_FRONT_COMMAND);
+    assert(out.set == 11 && out.number == 6 && out.id == 0x01020304 && out.length == 12 && out.fault == 0);
+    assert(mv_next_packet(reply, sizeof reply, &out) == MV_DONE && out.kind == MV_FRONT_REPLY && out.error == 20 && out.length == 11);
+    assert(mv_next_packet(reply, 10, &out) == MV_DONE && out.kind == MV_FRONT_MORE && out.length == 0);
+    assert(mv_next_packet(flags, 9, &out) == MV_DONE && out.kind == MV_FRONT_FAULT && out.fault == 3);
+}
+
 static void test_captures(void) {
     size_t length = 0, needed = 0;
     uint8_t *text = example("session.capture", &length), out[1024];
@@ -277,6 +290,7 @@ int main(void) {
     assert(mv_version() == 1);
     test_empty(none);
     test_kinds();
+    test_packets();
     test_captures();
     test_scripts();
     test_session();

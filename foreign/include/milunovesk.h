@@ -17,8 +17,8 @@
  * new one at a live handle answers MV_LIVE, a call at a handle of the other kind answers MV_OTHER_KIND; each changes nothing. A refused
  * allocation answers MV_NO_MEMORY, and nothing has changed. No bytes from a peer, and no text, are too bad to be given to a call.
  *
- * Each call but mv_free and mv_version answers one of the numbers below. What it tells beside is all zero where it answers another number than
- * MV_DONE, unless its comment says otherwise. Numbers of faults are those of the repository's docs/PROGRAM.md.
+ * Each call but mv_free and mv_version answers one of the numbers below. What it tells beside is all zero, and a buffer is as it was, where it
+ * answers another number than MV_DONE, unless its comment says otherwise. Numbers of faults are those of docs/PROGRAM.md.
  */
 #ifndef MILUNOVESK_H
 #define MILUNOVESK_H
@@ -65,6 +65,27 @@ uint32_t mv_kind(mv_handle *handle, uint8_t *kind);
 
 /* Frees what is kept, of any kind, if something is. The handle keeps nothing afterwards. */
 void mv_free(mv_handle *handle);
+
+/* What stands in front of bytes. */
+enum {
+    MV_FRONT_MORE = 0,    /* the beginning of a packet, or nothing */
+    MV_FRONT_COMMAND = 1, /* a command */
+    MV_FRONT_REPLY = 2,   /* a reply */
+    MV_FRONT_FAULT = 3    /* the beginning of no packet */
+};
+
+typedef struct {
+    uint8_t kind;
+    uint8_t set;    /* of a command, else 0 */
+    uint8_t number; /* of a command, else 0 */
+    uint16_t error; /* the error code of a reply, else 0 */
+    uint16_t fault; /* why it is the beginning of no packet: 1 a length below 11, 2 one above 65,536, 3 flags other than 00 and 80; else 0 */
+    uint32_t id;
+    uint32_t length; /* of the packet, its header's 11 bytes among them: its data are behind the header */
+} mv_framed;
+
+/* Tells which packet stands in front of the bytes, behind the handshakes. What follows it is not looked at. Always MV_DONE. */
+uint32_t mv_next_packet(const uint8_t *bytes, size_t length, mv_framed *out);
 
 /* ---- captures: texts of lines "> HEX", bytes that the debugger sent, and "< HEX", bytes that the target sent (docs/CAPTURES.md) */
 

@@ -45,7 +45,7 @@ module _ (R A : RattleType) (lawful : Laws A) (g : Ghosts A.Denot) where
     -- The pointer is that of a block, which is owned with what stands in it. So it is not null.
     pub opened : K → (d : Loose.Denot) (vs : List Val)
         → ((block offset : ℕ) (h : Val) → d.at ≡ block_ptr block offset → vs ≡ pair_of (vptr block offset) h ∷ [] → Good (layout A) h
-          → Seq K 𝓛 (‵ (box_owns (g.dealloc_token d.alloc) R (block_ptr block offset) d.value) ∷ ‵ (A.own_val d.alloc (h ∷ [])) ∷ Γ) G)
+        → Seq K 𝓛 (‵ (box_owns (g.dealloc_token d.alloc) R (block_ptr block offset) d.value) ∷ ‵ (A.own_val d.alloc (h ∷ [])) ∷ Γ) G)
         → Seq K 𝓛 (‵ (Loose.own_val d vs) ∷ Γ) G
     opened t d vs then =
         let owned = λ (p : Ptr). box_owns (g.dealloc_token d.alloc) R p d.value in
@@ -61,7 +61,7 @@ module _ (R A : RattleType) (lawful : Laws A) (g : Ghosts A.Denot) where
     -- From an owned block and the allocator it is one again.
     pub closed : K → (block offset : ℕ) (h : Val) (a : A.Denot) (x : R.Denot)
         → Step K 𝓛 (‵ (Loose.own_val (record { at = block_ptr block offset; alloc = a; value = x }) (pair_of (vptr block offset) h ∷ [])) ∷ Γ) G
-          (‵ (box_owns (g.dealloc_token a) R (block_ptr block offset) x) ∷ ‵ (A.own_val a (h ∷ [])) ∷ Γ) G
+        (‵ (box_owns (g.dealloc_token a) R (block_ptr block offset) x) ∷ ‵ (A.own_val a (h ∷ [])) ∷ Γ) G
     closed t block offset h a x = step (λ rest. let pointer : List Val = vptr block offset ∷ [] in let whole : List Val = pair_of (vptr block offset) h ∷ [] in
         nothing t $ move t (2 ∷ 0 ∷ []) $ fjoin t $ feq_i t (List Val) pointer pointer refl $ fjoin t $ feq_i t (List Val) whole whole refl $ fjoin t $
         fpack t (Valss (RawPtr ∷ A ∷ [])) (within (shape (loose.the_type R A g)) (block_ptr block offset, (a, tt)) whole) (pointer, (h ∷ [], tt)) $ fjoin t $ rest)

@@ -20,6 +20,15 @@ AtTarget None result new does = (result ≡ EMPTY) × (new ≡ None)
 AtTarget (Some (kept.Debugger s)) result new does = (result ≡ OTHER_KIND) × (new ≡ Some (kept.Debugger s))
 AtTarget (Some (kept.Target t)) result new does = does t
 
+-- something else is kept, or nothing
+abbrev pub KeepsNoDebugger : Option Kept → Type 0
+KeepsNoDebugger (Some (kept.Debugger s)) = ⊥
+KeepsNoDebugger other = Unit {0}
+
+abbrev pub KeepsNoTarget : Option Kept → Type 0
+KeepsNoTarget (Some (kept.Target t)) = ⊥
+KeepsNoTarget other = Unit {0}
+
 -- a debugger is kept that is this
 abbrev pub KeepsDebugger : Option Kept → (Seat → Type 0) → Type 0
 KeepsDebugger (Some (kept.Debugger s)) P = P s

@@ -1,5 +1,6 @@
 pub mod Askings
 pub mod Captures
+pub mod Framing
 pub mod Handles
 pub mod KeptIn
 pub mod Numbers

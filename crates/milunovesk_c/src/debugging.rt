@@ -6,7 +6,7 @@ ghost use Rattle.jdwp_debugger.specs.declared.turning.Read.TheVariants as read;
 ghost use Rattle.jdwp_end.specs.Ends.{is_open, room_of};
 ghost use Rattle.jdwp_mirror.specs.KnownThreads.{count_in, is_held_in};
 ghost use Rattle.jdwp_wire.specs.Limits.{standard_limits};
-ghost use Rattle.milunovesk_c.specs.KeptIn.{AtDebugger, IsMade, KeepsDebugger, seated};
+ghost use Rattle.milunovesk_c.specs.KeptIn.{AtDebugger, IsMade, KeepsDebugger, KeepsNoDebugger, seated};
 ghost use Rattle.milunovesk_c.specs.Seats.{HasAskedBytes, HasLost, attached_where, new_seat, numbers_of, unanswered_told, widths_told};
 ghost use Rattle.milunovesk_c.specs.Numbers.{DONE, NO_MEMORY, REFUSED, SHORT_BUFFER};
 ghost use Rattle.milunovesk_c.specs.Telling.{HasTurned, IsGiven, told_bytes};
@@ -199,7 +199,7 @@ pub extern "C" fn mv_debugger_ask(
     ensures asked { AtDebugger handle.old.value result handle.new.value
         (λ s. KeepsDebugger handle.new.value
         (HasAskedBytes set number bytes.now s result ticket.new refused.new)) }
-    ensures untouched { IsFalse (result == DONE) → ticket.new ≡ 0 }
+    ensures untouched { KeepsNoDebugger handle.old.value → (ticket.new ≡ 0) × (refused.new ≡ 0) }
 {
     *ticket = 0;
     *refused = 0;
@@ -233,6 +233,7 @@ pub extern "C" fn mv_debugger_ask(
 pub extern "C" fn mv_debugger_turn(alloc: Global, handle: &mut Handle, out: &mut Heard) -> u32
     ensures turned { AtDebugger handle.old.value result handle.new.value
         (λ s. KeepsDebugger handle.new.value (HasTurned s result out.new)) }
+    ensures untouched { KeepsNoDebugger handle.old.value → out.new ≡ out.old }
 {
     match handle.take_out(alloc) {
         None => EMPTY,
@@ -267,8 +268,8 @@ fn turn(alloc: Global, seat: &mut Seat, out: &mut Heard) -> u32
 }
 
 /// Moves the data at this place of what the last turn told to the front of `out`, and says how many bytes they are. Nothing changes, so they
-/// may be asked for again. `NO_ITEM` where there are none, `SHORT_BUFFER` where `out` has too little room, `NO_MEMORY` where an allocation was refused;
-/// `FAULT` where they can't be written: none that a turn told are such.
+/// may be asked for again. `NO_ITEM` where there are none, `SHORT_BUFFER` where `out` has too little room, `NO_MEMORY` where an allocation was
+/// refused; `FAULT` where they can't be written: none that a turn told are such.
 #[unsafe(no_mangle)]
 pub extern "C" fn mv_debugger_data(
     alloc: Global,
@@ -280,6 +281,7 @@ pub extern "C" fn mv_debugger_data(
     ensures given { AtDebugger handle.old.value result handle.new.value
         (λ s. IsGiven (told_bytes s item) result out.old out.new needed.new
         × (handle.new.value ≡ Some (kept.Debugger s))) }
+    ensures untouched { KeepsNoDebugger handle.old.value → (out.new ≡ out.old) × (needed.new ≡ 0) }
 {
     *needed = 0;
     match handle.take_out(alloc) {
@@ -318,6 +320,7 @@ pub extern "C" fn mv_debugger_widths(
     ensures told { AtDebugger handle.old.value result handle.new.value (λ s. (result ≡ DONE)
         × (known.new ≡ is_some s.debugger.sizes) × (out.new ≡ widths_told s.debugger.sizes)
         × (handle.new.value ≡ Some (kept.Debugger s))) }
+    ensures untouched { IsFalse (result == DONE) → (known.new ≡ known.old) × (out.new ≡ out.old) }
 {
     match handle.take_out(alloc) {
         None => EMPTY,
@@ -352,6 +355,8 @@ pub extern "C" fn mv_debugger_thread(
         × (count.new ≡ unwrap_or (count_in s.debugger.mirror.threads thread) 0)
         × (held.new ≡ is_held_in s.debugger.mirror.threads thread)
         × (handle.new.value ≡ Some (kept.Debugger s))) }
+    ensures untouched { IsFalse (result == DONE)
+        → (known.new ≡ known.old) × (count.new ≡ count.old) × (held.new ≡ held.old) }
 {
     match handle.take_out(alloc) {
         None => EMPTY,
@@ -384,6 +389,7 @@ pub extern "C" fn mv_debugger_unanswered(
     ensures told { AtDebugger handle.old.value result handle.new.value (λ s. (result ≡ DONE)
         × (out.new ≡ unanswered_told (at_place (unanswered s.debugger.pending) place))
         × (handle.new.value ≡ Some (kept.Debugger s))) }
+    ensures untouched { IsFalse (result == DONE) → out.new ≡ out.old }
 {
     match handle.take_out(alloc) {
         None => EMPTY,
@@ -415,6 +421,7 @@ pub extern "C" fn mv_debugger_lose(
 ) -> u32
     ensures lost { AtDebugger handle.old.value result handle.new.value
         (λ s. KeepsDebugger handle.new.value (HasLost s result out.old out.new count.new)) }
+    ensures untouched { KeepsNoDebugger handle.old.value → (out.new ≡ out.old) × (count.new ≡ 0) }
 {
     *count = 0;
     match handle.take_out(alloc) {

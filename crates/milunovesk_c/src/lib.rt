@@ -12,6 +12,7 @@ ghost use Rattle.milunovesk_c.specs.Numbers.{DONE};
 mod capturing;
 mod copying;
 mod debugging;
+mod framed;
 mod handle;
 mod handled;
 mod heard;
@@ -29,6 +30,7 @@ pub use debugging::{
     mv_debugger_new, mv_debugger_take, mv_debugger_thread, mv_debugger_turn,
     mv_debugger_unanswered, mv_debugger_waiting, mv_debugger_widths,
 };
+pub use framed::{Framed, mv_next_packet};
 pub use handle::Handle;
 pub use handled::Handled;
 pub use heard::Heard;

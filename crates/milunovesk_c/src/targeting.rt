@@ -5,7 +5,7 @@ ghost use Rattle.jdwp_end.specs.Ends.{is_open, room_of};
 ghost use Rattle.jdwp_machine.specs.Meanings.{numbers};
 ghost use Rattle.jdwp_script_machine.specs.ScriptMeaning.{script_meaning};
 ghost use Rattle.jdwp_target.specs.Targets.{lost_target, with_fed, with_taken};
-ghost use Rattle.milunovesk_c.specs.KeptIn.{AtTarget, KeepsTarget};
+ghost use Rattle.milunovesk_c.specs.KeptIn.{AtTarget, KeepsNoTarget, KeepsTarget};
 ghost use Rattle.milunovesk_c.specs.Numbers.{DONE};
 ghost use Rattle.milunovesk_c.specs.Targets.{HasHandled, HasStepped, IsTargetMade, IsUnmade, MakesTarget, opened_where, step_number};
 ghost use Rattle.milunovesk_c.specs.declared.kept.Kept.TheVariants as kept;
@@ -21,9 +21,9 @@ use jdwp_target::{Stepped, Target, TargetFault, TargetOptions};
 use jdwp_value::ObjectId;
 use std::alloc::Global;
 
-/// Keeps a target over the machine of a script at a handle that keeps nothing. `LIVE` where something is kept; `NOT_UTF8` where the bytes are no text;
-/// `REFUSED` where `count_limit` is outside 1 to 2,147,483,647; `FAULT` with the number of the script's first fault, 21 to 26; `NO_MEMORY` where an
-/// allocation was refused: then nothing changes.
+/// Keeps a target over the machine of a script at a handle that keeps nothing. `LIVE` where something is kept; `NOT_UTF8` where the bytes are no
+/// text; `REFUSED` where `count_limit` is outside 1 to 2,147,483,647; `FAULT` with the number of the script's first fault, 21 to 26; `NO_MEMORY`
+/// where an allocation was refused: then nothing changes.
 #[unsafe(no_mangle)]
 pub extern "C" fn mv_target_new(
     alloc: Global,
@@ -228,6 +228,7 @@ pub extern "C" fn mv_target_waiting(
 pub extern "C" fn mv_target_turn(alloc: Global, handle: &mut Handle, out: &mut Handled) -> u32
     ensures turned { AtTarget handle.old.value result handle.new.value
         (λ t. KeepsTarget handle.new.value (HasHandled t result out.new)) }
+    ensures untouched { KeepsNoTarget handle.old.value → out.new ≡ out.old }
 {
     match handle.take_out(alloc) {
         None => EMPTY,
@@ -273,6 +274,7 @@ pub extern "C" fn mv_target_step(
 ) -> u32
     ensures stepped { AtTarget handle.old.value result handle.new.value
         (λ t. KeepsTarget handle.new.value (HasStepped thread t result stepped.new)) }
+    ensures untouched { IsFalse (result == DONE) → stepped.new ≡ 0 }
 {
     *stepped = 0;
     match handle.take_out(alloc) {
@@ -328,6 +330,7 @@ pub extern "C" fn mv_target_live(
         × (lives.new ≡ is_some (slice_get (script_meaning.live t.moment.machine) place))
         × (thread.new ≡ unwrap_or (slice_get (script_meaning.live t.moment.machine) place) 0)
         × (handle.new.value ≡ Some (kept.Target t))) }
+    ensures untouched { IsFalse (result == DONE) → (lives.new ≡ false) × (thread.new ≡ 0) }
 {
     *lives = false;
     *thread = 0;
@@ -363,6 +366,7 @@ pub extern "C" fn mv_target_thread(
         × (lives.new ≡ is_some (spec.count_of t.moment.state thread))
         × (count.new ≡ unwrap_or (spec.count_of t.moment.state thread) 0)
         × (handle.new.value ≡ Some (kept.Target t))) }
+    ensures untouched { IsFalse (result == DONE) → (lives.new ≡ false) × (count.new ≡ 0) }
 {
     *lives = false;
     *count = 0;

@@ -24,6 +24,18 @@ pub struct Handle {
 
 #[repr(C)]
 #[derive(Default)]
+pub struct Framed {
+    pub kind: u8,
+    pub set: u8,
+    pub number: u8,
+    pub error: u16,
+    pub fault: u16,
+    pub id: u32,
+    pub length: u32,
+}
+
+#[repr(C)]
+#[derive(Default)]
 pub struct Judged {
     pub yes: bool,
     pub fault: u16,
@@ -72,6 +84,8 @@ extern "C" {
     pub fn mv_version() -> u32;
     pub fn mv_kind(handle: *mut Handle, kind: *mut u8) -> u32;
     pub fn mv_free(handle: *mut Handle);
+
+    pub fn mv_next_packet(bytes: *const u8, length: usize, out: *mut Framed) -> u32;
 
     pub fn mv_check(text: *const u8, length: usize, out: *mut Judged) -> u32;
     pub fn mv_show(

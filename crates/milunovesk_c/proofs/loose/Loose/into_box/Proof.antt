@@ -84,10 +84,10 @@ into_box_spec 𝓤 𝓛 𝓜 𝓡 wired T A lawful_T lawful_A g table drop_T dro
     sets ! (of_opd ! (get_in ! (fld ! refl (stop !)) (sub ! 1 refl (whole !)))) refl fits $
     first ! $ blocks ! $ sets ! (of_opd ! (get ! refl)) refl fits $
     calls_at_last ! (framed 𝓤 𝓛.H 𝓜 world) call (met 𝓤 𝓛 𝓜 𝓡 (code.calls-std_alloc::boxed::Box::from_raw 𝓡.env wired) T A lawful_T lawful_A g table drop_A allocates frees_A) passed
-        (and_then ! (get ! refl) (and_then ! (get ! refl) (no_more !))) (λ u.
+    (and_then ! (get ! refl) (and_then ! (get ! refl) (no_more !))) (λ u.
     use1 𝓛 (later (some (λ (back : Back.Denot). (lifetimes ⊛ ‵ (Back.own_val back (u ∷ [])))
-        ⊛ some (λ (ends : Lasts (made_again.ended T A g table drop_A) κs passed.0.3). ‵ (lasts (made_again.ended T A g table drop_A) κs passed.0.3 ends)
-        ⊛ (raw (fact 𝓤 (back.value ≡ given.value)) ⊛ raw (fact 𝓤 (back.alloc ≡ a))))))) (id⊢ 𝓤 (call.post passed u)) $
+    ⊛ some (λ (ends : Lasts (made_again.ended T A g table drop_A) κs passed.0.3). ‵ (lasts (made_again.ended T A g table drop_A) κs passed.0.3 ends)
+    ⊛ (raw (fact 𝓤 (back.value ≡ given.value)) ⊛ raw (fact 𝓤 (back.alloc ≡ a))))))) (id⊢ 𝓤 (call.post passed u)) $
     await ! tt $ pick ! (λ back. split ! $ move ! (1 ∷ []) $ pick ! (λ _. split3 ! $ drop ! $ move ! (2 ∷ []) $ split ! $ move ! (1 ∷ []) $
     -- what comes back is a box, and is passed on as it is
     box_out boxed ! back (u ∷ []) (λ block' offset' h' lies' are_words' fits'.

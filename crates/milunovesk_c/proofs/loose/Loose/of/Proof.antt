@@ -80,10 +80,10 @@ of_spec 𝓤 𝓛 𝓜 𝓡 wired T A lawful_T lawful_A g table drop_T drop_A al
     enter ! world.C world.Λ body (word ∷ []) Post $ alloc_all ! (λ places. pass_all ! refl (typed, tt) $
     sets ! (of_opd ! (get ! refl)) refl typed $
     calls_at ! (framed 𝓤 𝓛.H 𝓜 world) call (met 𝓤 𝓛 𝓜 𝓡 (code.calls-std_alloc::boxed::Box::into_raw_with_allocator 𝓡.env wired) T A lawful_T lawful_A g table drop_A drop_T allocates frees_A frees_T) passed
-        (and_then ! (get ! refl) (no_more !)) (λ u.
+    (and_then ! (get ! refl) (no_more !)) (λ u.
     use1 𝓛 (later (some (λ (back : Ptr × A.Denot). (lifetimes ⊛ ‵ (Pair.own_val back (u ∷ [])))
-        ⊛ some (λ (_ : (Unit {0} × (Unit {0} × Unit {0})) × Unit {0}). ‵ (fsep (fsep ftrue (fsep ftrue ftrue)) ftrue)
-        ⊛ (raw (fact 𝓤 (back.1 ≡ a)) ⊛ ‵ (box_owns (g.dealloc_token a) R back.0 given.value)))))) (id⊢ 𝓤 _) $
+    ⊛ some (λ (_ : (Unit {0} × (Unit {0} × Unit {0})) × Unit {0}). ‵ (fsep (fsep ftrue (fsep ftrue ftrue)) ftrue)
+    ⊛ (raw (fact 𝓤 (back.1 ≡ a)) ⊛ ‵ (box_owns (g.dealloc_token a) R back.0 given.value)))))) (id⊢ 𝓤 _) $
     await ! tt $ pick ! (λ back. split ! $ move ! (1 ∷ []) $ pick ! (λ _. split3 ! $ drop ! $
     -- the allocator of the pair is the box's, and its pointer is that of a block again
     heard ! (back.1 ≡ a) (λ same.
