@@ -6,11 +6,11 @@
  * What the caller owes; nothing checks it, and the proofs rest on it:
  *   - a handle is all zero (`mv_handle h = {0};`) or as the last call left it. It is not written, and not copied and then used as two;
  *     to move it, copy it and forget the old place.
- *   - no pointer is null, where the length behind it is 0 neither. A buffer has at least as many bytes (tickets: elements) as the length
+ *   - no pointer is null, not even where the length behind it is 0. A buffer has at least as many bytes (tickets: elements) as the length
  *     behind it says. No two arguments of a call overlap. What a call writes to holds a value of its type before (a bool: false or true).
  *   - the memory of arguments is the call's until it returns. No call keeps a pointer to it.
  *   - calls on one handle come from the thread that made what it keeps, one after the other. Calls on different handles may overlap in time.
- *   - `malloc`, `realloc` and `free` are one allocator's. No call comes from a signal handler, nor from the forked child of a process
+ *   - `malloc`, `realloc` and `free` are one allocator's, and align as the C standard says. No call comes from a signal handler, nor from the forked child of a process
  *     with threads.
  *
  * What holds whatever else the caller does: a call at a handle that is all zero or was freed answers MV_EMPTY, a second mv_free does nothing, a
@@ -18,7 +18,17 @@
  * allocation answers MV_NO_MEMORY, and nothing has changed. No bytes from a peer, and no text, are too bad to be given to a call.
  *
  * Each call but mv_free and mv_version answers one of the numbers below. What it tells beside is all zero, and a buffer is as it was, where it
- * answers another number than MV_DONE, unless its comment says otherwise. Numbers of faults are those of docs/PROGRAM.md.
+ * answers another number than MV_DONE, unless its comment says otherwise.
+ *
+ * Faults, by the numbers that the repository's programs print:
+ *   frames     1 a length below 11   2 a length above 65,536   3 flags other than 00 and 80   4 not the handshake
+ *   data       11 too few bytes   12 bytes left over   13 a bad tag   14 a negative count   15 a string that is not UTF-8   16 a width that is not 1 to 8
+ *   scripts    21 not JSON   22 a member is missing or of another type   23 an id twice   24 an id too wide   25 a bad reference   26 a limit is passed
+ *   refusals   31 the widths of ids are not known   32 too much waits   33 the session is closed   34 too long   36 no such command, or other data
+ *   debugger   41 no message begins so   42 a reply to no command   43 a reply whose data do not read   44 a fifth composite before the widths of ids
+ *              45 a composite that no target may send, or another command   46 no memory
+ *   captures   51 not a line of a capture   53 the id of a command that waits   54 a reply to no command   55 data in a reply with an error
+ *              56 a message of the other end; and those of frames and data
  */
 #ifndef MILUNOVESK_H
 #define MILUNOVESK_H
@@ -156,7 +166,8 @@ uint32_t mv_debugger_turn(mv_handle *handle, mv_heard *out);
 
 /* Moves the data of an item of what the last turn read, from 0, to the front of `out`, `needed` bytes: the data of a reply in the layout
  * of its command, or those of a composite event. Booleans are 0 or 1, all else is as it came. Nothing changes: an item may be asked for again.
- * MV_SHORT_BUFFER where `room` is below `needed`, MV_NO_ITEM, MV_NO_MEMORY. */
+ * MV_SHORT_BUFFER where `room` is below `needed`, which is told then, too; MV_NO_ITEM; MV_NO_MEMORY; and MV_FAULT where the data can't be written: the
+ * contract allows it, and no test has met it. */
 uint32_t mv_debugger_data(mv_handle *handle, size_t item, uint8_t *out, size_t room, size_t *needed);
 
 /* How many bytes each kind of id has, 1 to 8; all 0 while that is not known. */
