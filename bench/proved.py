@@ -135,6 +135,7 @@ jdwp_program | attach_session ran; Outcome::of_session; Fault::status status; li
 jdwp_words | read runs keeps | Words run a plan only where they name `attach` or `pair`, and write to no file that they read, by name
 jdwp_files | run bound leaves | The status, 4 at most, says what is on standard output, but for `attach` and `pair`
 jdwp_pipe | write_out; read_and_feed | All that waits is written, in order, or the failure told; one read feeds exactly what came
+milunovesk_c | mv_free; mv_debugger_new; mv_debugger_turn; mv_target_turn; mv_check | From C: a call at a handle that is all zero or freed answers EMPTY, at one of the other kind OTHER_KIND, and changes nothing; the others do to what is kept what the library's calls do; five functions are proved by hand
 jdwp_end | End::front front; End::take_off; finds_first_message; SessionEnd taken_twice | One end, of either kind: each call is one equation on the bytes and the phase
 """
 
@@ -158,7 +159,7 @@ The toolchain of the kit (its prover, its compilers, LLVM), the C library, and t
 """
 
 BLOCK = re.compile(r"(?:pub(?:\([^)]*\))? )?(trait|impl)\b(?:<.*?>(?= ))?\s*(.*)")
-FUNCTION = re.compile(r"\s*(pub )?(?:pub\([^)]*\) )?(?:final )?fn (\w+)")
+FUNCTION = re.compile(r'\s*(pub )?(?:pub\([^)]*\) )?(?:final )?(?:extern "C" )?fn (\w+)')
 CLAUSE = re.compile(r"\s*ensures\*?(?: (\w+))? \{")
 LAW = re.compile(r"\s+ghost (\w+):")
 
