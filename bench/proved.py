@@ -42,6 +42,11 @@ jdwp_link | Link::session stands faultless | All of this holds of a link that on
 jdwp_link | deliver taken fed | What leaves one end comes to the other, as much as it has room for, and nothing else changes
 jdwp_pair | pair by_plan held ran failed; pair_session by_rounds | `pair` carries a plan out round by round, each line as soon as it is due; what is printed is what was told, or a beginning where the output failed; it ends for its reason only, and whom the debugger then holds is suspended, as above
 
+## Both ends in two programs
+
+jdwp_across | holds_in_two_programs; merges_as_worked_out | The first three rows above and that of commands, of every merge of the calls of both, over a connection that brings the bytes in order; with equal limits and sessions that begin at both together
+jdwp_across | suspends_what_is_held | A thread that the debugger holds is suspended in the other program's target now, unless as above
+
 ## The model of both ends, for every lawful machine and any list of events
 
 jdwp_model | holds_only_suspended_threads; mirrors_what_was_seen; counts_at_most; frames_read_stay_true; settles_each_command_once; tells_what_was_given | What the rows above say of a link
@@ -61,7 +66,7 @@ jdwp_debuggee | starts_with_least_thread |
 jdwp_apart | shows_only_suspended_threads; shows_what_stays_suspended | A live thread of which the debugger is sure is suspended now, its count no less than is sure, whatever is under way in whatever order; and without a break
 jdwp_apart | shows_each_suspended_thread; nobody_is_sure_after_a_resume_in_vain | When what is sure is the very count; after a Resume in vain and one event no rule can tell
 jdwp_apart | shows_frames_that_stay_true | What was answered of a thread's stack frames since stays true while it is surely suspended without a break and no slot of it is written
-jdwp_watch | Watch::on_ask; Watch::on_answer; Watch::sure | `Watch` is that rule in code, exact up to 2^62 packets, where it answers `NoMemory` and has changed nothing. The debugger does not use it, and no clause says that each thread that is surely suspended is among `threads`
+jdwp_watch | Watch::on_ask; Watch::on_answer; Watch::on_composite; Watch::sure value covered; Watch::is_sure suspended; Watch::threads sure | `Watch` is that rule in code, for 2^62 packets: a live thread that it is sure of is suspended in each target whose debugger asked and read what it was told, its count no less, and is among `threads`. It keeps nothing of how threads end
 jdwp_orders | acts_in_one_order; is_sure_of_suspended_threads_only | While no reply is deferred the model of both ends is such a target: what is sure is so, while the machine lives, no loss was noticed and only what a target here carries out was asked, Dispose and Exit apart
 
 ## The target, over any lawful machine
@@ -90,6 +95,7 @@ jdwp_event | composites_have_their_layout; Modifier::of_entry; Composite::of_dat
 jdwp_debugger | Debugger::turn turns few memory | A turn tells and leaves what its definition says, whatever bytes came: each fault exactly where no target may send that, with the mirror emptied; want of memory changes nothing, and comes never at a fault of the bytes or a reply with an error
 jdwp_debugger | Debugger::ask ok err | The first refusal that applies, and nothing has changed; else the command leaves under the next free id, encoded, within the limit
 jdwp_debugger | Debugger::session ran mirror; goes_on_at_each_call | After any calls the mirror is what the packets read in the session say, each once and in order, and empty after a refusal, a close or a loss; IDSizes and the commands asked are all that it sends, under free ids
+jdwp_debugger | Debugger::with_order; Debugger::turn turns | With `Order::Apart`, for such targets: no composite is refused for a count, VM_DEATH is taken as asked for, an error with data as its error, and the mirror has event requests alone
 jdwp_debugger | Debugger::session pending distinct parked alone | No more commands wait than the limits allow, no two under one id; at most four composites wait for the widths of ids
 jdwp_debugger | Debugger::lose; Debugger::attach when; Debugger::has_front; Debugger::unanswered | A loss answers all tickets that wait, in the order asked; the other calls are one equation each
 jdwp_debugger | reads_what_was_asked; reads_what_was_answered; reads_what_was_reported | Each end reads what the other's calls encoded
@@ -129,6 +135,7 @@ jdwp_program | attach_session ran; Outcome::of_session; Fault::status status; li
 jdwp_words | read runs keeps | Words run a plan only where they name `attach` or `pair`, and write to no file that they read, by name
 jdwp_files | run bound leaves | The status, 4 at most, says what is on standard output, but for `attach` and `pair`
 jdwp_pipe | write_out; read_and_feed | All that waits is written, in order, or the failure told; one read feeds exactly what came
+milunovesk_c | mv_free; mv_debugger_new; mv_debugger_turn; mv_target_turn; mv_check | From C: a call at a handle that is all zero or freed answers EMPTY, at one of the other kind OTHER_KIND, and changes nothing; the others do to what is kept what the library's calls do; five functions are proved by hand
 jdwp_end | End::front front; End::take_off; finds_first_message; SessionEnd taken_twice | One end, of either kind: each call is one equation on the bytes and the phase
 """
 
@@ -152,7 +159,7 @@ The toolchain of the kit (its prover, its compilers, LLVM), the C library, and t
 """
 
 BLOCK = re.compile(r"(?:pub(?:\([^)]*\))? )?(trait|impl)\b(?:<.*?>(?= ))?\s*(.*)")
-FUNCTION = re.compile(r"\s*(pub )?(?:pub\([^)]*\) )?(?:final )?fn (\w+)")
+FUNCTION = re.compile(r'\s*(pub )?(?:pub\([^)]*\) )?(?:final )?(?:extern "C" )?fn (\w+)')
 CLAUSE = re.compile(r"\s*ensures\*?(?: (\w+))? \{")
 LAW = re.compile(r"\s+ghost (\w+):")
 

@@ -20,7 +20,7 @@ pub(crate) const VM_START: &str =
 
 /// What a turn tells.
 #[derive(Clone, Copy, Debug, PartialEq, Eq)]
-enum Tells {
+pub(crate) enum Tells {
     Nothing,
     Hello,
     Parked,
@@ -48,7 +48,7 @@ fn outcome(told: &Result<Read, DebuggerFault>) -> Tells {
 
 /// A command.
 #[derive(Clone, Copy)]
-enum Wanted {
+pub(crate) enum Wanted {
     /// Without data.
     Plain((u8, u8)),
     /// VirtualMachine.Exit with this status.
@@ -106,7 +106,7 @@ fn clear(rt: &impl Abort, alloc: Global, kind: u8, id: i32) -> Command {
 
 /// What is done with a debugger, and what comes of it.
 #[derive(Clone, Copy)]
-enum Act {
+pub(crate) enum Act {
     /// Whether a session begins.
     Attaches(bool),
     /// These bytes come, and a turn tells this; what it read are packets with these ids, or the handshake.
@@ -274,8 +274,17 @@ fn first_wrong(
 
 /// Of each of these acts comes what it says, with a debugger whose first packet has this id.
 fn goes_as_told(rt: &impl Abort, alloc: Global, first_id: u32, acts: &[Act]) {
-    let mut debugger = debugger(rt, alloc, first_id);
-    let found = first_wrong(rt, alloc, &mut debugger, acts);
+    goes_on_as_told(rt, alloc, &mut debugger(rt, alloc, first_id), acts);
+}
+
+/// Of each of these acts comes what it says.
+pub(crate) fn goes_on_as_told(
+    rt: &impl Abort,
+    alloc: Global,
+    debugger: &mut Debugger,
+    acts: &[Act],
+) {
+    let found = first_wrong(rt, alloc, debugger, acts);
     expect_same(rt, &found, &None);
 }
 

@@ -234,6 +234,26 @@ fn threads_that_begin_are_counted_from_then(rt: HostRuntime) {
 }
 
 #[test]
+fn threads_that_were_named_are_shown_in_order(rt: HostRuntime) {
+    let mut watch = of_first(&rt, rt.alloc(), false);
+    let steps = [
+        Step::Asks(Asked::SuspendCount(2)),
+        Step::IsTold(2, 1),
+        Step::Invokes(Invocation::ByThread(ObjectId(1))),
+        STOPPED,
+    ];
+    for next in steps {
+        take_step(&rt, rt.alloc(), &mut watch, next);
+    }
+    let mut threads = watch.threads();
+    expect_same(&rt, &threads.len(), &3);
+    for id in 0..3 {
+        expect_same(&rt, &threads.next(), &Some(ObjectId(id)));
+    }
+    expect_same(&rt, &threads.next(), &None);
+}
+
+#[test]
 fn composites_one_by_one_leave_one_event_unknown(rt: HostRuntime) {
     let own = Step::Reads(EVENT_THREAD, 0, 0);
     expect_spaced(&rt, rt.alloc(), &[RESUMES, RESUMED, own], (0, 0));

@@ -75,6 +75,7 @@ pub cut-again : {S : Type 0} (m : Meaning S) (settings : Settings) (w : Widths) 
 cut-again m settings w l x a b t_in t_out t_told d_in d_out d_told s lost to from = record {
   target = record { same_settings = s.target.same_settings; limits = s.target.limits; sizes = s.target.sizes; now = s.target.now; phase = s.target.phase; lost = lost ∙ s.target.lost; deferring = s.target.deferring };
   debugger = record {
+    order = s.debugger.order;
     limits = s.debugger.limits;
     phase = s.debugger.phase;
     tickets = s.debugger.tickets;

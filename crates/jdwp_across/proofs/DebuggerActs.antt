@@ -159,6 +159,7 @@ parts-another : {S : Type 0} (m : Meaning S) (settings : Settings) (w : Widths) 
 parts-another m settings w t d x last id s = record {
   target = s.target;
   debugger = record {
+    order = s.debugger.order;
     limits = s.debugger.limits;
     phase = s.debugger.phase;
     tickets = s.debugger.tickets;

@@ -35,7 +35,7 @@ use Rattle.jdwp_debugger.specs.declared.turning.Read.TheVariants as read
 use Rattle.jdwp_debugger.specs.Asking.{HasAsked}
 use Rattle.jdwp_debugger.specs.Debuggers.{Asked, Debugger, Parked as Waiting, attached, with_taken}
 use Rattle.jdwp_debugger.specs.DebuggerTurns.{Enters, HandlesAt, Told, TurnsAt, closed_where, command_at, measured_where, reading_of, reports, read_meaning}
-use Rattle.jdwp_debugger.specs.News.{News, Waits, Happens, Answers, Measures, Reading, answer_in, answer_says, composite_in, composites_in, event_says, event_says_by, place_of, reply_at, reply_to, says, sizes_say, unless_bad, widths_by, with_composites, with_first}
+use Rattle.jdwp_debugger.specs.News.{News, Waits, Happens, Answers, Measures, Reading, answer_by, answer_says, composite_in, composites_in, event_says, event_says_by, place_of, reply_at, reply_to, says, sizes_say, unless_bad, widths_by, with_composites, with_first}
 use Rattle.jdwp_attach.specs.PlanWaits.{Counts, HandlesComposites, HandlesFewer, composites_of, is_composite, is_composite_kind}
 
 -- ---- what packets say
@@ -113,7 +113,7 @@ answer-so parked place None (Some a) news e = sizes-so parked place a (widths_in
 
 reply-so : (r : Reading) (e : ErrorCode) (bytes : List ℕ) (place : ℕ) (found : Option Asked) (news : News) → reply_to r e bytes place found ≡ Ok news → IsAnswer r.parked news
 reply-so r e bytes place None news h = absurd cc
-reply-so r e bytes place (Some asked) news h = answer-so r.parked place asked.ticket (unless_bad asked.command (answer_in (widths_by r.sizes) asked.command e bytes)) news h
+reply-so r e bytes place (Some asked) news h = answer-so r.parked place asked.ticket (unless_bad asked.command (answer_by r.order (widths_by r.sizes) asked.command e bytes)) news h
 
 placed-so : (r : Reading) (e : ErrorCode) (bytes : List ℕ) (place : Option ℕ) (news : News) → reply_at r e bytes place ≡ Ok news → IsAnswer r.parked news
 placed-so r e bytes None news h = absurd cc

@@ -31,7 +31,7 @@ use Rattle.jdwp_debugger.specs.Debuggers.{Asked, Debugger, Parked as Waiting}
 use Rattle.jdwp_debugger.specs.DebuggerTurns.{Enters, TurnsAt, Told, closed_where, command_at, greeted, measured_where, reading_of, reports, sizes_header, read_meaning}
 use Rattle.jdwp_mirror.specs.Messages.{Reply, Report, id_sizes}
 use Rattle.jdwp_mirror.specs.Mirror.{ends}
-use Rattle.jdwp_debugger.specs.News.{EIGHT, News, Waits, Happens, Answers, Measures, Reading, answer_says, event_says, event_says_by, place_of, reply_at, reply_to, says, sizes_say, unless_bad, answer_in, widths_by, with_composites, composites_in}
+use Rattle.jdwp_debugger.specs.News.{EIGHT, News, Waits, Happens, Answers, Measures, Reading, answer_says, event_says, event_says_by, place_of, reply_at, reply_to, says, sizes_say, unless_bad, answer_by, widths_by, with_composites, composites_in}
 use Rattle.jdwp_mirror.specs.Widths.{widths_in}
 use Rattle.jdwp_plan.specs.declared.plan_line.PlanLine.{PlanLine}
 use Rattle.jdwp_plan.specs.declared.plan_line.PlanLine.TheVariants as line
@@ -261,7 +261,7 @@ reply-of : (r : Reading) (e : ErrorCode) (bytes : List ℕ) (at : ℕ) (found : 
     → reply_to r e bytes at found ≡ Ok (Measures place answer w cs) → (asked : Asked) × (slice_get r.pending place ≡ Some asked) × (asked.ticket ≡ None)
 reply-of r e bytes at None place answer w cs there h = absurd cc
 reply-of r e bytes at (Some asked) place answer w cs there h =
-    let a = measures-of r.parked at asked.ticket (unless_bad asked.command (answer_in (widths_by r.sizes) asked.command e bytes)) place answer w cs h in
+    let a = measures-of r.parked at asked.ticket (unless_bad asked.command (answer_by r.order (widths_by r.sizes) asked.command e bytes)) place answer w cs h in
     (asked, rw (← a.0) there, a.1)
 
 reply-placed : (r : Reading) (e : ErrorCode) (bytes : List ℕ) (at : Option ℕ) (place : ℕ) (answer : Answer) (w : Widths) (cs : List CompositeMeaning)

@@ -23,7 +23,7 @@ use Rattle.jdwp_debugger.specs.DebuggerTurns.{Enters, HandlesAt, ReadsAt, Told, 
 use Rattle.jdwp_debugger.specs.DebuggerTurns as tell
 use Rattle.jdwp_mirror.specs.Messages.{Reply, Report}
 use Rattle.jdwp_mirror.specs.Mirror.{ends}
-use Rattle.jdwp_debugger.specs.News.{News, Waits, Happens, Answers, Measures, Reading, answer_says, event_says, event_says_by, place_of, reply_at, reply_to, says, sizes_say, unless_bad, answer_in, widths_by, with_composites, composites_in}
+use Rattle.jdwp_debugger.specs.News.{News, Waits, Happens, Answers, Measures, Reading, answer_says, event_says, event_says_by, place_of, reply_at, reply_to, says, sizes_say, unless_bad, answer_by, widths_by, with_composites, composites_in}
 use Rattle.jdwp_mirror.specs.Widths.{widths_in}
 use Rattle.jdwp_attach.specs.PlanRuns.{TellsEnd}
 
@@ -185,7 +185,7 @@ reply-of : (r : Reading) (e : ErrorCode) (bytes : List ℕ) (at : ℕ) (found : 
     → reply_to r e bytes at found ≡ Ok (Answers place ticket answer) → (asked : Asked) × (slice_get r.pending place ≡ Some asked) × (asked.ticket ≡ Some (record { 0 = ticket }))
 reply-of r e bytes at None place ticket answer there h = absurd cc
 reply-of r e bytes at (Some asked) place ticket answer there h =
-    let a = answer-of r.parked at asked.ticket (unless_bad asked.command (answer_in (widths_by r.sizes) asked.command e bytes)) place ticket answer h in
+    let a = answer-of r.parked at asked.ticket (unless_bad asked.command (answer_by r.order (widths_by r.sizes) asked.command e bytes)) place ticket answer h in
     (asked, rw (← a.0) there, a.1)
 
 reply-at : (r : Reading) (e : ErrorCode) (bytes : List ℕ) (at : Option ℕ) (place ticket : ℕ) (answer : Answer)

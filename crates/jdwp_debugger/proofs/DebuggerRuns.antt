@@ -23,6 +23,7 @@ use Rattle.jdwp_debugger.specs.Asking.{EncodesCommand, HasAsked, asked, command_
 use Rattle.jdwp_debugger.specs.declared.faults.DebuggerFault.{DebuggerFault}
 use Rattle.jdwp_debugger.specs.declared.faults.DebuggerFault.TheVariants as code
 use Rattle.jdwp_debugger.specs.declared.heads.Head.TheVariants as head
+use Rattle.jdwp_debugger.specs.declared.order.Order.{Order}
 use Rattle.jdwp_debugger.specs.declared.turning.Read.{Read}
 use Rattle.jdwp_debugger.specs.Debuggers.{Asked, Debugger}
 use Rattle.jdwp_debugger.specs.DebuggerTurns.{Enters, FailsAt, LearnedAll, Told, TurnsAt, closed_debugger, closed_where, command_at, greeted, measured_where, news_refusal, reading_of, refused, reply_head, reports, sizes_header, read_meaning, with_read, with_sizes}
@@ -52,12 +53,12 @@ more : (by : Act → List Message) (acts : List Act) (act : Act) → flat_map by
 more by acts act = flat_map-append by acts (act ∷ []) ∙ ap (λ (x : List Message). flat_map by acts ++ x) (append-nil (by act))
 
 -- a session goes on
-goes-on : (old new : End) (t u : ℕ) (before after : Reading) (m n : Mirror) (act : Act) → (r : HasRun old t before m) → MayCome old.phase (outstanding r.acts) act → MayDo (known r.before r.acts) act
+goes-on : {o : Order} (old new : End) (t u : ℕ) (before after : Reading) (m n : Mirror) (act : Act) → (r : HasRun o old t before m) → MayCome old.phase (outstanding r.acts) act → MayDo o (known o r.before r.acts) act
     → new.phase ≡ phase_after old.phase act → (is_open new ≡ true → ids_of after.pending ≡ outstanding_after (outstanding r.acts) act) → Carries new (read r.acts ++ read_by act)
-    → new.session.enqueued ≡ old.session.enqueued ++ stream (put_by act) → u ≡ (known_after (known r.before r.acts) act).tickets
-    → (is_open new ≡ true → after ≡ (known_after (known r.before r.acts) act).reading) → LearnedAll empty_mirror (heard (known_after (known r.before r.acts) act).history) n → HasRun new u after n
-goes-on old new t u before after m n act r may does phased waits carries enqueued given knows learned =
-    let next = sym (known-more r.before r.acts act) in
+    → new.session.enqueued ≡ old.session.enqueued ++ stream (put_by act) → u ≡ (known_after (known o r.before r.acts) act).tickets
+    → (is_open new ≡ true → after ≡ (known_after (known o r.before r.acts) act).reading) → LearnedAll o empty_mirror (heard (known_after (known o r.before r.acts) act).history) n → HasRun o new u after n
+goes-on {o = o} old new t u before after m n act r may does phased waits carries enqueued given knows learned =
+    let next = sym (known-more o r.before r.acts act) in
     record {
       acts = r.acts ++ act ∷ [];
       in_order = order-more phase.Closed [] r.acts act r.in_order (subst (λ (p : Phase). MayCome p (outstanding r.acts) act) r.phase may);
@@ -68,16 +69,16 @@ goes-on old new t u before after m n act r may does phased waits carries enqueue
           enqueued
           ∙ (ap (λ (x : List ℕ). x ++ stream (put_by act)) r.enqueued ∙ sym (ap stream (more put_by r.acts act) ∙ stream-append (put r.acts) (put_by act)));
       before = r.before;
-      taken = may-more (nothing r.before) r.acts act r.taken does;
+      taken = may-more o (nothing o r.before) r.acts act r.taken does;
       given = given ∙ ap (λ (k : Knowledge). k.tickets) next;
       knows = λ opened. knows opened ∙ ap (λ (k : Knowledge). k.reading) next;
-      learned = subst (λ (k : Knowledge). LearnedAll empty_mirror (heard k.history) n) next learned;
+      learned = subst (λ (k : Knowledge). LearnedAll o empty_mirror (heard k.history) n) next learned;
     }
 
 -- ---- calls by which nothing is read or put
 
 -- before the first session
-pub ran-new : (limits : Limits) (tickets : ℕ) (reading : Reading) (mirror : Mirror) → mirror ≡ empty_mirror → HasRun (new_end limits) tickets reading mirror
+pub ran-new : {o : Order} (limits : Limits) (tickets : ℕ) (reading : Reading) (mirror : Mirror) → mirror ≡ empty_mirror → HasRun o (new_end limits) tickets reading mirror
 ran-new limits tickets reading mirror none = record {
   acts = [];
   in_order = tt;
@@ -93,7 +94,7 @@ ran-new limits tickets reading mirror none = record {
 }
 
 -- an end at which bytes came or left
-moved : (old new : End) (t : ℕ) (reading : Reading) (m : Mirror) → (r : HasRun old t reading m) → new.phase ≡ old.phase → new.session.enqueued ≡ old.session.enqueued → Carries new (read r.acts) → HasRun new t reading m
+moved : {o : Order} (old new : End) (t : ℕ) (reading : Reading) (m : Mirror) → (r : HasRun o old t reading m) → new.phase ≡ old.phase → new.session.enqueued ≡ old.session.enqueued → Carries new (read r.acts) → HasRun o new t reading m
 moved old new t reading m r phased enqueued carries =
     let opened : is_open new ≡ is_open old = ap is_open_phase phased in
     record {
@@ -118,15 +119,15 @@ fed-so true end bytes messages is none c = carries-fed end messages bytes is c
 fed-so false end bytes messages is none c = subst (λ (x : List ℕ). Carries (with_fed x end) messages) (sym (none refl)) (with-nothing end messages c)
 
 -- a closed end takes nothing
-pub ran-fed : (end : End) (t : ℕ) (reading : Reading) (m : Mirror) (bytes : List ℕ) → (is_open end ≡ false → bytes ≡ []) → HasRun end t reading m → HasRun (with_fed bytes end) t reading m
+pub ran-fed : {o : Order} (end : End) (t : ℕ) (reading : Reading) (m : Mirror) (bytes : List ℕ) → (is_open end ≡ false → bytes ≡ []) → HasRun o end t reading m → HasRun o (with_fed bytes end) t reading m
 ran-fed end t reading m bytes none r = moved end (with_fed bytes end) t reading m r refl refl (fed-so (is_open end) end bytes (read r.acts) refl none r.carries)
 
-pub ran-taken : (end : End) (t : ℕ) (reading : Reading) (m : Mirror) (n : ℕ) → n ≤ length end.outgoing → HasRun end t reading m → HasRun (with_taken (take n end.outgoing) end) t reading m
+pub ran-taken : {o : Order} (end : End) (t : ℕ) (reading : Reading) (m : Mirror) (n : ℕ) → n ≤ length end.outgoing → HasRun o end t reading m → HasRun o (with_taken (take n end.outgoing) end) t reading m
 ran-taken end t reading m n le r = moved end (with_taken (take n end.outgoing) end) t reading m r refl refl (carries-taken end (read r.acts) n le r.carries)
 
 -- ---- a session begins, and ends
 
-pub ran-attached : (end : End) (t : ℕ) (reading : Reading) (m : Mirror) → reading ≡ (nothing t).reading → m ≡ empty_mirror → HasRun (with_enqueued handshake_bytes (opened_end end)) t reading m
+pub ran-attached : {o : Order} (end : End) (t : ℕ) (reading : Reading) (m : Mirror) → reading ≡ (nothing o t).reading → m ≡ empty_mirror → HasRun o (with_enqueued handshake_bytes (opened_end end)) t reading m
 ran-attached end t reading m unread unlearned = record {
   acts = Attaches ∷ [];
   in_order = (refl, tt);
@@ -142,12 +143,12 @@ ran-attached end t reading m unread unlearned = record {
 }
 
 -- what is known at a closed end is nothing to its run
-pub ran-closed : (end : End) (t : ℕ) (before after : Reading) (m n : Mirror) → n ≡ empty_mirror → HasRun end t before m → HasRun (closed_end end) t after n
+pub ran-closed : {o : Order} (end : End) (t : ℕ) (before after : Reading) (m n : Mirror) → n ≡ empty_mirror → HasRun o end t before m → HasRun o (closed_end end) t after n
 ran-closed end t before after m n none r =
     goes-on end (closed_end end) t t before after m n Ends r tt tt refl (λ e. absurd cc) (rw (append-nil (read r.acts)) (carries-closed end (read r.acts) r.carries)) (sym (append-nil end.session.enqueued)) r.given
     (λ e. absurd cc) none
 
-pub ran-lost : (end : End) (t : ℕ) (before after : Reading) (m n : Mirror) → n ≡ empty_mirror → HasRun end t before m → HasRun (lost_end end) t after n
+pub ran-lost : {o : Order} (end : End) (t : ℕ) (before after : Reading) (m n : Mirror) → n ≡ empty_mirror → HasRun o end t before m → HasRun o (lost_end end) t after n
 ran-lost end t before after m n none r =
     goes-on end (lost_end end) t t before after m n Ends r tt tt refl (λ e. absurd cc) (rw (append-nil (read r.acts)) (carries-lost end (read r.acts) r.carries)) (sym (append-nil end.session.enqueued)) r.given
     (λ e. absurd cc) none
@@ -179,16 +180,16 @@ learned_from (Answers place ticket answer) m = m
 learned_from (Measures place answer w cs) m = empty_mirror
 
 -- what is heard is added to what was heard, and of the widths of ids nothing was heard before
-heard-onto : (n : News) (header : Header) (pending : List Asked) (before : ℕ) (acts : List Act) (old new : Mirror) → InOrder phase.Closed [] acts → MayDoAll (nothing before) acts → phase_of acts ≡ phase.Established
-    → Backs (known before acts).reading header.id header.kind n → LearnedAll empty_mirror (heard (known before acts).history) old → LearnedAll (learned_from n old) (messages_of n pending) new
-    → LearnedAll empty_mirror (heard (known before acts).history ++ messages_of n pending) new
-heard-onto (Waits bytes) header pending before acts old new order may phased b was now = learned-onto (heard (known before acts).history) [] empty_mirror old new was now
-heard-onto (Happens c) header pending before acts old new order may phased b was now = learned-onto (heard (known before acts).history) (Report c ∷ []) empty_mirror old new was now
-heard-onto (Answers place ticket answer) header pending before acts old new order may phased b was now =
-    learned-onto (heard (known before acts).history) (messages_of (Answers place ticket answer) pending) empty_mirror old new was now
-heard-onto (Measures place answer w cs) header pending before acts old new order may phased b was now =
-    let first = measures-first before acts header place answer w cs order may phased b in
-    subst (λ (ms : List heards.Message). LearnedAll empty_mirror (ms ++ messages_of (Measures place answer w cs) pending) new) (sym first) now
+heard-onto : (o : Order) (n : News) (header : Header) (pending : List Asked) (before : ℕ) (acts : List Act) (old new : Mirror) → InOrder phase.Closed [] acts → MayDoAll o (nothing o before) acts → phase_of acts ≡ phase.Established
+    → Backs (known o before acts).reading header.id header.kind n → LearnedAll o empty_mirror (heard (known o before acts).history) old → LearnedAll o (learned_from n old) (messages_of n pending) new
+    → LearnedAll o empty_mirror (heard (known o before acts).history ++ messages_of n pending) new
+heard-onto o (Waits bytes) header pending before acts old new order may phased b was now = learned-onto o (heard (known o before acts).history) [] empty_mirror old new was now
+heard-onto o (Happens c) header pending before acts old new order may phased b was now = learned-onto o (heard (known o before acts).history) (Report c ∷ []) empty_mirror old new was now
+heard-onto o (Answers place ticket answer) header pending before acts old new order may phased b was now =
+    learned-onto o (heard (known o before acts).history) (messages_of (Answers place ticket answer) pending) empty_mirror old new was now
+heard-onto o (Measures place answer w cs) header pending before acts old new order may phased b was now =
+    let first = measures-first o before acts header place answer w cs order may phased b in
+    subst (λ (ms : List heards.Message). LearnedAll o empty_mirror (ms ++ messages_of (Measures place answer w cs) pending) new) (sym first) now
 
 left-is : (header : Header) (n : News) (r : Reading) → (reading_after header n r).pending ≡ left_by n r.pending
 left-is header (Waits bytes) r = refl
@@ -198,10 +199,10 @@ left-is header (Measures place answer w cs) r = refl
 
 -- what a packet says settles the command that it answers, and is heard
 pub ran-said : (d : Debugger) (header : Header) (body : List ℕ) (used : ℕ) (n : News) (m : Mirror) → IsBytes d.end.incoming → front_of d.end ≡ Whole (Packet header body) used → says (reading_of d) header.id header.kind body ≡ Ok n
-    → news_refusal d.mirror n ≡ None → LearnedAll (learned_from n d.mirror) (messages_of n d.pending) m → Ran d
-    → HasRun (with_handled (Packet header body) used d.end) d.tickets (reading_after header n (reading_of d)) m
+    → news_refusal d.order d.mirror n ≡ None → LearnedAll d.order (learned_from n d.mirror) (messages_of n d.pending) m → Ran d
+    → HasRun d.order (with_handled (Packet header body) used d.end) d.tickets (reading_after header n (reading_of d)) m
 ran-said d header body used n m fits front said fair learned r =
-    let k = known r.before r.acts in
+    let k = known d.order r.before r.acts in
     let opened = front-open d.end (Packet header body) used fits front in
     let established = packet-due d.end.limits.packet d.end.phase header body (front-due d.end (Packet header body) used fits front) in
     let same = r.knows opened in
@@ -211,13 +212,13 @@ ran-said d header body used n m fits front said fair learned r =
     let settled =
     subst (λ (x : List ℕ). (ids_of (left_by n d.pending) ≡ outstanding_after x (Reads header body)) × IsAwaited header.kind header.id x) (r.waits opened) s in
     let entered : known_after k (Reads header body) ≡ with_news header n k = ap (λ (x : Result News DebuggerFault). with_said header x k) said_so in
-    let told = subst (λ (x : Reading). LearnedAll (learned_from n d.mirror) (messages_of n x.pending) m) same learned in
-    let all = heard-onto n header k.reading.pending r.before r.acts d.mirror m r.in_order r.taken (sym r.phase ∙ established) b r.learned told in
-    let once = subst (λ (ms : List heards.Message). LearnedAll empty_mirror ms m) (sym (heard-more k.history (messages_of n k.reading.pending))) all in
+    let told = subst (λ (x : Reading). LearnedAll d.order (learned_from n d.mirror) (messages_of n x.pending) m) same learned in
+    let all = heard-onto d.order n header k.reading.pending r.before r.acts d.mirror m r.in_order r.taken (sym r.phase ∙ established) b r.learned told in
+    let once = subst (λ (ms : List heards.Message). LearnedAll d.order empty_mirror ms m) (sym (heard-more k.history (messages_of n k.reading.pending))) all in
     goes-on d.end (with_handled (Packet header body) used d.end) d.tickets d.tickets (reading_of d) (reading_after header n (reading_of d)) d.mirror m (Reads header body) r (established, settled.1)
     (record { news = n; said = said_so; mirror = d.mirror; learned = r.learned; unrefused = fair }) refl (λ e. ap ids_of (left-is header n (reading_of d)) ∙ settled.0)
     (carries-handled d.end (read r.acts) (Packet header body) used fits front r.carries) (sym (append-nil d.end.session.enqueued)) (r.given ∙ ap (λ (x : Knowledge). x.tickets) (sym entered))
-    (λ e. ap (reading_after header n) same ∙ ap (λ (x : Knowledge). x.reading) (sym entered)) (subst (λ (x : Knowledge). LearnedAll empty_mirror (heard x.history) m) (sym entered) once)
+    (λ e. ap (reading_after header n) same ∙ ap (λ (x : Knowledge). x.reading) (sym entered)) (subst (λ (x : Knowledge). LearnedAll d.order empty_mirror (heard x.history) m) (sym entered) once)
 
 -- one command more waits
 one-more : (pending : List Asked) (p : Asked) (ids : List ℕ) → ids_of pending ≡ ids → ids_of (pending ++ p ∷ []) ≡ ids ++ p.id ∷ []
@@ -227,10 +228,10 @@ one-more pending p ids is = map-append (λ (q : Asked). q.id) pending (p ∷ [])
 abbrev pub with_sizes_asked : ℕ → Reading → Reading
 with_sizes_asked id r = record r { pending = r.pending ++ record { id = id; ticket = None; command = id_sizes } ∷ [] }
 
-pub ran-greeted : (end : End) (t : ℕ) (reading : Reading) (m : Mirror) (used id : ℕ) → IsBytes end.incoming → front_of end ≡ Whole Handshake used → HasRun end t reading m
-    → HasRun (with_enqueued (header_bytes (sizes_header id)) (with_handled Handshake used end)) t (with_sizes_asked id reading) m
-ran-greeted end t reading m used id fits front r =
-    let k = known r.before r.acts in
+pub ran-greeted : {o : Order} (end : End) (t : ℕ) (reading : Reading) (m : Mirror) (used id : ℕ) → IsBytes end.incoming → front_of end ≡ Whole Handshake used → HasRun o end t reading m
+    → HasRun o (with_enqueued (header_bytes (sizes_header id)) (with_handled Handshake used end)) t (with_sizes_asked id reading) m
+ran-greeted {o = o} end t reading m used id fits front r =
+    let k = known o r.before r.acts in
     let read_it = with_handled Handshake used end in
     let bytes = header_bytes (sizes_header id) in
     let bare : stream (Packet (sizes_header id) [] ∷ []) ≡ bytes = stream-one (Packet (sizes_header id) []) ∙ append-nil bytes in
@@ -239,7 +240,7 @@ ran-greeted end t reading m used id fits front r =
     (λ e. one-more reading.pending (record { id = id; ticket = None; command = id_sizes }) (outstanding r.acts) (r.waits opened))
     (carries-enqueued read_it (read r.acts ++ Handshake ∷ []) bytes refl (carries-handled end (read r.acts) Handshake used fits front r.carries))
     (ap (λ (x : List ℕ). end.session.enqueued ++ x) (sym bare)) r.given (λ e. ap (with_sizes_asked id) (r.knows opened))
-    (subst (λ (ms : List heards.Message). LearnedAll empty_mirror ms m) (sym (heard-put k.history None id_sizes)) r.learned)
+    (subst (λ (ms : List heards.Message). LearnedAll o empty_mirror ms m) (sym (heard-put k.history None id_sizes)) r.learned)
 
 among : (id : ℕ) (pending : List Asked) → is_among id (ids_of pending) ≡ is_outstanding pending id
 among id [] = refl
@@ -249,10 +250,10 @@ among id (p ∷ ps) = ap (λ (b : Bool). (p.id == id) || b) (among id ps)
 abbrev pub with_command : ℕ → ℕ → Command → Reading → Reading
 with_command id t c r = record r { pending = r.pending ++ record { id = id; ticket = Some (record { 0 = t + 1 }); command = c } ∷ [] }
 
-pub ran-asked : (end : End) (t : ℕ) (reading : Reading) (m : Mirror) (w : Widths) (id : ℕ) (c : Command) → end.phase ≡ phase.Established → reading.sizes ≡ Some w → is_outstanding reading.pending id ≡ false → EncodesCommand w c
-    → HasRun end t reading m → HasRun (with_enqueued (command_bytes w id c) end) (t + 1) (with_command id t c reading) m
-ran-asked end t reading m w id c phased wide free encoded r =
-    let k = known r.before r.acts in
+pub ran-asked : {o : Order} (end : End) (t : ℕ) (reading : Reading) (m : Mirror) (w : Widths) (id : ℕ) (c : Command) → end.phase ≡ phase.Established → reading.sizes ≡ Some w → is_outstanding reading.pending id ≡ false → EncodesCommand w c
+    → HasRun o end t reading m → HasRun o (with_enqueued (command_bytes w id c) end) (t + 1) (with_command id t c reading) m
+ran-asked {o = o} end t reading m w id c phased wide free encoded r =
+    let k = known o r.before r.acts in
     let opened : is_open end ≡ true = ap is_open_phase phased in
     let same = r.knows opened in
     let bytes = command_bytes w id c in
@@ -261,7 +262,7 @@ ran-asked end t reading m w id c phased wide free encoded r =
     (λ e. one-more reading.pending (record { id = id; ticket = Some (record { 0 = t + 1 }); command = c }) (outstanding r.acts) (r.waits opened))
     (subst (Carries (with_enqueued bytes end)) (sym (append-nil (read r.acts))) (carries-enqueued end (read r.acts) bytes opened r.carries))
     (ap (λ (x : List ℕ). end.session.enqueued ++ x) (sym (append-nil bytes))) (ap (λ (n : ℕ). n + 1) r.given) (λ e. (λ j. with_command id (r.given j) c (same j)))
-    (subst (λ (ms : List heards.Message). LearnedAll empty_mirror ms m) (sym (heard-put k.history (Some (k.tickets + 1)) c)) r.learned)
+    (subst (λ (ms : List heards.Message). LearnedAll o empty_mirror ms m) (sym (heard-put k.history (Some (k.tickets + 1)) c)) r.learned)
 
 -- ---- turns
 
@@ -280,7 +281,7 @@ ran-measured-where true w d r = ran-closed d.end d.tickets (reading_of d) (readi
 ran-measured-where false w d r = r
 
 ran-entered : (header : Header) (body : List ℕ) (used : ℕ) (news : News) (old new : Debugger) (told : Told)
-    → ((m : Mirror) → LearnedAll (learned_from news old.mirror) (messages_of news old.pending) m → HasRun (with_handled (Packet header body) used old.end) old.tickets (reading_after header news (reading_of old)) m)
+    → ((m : Mirror) → LearnedAll old.order (learned_from news old.mirror) (messages_of news old.pending) m → HasRun old.order (with_handled (Packet header body) used old.end) old.tickets (reading_after header news (reading_of old)) m)
     → Enters (Packet header body) used header news old told new → Ran new
 ran-entered header body used (Waits bytes) old new told r (tells, is) = subst Ran (sym is) (r old.mirror refl)
 ran-entered header body used (Happens c) old new told r (tells, (m, learned, is)) =
@@ -326,11 +327,11 @@ ran-ask command old new r h =
 
 pub each-goes-on : GoesOn
 each-goes-on = record {
-  new = λ limits id. ran-new limits 0 (nothing 0).reading empty_mirror refl;
-  attached = λ d. ran-attached d.end d.tickets (nothing 0).reading empty_mirror refl refl;
+  new = λ order limits id. ran-new limits 0 (nothing order 0).reading empty_mirror refl;
+  attached = λ d. ran-attached d.end d.tickets (nothing d.order 0).reading empty_mirror refl refl;
   asked = ran-ask;
   turned = ran-turn;
   fed = λ d bytes none r. ran-fed d.end d.tickets (reading_of d) d.mirror bytes none r;
   taken = λ d n le r. ran-taken d.end d.tickets (reading_of d) d.mirror n le r;
-  lost = λ d r. ran-lost d.end d.tickets (reading_of d) (nothing 0).reading d.mirror empty_mirror refl r;
+  lost = λ d r. ran-lost d.end d.tickets (reading_of d) (nothing d.order 0).reading d.mirror empty_mirror refl r;
 }

@@ -1,7 +1,7 @@
 -- What is known in a session, act by act: before the widths of ids are known nothing is heard, and from then on each command that waits has a
 -- ticket.
 use Rattle.std.proofs.Common.{◌≡◌, ◌∙◌, ℕ, zero, suc, ◌+◌, ◌++◌, List, [], ◌∷◌, map, Bool, true, false, Option, Some, None, is_some, slice_get, refl, sym, ap, subst}
-use Rattle.std.specs.Prelude.{Result, Ok, fold, remove}
+use Rattle.std.specs.Prelude.{Result, fold, remove}
 use Rattle.std.specs.List.{AllByRecursion}
 use Rattle.std.proofs.lemmas.List.{append-nil}
 use Rattle.std.proofs.lemmas.List.Sums.{fold-append}
@@ -14,12 +14,15 @@ use Rattle.jdwp_event.specs.Composites.{CompositeMeaning}
 use Rattle.jdwp_end.specs.declared.phase.Phase.{Phase}
 use Rattle.jdwp_end.specs.declared.phase.Phase.TheVariants.{Closed, AwaitingHandshake, Established}
 use Rattle.jdwp_debugger.specs.declared.faults.DebuggerFault.{DebuggerFault}
+use Rattle.jdwp_debugger.specs.declared.order.Order.{Order}
+use Rattle.jdwp_debugger.specs.declared.order.Order.TheVariants.{One, Apart}
 use Rattle.jdwp_debugger.specs.declared.pending.Ticket as code
 use Rattle.jdwp_debugger.specs.Debuggers.{Asked, IsSizesAlone}
 use Rattle.jdwp_debugger.specs.DebuggerTurns.{LearnedAll}
-use Rattle.jdwp_debugger.specs.Histories.{Exchange, Hears, IsMirrorOf, Puts, Knowledge, heard, heard_in, nothing, requests_by, standing_by, with_asked, with_news, with_put, with_said}
+use Rattle.jdwp_debugger.specs.Histories.{Exchange, Hears, IsMirrorIn, IsMirrorOf, Puts, Knowledge, heard, heard_in, nothing, requests_by, standing_by, with_asked, with_news, with_put, with_said}
 use Rattle.jdwp_debugger.specs.News.{News, Waits, Happens, Answers, Measures, Reading}
-use Rattle.jdwp_debugger.specs.Runs.{Act, Attaches, Greets, Reads, Asks, Ends, InOrder, IsTaken, MayCome, MayDo, MayDoAll, known, known_after, outstanding_after, phase_after, phase_of}
+use Rattle.jdwp_debugger.specs.Runs.{Act, Attaches, Greets, Reads, Asks, Ends, InOrder, MayCome, MayDo, MayDoAll, known, known_after, outstanding_after, phase_after, phase_of}
+use Rattle.jdwp_debugger.proofs.Ordering.{may-learn}
 use Rattle.jdwp_debugger.proofs.Saying.{Backs, IsThere, backs, unanswerable}
 use Rattle.jdwp_mirror.specs.Messages.{Message, Ticket, id_sizes}
 use Rattle.jdwp_mirror.specs.KnownThreads.{count_in, is_held_in}
@@ -45,18 +48,18 @@ pub heard-put : (history : List Exchange) (ticket : Ticket) (c : Command) → he
 heard-put history ticket c = heard-append history (Puts ticket c ∷ []) ∙ append-nil (heard history)
 
 -- what is learned in two parts
-pub learned-onto : (first then : List Message) (old middle new : Mirror) → LearnedAll old first middle → LearnedAll middle then new → LearnedAll old (first ++ then) new
-learned-onto [] then old middle new e l = subst (λ (m : Mirror). LearnedAll m then new) e l
-learned-onto (message ∷ messages) then old middle new (next, one, others) l = (next, one, learned-onto messages then next middle new others l)
+pub learned-onto : (o : Order) (first then : List Message) (old middle new : Mirror) → LearnedAll o old first middle → LearnedAll o middle then new → LearnedAll o old (first ++ then) new
+learned-onto o [] then old middle new e l = subst (λ (m : Mirror). LearnedAll o m then new) e l
+learned-onto o (message ∷ messages) then old middle new (next, one, others) l = (next, one, learned-onto o messages then next middle new others l)
 
 -- ---- an act more
 
-pub known-more : (before : ℕ) (acts : List Act) (act : Act) → known before (acts ++ act ∷ []) ≡ known_after (known before acts) act
-known-more before acts act = fold-append known_after (nothing before) acts (act ∷ [])
+pub known-more : (o : Order) (before : ℕ) (acts : List Act) (act : Act) → known o before (acts ++ act ∷ []) ≡ known_after (known o before acts) act
+known-more o before acts act = fold-append known_after (nothing o before) acts (act ∷ [])
 
-pub may-more : (k : Knowledge) (acts : List Act) (act : Act) → MayDoAll k acts → MayDo (fold known_after k acts) act → MayDoAll k (acts ++ act ∷ [])
-may-more k [] act all may = (may, tt)
-may-more k (first ∷ acts) act all may = (all.0, may-more (known_after k first) acts act all.1 may)
+pub may-more : (o : Order) (k : Knowledge) (acts : List Act) (act : Act) → MayDoAll o k acts → MayDo o (fold known_after k acts) act → MayDoAll o k (acts ++ act ∷ [])
+may-more o k [] act all may = (may, tt)
+may-more o k (first ∷ acts) act all may = (all.0, may-more o (known_after k first) acts act all.1 may)
 
 -- ---- commands with tickets
 
@@ -116,26 +119,26 @@ sound-news header kind (Some w) (Answers place ticket answer) k is b s =
 sound-news header kind None (Measures place answer w cs) k is b s = alone-left k.reading.pending place b.1.asked s.0 b.1.at
 sound-news header kind (Some v) (Measures place answer w cs) k is b s = absurd (untold k.reading header.id place s b.1)
 
-sound-after : (p : Phase) (ids : List ℕ) (k : Knowledge) (act : Act) → MayCome p ids act → MayDo k act → IsSound p k → IsSound (phase_after p act) (known_after k act)
-sound-after p ids k Attaches come may s = (refl, refl, refl)
-sound-after p ids k (Greets id) come may s =
+sound-after : (o : Order) (p : Phase) (ids : List ℕ) (k : Knowledge) (act : Act) → MayCome p ids act → MayDo o k act → IsSound p k → IsSound (phase_after p act) (known_after k act)
+sound-after o p ids k Attaches come may s = (refl, refl, refl)
+sound-after o p ids k (Greets id) come may s =
     let at = subst (λ (q : Phase). IsSound q k) come s in
     let waits : Asked = record { id = id; ticket = None; command = id_sizes } in
     subst (λ (o : Option Widths). Knows o (with_put id None id_sizes k)) (sym at.1)
     (subst (λ (ps : List Asked). IsSizesAlone (ps ++ waits ∷ [])) (sym at.0) (refl, refl), heard-put k.history None id_sizes ∙ at.2)
-sound-after p ids k (Reads header body) come may s =
+sound-after o p ids k (Reads header body) come may s =
     let at = subst (λ (q : Phase). IsSound q k) come.0 s in
     let sound = sound-news header header.kind k.reading.sizes may.news k refl (backs k.reading header.id header.kind body may.news may.said) at in
     subst (λ (said : Result News DebuggerFault). IsSound Established (with_said header said k)) (sym may.said) sound
-sound-after p ids k (Asks w id c) come may s =
+sound-after o p ids k (Asks w id c) come may s =
     let at = subst (λ (o : Option Widths). Knows o k) may (subst (λ (q : Phase). IsSound q k) come.0 s) in
     subst (λ (o : Option Widths). Knows o (with_asked id c k)) (sym may) (ticketed-more k.reading.pending (record { id = id; ticket = Some (record { 0 = k.tickets + 1 }); command = c }) refl at)
-sound-after p ids k Ends come may s = tt
+sound-after o p ids k Ends come may s = tt
 
-sound-all : (p : Phase) (ids : List ℕ) (k : Knowledge) (acts : List Act) → InOrder p ids acts → MayDoAll k acts → IsSound p k → IsSound (fold phase_after p acts) (fold known_after k acts)
-sound-all p ids k [] order may s = s
-sound-all p ids k (act ∷ acts) order may s =
-    sound-all (phase_after p act) (outstanding_after ids act) (known_after k act) acts order.1 may.1 (sound-after p ids k act order.0 may.0 s)
+sound-all : (o : Order) (p : Phase) (ids : List ℕ) (k : Knowledge) (acts : List Act) → InOrder p ids acts → MayDoAll o k acts → IsSound p k → IsSound (fold phase_after p acts) (fold known_after k acts)
+sound-all o p ids k [] order may s = s
+sound-all o p ids k (act ∷ acts) order may s =
+    sound-all o (phase_after p act) (outstanding_after ids act) (known_after k act) acts order.1 may.1 (sound-after o p ids k act order.0 may.0 s)
 
 told-first : (r : Reading) (id : ℕ) (kind : PacketKind) (sizes : Option Widths) (k : Knowledge) (place : ℕ) (answer : Answer) (w : Widths) (cs : List CompositeMeaning) → k.reading ≡ r → Knows sizes k
     → Backs r id kind (Measures place answer w cs) → heard k.history ≡ []
@@ -143,11 +146,11 @@ told-first r id kind None k place answer w cs is s b = s.1
 told-first r id kind (Some v) k place answer w cs is s b = absurd (untold r id place (subst (λ (x : Reading). AllTicketed x.pending) is s) b.1)
 
 -- as the widths of ids are told nothing was heard before
-pub measures-first : (before : ℕ) (acts : List Act) (header : Header) (place : ℕ) (answer : Answer) (w : Widths) (cs : List CompositeMeaning) → InOrder Closed [] acts → MayDoAll (nothing before) acts
-    → phase_of acts ≡ Established → Backs (known before acts).reading header.id header.kind (Measures place answer w cs) → heard (known before acts).history ≡ []
-measures-first before acts header place answer w cs order may phase b =
-    let k = known before acts in
-    let sound = subst (λ (p : Phase). IsSound p k) phase (sound-all Closed [] (nothing before) acts order may tt) in
+pub measures-first : (o : Order) (before : ℕ) (acts : List Act) (header : Header) (place : ℕ) (answer : Answer) (w : Widths) (cs : List CompositeMeaning) → InOrder Closed [] acts → MayDoAll o (nothing o before) acts
+    → phase_of acts ≡ Established → Backs (known o before acts).reading header.id header.kind (Measures place answer w cs) → heard (known o before acts).history ≡ []
+measures-first o before acts header place answer w cs order may phase b =
+    let k = known o before acts in
+    let sound = subst (λ (p : Phase). IsSound p k) phase (sound-all o Closed [] (nothing o before) acts order may tt) in
     told-first k.reading header.id header.kind k.reading.sizes k place answer w cs refl sound b
 
 -- ---- the mirror, look-up by look-up
@@ -161,19 +164,28 @@ one-stands message old new t l =
     let held = l.held t ∙ ap (held_after message t (is_held_in old.threads t)) count in
     (λ j. (count j, held j))
 
-all-stand : (messages : List Message) (old new : Mirror) (t : ℕ) → LearnedAll old messages new → stands new t ≡ fold (standing_by t) (stands old t) messages
+all-stand : (messages : List Message) (old new : Mirror) (t : ℕ) → LearnedAll One old messages new → stands new t ≡ fold (standing_by t) (stands old t) messages
 all-stand [] old new t e = ap (λ (m : Mirror). stands m t) e
 all-stand (message ∷ messages) old new t (next, one, others) =
     all-stand messages next new t others ∙ ap (λ (x : Option ℕ × Bool). fold (standing_by t) x messages) (one-stands message old next t one)
 
-all-kept : (messages : List Message) (old new : Mirror) → LearnedAll old messages new → new.requests ≡ fold requests_by old.requests messages
+all-kept : (messages : List Message) (old new : Mirror) → LearnedAll One old messages new → new.requests ≡ fold requests_by old.requests messages
 all-kept [] old new e = ap (λ (m : Mirror). m.requests) e
 all-kept (message ∷ messages) old new (next, one, others) = all-kept messages next new others ∙ ap (λ (rs : List Kept). fold requests_by rs messages) one.requests
 
 -- a mirror that learned these messages from the empty one has what they say
-pub mirror-of : (messages : List Message) (m : Mirror) → LearnedAll empty_mirror messages m → IsMirrorOf messages m
+mirror-of : (messages : List Message) (m : Mirror) → LearnedAll One empty_mirror messages m → IsMirrorOf messages m
 mirror-of messages m l = record {
   counts = λ t. ap (λ (x : Option ℕ × Bool). x.0) (all-stand messages empty_mirror m t l);
   held = λ t. ap (λ (x : Option ℕ × Bool). x.1) (all-stand messages empty_mirror m t l);
   requests = all-kept messages empty_mirror m l;
 }
+
+requests-kept : (messages : List Message) (old new : Mirror) → LearnedAll Apart old messages new → new.requests ≡ fold requests_by old.requests messages
+requests-kept [] old new e = ap (λ (m : Mirror). m.requests) e
+requests-kept (message ∷ messages) old new (next, one, others) =
+    requests-kept messages next new others ∙ ap (λ (rs : List Kept). fold requests_by rs messages) one.1
+
+pub mirror-in : (o : Order) (messages : List Message) (m : Mirror) → LearnedAll o empty_mirror messages m → IsMirrorIn o messages m
+mirror-in One messages m l = mirror-of messages m l
+mirror-in Apart messages m l = record { threads = may-learn Apart messages m l; requests = requests-kept messages empty_mirror m l }

@@ -6,6 +6,7 @@ pub mod Keeping
 pub mod Admitting
 pub mod NewsLemmas
 pub mod Saying
+pub mod Ordering
 pub mod TurningLemmas
 pub mod Knowing
 pub mod DebuggerRuns

@@ -1,8 +1,8 @@
 -- The commands that wait, one by one: their tickets, and the places of those that have one.
-use Rattle.std.proofs.Common.{◌≡◌, ℕ, ◌+◌, zero, suc, Bool, false, true, List, [], ◌∷◌, ◌++◌, length, drop, slice_get, Option, Some, None, is_some, sym, ap, ◌∙◌, refl}
-use Rattle.std.proofs.lemmas.List.{append_assoc, drop_all}
+use Rattle.std.proofs.Common.{◌≡◌, ℕ, ◌+◌, suc, false, true, List, [], ◌∷◌, ◌++◌, drop, slice_get, Some, None, is_some, sym, ap, ◌∙◌, refl}
+use Rattle.std.proofs.lemmas.List.{append_assoc}
 use Rattle.jdwp_debugger.specs.declared.pending.Ticket.{Ticket}
-use Rattle.jdwp_debugger.specs.Debuggers.{Asked, Unanswered, at_place, has_tickets, tickets_of, unanswered}
+use Rattle.jdwp_debugger.specs.Debuggers.{Asked, at_place, has_tickets, tickets_of, unanswered}
 use Rattle.jdwp_debugger.proofs.Entries.{left_over}
 
 module _ (pending : List Asked) (i : ℕ) (p : Asked) (at : slice_get pending i ≡ Some p) where

@@ -1,19 +1,37 @@
 -- What is read of packets is what they say.
 use Rattle.std.proofs.Common.{◌≡◌, ℕ, ◌+◌, ◌<◌, Bool, true, false, List, [], ◌∷◌, ◌++◌, append_assoc, drop, length, get_or, refl, sym, ap, ◌∙◌, Option, Some, None, Ok, Err, if◌then◌else◌}
+use Rattle.std.specs.Prelude.{◌==◌}
 use Rattle.std.specs.Option.{option_map}
 use Rattle.std.proofs.lemmas.List.{at_drop_more}
 use Rattle.jdwp_wire.specs.Widths.{Widths}
+use Rattle.jdwp_wire.specs.declared.error_code.ErrorCode.{ErrorCode}
+use Rattle.jdwp_wire.specs.ErrorCodes.{NONE}
+use Rattle.jdwp_layout.specs.CommandTable.{row_at}
 use Rattle.jdwp_layout.specs.declared.answer.Answer.{Answer}
+use Rattle.jdwp_layout.specs.declared.answer.Answer.TheVariants.{Error}
+use Rattle.jdwp_action.specs.RowLayouts.{row_reply}
 use Rattle.jdwp_event.specs.Composites.{CompositeMeaning}
 use Rattle.jdwp_action.specs.Actions.{Command}
 use Rattle.jdwp_debugger.specs.declared.faults.DebuggerFault.{DebuggerFault}
 use Rattle.jdwp_debugger.specs.declared.faults.DebuggerFault.TheVariants.{BadReply, BadEvent, NoMemory}
+use Rattle.jdwp_debugger.specs.declared.order.Order.{Order}
+use Rattle.jdwp_debugger.specs.declared.order.Order.TheVariants.{One, Apart}
 use Rattle.jdwp_debugger.specs.declared.pending.Ticket.{Ticket}
 use Rattle.jdwp_debugger.specs.Debuggers.{Parked}
 use Rattle.jdwp_mirror.specs.Faults.{is_bad_reply}
-use Rattle.jdwp_debugger.specs.News.{Fails, answer_says, composite_in, composites_in, required, unless_bad, with_composites, with_first}
+use Rattle.jdwp_debugger.specs.News.{Fails, answer_by, answer_in, answer_says, data_by, composite_in, composites_in, required, unless_bad, with_composites, with_first}
 
 -- ---- answers
+
+error-either : (b z : Bool) (found : Option Answer) (x answer : Answer) → (if b then found else (if z then Some x else None)) ≡ Some answer → (if b then found else Some x) ≡ Some answer
+error-either true z found x answer h = h
+error-either false true found x answer h = h
+error-either false false found x answer h = absurd (cc)
+
+-- what is read where an error has no data is read in either order
+pub read-either : (o : Order) (w : Widths) (c : Command) (e : ErrorCode) (bytes : List ℕ) (answer : Answer) → answer_in w c e bytes ≡ Some answer → answer_by o w c e bytes ≡ Some answer
+read-either One w c e bytes answer h = h
+read-either Apart w c e bytes answer h = error-either (e.0 == NONE.0) (length bytes == 0) (data_by w (row_reply (row_at c.set c.number)) bytes) (Error e) answer h
 
 pub fails-unless_bad : (f : DebuggerFault) (c : Command) (a : Option Answer) → Fails f (required BadReply a) → Fails f (required BadReply (unless_bad c a))
 fails-unless_bad NoMemory c a h = tt

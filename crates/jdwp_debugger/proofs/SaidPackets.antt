@@ -1,5 +1,5 @@
 -- What is so of a debugger at a packet in front that says something.
-use Rattle.std.proofs.Common.{◌≡◌, ◌∙◌, ℕ, ◌+◌, ◌<◌, ◌≤◌, List, Bool, true, false, Option, Some, None, length, ap, subst, sym, arith}
+use Rattle.std.proofs.Common.{◌≡◌, ◌∙◌, ℕ, ◌+◌, ◌<◌, ◌≤◌, List, true, false, Option, None, length, ap, sym, arith}
 use Rattle.std.specs.Prelude.{is_some}
 use Rattle.std.proofs.lemmas.Bool.{eqb-false}
 use Rattle.std.proofs.lemmas.Option.{slice_get_within}
@@ -9,7 +9,7 @@ use Rattle.jdwp_wire.specs.Widths.{Widths}
 use Rattle.jdwp_wire.specs.declared.packet.Header.{Header}
 use Rattle.jdwp_layout.specs.declared.answer.Answer.{Answer}
 use Rattle.jdwp_event.specs.Composites.{CompositeMeaning}
-use Rattle.jdwp_end.specs.Ends.{End, is_open, with_handled}
+use Rattle.jdwp_end.specs.Ends.{is_open, with_handled}
 use Rattle.jdwp_debugger.specs.Debuggers.{Debugger, IsSizesAlone}
 use Rattle.jdwp_debugger.specs.DebuggerTurns.{IsSaid, LearnedAll, news_refusal, reading_of}
 use Rattle.jdwp_debugger.specs.Histories.{messages_of, reading_after}
@@ -23,8 +23,8 @@ use Rattle.jdwp_debugger.proofs.Saying.{Backs, backs, unanswerable}
 pub said-open : (d : Debugger) (header : Header) (used : ℕ) (n : News) → IsBytes d.end.incoming → IsSaid d header used n → is_open d.end ≡ true
 said-open d header used n fits s = front-open d.end (Packet header s.body) used fits s.front
 
-pub said-ran : (d : Debugger) (header : Header) (used : ℕ) (n : News) (m : Mirror) → IsBytes d.end.incoming → (s : IsSaid d header used n) → news_refusal d.mirror n ≡ None
-    → LearnedAll (learned_from n d.mirror) (messages_of n d.pending) m → Ran d → HasRun (with_handled (Packet header s.body) used d.end) d.tickets (reading_after header n (reading_of d)) m
+pub said-ran : (d : Debugger) (header : Header) (used : ℕ) (n : News) (m : Mirror) → IsBytes d.end.incoming → (s : IsSaid d header used n) → news_refusal d.order d.mirror n ≡ None
+    → LearnedAll d.order (learned_from n d.mirror) (messages_of n d.pending) m → Ran d → HasRun d.order (with_handled (Packet header s.body) used d.end) d.tickets (reading_after header n (reading_of d)) m
 said-ran d header used n m fits s fair learned r = ran-said d header s.body used n m fits s.front s.said fair learned r
 
 pub said-backs : (d : Debugger) (header : Header) (used : ℕ) (n : News) → IsSaid d header used n → Backs (reading_of d) header.id header.kind n

@@ -1,9 +1,8 @@
 -- What is so of a packet that says something.
-use Rattle.std.proofs.Common.{◌≡◌, ℕ, ◌+◌, ◌<◌, ◌≤◌, ◌==◌, Bool, true, false, List, [], ◌∷◌, ◌++◌, length, map, cond, Option, Some, None, Result, Ok, Err, slice_get, refl, sym, ap, ◌∙◌, subst, arith, suc, zero, if◌then◌else◌}
+use Rattle.std.proofs.Common.{◌≡◌, ℕ, ◌+◌, ◌==◌, Bool, true, false, List, [], ◌∷◌, length, cond, Option, Some, None, Ok, Err, slice_get, refl, sym, ap, ◌∙◌, subst, arith, suc, zero, if◌then◌else◌}
 use Rattle.std.specs.Prelude.{remove, is_some}
-use Rattle.std.specs.List.{list_any, position_from}
+use Rattle.std.specs.List.{position_from}
 use Rattle.std.specs.Set.{remove_key}
-use Rattle.std.proofs.lemmas.Bool.{eqb-true, eq-eqb}
 use Rattle.jdwp_wire.specs.declared.packet.PacketKind.{PacketKind}
 use Rattle.jdwp_wire.specs.declared.packet.PacketKind.TheVariants as kind
 use Rattle.jdwp_wire.specs.declared.error_code.ErrorCode.{ErrorCode}
@@ -13,11 +12,10 @@ use Rattle.jdwp_layout.specs.CommandNumbers.{COMPOSITE, is_command}
 use Rattle.jdwp_event.specs.Composites.{CompositeMeaning}
 use Rattle.jdwp_mirror.specs.Faults.{PARKED_MOST}
 use Rattle.jdwp_mirror.specs.Widths.{widths_in}
-use Rattle.jdwp_debugger.specs.declared.faults.DebuggerFault.{DebuggerFault}
-use Rattle.jdwp_debugger.specs.declared.faults.DebuggerFault.TheVariants.{UnknownReply, BadReply, TooManyParked, BadEvent}
+use Rattle.jdwp_debugger.specs.declared.faults.DebuggerFault.TheVariants.{TooManyParked, BadEvent}
 use Rattle.jdwp_debugger.specs.declared.pending.Ticket.{Ticket}
 use Rattle.jdwp_debugger.specs.Debuggers.{Asked, IsSizesAlone, Parked}
-use Rattle.jdwp_debugger.specs.News.{News, Waits, Happens, Answers, Measures, Reading, answer_in, answer_says, composite_in, composites_in, event_says, event_says_by, has_id, place_of, reply_at, reply_says, reply_to, says, sizes_say, unless_bad, widths_by, with_composites, with_first}
+use Rattle.jdwp_debugger.specs.News.{News, Waits, Happens, Answers, Measures, Reading, answer_by, answer_says, composite_in, composites_in, event_says, event_says_by, has_id, place_of, reply_at, reply_to, says, sizes_say, unless_bad, widths_by, with_composites, with_first}
 use Rattle.jdwp_debugger.specs.Runs.{IsAwaited, ids_of, is_among, settled_by}
 
 -- a composite is a command, and a reply is none
@@ -90,7 +88,7 @@ backs-reply-to : (r : Reading) (id place : ℕ) (e : ErrorCode) (bytes : List �
     → Backs r id (kind.Reply e) n
 backs-reply-to r id place e bytes None n under at h = absurd (cc)
 backs-reply-to r id place e bytes (Some asked) n under at h =
-    backs-answer r id place e asked.ticket (unless_bad asked.command (answer_in (widths_by r.sizes) asked.command e bytes)) n (record { under = under; asked = asked; at = at; ticketed = refl }) h
+    backs-answer r id place e asked.ticket (unless_bad asked.command (answer_by r.order (widths_by r.sizes) asked.command e bytes)) n (record { under = under; asked = asked; at = at; ticketed = refl }) h
 
 backs-reply : (r : Reading) (id : ℕ) (e : ErrorCode) (bytes : List ℕ) (found : Option ℕ) (n : News) → place_of id r.pending ≡ found → reply_at r e bytes found ≡ Ok n → Backs r id (kind.Reply e) n
 backs-reply r id e bytes None n under h = absurd (cc)

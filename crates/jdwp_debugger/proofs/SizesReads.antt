@@ -1,6 +1,5 @@
 -- The reply to IDSizes, in which no id stands, is read by any widths.
-use Rattle.std.proofs.Common.{◌≡◌, ◌∙◌, ℕ, zero, suc, ◌≤◌, ◌&&◌, Bool, true, List, [], ◌∷◌, ◌++◌, Option, Some, None, pos, refl, sym, ap, subst, arith, if◌then◌else◌}
-use Rattle.std.specs.Prelude.{nat_le}
+use Rattle.std.proofs.Common.{◌≡◌, ◌∙◌, ℕ, zero, suc, true, List, [], ◌∷◌, ◌++◌, Some, pos, refl, sym, ap, subst, arith}
 use Rattle.std.specs.Int.{w32}
 use Rattle.std.proofs.lemmas.Bool.{le-leb}
 use Rattle.std.proofs.lemmas.Int.{to_z_pos}
@@ -11,13 +10,13 @@ use Rattle.jdwp_layout.specs.declared.answer.Answer.{Answer}
 use Rattle.jdwp_layout.specs.declared.answer.Answer.TheVariants.{Data, Error}
 use Rattle.jdwp_layout.specs.declared.item.Field.TheVariants as field
 use Rattle.jdwp_layout.specs.Grammar.{EncodesData, EncodesItem}
-use Rattle.jdwp_layout.specs.Meanings.{ScalarMeaning, Byte, Boolean, Int, Long, Text, Object, ReferenceType, Method, OfField, Frame, Located, Valued, Tagged, DatumMeaning, One, Many, Elements, Raw}
+use Rattle.jdwp_layout.specs.Meanings.{Byte, Boolean, Int, Long, Text, Object, ReferenceType, Method, OfField, Frame, Located, Valued, Tagged, DatumMeaning, One, Many, Elements, Raw}
 use Rattle.jdwp_layout.specs.Shapes.{ItemShape, OneOf}
 use Rattle.jdwp_layout.specs.Writes.{data_canonical, datum_canonical}
 use Rattle.jdwp_action.specs.AnswerPackets.{sizes_answer, EncodesAnswer, answer_bytes, error_of}
-use Rattle.jdwp_mirror.specs.Faults.{are_widths, is_width}
+use Rattle.jdwp_mirror.specs.Faults.{is_width}
 use Rattle.jdwp_mirror.specs.Messages.{id_sizes}
-use Rattle.jdwp_mirror.specs.Widths.{widths_in, widths_said}
+use Rattle.jdwp_mirror.specs.Widths.{widths_in}
 use Rattle.jdwp_debugger.specs.News.{EIGHT, answer_in}
 use Rattle.jdwp_debugger.proofs.AnsweredReads.{reads-as-answered}
 use Rattle.jdwp_debugger.proofs.EncodedReads.{ReadsEncoded}

@@ -15,14 +15,13 @@ use Rattle.jdwp_mirror.specs.Messages.{Reply, Report, id_sizes}
 use Rattle.jdwp_mirror.specs.Mirror.{ends}
 use Rattle.jdwp_mirror.specs.Widths.{widths_in}
 use Rattle.jdwp_debugger.specs.declared.faults.DebuggerFault.TheVariants.{BadEvent, TooManyParked}
-use Rattle.jdwp_debugger.specs.declared.heads.Head.TheVariants as head
 use Rattle.jdwp_debugger.specs.declared.pending.Ticket.{Ticket}
 use Rattle.jdwp_debugger.specs.declared.turning.Read.{Read}
 use Rattle.jdwp_debugger.specs.declared.turning.Read.TheVariants as read
 use Rattle.jdwp_debugger.specs.Debuggers.{Asked, Debugger, Parked as Kept}
 use Rattle.jdwp_debugger.specs.DebuggerTurns.{Enters, HandlesAt, Told, TurnsAt, closed_where, command_at, command_of, heads_of, measured_where, reading_of, reply_head, reports, read_meaning}
 use Rattle.jdwp_debugger.specs.DebuggerTurns as tell
-use Rattle.jdwp_debugger.specs.News.{News, Waits, Happens, Answers, Measures, Reading, answer_in, answer_says, composite_in, composites_in, event_says, event_says_by, place_of, reply_at, reply_to, says, sizes_say, unless_bad, widths_by, with_composites, with_first}
+use Rattle.jdwp_debugger.specs.News.{News, Waits, Happens, Answers, Measures, Reading, answer_by, answer_says, composite_in, composites_in, event_says, event_says_by, place_of, reply_at, reply_to, says, sizes_say, unless_bad, widths_by, with_composites, with_first}
 use Rattle.jdwp_debugger.specs.TellsHeads.{HasSizes, TellsHeads}
 
 -- ---- what a packet says
@@ -99,7 +98,7 @@ reply-so : (r : Reading) (id : ℕ) (e : ErrorCode) (bytes : List ℕ) (place : 
     → reply_to r e bytes place found ≡ Ok news → IsSo r id news
 reply-so r id e bytes place None news under waits h = absurd cc
 reply-so r id e bytes place (Some asked) news under waits h =
-    answer-so r id place asked asked.ticket (unless_bad asked.command (answer_in (widths_by r.sizes) asked.command e bytes)) news under waits refl h
+    answer-so r id place asked asked.ticket (unless_bad asked.command (answer_by r.order (widths_by r.sizes) asked.command e bytes)) news under waits refl h
 
 placed-so : (r : Reading) (id : ℕ) (e : ErrorCode) (bytes : List ℕ) (place : Option ℕ) (news : News) → place_of id r.pending ≡ place → reply_at r e bytes place ≡ Ok news → IsSo r id news
 placed-so r id e bytes None news under h = absurd cc

@@ -12,6 +12,8 @@ use Rattle.jdwp_end.specs.declared.phase.Phase.TheVariants.{Closed, AwaitingHand
 use Rattle.jdwp_end.specs.Ends.{End, front_of, is_paused, next_at}
 use Rattle.jdwp_debugger.specs.declared.faults.DebuggerFault.{DebuggerFault}
 use Rattle.jdwp_debugger.specs.declared.faults.DebuggerFault.TheVariants as code
+use Rattle.jdwp_debugger.specs.declared.order.Order.{Order}
+use Rattle.jdwp_debugger.specs.declared.order.Order.TheVariants.{One, Apart}
 use Rattle.jdwp_debugger.specs.declared.turning.Read.{Read}
 use Rattle.jdwp_debugger.specs.Debuggers.{Debugger}
 use Rattle.jdwp_layout.specs.declared.answer.Answer.{Answer}
@@ -21,13 +23,14 @@ use Rattle.jdwp_event.specs.Told.{composite_thread, is_vm_death}
 use Rattle.jdwp_action.specs.Actions
 use Rattle.jdwp_action.specs.Actions.{Action, Command, action_of, is_dispose}
 use Rattle.jdwp_mirror.specs.CommandKinds.{kind_of}
-use Rattle.jdwp_debugger.specs.DebuggerTurns.{AreFew, Told, Hello, Parked, Sizes, Answered, Seen, read_meaning, Enters, EntersAt, EntersOrFails, FailsAt, FailsOnly, FailsTo, HandlesAt, LearnedAll, MayTakeMemory, MayWantMemory, TurnsAt, WantsMemory, bad_where, none_known, reading_of, refusal_by, reports}
+use Rattle.jdwp_debugger.specs.DebuggerTurns.{AreFew, Told, Hello, Parked, Sizes, Answered, Seen, read_meaning, Enters, EntersAt, EntersOrFails, FailsAt, FailsOnly, FailsTo, HandlesAt, LearnedAll, MayTakeMemory, MayWantMemory, TurnsAt, WantsMemory, bad_where, reading_of, refusal_by, reports}
+use Rattle.jdwp_debugger.specs.Orders.{LearnedIn, has_bad_event_apart, has_bad_in, is_bad_in, none_known}
 use Rattle.jdwp_mirror.specs.Faults.{PARKED_MOST, count_of_thread, has_bad_event, is_bad_event, is_of_two}
 use Rattle.jdwp_mirror.specs.FaultParts.{IsData, is_dispose_kind}
 use Rattle.jdwp_mirror.specs.KnownThreads.{count_in}
 use Rattle.jdwp_mirror.specs.Messages.{Message, Report}
 use Rattle.jdwp_mirror.specs.Mirror.{is_positive, learned}
-use Rattle.jdwp_mirror.specs.Mirrors.{Mirror, Learned}
+use Rattle.jdwp_mirror.specs.Mirrors.{Mirror}
 use Rattle.jdwp_debugger.specs.News.{News, Waits, Happens, Answers, Measures, Fails, says}
 use Rattle.jdwp_debugger.proofs.Saying.{Backs, as-many, backs}
 use Rattle.jdwp_mirror.specs.Widths.{widths_in}
@@ -50,20 +53,26 @@ same-bad f g e (c ∷ cs) =
     ∙ ap (λ (b : Bool). is_bad_event g c || b) (same-bad (λ t. learned (Report c) t (f t)) (λ t. learned (Report c) t (g t)) (λ t. ap (learned (Report c) t) (e t)) cs)
 
 -- the rest is judged by the mirror that learned the first
-pub bad-rest : (c : CompositeMeaning) (cs : List CompositeMeaning) (old middle : Mirror) → is_bad_event (count_in old.threads) c ≡ false → Learned old (Report c) middle
-    → has_bad_event (count_in old.threads) (reports (c ∷ cs)) ≡ has_bad_event (count_in middle.threads) (reports cs)
-bad-rest c cs old middle good l =
+pub bad-rest : (o : Order) (c : CompositeMeaning) (cs : List CompositeMeaning) (old middle : Mirror) → is_bad_in o (count_in old.threads) c ≡ false → LearnedIn o old (Report c) middle
+    → has_bad_in o (count_in old.threads) (reports (c ∷ cs)) ≡ has_bad_in o (count_in middle.threads) (reports cs)
+bad-rest One c cs old middle good l =
     ap (λ (b : Bool). b || has_bad_event (λ t. learned (Report c) t (count_in old.threads t)) (reports cs)) good
     ∙ same-bad (λ t. learned (Report c) t (count_in old.threads t)) (count_in middle.threads) (λ t. sym (l.counts t)) cs
+bad-rest Apart c cs old middle good l = ap (λ (b : Bool). b || has_bad_event_apart (reports cs)) good
 
-pub bad-first : (c : CompositeMeaning) (cs : List CompositeMeaning) (counts : ℕ → Option ℕ) → is_bad_event counts c ≡ true → has_bad_event counts (reports (c ∷ cs)) ≡ true
-bad-first c cs counts bad = ap (λ (b : Bool). b || has_bad_event (λ t. learned (Report c) t (counts t)) (reports cs)) bad
+pub bad-first : (o : Order) (c : CompositeMeaning) (cs : List CompositeMeaning) (counts : ℕ → Option ℕ) → is_bad_in o counts c ≡ true → has_bad_in o counts (reports (c ∷ cs)) ≡ true
+bad-first One c cs counts bad = ap (λ (b : Bool). b || has_bad_event (λ t. learned (Report c) t (counts t)) (reports cs)) bad
+bad-first Apart c cs counts bad = ap (λ (b : Bool). b || has_bad_event_apart (reports cs)) bad
+
+pub same-bad-in : (o : Order) (f g : ℕ → Option ℕ) → ((t : ℕ) → f t ≡ g t) → (cs : List CompositeMeaning) → has_bad_in o f (reports cs) ≡ has_bad_in o g (reports cs)
+same-bad-in One f g e cs = same-bad f g e cs
+same-bad-in Apart f g e cs = refl
 
 -- ---- one message more
 
-pub learned-then : (messages : List Message) (last : Message) (old middle new : Mirror) → LearnedAll old messages middle → Learned middle last new → LearnedAll old (messages ++ last ∷ []) new
-learned-then [] last old middle new e l = (new, subst (λ (m : Mirror). Learned m last new) e l, refl)
-learned-then (message ∷ messages) last old middle new (next, first, others) l = (next, first, learned-then messages last next middle new others l)
+pub learned-then : (o : Order) (messages : List Message) (last : Message) (old middle new : Mirror) → LearnedAll o old messages middle → LearnedIn o middle last new → LearnedAll o old (messages ++ last ∷ []) new
+learned-then o [] last old middle new e l = (new, subst (λ (m : Mirror). LearnedIn o m last new) e l, refl)
+learned-then o (message ∷ messages) last old middle new (next, first, others) l = (next, first, learned-then o messages last next middle new others l)
 
 -- ---- which answers end a session
 
@@ -93,18 +102,18 @@ disposes c = dispose-kind (action_of c)
 
 -- ---- composites, one after the other
 
-abbrev pub AllLearned : Mirror → List CompositeMeaning → Mirror → Type 0
-AllLearned old cs new = (has_bad_event (count_in old.threads) (reports cs) ≡ false) × LearnedAll old (reports cs) new
+abbrev pub AllLearned : Order → Mirror → List CompositeMeaning → Mirror → Type 0
+AllLearned o old cs new = (has_bad_in o (count_in old.threads) (reports cs) ≡ false) × LearnedAll o old (reports cs) new
 
-pub all-learned : {U E : Type 0} (r : Result U E) (c : CompositeMeaning) (cs : List CompositeMeaning) (old middle new : Mirror) → is_bad_event (count_in old.threads) c ≡ false → Learned old (Report c) middle
-    → OnOk r (AllLearned middle cs new) → OnOk r (AllLearned old (c ∷ cs) new)
-all-learned (Ok u) c cs old middle new good l (fine, all) = (bad-rest c cs old middle good l ∙ fine, (middle, l, all))
-all-learned (Err e) c cs old middle new good l h = tt
+pub all-learned : {U E : Type 0} (o : Order) (r : Result U E) (c : CompositeMeaning) (cs : List CompositeMeaning) (old middle new : Mirror) → is_bad_in o (count_in old.threads) c ≡ false → LearnedIn o old (Report c) middle
+    → OnOk r (AllLearned o middle cs new) → OnOk r (AllLearned o old (c ∷ cs) new)
+all-learned o (Ok u) c cs old middle new good l (fine, all) = (bad-rest o c cs old middle good l ∙ fine, (middle, l, all))
+all-learned o (Err e) c cs old middle new good l h = tt
 
-pub all-failed : {U : Type 0} (r : Result U DebuggerFault) (c : CompositeMeaning) (cs : List CompositeMeaning) (old middle : Mirror) → is_bad_event (count_in old.threads) c ≡ false → Learned old (Report c) middle
-    → IfErr r (λ f. FailsOnly f (has_bad_event (count_in middle.threads) (reports cs))) → IfErr r (λ f. FailsOnly f (has_bad_event (count_in old.threads) (reports (c ∷ cs))))
-all-failed (Ok u) c cs old middle good l h = tt
-all-failed (Err f) c cs old middle good l h = subst (λ (b : Bool). FailsOnly f b) (sym (bad-rest c cs old middle good l)) h
+pub all-failed : {U : Type 0} (o : Order) (r : Result U DebuggerFault) (c : CompositeMeaning) (cs : List CompositeMeaning) (old middle : Mirror) → is_bad_in o (count_in old.threads) c ≡ false → LearnedIn o old (Report c) middle
+    → IfErr r (λ f. FailsOnly f (has_bad_in o (count_in middle.threads) (reports cs))) → IfErr r (λ f. FailsOnly f (has_bad_in o (count_in old.threads) (reports (c ∷ cs))))
+all-failed o (Ok u) c cs old middle good l h = tt
+all-failed o (Err f) c cs old middle good l h = subst (λ (b : Bool). FailsOnly f b) (sym (bad-rest o c cs old middle good l)) h
 
 -- ---- the phase in which the handshake stands in front
 
@@ -136,24 +145,24 @@ pub handles : (header : Header) (body : List ℕ) (used : ℕ) (old new : Debugg
     → (WantsMemory n → MayWantMemory header.kind) → EntersAt header body used n old r new → HandlesAt (Packet header body) used old r new
 handles header body used old new n (Ok r) said wants (unrefused, entered) = record { news = n; said = said; unrefused = unrefused; entered = entered }
 handles header body used old new n (Err code.NoMemory) said wants (memory, left) = (wants memory, left)
-handles header body used old new n (Err (code.Frame f)) said wants (refused, left) = (ap (refusal_by old.mirror) said ∙ refused, left)
-handles header body used old new n (Err code.UnknownReply) said wants (refused, left) = (ap (refusal_by old.mirror) said ∙ refused, left)
-handles header body used old new n (Err code.BadReply) said wants (refused, left) = (ap (refusal_by old.mirror) said ∙ refused, left)
-handles header body used old new n (Err code.TooManyParked) said wants (refused, left) = (ap (refusal_by old.mirror) said ∙ refused, left)
-handles header body used old new n (Err code.BadEvent) said wants (refused, left) = (ap (refusal_by old.mirror) said ∙ refused, left)
+handles header body used old new n (Err (code.Frame f)) said wants (refused, left) = (ap (refusal_by old.order old.mirror) said ∙ refused, left)
+handles header body used old new n (Err code.UnknownReply) said wants (refused, left) = (ap (refusal_by old.order old.mirror) said ∙ refused, left)
+handles header body used old new n (Err code.BadReply) said wants (refused, left) = (ap (refusal_by old.order old.mirror) said ∙ refused, left)
+handles header body used old new n (Err code.TooManyParked) said wants (refused, left) = (ap (refusal_by old.order old.mirror) said ∙ refused, left)
+handles header body used old new n (Err code.BadEvent) said wants (refused, left) = (ap (refusal_by old.order old.mirror) said ∙ refused, left)
 
 -- a packet that says nothing
 pub fails : (header : Header) (body : List ℕ) (old new : Debugger) (f : DebuggerFault) → Fails f (says (reading_of old) header.id header.kind body)
     → (f ≡ code.NoMemory → MayWantMemory header.kind) → FailsTo f old new → FailsAt header body old f new
 fails header body old new code.NoMemory said memory left = (memory refl, left)
-fails header body old new (code.Frame f) said memory left = (ap (refusal_by old.mirror) said, left)
-fails header body old new code.UnknownReply said memory left = (ap (refusal_by old.mirror) said, left)
-fails header body old new code.BadReply said memory left = (ap (refusal_by old.mirror) said, left)
-fails header body old new code.TooManyParked said memory left = (ap (refusal_by old.mirror) said, left)
-fails header body old new code.BadEvent said memory left = (ap (refusal_by old.mirror) said, left)
+fails header body old new (code.Frame f) said memory left = (ap (refusal_by old.order old.mirror) said, left)
+fails header body old new code.UnknownReply said memory left = (ap (refusal_by old.order old.mirror) said, left)
+fails header body old new code.BadReply said memory left = (ap (refusal_by old.order old.mirror) said, left)
+fails header body old new code.TooManyParked said memory left = (ap (refusal_by old.order old.mirror) said, left)
+fails header body old new code.BadEvent said memory left = (ap (refusal_by old.order old.mirror) said, left)
 
 -- composites that waited are refused where one of them is bad
-pub fails-measuring : (f : DebuggerFault) (old new : Debugger) (place : ℕ) (answer : Answer) (w : Widths) (cs : List CompositeMeaning) → FailsOnly f (has_bad_event none_known (reports cs)) → FailsTo f old new
+pub fails-measuring : (f : DebuggerFault) (old new : Debugger) (place : ℕ) (answer : Answer) (w : Widths) (cs : List CompositeMeaning) → FailsOnly f (has_bad_in old.order none_known (reports cs)) → FailsTo f old new
     → EntersOrFails (Measures place answer w cs) old f new
 fails-measuring code.NoMemory old new place answer w cs only left = (tt, left)
 fails-measuring code.BadEvent old new place answer w cs only left = (ap bad_where only, left)

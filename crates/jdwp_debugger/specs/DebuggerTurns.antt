@@ -18,6 +18,7 @@ use Rattle.jdwp_debugger.specs.declared.faults.DebuggerFault.{DebuggerFault}
 use Rattle.jdwp_debugger.specs.declared.faults.DebuggerFault.TheVariants as code
 use Rattle.jdwp_debugger.specs.declared.heads.Head.{Head}
 use Rattle.jdwp_debugger.specs.declared.heads.Head.TheVariants as head
+use Rattle.jdwp_debugger.specs.declared.order.Order.{Order}
 use Rattle.jdwp_debugger.specs.declared.reading.Known.{Known}
 use Rattle.jdwp_debugger.specs.declared.reading.News as declared
 use Rattle.jdwp_debugger.specs.declared.reading.News.TheVariants as news
@@ -25,12 +26,13 @@ use Rattle.jdwp_debugger.specs.declared.turning.Read.{Read}
 use Rattle.jdwp_debugger.specs.declared.turning.Read.TheVariants as read
 use Rattle.jdwp_debugger.specs.Debuggers.{Asked, Debugger}
 use Rattle.jdwp_debugger.specs.Debuggers as debuggers
-use Rattle.jdwp_mirror.specs.Faults.{PARKED_MOST, is_bad_event, has_bad_event}
+use Rattle.jdwp_debugger.specs.Orders.{LearnedIn, has_bad_in, is_bad_in, none_known}
+use Rattle.jdwp_mirror.specs.Faults.{PARKED_MOST}
 use Rattle.jdwp_mirror.specs.FaultParts.{IsData}
 use Rattle.jdwp_mirror.specs.KnownThreads.{count_in}
 use Rattle.jdwp_mirror.specs.Messages.{Message, Reply, Report, id_sizes}
 use Rattle.jdwp_mirror.specs.Mirror.{ends}
-use Rattle.jdwp_mirror.specs.Mirrors.{Mirror, Learned, empty_mirror}
+use Rattle.jdwp_mirror.specs.Mirrors.{Mirror, empty_mirror}
 use Rattle.jdwp_debugger.specs.News.{News, Waits, Happens, Answers, Measures, Reading, Fails, says}
 
 -- ---- what a turn tells
@@ -100,9 +102,9 @@ greeted used d = record d {
 -- ---- what is learned
 
 -- messages in the order in which they are learned
-abbrev pub LearnedAll : Mirror → List Message → Mirror → Type 0
-LearnedAll old [] new = new ≡ old
-LearnedAll old (message ∷ messages) new = (middle : Mirror) × Learned old message middle × LearnedAll middle messages new
+abbrev pub LearnedAll : Order → Mirror → List Message → Mirror → Type 0
+LearnedAll order old [] new = new ≡ old
+LearnedAll order old (message ∷ messages) new = (middle : Mirror) × LearnedIn order old message middle × LearnedAll order middle messages new
 
 abbrev pub reports : List CompositeMeaning → List Message
 reports cs = map (λ (c : CompositeMeaning). Report c) cs
@@ -133,46 +135,42 @@ abbrev pub Enters : streams.Message → ℕ → Header → News → Debugger →
 Enters message used header (Waits bytes) old told new =
     (told ≡ Parked) × (new ≡ record (with_read message used [] old) { parked = old.parked ++ record { header = header; body = bytes } ∷ [] })
 Enters message used header (Happens c) old told new =
-    (told ≡ Seen c) × ((m : Mirror) × Learned old.mirror (Report c) m
+    (told ≡ Seen c) × ((m : Mirror) × LearnedIn old.order old.mirror (Report c) m
     × (new ≡ closed_where (ends (Report c)) (record (with_read message used (head.Composite header ∷ []) old) { mirror = m })))
 Enters message used header (Answers place ticket answer) old told new =
-    (told ≡ Answered ticket answer) × ((m : Mirror) × Learned old.mirror (Reply (Some ticket) (command_at place old.pending) answer) m
+    (told ≡ Answered ticket answer) × ((m : Mirror) × LearnedIn old.order old.mirror (Reply (Some ticket) (command_at place old.pending) answer) m
     × (new ≡ closed_where (ends (Reply (Some ticket) (command_at place old.pending) answer))
     (record (with_read message used (reply_head header (command_at place old.pending) ∷ []) old) { mirror = m; pending = remove old.pending place })))
 Enters message used header (Measures place answer w cs) old told new =
-    (told ≡ Sizes cs) × ((m : Mirror) × LearnedAll empty_mirror (reports cs ++ Reply None (command_at place old.pending) answer ∷ []) m
+    (told ≡ Sizes cs) × ((m : Mirror) × LearnedAll old.order empty_mirror (reports cs ++ Reply None (command_at place old.pending) answer ∷ []) m
     × (new ≡ measured_where (list_any ends (reports cs)) w (with_sizes message used header place m w old)))
 
 -- ---- what is refused
 
 abbrev pub reading_of : Debugger → Reading
-reading_of d = record { sizes = d.sizes; parked = d.parked; pending = d.pending }
+reading_of d = record { order = d.order; sizes = d.sizes; parked = d.parked; pending = d.pending }
 
 -- the same of what the code reads by
 abbrev pub reading : Known → Reading
-reading known = record { sizes = known.sizes; parked = known.parked.now; pending = known.pending.now }
+reading known = record { order = known.order; sizes = known.sizes; parked = known.parked.now; pending = known.pending.now }
 
 abbrev pub bad_where : Bool → Option DebuggerFault
 bad_where true = Some code.BadEvent
 bad_where false = None
 
--- no thread is known
-abbrev pub none_known : ℕ → Option ℕ
-none_known t = None
-
 -- events that no target may send
-abbrev pub news_refusal : Mirror → News → Option DebuggerFault
-news_refusal m (Waits bytes) = None
-news_refusal m (Happens c) = bad_where (is_bad_event (count_in m.threads) c)
-news_refusal m (Answers place ticket answer) = None
-news_refusal m (Measures place answer w cs) = bad_where (has_bad_event none_known (reports cs))
+abbrev pub news_refusal : Order → Mirror → News → Option DebuggerFault
+news_refusal order m (Waits bytes) = None
+news_refusal order m (Happens c) = bad_where (is_bad_in order (count_in m.threads) c)
+news_refusal order m (Answers place ticket answer) = None
+news_refusal order m (Measures place answer w cs) = bad_where (has_bad_in order none_known (reports cs))
 
-abbrev pub refusal_by : Mirror → Result News DebuggerFault → Option DebuggerFault
-refusal_by m (Ok news) = news_refusal m news
-refusal_by m (Err fault) = Some fault
+abbrev pub refusal_by : Order → Mirror → Result News DebuggerFault → Option DebuggerFault
+refusal_by order m (Ok news) = news_refusal order m news
+refusal_by order m (Err fault) = Some fault
 
 abbrev pub refusal : Debugger → Header → List ℕ → Option DebuggerFault
-refusal d header body = refusal_by d.mirror (says (reading_of d) header.id header.kind body)
+refusal d header body = refusal_by d.order d.mirror (says (reading_of d) header.id header.kind body)
 
 -- a reply with an error takes no memory
 abbrev pub MayWantMemory : PacketKind → Type 0
@@ -210,8 +208,8 @@ pub record TellsSizes (d : Debugger) (header : Header) (used place : ℕ) (w : W
   pub answer : Answer
   pub composites : List CompositeMeaning
   pub said : IsSaid d header used (Measures place answer w composites)
-  pub unrefused : news_refusal d.mirror (Measures place answer w composites) ≡ None
-  pub learned : LearnedAll empty_mirror (reports composites ++ Reply None (command_at place d.pending) answer ∷ []) mirror
+  pub unrefused : news_refusal d.order d.mirror (Measures place answer w composites) ≡ None
+  pub learned : LearnedAll d.order empty_mirror (reports composites ++ Reply None (command_at place d.pending) answer ∷ []) mirror
 
 -- what a failure leaves
 abbrev pub FailsTo : DebuggerFault → Debugger → Debugger → Type 0
@@ -226,18 +224,18 @@ FailsOnly fault bad = ⊥
 
 abbrev pub EntersOrFails : News → Debugger → DebuggerFault → Debugger → Type 0
 EntersOrFails news old code.NoMemory new = WantsMemory news × (new ≡ old)
-EntersOrFails news old fault new = (news_refusal old.mirror news ≡ Some fault) × (new ≡ refused old)
+EntersOrFails news old fault new = (news_refusal old.order old.mirror news ≡ Some fault) × (new ≡ refused old)
 
 abbrev pub EntersAt : Header → List ℕ → ℕ → News → Debugger → Result Read DebuggerFault → Debugger → Type 0
 EntersAt header body used news old result new =
-    MatchResult result (λ r. (news_refusal old.mirror news ≡ None) × Enters (streams.Packet header body) used header news old (read_meaning r) new) (λ fault. EntersOrFails news old fault new)
+    MatchResult result (λ r. (news_refusal old.order old.mirror news ≡ None) × Enters (streams.Packet header body) used header news old (read_meaning r) new) (λ fault. EntersOrFails news old fault new)
 
 -- ---- turns
 
 pub record ReadsAt (header : Header) (body : List ℕ) (used : ℕ) (old : Debugger) (told : Told) (new : Debugger) : Type 0 where
   pub news : News
   pub said : says (reading_of old) header.id header.kind body ≡ Ok news
-  pub unrefused : news_refusal old.mirror news ≡ None
+  pub unrefused : news_refusal old.order old.mirror news ≡ None
   pub entered : Enters (streams.Packet header body) used header news old told new
 
 abbrev pub HandlesAt : streams.Message → ℕ → Debugger → Result Read DebuggerFault → Debugger → Type 0

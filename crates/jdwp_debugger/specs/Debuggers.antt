@@ -11,6 +11,8 @@ use Rattle.jdwp_end.specs.Ends.{End}
 use Rattle.jdwp_end.specs.Ends as ends
 use Rattle.jdwp_action.specs.Actions.{Command}
 use Rattle.jdwp_debugger.specs.declared.heads.Head.{Head}
+use Rattle.jdwp_debugger.specs.declared.order.Order.{Order}
+use Rattle.jdwp_debugger.specs.declared.order.Order.TheVariants.{One}
 use Rattle.jdwp_debugger.specs.declared.pending.Ticket.{Ticket}
 use Rattle.jdwp_mirror.specs.Messages.{id_sizes}
 use Rattle.jdwp_mirror.specs.Mirrors.{Mirror, empty_mirror}
@@ -27,10 +29,11 @@ pub record Asked : Type 0 where
   pub ticket : Option Ticket
   pub command : Command
 
--- What both ends have; what was learned; the widths of ids, once they are known; the composites that wait for them, in the order read;
+-- In which order the target sends what it says; what both ends have; what was learned; the widths of ids, once they are known; the composites that wait for them, in the order read;
 -- the commands that wait for replies, in the order asked; the id of the next packet; how many tickets were given; and what the last turn
 -- read, in the order in which it was learned.
 pub record Debugger : Type 0 where
+  pub order : Order
   pub end : End
   pub mirror : Mirror
   pub sizes : Option Widths
@@ -85,10 +88,14 @@ is_front More = false
 
 -- ---- what each call does
 
--- a debugger before its first session
+-- a debugger before its first session, of a target of this order
+abbrev pub new_debugger_in : Order → Limits → ℕ → Debugger
+new_debugger_in order limits first =
+    record { order = order; end = ends.new_end limits; mirror = empty_mirror; sizes = None; parked = []; pending = []; next_id = first; tickets = 0; last = [] }
+
+-- the same of a target that sends each packet as it acts
 abbrev pub new_debugger : Limits → ℕ → Debugger
-new_debugger limits first =
-    record { end = ends.new_end limits; mirror = empty_mirror; sizes = None; parked = []; pending = []; next_id = first; tickets = 0; last = [] }
+new_debugger limits first = new_debugger_in One limits first
 
 -- a session begins: the handshake is to leave
 abbrev pub attached : Debugger → Debugger

@@ -12,7 +12,7 @@ use Rattle.jdwp_mirror.specs.Mirrors.{empty_mirror}
 
 abbrev pub view_of : Inside → Debugger
 view_of d =
-    record { end = d.end; mirror = d.mirror; sizes = d.sizes; parked = d.parked.items; pending = d.pending; next_id = d.next_id; tickets = d.tickets; last = d.last }
+    record { order = d.order; end = d.end; mirror = d.mirror; sizes = d.sizes; parked = d.parked.items; pending = d.pending; next_id = d.next_id; tickets = d.tickets; last = d.last }
 
 -- The limits are some that there may be; no more commands wait for replies than they allow, and no more composites for the widths of ids
 -- than may; no two commands wait under one id, and without a ticket only IDSizes; nothing waits before the target's handshake, and IDSizes

@@ -1,10 +1,11 @@
 -- What a debugger knows in a session by the commands that it put and the packets that it read, one by one and in order.
 use Rattle.std.specs.Prelude.{◌≡◌, ℕ, ◌+◌, Bool, false, List, [], ◌∷◌, ◌++◌, fold, map, remove, Option, Some, None, Result, Ok, Err}
 use Rattle.std.specs.List.{flat_map}
-use Rattle.jdwp_wire.specs.Widths.{Widths}
 use Rattle.jdwp_wire.specs.declared.packet.Header.{Header}
 use Rattle.jdwp_action.specs.Actions.{Command}
 use Rattle.jdwp_debugger.specs.declared.faults.DebuggerFault.{DebuggerFault}
+use Rattle.jdwp_debugger.specs.declared.order.Order.{Order}
+use Rattle.jdwp_debugger.specs.declared.order.Order.TheVariants.{One, Apart}
 use Rattle.jdwp_debugger.specs.declared.pending.Ticket as code
 use Rattle.jdwp_debugger.specs.Debuggers.{Asked}
 use Rattle.jdwp_debugger.specs.DebuggerTurns.{command_at, reports}
@@ -38,9 +39,9 @@ pub record Knowledge : Type 0 where
   pub tickets : ℕ
   pub history : List Exchange
 
--- before a session, and behind its end, where so many tickets were given
-abbrev pub nothing : ℕ → Knowledge
-nothing tickets = record { reading = record { sizes = None; parked = []; pending = [] }; tickets = tickets; history = [] }
+-- before a session, and behind its end, with a target of this order, where so many tickets were given
+abbrev pub nothing : Order → ℕ → Knowledge
+nothing order tickets = record { reading = record { order = order; sizes = None; parked = []; pending = [] }; tickets = tickets; history = [] }
 
 -- a command is put under an id, and waits for its reply
 abbrev pub with_put : ℕ → Option code.Ticket → Command → Knowledge → Knowledge
@@ -68,7 +69,7 @@ abbrev pub reading_after : Header → News → Reading → Reading
 reading_after header (Waits bytes) r = record r { parked = r.parked ++ record { header = header; body = bytes } ∷ [] }
 reading_after header (Happens c) r = r
 reading_after header (Answers place ticket answer) r = record r { pending = remove r.pending place }
-reading_after header (Measures place answer w cs) r = record { sizes = Some w; parked = []; pending = remove r.pending place }
+reading_after header (Measures place answer w cs) r = record { order = r.order; sizes = Some w; parked = []; pending = remove r.pending place }
 
 abbrev pub with_news : Header → News → Knowledge → Knowledge
 with_news header news k =
@@ -97,3 +98,12 @@ pub record IsMirrorOf (messages : List Message) (m : Mirror) : Type 0 where
   pub counts : (t : ℕ) → count_in m.threads t ≡ (standing messages t).0
   pub held : (t : ℕ) → is_held_in m.threads t ≡ (standing messages t).1
   pub requests : m.requests ≡ fold requests_by [] messages
+
+-- where counts are not known, it has of the requests what they say, and knows no thread
+pub record IsMirrorApart (messages : List Message) (m : Mirror) : Type 0 where
+  pub threads : m.threads ≡ []
+  pub requests : m.requests ≡ fold requests_by [] messages
+
+abbrev pub IsMirrorIn : Order → List Message → Mirror → Type 0
+IsMirrorIn One messages m = IsMirrorOf messages m
+IsMirrorIn Apart messages m = IsMirrorApart messages m

@@ -15,7 +15,8 @@ use Rattle.jdwp_debugger.specs.Debuggers.{AreOwn, Asked, Debugger, IsSizesAlone}
 use Rattle.jdwp_debugger.specs.DebuggerTurns.{refusal, reports}
 use Rattle.jdwp_debugger.specs.FaultNumbers.{fault_number, packet_fault_number}
 use Rattle.jdwp_debugger.specs.News.{composites_in, place_of}
-use Rattle.jdwp_mirror.specs.Faults.{PARKED_MOST, Reader, fault_of, is_waited_for}
+use Rattle.jdwp_debugger.specs.Orders.{fault_in}
+use Rattle.jdwp_mirror.specs.Faults.{PARKED_MOST, Reader, is_waited_for}
 use Rattle.jdwp_mirror.specs.KnownThreads.{count_in}
 use Rattle.jdwp_mirror.specs.Messages.{Message, Handshake, Reply, Report, Ticket}
 use Rattle.jdwp_mirror.specs.Mirrors.{empty_mirror}
@@ -85,4 +86,4 @@ EncodesMessage d waiting header body (Reply ticket command answer) =
 -- A packet that encodes a message is refused for what the message is refused for.
 abbrev pub IsJudgedAs : Debugger → List CompositeMeaning → Header → List ℕ → Message → Type 0
 IsJudgedAs d waiting header body message =
-    option_map fault_number (refusal d header body) ≡ option_map packet_fault_number (fault_of (reader_of d waiting) message)
+    option_map fault_number (refusal d header body) ≡ option_map packet_fault_number (fault_in d.order (reader_of d waiting) message)

@@ -1,6 +1,7 @@
 pub mod Debuggers
 pub mod PendingKept
 pub mod DebuggersKept
+pub mod Orders
 pub mod Asking
 pub mod RefusedNumbers
 pub mod FaultNumbers

@@ -21,6 +21,8 @@ use Rattle.jdwp_action.specs.Actions.{Command}
 use Rattle.jdwp_action.specs.RowLayouts.{row_reply}
 use Rattle.jdwp_debugger.specs.declared.faults.DebuggerFault.{DebuggerFault}
 use Rattle.jdwp_debugger.specs.declared.faults.DebuggerFault.TheVariants.{UnknownReply, BadReply, TooManyParked, BadEvent, NoMemory}
+use Rattle.jdwp_debugger.specs.declared.order.Order.{Order}
+use Rattle.jdwp_debugger.specs.declared.order.Order.TheVariants.{One, Apart}
 use Rattle.jdwp_debugger.specs.declared.pending.Ticket.{Ticket}
 use Rattle.jdwp_debugger.specs.Debuggers.{Asked, Parked}
 use Rattle.jdwp_mirror.specs.Faults.{PARKED_MOST, is_bad_reply}
@@ -67,6 +69,12 @@ abbrev pub answer_in : Widths → Command → ErrorCode → List ℕ → Option 
 answer_in w c e bytes =
     if e.0 == NONE.0 then data_by w (row_reply (row_at c.set c.number)) bytes else (if length bytes == 0 then Some (Error e) else None)
 
+-- the same by the order: a target that sends replies by a thread of its own may put into a reply with an error what it had written of its
+-- data by then, which say nothing
+abbrev pub answer_by : Order → Widths → Command → ErrorCode → List ℕ → Option Answer
+answer_by One w c e bytes = answer_in w c e bytes
+answer_by Apart w c e bytes = if e.0 == NONE.0 then data_by w (row_reply (row_at c.set c.number)) bytes else Some (Error e)
+
 -- an answer that a debugger can use
 abbrev pub unless_bad : Command → Option Answer → Option Answer
 unless_bad c None = None
@@ -100,9 +108,10 @@ pub data News : Type 0 where
   Answers : ℕ → ℕ → Answer → News
   Measures : ℕ → Answer → Widths → List CompositeMeaning → News
 
--- What a debugger reads packets by: the widths of ids, if it knows them, the composites that wait for them, and the commands that wait
+-- What a debugger reads packets by: the order in which the target sends, the widths of ids, if it knows them, the composites that wait for them, and the commands that wait
 -- for replies.
 pub record Reading : Type 0 where
+  pub order : Order
   pub sizes : Option Widths
   pub parked : List Parked
   pub pending : List Asked
@@ -132,7 +141,7 @@ answer_says parked place None (Some answer) = sizes_say parked place answer (wid
 
 -- the reply to a command
 abbrev pub reply_says : Reading → ErrorCode → List ℕ → ℕ → Asked → Result News DebuggerFault
-reply_says r e bytes place asked = answer_says r.parked place asked.ticket (unless_bad asked.command (answer_in (widths_by r.sizes) asked.command e bytes))
+reply_says r e bytes place asked = answer_says r.parked place asked.ticket (unless_bad asked.command (answer_by r.order (widths_by r.sizes) asked.command e bytes))
 
 abbrev pub reply_to : Reading → ErrorCode → List ℕ → ℕ → Option Asked → Result News DebuggerFault
 reply_to r e bytes place None = Err UnknownReply

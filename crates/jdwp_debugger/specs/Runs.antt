@@ -16,10 +16,11 @@ use Rattle.jdwp_end.specs.Ends.{End, front_of, is_open}
 use Rattle.jdwp_end.specs.Runs.{Carries}
 use Rattle.jdwp_action.specs.Actions.{Command}
 use Rattle.jdwp_debugger.specs.declared.faults.DebuggerFault.{DebuggerFault}
+use Rattle.jdwp_debugger.specs.declared.order.Order.{Order}
 use Rattle.jdwp_debugger.specs.declared.turning.Read.{Read}
 use Rattle.jdwp_action.specs.CommandPackets.{carried_bytes}
 use Rattle.jdwp_debugger.specs.Asking.{EncodesCommand, HasAsked, command_header}
-use Rattle.jdwp_debugger.specs.Debuggers.{Asked, Debugger, attached, lost_debugger, new_debugger, with_fed, with_taken}
+use Rattle.jdwp_debugger.specs.Debuggers.{Asked, Debugger, attached, lost_debugger, new_debugger_in, with_fed, with_taken}
 use Rattle.jdwp_debugger.specs.DebuggerTurns.{LearnedAll, TurnsAt, news_refusal, reading_of, sizes_header}
 use Rattle.jdwp_debugger.specs.Histories.{Knowledge, heard, nothing, with_asked, with_put, with_said}
 use Rattle.jdwp_debugger.specs.News.{News, Reading, says}
@@ -116,49 +117,49 @@ InOrder phase ids (act ∷ acts) = MayCome phase ids act × InOrder (phase_after
 -- ---- what is known
 
 abbrev pub known_after : Knowledge → Act → Knowledge
-known_after k Attaches = nothing k.tickets
+known_after k Attaches = nothing k.reading.order k.tickets
 known_after k (Greets id) = with_put id None id_sizes k
 known_after k (Reads header body) = with_said header (says k.reading header.id header.kind body) k
 known_after k (Asks w id c) = with_asked id c k
-known_after k Ends = nothing k.tickets
+known_after k Ends = nothing k.reading.order k.tickets
 
 -- after these acts, where so many tickets were given before them
-abbrev pub known : ℕ → List Act → Knowledge
-known before acts = fold known_after (nothing before) acts
+abbrev pub known : Order → ℕ → List Act → Knowledge
+known order before acts = fold known_after (nothing order before) acts
 
 -- A packet is read where it is not refused: it says something, and of what it says nothing is bad by a mirror that learned all that was
 -- heard before it, in order, and nothing else.
-pub record IsTaken (k : Knowledge) (header : Header) (body : List ℕ) : Type 0 where
+pub record IsTaken (order : Order) (k : Knowledge) (header : Header) (body : List ℕ) : Type 0 where
   pub news : News
   pub said : says k.reading header.id header.kind body ≡ Ok news
   pub mirror : Mirror
-  pub learned : LearnedAll empty_mirror (heard k.history) mirror
-  pub unrefused : news_refusal mirror news ≡ None
+  pub learned : LearnedAll order empty_mirror (heard k.history) mirror
+  pub unrefused : news_refusal order mirror news ≡ None
 
 -- What may be done by what is known: a packet is read that is not refused, and a command put in ids as wide as the target told.
-abbrev pub MayDo : Knowledge → Act → Type 0
-MayDo k Attaches = Unit {0}
-MayDo k (Greets id) = Unit {0}
-MayDo k (Reads header body) = IsTaken k header body
-MayDo k (Asks w id c) = k.reading.sizes ≡ Some w
-MayDo k Ends = Unit {0}
+abbrev pub MayDo : Order → Knowledge → Act → Type 0
+MayDo order k Attaches = Unit {0}
+MayDo order k (Greets id) = Unit {0}
+MayDo order k (Reads header body) = IsTaken order k header body
+MayDo order k (Asks w id c) = k.reading.sizes ≡ Some w
+MayDo order k Ends = Unit {0}
 
-abbrev pub MayDoAll : Knowledge → List Act → Type 0
-MayDoAll k [] = Unit {0}
-MayDoAll k (act ∷ acts) = MayDo k act × MayDoAll (known_after k act) acts
+abbrev pub MayDoAll : Order → Knowledge → List Act → Type 0
+MayDoAll order k [] = Unit {0}
+MayDoAll order k (act ∷ acts) = MayDo order k act × MayDoAll order (known_after k act) acts
 
 -- ---- the whole session
 
 abbrev pub ids_of : List Asked → List ℕ
 ids_of pending = map (λ (p : Asked). p.id) pending
 
--- What a debugger with this end did in a session, in order, where so many tickets were given, packets are read by this, and this was
+-- What a debugger of this order with this end did in a session, in order, where so many tickets were given, packets are read by this, and this was
 -- learned. Nothing is read or put behind its end, as which the first refused message counts, until the next begins; the commands that
 -- wait are those that were put and not yet replied to; what its end carries are the messages read; and what was enqueued to leave are the
 -- bytes of the messages put. Each packet that was read was not refused; by what was put and read the debugger knows which commands wait and
 -- under which tickets, which composites wait for the widths of ids, and these; and the mirror is what the messages that were heard, each
 -- once and in order, leave of the empty one.
-pub record HasRun (end : End) (tickets : ℕ) (reading : Reading) (mirror : Mirror) : Type 0 where
+pub record HasRun (order : Order) (end : End) (tickets : ℕ) (reading : Reading) (mirror : Mirror) : Type 0 where
   pub acts : List Act
   pub in_order : InOrder Closed [] acts
   pub phase : end.phase ≡ phase_of acts
@@ -167,21 +168,21 @@ pub record HasRun (end : End) (tickets : ℕ) (reading : Reading) (mirror : Mirr
   pub enqueued : end.session.enqueued ≡ stream (put acts)
   -- how many tickets were given before the session
   pub before : ℕ
-  pub taken : MayDoAll (nothing before) acts
-  pub given : tickets ≡ (known before acts).tickets
-  pub knows : is_open end ≡ true → reading ≡ (known before acts).reading
-  pub learned : LearnedAll empty_mirror (heard (known before acts).history) mirror
+  pub taken : MayDoAll order (nothing order before) acts
+  pub given : tickets ≡ (known order before acts).tickets
+  pub knows : is_open end ≡ true → reading ≡ (known order before acts).reading
+  pub learned : LearnedAll order empty_mirror (heard (known order before acts).history) mirror
 
 abbrev pub Ran : Debugger → Type 0
-Ran d = HasRun d.end d.tickets (reading_of d) d.mirror
+Ran d = HasRun d.order d.end d.tickets (reading_of d) d.mirror
 
 -- the messages that were heard in a run, in order
-abbrev pub heard_by : {end : End} {tickets : ℕ} {reading : Reading} {mirror : Mirror} → HasRun end tickets reading mirror → List heards.Message
-heard_by run = heard (known run.before run.acts).history
+abbrev pub heard_by : {order : Order} {end : End} {tickets : ℕ} {reading : Reading} {mirror : Mirror} → HasRun order end tickets reading mirror → List heards.Message
+heard_by {order = order} run = heard (known order run.before run.acts).history
 
 -- What each call leaves of a run, whatever it answers.
 pub record GoesOn : Type 0 where
-  pub new : (limits : Limits) (id : ℕ) → Ran (new_debugger limits id)
+  pub new : (order : Order) (limits : Limits) (id : ℕ) → Ran (new_debugger_in order limits id)
   pub attached : (d : Debugger) → Ran (attached d)
   pub asked : (command : Command) (old new : Debugger) → Ran old → HasAsked command old new → Ran new
   pub turned : (old new : Debugger) (result : Result Read DebuggerFault) → IsBytes old.end.incoming → Ran old → TurnsAt (front_of old.end) old result new → Ran new

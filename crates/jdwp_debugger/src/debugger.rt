@@ -8,8 +8,8 @@ ghost use Rattle.jdwp_wire.specs.Limits.{AreLimits, standard_limits};
 ghost use Rattle.jdwp_wire.specs.Streams.{More};
 ghost use Rattle.jdwp_wire.specs.Widths.{Widths};
 ghost use Rattle.jdwp_debugger.specs.Asking.{HasAsked, IsAdmitted, IsRefusal, MayLeave, is_busy, refusal_of_ask};
-ghost use Rattle.jdwp_debugger.specs.Debuggers.{AreDistinct, AreOwn, Begins, IsSizesAlone, at_place, attached, has_tickets, is_front, lost_debugger, new_debugger, seen_unanswered, tickets_of, unanswered, with_fed, with_taken};
-ghost use Rattle.jdwp_debugger.specs.Histories.{IsMirrorOf};
+ghost use Rattle.jdwp_debugger.specs.Debuggers.{AreDistinct, AreOwn, Begins, IsSizesAlone, at_place, attached, has_tickets, is_front, lost_debugger, new_debugger, new_debugger_in, seen_unanswered, tickets_of, unanswered, with_fed, with_taken};
+ghost use Rattle.jdwp_debugger.specs.Histories.{IsMirrorIn};
 ghost use Rattle.jdwp_debugger.specs.Runs.{Ran, heard_by};
 ghost use Rattle.jdwp_mirror.specs.Faults.{PARKED_MOST};
 ghost use Rattle.jdwp_mirror.specs.Mirrors.{empty_mirror};
@@ -17,6 +17,7 @@ ghost use Rattle.jdwp_mirror.specs.Mirrors.{empty_mirror};
 use crate::asking::{Admitted, Body, Refused};
 use crate::heads::{Head, Heads};
 use crate::lost::Lost;
+use crate::order::Order;
 use crate::parked::Parked;
 use crate::pending::{Pending, Ticket};
 use jdwp_end::{End, Front};
@@ -31,6 +32,7 @@ const LAST_TICKET: u64 = u64::MAX;
 /// A debugger: its end of a session, what it learned, and the commands that wait for replies.
 #[derive(Drop)]
 pub struct Debugger {
+    pub(crate) order: Order,
     pub(crate) end: End,
     pub(crate) mirror: Mirror,
     pub(crate) sizes: Option<IdSizes>,
@@ -82,8 +84,26 @@ impl Debugger {
     pub fn with_limits(alloc: Global, first_id: u32, limits: Limits) -> Result<Debugger, NoMemory>
         ensures { IfOk result (λ d. d ≡ new_debugger limits first_id) }
     {
+        Debugger::with_order(alloc, first_id, limits, Order::One)
+    }
+
+    /// The same of a target that sends its replies and composites in this order. In `Apart` no composite is refused for the suspend count of
+    /// its thread, VM_DEATH may come as it was asked for beside the one that the target sends by itself, a reply with an error may have data,
+    /// and the mirror knows no thread, only the event requests.
+    ///
+    /// # Errors
+    /// `NoMemory` where an allocation was refused.
+    pub fn with_order(
+        alloc: Global,
+        first_id: u32,
+        limits: Limits,
+        order: Order,
+    ) -> Result<Debugger, NoMemory>
+        ensures { IfOk result (λ d. d ≡ new_debugger_in order limits first_id) }
+    {
         are_limits(&limits);
         Ok(Debugger {
+            order,
             end: End::new(alloc, limits)?,
             mirror: Mirror::new(alloc),
             sizes: None,
@@ -93,6 +113,13 @@ impl Debugger {
             tickets: 0,
             last: Heads::new(),
         })
+    }
+
+    /// In which order its target sends replies and composites.
+    pub fn order(&self) -> Order
+        ensures { result ≡ self.now.order }
+    {
+        self.order
     }
 
     /// The next packet has this id, where no command that waits for a reply has it.
@@ -281,7 +308,7 @@ impl Debugger {
         }
     }
 
-    /// What was learned from the packets that were read in this session.
+    /// What was learned from the packets that were read in this session; in the order `Apart` of event requests alone.
     pub fn mirror(&self) -> &Mirror
         ensures { result.now ≡ self.now.mirror }
     {
@@ -318,7 +345,7 @@ impl Debugger {
     /// is learned, and from when on no composite waits; and that the next id has four bytes. It changes nothing.
     pub fn session(&self)
         ensures ran { Ran self.now }
-        ensures mirror { (run : Ran self.now) → IsMirrorOf (heard_by run) self.now.mirror }
+        ensures mirror { (run : Ran self.now) → IsMirrorIn self.now.order (heard_by run) self.now.mirror }
         ensures pending { length self.now.pending ≤ self.now.end.limits.pending }
         ensures limits { AreLimits self.now.end.limits.packet self.now.end.limits.live
             self.now.end.limits.requests self.now.end.limits.pending }

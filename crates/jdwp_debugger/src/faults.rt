@@ -16,7 +16,7 @@ pub enum DebuggerFault {
     /// A reply under an id under which no command waits.
     #[error("fault 42: a reply to no command that waits")]
     UnknownReply,
-    /// A reply without an error whose data do not read, or with a negative suspend count; one with an error and data; one to IDSizes
+    /// A reply without an error whose data do not read, or with a negative suspend count; one with an error and data, where the order is `One`; one to IDSizes
     /// with an error, or with a width outside 1 to 8.
     #[error("fault 43: a reply whose data do not read, or an error reply with data")]
     BadReply,

@@ -8,6 +8,7 @@ mod heads;
 mod laws;
 mod lost;
 mod news;
+mod order;
 mod parked;
 mod pending;
 mod reading;
@@ -25,5 +26,6 @@ pub use laws::{
     tells_what_it_read,
 };
 pub use lost::Lost;
+pub use order::Order;
 pub use pending::Ticket;
 pub use turning::Read;

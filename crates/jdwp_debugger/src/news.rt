@@ -1,17 +1,19 @@
 //! What packets from a target say by their bytes.
-ghost use Rattle.std.specs.Prelude.{◌≡◌, ℕ, IfOk, List, Result};
+ghost use Rattle.std.specs.Prelude.{◌≡◌, ◌==◌, ℕ, IfOk, List, None, Result, Some, if◌then◌else◌, length};
 ghost use Rattle.std.specs.Result.{IsErrOf};
 ghost use Rattle.jdwp_wire.specs.ErrorCodes.{NONE};
 ghost use Rattle.jdwp_wire.specs.declared.data_fault.DataFault.{DataFault};
 ghost use Rattle.jdwp_wire.specs.Reading as reading;
 ghost use Rattle.jdwp_layout.specs.Meanings.{DatumMeaning, meanings};
+ghost use Rattle.jdwp_layout.specs.declared.answer.Answer.TheVariants.{Error};
 ghost use Rattle.jdwp_event.specs.Composites.{CompositeMeaning};
 ghost use Rattle.jdwp_action.specs.RowLayouts.{found_layout};
 ghost use Rattle.jdwp_debugger.specs.declared.faults.DebuggerFault.TheVariants as code;
 ghost use Rattle.jdwp_mirror.specs.FaultParts.{IsData};
-ghost use Rattle.jdwp_debugger.specs.News.{Fails, Tells, answer_in, composite_in, composites_in, content_in, data_by, raw_data, required, unless_bad, whole};
+ghost use Rattle.jdwp_debugger.specs.News.{Fails, Tells, answer_by, answer_in, composite_in, composites_in, content_in, data_by, raw_data, required, unless_bad, whole};
 
 use crate::faults::DebuggerFault;
+use crate::order::Order;
 use crate::parked::Parked;
 use jdwp_action::reply_layout;
 use jdwp_event::Composite;
@@ -82,21 +84,22 @@ pub(crate) fn read_parked(
 /// The answer of a reply to a command, with this error code and these data.
 ///
 /// # Errors
-/// `BadReply` where the data do not read, an error has data, or a debugger can't use them; `NoMemory` where an allocation was refused,
+/// `BadReply` where the data do not read, an error has data and the order is `One`, or a debugger can't use them; `NoMemory` where an allocation was refused,
 /// which a reply with an error does not call for.
 pub(crate) fn read_answer(
     alloc: Global,
+    order: Order,
     command: &Command,
     sizes: &IdSizes,
     error: ErrorCode,
     bytes: &[u8],
 ) -> Result<Answer, DebuggerFault>
     ensures value { Tells (λ a. a) result (required code.BadReply (unless_bad command.now
-        (answer_in sizes.now command.now error bytes.now))) }
+        (answer_by order sizes.now command.now error bytes.now))) }
     ensures memory { IsErrOf result code.NoMemory → error.0 ≡ NONE.0 }
     ensures without_error { IfOk result (λ a. IsData a → error.0 ≡ NONE.0) }
 {
-    let answer = read_any_answer(alloc, command, sizes, error, bytes)?;
+    let answer = read_any_answer(alloc, order, command, sizes, error, bytes)?;
     if is_bad_answer(command, &answer) {
         return Err(DebuggerFault::BadReply);
     }
@@ -106,13 +109,14 @@ pub(crate) fn read_answer(
 /// The same, whether or not a debugger can use it.
 fn read_any_answer(
     alloc: Global,
+    order: Order,
     command: &Command,
     sizes: &IdSizes,
     error: ErrorCode,
     bytes: &[u8],
 ) -> Result<Answer, DebuggerFault>
     ensures value { Tells (λ a. a) result (required code.BadReply
-        (answer_in sizes.now command.now error bytes.now)) }
+        (answer_by order sizes.now command.now error bytes.now)) }
     ensures memory { IsErrOf result code.NoMemory → error.0 ≡ NONE.0 }
     ensures without_error { IfOk result (λ a. IsData a → error.0 ≡ NONE.0) }
 {
@@ -120,6 +124,19 @@ fn read_any_answer(
         let layout = reply_layout(command.set(), command.number());
         return read_data(alloc, layout, sizes, bytes);
     }
+    match order {
+        Order::One => read_error(error, bytes),
+        Order::Apart => Ok(Answer::Error(error)),
+    }
+}
+
+/// The answer of a reply with this error code, which has no data.
+fn read_error(error: ErrorCode, bytes: &[u8]) -> Result<Answer, DebuggerFault>
+    ensures value { Tells (λ a. a) result (required code.BadReply
+        (if length bytes.now == 0 then Some (Error error) else None)) }
+    ensures memory { IsErrOf result code.NoMemory → error.0 ≡ NONE.0 }
+    ensures without_error { IfOk result (λ a. IsData a → error.0 ≡ NONE.0) }
+{
     if !bytes.is_empty() {
         return Err(DebuggerFault::BadReply);
     }

@@ -12,6 +12,7 @@ ghost use Rattle.jdwp_debugger.specs.News.{Tells, answer_says, event_says, reply
 
 use crate::faults::DebuggerFault;
 use crate::news::{read_answer, read_composite, read_parked};
+use crate::order::Order;
 use crate::parked::Parked;
 use crate::pending::{Pending, Ticket};
 use jdwp_end::End;
@@ -40,6 +41,8 @@ pub(crate) enum News {
 /// What packets are read by.
 #[derive(Clone, Copy)]
 pub(crate) struct Known<'a> {
+    /// In which order the target sends.
+    pub order: Order,
     /// The widths of ids; None until they are known.
     pub sizes: Option<IdSizes>,
     /// The composites that wait for them.
@@ -125,7 +128,14 @@ impl<'a> Known<'a> {
         ensures wants { IfOk result (λ n. WantsMemory (news_meaning n) → error.0 ≡ NONE.0) }
     {
         let (_, asked) = self.pending.at(place);
-        let answer = read_answer(alloc, &asked.command, &self.widths(), error, bytes)?;
+        let answer = read_answer(
+            alloc,
+            self.order,
+            &asked.command,
+            &self.widths(),
+            error,
+            bytes,
+        )?;
         self.read_ticketed(alloc, place, asked.ticket, answer)
     }
 

@@ -7,8 +7,8 @@ ghost use Rattle.jdwp_wire.specs.Streams.{Handshake, Packet, Whole};
 ghost use Rattle.jdwp_end.specs.Ends.{HasPacketWith, front_of};
 ghost use Rattle.jdwp_debugger.specs.declared.faults.DebuggerFault.TheVariants as code;
 ghost use Rattle.jdwp_debugger.specs.DebuggerTurns as turns;
-ghost use Rattle.jdwp_debugger.specs.DebuggerTurns.{AreFew, Enters, EntersAt, FailsOnly, FailsTo, HandlesAt, IsSaid, LearnedAll, MayTakeMemory, TellsSizes, TurnsAt, closed_debugger, closed_where, command_at, measured_where, news_meaning, none_known, refused, reports, read_meaning, with_sizes};
-ghost use Rattle.jdwp_mirror.specs.Faults.{has_bad_event};
+ghost use Rattle.jdwp_debugger.specs.DebuggerTurns.{AreFew, Enters, EntersAt, FailsOnly, FailsTo, HandlesAt, IsSaid, LearnedAll, MayTakeMemory, TellsSizes, TurnsAt, closed_debugger, closed_where, command_at, measured_where, news_meaning, refused, reports, read_meaning, with_sizes};
+ghost use Rattle.jdwp_debugger.specs.Orders.{MayLearn, has_bad_in, none_known};
 ghost use Rattle.jdwp_mirror.specs.FaultParts.{is_dispose_kind};
 ghost use Rattle.jdwp_mirror.specs.KnownThreads.{count_in};
 ghost use Rattle.jdwp_mirror.specs.Messages.{Reply, Ticket as MessageTicket};
@@ -20,6 +20,7 @@ ghost use Rattle.jdwp_event.specs.Composites.{CompositeMeaning};
 use crate::debugger::Debugger;
 use crate::faults::DebuggerFault;
 use crate::heads::Head;
+use crate::order::Order;
 use crate::parked::Parked;
 use crate::pending::Ticket;
 use crate::reading::{Known, News};
@@ -27,7 +28,7 @@ use jdwp_end::Front;
 use jdwp_event::{Composite, EventKind};
 use jdwp_layout::Answer;
 use jdwp_layout::numbers::{ID_SIZES, VIRTUAL_MACHINE};
-use jdwp_mirror::{Command, CommandKind, Mirror, has_event_of, is_bad_composite};
+use jdwp_mirror::{Command, CommandKind, Mirror, has_event_of};
 use jdwp_wire::{HANDSHAKE, Header, IdSizes, PacketKind};
 use std::alloc::Global;
 
@@ -88,6 +89,7 @@ impl Debugger {
             → HandlesAt (Packet header body) used self.old result self.new }
     {
         let known = Known {
+            order: self.order,
             sizes: self.sizes,
             parked: &self.parked,
             pending: &self.pending,
@@ -173,10 +175,10 @@ impl Debugger {
         ensures { (content : List ℕ) → front_of self.old.end ≡ Whole (Packet header content) used
             → EntersAt header content used (news.Happens composite) self.old result self.new }
     {
-        if is_bad_composite(&self.mirror, &composite) {
+        if self.order.is_bad(&self.mirror, &composite) {
             return self.fail(DebuggerFault::BadEvent);
         }
-        self.mirror.learn_composite(&composite)?;
+        self.order.learn_composite(&mut self.mirror, &composite)?;
         let closes = has_event_of(&composite, EventKind::VmDeath);
         self.end.take_off(used);
         self.last.clear();
@@ -202,7 +204,8 @@ impl Debugger {
             result self.new }
     {
         let (_, asked) = self.pending.at(place);
-        self.mirror.learn_reply(alloc, &asked.command, &answer)?;
+        self.order
+            .learn_reply(alloc, &mut self.mirror, &asked.command, &answer)?;
         let closes = closes_session(&asked.command, &answer);
         let head = Head::of_reply(packet.0, &asked.command);
         self.pending.remove(place);
@@ -223,16 +226,17 @@ impl Debugger {
         composites: &[Composite],
     ) -> Result<Mirror, DebuggerFault>
         requires { place < length self.now.pending }
-        ensures ok { IfOk result (λ m. (has_bad_event none_known (reports composites.now) ≡ false)
-            × LearnedAll empty_mirror (reports composites.now ++ Reply None
+        ensures ok { IfOk result (λ m. (has_bad_in self.now.order none_known (reports composites.now) ≡ false)
+            × LearnedAll self.now.order empty_mirror (reports composites.now ++ Reply None
             (command_at place self.now.pending) answer.now ∷ []) m) }
         ensures err { IfErr result (λ fault.
-            FailsOnly fault (has_bad_event none_known (reports composites.now))) }
+            FailsOnly fault (has_bad_in self.now.order none_known (reports composites.now))) }
     {
         let mut mirror = Mirror::new(alloc);
-        learn_each(&mut mirror, composites)?;
+        learn_each(self.order, &mut mirror, composites)?;
         let (_, asked) = self.pending.at(place);
-        mirror.learn_reply(alloc, &asked.command, answer)?;
+        self.order
+            .learn_reply(alloc, &mut mirror, &asked.command, answer)?;
         Ok(mirror)
     }
 
@@ -339,20 +343,26 @@ fn sizes_header(id: u32) -> Header
 ///
 /// # Errors
 /// `BadEvent` where no target may send one of them; `NoMemory` where an allocation was refused.
-fn learn_each(mirror: &mut Mirror, composites: &[Composite]) -> Result<(), DebuggerFault>
-    ensures ok { OnOk result ((has_bad_event (count_in mirror.old.threads) (reports composites.now)
-        ≡ false) × LearnedAll mirror.old (reports composites.now) mirror.new) }
-    ensures err { IfErr result (λ fault.
-        FailsOnly fault (has_bad_event (count_in mirror.old.threads) (reports composites.now))) }
+fn learn_each(
+    order: Order,
+    mirror: &mut Mirror,
+    composites: &[Composite],
+) -> Result<(), DebuggerFault>
+    requires { MayLearn order mirror.old }
+    ensures ok { OnOk result ((has_bad_in order (count_in mirror.old.threads)
+        (reports composites.now) ≡ false)
+        × LearnedAll order mirror.old (reports composites.now) mirror.new) }
+    ensures err { IfErr result (λ fault. FailsOnly fault
+        (has_bad_in order (count_in mirror.old.threads) (reports composites.now))) }
 {
     match composites {
         [] => Ok(()),
         [first, rest @ ..] => {
-            if is_bad_composite(mirror, first) {
+            if order.is_bad(mirror, first) {
                 return Err(DebuggerFault::BadEvent);
             }
-            mirror.learn_composite(first)?;
-            learn_each(mirror, rest)
+            order.learn_composite(mirror, first)?;
+            learn_each(order, mirror, rest)
         }
     }
 }

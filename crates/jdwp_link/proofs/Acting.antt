@@ -68,6 +68,7 @@ acts-parts m settings w l x y did r now answered end v at calls kept done s same
     (record {
       target = record { same_settings = same; limits = limits; sizes = a.sizes; now = refl; phase = refl; lost = lost; deferring = deferring };
       debugger = record {
+        order = s.debugger.order;
         limits = s.debugger.limits;
         phase = s.debugger.phase;
         tickets = s.debugger.tickets;

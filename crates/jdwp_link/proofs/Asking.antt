@@ -174,6 +174,7 @@ asked-parts m settings w l x c id s o encoded sendable =
     record {
       target = record { same_settings = s.target.same_settings; limits = s.target.limits; sizes = s.target.sizes; now = s.target.now; phase = s.target.phase; lost = s.target.lost; deferring = s.target.deferring };
       debugger = record {
+        order = s.debugger.order;
         limits = s.debugger.limits;
         phase = s.debugger.phase;
         tickets = ticket;

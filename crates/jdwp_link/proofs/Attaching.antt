@@ -41,6 +41,7 @@ attached-parts : {S : Type 0} (m : Meaning S) (settings : Settings) (w : Widths)
 attached-parts m settings w l x s empty = record {
   target = record { same_settings = s.target.same_settings; limits = s.target.limits; sizes = s.target.sizes; now = s.target.now; phase = refl; lost = refl; deferring = s.target.deferring };
   debugger = record {
+    order = s.debugger.order;
     limits = s.debugger.limits;
     phase = refl;
     tickets = s.debugger.tickets;

@@ -47,6 +47,7 @@ comes-target : {S : Type 0} (m : Meaning S) (settings : Settings) (w : Widths) (
 comes-target m settings w l x k le s = record {
   target = record { same_settings = s.target.same_settings; limits = s.target.limits; sizes = s.target.sizes; now = s.target.now; phase = s.target.phase; lost = s.target.lost; deferring = s.target.deferring };
   debugger = record {
+    order = s.debugger.order;
     limits = s.debugger.limits;
     phase = s.debugger.phase;
     tickets = s.debugger.tickets;
@@ -102,6 +103,7 @@ comes-debugger : {S : Type 0} (m : Meaning S) (settings : Settings) (w : Widths)
 comes-debugger m settings w l x k le s = record {
   target = record { same_settings = s.target.same_settings; limits = s.target.limits; sizes = s.target.sizes; now = s.target.now; phase = s.target.phase; lost = s.target.lost; deferring = s.target.deferring };
   debugger = record {
+    order = s.debugger.order;
     limits = s.debugger.limits;
     phase = s.debugger.phase;
     tickets = s.debugger.tickets;

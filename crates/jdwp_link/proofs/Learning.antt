@@ -5,6 +5,7 @@ use Rattle.jdwp_mirror.specs.KnownThreads.{count_in, is_held_in}
 use Rattle.jdwp_mirror.specs.Messages.{Handshake}
 use Rattle.jdwp_mirror.specs.Mirror.{learned, held_after, is_positive, requests_after}
 use Rattle.jdwp_mirror.specs.Mirrors.{Mirror, Learned, empty_mirror}
+use Rattle.jdwp_debugger.specs.declared.order.Order.TheVariants.{One}
 use Rattle.jdwp_debugger.specs.DebuggerTurns.{LearnedAll}
 use Rattle.jdwp_event.specs.Composites.{CompositeMeaning}
 use Rattle.jdwp_model.specs.Next.{entered, messages_of}
@@ -20,7 +21,7 @@ learned-one old new p read i l = record {
 }
 
 -- packets that enter, and one behind them
-pub learned-all : {S : Type 0} (old new : Mirror) (ps : List (Packet S)) (p : Packet S) (read : List (Packet S)) → IsMirror old read → LearnedAll old (messages_of ps ++ p.0 ∷ []) new → IsMirror new (p ∷ entered ps read)
+pub learned-all : {S : Type 0} (old new : Mirror) (ps : List (Packet S)) (p : Packet S) (read : List (Packet S)) → IsMirror old read → LearnedAll One old (messages_of ps ++ p.0 ∷ []) new → IsMirror new (p ∷ entered ps read)
 learned-all old new [] p read i l = subst (λ m. IsMirror m (p ∷ read)) (sym l.2) (learned-one old l.0 p read i l.1)
 learned-all old new (q ∷ ps) p read i l = learned-all l.0 new ps p (q ∷ read) (learned-one old l.0 q read i l.1) l.2
 

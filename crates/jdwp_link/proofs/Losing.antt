@@ -24,6 +24,7 @@ pub loses-target : {S : Type 0} (m : Meaning S) (settings : Settings) (w : Width
 loses-target m settings w l x s = record {
   target = record { same_settings = s.target.same_settings; limits = s.target.limits; sizes = s.target.sizes; now = ap standings.reset_moment s.target.now; phase = refl; lost = refl; deferring = s.target.deferring };
   debugger = record {
+    order = s.debugger.order;
     limits = s.debugger.limits;
     phase = s.debugger.phase;
     tickets = s.debugger.tickets;
@@ -55,6 +56,7 @@ pub loses-debugger : {S : Type 0} (m : Meaning S) (settings : Settings) (w : Wid
 loses-debugger m settings w l x did s = record {
   target = record { same_settings = s.target.same_settings; limits = s.target.limits; sizes = s.target.sizes; now = s.target.now; phase = s.target.phase; lost = s.target.lost; deferring = s.target.deferring };
   debugger = record {
+    order = s.debugger.order;
     limits = s.debugger.limits;
     phase = refl;
     tickets = s.debugger.tickets;

@@ -18,6 +18,7 @@ opening-parts : {S : Type 0} (m : Meaning S) (settings : Settings) (s : S) → P
 opening-parts m settings s = record {
   target = record { same_settings = refl; limits = refl; sizes = refl; now = refl; phase = refl; lost = refl; deferring = refl };
   debugger = record {
+    order = refl;
     limits = refl;
     phase = refl;
     tickets = refl;

@@ -25,11 +25,14 @@ use Rattle.jdwp_mirror.specs.Faults.{PARKED_MOST, fault_of, is_bad_event, is_bad
 use Rattle.jdwp_mirror.specs.Faults as faults
 use Rattle.jdwp_mirror.specs.Messages.{Ticket, Asks, Message, Handshake, Reply, Report, id_sizes}
 use Rattle.jdwp_mirror.specs.Mirror.{ends}
-use Rattle.jdwp_mirror.specs.Mirrors.{Learned, empty_mirror}
+use Rattle.jdwp_mirror.specs.Mirrors.{Mirror, Learned, empty_mirror}
 use Rattle.jdwp_mirror.specs.Widths.{widths_in}
 use Rattle.jdwp_debugger.specs.Asking.{command_header}
 use Rattle.jdwp_debugger.specs.Debuggers.{AreOwn, Asked, Debugger, IsSizesAlone}
 use Rattle.jdwp_debugger.specs.DebuggerTurns as turns
+use Rattle.jdwp_debugger.specs.declared.order.Order.{Order}
+use Rattle.jdwp_debugger.specs.declared.order.Order.TheVariants.{One}
+use Rattle.jdwp_debugger.specs.Orders.{LearnedIn}
 use Rattle.jdwp_debugger.specs.DebuggerTurns.{Enters, LearnedAll, ReadsAt, Told, closed_where, command_at, command_of, greeted, measured_where, reading_of, reports, sizes_header, with_read, with_sizes}
 use Rattle.jdwp_debugger.specs.News.{News, answer_in, says, widths_by}
 use Rattle.jdwp_debugger.specs.declared.pending.Ticket as code
@@ -67,12 +70,16 @@ said-as header body used old t new n r h =
     let e : r.news ≡ n = cc in
     subst (λ (q : News). Enters (streams.Packet header body) used header q old t new) e r.entered
 
+-- of a target that sends each packet as it acts
+in-one : {o : Order} {old : Mirror} {message : Message} {new : Mirror} → o ≡ One → LearnedIn o old message new → Learned old message new
+in-one {old = old} {message = message} {new = new} e l = subst (λ q. LearnedIn q old message new) e l
+
 shuts-where : (b : Bool) (unshut after : Debugger) → after ≡ closed_where b unshut → Shuts b unshut after
-shuts-where true unshut after e = record { end = ap (λ d. d.end) e; mirror = ap (λ d. d.mirror) e; tickets = ap (λ d. d.tickets) e; pending = ap (λ d. d.pending) e }
+shuts-where true unshut after e = record { order = ap (λ d. d.order) e; end = ap (λ d. d.end) e; mirror = ap (λ d. d.mirror) e; tickets = ap (λ d. d.tickets) e; pending = ap (λ d. d.pending) e }
 shuts-where false unshut after e = e
 
 shuts-measured : (b : Bool) (w : Widths) (unshut after : Debugger) → after ≡ measured_where b w unshut → Shuts b unshut after
-shuts-measured true w unshut after e = record { end = ap (λ d. d.end) e; mirror = ap (λ d. d.mirror) e; tickets = ap (λ d. d.tickets) e; pending = ap (λ d. d.pending) e }
+shuts-measured true w unshut after e = record { order = ap (λ d. d.order) e; end = ap (λ d. d.end) e; mirror = ap (λ d. d.mirror) e; tickets = ap (λ d. d.tickets) e; pending = ap (λ d. d.pending) e }
 shuts-measured false w unshut after e = e
 
 -- what the model's turn is
@@ -139,7 +146,7 @@ reads-handshake m settings w l x t after id a rest laws keeps s first came o pha
       closes = false;
       opened = refl;
       parts = λ did. takes-parts m settings w l x did (greeted (message_size w Handshake) d) id (Handshake, a) rest ((d.next_id, Asks None id_sizes) ∷ []) x.ready x.parked ((Handshake, a) ∷ x.read) (x.pending ++ (None, id_sizes) ∷ []) laws.finds s first came o
-          refl refl refl (ap (λ b. d.end.outgoing ++ b) (sizes-bytes m w d.next_id laws.puts)) refl (learned-none d.mirror (Handshake, a) x.read refl (keeps.unlearned begins.2) s.debugger.mirror) unshut.sizes unshut.parked
+          refl refl refl refl (ap (λ b. d.end.outgoing ++ b) (sizes-bytes m w d.next_id laws.puts)) refl (learned-none d.mirror (Handshake, a) x.read refl (keeps.unlearned begins.2) s.debugger.mirror) unshut.sizes unshut.parked
           (ap without_ids (waiting-append d.pending (asks ∷ [])) ∙ (without-append (waiting d.pending) (waiting (asks ∷ [])) ∙ ap (λ ps. ps ++ (None, id_sizes) ∷ []) unshut.pending))
           (λ h. let u : x.ready ≡ false = unready w x.ready d.sizes begins.2 unshut.sizes in absurd (cc))
           (sizes-can m w settings.limits.packet d.next_id laws.puts least keeps.id)
@@ -194,7 +201,7 @@ reads-report m settings w l x t after id c a rest false laws s first came o phas
       closes = false;
       opened = ap is_closed phase;
       parts = λ did. takes-only m settings w l x did next id (Report c, a) rest x.ready (x.parked ++ (Report c, a) ∷ []) x.read x.pending laws.finds s first came o
-          refl refl refl refl refl s.debugger.mirror unshut.sizes (parked-more w d.parked x.parked _ c (Report c, a) refl (laws.reads.reported w c _ can) unshut.parked) unshut.pending unshut.ticketed
+          refl refl refl refl refl refl s.debugger.mirror unshut.sizes (parked-more w d.parked x.parked _ c (Report c, a) refl (laws.reads.reported w c _ can) unshut.parked) unshut.pending unshut.ticketed
           (awaits-same d.pending s.from.wires rest s.deferred.wires s.to.wires (ap replied first)) phase;
       shuts = told-by.1;
       is = is ∙ (ap (λ b. reads_composite z (Report c, a) c b) ready ∙ ap (λ u. closes_by (record z { parked = z.parked ++ (Report c, a) ∷ [] }) (outcomes_of u) false) (sym told-by.0));
@@ -214,7 +221,7 @@ reads-report m settings w l x t after id c a rest true laws s first came o phase
       closes = ends (Report c);
       opened = ap is_closed phase;
       parts = λ did. takes-only m settings w l x did next id (Report c, a) rest x.ready x.parked ((Report c, a) ∷ x.read) x.pending laws.finds s first came o
-          refl refl refl refl refl (learned-one d.mirror learns.0 (Report c, a) x.read s.debugger.mirror learns.1) unshut.sizes unshut.parked unshut.pending unshut.ticketed
+          refl refl refl refl refl refl (learned-one d.mirror learns.0 (Report c, a) x.read s.debugger.mirror (in-one s.debugger.order learns.1)) unshut.sizes unshut.parked unshut.pending unshut.ticketed
           (awaits-same d.pending s.from.wires rest s.deferred.wires s.to.wires (ap replied first)) phase;
       shuts = shuts-where (ends (Report c)) next after learns.2;
       is = is ∙ (ap (λ b. reads_composite z (Report c, a) c b) ready ∙ ap (λ u. closes_by (record z { read = (Report c, a) ∷ z.read }) (outcomes_of u) (ends (Report c))) (sym told-by.0));
@@ -333,8 +340,8 @@ reads-answer {S} m settings w l x t after id k c answer a rest laws known keeps 
       closes = ends message || has_end x.parked;
       opened = ap is_closed phase;
       parts = λ did. takes-only m settings w l x did next id p rest (x.ready || false) [] (p ∷ entered x.parked x.read) (without_ticket (Some k) x.pending) laws.finds s first came o
-          refl refl refl refl refl
-          (subst (λ ps. IsMirror learns.0 (p ∷ entered ps x.read)) (sym bare) (learned-one d.mirror learns.0 p x.read s.debugger.mirror (subst (λ q. Learned d.mirror (Reply (Some k) q answer) learns.0) command learns.1)))
+          refl refl refl refl refl refl
+          (subst (λ ps. IsMirror learns.0 (p ∷ entered ps x.read)) (sym bare) (learned-one d.mirror learns.0 p x.read s.debugger.mirror (in-one s.debugger.order (subst (λ q. LearnedIn d.order d.mirror (Reply (Some k) q answer) learns.0) command learns.1))))
           (unshut.sizes ∙ ap (widths_where w) (sym (or-false x.ready))) (subst (λ ps. AreParked {S = S} w ps []) (sym (keeps.unparked w sizes)) tt)
           (ap (λ ps. without_ids (waiting ps)) gone ∙ r.left)
           (λ h. subst HaveTickets (sym gone) (has-left f.before f.behind f.asked (subst HaveTickets f.split (unshut.ticketed ready))))
@@ -380,8 +387,8 @@ reads-sizes m settings w l x t after id c answer a rest laws known keeps s first
     let z = debugger_takes (measured w settings.limits) x p (without_ids rest) in
     let gone : remove d.pending (length f.before) ≡ f.before ++ f.behind = removed d.pending id None c f in
     let nobody : f.before ++ f.behind ≡ [] = alone-left f.before f.behind f.asked (subst IsSizesAlone f.split (keeps.alone is-open none)) in
-    let messages : LearnedAll empty_mirror (messages_of x.parked ++ message ∷ []) learns.0 =
-    subst (λ q. LearnedAll empty_mirror (messages_of x.parked ++ Reply None q answer ∷ []) learns.0) command (subst (λ ms. LearnedAll empty_mirror (ms ++ Reply None (command_at (length f.before) d.pending) answer ∷ []) learns.0) waited.messages learns.1) in
+    let messages : LearnedAll One empty_mirror (messages_of x.parked ++ message ∷ []) learns.0 =
+    subst (λ o. LearnedAll o empty_mirror (messages_of x.parked ++ message ∷ []) learns.0) s.debugger.order (subst (λ q. LearnedAll d.order empty_mirror (messages_of x.parked ++ Reply None q answer ∷ []) learns.0) command (subst (λ ms. LearnedAll d.order empty_mirror (ms ++ Reply None (command_at (length f.before) d.pending) answer ∷ []) learns.0) waited.messages learns.1)) in
     let shut : list_any ends (reports waited.composites) ≡ (ends message || has_end x.parked) =
     waited.ends_by ∙ (sym (ap (λ b. b || has_end x.parked) (no-end answer)) ∙ ap (λ q. ends (Reply None q answer) || has_end x.parked) (sym own)) in
     record {
@@ -390,7 +397,7 @@ reads-sizes m settings w l x t after id c answer a rest laws known keeps s first
       closes = ends message || has_end x.parked;
       opened = ap is_closed phase;
       parts = λ did. takes-only m settings w l x did next id p rest (x.ready || true) [] (p ∷ entered x.parked x.read) (without_ticket None x.pending) laws.finds s first came o
-          refl refl refl refl refl
+          refl refl refl refl refl refl
           (learned-all empty_mirror learns.0 x.parked p x.read (mirror-empty d.mirror x.read (keeps.unlearned none) s.debugger.mirror) messages)
           (sym (ap (widths_where w) (or-true x.ready))) tt
           (ap (λ ps. without_ids (waiting ps)) gone ∙ r.left)

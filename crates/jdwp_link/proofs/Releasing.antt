@@ -49,6 +49,7 @@ pub defers-parts : {S : Type 0} (m : Meaning S) (settings : Settings) (w : Width
 defers-parts m settings w l x deferring did s = record {
   target = record { same_settings = s.target.same_settings; limits = s.target.limits; sizes = s.target.sizes; now = s.target.now; phase = s.target.phase; lost = s.target.lost; deferring = refl };
   debugger = record {
+    order = s.debugger.order;
     limits = s.debugger.limits;
     phase = s.debugger.phase;
     tickets = s.debugger.tickets;

@@ -1,21 +1,28 @@
 -- what a debugger reads of a packet under way
-use Rattle.std.proofs.Common.{◌≡◌, ◌<◌, ℕ, ◌==◌, false, ◌||◌, cond, Option, Some, None, List, [], ◌∷◌, ◌++◌, length, map, Ok, refl, sym, ◌∙◌, ap, arith}
+use Rattle.std.proofs.Common.{◌≡◌, ◌<◌, ℕ, ◌==◌, Bool, true, false, ◌||◌, cond, if◌then◌else◌, Option, Some, None, List, [], ◌∷◌, ◌++◌, length, map, Ok, refl, sym, ◌∙◌, ap, arith}
 use Rattle.std.specs.List.{list_any}
 use Rattle.std.proofs.lemmas.Bool.{ne_eqb}
 use Rattle.jdwp_wire.specs.Widths.{Widths}
+use Rattle.jdwp_wire.specs.declared.error_code.ErrorCode.{ErrorCode}
+use Rattle.jdwp_wire.specs.ErrorCodes.{NONE}
 use Rattle.jdwp_wire.specs.declared.packet.PacketKind.TheVariants as kind
 use Rattle.jdwp_layout.specs.CommandNumbers.{EVENT, COMPOSITE}
+use Rattle.jdwp_layout.specs.CommandTable.{row_at}
 use Rattle.jdwp_layout.specs.declared.answer.Answer.{Answer}
+use Rattle.jdwp_layout.specs.declared.answer.Answer.TheVariants.{Error}
 use Rattle.jdwp_event.specs.Composites.{CompositeMeaning}
 use Rattle.jdwp_action.specs.Actions.{Command}
 use Rattle.jdwp_action.specs.AnswerPackets.{answer_bytes, error_of}
+use Rattle.jdwp_action.specs.RowLayouts.{row_reply}
 use Rattle.jdwp_mirror.specs.Faults.{PARKED_MOST, is_bad_reply}
 use Rattle.jdwp_mirror.specs.Messages.{Ticket, Report}
 use Rattle.jdwp_mirror.specs.Mirror.{ends}
 use Rattle.jdwp_mirror.specs.Widths.{widths_in}
 use Rattle.jdwp_debugger.specs.Debuggers.{AreDistinct, Parked}
 use Rattle.jdwp_debugger.specs.DebuggerTurns.{reports}
-use Rattle.jdwp_debugger.specs.News.{Waits, Happens, Answers, Measures, Reading, answer_in, answer_says, composite_in, composites_in, event_says_by, reply_at, reply_to, says, unless_bad, widths_by, with_composites, sizes_say}
+use Rattle.jdwp_debugger.specs.News.{Waits, Happens, Answers, Measures, Reading, answer_by, answer_in, answer_says, composite_in, composites_in, data_by, event_says_by, reply_at, reply_to, says, unless_bad, widths_by, with_composites, sizes_say}
+use Rattle.jdwp_debugger.specs.declared.order.Order.{Order}
+use Rattle.jdwp_debugger.specs.declared.order.Order.TheVariants.{One, Apart}
 use Rattle.jdwp_debugger.specs.declared.pending.Ticket as code
 use Rattle.jdwp_model.specs.Events
 use Rattle.jdwp_model.specs.Events.{Outcome}
@@ -30,6 +37,16 @@ use Rattle.jdwp_link.proofs.Awaiting.{IsFound, got, placed}
 good : (c : Command) (a : Answer) (o : Option Answer) → o ≡ Some a → is_bad_reply c a ≡ false → unless_bad c o ≡ Some a
 good c a o e h = ap (unless_bad c) e ∙ ap (λ b. cond b None (Some a)) h
 
+error-either : (b z : Bool) (found : Option Answer) (x a : Answer) → (if b then found else (if z then Some x else None)) ≡ Some a → (if b then found else Some x) ≡ Some a
+error-either true z found x a h = h
+error-either false true found x a h = h
+error-either false false found x a h = absurd (cc)
+
+-- what has no data where it has an error is read in either order
+read-either : (o : Order) (w : Widths) (c : Command) (e : ErrorCode) (bytes : List ℕ) (a : Answer) → answer_in w c e bytes ≡ Some a → answer_by o w c e bytes ≡ Some a
+read-either One w c e bytes a h = h
+read-either Apart w c e bytes a h = error-either (e.0 == NONE.0) (length bytes == 0) (data_by w (row_reply (row_at c.set c.number)) bytes) (Error e) a h
+
 -- the reply to the command that waits under its id
 reply-says : (r : Reading) (w : Widths) (id : ℕ) (k : Ticket) (c : Command) (a : Answer) → AreDistinct r.pending → (f : IsFound r.pending id k c)
     → answer_in (widths_by r.sizes) c (error_of a) (answer_bytes w a) ≡ Some a → is_bad_reply c a ≡ false
@@ -38,7 +55,7 @@ reply-says r w id k c a distinct f reads h =
     ap (reply_at r (error_of a) (answer_bytes w a)) (placed r.pending id k c distinct f)
     ∙ (ap (reply_to r (error_of a) (answer_bytes w a) (length f.before)) (got r.pending id k c f)
     ∙ ap (answer_says r.parked (length f.before) f.asked.ticket)
-    (ap (λ d. unless_bad d (answer_in (widths_by r.sizes) d (error_of a) (answer_bytes w a))) f.is_command ∙ good c a _ reads h))
+    (ap (λ d. unless_bad d (answer_by r.order (widths_by r.sizes) d (error_of a) (answer_bytes w a))) f.is_command ∙ good c a _ (read-either r.order (widths_by r.sizes) c (error_of a) (answer_bytes w a) a reads) h))
 
 by-ticket : (parked : List Parked) (place : ℕ) (o : Option code.Ticket) (k : ℕ) (a : Answer) → ticket_of o ≡ Some k → answer_says parked place o (Some a) ≡ Ok (Answers place k a)
 by-ticket parked place None k a h = absurd (cc)

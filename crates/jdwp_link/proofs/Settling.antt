@@ -98,6 +98,7 @@ still-parts : {S : Type 0} (m : Meaning S) (settings : Settings) (w : Widths) (l
 still-parts m settings w l x did s = record {
   target = s.target;
   debugger = record {
+    order = s.debugger.order;
     limits = s.debugger.limits;
     phase = s.debugger.phase;
     tickets = s.debugger.tickets;

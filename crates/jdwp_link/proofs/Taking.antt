@@ -31,18 +31,19 @@ use Rattle.jdwp_link.proofs.Wired.{all-append, cut-asked}
 pub takes-parts : {S : Type 0} (m : Meaning S) (settings : Settings) (w : Widths) (l : Link S) (x : World S) (did : Bool) (d : Debugger) (id : ℕ) (p : Packet S) (rest : List (PacketWire S)) (more : List CallWire)
     (ready : Bool) (parked read : List (Packet S)) (pending : List (Ticket × Command)) → FindsMessages → (s : Parts m settings w l x)
     → s.from.wires ≡ (id, p) ∷ rest → message_size w p.0 ≤ x.at_debugger → is_closed x.debugger ≡ false
-    → d.end.limits ≡ l.debugger.end.limits → d.end.phase ≡ Established → d.end.incoming ≡ drop (message_size w p.0) l.debugger.end.incoming → d.end.outgoing ≡ l.debugger.end.outgoing ++ stream (calls_sent w more)
+    → d.order ≡ l.debugger.order → d.end.limits ≡ l.debugger.end.limits → d.end.phase ≡ Established → d.end.incoming ≡ drop (message_size w p.0) l.debugger.end.incoming → d.end.outgoing ≡ l.debugger.end.outgoing ++ stream (calls_sent w more)
     → d.tickets ≡ l.debugger.tickets → IsMirror d.mirror read → d.sizes ≡ widths_where w ready → AreParked w d.parked parked → without_ids (waiting d.pending) ≡ pending → (ready ≡ true → HaveTickets d.pending)
     → AreCalls w settings.limits.packet more → (Awaits l.debugger.pending s.from.wires s.deferred.wires s.to.wires → Awaits d.pending rest s.deferred.wires (s.to.wires ++ more))
     → Parts m settings w (record l { debugger = d; did = did })
     (record x { to_target = x.to_target ++ without_ids more; to_debugger = without_ids rest; at_debugger = x.at_debugger - message_size w p.0; debugger = Established; ready = ready; parked = parked; read = read; pending = pending })
-takes-parts m settings w l x did d id p rest more ready parked read pending finds s first came o limits phase incoming outgoing tickets mirror sizes waits pends ticketed can awaits =
+takes-parts m settings w l x did d id p rest more ready parked read pending finds s first came o order limits phase incoming outgoing tickets mirror sizes waits pends ticketed can awaits =
     let cut : AreCut x.at_debugger (message_bytes (message_sent w id p.0) ++ stream (packets_sent w rest)) (way_to_debugger l) l.debugger.end (is_closed x.debugger) =
     subst (λ wires. AreCut x.at_debugger (stream (packets_sent w wires)) (way_to_debugger l) l.debugger.end (is_closed x.debugger)) first s.from.cut in
     let all : ArePackets w settings.limits.packet ((id, p) ∷ rest) = subst (ArePackets w settings.limits.packet) first s.from.sent in
     record {
       target = record { same_settings = s.target.same_settings; limits = s.target.limits; sizes = s.target.sizes; now = s.target.now; phase = s.target.phase; lost = s.target.lost; deferring = s.target.deferring };
       debugger = record {
+        order = order ∙ s.debugger.order;
         limits = limits ∙ s.debugger.limits;
         phase = phase;
         tickets = tickets ∙ s.debugger.tickets;
@@ -73,13 +74,13 @@ takes-parts m settings w l x did d id p rest more ready parked read pending find
 pub takes-only : {S : Type 0} (m : Meaning S) (settings : Settings) (w : Widths) (l : Link S) (x : World S) (did : Bool) (d : Debugger) (id : ℕ) (p : Packet S) (rest : List (PacketWire S))
     (ready : Bool) (parked read : List (Packet S)) (pending : List (Ticket × Command)) → FindsMessages → (s : Parts m settings w l x)
     → s.from.wires ≡ (id, p) ∷ rest → message_size w p.0 ≤ x.at_debugger → is_closed x.debugger ≡ false
-    → d.end.limits ≡ l.debugger.end.limits → d.end.phase ≡ Established → d.end.incoming ≡ drop (message_size w p.0) l.debugger.end.incoming → d.end.outgoing ≡ l.debugger.end.outgoing
+    → d.order ≡ l.debugger.order → d.end.limits ≡ l.debugger.end.limits → d.end.phase ≡ Established → d.end.incoming ≡ drop (message_size w p.0) l.debugger.end.incoming → d.end.outgoing ≡ l.debugger.end.outgoing
     → d.tickets ≡ l.debugger.tickets → IsMirror d.mirror read → d.sizes ≡ widths_where w ready → AreParked w d.parked parked → without_ids (waiting d.pending) ≡ pending → (ready ≡ true → HaveTickets d.pending)
     → (Awaits l.debugger.pending s.from.wires s.deferred.wires s.to.wires → Awaits d.pending rest s.deferred.wires s.to.wires) → x.debugger ≡ Established
     → Parts m settings w (record l { debugger = d; did = did })
     (record x { to_debugger = without_ids rest; at_debugger = x.at_debugger - message_size w p.0; ready = ready; parked = parked; read = read; pending = pending })
-takes-only m settings w l x did d id p rest ready parked read pending finds s first came o limits phase incoming outgoing tickets mirror sizes waits pends ticketed awaits established =
-    let same = takes-parts m settings w l x did d id p rest [] ready parked read pending finds s first came o limits phase incoming (outgoing ∙ sym (append-nil l.debugger.end.outgoing)) tickets mirror sizes waits pends ticketed tt
+takes-only m settings w l x did d id p rest ready parked read pending finds s first came o order limits phase incoming outgoing tickets mirror sizes waits pends ticketed awaits established =
+    let same = takes-parts m settings w l x did d id p rest [] ready parked read pending finds s first came o order limits phase incoming (outgoing ∙ sym (append-nil l.debugger.end.outgoing)) tickets mirror sizes waits pends ticketed tt
     (λ a. subst (Awaits d.pending rest s.deferred.wires) (sym (append-nil s.to.wires)) (awaits a)) in
     let after = λ (calls : List Call) (phase : Phase). record x { to_target = calls; to_debugger = without_ids rest; at_debugger = x.at_debugger - message_size w p.0; debugger = phase; ready = ready; parked = parked; read = read; pending = pending } in
     subst (λ y. Parts m settings w (record l { debugger = d; did = did }) y) (ap (λ cs. after cs Established) (append-nil x.to_target) ∙ ap (after x.to_target) (sym established)) same
@@ -88,6 +89,7 @@ takes-only m settings w l x did d id p rest ready parked read pending finds s fi
 
 -- a debugger whose end closed, with what waits for replies
 pub record IsShut (unshut after : Debugger) : Type 0 where
+  pub order : after.order ≡ unshut.order
   pub end : after.end ≡ ends.closed_end unshut.end
   pub mirror : after.mirror ≡ empty_mirror
   pub tickets : after.tickets ≡ unshut.tickets
@@ -98,6 +100,7 @@ pub shut-parts : {S : Type 0} (m : Meaning S) (settings : Settings) (w : Widths)
 shut-parts {S} m settings w l y unshut after did h none s = record {
   target = record { same_settings = s.target.same_settings; limits = s.target.limits; sizes = s.target.sizes; now = s.target.now; phase = s.target.phase; lost = s.target.lost; deferring = s.target.deferring };
   debugger = record {
+    order = h.order ∙ s.debugger.order;
     limits = ap (λ e. e.limits) h.end ∙ s.debugger.limits;
     phase = ap (λ e. e.phase) h.end;
     tickets = h.tickets ∙ s.debugger.tickets;
@@ -129,6 +132,7 @@ pub shut-lost : {S : Type 0} (m : Meaning S) (settings : Settings) (w : Widths) 
 shut-lost m settings w l y unshut after did h s = record {
   target = record { same_settings = s.target.same_settings; limits = s.target.limits; sizes = s.target.sizes; now = s.target.now; phase = s.target.phase; lost = s.target.lost; deferring = s.target.deferring };
   debugger = record {
+    order = h.order ∙ s.debugger.order;
     limits = ap (λ e. e.limits) h.end ∙ s.debugger.limits;
     phase = refl;
     tickets = h.tickets ∙ s.debugger.tickets;

@@ -18,7 +18,8 @@ use Rattle.jdwp_mirror.specs.KnownThreads.{count_in}
 use Rattle.jdwp_mirror.specs.Messages.{Ticket, Message, Handshake, Reply, Report, id_sizes}
 use Rattle.jdwp_mirror.specs.Widths.{widths_in}
 use Rattle.jdwp_debugger.specs.Debuggers.{AreOwn, Debugger, IsSizesAlone}
-use Rattle.jdwp_debugger.specs.DebuggerTurns.{bad_where, none_known, reading_of, refusal, refusal_by, reports}
+use Rattle.jdwp_debugger.specs.Orders.{has_bad_in, is_bad_in, none_known}
+use Rattle.jdwp_debugger.specs.DebuggerTurns.{bad_where, reading_of, refusal, refusal_by, reports}
 use Rattle.jdwp_debugger.specs.News.{answer_in, widths_by}
 use Rattle.jdwp_model.specs.Next.{messages_of, reader}
 use Rattle.jdwp_model.specs.Seen.{mirror_count}
@@ -47,14 +48,14 @@ report-unrefused m settings w l x id c a rest false laws s first o phase ready f
     let unshut = s.debugger.opened o in
     let size = parked-length w d.parked x.parked unshut.parked in
     let few = fair-parked _ x.ready (messages_of x.parked) x.pending (mirror_count x.read) c (ap is_established_phase phase) ready fair in
-    ap (refusal_by d.mirror) (says-parked (reading_of d) id _ (unknown-sizes w x.ready d.sizes unshut.sizes ready) (omega (size, few, arith)))
+    ap (refusal_by d.order d.mirror) (says-parked (reading_of d) id _ (unknown-sizes w x.ready d.sizes unshut.sizes ready) (omega (size, few, arith)))
 report-unrefused m settings w l x id c a rest true laws s first o phase ready fair =
     let d = l.debugger in
     let unshut = s.debugger.opened o in
     let can = (subst (ArePackets w settings.limits.packet) first s.from.sent).0.1 in
     let good = fair-ready _ x.ready (messages_of x.parked) x.pending (mirror_count x.read) c (ap is_established_phase phase) ready fair in
-    ap (refusal_by d.mirror) (says-event (reading_of d) w id c _ (known-sizes w x.ready d.sizes unshut.sizes ready) (laws.reads.reported w c _ can))
-    ∙ ap bad_where (same-judged d.mirror x.read c s.debugger.mirror ∙ good)
+    ap (refusal_by d.order d.mirror) (says-event (reading_of d) w id c _ (known-sizes w x.ready d.sizes unshut.sizes ready) (laws.reads.reported w c _ can))
+    ∙ ap bad_where (ap (λ q. is_bad_in q (count_in d.mirror.threads) c) s.debugger.order ∙ (same-judged d.mirror x.read c s.debugger.mirror ∙ good))
 
 answer-unrefused : {S : Type 0} (m : Meaning S) (settings : Settings) (w : Widths) (l : Link S) (x : World S) (id k : ℕ) (c : Command) (answer : Answer) (a : Moment S) (rest : List (PacketWire S)) → Laws m → Known m settings x → DebuggerKeeps l.debugger → (s : Parts m settings w l x)
     → s.from.wires ≡ (id, (Reply (Some k) c answer, a)) ∷ rest → is_closed x.debugger ≡ false → x.debugger ≡ Established → fault_of (reader x) (Reply (Some k) c answer) ≡ None
@@ -69,7 +70,7 @@ answer-unrefused m settings w l x id k c answer a rest laws known keeps s first 
     let sizes = known-sizes w x.ready d.sizes unshut.sizes ready in
     let good = fair-reply _ x.ready (messages_of x.parked) x.pending (mirror_count x.read) (Some k) c answer (ap is_established_phase phase) fair in
     let reads-it : answer_in (widths_by d.sizes) c (error_of answer) (answer_bytes w answer) ≡ Some answer = ap (λ v. answer_in v c (error_of answer) (answer_bytes w answer)) (widths-known w d.sizes sizes) ∙ laws.reads.answered w c answer can.0 in
-    ap (refusal_by d.mirror) (says-answer (reading_of d) w id k c answer keeps.distinct f reads-it good)
+    ap (refusal_by d.order d.mirror) (says-answer (reading_of d) w id k c answer keeps.distinct f reads-it good)
 
 -- what waited is not refused
 fair-waited : (greeted ready : Bool) (parked : List Message) (pending : List (Ticket × Command)) (counts : ℕ → Option ℕ) (k : Ticket) (c : Command) (answer : Answer) → greeted ≡ true
@@ -104,7 +105,8 @@ sizes-unrefused m settings w l x id c answer a rest laws known keeps s first o p
     let nothing : mirror_count x.read ≡ none_known = (λ i t. (sym (s.debugger.mirror.counts t) ∙ ap (λ q. count_in q.threads t) (keeps.unlearned none)) i) in
     let bad : has_bad_event none_known (reports waited.composites) ≡ false =
     ap (has_bad_event none_known) waited.messages ∙ (ap (λ f. has_bad_event f (messages_of x.parked)) (sym nothing) ∙ fair-waited _ x.ready (messages_of x.parked) x.pending (mirror_count x.read) None c answer (ap is_established_phase phase) fair) in
-    ap (refusal_by d.mirror) (says-sizes (reading_of d) w id c answer waited.composites keeps.distinct f reads-it good told-widths waited.read) ∙ ap bad_where bad
+    ap (refusal_by d.order d.mirror) (says-sizes (reading_of d) w id c answer waited.composites keeps.distinct f reads-it good told-widths waited.read)
+    ∙ ap bad_where (ap (λ q. has_bad_in q none_known (reports waited.composites)) s.debugger.order ∙ bad)
 
 unrefused-by : {S : Type 0} (m : Meaning S) (settings : Settings) (w : Widths) (l : Link S) (x : World S) (id : ℕ) (phase : Phase) (p : Packet S) (rest : List (PacketWire S)) → Laws m → Known m settings x → DebuggerKeeps l.debugger → (s : Parts m settings w l x)
     → s.from.wires ≡ (id, p) ∷ rest → is_closed x.debugger ≡ false → x.debugger ≡ phase → is_read_in phase p.0 ≡ true → fault_of (reader x) p.0 ≡ None → IsUnrefused l.debugger (message_sent w id p.0)

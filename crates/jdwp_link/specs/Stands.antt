@@ -10,6 +10,7 @@ use Rattle.jdwp_mirror.specs.KnownThreads.{count_in, is_held_in}
 use Rattle.jdwp_mirror.specs.Messages.{Report}
 use Rattle.jdwp_mirror.specs.Mirrors.{Mirror}
 use Rattle.jdwp_target.specs.Targets.{Target}
+use Rattle.jdwp_debugger.specs.declared.order.Order.TheVariants.{One}
 use Rattle.jdwp_debugger.specs.Debuggers.{Debugger, Parked, has_tickets}
 use Rattle.jdwp_debugger.specs.News.{composite_in}
 use Rattle.jdwp_model.specs.Events.{LinkEvent}
@@ -66,6 +67,7 @@ pub record OpenStands {S : Type 0} (w : Widths) (d : Debugger) (x : World S) : T
   pub ticketed : x.ready ≡ true → HaveTickets d.pending
 
 pub record DebuggerStands {S : Type 0} (settings : Settings) (w : Widths) (d : Debugger) (x : World S) : Type 0 where
+  pub order : d.order ≡ One
   pub limits : d.end.limits ≡ settings.limits
   pub phase : d.end.phase ≡ x.debugger
   pub tickets : d.tickets ≡ x.asked

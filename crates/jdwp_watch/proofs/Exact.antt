@@ -1,16 +1,12 @@
 -- What is kept of a thread changes as the definitions say, where its numbers are below the greatest.
-use Rattle.std.proofs.Common.{◌≡◌, ℕ, ◌+◌, ◌-◌, ◌<◌, ◌≤◌, ◌^◌, min, Bool, true, false, ◌||◌, ◌&&◌, Option, Some, None, refl, sym, ap, ◌∙◌, subst, add-zero, if◌then◌else◌, arith}
-use Rattle.std.specs.Prelude.{nat_le, nat_lt, is_some}
+use Rattle.std.proofs.Common.{◌≡◌, ℕ, ◌+◌, ◌-◌, ◌<◌, ◌^◌, Bool, true, false, ◌&&◌, refl, sym, ap, ◌∙◌, add-zero, if◌then◌else◌, arith}
+use Rattle.std.specs.Prelude.{nat_le, nat_lt}
 use Rattle.std.proofs.lemmas.Bool.Decides.{nat_tests}
 use Rattle.jdwp_apart.specs.Watch as definition
 use Rattle.jdwp_watch.specs.declared.bound.Bound.{Bound}
 use Rattle.jdwp_watch.specs.declared.standing.Knows.{Knows}
 use Rattle.jdwp_watch.specs.declared.standing.Knows.TheVariants.{Unseen, Counted, Named}
-use Rattle.jdwp_watch.specs.declared.standing.Standing.{Standing}
-use Rattle.jdwp_watch.specs.declared.standing.Telling.{Telling}
-use Rattle.jdwp_watch.specs.declared.standing.Change.{Change}
-use Rattle.jdwp_watch.specs.declared.standing.Change.TheVariants.{Keep, Replied, Reported, Invoked, Returned}
-use Rattle.jdwp_watch.specs.Standings.{IsWithin, bound_of, changed, counted_at, knows_of, lowered, lowered_one, named_at, named_by, one_more, raised, raised_after, recounted, replied, reported}
+use Rattle.jdwp_watch.specs.Standings.{bound_of, counted_at, knows_of, lowered, named_at, one_more, raised, raised_after, recounted}
 
 abbrev pub TOP : ℕ
 TOP = 2 ^ 64 - 1

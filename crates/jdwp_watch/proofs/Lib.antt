@@ -1,5 +1,7 @@
 mod Exact
 mod Within
+mod Unseen
+mod Sure
 mod Tells
 mod Watched
 mod Tabled

@@ -1,8 +1,8 @@
 -- The commands that wait, and whom they resume.
-use Rattle.std.proofs.Common.{◌≡◌, ℕ, zero, suc, ◌+◌, ◌<◌, ◌≤◌, Bool, true, false, cond, List, [], ◌∷◌, ◌++◌, length, drop, map, Option, Some, None, refl, sym, ap, ◌∙◌, subst, add-one, zero-add, if◌then◌else◌, arith}
+use Rattle.std.proofs.Common.{◌≡◌, ℕ, zero, suc, ◌+◌, ◌<◌, ◌≤◌, Bool, true, false, cond, List, [], ◌∷◌, ◌++◌, length, drop, Option, refl, sym, ap, ◌∙◌, add-one, zero-add, arith}
 use Rattle.std.proofs.lemmas.List.Recursion.{is_count_by}
 use Rattle.std.proofs.lemmas.List.{drop-append-le, length-drop, length-map, length_push}
-use Rattle.std.specs.Prelude.{◌==◌, count_by}
+use Rattle.std.specs.Prelude.{count_by}
 use Rattle.jdwp_action.specs.Actions as actions
 use Rattle.jdwp_action.specs.Actions.{Action, Command, about, action_of, thread_of}
 use Rattle.jdwp_action.specs.AboutLaws.{about_action}

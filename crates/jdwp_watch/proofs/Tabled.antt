@@ -1,5 +1,5 @@
 -- What is known of each thread, as it is kept: a thread that was named, and moves of all threads.
-use Rattle.std.proofs.Common.{◌≡◌, ℕ, ◌+◌, ◌<◌, ◌≤◌, ◌⊎◌, inl, inr, Bool, true, false, cond, List, [], ◌∷◌, ◌++◌, length, drop, map, fold, Option, Some, None, refl, sym, ap, ◌∙◌, subst, if◌then◌else◌, arith}
+use Rattle.std.proofs.Common.{◌≡◌, ℕ, ◌+◌, ◌≤◌, inl, inr, Bool, true, false, List, [], ◌∷◌, ◌++◌, length, drop, map, fold, Option, Some, None, refl, sym, ap, ◌∙◌, subst, if◌then◌else◌, arith}
 use Rattle.std.specs.Prelude.{◌==◌, unwrap_or}
 use Rattle.std.specs.BTreeMap.{BTreeMap, Updates, get, is_at}
 use Rattle.std.specs.Cmp.{unsigned_tied}
@@ -18,7 +18,7 @@ use Rattle.jdwp_watch.specs.declared.standing.Change.{Change}
 use Rattle.jdwp_watch.specs.declared.standing.Change.TheVariants.{Keep}
 use Rattle.jdwp_watch.specs.declared.standings.Met.{Met}
 use Rattle.jdwp_watch.specs.Standings.{changed}
-use Rattle.jdwp_watch.specs.Tables.{AreBefore, Table, anew, at, change_for, changed_by, is_of, seen, threads_seen}
+use Rattle.jdwp_watch.specs.Tables.{AreBefore, Table, anew, at, change_for, changed_by, seen, threads_seen}
 
 abbrev pub Kept : Type 0
 Kept = BTreeMap ℕ Met

@@ -1,11 +1,9 @@
 -- What asking and reading make of all that is kept is what the definitions say.
-use Rattle.std.proofs.Common.{◌≡◌, ℕ, ◌+◌, ◌-◌, ◌<◌, ◌≤◌, ◌^◌, min, Bool, true, false, ◌||◌, ◌&&◌, List, [], ◌∷◌, ◌++◌, length, Option, Some, None, refl, sym, ap, ◌∙◌, subst, add-zero, if◌then◌else◌, arith}
+use Rattle.std.proofs.Common.{◌≡◌, ℕ, ◌+◌, ◌-◌, ◌<◌, ◌≤◌, ◌^◌, Bool, true, false, ◌||◌, List, [], ◌∷◌, ◌++◌, length, Option, Some, None, refl, sym, ap, ◌∙◌, subst, add-zero, if◌then◌else◌, arith}
 use Rattle.std.specs.Prelude.{◌==◌, nat_le, nat_lt, is_some, unwrap_or}
 use Rattle.std.proofs.lemmas.Bool.Decides.{nat_tests}
-use Rattle.jdwp_value.specs.declared.id.ObjectId.{ObjectId}
 use Rattle.jdwp_action.specs.Actions.{Command, action_of}
 use Rattle.jdwp_event.specs.Told.{composite_thread}
-use Rattle.jdwp_mirror.specs.CommandKinds.{id_found}
 use Rattle.jdwp_apart.specs.Messages as messages
 use Rattle.jdwp_apart.specs.Messages.{Composite, Reply, counted, gives, is_own, releases, shows, stops, takes}
 use Rattle.jdwp_apart.specs.Watch as definition
@@ -19,7 +17,7 @@ use Rattle.jdwp_watch.specs.declared.standing.Telling.{Telling}
 use Rattle.jdwp_watch.specs.declared.standing.Change.{Change}
 use Rattle.jdwp_watch.specs.declared.standing.Change.TheVariants.{Keep, Replied, Reported, Invoked, Returned}
 use Rattle.jdwp_watch.specs.declared.told.Told.{Told}
-use Rattle.jdwp_watch.specs.Standings.{IsWithin, bound_of, changed, counted_at, first_standing, is_raised, is_stopped, knows_of, lowered, named_by, one_more, raised, raised_after, recounted, replied, reported}
+use Rattle.jdwp_watch.specs.Standings.{bound_of, changed, counted_at, first_standing, is_raised, is_stopped, knows_of, lowered, named_by, raised, raised_after, recounted, replied, reported}
 use Rattle.jdwp_watch.specs.Tables.{Table, at, change_for, is_of}
 use Rattle.jdwp_watch.specs.Tellings.{nothing, stops_in, told_in}
 use Rattle.jdwp_watch.specs.Watching.{IsKept, Watching, invocation_of, nobody, others_by, others_of, resumed_by, watch_of}
@@ -241,7 +239,7 @@ first-kept table e =
     let small : 0 ≤ 0 + 2 ^ 32 = omega arith in
     let few : 0 ≤ 2 ^ 62 = omega arith in
     let none : 0 ≤ 0 = omega arith in
-    subst (IsKept 0 0) (sym e) (record { few = few; answers = none; within = λ t. record { told = small; recounted = small; invoked = small } })
+    subst (IsKept 0 0) (sym e) (record { few = few; answers = none; within = λ t. record { told = small; recounted = small; invoked = small }; others = record { told = refl; recounted = refl; knows = refl } })
 
 pub asked-watch : (v w : Watching) (c : Command) → w ≡ record v { pending = v.pending ++ c ∷ [] } → watch_of w ≡ asks (watch_of v) c
 asked-watch v w c e = ap watch_of e

@@ -1,6 +1,6 @@
 -- No number that is kept grows by more than one a packet, but to what a count may be.
-use Rattle.std.proofs.Common.{◌≡◌, ℕ, ◌+◌, ◌-◌, ◌<◌, ◌≤◌, ◌^◌, min, Bool, true, false, ◌||◌, ◌&&◌, Option, Some, None, refl, sym, ap, ◌∙◌, subst, if◌then◌else◌, arith}
-use Rattle.std.specs.Prelude.{nat_le, nat_lt, is_some}
+use Rattle.std.proofs.Common.{◌≡◌, ℕ, ◌+◌, ◌-◌, ◌<◌, ◌≤◌, ◌^◌, Bool, true, false, Option, sym, subst, if◌then◌else◌, arith}
+use Rattle.std.specs.Prelude.{nat_le, nat_lt}
 use Rattle.std.proofs.lemmas.Bool.Decides.{nat_tests}
 use Rattle.jdwp_layout.specs.declared.answer.Answer.{Answer}
 use Rattle.jdwp_layout.specs.declared.answer.Answer.TheVariants.{Data, Error}
@@ -9,10 +9,9 @@ use Rattle.jdwp_action.specs.Actions.{Action}
 use Rattle.jdwp_value.specs.declared.id.ObjectId.{ObjectId}
 use Rattle.jdwp_watch.specs.declared.bound.Bound.{Bound}
 use Rattle.jdwp_watch.specs.declared.standing.Standing.{Standing}
-use Rattle.jdwp_watch.specs.declared.standing.Telling.{Telling}
 use Rattle.jdwp_watch.specs.declared.standing.Change.{Change}
 use Rattle.jdwp_watch.specs.declared.standing.Change.TheVariants.{Keep, Replied, Reported, Invoked, Returned}
-use Rattle.jdwp_watch.specs.Standings.{IsWithin, changed, is_raised, is_stopped, lowered, lowered_one, one_more, raised, raised_after, recounted}
+use Rattle.jdwp_watch.specs.Standings.{IsUnseen, IsWithin, changed, is_raised, is_stopped, lowered, lowered_one, one_more, raised, raised_after, recounted}
 use Rattle.jdwp_watch.specs.Tables.{Table, at, change_for, is_of}
 use Rattle.jdwp_watch.specs.Tellings.{told_in}
 use Rattle.jdwp_watch.specs.Watching.{IsKept, others_by, others_of}
@@ -78,8 +77,8 @@ small-for false own others a b = b
 
 -- one packet more
 pub kept-on : (packets more answered later : ℕ) (old new : Table) (thread : Option ObjectId) (own others : Change) → IsKept packets answered old → packets < 2 ^ 62 → more ≡ packets + 1 → later ≤ packets + 1 → IsSmall own → IsSmall others
-    → ((t : ℕ) → at new t ≡ changed (change_for thread own others t) (at old t)) → IsKept more later new
-kept-on packets more answered later old new thread own others kept few is le a b table =
+    → ((t : ℕ) → at new t ≡ changed (change_for thread own others t) (at old t)) → new.others ≡ changed others old.others → IsUnseen (changed others old.others) → IsKept more later new
+kept-on packets more answered later old new thread own others kept few is le a b table rest unseen =
     subst (λ (n : ℕ). IsKept n later new) (sym is) (record {
       few = omega arith;
       answers = le;
@@ -87,6 +86,7 @@ kept-on packets more answered later old new thread own others kept few is le a b
           let within = changed-within (change_for thread own others t) (at old t) (packets + 2 ^ 32) (small-for (is_of thread t) own others a b) (omega arith) (kept.within t) in
           let same : packets + 2 ^ 32 + 1 ≡ packets + 1 + 2 ^ 32 = omega arith in
           subst (IsWithin (packets + 1 + 2 ^ 32)) (sym (table t)) (subst (λ (n : ℕ). IsWithin n (changed (change_for thread own others t) (at old t))) same within);
+      others = subst IsUnseen (sym rest) unseen;
     })
 
 -- what is told of others has no count

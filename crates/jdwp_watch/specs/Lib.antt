@@ -3,3 +3,4 @@ pub mod Tables
 pub mod Lowerings
 pub mod Tellings
 pub mod Watching
+pub mod Targets

@@ -1,5 +1,5 @@
 -- What is kept of each thread, and what packets make of it. Numbers stop at the greatest that is kept, which none reaches.
-use Rattle.std.specs.Prelude.{◌≡◌, ℕ, ◌+◌, ◌-◌, ◌^◌, ◌≤◌, nat_le, nat_lt, min, Bool, true, false, ◌||◌, ◌&&◌, Option, Some, None, is_some, if◌then◌else◌}
+use Rattle.std.specs.Prelude.{◌≡◌, ℕ, ◌+◌, ◌-◌, ◌^◌, ◌≤◌, nat_le, nat_lt, min, Bool, ◌||◌, ◌&&◌, Option, Some, None, is_some, if◌then◌else◌}
 use Rattle.jdwp_apart.specs.Watch as definition
 use Rattle.jdwp_watch.specs.declared.bound.Bound.{Bound}
 use Rattle.jdwp_watch.specs.declared.standing.Knows.{Knows}
@@ -91,6 +91,14 @@ changed (Replied ticket d) s = replied ticket d s
 changed (Reported after stops named) s = reported after stops named s
 changed Invoked s = record s { invoked = one_more s.invoked }
 changed Returned s = record s { invoked = s.invoked - 1 }
+
+-- ---- nobody
+
+-- Of a thread that was never named nothing is known: no command and no event surely raised its count.
+pub record IsUnseen (s : Standing) : Type 0 where
+  pub told : s.told.value ≡ 0
+  pub recounted : s.recounted.value ≡ 0
+  pub knows : s.knows ≡ Unseen
 
 -- ---- how far numbers go
 

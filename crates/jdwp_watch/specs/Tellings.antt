@@ -1,5 +1,5 @@
 -- What replies and composites tell of the threads.
-use Rattle.std.specs.Prelude.{ℕ, ◌==◌, Bool, true, false, ◌||◌, ◌&&◌, Option, Some, None, if◌then◌else◌}
+use Rattle.std.specs.Prelude.{ℕ, ◌==◌, true, false, ◌||◌, Option, Some, None}
 use Rattle.jdwp_value.specs.declared.id.ObjectId.{ObjectId}
 use Rattle.jdwp_layout.specs.declared.answer.Answer.{Answer}
 use Rattle.jdwp_layout.specs.declared.answer.Answer.TheVariants.{Data, Error}

@@ -9,7 +9,7 @@ use Rattle.jdwp_apart.specs.Messages
 use Rattle.jdwp_apart.specs.Watch.{Watch}
 use Rattle.jdwp_watch.specs.declared.invocation.Invocation.{Invocation}
 use Rattle.jdwp_watch.specs.declared.invocation.Invocation.TheVariants.{ByThread, ByAll}
-use Rattle.jdwp_watch.specs.Standings.{IsWithin, bound_of, knows_of}
+use Rattle.jdwp_watch.specs.Standings.{IsUnseen, IsWithin, bound_of, knows_of}
 use Rattle.jdwp_watch.specs.Tables.{Table, at, named}
 
 pub record Watching : Type 0 where
@@ -57,8 +57,9 @@ others_by after stops = if stops then Reported after true None else Keep
 abbrev pub nobody : ℕ → Bool
 nobody t = false
 
--- no number is greater than the packets and one count together
+-- No number is greater than the packets and one count together, and nothing is known of those that were never named.
 pub record IsKept (packets answered : ℕ) (table : Table) : Type 0 where
   pub few : packets ≤ 2 ^ 62
   pub answers : answered ≤ packets
   pub within : (t : ℕ) → IsWithin (packets + 2 ^ 32) (at table t)
+  pub others : IsUnseen table.others

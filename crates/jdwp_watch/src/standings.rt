@@ -87,6 +87,7 @@ impl Standings {
         others: Change,
     ) -> Result<(), NoMemory>
         ensures ok { OnOk result ((t : ℕ) → at self.new t ≡ changed (change_for thread own others t) (at self.old t)) }
+        ensures unnamed { OnOk result (self.new.others ≡ changed others self.old.others) }
         ensures err { OnErr result (self.new ≡ self.old) }
     {
         self.keep_few();
@@ -101,6 +102,7 @@ impl Standings {
     /// Changes what is known of a thread.
     fn change_one(&mut self, thread: ObjectId, own: Change) -> Result<(), NoMemory>
         ensures ok { OnOk result ((t : ℕ) → at self.new t ≡ changed (change_for (Some thread) own Keep t) (at self.old t)) }
+        ensures unnamed { OnOk result (self.new.others ≡ self.old.others) }
         ensures err { OnErr result (self.new ≡ self.old) }
     {
         let standing = self.of(thread).changed(own);
@@ -112,6 +114,7 @@ impl Standings {
     /// Changes what is known of all threads.
     fn change_all(&mut self, others: Change) -> Result<(), NoMemory>
         ensures ok { OnOk result ((t : ℕ) → at self.new t ≡ changed others (at self.old t)) }
+        ensures unnamed { OnOk result (self.new.others ≡ changed others self.old.others) }
         ensures err { OnErr result (self.new ≡ self.old) }
     {
         self.moves.push(others)?;
@@ -122,6 +125,7 @@ impl Standings {
     /// Changes what is known of a thread, and of all others.
     fn change_both(&mut self, thread: ObjectId, own: Change, others: Change) -> Result<(), NoMemory>
         ensures ok { OnOk result ((t : ℕ) → at self.new t ≡ changed (change_for (Some thread) own others t) (at self.old t)) }
+        ensures unnamed { OnOk result (self.new.others ≡ changed others self.old.others) }
         ensures err { OnErr result (self.new ≡ self.old) }
     {
         let standing = self.of(thread).changed(own);

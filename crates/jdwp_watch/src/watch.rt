@@ -1,10 +1,12 @@
 //! Who is surely suspended.
-ghost use Rattle.std.specs.Prelude.{◌≡◌, ◌+◌, ◌<◌, ◌≤◌, ◌^◌, if◌then◌else◌, nat_lt, IfOk, OnErr, OnOk};
+ghost use Rattle.std.specs.Prelude.{◌≡◌, ◌+◌, ◌<◌, ◌≤◌, ◌^◌, if◌then◌else◌, nat_lt, ℕ, Contains, IfOk, IsTrue, OnErr, OnOk};
 ghost use Rattle.std.specs.Map.Iter.{GivesInOrder};
 ghost use Rattle.jdwp_apart.specs.Messages.{Reply};
 ghost use Rattle.jdwp_value.specs.declared.id.ObjectId.{ObjectId};
 ghost use Rattle.jdwp_apart.specs.Watch as definition;
 ghost use Rattle.jdwp_apart.specs.Watch.{asks, invokes, reads_composite, reads_reply, returns_from, start};
+ghost use Rattle.jdwp_mirror.specs.CommandKinds.{object_id};
+ghost use Rattle.jdwp_watch.specs.Targets.{CountsAtLeast, InEachTarget, IsSuspended};
 ghost use Rattle.jdwp_watch.specs.Watching as spec;
 ghost use Rattle.jdwp_watch.specs.Watching.{invocation_of, nobody, others_by, others_of, threads_of, watch_of};
 
@@ -14,6 +16,7 @@ use crate::standing::{Change, Telling};
 use crate::standings::Standings;
 use crate::told::{Stops, Told};
 use crate::waiting::Waiting;
+use jdwp_apart::shows_only_suspended_threads;
 use jdwp_event::Composite;
 use jdwp_layout::Answer;
 use jdwp_mirror::Command;
@@ -27,6 +30,16 @@ const MOST_PACKETS: u64 = 1 << 62;
 
 /// What a debugger holds of a target whose replies and composites are sent by threads of their own, and come in any order among one another:
 /// of each thread a number that its suspend count is surely no less than, once all that was asked is carried out.
+///
+/// What is sure holds of threads that live, in each target whose debugger asked and read what this watch was told, whatever else happened
+/// there. It is not said of sessions in which Dispose, Exit or a command was asked that a target of this layer does not carry out, invocations
+/// apart.
+///
+/// Nothing is kept of how threads end. One that ended stays among `threads`, and its number may stay above 0, or grow: each Suspend and each
+/// event that stops all counts for every thread that was named. So a client requests THREAD_DEATH events (kind 7), which a thread reports before
+/// it ends (JDWP specification, "Protocol Details": Event.Composite), and from the composite on in which `has_event_of` finds one it takes that
+/// composite's thread as ended, whatever `is_sure` answers; likewise where a command that was asked about a named thread is answered
+/// INVALID_THREAD. A SuspendCount of 0 shows no end, and until an end is told a thread that ended may be shown as suspended.
 #[derive(Drop)]
 pub struct Watch {
     /// Whether the target sends each composite before the next event takes effect.
@@ -151,19 +164,22 @@ impl Watch {
         Ok(())
     }
 
-    /// The threads that were named, in the order of their ids: those of which a composite or a reply told, and those that were invoked by. Of
-    /// all others the debugger knows the same.
+    /// The threads that were named, in the order of their ids: those of which a composite or a reply told, and those that were invoked by.
+    /// Each thread that is surely suspended is among them; of all others the debugger knows the same. None is dropped as it ends.
     pub fn threads(&self) -> NamedThreads<'_>
         ensures all { result ≡ threads_of self.now }
+        ensures sure { (t : ℕ) → 0 < definition.sure (watch_of self.now) t → Contains result (object_id t) }
         ensures runs { GivesInOrder ObjectId }
     {
         self.standings.threads()
     }
 
-    /// What the suspend count of a thread is surely no less than.
+    /// What the suspend count of a thread is surely no less than, as long as the thread lives.
     pub fn sure(&self, thread: ObjectId) -> u64
-        ensures { result ≡ definition.sure (watch_of self.now) thread.0 }
+        ensures value { result ≡ definition.sure (watch_of self.now) thread.0 }
+        ensures covered { InEachTarget (watch_of self.now) (CountsAtLeast result thread.0) }
     {
+        shows_only_suspended_threads();
         let standing = self.standings.of(thread);
         let bound = later(standing.told.value, standing.recounted.value);
         bound
@@ -171,9 +187,10 @@ impl Watch {
             .saturating_sub(standing.invoked)
     }
 
-    /// Whether a thread is surely suspended.
+    /// Whether a thread is surely suspended, as long as it lives.
     pub fn is_sure(&self, thread: ObjectId) -> bool
-        ensures { result ≡ nat_lt 0 (definition.sure (watch_of self.now) thread.0) }
+        ensures value { result ≡ nat_lt 0 (definition.sure (watch_of self.now) thread.0) }
+        ensures suspended { IsTrue result → InEachTarget (watch_of self.now) (IsSuspended thread.0) }
     {
         self.sure(thread) > 0
     }

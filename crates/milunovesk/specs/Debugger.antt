@@ -6,6 +6,7 @@ pub use Rattle.jdwp_debugger.specs.FaultNumbers
 pub use Rattle.jdwp_debugger.specs.Histories
 pub use Rattle.jdwp_debugger.specs.Judging
 pub use Rattle.jdwp_debugger.specs.News
+pub use Rattle.jdwp_debugger.specs.Orders
 pub use Rattle.jdwp_debugger.specs.PendingKept
 pub use Rattle.jdwp_debugger.specs.RefusedNumbers
 pub use Rattle.jdwp_debugger.specs.Runs
@@ -15,5 +16,6 @@ pub use Rattle.jdwp_debugger.specs.declared.debugger.Debugger
 pub use Rattle.jdwp_debugger.specs.declared.faults.DebuggerFault
 pub use Rattle.jdwp_debugger.specs.declared.heads.Head
 pub use Rattle.jdwp_debugger.specs.declared.lost.Lost
+pub use Rattle.jdwp_debugger.specs.declared.order.Order
 pub use Rattle.jdwp_debugger.specs.declared.pending.Ticket
 pub use Rattle.jdwp_debugger.specs.declared.turning.Read

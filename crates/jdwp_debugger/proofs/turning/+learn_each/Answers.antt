@@ -3,7 +3,7 @@ use Rattle.std.proofs.lemmas.List.{take_all}
 use Rattle.std.specs.Prelude.{OnOk, IfErr}
 use Rattle.jdwp_event.specs.Composites.{CompositeMeaning}
 use Rattle.jdwp_debugger.specs.DebuggerTurns.{FailsOnly, reports}
-use Rattle.jdwp_mirror.specs.Faults.{has_bad_event, is_bad_event}
+use Rattle.jdwp_debugger.specs.Orders.{has_bad_in, is_bad_in}
 use Rattle.jdwp_mirror.specs.KnownThreads.{count_in}
 use Rattle.jdwp_debugger.proofs.TurningLemmas.{AllLearned, all-learned, all-failed}
 use Rattle.jdwp_debugger.proofs.turning.+learn_each.Goals as goal
@@ -21,11 +21,11 @@ returns-in_ok-learn_composite-in-len1-up-clause-ok t c =
     let cs = c.args.composites.now in
     let first = c.first-item.result in
     let old = c.args.mirror.now in
-    let good : is_bad_event (count_in old.threads) first ≡ false = sym c.is_bad_composite.ensures ∙ c.if-is_bad_composite.false in
+    let good : is_bad_in c.args.order (count_in old.threads) first ≡ false = sym c.is_bad.ensures ∙ c.if-is_bad.false in
     let rest = take (length cs - 1) (drop 1 cs) in
     let parts : cs ≡ first ∷ rest = rest-is cs first c.in-len1-up.len_at_least c.first-item.is in
-    subst (λ (xs : List CompositeMeaning). OnOk c.learn_each.result (AllLearned old xs c.learn_each.new.mirror)) (sym parts)
-    (all-learned c.learn_each.result first rest old c.learn_composite.new.self c.learn_each.new.mirror good c.in_ok-learn_composite-in-len1-up.ensures.ok c.learn_each.ensures.ok)
+    subst (λ (xs : List CompositeMeaning). OnOk c.learn_each.result (AllLearned c.args.order old xs c.learn_each.new.mirror)) (sym parts)
+    (all-learned c.args.order c.learn_each.result first rest old c.learn_composite.new.mirror c.learn_each.new.mirror good c.in_ok-learn_composite-in-len1-up.ensures.ok c.learn_each.ensures.ok)
 
 pub returns-in_ok-learn_composite-in-len1-up-clause-err :
     goal.returns-in_ok-learn_composite-in-len1-up-clause-err
@@ -33,8 +33,8 @@ returns-in_ok-learn_composite-in-len1-up-clause-err t c =
     let cs = c.args.composites.now in
     let first = c.first-item.result in
     let old = c.args.mirror.now in
-    let good : is_bad_event (count_in old.threads) first ≡ false = sym c.is_bad_composite.ensures ∙ c.if-is_bad_composite.false in
+    let good : is_bad_in c.args.order (count_in old.threads) first ≡ false = sym c.is_bad.ensures ∙ c.if-is_bad.false in
     let rest = take (length cs - 1) (drop 1 cs) in
     let parts : cs ≡ first ∷ rest = rest-is cs first c.in-len1-up.len_at_least c.first-item.is in
-    subst (λ (xs : List CompositeMeaning). IfErr c.learn_each.result (λ f. FailsOnly f (has_bad_event (count_in old.threads) (reports xs)))) (sym parts)
-    (all-failed c.learn_each.result first rest old c.learn_composite.new.self good c.in_ok-learn_composite-in-len1-up.ensures.ok c.learn_each.ensures.err)
+    subst (λ (xs : List CompositeMeaning). IfErr c.learn_each.result (λ f. FailsOnly f (has_bad_in c.args.order (count_in old.threads) (reports xs)))) (sym parts)
+    (all-failed c.args.order c.learn_each.result first rest old c.learn_composite.new.mirror good c.in_ok-learn_composite-in-len1-up.ensures.ok c.learn_each.ensures.err)

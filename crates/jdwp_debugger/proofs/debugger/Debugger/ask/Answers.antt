@@ -1,4 +1,4 @@
-use Rattle.std.proofs.Common.{◌≡◌, ◌∙◌, ◌+◌, ◌≤◌, ◌++◌, ap, sym, subst, rules, arith, length, true, false, List, [], ◌∷◌, ℕ, None, Some, ◌<◌}
+use Rattle.std.proofs.Common.{◌≡◌, ◌∙◌, ◌+◌, ◌≤◌, ◌++◌, ap, sym, subst, rules, arith, length, false, List, [], ◌∷◌, ℕ, None, Some, ◌<◌}
 use Rattle.std.proofs.lemmas.List.{length-append}
 use Rattle.jdwp_end.specs.declared.phase.Phase.TheVariants.{AwaitingHandshake, Established}
 use Rattle.jdwp_end.specs.Ends.{End, with_enqueued}
@@ -40,7 +40,7 @@ invariant_of-self-2 c =
       alone = λ opened none. absurd cc;
       unlearned = λ none. absurd cc;
       unparked = kept.unparked;
-      ran = subst (λ (qs : List Asked). HasRun end (s.tickets + 1) (record { sizes = s.sizes; parked = s.parked.items; pending = qs }) s.mirror) (sym pushed)
+      ran = subst (λ (qs : List Asked). HasRun s.order end (s.tickets + 1) (record { order = s.order; sizes = s.sizes; parked = s.parked.items; pending = qs }) s.mirror) (sym pushed)
           (ran-asked s.end s.tickets (reading_of (view_of s)) s.mirror leaves.widths id c.args.command phase known free leaves.encoded kept.ran);
     })
 

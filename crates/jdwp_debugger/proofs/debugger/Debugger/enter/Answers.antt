@@ -3,8 +3,8 @@ use Rattle.jdwp_event.specs.Composites.{CompositeMeaning}
 use Rattle.jdwp_debugger.specs.declared.faults.DebuggerFault.{DebuggerFault}
 use Rattle.jdwp_debugger.specs.declared.reading.News as declared
 use Rattle.jdwp_debugger.specs.declared.turning.Read.{Read}
-use Rattle.jdwp_debugger.specs.DebuggerTurns.{EntersAt, FailsOnly, IsSaid, LearnedAll, bad_where, command_at, news_meaning, none_known, reports}
-use Rattle.jdwp_mirror.specs.Faults.{has_bad_event}
+use Rattle.jdwp_debugger.specs.DebuggerTurns.{EntersAt, FailsOnly, IsSaid, LearnedAll, bad_where, command_at, news_meaning, reports}
+use Rattle.jdwp_debugger.specs.Orders.{has_bad_in, none_known}
 use Rattle.jdwp_mirror.specs.Messages.{Reply}
 use Rattle.jdwp_mirror.specs.Mirrors.{empty_mirror}
 use Rattle.jdwp_debugger.proofs.SaidPackets.{measures-within}
@@ -17,7 +17,7 @@ returns c = λ body front.
     let new = c.fail.new.self in
     let fault = c.in-Err.fault in
     let m = c.in-Measures in
-    let bad = subst (λ (cs : List CompositeMeaning). FailsOnly fault (has_bad_event none_known (reports cs))) c.deref.ensures.value c.in-Err.ensures.err in
+    let bad = subst (λ (cs : List CompositeMeaning). FailsOnly fault (has_bad_in old.order none_known (reports cs))) c.deref.ensures.value c.in-Err.ensures.err in
     let failed = fails-measuring fault old new m.place m.answer m.sizes m.composites.items bad c.fail.ensures.left in
     subst (λ (r : Result Read DebuggerFault). EntersAt c.args.header body c.args.used (news_meaning c.args.news) old r new) (sym c.fail.ensures.fault)
     (subst (λ (n : declared.News). EntersAt c.args.header body c.args.used (news_meaning n) old (Err fault) new) (sym m.is) failed)
@@ -38,6 +38,6 @@ take_sizes-requires-clause-told c =
     let mirror = c.in-Ok.mirror in
     let said = subst (λ (n : declared.News). IsSaid old c.args.header c.args.used (news_meaning n)) m.is c.requires.said in
     let learned =
-    subst (λ (cs : List CompositeMeaning). (has_bad_event none_known (reports cs) ≡ false) × LearnedAll empty_mirror (reports cs ++ Reply None (command_at m.place old.pending) m.answer ∷ []) mirror) c.deref.ensures.value
+    subst (λ (cs : List CompositeMeaning). (has_bad_in old.order none_known (reports cs) ≡ false) × LearnedAll old.order empty_mirror (reports cs ++ Reply None (command_at m.place old.pending) m.answer ∷ []) mirror) c.deref.ensures.value
     c.in-Ok.ensures.ok in
     record { answer = m.answer; composites = m.composites.items; said = said; unrefused = ap bad_where learned.0; learned = learned.1 }

@@ -1,4 +1,4 @@
-use Rattle.std.proofs.Common.{◌≡◌, ◌∙◌, ◌≤◌, ◌++◌, List, [], ◌∷◌, None, false, refl, ap, subst, sym, rules, arith, length}
+use Rattle.std.proofs.Common.{◌≡◌, ◌∙◌, ◌≤◌, ◌++◌, List, [], ◌∷◌, None, false, refl, ap, subst, sym, rules, length}
 use Rattle.jdwp_wire.specs.Bytes.{IsBytes}
 use Rattle.jdwp_wire.specs.Frames.{header_bytes}
 use Rattle.jdwp_wire.specs.Streams.{Handshake, Whole}
@@ -49,7 +49,7 @@ invariant_of-self-2 c =
       alone = λ opened none. alone;
       unlearned = kept.unlearned;
       unparked = kept.unparked;
-      ran = subst (λ (qs : List Asked). HasRun end s.tickets (record { sizes = s.sizes; parked = s.parked.items; pending = qs }) s.mirror) (sym pushed)
+      ran = subst (λ (qs : List Asked). HasRun s.order end s.tickets (record { order = s.order; sizes = s.sizes; parked = s.parked.items; pending = qs }) s.mirror) (sym pushed)
           (ran-greeted s.end s.tickets (reading_of (view_of s)) s.mirror 14 s.next_id bytes front kept.ran);
     })
 

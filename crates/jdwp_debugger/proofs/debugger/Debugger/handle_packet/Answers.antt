@@ -6,21 +6,22 @@ use Rattle.jdwp_wire.specs.declared.packet.Header.{Header}
 use Rattle.jdwp_end.specs.Ends.{End, front_of}
 use Rattle.jdwp_debugger.specs.declared.debugger.Debugger.TheInside.{Inside}
 use Rattle.jdwp_debugger.specs.declared.faults.DebuggerFault.{DebuggerFault}
+use Rattle.jdwp_debugger.specs.declared.order.Order.{Order}
 use Rattle.jdwp_debugger.specs.declared.reading.News as declared
 use Rattle.jdwp_debugger.specs.declared.turning.Read.{Read}
 use Rattle.jdwp_debugger.specs.Debuggers.{Asked, Debugger, Parked}
 use Rattle.jdwp_debugger.specs.DebuggersKept.{view_of}
 use Rattle.jdwp_debugger.specs.DebuggerTurns.{EntersAt, FailsTo, HandlesAt, IsSaid, ReadsPacket, news_meaning, reading_of}
-use Rattle.jdwp_debugger.specs.News.{News, Reading}
+use Rattle.jdwp_debugger.specs.News.{Reading}
 use Rattle.jdwp_debugger.proofs.TurningLemmas.{fails, handles}
 use Rattle.jdwp_debugger.proofs.debugger.Debugger.handle_packet.Goals as goal
 
-abbrev known : Option Widths → List Parked → List Asked → Reading
-known sizes parked pending = record { sizes = sizes; parked = parked; pending = pending }
+abbrev known : Order → Option Widths → List Parked → List Asked → Reading
+known order sizes parked pending = record { order = order; sizes = sizes; parked = parked; pending = pending }
 
 -- what packets are read by is what the debugger has
-read-by : (s : Inside) (d : Debugger) (parked : List Parked) → parked ≡ s.parked.items → view_of s ≡ d → known s.sizes parked s.pending ≡ reading_of d
-read-by s d parked waits is = ap (λ (ps : List Parked). known s.sizes ps s.pending) waits ∙ ap reading_of is
+read-by : (s : Inside) (d : Debugger) (parked : List Parked) → parked ≡ s.parked.items → view_of s ≡ d → known s.order s.sizes parked s.pending ≡ reading_of d
+read-by s d parked waits is = ap (λ (ps : List Parked). known s.order s.sizes ps s.pending) waits ∙ ap reading_of is
 
 -- a debugger whose end was read is as it was
 as-it-was : (s : Inside) (d : Debugger) (end : End) → end ≡ s.end → view_of s ≡ d → record (view_of s) { end = end } ≡ d

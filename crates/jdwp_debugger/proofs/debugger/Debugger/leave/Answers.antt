@@ -1,4 +1,4 @@
-use Rattle.std.proofs.Common.{◌≤◌, ℕ, List, length, take, min, ap, subst, arith}
+use Rattle.std.proofs.Common.{◌≤◌, ℕ, List, length, min, ap, subst, arith}
 use Rattle.std.proofs.lemmas.List.{take_min}
 use Rattle.jdwp_end.specs.Ends.{End, with_taken}
 use Rattle.jdwp_debugger.specs.DebuggersKept.{view_of}
@@ -25,6 +25,6 @@ invariant_of-self c =
       alone = kept.alone;
       unlearned = kept.unlearned;
       unparked = kept.unparked;
-      ran = subst (λ (e : End). HasRun e s.tickets (reading_of (view_of s)) s.mirror) (ap (λ (bytes : List ℕ). with_taken bytes s.end) (take_min c.args.count out))
+      ran = subst (λ (e : End). HasRun s.order e s.tickets (reading_of (view_of s)) s.mirror) (ap (λ (bytes : List ℕ). with_taken bytes s.end) (take_min c.args.count out))
           (ran-taken s.end s.tickets (reading_of (view_of s)) s.mirror count within kept.ran);
     })

@@ -39,6 +39,6 @@ invariant_of-self-2 c =
       alone = λ opened none. kept.alone (said-open (view_of s) header used news bytes said) none;
       unlearned = kept.unlearned;
       unparked = λ w known. absurd (let none = parks-unknown (view_of s) header used c.args.body.items said in cc);
-      ran = subst (λ (ps : List Parked). HasRun end s.tickets (record { sizes = s.sizes; parked = ps; pending = s.pending }) s.mirror) (sym pushed)
+      ran = subst (λ (ps : List Parked). HasRun s.order end s.tickets (record { order = s.order; sizes = s.sizes; parked = ps; pending = s.pending }) s.mirror) (sym pushed)
           (said-ran (view_of s) header used news s.mirror bytes said refl refl kept.ran);
     })

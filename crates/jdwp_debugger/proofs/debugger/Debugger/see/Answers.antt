@@ -8,16 +8,23 @@ use Rattle.jdwp_debugger.specs.Debuggers.{Debugger}
 use Rattle.jdwp_debugger.specs.DebuggersKept.{view_of}
 use Rattle.jdwp_debugger.specs.DebuggerTurns.{IsSaid, bad_where, closed_where, with_read}
 use Rattle.jdwp_debugger.specs.News.{Happens}
-use Rattle.jdwp_mirror.specs.Faults.{is_bad_event}
+use Rattle.jdwp_debugger.specs.Orders.{LearnedIn, is_bad_in}
 use Rattle.jdwp_mirror.specs.KnownThreads.{count_in}
 use Rattle.jdwp_mirror.specs.Messages.{Report}
 use Rattle.jdwp_mirror.specs.Mirror.{ends}
-use Rattle.jdwp_mirror.specs.Mirrors.{Learned}
+use Rattle.jdwp_debugger.specs.Runs.{heard_by}
+use Rattle.jdwp_debugger.proofs.Ordering.{may-learn}
 use Rattle.jdwp_debugger.proofs.SaidPackets.{knows, said-ran}
 use Rattle.jdwp_debugger.proofs.debugger.Debugger.see.Goals as goal
 
 pub take_off-requires : goal.take_off-requires
 take_off-requires c = (Packet c.args.header c.requires.said.body, ap (λ (d : Debugger). front_of d.end) c.self.view_is ∙ c.requires.said.front)
+
+pub is_bad-requires : goal.is_bad-requires
+is_bad-requires c = (let ran = c.self.invariant.ran in may-learn c.self.inside.order (heard_by ran) c.self.inside.mirror ran.learned)
+
+pub learn_composite-requires : goal.learn_composite-requires
+learn_composite-requires c = (let ran = c.self.invariant.ran in may-learn c.self.inside.order (heard_by ran) c.self.inside.mirror ran.learned)
 
 pub invariant_of-self-2 : goal.invariant_of-self-2
 invariant_of-self-2 c =
@@ -30,7 +37,7 @@ invariant_of-self-2 c =
     let said : IsSaid (view_of s) header used news = subst (λ (d : Debugger). IsSaid d header used news) (sym c.self.view_is) c.requires.said in
     let bytes : IsBytes s.end.incoming = subst (λ (d : Debugger). IsBytes d.end.incoming) (sym c.self.view_is) c.requires.bytes in
     let end : End = with_handled (Packet header said.body) used s.end in
-    let good : is_bad_event (count_in s.mirror.threads) composite ≡ false = sym c.is_bad_composite.ensures ∙ c.if-is_bad_composite.false in
+    let good : is_bad_in s.order (count_in s.mirror.threads) composite ≡ false = sym c.is_bad.ensures ∙ c.if-is_bad.false in
     let read : c.take_off.new.self ≡ end = c.take_off.ensures (Packet header said.body) said.front in
     rw read
     (record {
@@ -43,16 +50,16 @@ invariant_of-self-2 c =
       alone = λ opened none. absurd (knows (view_of s) header used composite said none);
       unlearned = λ none. absurd (knows (view_of s) header used composite said none);
       unparked = kept.unparked;
-      ran = said-ran (view_of s) header used news c.learn_composite.new.self bytes said (ap bad_where good) (c.learn_composite.new.self, c.in_ok-learn_composite.ensures.ok, refl) kept.ran;
+      ran = said-ran (view_of s) header used news c.learn_composite.new.mirror bytes said (ap bad_where good) (c.learn_composite.new.mirror, c.in_ok-learn_composite.ensures.ok, refl) kept.ran;
     })
 
 pub returns : goal.returns
 returns c = λ content front.
     let composite = c.args.composite in
-    let m = c.learn_composite.new.self in
-    let good : is_bad_event (count_in c.args.self.now.mirror.threads) composite ≡ false =
-    sym (c.is_bad_composite.ensures ∙ ap (λ (d : Debugger). is_bad_event (count_in d.mirror.threads) composite) c.self.view_is) ∙ c.if-is_bad_composite.false in
-    let learned = subst (λ (d : Debugger). Learned d.mirror (Report composite) m) c.self.view_is c.in_ok-learn_composite.ensures.ok in
+    let m = c.learn_composite.new.mirror in
+    let good : is_bad_in c.args.self.now.order (count_in c.args.self.now.mirror.threads) composite ≡ false =
+    sym (c.is_bad.ensures ∙ ap (λ (d : Debugger). is_bad_in d.order (count_in d.mirror.threads) composite) c.self.view_is) ∙ c.if-is_bad.false in
+    let learned = subst (λ (d : Debugger). LearnedIn d.order d.mirror (Report composite) m) c.self.view_is c.in_ok-learn_composite.ensures.ok in
     let death : c.has_event_of-closes.result ≡ ends (Report composite) = search rules in
     let s = c.self.inside in
     let header = c.args.header in

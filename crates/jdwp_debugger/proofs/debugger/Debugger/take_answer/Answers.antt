@@ -9,11 +9,12 @@ use Rattle.jdwp_debugger.specs.Debuggers.{AreDistinct, AreOwn, Asked, Debugger}
 use Rattle.jdwp_debugger.specs.DebuggersKept.{view_of}
 use Rattle.jdwp_debugger.specs.DebuggerTurns.{IsSaid, closed_where, command_at, command_of, reply_head, with_read}
 use Rattle.jdwp_debugger.specs.News.{Answers}
-use Rattle.jdwp_debugger.specs.Runs.{HasRun}
+use Rattle.jdwp_debugger.specs.Orders.{LearnedIn}
+use Rattle.jdwp_debugger.specs.Runs.{HasRun, heard_by}
 use Rattle.jdwp_mirror.specs.Messages.{Reply}
 use Rattle.jdwp_mirror.specs.Mirror.{ends}
-use Rattle.jdwp_mirror.specs.Mirrors.{Learned}
 use Rattle.jdwp_debugger.proofs.Keeping.{distinct-left, few-left, own-left}
+use Rattle.jdwp_debugger.proofs.Ordering.{may-learn}
 use Rattle.jdwp_debugger.proofs.SaidPackets.{answers-within, known-before, said-open, said-ran}
 use Rattle.jdwp_debugger.proofs.debugger.Debugger.take_answer.Goals as goal
 
@@ -23,6 +24,9 @@ at-requires c =
     let said = subst (λ (d : Debugger). IsSaid d c.args.packet.0 c.args.packet.1 (Answers c.args.place c.args.ticket.0 c.args.answer)) (sym c.self.view_is) c.requires.said in
     let within : c.args.place < length s.pending = answers-within (view_of s) c.args.packet.0 c.args.packet.1 c.args.place c.args.ticket.0 c.args.answer said in
     omega (arith, within)
+
+pub learn_reply-requires : goal.learn_reply-requires
+learn_reply-requires c = (let ran = c.self.invariant.ran in may-learn c.self.inside.order (heard_by ran) c.self.inside.mirror ran.learned)
 
 pub remove-requires : goal.remove-requires
 remove-requires c =
@@ -51,9 +55,9 @@ invariant_of-self-2 c =
     let read : c.take_off.new.self ≡ end = c.take_off.ensures (Packet header said.body) said.front in
     let left : c.remove.new.self ≡ remove ps place = c.remove.ensures in
     let within : place < length ps = answers-within (view_of s) header used place ticket answer said in
-    let m = c.learn_reply.new.self in
+    let m = c.learn_reply.new.mirror in
     let seen : c.at.result.1.now.command ≡ command_at place ps = sym (ap command_of c.at.ensures) in
-    let learned = subst (λ (q : Command). Learned s.mirror (Reply (Some ticket) q answer) m) seen (c.in_ok-learn_reply.ensures.ok (Some ticket)) in
+    let learned = subst (λ (q : Command). LearnedIn s.order s.mirror (Reply (Some ticket) q answer) m) seen (c.in_ok-learn_reply.ensures.ok (Some ticket)) in
     let opened = said-open (view_of s) header used news bytes said in
     rw read
     (record {
@@ -66,21 +70,21 @@ invariant_of-self-2 c =
       alone = λ opens none. absurd (known-before (view_of s) header used place ticket answer said (kept.alone opened none));
       unlearned = λ none. absurd (known-before (view_of s) header used place ticket answer said (kept.alone opened none));
       unparked = kept.unparked;
-      ran = subst (λ (qs : List Asked). HasRun end s.tickets (record { sizes = s.sizes; parked = s.parked.items; pending = qs }) m) (sym left)
+      ran = subst (λ (qs : List Asked). HasRun s.order end s.tickets (record { order = s.order; sizes = s.sizes; parked = s.parked.items; pending = qs }) m) (sym left)
           (said-ran (view_of s) header used news m bytes said refl (m, learned, refl) kept.ran);
     })
 
 pub returns : goal.returns
 returns c = λ content front.
     let k = Some c.args.ticket.0 in
-    let m = c.learn_reply.new.self in
+    let m = c.learn_reply.new.mirror in
     let command = c.at.result.1.now.command in
     let ps = c.args.self.now.pending in
     let place = c.args.place in
     let seen : command ≡ command_at place ps = sym (ap command_of c.at.ensures) ∙ ap (λ (d : Debugger). command_at place d.pending) c.self.view_is in
     let learned =
-    subst (λ (q : Command). Learned c.args.self.now.mirror (Reply k q c.args.answer) m) seen
-    (subst (λ (d : Debugger). Learned d.mirror (Reply k command c.args.answer) m) c.self.view_is (c.in_ok-learn_reply.ensures.ok k)) in
+    subst (λ (q : Command). LearnedIn c.args.self.now.order c.args.self.now.mirror (Reply k q c.args.answer) m) seen
+    (subst (λ (d : Debugger). LearnedIn d.order d.mirror (Reply k command c.args.answer) m) c.self.view_is (c.in_ok-learn_reply.ensures.ok k)) in
     let ending = ends (Reply k (command_at place ps) c.args.answer) in
     let closes : c.closes_session-closes.result ≡ ending = c.closes_session-closes.ensures k ∙ ap (λ (q : Command). ends (Reply k q c.args.answer)) seen in
     let s = c.self.inside in

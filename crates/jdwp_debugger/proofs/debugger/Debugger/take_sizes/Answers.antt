@@ -45,8 +45,8 @@ invariant_of-self c =
     let read : c.take_off.new.self ≡ end = c.take_off.ensures (Packet header said.body) said.front in
     let left : c.remove.new.self ≡ remove ps place = c.remove.ensures in
     let within : place < length ps = measures-within (view_of s) header used place answer w cs said in
-    let now : Reading = record { sizes = Some w; parked = c.clear-2.new.self.items; pending = c.remove.new.self } in
-    let settled : now ≡ reading_after header news (reading_of (view_of s)) = (λ j. record { sizes = Some w; parked = c.clear-2.ensures.items j; pending = left j }) in
+    let now : Reading = record { order = s.order; sizes = Some w; parked = c.clear-2.new.self.items; pending = c.remove.new.self } in
+    let settled : now ≡ reading_after header news (reading_of (view_of s)) = (λ j. record { order = s.order; sizes = Some w; parked = c.clear-2.ensures.items j; pending = left j }) in
     let few_parked : length c.clear-2.new.self.items ≤ PARKED_MOST = search (rules, arith) in
     rw read
     (record {
@@ -59,5 +59,5 @@ invariant_of-self c =
       alone = λ opened none. absurd cc;
       unlearned = λ none. absurd cc;
       unparked = λ v known. c.clear-2.ensures.items;
-      ran = subst (λ (r : Reading). HasRun end s.tickets r c.args.mirror) (sym settled) (said-ran (view_of s) header used news c.args.mirror bytes said told.unrefused told.learned kept.ran);
+      ran = subst (λ (r : Reading). HasRun s.order end s.tickets r c.args.mirror) (sym settled) (said-ran (view_of s) header used news c.args.mirror bytes said told.unrefused told.learned kept.ran);
     })

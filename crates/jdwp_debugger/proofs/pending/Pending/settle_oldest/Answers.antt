@@ -1,4 +1,4 @@
-use Rattle.std.proofs.Common.{◌≡◌, ◌∙◌, ◌+◌, ◌<◌, ◌≤◌, List, arith, length, ap, rules, sym, subst}
+use Rattle.std.proofs.Common.{◌≡◌, ◌∙◌, ◌+◌, ◌<◌, List, arith, length, ap, rules, sym, subst}
 use Rattle.jdwp_debugger.specs.Debuggers.{Asked}
 use Rattle.jdwp_debugger.specs.PendingKept.{KeepsNoSettled, bare, waiting_in}
 use Rattle.jdwp_debugger.proofs.Settled.{all_settled, bare_more, one_settled, some_wait, waits_behind}

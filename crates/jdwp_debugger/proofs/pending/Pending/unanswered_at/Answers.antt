@@ -1,4 +1,4 @@
-use Rattle.std.proofs.Common.{◌≡◌, ◌∙◌, ℕ, suc, ◌+◌, ◌-◌, drop, ap, sym, arith}
+use Rattle.std.proofs.Common.{◌≡◌, ◌∙◌, ℕ, suc, ◌+◌, drop, ap, sym, arith}
 use Rattle.jdwp_debugger.specs.Debuggers.{at_place, unanswered}
 use Rattle.jdwp_debugger.specs.PendingKept.{asked_of}
 use Rattle.jdwp_debugger.proofs.Losing.{found_behind, found_first, found_later}

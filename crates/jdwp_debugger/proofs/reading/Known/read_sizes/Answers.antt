@@ -1,4 +1,4 @@
-use Rattle.std.proofs.Common.{◌≡◌, Option, rules, subst}
+use Rattle.std.proofs.Common.{Option, rules, subst}
 use Rattle.jdwp_wire.specs.Widths.{Widths}
 use Rattle.jdwp_debugger.specs.News.{Fails, sizes_say}
 use Rattle.jdwp_mirror.specs.Widths.{widths_in}

@@ -1,4 +1,4 @@
-use Rattle.std.proofs.Common.{◌≡◌, ◌++◌, ◌∷◌, [], List, sym, ap, ◌∙◌}
+use Rattle.std.proofs.Common.{◌++◌, ◌∷◌, [], List, ap, ◌∙◌}
 use Rattle.jdwp_watch.specs.declared.standing.Change.{Change}
 use Rattle.jdwp_watch.specs.declared.standing.Standing.{Standing}
 use Rattle.jdwp_watch.specs.Standings.{changed}

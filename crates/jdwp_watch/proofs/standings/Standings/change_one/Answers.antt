@@ -1,7 +1,6 @@
 use Rattle.std.proofs.Common.{◌≡◌, ℕ, List, Some, length, sym, ap, ◌∙◌}
 use Rattle.jdwp_watch.specs.declared.standing.Change.{Change}
 use Rattle.jdwp_watch.specs.declared.standing.Change.TheVariants.{Keep}
-use Rattle.jdwp_watch.specs.declared.standing.Standing.{Standing}
 use Rattle.jdwp_watch.specs.declared.standings.Met.{Met}
 use Rattle.jdwp_watch.specs.Standings.{changed}
 use Rattle.jdwp_watch.specs.Tables.{Table, at, change_for}

@@ -1,7 +1,5 @@
-use Rattle.std.proofs.Common.{◌≡◌, List, map, sym, ap, ◌∙◌}
+use Rattle.std.proofs.Common.{◌≡◌, List, ap, ◌∙◌}
 use Rattle.jdwp_watch.specs.declared.standing.Change.{Change}
-use Rattle.jdwp_watch.specs.declared.standings.Met.{Met}
-use Rattle.jdwp_watch.specs.Tables.{anew}
 use Rattle.jdwp_watch.proofs.Tabled.{anew_entries, written-before, written-table}
 use Rattle.jdwp_watch.proofs.standings.Standings.write_all.Goals as goal
 

@@ -1,5 +1,5 @@
 use Rattle.std.proofs.Common.{ℕ, Option, sym, ap, ◌∙◌}
-use Rattle.jdwp_action.specs.Actions.{about, action_of}
+use Rattle.jdwp_action.specs.Actions.{action_of}
 use Rattle.jdwp_action.specs.AboutLaws.{about_action}
 use Rattle.jdwp_value.specs.declared.id.ObjectId.{ObjectId}
 use Rattle.jdwp_mirror.specs.CommandKinds.{id_found, kind_of}

@@ -1,15 +1,15 @@
-use Rattle.std.proofs.Common.{◌≡◌, ℕ, ◌+◌, ◌≤◌, Some, length, refl, sym, subst, ap, ◌∙◌, arith}
+use Rattle.std.proofs.Common.{ℕ, ◌+◌, ◌≤◌, Some, refl, sym, subst, ap, ◌∙◌, arith}
 use Rattle.jdwp_apart.specs.Messages.{Composite}
 use Rattle.jdwp_apart.specs.Watch.{later, reads_composite}
 use Rattle.jdwp_watch.specs.declared.standing.Change.{Change}
 use Rattle.jdwp_watch.specs.declared.standing.Change.TheVariants.{Reported}
-use Rattle.jdwp_watch.specs.declared.standing.Standing.{Standing}
 use Rattle.jdwp_watch.specs.declared.told.Stops.{Stops}
-use Rattle.jdwp_watch.specs.Standings.{changed}
+use Rattle.jdwp_watch.specs.Standings.{IsUnseen, changed}
 use Rattle.jdwp_watch.specs.Tables.{at, change_for}
 use Rattle.jdwp_watch.specs.Tellings.{stops_in}
 use Rattle.jdwp_watch.specs.Watching.{Watching, others_by, watch_of}
 use Rattle.jdwp_watch.proofs.Watched.{composite-watch}
+use Rattle.jdwp_watch.proofs.Unseen.{unseen-stopped}
 use Rattle.jdwp_watch.proofs.Within.{IsSmall, kept-on, small-stopped}
 use Rattle.jdwp_watch.proofs.watch.Watch.on_composite.Goals as goal
 
@@ -21,6 +21,8 @@ invariant_of-self-2 c =
     let le : i.answered ≤ i.packets + 1 = omega arith in
     kept-on i.packets c.in_ok-packets.packets i.answered i.answered i.standings c.change.new.self stops.thread (Reported c.later-after.result stops.own (Some (i.answered + c.len.result))) c.others_stopped-others.result c.self.invariant
     c.in_ok-packets.ensures.few c.in_ok-packets.ensures.ok le tt (subst IsSmall (sym c.others_stopped-others.ensures) (small-stopped c.later-after.result stops.others)) c.in_ok-change.ensures.ok
+    c.in_ok-change.ensures.unnamed
+    (subst (λ (o : Change). IsUnseen (changed o i.standings.others)) (sym c.others_stopped-others.ensures) (unseen-stopped c.later-after.result stops.others i.standings.others c.self.invariant.others))
 
 pub returns-clause-ok : goal.returns-clause-ok
 returns-clause-ok c =

@@ -1,0 +1,9 @@
+pub mod Askings
+pub mod Captures
+pub mod Framing
+pub mod Handles
+pub mod KeptIn
+pub mod Numbers
+pub mod Seats
+pub mod Targets
+pub mod Telling

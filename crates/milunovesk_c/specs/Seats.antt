@@ -1,0 +1,67 @@
+-- A debugger beside what its last turn told: what calls on it say, and what they leave.
+use Rattle.std.specs.Prelude.{◌≡◌, ℕ, ◌+◌, ◌++◌, Bool, true, false, List, drop, length, map, nat_lt, Option, Some, None, Result, Ok, Err}
+use Rattle.jdwp_wire.specs.Limits.{standard_limits}
+use Rattle.jdwp_wire.specs.Widths.{Widths}
+use Rattle.jdwp_debugger.specs.declared.asking.Refused.{Refused}
+use Rattle.jdwp_debugger.specs.declared.asking.Refused.TheVariants as refused
+use Rattle.jdwp_debugger.specs.declared.pending.Ticket.{Ticket}
+use Rattle.jdwp_debugger.specs.declared.turning.Read.TheVariants as read
+use Rattle.jdwp_debugger.specs.Debuggers.{Debugger, PENDING_MOST, Unanswered, attached, lost_debugger, new_debugger, tickets_of}
+use Rattle.jdwp_debugger.specs.RefusedNumbers.{refused_number}
+use Rattle.milunovesk_c.specs.declared.seat.Seat.{Seat}
+use Rattle.milunovesk_c.specs.declared.widths.Asked.{Asked}
+use Rattle.milunovesk_c.specs.declared.widths.IdWidths.{IdWidths}
+use Rattle.milunovesk_c.specs.Askings.{AsksBytes, RefusesBytes}
+use Rattle.milunovesk_c.specs.Numbers.{DONE, NO_MEMORY, REFUSED, SHORT_BUFFER}
+
+-- before its first session, with this id of its first packet
+abbrev pub new_seat : ℕ → Seat
+new_seat first = record { debugger = new_debugger standard_limits first; widths = None; read = read.Nothing }
+
+abbrev pub attached_where : Bool → Debugger → Debugger
+attached_where true d = attached d
+attached_where false d = d
+
+-- ---- what is told in numbers
+
+-- all 0 where they are not known
+abbrev pub widths_told : Option Widths → IdWidths
+widths_told None = record { field = 0; method = 0; object = 0; reference = 0; frame = 0 }
+widths_told (Some w) = record { field = w.field; method = w.method; object = w.object; reference = w.reference; frame = w.frame }
+
+abbrev pub unanswered_told : Option Unanswered → Asked
+unanswered_told None = record { ticket = 0; set = 0; number = 0 }
+unanswered_told (Some u) = record { ticket = u.ticket; set = u.command.set; number = u.command.number }
+
+abbrev pub numbers_of : List Ticket → List ℕ
+numbers_of tickets = map (λ (t : Ticket). t.0) tickets
+
+-- ---- a command that was asked or not
+
+-- how it is told
+abbrev pub IsToldAs : Result Ticket Refused → ℕ → ℕ → ℕ → Type 0
+IsToldAs (Ok given) result ticket reason = (result ≡ DONE) × (ticket ≡ given.0) × (reason ≡ 0)
+IsToldAs (Err refused.NoMemory) result ticket reason = (result ≡ NO_MEMORY) × (ticket ≡ 0) × (reason ≡ 0)
+IsToldAs (Err e) result ticket reason = (result ≡ REFUSED) × (ticket ≡ 0) × (reason ≡ refused_number e)
+
+-- The command whose data these bytes are was asked under the next ticket, or it was not, with a reason, and nothing changed.
+abbrev pub AsksOrNot : ℕ → ℕ → List ℕ → Seat → Result Ticket Refused → Seat → Type 0
+AsksOrNot set number bytes old (Ok given) new = (given.0 ≡ old.debugger.tickets + 1) × AsksBytes set number bytes old new
+AsksOrNot set number bytes old (Err e) new = (new ≡ old) × RefusesBytes old.debugger.sizes set number bytes e old.debugger
+
+pub record HasAskedBytes (set number : ℕ) (bytes : List ℕ) (old : Seat) (result ticket reason : ℕ) (new : Seat) : Type 0 where
+  pub answer : Result Ticket Refused
+  pub asked : AsksOrNot set number bytes old answer new
+  pub told : IsToldAs answer result ticket reason
+
+-- ---- a loss
+
+-- The tickets that will never be answered are handed out, where there is room for as many as there may be; else nothing changes.
+abbrev pub LosesWhere : Bool → Seat → ℕ → List ℕ → List ℕ → ℕ → Seat → Type 0
+LosesWhere true s result old new count after = (result ≡ SHORT_BUFFER) × (count ≡ PENDING_MOST) × (new ≡ old) × (after ≡ s)
+LosesWhere false s result old new count after =
+    (result ≡ DONE) × (count ≡ length (tickets_of s.debugger.pending)) × (new ≡ numbers_of (tickets_of s.debugger.pending) ++ drop count old)
+    × (after ≡ record s { debugger = lost_debugger s.debugger })
+
+abbrev pub HasLost : Seat → ℕ → List ℕ → List ℕ → ℕ → Seat → Type 0
+HasLost s result old new count after = LosesWhere (nat_lt (length old) PENDING_MOST) s result old new count after

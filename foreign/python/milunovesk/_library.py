@@ -1,0 +1,108 @@
+"""The shared object: its structs and the signatures of its calls, as `milunovesk.h` has them."""
+
+from __future__ import annotations
+
+import ctypes as c
+import os
+
+DONE, EMPTY, LIVE, OTHER_KIND, NO_MEMORY, NOT_UTF8, SHORT_BUFFER, REFUSED, FAULT, NO_ITEM = range(10)
+MOST_TICKETS = 1024
+
+size_t = c.c_size_t
+flag = c.c_bool
+
+
+class Handle(c.Structure):
+    _fields_ = [("live", c.c_bool), ("at", c.c_void_p)]
+
+
+class Judged(c.Structure):
+    _fields_ = [("yes", c.c_bool), ("fault", c.c_uint16), ("line", c.c_size_t)]
+
+
+class Heard(c.Structure):
+    _fields_ = [
+        ("kind", c.c_uint8),
+        ("error", c.c_uint16),
+        ("fault", c.c_uint16),
+        ("frame", c.c_uint16),
+        ("ticket", c.c_uint64),
+        ("items", c.c_size_t),
+    ]
+
+
+class IdWidths(c.Structure):
+    _fields_ = [(name, c.c_uint8) for name in ("field", "method", "object", "reference", "frame")]
+
+
+class Asked(c.Structure):
+    _fields_ = [("ticket", c.c_uint64), ("set", c.c_uint8), ("number", c.c_uint8)]
+
+
+class Handled(c.Structure):
+    _fields_ = [("kind", c.c_uint8), ("error", c.c_uint16), ("fault", c.c_uint16), ("id", c.c_uint32)]
+
+
+def number(bits: int) -> c._SimpleCData:
+    return {8: c.c_uint8, 16: c.c_uint16, 32: c.c_uint32, 64: c.c_uint64}[bits]()
+
+
+def buffer(room: int) -> c.Array:
+    """So many bytes, and one that no call is told of, so that its address is never null."""
+    return c.create_string_buffer(room + 1)
+
+
+def tickets() -> c.Array:
+    return (c.c_uint64 * MOST_TICKETS)()
+
+
+_P = c.POINTER
+_H, _FLAG, _SIZE, _U8, _U16, _U32, _U64 = (
+    _P(t) for t in (Handle, c.c_bool, c.c_size_t, c.c_uint8, c.c_uint16, c.c_uint32, c.c_uint64)
+)
+_IN, _OUT = c.c_char_p, c.c_char_p
+
+_SIGNATURES: dict[str, list[object]] = {
+    "mv_version": [],
+    "mv_kind": [_H, _U8],
+    "mv_free": [_H],
+    "mv_check": [_IN, c.c_size_t, _P(Judged)],
+    "mv_show": [_IN, c.c_size_t, _OUT, c.c_size_t, _SIZE, _P(Judged)],
+    "mv_debugger_new": [_H, c.c_uint32],
+    "mv_debugger_attach": [_H, _FLAG],
+    "mv_debugger_feed": [_H, _IN, c.c_size_t, _SIZE],
+    "mv_debugger_take": [_H, _OUT, c.c_size_t, _SIZE],
+    "mv_debugger_waiting": [_H, _SIZE, _SIZE, _FLAG],
+    "mv_debugger_ask": [_H, c.c_uint8, c.c_uint8, _IN, c.c_size_t, _U64, _U16],
+    "mv_debugger_turn": [_H, _P(Heard)],
+    "mv_debugger_data": [_H, c.c_size_t, _OUT, c.c_size_t, _SIZE],
+    "mv_debugger_widths": [_H, _FLAG, _P(IdWidths)],
+    "mv_debugger_thread": [_H, c.c_uint64, _FLAG, _U32, _FLAG],
+    "mv_debugger_unanswered": [_H, c.c_size_t, _P(Asked)],
+    "mv_debugger_lose": [_H, _U64, c.c_size_t, _SIZE],
+    "mv_target_new": [_H, _IN, c.c_size_t, c.c_bool, c.c_uint32, _P(Judged)],
+    "mv_target_accept": [_H, _FLAG],
+    "mv_target_feed": [_H, _IN, c.c_size_t, _SIZE],
+    "mv_target_take": [_H, _OUT, c.c_size_t, _SIZE],
+    "mv_target_waiting": [_H, _SIZE, _SIZE, _FLAG],
+    "mv_target_turn": [_H, _P(Handled)],
+    "mv_target_step": [_H, c.c_uint64, _U8],
+    "mv_target_live": [_H, c.c_size_t, _FLAG, _U64],
+    "mv_target_thread": [_H, c.c_uint64, _FLAG, _U32],
+    "mv_target_lose": [_H],
+}
+
+
+def _open() -> c.CDLL:
+    beside = os.path.join(os.path.dirname(__file__), "libmilunovesk.so")
+    found = c.CDLL(os.environ.get("MILUNOVESK_LIBRARY", beside))
+    for name, arguments in _SIGNATURES.items():
+        call = getattr(found, name)
+        call.argtypes = arguments
+        call.restype = None if name == "mv_free" else c.c_uint32
+    if found.mv_version() != 1:
+        raise ImportError("another version of the library")
+    return found
+
+
+library = _open()
