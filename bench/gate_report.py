@@ -21,6 +21,9 @@ MOST = 40
 
 
 def main():
+    # what is not UTF-8 goes on as it is
+    for stream in (sys.stdin, sys.stdout):
+        stream.reconfigure(encoding="utf-8", errors="surrogateescape")
     begin = time.monotonic()
     told, block, failed, last = {}, [], [], ""
     for line in sys.stdin:
