@@ -9,7 +9,7 @@ ghost use Rattle.jdwp_end.specs.Ends as ends;
 ghost use Rattle.jdwp_end.specs.Ends.{HasPacket, TellsFront, closed_end, front_of, lost_end, most_outgoing, new_end, opened_end, room_of, with_enqueued, with_fed, with_handled, with_taken};
 
 use crate::front::Front;
-use crate::parts::{are_bytes, front_piece, join, packet_standing, shared_behind, take_into};
+use crate::parts::{are_bytes, in_two_pieces, join, packet_standing, shared_behind, take_into};
 use crate::phase::Phase;
 use crate::session::Session;
 use circular_buffer::HeapCircularBuffer;
@@ -276,12 +276,12 @@ impl End {
         self.outgoing.len()
     }
 
-    /// A beginning of the bytes that wait to leave, where they lie; empty exactly where none waits. How many it lends is not told.
-    pub fn waiting_in_front(&self) -> &[u8]
-        ensures front { result.now ≡ take (length result.now) self.now.outgoing }
-        ensures none { result.now ≡ [] → self.now.outgoing ≡ [] }
+    /// All bytes that wait to leave, where they lie, in two pieces of which the first leaves first. It is empty only where none waits.
+    pub fn waiting_slices(&self) -> (&[u8], &[u8])
+        ensures all { result.0.now ++ result.1.now ≡ self.now.outgoing }
+        ensures none { result.0.now ≡ [] → self.now.outgoing ≡ [] }
     {
-        front_piece(&self.outgoing)
+        in_two_pieces(&self.outgoing)
     }
 
     /// So many of the bytes that wait, the first, have left, or all where no more wait.

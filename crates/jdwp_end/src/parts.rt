@@ -34,13 +34,17 @@ fn standing_of(bytes: &[u8], limits: &Limits) -> Standing
     }
 }
 
-/// The first bytes of a ring, those that lie in one piece; none exactly where it is empty.
-pub(crate) fn front_piece(ring: &HeapCircularBuffer<u8>) -> &[u8]
-    ensures front { result.now ≡ take (length result.now) ring.now.items }
-    ensures none { result.now ≡ [] → ring.now.items ≡ [] }
+/// The bytes of a ring where they lie, in two pieces. The first is empty only where both are.
+pub(crate) fn in_two_pieces(ring: &HeapCircularBuffer<u8>) -> (&[u8], &[u8])
+    ensures all { result.0.now ++ result.1.now ≡ ring.now.items }
+    ensures none { result.0.now ≡ [] → ring.now.items ≡ [] }
 {
     let (first, second) = ring.as_slices();
-    if first.is_empty() { second } else { first }
+    if first.is_empty() {
+        (second, first)
+    } else {
+        (first, second)
+    }
 }
 
 /// Moves as many bytes from the front of a ring to the front of `out` as fit, and answers how many.

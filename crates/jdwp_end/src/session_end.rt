@@ -34,10 +34,10 @@ pub trait SessionEnd {
     fn waiting(&self) -> usize
         ensures { result ≡ length (end self.now).outgoing };
 
-    /// A beginning of the bytes that wait to leave, where they lie; empty exactly where none waits. How many it lends is not told.
-    fn waiting_in_front(&self) -> &[u8]
-        ensures front { result.now ≡ take (length result.now) (end self.now).outgoing }
-        ensures none { result.now ≡ [] → (end self.now).outgoing ≡ [] };
+    /// All bytes that wait to leave, where they lie, in two pieces of which the first leaves first. It is empty only where none waits.
+    fn waiting_slices(&self) -> (&[u8], &[u8])
+        ensures all { result.0.now ++ result.1.now ≡ (end self.now).outgoing }
+        ensures none { result.0.now ≡ [] → (end self.now).outgoing ≡ [] };
 
     /// So many of the bytes that wait, the first, have left, or all where no more wait.
     fn leave(&mut self, count: usize)

@@ -8,6 +8,7 @@ use Rattle.jdwp_target.specs.declared.target.Stepped.{Stepped}
 use Rattle.jdwp_target.specs.declared.target.Stepped.TheVariants.{Frozen, Quiet, Reported, Ended}
 use Rattle.jdwp_target.specs.declared.target.TargetFault.{TargetFault}
 use Rattle.jdwp_target.specs.Targets.{Target}
+use Rattle.jdwp_target.specs.ReadsBack.{StepReadsBack}
 use Rattle.jdwp_target.specs.Turns.{StepsAt}
 use Rattle.jdwp_engine.specs.Rounds.{IsNext, StepsEach, StepsUntil, Over, Steps, Wants, is_step, is_above, with_made}
 
@@ -24,10 +25,10 @@ made-again made one (Ok more) = ap Ok (or-assoc made one more)
 made-again made one (Err fault) = refl
 
 pub steps-on : {S : Type 0} (m : Meaning S) (first now mid : Target S) (made after : Bool) (last : Option ℕ) (t : ℕ) (stepped : Stepped) → StepsUntil m first made last now
-    → IsNext (m.live now.moment.machine) last (Some t) → StepsAt m t now (Ok stepped) mid → after ≡ (made || is_step stepped) → StepsUntil m first after (Some t) mid
-steps-on m first now mid made after last t stepped u next s e = λ came new rest.
+    → IsNext (m.live now.moment.machine) last (Some t) → StepsAt m t now (Ok stepped) mid → StepReadsBack m t now → after ≡ (made || is_step stepped) → StepsUntil m first after (Some t) mid
+steps-on m first now mid made after last t stepped u next s reads e = λ came new rest.
     subst (λ (r : Result Bool TargetFault). StepsEach m None first r new) (made-again made (is_step stepped) came ∙ ap (λ (b : Bool). with_made b came) (sym e))
-    (u (with_made (is_step stepped) came) new (Steps last now mid new t stepped came next s rest))
+    (u (with_made (is_step stepped) came) new (Steps last now mid new t stepped came next s reads rest))
 
 pub steps-over : {S : Type 0} (m : Meaning S) (first now : Target S) (made : Bool) (last : Option ℕ) → StepsUntil m first made last now
     → IsNext (m.live now.moment.machine) last None → StepsEach m None first (Ok made) now

@@ -1,10 +1,11 @@
 -- How the rounds of a session follow from what each call did.
-use Rattle.std.proofs.Common.{◌≡◌, ◌∙◌, [], Bool, true, false, None, Result, Ok, Err, ◌⊎◌, inl, inr, sym, ap, subst}
+use Rattle.std.proofs.Common.{◌≡◌, ◌∙◌, ◌-◌, [], length, Bool, true, false, None, Result, Ok, Err, ◌⊎◌, inl, inr, sym, ap, subst}
 use Rattle.jdwp_wire.specs.Streams.{More}
 use Rattle.jdwp_end.specs.Ends.{front_of, is_open}
 use Rattle.jdwp_machine.specs.Meanings.{Meaning}
 use Rattle.jdwp_target.specs.declared.target.TargetFault.{TargetFault}
 use Rattle.jdwp_target.specs.declared.target.Turn.{Turn}
+use Rattle.jdwp_target.specs.ReadsBack.{ReleaseReadsBack}
 use Rattle.jdwp_target.specs.Targets.{Target, Ran}
 use Rattle.jdwp_pipe.specs.declared.ended.Ended.{Ended}
 use Rattle.jdwp_pipe.specs.declared.ended.Ended.TheVariants.{Done, LostByRead, LostByWrite, Refused, NoMemory, TurnLimit}
@@ -23,9 +24,9 @@ pub moved : {S : Type 0} (m : Meaning S) (old mid : Target S) (before now : Stor
 moved m old mid before now came asks none each e = subst (λ (x : Story). Moves m old before came mid x) (sym e) (Steps came mid asks none each)
 
 -- a release, behind a flush
-pub released-newest : {S : Type 0} (m : Meaning S) (old mid : Target S) (before now : Story) (turn : Turn) → front_of old.end ≡ More → ReleasesNewest m old (Ok turn) mid → now ≡ flushed before
+pub released-newest : {S : Type 0} (m : Meaning S) (old mid : Target S) (before now : Story) (turn : Turn) → front_of old.end ≡ More → ReleasesNewest m old (Ok turn) mid → ReleaseReadsBack m (length old.deferred - 1) old → now ≡ flushed before
     → Moves m old before (Ok true) mid now
-released-newest m old mid before now turn asks released e = subst (λ (x : Story). Moves m old before (Ok true) mid x) (sym e) (Releases turn mid asks released)
+released-newest m old mid before now turn asks released reads e = subst (λ (x : Story). Moves m old before (Ok true) mid x) (sym e) (Releases turn mid asks released reads)
 
 -- what was put was written, and the session closed; or a write failed
 pub writes-last : {S : Type 0} (m : Meaning S) (old mid new : Target S) (before now after : Story) (next : Next) → Moves m old before (Ok true) mid now
@@ -42,13 +43,14 @@ writes-last m old mid new before now after (Ends ended) moves which done fails =
 
 -- the same behind a release
 pub release-last : {S : Type 0} (m : Meaning S) (old mid new : Target S) (now after : Story) (next : Next) (turn : Turn) → front_of old.end ≡ More → ReleasesNewest m old (Ok turn) mid
+    → ReleaseReadsBack m (length old.deferred - 1) old
     → IfEnds next (λ ended. (ended ≡ Done) ⊎ (ended ≡ LostByWrite))
     → (next ≡ Ends Done → (is_open mid.end ≡ false) × WritesAll mid new now after × Ran m new)
     → (next ≡ Ends LostByWrite → LosesAtWrite m mid new now after)
     → IfEnds next (λ ended. (before : Story) → now ≡ flushed before → LastRound m old before new after ended)
-release-last m old mid new now after Goes turn asks released which done fails = tt
-release-last m old mid new now after (Ends ended) turn asks released which done fails =
-    λ before e. writes-last m old mid new before now after (Ends ended) (released-newest m old mid before now turn asks released e) which done fails
+release-last m old mid new now after Goes turn asks released reads which done fails = tt
+release-last m old mid new now after (Ends ended) turn asks released reads which done fails =
+    λ before e. writes-last m old mid new before now after (Ends ended) (released-newest m old mid before now turn asks released reads e) which done fails
 
 -- the same behind steps
 pub steps-last : {S : Type 0} (m : Meaning S) (old mid new : Target S) (now after : Story) (next : Next) → front_of old.end ≡ More → old.deferred ≡ [] → StepsEach m None old (Ok true) mid

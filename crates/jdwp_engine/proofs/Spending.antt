@@ -31,7 +31,7 @@ where-turns {S = S} m t old new stepped false h = ap (λ (x : Target S). turns x
 steps-turns : {S : Type 0} (m : Meaning S) (last : Option ℕ) (old new : Target S) (came : Result Bool TargetFault) → StepsEach m last old came new → turns new ≡ turns old
 steps-turns m last old new came (Over last' target over) = refl
 steps-turns {S = S} m last old new came (Wants last' old' new' t fault next s) = ap (λ (x : Target S). turns x) s.3
-steps-turns m last old new came (rounds.Steps last' old' mid new' t stepped more next s rest) =
+steps-turns m last old new came (rounds.Steps last' old' mid new' t stepped more next s reads rest) =
     steps-turns m _ mid new' more rest ∙ where-turns m t old' mid stepped (is_frozen m t old') s
 
 -- a turn handles one message, or none
@@ -57,14 +57,14 @@ unreleased-turns {S = S} m place (Some (message, others)) old new fault h = ap (
 -- ---- rounds
 
 moves-spent : {S : Type 0} (m : Meaning S) (old mid : Target S) (before now : Story) (came : Result Bool TargetFault) → Moves m old before came mid now → spent mid now ≤ spent old before + 1
-moves-spent m old mid before now came (Turns turn mid' some turned) = omega (arith, turn-turns m (front_of old.end) old mid' turn turned)
-moves-spent m old mid before now came (Releases turn mid' asks released) = omega (arith, release-turns m _ _ old mid' turn released.1)
+moves-spent m old mid before now came (Turns turn mid' some turned reads) = omega (arith, turn-turns m (front_of old.end) old mid' turn turned)
+moves-spent m old mid before now came (Releases turn mid' asks released reads) = omega (arith, release-turns m _ _ old mid' turn released.1)
 moves-spent m old mid before now came (Steps came' mid' asks none each) = omega (arith, steps-turns m None old mid' came' each)
 
 -- where nothing was handled
 rests-spent : {S : Type 0} (m : Meaning S) (old mid : Target S) (before now : Story) (came : Result Bool TargetFault) → came ≡ Ok false → Moves m old before came mid now → spent mid now ≡ spent old before
-rests-spent m old mid before now came rests (Turns turn mid' some turned) = absurd (let e = rests in cc)
-rests-spent m old mid before now came rests (Releases turn mid' asks released) = absurd (let e = rests in cc)
+rests-spent m old mid before now came rests (Turns turn mid' some turned reads) = absurd (let e = rests in cc)
+rests-spent m old mid before now came rests (Releases turn mid' asks released reads) = absurd (let e = rests in cc)
 rests-spent m old mid before now came rests (Steps came' mid' asks none each) = omega (arith, steps-turns m None old mid' came' each)
 
 round-spent : {S : Type 0} (m : Meaning S) (old new : Target S) (before after : Story) → Round m old before new after → spent new after ≤ spent old before + 1

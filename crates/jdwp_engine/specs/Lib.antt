@@ -4,3 +4,4 @@ pub mod Rounds
 pub mod Run
 pub mod Sessions
 pub mod Steps
+pub mod RunLaws

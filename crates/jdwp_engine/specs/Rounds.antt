@@ -5,6 +5,7 @@ use Rattle.jdwp_target.specs.declared.target.Stepped.{Stepped}
 use Rattle.jdwp_target.specs.declared.target.Stepped.TheVariants.{Frozen, Quiet, Reported, Ended}
 use Rattle.jdwp_target.specs.declared.target.TargetFault.{TargetFault}
 use Rattle.jdwp_target.specs.Targets.{Target}
+use Rattle.jdwp_target.specs.ReadsBack.{StepReadsBack}
 use Rattle.jdwp_target.specs.Turns.{StepsAt}
 use Rattle.jdwp_value.specs.declared.id.ObjectId.{ObjectId}
 
@@ -42,13 +43,14 @@ with_made made (Ok more) = Ok (made || more)
 with_made made (Err fault) = Err fault
 
 -- From the last one on, each thread that lives then is stepped, by rising id: those that a step starts are among them where their ids are
--- higher, those that it ends are not. What came of it is whether a step was made; or one wanted memory, and those above it are not stepped.
+-- higher, those that it ends are not. What each sends reads back. What came of it is whether a step was made; or one wanted memory, and those
+-- above it are not stepped.
 pub data StepsEach {S : Type 0} (m : Meaning S) : Option ℕ → Target S → Result Bool TargetFault → Target S → Type 0 where
   Over : (last : Option ℕ) (target : Target S) → IsNext (m.live target.moment.machine) last None → StepsEach m last target (Ok false) target
   Wants : (last : Option ℕ) (old new : Target S) (t : ℕ) (fault : TargetFault) → IsNext (m.live old.moment.machine) last (Some t)
       → StepsAt m t old (Err fault) new → StepsEach m last old (Err fault) new
   Steps : (last : Option ℕ) (old mid new : Target S) (t : ℕ) (stepped : Stepped) (came : Result Bool TargetFault) → IsNext (m.live old.moment.machine) last (Some t)
-      → StepsAt m t old (Ok stepped) mid → StepsEach m (Some t) mid came new → StepsEach m last old (with_made (is_step stepped) came) new
+      → StepsAt m t old (Ok stepped) mid → StepReadsBack m t old → StepsEach m (Some t) mid came new → StepsEach m last old (with_made (is_step stepped) came) new
 
 -- the same, where steps may be left to make
 abbrev pub StepsUntil : {S : Type 0} → Meaning S → Target S → Bool → Option ℕ → Target S → Type 0

@@ -12,6 +12,7 @@ use Rattle.jdwp_target.specs.declared.target.TargetFault.TheVariants as target_f
 use Rattle.jdwp_target.specs.declared.target.Turn.{Turn}
 use Rattle.jdwp_target.specs.declared.target.Turn.TheVariants.{Nothing}
 use Rattle.jdwp_target.specs.Targets.{Target, lost_target}
+use Rattle.jdwp_target.specs.ReadsBack.{ReleaseReadsBack, TurnReadsBack}
 use Rattle.jdwp_target.specs.Turns.{ReleasesAt, TurnsAt, deferred_at}
 use Rattle.jdwp_pipe.specs.declared.ended.Ended.{Ended}
 use Rattle.jdwp_pipe.specs.declared.ended.Ended.TheVariants.{Done, LostByRead, LostByWrite, Refused, NoMemory, TurnLimit}
@@ -28,10 +29,11 @@ ReleasesNewest m old result new =
     (0 < length old.deferred) × ReleasesAt m (length old.deferred - 1) (deferred_at (length old.deferred - 1) old) old result new
 
 -- What comes of a round before it writes or reads: `Ok true` where its turn took a message off; and where there was nothing to handle, all
--- that was written left, and it is what came of a release, or where nothing was deferred of a step of each live thread.
+-- that was written left, and it is what came of a release, or where nothing was deferred of a step of each live thread. What is sent reads back.
 pub data Moves {S : Type 0} (m : Meaning S) (old : Target S) (before : Story) : Result Bool TargetFault → Target S → Story → Type 0 where
-  Turns : (turn : Turn) (new : Target S) → turn ≢ Nothing → TurnsAt m (front_of old.end) old (Ok turn) new → Moves m old before (Ok true) new before
-  Releases : (turn : Turn) (new : Target S) → front_of old.end ≡ More → ReleasesNewest m old (Ok turn) new → Moves m old before (Ok true) new (flushed before)
+  Turns : (turn : Turn) (new : Target S) → turn ≢ Nothing → TurnsAt m (front_of old.end) old (Ok turn) new → TurnReadsBack m old → Moves m old before (Ok true) new before
+  Releases : (turn : Turn) (new : Target S) → front_of old.end ≡ More → ReleasesNewest m old (Ok turn) new → ReleaseReadsBack m (length old.deferred - 1) old
+      → Moves m old before (Ok true) new (flushed before)
   Steps : (came : Result Bool TargetFault) (new : Target S) → front_of old.end ≡ More → old.deferred ≡ [] → StepsEach m None old came new → Moves m old before came new (flushed before)
 
 -- A round that goes on: what a message, a release or steps put was written; or nothing was handled, no step was made, and bytes were read.

@@ -6,6 +6,7 @@ ghost use Rattle.jdwp_machine.specs.Meanings.{numbers};
 ghost use Rattle.jdwp_target.specs.declared.target.Stepped as declared;
 ghost use Rattle.jdwp_target.specs.Targets as spec;
 ghost use Rattle.jdwp_target.specs.Targets.{Ran, opened_target};
+ghost use Rattle.jdwp_target.specs.ReadsBack.{StepReadsBack};
 ghost use Rattle.jdwp_target.specs.Turns.{StepsAt};
 ghost use Rattle.jdwp_pipe.specs.Endings.{unflushed_end};
 ghost use Rattle.jdwp_pipe.specs.Story.{FailsFlush, Story, flushed};
@@ -293,6 +294,7 @@ fn step_one<M: Machine + Drop>(
         → StepsIf first target.old has_stepped → StepsIf first target.new now) }
     ensures steps { IfOk result (λ now. (stepped : declared.Stepped)
         × StepsAt M.meaning thread.0 target.old (Ok stepped) target.new
+        × StepReadsBack M.meaning thread.0 target.old
         × (now ≡ (has_stepped || is_step stepped))) }
     ensures wants { IfErr result (λ fault. StepsAt M.meaning thread.0 target.old
         (Err fault) target.new) }

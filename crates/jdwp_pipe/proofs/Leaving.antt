@@ -1,19 +1,17 @@
 -- Bytes that leave an end and are written, by one piece after the other.
-use Rattle.std.proofs.Common.{◌≡◌, ◌∙◌, ℕ, zero, suc, ◌+◌, ◌*◌, ◌<◌, ◌≤◌, ◌++◌, List, length, min, take, drop, sym, ap, append_assoc, arith}
+use Rattle.std.proofs.Common.{◌≡◌, ◌∙◌, ℕ, zero, suc, ◌+◌, ◌*◌, ◌<◌, ◌≤◌, ◌++◌, List, length, take, drop, sym, ap, append_assoc, arith}
 use Rattle.std.proofs.lemmas.Grind.{common_steps}
-use Rattle.std.proofs.lemmas.List.{length-take, length-take-le, take-append-drop, take-append-le}
+use Rattle.std.proofs.lemmas.List.{length-append, length-take-le, take-append-drop, take-append-le}
 use Rattle.jdwp_pipe.specs.Story.{Story, some_of, with_written, zero_of}
 
--- the first bytes of a piece that lies in front are the first of all
-pub first-of-piece : (waits piece : List ℕ) (count : ℕ) → piece ≡ take (length piece) waits → count ≤ length piece → take count piece ≡ take count waits
-first-of-piece waits piece count front within =
-    let rest = drop (length piece) waits in
-    let whole : piece ++ rest ≡ waits = ap (λ (xs : List ℕ). xs ++ rest) front ∙ take-append-drop (length piece) waits in
+-- the first bytes of the piece in front are the first of all that waits
+pub first-of-piece : (waits piece rest : List ℕ) (count : ℕ) → piece ++ rest ≡ waits → count ≤ length piece → take count piece ≡ take count waits
+first-of-piece waits piece rest count whole within =
     sym (take-append-le count piece rest within) ∙ ap (λ (xs : List ℕ). take count xs) whole
 
-pub within-all : (waits piece : List ℕ) (count : ℕ) → piece ≡ take (length piece) waits → count ≤ length piece → count ≤ length waits
-within-all waits piece count front within =
-    let long : length piece ≡ min (length piece) (length waits) = ap length front ∙ length-take (length piece) waits in
+pub within-all : (waits piece rest : List ℕ) (count : ℕ) → piece ++ rest ≡ waits → count ≤ length piece → count ≤ length waits
+within-all waits piece rest count whole within =
+    let long : length piece + length rest ≡ length waits = sym (length-append piece rest) ∙ ap length whole in
     omega (arith, within, long)
 
 -- what has left, and then what waits

@@ -26,7 +26,7 @@ pub fn write_out<E: SessionEnd, P: Pipe>(end: &mut E, pipe: &mut P) -> bool
     ensures rooms { (P.story pipe.new).rooms ≡ (P.story pipe.old).rooms }
 {
     while end.waiting() > 0 {
-        match pipe.write(end.waiting_in_front()) {
+        match pipe.write(end.waiting_slices().0) {
             Ok(0) | Err(_) => return false,
             Ok(count) => end.leave(count),
         }

@@ -7,6 +7,7 @@ pub mod TargetRuns
 pub mod RightTargets
 pub mod StepLemmas
 pub mod RightTurns
+pub mod Shrinking
 pub mod Numbered
 pub mod Closing
 pub mod Encoded

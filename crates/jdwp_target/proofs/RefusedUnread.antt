@@ -1,5 +1,5 @@
 -- Commands for which there was no memory: the debuggee refuses them by itself, or it may want memory for them.
-use Rattle.std.proofs.Common.{◌≡◌, ◌≤◌, ℕ, false, List, None, Result, Ok, Err, Option, refl, sym, subst, arith}
+use Rattle.std.proofs.Common.{◌≡◌, ◌≤◌, ℕ, false, List, None, Result, Ok, Err, refl, sym, subst, arith}
 use Rattle.std.proofs.Common.{inl, inr}
 use Rattle.jdwp_wire.specs.Widths.{Widths}
 use Rattle.jdwp_wire.specs.declared.error_code.ErrorCode.{ErrorCode}

@@ -32,8 +32,8 @@ impl<M: Machine + Drop> SessionEnd for Target<M> {
         Target::waiting(self)
     }
 
-    fn waiting_in_front(&self) -> &[u8] {
-        Target::waiting_in_front(self)
+    fn waiting_slices(&self) -> (&[u8], &[u8]) {
+        Target::waiting_slices(self)
     }
 
     fn leave(&mut self, count: usize) {

@@ -279,12 +279,12 @@ impl<M: Machine + Drop> Target<M> {
         self.end.waiting()
     }
 
-    /// A beginning of the bytes that wait to leave, where they lie; empty exactly where none waits. How many it lends is not told.
-    pub fn waiting_in_front(&self) -> &[u8]
-        ensures front { result.now ≡ take (length result.now) self.now.end.outgoing }
-        ensures none { result.now ≡ [] → self.now.end.outgoing ≡ [] }
+    /// All bytes that wait to leave, where they lie, in two pieces of which the first leaves first. It is empty only where none waits.
+    pub fn waiting_slices(&self) -> (&[u8], &[u8])
+        ensures all { result.0.now ++ result.1.now ≡ self.now.end.outgoing }
+        ensures none { result.0.now ≡ [] → self.now.end.outgoing ≡ [] }
     {
-        self.end.waiting_in_front()
+        self.end.waiting_slices()
     }
 
     /// So many of the bytes that wait, the first, have left, or all where no more wait.

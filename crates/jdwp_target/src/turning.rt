@@ -1,5 +1,5 @@
 //! Messages as a target over any machine handles them.
-ghost use Rattle.std.specs.Prelude.{◌≡◌, ◌≤◌, ◌+◌, ◌∷◌, ℕ, List, Some, None, true, false, length, IfOk, IfErr, OnErr};
+ghost use Rattle.std.specs.Prelude.{◌≡◌, ◌≢◌, ◌≤◌, ◌+◌, ◌∷◌, ℕ, List, Some, None, true, false, length, IfOk, IfErr, OnErr};
 ghost use Rattle.jdwp_end.specs.Ends.{HasPacketWith, front_of, most_outgoing, with_enqueued};
 ghost use Rattle.jdwp_end.specs.declared.phase.Phase.TheVariants.{Established};
 ghost use Rattle.jdwp_event.specs.Composites.{vm_start};
@@ -74,7 +74,8 @@ impl Done {
 impl<M: Machine + Drop> Target<M> {
     /// Handles the message in front, if one is whole and the end is neither closed nor paused. An open end that is not paused and
     /// asks for more has room for a byte. VM_START and what a command is answered are encoded by the bytes that are sent, so they can
-    /// be read; and each packet that is sent is within the limit.
+    /// be read; and each packet that is sent is within the limit. A turn that handles a message takes its bytes off, 11 at least, so
+    /// turns come to an end.
     ///
     /// Where `set_deferring` says so and fewer than 16 commands are deferred, a command of the sets ReferenceType and Method is
     /// deferred: it is taken off and kept, nothing is sent, and the debuggee stays as it is.
@@ -92,6 +93,8 @@ impl<M: Machine + Drop> Target<M> {
         ensures encoded { IfOk result (λ _.
             EncodesNext M.meaning (front_of self.old.end) self.old) }
         ensures packets { IfOk result (λ _. SendsAt M.meaning (front_of self.old.end) self.old) }
+        ensures shrinks { IfOk result (λ turn. turn ≢ Turn.Nothing
+            → 11 + length self.new.end.incoming ≤ length self.old.end.incoming) }
     {
         match self.end.front() {
             Front::More => Ok(Turn::Nothing),

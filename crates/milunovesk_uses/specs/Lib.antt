@@ -1,2 +1,3 @@
 pub mod OneStep
 pub mod OneStepLaws
+pub mod Answering

@@ -753,8 +753,9 @@ fn leaves_in_pieces(rt: &impl Abort, alloc: Global, target: &mut Target) -> bool
 fn leaves_from_there(rt: &impl Abort, alloc: Global, target: &mut Target) -> bool {
     handles_commands(rt, alloc, target);
     let sent = bytes(alloc, SENT).expect(rt, "memory");
-    let lies = target.waiting_in_front() == sent.as_slice();
+    let (first, second) = target.waiting_slices();
+    let lies = first == sent.as_slice() && second.is_empty();
     let count = target.waiting();
     target.leave(count);
-    lies && target.waiting() == 0 && target.waiting_in_front().is_empty()
+    lies && target.waiting() == 0 && target.waiting_slices().0.is_empty()
 }

@@ -30,7 +30,8 @@ returns-in-Ok-clause-round g c = λ e before left.
     let old = c.args.target.now in
     let on = c.write_and_go.ensures.goes e in
     let released : ReleasesNewest m old (Ok c.in-Ok.field-0) c.release.new.self = (c.requires.waits, rw c.deferred-newest.ensures.count at c.in-Ok.ensures.releases) in
-    Writes c.release.new.self (g.P.Pipe.story c.args.pipe.now) (released-newest m old c.release.new.self before (g.P.Pipe.story c.args.pipe.now) c.in-Ok.field-0 c.requires.asks released left) on.0 on.1
+    Writes c.release.new.self (g.P.Pipe.story c.args.pipe.now) (released-newest m old c.release.new.self before (g.P.Pipe.story c.args.pipe.now) c.in-Ok.field-0 c.requires.asks released
+    (rw c.deferred-newest.ensures.count at (c.in-Ok.ensures.encoded), rw c.deferred-newest.ensures.count at (c.in-Ok.ensures.packets)) left) on.0 on.1
 
 pub returns-in-Ok-clause-last : goal.returns-in-Ok-clause-last
 returns-in-Ok-clause-last g c =
@@ -39,7 +40,7 @@ returns-in-Ok-clause-last g c =
     let w = c.write_and_go.ensures in
     let released : ReleasesNewest m old (Ok c.in-Ok.field-0) c.release.new.self = (c.requires.waits, rw c.deferred-newest.ensures.count at c.in-Ok.ensures.releases) in
     release-last m old c.release.new.self c.write_and_go.new.target (g.P.Pipe.story c.args.pipe.now) (g.P.Pipe.story c.write_and_go.new.pipe) c.write_and_go.result c.in-Ok.field-0
-    c.requires.asks released w.ends w.done w.fails
+    c.requires.asks released (rw c.deferred-newest.ensures.count at (c.in-Ok.ensures.encoded), rw c.deferred-newest.ensures.count at (c.in-Ok.ensures.packets)) w.ends w.done w.fails
 
 pub returns-in-Err-clause-ends : goal.returns-in-Err-clause-ends
 returns-in-Err-clause-ends g c =

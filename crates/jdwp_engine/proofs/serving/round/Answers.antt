@@ -57,13 +57,13 @@ returns-in-Err-NoMemory-clause-last g c = WantsToTurn (rw c.in-Err-NoMemory.fiel
 pub returns-in_default-clause-round : goal.returns-in_default-clause-round
 returns-in_default-clause-round g c = λ e.
     let on = c.write_and_go.ensures.goes e in
-    Writes c.turn.new.self (g.P.Pipe.story c.args.pipe.now) (Turns c.in-Ok.turn c.turn.new.self c.in_default.not-Nothing c.in-Ok.ensures.turns) on.0 on.1
+    Writes c.turn.new.self (g.P.Pipe.story c.args.pipe.now) (Turns c.in-Ok.turn c.turn.new.self c.in_default.not-Nothing c.in-Ok.ensures.turns (c.in-Ok.ensures.encoded, c.in-Ok.ensures.packets)) on.0 on.1
 
 pub returns-in_default-clause-last : goal.returns-in_default-clause-last
 returns-in_default-clause-last g c =
     let w = c.write_and_go.ensures in
     writes-last g.M.Machine.meaning c.args.target.now c.turn.new.self c.write_and_go.new.target (g.P.Pipe.story c.args.pipe.now) (g.P.Pipe.story c.args.pipe.now) (g.P.Pipe.story c.write_and_go.new.pipe)
-    c.write_and_go.result (Turns c.in-Ok.turn c.turn.new.self c.in_default.not-Nothing c.in-Ok.ensures.turns) w.ends w.done w.fails
+    c.write_and_go.result (Turns c.in-Ok.turn c.turn.new.self c.in_default.not-Nothing c.in-Ok.ensures.turns (c.in-Ok.ensures.encoded, c.in-Ok.ensures.packets)) w.ends w.done w.fails
 
 pub returns-in-Nothing-clause-round : goal.returns-in-Nothing-clause-round
 returns-in-Nothing-clause-round g c = λ e.

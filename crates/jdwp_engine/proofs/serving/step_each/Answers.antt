@@ -19,7 +19,7 @@ loop-thread-preserved g c =
           c.loop-thread.invariant.each
           (subst (λ (f : Option ObjectId). IsNext live (id_in c.loop-thread.last) (id_in f)) c.in-Some.is
           (subst (λ (ids : List ℕ). IsNext ids (id_in c.loop-thread.last) (id_in c.least_above.result)) c.live.ensures.live c.least_above.ensures))
-          stepped.1 stepped.2;
+          stepped.1 stepped.2 stepped.3;
     }
 
 pub returns-clause-stepped : goal.returns-clause-stepped

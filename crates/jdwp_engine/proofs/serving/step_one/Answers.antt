@@ -20,7 +20,7 @@ returns-in_default-clause-goes g c = λ first opened p.
     step-made m first old c.step.new.self c.args.thread.0 c.args.has_stepped c.closes_for_a_reason.ensures opened p made.0 made.1
 
 pub returns-in-Frozen-clause-steps : goal.returns-in-Frozen-clause-steps
-returns-in-Frozen-clause-steps g c = (c.in-Ok.stepped, c.in-Ok.ensures.steps, made-none c.args.has_stepped c.in-Ok.stepped c.in-Frozen.is)
+returns-in-Frozen-clause-steps g c = (c.in-Ok.stepped, c.in-Ok.ensures.steps, (c.in-Ok.ensures.encoded, c.in-Ok.ensures.packets), made-none c.args.has_stepped c.in-Ok.stepped c.in-Frozen.is)
 
 pub returns-in_default-clause-steps : goal.returns-in_default-clause-steps
-returns-in_default-clause-steps g c = (c.in-Ok.stepped, c.in-Ok.ensures.steps, made-some c.args.has_stepped c.in-Ok.stepped c.in_default.not-Frozen)
+returns-in_default-clause-steps g c = (c.in-Ok.stepped, c.in-Ok.ensures.steps, (c.in-Ok.ensures.encoded, c.in-Ok.ensures.packets), made-some c.args.has_stepped c.in-Ok.stepped c.in_default.not-Frozen)

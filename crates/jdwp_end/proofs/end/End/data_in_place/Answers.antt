@@ -1,4 +1,4 @@
-use Rattle.std.proofs.Common.{arith, rules, ◌≡◌, ◌≤◌, ◌++◌}
+use Rattle.std.proofs.Common.{arith, rules, ◌≡◌, ◌++◌}
 use Rattle.jdwp_wire.specs.Bytes.{IsBytes}
 use Rattle.jdwp_end.proofs.Fronts.{body-lent, body-lies}
 use Rattle.jdwp_end.proofs.end.End.data_in_place.Goals as goal

@@ -1,4 +1,4 @@
-use Rattle.std.proofs.Common.{◌≤◌, ℕ, List, length, take, min, ap, subst, arith}
+use Rattle.std.proofs.Common.{◌≤◌, ℕ, List, length, min, ap, subst, arith}
 use Rattle.std.proofs.lemmas.List.{take_min}
 use Rattle.jdwp_end.specs.Ends.{End, with_taken}
 use Rattle.jdwp_target.specs.Insides.{IsRightTarget}

@@ -5,6 +5,7 @@ use Rattle.jdwp_end.specs.Ends.{front_of}
 use Rattle.jdwp_target.specs.Insides.{target_of}
 use Rattle.jdwp_target.proofs.AnswersEncoded.{encodes-start, encodes-whole}
 use Rattle.jdwp_target.proofs.RightTurns.{greeted, handled-view, hello-stays, right-handled, sends-whole, turns-whole}
+use Rattle.jdwp_target.proofs.Shrinking.{shrinks-if}
 use Rattle.jdwp_target.proofs.target.Target.turn.Goals as goal
 
 pub invariant_of-self : goal.invariant_of-self
@@ -54,3 +55,7 @@ take_packet-requires-clause-least g c = rw (← c.self.view_is) c.front.ensures.
 
 pub take_packet-requires-clause-most : goal.take_packet-requires-clause-most
 take_packet-requires-clause-most g c = rw (← c.self.view_is) c.front.ensures.most
+
+pub returns-in-Packet-clause-shrinks : goal.returns-in-Packet-clause-shrinks
+returns-in-Packet-clause-shrinks g c =
+    shrinks-if g.M.Machine.meaning c.args.self.now c.take_packet.new.self c.take_packet.result (rw (← c.self.view_is) c.front.ensures.bytes) c.take_packet.ensures.turns
