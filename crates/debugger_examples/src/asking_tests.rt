@@ -184,7 +184,8 @@ fn leaves(debugger: &mut Debugger, bytes: &[u8]) -> bool {
 
 /// The same, where they are read from where they lie.
 fn leaves_from_there(debugger: &mut Debugger, bytes: &[u8]) -> bool {
-    let lies = debugger.waiting_in_front() == bytes;
+    let (first, second) = debugger.waiting_slices();
+    let lies = first == bytes && second.is_empty();
     let count = debugger.waiting();
     debugger.leave(count);
     lies && debugger.waiting() == 0

@@ -15,6 +15,8 @@ mod end_tests;
 #[cfg(test)]
 mod extreme_tests;
 #[cfg(test)]
+mod holding_tests;
+#[cfg(test)]
 mod judging_tests;
 #[cfg(test)]
 mod mirror_tests;

@@ -59,6 +59,8 @@ pub(crate) enum Wanted {
     Request(u8),
     /// EventRequest.Clear of a kind and an id.
     Clear(u8, i32),
+    /// With these bytes as its data.
+    Raw((u8, u8), &'static str),
 }
 
 /// The command that is wanted.
@@ -71,6 +73,11 @@ fn command(rt: &impl Abort, alloc: Global, wanted: Wanted) -> Command {
         }
         Wanted::Request(kind) => request(rt, alloc, kind),
         Wanted::Clear(kind, id) => clear(rt, alloc, kind, id),
+        Wanted::Raw((set, number), data) => Command::raw(
+            set,
+            number,
+            bytes(alloc, data).expect(rt, "memory"),
+        ),
     }
 }
 
@@ -117,6 +124,8 @@ pub(crate) enum Act {
     NextId(u32),
     /// These bytes wait to leave; they are taken.
     Sends(&'static str),
+    /// What the counts of threads are no less than; those above 0 are held.
+    Holds(&'static [(u64, u64)]),
     /// The known threads with their counts, and whether they are held.
     Knows(&'static [(u64, u32, bool)]),
     /// The ids and kinds of the event requests.
@@ -140,6 +149,7 @@ fn comes(rt: &impl Abort, alloc: Global, debugger: &mut Debugger, act: &Act) -> 
             true
         }
         Act::Sends(output) => sends(rt, alloc, debugger, output),
+        Act::Holds(counts) => are_held(debugger, counts),
         Act::Knows(threads) => are_known(debugger.mirror().known(), threads),
         Act::Requests(requests) => are_requested(debugger, requests),
         Act::Stands(open, measured) => {
@@ -204,6 +214,17 @@ fn sends(rt: &impl Abort, alloc: Global, debugger: &mut Debugger, output: &str) 
     let mut buffer = [0; 256];
     let count = debugger.take(&mut buffer);
     &buffer[..count] == wanted.as_slice()
+}
+
+/// Whether the counts of these threads are no less than this, and those above 0 are held.
+fn are_held(debugger: &Debugger, counts: &[(u64, u64)]) -> bool {
+    for (thread, least) in counts {
+        let thread = ObjectId(*thread);
+        if debugger.at_least(thread) != *least || debugger.is_held(thread) != (*least > 0) {
+            return false;
+        }
+    }
+    true
 }
 
 /// Whether these are the known threads with their counts, and whether they are held.

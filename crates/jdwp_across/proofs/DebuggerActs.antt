@@ -247,30 +247,30 @@ so-packet header body used d t after (Waits bytes) (told, is) = (
   (told, ap (λ v. debugger_at v.end.incoming [] v) is),
   ap told_did told,
 )
-so-packet header body used d t after (Happens c) (told, (mirror, learned, is)) =
-    let base = record (turns.with_read (streams.Packet header body) used _ d) { mirror = mirror } in
+so-packet header body used d t after (Happens c) (told, (mirror, learned, ledger, follows, is)) =
+    let base = record (turns.with_read (streams.Packet header body) used _ d) { mirror = mirror; ledger = ledger } in
     let leaves = subst (Leaves base) (sym is) (closed-leaves (ends (Report c)) base) in (
       twin-of d base after leaves refl refl,
       refl,
-      (told, (mirror, learned, ap (λ v. debugger_at v.end.incoming [] v) is ∙ (ap (λ i. debugger_at i [] (closed_where (ends (Report c)) base)) (closed-leaves (ends (Report c)) base).came ∙ closed-at base.end.incoming [] (ends (Report c)) base))),
+      (told, (mirror, learned, ledger, follows, ap (λ v. debugger_at v.end.incoming [] v) is ∙ (ap (λ i. debugger_at i [] (closed_where (ends (Report c)) base)) (closed-leaves (ends (Report c)) base).came ∙ closed-at base.end.incoming [] (ends (Report c)) base))),
       ap told_did told,
     )
-so-packet header body used d t after (Answers place ticket answer) (told, (mirror, learned, is)) =
+so-packet header body used d t after (Answers place ticket answer) (told, (mirror, learned, ledger, follows, is)) =
     let message = Reply (Some ticket) (turns.command_at place d.pending) answer in
-    let base = record (turns.with_read (streams.Packet header body) used _ d) { mirror = mirror; pending = remove d.pending place } in
+    let base = record (turns.with_read (streams.Packet header body) used _ d) { mirror = mirror; pending = remove d.pending place; ledger = ledger } in
     let leaves = subst (Leaves base) (sym is) (closed-leaves (ends message) base) in (
       twin-of d base after leaves refl refl,
       refl,
-      (told, (mirror, learned, ap (λ v. debugger_at v.end.incoming [] v) is ∙ (ap (λ i. debugger_at i [] (closed_where (ends message) base)) (closed-leaves (ends message) base).came ∙ closed-at base.end.incoming [] (ends message) base))),
+      (told, (mirror, learned, ledger, follows, ap (λ v. debugger_at v.end.incoming [] v) is ∙ (ap (λ i. debugger_at i [] (closed_where (ends message) base)) (closed-leaves (ends message) base).came ∙ closed-at base.end.incoming [] (ends message) base))),
       ap told_did told,
     )
-so-packet header body used d t after (Measures place answer v cs) (told, (mirror, learned, is)) =
-    let base = turns.with_sizes (streams.Packet header body) used header place mirror v d in
+so-packet header body used d t after (Measures place answer v cs) (told, (mirror, learned, ledger, follows, is)) =
+    let base = turns.with_ledger ledger (turns.with_sizes (streams.Packet header body) used header place mirror v d) in
     let b = list_any ends (turns.reports cs) in
     let leaves = subst (Leaves base) (sym is) (measured-leaves b v base) in (
       twin-of d base after leaves refl refl,
       refl,
-      (told, (mirror, learned, ap (λ q. debugger_at q.end.incoming [] q) is ∙ (ap (λ i. debugger_at i [] (measured_where b v base)) (measured-leaves b v base).came ∙ measured-at base.end.incoming [] b v base))),
+      (told, (mirror, learned, ledger, follows, ap (λ q. debugger_at q.end.incoming [] q) is ∙ (ap (λ i. debugger_at i [] (measured_where b v base)) (measured-leaves b v base).came ∙ measured-at base.end.incoming [] b v base))),
       ap told_did told,
     )
 

@@ -174,7 +174,7 @@ enters-keeps header body used d t after (Waits bytes) o said (told, is) k =
       unparked = λ w h. let other = sym none ∙ h in absurd (cc);
       id = k.id;
     })
-enters-keeps header body used d t after (Happens c) o said (told, (mirror, learned, is)) k =
+enters-keeps header body used d t after (Happens c) o said (told, (mirror, learned, ledger, follows, is)) k =
     subst Keeps (sym is) (closed-keeps (ends (Report c)) _
     (record {
       limits = k.limits;
@@ -186,7 +186,7 @@ enters-keeps header body used d t after (Happens c) o said (told, (mirror, learn
       unparked = k.unparked;
       id = k.id;
     }))
-enters-keeps header body used d t after (Answers place ticket answer) o said (told, (mirror, learned, is)) k =
+enters-keeps header body used d t after (Answers place ticket answer) o said (told, (mirror, learned, ledger, follows, is)) k =
     subst Keeps (sym is) (closed-keeps (ends (Reply (Some ticket) (turns.command_at place d.pending) answer)) _
     (record {
       limits = k.limits;
@@ -198,7 +198,7 @@ enters-keeps header body used d t after (Answers place ticket answer) o said (to
       unparked = k.unparked;
       id = k.id;
     }))
-enters-keeps header body used d t after (Measures place answer w cs) o said (told, (mirror, learned, is)) k =
+enters-keeps header body used d t after (Measures place answer w cs) o said (told, (mirror, learned, ledger, follows, is)) k =
     subst Keeps (sym is) (measured-keeps (list_any ends (turns.reports cs)) w _
     (record {
       limits = k.limits;

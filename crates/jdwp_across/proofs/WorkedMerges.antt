@@ -245,7 +245,7 @@ merged14 =
 pub merged15 : (sizes : Read) → read_meaning sizes ≡ Sizes (vm_start 0 1 ∷ []) → Merged small first (greeted sizes) at15
 merged15 sizes h =
     then (acts12 ++ LeavesTarget (stream tells_sizes) ∷ ComesToDebugger (stream tells_sizes) ∷ []) (DebuggerTurns sizes []) at14 at15 merged14
-    (at15.debugger, record { news = Measures 0 (sizes_answer widths) widths (vm_start 0 1 ∷ []); said = refl; unrefused = refl; entered = (h, (knows, (knows, learns-start, (knows, learns-sizes, refl)), refl)) }, refl, refl) refl refl
+    (at15.debugger, record { news = Measures 0 (sizes_answer widths) widths (vm_start 0 1 ∷ []); said = refl; unrefused = refl; entered = (h, (knows, (knows, learns-start, (knows, learns-sizes, refl)), None, refl, refl)) }, refl, refl) refl refl
 
 -- ---- a breakpoint
 
@@ -349,7 +349,7 @@ merged22 sizes h =
     let m20 = then (acts19 sizes) (LeavesTarget (stream tells_one)) at19 at20 (merged19 sizes h) refl refl refl in
     let m21 = then (acts19 sizes ++ LeavesTarget (stream tells_one) ∷ []) (ComesToDebugger (stream tells_one)) at20 at21 m20 refl refl refl in
     then (acts19 sizes ++ LeavesTarget (stream tells_one) ∷ ComesToDebugger (stream tells_one) ∷ []) (DebuggerTurns (reading.Answered first_ticket (int_answer 1)) []) at21 at22 m21
-    (at22.debugger, record { news = Answers 0 1 (int_answer 1); said = refl; unrefused = refl; entered = (refl, (knows_request, learns-request, refl)) }, refl, refl) refl refl
+    (at22.debugger, record { news = Answers 0 1 (int_answer 1); said = refl; unrefused = refl; entered = (refl, (knows_request, learns-request, None, refl, refl)) }, refl, refl) refl refl
 
 -- the first thread enters a method, and steps to the breakpoint
 abbrev pub at23 : Programs Small
@@ -429,7 +429,7 @@ merged27 sizes h =
     let m25 = then (acts24 sizes) (LeavesTarget (stream tells_event)) at24 at25 (merged24 sizes h) refl refl refl in
     let m26 = then (acts24 sizes ++ LeavesTarget (stream tells_event) ∷ []) (ComesToDebugger (stream tells_event)) at25 at26 m25 refl refl refl in
     then (acts24 sizes ++ LeavesTarget (stream tells_event) ∷ ComesToDebugger (stream tells_event) ∷ []) (DebuggerTurns (reading.Seen (reached 2)) []) at26 at27 m26
-    (at27.debugger, record { news = Happens (reached 2); said = refl; unrefused = refl; entered = (refl, (holds, learns-event, refl)) }, refl, refl) refl refl
+    (at27.debugger, record { news = Happens (reached 2); said = refl; unrefused = refl; entered = (refl, (holds, learns-event, None, refl, refl)) }, refl, refl) refl refl
 
 -- ---- a loss
 

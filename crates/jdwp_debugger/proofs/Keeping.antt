@@ -1,6 +1,7 @@
 -- Commands that wait under ids of their own, and the tickets of those that have one.
-use Rattle.std.proofs.Common.{◌≡◌, ◌≢◌, ◌∙◌, ℕ, ◌<◌, ◌≤◌, ◌==◌, false, List, [], ◌∷◌, ◌++◌, length, get_or, Option, Some, None, refl, sym, arith, suc, zero, true≢false}
-use Rattle.std.specs.Prelude.{remove}
+use Rattle.std.proofs.Common.{◌≡◌, ◌≢◌, ◌∙◌, ℕ, ◌<◌, ◌≤◌, ◌==◌, false, List, [], ◌∷◌, ◌++◌, length, get_or, take, Bool, true, if◌then◌else◌, ◌-◌, Option, Some, None, refl, sym, ap, slice_get, arith, suc, zero, true≢false}
+use Rattle.std.specs.Prelude.{min, remove}
+use Rattle.jdwp_end.specs.Ends.{End, is_open, room_of}
 use Rattle.std.proofs.lemmas.Bool.{eq-eqb, or_parts}
 use Rattle.std.proofs.lemmas.List.Edits.{length-remove}
 use Rattle.std.proofs.lemmas.List.Quantifiers.{all_pairs_push, all_pairs_remove}
@@ -42,6 +43,13 @@ own-left [] (suc place) all = tt
 own-left (p ∷ ps) zero all = all.1
 own-left (p ∷ ps) (suc place) all = (all.0, own-left ps place all.1)
 
+pub own-at : (ps : List Asked) (place : ℕ) (asked : Asked) → AreOwn ps → slice_get ps place ≡ Some asked → asked.ticket ≡ None → asked.command ≡ id_sizes
+own-at [] place asked all at none = absurd cc
+own-at (p ∷ ps) zero asked all at none =
+    let same : p ≡ asked = cc in
+    ap (λ (a : Asked). a.command) (sym same) ∙ all.0 (ap (λ (a : Asked). a.ticket) same ∙ none)
+own-at (p ∷ ps) (suc place) asked all at none = own-at ps place asked all.1 at none
+
 -- ---- tickets
 
 given : (p : Asked) (ps : List Asked) (t : Option Ticket) → p.ticket ≡ t → length (tickets_of ps) ≤ length ps → length (tickets_of (p ∷ ps)) ≤ length (p ∷ ps)
@@ -51,3 +59,15 @@ given p ps (Some k) is few = rw is (omega arith)
 pub few-tickets : (ps : List Asked) → length (tickets_of ps) ≤ length ps
 few-tickets [] = omega arith
 few-tickets (p ∷ ps) = given p ps p.ticket refl (few-tickets ps)
+
+-- ---- bytes
+
+none-when : (b : Bool) (room : ℕ) (bytes : List ℕ) (n : ℕ) → n ≡ min (length bytes) (if b then room else 0) → b ≡ false → take n bytes ≡ []
+none-when true room bytes n count closed = absurd cc
+none-when false room bytes n count closed =
+    let zero : n ≡ 0 = omega (arith, count) in
+    ap (λ (k : ℕ). take k bytes) zero
+
+-- a closed end takes none
+pub none-fed : (end : End) (bytes : List ℕ) (n : ℕ) → n ≡ min (length bytes) (room_of end) → is_open end ≡ false → take n bytes ≡ []
+none-fed end bytes n count closed = none-when (is_open end) (end.limits.packet - length end.incoming) bytes n count closed

@@ -145,6 +145,19 @@ told-first : (r : Reading) (id : ℕ) (kind : PacketKind) (sizes : Option Widths
 told-first r id kind None k place answer w cs is s b = s.1
 told-first r id kind (Some v) k place answer w cs is s b = absurd (untold r id place (subst (λ (x : Reading). AllTicketed x.pending) is s) b.1)
 
+told-unknown : (r : Reading) (id : ℕ) (kind : PacketKind) (sizes : Option Widths) (k : Knowledge) (place : ℕ) (answer : Answer) (w : Widths) (cs : List CompositeMeaning) → k.reading ≡ r → Knows sizes k
+    → Backs r id kind (Measures place answer w cs) → sizes ≡ None
+told-unknown r id kind None k place answer w cs is s b = refl
+told-unknown r id kind (Some v) k place answer w cs is s b = absurd (untold r id place (subst (λ (x : Reading). AllTicketed x.pending) is s) b.1)
+
+-- they are told once
+pub measures-unknown : (o : Order) (before : ℕ) (acts : List Act) (header : Header) (place : ℕ) (answer : Answer) (w : Widths) (cs : List CompositeMeaning) → InOrder Closed [] acts → MayDoAll o (nothing o before) acts
+    → phase_of acts ≡ Established → Backs (known o before acts).reading header.id header.kind (Measures place answer w cs) → (known o before acts).reading.sizes ≡ None
+measures-unknown o before acts header place answer w cs order may phase b =
+    let k = known o before acts in
+    let sound = subst (λ (p : Phase). IsSound p k) phase (sound-all o Closed [] (nothing o before) acts order may tt) in
+    told-unknown k.reading header.id header.kind k.reading.sizes k place answer w cs refl sound b
+
 -- as the widths of ids are told nothing was heard before
 pub measures-first : (o : Order) (before : ℕ) (acts : List Act) (header : Header) (place : ℕ) (answer : Answer) (w : Widths) (cs : List CompositeMeaning) → InOrder Closed [] acts → MayDoAll o (nothing o before) acts
     → phase_of acts ≡ Established → Backs (known o before acts).reading header.id header.kind (Measures place answer w cs) → heard (known o before acts).history ≡ []

@@ -9,6 +9,7 @@ pub mod Saying
 pub mod Ordering
 pub mod TurningLemmas
 pub mod Knowing
+pub mod Followed
 pub mod DebuggerRuns
 pub mod SaidPackets
 pub mod EncodedReads

@@ -18,7 +18,8 @@ use Rattle.jdwp_mirror.specs.Mirrors.{Mirror, Learned, empty_mirror}
 use Rattle.jdwp_debugger.specs.declared.order.Order.{Order}
 use Rattle.jdwp_debugger.specs.declared.order.Order.TheVariants.{One, Apart}
 use Rattle.jdwp_debugger.specs.DebuggerTurns.{LearnedAll}
-use Rattle.jdwp_debugger.specs.Orders.{LearnedIn, MayLearn, is_count_kind, none_known}
+use Rattle.jdwp_watch.specs.Ledgers.{is_thread_kind}
+use Rattle.jdwp_debugger.specs.Orders.{LearnedIn, MayLearn, none_known}
 
 -- ---- no thread is known
 
@@ -54,7 +55,7 @@ listed : (b : Bool) → (if b then none_known 0 else none_known 0) ≡ none_know
 listed true = refl
 listed false = refl
 
-data-none : (a : Action) (content : List DatumMeaning) (t : ℕ) → is_count_kind (kind_of a) ≡ false → learned_data a content t None ≡ None
+data-none : (a : Action) (content : List DatumMeaning) (t : ℕ) → is_thread_kind (kind_of a) ≡ false → learned_data a content t None ≡ None
 data-none Actions.Suspend content t h = refl
 data-none Actions.Resume content t h = refl
 data-none Actions.Dispose content t h = refl
@@ -75,7 +76,7 @@ data-none Actions.AllThreads content t h = listed (lists content t)
 data-none Actions.IdSizes content t h = refl
 data-none Actions.Ask content t h = refl
 
-reply-none : (c : Command) (answer : Answer) (t : ℕ) → is_count_kind (kind_of (action_of c)) ≡ false → learned_reply c answer t None ≡ None
+reply-none : (c : Command) (answer : Answer) (t : ℕ) → is_thread_kind (kind_of (action_of c)) ≡ false → learned_reply c answer t None ≡ None
 reply-none c (Data content) t h = data-none (action_of c) content t h
 reply-none c (Error e) t h = listed (is_invalid_thread e && is_thread (thread_of c) t)
 
@@ -86,14 +87,14 @@ empty-by (k ∷ ks) h =
     let same : (k.id.0 == k.id.0) ≡ true = eq-eqb k.id.0 k.id.0 refl in
     absurd (let e : Some k.count ≡ None = sym (ap (λ (b : Bool). if b then Some k.count else count_in ks k.id.0) same) ∙ first in cc)
 
-pub learned-apart : (k : Ticket) (c : Command) (answer : Answer) (old new : Mirror) → old.threads ≡ [] → is_count_kind (kind_of (action_of c)) ≡ false → Learned old (Reply k c answer) new
+pub learned-apart : (k : Ticket) (c : Command) (answer : Answer) (old new : Mirror) → old.threads ≡ [] → is_thread_kind (kind_of (action_of c)) ≡ false → Learned old (Reply k c answer) new
     → LearnedIn Apart old (Reply k c answer) new
 learned-apart k c answer old new none other l = (
   empty-by new.threads (λ t. l.counts t ∙ ap (λ (ks : List Known). learned (Reply k c answer) t (count_in ks t)) none ∙ reply-none c answer t other),
   l.requests,
 )
 
-data-same : (a : Action) (content : List DatumMeaning) (requests : List Kept) → is_count_kind (kind_of a) ≡ true → requests ≡ requests_after_data a content requests
+data-same : (a : Action) (content : List DatumMeaning) (requests : List Kept) → is_thread_kind (kind_of a) ≡ true → requests ≡ requests_after_data a content requests
 data-same Actions.Suspend content requests h = refl
 data-same Actions.Resume content requests h = refl
 data-same Actions.Dispose content requests h = absurd cc
@@ -114,16 +115,16 @@ data-same Actions.AllThreads content requests h = refl
 data-same Actions.IdSizes content requests h = refl
 data-same Actions.Ask content requests h = refl
 
-reply-same : (c : Command) (answer : Answer) (requests : List Kept) → is_count_kind (kind_of (action_of c)) ≡ true → requests ≡ requests_after_reply c answer requests
+reply-same : (c : Command) (answer : Answer) (requests : List Kept) → is_thread_kind (kind_of (action_of c)) ≡ true → requests ≡ requests_after_reply c answer requests
 reply-same c (Data content) requests h = data-same (action_of c) content requests h
 reply-same c (Error e) requests h = refl
 
--- a count teaches nothing
-pub count-apart : (k : Ticket) (c : Command) (answer : Answer) (old : Mirror) → old.threads ≡ [] → is_count_kind (kind_of (action_of c)) ≡ true → LearnedIn Apart old (Reply k c answer) old
-count-apart k c answer old none is = (none, reply-same c answer old.requests is)
+-- what is told of threads teaches nothing
+pub threads-apart : (k : Ticket) (c : Command) (answer : Answer) (old : Mirror) → old.threads ≡ [] → is_thread_kind (kind_of (action_of c)) ≡ true → LearnedIn Apart old (Reply k c answer) old
+threads-apart k c answer old none is = (none, reply-same c answer old.requests is)
 
 -- the same of what a call answered
-pub learned-where : {U E : Type 0} (r : Result U E) (c : Command) (answer : Answer) (old new : Mirror) → old.threads ≡ [] → is_count_kind (kind_of (action_of c)) ≡ false
+pub learned-where : {U E : Type 0} (r : Result U E) (c : Command) (answer : Answer) (old new : Mirror) → old.threads ≡ [] → is_thread_kind (kind_of (action_of c)) ≡ false
     → OnOk r ((k : Ticket) → Learned old (Reply k c answer) new) → OnOk r ((k : Ticket) → LearnedIn Apart old (Reply k c answer) new)
 learned-where (Ok u) c answer old new none other l = λ k. learned-apart k c answer old new none other (l k)
 learned-where (Err e) c answer old new none other l = tt

@@ -11,20 +11,21 @@ use Rattle.jdwp_layout.specs.declared.answer.Answer.{Answer}
 use Rattle.jdwp_event.specs.Composites.{CompositeMeaning}
 use Rattle.jdwp_end.specs.Ends.{is_open, with_handled}
 use Rattle.jdwp_debugger.specs.Debuggers.{Debugger, IsSizesAlone}
-use Rattle.jdwp_debugger.specs.DebuggerTurns.{IsSaid, LearnedAll, news_refusal, reading_of}
+use Rattle.jdwp_debugger.specs.DebuggerTurns.{IsSaid, LearnedAll, followed, news_refusal, reading_of}
+use Rattle.jdwp_debugger.specs.FollowingKept.{HasNoTicket, following}
 use Rattle.jdwp_debugger.specs.Histories.{messages_of, reading_after}
 use Rattle.jdwp_debugger.specs.News.{News, Waits, Happens, Answers, Measures}
 use Rattle.jdwp_debugger.specs.Runs.{HasRun, Ran}
 use Rattle.jdwp_mirror.specs.Faults.{PARKED_MOST}
 use Rattle.jdwp_mirror.specs.Mirrors.{Mirror}
-use Rattle.jdwp_debugger.proofs.DebuggerRuns.{front-open, learned_from, ran-said}
+use Rattle.jdwp_debugger.proofs.DebuggerRuns.{front-open, learned_from, ran-said, said-unknown}
 use Rattle.jdwp_debugger.proofs.Saying.{Backs, backs, unanswerable}
 
 pub said-open : (d : Debugger) (header : Header) (used : ℕ) (n : News) → IsBytes d.end.incoming → IsSaid d header used n → is_open d.end ≡ true
 said-open d header used n fits s = front-open d.end (Packet header s.body) used fits s.front
 
 pub said-ran : (d : Debugger) (header : Header) (used : ℕ) (n : News) (m : Mirror) → IsBytes d.end.incoming → (s : IsSaid d header used n) → news_refusal d.order d.mirror n ≡ None
-    → LearnedAll d.order (learned_from n d.mirror) (messages_of n d.pending) m → Ran d → HasRun d.order (with_handled (Packet header s.body) used d.end) d.tickets (reading_after header n (reading_of d)) m
+    → LearnedAll d.order (learned_from n d.mirror) (messages_of n d.pending) m → Ran d → HasRun d.order (with_handled (Packet header s.body) used d.end) d.tickets (reading_after header n (reading_of d)) m (followed (reading_of d) n (following d))
 said-ran d header used n m fits s fair learned r = ran-said d header s.body used n m fits s.front s.said fair learned r
 
 pub said-backs : (d : Debugger) (header : Header) (used : ℕ) (n : News) → IsSaid d header used n → Backs (reading_of d) header.id header.kind n
@@ -47,6 +48,13 @@ answers-within d header used place ticket answer s = let there = (said-backs d h
 
 pub measures-within : (d : Debugger) (header : Header) (used place : ℕ) (answer : Answer) (w : Widths) (cs : List CompositeMeaning) → IsSaid d header used (Measures place answer w cs) → place < length d.pending
 measures-within d header used place answer w cs s = let there = (said-backs d header used (Measures place answer w cs) s).1 in slice_get_within d.pending place there.asked there.at
+
+-- the widths of ids are told once, in the reply to a command without a ticket
+pub measures-first-time : (d : Debugger) (header : Header) (used place : ℕ) (answer : Answer) (w : Widths) (cs : List CompositeMeaning) → IsBytes d.end.incoming → IsSaid d header used (Measures place answer w cs) → Ran d → d.sizes ≡ None
+measures-first-time d header used place answer w cs fits s r = said-unknown d header s.body used place answer w cs fits s.front s.said r
+
+pub measures-bare : (d : Debugger) (header : Header) (used place : ℕ) (answer : Answer) (w : Widths) (cs : List CompositeMeaning) → IsSaid d header used (Measures place answer w cs) → HasNoTicket place d.pending
+measures-bare d header used place answer w cs s = let there = (said-backs d header used (Measures place answer w cs) s).1 in (there.asked, there.at, there.ticketed)
 
 -- a command with a ticket is answered once the widths are known
 pub known-before : (d : Debugger) (header : Header) (used place ticket : ℕ) (answer : Answer) → IsSaid d header used (Answers place ticket answer) → IsSizesAlone d.pending → ⊥

@@ -131,13 +131,13 @@ measured-heads false waited w cs d has sizes = (has, rw sizes refl)
 packet-heads : (header : Header) (body : List ℕ) (used : ℕ) (news : News) (old new : Debugger) (t : Told) → IsSo (reading_of old) header.id news
     → Enters (streams.Packet header body) used header news old t new → TellsHeads old.pending t new.last new.sizes
 packet-heads header body used (Waits bytes) old new t so h = rw (h.0, h.1) refl
-packet-heads header body used (Happens c) old new t so h = rw (h.0, h.1.2) (heads-where (ends (Report c)) old.pending (tell.Seen c) _ (λ w. (header, refl)))
+packet-heads header body used (Happens c) old new t so h = rw (h.0, h.1.4) (heads-where (ends (Report c)) old.pending (tell.Seen c) _ (λ w. (header, refl)))
 packet-heads header body used (Answers place ticket answer) old new t so h =
     let command : command_at place old.pending ≡ so.asked.command = ap command_of so.waits in
-    rw (h.0, h.1.2) (heads-where (ends (Reply (Some ticket) (command_at place old.pending) answer)) old.pending (tell.Answered ticket answer) _
+    rw (h.0, h.1.4) (heads-where (ends (Reply (Some ticket) (command_at place old.pending) answer)) old.pending (tell.Answered ticket answer) _
     (λ w. record { header = header; place = place; asked = so.asked; under = so.under; waits = so.waits; given = so.given; is = rw command refl }))
 packet-heads header body used (Measures place answer w cs) old new t so h =
-    rw (h.0, h.1.2) (measured-heads (list_any ends (reports cs)) old.pending w cs _ (has-sizes cs old.parked header so) refl)
+    rw (h.0, h.1.4) (measured-heads (list_any ends (reports cs)) old.pending w cs _ (has-sizes cs old.parked header so) refl)
 
 handled-heads : (message : streams.Message) (used : ℕ) (old new : Debugger) (r : Read) → HandlesAt message used old (Ok r) new → TellsHeads old.pending (read_meaning r) new.last new.sizes
 handled-heads streams.Handshake used old new r h = rw (h.0, h.2) refl

@@ -19,6 +19,8 @@ use Rattle.jdwp_end.specs.Ends.{is_open, is_paused, with_enqueued}
 use Rattle.jdwp_action.specs.Actions.{Carried, Content, Raw, Command, is_implemented}
 use Rattle.jdwp_action.specs.CommandPackets.{carried_bytes, is_for_target, packet_length}
 use Rattle.jdwp_action.specs.CommandReads.{command_read}
+use Rattle.jdwp_watch.specs.Ledgers.{put_of}
+use Rattle.jdwp_debugger.specs.FollowingKept.{ledger_put}
 use Rattle.jdwp_debugger.specs.declared.asking.Refused.{Refused}
 use Rattle.jdwp_debugger.specs.declared.asking.Refused.TheVariants.{Closed, NotReady, Busy, BadCommand, TooLong, NoMemory}
 use Rattle.jdwp_debugger.specs.declared.asking.Body.{Body}
@@ -119,6 +121,7 @@ asked w id c d = record d {
   pending = d.pending ++ record { id = id; ticket = Some (record { 0 = d.tickets + 1 }); command = c } ∷ [];
   next_id = id_after id 1;
   tickets = d.tickets + 1;
+  ledger = ledger_put (put_of c) d.ledger;
 }
 
 -- A command was asked, after the target's handshake and once the widths of ids were known: under the next free id, in a packet within the

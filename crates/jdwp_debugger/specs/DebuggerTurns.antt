@@ -1,5 +1,5 @@
 -- What turns of a debugger answer, and what they leave.
-use Rattle.std.specs.Prelude.{◌≡◌, ℕ, ◌+◌, ◌%◌, ◌^◌, ◌≤◌, Bool, true, false, List, [], ◌∷◌, ◌++◌, length, map, remove, slice_get, Option, Some, None, Result, Ok, Err, MatchResult}
+use Rattle.std.specs.Prelude.{◌≡◌, ℕ, zero, suc, ◌&&◌, fold, ◌+◌, ◌%◌, ◌^◌, ◌≤◌, Bool, true, false, List, [], ◌∷◌, ◌++◌, length, map, remove, slice_get, Option, Some, None, Result, Ok, Err, MatchResult}
 use Rattle.std.specs.List.{list_any}
 use Rattle.jdwp_wire.specs.ErrorCodes.{NONE}
 use Rattle.jdwp_wire.specs.declared.packet.Header.{Header}
@@ -14,6 +14,9 @@ use Rattle.jdwp_layout.specs.CommandNumbers.{ID_SIZES}
 use Rattle.jdwp_event.specs.Composites.{CompositeMeaning}
 use Rattle.jdwp_end.specs.Ends as ends
 use Rattle.jdwp_action.specs.Actions.{Command}
+use Rattle.jdwp_apart.specs.Following.{Following, answered_to, reported_to}
+use Rattle.jdwp_watch.specs.declared.put.Put.TheVariants.{Asks}
+use Rattle.jdwp_apart.specs.Messages.{is_invocation}
 use Rattle.jdwp_debugger.specs.declared.faults.DebuggerFault.{DebuggerFault}
 use Rattle.jdwp_debugger.specs.declared.faults.DebuggerFault.TheVariants as code
 use Rattle.jdwp_debugger.specs.declared.heads.Head.{Head}
@@ -26,6 +29,8 @@ use Rattle.jdwp_debugger.specs.declared.turning.Read.{Read}
 use Rattle.jdwp_debugger.specs.declared.turning.Read.TheVariants as read
 use Rattle.jdwp_debugger.specs.Debuggers.{Asked, Debugger}
 use Rattle.jdwp_debugger.specs.Debuggers as debuggers
+use Rattle.jdwp_watch.specs.Ledgers.{Account}
+use Rattle.jdwp_debugger.specs.FollowingKept.{IsFirstOf, following, following_of, ledger_put}
 use Rattle.jdwp_debugger.specs.Orders.{LearnedIn, has_bad_in, is_bad_in, none_known}
 use Rattle.jdwp_mirror.specs.Faults.{PARKED_MOST}
 use Rattle.jdwp_mirror.specs.FaultParts.{IsData}
@@ -33,7 +38,7 @@ use Rattle.jdwp_mirror.specs.KnownThreads.{count_in}
 use Rattle.jdwp_mirror.specs.Messages.{Message, Reply, Report, id_sizes}
 use Rattle.jdwp_mirror.specs.Mirror.{ends}
 use Rattle.jdwp_mirror.specs.Mirrors.{Mirror, empty_mirror}
-use Rattle.jdwp_debugger.specs.News.{News, Waits, Happens, Answers, Measures, Reading, Fails, says}
+use Rattle.jdwp_debugger.specs.News.{News, Waits, Happens, Answers, Measures, Reading, Fails, says, widths_by}
 
 -- ---- what a turn tells
 
@@ -68,7 +73,7 @@ news_meaning (news.Measures place answer sizes composites) = Measures place answ
 
 -- the session ends, and what was learned in it is forgotten; tickets and what waits to leave stay
 abbrev pub closed_debugger : Debugger → Debugger
-closed_debugger d = record d { end = ends.closed_end d.end; mirror = empty_mirror; sizes = None; parked = [] }
+closed_debugger d = record d { end = ends.closed_end d.end; mirror = empty_mirror; sizes = None; parked = []; ledger = None }
 
 abbrev pub closed_where : Bool → Debugger → Debugger
 closed_where true d = closed_debugger d
@@ -97,6 +102,7 @@ greeted used d = record d {
   pending = d.pending ++ record { id = d.next_id; ticket = None; command = id_sizes } ∷ [];
   next_id = (d.next_id + 1) % 2 ^ 32;
   last = head.Hello ∷ [];
+  ledger = ledger_put Asks d.ledger;
 }
 
 -- ---- what is learned
@@ -117,6 +123,25 @@ command_of (Some asked) = asked.command
 abbrev pub command_at : ℕ → List Asked → Command
 command_at place pending = command_of (slice_get pending place)
 
+-- ---- what is followed
+
+-- each command that waits before this place invokes a method
+abbrev pub is_next : ℕ → List Asked → Bool
+is_next zero pending = true
+is_next (suc place) [] = true
+is_next (suc place) (p ∷ ps) = is_invocation p.command && is_next place ps
+
+-- Behind a packet that says this. The composites that waited for the widths of ids are read as these become known, before the answer that tells
+-- them.
+abbrev pub followed : Reading → News → Option Following → Option Following
+followed r (Waits bytes) f = f
+followed r (Happens c) f = reported_to f c
+followed r (Answers place ticket answer) f = answered_to (widths_by r.sizes) (is_next place r.pending) (command_at place r.pending) answer f
+followed r (Measures place answer w cs) f =
+    answered_to (widths_by r.sizes) (is_next place r.pending) (command_at place r.pending) answer (fold reported_to f cs)
+
+-- ---- what a turn enters
+
 abbrev pub heads_of : List debuggers.Parked → List Head
 heads_of parked = map (λ (p : debuggers.Parked). head.Composite p.header) parked
 
@@ -129,26 +154,39 @@ abbrev pub with_sizes : streams.Message → ℕ → Header → ℕ → Mirror �
 with_sizes message used header place m w d =
     record (with_read message used (heads_of d.parked ++ reply_head header id_sizes ∷ []) d) { mirror = m; sizes = Some w; parked = []; pending = remove d.pending place }
 
+-- what packets are read by
+abbrev pub reading_of : Debugger → Reading
+reading_of d = record { order = d.order; sizes = d.sizes; parked = d.parked; pending = d.pending }
+
+abbrev pub with_ledger : Option Account → Debugger → Debugger
+with_ledger ledger d = record d { ledger = ledger }
+
+-- by a ledger then, with the commands that still wait, is followed what such a packet makes of what was
+abbrev pub GoesOnBy : News → Debugger → Option Account → Type 0
+GoesOnBy (Waits bytes) old ledger = ledger ≡ old.ledger
+GoesOnBy (Happens c) old ledger = following_of ledger old.sizes old.pending ≡ followed (reading_of old) (Happens c) (following old)
+GoesOnBy (Answers place ticket answer) old ledger =
+    following_of ledger old.sizes (remove old.pending place) ≡ followed (reading_of old) (Answers place ticket answer) (following old)
+GoesOnBy (Measures place answer w cs) old ledger =
+    following_of ledger (Some w) (remove old.pending place) ≡ followed (reading_of old) (Measures place answer w cs) (following old)
+
 -- What a packet with this header leaves that says this, and what the turn tells. Nothing is learned before the widths of ids are known,
 -- so what waited for them is learned from nothing.
 abbrev pub Enters : streams.Message → ℕ → Header → News → Debugger → Told → Debugger → Type 0
 Enters message used header (Waits bytes) old told new =
     (told ≡ Parked) × (new ≡ record (with_read message used [] old) { parked = old.parked ++ record { header = header; body = bytes } ∷ [] })
 Enters message used header (Happens c) old told new =
-    (told ≡ Seen c) × ((m : Mirror) × LearnedIn old.order old.mirror (Report c) m
-    × (new ≡ closed_where (ends (Report c)) (record (with_read message used (head.Composite header ∷ []) old) { mirror = m })))
+    (told ≡ Seen c) × ((m : Mirror) × LearnedIn old.order old.mirror (Report c) m × (ledger : Option Account) × GoesOnBy (Happens c) old ledger
+    × (new ≡ closed_where (ends (Report c)) (record (with_read message used (head.Composite header ∷ []) old) { mirror = m; ledger = ledger })))
 Enters message used header (Answers place ticket answer) old told new =
-    (told ≡ Answered ticket answer) × ((m : Mirror) × LearnedIn old.order old.mirror (Reply (Some ticket) (command_at place old.pending) answer) m
+    (told ≡ Answered ticket answer) × ((m : Mirror) × LearnedIn old.order old.mirror (Reply (Some ticket) (command_at place old.pending) answer) m × (ledger : Option Account) × GoesOnBy (Answers place ticket answer) old ledger
     × (new ≡ closed_where (ends (Reply (Some ticket) (command_at place old.pending) answer))
-    (record (with_read message used (reply_head header (command_at place old.pending) ∷ []) old) { mirror = m; pending = remove old.pending place })))
+    (record (with_read message used (reply_head header (command_at place old.pending) ∷ []) old) { mirror = m; pending = remove old.pending place; ledger = ledger })))
 Enters message used header (Measures place answer w cs) old told new =
-    (told ≡ Sizes cs) × ((m : Mirror) × LearnedAll old.order empty_mirror (reports cs ++ Reply None (command_at place old.pending) answer ∷ []) m
-    × (new ≡ measured_where (list_any ends (reports cs)) w (with_sizes message used header place m w old)))
+    (told ≡ Sizes cs) × ((m : Mirror) × LearnedAll old.order empty_mirror (reports cs ++ Reply None (command_at place old.pending) answer ∷ []) m × (ledger : Option Account) × GoesOnBy (Measures place answer w cs) old ledger
+    × (new ≡ measured_where (list_any ends (reports cs)) w (with_ledger ledger (with_sizes message used header place m w old))))
 
 -- ---- what is refused
-
-abbrev pub reading_of : Debugger → Reading
-reading_of d = record { order = d.order; sizes = d.sizes; parked = d.parked; pending = d.pending }
 
 -- the same of what the code reads by
 abbrev pub reading : Known → Reading
@@ -203,13 +241,15 @@ pub record IsSaid (d : Debugger) (header : Header) (used : ℕ) (news : News) : 
   pub front : ends.front_of d.end ≡ Whole (streams.Packet header body) used
   pub said : says (reading_of d) header.id header.kind body ≡ Ok news
 
--- a reply to IDSizes is in front that tells these widths, nothing that waited for them is bad, and this was learned of all of it, from nothing
-pub record TellsSizes (d : Debugger) (header : Header) (used place : ℕ) (w : Widths) (mirror : Mirror) : Type 0 where
+-- a reply to IDSizes is in front that tells these widths, nothing that waited for them is bad, and this was learned of all of it, and is
+-- followed, from nothing
+pub record TellsSizes (d : Debugger) (header : Header) (used place : ℕ) (w : Widths) (mirror : Mirror) (ledger : Option Account) : Type 0 where
   pub answer : Answer
   pub composites : List CompositeMeaning
   pub said : IsSaid d header used (Measures place answer w composites)
   pub unrefused : news_refusal d.order d.mirror (Measures place answer w composites) ≡ None
   pub learned : LearnedAll d.order empty_mirror (reports composites ++ Reply None (command_at place d.pending) answer ∷ []) mirror
+  pub followed : IsFirstOf d.order answer composites ledger
 
 -- what a failure leaves
 abbrev pub FailsTo : DebuggerFault → Debugger → Debugger → Type 0

@@ -10,9 +10,11 @@ use Rattle.jdwp_wire.specs.declared.packet.Header.{Header}
 use Rattle.jdwp_end.specs.Ends.{End}
 use Rattle.jdwp_end.specs.Ends as ends
 use Rattle.jdwp_action.specs.Actions.{Command}
+use Rattle.jdwp_apart.specs.Following.{Following, begun}
+use Rattle.jdwp_watch.specs.Ledgers.{Account, first_account}
 use Rattle.jdwp_debugger.specs.declared.heads.Head.{Head}
 use Rattle.jdwp_debugger.specs.declared.order.Order.{Order}
-use Rattle.jdwp_debugger.specs.declared.order.Order.TheVariants.{One}
+use Rattle.jdwp_debugger.specs.declared.order.Order.TheVariants.{One, Apart}
 use Rattle.jdwp_debugger.specs.declared.pending.Ticket.{Ticket}
 use Rattle.jdwp_mirror.specs.Messages.{id_sizes}
 use Rattle.jdwp_mirror.specs.Mirrors.{Mirror, empty_mirror}
@@ -30,8 +32,9 @@ pub record Asked : Type 0 where
   pub command : Command
 
 -- In which order the target sends what it says; what both ends have; what was learned; the widths of ids, once they are known; the composites that wait for them, in the order read;
--- the commands that wait for replies, in the order asked; the id of the next packet; how many tickets were given; and what the last turn
--- read, in the order in which it was learned.
+-- the commands that wait for replies, in the order asked; the id of the next packet; how many tickets were given; what the last turn
+-- read, in the order in which it was learned; and what was told of the threads, where a target sends replies and composites by threads of its own,
+-- as long as anybody can be told.
 pub record Debugger : Type 0 where
   pub order : Order
   pub end : End
@@ -42,6 +45,7 @@ pub record Debugger : Type 0 where
   pub next_id : ℕ
   pub tickets : ℕ
   pub last : List Head
+  pub ledger : Option Account
 
 -- ---- commands that wait for replies
 
@@ -88,10 +92,19 @@ is_front More = false
 
 -- ---- what each call does
 
+-- what is followed as a session begins, and what is kept of it
+abbrev pub begun_in : Order → Option Following
+begun_in One = None
+begun_in Apart = Some begun
+
+abbrev pub first_in : Order → Option Account
+first_in One = None
+first_in Apart = Some first_account
+
 -- a debugger before its first session, of a target of this order
 abbrev pub new_debugger_in : Order → Limits → ℕ → Debugger
 new_debugger_in order limits first =
-    record { order = order; end = ends.new_end limits; mirror = empty_mirror; sizes = None; parked = []; pending = []; next_id = first; tickets = 0; last = [] }
+    record { order = order; end = ends.new_end limits; mirror = empty_mirror; sizes = None; parked = []; pending = []; next_id = first; tickets = 0; last = []; ledger = None }
 
 -- the same of a target that sends each packet as it acts
 abbrev pub new_debugger : Limits → ℕ → Debugger
@@ -100,7 +113,7 @@ new_debugger limits first = new_debugger_in One limits first
 -- a session begins: the handshake is to leave
 abbrev pub attached : Debugger → Debugger
 attached d =
-    record d { end = ends.with_enqueued handshake_bytes (ends.opened_end d.end); mirror = empty_mirror; sizes = None; parked = []; pending = [] }
+    record d { end = ends.with_enqueued handshake_bytes (ends.opened_end d.end); mirror = empty_mirror; sizes = None; parked = []; pending = []; ledger = first_in d.order }
 
 -- bytes came
 abbrev pub with_fed : List ℕ → Debugger → Debugger
@@ -112,7 +125,7 @@ with_taken bytes d = record d { end = ends.with_taken bytes d.end }
 
 -- the connection is lost: the end is closed, nothing waits to leave, nothing is known, and no command waits for a reply
 abbrev pub lost_debugger : Debugger → Debugger
-lost_debugger d = record d { end = ends.lost_end d.end; mirror = empty_mirror; sizes = None; parked = []; pending = [] }
+lost_debugger d = record d { end = ends.lost_end d.end; mirror = empty_mirror; sizes = None; parked = []; pending = []; ledger = None }
 
 -- ---- what every debugger keeps
 

@@ -3,14 +3,15 @@ use Rattle.std.specs.Prelude.{◌≡◌, ℕ, ◌+◌, Bool, false, List, [], �
 use Rattle.std.specs.List.{flat_map}
 use Rattle.jdwp_wire.specs.declared.packet.Header.{Header}
 use Rattle.jdwp_action.specs.Actions.{Command}
+use Rattle.jdwp_apart.specs.Following.{Following, put_to}
 use Rattle.jdwp_debugger.specs.declared.faults.DebuggerFault.{DebuggerFault}
 use Rattle.jdwp_debugger.specs.declared.order.Order.{Order}
 use Rattle.jdwp_debugger.specs.declared.order.Order.TheVariants.{One, Apart}
 use Rattle.jdwp_debugger.specs.declared.pending.Ticket as code
-use Rattle.jdwp_debugger.specs.Debuggers.{Asked}
-use Rattle.jdwp_debugger.specs.DebuggerTurns.{command_at, reports}
+use Rattle.jdwp_debugger.specs.Debuggers.{Asked, begun_in}
+use Rattle.jdwp_debugger.specs.DebuggerTurns.{command_at, followed, reports}
 use Rattle.jdwp_debugger.specs.Judging.{ticket_meaning}
-use Rattle.jdwp_debugger.specs.News.{News, Waits, Happens, Answers, Measures, Reading}
+use Rattle.jdwp_debugger.specs.News.{News, Waits, Happens, Answers, Measures, Reading, widths_by}
 use Rattle.jdwp_mirror.specs.KnownThreads.{count_in, is_held_in}
 use Rattle.jdwp_mirror.specs.Messages.{Message, Reply, Report, Ticket}
 use Rattle.jdwp_mirror.specs.Mirror.{Kept, learned, held_after, requests_after}
@@ -33,15 +34,20 @@ heard history = flat_map heard_in history
 
 -- ---- what is known
 
--- By what packets are read; how many tickets were given; and what was put and heard, in order.
+-- By what packets are read; how many tickets were given; what was put and heard, in order; and what is followed by that.
 pub record Knowledge : Type 0 where
   pub reading : Reading
   pub tickets : ℕ
   pub history : List Exchange
+  pub following : Option Following
 
 -- before a session, and behind its end, with a target of this order, where so many tickets were given
 abbrev pub nothing : Order → ℕ → Knowledge
-nothing order tickets = record { reading = record { order = order; sizes = None; parked = []; pending = [] }; tickets = tickets; history = [] }
+nothing order tickets = record { reading = record { order = order; sizes = None; parked = []; pending = [] }; tickets = tickets; history = []; following = None }
+
+-- as one begins
+abbrev pub begins : Order → ℕ → Knowledge
+begins order tickets = record (nothing order tickets) { following = begun_in order }
 
 -- a command is put under an id, and waits for its reply
 abbrev pub with_put : ℕ → Option code.Ticket → Command → Knowledge → Knowledge
@@ -50,6 +56,7 @@ with_put id ticket c k =
       reading = record k.reading { pending = k.reading.pending ++ record { id = id; ticket = ticket; command = c } ∷ [] };
       tickets = k.tickets;
       history = k.history ++ Puts (ticket_meaning ticket) c ∷ [];
+      following = put_to (widths_by k.reading.sizes) c k.following;
     }
 
 -- the same under the next ticket
@@ -73,7 +80,12 @@ reading_after header (Measures place answer w cs) r = record { order = r.order; 
 
 abbrev pub with_news : Header → News → Knowledge → Knowledge
 with_news header news k =
-    record { reading = reading_after header news k.reading; tickets = k.tickets; history = k.history ++ map Hears (messages_of news k.reading.pending) }
+    record {
+      reading = reading_after header news k.reading;
+      tickets = k.tickets;
+      history = k.history ++ map Hears (messages_of news k.reading.pending);
+      following = followed k.reading news k.following;
+    }
 
 -- a packet with this header is read that says this; of one that is refused nothing is heard
 abbrev pub with_said : Header → Result News DebuggerFault → Knowledge → Knowledge

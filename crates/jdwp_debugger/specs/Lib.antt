@@ -1,5 +1,6 @@
 pub mod Debuggers
 pub mod PendingKept
+pub mod FollowingKept
 pub mod DebuggersKept
 pub mod Orders
 pub mod Asking
@@ -9,6 +10,7 @@ pub mod News
 pub mod DebuggerTurns
 pub mod TellsHeads
 pub mod Judging
+pub mod Holding
 pub mod Histories
 pub mod Runs
 pub mod TakingLaws

@@ -1,5 +1,5 @@
 -- What a debugger refuses and learns, by the order in which its target sends what it says.
-use Rattle.std.specs.Prelude.{◌≡◌, ℕ, nat_le, nat_lt, Bool, true, false, ◌||◌, ◌&&◌, not, List, [], ◌∷◌, length, Option, Some, None, if◌then◌else◌}
+use Rattle.std.specs.Prelude.{◌≡◌, ℕ, nat_le, nat_lt, Bool, false, ◌||◌, ◌&&◌, not, List, [], ◌∷◌, length, Option, Some, None, if◌then◌else◌}
 use Rattle.std.specs.List.{list_any}
 use Rattle.jdwp_layout.specs.Meanings.{ScalarMeaning}
 use Rattle.jdwp_event.specs.Composites.{CompositeMeaning, POLICY_ALL}
@@ -8,8 +8,6 @@ use Rattle.jdwp_event.specs.declared.kind.EventKind.TheVariants as kind
 use Rattle.jdwp_debugger.specs.declared.order.Order.{Order}
 use Rattle.jdwp_debugger.specs.declared.order.Order.TheVariants.{One, Apart}
 use Rattle.jdwp_mirror.specs.Faults.{BadEvent, BadHandshake, Fault, PARKED_MOST, Reader, TooManyParked, UnknownReply, BadReply, fault_before_greeting, fault_of, has_bad_event, is_bad_event, is_bad_reply, is_waited_for, or_else, when}
-use Rattle.jdwp_mirror.specs.declared.command.CommandKind.{CommandKind}
-use Rattle.jdwp_mirror.specs.declared.command.CommandKind.TheVariants as kinds
 use Rattle.jdwp_mirror.specs.Messages.{Message, Handshake, Reply, Report}
 use Rattle.jdwp_mirror.specs.Mirror.{requests_after}
 use Rattle.jdwp_mirror.specs.Mirrors.{Mirror, Learned}
@@ -74,11 +72,6 @@ fault_in Apart r message = fault_apart r message
 abbrev pub LearnedIn : Order → Mirror → Message → Mirror → Type 0
 LearnedIn One old message new = Learned old message new
 LearnedIn Apart old message new = (new.threads ≡ []) × (new.requests ≡ requests_after message old.requests)
-
--- whether it is a SuspendCount, to which alone a reply makes a thread known
-abbrev pub is_count_kind : CommandKind → Bool
-is_count_kind kinds.SuspendCount = true
-is_count_kind a = false
 
 -- what is kept so that this can be learned
 abbrev pub MayLearn : Order → Mirror → Type 0

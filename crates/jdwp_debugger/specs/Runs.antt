@@ -1,6 +1,6 @@
 -- What holds of a debugger over a whole session, from bytes to bytes, whatever bytes come (JDWP specification, "JDWP overview": the
 -- handshake; "Packets": commands and replies, and that ids are unique among the outstanding commands of one source).
-use Rattle.std.specs.Prelude.{◌≡◌, ℕ, ◌==◌, ◌≤◌, Bool, true, false, List, [], ◌∷◌, ◌++◌, fold, length, map, take, Some, None, Result, Ok}
+use Rattle.std.specs.Prelude.{◌≡◌, ℕ, Option, ◌==◌, ◌≤◌, Bool, true, false, List, [], ◌∷◌, ◌++◌, fold, length, map, take, Some, None, Result, Ok}
 use Rattle.std.specs.List.{flat_map, list_any}
 use Rattle.std.specs.Set.{remove_key}
 use Rattle.jdwp_wire.specs.Streams.{Message, Handshake, Packet, stream}
@@ -15,6 +15,7 @@ use Rattle.jdwp_end.specs.declared.phase.Phase.TheVariants.{Closed, AwaitingHand
 use Rattle.jdwp_end.specs.Ends.{End, front_of, is_open}
 use Rattle.jdwp_end.specs.Runs.{Carries}
 use Rattle.jdwp_action.specs.Actions.{Command}
+use Rattle.jdwp_apart.specs.Following.{Following}
 use Rattle.jdwp_debugger.specs.declared.faults.DebuggerFault.{DebuggerFault}
 use Rattle.jdwp_debugger.specs.declared.order.Order.{Order}
 use Rattle.jdwp_debugger.specs.declared.turning.Read.{Read}
@@ -22,7 +23,8 @@ use Rattle.jdwp_action.specs.CommandPackets.{carried_bytes}
 use Rattle.jdwp_debugger.specs.Asking.{EncodesCommand, HasAsked, command_header}
 use Rattle.jdwp_debugger.specs.Debuggers.{Asked, Debugger, attached, lost_debugger, new_debugger_in, with_fed, with_taken}
 use Rattle.jdwp_debugger.specs.DebuggerTurns.{LearnedAll, TurnsAt, news_refusal, reading_of, sizes_header}
-use Rattle.jdwp_debugger.specs.Histories.{Knowledge, heard, nothing, with_asked, with_put, with_said}
+use Rattle.jdwp_debugger.specs.FollowingKept.{following}
+use Rattle.jdwp_debugger.specs.Histories.{Knowledge, begins, heard, nothing, with_asked, with_put, with_said}
 use Rattle.jdwp_debugger.specs.News.{News, Reading, says}
 use Rattle.jdwp_mirror.specs.Messages as heards
 use Rattle.jdwp_mirror.specs.Messages.{id_sizes}
@@ -117,7 +119,7 @@ InOrder phase ids (act ∷ acts) = MayCome phase ids act × InOrder (phase_after
 -- ---- what is known
 
 abbrev pub known_after : Knowledge → Act → Knowledge
-known_after k Attaches = nothing k.reading.order k.tickets
+known_after k Attaches = begins k.reading.order k.tickets
 known_after k (Greets id) = with_put id None id_sizes k
 known_after k (Reads header body) = with_said header (says k.reading header.id header.kind body) k
 known_after k (Asks w id c) = with_asked id c k
@@ -154,12 +156,13 @@ abbrev pub ids_of : List Asked → List ℕ
 ids_of pending = map (λ (p : Asked). p.id) pending
 
 -- What a debugger of this order with this end did in a session, in order, where so many tickets were given, packets are read by this, and this was
--- learned. Nothing is read or put behind its end, as which the first refused message counts, until the next begins; the commands that
+-- learned and is followed. Nothing is read or put behind its end, as which the first refused message counts, until the next begins; the commands that
 -- wait are those that were put and not yet replied to; what its end carries are the messages read; and what was enqueued to leave are the
 -- bytes of the messages put. Each packet that was read was not refused; by what was put and read the debugger knows which commands wait and
--- under which tickets, which composites wait for the widths of ids, and these; and the mirror is what the messages that were heard, each
--- once and in order, leave of the empty one.
-pub record HasRun (order : Order) (end : End) (tickets : ℕ) (reading : Reading) (mirror : Mirror) : Type 0 where
+-- under which tickets, which composites wait for the widths of ids, and these; the mirror is what the messages that were heard, each
+-- once and in order, leave of the empty one; and what is followed is what all that was put and read, in order, makes of what is so as a session
+-- begins.
+pub record HasRun (order : Order) (end : End) (tickets : ℕ) (reading : Reading) (mirror : Mirror) (following : Option Following) : Type 0 where
   pub acts : List Act
   pub in_order : InOrder Closed [] acts
   pub phase : end.phase ≡ phase_of acts
@@ -172,12 +175,13 @@ pub record HasRun (order : Order) (end : End) (tickets : ℕ) (reading : Reading
   pub given : tickets ≡ (known order before acts).tickets
   pub knows : is_open end ≡ true → reading ≡ (known order before acts).reading
   pub learned : LearnedAll order empty_mirror (heard (known order before acts).history) mirror
+  pub follows : following ≡ (known order before acts).following
 
 abbrev pub Ran : Debugger → Type 0
-Ran d = HasRun d.order d.end d.tickets (reading_of d) d.mirror
+Ran d = HasRun d.order d.end d.tickets (reading_of d) d.mirror (following d)
 
 -- the messages that were heard in a run, in order
-abbrev pub heard_by : {order : Order} {end : End} {tickets : ℕ} {reading : Reading} {mirror : Mirror} → HasRun order end tickets reading mirror → List heards.Message
+abbrev pub heard_by : {order : Order} {end : End} {tickets : ℕ} {reading : Reading} {mirror : Mirror} {following : Option Following} → HasRun order end tickets reading mirror following → List heards.Message
 heard_by {order = order} run = heard (known order run.before run.acts).history
 
 -- What each call leaves of a run, whatever it answers.

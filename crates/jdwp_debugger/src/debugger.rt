@@ -1,5 +1,5 @@
 //! The debugger's end of a session.
-ghost use Rattle.std.specs.Prelude.{◌≡◌, ◌≤◌, ◌<◌, ◌+◌, ◌^◌, ◌++◌, ◌↔◌, [], IfErr, IfOk, IsTrue, None, Some, drop, false, length, min, take, true};
+ghost use Rattle.std.specs.Prelude.{◌≡◌, ◌≤◌, ◌<◌, ◌+◌, ◌^◌, ◌++◌, ◌↔◌, [], Contains, IfErr, IfOk, IfSome, IsTrue, MatchOption, None, Some, ℕ, drop, false, length, min, take, true};
 ghost use Rattle.jdwp_end.specs.declared.phase.Phase.TheVariants.{AwaitingHandshake};
 ghost use Rattle.jdwp_end.specs.Ends as ends;
 ghost use Rattle.jdwp_end.specs.Ends.{front_of, most_outgoing, room_of};
@@ -9,19 +9,34 @@ ghost use Rattle.jdwp_wire.specs.Streams.{More};
 ghost use Rattle.jdwp_wire.specs.Widths.{Widths};
 ghost use Rattle.jdwp_debugger.specs.Asking.{HasAsked, IsAdmitted, IsRefusal, MayLeave, is_busy, refusal_of_ask};
 ghost use Rattle.jdwp_debugger.specs.Debuggers.{AreDistinct, AreOwn, Begins, IsSizesAlone, at_place, attached, has_tickets, is_front, lost_debugger, new_debugger, new_debugger_in, seen_unanswered, tickets_of, unanswered, with_fed, with_taken};
+ghost use Rattle.jdwp_apart.specs.Following.{Following};
+ghost use Rattle.jdwp_watch.specs.Targets.{CountsAtLeast, InEachTarget, IsSuspended};
+ghost use Rattle.jdwp_debugger.specs.declared.order.Order.TheVariants.{One};
+ghost use Rattle.jdwp_debugger.specs.FollowingKept.{following};
+ghost use Rattle.jdwp_mirror.specs.CommandKinds.{object_id};
+ghost use Rattle.jdwp_debugger.specs.Holding.{at_least, is_held, is_named, named_in, surely};
+ghost use Rattle.std.specs.Map.Iter.{GivesInOrder};
+ghost use Rattle.jdwp_value.specs.declared.id.ObjectId.{ObjectId as Id};
+ghost use Rattle.jdwp_watch.specs.Naming.{Covers};
 ghost use Rattle.jdwp_debugger.specs.Histories.{IsMirrorIn};
+ghost use Rattle.jdwp_debugger.specs.Runs.{known};
 ghost use Rattle.jdwp_debugger.specs.Runs.{Ran, heard_by};
 ghost use Rattle.jdwp_mirror.specs.Faults.{PARKED_MOST};
 ghost use Rattle.jdwp_mirror.specs.Mirrors.{empty_mirror};
 
 use crate::asking::{Admitted, Body, Refused};
+use crate::following::{begin, check_room, note_put};
 use crate::heads::{Head, Heads};
 use crate::lost::Lost;
 use crate::order::Order;
 use crate::parked::Parked;
 use crate::pending::{Pending, Ticket};
+use crate::reading::widths_by;
+use jdwp_apart::shows_only_suspended_threads;
 use jdwp_end::{End, Front};
 use jdwp_mirror::{Command, Mirror};
+use jdwp_value::ObjectId;
+use jdwp_watch::{Ledger, NamedThreads, Put};
 use jdwp_wire::{HANDSHAKE, IdSizes, Limits, NoMemory};
 use std::alloc::Global;
 use std::marker::Model;
@@ -41,6 +56,9 @@ pub struct Debugger {
     pub(crate) next_id: u32,
     pub(crate) tickets: u64,
     pub(crate) last: Heads,
+    pub(crate) alloc: Global,
+    /// With the commands that wait, what is followed of the session.
+    pub(crate) ledger: Option<Ledger>,
 }
 
 impl Model for Debugger {
@@ -87,9 +105,10 @@ impl Debugger {
         Debugger::with_order(alloc, first_id, limits, Order::One)
     }
 
-    /// The same of a target that sends its replies and composites in this order. In `Apart` no composite is refused for the suspend count of
-    /// its thread, VM_DEATH may come as it was asked for beside the one that the target sends by itself, a reply with an error may have data,
-    /// and the mirror knows no thread, only the event requests.
+    /// The same of a target that sends its replies and composites in this order. In `Apart` no composite is refused for the suspend count
+    /// of its thread, VM_DEATH may come as it was asked for beside the one that the target sends by itself, a reply with an error may have
+    /// data, and the mirror knows no thread, only the event requests: `is_held` tells who is surely suspended, by all that was put and
+    /// read.
     ///
     /// # Errors
     /// `NoMemory` where an allocation was refused.
@@ -112,6 +131,8 @@ impl Debugger {
             next_id: first_id,
             tickets: 0,
             last: Heads::new(),
+            alloc,
+            ledger: None,
         })
     }
 
@@ -146,6 +167,7 @@ impl Debugger {
         self.sizes = None;
         self.parked.clear();
         self.pending.clear();
+        self.ledger = begin(self.order, self.alloc);
         true
     }
 
@@ -165,8 +187,11 @@ impl Debugger {
     {
         let id = self.pending.next_free(self.next_id);
         let packet = self.packet_to_ask(alloc, id, &command)?;
+        check_room(&self.ledger)?;
         let ticket = Ticket(self.tickets + 1);
+        let put = Put::of(&command);
         self.pending.push(id, Some(ticket), command)?;
+        note_put(&mut self.ledger, put);
         self.end.enqueue(&packet);
         self.next_id = id.wrapping_add(1);
         self.tickets = ticket.0;
@@ -225,8 +250,8 @@ impl Debugger {
         self.pending.len() >= most || self.end.is_paused() || self.tickets >= LAST_TICKET
     }
 
-    /// The connection is lost: the end is closed, both buffers are empty, and nothing is known. Answers the tickets that were neither answered
-    /// nor lost before, which are no more than commands may wait; no command waits afterwards. Takes no memory.
+    /// The connection is lost: the end is closed, both buffers are empty, and nothing is known. Answers the tickets that were neither
+    /// answered nor lost before, which are no more than commands may wait; no command waits afterwards. Takes no memory.
     pub fn lose(&mut self) -> Lost
         ensures tickets { result ≡ tickets_of self.old.pending }
         ensures few { length result ≤ self.old.end.limits.pending }
@@ -238,6 +263,7 @@ impl Debugger {
         self.sizes = None;
         self.parked.clear();
         self.pending.clear();
+        self.ledger = None;
         lost
     }
 
@@ -272,12 +298,12 @@ impl Debugger {
         self.end.waiting()
     }
 
-    /// A beginning of the bytes that wait to leave, where they lie; empty exactly where none waits. How many it lends is not told.
-    pub fn waiting_in_front(&self) -> &[u8]
-        ensures front { result.now ≡ take (length result.now) self.now.end.outgoing }
-        ensures none { result.now ≡ [] → self.now.end.outgoing ≡ [] }
+    /// All bytes that wait to leave, where they lie, in two pieces of which the first leaves first. It is empty only where none waits.
+    pub fn waiting_slices(&self) -> (&[u8], &[u8])
+        ensures all { result.0.now ++ result.1.now ≡ self.now.end.outgoing }
+        ensures none { result.0.now ≡ [] → self.now.end.outgoing ≡ [] }
     {
-        self.end.waiting_in_front()
+        self.end.waiting_slices()
     }
 
     /// So many of the bytes that wait, the first, have left, or all where no more wait.
@@ -337,8 +363,80 @@ impl Debugger {
         self.pending.unanswered_at(place)
     }
 
+    /// Whether a thread is held for suspended, as long as it lives. In the order `One` the mirror holds it. In `Apart` it is surely
+    /// suspended by what was put and read in the session: so it is suspended in each target that carries out commands one by one and
+    /// answers them in the order asked, invocations apart, sends composites one by one in the order of their events, each packet after its
+    /// effect, gives no request id twice, and moves suspend counts by these alone, whose debugger put and read the same. Nobody is held
+    /// there before the widths of ids are known, from Dispose, Exit, or a command on that a target of this layer does not carry out,
+    /// invocations apart, or from an answer on that was given out of turn. Nothing is kept of how threads end, and one that ended may be
+    /// held: so a client requests THREAD_DEATH events (kind 7), which a thread reports before it ends, and takes a thread as ended from
+    /// then on, or from INVALID_THREAD on.
+    pub fn is_held(&self, thread: ObjectId) -> bool
+        ensures value { result ≡ is_held self.now thread.0 }
+        ensures suspended { (f : Following) → following self.now ≡ Some f → IsTrue result
+            → InEachTarget f.watch (IsSuspended thread.0) }
+    {
+        match self.order {
+            Order::One => self.mirror.is_held(thread),
+            Order::Apart => self.at_least(thread) > 0,
+        }
+    }
+
+    /// What the suspend count of a thread is no less than, as long as the thread lives: in the order `One` the count that the mirror has,
+    /// 0 where it has none; in `Apart` what is sure by what was put and read in the session, in the same targets as `is_held` says.
+    pub fn at_least(&self, thread: ObjectId) -> u64
+        ensures value { result ≡ at_least self.now thread.0 }
+        ensures covered { (f : Following) → following self.now ≡ Some f
+            → InEachTarget f.watch (CountsAtLeast result thread.0) }
+    {
+        shows_only_suspended_threads();
+        match self.order {
+            Order::One => self.mirror.count(thread).map_or(0, u64::from),
+            Order::Apart => self.surely(thread),
+        }
+    }
+
+    /// The threads that were named where the order is `Apart`, in the order of their ids: those of which a composite or a reply told in
+    /// the session. Each that is held is among them, and none is dropped as it ends. None as long as nothing is followed.
+    pub fn named_threads(&self) -> Option<NamedThreads<'_>>
+        ensures all { result ≡ named_in self.now.ledger }
+        ensures held { IfSome result (λ ids. (t : ℕ) → 0 < surely (following self.now) t
+            → Contains ids (object_id t)) }
+        ensures covers { MatchOption result (following self.now ≡ None) (Covers (is_named self.now)) }
+        ensures runs { GivesInOrder Id }
+    {
+        match &self.ledger {
+            Some(kept) => Some(kept.threads()),
+            None => None,
+        }
+    }
+
+    /// Whether a thread was named where the order is `Apart`: a composite of its own was read in the session, or an answer without an error
+    /// about it. No thread is as long as nothing is followed.
+    pub fn is_named(&self, thread: ObjectId) -> bool
+        ensures { result ≡ is_named self.now thread.0 }
+    {
+        match &self.ledger {
+            Some(kept) => kept.is_named(thread),
+            None => false,
+        }
+    }
+
+    fn surely(&self, thread: ObjectId) -> u64
+        ensures { result ≡ surely (following self.now) thread.0 }
+    {
+        match &self.ledger {
+            Some(kept) => kept
+                .bound(thread)
+                .saturating_sub(self.pending.lowered(thread, &widths_by(self.sizes))),
+            None => 0,
+        }
+    }
+
     /// What holds after every list of calls in a session, whatever bytes came: the whole run, by which the mirror is what the packets that
-    /// were read in it say, each once and in order, with the commands that they answer, and so of each thread and of the requests; that
+    /// were read in it say, each once and in order, with the commands that they answer, and so of each thread and of the requests, and what
+    /// is followed is what all that was put and read makes of what is so as a session begins, in order, and nothing where the order is
+    /// `One`; that
     /// what came are bytes; that an end at which nothing waits is not paused; that an open end that is not paused and asks for more has
     /// room for a byte; that no more commands and composites wait than may, no two commands under one id, and without a ticket only
     /// IDSizes; that nothing waits before the target's handshake, and IDSizes alone until the widths of ids are known, up to when nothing
@@ -346,6 +444,9 @@ impl Debugger {
     pub fn session(&self)
         ensures ran { Ran self.now }
         ensures mirror { (run : Ran self.now) → IsMirrorIn self.now.order (heard_by run) self.now.mirror }
+        ensures follows { (run : Ran self.now) → following self.now
+            ≡ (known self.now.order run.before run.acts).following }
+        ensures unfollowed { self.now.order ≡ One → following self.now ≡ None }
         ensures pending { length self.now.pending ≤ self.now.end.limits.pending }
         ensures limits { AreLimits self.now.end.limits.packet self.now.end.limits.live
             self.now.end.limits.requests self.now.end.limits.pending }

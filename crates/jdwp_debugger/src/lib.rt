@@ -4,6 +4,7 @@
 mod asking;
 mod debugger;
 mod faults;
+mod following;
 mod heads;
 mod laws;
 mod lost;
@@ -20,6 +21,7 @@ pub use debugger::Debugger;
 pub use faults::DebuggerFault;
 pub use heads::Head;
 pub use jdwp_mirror::{Carried, Command, KeptRequest, KeptRequests, Known, KnownThreads, Mirror};
+pub use jdwp_watch::NamedThreads;
 pub use laws::{
     goes_on_at_each_call, puts_id_sizes, reads_id_sizes_at_any_widths, reads_what_was_answered,
     reads_what_was_asked, reads_what_was_reported, reads_widths, refuses_what_is_refused,

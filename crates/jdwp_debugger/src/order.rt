@@ -1,11 +1,14 @@
 //! In which order a target sends what it says.
-ghost use Rattle.std.specs.Prelude.{◌≡◌, [], OnErr, OnOk, not};
+ghost use Rattle.std.specs.Prelude.{◌≡◌, [], OnErr, OnOk, not, true};
 ghost use Rattle.std.specs.List.{list_any};
 ghost use Rattle.jdwp_event.specs.Told.{is_event_of};
 ghost use Rattle.jdwp_event.specs.declared.kind.EventKind.TheVariants as kind;
 ghost use Rattle.jdwp_layout.specs.Meanings.{scalar_meanings};
-ghost use Rattle.jdwp_debugger.specs.declared.order.Order.TheVariants.{Apart};
-ghost use Rattle.jdwp_debugger.specs.Orders.{LearnedIn, MayLearn, is_bad_in, is_count_kind, is_no_death};
+ghost use Rattle.jdwp_action.specs.Actions.{action_of};
+ghost use Rattle.jdwp_debugger.specs.declared.order.Order.TheVariants.{Apart, One};
+ghost use Rattle.jdwp_mirror.specs.CommandKinds.{kind_of};
+ghost use Rattle.jdwp_watch.specs.Ledgers.{is_thread_kind, is_told};
+ghost use Rattle.jdwp_debugger.specs.Orders.{LearnedIn, MayLearn, is_bad_in, is_no_death};
 ghost use Rattle.jdwp_debugger.specs.Orders as orders;
 ghost use Rattle.jdwp_mirror.specs.FaultParts.{IsData};
 ghost use Rattle.jdwp_mirror.specs.KnownThreads.{count_in};
@@ -13,7 +16,8 @@ ghost use Rattle.jdwp_mirror.specs.Messages.{Reply, Report, Ticket};
 
 use jdwp_event::{Composite, Event, EventKind, Policy};
 use jdwp_layout::{Answer, Scalar};
-use jdwp_mirror::{Command, CommandKind, Mirror, has_event_of, is_bad_composite};
+use jdwp_mirror::{Command, Mirror, has_event_of, is_bad_composite};
+use jdwp_watch::tells_of_threads;
 use jdwp_wire::NoMemory;
 use std::alloc::Global;
 
@@ -22,8 +26,10 @@ use std::alloc::Global;
 pub enum Order {
     /// One after another: it sends the packet of each act as it acts, so that packets come in the order of the acts.
     One,
-    /// By threads of their own, as Java machines do: replies come in the order of their commands, composites in the order of their events,
-    /// and nothing else orders the two. Such packets, read one by one, tell no suspend count: the mirror knows no thread.
+    /// By threads of their own, as Java machines do: replies come in the order of their commands, but for those to commands that invoke
+    /// methods, composites in the order of their events, each sent before the next event takes effect, and nothing else orders the two.
+    /// Such packets, read one by one, tell no suspend count: the mirror knows no thread. What is surely so of the threads is followed
+    /// beside it.
     Apart,
 }
 
@@ -48,7 +54,7 @@ impl Order {
     /// Learns from a composite.
     ///
     /// # Errors
-    /// `NoMemory` where an allocation was refused; nothing has changed.
+    /// `NoMemory` where an allocation was refused, and only in the order `One`; nothing has changed.
     pub(crate) fn learn_composite(
         self,
         mirror: &mut Mirror,
@@ -57,6 +63,7 @@ impl Order {
         requires { MayLearn self mirror.old }
         ensures ok { OnOk result (LearnedIn self mirror.old (Report composite.now) mirror.new) }
         ensures err { OnErr result (mirror.new ≡ mirror.old) }
+        ensures order { OnErr result (self ≡ One) }
     {
         match self {
             Order::One => mirror.learn_composite(composite),
@@ -85,6 +92,7 @@ impl Order {
             → LearnedIn self mirror.old (Reply ticket command.now answer.now) mirror.new) }
         ensures err { OnErr result (mirror.new ≡ mirror.old) }
         ensures memory { OnErr result (IsData answer.now) }
+        ensures same { self ≡ Apart → is_told command.now answer.now ≡ true → mirror.new ≡ mirror.old }
     {
         match self {
             Order::One => mirror.learn_reply(alloc, command, answer),
@@ -105,17 +113,12 @@ fn learn_requests(
         → LearnedIn Apart mirror.old (Reply ticket command.now answer.now) mirror.new) }
     ensures err { OnErr result (mirror.new ≡ mirror.old) }
     ensures memory { OnErr result (IsData answer.now) }
+    ensures same { is_thread_kind (kind_of (action_of command.now)) ≡ true → mirror.new ≡ mirror.old }
 {
-    if is_suspend_count(command.kind()) {
-        return Ok(()); // no other reply makes a thread known
+    if tells_of_threads(command.kind()) {
+        return Ok(()); // what it tells is not of requests
     }
     mirror.learn_reply(alloc, command, answer)
-}
-
-fn is_suspend_count(kind: CommandKind) -> bool
-    ensures { result ≡ is_count_kind kind }
-{
-    matches!(kind, CommandKind::SuspendCount)
 }
 
 /// Whether several events were reported, all of VM_DEATH.

@@ -4,12 +4,17 @@ ghost use Rattle.jdwp_debugger.specs.Asking.{IsNextFree, is_outstanding};
 ghost use Rattle.jdwp_debugger.specs.Debuggers.{at_place, has_tickets, seen_unanswered, unanswered};
 ghost use Rattle.jdwp_debugger.specs.News.{place_of};
 ghost use Rattle.jdwp_debugger.specs.PendingKept.{asked_of, bare};
+ghost use Rattle.jdwp_debugger.specs.DebuggerTurns.{is_next};
+ghost use Rattle.jdwp_debugger.specs.FollowingKept.{all_lowered};
+ghost use Rattle.jdwp_watch.specs.Lowerings.{lowers_one};
 ghost use Rattle.indexmap.specs.IndexMap.{set_value_at};
 
 use indexmap::IndexMap;
 use jdwp_layout::numbers::{ID_SIZES, VIRTUAL_MACHINE};
 use jdwp_mirror::Command;
-use jdwp_wire::NoMemory;
+use jdwp_value::ObjectId;
+use jdwp_watch::{is_invocation, lowers};
+use jdwp_wire::{IdSizes, NoMemory};
 use std::alloc::Global;
 use std::marker::Model;
 
@@ -74,6 +79,14 @@ fn take_out(commands: &mut IndexMap<u32, Asked>, settled: &mut usize)
 {
     commands.drain(..*settled);
     *settled = 0;
+}
+
+/// By how much a command that waits lowers the count of a thread, where ids are so wide.
+fn lowered_by(command: &Command, thread: ObjectId, sizes: &IdSizes) -> u64
+    ensures value { result ≡ lowers_one sizes.now command.now thread.0 }
+    ensures small { result ≤ 1 }
+{
+    if lowers(command, sizes, thread) { 1 } else { 0 }
 }
 
 impl Pending {
@@ -205,6 +218,32 @@ impl Pending {
             }
         }
         false
+    }
+
+    /// Whether each command before this place invokes a method.
+    pub fn is_next(&self, place: usize) -> bool
+        requires { place < length self.now }
+        ensures { result ≡ is_next place self.now }
+    {
+        for earlier in 0..place {
+            let (_, asked) = self.at(earlier);
+            if !is_invocation(&asked.command) {
+                return false;
+            }
+        }
+        true
+    }
+
+    /// By how much they may lower the count of a thread, where ids are so wide.
+    pub fn lowered(&self, thread: ObjectId, sizes: &IdSizes) -> u64
+        ensures { result ≡ all_lowered sizes.now self.now thread.0 }
+    {
+        let mut lowered: u64 = 0;
+        for place in 0..self.len() {
+            let (_, asked) = self.at(place);
+            lowered += lowered_by(&asked.command, thread, sizes);
+        }
+        lowered
     }
 
     /// The one at this place among those that have tickets, from 0; None past the last.

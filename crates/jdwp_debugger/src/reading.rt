@@ -8,6 +8,7 @@ ghost use Rattle.jdwp_mirror.specs.FaultParts.{IsData};
 ghost use Rattle.jdwp_mirror.specs.Widths.{widths_in};
 ghost use Rattle.jdwp_debugger.specs.declared.faults.DebuggerFault.TheVariants as code;
 ghost use Rattle.jdwp_debugger.specs.DebuggerTurns.{MayWantMemory, ReadsPacket, WantsMemory, news_meaning, reading};
+ghost use Rattle.jdwp_debugger.specs.News as news;
 ghost use Rattle.jdwp_debugger.specs.News.{Tells, answer_says, event_says, reply_to, says, sizes_say, widths_by};
 
 use crate::faults::DebuggerFault;
@@ -162,13 +163,7 @@ impl<'a> Known<'a> {
     fn widths(&self) -> IdSizes
         ensures { result ≡ widths_by self.now.sizes }
     {
-        match self.sizes {
-            Some(sizes) => sizes,
-            None => match IdSizes::new(8, 8, 8, 8, 8) {
-                Ok(sizes) => sizes,
-                Err(_) => unreachable!(),
-            },
-        }
+        widths_by(self.sizes)
     }
 
     /// What the answer to IDSizes says.
@@ -183,5 +178,18 @@ impl<'a> Known<'a> {
         };
         let composites = read_parked(alloc, &sizes, self.parked)?;
         Ok(News::Measures(place, answer, sizes, composites))
+    }
+}
+
+/// The widths that are known, or the greatest.
+pub(crate) fn widths_by(sizes: Option<IdSizes>) -> IdSizes
+    ensures { result ≡ news.widths_by sizes }
+{
+    match sizes {
+        Some(sizes) => sizes,
+        None => match IdSizes::new(8, 8, 8, 8, 8) {
+            Ok(sizes) => sizes,
+            Err(_) => unreachable!(),
+        },
     }
 }

@@ -31,8 +31,8 @@ impl SessionEnd for Debugger {
         Debugger::waiting(self)
     }
 
-    fn waiting_in_front(&self) -> &[u8] {
-        Debugger::waiting_in_front(self)
+    fn waiting_slices(&self) -> (&[u8], &[u8]) {
+        Debugger::waiting_slices(self)
     }
 
     fn leave(&mut self, count: usize) {

@@ -7,7 +7,8 @@ ghost use Rattle.jdwp_wire.specs.Streams.{Handshake, Packet, Whole};
 ghost use Rattle.jdwp_end.specs.Ends.{HasPacketWith, front_of};
 ghost use Rattle.jdwp_debugger.specs.declared.faults.DebuggerFault.TheVariants as code;
 ghost use Rattle.jdwp_debugger.specs.DebuggerTurns as turns;
-ghost use Rattle.jdwp_debugger.specs.DebuggerTurns.{AreFew, Enters, EntersAt, FailsOnly, FailsTo, HandlesAt, IsSaid, LearnedAll, MayTakeMemory, TellsSizes, TurnsAt, closed_debugger, closed_where, command_at, measured_where, news_meaning, refused, reports, read_meaning, with_sizes};
+ghost use Rattle.jdwp_debugger.specs.DebuggerTurns.{AreFew, Enters, EntersAt, FailsOnly, FailsTo, GoesOnBy, HandlesAt, IsSaid, LearnedAll, MayTakeMemory, TellsSizes, TurnsAt, closed_debugger, closed_where, command_at, measured_where, news_meaning, refused, reports, read_meaning, with_ledger, with_sizes};
+ghost use Rattle.jdwp_debugger.specs.FollowingKept.{HasNoTicket, IsFirstOf};
 ghost use Rattle.jdwp_debugger.specs.Orders.{MayLearn, has_bad_in, none_known};
 ghost use Rattle.jdwp_mirror.specs.FaultParts.{is_dispose_kind};
 ghost use Rattle.jdwp_mirror.specs.KnownThreads.{count_in};
@@ -19,6 +20,7 @@ ghost use Rattle.jdwp_event.specs.Composites.{CompositeMeaning};
 
 use crate::debugger::Debugger;
 use crate::faults::DebuggerFault;
+use crate::following::{check_room, follow_waited, note_answer, note_composite, note_put};
 use crate::heads::Head;
 use crate::order::Order;
 use crate::parked::Parked;
@@ -29,6 +31,7 @@ use jdwp_event::{Composite, EventKind};
 use jdwp_layout::Answer;
 use jdwp_layout::numbers::{ID_SIZES, VIRTUAL_MACHINE};
 use jdwp_mirror::{Command, CommandKind, Mirror, has_event_of};
+use jdwp_watch::{Ledger, Put};
 use jdwp_wire::{HANDSHAKE, Header, IdSizes, PacketKind};
 use std::alloc::Global;
 
@@ -47,6 +50,13 @@ pub enum Read {
     Answered(Ticket, Answer),
     /// A composite.
     Seen(Composite),
+}
+
+/// What was learned as the widths of ids became known.
+#[derive(Drop)]
+pub(crate) struct Learned {
+    pub mirror: Mirror,
+    pub ledger: Option<Ledger>,
 }
 
 impl Debugger {
@@ -108,7 +118,9 @@ impl Debugger {
     {
         let id = self.next_id;
         let command = Command::new(VIRTUAL_MACHINE, ID_SIZES, Vec::new(alloc));
+        check_room(&self.ledger)?;
         self.pending.push(id, None, command)?;
+        note_put(&mut self.ledger, Put::Asks);
         self.end.take_off(HANDSHAKE.len());
         self.end.enqueue(&sizes_header(id).to_bytes());
         self.next_id = id.wrapping_add(1);
@@ -138,8 +150,9 @@ impl Debugger {
             }
             News::Measures(place, answer, sizes, composites) => {
                 match self.learn_waited(alloc, place, &answer, &composites) {
-                    Ok(mirror) => {
-                        self.take_sizes(header, used, place, mirror, sizes, has_death(&composites));
+                    Ok(learned) => {
+                        let closes = has_death(&composites);
+                        self.take_sizes((header, used), place, learned, sizes, closes);
                         Ok(Read::Sizes(composites))
                     }
                     Err(fault) => self.fail(fault),
@@ -178,6 +191,7 @@ impl Debugger {
         if self.order.is_bad(&self.mirror, &composite) {
             return self.fail(DebuggerFault::BadEvent);
         }
+        note_composite(&mut self.ledger, &composite)?;
         self.order.learn_composite(&mut self.mirror, &composite)?;
         let closes = has_event_of(&composite, EventKind::VmDeath);
         self.end.take_off(used);
@@ -206,6 +220,12 @@ impl Debugger {
         let (_, asked) = self.pending.at(place);
         self.order
             .learn_reply(alloc, &mut self.mirror, &asked.command, &answer)?;
+        note_answer(
+            &mut self.ledger,
+            self.pending.is_next(place),
+            &asked.command,
+            &answer,
+        )?;
         let closes = closes_session(&asked.command, &answer);
         let head = Head::of_reply(packet.0, &asked.command);
         self.pending.remove(place);
@@ -224,11 +244,13 @@ impl Debugger {
         place: usize,
         answer: &Answer,
         composites: &[Composite],
-    ) -> Result<Mirror, DebuggerFault>
-        requires { place < length self.now.pending }
-        ensures ok { IfOk result (λ m. (has_bad_in self.now.order none_known (reports composites.now) ≡ false)
+    ) -> Result<Learned, DebuggerFault>
+        requires place { place < length self.now.pending }
+        requires bare { HasNoTicket place self.now.pending }
+        ensures ok { IfOk result (λ l. (has_bad_in self.now.order none_known (reports composites.now) ≡ false)
             × LearnedAll self.now.order empty_mirror (reports composites.now ++ Reply None
-            (command_at place self.now.pending) answer.now ∷ []) m) }
+            (command_at place self.now.pending) answer.now ∷ []) l.mirror) }
+        ensures followed { IfOk result (λ l. IsFirstOf self.now.order answer.now composites.now l.ledger) }
         ensures err { IfErr result (λ fault.
             FailsOnly fault (has_bad_in self.now.order none_known (reports composites.now))) }
     {
@@ -237,25 +259,29 @@ impl Debugger {
         let (_, asked) = self.pending.at(place);
         self.order
             .learn_reply(alloc, &mut mirror, &asked.command, answer)?;
-        Ok(mirror)
+        let ledger = follow_waited(self.order, alloc, &asked.command, answer, composites)?;
+        Ok(Learned { mirror, ledger })
     }
 
     /// The widths of ids become known, and with them what was learned.
     fn take_sizes(
         &mut self,
-        header: Header,
-        used: usize,
+        packet: (Header, usize),
         place: usize,
-        mirror: Mirror,
+        learned: Learned,
         sizes: IdSizes,
         closes: bool,
     )
-        requires told { TellsSizes self.old header used place sizes mirror }
+        requires told { TellsSizes self.old packet.0 packet.1 place sizes learned.mirror learned.ledger }
         requires bytes { IsBytes self.old.end.incoming }
-        ensures { (content : List ℕ) → front_of self.old.end ≡ Whole (Packet header content) used
-            → self.new ≡ measured_where closes sizes (with_sizes (Packet header content) used header
-            place mirror sizes self.old) }
+        ensures left { (content : List ℕ) → front_of self.old.end ≡ Whole (Packet packet.0 content) packet.1
+            → self.new ≡ measured_where closes sizes (with_ledger learned.ledger
+            (with_sizes (Packet packet.0 content) packet.1 packet.0 place learned.mirror sizes self.old)) }
+        ensures followed { (told : TellsSizes self.old packet.0 packet.1 place sizes learned.mirror learned.ledger)
+            → GoesOnBy (news.Measures place told.answer sizes told.composites) self.old learned.ledger }
     {
+        let (header, used) = packet;
+        let Learned { mirror, ledger } = learned;
         self.end.take_off(used);
         self.last.clear();
         self.last.push_waiting(&self.parked);
@@ -268,6 +294,7 @@ impl Debugger {
         self.pending.remove(place);
         self.mirror = mirror;
         self.sizes = Some(sizes);
+        self.ledger = ledger;
         self.close_measured(closes, sizes);
     }
 
@@ -295,6 +322,7 @@ impl Debugger {
         self.mirror.clear();
         self.sizes = None;
         self.parked.clear();
+        self.ledger = None;
     }
 
     /// The same, where it is so.

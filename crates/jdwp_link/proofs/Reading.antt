@@ -33,7 +33,7 @@ use Rattle.jdwp_debugger.specs.DebuggerTurns as turns
 use Rattle.jdwp_debugger.specs.declared.order.Order.{Order}
 use Rattle.jdwp_debugger.specs.declared.order.Order.TheVariants.{One}
 use Rattle.jdwp_debugger.specs.Orders.{LearnedIn}
-use Rattle.jdwp_debugger.specs.DebuggerTurns.{Enters, LearnedAll, ReadsAt, Told, closed_where, command_at, command_of, greeted, measured_where, reading_of, reports, sizes_header, with_read, with_sizes}
+use Rattle.jdwp_debugger.specs.DebuggerTurns.{Enters, LearnedAll, ReadsAt, Told, closed_where, command_at, command_of, greeted, measured_where, reading_of, reports, sizes_header, with_ledger, with_read, with_sizes}
 use Rattle.jdwp_debugger.specs.News.{News, answer_in, says, widths_by}
 use Rattle.jdwp_debugger.specs.declared.pending.Ticket as code
 use Rattle.jdwp_model.specs.Events
@@ -213,7 +213,7 @@ reads-report m settings w l x t after id c a rest true laws s first came o phase
     let says = says-event (reading_of d) w id c _ (known-sizes w x.ready d.sizes unshut.sizes ready) (laws.reads.reported w c _ can) in
     let told-by = said-as _ _ (message_size w (Report c)) d t after _ so says in
     let learns = told-by.1 in
-    let next = record (with_read (message_sent w id (Report c)) (message_size w (Report c)) _ d) { mirror = learns.0 } in
+    let next = record (with_read (message_sent w id (Report c)) (message_size w (Report c)) _ d) { mirror = learns.0; ledger = learns.2 } in
     let z = debugger_takes (measured w settings.limits) x (Report c, a) (without_ids rest) in
     record {
       unshut = next;
@@ -223,7 +223,7 @@ reads-report m settings w l x t after id c a rest true laws s first came o phase
       parts = λ did. takes-only m settings w l x did next id (Report c, a) rest x.ready x.parked ((Report c, a) ∷ x.read) x.pending laws.finds s first came o
           refl refl refl refl refl refl (learned-one d.mirror learns.0 (Report c, a) x.read s.debugger.mirror (in-one s.debugger.order learns.1)) unshut.sizes unshut.parked unshut.pending unshut.ticketed
           (awaits-same d.pending s.from.wires rest s.deferred.wires s.to.wires (ap replied first)) phase;
-      shuts = shuts-where (ends (Report c)) next after learns.2;
+      shuts = shuts-where (ends (Report c)) next after learns.4;
       is = is ∙ (ap (λ b. reads_composite z (Report c, a) c b) ready ∙ ap (λ u. closes_by (record z { read = (Report c, a) ∷ z.read }) (outcomes_of u) (ends (Report c))) (sym told-by.0));
     }
 
@@ -329,7 +329,7 @@ reads-answer {S} m settings w l x t after id k c answer a rest laws known keeps 
     let told-by = said-as _ _ (message_size w message) d t after _ so says in
     let command : command_at (length f.before) d.pending ≡ c = ap command_of (got d.pending id (Some k) c f) ∙ f.is_command in
     let learns = told-by.1 in
-    let next = record (with_read (message_sent w id message) (message_size w message) _ d) { mirror = learns.0; pending = remove d.pending (length f.before) } in
+    let next = record (with_read (message_sent w id message) (message_size w message) _ d) { mirror = learns.0; pending = remove d.pending (length f.before); ledger = learns.2 } in
     let z = debugger_takes (measured w settings.limits) x p (without_ids rest) in
     let gone : remove d.pending (length f.before) ≡ f.before ++ f.behind = removed d.pending id (Some k) c f in
     let shut : ends (Reply (Some k) (command_at (length f.before) d.pending) answer) ≡ (ends message || has_end x.parked) =
@@ -346,7 +346,7 @@ reads-answer {S} m settings w l x t after id k c answer a rest laws known keeps 
           (ap (λ ps. without_ids (waiting ps)) gone ∙ r.left)
           (λ h. subst HaveTickets (sym gone) (has-left f.before f.behind f.asked (subst HaveTickets f.split (unshut.ticketed ready))))
           (λ _. subst (λ ps. Awaits ps rest s.deferred.wires s.to.wires) (sym gone) r.awaits) phase;
-      shuts = shuts-where (ends message || has_end x.parked) next after (learns.2 ∙ ap (λ b. closed_where b next) shut);
+      shuts = shuts-where (ends message || has_end x.parked) next after (learns.4 ∙ ap (λ b. closed_where b next) shut);
       is = is ∙ ap (λ os. closes_by (reads_reply z p (Some k)) os (ends message || has_end x.parked)) (ap (λ ps. composites_of ps ++ Events.Answered k answer ∷ []) bare ∙ ap outcomes_of (sym told-by.0));
     }
 
@@ -383,7 +383,7 @@ reads-sizes m settings w l x t after id c answer a rest laws known keeps s first
     let told-by = said-as _ _ (message_size w message) d t after _ so says in
     let command : command_at (length f.before) d.pending ≡ c = ap command_of (got d.pending id None c f) ∙ f.is_command in
     let learns = told-by.1 in
-    let next = with_sizes (message_sent w id message) (message_size w message) _ (length f.before) learns.0 w d in
+    let next = with_ledger learns.2 (with_sizes (message_sent w id message) (message_size w message) _ (length f.before) learns.0 w d) in
     let z = debugger_takes (measured w settings.limits) x p (without_ids rest) in
     let gone : remove d.pending (length f.before) ≡ f.before ++ f.behind = removed d.pending id None c f in
     let nobody : f.before ++ f.behind ≡ [] = alone-left f.before f.behind f.asked (subst IsSizesAlone f.split (keeps.alone is-open none)) in
@@ -403,7 +403,7 @@ reads-sizes m settings w l x t after id c answer a rest laws known keeps s first
           (ap (λ ps. without_ids (waiting ps)) gone ∙ r.left)
           (λ h. subst HaveTickets (sym (gone ∙ nobody)) tt)
           (λ _. subst (λ ps. Awaits ps rest s.deferred.wires s.to.wires) (sym gone) r.awaits) phase;
-      shuts = shuts-measured (ends message || has_end x.parked) w next after (learns.2 ∙ ap (λ b. measured_where b w next) shut);
+      shuts = shuts-measured (ends message || has_end x.parked) w next after (learns.4 ∙ ap (λ b. measured_where b w next) shut);
       is = is ∙ ap (λ os. closes_by (reads_reply z p None) os (ends message || has_end x.parked)) (append-nil (composites_of x.parked) ∙ (sym waited.told ∙ ap outcomes_of (sym told-by.0)));
     }
 

@@ -6,3 +6,5 @@ mod Tells
 mod Watched
 mod Tabled
 mod Lowered
+mod Accounts
+mod Naming

@@ -21,7 +21,7 @@ lowering-about a = refl
 pub lowering-found : (c : Command) → lowering_by (kind_of (action_of c)) (id_found (thread_of c)) ≡ lowering_of (action_of c)
 lowering-found c = ap (λ (t : Option ℕ). lowering_by (kind_of (action_of c)) (id_found t)) (sym (about_action c)) ∙ lowering-about (action_of c)
 
-lowers-one : (a : Action) (t : ℕ) → lowers a t ≡ one_if (lowered_by t (lowering_of a))
+pub lowers-one : (a : Action) (t : ℕ) → lowers a t ≡ one_if (lowered_by t (lowering_of a))
 lowers-one (actions.ResumeThread u) t = refl
 lowers-one a t = refl
 

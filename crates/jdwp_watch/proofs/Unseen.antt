@@ -117,6 +117,16 @@ unseen-sure : (w : Watching) (t : ℕ) → IsUnseen w.table.others → at w.tabl
 unseen-sure w t h e =
     none-sure (at w.table t).told.value (at w.table t).recounted.value (all_lower w.pending t + (at w.table t).invoked) (ap (λ (s : Standing). s.told.value) e ∙ h.told) (ap (λ (s : Standing). s.recounted.value) e ∙ h.recounted)
 
+-- of whose count something is told was named
+pub told-named : (table : Table) → IsUnseen table.others → (t : ℕ) → 0 < later (at table t).told.value (at table t).recounted.value → Contains (named table) (object_id t)
+told-named table h t lt =
+    elim (is-named table t) [
+      | inl e ↦
+          let none = none-sure (at table t).told.value (at table t).recounted.value 0 (ap (λ (s : Standing). s.told.value) e ∙ h.told) (ap (λ (s : Standing). s.recounted.value) e ∙ h.recounted) in
+          absurd (let no : ⊥ = omega (arith, lt, none) in no)
+      | inr is ↦ is
+    ]
+
 -- who is surely suspended was named
 pub sure-named : (w : Watching) → IsUnseen w.table.others → (t : ℕ) → 0 < sure (watch_of w) t → Contains (threads_of w) (object_id t)
 sure-named w h t lt =

@@ -79,11 +79,11 @@ replied-knows : (r : Reply) (t ticket : ℕ) (k : Knows) (d : Telling) → AreTo
     → knows_of (if d.shows then counted_at ticket k else k) ≡ (if shows r t then definition.counted_at ticket (knows_of k) else knows_of k)
 replied-knows r t ticket k d h = shown-exact d.shows ticket k ∙ ap (λ (b : Bool). if b then definition.counted_at ticket (knows_of k) else knows_of k) (sym h.shows)
 
-pub answered-watch : (packets : ℕ) (v w : Watching) (r : Reply) (d : Told) → IsKept packets v.answered v.table → packets < 2 ^ 62 → d ≡ told_in (action_of r.command) r.answer
+pub answered-watch : (packets most : ℕ) (v w : Watching) (r : Reply) (d : Told) → IsKept packets most v.table → packets ≤ 2 ^ 62 → d ≡ told_in (action_of r.command) r.answer
     → w.one_by_one ≡ v.one_by_one → w.answered ≡ v.answered + 1 → w.pending ≡ rest v.pending → w.past ≡ v.past
     → ((t : ℕ) → at w.table t ≡ changed (change_for d.thread (Replied (v.answered + 1) d.own) (others_of (v.answered + 1) d.others) t) (at v.table t))
     → watch_of w ≡ reads_reply (watch_of v) r
-answered-watch packets v w r d kept few is one answered pending past table =
+answered-watch packets most v w r d kept few is one answered pending past table =
     let ticket = v.answered + 1 in
     let now = λ (t : ℕ). table t ∙ replied-for (is_of d.thread t) ticket d.own d.others (at v.table t) in
     let told = λ (t : ℕ). subst (λ (x : Told). AreTold (action_of r.command) r.answer t (telling_at x t)) (sym is) (tells (action_of r.command) r.answer t) in
@@ -129,11 +129,11 @@ reported-bound s t after asked stop k b h lt =
     ∙ (ap (λ (x : Bool). definition.raised_after after (surely (x || lived_after (knows_of k) after) stop) (bound_of b)) (named-some (is_own s t) asked)
     ∙ ap (λ (n : ℕ). definition.raised_after after (if is_own s t || lived_after (knows_of k) after then n else 0) (bound_of b)) (sym h))
 
-pub composite-watch : (packets : ℕ) (v w : Watching) (s : Composite) → IsKept packets v.answered v.table → packets < 2 ^ 62
+pub composite-watch : (packets most : ℕ) (v w : Watching) (s : Composite) → IsKept packets most v.table → packets ≤ 2 ^ 62
     → w.one_by_one ≡ v.one_by_one → w.answered ≡ v.answered → w.pending ≡ v.pending → w.past ≡ later (later v.past s.since) (if v.one_by_one then v.answered else 0)
     → ((t : ℕ) → at w.table t ≡ changed (change_for (stops_in s.meaning).thread (Reported (later v.past s.since) (stops_in s.meaning).own (Some (v.answered + length v.pending))) (others_by (later v.past s.since) (stops_in s.meaning).others) t) (at v.table t))
     → watch_of w ≡ reads_composite (watch_of v) s
-composite-watch packets v w s kept few one answered pending past table =
+composite-watch packets most v w s kept few one answered pending past table =
     let after = later v.past s.since in
     let asked = v.answered + length v.pending in
     let own = (stops_in s.meaning).own in

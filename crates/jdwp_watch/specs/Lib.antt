@@ -4,3 +4,5 @@ pub mod Lowerings
 pub mod Tellings
 pub mod Watching
 pub mod Targets
+pub mod Ledgers
+pub mod Naming

@@ -6,6 +6,9 @@ use Rattle.jdwp_mirror.specs.declared.command.CommandKind.TheVariants as kinds
 use Rattle.jdwp_action.specs.Actions
 use Rattle.jdwp_action.specs.Actions.{Action, Command, action_of}
 use Rattle.jdwp_mirror.specs.CommandKinds.{object_id}
+use Rattle.jdwp_wire.specs.Widths.{Widths}
+use Rattle.jdwp_apart.specs.Following.{invocation_in}
+use Rattle.jdwp_apart.specs.Messages.{Invocation, lowers, releases}
 use Rattle.jdwp_watch.specs.declared.waiting.Lowering.{Lowering}
 use Rattle.jdwp_watch.specs.declared.waiting.Lowering.TheVariants.{Nobody, Thread, All}
 
@@ -28,6 +31,14 @@ abbrev pub lowered_by : ℕ → Lowering → Bool
 lowered_by t Nobody = false
 lowered_by t (Thread u) = u.0 == t
 lowered_by t All = true
+
+-- by how much a command that waits lowers the count of a thread, whether or not it invokes a method
+abbrev pub lowers_by : Option Invocation → Command → ℕ → ℕ
+lowers_by (Some i) c t = releases i t
+lowers_by None c t = lowers (action_of c) t
+
+abbrev pub lowers_one : Widths → Command → ℕ → ℕ
+lowers_one w c t = lowers_by (invocation_in w c) c t
 
 abbrev pub lowering_of_command : Command → Lowering
 lowering_of_command c = lowering_of (action_of c)

@@ -3,13 +3,19 @@
 
 mod bound;
 mod invocation;
+mod ledger;
+mod made;
 mod named;
+mod put;
 mod standing;
 mod standings;
 mod told;
 mod waiting;
 mod watch;
 
-pub use invocation::Invocation;
+pub use invocation::{Invocation, is_invocation};
+pub use ledger::{Ledger, tells_of_threads};
 pub use named::NamedThreads;
+pub use put::Put;
+pub use waiting::lowers;
 pub use watch::Watch;

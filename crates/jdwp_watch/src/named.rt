@@ -3,7 +3,9 @@ ghost use Rattle.std.specs.Prelude.{◌≡◌, IfSome, Some, length, map};
 ghost use Rattle.std.specs.BTreeMap.{keys};
 ghost use Rattle.std.specs.Iterator.{UpTo, at_most};
 ghost use Rattle.std.specs.Iterator.SizeHint.{IsWithinCount};
+ghost use Rattle.std.specs.List.Sorted.{IsStrictlySortedBy};
 ghost use Rattle.std.specs.Map.Iter.{GivesInOrder, TakesFirst};
+ghost use Rattle.std.specs.Ordering.{nat_cmp};
 ghost use Rattle.jdwp_mirror.specs.CommandKinds.{object_id};
 ghost use Rattle.jdwp_value.specs.declared.id.ObjectId.{ObjectId};
 
@@ -65,6 +67,7 @@ impl<'a> NamedThreads<'a> {
     /// Those that stand in a map under their ids.
     pub(crate) fn of(entries: &'a BTreeMap<u64, Met>) -> NamedThreads<'a>
         ensures all { result ≡ map object_id (keys entries.now) }
+        ensures rising { IsStrictlySortedBy nat_cmp (keys entries.now) }
         ensures runs { GivesInOrder ObjectId }
     {
         NamedThreads {

@@ -1,6 +1,9 @@
 //! What is known of each thread: of those that were named, one by one, and of all others at once.
 ghost use Rattle.std.specs.Prelude.{◌≡◌, ℕ, [], map, OnErr, OnOk};
+ghost use Rattle.std.specs.List.Sorted.{IsStrictlySortedBy};
+ghost use Rattle.std.specs.Map.{keys_of};
 ghost use Rattle.std.specs.Map.Iter.{GivesInOrder};
+ghost use Rattle.std.specs.Ordering.{nat_cmp};
 ghost use Rattle.jdwp_value.specs.declared.id.ObjectId.{ObjectId};
 ghost use Rattle.jdwp_watch.specs.declared.standing.Change.TheVariants.{Keep};
 ghost use Rattle.jdwp_watch.specs.Standings.{changed, first_standing};
@@ -61,6 +64,7 @@ impl Standings {
     /// The threads that were named, in the order of their ids.
     pub fn threads(&self) -> NamedThreads<'_>
         ensures all { result ≡ named self.now }
+        ensures rising { IsStrictlySortedBy nat_cmp (keys_of self.now.threads) }
         ensures runs { GivesInOrder ObjectId }
     {
         NamedThreads::of(&self.entries)

@@ -2,11 +2,13 @@
 ghost use Rattle.std.specs.Prelude.{◌≡◌, ◌<◌, ◌^◌, ◌++◌, ◌∷◌, [], count_by, length, OnErr, OnOk};
 ghost use Rattle.jdwp_action.specs.Actions.{action_of};
 ghost use Rattle.jdwp_apart.specs.Watch.{all_lower, rest};
-ghost use Rattle.jdwp_watch.specs.Lowerings.{lowered_by, lowering_by, lowering_of};
+ghost use Rattle.jdwp_apart.specs.Messages.{one_if};
+ghost use Rattle.jdwp_watch.specs.Lowerings.{lowered_by, lowering_by, lowering_of, lowers_one};
 
+use crate::invocation::Invocation;
 use jdwp_mirror::{Command, CommandKind};
 use jdwp_value::ObjectId;
-use jdwp_wire::NoMemory;
+use jdwp_wire::{IdSizes, NoMemory};
 use std::alloc::Global;
 use std::collections::VecDeque;
 use std::marker::Model;
@@ -48,6 +50,16 @@ impl Lowering {
             Lowering::Thread(resumed) => resumed.0 == thread.0,
             Lowering::All => true,
         }
+    }
+}
+
+/// Whether a command that waits lowers the count of a thread, where the count is positive: a Resume, or one that invokes a method.
+pub fn lowers(command: &Command, sizes: &IdSizes, thread: ObjectId) -> bool
+    ensures { one_if result ≡ lowers_one sizes.now command.now thread.0 }
+{
+    match Invocation::of(command, sizes) {
+        Some(invocation) => invocation.releases(thread),
+        None => Lowering::of(command).lowers(thread),
     }
 }
 

@@ -200,7 +200,7 @@ impl Watch {
 ///
 /// # Errors
 /// `NoMemory` exactly where no more are counted.
-fn next_packet(packets: u64) -> Result<u64, NoMemory>
+pub(crate) fn next_packet(packets: u64) -> Result<u64, NoMemory>
     ensures ok { IfOk result (λ next. next ≡ packets + 1) }
     ensures few { OnOk result (packets < 2 ^ 62) }
     ensures err { OnErr result (2 ^ 62 ≤ packets) }
@@ -212,7 +212,7 @@ fn next_packet(packets: u64) -> Result<u64, NoMemory>
     }
 }
 
-fn later(first: u64, second: u64) -> u64
+pub(crate) fn later(first: u64, second: u64) -> u64
     ensures { result ≡ definition.later first second }
 {
     if first <= second { second } else { first }
@@ -226,7 +226,7 @@ fn counted_before(one_by_one: bool, answered: u64) -> u64
 }
 
 /// What becomes of the threads that a reply under a ticket is not about.
-fn others_told(ticket: u64, others: Option<Telling>) -> Change
+pub(crate) fn others_told(ticket: u64, others: Option<Telling>) -> Change
     ensures { result ≡ others_of ticket others }
 {
     match others {
@@ -236,7 +236,7 @@ fn others_told(ticket: u64, others: Option<Telling>) -> Change
 }
 
 /// What becomes of the threads that a composite is not of.
-fn others_stopped(after: u64, stops: bool) -> Change
+pub(crate) fn others_stopped(after: u64, stops: bool) -> Change
     ensures { result ≡ others_by after stops }
 {
     if stops {

@@ -1,9 +1,10 @@
 //! Sessions of a debugger, and the memory that its calls find.
 use crate::supply::{MOST_TIMES, Stop, Supply, push_line, push_same};
 use example_parts::bytes;
-use jdwp_debugger::{Command, Debugger, DebuggerFault, Read, Refused, Ticket};
+use jdwp_debugger::{Command, Debugger, DebuggerFault, Order, Read, Refused, Ticket};
 use jdwp_layout::{Datum, Scalar, numbers};
 use jdwp_value::ObjectId;
+use jdwp_wire::Limits;
 use std::alloc::Global;
 
 /// A command.
@@ -21,9 +22,9 @@ pub(crate) enum Wanted {
     Unfit,
 }
 
-/// A closed debugger, on the heap.
-pub(crate) fn debugger(alloc: Global) -> Result<Box<Debugger>, Stop> {
-    let debugger = Debugger::new(alloc)?;
+/// A closed debugger of a target of this order, on the heap.
+pub(crate) fn debugger(alloc: Global, order: Order) -> Result<Box<Debugger>, Stop> {
+    let debugger = Debugger::with_order(alloc, 1, Limits::standard(), order)?;
     Ok(Box::new(alloc, debugger)?)
 }
 
@@ -47,6 +48,8 @@ type Shown = Option<(u32, bool)>;
 #[derive(Clone, Copy, Debug, PartialEq, Eq)]
 struct Standing {
     threads: (Shown, Shown, Shown),
+    /// What their counts are no less than.
+    least: (u64, u64, u64),
     known: usize,
     requests: usize,
     /// The newest request: its id, kind and policy.
@@ -69,6 +72,10 @@ fn shown(debugger: &Debugger, thread: u64) -> Shown {
     }
 }
 
+fn least(debugger: &Debugger, thread: u64) -> u64 {
+    debugger.at_least(ObjectId(thread))
+}
+
 fn unanswered(debugger: &Debugger, place: usize) -> Option<u64> {
     match debugger.unanswered(place) {
         Some((ticket, _)) => Some(ticket.0),
@@ -86,6 +93,7 @@ fn newest(debugger: &Debugger) -> Option<(i32, u8, u8)> {
 fn standing_of(debugger: &Debugger) -> Standing {
     Standing {
         threads: (shown(debugger, 1), shown(debugger, 2), shown(debugger, 3)),
+        least: (least(debugger, 1), least(debugger, 2), least(debugger, 3)),
         known: debugger.mirror().known().len(),
         requests: debugger.mirror().requests().len(),
         newest: newest(debugger),

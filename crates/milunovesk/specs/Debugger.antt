@@ -3,7 +3,9 @@ pub use Rattle.jdwp_debugger.specs.Asking
 pub use Rattle.jdwp_debugger.specs.DebuggerTurns
 pub use Rattle.jdwp_debugger.specs.Debuggers
 pub use Rattle.jdwp_debugger.specs.FaultNumbers
+pub use Rattle.jdwp_debugger.specs.FollowingKept
 pub use Rattle.jdwp_debugger.specs.Histories
+pub use Rattle.jdwp_debugger.specs.Holding
 pub use Rattle.jdwp_debugger.specs.Judging
 pub use Rattle.jdwp_debugger.specs.News
 pub use Rattle.jdwp_debugger.specs.Orders

@@ -11,6 +11,8 @@ pub mod Debuggee
 pub mod Target
 pub mod Action
 pub mod Mirror
+pub mod Apart
+pub mod Watch
 pub mod Debugger
 pub mod Model
 pub mod Link

@@ -3,6 +3,7 @@ pub use Rattle.jdwp_target.specs.Closings
 pub use Rattle.jdwp_target.specs.Deeds
 pub use Rattle.jdwp_target.specs.Lives
 pub use Rattle.jdwp_target.specs.Options
+pub use Rattle.jdwp_target.specs.ReadsBack
 pub use Rattle.jdwp_target.specs.Sends
 pub use Rattle.jdwp_target.specs.SetupNumbers
 pub use Rattle.jdwp_target.specs.Standings

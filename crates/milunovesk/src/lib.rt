@@ -48,7 +48,7 @@ pub use jdwp_target::{SetupFault, Stepped, Target, TargetFault, TargetOptions, T
 // The debugger's end.
 pub use jdwp_debugger::{
     Carried, Command, Debugger, DebuggerFault, Head, KeptRequest, KeptRequests, Known,
-    KnownThreads, Lost, Mirror, Order, Read, Refused, Ticket,
+    KnownThreads, Lost, Mirror, NamedThreads, Order, Read, Refused, Ticket,
 };
 pub use jdwp_mirror::CommandKind;
 

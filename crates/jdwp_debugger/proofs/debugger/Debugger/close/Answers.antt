@@ -1,4 +1,5 @@
-use Rattle.std.proofs.Common.{◌≤◌, rules, arith, length}
+use Rattle.jdwp_debugger.specs.FollowingKept.{following_of}
+use Rattle.std.proofs.Common.{◌≤◌, refl, rules, arith, length}
 use Rattle.jdwp_mirror.specs.Faults.{PARKED_MOST}
 use Rattle.jdwp_debugger.specs.DebuggersKept.{view_of}
 use Rattle.jdwp_debugger.specs.DebuggerTurns.{reading_of}
@@ -21,7 +22,10 @@ invariant_of-self c =
       alone = λ opened none. absurd cc;
       unlearned = λ none. c.clear.ensures;
       unparked = λ w known. absurd cc;
-      ran = ran-closed s.end s.tickets (reading_of (view_of s)) _ s.mirror c.clear.new.self c.clear.ensures kept.ran;
+      unfollowed = λ one. refl;
+      counted = tt;
+      at_first = λ opened none. absurd cc;
+      ran = ran-closed s.end s.tickets (reading_of (view_of s)) _ s.mirror c.clear.new.self (following_of s.ledger s.sizes s.pending) c.clear.ensures kept.ran;
     })
 
 pub returns : goal.returns

@@ -1,15 +1,21 @@
-use Rattle.std.proofs.Common.{◌≡◌, ◌∙◌, ◌≤◌, ◌++◌, List, [], ◌∷◌, None, false, refl, ap, subst, sym, rules, length}
+use Rattle.std.proofs.Common.{◌≡◌, ◌∙◌, ◌≤◌, ◌++◌, List, [], ◌∷◌, Option, None, true, false, refl, ap, subst, sym, rules, length}
 use Rattle.jdwp_wire.specs.Bytes.{IsBytes}
 use Rattle.jdwp_wire.specs.Frames.{header_bytes}
 use Rattle.jdwp_wire.specs.Streams.{Handshake, Whole}
-use Rattle.jdwp_end.specs.Ends.{End, front_of, with_enqueued, with_handled}
+use Rattle.jdwp_end.specs.Ends.{End, front_of, is_open, is_open_phase, with_enqueued, with_handled}
 use Rattle.jdwp_mirror.specs.Messages.{id_sizes}
+use Rattle.jdwp_apart.specs.Following.{Following, put_to}
+use Rattle.jdwp_watch.specs.declared.put.Put.TheVariants.{Asks}
+use Rattle.jdwp_watch.specs.Ledgers.{Account}
+use Rattle.jdwp_debugger.specs.FollowingKept.{IsAtFirst, IsCounted, following_of, ledger_put}
+use Rattle.jdwp_debugger.specs.News.{widths_by}
+use Rattle.jdwp_debugger.proofs.Followed.{first-put, put-to-follows, put-counts, put-none}
 use Rattle.jdwp_debugger.specs.Asking.{is_outstanding}
 use Rattle.jdwp_debugger.specs.Debuggers.{AreDistinct, AreOwn, Asked, Debugger, IsSizesAlone}
 use Rattle.jdwp_debugger.specs.DebuggersKept.{view_of}
 use Rattle.jdwp_debugger.specs.DebuggerTurns.{reading_of, sizes_header}
 use Rattle.jdwp_debugger.specs.Runs.{HasRun}
-use Rattle.jdwp_debugger.proofs.DebuggerRuns.{ran-greeted}
+use Rattle.jdwp_debugger.proofs.DebuggerRuns.{ran-greeted, with_sizes_asked}
 use Rattle.jdwp_debugger.proofs.Keeping.{distinct-more, own-more}
 use Rattle.jdwp_debugger.proofs.TurningLemmas.{handshake-phase}
 use Rattle.jdwp_debugger.proofs.debugger.Debugger.greet.Goals as goal
@@ -38,6 +44,11 @@ invariant_of-self-2 c =
     subst (λ (qs : List Asked). length qs ≤ s.end.limits.pending) (sym (pushed ∙ ap (λ (qs : List Asked). qs ++ p ∷ []) begins.0)) (kept.limits.pending_is.0) in
     let free : is_outstanding ps p.id ≡ false = ap (λ (qs : List Asked). is_outstanding qs p.id) begins.0 in
     let alone : IsSizesAlone c.push.new.self = subst IsSizesAlone (sym (pushed ∙ ap (λ (qs : List Asked). qs ++ p ∷ []) begins.0)) (refl, refl) in
+    let follows : following_of c.note_put.new.ledger s.sizes c.push.new.self ≡ put_to (widths_by s.sizes) id_sizes (following_of s.ledger s.sizes ps) =
+    put-to-follows s.ledger c.note_put.new.ledger s.sizes ps c.push.new.self p pushed c.note_put.ensures in
+    let opened : is_open s.end ≡ true = ap is_open_phase (handshake-phase s.end 14 front) in
+    let first : IsAtFirst s.order c.note_put.new.ledger (widths_by s.sizes) (p ∷ []) =
+    first-put s.order s.ledger c.note_put.new.ledger (widths_by s.sizes) ps c.push.new.self p begins.0 pushed (kept.at_first opened begins.2) follows in
     rw asked
     (record {
       limits = kept.limits;
@@ -49,8 +60,13 @@ invariant_of-self-2 c =
       alone = λ opened none. alone;
       unlearned = kept.unlearned;
       unparked = kept.unparked;
-      ran = subst (λ (qs : List Asked). HasRun s.order end s.tickets (record { order = s.order; sizes = s.sizes; parked = s.parked.items; pending = qs }) s.mirror) (sym pushed)
-          (ran-greeted s.end s.tickets (reading_of (view_of s)) s.mirror 14 s.next_id bytes front kept.ran);
+      unfollowed = λ one. c.note_put.ensures ∙ put-none Asks s.ledger (kept.unfollowed one);
+      counted = subst (λ (l : Option Account). IsCounted l (widths_by s.sizes) c.push.new.self) (sym c.note_put.ensures)
+          (subst (λ (qs : List Asked). IsCounted (ledger_put Asks s.ledger) (widths_by s.sizes) qs) (sym pushed) (put-counts (widths_by s.sizes) ps p s.ledger kept.counted));
+      at_first = λ opened none. subst (IsAtFirst s.order c.note_put.new.ledger (widths_by s.sizes)) (sym (pushed ∙ ap (λ (qs : List Asked). qs ++ p ∷ []) begins.0)) first;
+      ran = subst (λ (qs : List Asked). HasRun s.order end s.tickets (record { order = s.order; sizes = s.sizes; parked = s.parked.items; pending = qs }) s.mirror (following_of c.note_put.new.ledger s.sizes c.push.new.self)) (sym pushed)
+          (subst (λ (f : Option Following). HasRun s.order end s.tickets (with_sizes_asked s.next_id (reading_of (view_of s))) s.mirror f) (sym follows)
+          (ran-greeted s.end s.tickets (reading_of (view_of s)) s.mirror (following_of s.ledger s.sizes ps) 14 s.next_id bytes front kept.ran));
     })
 
 pub returns : goal.returns

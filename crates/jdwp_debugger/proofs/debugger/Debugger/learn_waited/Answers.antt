@@ -1,11 +1,14 @@
-use Rattle.std.proofs.Common.{◌≡◌, ◌∙◌, ap, ◌++◌, [], ◌∷◌, sym, subst, false, None}
+use Rattle.std.proofs.Common.{◌≡◌, ◌∙◌, ap, ◌++◌, [], ◌∷◌, sym, subst, false, None, Some}
 use Rattle.jdwp_action.specs.Actions.{Command}
-use Rattle.jdwp_debugger.specs.Debuggers.{Debugger}
+use Rattle.jdwp_debugger.specs.Debuggers.{Asked, Debugger}
 use Rattle.jdwp_debugger.specs.DebuggerTurns.{LearnedAll, command_at, command_of, reports}
 use Rattle.jdwp_debugger.specs.Orders.{LearnedIn, has_bad_in, none_known}
 use Rattle.jdwp_mirror.specs.KnownThreads.{count_in}
 use Rattle.jdwp_mirror.specs.Messages.{Reply}
 use Rattle.jdwp_mirror.specs.Mirrors.{Mirror, empty_mirror}
+use Rattle.jdwp_debugger.specs.FollowingKept.{HasNoTicket, IsFirstOf}
+use Rattle.jdwp_debugger.specs.PendingKept.{asked_of}
+use Rattle.jdwp_debugger.proofs.Keeping.{own-at}
 use Rattle.jdwp_debugger.proofs.Ordering.{may-learn}
 use Rattle.jdwp_debugger.proofs.TurningLemmas.{learned-then}
 use Rattle.jdwp_debugger.proofs.debugger.Debugger.learn_waited.Goals as goal
@@ -32,3 +35,17 @@ learn_reply-requires c =
     let middle = c.learn_each.new.mirror in
     let waited = subst (λ (m : Mirror). (has_bad_in order (count_in m.threads) (reports cs) ≡ false) × LearnedAll order m (reports cs) middle) c.new-mirror.ensures c.in_ok-learn_each.ensures.ok in
     may-learn order (reports cs) middle waited.1
+
+pub follow_waited-requires : goal.follow_waited-requires
+follow_waited-requires c =
+    let ps = c.self.inside.pending in
+    let bare = subst (λ (d : Debugger). HasNoTicket c.args.place d.pending) (sym c.self.view_is) c.requires.bare in
+    own-at ps c.args.place (asked_of (c.at.result.0, c.at.result.1.now)) c.self.invariant.own c.at.ensures
+    (let same : asked_of (c.at.result.0, c.at.result.1.now) ≡ bare.0 = some-same (sym c.at.ensures ∙ bare.1) in ap (λ (a : Asked). a.ticket) same ∙ bare.2)
+  where
+    some-same : {a b : Asked} → Some a ≡ Some b → a ≡ b
+    some-same {a} {b} h = cc
+
+pub returns-clause-followed : goal.returns-clause-followed
+returns-clause-followed c =
+    subst (λ (d : Debugger). IsFirstOf d.order c.args.answer.now c.args.composites.now c.in_ok-ledger.ledger) c.self.view_is c.in_ok-ledger.ensures

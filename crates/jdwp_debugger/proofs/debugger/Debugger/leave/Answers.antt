@@ -1,6 +1,7 @@
 use Rattle.std.proofs.Common.{◌≤◌, ℕ, List, length, min, ap, subst, arith}
 use Rattle.std.proofs.lemmas.List.{take_min}
 use Rattle.jdwp_end.specs.Ends.{End, with_taken}
+use Rattle.jdwp_debugger.specs.FollowingKept.{following_of}
 use Rattle.jdwp_debugger.specs.DebuggersKept.{view_of}
 use Rattle.jdwp_debugger.specs.DebuggerTurns.{reading_of}
 use Rattle.jdwp_debugger.specs.Runs.{HasRun}
@@ -25,6 +26,9 @@ invariant_of-self c =
       alone = kept.alone;
       unlearned = kept.unlearned;
       unparked = kept.unparked;
-      ran = subst (λ (e : End). HasRun s.order e s.tickets (reading_of (view_of s)) s.mirror) (ap (λ (bytes : List ℕ). with_taken bytes s.end) (take_min c.args.count out))
+      unfollowed = kept.unfollowed;
+      counted = kept.counted;
+      at_first = kept.at_first;
+      ran = subst (λ (e : End). HasRun s.order e s.tickets (reading_of (view_of s)) s.mirror (following_of s.ledger s.sizes s.pending)) (ap (λ (bytes : List ℕ). with_taken bytes s.end) (take_min c.args.count out))
           (ran-taken s.end s.tickets (reading_of (view_of s)) s.mirror count within kept.ran);
     })

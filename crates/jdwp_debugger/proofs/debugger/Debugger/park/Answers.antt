@@ -6,6 +6,7 @@ use Rattle.jdwp_mirror.specs.Faults.{PARKED_MOST}
 use Rattle.jdwp_debugger.specs.Debuggers.{Debugger, Parked}
 use Rattle.jdwp_debugger.specs.DebuggersKept.{view_of}
 use Rattle.jdwp_debugger.specs.DebuggerTurns.{IsSaid}
+use Rattle.jdwp_debugger.specs.FollowingKept.{following_of}
 use Rattle.jdwp_debugger.specs.News.{Waits}
 use Rattle.jdwp_debugger.specs.Runs.{HasRun}
 use Rattle.jdwp_debugger.proofs.SaidPackets.{may-park, parks-unknown, said-open, said-ran}
@@ -38,7 +39,10 @@ invariant_of-self-2 c =
       begins = λ e. absurd cc;
       alone = λ opened none. kept.alone (said-open (view_of s) header used news bytes said) none;
       unlearned = kept.unlearned;
+      unfollowed = kept.unfollowed;
+      counted = kept.counted;
+      at_first = λ opened none. kept.at_first (said-open (view_of s) header used news bytes said) none;
       unparked = λ w known. absurd (let none = parks-unknown (view_of s) header used c.args.body.items said in cc);
-      ran = subst (λ (ps : List Parked). HasRun s.order end s.tickets (record { order = s.order; sizes = s.sizes; parked = ps; pending = s.pending }) s.mirror) (sym pushed)
+      ran = subst (λ (ps : List Parked). HasRun s.order end s.tickets (record { order = s.order; sizes = s.sizes; parked = ps; pending = s.pending }) s.mirror (following_of s.ledger s.sizes s.pending)) (sym pushed)
           (said-ran (view_of s) header used news s.mirror bytes said refl refl kept.ran);
     })

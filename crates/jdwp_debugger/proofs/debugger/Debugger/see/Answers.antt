@@ -1,4 +1,4 @@
-use Rattle.std.proofs.Common.{◌≡◌, ◌∙◌, ap, sym, subst, refl, rules, Bool, false, List, [], ◌∷◌, ◌++◌}
+use Rattle.std.proofs.Common.{◌≡◌, ◌∙◌, ap, sym, subst, refl, rules, Option, Bool, false, List, [], ◌∷◌, ◌++◌}
 use Rattle.jdwp_wire.specs.Bytes.{IsBytes}
 use Rattle.jdwp_wire.specs.Streams.{Packet}
 use Rattle.jdwp_end.specs.Ends.{End, front_of, with_handled}
@@ -6,13 +6,15 @@ use Rattle.jdwp_debugger.specs.declared.heads.Head.{Head}
 use Rattle.jdwp_debugger.specs.declared.heads.Head.TheVariants as head
 use Rattle.jdwp_debugger.specs.Debuggers.{Debugger}
 use Rattle.jdwp_debugger.specs.DebuggersKept.{view_of}
-use Rattle.jdwp_debugger.specs.DebuggerTurns.{IsSaid, bad_where, closed_where, with_read}
-use Rattle.jdwp_debugger.specs.News.{Happens}
+use Rattle.jdwp_debugger.specs.DebuggerTurns.{GoesOnBy, IsSaid, bad_where, closed_where, reading_of, with_read}
+use Rattle.jdwp_apart.specs.Following.{Following}
+use Rattle.jdwp_debugger.specs.News.{Happens, widths_by}
 use Rattle.jdwp_debugger.specs.Orders.{LearnedIn, is_bad_in}
 use Rattle.jdwp_mirror.specs.KnownThreads.{count_in}
 use Rattle.jdwp_mirror.specs.Messages.{Report}
 use Rattle.jdwp_mirror.specs.Mirror.{ends}
-use Rattle.jdwp_debugger.specs.Runs.{heard_by}
+use Rattle.jdwp_debugger.specs.Runs.{HasRun, heard_by}
+use Rattle.jdwp_debugger.proofs.Followed.{report-follows, report-none}
 use Rattle.jdwp_debugger.proofs.Ordering.{may-learn}
 use Rattle.jdwp_debugger.proofs.SaidPackets.{knows, said-ran}
 use Rattle.jdwp_debugger.proofs.debugger.Debugger.see.Goals as goal
@@ -39,6 +41,7 @@ invariant_of-self-2 c =
     let end : End = with_handled (Packet header said.body) used s.end in
     let good : is_bad_in s.order (count_in s.mirror.threads) composite ≡ false = sym c.is_bad.ensures ∙ c.if-is_bad.false in
     let read : c.take_off.new.self ≡ end = c.take_off.ensures (Packet header said.body) said.front in
+    let follows = report-follows (widths_by s.sizes) s.pending composite s.ledger c.note_composite.new.ledger kept.counted c.in_ok-note_composite.ensures.ok in
     rw read
     (record {
       limits = kept.limits;
@@ -50,7 +53,11 @@ invariant_of-self-2 c =
       alone = λ opened none. absurd (knows (view_of s) header used composite said none);
       unlearned = λ none. absurd (knows (view_of s) header used composite said none);
       unparked = kept.unparked;
-      ran = said-ran (view_of s) header used news c.learn_composite.new.mirror bytes said (ap bad_where good) (c.learn_composite.new.mirror, c.in_ok-learn_composite.ensures.ok, refl) kept.ran;
+      unfollowed = λ one. report-none composite s.ledger c.note_composite.new.ledger (kept.unfollowed one) c.in_ok-note_composite.ensures.ok;
+      counted = follows.1;
+      at_first = λ opened none. absurd (knows (view_of s) header used composite said none);
+      ran = subst (λ (f : Option Following). HasRun s.order end s.tickets (reading_of (view_of s)) c.learn_composite.new.mirror f) (sym follows.0)
+          (said-ran (view_of s) header used news c.learn_composite.new.mirror bytes said (ap bad_where good) (c.learn_composite.new.mirror, c.in_ok-learn_composite.ensures.ok, refl) kept.ran);
     })
 
 pub returns : goal.returns
@@ -66,17 +73,22 @@ returns c = λ content front.
     let here = ap (λ (d : Debugger). front_of d.end) c.self.view_is ∙ front in
     let end = with_handled (Packet header content) c.args.used s.end in
     let last : c.push.new.self ≡ head.Composite header ∷ [] = c.push.ensures ∙ ap (λ (hs : List Head). hs ++ head.Composite header ∷ []) c.clear.ensures in
+    let ledger = c.note_composite.new.ledger in
+    let follows = report-follows (widths_by s.sizes) s.pending composite s.ledger ledger c.self.invariant.counted c.in_ok-note_composite.ensures.ok in
+    let goes = subst (λ (d : Debugger). GoesOnBy (Happens composite) d ledger) c.self.view_is follows.0 in
     let left =
-    ap (λ (e : End). record (view_of s) { end = e; mirror = m; last = c.push.new.self }) (c.take_off.ensures (Packet header content) here)
-    ∙ ap (λ (hs : List Head). record (view_of s) { end = end; mirror = m; last = hs }) last
-    ∙ ap (λ (d : Debugger). record (with_read (Packet header content) c.args.used (head.Composite header ∷ []) d) { mirror = m }) c.self.view_is in (
+    ap (λ (e : End). record (view_of s) { end = e; mirror = m; last = c.push.new.self; ledger = ledger }) (c.take_off.ensures (Packet header content) here)
+    ∙ ap (λ (hs : List Head). record (view_of s) { end = end; mirror = m; last = hs; ledger = ledger }) last
+    ∙ ap (λ (d : Debugger). record (with_read (Packet header content) c.args.used (head.Composite header ∷ []) d) { mirror = m; ledger = ledger }) c.self.view_is in (
       ap bad_where good,
       (
         refl,
         (
           m,
           learned,
-          c.close_where.ensures ∙ ap (λ (b : Bool). closed_where b (record (view_of s) { end = c.take_off.new.self; mirror = m; last = c.push.new.self })) death ∙ ap (closed_where (ends (Report composite))) left,
+          ledger,
+          goes,
+          c.close_where.ensures ∙ ap (λ (b : Bool). closed_where b (record (view_of s) { end = c.take_off.new.self; mirror = m; last = c.push.new.self; ledger = ledger })) death ∙ ap (closed_where (ends (Report composite))) left,
         ),
       ),
     )

@@ -20,5 +20,8 @@ invariant_of-self c =
       alone = kept.alone;
       unlearned = kept.unlearned;
       unparked = kept.unparked;
+      unfollowed = kept.unfollowed;
+      counted = kept.counted;
+      at_first = kept.at_first;
       ran = ran-taken s.end s.tickets (reading_of (view_of s)) s.mirror c.take.result le kept.ran;
     })

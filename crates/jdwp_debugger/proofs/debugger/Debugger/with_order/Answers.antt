@@ -1,4 +1,4 @@
-use Rattle.std.proofs.Common.{◌≡◌, subst, sym, rules, arith}
+use Rattle.std.proofs.Common.{◌≡◌, refl, subst, sym, rules, arith}
 use Rattle.jdwp_end.specs.Ends.{new_end}
 use Rattle.jdwp_debugger.specs.Debuggers.{AreDistinct, AreOwn}
 use Rattle.jdwp_debugger.proofs.DebuggerRuns.{ran-new}
@@ -20,5 +20,8 @@ invariant_of-result c =
       alone = λ opened none. absurd cc;
       unlearned = λ none. search rules;
       unparked = λ w known. absurd cc;
+      unfollowed = λ one. refl;
+      counted = tt;
+      at_first = λ opened none. absurd cc;
       ran = ran-new c.args.limits 0 _ _ (search rules);
     })

@@ -36,6 +36,6 @@ returns-clause-ok c =
     let reply : Reply = record { command = c.args.command.now; answer = c.args.answer.now } in
     let v : Watching = record { one_by_one = i.one_by_one; answered = i.answered; pending = i.waiting; past = i.past; table = i.standings } in
     let w : Watching = record { one_by_one = i.one_by_one; answered = ticket; pending = c.pop.new.self; past = i.past; table = c.change.new.self } in
-    answered-watch i.packets v w reply told c.self.invariant c.in_ok-packets.ensures.few c.of-told.ensures.told refl refl c.pop.ensures refl
+    answered-watch i.packets i.answered v w reply told c.self.invariant c.self.invariant.few c.of-told.ensures.told refl refl c.pop.ensures refl
     (λ t. c.in_ok-change.ensures.ok t ∙ ap (λ (o : Change). changed (change_for told.thread (Replied ticket told.own) o t) (at i.standings t)) c.others_told-others.ensures)
     ∙ ap (λ (x : Watching). reads_reply (watch_of x) reply) c.self.view_is

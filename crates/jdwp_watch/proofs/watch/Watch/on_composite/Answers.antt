@@ -33,7 +33,7 @@ returns-clause-ok c =
     let after = later i.past c.args.since in
     let f = λ (a : ℕ) (stops : Stops) (asked : ℕ) (others : Change) (t : ℕ). changed (change_for stops.thread (Reported a stops.own (Some asked)) others t) (at i.standings t) in
     let found = stops_in c.args.composite.now in
-    composite-watch i.packets v w s c.self.invariant c.in_ok-packets.ensures.few refl refl refl
+    composite-watch i.packets i.answered v w s c.self.invariant c.self.invariant.few refl refl refl
     (c.later-past.ensures ∙ (ap (λ (a : ℕ). later a c.counted_before-counted.result) c.later-after.ensures ∙ ap (λ (n : ℕ). later after n) c.counted_before-counted.ensures))
     (λ t. c.in_ok-change.ensures.ok t ∙ (ap (λ (o : Change). f c.later-after.result c.of-stops.result (i.answered + c.len.result) o t) c.others_stopped-others.ensures
     ∙ (ap (λ (a : ℕ). f a c.of-stops.result (i.answered + c.len.result) (others_by a c.of-stops.result.others) t) c.later-after.ensures
