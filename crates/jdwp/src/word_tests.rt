@@ -2,6 +2,7 @@
 use crate::asserts::expect_same_for;
 use crate::tests::{MACHINE, SESSION, is_not_made, is_refused, is_run, remove, status_of, write};
 use jdwp_debuggee::Settings;
+use jdwp_debugger::Order;
 use jdwp_program::{Attach, Between, Fault, Pair, Peer, ServeScript, SessionFiles, Words};
 use jdwp_wire::Limits;
 use std::alloc::Global;
@@ -145,7 +146,7 @@ fn other_words_are_refused(rt: HostRuntime) {
 }
 
 /// Words that are refused, with a space between them, and the texts that are told, with a `|`.
-static HELP: [(&str, &str); 20] = [
+static HELP: [(&str, &str); 21] = [
     (
         "",
         "error: 'jdwp' requires a subcommand but one was not provided|show, check, serve-script, attach|Usage: jdwp ",
@@ -160,7 +161,7 @@ static HELP: [(&str, &str); 20] = [
     ),
     (
         "attach --help",
-        "Runs a plan|Usage: jdwp attach |<PLAN>|--from <FILE>|--to <FILE>|--turns <N>",
+        "Runs a plan|Usage: jdwp attach |<PLAN>|--from <FILE>|--to <FILE>|--order <ORDER>|[default: one]|one, apart|--turns <N>",
     ),
     (
         "pair --help",
@@ -194,6 +195,10 @@ static HELP: [(&str, &str); 20] = [
     (
         "attach p --port 80 --limits 65536,64,64",
         "error: invalid value '65536,64,64' for '--limits <PACKET,LIVE,REQUESTS,PENDING>': PACKET is 2048 to 1048576, the others are 1 to 1024, and 16 + 542 * REQUESTS is at most PACKET|Usage: jdwp attach ",
+    ),
+    (
+        "attach p --port 80 --order both",
+        "error: invalid value 'both' for '--order <ORDER>'|one, apart",
     ),
     (
         "serve-script m --from f --to t --start some",
@@ -258,8 +263,13 @@ static DEFAULTS: [(&[&str], bool, u32, u32); 5] = [
     (&["--turns", "007"], true, 65535, 7),
 ];
 
-/// Options of `attach`, and the turns.
-static DEFAULTS_OF_ATTACH: [(&[&str], u32); 2] = [(&[], 100000), (&["--turns", "007"], 7)];
+/// Options of `attach`, the order, and the turns.
+static DEFAULTS_OF_ATTACH: [(&[&str], Order, u32); 4] = [
+    (&[], Order::One, 100000),
+    (&["--turns", "007"], Order::One, 7),
+    (&["--order", "one"], Order::One, 100000),
+    (&["--order=apart"], Order::Apart, 100000),
+];
 
 /// The words are read so.
 fn are_read(rt: &impl Abort, alloc: Global, words: &[&str], want: &Words<'_>) {
@@ -294,7 +304,7 @@ fn serves(
 }
 
 /// With these options behind them, the words of `attach` are read so.
-fn attaches(rt: &impl Abort, alloc: Global, more: &[&str], turns: u32) {
+fn attaches(rt: &impl Abort, alloc: Global, more: &[&str], order: Order, turns: u32) {
     let (plan, from, to) = ("p", "f", "t");
     let mut words = Vec::new(alloc);
     let first = ["jdwp", "attach", plan, "--from", from, "--to", to];
@@ -303,6 +313,7 @@ fn attaches(rt: &impl Abort, alloc: Global, more: &[&str], turns: u32) {
     let want = Words::Attach(Attach {
         plan,
         peer: Peer::Files(SessionFiles { from, to }),
+        order,
         limits: Limits::standard(),
         turns,
     });
@@ -314,8 +325,8 @@ fn options_have_defaults(rt: HostRuntime) {
     for &(more, start_all, count_limit, turns) in DEFAULTS.iter() {
         serves(&rt, rt.alloc(), more, start_all, count_limit, turns);
     }
-    for &(more, turns) in DEFAULTS_OF_ATTACH.iter() {
-        attaches(&rt, rt.alloc(), more, turns);
+    for &(more, order, turns) in DEFAULTS_OF_ATTACH.iter() {
+        attaches(&rt, rt.alloc(), more, order, turns);
     }
 }
 
@@ -338,6 +349,7 @@ fn attaches_at(rt: &impl Abort, alloc: Global, words: &[&str], port: u16) {
     let want = Words::Attach(Attach {
         plan: "p",
         peer: Peer::Port(port),
+        order: Order::One,
         limits: Limits::standard(),
         turns: 5,
     });
@@ -485,6 +497,7 @@ fn limits_are_read(rt: HostRuntime) {
     let attached = Words::Attach(Attach {
         plan: "p",
         peer: Peer::Port(80),
+        order: Order::One,
         limits,
         turns: 100000,
     });

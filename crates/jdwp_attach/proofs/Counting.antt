@@ -1,5 +1,5 @@
 -- How many composites were handled, from call to call.
-use Rattle.std.proofs.Common.{◌≡◌, ◌≢◌, ◌∙◌, ℕ, ◌+◌, ◌<◌, ◌≤◌, ◌^◌, ◌++◌, List, [], ◌∷◌, length, Bool, true, false, cond, Option, Some, None, is_some, Ok, Err, if◌then◌else◌, slice_get, sym, ap, refl, subst, zero-add, arith}
+use Rattle.std.proofs.Common.{◌≡◌, ◌≢◌, ◌∙◌, ℕ, ◌+◌, ◌<◌, ◌≤◌, ◌^◌, ◌++◌, List, [], ◌∷◌, length, Bool, true, false, cond, Option, Some, None, is_some, Ok, Err, if◌then◌else◌, slice_get, inl, inr, sym, ap, refl, subst, zero-add, arith}
 use Rattle.std.specs.Prelude.{count_by}
 use Rattle.std.specs.List.{AllByRecursion, list_any}
 use Rattle.std.proofs.lemmas.Grind.{flat_map-append}
@@ -36,6 +36,7 @@ use Rattle.jdwp_debugger.specs.Asking.{HasAsked}
 use Rattle.jdwp_debugger.specs.Debuggers.{Asked, Debugger, Parked as Waiting, attached, with_taken}
 use Rattle.jdwp_debugger.specs.DebuggerTurns.{Enters, HandlesAt, Told, TurnsAt, closed_where, command_at, measured_where, reading_of, reports, read_meaning}
 use Rattle.jdwp_debugger.specs.News.{News, Waits, Happens, Answers, Measures, Reading, answer_by, answer_says, composite_in, composites_in, event_says, event_says_by, place_of, reply_at, reply_to, says, sizes_say, unless_bad, widths_by, with_composites, with_first}
+use Rattle.jdwp_attach.specs.OwnCounts.{AsksDue, Step}
 use Rattle.jdwp_attach.specs.PlanWaits.{Counts, HandlesComposites, HandlesFewer, composites_of, is_composite, is_composite_kind}
 
 -- ---- what packets say
@@ -242,6 +243,12 @@ counts-kept n left old new k c = record {
 pub asked-keeps : (command : Command) (old mid : Debugger) → HasAsked command old mid → Keeps old (with_taken mid.end.outgoing mid)
 asked-keeps command old mid h = rw h.is (record { limit = refl; handled = refl; phase = refl; parked = refl; sizes = refl })
 
+-- the count that was due behind a turn was asked, or none
+pub due-keeps : (due : Option ℕ) (old mid : Debugger) (own : List Step) → AsksDue due old mid own → Keeps old (with_taken mid.end.outgoing mid)
+due-keeps None old mid own (none, same) = rw same (record { limit = refl; handled = refl; phase = refl; parked = refl; sizes = refl })
+due-keeps (Some thread) old mid own (inl (one, unrefused, h)) = asked-keeps _ old mid h
+due-keeps (Some thread) old mid own (inr (none, refused, same)) = rw same (record { limit = refl; handled = refl; phase = refl; parked = refl; sizes = refl })
+
 -- as many composites as were counted were handled
 pub counts-handled : (n left count : ℕ) (d : Debugger) → count ≤ n → Counts n left d → HandlesComposites count d
 counts-handled n left count d most c = (c.messages, c.handled, omega (arith, most, c.counted))
@@ -328,18 +335,18 @@ handles-packet header body used (Waits bytes) old new t said h opened =
 handles-packet header body used (Happens c) old new t said h opened =
     let one = kind-counts header.kind old.sizes old.parked (Happens c) said in
     let b = ends (Report c) in
-    rw (h.0, h.1.2) (handled-where b (Packet header body) 1 old _ (subst (λ (d : Debugger). is_open d.end ≡ true) h.1.2 opened)
+    rw (h.0, h.1.4) (handled-where b (Packet header body) 1 old _ (subst (λ (d : Debugger). is_open d.end ≡ true) h.1.4 opened)
     (record { limit = refl; handled = refl; phase = λ e. cc; counted = omega (arith, one); none_wait = λ none known. none known; most = omega arith }))
 handles-packet header body used (Answers place ticket answer) old new t said h opened =
     let one = kind-counts header.kind old.sizes old.parked (Answers place ticket answer) said in
     let b = ends (Reply (Some ticket) (command_at place old.pending) answer) in
-    rw (h.0, h.1.2) (handled-where b (Packet header body) 0 old _ (subst (λ (d : Debugger). is_open d.end ≡ true) h.1.2 opened)
+    rw (h.0, h.1.4) (handled-where b (Packet header body) 0 old _ (subst (λ (d : Debugger). is_open d.end ≡ true) h.1.4 opened)
     (record { limit = refl; handled = refl; phase = λ e. cc; counted = omega (arith, one); none_wait = λ none known. none known; most = omega arith }))
 handles-packet header body used (Measures place answer w cs) old new t said h opened =
     let one = kind-counts header.kind old.sizes old.parked (Measures place answer w cs) said in
     let all = measures-all header.kind old.sizes old.parked place answer w cs said in
     let b = list_any ends (reports cs) in
-    rw (h.0, h.1.2) (handled-measured b w (Packet header body) (length cs) old _ (subst (λ (d : Debugger). is_open d.end ≡ true) h.1.2 opened)
+    rw (h.0, h.1.4) (handled-measured b w (Packet header body) (length cs) old _ (subst (λ (d : Debugger). is_open d.end ≡ true) h.1.4 opened)
     (record { limit = refl; handled = refl; phase = λ e. cc; counted = omega (arith, one, all); none_wait = λ none known. refl; most = omega (arith, all) }))
 
 handles : (message : Message) (used : ℕ) (old new : Debugger) (r : Read) → HandlesAt message used old (Ok r) new → is_open new.end ≡ true → Handled message (composites_of (read_meaning r)) old new

@@ -12,6 +12,7 @@ use Rattle.jdwp_wire.specs.Widths.{Widths}
 use Rattle.jdwp_action.specs.Actions.{Command}
 use Rattle.jdwp_debugger.specs.declared.asking.Refused as asking
 use Rattle.jdwp_debugger.specs.declared.asking.Refused.TheVariants as refusal
+use Rattle.jdwp_debugger.specs.declared.turning.Read.{Read}
 use Rattle.jdwp_debugger.specs.declared.turning.Read.TheVariants as read
 use Rattle.jdwp_debugger.specs.Asking.{HasAsked, IsRefusal, refusal_of_ask}
 use Rattle.jdwp_debugger.specs.RefusedNumbers.{refused_number}
@@ -25,13 +26,14 @@ use Rattle.jdwp_plan.specs.declared.plan_line.PlanLine.{PlanLine}
 use Rattle.jdwp_plan.specs.declared.plan_line.PlanLine.TheVariants as line
 use Rattle.jdwp_plan.specs.Lines.{is_of_pair}
 use Rattle.jdwp_plan.specs.PlanLines.{said_by}
-use Rattle.jdwp_attach.specs.PlanAsks.{AsksInOrder, IsBeginning, Stands, asks, command_asked}
-use Rattle.jdwp_attach.specs.PlanRuns.{Attaches, Leaves, Stays, EndsFailed, EndsRefused, EndsSo, HasLeft, HasLeftOrFails, IsAsk, IsFinished, LineEndsSo, MayEnd, ReadsEnd, RefusesBy, RefusesCommand, RefusesLineAt, TakesMemory, Tells, TellsInOrder, TellsPart, WantsMemory, WantsToTell, WantsTurn, told_number, unflushed_debugger}
+use Rattle.jdwp_attach.specs.OwnCounts.{AreSteps, Line, Step, due_behind}
+use Rattle.jdwp_attach.specs.PlanAsks.{IsBeginning, Stands, asks, command_asked}
+use Rattle.jdwp_attach.specs.PlanRuns.{Attaches, Leaves, Stays, EndsFailed, EndsRefused, EndsSo, HasLeft, HasLeftOrFails, IsAsk, IsFinished, LineEndsSo, MayEnd, ReadsEnd, RefusesBy, RefusesCommand, RefusesLineAt, TakesMemory, Tells, TellsInOrder, TellsPart, WantsMemory, WantsToAsk, WantsToTell, WantsTurn, told_number, unflushed_debugger}
 use Rattle.jdwp_attach.specs.PlanWaits.{Awaits}
-use Rattle.jdwp_attach.specs.Runs.{FailsLastFlush, Finishes, FlushesOrFails, InOrder, IsGoing, LosesAtRead, LosesAtWrite, Reaches, Standing, at}
-use Rattle.jdwp_tell.specs.Telling.{TellsMirror, lines_of}
-use Rattle.jdwp_attach.proofs.Moves.{asked-moves, begins-all, begins-behind, begins-line, begins-none, line-split, printed-again, written-none}
-use Rattle.jdwp_attach.proofs.Reached.{hello-reached, hello-reached-all, reach-all, reach-passed, reach-same, reach-taken, reach-turned, reach-untold}
+use Rattle.jdwp_attach.specs.Runs.{AsksInOrder, FailsLastFlush, Finishes, FlushesOrFails, InOrder, IsGoing, LosesAtRead, LosesAtWrite, Reaches, ReachesBy, RunSteps, Standing, at}
+use Rattle.jdwp_tell.specs.Telling.{TellsKnown, lines_of}
+use Rattle.jdwp_attach.proofs.Moves.{asked-moves, asked-passes, begins-all, begins-behind, begins-line, begins-none, line-split, printed-again, written-none}
+use Rattle.jdwp_attach.proofs.Reached.{along-all, along-taken, along-turned, are-line, are-none, hello-reached, hello-reached-all, reach-passed, reach-same, reach-untold}
 use Rattle.jdwp_attach.proofs.Stages.{asks-append, one-asked, puts-same, stands-asked, stands-known, stands-puts}
 use Rattle.jdwp_attach.proofs.Turned.{Moves, fault-refused, memory-same}
 
@@ -57,10 +59,14 @@ same-by old new is =
     }
 
 asks-same : (plan : List PlanLine) (base old new : Debugger) → new.tickets ≡ old.tickets → new.end.session.enqueued ≡ old.end.session.enqueued → AsksInOrder plan base old → AsksInOrder plan base new
-asks-same plan base old new same enqueued (done, begins, (tickets, puts)) = (done, begins, (same ∙ tickets, puts-same done base old new enqueued puts))
+asks-same plan base old new same enqueued (done, begins, (run, (tickets, puts))) = (done, begins, (run, (same ∙ tickets, puts-same run.steps base old new enqueued puts)))
 
 pub going-asks : (plan done : List PlanLine) (base now : Standing) → IsBeginning done plan → IsGoing plan done base now → AsksInOrder plan base.debugger now.debugger
-going-asks plan done base now begins k = (done, begins, (k.asked, stands-puts done base.debugger now.debugger k.stands))
+going-asks plan done base now begins k = (
+  done,
+  begins,
+  (record { steps = k.steps; are = k.are; told = k.told; debugger = now.debugger; reached = k.reached }, (k.asked, stands-puts k.steps base.debugger now.debugger k.stands)),
+)
 
 -- nothing more went through the pipe to the target, nothing was printed, and what the debugger was fed and what it put stayed
 stays-in-order : (plan done : List PlanLine) (base : Standing) (s o : Story) (old : Debugger) (left : ℕ) (s' : Story) (new : Debugger)
@@ -99,19 +105,19 @@ printed-so a b text e = ap (λ (x : Story). x.written) e
 
 -- all that was told so far was printed
 going-tells : (plan done : List PlanLine) (base : Standing) (s o : Story) (d : Debugger) (left : ℕ) → IsGoing plan done base (at s o d left) → Tells plan done base (flushed o) d
-going-tells plan done base s o d left k = (k.told, k.reached, printed-so base.out o k.told k.printed)
+going-tells plan done base s o d left k = (k.told, (k.steps, k.are, k.reached), printed-so base.out o k.told k.printed)
 
 going-told : (plan done : List PlanLine) (base : Standing) (s o : Story) (d : Debugger) (left : ℕ) → IsBeginning done plan → IsGoing plan done base (at s o d left) → TellsInOrder plan base (flushed o) d
 going-told plan done base s o d left begins k = (done, begins, going-tells plan done base s o d left k)
 
 -- what was told is a part of what was told
 tells-part : (plan : List PlanLine) (base : Standing) (o : Story) (d : Debugger) → TellsInOrder plan base o d → TellsPart plan base o d
-tells-part plan base o d (done, begins, (text, r, is)) = (done, begins, (text, text, r, ([], sym (append-nil text)), is))
+tells-part plan base o d (done, begins, (text, r, is)) = inl (done, begins, (text, text, r, ([], sym (append-nil text)), is))
 
 -- what was told before, and a part of what was to be told
 part-told : (plan done : List PlanLine) (base : Standing) (s o o' : Story) (old d : Debugger) (left : ℕ) (text told some : List ℕ) → IsBeginning done plan → (k : IsGoing plan done base (at s o old left))
-    → Reaches plan base.debugger done told d → told ≡ k.told ++ text → IsFront some text → o'.written ≡ o.written ++ some → TellsPart plan base (flushed o') d
-part-told plan done base s o o' old d left text told some begins k r tells (rest, split) is = (
+    → ReachesBy plan base.debugger done told d → told ≡ k.told ++ text → IsFront some text → o'.written ≡ o.written ++ some → TellsPart plan base (flushed o') d
+part-told plan done base s o o' old d left text told some begins k r tells (rest, split) is = inl (
   done,
   begins,
   (
@@ -125,7 +131,7 @@ part-told plan done base s o o' old d left text told some begins k r tells (rest
 
 -- what was told before, and nothing more
 none-told : (plan done : List PlanLine) (base : Standing) (s o o' : Story) (old d : Debugger) (left : ℕ) (text told : List ℕ) → IsBeginning done plan → (k : IsGoing plan done base (at s o old left))
-    → Reaches plan base.debugger done told d → told ≡ k.told ++ text → o' ≡ o → TellsPart plan base (flushed o') d
+    → ReachesBy plan base.debugger done told d → told ≡ k.told ++ text → o' ≡ o → TellsPart plan base (flushed o') d
 none-told plan done base s o o' old d left text told begins k r tells same =
     part-told plan done base s o o' old d left text told [] begins k r tells (text, refl) (ap (λ (x : Story). x.written) same ∙ sym (append-nil o.written))
 
@@ -166,13 +172,13 @@ turn-refused-ends : (s o : Story) (old mid new : Debugger) (left left' number : 
 turn-refused-ends s o old mid new left left' number fault some turned is number-is plan done base begins awaits k =
     let same = fault-refused (front_of old.end) old mid fault some turned in
     let kept : mid.end.session.lost ≡ false = rw same k.kept in
-    let reached : Reaches plan base.debugger done k.told mid = reach-untold plan base.debugger done k.told old mid (Err fault) refl k.reached awaits turned in
+    let reached : Reaches plan base.debugger k.steps k.told mid = reach-untold plan done base.debugger k.steps k.told old mid (Err fault) refl refl k.are k.reached awaits turned in
     rw is (
       going-in-order plan done base s o old left (lost_debugger mid) begins k (record { fed = rw same refl; enqueued = rw same refl; taken = rw same refl; tickets = rw same refl }),
       (
         (
           mid,
-          (inl (old, fault, (done, k.told, k.reached), turned, some, number-is), (done, begins, (k.told, reached, printed-so base.out o k.told k.printed))),
+          (inl (old, fault, (done, k.told, (k.steps, k.are, k.reached)), turned, some, number-is), (done, begins, (k.told, (k.steps, k.are, reached), printed-so base.out o k.told k.printed))),
           kept,
           refl,
         ),
@@ -216,7 +222,7 @@ ask-refuses other d set number refused bytes w h refuses = absurd h
 pub line-refused : (done rest : List PlanLine) (line : PlanLine) (base : Standing) (s o : Story) (d : Debugger) (left refused : ℕ) (w : Widths) → IsGoing (done ++ line ∷ rest) done base (at s o d left) → d.sizes ≡ Some w
     → RefusesBy line w d refused → RefusesLineAt (done ++ line ∷ rest) (length done + 1) base.debugger refused d
 line-refused done rest line base s o d left refused w k known refuses =
-    let knows = stands-known done base.debugger d (ap (λ (x : Option Widths). is_some x) known) k.stands in
+    let knows = stands-known k.steps base.debugger d (ap (λ (x : Option Widths). is_some x) known) k.stands in
     let same : knows.0 ≡ w = let e = sym knows.1 ∙ known in cc in
     record {
       done = done;
@@ -224,6 +230,8 @@ line-refused done rest line base s o d left refused w k known refuses =
       rest = rest;
       plan_is = refl;
       place_is = refl;
+      steps = k.steps;
+      are = k.are;
       told = k.told;
       reached = k.reached;
       asked = k.asked;
@@ -300,7 +308,7 @@ pair-refuses line.Mirror w d h = absurd (cc)
 pub pair-ends : (line : PlanLine) (s o : Story) (d new : Debugger) (left left' : ℕ) → is_of_pair (said_by line) ≡ true → is_some d.sizes ≡ true → new ≡ lost_debugger d
     → LineEndsSo line (at s o d left) (at s o new left') (Refused 0)
 pair-ends line s o d new left left' of-pair known is done rest base k =
-    let knows = stands-known done base.debugger d known k.stands in
+    let knows = stands-known k.steps base.debugger d known k.stands in
     line-stops done rest line base s o d new left 0 knows.0 k knows.1 (pair-refuses line knows.0 d of-pair) is
 
 -- a command that was asked is that of the line behind those that were carried out
@@ -308,12 +316,23 @@ pub asked-in-order : (done rest : List PlanLine) (line : PlanLine) (base : Stand
     → IsAsk line set number bytes → old.sizes ≡ Some w → command_asked w set number bytes ≡ Some command → HasAsked command old mid → IsGoing (done ++ line ∷ rest) done base (at s o old left)
     → AsksInOrder (done ++ line ∷ rest) base.debugger mid
 asked-in-order done rest line base s o old mid left set number bytes w command asks-it known is asked k =
+    let plan = done ++ line ∷ rest in
+    let steps = k.steps ++ Line line ∷ [] in
     let one = one-asked line set number bytes asks-it in
     let moves = asked-moves command old mid asked in
-    let stands = stands-asked done line base.debugger old mid set number bytes w command asks-it known is asked k.stands in (
+    let stands = stands-asked k.steps line base.debugger old mid set number bytes w command asks-it known is asked k.stands in (
       done ++ line ∷ [],
       begins-behind done rest line,
-      (omega (arith, moves.tickets_are, k.asked, asks-append done line, one), stands-puts (done ++ line ∷ []) base.debugger mid stands),
+      (
+        record {
+          steps = steps;
+          are = are-line base.debugger.order done k.steps line k.are;
+          told = k.told ++ [];
+          debugger = mid;
+          reached = asked-passes plan k.steps line base.debugger old mid k.told command set number bytes asks-it k.ready.0 asked k.asked k.reached;
+        },
+        (omega (arith, moves.tickets_are, k.asked, asks-append k.steps (Line line), one), stands-puts steps base.debugger mid stands),
+      ),
     )
 
 -- ---- a read that failed
@@ -321,13 +340,13 @@ asked-in-order done rest line base s o old mid left set number bytes w command a
 read-fails : (s s' o : Story) (old mid new : Debugger) (left left' : ℕ) → TurnsAt (front_of old.end) old (Ok read.Nothing) mid → front_of old.end ≡ More → mid ≡ record old { last = [] }
     → new ≡ lost_debugger mid → FailsRead (flushed s) s' → EndsSo (λ plan done. Awaits plan done old) (at s o old left) (at s' o new left') LostByRead
 read-fails s s' o old mid new left left' turned front same is f plan done base begins awaits k =
-    let reached : Reaches plan base.debugger done k.told (record old { last = [] }) = reach-same plan base.debugger done k.told old mid k.reached awaits turned same in
+    let reached : Reaches plan base.debugger k.steps k.told (record old { last = [] }) = reach-same plan done base.debugger k.steps k.told old mid k.are k.reached awaits turned same in
     rw (is, same) (
       stays-in-order plan done base s o old left s' (lost_debugger (record old { last = [] })) begins k f.read f.written (omega (arith, f.failed_writes)) f.early
           (record { fed = refl; enqueued = refl; taken = refl; tickets = refl }),
       (
         omega (arith, f.fails, k.failed_reads, k.ends),
-        (record old { last = [] }, (k.ready.0, front, (done, begins, (k.told, reached, printed-so base.out o k.told k.printed))), k.kept, refl),
+        (record old { last = [] }, (k.ready.0, front, (done, begins, (k.told, (k.steps, k.are, reached), printed-so base.out o k.told k.printed))), k.kept, refl),
         (f.failed_writes ∙ k.failed_writes, printed-same base.out o k.told k.printed, refl, refl),
       ),
     )
@@ -336,7 +355,7 @@ read-fails s s' o old mid new left left' turned front same is f plan done base b
 flush-fails : (s s' o : Story) (old mid new : Debugger) (left left' : ℕ) → TurnsAt (front_of old.end) old (Ok read.Nothing) mid → mid ≡ record old { last = [] }
     → new ≡ lost_debugger mid → FailsFlush s s' → EndsSo (λ plan done. Awaits plan done old) (at s o old left) (at s' o new left') LostByWrite
 flush-fails s s' o old mid new left left' turned same is f plan done base begins awaits k =
-    let reached : Reaches plan base.debugger done k.told (record old { last = [] }) = reach-same plan base.debugger done k.told old mid k.reached awaits turned same in
+    let reached : Reaches plan base.debugger k.steps k.told (record old { last = [] }) = reach-same plan done base.debugger k.steps k.told old mid k.are k.reached awaits turned same in
     rw (is, same, f) (
       stays-in-order plan done base s o old left (record s { failed_writes = s.failed_writes + 1 }) (lost_debugger (record old { last = [] })) begins k refl refl (omega arith) refl
           (record { fed = refl; enqueued = refl; taken = refl; tickets = refl }),
@@ -344,7 +363,7 @@ flush-fails s s' o old mid new left left' turned same is f plan done base begins
         inl (omega (arith, k.failed_writes)),
         (
           record old { last = [] },
-          tells-part plan base (flushed o) (record old { last = [] }) (done, begins, (k.told, reached, printed-so base.out o k.told k.printed)),
+          tells-part plan base (flushed o) (record old { last = [] }) (done, begins, (k.told, (k.steps, k.are, reached), printed-so base.out o k.told k.printed)),
           k.kept,
           refl,
         ),
@@ -359,6 +378,21 @@ read-ends s s' o old mid new left left' Done turned front same h = absurd h
 read-ends s s' o old mid new left left' (Refused number) turned front same h = absurd h
 read-ends s s' o old mid new left left' NoMemory turned front same h = absurd h
 read-ends s s' o old mid new left left' TurnLimit turned front same h = absurd h
+
+-- ---- want of memory for a count
+
+-- nothing was put by the turn before it
+pub count-wants : (plan done : List PlanLine) (base : Standing) (s o : Story) (old mid : Debugger) (left : ℕ) (r : Read) → IsBeginning done plan → Awaits plan done old
+    → TurnsAt (front_of old.end) old (Ok r) mid → is_some (due_behind (Ok r) mid) ≡ true → Moves old mid 1 0 → mid.end.session.enqueued ≡ old.end.session.enqueued
+    → IsGoing plan done base (at s o old left) → InOrder plan base s o mid × MayEnd plan NoMemory base (flushed s) (flushed o) mid
+count-wants plan done base s o old mid left r begins awaits turned due p enqueued k =
+    let printed : (flushed o).written ≡ base.out.written ++ k.told = printed-so base.out o k.told k.printed in
+    let wants : WantsToAsk plan base (flushed o) mid =
+    record { done = done; begins = begins; old = old; read = r; told = k.told; reached = (k.steps, k.are, k.reached); awaits = awaits; turned = turned; due = due; printed = printed }
+    in (
+      going-in-order plan done base s o old left mid begins k (record { fed = p.fed; enqueued = enqueued; taken = p.taken; tickets = omega (arith, p.tickets_are) }),
+      (inr (inr (inr wants)), p.kept ∙ k.kept, has-left plan done base s o old left k),
+    )
 
 -- ---- what ends behind what was put
 
@@ -432,7 +466,7 @@ lost-behind taken mid new is = rw is (same-lost (with_taken taken mid))
 
 -- a write failed
 pub loses-ends : (plan done : List PlanLine) (base : Standing) (s o : Story) (old mid : Debugger) (left l1 l2 turns tickets : ℕ) (s' o' : Story) (new : Debugger) (text told : List ℕ)
-    → IsBeginning done plan → (k : IsGoing plan done base (at s o old left)) → Moves old mid turns tickets → Reaches plan base.debugger done told mid → told ≡ k.told ++ text → AsksInOrder plan base.debugger mid
+    → IsBeginning done plan → (k : IsGoing plan done base (at s o old left)) → Moves old mid turns tickets → ReachesBy plan base.debugger done told mid → told ≡ k.told ++ text → AsksInOrder plan base.debugger mid
     → LosesAtWrite text (at s o mid l1) (at s' o' new l2) → InOrder plan base s' o' new × MayEnd plan LostByWrite base (flushed s') (flushed o') new
 loses-ends plan done base s o old mid left l1 l2 turns tickets s' o' new text told begins k p r tells asked f =
     elim f.fails [
@@ -442,7 +476,7 @@ loses-ends plan done base s o old mid left l1 l2 turns tickets s' o' new text to
           inl (omega (arith, w.failed_writes, k.failed_writes)),
           (
             with_taken f.taken mid,
-            none-told plan done base s o o' old (with_taken f.taken mid) left text told begins k (reach-taken plan base.debugger done told mid f.taken r front) tells same,
+            none-told plan done base s o o' old (with_taken f.taken mid) left text told begins k (along-taken plan base.debugger done told mid f.taken r front) tells same,
             p.kept ∙ k.kept,
             f.is,
           ),
@@ -454,7 +488,7 @@ loses-ends plan done base s o old mid left l1 l2 turns tickets s' o' new text to
           inr (omega (arith, part.failed_writes, printed-same base.out o k.told k.printed)),
           (
             with_taken f.taken mid,
-            part-told plan done base s o o' old (with_taken f.taken mid) left text told part.written.0 begins k (reach-all plan base.debugger done told mid f.taken all r) tells part.written.2 part.written.1,
+            part-told plan done base s o o' old (with_taken f.taken mid) left text told part.written.0 begins k (along-all plan base.debugger done told mid f.taken all r) tells part.written.2 part.written.1,
             p.kept ∙ k.kept,
             f.is,
           ),
@@ -463,7 +497,7 @@ loses-ends plan done base s o old mid left l1 l2 turns tickets s' o' new text to
     ]
 
 pub moved-ends : (plan done : List PlanLine) (base : Standing) (s o : Story) (old mid : Debugger) (left l1 l2 turns tickets : ℕ) (s' o' : Story) (new : Debugger) (ended : Ended) (text told : List ℕ)
-    → IsBeginning done plan → (k : IsGoing plan done base (at s o old left)) → Moves old mid turns tickets → Reaches plan base.debugger done told mid → told ≡ k.told ++ text → AsksInOrder plan base.debugger mid
+    → IsBeginning done plan → (k : IsGoing plan done base (at s o old left)) → Moves old mid turns tickets → ReachesBy plan base.debugger done told mid → told ≡ k.told ++ text → AsksInOrder plan base.debugger mid
     → (is_open mid.end ≡ false → ReadsEnd plan base.debugger (with_taken mid.end.outgoing mid)) → (text ≢ [] → WantsToTell plan base (flushed o) (with_taken mid.end.outgoing mid))
     → Finishes ended text (at s o mid l1) (at s' o' new l2) → InOrder plan base s' o' new × MayEnd plan ended base (flushed s') (flushed o') new
 moved-ends plan done base s o old mid left l1 l2 turns tickets s' o' new Done text told begins k p r tells asked why wants c = (
@@ -478,7 +512,7 @@ moved-ends plan done base s o old mid left l1 l2 turns tickets s' o' new Done te
           begins,
           (
             told,
-            reach-all plan base.debugger done told mid mid.end.outgoing refl r,
+            along-all plan base.debugger done told mid mid.end.outgoing refl r,
             printed-so base.out o' told (printed-again base.out o o' k.told text told k.printed c.out tells),
           ),
         ),
@@ -493,7 +527,7 @@ moved-ends plan done base s o old mid left l1 l2 turns tickets s' o' new NoMemor
   written-in-order plan done base s o old mid left turns tickets s' o' new k p asked t.pipe (rw t.out (grows-told base.out o k.told k.printed)) (same-by (with_taken mid.end.outgoing mid) new t.debugger),
   (
     subst (λ (x : Story). WantsMemory plan base (flushed x) new) (sym t.out)
-        (subst (λ (x : Debugger). WantsMemory plan base (flushed o) x) (sym t.debugger) (inr (inr (wants t.some)))),
+        (subst (λ (x : Debugger). WantsMemory plan base (flushed o) x) (sym t.debugger) (inr (inr (inl (wants t.some))))),
     ap (λ (x : Debugger). x.end.session.lost) t.debugger ∙ p.kept ∙ k.kept,
     (ap (λ (x : Story). x.failed_writes) t.pipe ∙ k.failed_writes, ap (λ (x : Story). x.failed_writes) t.out ∙ printed-same base.out o k.told k.printed, refl, refl),
   ),
@@ -510,13 +544,13 @@ line-memory line s o d left takes done rest base k =
     stays-memory (done ++ line ∷ rest) done base s o d left (begins-line done rest line) (line-wants done rest line base s o d left takes k) k
 
 -- a write of the lines of a mirror failed
-pub mirror-part : (s o o' : Story) (d new : Debugger) (left : ℕ) (text : List ℕ) → TellsMirror d.mirror text → FailsWrite o o' text → new ≡ lost_debugger d
+pub mirror-part : (s o o' : Story) (d new : Debugger) (left : ℕ) (text : List ℕ) → TellsKnown d text → FailsWrite o o' text → new ≡ lost_debugger d
     → LineEndsSo line.Mirror (at s o d left) (at s o' new left) LostByWrite
 mirror-part s o o' d new left text tells part is done rest base k =
     let plan = done ++ line.Mirror ∷ rest in
     let r = going-in-order plan done base s o d left (lost_debugger d) (begins-line done rest line.Mirror) k (same-lost d) in
     let grows = grows-part base.out o o' k.told text k.printed part in
-    let tickets : d.tickets ≡ base.debugger.tickets + asks (done ++ line.Mirror ∷ []) = omega (arith, k.asked, asks-append done line.Mirror) in
+    let tickets : d.tickets ≡ base.debugger.tickets + asks (k.steps ++ Line line.Mirror ∷ []) = omega (arith, k.asked, asks-append k.steps (Line line.Mirror)) in
     rw is (
       record {
         read = r.read;
@@ -532,13 +566,17 @@ mirror-part s o o' d new left text tells part is done rest base k =
         inr (omega (arith, part.failed_writes, printed-same base.out o k.told k.printed)),
         (
           d,
-          (
+          inl (
             done ++ line.Mirror ∷ [],
             begins-behind done rest line.Mirror,
             (
               k.told ++ text,
               k.told ++ part.written.0,
-              reach-passed plan base.debugger done k.told d line.Mirror text k.reached tickets tt tells,
+              (
+                k.steps ++ Line line.Mirror ∷ [],
+                are-line base.debugger.order done k.steps line.Mirror k.are,
+                reach-passed plan base.debugger k.steps k.told d line.Mirror text k.reached tickets tt tells,
+              ),
               (part.written.2.0, ap (λ (x : List ℕ). k.told ++ x) part.written.2.1 ∙ sym (append_assoc k.told part.written.0 part.written.2.0)),
               part.written.1 ∙ ap (λ (x : List ℕ). x ++ part.written.0) (printed-so base.out o k.told k.printed) ∙ append_assoc base.out.written k.told part.written.0,
             ),
@@ -565,11 +603,12 @@ line-ends plan i line old new ended inside is f base k =
 pub finished-ends : (plan : List PlanLine) (base : Standing) (s o : Story) (d new : Debugger) (left : ℕ) → IsGoing plan plan base (at s o d left) → is_some d.sizes ≡ true → has_tickets d.pending ≡ false
     → new ≡ lost_debugger d → InOrder plan base s o new × MayEnd plan Done base (flushed s) (flushed o) new
 finished-ends plan base s o d new left k known answered is =
-    let knows = stands-known plan base.debugger d known k.stands in
+    let knows = stands-known k.steps base.debugger d known k.stands in
+    let run : RunSteps plan plan base.debugger = record { steps = k.steps; are = k.are; told = k.told; debugger = d; reached = k.reached } in
     rw is (
       going-in-order plan plan base s o d left (lost_debugger d) (begins-all plan) k (same-lost d),
       (
-        (d, inr ((k.asked, answered, (knows.0, knows.1, knows.2)), going-tells plan plan base s o d left k), k.kept, refl),
+        (d, inr ((answered, (run, k.asked, (knows.0, knows.1, knows.2))), going-tells plan plan base s o d left k), k.kept, refl),
         has-left plan plan base s o d left k,
       ),
     )
@@ -704,7 +743,19 @@ still-in-order : (plan : List PlanLine) (base : Standing) (o o' : Story) (d : De
 still-in-order plan base o o' d same (done, begins, (text, r, is)) = tells-part plan base o' d (done, begins, (text, r, told-still base o o' text same is))
 
 still-part : (plan : List PlanLine) (base : Standing) (o o' : Story) (d : Debugger) → o'.written ≡ o.written → TellsPart plan base (flushed o) d → TellsPart plan base o' d
-still-part plan base o o' d same (done, begins, (text, part, r, front, is)) = (done, begins, (text, part, r, front, told-still base o o' part same is))
+still-part plan base o o' d same (inl (done, begins, (text, part, r, front, is))) = inl (done, begins, (text, part, r, front, told-still base o o' part same is))
+still-part plan base o o' d same (inr w) = inr (record {
+  done = w.done;
+  begins = w.begins;
+  old = w.old;
+  read = w.read;
+  told = w.told;
+  reached = w.reached;
+  awaits = w.awaits;
+  turned = w.turned;
+  due = w.due;
+  printed = told-still base o o' w.told same w.printed;
+})
 
 -- what was told before memory was wanting
 wants-told : (plan : List PlanLine) (base : Standing) (o : Story) (d : Debugger) → WantsTurn plan base o d → TellsInOrder plan base o d
@@ -715,19 +766,20 @@ wants-part plan base o d how =
     elim how [
       | inl (wants, turned) ↦ tells-part plan base o d (wants-told plan base o d wants)
       | inr (inl (done, line, next, takes, tells)) ↦ tells-part plan base o d (done, (line ∷ next.0, next.1), tells)
-      | inr (inr t) ↦ (
+      | inr (inr (inl t)) ↦ inl (
         t.done,
         t.begins,
         (
-          t.told ++ lines_of (Ok t.read) t.new,
+          t.told ++ lines_of (Ok t.read) t.mid,
           t.told,
-          subst (λ (x : Debugger). Reaches plan base.debugger t.done (t.told ++ lines_of (Ok t.read) t.new) x) (sym t.is)
-              (reach-all plan base.debugger t.done (t.told ++ lines_of (Ok t.read) t.new) t.new t.new.end.outgoing refl
-              (reach-turned plan base.debugger t.done t.told t.old t.new (Ok t.read) t.reached t.awaits t.turned)),
-          (lines_of (Ok t.read) t.new, refl),
+          subst (λ (x : Debugger). ReachesBy plan base.debugger t.done (t.told ++ lines_of (Ok t.read) t.mid) x) (sym t.is)
+              (along-all plan base.debugger t.done (t.told ++ lines_of (Ok t.read) t.mid) t.new t.new.end.outgoing refl
+              (along-turned plan t.done base.debugger t.own t.told t.old t.mid t.new t.read t.reached t.awaits t.turned t.asks)),
+          (lines_of (Ok t.read) t.mid, refl),
           t.printed,
         ),
       )
+      | inr (inr (inr w)) ↦ inr w
     ]
 
 still-wants : (plan : List PlanLine) (base : Standing) (o o' : Story) (d : Debugger) → o'.written ≡ o.written → WantsMemory plan base (flushed o) d → TellsPart plan base o' d
@@ -820,6 +872,8 @@ hello-goes plan s o d new left s' begun is written =
     rw (is, written) (record {
       ready = (ap (λ (x : Debugger). is_open x.end) begun, grind (arith, common_steps));
       kept = ap (λ (x : Debugger). x.end.session.lost) begun;
+      steps = [];
+      are = are-none d.order;
       told = [];
       reached = hello-reached-all plan d;
       asked = omega arith;
@@ -845,10 +899,12 @@ hello-ends plan s o d new left s' taken begun front f is =
     let none : d.end.session.taken ≡ [] = ap (λ (x : Debugger). x.end.session.taken) begun in
     let fed : d.end.session.fed ≡ [] = ap (λ (x : Debugger). x.end.session.fed) begun in
     let kept : d.end.session.lost ≡ false = ap (λ (x : Debugger). x.end.session.lost) begun in
+    let reached = hello-reached plan d taken front in
+    let run : RunSteps plan [] d = record { steps = []; are = are-none d.order; told = []; debugger = with_taken taken d; reached = reached } in
     rw is (
       record {
         read = grind (arith, common_steps, f.read, fed);
-        asked = ([], begins-none plan, (omega arith, inl (refl, refl)));
+        asked = ([], begins-none plan, (run, (omega arith, inl (refl, refl))));
         written = (
           w.0,
           w.1,
@@ -863,6 +919,6 @@ hello-ends plan s o d new left s' taken begun front f is =
       },
       (
         inl f.failed_writes,
-        (with_taken taken d, ([], begins-none plan, ([], [], hello-reached plan d taken front, ([], refl), sym (append-nil o.written))), kept, refl),
+        (with_taken taken d, inl ([], begins-none plan, ([], [], ([], are-none d.order, reached), ([], refl), sym (append-nil o.written))), kept, refl),
       ),
     )

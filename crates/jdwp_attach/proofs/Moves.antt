@@ -3,21 +3,30 @@ use Rattle.std.proofs.Common.{◌≡◌, ◌∙◌, ℕ, ◌<◌, ◌≤◌, ◌
 use Rattle.std.proofs.lemmas.Grind.{common_steps}
 use Rattle.std.proofs.lemmas.List.{append-nil, drop_more, take-append-drop, take_all, take_more}
 use Rattle.jdwp_end.specs.Ends.{front_of, is_open}
-use Rattle.jdwp_debugger.specs.Asking.{HasAsked, command_bytes}
+use Rattle.jdwp_debugger.specs.Asking.{HasAsked, command_bytes, refusal_of_ask}
+use Rattle.jdwp_value.specs.declared.id.ObjectId.{ObjectId}
+use Rattle.jdwp_wire.specs.Widths.{Widths}
+use Rattle.jdwp_watch.specs.Ledgers.{Account}
+use Rattle.jdwp_debugger.specs.FollowingKept.{following_by}
+use Rattle.jdwp_debugger.specs.Holding.{named_in}
+use Rattle.jdwp_mirror.specs.CommandKinds.{id_found}
 use Rattle.std.specs.Borrow.{Bor}
 use Rattle.jdwp_action.specs.Actions.{Command}
 use Rattle.jdwp_debugger.specs.declared.pending.Ticket.{Ticket}
 use Rattle.jdwp_debugger.specs.Debuggers.{Asked, Debugger, Unanswered, and_then, at_place, has_tickets, seen_unanswered, unanswered, with_fed, with_taken}
 use Rattle.jdwp_debugger.specs.DebuggerTurns.{TurnsAt}
+use Rattle.jdwp_debugger.specs.declared.turning.Read.{Read}
 use Rattle.jdwp_debugger.specs.declared.turning.Read.TheVariants as read
 use Rattle.jdwp_pipe.specs.Story.{Story, flushed, with_written}
 use Rattle.jdwp_plan.specs.declared.plan_line.PlanLine.{PlanLine}
 use Rattle.jdwp_plan.specs.declared.plan_line.PlanLine.TheVariants as line
+use Rattle.jdwp_attach.specs.OwnCounts.{AreSteps, AsksDue, Count, Line, Step, suspend_count}
 use Rattle.jdwp_attach.specs.PlanAsks.{IsBeginning, Stands, asks, asks_of}
 use Rattle.jdwp_attach.specs.PlanRuns.{IsAsk, LineGoesOn}
 use Rattle.jdwp_attach.specs.PlanWaits.{Awaits, HandlesFewer, IsNextLine, IsThere}
 use Rattle.jdwp_attach.specs.Runs.{IsAtAnswers, IsGoing, IsReady, Reaches, ReadsMore, Standing, TellsLine, at}
-use Rattle.jdwp_attach.proofs.Reached.{reach-all, reach-asked, reach-fed, reach-passed}
+use Rattle.jdwp_tell.specs.Telling.{lines_of}
+use Rattle.jdwp_attach.proofs.Reached.{are-line, reach-all, reach-asked, reach-fed, reach-passed}
 use Rattle.jdwp_attach.proofs.Stages.{asks-append, one-asked, stands-line}
 use Rattle.jdwp_attach.proofs.Turned.{Moves}
 
@@ -75,15 +84,17 @@ printed-again a b c x y z e f g = f ∙ ap (λ (s : Story). with_written y s) e 
 
 -- all that was put was written, and this text was printed
 pub moved-goes : (plan done done' : List PlanLine) (base : Standing) (s o : Story) (old mid : Debugger) (left left' turns tickets : ℕ) (s' o' : Story) (new : Debugger) (text told : List ℕ)
-    → (k : IsGoing plan done base (at s o old left)) → Moves old mid turns tickets → Reaches plan base.debugger done' told mid → told ≡ k.told ++ text → Stands done' base.debugger mid → is_open mid.end ≡ true
-    → asks done' ≡ asks done + tickets → left' + turns ≡ left → new ≡ with_taken mid.end.outgoing mid → s' ≡ with_written mid.end.outgoing s → o' ≡ with_written text o
-    → IsGoing plan done' base (at s' o' new left')
-moved-goes plan done done' base s o old mid left left' turns tickets s' o' new text told k p r tells stands opened counts spent is written printed =
+    (k : IsGoing plan done base (at s o old left)) (steps : List Step) → Moves old mid turns tickets → AreSteps base.debugger.order done' steps → Reaches plan base.debugger steps told mid → told ≡ k.told ++ text
+    → Stands steps base.debugger mid → is_open mid.end ≡ true → asks steps ≡ asks k.steps + tickets → left' + turns ≡ left → new ≡ with_taken mid.end.outgoing mid → s' ≡ with_written mid.end.outgoing s
+    → o' ≡ with_written text o → IsGoing plan done' base (at s' o' new left')
+moved-goes plan done done' base s o old mid left left' turns tickets s' o' new text told k steps p are r tells stands opened counts spent is written printed =
     rw (is, written) (record {
       ready = (opened, grind (arith, common_steps));
       kept = p.kept ∙ k.kept;
+      steps = steps;
+      are = are;
       told = told;
-      reached = reach-all plan base.debugger done' told mid mid.end.outgoing refl r;
+      reached = reach-all plan base.debugger steps told mid mid.end.outgoing refl r;
       asked = omega (arith, p.tickets_are, k.asked, counts);
       stands = stands;
       read = grind (arith, common_steps, k.read, p.fed);
@@ -107,8 +118,10 @@ read-goes plan done base s o old mid new left left' s' k awaits turned same (mor
     rw (fed, read, same) (record {
       ready = k.ready;
       kept = k.kept;
+      steps = k.steps;
+      are = k.are;
       told = k.told;
-      reached = reach-fed plan base.debugger done k.told old mid last more k.reached awaits turned fits is;
+      reached = reach-fed plan done base.debugger k.steps k.told old mid last more k.are k.reached awaits turned fits is;
       asked = k.asked;
       stands = k.stands;
       read = grind (arith, common_steps, k.read, append_assoc);
@@ -146,14 +159,17 @@ if-err (Err e) f p = f e p
 pub line-goes : (plan done : List PlanLine) (line : PlanLine) (base : Standing) (s o o' : Story) (d : Debugger) (left : ℕ) (text : List ℕ) → asks_of line ≡ 0 → is_some d.sizes ≡ true → IsThere line d
     → TellsLine line d text → o' ≡ with_written text o → IsGoing plan done base (at s o d left) → IsGoing plan (done ++ line ∷ []) base (at s o' d left)
 line-goes plan done line base s o o' d left text none known there tells printed k =
-    let asked : d.tickets ≡ base.debugger.tickets + asks (done ++ line ∷ []) = omega (arith, k.asked, none, asks-append done line) in
+    let steps = k.steps ++ Line line ∷ [] in
+    let asked : d.tickets ≡ base.debugger.tickets + asks steps = omega (arith, k.asked, none, asks-append k.steps (Line line)) in
     record {
       ready = k.ready;
       kept = k.kept;
+      steps = steps;
+      are = are-line base.debugger.order done k.steps line k.are;
       told = k.told ++ text;
-      reached = reach-passed plan base.debugger done k.told d line text k.reached asked there tells;
+      reached = reach-passed plan base.debugger k.steps k.told d line text k.reached asked there tells;
       asked = asked;
-      stands = stands-line done line base.debugger d none known k.stands;
+      stands = stands-line k.steps line base.debugger d none known k.stands;
       read = k.read;
       written = k.written;
       taken = k.taken;
@@ -186,6 +202,7 @@ ask-tells other set number bytes d h = absurd h
 pub asked-moves : (command : Command) (old new : Debugger) → HasAsked command old new → Moves old new 0 1
 asked-moves command old new h =
     rw h.is (record {
+      order = refl;
       kept = refl;
       fed = refl;
       turns_are = omega arith;
@@ -197,15 +214,81 @@ asked-moves command old new h =
     })
 
 -- the line asks it
-pub asked-passes : (plan done : List PlanLine) (line : PlanLine) (base old mid : Debugger) (text : List ℕ) (command : Command) (set number : ℕ) (bytes : List ℕ) → IsAsk line set number bytes
-    → is_open old.end ≡ true → HasAsked command old mid → old.tickets ≡ base.tickets + asks done → Reaches plan base done text old → Reaches plan base (done ++ line ∷ []) (text ++ []) mid
-asked-passes plan done line base old mid text command set number bytes asks-it opened asked tickets r =
-    reach-passed plan base done text mid line [] (reach-asked plan base done text old mid command r opened asked)
-    (omega (arith, tickets, (asked-moves command old mid asked).tickets_are, asks-append done line, one-asked line set number bytes asks-it)) (ask-there line set number bytes mid asks-it)
+pub asked-passes : (plan : List PlanLine) (steps : List Step) (line : PlanLine) (base old mid : Debugger) (text : List ℕ) (command : Command) (set number : ℕ) (bytes : List ℕ) → IsAsk line set number bytes
+    → is_open old.end ≡ true → HasAsked command old mid → old.tickets ≡ base.tickets + asks steps → Reaches plan base steps text old → Reaches plan base (steps ++ Line line ∷ []) (text ++ []) mid
+asked-passes plan steps line base old mid text command set number bytes asks-it opened asked tickets r =
+    reach-passed plan base steps text mid line [] (reach-asked plan base steps text old mid command r opened asked)
+    (omega (arith, tickets, (asked-moves command old mid asked).tickets_are, asks-append steps (Line line), one-asked line set number bytes asks-it)) (ask-there line set number bytes mid asks-it)
     (ask-tells line set number bytes mid asks-it)
 
 pub asked-open : (command : Command) (old new : Debugger) → HasAsked command old new → is_open old.end ≡ true → is_open new.end ≡ true
 asked-open command old new h opened = rw h.is opened
+
+-- somebody is named exactly where something is followed
+pub follows-so : (ledger : Option Account) (w : Widths) (pending : List Asked) → is_some (named_in ledger) ≡ is_some (following_by ledger w pending)
+follows-so None w pending = refl
+follows-so (Some a) w pending = refl
+
+-- the count that is due was asked, or the debugger refuses it
+pub due-asked : (due : Option ℕ) (found : Option ObjectId) (thread : ObjectId) (command : Command) (old new : Debugger) → found ≡ id_found due → found ≡ Some thread → command ≡ suspend_count thread.0
+    → refusal_of_ask old command ≡ None → HasAsked command old new → (own : List Step) × AsksDue due old new own
+due-asked None found thread command old new e f is unrefused h = absurd (let g : None ≡ Some thread = sym e ∙ f in cc)
+due-asked (Some t) found thread command old new e f is unrefused h =
+    let same : t ≡ thread.0 = let g = sym e ∙ f in cc in
+    let asks : command ≡ suspend_count t = is ∙ ap (λ (n : ℕ). suspend_count n) (sym same) in
+    (Count t ∷ [], inl (refl, rw (← asks) unrefused, rw (← asks) h))
+
+pub due-refused : (due : Option ℕ) (found : Option ObjectId) (thread : ObjectId) (command : Command) (old new : Debugger) → found ≡ id_found due → found ≡ Some thread → command ≡ suspend_count thread.0
+    → is_some (refusal_of_ask old command) ≡ true → new ≡ old → (own : List Step) × AsksDue due old new own
+due-refused None found thread command old new e f is refused same = absurd (let g : None ≡ Some thread = sym e ∙ f in cc)
+due-refused (Some t) found thread command old new e f is refused same =
+    let thread-is : t ≡ thread.0 = let g = sym e ∙ f in cc in
+    let asks : command ≡ suspend_count t = is ∙ ap (λ (n : ℕ). suspend_count n) (sym thread-is) in
+    ([], inr (refl, rw (← asks) refused, same))
+
+-- the count that was due behind a turn, or none
+pub due-moves : (due : Option ℕ) (old mid new : Debugger) (own : List Step) (turns : ℕ) → Moves old mid turns 0 → AsksDue due mid new own → Moves old new turns (asks own)
+due-moves None old mid new own turns p (none, same) = rw (none, same) p
+due-moves (Some thread) old mid new own turns p (inr (none, refused, same)) = rw (none, same) p
+due-moves (Some thread) old mid new own turns p (inl (one, unrefused, h)) =
+    let q = asked-moves _ mid new h in
+    rw one (record {
+      order = q.order ∙ p.order;
+      kept = q.kept ∙ p.kept;
+      fed = q.fed ∙ p.fed;
+      turns_are = omega (arith, q.turns_are, p.turns_are);
+      tickets_are = omega (arith, q.tickets_are, p.tickets_are);
+      bytes = p.bytes ++ q.bytes;
+      taken = q.taken ∙ p.taken;
+      enqueued = q.enqueued ∙ ap (λ (x : List ℕ). x ++ q.bytes) p.enqueued ∙ append_assoc old.end.session.enqueued p.bytes q.bytes;
+      outgoing = q.outgoing ∙ ap (λ (x : List ℕ). x ++ q.bytes) p.outgoing ∙ append_assoc old.end.outgoing p.bytes q.bytes;
+    })
+
+-- one is asked of an open session alone
+pub due-opens : (due : Option ℕ) (mid new : Debugger) (own : List Step) → AsksDue due mid new own → is_open new.end ≡ true → is_open mid.end ≡ true
+due-opens None mid new own (none, same) opened = rw same at opened
+due-opens (Some thread) mid new own (inr (none, refused, same)) opened = rw same at opened
+due-opens (Some thread) mid new own (inl (one, unrefused, h)) opened = rw h.established refl
+
+pub due-closed : (due : Option ℕ) (mid new : Debugger) (own : List Step) → AsksDue due mid new own → is_open new.end ≡ false → new ≡ mid
+due-closed None mid new own (none, same) closed = same
+due-closed (Some thread) mid new own (inr (none, refused, same)) closed = same
+due-closed (Some thread) mid new own (inl (one, unrefused, h)) closed =
+    absurd (let e = sym closed ∙ asked-open _ mid new h (rw h.established refl) in cc)
+
+-- what the turn told stays
+due-same : (due : Option ℕ) (mid new : Debugger) (own : List Step) → AsksDue due mid new own → (new.last ≡ mid.last) × (new.sizes ≡ mid.sizes)
+due-same None mid new own (none, same) = rw same (refl, refl)
+due-same (Some thread) mid new own (inr (none, refused, same)) = rw same (refl, refl)
+due-same (Some thread) mid new own (inl (one, unrefused, h)) = rw h.is (refl, refl)
+
+pub due-sizes : (due : Option ℕ) (mid new : Debugger) (own : List Step) → AsksDue due mid new own → new.sizes ≡ mid.sizes
+due-sizes due mid new own h = (due-same due mid new own h).1
+
+pub due-lines : (due : Option ℕ) (mid new : Debugger) (own : List Step) (r : Read) → AsksDue due mid new own → lines_of (Ok r) new ≡ lines_of (Ok r) mid
+due-lines due mid new own r h =
+    let same = due-same due mid new own h in
+    rw (same.0, same.1) refl
 
 -- ---- what a turn is made for
 

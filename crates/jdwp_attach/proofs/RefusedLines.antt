@@ -163,7 +163,7 @@ pair-ended line.Mirror place refused h = absurd (cc)
 
 pub pair-tells : (line : PlanLine) (s o : Story) (d new : Debugger) (left : ℕ) → is_of_pair (said_by line) ≡ true → is_some d.sizes ≡ true → new ≡ lost_debugger d → LineTells line (at s o d left) new (Refused 0)
 pair-tells line s o d new left of-pair known is done rest base k =
-    let knows = stands-known done base.debugger d known k.stands in
+    let knows = stands-known k.steps base.debugger d known k.stands in
     subst (λ (how : Attached). TellsRefused (done ++ line ∷ rest) how base.debugger new) (sym (pair-ended line (length done + 1) 0 of-pair))
     (d, line-refused done rest line base s o d left 0 knows.0 k knows.1 (pair-refuses line knows.0 d of-pair), k.kept, is)
 

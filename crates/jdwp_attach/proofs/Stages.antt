@@ -35,79 +35,84 @@ use Rattle.jdwp_debugger.specs.News.{EIGHT, News, Waits, Happens, Answers, Measu
 use Rattle.jdwp_mirror.specs.Widths.{widths_in}
 use Rattle.jdwp_plan.specs.declared.plan_line.PlanLine.{PlanLine}
 use Rattle.jdwp_plan.specs.declared.plan_line.PlanLine.TheVariants as line
-use Rattle.jdwp_attach.specs.PlanAsks.{CountsIds, HasPut, HasPutNone, IsNthId, KnowsSizes, PutsLine, PutsLines, Stands, asks, asks_of, command_asked}
+use Rattle.jdwp_attach.specs.OwnCounts.{AsksDue, Count, Line, Step, suspend_count}
+use Rattle.jdwp_attach.specs.PlanAsks.{CountsIds, HasPut, HasPutNone, IsNthId, KnowsSizes, PutsStep, PutsSteps, Stands, asks, asks_of, command_asked, step_asks}
 use Rattle.jdwp_attach.specs.PlanRuns.{IsAsk}
 use Rattle.jdwp_attach.proofs.Turned.{asked-of, packet-enqueued}
 
 -- ---- what was put
 
 -- nothing, or what these lines ask, in ids so wide
-abbrev pub Puts : List PlanLine → Debugger → Debugger → Type 0
-Puts done base d = HasPutNone done base d ⊎ ((w : Widths) × HasPut w done base d)
+abbrev pub Puts : List Step → Debugger → Debugger → Type 0
+Puts steps base d = HasPutNone steps base d ⊎ ((w : Widths) × HasPut w steps base d)
 
 -- nothing more was put
-pub puts-same : (done : List PlanLine) (base old new : Debugger) → new.end.session.enqueued ≡ old.end.session.enqueued → Puts done base old → Puts done base new
-puts-same done base old new same (inl h) = inl (h.0, same ∙ h.1)
-puts-same done base old new same (inr (w, (bytes, lines, is))) = inr (w, (bytes, lines, same ∙ is))
+pub puts-same : (steps : List Step) (base old new : Debugger) → new.end.session.enqueued ≡ old.end.session.enqueued → Puts steps base old → Puts steps base new
+puts-same steps base old new same (inl h) = inl (h.0, same ∙ h.1)
+puts-same steps base old new same (inr (w, (bytes, lines, is))) = inr (w, (bytes, lines, same ∙ is))
 
 -- IDSizes alone was put
-sizes-put : (w : Widths) (done : List PlanLine) (base d : Debugger) → done ≡ [] → d.end.session.enqueued ≡ base.end.session.enqueued ++ header_bytes (sizes_header base.next_id) → HasPut w done base d
-sizes-put w done base d none is =
+sizes-put : (w : Widths) (steps : List Step) (base d : Debugger) → steps ≡ [] → d.end.session.enqueued ≡ base.end.session.enqueued ++ header_bytes (sizes_header base.next_id) → HasPut w steps base d
+sizes-put w steps base d none is =
     rw none ([], refl, is ∙ ap (λ (x : List ℕ). base.end.session.enqueued ++ x) (sym (append-nil (header_bytes (sizes_header base.next_id)))))
 
-pub stands-puts : (done : List PlanLine) (base d : Debugger) → Stands done base d → Puts done base d
-stands-puts done base d (inl a) = inl a.0
-stands-puts done base d (inr (inl s)) = inr (EIGHT, sizes-put EIGHT done base d s.0 s.1)
-stands-puts done base d (inr (inr k)) = inr (k.0, k.2)
+pub stands-puts : (steps : List Step) (base d : Debugger) → Stands steps base d → Puts steps base d
+stands-puts steps base d (inl a) = inl a.0
+stands-puts steps base d (inr (inl s)) = inr (EIGHT, sizes-put EIGHT steps base d s.0 s.1)
+stands-puts steps base d (inr (inr k)) = inr (k.0, k.2)
 
 -- the widths of ids are known
-pub stands-known : (done : List PlanLine) (base d : Debugger) → is_some d.sizes ≡ true → Stands done base d → KnowsSizes done base d
-stands-known done base d known (inl a) = absurd (let e = sym known ∙ ap (λ (o : Option Widths). is_some o) a.2 in cc)
-stands-known done base d known (inr (inl s)) = absurd (let e = sym known ∙ ap (λ (o : Option Widths). is_some o) s.2 in cc)
-stands-known done base d known (inr (inr k)) = k
+pub stands-known : (steps : List Step) (base d : Debugger) → is_some d.sizes ≡ true → Stands steps base d → KnowsSizes steps base d
+stands-known steps base d known (inl a) = absurd (let e = sym known ∙ ap (λ (o : Option Widths). is_some o) a.2 in cc)
+stands-known steps base d known (inr (inl s)) = absurd (let e = sym known ∙ ap (λ (o : Option Widths). is_some o) s.2 in cc)
+stands-known steps base d known (inr (inr k)) = k
 
--- ---- lines
+-- ---- steps
 
-pub asks-append : (done : List PlanLine) (line : PlanLine) → asks (done ++ line ∷ []) ≡ asks done + asks_of line
-asks-append [] line = omega arith
-asks-append (first ∷ done) line = omega (arith, asks-append done line)
+pub asks-append : (steps : List Step) (step : Step) → asks (steps ++ step ∷ []) ≡ asks steps + step_asks step
+asks-append [] step = omega arith
+asks-append (first ∷ steps) step = omega (arith, asks-append steps step)
 
-lines-more : (w : Widths) (first n m : ℕ) (done : List PlanLine) (line : PlanLine) (bytes more : List ℕ) → m ≡ n + asks done → PutsLines w first n done bytes → PutsLine w first m line more
-    → PutsLines w first n (done ++ line ∷ []) (bytes ++ more)
-lines-more w first n m [] line bytes more at none puts =
+pub asks-both : (a b : List Step) → asks (a ++ b) ≡ asks a + asks b
+asks-both [] b = omega arith
+asks-both (step ∷ a) b = omega (arith, asks-both a b)
+
+steps-more : (w : Widths) (first n m : ℕ) (steps : List Step) (step : Step) (bytes more : List ℕ) → m ≡ n + asks steps → PutsSteps w first n steps bytes → PutsStep w first m step more
+    → PutsSteps w first n (steps ++ step ∷ []) (bytes ++ more)
+steps-more w first n m [] step bytes more at none puts =
     let same : m ≡ n = omega (arith, at) in
-    (more, [], subst (λ (x : ℕ). PutsLine w first x line more) same puts, refl, ap (λ (x : List ℕ). x ++ more) none ∙ sym (append-nil more))
-lines-more w first n m (l ∷ done) line bytes more at (a, rest, puts, lines, is) last = (
+    (more, [], subst (λ (x : ℕ). PutsStep w first x step more) same puts, refl, ap (λ (x : List ℕ). x ++ more) none ∙ sym (append-nil more))
+steps-more w first n m (s ∷ steps) step bytes more at (a, rest, puts, lines, is) last = (
   a,
   rest ++ more,
   puts,
-  lines-more w first (n + asks_of l) m done line rest more (omega (arith, at)) lines last,
+  steps-more w first (n + step_asks s) m steps step rest more (omega (arith, at)) lines last,
   ap (λ (x : List ℕ). x ++ more) is ∙ append_assoc a rest more,
 )
 
-put-more : (w : Widths) (done : List PlanLine) (line : PlanLine) (base old new : Debugger) (more : List ℕ) → HasPut w done base old → PutsLine w base.next_id (asks done + 1) line more
-    → new.end.session.enqueued ≡ old.end.session.enqueued ++ more → HasPut w (done ++ line ∷ []) base new
-put-more w done line base old new more (bytes, lines, is) puts more-is =
+put-more : (w : Widths) (steps : List Step) (step : Step) (base old new : Debugger) (more : List ℕ) → HasPut w steps base old → PutsStep w base.next_id (asks steps + 1) step more
+    → new.end.session.enqueued ≡ old.end.session.enqueued ++ more → HasPut w (steps ++ step ∷ []) base new
+put-more w steps step base old new more (bytes, lines, is) puts more-is =
     let start = base.end.session.enqueued in
     let sizes = header_bytes (sizes_header base.next_id) in (
       bytes ++ more,
-      lines-more w base.next_id 1 (asks done + 1) done line bytes more (omega arith) lines puts,
+      steps-more w base.next_id 1 (asks steps + 1) steps step bytes more (omega arith) lines puts,
       more-is ∙ ap (λ (x : List ℕ). x ++ more) is ∙ append_assoc start (sizes ++ bytes) more ∙ ap (λ (x : List ℕ). start ++ x) (append_assoc sizes bytes more),
     )
 
 -- a line that asks nothing puts nothing
-puts-nothing : (w : Widths) (first n : ℕ) (line : PlanLine) → asks_of line ≡ 0 → PutsLine w first n line []
+puts-nothing : (w : Widths) (first n : ℕ) (line : PlanLine) → asks_of line ≡ 0 → PutsStep w first n (Line line) []
 puts-nothing w first n (line.Ask set number carried) none = absurd (let e = none in cc)
 puts-nothing w first n other none = refl
 
-pub stands-line : (done : List PlanLine) (line : PlanLine) (base d : Debugger) → asks_of line ≡ 0 → is_some d.sizes ≡ true → Stands done base d → Stands (done ++ line ∷ []) base d
-stands-line done line base d none known s =
-    let k = stands-known done base d known s in
-    let same : asks done + 1 ≡ asks (done ++ line ∷ []) + 1 = omega (arith, asks-append done line, none) in
+pub stands-line : (steps : List Step) (line : PlanLine) (base d : Debugger) → asks_of line ≡ 0 → is_some d.sizes ≡ true → Stands steps base d → Stands (steps ++ Line line ∷ []) base d
+stands-line steps line base d none known s =
+    let k = stands-known steps base d known s in
+    let same : asks steps + 1 ≡ asks (steps ++ Line line ∷ []) + 1 = omega (arith, asks-append steps (Line line), none) in
     inr (inr (
       k.0,
       k.1,
-      put-more k.0 done line base d d [] k.2 (puts-nothing k.0 base.next_id (asks done + 1) line none) (sym (append-nil d.end.session.enqueued)),
+      put-more k.0 steps (Line line) base d d [] k.2 (puts-nothing k.0 base.next_id (asks steps + 1) line none) (sym (append-nil d.end.session.enqueued)),
       k.3,
       k.4,
       subst (λ (x : ℕ). CountsIds base.next_id x d) same k.5,
@@ -160,10 +165,16 @@ pub one-asked : (line : PlanLine) (set number : ℕ) (bytes : List ℕ) → IsAs
 one-asked (line.Ask s n carried) set number bytes h = refl
 one-asked other set number bytes h = absurd h
 
-puts-asked : (w : Widths) (first n : ℕ) (line : PlanLine) (set number id : ℕ) (bytes : List ℕ) (command : Command) → IsNthId first n id → IsAsk line set number bytes
-    → command_asked w set number bytes ≡ Some command → PutsLine w first n line (command_bytes w id command)
-puts-asked w first n (line.Ask s m carried) set number id bytes command nth h is = (id, command, nth, rw (h.0, h.1, h.2) is, refl)
-puts-asked w first n other set number id bytes command nth h is = absurd h
+-- such a step puts the packet of this command
+abbrev PutsCommand : Step → Command → Widths → Type 0
+PutsCommand step command w = (first n id : ℕ) → IsNthId first n id → PutsStep w first n step (command_bytes w id command)
+
+puts-asked : (w : Widths) (line : PlanLine) (set number : ℕ) (bytes : List ℕ) (command : Command) → IsAsk line set number bytes → command_asked w set number bytes ≡ Some command → PutsCommand (Line line) command w
+puts-asked w (line.Ask s m carried) set number bytes command h is first n id nth = (id, command, nth, rw (h.0, h.1, h.2) is, refl)
+puts-asked w other set number bytes command h is first n id nth = absurd h
+
+puts-count : (w : Widths) (thread : ℕ) → PutsCommand (Count thread) (suspend_count thread) w
+puts-count w thread first n id nth = (id, nth, refl)
 
 -- one id more was given
 counts-more : (w : Widths) (first n id : ℕ) (command : Command) (old : Debugger) → IsNextFree old.pending old.next_id id → CountsIds first n old → CountsIds first (n + 1) (with_asked w id command old)
@@ -174,25 +185,44 @@ counts-more w first n id command old next counts below =
       all-append (λ (p : Asked). (k : ℕ) × (k < n + 1) × (p.id ≡ id_after first k)) old.pending _ (all-more first n old.pending before.1) ((n, omega arith, is), tt),
     )
 
-pub stands-asked : (done : List PlanLine) (line : PlanLine) (base old new : Debugger) (set number : ℕ) (bytes : List ℕ) (w : Widths) (command : Command) → IsAsk line set number bytes
-    → old.sizes ≡ Some w → command_asked w set number bytes ≡ Some command → HasAsked command old new → Stands done base old → Stands (done ++ line ∷ []) base new
-stands-asked done line base old new set number bytes w command asks-it known is h s =
-    let k = stands-known done base old (ap (λ (o : Option Widths). is_some o) known) s in
+stands-step : (steps : List Step) (step : Step) (base old new : Debugger) (w : Widths) (command : Command) → step_asks step ≡ 1 → old.sizes ≡ Some w → PutsCommand step command w → HasAsked command old new
+    → Stands steps base old → Stands (steps ++ step ∷ []) base new
+stands-step steps step base old new w command one known puts-it h s =
+    let k = stands-known steps base old (ap (λ (o : Option Widths). is_some o) known) s in
     let same : k.0 ≡ w = let e = sym k.1 ∙ known in cc in
     let same' : h.widths ≡ w = let e = sym h.known ∙ known in cc in
-    let put : HasPut w done base old = rw (← same) k.2 in
-    let n : ℕ = asks done + 1 in
+    let put : HasPut w steps base old = rw (← same) k.2 in
+    let n : ℕ = asks steps + 1 in
     let nth : IsNthId base.next_id n h.id = λ below. next-is old.pending old.next_id h.id base.next_id n (k.5 below).0 below (k.5 below).1 h.next in
-    let puts : PutsLine w base.next_id n line (command_bytes h.widths h.id command) = rw same' (puts-asked w base.next_id n line set number h.id bytes command nth asks-it is) in
-    let count : asks done + 1 + 1 ≡ asks (done ++ line ∷ []) + 1 = omega (arith, asks-append done line, one-asked line set number bytes asks-it) in
+    let puts : PutsStep w base.next_id n step (command_bytes h.widths h.id command) = rw same' (puts-it base.next_id n h.id nth) in
+    let count : asks steps + 1 + 1 ≡ asks (steps ++ step ∷ []) + 1 = omega (arith, asks-append steps step, one) in
     rw h.is (inr (inr (
       w,
       known,
-      put-more w done line base old (with_asked h.widths h.id command old) (command_bytes h.widths h.id command) put puts refl,
+      put-more w steps step base old (with_asked h.widths h.id command old) (command_bytes h.widths h.id command) put puts refl,
       k.3,
       all-append (λ (p : Asked). is_some p.ticket ≡ true) old.pending _ k.4 (refl, tt),
       subst (λ (x : ℕ). CountsIds base.next_id x (with_asked h.widths h.id command old)) count (counts-more h.widths base.next_id n h.id command old h.next k.5),
     )))
+
+pub stands-asked : (steps : List Step) (line : PlanLine) (base old new : Debugger) (set number : ℕ) (bytes : List ℕ) (w : Widths) (command : Command) → IsAsk line set number bytes
+    → old.sizes ≡ Some w → command_asked w set number bytes ≡ Some command → HasAsked command old new → Stands steps base old → Stands (steps ++ Line line ∷ []) base new
+stands-asked steps line base old new set number bytes w command asks-it known is h s =
+    stands-step steps (Line line) base old new w command (one-asked line set number bytes asks-it) known (puts-asked w line set number bytes command asks-it is) h s
+
+-- the count that was due
+pub stands-due : (due : Option ℕ) (steps own : List Step) (base old new : Debugger) → AsksDue due old new own → Stands steps base old → Stands (steps ++ own) base new
+stands-due None steps own base old new (none, same) s = rw (none, same, append-nil steps) s
+stands-due (Some thread) steps own base old new (inl (one, unrefused, h)) s =
+    rw one (stands-step steps (Count thread) base old new h.widths (suspend_count thread) refl h.known (puts-count h.widths thread) h s)
+stands-due (Some thread) steps own base old new (inr (none, refused, same)) s = rw (none, same, append-nil steps) s
+
+-- what was put behind a turn that may have closed the session
+pub puts-due : (due : Option ℕ) (steps own : List Step) (base old new : Debugger) → AsksDue due old new own → (is_open old.end ≡ true → Stands steps base old) → Puts steps base old → Puts (steps ++ own) base new
+puts-due None steps own base old new (none, same) stands puts = rw (none, same, append-nil steps) puts
+puts-due (Some thread) steps own base old new (inl (one, unrefused, h)) stands puts =
+    stands-puts (steps ++ own) base new (stands-due (Some thread) steps own base old new (inl (one, unrefused, h)) (stands (rw h.established refl)))
+puts-due (Some thread) steps own base old new (inr (none, refused, same)) stands puts = rw (none, same, append-nil steps) puts
 
 -- ---- what stands in front
 
@@ -308,8 +338,8 @@ measured-open : (b : Bool) (w : Widths) (mid : Debugger) → is_open (measured_w
 measured-open true w mid opened = absurd (let e = opened in cc)
 measured-open false w mid opened = refl
 
-hello-stands : (done : List PlanLine) (base old : Debugger) (used : ℕ) → front_of old.end ≡ Whole streams.Handshake used → old.pending ≡ [] → Stands done base old → Stands done base (greeted used old)
-hello-stands done base old used front none (inl (empty, phase, sizes, pending, id)) =
+hello-stands : (steps : List Step) (base old : Debugger) (used : ℕ) → front_of old.end ≡ Whole streams.Handshake used → old.pending ≡ [] → Stands steps base old → Stands steps base (greeted used old)
+hello-stands steps base old used front none (inl (empty, phase, sizes, pending, id)) =
     let asked : Asked = record { id = old.next_id; ticket = None; command = id_sizes } in
     inr (inl (
       empty.0,
@@ -318,56 +348,56 @@ hello-stands done base old used front none (inl (empty, phase, sizes, pending, i
       (asked, refl, ap (λ (x : List Asked). x ++ asked ∷ []) none),
       ap (λ (x : ℕ). id_after x 1) id,
     ))
-hello-stands done base old used front none (inr (inl s)) = absurd (let e = sym none ∙ s.3.2 in cc)
-hello-stands done base old used front none (inr (inr k)) = absurd (hello-awaited old.end used k.3 front)
+hello-stands steps base old used front none (inr (inl s)) = absurd (let e = sym none ∙ s.3.2 in cc)
+hello-stands steps base old used front none (inr (inr k)) = absurd (hello-awaited old.end used k.3 front)
 
-packet-stands : (done : List PlanLine) (base old : Debugger) (header : Header) (body : List ℕ) (used : ℕ) (news : News) (new : Debugger) (t : Told)
+packet-stands : (steps : List Step) (base old : Debugger) (header : Header) (body : List ℕ) (used : ℕ) (news : News) (new : Debugger) (t : Told)
     → front_of old.end ≡ Whole (streams.Packet header body) used → says (reading_of old) header.id header.kind body ≡ Ok news
-    → Enters (streams.Packet header body) used header news old t new → is_open new.end ≡ true → Stands done base old → Stands done base new
-packet-stands done base old header body used news new t front said h opened (inl a) = absurd (packet-awaited old.end header body used a.1 front)
-packet-stands done base old header body used (Waits bytes) new t front said h opened (inr (inl s)) = rw h.1 (inr (inl s))
-packet-stands done base old header body used (Waits bytes) new t front said h opened (inr (inr k)) = rw h.1 (inr (inr (k.0, k.1, k.2, refl, k.4, k.5)))
-packet-stands done base old header body used (Happens c) new t front said h opened (inr (inl s)) =
-    rw (h.1.2 ∙ where-open (ends (Report c)) _ (rw h.1.2 at opened)) (inr (inl s))
-packet-stands done base old header body used (Happens c) new t front said h opened (inr (inr k)) =
-    rw (h.1.2 ∙ where-open (ends (Report c)) _ (rw h.1.2 at opened)) (inr (inr (k.0, k.1, k.2, refl, k.4, k.5)))
-packet-stands done base old header body used (Answers place ticket answer) new t front said h opened (inr (inl s)) =
+    → Enters (streams.Packet header body) used header news old t new → is_open new.end ≡ true → Stands steps base old → Stands steps base new
+packet-stands steps base old header body used news new t front said h opened (inl a) = absurd (packet-awaited old.end header body used a.1 front)
+packet-stands steps base old header body used (Waits bytes) new t front said h opened (inr (inl s)) = rw h.1 (inr (inl s))
+packet-stands steps base old header body used (Waits bytes) new t front said h opened (inr (inr k)) = rw h.1 (inr (inr (k.0, k.1, k.2, refl, k.4, k.5)))
+packet-stands steps base old header body used (Happens c) new t front said h opened (inr (inl s)) =
+    rw (h.1.4 ∙ where-open (ends (Report c)) _ (rw h.1.4 at opened)) (inr (inl s))
+packet-stands steps base old header body used (Happens c) new t front said h opened (inr (inr k)) =
+    rw (h.1.4 ∙ where-open (ends (Report c)) _ (rw h.1.4 at opened)) (inr (inr (k.0, k.1, k.2, refl, k.4, k.5)))
+packet-stands steps base old header body used (Answers place ticket answer) new t front said h opened (inr (inl s)) =
     let a = asked-of (reading_of old) header.id header.kind body place ticket answer said in
     let only = only-there old.pending s.3.0 a.0 place s.3.2 a.1 in
     absurd (let e = sym s.3.1 ∙ ap (λ (p : Asked). p.ticket) only.1 ∙ a.2 in cc)
-packet-stands done base old header body used (Answers place ticket answer) new t front said h opened (inr (inr k)) =
-    rw (h.1.2 ∙ where-open (ends (Reply (Some ticket) (command_at place old.pending) answer)) _ (rw h.1.2 at opened))
-    (inr (inr (k.0, k.1, k.2, refl, all-removed (λ (p : Asked). is_some p.ticket ≡ true) old.pending place k.4, counts-removed base.next_id (asks done + 1) old place k.5)))
-packet-stands done base old header body used (Measures place answer w cs) new t front said h opened (inr (inl s)) =
+packet-stands steps base old header body used (Answers place ticket answer) new t front said h opened (inr (inr k)) =
+    rw (h.1.4 ∙ where-open (ends (Reply (Some ticket) (command_at place old.pending) answer)) _ (rw h.1.4 at opened))
+    (inr (inr (k.0, k.1, k.2, refl, all-removed (λ (p : Asked). is_some p.ticket ≡ true) old.pending place k.4, counts-removed base.next_id (asks steps + 1) old place k.5)))
+packet-stands steps base old header body used (Measures place answer w cs) new t front said h opened (inr (inl s)) =
     let a = measured-of (reading_of old) header.id header.kind body place answer w cs said in
     let only = only-there old.pending s.3.0 a.0 place s.3.2 a.1 in
-    rw (h.1.2 ∙ measured-open (list_any ends (reports cs)) w _ (rw h.1.2 at opened))
+    rw (h.1.4 ∙ measured-open (list_any ends (reports cs)) w _ (rw h.1.4 at opened))
     (inr (inr (
       w,
       refl,
-      sizes-put w done base old s.0 s.1,
+      sizes-put w steps base old s.0 s.1,
       refl,
       rw (only.0, s.3.2) tt,
       rw s.0 (λ below. (s.4, rw (only.0, s.3.2) tt)),
     )))
-packet-stands done base old header body used (Measures place answer w cs) new t front said h opened (inr (inr k)) =
+packet-stands steps base old header body used (Measures place answer w cs) new t front said h opened (inr (inr k)) =
     let a = measured-of (reading_of old) header.id header.kind body place answer w cs said in
     absurd (let e = sym (ticketed-there old.pending place a.0 k.4 a.1) ∙ ap (λ (o : Option Ticket). is_some o) a.2 in cc)
 
 -- a turn that read something
-pub turned-stands : (next : NextMessage) (done : List PlanLine) (base old new : Debugger) (r : Read) → front_of old.end ≡ next → TurnsAt next old (Ok r) new → r ≢ read.Nothing
-    → is_open new.end ≡ true → Stands done base old → Stands done base new
-turned-stands (Whole streams.Handshake used) done base old new r front h some opened s = rw h.2 (hello-stands done base old used front h.1 s)
-turned-stands (Whole (streams.Packet header body) used) done base old new r front h some opened s =
-    packet-stands done base old header body used h.news new (read_meaning r) front h.said h.entered opened s
-turned-stands More done base old new r front h some opened s = absurd (some (let e = h.0 in cc))
-turned-stands (Fault fault) done base old new r front h some opened s = absurd (let e = h.0 in cc)
+pub turned-stands : (next : NextMessage) (steps : List Step) (base old new : Debugger) (r : Read) → front_of old.end ≡ next → TurnsAt next old (Ok r) new → r ≢ read.Nothing
+    → is_open new.end ≡ true → Stands steps base old → Stands steps base new
+turned-stands (Whole streams.Handshake used) steps base old new r front h some opened s = rw h.2 (hello-stands steps base old used front h.1 s)
+turned-stands (Whole (streams.Packet header body) used) steps base old new r front h some opened s =
+    packet-stands steps base old header body used h.news new (read_meaning r) front h.said h.entered opened s
+turned-stands More steps base old new r front h some opened s = absurd (some (let e = h.0 in cc))
+turned-stands (Fault fault) steps base old new r front h some opened s = absurd (let e = h.0 in cc)
 
 -- what was put by one, whether it closed the session or not
-pub turned-puts : (next : NextMessage) (done : List PlanLine) (base old new : Debugger) (r : Read) → front_of old.end ≡ next → TurnsAt next old (Ok r) new → r ≢ read.Nothing
-    → Stands done base old → Puts done base new
-turned-puts (Whole streams.Handshake used) done base old new r front h some s = rw h.2 (stands-puts done base (greeted used old) (hello-stands done base old used front h.1 s))
-turned-puts (Whole (streams.Packet header body) used) done base old new r front h some s =
-    puts-same done base old new (packet-enqueued (streams.Packet header body) used header h.news old new (read_meaning r) h.entered) (stands-puts done base old s)
-turned-puts More done base old new r front h some s = absurd (some (let e = h.0 in cc))
-turned-puts (Fault fault) done base old new r front h some s = absurd (let e = h.0 in cc)
+pub turned-puts : (next : NextMessage) (steps : List Step) (base old new : Debugger) (r : Read) → front_of old.end ≡ next → TurnsAt next old (Ok r) new → r ≢ read.Nothing
+    → Stands steps base old → Puts steps base new
+turned-puts (Whole streams.Handshake used) steps base old new r front h some s = rw h.2 (stands-puts steps base (greeted used old) (hello-stands steps base old used front h.1 s))
+turned-puts (Whole (streams.Packet header body) used) steps base old new r front h some s =
+    puts-same steps base old new (packet-enqueued (streams.Packet header body) used header h.news old new (read_meaning r) h.entered) (stands-puts steps base old s)
+turned-puts More steps base old new r front h some s = absurd (some (let e = h.0 in cc))
+turned-puts (Fault fault) steps base old new r front h some s = absurd (let e = h.0 in cc)

@@ -1,5 +1,5 @@
 -- What a turn did, by what it answered.
-use Rattle.std.proofs.Common.{◌≡◌, ◌≢◌, ◌∙◌, ℕ, ◌+◌, ◌++◌, List, [], Bool, true, false, Option, Some, None, Ok, Err, is_some, slice_get, if◌then◌else◌, ap, refl, sym, arith}
+use Rattle.std.proofs.Common.{◌≡◌, ◌≢◌, ◌∙◌, ℕ, ◌+◌, ◌++◌, List, [], Bool, true, false, Option, Some, None, Result, Ok, Err, is_some, slice_get, if◌then◌else◌, ap, refl, subst, sym, arith}
 use Rattle.std.proofs.lemmas.List.{append-nil}
 use Rattle.std.specs.List.{list_any}
 use Rattle.jdwp_wire.specs.declared.error_code.ErrorCode.{ErrorCode}
@@ -12,9 +12,11 @@ use Rattle.jdwp_wire.specs.Streams as streams
 use Rattle.jdwp_wire.specs.Widths.{Widths}
 use Rattle.jdwp_layout.specs.declared.answer.Answer.{Answer}
 use Rattle.jdwp_event.specs.Composites.{CompositeMeaning}
-use Rattle.jdwp_end.specs.Ends.{is_open}
+use Rattle.jdwp_end.specs.Ends.{front_of, is_open}
 use Rattle.jdwp_debugger.specs.declared.faults.DebuggerFault.{DebuggerFault}
 use Rattle.jdwp_debugger.specs.declared.faults.DebuggerFault.TheVariants as code
+use Rattle.jdwp_debugger.specs.declared.order.Order.{Order}
+use Rattle.jdwp_debugger.specs.declared.order.Order.TheVariants as order
 use Rattle.jdwp_debugger.specs.declared.pending.Ticket.{Ticket}
 use Rattle.jdwp_debugger.specs.declared.turning.Read.{Read}
 use Rattle.jdwp_debugger.specs.declared.turning.Read.TheVariants as read
@@ -25,10 +27,12 @@ use Rattle.jdwp_mirror.specs.Messages.{Reply, Report}
 use Rattle.jdwp_mirror.specs.Mirror.{ends}
 use Rattle.jdwp_debugger.specs.News.{News, Waits, Happens, Answers, Measures, Reading, answer_says, event_says, event_says_by, place_of, reply_at, reply_to, says, sizes_say, unless_bad, answer_by, widths_by, with_composites, composites_in}
 use Rattle.jdwp_mirror.specs.Widths.{widths_in}
+use Rattle.jdwp_attach.specs.OwnCounts.{due_behind, due_count, due_in}
 use Rattle.jdwp_attach.specs.PlanRuns.{TellsEnd}
 
 -- Between two states of a debugger, so many messages were handled and so many commands asked, and bytes were put behind those that wait.
 pub record Moves (old new : Debugger) (turns tickets : ℕ) : Type 0 where
+  pub order : new.order ≡ old.order
   pub kept : new.end.session.lost ≡ old.end.session.lost
   pub fed : new.end.session.fed ≡ old.end.session.fed
   pub turns_are : new.end.session.turns ≡ old.end.session.turns + turns
@@ -90,6 +94,7 @@ fault-refused (Fault fault') old new fault some h = h.1
 
 greeted-moves : (used : ℕ) (old : Debugger) → Moves old (greeted used old) 1 0
 greeted-moves used old = record {
+  order = refl;
   kept = refl;
   fed = refl;
   turns_are = refl;
@@ -102,6 +107,7 @@ greeted-moves used old = record {
 
 -- a packet that put nothing
 record Handled (old new : Debugger) : Type 0 where
+  order : new.order ≡ old.order
   kept : new.end.session.lost ≡ old.end.session.lost
   fed : new.end.session.fed ≡ old.end.session.fed
   turns_are : new.end.session.turns ≡ old.end.session.turns + 1
@@ -112,6 +118,7 @@ record Handled (old new : Debugger) : Type 0 where
 
 handled-moves : (old new : Debugger) → Handled old new → Moves old new 1 0
 handled-moves old new h = record {
+  order = h.order;
   kept = h.kept;
   fed = h.fed;
   turns_are = h.turns_are;
@@ -123,11 +130,11 @@ handled-moves old new h = record {
 }
 
 handled-where : (b : Bool) (old mid : Debugger) → Handled old mid → Handled old (closed_where b mid)
-handled-where true old mid h = record { kept = h.kept; fed = h.fed; turns_are = h.turns_are; tickets_are = h.tickets_are; taken = h.taken; enqueued = h.enqueued; outgoing = h.outgoing }
+handled-where true old mid h = record { order = h.order; kept = h.kept; fed = h.fed; turns_are = h.turns_are; tickets_are = h.tickets_are; taken = h.taken; enqueued = h.enqueued; outgoing = h.outgoing }
 handled-where false old mid h = h
 
 handled-measured : (b : Bool) (w : Widths) (old mid : Debugger) → Handled old mid → Handled old (measured_where b w mid)
-handled-measured true w old mid h = record { kept = h.kept; fed = h.fed; turns_are = h.turns_are; tickets_are = h.tickets_are; taken = h.taken; enqueued = h.enqueued; outgoing = h.outgoing }
+handled-measured true w old mid h = record { order = h.order; kept = h.kept; fed = h.fed; turns_are = h.turns_are; tickets_are = h.tickets_are; taken = h.taken; enqueued = h.enqueued; outgoing = h.outgoing }
 handled-measured false w old mid h = h
 
 closed-so : (b : Bool) (mid : Debugger) → is_open mid.end ≡ true → is_open (closed_where b mid).end ≡ false → b ≡ true
@@ -204,13 +211,13 @@ packet-read : (header : Header) (body : List ℕ) (used : ℕ) (news : News) (ol
     → Enters (streams.Packet header body) used header news old t new → Reads old new (TellsEnd old t)
 packet-read header body used (Waits bytes) old new t said h =
     rw (h.0, h.1) (record {
-      moves = handled-moves old _ (record { kept = refl; fed = refl; turns_are = refl; tickets_are = refl; taken = refl; enqueued = refl; outgoing = refl });
+      moves = handled-moves old _ (record { order = refl; kept = refl; fed = refl; turns_are = refl; tickets_are = refl; taken = refl; enqueued = refl; outgoing = refl });
       known = λ known opened. known;
       closes = λ closed. absurd (let e = closed in cc);
     })
 packet-read header body used (Happens c) old new t said h =
-    rw (h.0, h.1.2) (record {
-      moves = handled-moves old _ (handled-where (ends (Report c)) old _ (record { kept = refl; fed = refl; turns_are = refl; tickets_are = refl; taken = refl; enqueued = refl; outgoing = refl }));
+    rw (h.0, h.1.4) (record {
+      moves = handled-moves old _ (handled-where (ends (Report c)) old _ (record { order = refl; kept = refl; fed = refl; turns_are = refl; tickets_are = refl; taken = refl; enqueued = refl; outgoing = refl }));
       known = λ known opened. known-where (ends (Report c)) _ known opened;
       closes = λ closed. closed-so (ends (Report c)) _ refl closed;
     })
@@ -218,8 +225,8 @@ packet-read header body used (Answers place ticket answer) old new t said h =
     let a = asked-of (reading_of old) header.id header.kind body place ticket answer said in
     let command : command_at place old.pending ≡ a.0.command = ap command_of a.1 in
     let b : Bool = ends (Reply (Some ticket) (command_at place old.pending) answer) in
-    rw (h.0, h.1.2) (record {
-      moves = handled-moves old _ (handled-where b old _ (record { kept = refl; fed = refl; turns_are = refl; tickets_are = refl; taken = refl; enqueued = refl; outgoing = refl }));
+    rw (h.0, h.1.4) (record {
+      moves = handled-moves old _ (handled-where b old _ (record { order = refl; kept = refl; fed = refl; turns_are = refl; tickets_are = refl; taken = refl; enqueued = refl; outgoing = refl }));
       known = λ known opened. known-where b _ known opened;
       closes = λ closed. record {
         place = place;
@@ -231,8 +238,8 @@ packet-read header body used (Answers place ticket answer) old new t said h =
     })
 packet-read header body used (Measures place answer w cs) old new t said h =
     let b : Bool = list_any ends (reports cs) in
-    rw (h.0, h.1.2) (record {
-      moves = handled-moves old _ (handled-measured b w old _ (record { kept = refl; fed = refl; turns_are = refl; tickets_are = refl; taken = refl; enqueued = refl; outgoing = refl }));
+    rw (h.0, h.1.4) (record {
+      moves = handled-moves old _ (handled-measured b w old _ (record { order = refl; kept = refl; fed = refl; turns_are = refl; tickets_are = refl; taken = refl; enqueued = refl; outgoing = refl }));
       known = λ known opened. known-measured b w _ refl;
       closes = λ closed. measured-so b w _ refl closed;
     })
@@ -249,10 +256,10 @@ measured-enqueued false w mid = refl
 pub packet-enqueued : (message : streams.Message) (used : ℕ) (header : Header) (news : News) (old new : Debugger) (t : Told) → Enters message used header news old t new
     → new.end.session.enqueued ≡ old.end.session.enqueued
 packet-enqueued message used header (Waits bytes) old new t h = ap (λ (d : Debugger). d.end.session.enqueued) h.1
-packet-enqueued message used header (Happens c) old new t h = ap (λ (d : Debugger). d.end.session.enqueued) h.1.2 ∙ where-enqueued (ends (Report c)) _
+packet-enqueued message used header (Happens c) old new t h = ap (λ (d : Debugger). d.end.session.enqueued) h.1.4 ∙ where-enqueued (ends (Report c)) _
 packet-enqueued message used header (Answers place ticket answer) old new t h =
-    ap (λ (d : Debugger). d.end.session.enqueued) h.1.2 ∙ where-enqueued (ends (Reply (Some ticket) (command_at place old.pending) answer)) _
-packet-enqueued message used header (Measures place answer w cs) old new t h = ap (λ (d : Debugger). d.end.session.enqueued) h.1.2 ∙ measured-enqueued (list_any ends (reports cs)) w _
+    ap (λ (d : Debugger). d.end.session.enqueued) h.1.4 ∙ where-enqueued (ends (Reply (Some ticket) (command_at place old.pending) answer)) _
+packet-enqueued message used header (Measures place answer w cs) old new t h = ap (λ (d : Debugger). d.end.session.enqueued) h.1.4 ∙ measured-enqueued (list_any ends (reports cs)) w _
 
 handled-read : (message : streams.Message) (used : ℕ) (old new : Debugger) (r : Read) → HandlesAt message used old (Ok r) new → Reads old new (TellsEnd old (read_meaning r))
 handled-read streams.Handshake used old new r h =
@@ -267,3 +274,39 @@ pub read-Whole : (next : NextMessage) (old new : Debugger) (r : Read) → TurnsA
 read-Whole (Whole message used) old new r h some = handled-read message used old new r h
 read-Whole More old new r h some = absurd (some (let e = h.0 in cc))
 read-Whole (Fault fault) old new r h some = absurd (let e = h.0 in cc)
+
+-- ---- the order in which the target sends
+
+read-order : (old new : Debugger) (r : Read) → TurnsAt (front_of old.end) old (Ok r) new → r ≢ read.Nothing → new.order ≡ old.order
+read-order old new r h some = (read-Whole (front_of old.end) old new r h some).moves.order
+
+-- it stays, whatever a turn answers
+pub turned-order : (old new : Debugger) (result : Result Read DebuggerFault) → TurnsAt (front_of old.end) old result new → new.order ≡ old.order
+turned-order old new (Ok read.Nothing) h = ap (λ (d : Debugger). d.order) (nothing-More (front_of old.end) old new h).1
+turned-order old new (Ok read.Hello) h = read-order old new read.Hello h (λ e. cc)
+turned-order old new (Ok read.Parked) h = read-order old new read.Parked h (λ e. cc)
+turned-order old new (Ok (read.Sizes cs)) h = read-order old new (read.Sizes cs) h (λ e. cc)
+turned-order old new (Ok (read.Answered ticket answer)) h = read-order old new (read.Answered ticket answer) h (λ e. cc)
+turned-order old new (Ok (read.Seen c)) h = read-order old new (read.Seen c) h (λ e. cc)
+turned-order old new (Err code.NoMemory) h = ap (λ (d : Debugger). d.order) (memory-same (front_of old.end) old new h)
+turned-order old new (Err (code.Frame fault)) h = ap (λ (d : Debugger). d.order) (fault-refused (front_of old.end) old new (code.Frame fault) (λ e. cc) h)
+turned-order old new (Err code.UnknownReply) h = ap (λ (d : Debugger). d.order) (fault-refused (front_of old.end) old new code.UnknownReply (λ e. cc) h)
+turned-order old new (Err code.BadReply) h = ap (λ (d : Debugger). d.order) (fault-refused (front_of old.end) old new code.BadReply (λ e. cc) h)
+turned-order old new (Err code.TooManyParked) h = ap (λ (d : Debugger). d.order) (fault-refused (front_of old.end) old new code.TooManyParked (λ e. cc) h)
+turned-order old new (Err code.BadEvent) h = ap (λ (d : Debugger). d.order) (fault-refused (front_of old.end) old new code.BadEvent (λ e. cc) h)
+
+-- ---- a turn behind which a count is due
+
+due-none : (o : Order) (t : Told) (d : Debugger) → ((d : Debugger) → due_in order.Apart t d ≡ None) → is_some (due_in o t d) ≡ true → ⊥
+due-none order.One t d none some = cc
+due-none order.Apart t d none some = let e = sym (ap (λ (x : Option ℕ). is_some x) (none d)) ∙ some in cc
+
+-- it put nothing
+due-enqueued : (next : NextMessage) (old new : Debugger) (r : Read) → TurnsAt next old (Ok r) new → is_some (due_count (read_meaning r) new) ≡ true → new.end.session.enqueued ≡ old.end.session.enqueued
+due-enqueued (Whole streams.Handshake used) old new r h due = absurd (due-none new.order tell.Hello new (λ d. refl) (subst (λ (t : Told). is_some (due_count t new) ≡ true) h.0 due))
+due-enqueued (Whole (streams.Packet header body) used) old new r h due = packet-enqueued (streams.Packet header body) used header h.news old new (read_meaning r) h.entered
+due-enqueued More old new r h due = ap (λ (d : Debugger). d.end.session.enqueued) h.1
+due-enqueued (Fault fault) old new r h due = absurd (let e = h.0 in cc)
+
+pub due-puts-none : (old new : Debugger) (r : Read) → TurnsAt (front_of old.end) old (Ok r) new → is_some (due_behind (Ok r) new) ≡ true → new.end.session.enqueued ≡ old.end.session.enqueued
+due-puts-none old new r h due = due-enqueued (front_of old.end) old new r h due

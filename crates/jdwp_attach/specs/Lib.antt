@@ -1,3 +1,4 @@
+pub mod OwnCounts
 pub mod PlanAsks
 pub mod PlanRuns
 pub mod PlanWaits

@@ -1,5 +1,5 @@
 -- Why an engine that runs a debugger by a plan ends.
-use Rattle.std.specs.Prelude.{◌≡◌, ◌≢◌, ◌⊎◌, ℕ, ◌<◌, ◌+◌, true, false, List, [], ◌∷◌, ◌++◌, length, Option, Some, None, Ok, Err, slice_get}
+use Rattle.std.specs.Prelude.{◌≡◌, ◌≢◌, ◌⊎◌, ℕ, ◌<◌, ◌+◌, true, false, List, [], ◌∷◌, ◌++◌, length, Option, Some, None, is_some, Ok, Err, slice_get}
 use Rattle.std.specs.List.{list_any}
 use Rattle.jdwp_wire.specs.FaultNumbers as frame
 use Rattle.jdwp_wire.specs.Streams.{More}
@@ -28,25 +28,41 @@ use Rattle.jdwp_plan.specs.declared.plan_line.PlanLine.{PlanLine}
 use Rattle.jdwp_plan.specs.declared.plan_line.PlanLine.TheVariants as line
 use Rattle.jdwp_attach.specs.declared.attached.Attached.{Attached}
 use Rattle.jdwp_attach.specs.declared.attached.Attached.TheVariants as run
+use Rattle.jdwp_attach.specs.OwnCounts.{AreSteps, AsksDue, Step, due_behind}
 use Rattle.jdwp_attach.specs.PlanAsks.{HasPut, IsBeginning, asks, command_asked}
 use Rattle.jdwp_attach.specs.PlanWaits.{Awaits, IsNextLine}
-use Rattle.jdwp_attach.specs.Runs.{Standing, FailsLastFlush, InOrder, IsGoing, Reaches}
+use Rattle.jdwp_attach.specs.Runs.{Standing, FailsLastFlush, InOrder, IsGoing, Reaches, ReachesBy, RunSteps}
 use Rattle.jdwp_tell.specs.Telling.{lines_of}
 
 -- ---- why a run ends
 
 -- Calls led from how the engine stood at first to this debugger along these lines, and what was told on the way, all of it, was printed.
 abbrev pub Tells : List PlanLine → List PlanLine → Standing → Story → Debugger → Type 0
-Tells plan done base out d = (text : List ℕ) × Reaches plan base.debugger done text d × (out.written ≡ base.out.written ++ text)
+Tells plan done base out d = (text : List ℕ) × ReachesBy plan base.debugger done text d × (out.written ≡ base.out.written ++ text)
 
 -- the same along the plan's lines up to one of them
 abbrev pub TellsInOrder : List PlanLine → Standing → Story → Debugger → Type 0
 TellsInOrder plan base out d = (done : List PlanLine) × IsBeginning done plan × Tells plan done base out d
 
--- the same, where a part of what was told was printed, from its beginning on
+-- Memory was wanting for the count that was due behind a turn: nothing was asked, and all that was told before the turn was printed.
+pub record WantsToAsk (plan : List PlanLine) (base : Standing) (out : Story) (d : Debugger) : Type 0 where
+  pub done : List PlanLine
+  pub begins : IsBeginning done plan
+  pub old : Debugger
+  pub read : Read
+  pub told : List ℕ
+  pub reached : ReachesBy plan base.debugger done told old
+  pub awaits : Awaits plan done old
+  pub turned : TurnsAt (front_of old.end) old (Ok read) d
+  pub due : is_some (due_behind (Ok read) d) ≡ true
+  pub printed : out.written ≡ base.out.written ++ told
+
+-- the same along lines, where a part of what was told was printed, from its beginning on; or memory was wanting for a count, and all that was
+-- told before it was printed
 abbrev pub TellsPart : List PlanLine → Standing → Story → Debugger → Type 0
 TellsPart plan base out d =
-    (done : List PlanLine) × IsBeginning done plan × ((text : List ℕ) × (part : List ℕ) × Reaches plan base.debugger done text d × IsFront part text × (out.written ≡ base.out.written ++ part))
+    ((done : List PlanLine) × IsBeginning done plan × ((text : List ℕ) × (part : List ℕ) × ReachesBy plan base.debugger done text d × IsFront part text × (out.written ≡ base.out.written ++ part)))
+    ⊎ WantsToAsk plan base out d
 
 -- the debugger is as after a loss of one that was not lost, and of which this holds
 abbrev pub IsLostFrom : (Debugger → Type 0) → Debugger → Type 0
@@ -54,7 +70,7 @@ IsLostFrom P d = (before : Debugger) × P before × (before.end.session.lost ≡
 
 -- calls led from the first debugger to the other
 abbrev pub LeadsTo : List PlanLine → Debugger → Debugger → Type 0
-LeadsTo plan base d = (done : List PlanLine) × (text : List ℕ) × Reaches plan base done text d
+LeadsTo plan base d = (done : List PlanLine) × (text : List ℕ) × ReachesBy plan base done text d
 
 -- this answers the command at a place, which was asked under the ticket, and ends the session
 pub record AnswersEnd (d : Debugger) (ticket : ℕ) (answer : Answer) : Type 0 where
@@ -78,10 +94,11 @@ abbrev pub ReadsEnd : List PlanLine → Debugger → Debugger → Type 0
 ReadsEnd plan base d =
     (old : Debugger) × (read : Read) × (new : Debugger) × LeadsTo plan base old × TurnsAt (front_of old.end) old (Ok read) new × TellsEnd old (read_meaning read) × (d ≡ with_taken new.end.outgoing new)
 
--- Every command of the plan was asked, in ids so wide as the debugger knows them, and answered.
+-- Every command of the plan was asked, and each count that was due, in ids so wide as the debugger knows them, and answered.
 abbrev pub IsFinished : List PlanLine → Debugger → Debugger → Type 0
 IsFinished plan base d =
-    (d.tickets ≡ base.tickets + asks plan) × (has_tickets d.pending ≡ false) × ((w : Widths) × (d.sizes ≡ Some w) × HasPut w plan base d)
+    (has_tickets d.pending ≡ false)
+    × ((run : RunSteps plan plan base) × (d.tickets ≡ base.tickets + asks run.steps) × ((w : Widths) × (d.sizes ≡ Some w) × HasPut w run.steps base d))
 
 -- the number by which a program tells a fault: that of the bytes' own fault
 abbrev pub told_number : DebuggerFault → ℕ
@@ -112,20 +129,22 @@ RefusesBy line.LoseDebugger w d refusal = refusal ≡ 0
 RefusesBy line.Attach w d refusal = refusal ≡ 0
 RefusesBy other w d refusal = ⊥
 
--- It refused this line of the plan, counted from 1; the lines before it were carried out, and what they ask was asked and put, and nothing
--- else.
+-- It refused this line of the plan, counted from 1; the lines before it were carried out, and what they ask was asked and put, and the
+-- counts that were due between them, and nothing else.
 pub record RefusesLineAt (plan : List PlanLine) (place : ℕ) (base : Debugger) (number : ℕ) (d : Debugger) : Type 0 where
   pub done : List PlanLine
   pub line : PlanLine
   pub rest : List PlanLine
   pub plan_is : plan ≡ done ++ line ∷ rest
   pub place_is : place ≡ length done + 1
+  pub steps : List Step
+  pub are : AreSteps base.order done steps
   pub told : List ℕ
-  pub reached : Reaches plan base done told d
-  pub asked : d.tickets ≡ base.tickets + asks done
+  pub reached : Reaches plan base steps told d
+  pub asked : d.tickets ≡ base.tickets + asks steps
   pub widths : Widths
   pub known : d.sizes ≡ Some widths
-  pub put : HasPut widths done base d
+  pub put : HasPut widths steps base d
   pub refused : RefusesBy line widths d number
 
 -- it refused a line of the plan
@@ -165,31 +184,36 @@ TakesMemory other d = ⊥
 abbrev pub WantsAtLine : List PlanLine → Standing → Story → Debugger → Type 0
 WantsAtLine plan base out d = (done : List PlanLine) × (line : PlanLine) × IsNextLine line plan done × TakesMemory line d × Tells plan done base out d
 
--- What the last turn read was to be told: it was taken, what it put left, and all that was told before was printed.
+-- What the last turn read was to be told: it was taken, the count that was due was asked, what was put left, and all that was told before
+-- was printed.
 pub record WantsToTell (plan : List PlanLine) (base : Standing) (out : Story) (d : Debugger) : Type 0 where
   pub done : List PlanLine
   pub begins : IsBeginning done plan
   pub old : Debugger
   pub read : Read
+  pub mid : Debugger
+  pub own : List Step
   pub new : Debugger
   pub told : List ℕ
-  pub reached : Reaches plan base.debugger done told old
+  pub reached : ReachesBy plan base.debugger done told old
   pub awaits : Awaits plan done old
-  pub turned : TurnsAt (front_of old.end) old (Ok read) new
-  pub some : lines_of (Ok read) new ≢ []
+  pub turned : TurnsAt (front_of old.end) old (Ok read) mid
+  pub asks : AsksDue (due_behind (Ok read) mid) mid new own
+  pub some : lines_of (Ok read) mid ≢ []
   pub is : d ≡ with_taken new.end.outgoing new
   pub printed : out.written ≡ base.out.written ++ told
 
 -- why memory was wanting
 abbrev pub WantsMemory : List PlanLine → Standing → Story → Debugger → Type 0
-WantsMemory plan base out d = WantsToTurn plan base out d ⊎ (WantsAtLine plan base out d ⊎ WantsToTell plan base out d)
+WantsMemory plan base out d = WantsToTurn plan base out d ⊎ (WantsAtLine plan base out d ⊎ (WantsToTell plan base out d ⊎ WantsToAsk plan base out d))
 
 -- ---- why a run ends so
 
 -- Why a run of a plan may end so, what went through the pipes then, and what the debugger is: for want of memory and at the limit of turns
 -- one that calls lead to from how it stood as the session began, and else as after a loss of such a one. All that was told on the way was
 -- printed: along all lines of the plan where it is finished, else up to one of them; but not what the last turn read where memory was
--- wanting to tell it, and a part where a write failed. A write or a flush failed where the run is lost by a write, and in no other end but behind a refusal.
+-- wanting to tell it, or to ask the count that was due behind it, and a part where a write failed. A write or a flush failed where the run is
+-- lost by a write, and in no other end but behind a refusal.
 abbrev pub MayEnd : List PlanLine → Ended → Standing → Story → Story → Debugger → Type 0
 MayEnd plan Done base pipe out d =
     IsLostFrom (λ before. (ReadsEnd plan base.debugger before × TellsInOrder plan base out before) ⊎ (IsFinished plan base.debugger before × Tells plan plan base out before)) d × HasLeft base pipe out

@@ -15,9 +15,10 @@ use Rattle.jdwp_pipe.specs.Moving as moving
 use Rattle.jdwp_pipe.specs.Story.{FailsFlush, FailsRead, FailsWrite, Story, flushed, with_written}
 use Rattle.jdwp_plan.specs.declared.plan_line.PlanLine.{PlanLine}
 use Rattle.jdwp_plan.specs.declared.plan_line.PlanLine.TheVariants as line
-use Rattle.jdwp_attach.specs.PlanAsks.{AsksInOrder, Stands, asks}
+use Rattle.jdwp_attach.specs.OwnCounts.{AreSteps, AsksDue, Line, Step, due_behind, planned}
+use Rattle.jdwp_attach.specs.PlanAsks.{HasAskedSteps, IsBeginning, Stands, asks}
 use Rattle.jdwp_attach.specs.PlanWaits.{Awaits, IsNextLine, IsThere}
-use Rattle.jdwp_tell.specs.Telling.{TellsMirror, lines_of}
+use Rattle.jdwp_tell.specs.Telling.{TellsKnown, lines_of}
 
 -- ---- how an engine stands
 
@@ -31,32 +32,49 @@ pub record Standing : Type 0 where
 abbrev pub at : Story → Story → Debugger → ℕ → Standing
 at pipe out debugger left = record { pipe = pipe; out = out; debugger = debugger; left = left }
 
--- what is told at a line of a plan: at `mirror` the mirror
+-- what is told at a line of a plan: at `mirror` what the debugger knows
 abbrev pub TellsLine : PlanLine → Debugger → List ℕ → Type 0
-TellsLine line.Mirror d text = TellsMirror d.mirror text
+TellsLine line.Mirror d text = TellsKnown d text
 TellsLine other d text = text ≡ []
 
--- The debuggers that calls lead to from one, along lines of a plan, and what is told on the way. Turns are made where the plan awaits
--- something, whatever they answer; commands asked, where the session is open; bytes fed behind a turn that handled nothing, for which there
--- is room; and bytes taken, of those that wait to leave. A line is passed at a debugger that had asked what the lines up to it ask, and at
--- which what it waits for was there.
-pub data Reaches (plan : List PlanLine) (base : Debugger) : List PlanLine → List ℕ → Debugger → Type 0 where
+-- The debuggers that calls lead to from one, along steps of a run of a plan, and what is told on the way. Turns are made where the plan awaits
+-- something, whatever they answer, and behind each the count that is due then is asked, and no other; commands asked, where the session is
+-- open; bytes fed behind a turn that handled nothing, for which there is room; and bytes taken, of those that wait to leave. A line is passed
+-- at a debugger that had asked what the steps up to it ask, and at which what it waits for was there.
+pub data Reaches (plan : List PlanLine) (base : Debugger) : List Step → List ℕ → Debugger → Type 0 where
   Begins : Reaches plan base [] [] base
-  Turns : (done : List PlanLine) (text : List ℕ) (old new : Debugger) (result : Result Read DebuggerFault) → Reaches plan base done text old → Awaits plan done old
-      → TurnsAt (front_of old.end) old result new → Reaches plan base done (text ++ lines_of result new) new
-  Asks : (done : List PlanLine) (text : List ℕ) (old new : Debugger) (command : Command) → Reaches plan base done text old → is_open old.end ≡ true → HasAsked command old new → Reaches plan base done text new
-  Feeds : (done : List PlanLine) (text : List ℕ) (old new : Debugger) (bytes : List ℕ) → Reaches plan base done text old → Awaits plan done old → TurnsAt (front_of old.end) old (Ok read.Nothing) new
-      → length bytes ≤ room_of new.end → Reaches plan base done text (with_fed bytes new)
-  Takes : (done : List PlanLine) (text : List ℕ) (old : Debugger) (bytes : List ℕ) → Reaches plan base done text old → IsFront bytes old.end.outgoing → Reaches plan base done text (with_taken bytes old)
-  Passes : (done : List PlanLine) (text : List ℕ) (d : Debugger) (line : PlanLine) (more : List ℕ) → Reaches plan base done text d → d.tickets ≡ base.tickets + asks (done ++ line ∷ [])
-      → IsThere line d → TellsLine line d more → Reaches plan base (done ++ line ∷ []) (text ++ more) d
+  Turns : (steps own : List Step) (text : List ℕ) (old mid new : Debugger) (result : Result Read DebuggerFault) → Reaches plan base steps text old → Awaits plan (planned steps) old
+      → TurnsAt (front_of old.end) old result mid → AsksDue (due_behind result mid) mid new own → Reaches plan base (steps ++ own) (text ++ lines_of result mid) new
+  Asks : (steps : List Step) (text : List ℕ) (old new : Debugger) (command : Command) → Reaches plan base steps text old → is_open old.end ≡ true → HasAsked command old new → Reaches plan base steps text new
+  Feeds : (steps : List Step) (text : List ℕ) (old new : Debugger) (bytes : List ℕ) → Reaches plan base steps text old → Awaits plan (planned steps) old → TurnsAt (front_of old.end) old (Ok read.Nothing) new
+      → length bytes ≤ room_of new.end → Reaches plan base steps text (with_fed bytes new)
+  Takes : (steps : List Step) (text : List ℕ) (old : Debugger) (bytes : List ℕ) → Reaches plan base steps text old → IsFront bytes old.end.outgoing → Reaches plan base steps text (with_taken bytes old)
+  Passes : (steps : List Step) (text : List ℕ) (d : Debugger) (line : PlanLine) (more : List ℕ) → Reaches plan base steps text d → d.tickets ≡ base.tickets + asks (steps ++ Line line ∷ [])
+      → IsThere line d → TellsLine line d more → Reaches plan base (steps ++ Line line ∷ []) (text ++ more) d
+
+-- calls led to this debugger along these lines of the plan, with the counts that were due between them
+abbrev pub ReachesBy : List PlanLine → Debugger → List PlanLine → List ℕ → Debugger → Type 0
+ReachesBy plan base done text d = (steps : List Step) × AreSteps base.order done steps × Reaches plan base steps text d
+
+-- The steps of a run along these lines of the plan: calls led along them, so each count among them stands exactly where it was due.
+pub record RunSteps (plan done : List PlanLine) (base : Debugger) : Type 0 where
+  pub steps : List Step
+  pub are : AreSteps base.order done steps
+  pub told : List ℕ
+  pub debugger : Debugger
+  pub reached : Reaches plan base steps told debugger
+
+-- What was asked since the session began is what the plan's lines up to one of them ask, in their order, and between them the counts that
+-- were due, and nothing else.
+abbrev pub AsksInOrder : List PlanLine → Debugger → Debugger → Type 0
+AsksInOrder plan base d = (done : List PlanLine) × IsBeginning done plan × ((run : RunSteps plan done base) × HasAskedSteps run.steps base d)
 
 -- the session is open, and nothing waits to leave
 abbrev pub IsReady : Debugger → Type 0
 IsReady d = (is_open d.end ≡ true) × (d.end.outgoing ≡ [])
 
 -- From how the engine stood when the session began: the debugger was fed what was read, in order; the commands that it was asked are those
--- of the plan's lines up to one of them, in their order; what was written is a beginning of what the debugger put, and of what was taken
+-- of the plan's lines up to one of them, in their order, and the counts that were due between them; what was written is a beginning of what the debugger put, and of what was taken
 -- from it, and all of both where no write failed; before each read all that was written had left; and what is printed to was not read.
 pub record InOrder (plan : List PlanLine) (base : Standing) (pipe out : Story) (d : Debugger) : Type 0 where
   pub read : pipe.read ≡ base.pipe.read ++ d.end.session.fed
@@ -69,15 +87,17 @@ pub record InOrder (plan : List PlanLine) (base : Standing) (pipe out : Story) (
   pub failed_prints : base.out.failed_writes ≤ out.failed_writes
 
 -- The same between two calls, where nothing failed, nothing waits, the session is open and was not lost, calls led to the debugger along
--- these lines of the plan, whose commands were asked, what was told on the way was printed, and each turn that was made handled a message,
--- or a read with room followed it.
+-- these lines of the plan, whose commands were asked and between them the counts that were due, what was told on the way was printed, and
+-- each turn that was made handled a message, or a read with room followed it.
 pub record IsGoing (plan done : List PlanLine) (base now : Standing) : Type 0 where
   pub ready : IsReady now.debugger
   pub kept : now.debugger.end.session.lost ≡ false
+  pub steps : List Step
+  pub are : AreSteps base.debugger.order done steps
   pub told : List ℕ
-  pub reached : Reaches plan base.debugger done told now.debugger
-  pub asked : now.debugger.tickets ≡ base.debugger.tickets + asks done
-  pub stands : Stands done base.debugger now.debugger
+  pub reached : Reaches plan base.debugger steps told now.debugger
+  pub asked : now.debugger.tickets ≡ base.debugger.tickets + asks steps
+  pub stands : Stands steps base.debugger now.debugger
   pub read : now.pipe.read ≡ base.pipe.read ++ now.debugger.end.session.fed
   pub written : now.pipe.written ≡ base.pipe.written ++ now.debugger.end.session.enqueued
   pub taken : now.debugger.end.session.taken ≡ now.debugger.end.session.enqueued

@@ -10,7 +10,7 @@ ghost use Rattle.jdwp_plan.specs.declared.plan_line.PlanLine.TheVariants as line
 ghost use Rattle.jdwp_attach.specs.PlanRuns.{Attaches, EndsSo, IsByTurn, LineEndsSo, LineGoesOn, LineTells, MayEnd, TellsRefused, ended_at, ended_of, unflushed_debugger};
 ghost use Rattle.jdwp_attach.specs.PlanWaits.{Counts, HandlesComposites, IsNextLine};
 ghost use Rattle.jdwp_attach.specs.Runs.{FailsLastFlush, GoesOn, InOrder, IsAnywhere, IsAtAnswers, IsGoing, IsReady, Standing, at};
-ghost use Rattle.jdwp_tell.specs.Telling.{TellsMirror};
+ghost use Rattle.jdwp_tell.specs.Telling.{TellsKnown};
 
 use crate::asking::ask_line;
 use crate::attached::Attached;
@@ -19,7 +19,7 @@ use crate::turning::turn_once;
 use jdwp_debugger::Debugger;
 use jdwp_pipe::{CHUNK, Ended, Pipe, flush_all, write_all, write_out};
 use jdwp_plan::PlanLine;
-use jdwp_tell::mirror_text;
+use jdwp_tell::known_text;
 use std::alloc::Global;
 
 /// Runs the debugger on the pipe for one session by the plan, for at most so many turns.
@@ -30,8 +30,11 @@ use std::alloc::Global;
 /// the debugger knows; no other line makes a turn. At a line of `pair` alone the run ends as `Refused(0)`, with nothing asked or written for
 /// it. After the last line it turns until no command waits, and the debugger loses the
 /// connection. A turn that handles nothing is followed by a flush of the pipe and one read of at most 4,096 bytes and of what the debugger
-/// has room for, which are fed; nothing is read elsewhere. What waits to leave is written after each turn, and what it read is printed to `out` in the lines of `show`: the composites that
-/// waited for the widths of ids at the turn in which they are read. The run is done where the plan is finished, and at the turn that reads
+/// has room for, which are fed; nothing is read elsewhere. What waits to leave is written after each turn, and what it read is printed to
+/// `out` in the lines of `show`: the composites that waited for the widths of ids at the turn in which they are read. Where the target sends
+/// replies and events by threads of their own (`Order::Apart`), and a composite that suspends its thread leaves it unsure, so that the
+/// debugger doesn't hold it, the engine asks for the thread's suspend count by itself behind that turn: a refusal is passed over, and the
+/// answer is printed and waited for as any other. The run is done where the plan is finished, and at the turn that reads
 /// an answer without an error to Dispose or the death of the machine, whatever lines are left. Where the input ends, or a read, a write or
 /// a flush fails, those to `out` among them, the debugger loses the connection; the pipe and `out` are flushed at the end of the session,
 /// whatever ends it. A write or a flush that fails is `LostByWrite`, wherever it comes, but for the last flush behind a refusal of what the
@@ -393,7 +396,7 @@ fn until_events<P: Pipe, W: Pipe>(
 /// # Errors
 /// Why the run ends.
 fn tell_mirror<W: Pipe>(alloc: Global, debugger: &mut Debugger, out: &mut W) -> Result<(), Ended>
-    ensures goes { OnOk result ((text : List ℕ) × TellsMirror debugger.old.mirror text
+    ensures goes { OnOk result ((text : List ℕ) × TellsKnown debugger.old text
         × (W.story out.new ≡ with_written text (W.story out.old))) }
     ensures kept { OnOk result (debugger.new ≡ debugger.old) }
     ensures by_turn { IfErr result IsByTurn }
@@ -401,7 +404,7 @@ fn tell_mirror<W: Pipe>(alloc: Global, debugger: &mut Debugger, out: &mut W) -> 
         → LineEndsSo line.Mirror (at pipe (W.story out.old) debugger.old left)
         (at pipe (W.story out.new) debugger.new left) ended) }
 {
-    let Ok(text) = mirror_text(alloc, debugger.mirror()) else {
+    let Ok(text) = known_text(alloc, debugger) else {
         return Err(Ended::NoMemory);
     };
     if write_all(out, text.as_bytes()) {

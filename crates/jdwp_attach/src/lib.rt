@@ -4,6 +4,7 @@
 mod asking;
 mod attached;
 mod attaching;
+mod due_counts;
 mod run;
 mod telling;
 mod turning;

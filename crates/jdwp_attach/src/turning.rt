@@ -8,13 +8,16 @@ ghost use Rattle.jdwp_attach.specs.PlanWaits.{Awaits, Counts, composites_of};
 ghost use Rattle.jdwp_attach.specs.Runs.{Finishes, GoesOn, IsReady, LosesAtRead, PutsAndTells, ReadsMore, at};
 ghost use Rattle.jdwp_tell.specs.Telling.{turn_lines};
 
+use crate::due_counts::ask_due_count;
 use crate::run::Run;
 use crate::telling::turn_text;
 use jdwp_debugger::{Debugger, DebuggerFault, Read};
 use jdwp_pipe::{CHUNK, Ended, NoInput, Pipe, flush_all, read_and_feed, write_all, write_out};
+use jdwp_wire::NoMemory;
 use std::alloc::Global;
 
-/// One turn, and if it handled nothing a flush and one read. What waits to leave is written, and what was read is told.
+/// One turn, and if it handled nothing a flush and one read; else the suspend count that is due behind it is asked. What waits to leave is
+/// written, and what was read is told.
 ///
 /// # Errors
 /// Why the run ends.
@@ -53,6 +56,9 @@ pub(crate) fn turn_once<P: Pipe, W: Pipe>(
         Read::Nothing => flush_and_read(debugger, pipe, &mut run.buffer),
         _ => {
             run.composites += composites_in(&turn);
+            if let Err(NoMemory) = ask_due_count(alloc, debugger, &turn) {
+                return Err(Ended::NoMemory);
+            }
             tell(alloc, debugger, pipe, out, run, &turn)
         }
     }

@@ -190,14 +190,22 @@ fn attach_bytes<'a, I: Read, W: Write, O: Pipe>(
 ) -> Result<Attached, Fault<'a>>
     ensures ran { IfOk result (λ how. IsUtf8 bytes.now × (said : List PlanLine)
         × SaysForAttach (lines bytes.now) (map said_by said) × AttachesNew said
-        (begun words.now.limits words.now.turns (story_of pipe.old) (O.story out.old))
+        (begun words.now.limits words.now.order words.now.turns (story_of pipe.old) (O.story out.old))
         (story_of pipe.new) (O.story out.new) how) }
     ensures fault { IfErr result (RefusesAttachPlan words.now.plan bytes.now) }
     ensures untouched { OnErr result (pipe.new ≡ pipe.old) }
     ensures unprinted { OnErr result (out.new ≡ out.old) }
 {
     let plan = text(words.plan, bytes)?;
-    match attach_plan(alloc, words.limits, plan, pipe, out, words.turns) {
+    match attach_plan(
+        alloc,
+        words.limits,
+        words.order,
+        plan,
+        pipe,
+        out,
+        words.turns,
+    ) {
         Ok(how) => Ok(how),
         Err(fault) => Err(Fault::of_plan(words.plan, plan, fault)),
     }

@@ -18,7 +18,7 @@ ghost use Rattle.jdwp_files.specs.Refusals.{RefusesAttachPlan, RefusesPlan, Refu
 use crate::files::{read, text};
 use jdwp_attach::Attached;
 use jdwp_debuggee::Settings;
-use jdwp_debugger::Debugger;
+use jdwp_debugger::{Debugger, Order};
 use jdwp_link::Memory;
 use jdwp_machine::Machine;
 use jdwp_pair::{Connection, Loopback, PairEnded, pair_session};
@@ -133,7 +133,7 @@ fn attach_by<'a, R: Clock + AllocGlobal + Net, O: Write>(
 ) -> Result<Outcome<'a>, Fault<'a>>
     ensures unprinted { OnErr result (Keeps (O.contents out.old) (O.contents out.new)) }
 {
-    let mut debugger = debugger_within(rt.alloc(), words.limits)?;
+    let mut debugger = debugger_of(rt.alloc(), words.limits, words.order)?;
     let stream = connect(rt, port)?;
     let mut printed = Streams::new(io::empty(), Watched::new(out));
     let turns = u64::from(words.turns);
@@ -151,9 +151,9 @@ fn attach_by<'a, R: Clock + AllocGlobal + Net, O: Write>(
     Ok(Outcome::at_port(session, port, words.limits, output.failure()))
 }
 
-/// A closed debugger within these limits, on the heap.
-fn debugger_within(alloc: Global, limits: Limits) -> Result<Box<Debugger>, NoMemory> {
-    let debugger = Debugger::with_limits(alloc, 1, limits)?;
+/// A closed debugger within these limits, of a target that sends in this order, on the heap.
+fn debugger_of(alloc: Global, limits: Limits, order: Order) -> Result<Box<Debugger>, NoMemory> {
+    let debugger = Debugger::with_order(alloc, 1, limits, order)?;
     Ok(Box::new(alloc, debugger)?)
 }
 

@@ -15,9 +15,10 @@ abbrev pub begun : ℕ → Debugger → Story → Standing
 begun turns debugger out = at empty_story out (attached debugger) turns
 
 -- What `attach_by_lines` says of a run, over what went through a connection and what was printed: the debugger was fed what was read, in
--- order; it was asked what the plan's lines ask, in order, up to where the run went; what was written is what it put, or a beginning where
--- a write failed; what was printed is what was told on the way, or a beginning; the reason of this end stands; where the last flush failed,
--- so does that of the end before it; and a line of the plan is told exactly where its command was refused.
+-- order; it was asked what the plan's lines ask, in order, up to where the run went, and the counts that were due between them; what was
+-- written is what it put, or a beginning where a write failed; what was printed is what was told on the way, or a beginning; the reason of
+-- this end stands; where the last flush failed, so does that of the end before it; and a line of the plan is told exactly where its command
+-- was refused.
 pub record IsPlanRun (plan : List PlanLine) (start : Standing) (how : Attached) (new : Debugger) (pipe out : Story) : Type 0 where
   pub in_order : InOrder plan start pipe out new
   pub may_end : MayEnd plan (ended_of how) start pipe out new

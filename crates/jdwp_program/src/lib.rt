@@ -23,6 +23,6 @@ pub use jdwp_port::Watched;
 pub use losing::{Loss, Side};
 pub use notices::Lines;
 pub use outcome::{Outcome, report_fault, report_outcome};
-pub use values::{decimal, is_all, limits};
+pub use values::{decimal, is_all, limits, order};
 pub use version::{VERSION, tell_version};
 pub use words::{Attach, Between, Pair, Peer, ServeScript, SessionFiles, Words};

@@ -1,8 +1,10 @@
 //! The values of options.
 ghost use Rattle.std.specs.Prelude.{◌≡◌, ◌↔◌, ℕ, List, Some, IfSome, MatchOption, true, false, codes};
+ghost use Rattle.jdwp_debugger.specs.declared.order.Order.TheVariants as orders;
 ghost use Rattle.jdwp_wire.specs.Limits as wire;
 ghost use Rattle.jdwp_program.specs.Values.{AreNumbers, IsDecimal, IsPartedByComma, IsSaidBy};
 
+use jdwp_debugger::Order;
 use jdwp_wire::Limits;
 
 /// Whether a target starts with every thread suspended: `all`, or `none`.
@@ -14,6 +16,20 @@ pub fn is_all(text: &str) -> Option<bool>
         Some(true)
     } else if text == "none" {
         Some(false)
+    } else {
+        None
+    }
+}
+
+/// In which order a target sends replies and events: `one`, as it acts, or `apart`, by threads of their own.
+pub fn order(text: &str) -> Option<Order>
+    ensures one { (result ≡ Some orders.One) ↔ (text.now ≡ codes "one") }
+    ensures apart { (result ≡ Some orders.Apart) ↔ (text.now ≡ codes "apart") }
+{
+    if text == "one" {
+        Some(Order::One)
+    } else if text == "apart" {
+        Some(Order::Apart)
     } else {
         None
     }

@@ -3,6 +3,7 @@ ghost use Rattle.std.specs.Prelude.{◌≡◌, ◌↔◌, None};
 ghost use Rattle.jdwp_program.specs.Words.{KeepsFile, KeepsFiles};
 
 use jdwp_debuggee::Settings;
+use jdwp_debugger::Order;
 use jdwp_wire::Limits;
 
 /// A command, with its files and options.
@@ -56,13 +57,15 @@ pub struct ServeScript<'a> {
     pub turns: u32,
 }
 
-/// `attach PLAN (--from F --to F | --port N) [--limits L] [--turns N]`.
+/// `attach PLAN (--from F --to F | --port N) [--order one|apart] [--limits L] [--turns N]`.
 #[derive(Clone, Copy, Debug, PartialEq, Eq)]
 pub struct Attach<'a> {
     /// The file of the plan.
     pub plan: &'a str,
     /// Where the target is.
     pub peer: Peer<'a>,
+    /// In which order the target sends replies and events.
+    pub order: Order,
     /// The limits of the session.
     pub limits: Limits,
     /// How many turns the session has at most.

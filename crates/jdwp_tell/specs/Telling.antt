@@ -1,7 +1,7 @@
 -- The lines that are printed of what a turn read, and of a mirror.
-use Rattle.std.specs.Prelude.{◌≡◌, ℕ, ℤ, pos, Bool, true, false, List, [], ◌∷◌, ◌++◌, map, flat_map, Option, Some, None, Result, Ok, Err, unwrap_or, codes, decimal, IsPermutation}
+use Rattle.std.specs.Prelude.{◌≡◌, ℕ, ℤ, pos, Bool, true, false, List, [], ◌∷◌, ◌++◌, map, flat_map, Option, Some, None, Result, Ok, Err, unwrap_or, codes, decimal, Contains, IsPermutation, if◌then◌else◌}
 use Rattle.std.specs.Fmt.{signed_decimal}
-use Rattle.std.specs.List.Sorted.{IsSortedByKey}
+use Rattle.std.specs.List.Sorted.{IsSortedByKey, IsStrictlySortedBy}
 use Rattle.std.specs.Ordering.{int_cmp, nat_cmp}
 use Rattle.jdwp_wire.specs.ErrorCodes.{NONE}
 use Rattle.jdwp_wire.specs.Widths.{Widths}
@@ -17,8 +17,11 @@ use Rattle.jdwp_mirror.specs.Mirrors.{Mirror}
 use Rattle.jdwp_debugger.specs.declared.faults.DebuggerFault.{DebuggerFault}
 use Rattle.jdwp_debugger.specs.declared.heads.Head.{Head}
 use Rattle.jdwp_debugger.specs.declared.heads.Head.TheVariants as head
+use Rattle.jdwp_debugger.specs.declared.order.Order.{Order}
+use Rattle.jdwp_debugger.specs.declared.order.Order.TheVariants as order
 use Rattle.jdwp_debugger.specs.declared.turning.Read.{Read}
 use Rattle.jdwp_debugger.specs.Debuggers.{Debugger}
+use Rattle.jdwp_debugger.specs.Holding.{at_least, is_held, is_named}
 use Rattle.jdwp_debugger.specs.DebuggerTurns.{Told, Nothing, Hello, Parked, Sizes, Answered, Seen, read_meaning}
 use Rattle.jdwp_show.specs.declared.capture_line.Sender.TheVariants.{Target}
 use Rattle.jdwp_show.specs.declared.pending.CommandNumber.{CommandNumber}
@@ -123,3 +126,39 @@ pub record TellsMirror (mirror : Mirror) (text : List ℕ) : Type 0 where
   pub all_requests : IsPermutation (map summary mirror.requests) requests
   pub rising_requests : IsSortedByKey (λ (request : ℤ × ℕ × ℕ). request.0) int_cmp requests
   pub is : text ≡ flat_map thread_line threads ++ flat_map request_line requests
+
+-- ---- the lines of what a debugger knows
+
+-- `thread 1 1+ held`: what the suspend count of a thread is surely no less than
+abbrev pub least_line : Debugger → ℕ → List ℕ
+least_line d thread = codes "thread " ++ decimal thread ++ codes " " ++ decimal (at_least d thread) ++ codes "+ " ++ held_word (is_held d thread) ++ codes "\n"
+
+-- of a thread that was named
+abbrev pub named_line : Debugger → ℕ → List ℕ
+named_line d thread = if is_named d thread then least_line d thread else []
+
+-- the lines of all of them, by rising id, were put behind others
+pub record PutsNamed (d : Debugger) (old new : List ℕ) : Type 0 where
+  pub threads : List ℕ
+  pub all : (thread : ℕ) → is_named d thread ≡ true → Contains threads thread
+  pub rising : IsStrictlySortedBy nat_cmp threads
+  pub is : new ≡ old ++ flat_map (named_line d) threads
+
+-- The lines of the threads that were named, by rising id, and then those of the event requests by rising id.
+pub record TellsNamed (d : Debugger) (text : List ℕ) : Type 0 where
+  pub threads : List ℕ
+  pub all_threads : (thread : ℕ) → is_named d thread ≡ true → Contains threads thread
+  pub rising_threads : IsStrictlySortedBy nat_cmp threads
+  pub requests : List (ℤ × ℕ × ℕ)
+  pub all_requests : IsPermutation (map summary d.mirror.requests) requests
+  pub rising_requests : IsSortedByKey (λ (request : ℤ × ℕ × ℕ). request.0) int_cmp requests
+  pub is : text ≡ flat_map (named_line d) threads ++ flat_map request_line requests
+
+-- What is told of what a debugger knows: its mirror, where the target sends each packet as it acts, and what is surely so, where it sends replies
+-- and events by threads of their own.
+abbrev pub TellsIn : Order → Debugger → List ℕ → Type 0
+TellsIn order.One d text = TellsMirror d.mirror text
+TellsIn order.Apart d text = TellsNamed d text
+
+abbrev pub TellsKnown : Debugger → List ℕ → Type 0
+TellsKnown d text = TellsIn d.order d text

@@ -5,4 +5,4 @@ mod lines;
 mod mirrors;
 
 pub use lines::{answered_line, hello_line, seen_line, sizes_line};
-pub use mirrors::mirror_text;
+pub use mirrors::{known_text, mirror_text};

@@ -6,13 +6,14 @@ ghost use Rattle.jdwp_show.specs.Data.{shapes_of};
 ghost use Rattle.jdwp_show.specs.MessageLines.{hello_line, reply_start};
 ghost use Rattle.jdwp_show.specs.declared.capture_line.Sender.TheVariants.{Target};
 ghost use Rattle.jdwp_wire.specs.ErrorCodes.{NONE};
-ghost use Rattle.jdwp_tell.specs.Telling.{answered_line, bytes_in, items_text, named, request_line, seen_line, sizes_line, thread_line, width_item};
+ghost use Rattle.jdwp_tell.specs.Telling.{answered_line, bytes_in, items_text, least_line, named, request_line, seen_line, sizes_line, thread_line, width_item};
 
-use jdwp_debugger::Known;
+use jdwp_debugger::{Debugger, Known};
 use jdwp_event::Composite;
 use jdwp_layout::numbers::{ID_SIZES, VIRTUAL_MACHINE};
 use jdwp_layout::{Answer, Data, Datum, Scalar, layout_of};
 use jdwp_show::{composite_line, reply_line};
+use jdwp_value::ObjectId;
 use jdwp_wire::{ErrorCode, IdSizes, NoMemory};
 use std::alloc::Global;
 
@@ -133,6 +134,28 @@ pub(crate) fn thread_line(alloc: Global, thread: &Known) -> Result<String, NoMem
     let count = thread.count;
     let held = if thread.held { "held" } else { "free" };
     let line = format!(in alloc; "thread {id} {count} {held}\n")?;
+    Ok(line)
+}
+
+/// What is told of a thread that was named: `thread T N+ held`, or `free`.
+///
+/// # Errors
+/// `NoMemory` where an allocation was refused.
+pub(crate) fn least_line(
+    alloc: Global,
+    debugger: &Debugger,
+    thread: ObjectId,
+) -> Result<String, NoMemory>
+    ensures { IfOk result (λ line. string_bytes line ≡ least_line debugger.now thread.0) }
+{
+    let id = thread.0;
+    let count = debugger.at_least(thread);
+    let held = if debugger.is_held(thread) {
+        "held"
+    } else {
+        "free"
+    };
+    let line = format!(in alloc; "thread {id} {count}+ {held}\n")?;
     Ok(line)
 }
 

@@ -7,9 +7,10 @@ ghost use Rattle.jdwp_program.specs.Words.{KeepsFiles};
 use clap::error::ErrorKind;
 use clap::{Arg, ArgAction, ArgMatches, Command, Error, value_parser};
 use jdwp_debuggee::Settings;
+use jdwp_debugger::Order;
 use jdwp_program::{
     Attach, Between, Fault, Pair, Peer, ServeScript, SessionFiles, VERSION, Words, decimal, is_all,
-    limits,
+    limits, order,
 };
 use jdwp_wire::Limits;
 use jdwp_wire::number::GREATEST_INT;
@@ -92,6 +93,7 @@ enum Part {
     Memory,
     Start,
     CountLimit,
+    Order,
     Limits,
     Defer,
     Turns(&'static str),
@@ -111,11 +113,12 @@ static OF_SERVE_SCRIPT: [Part; 9] = [
     Part::Turns("How many rounds a session has at most"),
 ];
 
-static OF_ATTACH: [Part; 6] = [
+static OF_ATTACH: [Part; 7] = [
     Part::Plan("A text of lines `ask SET NUMBER [HEX]`, `answers`, `events N` and `mirror`"),
     Part::From("What the target sent, in bytes"),
     Part::To("Where the debugger's bytes are written"),
     Part::Port("The port of 127.0.0.1 at which the target listens"),
+    Part::Order,
     Part::Limits,
     Part::Turns("How many turns the session has at most"),
 ];
@@ -286,9 +289,22 @@ fn read_attach<'a>(alloc: Global, found: &ArgMatches<'a>) -> Result<Attach<'a>, 
     Ok(Attach {
         plan: value(alloc, found, "plan")?,
         peer: read_peer(alloc, found, Name::Attach)?,
+        order: read_order(alloc, found)?,
         limits: read_limits(alloc, found, Name::Attach)?,
         turns: number(alloc, found, "turns", Name::Attach)?,
     })
+}
+
+/// In which order the target of `attach` sends.
+fn read_order<'a>(alloc: Global, found: &ArgMatches<'a>) -> Result<Order, Fault<'a>> {
+    match order(value(alloc, found, "order")?) {
+        Some(order) => Ok(order),
+        None => Err(bad_words(
+            alloc,
+            named_in_full(alloc, Name::Attach),
+            "the options don't read",
+        )),
+    }
 }
 
 fn read_pair<'a>(alloc: Global, found: &ArgMatches<'a>) -> Result<Pair<'a>, Fault<'a>> {
@@ -480,6 +496,7 @@ fn argument_of<'a>(alloc: Global, part: Part) -> Result<Arg<'a>, AllocError> {
         Part::Memory => Ok(memory(alloc)),
         Part::Start => Ok(start(alloc)),
         Part::CountLimit => Ok(count_limit(alloc)),
+        Part::Order => Ok(order_option(alloc)),
         Part::Limits => Ok(limits_option(alloc)),
         Part::Defer => Ok(defer(alloc)),
         Part::Turns(help) => Ok(turns(alloc, help)),
@@ -540,6 +557,15 @@ fn count_limit<'a>(alloc: Global) -> Arg<'a> {
     option(alloc, "count-limit", "N", help)
         .value_parser(value_parser!(u32).range(1..=i64::from(GREATEST_INT)))
         .default_value("65535")
+}
+
+/// In which order the target sends.
+fn order_option<'a>(alloc: Global) -> Arg<'a> {
+    let help =
+        "Whether the target sends replies and events as it acts, or by threads of their own, as Java machines do";
+    option(alloc, "order", "ORDER", help)
+        .value_parser(["one", "apart"].as_slice())
+        .default_value("one")
 }
 
 /// The limits of a session.

@@ -1,6 +1,7 @@
 //! Sessions of a debugger by a plan, byte for byte and line for line.
 use crate::asserts::{expect_same, expect_same_for};
 use jdwp_attach::Attached;
+use jdwp_debugger::Order;
 use jdwp_pipe::{Ended, Streams};
 use jdwp_plan::{LineFault, PlanFault, read_plan};
 use jdwp_program::{Fault, Outcome, attach_plan, attach_session, report_fault, report_outcome};
@@ -59,7 +60,7 @@ fn run(alloc: Global, plan: &str, from: &[u8], turns: u32) -> Ran {
 fn run_within(alloc: Global, limits: Limits, plan: &str, from: &[u8], turns: u32) -> Ran {
     let mut pipe = Streams::new(from, Cursor::new(Vec::new(alloc)));
     let mut out = Streams::new(io::empty(), Cursor::new(Vec::new(alloc)));
-    let result = attach_plan(alloc, limits, plan, &mut pipe, &mut out, turns);
+    let result = attach_plan(alloc, limits, Order::One, plan, &mut pipe, &mut out, turns);
     let (_, to) = pipe.into_parts();
     let (_, lines) = out.into_parts();
     Ran {
@@ -359,7 +360,15 @@ fn run_lines(rt: &impl Abort, alloc: Global, plan: &str, from: &[u8]) -> Ran {
     let mut pipe = Streams::new(from, Cursor::new(Vec::new(alloc)));
     let mut out = Streams::new(io::empty(), Cursor::new(Vec::new(alloc)));
     let limits = Limits::standard();
-    let ran = attach_session(alloc, limits, plan.as_slice(), &mut pipe, &mut out, 1000);
+    let ran = attach_session(
+        alloc,
+        limits,
+        Order::One,
+        plan.as_slice(),
+        &mut pipe,
+        &mut out,
+        1000,
+    );
     let (_, to) = pipe.into_parts();
     let (_, lines) = out.into_parts();
     Ran {

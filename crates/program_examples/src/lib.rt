@@ -3,6 +3,8 @@
 #![tactic(auto)]
 
 #[cfg(test)]
+mod apart_tests;
+#[cfg(test)]
 mod asserts;
 #[cfg(test)]
 mod attaching_tests;
