@@ -21,7 +21,7 @@ PAGE = f"{ROOT}/docs/PROVED.md"
 HEAD = """\
 # What is proved
 
-This page is made by `bench/proved.py`, which fails where a contract that it names is gone. It holds with the kit `rattle-kit-13b logic dac8208d650f15bf`.
+This page is made by `bench/proved.py`, which fails where a contract that it names is gone. It holds with the kit `rattle-kit-13f logic dac8208d650f15bf`.
 
 Every function of every crate is safe (no index out of range, no sum that wraps, no cast that loses bits) and returns, whatever bytes come. Beyond that you may rely on what follows. Behind a function's colon stand the clauses (`ensures NAME`) that say it; [DEFINITIONS.md](DEFINITIONS.md) leads through their words.
 
@@ -31,7 +31,7 @@ The *mirror* is what the debugger worked out of threads, suspend counts and even
 ROWS = """\
 ## Both ends in one process
 
-jdwp_link | Link::run held; Link::session held | A thread that the mirror holds is suspended in the target now, unless the machine died, the target noticed in this session that the connection is lost, or a Dispose, or a Resume of the thread or of all, is unanswered. Where Resumes alone are, its count in the target and they together are no less than its count in the mirror, which is above 0
+jdwp_link | Link::run held; Link::session held | A thread that the mirror holds is suspended in the target now, unless the machine died, the target noticed in this session that the connection is lost, or a Dispose, or a Resume of the thread or of all, is unanswered.
 jdwp_link | Link::run mirror at_most | The mirror shows what the target had as it sent the last packet read: threads, counts (of a thread that did not live then, by its own rule) and event requests; the target's count of one that lived then is at most the mirror's, the unanswered Suspends and the composites not read together
 jdwp_link | Link::run stays | What was read of a suspended thread's stack frames the target would answer now, while its count was above 0 as each later packet was sent, no SetValues of it came since or is unanswered, and fewer Resumes of it are unanswered than that count; unless the machine died, a loss was noticed or a Dispose is unanswered
 jdwp_link | Link::run ok err | Events do what the model of a session makes of them and tell its outcomes, so neither end refuses what the other sent; where memory was refused, those before that event are done, and only they
@@ -96,6 +96,7 @@ jdwp_debugger | Debugger::turn turns few memory | A turn tells and leaves what i
 jdwp_debugger | Debugger::ask ok err | The first refusal that applies, and nothing has changed; else the command leaves under the next free id, encoded, within the limit
 jdwp_debugger | Debugger::session ran mirror; goes_on_at_each_call | After any calls the mirror is what the packets read in the session say, each once and in order, and empty after a refusal, a close or a loss; IDSizes and the commands asked are all that it sends, under free ids
 jdwp_debugger | Debugger::with_order; Debugger::turn turns | With `Order::Apart`, for such targets: no composite is refused for a count, VM_DEATH is taken as asked for, an error with data as its error, and the mirror has event requests alone
+jdwp_debugger | Debugger::is_held value suspended; Debugger::at_least value covered; Debugger::session follows unfollowed; Debugger::named_threads held | A thread that it holds then is suspended, while it lives, in each target whose debugger put and read the same, its count no less than is told; and what it follows is what all that was put and read in the session makes of a watch that knows nobody
 jdwp_debugger | Debugger::session pending distinct parked alone | No more commands wait than the limits allow, no two under one id; at most four composites wait for the widths of ids
 jdwp_debugger | Debugger::lose; Debugger::attach when; Debugger::has_front; Debugger::unanswered | A loss answers all tickets that wait, in the order asked; the other calls are one equation each
 jdwp_debugger | reads_what_was_asked; reads_what_was_answered; reads_what_was_reported | Each end reads what the other's calls encoded
@@ -108,13 +109,13 @@ jdwp_command | thread_reference::suspend; event_request::set; answers::one_int |
 
 jdwp_wire | next_hello; next_packet; next_packet_in stays; standing_in | A packet or handshake is found exactly where its bytes stand in front, borrowed; a fault as soon as its bytes are there; else more bytes are called for. No memory is taken
 jdwp_wire | finds_first_message; Limits::new; IdSizes::new | A stream cut anywhere gives its first message once all of it came; limits and widths exactly in their ranges
-jdwp_wire | Wire::take found only fault memory; Wire again; begins_with_one_value | What is written is read again whatever follows, what is read was written, no two values stand at one front, a fault is the first from the left, and want of memory never hides one
-jdwp_wire | Wire::put ok err | A writing appends the canonical bytes, or leaves the bytes as they were
+jdwp_wire | Wire::take found only fault memory; Wire::put ok err; Wire again; begins_with_one_value | A writing appends the canonical bytes, or leaves the bytes as they were; what is written is read again whatever follows, what is read was written, no two values stand at one front, a fault is the first from the left, and want of memory never hides one
 jdwp_value | Tag::of_byte; ArrayRegion::new | Each type of value keeps those laws at every width of ids
 jdwp_layout | layout_of | A command's row is that of the definitions' table of 94, or None
 jdwp_layout | read found only fault hides; write ok err; validate accepted fault memory; encodes_one_list | Data of any layout are read, written and judged exactly, the first fault told; want of memory hides no fault, and judging takes none
 jdwp_show | check yes no; show begins fault lines | `check` and `show` name the first fault of a capture and its line, exactly; the lines are those of the definitions, functions by cases beside which no relation stands
 jdwp_show | finds_each_message; stands_in_its_line; tells_widths_first; waits_where_it_stands | Relations to which these are tied: each message once, in the line of its last byte; which widths hold; which command waits
+jdwp_recording | Direction::come without data; Direction::next some none | What one side of a recorded connection sent: whatever places the segments have under their sequence numbers, each less than 2^31 from the one before, what is given is the beginning of its stream, up to the first byte that no segment has, in whatever order they came, again or over each other
 
 ## Machines, scripts, plans
 
@@ -125,9 +126,9 @@ jdwp_plan | read_plan; read_attach_plan; reads_each_form | Each line of a plan i
 
 ## Sessions over readers and writers, the program
 
-jdwp_engine | serve in_order ended rounds limit at_most | What was read is fed, in order; what was enqueued is written, or a beginning where a write failed, and all was flushed before each read; the session is its rounds, and each way to end comes only for its reason
-jdwp_attach | attach_by_lines in_order ended last_flush line | The same of a debugger by a plan: the commands of its lines, in order; what is printed is what was told, or a beginning. That the calls were those of this run, in order, is not said
-jdwp_tell | mirror_text; answered_line; seen_line | Lines are those of `show`; a mirror is told thread by thread, then request by request
+jdwp_engine | serve in_order ended rounds limit at_most | What was read is fed, in order; what was enqueued is written, or a beginning where a write failed, and all was flushed before each read; the session is its rounds, what they send reads back, and each way to end comes only for its reason
+jdwp_attach | attach_by_lines in_order ended last_flush line | The same of a debugger by a plan: the commands of its lines, in order, and between them a SuspendCount exactly where an event leaves its thread unsure, in `Order::Apart` alone; what is printed is what was told, or a beginning. That the calls were those of this run, in order, is not said
+jdwp_tell | mirror_text; known_text; answered_line; seen_line | Lines are those of `show`; a mirror is told thread by thread, then request by request; in `Order::Apart` each thread that was named, by what is sure
 jdwp_serve | serve_session served; serve_script fault untouched | A new target's session, from what was read to what was written; a script's first fault with nothing touched
 jdwp_port | serve_sessions serves closed; serve_stream served; attach_stream ran | Sessions at a port are those of `serve` and `attach`, one after the other with one target, until no thread lives, one used up its rounds or wanted memory, or the port fails
 jdwp_program | check_capture tells leaves; show_capture tells leaves | What the writer took is the verdict, or the lines and the fault; a beginning where a write failed
@@ -142,20 +143,20 @@ jdwp_end | End::front front; End::take_off; finds_first_message; SessionEnd take
 TAIL = """\
 ## Only tested
 
-- What has no contract of its own: `main`, the programs `both_ends` and `breakpoint_harness`, and the crates of tests (but `CodeRange` in `jdwp_examples`, a type of one's own that is `Wire`). Programs are proved to be safe and to return. `milunovesk` has names alone.
-- That the table of commands is the specification's, against a listing of its own of all 65,536 pairs of set and number; likewise fields of modifiers and events, and commands by name.
+- What has no contract of its own: `main`, the programs `both_ends` and `breakpoint_harness` (proved to be safe and to return), and the crates of tests (but `CodeRange` in `jdwp_examples`). `milunovesk` has names alone.
+- That the table of commands is the specification's, against a listing of its own; likewise fields of modifiers and events, and commands by name.
 - What a reader sees: the lines of `show` for every command, modifier and event; the texts of faults; the words of the command line; what is told of files, ports and outputs that fail.
 - Worked sessions, byte for byte: of a target, of a debugger, of a link (also cut at every place and lost behind each byte), of plans over files, ports, memory and a connection.
 - Peers that keep no rule: each fault at both ends; a recorded session with each byte changed to each other value; data cut at each byte; texts a million deep or wide.
 - Refused memory: each request of a call (`memory_examples`) and of a command (`bench/refused_memory.py`) refused in turn; and that want of memory comes only where one was refused, which no contract can say.
-- Sockets and files: what goes through them, 127.0.0.1 alone, options, closing, which errors pass; that a `Loopback` prints as memory does and lets a stranger go (that an end closes its half is read from the code); that no file that is read is emptied under another name, and that the error told of one is that at which the session was lost.
+- Sockets and files: what goes through them, 127.0.0.1 alone, options, closing, which errors pass; that a `Loopback` prints as memory does and lets a stranger go; that no file that is read is emptied under another name, and that the error told is that at which the session was lost.
 - That `serve` flushes before a round releases or steps; that `attach` writes its handshake alone before the target's was read; how much is read at once. Speed and memory, by the scripts in `bench/`.
 
 No contract says that a delivery or an answer ever happens or that a wait ends, that a file or a socket gives what was written, that the tables agree with Oracle's pages, or any time.
 
 ## Trusted
 
-The toolchain of the kit (its prover, its compilers, LLVM), the C library, and the statements of the kit's crates (byteorder, circular_buffer, indexmap, hex, itoa, serde_json, clap, thiserror, anyhow, std).
+As [README](../README.md#what-is-proved) has it.
 """
 
 BLOCK = re.compile(r"(?:pub(?:\([^)]*\))? )?(trait|impl)\b(?:<.*?>(?= ))?\s*(.*)")

@@ -264,6 +264,40 @@ static void test_session(void) {
     mv_free(&t);
 }
 
+/* Who is surely suspended, at a debugger of a target whose replies and composites come apart. */
+static void test_apart(void) {
+    mv_handle d = {0}, t = {0};
+    uint32_t count = 9;
+    bool known = false, held = false;
+    assert(mv_debugger_new_apart(&d, 1) == MV_DONE && d.live);
+    assert(mv_debugger_new_apart(&d, 1) == MV_LIVE);
+    make_target(&t);
+    assert(mv_debugger_new_apart(&t, 1) == MV_LIVE);
+    begin(&d, &t);
+    /* VM_START of thread 1, which suspends all, names that thread alone */
+    assert(mv_debugger_thread(&d, 1, &known, &count, &held) == MV_DONE && known && count == 1 && held);
+    assert(mv_debugger_thread(&d, 2, &known, &count, &held) == MV_DONE && !known && count == 0 && !held);
+    /* VirtualMachine.Resume: nothing is sure from the asking on */
+    ask(&d, 1, 9, (const uint8_t *)"", 0);
+    assert(mv_debugger_thread(&d, 1, &known, &count, &held) == MV_DONE && !known && count == 0 && !held);
+    assert(hear(&d, &t).ticket == 1);
+    /* ThreadReference.Suspend of thread 1, twice: sure once answered */
+    const uint8_t thread[] = {0, 0, 0, 0, 0, 0, 0, 1};
+    ask(&d, 11, 2, thread, sizeof thread);
+    ask(&d, 11, 2, thread, sizeof thread);
+    assert(mv_debugger_thread(&d, 1, &known, &count, &held) == MV_DONE && !held);
+    assert(hear(&d, &t).ticket == 2);
+    assert(mv_debugger_thread(&d, 1, &known, &count, &held) == MV_DONE && known && count == 1 && held);
+    assert(hear(&d, &t).ticket == 3);
+    assert(mv_debugger_thread(&d, 1, &known, &count, &held) == MV_DONE && known && count == 2 && held);
+    assert(mv_target_thread(&t, 1, &known, &count) == MV_DONE && known && count == 2);
+    /* and nobody from the asking of Dispose on */
+    ask(&d, 1, 6, (const uint8_t *)"", 0);
+    assert(mv_debugger_thread(&d, 1, &known, &count, &held) == MV_DONE && !known && count == 0 && !held);
+    mv_free(&d);
+    mv_free(&t);
+}
+
 /* Bytes that no peer may send. */
 static void test_faults(void) {
     mv_handle d = {0}, t = {0};
@@ -294,6 +328,7 @@ int main(void) {
     test_captures();
     test_scripts();
     test_session();
+    test_apart();
     test_faults();
     puts("C: as told");
     return 0;

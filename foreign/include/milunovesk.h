@@ -118,6 +118,16 @@ uint32_t mv_show(const uint8_t *text, size_t length, uint8_t *out, size_t room, 
  * The id of its first packet is `first_id`. MV_DONE, MV_LIVE, MV_NO_MEMORY. */
 uint32_t mv_debugger_new(mv_handle *handle, uint32_t first_id);
 
+/* The same for a target that sends replies and composite events by threads of their own, as Java machines do. No composite is refused for a
+ * suspend count, a reply that is an error may have data, and mv_debugger_thread tells what is surely so, whatever comes late:
+ * of each target that
+ *   - carries out commands one by one and answers them in the order asked, invocations of methods apart,
+ *   - sends composites one by one in the order of their events, and each packet after its effect, and gives no request id twice,
+ *   - changes suspend counts by VirtualMachine.Suspend and Resume, ThreadReference.Suspend and Resume, events by their policies, and invocations
+ *     alone, which let their thread, or all, go on until they end.
+ * It holds of a thread while the thread lives, and no end is kept: request THREAD_DEATH (kind 7), and forget a thread from its event on. */
+uint32_t mv_debugger_new_apart(mv_handle *handle, uint32_t first_id);
+
 /* Begins a session: the handshake is to leave, and nothing is known. `opened` is false, and nothing changes, where a session is open, or
  * tickets of the last one wait for mv_debugger_lose. */
 uint32_t mv_debugger_attach(mv_handle *handle, bool *opened);
@@ -183,7 +193,10 @@ typedef struct {
 uint32_t mv_debugger_widths(mv_handle *handle, bool *known, mv_id_widths *out);
 
 /* Tells whether a thread is known, its suspend count, and whether the debugger holds it: what the packets read so far say. With a target of
- * this library at the other end a thread that is held is suspended (docs/SUSPENSION.md). Nothing is written at another answer than MV_DONE. */
+ * this library at the other end a thread that is held is suspended (docs/SUSPENSION.md). Of a debugger made by mv_debugger_new_apart, `held` is
+ * whether the thread is surely suspended now, and `known` the same; `count` is what its suspend count is surely no less than, 0 where nothing is
+ * sure, 4,294,967,295 where it is more: less behind each Resume from the asking on, and 0 from the asking of Dispose, Exit or a command on that a
+ * target of this library does not carry out, invocations apart. Nothing is written at another answer than MV_DONE. */
 uint32_t mv_debugger_thread(mv_handle *handle, uint64_t thread, bool *known, uint32_t *count, bool *held);
 
 /* A command that was asked and is neither answered nor lost. */

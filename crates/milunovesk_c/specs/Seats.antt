@@ -1,12 +1,16 @@
 -- A debugger beside what its last turn told: what calls on it say, and what they leave.
-use Rattle.std.specs.Prelude.{◌≡◌, ℕ, ◌+◌, ◌++◌, Bool, true, false, List, drop, length, map, nat_lt, Option, Some, None, Result, Ok, Err}
+use Rattle.std.specs.Prelude.{◌≡◌, ℕ, ◌+◌, ◌++◌, Bool, true, false, List, drop, length, map, min, nat_lt, is_some, Option, Some, None, Result, Ok, Err}
 use Rattle.jdwp_wire.specs.Limits.{standard_limits}
 use Rattle.jdwp_wire.specs.Widths.{Widths}
 use Rattle.jdwp_debugger.specs.declared.asking.Refused.{Refused}
 use Rattle.jdwp_debugger.specs.declared.asking.Refused.TheVariants as refused
 use Rattle.jdwp_debugger.specs.declared.pending.Ticket.{Ticket}
 use Rattle.jdwp_debugger.specs.declared.turning.Read.TheVariants as read
-use Rattle.jdwp_debugger.specs.Debuggers.{Debugger, PENDING_MOST, Unanswered, attached, lost_debugger, new_debugger, tickets_of}
+use Rattle.jdwp_debugger.specs.Debuggers.{Debugger, PENDING_MOST, Unanswered, attached, lost_debugger, new_debugger_in, tickets_of}
+use Rattle.jdwp_debugger.specs.Holding.{at_least}
+use Rattle.jdwp_debugger.specs.declared.order.Order.{Order}
+use Rattle.jdwp_debugger.specs.declared.order.Order.TheVariants.{One, Apart}
+use Rattle.jdwp_mirror.specs.KnownThreads.{count_in}
 use Rattle.jdwp_debugger.specs.RefusedNumbers.{refused_number}
 use Rattle.milunovesk_c.specs.declared.seat.Seat.{Seat}
 use Rattle.milunovesk_c.specs.declared.widths.Asked.{Asked}
@@ -14,9 +18,33 @@ use Rattle.milunovesk_c.specs.declared.widths.IdWidths.{IdWidths}
 use Rattle.milunovesk_c.specs.Askings.{AsksBytes, RefusesBytes}
 use Rattle.milunovesk_c.specs.Numbers.{DONE, NO_MEMORY, REFUSED, SHORT_BUFFER}
 
--- before its first session, with this id of its first packet
+-- before its first session, of a target of this order, with this id of its first packet
+abbrev pub new_seat_in : Order → ℕ → Seat
+new_seat_in order first = record { debugger = new_debugger_in order standard_limits first; widths = None; read = read.Nothing }
+
+-- the same of a target that sends each packet as it acts
 abbrev pub new_seat : ℕ → Seat
-new_seat first = record { debugger = new_debugger standard_limits first; widths = None; read = read.Nothing }
+new_seat first = new_seat_in One first
+
+-- ---- threads
+
+-- whether a thread is known: by the order in which the target sends, the mirror has its count, or it is surely suspended
+abbrev pub known_in : Order → Debugger → ℕ → Bool
+known_in One d t = is_some (count_in d.mirror.threads t)
+known_in Apart d t = nat_lt 0 (at_least d t)
+
+abbrev pub is_known : Debugger → ℕ → Bool
+is_known d t = known_in d.order d t
+
+-- the greatest count that is told
+abbrev pub COUNT_MOST : ℕ
+COUNT_MOST = 4294967295
+
+-- what its suspend count is no less than, as far as that is told
+abbrev pub count_told : Debugger → ℕ → ℕ
+count_told d t = min (at_least d t) COUNT_MOST
+
+-- ---- sessions
 
 abbrev pub attached_where : Bool → Debugger → Debugger
 attached_where true d = attached d

@@ -4,10 +4,11 @@ ghost use Rattle.jdwp_debugger.specs.Debuggers.{at_place, attached, has_tickets,
 ghost use Rattle.jdwp_debugger.specs.RefusedNumbers.{refused_number};
 ghost use Rattle.jdwp_debugger.specs.declared.turning.Read.TheVariants as read;
 ghost use Rattle.jdwp_end.specs.Ends.{is_open, room_of};
-ghost use Rattle.jdwp_mirror.specs.KnownThreads.{count_in, is_held_in};
+ghost use Rattle.jdwp_debugger.specs.Holding.{is_held};
+ghost use Rattle.jdwp_debugger.specs.declared.order.Order.TheVariants.{Apart};
 ghost use Rattle.jdwp_wire.specs.Limits.{standard_limits};
 ghost use Rattle.milunovesk_c.specs.KeptIn.{AtDebugger, IsMade, KeepsDebugger, KeepsNoDebugger, seated};
-ghost use Rattle.milunovesk_c.specs.Seats.{HasAskedBytes, HasLost, attached_where, new_seat, numbers_of, unanswered_told, widths_told};
+ghost use Rattle.milunovesk_c.specs.Seats.{HasAskedBytes, HasLost, attached_where, count_told, is_known, new_seat, new_seat_in, numbers_of, unanswered_told, widths_told};
 ghost use Rattle.milunovesk_c.specs.Numbers.{DONE, NO_MEMORY, REFUSED, SHORT_BUFFER};
 ghost use Rattle.milunovesk_c.specs.Telling.{HasTurned, IsGiven, told_bytes};
 ghost use Rattle.milunovesk_c.specs.declared.kept.Kept.TheVariants as kept;
@@ -19,7 +20,7 @@ use crate::kept::Kept;
 use crate::seat::Seat;
 use crate::widths::{Asked, IdWidths};
 use crate::{DONE, EMPTY, FAULT, LIVE, NO_ITEM, NO_MEMORY, OTHER_KIND, REFUSED, SHORT_BUFFER};
-use jdwp_debugger::{DebuggerFault, Refused, Ticket};
+use jdwp_debugger::{Debugger, DebuggerFault, Order, Refused, Ticket};
 use jdwp_value::ObjectId;
 use jdwp_wire::{DataFault, NoMemory};
 use std::alloc::Global;
@@ -27,18 +28,35 @@ use std::alloc::Global;
 /// The most tickets that a loss leaves.
 const MOST_TICKETS: usize = 1_024;
 
+/// The greatest suspend count that is told.
+const COUNT_MOST: u64 = u32::MAX as u64;
+
 /// Keeps a debugger before its first session at a handle that keeps nothing; the id of its first packet is this. `LIVE` where something is kept,
 /// `NO_MEMORY` where an allocation was refused: then nothing changes.
 #[unsafe(no_mangle)]
 pub extern "C" fn mv_debugger_new(alloc: Global, handle: &mut Handle, first_id: u32) -> u32
     ensures { IsMade handle.old.value result handle.new.value (kept.Debugger (new_seat first_id)) }
 {
+    make(alloc, handle, Order::One, first_id)
+}
+
+/// The same of a target that sends replies and composites by threads of their own, as Java machines do.
+#[unsafe(no_mangle)]
+pub extern "C" fn mv_debugger_new_apart(alloc: Global, handle: &mut Handle, first_id: u32) -> u32
+    ensures { IsMade handle.old.value result handle.new.value (kept.Debugger (new_seat_in Apart first_id)) }
+{
+    make(alloc, handle, Order::Apart, first_id)
+}
+
+fn make(alloc: Global, handle: &mut Handle, order: Order, first_id: u32) -> u32
+    ensures { IsMade handle.old.value result handle.new.value (kept.Debugger (new_seat_in order first_id)) }
+{
     match handle.take_out(alloc) {
         Some(kept) => {
             handle.put(kept);
             LIVE
         }
-        None => match boxed(alloc, first_id) {
+        None => match boxed(alloc, order, first_id) {
             Ok(kept) => {
                 handle.put(kept);
                 DONE
@@ -48,10 +66,10 @@ pub extern "C" fn mv_debugger_new(alloc: Global, handle: &mut Handle, first_id: 
     }
 }
 
-fn boxed(alloc: Global, first_id: u32) -> Result<Box<Kept>, NoMemory>
-    ensures { IfOk result (λ b. b.value ≡ kept.Debugger (new_seat first_id)) }
+fn boxed(alloc: Global, order: Order, first_id: u32) -> Result<Box<Kept>, NoMemory>
+    ensures { IfOk result (λ b. b.value ≡ kept.Debugger (new_seat_in order first_id)) }
 {
-    let seat = Seat::new(alloc, first_id)?;
+    let seat = Seat::new(alloc, order, first_id)?;
     Ok(Box::new(alloc, Kept::Debugger(seat))?)
 }
 
@@ -340,7 +358,9 @@ pub extern "C" fn mv_debugger_widths(
     }
 }
 
-/// Says whether a thread is known, its suspend count, and whether it is held for suspended.
+/// Says whether a thread is known, its suspend count, and whether it is held for suspended; of a target that sends replies and composites by
+/// threads of their own whether it is surely suspended, in `known` and `held`, and in `count` what its suspend count is surely no less than,
+/// 4,294,967,295 where that is more.
 #[unsafe(no_mangle)]
 pub extern "C" fn mv_debugger_thread(
     alloc: Global,
@@ -351,9 +371,8 @@ pub extern "C" fn mv_debugger_thread(
     held: &mut bool,
 ) -> u32
     ensures told { AtDebugger handle.old.value result handle.new.value (λ s. (result ≡ DONE)
-        × (known.new ≡ is_some (count_in s.debugger.mirror.threads thread))
-        × (count.new ≡ unwrap_or (count_in s.debugger.mirror.threads thread) 0)
-        × (held.new ≡ is_held_in s.debugger.mirror.threads thread)
+        × (known.new ≡ is_known s.debugger thread) × (count.new ≡ count_told s.debugger thread)
+        × (held.new ≡ is_held s.debugger thread)
         × (handle.new.value ≡ Some (kept.Debugger s))) }
     ensures untouched { IsFalse (result == DONE)
         → (known.new ≡ known.old) × (count.new ≡ count.old) × (held.new ≡ held.old) }
@@ -363,11 +382,9 @@ pub extern "C" fn mv_debugger_thread(
         Some(kept) => {
             let code = match &*kept {
                 Kept::Debugger(seat) => {
-                    let mirror = seat.debugger.mirror();
-                    let found = mirror.count(ObjectId(thread));
-                    *known = found.is_some();
-                    *count = found.unwrap_or(0);
-                    *held = mirror.is_held(ObjectId(thread));
+                    *known = knows(&seat.debugger, ObjectId(thread));
+                    *count = told_count(&seat.debugger, ObjectId(thread));
+                    *held = seat.debugger.is_held(ObjectId(thread));
                     DONE
                 }
                 Kept::Target(_) => OTHER_KIND,
@@ -376,6 +393,21 @@ pub extern "C" fn mv_debugger_thread(
             code
         }
     }
+}
+
+fn knows(debugger: &Debugger, thread: ObjectId) -> bool
+    ensures { result ≡ is_known debugger.now thread.0 }
+{
+    match debugger.order() {
+        Order::One => debugger.mirror().count(thread).is_some(),
+        Order::Apart => debugger.at_least(thread) > 0,
+    }
+}
+
+fn told_count(debugger: &Debugger, thread: ObjectId) -> u32
+    ensures { result ≡ count_told debugger.now thread.0 }
+{
+    debugger.at_least(thread).min(COUNT_MOST) as u32
 }
 
 /// Says the ticket, the set and the number of the command at this place among those that are neither answered nor lost, in the order asked.

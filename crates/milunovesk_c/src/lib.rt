@@ -27,7 +27,7 @@ mod written;
 pub use capturing::{mv_check, mv_show};
 pub use debugging::{
     mv_debugger_ask, mv_debugger_attach, mv_debugger_data, mv_debugger_feed, mv_debugger_lose,
-    mv_debugger_new, mv_debugger_take, mv_debugger_thread, mv_debugger_turn,
+    mv_debugger_new, mv_debugger_new_apart, mv_debugger_take, mv_debugger_thread, mv_debugger_turn,
     mv_debugger_unanswered, mv_debugger_waiting, mv_debugger_widths,
 };
 pub use framed::{Framed, mv_next_packet};

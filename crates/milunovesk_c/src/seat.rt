@@ -1,12 +1,12 @@
 //! A debugger, and beside it what its last turn told.
 ghost use Rattle.std.specs.Prelude.{◌≡◌, ◌+◌, IfOk, IfErr};
 ghost use Rattle.milunovesk_c.specs.Askings.{AsksBytes, RefusesBytes, command_in};
-ghost use Rattle.milunovesk_c.specs.Seats.{new_seat};
+ghost use Rattle.milunovesk_c.specs.Seats.{new_seat_in};
 ghost use Rattle.milunovesk_c.specs.Telling.{SeatTurns, known_widths};
 
-use jdwp_debugger::{Command, Debugger, DebuggerFault, Read, Refused, Ticket};
+use jdwp_debugger::{Command, Debugger, DebuggerFault, Order, Read, Refused, Ticket};
 use jdwp_layout::layout_of;
-use jdwp_wire::{DataFault, IdSizes, NoMemory};
+use jdwp_wire::{DataFault, IdSizes, Limits, NoMemory};
 use std::alloc::Global;
 
 /// A debugger, and beside it what its last turn told.
@@ -21,14 +21,14 @@ pub struct Seat {
 }
 
 impl Seat {
-    /// A debugger before its first session, within the standard limits, whose first packet has this id.
+    /// A debugger before its first session, of a target of this order, within the standard limits, whose first packet has this id.
     ///
     /// # Errors
     /// `NoMemory` where an allocation was refused.
-    pub(crate) fn new(alloc: Global, first_id: u32) -> Result<Seat, NoMemory>
-        ensures { IfOk result (λ s. s ≡ new_seat first_id) }
+    pub(crate) fn new(alloc: Global, order: Order, first_id: u32) -> Result<Seat, NoMemory>
+        ensures { IfOk result (λ s. s ≡ new_seat_in order first_id) }
     {
-        let debugger = Debugger::with_first_id(alloc, first_id)?;
+        let debugger = Debugger::with_order(alloc, first_id, Limits::standard(), order)?;
         Ok(Seat {
             debugger,
             widths: None,

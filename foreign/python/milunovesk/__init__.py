@@ -76,7 +76,7 @@ class Widths(NamedTuple):
 
 
 class Thread(NamedTuple):
-    """A thread as the debugger knows it: its suspend count, and whether the debugger holds it for suspended."""
+    """A thread as the debugger knows it: its suspend count, or what that is surely no less than, and whether the debugger holds it for suspended."""
 
     count: int
     held: bool
@@ -216,10 +216,11 @@ class _End:
 class Debugger(_End):
     """The debugger's end."""
 
-    def __init__(self, first_id: int = 1) -> None:
-        """Before its first session; its first packet has this id. Raises `OutOfMemory`."""
+    def __init__(self, first_id: int = 1, *, apart: bool = False) -> None:
+        """Before its first session; its first packet has this id. `apart`: of a target that sends replies and composite events by threads of
+        their own, as Java machines do; then `thread` tells what is surely so. Raises `OutOfMemory`."""
         super().__init__()
-        self._call("mv_debugger_new", _within(first_id, 32))
+        self._call("mv_debugger_new_apart" if apart else "mv_debugger_new", _within(first_id, 32))
 
     def attach(self) -> bool:
         """Begins a session. False where one is open, or tickets of the last one wait for `lose`."""
@@ -277,7 +278,8 @@ class Debugger(_End):
         return Widths(out.field, out.method, out.object, out.reference, out.frame)
 
     def thread(self, thread: int) -> Optional[Thread]:
-        """What is known of a thread; None where it is not."""
+        """What is known of a thread; None where it is not. Of a debugger that is `apart`: what is sure of a thread as long as it lives, None where
+        nothing is. It is no longer sure from the end of the thread on, which THREAD_DEATH tells."""
         known, count, held = c.flag(), c.number(32), c.flag()
         self._call("mv_debugger_thread", _within(thread, 64), known, count, held)
         return Thread(count.value, held.value) if known.value else None

@@ -69,6 +69,7 @@ _SIGNATURES: dict[str, list[object]] = {
     "mv_check": [_IN, c.c_size_t, _P(Judged)],
     "mv_show": [_IN, c.c_size_t, _OUT, c.c_size_t, _SIZE, _P(Judged)],
     "mv_debugger_new": [_H, c.c_uint32],
+    "mv_debugger_new_apart": [_H, c.c_uint32],
     "mv_debugger_attach": [_H, _FLAG],
     "mv_debugger_feed": [_H, _IN, c.c_size_t, _SIZE],
     "mv_debugger_take": [_H, _OUT, c.c_size_t, _SIZE],

@@ -102,6 +102,26 @@ class Sessions(unittest.TestCase):
             target.lose()
             self.assertEqual(target.waiting(), (0, 0, False))
 
+    def test_apart(self) -> None:
+        with Debugger(apart=True) as debugger, Target(example("A.json")) as target:
+            target.accept()
+            debugger.attach()
+            while hear(debugger, target).kind != Heard.SIZES:
+                pass
+            self.assertEqual(debugger.thread(1), (1, True))
+            self.assertIsNone(debugger.thread(2))
+            debugger.ask(1, 9)  # Resume: nothing is sure from the asking on
+            self.assertIsNone(debugger.thread(1))
+            self.assertEqual(hear(debugger, target).ticket, 1)
+            debugger.ask(11, 2, ids(1))  # Suspend of the thread, twice
+            debugger.ask(11, 2, ids(1))
+            self.assertIsNone(debugger.thread(1))
+            self.assertEqual((hear(debugger, target).ticket, debugger.thread(1)), (2, (1, True)))
+            self.assertEqual((hear(debugger, target).ticket, debugger.thread(1)), (3, (2, True)))
+            self.assertEqual(target.count(1), 2)
+            debugger.ask(1, 6)  # Dispose
+            self.assertIsNone(debugger.thread(1))
+
     def test_turns_of_a_target(self) -> None:
         with Target(example("A.json"), start_all=False, count_limit=5) as target:
             target.accept()

@@ -98,6 +98,7 @@ extern "C" {
     ) -> u32;
 
     pub fn mv_debugger_new(handle: *mut Handle, first_id: u32) -> u32;
+    pub fn mv_debugger_new_apart(handle: *mut Handle, first_id: u32) -> u32;
     pub fn mv_debugger_attach(handle: *mut Handle, opened: *mut bool) -> u32;
     pub fn mv_debugger_feed(
         handle: *mut Handle,

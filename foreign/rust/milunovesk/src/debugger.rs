@@ -33,7 +33,7 @@ pub struct Widths {
     pub frame: u8,
 }
 
-/// A thread as the debugger knows it: its suspend count, and whether the debugger holds it for suspended.
+/// A thread as the debugger knows it: its suspend count, or what that is surely no less than, and whether the debugger holds it for suspended.
 #[derive(Clone, Copy, Debug, PartialEq, Eq)]
 pub struct Thread {
     pub count: u32,
@@ -57,6 +57,17 @@ impl Debugger {
     pub fn new(first_id: u32) -> Result<Debugger, Failure> {
         let mut handle = Handle::new();
         done(unsafe { sys::mv_debugger_new(handle.lend(), first_id) }, 0)?;
+        Ok(Debugger(handle))
+    }
+
+    /// The same of a target that sends replies and composite events by threads of their own, as Java machines do: `thread` tells what is surely
+    /// so.
+    ///
+    /// # Errors
+    /// `NoMemory`.
+    pub fn new_apart(first_id: u32) -> Result<Debugger, Failure> {
+        let mut handle = Handle::new();
+        done(unsafe { sys::mv_debugger_new_apart(handle.lend(), first_id) }, 0)?;
         Ok(Debugger(handle))
     }
 
@@ -166,7 +177,8 @@ impl Debugger {
         })
     }
 
-    /// What is known of a thread; None where it is not.
+    /// What is known of a thread; None where it is not. Of a debugger by `new_apart`: what is sure of a thread as long as it lives, None where
+    /// nothing is. It is no longer sure from the end of the thread on, which THREAD_DEATH tells.
     pub fn thread(&mut self, thread: u64) -> Option<Thread> {
         let (mut known, mut count, mut held) = (false, 0, false);
         sure(unsafe {

@@ -57,6 +57,28 @@ fn captures_are_judged_and_shown() {
 }
 
 #[test]
+fn a_thread_is_surely_suspended() {
+    let mut debugger = Debugger::new_apart(1).unwrap();
+    let mut target = Target::new(&example("A.json"), true, 1000).unwrap();
+    assert!(target.accept());
+    assert!(debugger.attach());
+    while hear(&mut debugger, &mut target) != Heard::Sizes(1) {}
+    let once = Some(Thread {
+        count: 1,
+        held: true,
+    });
+    assert_eq!((debugger.thread(1), debugger.thread(2)), (once, None));
+    // Resume: nothing is sure from the asking on
+    assert_eq!(debugger.ask(1, 9, &[]), Ok(1));
+    assert_eq!(debugger.thread(1), None);
+    hear(&mut debugger, &mut target);
+    assert_eq!(debugger.ask(11, 2, &ids(&[1])), Ok(2));
+    assert_eq!(debugger.thread(1), None);
+    hear(&mut debugger, &mut target);
+    assert_eq!((debugger.thread(1), target.count(1)), (once, Some(1)));
+}
+
+#[test]
 fn a_thread_is_held_at_a_breakpoint() {
     let mut debugger = Debugger::new(1).unwrap();
     let mut target = Target::new(&example("A.json"), true, 1000).unwrap();
