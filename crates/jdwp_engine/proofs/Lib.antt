@@ -5,3 +5,4 @@ pub mod Rounding
 pub mod Runs
 pub mod Spending
 pub mod Turns
+pub mod Ahead

@@ -1,5 +1,5 @@
 -- The steps of a round: each live thread is stepped once, by rising id.
-use Rattle.std.specs.Prelude.{◌≡◌, ℕ, ◌≤◌, ◌||◌, nat_lt, Bool, true, false, List, Option, Some, None, Result, Ok, Err}
+use Rattle.std.specs.Prelude.{◌≡◌, ℕ, ◌≤◌, ◌||◌, nat_lt, Bool, true, false, List, [], ◌∷◌, take, drop, Option, Some, None, Result, Ok, Err}
 use Rattle.jdwp_machine.specs.Meanings.{Meaning, has}
 use Rattle.jdwp_target.specs.declared.target.Stepped.{Stepped}
 use Rattle.jdwp_target.specs.declared.target.Stepped.TheVariants.{Frozen, Quiet, Reported, Ended}
@@ -29,6 +29,21 @@ pub record IsNextThread (ids : List ℕ) (last : Option ℕ) (next : ℕ) : Type
 abbrev pub IsNext : List ℕ → Option ℕ → Option ℕ → Type 0
 IsNext ids last None = (id : ℕ) → has ids id ≡ true → is_above last id ≡ false
 IsNext ids last (Some next) = IsNextThread ids last next
+
+-- none of these is above the last
+abbrev pub AreBelow : Option ℕ → List ℕ → Type 0
+AreBelow last [] = Unit {0}
+AreBelow last (id ∷ ids) = (is_above last id ≡ false) × AreBelow last ids
+
+-- each of these is above the one before it, and the first above the last
+abbrev pub AreRising : Option ℕ → List ℕ → Type 0
+AreRising last [] = Unit {0}
+AreRising last (id ∷ ids) = (is_above last id ≡ true) × AreRising (Some id) ids
+
+-- From this place on stand all that are above the last, and they rise; nothing is said where there is no place.
+abbrev pub IsAhead : List ℕ → Option ℕ → Option ℕ → Type 0
+IsAhead ids last None = Unit {0}
+IsAhead ids last (Some place) = AreBelow last (take place ids) × AreRising last (drop place ids)
 
 -- whether a call made a step
 abbrev pub is_step : Stepped → Bool

@@ -2,5 +2,7 @@
 #![tactic(auto)]
 
 mod serving;
+mod walk;
 
 pub use serving::serve;
+pub use walk::ThreadWalk;

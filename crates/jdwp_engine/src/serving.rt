@@ -1,8 +1,7 @@
 //! The engine that runs a target on a pipe.
-ghost use Rattle.std.specs.Prelude.{◌≡◌, ◌⊎◌, ◌<◌, ◌≤◌, ◌+◌, ◌++◌, ◌∷◌, ◌||◌, [], ℕ, Bool, List, None, Ok, Err, true, false, length, IfOk, IfErr, OnErr};
+ghost use Rattle.std.specs.Prelude.{◌≡◌, ◌⊎◌, ◌<◌, ◌≤◌, ◌+◌, ◌||◌, [], Bool, None, Ok, Err, true, false, length, IfOk, IfErr, OnErr, OnOk};
 ghost use Rattle.jdwp_end.specs.Ends.{front_of, is_open, is_paused, room_of};
 ghost use Rattle.jdwp_wire.specs.Streams.{More};
-ghost use Rattle.jdwp_machine.specs.Meanings.{numbers};
 ghost use Rattle.jdwp_target.specs.declared.target.Stepped as declared;
 ghost use Rattle.jdwp_target.specs.Targets as spec;
 ghost use Rattle.jdwp_target.specs.Targets.{Ran, opened_target};
@@ -13,10 +12,11 @@ ghost use Rattle.jdwp_pipe.specs.Story.{FailsFlush, Story, flushed};
 ghost use Rattle.jdwp_engine.specs.Next.{IfEnds};
 ghost use Rattle.jdwp_engine.specs.Outcome.{EndsSo, MayEnd, MayStep};
 ghost use Rattle.jdwp_engine.specs.Run.{GoesOn, InOrder, LosesAtRead, LosesAtWrite, ReadsMore, WritesAll, cost};
-ghost use Rattle.jdwp_engine.specs.Rounds.{IsNext, StepsEach, id_in, is_above, is_step};
+ghost use Rattle.jdwp_engine.specs.Rounds.{IsAhead, StepsEach, id_in, is_step};
 ghost use Rattle.jdwp_engine.specs.Sessions.{LastRound, Round, Runs, Serves, unflushed_target};
 ghost use Rattle.jdwp_engine.specs.Steps.{StepsIf};
 
+use crate::walk::ThreadWalk;
 use jdwp_machine::Machine;
 use jdwp_pipe::{CHUNK, Ended, NoInput, Pipe, flush_all, read_and_feed, write_out};
 use jdwp_target::{Stepped, Target, TargetFault, Turn, closes_for_a_reason};
@@ -273,22 +273,23 @@ fn step_each<M: Machine + Drop>(target: &mut Target<M>) -> Result<bool, TargetFa
         × (is_open target.new.end ≡ true) × MayStep target.new) }
 {
     let mut has_stepped = false;
-    let mut last: Option<ObjectId> = None;
-    while let Some(thread) = least_above(target.live(), last) {
-        match step_one(target, thread, has_stepped) {
+    let mut walk = ThreadWalk::begin(target.live());
+    while let Some(thread) = walk.next(target.live()) {
+        match step_one(target, thread, has_stepped, &mut walk) {
             Ok(now) => has_stepped = now,
             Err(fault) => return Err(fault),
         }
-        last = Some(thread);
     }
     Ok(has_stepped)
 }
 
-/// One step of this thread, after others or none, and whether one of them stepped.
+/// One step of this thread, after others or none, and whether one of them stepped. Where it was made, the walk goes on over the threads that
+/// live now.
 fn step_one<M: Machine + Drop>(
     target: &mut Target<M>,
     thread: ObjectId,
     has_stepped: bool,
+    walk: &mut ThreadWalk,
 ) -> Result<bool, TargetFault>
     ensures goes { IfOk result (λ now. (first : spec.Target M) → is_open first.end ≡ true
         → StepsIf first target.old has_stepped → StepsIf first target.new now) }
@@ -299,6 +300,10 @@ fn step_one<M: Machine + Drop>(
     ensures wants { IfErr result (λ fault. StepsAt M.meaning thread.0 target.old
         (Err fault) target.new) }
     ensures memory { OnErr result (MayStep target.old × (target.new ≡ target.old)) }
+    ensures last { walk.new.last ≡ walk.old.last }
+    ensures ahead { OnOk result (IsAhead (M.meaning.live target.old.moment.machine)
+        (id_in walk.old.last) walk.old.place → IsAhead (M.meaning.live target.new.moment.machine)
+        (id_in walk.new.last) walk.new.place) }
 {
     closes_for_a_reason::<M>();
     let stepped = match target.step(thread) {
@@ -307,42 +312,10 @@ fn step_one<M: Machine + Drop>(
     };
     match stepped {
         Stepped::Frozen => Ok(has_stepped),
-        _ => Ok(true),
-    }
-}
-
-/// The least of these ids that is above `last`, or of all.
-fn least_above(threads: &[ObjectId], last: Option<ObjectId>) -> Option<ObjectId>
-    ensures { IsNext (numbers threads.now) (id_in last) (id_in result) }
-{
-    let mut found: Option<ObjectId> = None;
-    for thread in threads {
-        found = nearer(found, *thread, last);
-    }
-    found
-}
-
-/// The least above `last` of those of which `found` is, and this one.
-fn nearer(found: Option<ObjectId>, thread: ObjectId, last: Option<ObjectId>) -> Option<ObjectId>
-    ensures { (ids : List ℕ) → IsNext ids (id_in last) (id_in found)
-        → IsNext (ids ++ thread.0 ∷ []) (id_in last) (id_in result) }
-{
-    if !is_above(last, thread) {
-        return found;
-    }
-    match found {
-        Some(other) if other.0 <= thread.0 => Some(other),
-        _ => Some(thread),
-    }
-}
-
-/// Whether the thread is above `last`, or there is none.
-fn is_above(last: Option<ObjectId>, thread: ObjectId) -> bool
-    ensures { result ≡ is_above (id_in last) thread.0 }
-{
-    match last {
-        None => true,
-        Some(last) => last.0 < thread.0,
+        _ => {
+            walk.renew(target.live());
+            Ok(true)
+        }
     }
 }
 

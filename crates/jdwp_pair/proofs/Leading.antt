@@ -1,14 +1,16 @@
 -- events one after the other, and what they lead to together
-use Rattle.std.proofs.Common.{◌≡◌, ◌≤◌, inl, inr, ℕ, ◌+◌, ◌-◌, nat_lt, Bool, true, false, ◌||◌, List, [], ◌∷◌, ◌++◌, length, Option, Some, None, Result, Ok, Err, IfOk, IfErr, OnOk, refl, sym, ◌∙◌, ap, subst, arith}
+use Rattle.std.proofs.Common.{◌≡◌, ◌≤◌, inl, inr, ℕ, ◌+◌, ◌-◌, nat_lt, Bool, true, false, ◌||◌, List, [], ◌∷◌, ◌++◌, length, Option, Some, None, Result, Ok, Err, IfOk, IfErr, OnOk, if◌then◌else◌, refl, sym, ◌∙◌, ap, subst, arith}
 use Rattle.std.proofs.lemmas.Grind.{common_steps}
 use Rattle.std.proofs.lemmas.List.{append_assoc}
 use Rattle.std.specs.List.{AllByRecursion}
 use Rattle.jdwp_wire.specs.Streams as streams
 use Rattle.jdwp_machine.specs.Meanings.{Meaning}
 use Rattle.jdwp_debuggee.specs.Settings.{Settings}
+use Rattle.jdwp_debuggee.specs.State.{Moment}
+use Rattle.jdwp_debuggee.specs.Steps.{occurs}
 use Rattle.jdwp_model.specs.Events as events
 use Rattle.jdwp_model.specs.Events.{LinkEvent}
-use Rattle.jdwp_model.specs.Next.{acts, did_after, next, outcomes, run}
+use Rattle.jdwp_model.specs.Next.{acts, did_after, next, outcomes, run, stepped, steps, steps_now}
 use Rattle.jdwp_model.specs.World.{Measure, World}
 use Rattle.jdwp_model.specs.Measures.{measured}
 use Rattle.jdwp_link.specs.declared.events.Outcome.{Outcome}
@@ -193,6 +195,15 @@ steps-on m first now mid made after last t u next r e = λ more new rest.
 
 pub steps-over : {S : Type 0} (m : Meaning S) (first now : Link S) (made : Bool) (last : Option ℕ) → StepsUntil m first made last now → IsNext (m.live now.target.moment.machine) last None → StepsEach m None first made now
 steps-over m first now made last u over = subst (λ (b : Bool). StepsEach m None first b now) (or-false made) (u false now (Over last now over))
+
+-- a step that was not made left the threads that live as they were
+pub unmade-live : {S : Type 0} (m : Meaning S) (t : ℕ) (old new : Link S) → IsLink m old → Quietly m (events.Step t) old new → new.did ≡ false
+    → m.live new.target.moment.machine ≡ m.live old.target.moment.machine
+unmade-live {S} m t old new l r none =
+    let x = l.world in
+    let unmade : steps_now m old.target.settings (measure_of m old) x t ≡ false = sym (r.did x l.stands) ∙ none in
+    let same : steps m old.target.settings (measure_of m old) x t ≡ x = ap (λ (b : Bool). if b then stepped x (occurs m x.now t) else x) unmade in
+    ap (λ (now : Moment S). m.live now.machine) ((r.stands x l.stands).parts.target.now ∙ (ap (λ (w : World S). w.now) same ∙ sym l.stands.parts.target.now))
 
 pub steps-move : {S : Type 0} (m : Meaning S) (last : Option ℕ) (old : Link S) (did : Bool) (new : Link S) → StepsEach m last old did new → Moves m old new
 steps-move m _ _ _ _ (Over last l over) = moves-none m l

@@ -1,13 +1,15 @@
 //! Releases of deferred commands, and steps of threads.
-ghost use Rattle.std.specs.Prelude.{◌≡◌, ◌++◌, ◌∷◌, [], ℕ, List, None, false, IfErr, IfOk, is_some};
-ghost use Rattle.jdwp_engine.specs.Rounds.{IsNext, id_in, is_above};
-ghost use Rattle.jdwp_machine.specs.Meanings.{numbers};
+ghost use Rattle.std.specs.Prelude.{◌≡◌, None, false, IfErr, IfOk, OnOk, is_some};
+ghost use Rattle.jdwp_engine.specs.Rounds.{IsAhead, id_in};
+ghost use Rattle.jdwp_model.specs.Events as events;
 ghost use Rattle.jdwp_pair.specs.Connections.{disconnects};
+ghost use Rattle.jdwp_pair.specs.Events.{Quietly};
 ghost use Rattle.jdwp_pair.specs.Rounds.{EndsQuietly, ReleasesOrSteps, StepsEach};
 
 use crate::connection::Connection;
 use crate::ended::PairEnded;
 use crate::happening::act;
+use jdwp_engine::ThreadWalk;
 use jdwp_link::{Link, LinkEvent};
 use jdwp_machine::Machine;
 use jdwp_value::ObjectId;
@@ -52,48 +54,43 @@ fn step_each<M: Machine + Drop, C: Connection>(
     ensures failed { is_some (C.failed_by connection.new) ≡ disconnects result }
 {
     let mut has_stepped = false;
-    let mut last: Option<ObjectId> = None;
-    while let Some(thread) = least_above(link.target().live(), last) {
-        match act(link, connection, LinkEvent::Step(thread)) {
+    let mut walk = ThreadWalk::begin(link.target().live());
+    while let Some(thread) = walk.next(link.target().live()) {
+        match step_one(link, connection, thread, &mut walk) {
             Ok(()) => has_stepped = has_stepped || link.did(),
             Err(ended) => return Err(ended),
         }
-        last = Some(thread);
     }
     Ok(has_stepped)
 }
 
-/// The least of these ids that is above `last`, or of all.
-fn least_above(threads: &[ObjectId], last: Option<ObjectId>) -> Option<ObjectId>
-    ensures { IsNext (numbers threads.now) (id_in last) (id_in result) }
+/// One step of this thread. Where it was made, the walk goes on over the threads that live now.
+///
+/// # Errors
+/// `NoMemory` where the step wanted memory, and `LostConnection`.
+fn step_one<M: Machine + Drop, C: Connection>(
+    link: &mut Link<M>,
+    connection: &mut C,
+    thread: ObjectId,
+    walk: &mut ThreadWalk,
+) -> Result<(), PairEnded>
+    ensures acts { OnOk result (Quietly M.meaning (events.Step thread.0) link.old link.new) }
+    ensures last { walk.new.last ≡ walk.old.last }
+    ensures ahead { OnOk result
+        (IsAhead (M.meaning.live link.old.target.moment.machine) (id_in walk.old.last) walk.old.place
+        → IsAhead (M.meaning.live link.new.target.moment.machine) (id_in walk.new.last)
+        walk.new.place) }
+    ensures ends { IfErr result (λ ended. EndsQuietly M.meaning ended link.old link.new) }
+    ensures failed { is_some (C.failed_by connection.new) ≡ disconnects result }
 {
-    let mut found: Option<ObjectId> = None;
-    for thread in threads {
-        found = nearer(found, *thread, last);
+    link.session();
+    match act(link, connection, LinkEvent::Step(thread)) {
+        Ok(()) => {}
+        Err(ended) => return Err(ended),
     }
-    found
-}
-
-/// The least above `last` of those of which `found` is, and this one.
-fn nearer(found: Option<ObjectId>, thread: ObjectId, last: Option<ObjectId>) -> Option<ObjectId>
-    ensures { (ids : List ℕ) → IsNext ids (id_in last) (id_in found)
-        → IsNext (ids ++ thread.0 ∷ []) (id_in last) (id_in result) }
-{
-    if !is_above(last, thread) {
-        return found;
+    if !link.did() {
+        return Ok(());
     }
-    match found {
-        Some(other) if other.0 <= thread.0 => Some(other),
-        _ => Some(thread),
-    }
-}
-
-/// Whether the thread is above `last`, or there is none.
-fn is_above(last: Option<ObjectId>, thread: ObjectId) -> bool
-    ensures { result ≡ is_above (id_in last) thread.0 }
-{
-    match last {
-        None => true,
-        Some(last) => last.0 < thread.0,
-    }
+    walk.renew(link.target().live());
+    Ok(())
 }

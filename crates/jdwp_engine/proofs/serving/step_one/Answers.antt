@@ -1,5 +1,7 @@
+use Rattle.std.proofs.Common.{ℕ, List, subst}
 use Rattle.jdwp_end.specs.Ends.{is_paused}
 use Rattle.jdwp_debuggee.specs.Steps.{may_step}
+use Rattle.jdwp_engine.specs.Rounds.{IsAhead, id_in}
 use Rattle.jdwp_engine.proofs.Advancing.{frozen-same, made-step, step-made}
 use Rattle.jdwp_engine.proofs.Onward.{made-none, made-some}
 use Rattle.jdwp_engine.proofs.serving.step_one.Goals as goal
@@ -24,3 +26,12 @@ returns-in-Frozen-clause-steps g c = (c.in-Ok.stepped, c.in-Ok.ensures.steps, (c
 
 pub returns-in_default-clause-steps : goal.returns-in_default-clause-steps
 returns-in_default-clause-steps g c = (c.in-Ok.stepped, c.in-Ok.ensures.steps, (c.in-Ok.ensures.encoded, c.in-Ok.ensures.packets), made-some c.args.has_stepped c.in-Ok.stepped c.in_default.not-Frozen)
+
+pub returns-in-Frozen-clause-ahead : goal.returns-in-Frozen-clause-ahead
+returns-in-Frozen-clause-ahead g c = λ ahead.
+    let same = frozen-same g.M.Machine.meaning c.args.thread.0 c.args.target.now c.step.new.self _ (rw c.in-Frozen.is at c.in-Ok.ensures.steps) in
+    rw same ahead
+
+pub returns-in_default-clause-ahead : goal.returns-in_default-clause-ahead
+returns-in_default-clause-ahead g c = λ before.
+    subst (λ (ids : List ℕ). IsAhead ids (id_in c.renew.new.self.last) c.renew.new.self.place) c.live.ensures.live c.renew.ensures.ahead

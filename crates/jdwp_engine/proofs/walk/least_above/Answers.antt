@@ -2,7 +2,7 @@ use Rattle.std.proofs.Common.{ℕ, List, take, sym, subst}
 use Rattle.jdwp_machine.specs.Meanings.{numbers}
 use Rattle.jdwp_engine.specs.Rounds.{IsNext, id_in}
 use Rattle.jdwp_engine.proofs.Onward.{numbers-next}
-use Rattle.jdwp_pair.proofs.stepping.least_above.Goals as goal
+use Rattle.jdwp_engine.proofs.walk.least_above.Goals as goal
 
 pub loop-thread-preserved : goal.loop-thread-preserved
 loop-thread-preserved c =

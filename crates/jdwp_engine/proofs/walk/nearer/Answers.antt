@@ -3,7 +3,7 @@ use Rattle.std.proofs.lemmas.Grind.{common_steps}
 use Rattle.jdwp_value.specs.declared.id.ObjectId.{ObjectId}
 use Rattle.jdwp_engine.specs.Rounds.{IsNext, id_in}
 use Rattle.jdwp_engine.proofs.Onward.{next-below, next-first, next-kept, next-nearer}
-use Rattle.jdwp_engine.proofs.serving.nearer.Goals as goal
+use Rattle.jdwp_engine.proofs.walk.nearer.Goals as goal
 
 pub returns-then-not-is_above : goal.returns-then-not-is_above
 returns-then-not-is_above c = λ ids n.
