@@ -9,6 +9,8 @@ mod asking_tests;
 #[cfg(test)]
 mod asserts;
 #[cfg(test)]
+mod crowd_tests;
+#[cfg(test)]
 mod debuggers;
 #[cfg(test)]
 mod end_tests;

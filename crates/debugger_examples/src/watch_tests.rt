@@ -20,7 +20,7 @@ const BREAKPOINT: u8 = 2;
 
 /// A command that is asked.
 #[derive(Clone, Copy)]
-enum Asked {
+pub(crate) enum Asked {
     Suspend,
     Resume,
     AllThreads,
@@ -31,7 +31,7 @@ enum Asked {
 
 /// What a debugger does, and what it reads.
 #[derive(Clone, Copy)]
-enum Step {
+pub(crate) enum Step {
     Asks(Asked),
     /// An answer without data, or with data that tell nothing of suspension.
     IsDone(Asked),
@@ -61,7 +61,7 @@ fn answer(rt: &impl Abort, alloc: Global, watch: &mut Watch, asked: Asked, answe
     watch.on_answer(&command, answer).expect(rt, "memory");
 }
 
-fn take_step(rt: &impl Abort, alloc: Global, watch: &mut Watch, next: Step) {
+pub(crate) fn take_step(rt: &impl Abort, alloc: Global, watch: &mut Watch, next: Step) {
     match next {
         Step::Asks(asked) => {
             let command = asked.command(rt, alloc);

@@ -8,3 +8,6 @@ mod Tabled
 mod Lowered
 mod Accounts
 mod Naming
+mod Coursing
+mod Drifting
+mod Moving

@@ -1,5 +1,5 @@
 -- Each thread that was named stands among the threads.
-use Rattle.std.proofs.Common.{◌≡◌, ℕ, Bool, true, List, map, Option, Some, None, refl, sym, ap, ◌∙◌}
+use Rattle.std.proofs.Common.{◌≡◌, ℕ, true, List, Option, Some, None, refl, sym, ap, ◌∙◌}
 use Rattle.std.specs.Prelude.{unwrap_or, IsSome, Contains}
 use Rattle.std.specs.BTreeMap.{is_at}
 use Rattle.std.specs.Cmp.{unsigned_tied}
@@ -8,7 +8,6 @@ use Rattle.std.specs.Map.{keys_of, lookup}
 use Rattle.std.specs.Ordering.{nat_cmp}
 use Rattle.std.proofs.lemmas.Map.Views.{Contains-keys_from_lookup, exact_unsigned_eq}
 use Rattle.jdwp_value.specs.declared.id.ObjectId.{ObjectId}
-use Rattle.jdwp_mirror.specs.CommandKinds.{object_id}
 use Rattle.jdwp_watch.specs.declared.standing.Knows.{Knows}
 use Rattle.jdwp_watch.specs.declared.standing.Standing.{Standing}
 use Rattle.jdwp_watch.specs.Ledgers.{Account}

@@ -1,4 +1,6 @@
 pub mod Standings
+pub mod Courses
+pub mod Drifts
 pub mod Tables
 pub mod Lowerings
 pub mod Tellings

@@ -1,5 +1,5 @@
 //! A number that a suspend count is surely no less than.
-ghost use Rattle.std.specs.Prelude.{◌≡◌};
+ghost use Rattle.std.specs.Prelude.{◌≡◌, IsTrue};
 ghost use Rattle.jdwp_watch.specs.Standings as spec;
 ghost use Rattle.jdwp_watch.specs.Standings.{no_bound};
 
@@ -17,6 +17,13 @@ impl Bound {
         ensures { result ≡ no_bound }
     {
         Bound { value: 0, base: 0 }
+    }
+
+    /// Whether both are the same.
+    pub fn is_same(self, other: Bound) -> bool
+        ensures { IsTrue result → self ≡ other }
+    {
+        self.value == other.value && self.base == other.base
     }
 
     /// One more, where so it is.

@@ -2,9 +2,12 @@
 #![tactic(auto)]
 
 mod bound;
+mod course;
+mod drift;
 mod invocation;
 mod ledger;
 mod made;
+mod moves;
 mod named;
 mod put;
 mod standing;

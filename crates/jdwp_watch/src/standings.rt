@@ -10,6 +10,7 @@ ghost use Rattle.jdwp_watch.specs.Standings.{changed, first_standing};
 ghost use Rattle.jdwp_watch.specs.Tables.{at, change_for, named};
 ghost use Rattle.jdwp_watch.specs.Tables as spec;
 
+use crate::moves::Moves;
 use crate::named::NamedThreads;
 use crate::standing::{Change, Standing};
 use jdwp_value::ObjectId;
@@ -27,8 +28,8 @@ pub(crate) struct Met {
 }
 
 /// What is known of each thread. A move of all threads takes no walk over those that were named: it is noted, and each of them is brought
-/// up to it where it is looked at. Where more moves than named threads are noted, the next takes a walk, which writes all of them and forgets
-/// the moves; so together it and the moves before it cost no more than if each had taken a walk.
+/// up to it, in few steps, where it is looked at. Where more moves than named threads are noted, the next takes a walk, which writes all of
+/// them and forgets the moves; so together it and the moves before it cost a few steps each.
 #[derive(Drop)]
 pub(crate) struct Standings {
     /// The threads that were named, by their ids.
@@ -36,7 +37,7 @@ pub(crate) struct Standings {
     /// What is known of each other thread.
     others: Standing,
     /// What became of all threads.
-    moves: Vec<Change>,
+    moves: Moves,
 }
 
 impl Model for Standings {
@@ -44,9 +45,9 @@ impl Model for Standings {
 
     ghost Value = { Table };
 
-    ghost view = { λ s. record { threads = threads_seen s.moves.items s.entries.entries; others = s.others } };
+    ghost view = { λ s. record { threads = threads_seen s.moves s.entries.entries; others = s.others } };
 
-    ghost invariant = { λ s. AreBefore s.moves.items s.entries };
+    ghost invariant = { λ s. AreBefore s.moves s.entries };
 }
 
 impl Standings {
@@ -57,7 +58,7 @@ impl Standings {
         Standings {
             entries: BTreeMap::new(alloc),
             others: Standing::new(),
-            moves: Vec::new(alloc),
+            moves: Moves::new(alloc),
         }
     }
 
@@ -75,7 +76,7 @@ impl Standings {
         ensures { result ≡ at self.now thread.0 }
     {
         match self.entries.get(&thread.0) {
-            Some(met) => met.seen(self.moves.as_slice()),
+            Some(met) => met.seen(&self.moves),
             None => self.others,
         }
     }
@@ -110,7 +111,7 @@ impl Standings {
         ensures err { OnErr result (self.new ≡ self.old) }
     {
         let standing = self.of(thread).changed(own);
-        let time = self.moves.as_slice().len();
+        let time = self.moves.len();
         self.entries.insert(thread.0, Met { standing, time })?;
         Ok(())
     }
@@ -133,12 +134,20 @@ impl Standings {
         ensures err { OnErr result (self.new ≡ self.old) }
     {
         let standing = self.of(thread).changed(own);
-        self.moves.reserve(1)?;
-        let time = self.moves.as_slice().len() + 1;
-        self.entries.insert(thread.0, Met { standing, time })?;
-        self.moves.push_reserved(others);
-        self.others = self.others.changed(others);
-        Ok(())
+        let moved = self.moves.len();
+        self.moves.push(others)?;
+        let time = self.moves.len();
+        match self.entries.insert(thread.0, Met { standing, time }) {
+            Ok(_) => {
+                self.others = self.others.changed(others);
+                Ok(())
+            }
+            Err(_) => {
+                // The move is taken back, so that nothing has changed.
+                self.moves.truncate(moved);
+                Err(NoMemory)
+            }
+        }
     }
 
     /// Where more moves than named threads are noted, writes all of those.
@@ -154,13 +163,13 @@ impl Standings {
     fn write_all(&mut self)
         ensures { self.new ≡ self.old }
     {
-        write_entries(&mut self.entries, self.moves.as_slice());
+        write_entries(&mut self.entries, &self.moves);
         self.moves.clear();
     }
 }
 
 /// Writes all threads anew, each as it is where these moves were made.
-fn write_entries(entries: &mut BTreeMap<u64, Met>, moves: &[Change])
+fn write_entries(entries: &mut BTreeMap<u64, Met>, moves: &Moves)
     ensures { entries.new.entries ≡ map (λ e. (e.0, spec.anew moves.now e.1)) entries.old.entries }
 {
     // All are retained: this says of each what it becomes.
@@ -172,17 +181,14 @@ fn write_entries(entries: &mut BTreeMap<u64, Met>, moves: &[Change])
 
 impl Met {
     /// The thread as it is, where these moves of all threads were made.
-    fn seen(self, moves: &[Change]) -> Standing
+    fn seen(self, moves: &Moves) -> Standing
         ensures { result ≡ spec.seen moves.now self }
     {
-        moves.iter().skip(self.time).fold(
-            self.standing,
-            |standing, change| standing.changed(*change),
-        )
+        moves.after(self.time, self.standing)
     }
 
     /// The same thread, as it is, where the moves are counted anew.
-    fn anew(self, moves: &[Change]) -> Met
+    fn anew(self, moves: &Moves) -> Met
         ensures { result ≡ spec.anew moves.now self }
     {
         Met {
